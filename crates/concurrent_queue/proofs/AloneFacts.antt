@@ -1,0 +1,288 @@
+-- A call that is stepped to its end with no other beside it, from the contract of a step alone.
+use Rattle.std.proofs.Common.{◌≡◌, ℕ, ◌+◌, ◌<◌, Bool, true, false, not, List, [], ◌∷◌, ◌++◌, length, drop, Option, None, Some, Ok, Err, MatchOption, if◌then◌else◌, ◌==◌, ◌⊎◌, inl, inr, refl, sym, ap, ◌∙◌, subst, arith}
+use Rattle.concurrent_queue.specs.Contents.{Contents}
+use Rattle.concurrent_queue.specs.Dispatch.{capacity_of}
+use Rattle.concurrent_queue.specs.Queue.{Queue, opened, Stage, trying, displaced, appended, taken, read, measured, Phase, asked, is_filled, is_full_at, is_stuck, IsOpen, IsShut, IsOldest, message, marked, after, is_displaced, seen_after, Goes, GoesPush, GoesForce, GoesPop, GoesOn, Answers, AnswersPush, AnswersForce, AnswersPop, AnswersTo}
+use Rattle.concurrent_queue.specs.Step.{Seat, seat, Fits, Steps, IsQueueStep, Starts, rank, items_in, closed_in}
+use Rattle.concurrent_queue.specs.Made.{IsNew}
+use Rattle.concurrent_queue.specs.declared.cells.QueueForm.TheVariants.{Bounded}
+use Rattle.concurrent_queue.specs.Alone.{Held, Gives, PushGives, ForceGives, PopGives}
+use Rattle.concurrent_queue.specs.declared.call.QueueAsk.{QueueAsk}
+use Rattle.concurrent_queue.specs.declared.call.QueueAsk.TheVariants as ask
+use Rattle.concurrent_queue.specs.declared.call.QueueMark.{QueueMark}
+use Rattle.concurrent_queue.specs.declared.call.QueueMark.TheVariants.{Nothing, Append, Take, TakeDisplaced, Replace, Close}
+use Rattle.concurrent_queue.specs.declared.call.QueueReply.{QueueReply}
+use Rattle.concurrent_queue.specs.declared.call.QueueReply.TheVariants as reply
+use Rattle.concurrent_queue.specs.declared.error.PushError.TheVariants as push_error
+use Rattle.concurrent_queue.specs.declared.error.ForcePushError.TheVariants as force_error
+use Rattle.concurrent_queue.specs.declared.error.PopError.TheVariants as pop_error
+use Rattle.concurrent_queue.specs.declared.queue_call.QueueCall.{QueueCall}
+use Rattle.concurrent_queue.proofs.Balance.{IsBalanced, same_capacity}
+use Rattle.concurrent_queue.proofs.Evidence.{IsStuck, stuck_of, not_zero, not_full_after}
+use Rattle.concurrent_queue.proofs.FitsFacts.{shows}
+
+module _ {T : Type 0} where
+  abbrev pub view : Queue T → Held T
+  view q = record { items = q.items; closed = q.closed; capacity = q.capacity }
+
+  abbrev pub ReadOf : QueueAsk T → ℕ → Queue T → Type 0
+  ReadOf ask.IsEmpty n q = n ≡ q.removed
+  ReadOf ask.IsFull n q = n ≡ q.accepted
+  ReadOf _ n q = Unit {0}
+
+  -- where a call that began at q0 has come this far with nobody beside it, the queue is this one
+  abbrev pub So : Queue T → QueueAsk T → Stage T → Queue T → Type 0
+  So q0 a (trying b) q = (q ≡ q0) × (b ≡ true → is_stuck q0 ≡ true)
+  So q0 a (displaced d) q = IsOldest d q0 × (is_stuck q0 ≡ true) × (q ≡ marked a false TakeDisplaced q0)
+  So q0 a (appended None) q = IsOpen q0 × (is_filled q0 ≡ false) × (q ≡ marked a false Append q0)
+  So q0 a (appended (Some d)) q =
+      IsOldest d q0 × (is_stuck q0 ≡ true) × (q.items ≡ drop 1 q0.items ++ message a) × (q.closed ≡ q0.closed) × (q.capacity ≡ q0.capacity)
+  So q0 a (taken v) q = IsOldest v q0 × (q ≡ marked a false Take q0)
+  So q0 a (read n) q = (q ≡ q0) × ReadOf a n q0
+  So q0 a (measured n k) q = (q ≡ q0) × (k ≡ length q0.items)
+
+  stuck_from : (b : Bool) (q q0 : Queue T) → q ≡ q0 → (b ≡ true → is_stuck q0 ≡ true) → seen_after b q ≡ true → is_stuck q0 ≡ true
+  stuck_from true q q0 e f h = f refl
+  stuck_from false q q0 e f h = subst (λ (x : Queue T). is_stuck x ≡ true) e h
+
+  stuck_now : (q : Queue T) → IsOpen q → is_filled q ≡ true → is_stuck q ≡ true
+  stuck_now q e f = rw e f
+
+  module _ (q0 : Queue T) where
+    next_so : (a : QueueAsk T) (t s : Stage T) (q : Queue T) → t ≡ s → So q0 a s q → So q0 a t q
+    next_so a t s q e h = subst (λ (x : Stage T). So q0 a x q) (sym e) h
+
+    so_push : (q : Queue T) (v : T) (m : QueueMark) (s t : Stage T) → GoesPush q m s t → So q0 (ask.Push v) s q → So q0 (ask.Push v) t (marked (ask.Push v) (is_displaced s) m q)
+    so_push q v Nothing (trying b) t g h = next_so (ask.Push v) t _ q g (h.0, λ e. stuck_from b q q0 h.0 h.1 e)
+    so_push q v Nothing (appended None) t g h = next_so (ask.Push v) t _ q g h
+    so_push q v Append (trying b) t g h =
+        next_so (ask.Push v) t _ _ g.2
+        (subst (λ (x : Queue T). IsOpen x) h.0 g.0, subst (λ (x : Queue T). is_filled x ≡ false) h.0 g.1, ap (λ (x : Queue T). marked (ask.Push v) false Append x) h.0)
+    so_push q v m s t g h = absurd g
+
+    so_force : (q : Queue T) (v : T) (m : QueueMark) (s t : Stage T) → GoesForce q m s t → So q0 (ask.ForcePush v) s q → So q0 (ask.ForcePush v) t (marked (ask.ForcePush v) (is_displaced s) m q)
+    so_force q v Nothing (trying b) t g h = next_so (ask.ForcePush v) t _ q g (h.0, λ e. stuck_from b q q0 h.0 h.1 e)
+    so_force q v Nothing (displaced d) t g h = next_so (ask.ForcePush v) t _ q g h
+    so_force q v Nothing (appended None) t g h = next_so (ask.ForcePush v) t _ q g h
+    so_force q v Nothing (appended (Some d)) t g h = next_so (ask.ForcePush v) t _ q g h
+    so_force q v Append (trying b) t g h =
+        next_so (ask.ForcePush v) t _ _ g.2
+        (subst (λ (x : Queue T). IsOpen x) h.0 g.0, subst (λ (x : Queue T). is_filled x ≡ false) h.0 g.1, ap (λ (x : Queue T). marked (ask.ForcePush v) false Append x) h.0)
+    so_force q v Append (displaced d) t g h =
+        next_so (ask.ForcePush v) t _ _ g.2
+        (h.0, h.1, ap (λ (x : Queue T). x.items ++ v ∷ []) h.2, ap (λ (x : Queue T). x.closed) h.2, ap (λ (x : Queue T). x.capacity) h.2)
+    so_force q v Replace (trying b) t g h =
+        next_so (ask.ForcePush v) t _ _ g.5 (
+          subst (λ (x : Queue T). IsOldest g.0 x) h.0 g.1,
+          subst (λ (x : Queue T). is_stuck x ≡ true) h.0 (stuck_now q g.2 g.3),
+          ap (λ (x : Queue T). drop 1 x.items ++ v ∷ []) h.0,
+          ap (λ (x : Queue T). x.closed) h.0,
+          ap (λ (x : Queue T). x.capacity) h.0,
+        )
+    so_force q v TakeDisplaced (trying b) t g h =
+        next_so (ask.ForcePush v) t _ _ g.5
+        (subst (λ (x : Queue T). IsOldest g.0 x) h.0 g.1, stuck_from b q q0 h.0 h.1 g.2, ap (λ (x : Queue T). marked (ask.ForcePush v) false TakeDisplaced x) h.0)
+    so_force q v m s t g h = absurd g
+
+    so_pop : (q : Queue T) (m : QueueMark) (s t : Stage T) → GoesPop q m s t → So q0 ask.Pop s q → So q0 ask.Pop t (marked ask.Pop (is_displaced s) m q)
+    so_pop q Nothing (trying b) t g h = next_so ask.Pop t _ q g (h.0, λ e. stuck_from b q q0 h.0 h.1 e)
+    so_pop q Nothing (taken v) t g h = next_so ask.Pop t _ q g h
+    so_pop q Take (trying b) t g h =
+        next_so ask.Pop t _ _ g.2 (subst (λ (x : Queue T). IsOldest g.0 x) h.0 g.1, ap (λ (x : Queue T). marked ask.Pop false Take x) h.0)
+    so_pop q m s t g h = absurd g
+
+    so_empty : (q : Queue T) (m : QueueMark) (s t : Stage T) → GoesOn q ask.IsEmpty m s t → So q0 ask.IsEmpty s q → So q0 ask.IsEmpty t (marked ask.IsEmpty (is_displaced s) m q)
+    so_empty q Nothing (trying b) t g h = next_so ask.IsEmpty t _ q g (h.0, ap (λ (x : Queue T). x.removed) h.0)
+    so_empty q m s t g h = absurd g
+
+    so_full : (q : Queue T) (m : QueueMark) (s t : Stage T) → GoesOn q ask.IsFull m s t → So q0 ask.IsFull s q → So q0 ask.IsFull t (marked ask.IsFull (is_displaced s) m q)
+    so_full q Nothing (trying b) t g h = next_so ask.IsFull t _ q g.0 (h.0, ap (λ (x : Queue T). x.accepted) h.0)
+    so_full q m s t g h = absurd g
+
+    so_len : (q : Queue T) (m : QueueMark) (s t : Stage T) → GoesOn q ask.Len m s t → So q0 ask.Len s q → So q0 ask.Len t (marked ask.Len (is_displaced s) m q)
+    so_len q Nothing (trying b) t g h = next_so ask.Len t _ q g (h.0, tt)
+    so_len q Nothing (read n) t g h = next_so ask.Len t _ q g (h.0, ap (λ (x : Queue T). length x.items) h.0)
+    so_len q Nothing (measured n k) t g h = next_so ask.Len t _ q g (h.0, λ e. absurd cc)
+    so_len q m s t g h = absurd g
+
+    pub so_goes : (q : Queue T) (a : QueueAsk T) (m : QueueMark) (s t : Stage T) → GoesOn q a m s t → So q0 a s q → So q0 a t (marked a (is_displaced s) m q)
+    so_goes q (ask.Push v) m s t g h = so_push q v m s t g h
+    so_goes q (ask.ForcePush v) m s t g h = so_force q v m s t g h
+    so_goes q ask.Pop m s t g h = so_pop q m s t g h
+    so_goes q ask.Close m s t g h = absurd g
+    so_goes q ask.IsClosed m s t g h = absurd g
+    so_goes q ask.IsEmpty m s t g h = so_empty q m s t g h
+    so_goes q ask.IsFull m s t g h = so_full q m s t g h
+    so_goes q ask.Len m s t g h = so_len q m s t g h
+    so_goes q ask.Capacity m s t g h = absurd g
+
+    -- ---- the answer
+
+    abbrev Ends : QueueAsk T → Queue T → QueueMark → Stage T → QueueReply T → Type 0
+    Ends a q m s r = Gives a (view q0) (view (marked a (is_displaced s) m q)) r
+
+    both : is_stuck q0 ≡ true → IsStuck q0
+    both h = stuck_of q0 q0.closed refl h
+
+    ends_push : (q : Queue T) (v : T) (m : QueueMark) (r : QueueReply T) (s : Stage T) → AnswersPush q v m r s → So q0 (ask.Push v) s q → Ends (ask.Push v) q m s r
+    ends_push q v Nothing (reply.Push (Ok u)) (appended None) h so = (so.0, so.1, ap view so.2)
+    ends_push q v Nothing (reply.Push (Err (push_error.Full w))) (trying b) h so =
+        let k = both (stuck_from b q q0 so.0 so.1 h.2) in (k.0, k.1, h.0, ap view so.0)
+    ends_push q v Nothing (reply.Push (Err (push_error.Closed w))) (trying b) h so = (subst (λ (x : Queue T). IsShut x) so.0 h.1, h.0, ap view so.0)
+    ends_push q v Nothing (reply.Push (Err (push_error.NoMemory w))) (trying b) h so = (subst (λ (x : Queue T). x.capacity ≡ None) so.0 h.1, h.0, ap view so.0)
+    ends_push q v m r s h so = absurd h
+
+    replaced : (q : Queue T) (v d : T) → So q0 (ask.ForcePush v) (appended (Some d)) q → ForceGives (view q0) v (view q) (Ok (Some d))
+    replaced q v d so =
+        let rest = so.0.0 in
+        let k = both so.1 in
+        let items : q.items ≡ rest ++ v ∷ [] = so.2 ∙ ap (λ (xs : List T). drop 1 xs ++ v ∷ []) so.0.1 in
+        let by_items : List T → Held T = λ x. record { items = x; closed = q.closed; capacity = q.capacity } in
+        let by_closed : Bool → Held T = λ x. record { items = rest ++ v ∷ []; closed = x; capacity = q.capacity } in
+        let by_capacity : Option ℕ → Held T = λ x. record { items = rest ++ v ∷ []; closed = q0.closed; capacity = x } in
+        (rest, k.0, k.1, so.0.1, ap by_items items ∙ ap by_closed so.3 ∙ ap by_capacity so.4)
+
+    ends_force : (q : Queue T) (v : T) (m : QueueMark) (r : QueueReply T) (s : Stage T) → AnswersForce q v m r s → So q0 (ask.ForcePush v) s q → Ends (ask.ForcePush v) q m s r
+    ends_force q v Nothing (reply.Force (Ok None)) (appended None) h so = (so.0, so.1, ap view so.2)
+    ends_force q v Nothing (reply.Force (Ok None)) (appended (Some d)) h so = absurd cc
+    ends_force q v Nothing (reply.Force (Ok (Some w))) (appended None) h so = absurd cc
+    ends_force q v Nothing (reply.Force (Ok (Some w))) (appended (Some d)) h so =
+        let same : d ≡ w = cc in subst (λ (x : T). ForceGives (view q0) v (view q) (Ok (Some x))) same (replaced q v d so)
+    ends_force q v Nothing (reply.Force (Err (force_error.Closed w))) (trying b) h so = (subst (λ (x : Queue T). IsShut x) so.0 h.1, h.0, ap view so.0)
+    ends_force q v Nothing (reply.Force (Err (force_error.NoMemory w))) (trying b) h so = (subst (λ (x : Queue T). x.capacity ≡ None) so.0 h.1, h.0, ap view so.0)
+    ends_force q v m r s h so = absurd h
+
+    popped : (q : Queue T) (v : T) → So q0 ask.Pop (taken v) q → PopGives (view q0) (view q) (Ok v)
+    popped q v so =
+        let items : q.items ≡ so.0.0 = ap (λ (x : Queue T). x.items) so.1 ∙ ap (λ (xs : List T). drop 1 xs) so.0.1 in
+        let by_items : List T → Held T = λ x. record (view q0) { items = x } in
+        (so.0.1 ∙ ap (λ (xs : List T). v ∷ xs) (sym items), ap view so.1 ∙ ap by_items (ap (λ (xs : List T). drop 1 xs) so.0.1 ∙ sym items))
+
+    ends_pop : (q : Queue T) (m : QueueMark) (r : QueueReply T) (s : Stage T) → AnswersPop q m r s → So q0 ask.Pop s q → Ends ask.Pop q m s r
+    ends_pop q Nothing (reply.Pop (Ok w)) (taken v) h so = subst (λ (x : T). PopGives (view q0) (view q) (Ok x)) (sym h) (popped q v so)
+    ends_pop q Nothing (reply.Pop (Err pop_error.Empty)) (trying b) h so =
+        (subst (λ (x : Queue T). IsOpen x) so.0 h.0, subst (λ (x : Queue T). x.items ≡ []) so.0 h.1.0, ap view so.0)
+    ends_pop q Nothing (reply.Pop (Err pop_error.Closed)) (trying b) h so =
+        (subst (λ (x : Queue T). IsShut x) so.0 h.0, subst (λ (x : Queue T). x.items ≡ []) so.0 h.1.0, ap view so.0)
+    ends_pop q m r s h so = absurd h
+
+    ends_close : (q : Queue T) (m : QueueMark) (r : QueueReply T) (s : Stage T) → AnswersTo q ask.Close m r s → So q0 ask.Close s q → Ends ask.Close q m s r
+    ends_close q Close (reply.Close true) (trying b) h so =
+        let e = subst (λ (x : Queue T). IsOpen x) so.0 h in (ap not (sym e), ap (λ (x : Queue T). record (view x) { closed = true }) so.0)
+    ends_close q Nothing (reply.Close false) (trying b) h so =
+        let e = subst (λ (x : Queue T). IsShut x) so.0 h in (ap not (sym e), ap view so.0 ∙ ap (λ (b : Bool). record (view q0) { closed = b }) e)
+    ends_close q m r s h so = absurd h
+
+    ends_shut : (q : Queue T) (m : QueueMark) (r : QueueReply T) (s : Stage T) → AnswersTo q ask.IsClosed m r s → So q0 ask.IsClosed s q → Ends ask.IsClosed q m s r
+    ends_shut q Nothing (reply.Flag b) (trying seen) h so = (sym h ∙ ap (λ (x : Queue T). x.closed) so.0, ap view so.0)
+    ends_shut q m r s h so = absurd h
+
+    ends_empty : (q : Queue T) (m : QueueMark) (r : QueueReply T) (s : Stage T) → IsBalanced q → AnswersTo q ask.IsEmpty m r s → So q0 ask.IsEmpty s q → Ends ask.IsEmpty q m s r
+    ends_empty q Nothing (reply.Flag b) (trying seen) l h so = (sym h ∙ ap (λ (x : Queue T). length x.items == 0) so.0, ap view so.0)
+    ends_empty q Nothing (reply.Flag true) (read n) l h so = (sym (rw h refl) ∙ ap (λ (x : Queue T). length x.items == 0) so.0, ap view so.0)
+    ends_empty q Nothing (reply.Flag false) (read n) l h so =
+        let l' : length q.items + q.removed ≡ q.accepted = l in
+        let e = ap (λ (x : Queue T). x.removed) so.0 in let n' : n ≡ q0.removed = so.1 in let h' : n < q.accepted = h in
+        (sym (not_zero (length q.items) (omega arith)) ∙ ap (λ (x : Queue T). length x.items == 0) so.0, ap view so.0)
+    ends_empty q m r s l h so = absurd h
+
+    ends_full : (q : Queue T) (m : QueueMark) (r : QueueReply T) (s : Stage T) → IsBalanced q → AnswersTo q ask.IsFull m r s → So q0 ask.IsFull s q → Ends ask.IsFull q m s r
+    ends_full q Nothing (reply.Flag b) (trying seen) l h so = (sym h ∙ ap (λ (x : Queue T). is_filled x) so.0, ap view so.0)
+    ends_full q Nothing (reply.Flag true) (read n) l h so = (sym h ∙ ap (λ (x : Queue T). is_filled x) so.0, ap view so.0)
+    ends_full q Nothing (reply.Flag false) (read n) l h so =
+        let l' : length q.items + q.removed ≡ q.accepted = l in
+        let e = ap (λ (x : Queue T). x.accepted) so.0 in let n' : n ≡ q0.accepted = so.1 in let h' : n < q.removed + h.0 = h.2 in
+        let few : is_full_at q.capacity q.items ≡ false = not_full_after q.items q.capacity (λ k f. (let same : Some k ≡ Some h.0 = sym f ∙ h.1 in let same' : k ≡ h.0 = cc in omega arith)) in
+        (sym few ∙ ap (λ (x : Queue T). is_filled x) so.0, ap view so.0)
+    ends_full q m r s l h so = absurd h
+
+    ends_len : (q : Queue T) (m : QueueMark) (r : QueueReply T) (s : Stage T) → AnswersTo q ask.Len m r s → So q0 ask.Len s q → Ends ask.Len q m s r
+    ends_len q Nothing (reply.Count n) (trying b) h so = (sym h ∙ ap (λ (x : Queue T). length x.items) so.0, ap view so.0)
+    ends_len q Nothing (reply.Count n) (measured k l) h so = (h.0 ∙ so.1, ap view so.0)
+    ends_len q m r s h so = absurd h
+
+    ends_capacity : (q : Queue T) (m : QueueMark) (r : QueueReply T) (s : Stage T) → AnswersTo q ask.Capacity m r s → So q0 ask.Capacity s q → Ends ask.Capacity q m s r
+    ends_capacity q Nothing (reply.Cap k) (trying b) h so = (h ∙ ap (λ (x : Queue T). x.capacity) so.0, ap view so.0)
+    ends_capacity q m r s h so = absurd h
+
+    pub ends : (q : Queue T) (a : QueueAsk T) (m : QueueMark) (r : QueueReply T) (s : Stage T) → IsBalanced q → AnswersTo q a m r s → So q0 a s q → Ends a q m s r
+    ends q (ask.Push v) m r s l h so = ends_push q v m r s h so
+    ends q (ask.ForcePush v) m r s l h so = ends_force q v m r s h so
+    ends q ask.Pop m r s l h so = ends_pop q m r s h so
+    ends q ask.Close m r s l h so = ends_close q m r s h so
+    ends q ask.IsClosed m r s l h so = ends_shut q m r s h so
+    ends q ask.IsEmpty m r s l h so = ends_empty q m r s l h so
+    ends q ask.IsFull m r s l h so = ends_full q m r s l h so
+    ends q ask.Len m r s l h so = ends_len q m r s h so
+    ends q ask.Capacity m r s l h so = ends_capacity q m r s h so
+
+  -- ---- the loop
+
+  abbrev pub held_in : Contents T → Held T
+  held_in c = record { items = items_in c; closed = closed_in c; capacity = capacity_of c.form }
+
+  pub held_is : (c : Contents T) (q : Queue T) → Fits c q [] → held_in c ≡ view q
+  held_is c q fits =
+      let sh = shows c q [] fits in
+      let by_items : List T → Held T = λ x. record { items = x; closed = closed_in c; capacity = capacity_of c.form } in
+      let by_closed : Bool → Held T = λ x. record { items = q.items; closed = x; capacity = capacity_of c.form } in
+      let by_capacity : Option ℕ → Held T = λ x. record { items = q.items; closed = q.closed; capacity = x } in
+      ap by_items (sym (sh.at_rest refl).0) ∙ ap by_closed sh.flag ∙ ap by_capacity (sym sh.limit)
+
+  abbrev pub IsSoundIn : Contents T → Type 0
+  IsSoundIn c = (q : Queue T) × Fits c q [] × (q.capacity ≡ Some 1)
+
+  pub record IsAlone (m : Held T) (a : QueueAsk T) (c : Contents T) (call : QueueCall T) : Type 0 where
+    pub start : Queue T
+    pub was : m ≡ view start
+    pub now : Queue T
+    pub phase : Phase T
+    pub asks : phase.ask ≡ a
+    pub fits : Fits c now (seat call phase ∷ [])
+    pub limit : now.capacity ≡ Some 1
+    pub so : So start phase.ask phase.stage now
+
+  pub alone_start : (c : Contents T) (a : QueueAsk T) (call : QueueCall T) → Starts call a → IsSoundIn c → IsAlone (held_in c) a c call
+  alone_start c a call starts (q, fits, limit) =
+      record { start = q; was = held_is c q fits; now = q; phase = asked a; asks = refl; fits = starts c q [] [] fits; limit = limit; so = (refl, λ e. absurd cc) }
+
+  module _ (m : Held T) (a : QueueAsk T) (c : Contents T) (call : QueueCall T) (x : IsAlone m a c call) (d : Contents T) (next : QueueCall T) where
+    step_of : (r : Option (QueueReply T)) → IsQueueStep c call d next r → Steps c call x.phase d next r x.now [] []
+    step_of r step = step x.now x.phase [] [] (inl x.limit) x.fits
+
+    pub alone_more : IsQueueStep c call d next None → IsAlone m a d next
+    alone_more step =
+        let h = step_of None step in
+        let p = h.does.0 in
+        let goes = h.does.1 in
+        let so : So x.start x.phase.ask p.stage (after x.phase next.mark x.now) = so_goes x.start x.now x.phase.ask next.mark x.phase.stage p.stage goes.1 x.so in
+        record {
+          start = x.start;
+          was = x.was;
+          now = after x.phase next.mark x.now;
+          phase = p;
+          asks = goes.0 ∙ x.asks;
+          fits = h.does.2;
+          limit = same_capacity x.now x.phase next.mark ∙ x.limit;
+          so = subst (λ (b : QueueAsk T). So x.start b p.stage (after x.phase next.mark x.now)) (sym goes.0) so;
+        }
+
+    pub alone_nearer : IsQueueStep c call d next None → rank d next < rank c call
+    alone_nearer step = (step_of None step).ends (tt, λ e. inr refl)
+
+    pub alone_sound : (r : QueueReply T) → IsQueueStep c call d next (Some r) → IsSoundIn d
+    alone_sound r step = let h = step_of (Some r) step in (after x.phase next.mark x.now, h.does.1, same_capacity x.now x.phase next.mark ∙ x.limit)
+
+    pub alone_end : (r : QueueReply T) → IsQueueStep c call d next (Some r) → Gives a m (held_in d) r
+    alone_end r step =
+        let h = step_of (Some r) step in
+        let q' : Queue T = after x.phase next.mark x.now in
+        let balance : IsBalanced x.now = (shows c x.now (seat call x.phase ∷ []) x.fits).balance in
+        let g : Gives x.phase.ask (view x.start) (view q') r = ends x.start x.now x.phase.ask next.mark r x.phase.stage balance h.does.0 x.so in
+        let g1 : Gives a (view x.start) (view q') r = subst (λ (b : QueueAsk T). Gives b (view x.start) (view q') r) x.asks g in
+        let g2 : Gives a m (view q') r = subst (λ (n : Held T). Gives a n (view q') r) (sym x.was) g1 in
+        subst (λ (n : Held T). Gives a m n r) (sym (held_is d q' h.does.1)) g2
+
+-- cells that were just made hold nothing
+pub new_held : {T : Type 0} (c : Contents T) (cap : ℕ) → IsNew (Bounded cap) c → held_in c ≡ record { items = []; closed = false; capacity = Some cap }
+new_held c cap new = held_is c (opened (Some cap)) new.1

@@ -1,0 +1,13 @@
+use Rattle.std.proofs.Common.{◌≡◌, rules, subst}
+use Rattle.concurrent_queue.specs.Dispatch.{IsStateStep}
+use Rattle.concurrent_queue.specs.declared.queue_call.CallState.{CallState}
+use Rattle.concurrent_queue.proofs.FitsFacts.{is_queue_step}
+use Rattle.concurrent_queue.proofs.queue_call.QueueCall.step.Goals as goal
+
+pub returns : goal.returns
+returns g c known =
+    let cells = g.C.Cells.contents c.args.cells.now in
+    let left = g.C.Cells.contents c.step_state-stepped.new.cells in
+    let s = c.step_state-stepped.result in
+    let e : c.replace-state.result ≡ c.args.self.now.state = search rules in
+    is_queue_step cells c.args.self.now left s (subst (λ (x : CallState g.row.T.Denot). IsStateStep cells x left s) e (c.step_state-stepped.ensures known))

@@ -1,0 +1,673 @@
+//! The ring: a queue of two slots or more, as a machine of atomic steps.
+//!
+//! A ring has a word `head`, a word `tail`, and for each slot a word `stamp`. Head and tail are *positions*: a
+//! multiple of a lap plus the index of a slot. A lap is twice the *mark*, and the mark is the least power of two above
+//! the capacity, so that no index reaches it; in `tail` the mark is set where the queue is closed. A stamp that is the
+//! position of a push says that its slot is free for that push, and one more than a position that its message is in.
+//!
+//! Each function below is one step: it touches at most one word or slot, and what it decides belongs to it. Over shared
+//! cells a word may hold anything, so no step relies on what it reads: sums wrap, and a name outside the cells reads 0.
+//! The places where the machine meets others' steps are those of `concurrent-queue` 2.5.0; the displacing push in two
+//! steps keeps the mark, since it adds to the tail and never stores it.
+
+ghost use Rattle.std.specs.Prelude.{◌≡◌, ◌<◌, ◌^◌, ◌*◌, ◌+◌, ◌-◌, ◌%◌, None, Some, if◌then◌else◌};
+ghost use Rattle.concurrent_queue.specs.RingWords.{cap_of, ring_mark, index, is_marked, unmarked, stride, next_word, count_of, between, shut_reply, pushed_reply, behind, stays, marks, finishes, push_load, push_shut, push_look, push_swap, push_put, push_store, push_head, force_head, force_add, force_take, force_put, force_store, pop_load, pop_look, pop_swap, pop_tail, pop_take, pop_store, close_step, ring_start, ask_is_closed, empty_load, empty_look, full_load, full_look, len_load, len_look, len_again, ring_step};
+ghost use Rattle.concurrent_queue.specs.Dispatch.{IsRingStep, ring_cap};
+
+use crate::call::{QueueAsk, QueueMark, QueueReply, Stepped};
+use crate::cells::{Cells, QueueForm, Slot, Word};
+use crate::error::{ForcePushError, PopError, PushError};
+
+/// The greatest capacity of a ring.
+pub(crate) const GREATEST: usize = 288_230_376_151_711_744;
+
+/// What a push does where the ring is full.
+#[derive(Clone, Copy)]
+pub(crate) enum WhenFull {
+    /// It is refused.
+    Refuse,
+    /// It takes the oldest message out.
+    Displace,
+}
+
+/// The next step of a call, with the positions that it read.
+#[derive(Drop)]
+pub(crate) enum RingAction<T> {
+    /// A push loads the tail.
+    Push(WhenFull, T),
+    /// A push found the tail where positions end, and closes the queue.
+    PushShut(WhenFull, T),
+    /// A push loads the stamp of the tail that it read.
+    PushStamp(WhenFull, T, u64),
+    /// A push tries to move the tail on.
+    PushSwap(WhenFull, T, u64),
+    /// A push that moved the tail on from here puts its message.
+    PushPut(WhenFull, T, u64),
+    /// The same push stores the stamp.
+    PushStore(WhenFull, u64),
+    /// A push that found the message of a lap before still there looks whether that is the oldest.
+    PushHead(T, u64),
+    /// A displacing push, likewise, tries to move the head on from there.
+    ForceHead(T, u64),
+    /// A displacing push that did so moves the tail on.
+    ForceAdd(T, u64),
+    /// It takes the old message out.
+    ForceTake(T, u64),
+    /// It puts its own, holding the old one.
+    ForcePut(T, u64, T),
+    /// It stores the stamp.
+    ForceStore(u64, T),
+    /// A pop loads the head.
+    Pop,
+    /// A pop loads the stamp of the head that it read.
+    PopStamp(u64),
+    /// A pop tries to move the head on.
+    PopSwap(u64),
+    /// A pop that found no message yet looks whether the tail is there too.
+    PopTail(u64),
+    /// A pop that moved the head on from here takes the message.
+    PopTake(u64),
+    /// The same pop stores the stamp.
+    PopStore(u64, T),
+    /// Sets the mark.
+    Close,
+    /// Loads the tail.
+    IsClosed,
+    /// Loads the head, then the tail.
+    IsEmpty,
+    /// The head is read.
+    IsEmptyTail(u64),
+    /// Loads the tail, then the head.
+    IsFull,
+    /// The tail is read.
+    IsFullHead(u64),
+    /// Loads the tail, the head, and the tail again.
+    Len,
+    /// The tail is read, and whether it was marked.
+    LenHead(u64, bool),
+    /// The head is read too.
+    LenTail(u64, bool, u64),
+    /// Touches nothing.
+    Capacity,
+    /// The call has ended.
+    Finished,
+}
+
+/// The measures of a ring: its capacity and its mark.
+#[derive(Clone, Copy)]
+pub(crate) struct Shape {
+    cap: u64,
+    mark: u64,
+    ghost small: { mark < 2 ^ 60 },
+    ghost some: { 0 < mark },
+}
+
+fn at_most_greatest(capacity: usize) -> u64
+    ensures { result ≡ cap_of capacity }
+{
+    if capacity < GREATEST {
+        capacity as u64
+    } else {
+        GREATEST as u64
+    }
+}
+
+impl Shape {
+    ghost use Rattle.std.specs.Prelude.{◌≡◌, ◌<◌, ◌^◌, ◌*◌, if◌then◌else◌, ◌+◌, ◌%◌};
+    ghost use Rattle.concurrent_queue.specs.RingWords.{cap_of, ring_mark, index, is_marked, unmarked, stride, next_word, count_of, between};
+
+    /// The measures of a ring of this capacity; one above 2^58, which no queue has, counts as 2^58.
+    pub(crate) fn of(capacity: usize) -> Shape
+        ensures cap { result.cap ≡ cap_of capacity }
+        ensures mark { result.mark ≡ ring_mark (cap_of capacity) }
+    {
+        let cap = at_most_greatest(capacity);
+        Shape {
+            cap,
+            mark: 1 << (64 - cap.leading_zeros()),
+        }
+    }
+
+    fn lap(self) -> u64
+        ensures { result ≡ 2 * self.mark }
+    {
+        2 * self.mark
+    }
+
+    /// The index of a position.
+    fn index(self, position: u64) -> u64
+        ensures { result ≡ index self.mark position }
+    {
+        position % self.lap()
+    }
+
+    /// The name of the stamp that belongs to a position.
+    fn stamp(self, position: u64) -> Word
+        ensures { result ≡ Word.Stamp (index self.mark position) }
+    {
+        Word::Stamp(self.index(position))
+    }
+
+    /// Whether the mark is set in a word.
+    fn is_marked(self, word: u64) -> bool
+        ensures { result ≡ is_marked self.mark word }
+    {
+        self.mark <= word % self.lap()
+    }
+
+    /// The position in a word.
+    fn unmarked(self, word: u64) -> u64
+        ensures { result ≡ unmarked self.mark word }
+    {
+        if self.is_marked(word) {
+            word - self.mark
+        } else {
+            word
+        }
+    }
+
+    /// How far it is from a position to the next one.
+    fn stride(self, position: u64) -> u64
+        ensures { result ≡ stride self.cap self.mark position }
+    {
+        let index = self.index(position);
+        if index + 1 < self.cap {
+            1
+        } else {
+            self.lap() - index
+        }
+    }
+
+    /// The position after this one.
+    fn next(self, position: u64) -> u64
+        ensures { result ≡ next_word self.cap self.mark position }
+    {
+        position.wrapping_add(self.stride(position))
+    }
+
+    /// How many positions there are below this one.
+    fn count(self, position: u64) -> u64
+        ensures { result ≡ count_of self.cap self.mark position }
+    {
+        (position / self.lap())
+            .wrapping_mul(self.cap)
+            .wrapping_add(self.index(position))
+    }
+}
+
+fn stay<T>(action: RingAction<T>) -> Stepped<RingAction<T>, T>
+    ensures { result ≡ stays action }
+{
+    did(action, QueueMark::Nothing)
+}
+
+fn did<T>(action: RingAction<T>, mark: QueueMark) -> Stepped<RingAction<T>, T>
+    ensures { result ≡ marks action mark }
+{
+    Stepped {
+        action,
+        mark,
+        reply: None,
+    }
+}
+
+fn finish<T>(reply: QueueReply<T>) -> Stepped<RingAction<T>, T>
+    ensures { result ≡ finishes reply }
+{
+    closed_by(reply, QueueMark::Nothing)
+}
+
+fn closed_by<T>(reply: QueueReply<T>, mark: QueueMark) -> Stepped<RingAction<T>, T>
+    ensures { result ≡ record { action = RingAction.Finished; mark = mark; reply = Some reply } }
+{
+    Stepped {
+        action: RingAction::Finished,
+        mark,
+        reply: Some(reply),
+    }
+}
+
+/// The answer of a push to a closed queue.
+fn refused<T>(when_full: WhenFull, value: T) -> QueueReply<T>
+    ensures { result ≡ shut_reply when_full value }
+{
+    match when_full {
+        WhenFull::Refuse => QueueReply::Push(Err(PushError::Closed(value))),
+        WhenFull::Displace => QueueReply::Force(Err(ForcePushError::Closed(value))),
+    }
+}
+
+/// The answer of a push that displaced nothing.
+fn accepted<T>(when_full: WhenFull) -> QueueReply<T>
+    ensures { result ≡ pushed_reply when_full }
+{
+    match when_full {
+        WhenFull::Refuse => QueueReply::Push(Ok(())),
+        WhenFull::Displace => QueueReply::Force(Ok(None)),
+    }
+}
+
+/// A push that may be closed or at the end of positions: it reads the tail.
+fn push_load<T: Drop, C: Cells<T>>(
+    shape: Shape,
+    when_full: WhenFull,
+    value: T,
+    cells: &mut C,
+) -> Stepped<RingAction<T>, T>
+    ensures { C.known → (C.contents cells.new, result) ≡ push_load shape.cap shape.mark (C.contents cells.old) when_full value }
+{
+    let tail = cells.load(Word::Tail);
+    if shape.is_marked(tail) {
+        finish(refused(when_full, value))
+    } else if u64::MAX - shape.lap() < tail {
+        stay(RingAction::PushShut(when_full, value))
+    } else {
+        stay(RingAction::PushStamp(when_full, value, tail))
+    }
+}
+
+/// Positions end here: the queue closes itself, where the wait-free ring of the crates lets them wrap (own to this
+/// project).
+fn push_shut<T: Drop, C: Cells<T>>(
+    shape: Shape,
+    when_full: WhenFull,
+    value: T,
+    cells: &mut C,
+) -> Stepped<RingAction<T>, T>
+    ensures { C.known → (C.contents cells.new, result) ≡ push_shut shape.cap shape.mark (C.contents cells.old) when_full value }
+{
+    let tail = cells.fetch_or(Word::Tail, shape.mark);
+    let reply = refused(when_full, value);
+    if shape.is_marked(tail) {
+        finish(reply)
+    } else {
+        closed_by(reply, QueueMark::Close)
+    }
+}
+
+/// The stamp says whether the slot is free for this push, or still has the message of the lap before.
+fn push_look<T: Drop, C: Cells<T>>(
+    shape: Shape,
+    when_full: WhenFull,
+    value: T,
+    tail: u64,
+    cells: &mut C,
+) -> Stepped<RingAction<T>, T>
+    ensures { C.known → (C.contents cells.new, result) ≡ push_look shape.cap shape.mark (C.contents cells.old) when_full value tail }
+{
+    let stamp = cells.load(shape.stamp(tail));
+    if stamp == tail {
+        return stay(RingAction::PushSwap(when_full, value, tail));
+    }
+    let lap = shape.lap();
+    if lap <= tail && stamp == tail - lap + 1 {
+        let head = tail - lap;
+        return match when_full {
+            WhenFull::Refuse => stay(RingAction::PushHead(value, head)),
+            WhenFull::Displace => stay(RingAction::ForceHead(value, head)),
+        };
+    }
+    stay(RingAction::Push(when_full, value))
+}
+
+/// Who moves the tail on from here owns the slot. A marked tail is no position, so a closed queue lets nobody in.
+fn push_swap<T: Drop, C: Cells<T>>(
+    shape: Shape,
+    when_full: WhenFull,
+    value: T,
+    tail: u64,
+    cells: &mut C,
+) -> Stepped<RingAction<T>, T>
+    ensures { C.known → (C.contents cells.new, result) ≡ push_swap shape.cap shape.mark (C.contents cells.old) when_full value tail }
+{
+    match cells.compare_exchange(Word::Tail, tail, shape.next(tail)) {
+        Ok(_) => did(
+            RingAction::PushPut(when_full, value, tail),
+            QueueMark::Append,
+        ),
+        Err(_) => stay(RingAction::Push(when_full, value)),
+    }
+}
+
+fn push_put<T: Drop, C: Cells<T>>(
+    shape: Shape,
+    when_full: WhenFull,
+    value: T,
+    tail: u64,
+    cells: &mut C,
+) -> Stepped<RingAction<T>, T>
+    ensures { C.known → (C.contents cells.new, result) ≡ push_put shape.cap shape.mark (C.contents cells.old) when_full value tail }
+{
+    match cells.put(Slot::At(shape.index(tail)), value) {
+        Ok(()) => stay(RingAction::PushStore(when_full, tail)),
+        Err(value) => stay(RingAction::PushPut(when_full, value, tail)),
+    }
+}
+
+fn push_store<T: Drop, C: Cells<T>>(
+    shape: Shape,
+    when_full: WhenFull,
+    tail: u64,
+    cells: &mut C,
+) -> Stepped<RingAction<T>, T>
+    ensures { C.known → (C.contents cells.new, result) ≡ push_store shape.cap shape.mark (C.contents cells.old) when_full tail }
+{
+    cells.store(shape.stamp(tail), tail.wrapping_add(1));
+    finish(accepted(when_full))
+}
+
+/// The queue is full where the message of the lap before is the oldest.
+fn push_head<T: Drop, C: Cells<T>>(value: T, head: u64, cells: &mut C) -> Stepped<RingAction<T>, T>
+    ensures { C.known → (C.contents cells.new, result) ≡ push_head (C.contents cells.old) value head }
+{
+    if cells.load(Word::Head) == head {
+        finish(QueueReply::Push(Err(PushError::Full(value))))
+    } else {
+        stay(RingAction::Push(WhenFull::Refuse, value))
+    }
+}
+
+/// The oldest message of a full queue is displaced here; its slot then waits for the new one, since no other push takes
+/// the place at the tail while the stamp is of the lap before.
+fn force_head<T: Drop, C: Cells<T>>(
+    shape: Shape,
+    value: T,
+    head: u64,
+    cells: &mut C,
+) -> Stepped<RingAction<T>, T>
+    ensures { C.known → (C.contents cells.new, result) ≡ force_head shape.cap shape.mark (C.contents cells.old) value head }
+{
+    match cells.compare_exchange(Word::Head, head, shape.next(head)) {
+        Ok(_) => did(RingAction::ForceAdd(value, head), QueueMark::TakeDisplaced),
+        Err(_) => stay(RingAction::Push(WhenFull::Displace, value)),
+    }
+}
+
+/// Adding leaves the mark as it is, where storing the tail could reopen a closed queue.
+fn force_add<T: Drop, C: Cells<T>>(
+    shape: Shape,
+    value: T,
+    head: u64,
+    cells: &mut C,
+) -> Stepped<RingAction<T>, T>
+    ensures { C.known → (C.contents cells.new, result) ≡ force_add shape.cap shape.mark (C.contents cells.old) value head }
+{
+    cells.fetch_add(Word::Tail, shape.stride(head));
+    did(RingAction::ForceTake(value, head), QueueMark::Append)
+}
+
+fn force_take<T: Drop, C: Cells<T>>(
+    shape: Shape,
+    value: T,
+    head: u64,
+    cells: &mut C,
+) -> Stepped<RingAction<T>, T>
+    ensures { C.known → (C.contents cells.new, result) ≡ force_take shape.cap shape.mark (C.contents cells.old) value head }
+{
+    match cells.take(Slot::At(shape.index(head))) {
+        Some(old) => stay(RingAction::ForcePut(value, head, old)),
+        None => stay(RingAction::ForceTake(value, head)),
+    }
+}
+
+fn force_put<T: Drop, C: Cells<T>>(
+    shape: Shape,
+    value: T,
+    head: u64,
+    old: T,
+    cells: &mut C,
+) -> Stepped<RingAction<T>, T>
+    ensures { C.known → (C.contents cells.new, result) ≡ force_put shape.cap shape.mark (C.contents cells.old) value head old }
+{
+    match cells.put(Slot::At(shape.index(head)), value) {
+        Ok(()) => stay(RingAction::ForceStore(head, old)),
+        Err(value) => stay(RingAction::ForcePut(value, head, old)),
+    }
+}
+
+fn force_store<T: Drop, C: Cells<T>>(
+    shape: Shape,
+    head: u64,
+    old: T,
+    cells: &mut C,
+) -> Stepped<RingAction<T>, T>
+    ensures { C.known → (C.contents cells.new, result) ≡ force_store shape.cap shape.mark (C.contents cells.old) head old }
+{
+    cells.store(shape.stamp(head), head.wrapping_add(shape.lap() + 1));
+    finish(QueueReply::Force(Ok(Some(old))))
+}
+
+/// The stamp says whether the message at the head is in, or the slot is still free for it.
+fn pop_look<T: Drop, C: Cells<T>>(
+    shape: Shape,
+    head: u64,
+    cells: &mut C,
+) -> Stepped<RingAction<T>, T>
+    ensures { C.known → (C.contents cells.new, result) ≡ pop_look shape.cap shape.mark (C.contents cells.old) head }
+{
+    let stamp = cells.load(shape.stamp(head));
+    if stamp == head.wrapping_add(1) {
+        stay(RingAction::PopSwap(head))
+    } else if stamp == head {
+        stay(RingAction::PopTail(head))
+    } else {
+        stay(RingAction::Pop)
+    }
+}
+
+fn pop_swap<T: Drop, C: Cells<T>>(
+    shape: Shape,
+    head: u64,
+    cells: &mut C,
+) -> Stepped<RingAction<T>, T>
+    ensures { C.known → (C.contents cells.new, result) ≡ pop_swap shape.cap shape.mark (C.contents cells.old) head }
+{
+    match cells.compare_exchange(Word::Head, head, shape.next(head)) {
+        Ok(_) => did(RingAction::PopTake(head), QueueMark::Take),
+        Err(_) => stay(RingAction::Pop),
+    }
+}
+
+/// The queue is empty only where the tail is at the head too. While a displacing push's message is on its way the stamp
+/// was of the lap before, so a pop does not come here.
+fn pop_tail<T: Drop, C: Cells<T>>(
+    shape: Shape,
+    head: u64,
+    cells: &mut C,
+) -> Stepped<RingAction<T>, T>
+    ensures { C.known → (C.contents cells.new, result) ≡ pop_tail shape.cap shape.mark (C.contents cells.old) head }
+{
+    let tail = cells.load(Word::Tail);
+    if shape.unmarked(tail) != head {
+        return stay(RingAction::Pop);
+    }
+    if shape.is_marked(tail) {
+        finish(QueueReply::Pop(Err(PopError::Closed)))
+    } else {
+        finish(QueueReply::Pop(Err(PopError::Empty)))
+    }
+}
+
+fn pop_take<T: Drop, C: Cells<T>>(
+    shape: Shape,
+    head: u64,
+    cells: &mut C,
+) -> Stepped<RingAction<T>, T>
+    ensures { C.known → (C.contents cells.new, result) ≡ pop_take shape.cap shape.mark (C.contents cells.old) head }
+{
+    match cells.take(Slot::At(shape.index(head))) {
+        Some(value) => stay(RingAction::PopStore(head, value)),
+        None => stay(RingAction::PopTake(head)),
+    }
+}
+
+fn pop_store<T: Drop, C: Cells<T>>(
+    shape: Shape,
+    head: u64,
+    value: T,
+    cells: &mut C,
+) -> Stepped<RingAction<T>, T>
+    ensures { C.known → (C.contents cells.new, result) ≡ pop_store shape.cap shape.mark (C.contents cells.old) head value }
+{
+    cells.store(shape.stamp(head), head.wrapping_add(shape.lap()));
+    finish(QueueReply::Pop(Ok(value)))
+}
+
+fn close<T: Drop, C: Cells<T>>(shape: Shape, cells: &mut C) -> Stepped<RingAction<T>, T>
+    ensures { C.known → (C.contents cells.new, result) ≡ close_step shape.cap shape.mark (C.contents cells.old) }
+{
+    let tail = cells.fetch_or(Word::Tail, shape.mark);
+    if shape.is_marked(tail) {
+        finish(QueueReply::Close(false))
+    } else {
+        closed_by(QueueReply::Close(true), QueueMark::Close)
+    }
+}
+
+fn is_closed<T: Drop, C: Cells<T>>(shape: Shape, cells: &mut C) -> Stepped<RingAction<T>, T>
+    ensures { C.known → (C.contents cells.new, result) ≡ ask_is_closed shape.cap shape.mark (C.contents cells.old) }
+{
+    let tail = cells.load(Word::Tail);
+    finish(QueueReply::Flag(shape.is_marked(tail)))
+}
+
+fn empty_look<T: Drop, C: Cells<T>>(
+    shape: Shape,
+    head: u64,
+    cells: &mut C,
+) -> Stepped<RingAction<T>, T>
+    ensures { C.known → (C.contents cells.new, result) ≡ empty_look shape.cap shape.mark (C.contents cells.old) head }
+{
+    let tail = cells.load(Word::Tail);
+    finish(QueueReply::Flag(shape.unmarked(tail) == head))
+}
+
+fn full_load<T: Drop, C: Cells<T>>(shape: Shape, cells: &mut C) -> Stepped<RingAction<T>, T>
+    ensures { C.known → (C.contents cells.new, result) ≡ full_load shape.cap shape.mark (C.contents cells.old) }
+{
+    let tail = cells.load(Word::Tail);
+    stay(RingAction::IsFullHead(shape.unmarked(tail)))
+}
+
+fn full_look<T: Drop, C: Cells<T>>(
+    shape: Shape,
+    tail: u64,
+    cells: &mut C,
+) -> Stepped<RingAction<T>, T>
+    ensures { C.known → (C.contents cells.new, result) ≡ full_look shape.cap shape.mark (C.contents cells.old) tail }
+{
+    let head = cells.load(Word::Head);
+    let lap = shape.lap();
+    finish(QueueReply::Flag(lap <= tail && head == tail - lap))
+}
+
+fn len_load<T: Drop, C: Cells<T>>(shape: Shape, cells: &mut C) -> Stepped<RingAction<T>, T>
+    ensures { C.known → (C.contents cells.new, result) ≡ len_load shape.cap shape.mark (C.contents cells.old) }
+{
+    let tail = cells.load(Word::Tail);
+    stay(RingAction::LenHead(shape.unmarked(tail), shape.is_marked(tail)))
+}
+
+/// The number between the two positions counts only where the tail rested.
+fn len_again<T: Drop, C: Cells<T>>(
+    shape: Shape,
+    tail: u64,
+    marked: bool,
+    head: u64,
+    cells: &mut C,
+) -> Stepped<RingAction<T>, T>
+    ensures { C.known → (C.contents cells.new, result) ≡ len_again shape.cap shape.mark (C.contents cells.old) tail marked head }
+{
+    let word = if marked {
+        tail.wrapping_add(shape.mark)
+    } else {
+        tail
+    };
+    if cells.load(Word::Tail) == word {
+        let length = shape.count(tail).wrapping_sub(shape.count(head));
+        finish(QueueReply::Count(length as usize))
+    } else {
+        stay(RingAction::Len)
+    }
+}
+
+/// The first step of a call.
+pub(crate) fn first<T>(ask: QueueAsk<T>) -> RingAction<T>
+    ensures { result ≡ ring_start ask }
+{
+    match ask {
+        QueueAsk::Push(value) => RingAction::Push(WhenFull::Refuse, value),
+        QueueAsk::ForcePush(value) => RingAction::Push(WhenFull::Displace, value),
+        QueueAsk::Pop => RingAction::Pop,
+        QueueAsk::Close => RingAction::Close,
+        QueueAsk::IsClosed => RingAction::IsClosed,
+        QueueAsk::IsEmpty => RingAction::IsEmpty,
+        QueueAsk::IsFull => RingAction::IsFull,
+        QueueAsk::Len => RingAction::Len,
+        QueueAsk::Capacity => RingAction::Capacity,
+    }
+}
+
+/// One step of a call, which is one operation on one cell.
+pub(crate) fn step<T: Drop, C: Cells<T>>(
+    action: RingAction<T>,
+    cells: &mut C,
+) -> Stepped<RingAction<T>, T>
+    ensures { C.known → IsRingStep (ring_cap (C.contents cells.old).form) (C.contents cells.old) action (C.contents cells.new) result }
+{
+    let QueueForm::Bounded(capacity) = cells.form();
+    step_ring(Shape::of(capacity), action, cells)
+}
+
+fn step_ring<T: Drop, C: Cells<T>>(
+    shape: Shape,
+    action: RingAction<T>,
+    cells: &mut C,
+) -> Stepped<RingAction<T>, T>
+    ensures { C.known → (C.contents cells.new, result) ≡ ring_step shape.cap shape.mark (C.contents cells.old) action }
+{
+    match action {
+        RingAction::Push(when_full, value) => push_load(shape, when_full, value, cells),
+        RingAction::PushShut(when_full, value) => push_shut(shape, when_full, value, cells),
+        RingAction::PushStamp(when_full, value, tail) => push_look(
+            shape, when_full, value, tail, cells,
+        ),
+        RingAction::PushSwap(when_full, value, tail) => push_swap(
+            shape, when_full, value, tail, cells,
+        ),
+        RingAction::PushPut(when_full, value, tail) => push_put(
+            shape, when_full, value, tail, cells,
+        ),
+        RingAction::PushStore(when_full, tail) => push_store(shape, when_full, tail, cells),
+        RingAction::PushHead(value, head) => push_head(value, head, cells),
+        RingAction::ForceHead(value, head) => force_head(shape, value, head, cells),
+        RingAction::ForceAdd(value, head) => force_add(shape, value, head, cells),
+        RingAction::ForceTake(value, head) => force_take(shape, value, head, cells),
+        RingAction::ForcePut(value, head, old) => force_put(shape, value, head, old, cells),
+        RingAction::ForceStore(head, old) => force_store(shape, head, old, cells),
+        RingAction::Pop => stay(RingAction::PopStamp(cells.load(Word::Head))),
+        RingAction::PopStamp(head) => pop_look(shape, head, cells),
+        RingAction::PopSwap(head) => pop_swap(shape, head, cells),
+        RingAction::PopTail(head) => pop_tail(shape, head, cells),
+        RingAction::PopTake(head) => pop_take(shape, head, cells),
+        RingAction::PopStore(head, value) => pop_store(shape, head, value, cells),
+        RingAction::Close => close(shape, cells),
+        RingAction::IsClosed => is_closed(shape, cells),
+        RingAction::IsEmpty => stay(RingAction::IsEmptyTail(cells.load(Word::Head))),
+        RingAction::IsEmptyTail(head) => empty_look(shape, head, cells),
+        RingAction::IsFull => full_load(shape, cells),
+        RingAction::IsFullHead(tail) => full_look(shape, tail, cells),
+        RingAction::Len => len_load(shape, cells),
+        RingAction::LenHead(tail, marked) => stay(RingAction::LenTail(
+            tail,
+            marked,
+            cells.load(Word::Head),
+        )),
+        RingAction::LenTail(tail, marked, head) => len_again(shape, tail, marked, head, cells),
+        RingAction::Capacity => finish(QueueReply::Cap(Some(shape.cap as usize))),
+        RingAction::Finished => stay(RingAction::Finished),
+    }
+}
+
+#[cfg(test)]
+mod tests;

@@ -1,0 +1,126 @@
+//! The words and slots that the steps of a queue work on, one operation on one of them at a time.
+
+ghost use Rattle.std.specs.Prelude.{◌≡◌, ℕ, ◌+◌, ◌%◌, ◌^◌, Option, Result};
+ghost use Rattle.std.specs.Prelude.{bit_or, bit_and, MatchResult};
+ghost use Rattle.concurrent_queue.specs.Contents.{Contents, read, write, slot_at, write_slot, PutGives, SpareGives, with_retired};
+
+/// Which kind of queue the cells are of.
+#[derive(Clone, Copy)]
+pub enum QueueForm {
+    /// At most this many messages.
+    Bounded(usize),
+}
+
+/// The name of a word. Blocks go by their numbers, from 0 in the order in which they were made.
+#[derive(Clone, Copy)]
+pub enum Word {
+    /// The three bits of a queue of one slot.
+    State,
+    /// The position of the oldest message.
+    Head,
+    /// The position of the next message to come.
+    Tail,
+    /// The stamp of a ring's place.
+    Stamp(u64),
+    /// The block at the head, by its number plus 1, or 0.
+    HeadBlock,
+    /// The block at the tail, by its number plus 1, or 0.
+    TailBlock,
+    /// The block after this one, by its number plus 1, or 0.
+    Next(u64),
+    /// How many messages of this block were read.
+    Reads(u64),
+    /// Whether the message of this block at this offset is written.
+    Written(u64, u64),
+}
+
+/// The name of a slot, which holds one message or none.
+#[derive(Clone, Copy)]
+pub enum Slot {
+    /// The slot of a ring's place, or with 0 the only slot.
+    At(u64),
+    /// The slot of this block at this offset.
+    In(u64, u64),
+}
+
+/// There was no memory for another block.
+#[derive(Clone, Copy)]
+pub struct NoMemory;
+
+/// The cells of one queue. Each call is one atomic operation on one word or slot, or one section of the spare list with
+/// the block that enters or leaves it. A word that does not exist reads 0 and stays so; a slot that does not exist holds
+/// nothing and takes nothing.
+///
+/// `contents` is what the cells hold. Where several parties work on them nobody can know it, and then `known` is false:
+/// nothing is promised of what is found, and the steps of the queue are merely safe.
+pub trait Cells<T> {
+    ghost use Rattle.concurrent_queue.specs.declared.cells.QueueForm.{QueueForm};
+
+    ghost known: { Type 0 };
+
+    ghost contents: { Self → Contents T };
+
+    ghost form_of: { Self → QueueForm };
+
+    /// Which kind of queue it is; no operation changes that.
+    fn form(&self) -> QueueForm
+        ensures form { result ≡ form_of self.now }
+        ensures found { known → result ≡ (contents self.now).form };
+
+    /// What the word holds.
+    fn load(&mut self, at: Word) -> u64
+        ensures found { known → result ≡ read (contents self.old) at }
+        ensures left { known → contents self.new ≡ contents self.old }
+        ensures form { form_of self.new ≡ form_of self.old };
+
+    /// Writes the word.
+    fn store(&mut self, at: Word, value: u64)
+        ensures left { known → contents self.new ≡ write (contents self.old) at value }
+        ensures form { form_of self.new ≡ form_of self.old };
+
+    /// Writes the word where it holds `expected`; `Err` with what it holds where it does not.
+    fn compare_exchange(&mut self, at: Word, expected: u64, next: u64) -> Result<u64, u64>
+        ensures found { known → MatchResult result (λ w. (w ≡ expected) × (read (contents self.old) at ≡ expected) × (contents self.new ≡ write (contents self.old) at next)) (λ w. (w ≡ read (contents self.old) at) × (¬ (w ≡ expected)) × (contents self.new ≡ contents self.old)) }
+        ensures form { form_of self.new ≡ form_of self.old };
+
+    /// Adds to the word, and answers what it held. The sum wraps at 2^64.
+    fn fetch_add(&mut self, at: Word, by: u64) -> u64
+        ensures found { known → result ≡ read (contents self.old) at }
+        ensures left { known → contents self.new ≡ write (contents self.old) at ((read (contents self.old) at + by) % 2 ^ 64) }
+        ensures form { form_of self.new ≡ form_of self.old };
+
+    /// Sets these bits of the word, and answers what it held.
+    fn fetch_or(&mut self, at: Word, bits: u64) -> u64
+        ensures found { known → result ≡ read (contents self.old) at }
+        ensures left { known → contents self.new ≡ write (contents self.old) at (bit_or (read (contents self.old) at) bits) }
+        ensures form { form_of self.new ≡ form_of self.old };
+
+    /// Keeps these bits of the word and clears all others, and answers what it held.
+    fn fetch_and(&mut self, at: Word, bits: u64) -> u64
+        ensures found { known → result ≡ read (contents self.old) at }
+        ensures left { known → contents self.new ≡ write (contents self.old) at (bit_and (read (contents self.old) at) bits) }
+        ensures form { form_of self.new ≡ form_of self.old };
+
+    /// Fills an empty slot. `Err` hands the message back: it isn't time yet, since the slot is not empty or in another's hands.
+    fn put(&mut self, at: Slot, value: T) -> Result<(), T>
+        ensures gives { known → PutGives (contents self.old) at value result (contents self.new) }
+        ensures form { form_of self.new ≡ form_of self.old };
+
+    /// Empties a slot. `None`: it isn't time yet, since the slot is empty or in another's hands.
+    fn take(&mut self, at: Slot) -> Option<T>
+        ensures found { known → result ≡ slot_at (contents self.old) at }
+        ensures left { known → contents self.new ≡ write_slot (contents self.old) at None }
+        ensures form { form_of self.new ≡ form_of self.old };
+
+    /// The number of a blank block: the spare one that was given back last, or a new one, which is made together with its
+    /// place in the spare list. `Err`, and nothing is changed, where there is no memory for a new one.
+    fn spare(&mut self) -> Result<u64, NoMemory>
+        ensures gives { known → SpareGives (contents self.old) result (contents self.new) }
+        ensures form { form_of self.new ≡ form_of self.old };
+
+    /// Blanks a block and puts its number on the spare list, which has a place for each block that was made. It takes no
+    /// memory.
+    fn retire(&mut self, block: u64)
+        ensures left { known → contents self.new ≡ with_retired (contents self.old) block }
+        ensures form { form_of self.new ≡ form_of self.old };
+}

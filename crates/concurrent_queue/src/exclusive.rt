@@ -1,0 +1,248 @@
+//! A queue of one owner.
+
+ghost use Rattle.concurrent_queue.specs.Alone.{Gives, held, IsSound};
+
+use crate::call::{QueueAsk, QueueReply};
+use crate::cells::QueueForm;
+use crate::error::{ForcePushError, PopError, PushError};
+use crate::plain::PlainCells;
+use crate::queue_call::QueueCall;
+use std::alloc::{AllocError, Global};
+use std::marker::Model;
+
+/// A queue of one owner, which can be closed. Its calls run the same steps as those of a shared queue, each to its end, and
+/// none of them waits. Own to this project.
+#[derive(Drop)]
+pub struct Exclusive<T> {
+    cells: PlainCells<T>,
+}
+
+impl<T> Model for Exclusive<T> {
+    ghost use Rattle.concurrent_queue.specs.Alone.{Held, held, IsSound};
+
+    ghost Value = { Held T };
+
+    ghost view = { λ q. held q.cells };
+
+    ghost invariant = { λ q. IsSound q.cells };
+}
+
+/// Steps a call to its end.
+fn finish<T: Drop>(cells: &mut PlainCells<T>, ask: QueueAsk<T>) -> QueueReply<T>
+    requires { IsSound cells.old }
+    ensures sound { IsSound cells.new }
+    ensures answer { Gives ask (held cells.old) (held cells.new) result }
+{
+    let mut call = QueueCall::new(ask);
+    loop {
+        match call.step(cells) {
+            Some(reply) => return reply,
+            None => {}
+        }
+    }
+}
+
+impl<T: Drop> Exclusive<T> {
+    ghost use Rattle.std.specs.Prelude.{IfOk, ◌≡◌, ◌==◌, List, [], Some, true, false, not, length};
+    ghost use Rattle.concurrent_queue.specs.Alone.{PushGives, ForceGives, PopGives, is_full};
+
+    /// An open empty queue that holds at most `capacity` messages, which is 1 for now. `Err` where there is no memory for
+    /// its slots.
+    pub fn bounded(alloc: Global, capacity: usize) -> Result<Exclusive<T>, AllocError>
+        requires { capacity ≡ 1 }
+        ensures { IfOk result (λ q. q ≡ record { items = []; closed = false; capacity = Some capacity }) }
+    {
+        Ok(Exclusive {
+            cells: PlainCells::new(alloc, QueueForm::Bounded(capacity))?,
+        })
+    }
+
+    /// Appends the message. A refusal hands it back: the queue was full or closed, and is as it was.
+    pub fn push(&mut self, value: T) -> Result<(), PushError<T>>
+        ensures { PushGives self.old value self.new result }
+    {
+        match finish(&mut self.cells, QueueAsk::Push(value)) {
+            QueueReply::Push(result) => result,
+            _ => unreachable!(),
+        }
+    }
+
+    /// Appends the message; where the queue is full, the oldest one leaves for it and is answered. A refusal hands the
+    /// message back: the queue was closed, and is as it was.
+    pub fn force_push(&mut self, value: T) -> Result<Option<T>, ForcePushError<T>>
+        ensures { ForceGives self.old value self.new result }
+    {
+        match finish(&mut self.cells, QueueAsk::ForcePush(value)) {
+            QueueReply::Force(result) => result,
+            _ => unreachable!(),
+        }
+    }
+
+    /// Takes the oldest message. `Err` where there is none: `Empty` while the queue is open, `Closed` once it is closed.
+    pub fn pop(&mut self) -> Result<T, PopError>
+        ensures { PopGives self.old self.new result }
+    {
+        match finish(&mut self.cells, QueueAsk::Pop) {
+            QueueReply::Pop(result) => result,
+            _ => unreachable!(),
+        }
+    }
+
+    /// Closes the queue: nothing more comes in, and what is in can still be popped. True where it was open.
+    pub fn close(&mut self) -> bool
+        ensures answer { result ≡ not self.old.closed }
+        ensures left { self.new ≡ record self.old { closed = true } }
+    {
+        match finish(&mut self.cells, QueueAsk::Close) {
+            QueueReply::Close(result) => result,
+            _ => unreachable!(),
+        }
+    }
+
+    /// Whether the queue is closed.
+    pub fn is_closed(&mut self) -> bool
+        ensures answer { result ≡ self.old.closed }
+        ensures left { self.new ≡ self.old }
+    {
+        match finish(&mut self.cells, QueueAsk::IsClosed) {
+            QueueReply::Flag(result) => result,
+            _ => unreachable!(),
+        }
+    }
+
+    /// Whether it holds no message.
+    pub fn is_empty(&mut self) -> bool
+        ensures answer { result ≡ (length self.old.items == 0) }
+        ensures left { self.new ≡ self.old }
+    {
+        match finish(&mut self.cells, QueueAsk::IsEmpty) {
+            QueueReply::Flag(result) => result,
+            _ => unreachable!(),
+        }
+    }
+
+    /// Whether it holds as many messages as its capacity.
+    pub fn is_full(&mut self) -> bool
+        ensures answer { result ≡ is_full self.old }
+        ensures left { self.new ≡ self.old }
+    {
+        match finish(&mut self.cells, QueueAsk::IsFull) {
+            QueueReply::Flag(result) => result,
+            _ => unreachable!(),
+        }
+    }
+
+    /// How many messages it holds.
+    pub fn len(&mut self) -> usize
+        ensures answer { result ≡ length self.old.items }
+        ensures left { self.new ≡ self.old }
+    {
+        match finish(&mut self.cells, QueueAsk::Len) {
+            QueueReply::Count(result) => result,
+            _ => unreachable!(),
+        }
+    }
+
+    /// How many messages it can hold.
+    pub fn capacity(&mut self) -> Option<usize>
+        ensures answer { result ≡ self.old.capacity }
+        ensures left { self.new ≡ self.old }
+    {
+        match finish(&mut self.cells, QueueAsk::Capacity) {
+            QueueReply::Cap(result) => result,
+            _ => unreachable!(),
+        }
+    }
+}
+
+/// The messages of a queue of one owner, oldest first. Each one leaves the queue as it is given; what was not given when the
+/// iterator is dropped stays. Own to this project.
+#[derive(Drop)]
+pub struct ExclusiveIter<'a, T> {
+    queue: &'a mut Exclusive<T>,
+}
+
+impl<'a, T: Drop> Iterator for ExclusiveIter<'a, T> {
+    type Item = T;
+
+    ghost use Rattle.std.specs.Prelude.{length};
+    ghost use Rattle.std.specs.Iterator.{at_most};
+    ghost use Rattle.concurrent_queue.specs.Walk.{NextGives};
+
+    ghost next_gives = { λ s r t. NextGives s.queue.now r t.queue.now };
+
+    ghost remaining = { λ s. at_most (length s.queue.now.items) };
+
+    fn next(&mut self) -> Option<T> {
+        self.queue.pop().ok()
+    }
+}
+
+impl<T: Drop> Exclusive<T> {
+    ghost use Rattle.std.specs.Prelude.{◌≡◌};
+
+    /// The messages, oldest first, each of which leaves the queue as it is given.
+    pub fn try_iter(&mut self) -> ExclusiveIter<'_, T>
+        ensures { result.queue.now ≡ self.old }
+    {
+        ExclusiveIter { queue: self }
+    }
+}
+
+#[cfg(test)]
+mod tests {
+    use super::*;
+    use std::rc::Rc;
+    use std::test::Fail;
+
+    #[test]
+    fn one_slot_one_at_a_time(rt: HostRuntime) -> Result<(), Fail> {
+        let mut queue = Exclusive::bounded(rt.alloc(), 1)?;
+        assert_eq!(rt; queue.capacity(), Some(1));
+        assert!(rt; queue.is_empty());
+        assert!(rt; queue.push(10u64).is_ok());
+        assert!(rt; queue.is_full());
+        assert_eq!(rt; queue.len(), 1);
+        assert!(rt; matches!(queue.push(20), Err(PushError::Full(20))));
+        assert!(rt; matches!(queue.force_push(30), Ok(Some(10))));
+        assert!(rt; matches!(queue.pop(), Ok(30)));
+        assert!(rt; matches!(queue.pop(), Err(PopError::Empty)));
+        assert!(rt; matches!(queue.force_push(40), Ok(None)));
+        assert!(rt; queue.close());
+        assert!(rt; !queue.close());
+        assert!(rt; queue.is_closed());
+        assert!(rt; matches!(queue.push(50), Err(PushError::Closed(50))));
+        assert!(rt; matches!(queue.force_push(60), Err(ForcePushError::Closed(60))));
+        assert!(rt; matches!(queue.pop(), Ok(40)));
+        assert!(rt; matches!(queue.pop(), Err(PopError::Closed)));
+        Ok(())
+    }
+
+    #[test]
+    fn walked_to_its_end_or_dropped_early(rt: HostRuntime) -> Result<(), Fail> {
+        let mut queue = Exclusive::bounded(rt.alloc(), 1)?;
+        assert!(rt; queue.push(10u64).is_ok());
+        {
+            let _early = queue.try_iter();
+        }
+        assert_eq!(rt; queue.len(), 1);
+        let mut walk = queue.try_iter();
+        assert_eq!(rt; walk.next(), Some(10));
+        assert_eq!(rt; walk.next(), None);
+        assert!(rt; queue.is_empty());
+        Ok(())
+    }
+
+    #[test]
+    fn what_is_left_is_dropped_once(rt: HostRuntime) -> Result<(), Fail> {
+        let counted = Rc::new(rt.alloc(), 7u64)?;
+        let mut queue = Exclusive::bounded(rt.alloc(), 1)?;
+        assert!(rt; queue.push(counted.clone()?).is_ok());
+        assert_eq!(rt; Rc::strong_count(&counted), 2);
+        assert!(rt; matches!(queue.force_push(counted.clone()?), Ok(Some(_))));
+        assert_eq!(rt; Rc::strong_count(&counted), 2);
+        drop(queue);
+        assert_eq!(rt; Rc::strong_count(&counted), 1);
+        Ok(())
+    }
+}

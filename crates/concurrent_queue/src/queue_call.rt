@@ -1,0 +1,177 @@
+//! A call of a queue, made one step at a time.
+
+ghost use Rattle.std.specs.Prelude.{◌≡◌};
+ghost use Rattle.concurrent_queue.specs.Dispatch.{IsStateStep, in_single, in_ring, ended};
+
+use crate::bounded::RingAction;
+use crate::call::{QueueAsk, QueueMark, QueueReply, Stepped};
+use crate::cells::{Cells, QueueForm};
+use crate::single::SingleAction;
+use crate::{bounded, single};
+use std::mem;
+
+/// How far a call has come, in the form of its queue.
+#[derive(Drop)]
+pub(crate) enum CallState<T> {
+    /// It has made no step.
+    Asked(QueueAsk<T>),
+    /// On a queue of one slot.
+    Single(SingleAction<T>),
+    /// On a ring.
+    Ring(RingAction<T>),
+    /// It has answered.
+    Finished,
+}
+
+/// A call of a queue. Each `step` is one operation on one cell; the last one answers.
+#[derive(Drop)]
+pub struct QueueCall<T> {
+    state: CallState<T>,
+    mark: QueueMark,
+}
+
+fn wrap_single<T: Drop>(stepped: Stepped<SingleAction<T>, T>) -> Stepped<CallState<T>, T>
+    ensures { result ≡ in_single stepped }
+{
+    Stepped {
+        action: CallState::Single(stepped.action),
+        mark: stepped.mark,
+        reply: stepped.reply,
+    }
+}
+
+fn wrap_ring<T: Drop>(stepped: Stepped<RingAction<T>, T>) -> Stepped<CallState<T>, T>
+    ensures { result ≡ in_ring stepped }
+{
+    Stepped {
+        action: CallState::Ring(stepped.action),
+        mark: stepped.mark,
+        reply: stepped.reply,
+    }
+}
+
+/// The first step of a call, in the form of its queue.
+fn first_step<T: Drop, C: Cells<T>>(ask: QueueAsk<T>, cells: &mut C) -> Stepped<CallState<T>, T>
+    ensures { C.known → IsStateStep (C.contents cells.old) (CallState.Asked ask) (C.contents cells.new) result }
+{
+    match cells.form() {
+        QueueForm::Bounded(1) => wrap_single(single::step(single::first(ask), cells)),
+        QueueForm::Bounded(_) => wrap_ring(bounded::step(bounded::first(ask), cells)),
+    }
+}
+
+fn step_state<T: Drop, C: Cells<T>>(state: CallState<T>, cells: &mut C) -> Stepped<CallState<T>, T>
+    ensures { C.known → IsStateStep (C.contents cells.old) state (C.contents cells.new) result }
+{
+    match state {
+        CallState::Asked(ask) => first_step(ask, cells),
+        CallState::Single(action) => wrap_single(single::step(action, cells)),
+        CallState::Ring(action) => wrap_ring(bounded::step(action, cells)),
+        CallState::Finished => Stepped {
+            action: CallState::Finished,
+            mark: QueueMark::Nothing,
+            reply: None,
+        },
+    }
+}
+
+impl<T: Drop> QueueCall<T> {
+    ghost use Rattle.std.specs.Prelude.{◌≡◌};
+    ghost use Rattle.concurrent_queue.specs.Step.{Starts, IsQueueStep, mark_of};
+
+    /// The call that asks this. It has made no step.
+    pub fn new(ask: QueueAsk<T>) -> QueueCall<T>
+        ensures { Starts result ask }
+    {
+        QueueCall {
+            state: CallState::Asked(ask),
+            mark: QueueMark::Nothing,
+        }
+    }
+
+    /// What the last step did; `Nothing` before the first one.
+    pub fn last_mark(&self) -> QueueMark
+        ensures { result ≡ mark_of self.now }
+    {
+        self.mark
+    }
+
+    /// One step.
+    pub fn step<C: Cells<T>>(&mut self, cells: &mut C) -> Option<QueueReply<T>>
+        ensures { C.known → IsQueueStep (C.contents cells.old) self.old (C.contents cells.new) self.new result }
+    {
+        let state = mem::replace(&mut self.state, CallState::Finished);
+        let stepped = step_state(state, cells);
+        self.state = stepped.action;
+        self.mark = stepped.mark;
+        stepped.reply
+    }
+}
+
+impl<T: Drop> QueueCall<T> {
+    ghost use Rattle.concurrent_queue.specs.Step.{Starts};
+    ghost use Rattle.concurrent_queue.specs.declared.call.QueueAsk.TheVariants as ask;
+
+    /// A call that appends this message.
+    pub fn push(value: T) -> QueueCall<T>
+        ensures { Starts result (ask.Push value) }
+    {
+        QueueCall::new(QueueAsk::Push(value))
+    }
+
+    /// A call that appends this message; where the queue is full, the oldest one leaves for it.
+    pub fn force_push(value: T) -> QueueCall<T>
+        ensures { Starts result (ask.ForcePush value) }
+    {
+        QueueCall::new(QueueAsk::ForcePush(value))
+    }
+
+    /// A call that takes the oldest message.
+    pub fn pop() -> QueueCall<T>
+        ensures { Starts result ask.Pop }
+    {
+        QueueCall::new(QueueAsk::Pop)
+    }
+
+    /// A call that closes the queue.
+    pub fn close() -> QueueCall<T>
+        ensures { Starts result ask.Close }
+    {
+        QueueCall::new(QueueAsk::Close)
+    }
+
+    /// A call that asks whether the queue is closed.
+    pub fn is_closed() -> QueueCall<T>
+        ensures { Starts result ask.IsClosed }
+    {
+        QueueCall::new(QueueAsk::IsClosed)
+    }
+
+    /// A call that asks whether the queue holds no message.
+    pub fn is_empty() -> QueueCall<T>
+        ensures { Starts result ask.IsEmpty }
+    {
+        QueueCall::new(QueueAsk::IsEmpty)
+    }
+
+    /// A call that asks whether the queue is full.
+    pub fn is_full() -> QueueCall<T>
+        ensures { Starts result ask.IsFull }
+    {
+        QueueCall::new(QueueAsk::IsFull)
+    }
+
+    /// A call that asks how many messages the queue holds.
+    pub fn len() -> QueueCall<T>
+        ensures { Starts result ask.Len }
+    {
+        QueueCall::new(QueueAsk::Len)
+    }
+
+    /// A call that asks how many messages the queue can hold.
+    pub fn capacity() -> QueueCall<T>
+        ensures { Starts result ask.Capacity }
+    {
+        QueueCall::new(QueueAsk::Capacity)
+    }
+}

@@ -1,0 +1,312 @@
+//! Runs of the calls of many parties, step by step, over the cells of one owner.
+
+ghost use Rattle.std.specs.Prelude.{◌≡◌, ℕ, ◌+◌, ◌<◌, ◌++◌, ◌∷◌, ◌⊎◌, [], Some, slice_get, MatchOption, MatchResult, IfOk, vec_len, vec_capacity};
+ghost use Rattle.std.specs.VecDeque.{deque_len};
+ghost use Rattle.std.specs.List.{remove};
+ghost use Rattle.concurrent_queue.specs.Parties.{HasParty, NoneHas, IsAdmitted, IsRefused, Turns, TurnedOver, SteppedAt, IsMade, IsLeft};
+ghost use Rattle.concurrent_queue.specs.Run.{RanTo, HasNoCells};
+ghost use Rattle.concurrent_queue.specs.Made.{CanBeMade};
+ghost use Rattle.concurrent_queue.specs.Plain.{contents_of};
+
+use crate::call::{QueueAsk, QueueEntry, QueueMark};
+use crate::cells::QueueForm;
+use crate::plain::PlainCells;
+use crate::queue_call::QueueCall;
+use std::alloc::Global;
+use std::collections::VecDeque;
+
+/// A step of a run. A party begins a call by saying what it asks, so that no call begins that was stepped elsewhere.
+#[derive(Drop)]
+pub enum QueueStep<T> {
+    /// The party begins a call that asks this.
+    Begin {
+        /// Whose call it is.
+        party: u32,
+        /// What it asks.
+        call: QueueAsk<T>,
+    },
+    /// The party makes one step of the call that it has under way.
+    Step {
+        /// Whose call it is.
+        party: u32,
+    },
+}
+
+/// Why a run stopped.
+#[derive(Clone, Copy)]
+pub enum QueueRefusal {
+    /// A party that has a call under way would begin one. Its number is 1.
+    Busy,
+    /// A party that has no call under way would make a step. Its number is 2.
+    Idle,
+    /// There was no memory for the cells, for another call under way, or for another entry. Its number is 3.
+    NoMemory,
+}
+
+/// A party with its call under way.
+#[derive(Drop)]
+pub(crate) struct Party<T> {
+    id: u32,
+    call: QueueCall<T>,
+}
+
+/// Where a run stopped before its end, and why.
+#[derive(Clone, Copy)]
+pub struct Stopped {
+    /// How many steps were made before.
+    pub place: usize,
+    /// Why the next one was not.
+    pub why: QueueRefusal,
+}
+
+/// What a run did: an entry for each step that was made, and where it stopped.
+#[derive(Drop)]
+pub struct QueueRun<T> {
+    /// The entries, in the order of the steps.
+    pub trace: Vec<QueueEntry<T>>,
+    /// `None` where all steps were made.
+    pub stopped: Option<Stopped>,
+}
+
+fn find<T>(parties: &Vec<Party<T>>, id: u32) -> Option<usize>
+    ensures { MatchOption result (NoneHas id parties.now.items) (λ k. HasParty id parties.now.items k) }
+{
+    for k in 0..parties.len() {
+        if parties[k].id == id {
+            return Some(k);
+        }
+    }
+    None
+}
+
+/// Whether the first step may be made.
+fn admit<T>(steps: &VecDeque<QueueStep<T>>, parties: &Vec<Party<T>>) -> Result<(), QueueRefusal>
+    ensures { MatchResult result (λ _. IsAdmitted steps.now.items parties.now.items) (λ why. IsRefused steps.now.items parties.now.items why) }
+{
+    match steps.front() {
+        None => Ok(()),
+        Some(QueueStep::Begin { party, .. }) => match find(parties, *party) {
+            None => Ok(()),
+            Some(_) => Err(QueueRefusal::Busy),
+        },
+        Some(QueueStep::Step { party }) => match find(parties, *party) {
+            None => Err(QueueRefusal::Idle),
+            Some(_) => Ok(()),
+        },
+    }
+}
+
+/// Takes the k-th party out.
+fn leave<T: Drop>(parties: &mut Vec<Party<T>>, k: usize)
+    requires { k < vec_len parties.old }
+    ensures { parties.new.items ≡ remove parties.old.items k }
+{
+    let _ = parties.remove(k);
+}
+
+/// One step of the k-th call under way.
+fn step_at<T: Drop>(
+    parties: &mut Vec<Party<T>>,
+    k: usize,
+    cells: &mut PlainCells<T>,
+) -> QueueEntry<T>
+    requires { k < vec_len parties.old }
+    ensures { SteppedAt (contents_of cells.old) parties.old.items k result (contents_of cells.new) parties.new.items }
+{
+    let party = &mut parties[k];
+    let reply = party.call.step(cells);
+    let mark = party.call.last_mark();
+    match &reply {
+        Some(_) => leave(parties, k),
+        None => {}
+    }
+    QueueEntry { mark, reply }
+}
+
+/// Makes a step that was admitted, within the room that was taken.
+fn make<T: Drop>(
+    step: QueueStep<T>,
+    cells: &mut PlainCells<T>,
+    parties: &mut Vec<Party<T>>,
+    trace: &mut Vec<QueueEntry<T>>,
+)
+    requires admitted { IsAdmitted (step ∷ []) parties.old.items }
+    requires room { vec_len parties.old < vec_capacity parties.old }
+    requires trace_room { vec_len trace.old < vec_capacity trace.old }
+    ensures { IsMade step (contents_of cells.old) parties.old.items trace.old.items (contents_of cells.new) parties.new.items trace.new.items }
+{
+    match step {
+        QueueStep::Begin { party, call } => {
+            parties.push_reserved(Party {
+                id: party,
+                call: QueueCall::new(call),
+            });
+            trace.push_reserved(QueueEntry {
+                mark: QueueMark::Nothing,
+                reply: None,
+            });
+        }
+        QueueStep::Step { party } => match find(parties, party) {
+            Some(k) => {
+                let entry = step_at(parties, k, cells);
+                trace.push_reserved(entry);
+            }
+            None => unreachable!(),
+        },
+    }
+}
+
+/// Makes the first step, or refuses it and changes nothing.
+fn turn<T: Drop>(
+    cells: &mut PlainCells<T>,
+    parties: &mut Vec<Party<T>>,
+    trace: &mut Vec<QueueEntry<T>>,
+    steps: &mut VecDeque<QueueStep<T>>,
+) -> Result<(), QueueRefusal>
+    requires { 0 < deque_len steps.old }
+    ensures cases { MatchResult result
+        (λ _. TurnedOver steps.old.items (contents_of cells.old) parties.old.items trace.old.items steps.new.items (contents_of cells.new) parties.new.items trace.new.items)
+        (λ why. IsRefused steps.old.items parties.old.items why × IsLeft steps.old.items (contents_of cells.old) parties.old.items trace.old.items steps.new.items (contents_of cells.new) parties.new.items trace.new.items) }
+    ensures shorter { IfOk result (λ _. deque_len steps.new < deque_len steps.old) }
+{
+    admit(steps, parties)?;
+    if trace.reserve(1).is_err() || parties.reserve(1).is_err() {
+        return Err(QueueRefusal::NoMemory);
+    }
+    match steps.pop_front() {
+        Some(step) => {
+            make(step, cells, parties, trace);
+            Ok(())
+        }
+        None => unreachable!(),
+    }
+}
+
+/// Runs steps of any parties over the cells of a new queue of this form. A step that is refused stays in front, and the run
+/// stops there: a party that has a call under way can't begin another, one that has none can't make a step, and want of
+/// memory for the next entry or call refuses a step too. Where there is no memory for the cells the run stops at place 0.
+///
+/// Own to this project: what `concurrent-queue` 2.5.0 does between threads, one atomic operation a step.
+pub fn run_queue_steps<T: Drop>(
+    alloc: Global,
+    form: QueueForm,
+    steps: &mut VecDeque<QueueStep<T>>,
+) -> QueueRun<T>
+    requires form { CanBeMade form }
+    ensures ran { HasNoCells steps.old.items steps.new.items result.trace.items result.stopped ⊎ RanTo form steps.old.items steps.new.items result.trace.items result.stopped }
+{
+    let mut trace = Vec::new(alloc);
+    match PlainCells::new(alloc, form) {
+        Ok(mut cells) => {
+            let mut parties = Vec::new(alloc);
+            while steps.len() > 0 {
+                match turn(&mut cells, &mut parties, &mut trace, steps) {
+                    Ok(()) => {}
+                    Err(why) => {
+                        let place = trace.len();
+                        return QueueRun {
+                            trace,
+                            stopped: Some(Stopped { place, why }),
+                        };
+                    }
+                }
+            }
+            QueueRun {
+                trace,
+                stopped: None,
+            }
+        }
+        Err(_) => QueueRun {
+            trace,
+            stopped: Some(Stopped {
+                place: 0,
+                why: QueueRefusal::NoMemory,
+            }),
+        },
+    }
+}
+
+#[cfg(test)]
+mod tests {
+    use super::*;
+    use crate::call::QueueReply;
+    use std::test::Fail;
+
+    fn begin(
+        steps: &mut VecDeque<QueueStep<u64>>,
+        party: u32,
+        call: QueueAsk<u64>,
+        count: u32,
+    ) -> Result<(), Fail> {
+        steps.push_back(QueueStep::Begin { party, call })?;
+        more(steps, party, count)
+    }
+
+    fn more(steps: &mut VecDeque<QueueStep<u64>>, party: u32, count: u32) -> Result<(), Fail> {
+        for _ in 0..count {
+            steps.push_back(QueueStep::Step { party })?;
+        }
+        Ok(())
+    }
+
+    #[test]
+    fn a_push_waits_while_a_pop_reads(rt: HostRuntime) -> Result<(), Fail> {
+        let mut steps = VecDeque::new(rt.alloc());
+        begin(&mut steps, 1, QueueAsk::Push(1), 3)?;
+        begin(&mut steps, 2, QueueAsk::Pop, 1)?;
+        begin(&mut steps, 3, QueueAsk::Push(2), 1)?;
+        more(&mut steps, 2, 2)?;
+        more(&mut steps, 3, 3)?;
+        let run = run_queue_steps(rt.alloc(), QueueForm::Bounded(1), &mut steps);
+        assert_eq!(rt; run.trace.len(), 13);
+        assert!(rt; run.stopped.is_none());
+        for (k, entry) in run.trace.iter().enumerate() {
+            match entry.mark {
+                QueueMark::Append => assert!(rt; k == 1 || k == 10),
+                QueueMark::Take => assert_eq!(rt; k, 5),
+                _ => assert!(rt; k != 1 && k != 5 && k != 10),
+            }
+            match &entry.reply {
+                Some(QueueReply::Push(Ok(()))) => assert!(rt; k == 3 || k == 12),
+                Some(QueueReply::Pop(Ok(v))) => {
+                    assert_eq!(rt; k, 9);
+                    assert_eq!(rt; *v, 1);
+                }
+                Some(_) => assert!(rt; false),
+                None => assert!(rt; k != 3 && k != 9 && k != 12),
+            }
+        }
+        Ok(())
+    }
+
+    #[test]
+    fn a_refused_step_stays_in_front(rt: HostRuntime) -> Result<(), Fail> {
+        let mut steps = VecDeque::new(rt.alloc());
+        begin(&mut steps, 1, QueueAsk::Push(1), 1)?;
+        begin(&mut steps, 1, QueueAsk::Push(2), 0)?;
+        let run = run_queue_steps(rt.alloc(), QueueForm::Bounded(1), &mut steps);
+        assert!(rt;
+            matches!(
+                run.stopped,
+                Some(Stopped {
+                    place: 2,
+                    why: QueueRefusal::Busy
+                })
+            )
+        );
+        assert_eq!(rt; steps.len(), 1);
+        let mut idle = VecDeque::new(rt.alloc());
+        more(&mut idle, 7, 1)?;
+        let run = run_queue_steps(rt.alloc(), QueueForm::Bounded(1), &mut idle);
+        assert!(rt;
+            matches!(
+                run.stopped,
+                Some(Stopped {
+                    place: 0,
+                    why: QueueRefusal::Idle
+                })
+            )
+        );
+        Ok(())
+    }
+}

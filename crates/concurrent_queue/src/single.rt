@@ -1,0 +1,240 @@
+//! The steps of a queue of one slot.
+//!
+//! The word `State` has three bits: a call holds the slot, there is a message, the queue is closed. Who exchanges the word
+//! for one with the first bit set owns the slot until it clears that bit. So a push that meets a slot whose message is
+//! taken but still being read tries again, since it may not answer that the queue is full.
+
+ghost use Rattle.std.specs.Prelude.{◌≡◌, ℕ};
+ghost use Rattle.concurrent_queue.specs.Single.{single_step, close_step, push_step, force_step, pop_step, stays, marks, finishes, start};
+
+use crate::call::{QueueAsk, QueueMark, QueueReply, Stepped};
+use crate::cells::{Cells, Slot, Word};
+use crate::error::{ForcePushError, PopError, PushError};
+
+/// A call holds the slot.
+const LOCKED: u64 = 1;
+
+/// There is a message.
+const PUSHED: u64 = 2;
+
+/// The queue is closed.
+const CLOSED: u64 = 4;
+
+/// The word of a call that holds the slot and brings a message.
+const FILLING: u64 = 3;
+
+const NOT_LOCKED: u64 = 0xffff_ffff_ffff_fffe;
+
+const NOT_PUSHED: u64 = 0xffff_ffff_ffff_fffd;
+
+/// The slot.
+const SLOT: Slot = Slot::At(0);
+
+/// The next action of a call.
+#[derive(Drop)]
+pub(crate) enum SingleAction<T> {
+    /// Win the empty slot for this message.
+    Push(T),
+    PushPut(T),
+    PushUnlock,
+    /// Win the slot for this message, where the state is this.
+    Force(T, u64),
+    ForceTake(T),
+    ForcePut(T, Option<T>),
+    ForceUnlock(Option<T>),
+    /// Win the message, where the state is this.
+    Pop(u64),
+    PopTake,
+    PopUnlock(T),
+    Close,
+    IsClosed,
+    IsEmpty,
+    IsFull,
+    Len,
+    Capacity,
+    Finished,
+}
+
+/// The first action of a call that asks this.
+pub(crate) fn first<T>(ask: QueueAsk<T>) -> SingleAction<T>
+    ensures { result ≡ start ask }
+{
+    match ask {
+        QueueAsk::Push(value) => SingleAction::Push(value),
+        QueueAsk::ForcePush(value) => SingleAction::Force(value, 0),
+        QueueAsk::Pop => SingleAction::Pop(PUSHED),
+        QueueAsk::Close => SingleAction::Close,
+        QueueAsk::IsClosed => SingleAction::IsClosed,
+        QueueAsk::IsEmpty => SingleAction::IsEmpty,
+        QueueAsk::IsFull => SingleAction::IsFull,
+        QueueAsk::Len => SingleAction::Len,
+        QueueAsk::Capacity => SingleAction::Capacity,
+    }
+}
+
+fn stay<T>(action: SingleAction<T>) -> Stepped<SingleAction<T>, T>
+    ensures { result ≡ stays action }
+{
+    mark(action, QueueMark::Nothing)
+}
+
+fn mark<T>(action: SingleAction<T>, mark: QueueMark) -> Stepped<SingleAction<T>, T>
+    ensures { result ≡ marks action mark }
+{
+    Stepped {
+        action,
+        mark,
+        reply: None,
+    }
+}
+
+fn finish<T>(reply: QueueReply<T>) -> Stepped<SingleAction<T>, T>
+    ensures { result ≡ finishes reply }
+{
+    Stepped {
+        action: SingleAction::Finished,
+        mark: QueueMark::Nothing,
+        reply: Some(reply),
+    }
+}
+
+/// One step of a call, which is one operation on the word or the slot.
+pub(crate) fn step<T: Drop, C: Cells<T>>(
+    action: SingleAction<T>,
+    cells: &mut C,
+) -> Stepped<SingleAction<T>, T>
+    ensures { C.known → (C.contents cells.new, result) ≡ single_step (C.contents cells.old) action }
+{
+    match action {
+        SingleAction::Push(value) => push(value, cells),
+        SingleAction::PushPut(value) => match cells.put(SLOT, value) {
+            Ok(()) => stay(SingleAction::PushUnlock),
+            Err(value) => stay(SingleAction::PushPut(value)),
+        },
+        SingleAction::PushUnlock => {
+            cells.fetch_and(Word::State, NOT_LOCKED);
+            finish(QueueReply::Push(Ok(())))
+        }
+        SingleAction::Force(value, expected) => force_push(value, expected, cells),
+        SingleAction::ForceTake(value) => match cells.take(SLOT) {
+            Some(old) => stay(SingleAction::ForcePut(value, Some(old))),
+            None => stay(SingleAction::ForceTake(value)),
+        },
+        SingleAction::ForcePut(value, old) => match cells.put(SLOT, value) {
+            Ok(()) => stay(SingleAction::ForceUnlock(old)),
+            Err(value) => stay(SingleAction::ForcePut(value, old)),
+        },
+        SingleAction::ForceUnlock(old) => {
+            cells.fetch_and(Word::State, NOT_LOCKED);
+            finish(QueueReply::Force(Ok(old)))
+        }
+        SingleAction::Pop(expected) => pop(expected, cells),
+        SingleAction::PopTake => match cells.take(SLOT) {
+            Some(value) => stay(SingleAction::PopUnlock(value)),
+            None => stay(SingleAction::PopTake),
+        },
+        SingleAction::PopUnlock(value) => {
+            cells.fetch_and(Word::State, NOT_LOCKED);
+            finish(QueueReply::Pop(Ok(value)))
+        }
+        SingleAction::Close => close(cells),
+        SingleAction::IsClosed => {
+            let found = cells.load(Word::State);
+            finish(QueueReply::Flag(found & CLOSED != 0))
+        }
+        SingleAction::IsEmpty => {
+            let found = cells.load(Word::State);
+            finish(QueueReply::Flag(found & PUSHED == 0))
+        }
+        SingleAction::IsFull => {
+            let found = cells.load(Word::State);
+            finish(QueueReply::Flag(found & PUSHED != 0))
+        }
+        SingleAction::Len => {
+            let found = cells.load(Word::State);
+            finish(QueueReply::Count(if found & PUSHED != 0 { 1 } else { 0 }))
+        }
+        SingleAction::Capacity => finish(QueueReply::Cap(Some(1))),
+        SingleAction::Finished => stay(SingleAction::Finished),
+    }
+}
+
+/// Wins the empty slot. A refusal is read off the word that was found, so that it holds at this step.
+fn push<T: Drop, C: Cells<T>>(value: T, cells: &mut C) -> Stepped<SingleAction<T>, T>
+    ensures { C.known → (C.contents cells.new, result) ≡ push_step (C.contents cells.old) value }
+{
+    match cells.compare_exchange(Word::State, 0, FILLING) {
+        Ok(_) => mark(SingleAction::PushPut(value), QueueMark::Append),
+        Err(found) => {
+            if found & CLOSED != 0 {
+                finish(QueueReply::Push(Err(PushError::Closed(value))))
+            } else if found & PUSHED != 0 {
+                finish(QueueReply::Push(Err(PushError::Full(value))))
+            } else {
+                stay(SingleAction::Push(value))
+            }
+        }
+    }
+}
+
+/// Wins the slot, empty or full, of an open queue. The exchange fails where the closed bit is set, so it cannot lose it.
+fn force_push<T: Drop, C: Cells<T>>(
+    value: T,
+    expected: u64,
+    cells: &mut C,
+) -> Stepped<SingleAction<T>, T>
+    ensures { C.known → (C.contents cells.new, result) ≡ force_step (C.contents cells.old) value expected }
+{
+    match cells.compare_exchange(Word::State, expected, FILLING) {
+        Ok(_) => {
+            if expected == 0 {
+                mark(SingleAction::ForcePut(value, None), QueueMark::Append)
+            } else {
+                mark(SingleAction::ForceTake(value), QueueMark::Replace)
+            }
+        }
+        Err(found) => {
+            if found & CLOSED != 0 {
+                finish(QueueReply::Force(Err(ForcePushError::Closed(value))))
+            } else if found & LOCKED == 0 {
+                stay(SingleAction::Force(value, found))
+            } else {
+                stay(SingleAction::Force(value, expected))
+            }
+        }
+    }
+}
+
+/// Wins the message. The closed bit is kept.
+fn pop<T: Drop, C: Cells<T>>(expected: u64, cells: &mut C) -> Stepped<SingleAction<T>, T>
+    ensures { C.known → (C.contents cells.new, result) ≡ pop_step (C.contents cells.old) expected }
+{
+    match cells.compare_exchange(Word::State, expected, (expected | LOCKED) & NOT_PUSHED) {
+        Ok(_) => mark(SingleAction::PopTake, QueueMark::Take),
+        Err(found) => {
+            if found & PUSHED != 0 {
+                stay(SingleAction::Pop(found & NOT_LOCKED))
+            } else if found & CLOSED != 0 {
+                finish(QueueReply::Pop(Err(PopError::Closed)))
+            } else {
+                finish(QueueReply::Pop(Err(PopError::Empty)))
+            }
+        }
+    }
+}
+
+/// Sets the closed bit.
+fn close<T: Drop, C: Cells<T>>(cells: &mut C) -> Stepped<SingleAction<T>, T>
+    ensures { C.known → (C.contents cells.new, result) ≡ close_step (C.contents cells.old) }
+{
+    let found = cells.fetch_or(Word::State, CLOSED);
+    if found & CLOSED == 0 {
+        Stepped {
+            action: SingleAction::Finished,
+            mark: QueueMark::Close,
+            reply: Some(QueueReply::Close(true)),
+        }
+    } else {
+        finish(QueueReply::Close(false))
+    }
+}
