@@ -1,0 +1,377 @@
+-- The fields of a list and its two lists.
+use Rattle.std.proofs.Common.{◌≡◌, ◌≢◌, ℕ, ◌+◌, ◌^◌, ◌<◌, ◌≤◌, Bool, false, cond, List, [], ◌++◌, ◌∷◌, length, Option, Some, None, is_some, IsSome, IfSome, refl, sym, ap, subst, ◌∙◌, arith, append_assoc, length-append, take}
+use Rattle.std.proofs.lemmas.List.{append-nil}
+use Rattle.std.specs.Option.{option_to_list}
+use Rattle.std.specs.Map.{lookup}
+use Rattle.slab.specs.Slab.{Slab, get, ContainsKey, slab_len}
+use Rattle.event_listener.specs.declared.node.Node.{Node}
+use Rattle.event_listener.specs.declared.node.Ends.{Ends}
+use Rattle.event_listener.specs.declared.node.Place.{Place}
+use Rattle.event_listener.specs.declared.node.State.{State}
+use Rattle.event_listener.specs.declared.node.State.TheVariants.{Waiting, Told}
+use Rattle.event_listener.specs.declared.list.List.TheInside as list
+use Rattle.event_listener.specs.declared.key.Key.{Key}
+use Rattle.event_listener.specs.Inside.{shown, IsSound, entries, forward, backward}
+use Rattle.event_listener.specs.Lists.{ListView, Lists, kind_of, told_as, waits_as, without, listened, with_task, notified, tasks_of, same_key}
+use Rattle.event_listener.specs.Nodes.{found, is_told, place_of}
+use Rattle.event_listener.specs.Chain.{Beside, lists_at, entry, entry_at, Entry, Sound, Distinct, Unlinks, Links_last, fresh_entry, first_or, after_of, before_of, node_after, node_before, told_piece, waiting_piece, pieces, AtEach, IsWaiting, IsStateOf}
+use Rattle.event_listener.specs.Order.{IsInOrder}
+use Rattle.event_listener.proofs.EntryLemmas.{same_key-self}
+use Rattle.event_listener.proofs.OrderLemmas.{in-order-listened, in-order-without, in-order-with_task, in-order-notified, in-order-at}
+use Rattle.event_listener.proofs.SoundLemmas.{found_entry, found-some, chain-is, kind-chained, told-fits, beside, end-live, apart-dead, Sound-insert, lists-listened, Sound-store, Sound-tell, lists-with_task, lists-told, lists-parts, length-told, length-waiting, found-kind, Sound-leave, lists-without, told_as-entry, waits_as-entry}
+
+-- a waiting state has such a task
+abbrev pub MatchWaiting : {T W : Type 0} → State T W → (Option W → Type 0) → Type 0
+MatchWaiting (Waiting task) P = P task
+MatchWaiting (Told additional tag) P = ⊥
+
+module _ {T W : Type 0} where
+  pub found-entry : (o : Option (Node T W)) (serial : ℕ) → found o serial ≡ found_entry (entry o) serial
+  found-entry None serial = refl
+  found-entry (Some node) serial = refl
+
+  pub lists-are : (a : list.Inside T W) (h : IsSound a) → (shown a).lists ≡ lists_at (entries a) (h.0 ++ h.1)
+  lists-are a h = ap (lists_at (entries a)) (chain-is h.2.sound)
+
+  pub kind-inside : (a : list.Inside T W) → IsSound a → (view : ListView T W) → shown a ≡ view → (key : Key) → kind_of view.lists key ≡ found_entry (entries a key.slot) key.serial
+  kind-inside a h view e key =
+      ap (λ (v : ListView T W). kind_of v.lists key) (sym e) ∙ ap (λ l. kind_of l key) (lists-are a h) ∙ kind-chained h.2.sound.chained key
+
+  -- the entry of a listed key
+  pub named : (a : list.Inside T W) → IsSound a → (view : ListView T W) → shown a ≡ view → (key : Key) → IsSome (kind_of view.lists key) → (e : Entry T W) × (entries a key.slot ≡ Some e) × (e.serial ≡ key.serial)
+  named a h view v key known = found-some (entries a key.slot) key.serial (ap is_some (sym (kind-inside a h view v key)) ∙ known)
+
+  pub live-present : (o : Option (Node T W)) → IsSome (entry o) → IsSome o
+  live-present None h = absurd (cc)
+  live-present (Some node) h = refl
+
+  live-all : (slab : Slab (Node T W)) (o : Option ℕ) → IfSome o (λ x. IsSome (entry_at slab x)) → IfSome o (λ x. ContainsKey slab x)
+  live-all slab None h = tt
+  live-all slab (Some x) h = live-present (get slab x) h
+
+  pub place-before : (o : Option (Node T W)) (p : Place) → IsSome o → IfSome o (λ node. p ≡ place_of node) → node_before o ≡ p.before
+  place-before None p i h = absurd (cc)
+  place-before (Some node) p i h = ap (λ (q : Place). q.before) (sym h)
+
+  pub place-after : (o : Option (Node T W)) (p : Place) → IsSome o → IfSome o (λ node. p ≡ place_of node) → node_after o ≡ p.after
+  place-after None p i h = absurd (cc)
+  place-after (Some node) p i h = ap (λ (q : Place). q.after) (sym h)
+
+  pub place-told : (o : Option (Node T W)) (p : Place) → IfSome o (λ node. p ≡ place_of node) → IfSome (entry o) (λ e. p.told ≡ is_told e.state)
+  place-told None p h = tt
+  place-told (Some node) p h = ap (λ (q : Place). q.told) h
+
+  module _ (a : list.Inside T W) (h : IsSound a) (view : ListView T W) (v : shown a ≡ view) (key : Key) (known : IsSome (kind_of view.lists key)) where
+    pub present : ContainsKey a.nodes.slab key.slot
+    present = live-present (get a.nodes.slab key.slot) (ap is_some (named a h view v key known).1)
+
+    pub listed-beside : Beside (forward a) (backward a) (entries a) key.slot
+    listed-beside = beside h.2.sound key.slot (ap is_some (named a h view v key known).1)
+
+    state-of : (e : Entry T W) → entries a key.slot ≡ Some e → e.serial ≡ key.serial → (s : State T W) → s ≡ e.state → IsStateOf s (told_as view.lists key) (waits_as view.lists key)
+    state-of e is serial s q =
+        let l : view.lists ≡ lists_at (entries a) (h.0 ++ h.1) = ap (λ (w : ListView T W). w.lists) (sym v) ∙ lists-are a h in
+        let c = h.2.sound.chained in
+        let piece : entries a key.slot ≡ Some (record { serial = key.serial; state = s }) = is ∙ ap Some (λ i. record { serial = serial i; state = sym q i }) in
+        let t : told_as view.lists key ≡ lookup (same_key key) (told_piece key.slot (Some (record { serial = key.serial; state = s }))) =
+        ap (λ w. told_as w key) l ∙ told_as-entry (entries a) (h.0 ++ h.1) c.distinct c.covered key ∙ ap (λ o. lookup (same_key key) (told_piece key.slot o)) piece in
+        let w : waits_as view.lists key ≡ lookup (same_key key) (waiting_piece key.slot (Some (record { serial = key.serial; state = s }))) =
+        ap (λ w. waits_as w key) l ∙ waits_as-entry (entries a) (h.0 ++ h.1) c.distinct c.covered key ∙ ap (λ o. lookup (same_key key) (waiting_piece key.slot o)) piece in
+        by s t w
+      where
+        by : (s : State T W) → told_as view.lists key ≡ lookup (same_key key) (told_piece key.slot (Some (record { serial = key.serial; state = s }))) → waits_as view.lists key ≡ lookup (same_key key) (waiting_piece key.slot (Some (record { serial = key.serial; state = s }))) → IsStateOf s (told_as view.lists key) (waits_as view.lists key)
+        by (Waiting task) t w = (t, w ∙ rw (same_key-self key) refl)
+        by (Told additional tag) t w = (t ∙ rw (same_key-self key) refl, w)
+
+    -- the list after the node of the key left
+    pub record Left (b : list.Inside T W) (s : State T W) : Type 0 where
+      pub sound : IsSound b
+      pub lists : (shown b).lists ≡ without key view.lists
+      pub state : IsStateOf s (told_as view.lists key) (waits_as view.lists key)
+      pub room : (shown b).room ≡ (shown a).room + 1
+
+    pub left : (b : list.Inside T W) (s : State T W) (after : Option ℕ) (was_told : Bool) → Unlinks (forward a) (backward a) (forward b) (backward b) key.slot → entries b key.slot ≡ None → ((x : ℕ) → x ≢ key.slot → entries b x ≡ entries a x) → after ≡ forward a (Some key.slot) → IfSome (entries a key.slot) (λ e. was_told ≡ is_told e.state) → IfSome (entries a key.slot) (λ e. s ≡ e.state) → slab_len b.nodes.slab + 1 ≡ slab_len a.nodes.slab → b.nodes.slab.capacity ≡ a.nodes.slab.capacity → (a.cursor ≡ Some key.slot → b.cursor ≡ after) → (a.cursor ≢ Some key.slot → b.cursor ≡ a.cursor) → b.told + cond was_told 1 0 ≡ a.told → b.serials ≡ a.serials → Left b s
+    left b s after was_told u gone others ea tl st len cap moved stays told serials =
+        let n = named a h view v key known in
+        let e = n.0 in
+        let et : was_told ≡ is_told e.state = subst (λ o. IfSome o (λ (x : Entry T W). was_told ≡ is_told x.state)) n.1 tl in
+        let se : s ≡ e.state = subst (λ o. IfSome o (λ (x : Entry T W). s ≡ x.state)) n.1 st in
+        let leaves = Sound-leave (forward a) (backward a) (forward b) (backward b) (entries a) (entries b) key.slot gone others e (slab_len a.nodes.slab) (slab_len b.nodes.slab) a.cursor b.cursor a.told b.told a.serials h.0 h.1 h.2.sound n.1 u len (λ q. moved q ∙ ea) stays (subst (λ x. b.told + cond x 1 0 ≡ a.told) et told) in
+        let d : Distinct (leaves.front ++ key.slot ∷ leaves.back) = subst Distinct leaves.was h.2.sound.chained.distinct in
+        let change : lists_at (entries b) (leaves.told_slots ++ leaves.waiting_slots) ≡ without key (lists_at (entries a) (h.0 ++ h.1)) =
+        ap (lists_at (entries b)) leaves.now
+        ∙ lists-without (entries a) (entries b) key e leaves.front leaves.back d n.1 n.2 others
+        ∙ ap (λ l. without key (lists_at (entries a) l)) (sym leaves.was) in
+        let sound : IsSound b = (
+          leaves.told_slots,
+          leaves.waiting_slots,
+          record {
+            within = omega (arith, h.2.within);
+            fits = omega (arith, h.2.fits);
+            in_order = in-order-at (in-order-without (lists_at (entries a) (h.0 ++ h.1)) a.serials key h.2.in_order) change serials;
+            sound = subst (λ x. Sound (forward b) (backward b) (entries b) (slab_len b.nodes.slab) b.cursor b.told x leaves.told_slots leaves.waiting_slots) (sym serials) leaves.sound;
+          },
+        ) in
+        record {
+          sound = sound;
+          lists = lists-are b sound ∙ change
+              ∙ ap (without key) (sym (lists-are a h))
+              ∙ ap (λ (w : ListView T W). without key w.lists) v;
+          state = state-of e n.1 n.2 s se;
+          room = omega (arith, h.2.within);
+        }
+
+    -- a told listener is counted
+    pub told-counted : (was_told : Bool) → IfSome (entries a key.slot) (λ e. was_told ≡ is_told e.state) → cond was_told 1 0 ≤ a.told
+    told-counted was_told tl =
+        let n = named a h view v key known in
+        let et : was_told ≡ is_told n.0.state = subst (λ o. IfSome o (λ (x : Entry T W). was_told ≡ is_told x.state)) n.1 tl in
+        subst (λ b. cond b 1 0 ≤ a.told) (sym et) (told-fits h.2.sound key.slot n.0 n.1)
+
+  -- fields that hold the same nodes
+  pub record Kept (a b : list.Inside T W) : Type 0 where
+    pub sound : IsSound b
+    pub lists : (shown b).lists ≡ (shown a).lists
+
+  pub kept : (a b : list.Inside T W) → IsSound a → b.nodes.slab.slots ≡ a.nodes.slab.slots → b.ends ≡ a.ends → b.cursor ≡ a.cursor → b.told ≡ a.told → b.serials ≡ a.serials → slab_len b.nodes.slab ≤ b.nodes.slab.capacity → b.nodes.slab.capacity < 2 ^ 64 → Kept a b
+  kept a b h s e c t n within fits =
+      let of : List (Option (Node T W)) → Slab (Node T W) = λ l. record { slots = l; vacant_key = 0; capacity = 0 } in
+      let sound : IsSound b = (
+        h.0,
+        h.1,
+        record {
+          within = within;
+          fits = fits;
+          in_order = in-order-at h.2.in_order (ap (λ (l : List (Option (Node T W))). lists_at (entry_at (of l)) (h.0 ++ h.1)) s) n;
+          sound = subst (λ (x : List (Option (Node T W)) × Ends × Option ℕ × ℕ × ℕ). Sound (after_of x.1 (of x.0)) (before_of x.1 (of x.0)) (entry_at (of x.0)) (slab_len (of x.0)) x.2 x.3 x.4 h.0 h.1)
+              (λ i. (sym s i, sym e i, sym c i, sym t i, sym n i)) h.2.sound;
+        },
+      ) in
+      record {
+        sound = sound;
+        lists = lists-are b sound ∙ ap (λ (l : List (Option (Node T W))). lists_at (entry_at (of l)) (h.0 ++ h.1)) s ∙ sym (lists-are a h);
+      }
+
+  -- the last node is there
+  pub last-present : (a : list.Inside T W) → IsSound a → IfSome (before_of a.ends a.nodes.slab None) (λ k. ContainsKey a.nodes.slab k)
+  last-present a h = live-all a.nodes.slab a.ends.last (end-live h.2.sound)
+
+  pub record Inserted (a b : list.Inside T W) (view : ListView T W) (key : Key) : Type 0 where
+    pub sound : IsSound b
+    pub lists : (shown b).lists ≡ listened key view.lists
+    pub unknown : kind_of view.lists key ≡ None
+
+  pub inserted : (a b : list.Inside T W) (h : IsSound a) (view : ListView T W) (v : shown a ≡ view) (at : ℕ) → entries a at ≡ None → Links_last (forward a) (backward a) (forward b) (backward b) at → entries b at ≡ Some (fresh_entry a.serials) → ((x : ℕ) → x ≢ at → entries b x ≡ entries a x) → slab_len b.nodes.slab ≡ slab_len a.nodes.slab + 1 → slab_len b.nodes.slab ≤ b.nodes.slab.capacity → b.nodes.slab.capacity < 2 ^ 64 → b.cursor ≡ first_or (option_to_list a.cursor) (Some at) → b.told ≡ a.told → b.serials ≡ a.serials + 1 → Inserted a b view (record { slot = at; serial = a.serials })
+  inserted a b h view v at dead u made others len within fits cur told serials =
+      let key : Key = record { slot = at; serial = a.serials } in
+      let s = Sound-insert h.2.sound (forward b) (backward b) (entries b) (slab_len b.nodes.slab) b.cursor b.serials at dead u made others len cur serials in
+      let change : lists_at (entries b) (h.0 ++ (h.1 ++ at ∷ [])) ≡ listened key (lists_at (entries a) (h.0 ++ h.1)) =
+      ap (lists_at (entries b)) (sym (append_assoc h.0 h.1 (at ∷ [])))
+      ∙ lists-listened (entries a) (entries b) at a.serials (h.0 ++ h.1) (apart-dead h.2.sound at dead) made others in
+      let sound : IsSound b = (
+        h.0,
+        h.1 ++ at ∷ [],
+        record {
+          within = within;
+          fits = fits;
+          in_order = in-order-at (in-order-listened (lists_at (entries a) (h.0 ++ h.1)) key h.2.in_order) change serials;
+          sound = subst (λ x. Sound (forward b) (backward b) (entries b) (slab_len b.nodes.slab) b.cursor x b.serials h.0 (h.1 ++ at ∷ [])) (sym told) s;
+        },
+      ) in
+      record {
+        sound = sound;
+        lists = lists-are b sound ∙ change
+            ∙ ap (listened key) (sym (lists-are a h))
+            ∙ ap (λ (w : ListView T W). listened key w.lists) v;
+        unknown = kind-inside a h view v key ∙ ap (λ o. found_entry o a.serials) dead;
+      }
+
+  -- fields after one node got another state
+  pub record Restated (a b : list.Inside T W) (k : ℕ) (state : State T W) : Type 0 where
+    pub after : (ends : Ends) (x : Option ℕ) → after_of ends b.nodes.slab x ≡ after_of ends a.nodes.slab x
+    pub before : (ends : Ends) (x : Option ℕ) → before_of ends b.nodes.slab x ≡ before_of ends a.nodes.slab x
+    pub now : IfSome (entries a k) (λ e. entries b k ≡ Some (record e { state = state }))
+    pub others : (x : ℕ) → x ≢ k → entries b x ≡ entries a x
+    pub len : slab_len b.nodes.slab ≡ slab_len a.nodes.slab
+    pub capacity : b.nodes.slab.capacity ≡ a.nodes.slab.capacity
+    pub ends : b.ends ≡ a.ends
+    pub serials : b.serials ≡ a.serials
+
+  restated-after : {a b : list.Inside T W} {k : ℕ} {state : State T W} → Restated a b k state → (x : Option ℕ) → forward b x ≡ forward a x
+  restated-after {a} {b} r x = ap (λ e. after_of e b.nodes.slab x) r.ends ∙ r.after a.ends x
+
+  restated-before : {a b : list.Inside T W} {k : ℕ} {state : State T W} → Restated a b k state → (x : Option ℕ) → backward b x ≡ backward a x
+  restated-before {a} {b} r x = ap (λ e. before_of e b.nodes.slab x) r.ends ∙ r.before a.ends x
+
+  waiting-state : (o : Option (Entry T W)) (e : Entry T W) → o ≡ Some e → IsWaiting o → (task : Option W) × (e.state ≡ Waiting task)
+  waiting-state o e h w = of e.state (subst IsWaiting h w)
+    where
+      of : (s : State T W) → IsWaiting (Some (record { serial = e.serial; state = s })) → (task : Option W) × (s ≡ Waiting task)
+      of (Waiting task) w = (task, refl)
+      of (Told additional tag) w = absurd w
+
+  not-told : (s : State T W) → is_told s ≡ false → (task : Option W) × (s ≡ Waiting task)
+  not-told (Waiting task) h = (task, refl)
+  not-told (Told additional tag) h = absurd (cc)
+
+  pub record Stored (a b : list.Inside T W) (view : ListView T W) (key : Key) (task : W) : Type 0 where
+    pub sound : IsSound b
+    pub lists : (shown b).lists ≡ with_task key task view.lists
+
+  pub stored : (a b : list.Inside T W) (h : IsSound a) (view : ListView T W) (v : shown a ≡ view) (key : Key) (task : W) → kind_of view.lists key ≡ Some false → Restated a b key.slot (Waiting (Some task)) → b.cursor ≡ a.cursor → b.told ≡ a.told → Stored a b view key task
+  stored a b h view v key task kind r cur told =
+      let n = named a h view v key (ap is_some kind) in
+      let e = n.0 in
+      let now : entries b key.slot ≡ Some (record { serial = e.serial; state = Waiting (Some task) }) = subst (λ o. IfSome o (λ (x : Entry T W). entries b key.slot ≡ Some (record x { state = Waiting (Some task) }))) n.1 r.now in
+      let fk : found_entry (Some e) key.serial ≡ Some false = ap (λ o. found_entry o key.serial) (sym n.1) ∙ sym (kind-inside a h view v key) ∙ kind in
+      let old = not-told e.state (found-kind e key.serial n.2 fk) in
+      let s = Sound-store h.2.sound (forward b) (backward b) (entries b) key.slot e n.1 (restated-after r) (restated-before r) (Waiting (Some task)) now r.others old.0 old.1 (Some task) refl in
+      let m = h.2.sound.chained.covered key.slot (ap is_some n.1) in
+      let d : Distinct (m.0 ++ key.slot ∷ m.1) = subst Distinct m.2 h.2.sound.chained.distinct in
+      let change : lists_at (entries b) (h.0 ++ h.1) ≡ with_task key task (lists_at (entries a) (h.0 ++ h.1)) =
+      ap (lists_at (entries b)) m.2
+      ∙ lists-with_task (entries a) (entries b) key e task old.0 m.0 m.1 d n.1 n.2 old.1 now r.others
+      ∙ ap (λ l. with_task key task (lists_at (entries a) l)) (sym m.2) in
+      let sound : IsSound b = (
+        h.0,
+        h.1,
+        record {
+          within = omega (arith, h.2.within, r.len, r.capacity);
+          fits = omega (arith, h.2.fits, r.capacity);
+          in_order = in-order-at (in-order-with_task (lists_at (entries a) (h.0 ++ h.1)) a.serials key task h.2.in_order) change r.serials;
+          sound = subst (λ (x : ℕ × Option ℕ × ℕ × ℕ). Sound (forward b) (backward b) (entries b) x.0 x.1 x.2 x.3 h.0 h.1) (λ i. (sym r.len i, sym cur i, sym told i, sym r.serials i)) s;
+        },
+      ) in
+      record {
+        sound = sound;
+        lists = lists-are b sound ∙ change
+            ∙ ap (with_task key task) (sym (lists-are a h))
+            ∙ ap (λ (w : ListView T W). with_task key task w.lists) v;
+      }
+
+  -- the lists by their parts
+  pub lists-by-parts : (a : list.Inside T W) (h : IsSound a) → (shown a).lists ≡ record { told = pieces (λ k. told_piece k (entries a k)) h.0; waiting = pieces (λ k. waiting_piece k (entries a k)) h.1 }
+  lists-by-parts a h = lists-are a h ∙ lists-parts (entries a) h.0 h.1 h.2.sound.tolds h.2.sound.waits
+
+  pub told-length : (a : list.Inside T W) (h : IsSound a) (view : ListView T W) → shown a ≡ view → length view.lists.told ≡ a.told
+  told-length a h view v =
+      ap (λ (w : ListView T W). length w.lists.told) (sym v) ∙ ap (λ (l : Lists T W). length l.told) (lists-by-parts a h)
+      ∙ length-told (entries a) h.0 h.2.sound.tolds ∙ sym h.2.sound.told_is
+
+  pub waiting-length : (a : list.Inside T W) (h : IsSound a) (view : ListView T W) → shown a ≡ view → length view.lists.waiting ≡ length h.1
+  waiting-length a h view v =
+      ap (λ (w : ListView T W). length w.lists.waiting) (sym v) ∙ ap (λ (l : Lists T W). length l.waiting) (lists-by-parts a h)
+      ∙ length-waiting (entries a) h.1 h.2.sound.waits
+
+  pub total-length : (a : list.Inside T W) (h : IsSound a) (view : ListView T W) → shown a ≡ view → slab_len a.nodes.slab ≡ length view.lists.told + length view.lists.waiting
+  total-length a h view v =
+      let l : length (h.0 ++ h.1) ≡ length h.0 + length h.1 = length-append h.0 h.1 in
+      omega (arith, told-length a h view v, waiting-length a h view v, h.2.sound.count_is, h.2.sound.told_is)
+
+  -- the first waiting node
+  pub record First (a : list.Inside T W) (ws : List ℕ) (k : ℕ) : Type 0 where
+    pub back : List ℕ
+    pub split : ws ≡ k ∷ back
+    pub entry : Entry T W
+    pub is : entries a k ≡ Some entry
+    pub task : Option W
+    pub was : entry.state ≡ Waiting task
+
+  first-node : (a : list.Inside T W) (h : IsSound a) (k : ℕ) (ws : List ℕ) → ws ≡ h.1 → Some k ≡ first_or ws None → First a h.1 k
+  first-node a h k [] q c = absurd (cc)
+  first-node a h k (x ∷ back) q c =
+      let e : x ≡ k = cc in
+      let split : h.1 ≡ k ∷ back = sym q ∙ ap (λ v. v ∷ back) e in
+      let w : IsWaiting (entries a k) = (subst (AtEach (λ x. IsWaiting (entries a x))) split h.2.sound.waits).0 in
+      let en = entry-of (entries a k) w in
+      let t = waiting-state (entries a k) en.0 en.1 w in
+      record { back = back; split = split; entry = en.0; is = en.1; task = t.0; was = t.1 }
+    where
+      entry-of : (o : Option (Entry T W)) → IsWaiting o → (e : Entry T W) × (o ≡ Some e)
+      entry-of None w = absurd w
+      entry-of (Some e) w = (e, refl)
+
+  pub first-of : (a : list.Inside T W) (h : IsSound a) (k : ℕ) → a.cursor ≡ Some k → First a h.1 k
+  first-of a h k c = first-node a h k h.1 refl (sym c ∙ h.2.sound.cursor_is)
+
+  pub first-present : (a : list.Inside T W) (h : IsSound a) (k : ℕ) → a.cursor ≡ Some k → ContainsKey a.nodes.slab k
+  first-present a h k c = live-present (get a.nodes.slab k) (ap is_some (first-of a h k c).is)
+
+  -- with someone waiting there is a first
+  pub first-there : (a : list.Inside T W) (h : IsSound a) (view : ListView T W) → shown a ≡ view → 0 < length view.lists.waiting → a.cursor ≡ None → ⊥
+  first-there a h view v some none = of h.1 (waiting-length a h view v) (sym none ∙ h.2.sound.cursor_is)
+    where
+      of : (ws : List ℕ) → length view.lists.waiting ≡ length ws → None ≡ first_or ws None → ⊥
+      of [] l c = omega arith
+      of (x ∷ ws) l c = cc
+
+  pub record ToldFirst (a b : list.Inside T W) (view : ListView T W) (additional : Bool) (tag : T) (s : State T W) : Type 0 where
+    pub sound : IsSound b
+    pub lists : (shown b).lists ≡ notified additional (tag ∷ []) view.lists
+    pub task : MatchWaiting s (λ task. option_to_list task ≡ tasks_of (take 1 view.lists.waiting))
+    pub fits : a.told + 1 < 2 ^ 64
+
+  pub told-first : (a b : list.Inside T W) (h : IsSound a) (view : ListView T W) (v : shown a ≡ view) (k : ℕ) (additional : Bool) (tag : T) (s : State T W) → a.cursor ≡ Some k → Restated a b k (Told additional tag) → b.cursor ≡ forward a (Some k) → b.told ≡ a.told + 1 → IfSome (entries a k) (λ e. s ≡ e.state) → ToldFirst a b view additional tag s
+  told-first a b h view v k additional tag s cur r next told st =
+      let f = first-of a h k cur in
+      let now : entries b k ≡ Some (record { serial = f.entry.serial; state = Told additional tag }) = subst (λ o. IfSome o (λ (x : Entry T W). entries b k ≡ Some (record x { state = Told additional tag }))) f.is r.now in
+      let sd = Sound-tell h.2.sound (forward b) (backward b) (entries b) k f.entry f.is (restated-after r) (restated-before r) (Told additional tag) now r.others f.back f.split additional tag refl b.cursor next b.told told in
+      let d : Distinct (h.0 ++ k ∷ f.back) = subst (λ x. Distinct (h.0 ++ x)) f.split h.2.sound.chained.distinct in
+      let w : AtEach (λ x. IsWaiting (entries a x)) (k ∷ f.back) = subst (AtEach (λ x. IsWaiting (entries a x))) f.split h.2.sound.waits in
+      let ea : entries a k ≡ Some (record { serial = f.entry.serial; state = Waiting f.task }) = f.is ∙ ap Some (λ i. record { serial = f.entry.serial; state = f.was i }) in
+      let change : lists_at (entries b) ((h.0 ++ k ∷ []) ++ f.back) ≡ notified additional (tag ∷ []) (lists_at (entries a) (h.0 ++ h.1)) =
+      lists-told (entries a) (entries b) h.0 f.back k f.entry.serial f.task additional tag d h.2.sound.tolds w ea now r.others
+      ∙ ap (λ x. notified additional (tag ∷ []) (lists_at (entries a) (h.0 ++ x))) (sym f.split) in
+      let sound : IsSound b = (
+        h.0 ++ k ∷ [],
+        f.back,
+        record {
+          within = omega (arith, h.2.within, r.len, r.capacity);
+          fits = omega (arith, h.2.fits, r.capacity);
+          in_order = in-order-at (in-order-notified (lists_at (entries a) (h.0 ++ h.1)) a.serials additional (tag ∷ []) h.2.in_order) change r.serials;
+          sound = subst (λ (x : ℕ × ℕ). Sound (forward b) (backward b) (entries b) x.0 b.cursor b.told x.1 (h.0 ++ k ∷ []) f.back) (λ i. (sym r.len i, sym r.serials i)) sd;
+        },
+      ) in
+      let se : s ≡ Waiting f.task = subst (λ o. IfSome o (λ (x : Entry T W). s ≡ x.state)) f.is st ∙ f.was in
+      let l0 : length (h.0 ++ h.1) ≡ length h.0 + length h.1 = length-append h.0 h.1 in
+      let l1 : length h.1 ≡ length (k ∷ f.back) = ap length f.split in
+      let wl : view.lists.waiting ≡ (record { slot = k; serial = f.entry.serial }, f.task) ∷ pieces (λ x. waiting_piece x (entries a x)) f.back =
+      ap (λ (x : ListView T W). x.lists.waiting) (sym v) ∙ ap (λ (x : Lists T W). x.waiting) (lists-by-parts a h) ∙ ap (pieces (λ x. waiting_piece x (entries a x))) f.split ∙ ap (λ o. waiting_piece k o ++ pieces (λ x. waiting_piece x (entries a x)) f.back) ea in
+      record {
+        sound = sound;
+        lists = lists-are b sound ∙ change
+            ∙ ap (notified additional (tag ∷ [])) (sym (lists-are a h))
+            ∙ ap (λ (x : ListView T W). notified additional (tag ∷ []) x.lists) v;
+        task = subst (λ x. MatchWaiting x (λ task. option_to_list task ≡ tasks_of (take 1 view.lists.waiting))) (sym se)
+            (sym (append-nil (option_to_list f.task)) ∙ sym (ap (λ x. tasks_of (take 1 x)) wl));
+        fits = omega (arith, h.2.fits, h.2.within, h.2.sound.count_is, h.2.sound.told_is);
+      }
+
+  pub empty-sound : (a : list.Inside T W) → a.nodes.slab.slots ≡ [] → a.nodes.slab.capacity ≡ 0 → a.ends ≡ record { first = None; last = None } → a.cursor ≡ None → a.told ≡ 0 → IsSound a
+  empty-sound a s c e cu t =
+      let n : slab_len a.nodes.slab ≡ 0 = rw s refl in
+      let gone : (k : ℕ) → entries a k ≡ None = λ k. rw s refl in (
+        [],
+        [],
+        record {
+          within = omega arith;
+          fits = omega arith;
+          in_order = (tt, tt);
+          sound = record {
+            chained = record {
+              linked = (ap (λ (x : Ends). x.first) e, ap (λ (x : Ends). x.last) e);
+              distinct = tt;
+              covered = λ k i. let z : is_some (entries a k) ≡ false = ap is_some (gone k) in absurd (cc);
+            };
+            tolds = tt;
+            waits = tt;
+            count_is = sym n;
+            cursor_is = cu;
+            told_is = t;
+            fresh = λ k d h. let z : ◌≡◌ {A = Option (Entry T W)} None (Some d) = sym (gone k) ∙ h in absurd (cc);
+          };
+        },
+      )
+
+  pub in-order : (a : list.Inside T W) (h : IsSound a) (view : ListView T W) → shown a ≡ view → IsInOrder view.lists view.serials
+  in-order a h view v = in-order-at h.2.in_order (ap (λ (w : ListView T W). w.lists) (sym v) ∙ lists-are a h) (ap (λ (w : ListView T W). w.serials) (sym v))

@@ -1,0 +1,9 @@
+pub mod ChainLemmas
+pub mod EntryLemmas
+pub mod WriteLemmas
+pub mod SoundLemmas
+pub mod InsideLemmas
+pub mod NoticeLemmas
+mod RunLemmas
+mod OrderLemmas
+pub mod LeftLemmas

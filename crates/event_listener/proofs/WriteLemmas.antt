@@ -1,0 +1,60 @@
+-- What a write of one node leaves of the links and of what the nodes say.
+use Rattle.std.proofs.Common.{◌≡◌, ◌≢◌, inl, inr, ℕ, Option, Some, None, IsSome, IfSome, refl, sym, ap, subst, ◌∙◌}
+use Rattle.std.proofs.lemmas.Bool.{cases_eq}
+use Rattle.slab.specs.Slab.{Slab, get, ContainsKey, with_value, Updates}
+use Rattle.slab.proofs.SlabLemmas.{Updates-with_value}
+use Rattle.event_listener.specs.declared.node.Ends.{Ends}
+use Rattle.event_listener.specs.declared.node.Node.{Node}
+use Rattle.event_listener.specs.Chain.{after_of, before_of, node_after, node_before, Links_last}
+
+module _ {T W : Type 0} where
+  -- what a function of nodes gives at each key, where a write keeps it
+  pub kept_by_write : {X : Type 0} (f : Option (Node T W) → X) (change : Node T W → Node T W) → ((node : Node T W) → f (Some (change node)) ≡ f (Some node)) → (slab slab' : Slab (Node T W)) (k : ℕ) → ContainsKey slab k → IfSome (get slab k) (λ node. slab' ≡ with_value slab k (change node)) → (x : ℕ) → f (get slab' x) ≡ f (get slab x)
+  kept_by_write {X} f change keeps slab slab' k present written x =
+      let both = at (get slab k) refl present written in
+      elim (cases_eq x k) [
+        | inl e ↦ subst (λ v. f (get slab' v) ≡ f (get slab v)) (sym e) both.0
+        | inr ne ↦ ap f (both.1 x ne)
+      ]
+    where
+      at : (o : Option (Node T W)) → get slab k ≡ o → IsSome o → IfSome o (λ node. slab' ≡ with_value slab k (change node)) → (f (get slab' k) ≡ f (get slab k)) × ((y : ℕ) → y ≢ k → get slab' y ≡ get slab y)
+      at None e p w = absurd (cc)
+      at (Some node) e p w =
+          let u : Updates slab (with_value slab k (change node)) k (Some (change node)) = Updates-with_value slab k (change node) present in
+          (ap f (ap (λ (s : Slab (Node T W)). get s k) w ∙ u.changed) ∙ keeps node ∙ ap f (sym e), λ y ne. ap (λ (s : Slab (Node T W)). get s y) w ∙ u.others y ne)
+
+  pub before-kept : (ends : Ends) (slab slab' : Slab (Node T W)) → ((x : ℕ) → node_before (get slab' x) ≡ node_before (get slab x)) → (x : Option ℕ) → before_of ends slab' x ≡ before_of ends slab x
+  before-kept ends slab slab' h None = refl
+  before-kept ends slab slab' h (Some x) = h x
+
+  pub after-kept : (ends : Ends) (slab slab' : Slab (Node T W)) → ((x : ℕ) → node_after (get slab' x) ≡ node_after (get slab x)) → (x : Option ℕ) → after_of ends slab' x ≡ after_of ends slab x
+  after-kept ends slab slab' h None = refl
+  after-kept ends slab slab' h (Some x) = h x
+
+  after-same_first : (e e' : Ends) (slab : Slab (Node T W)) (x : Option ℕ) → e'.first ≡ e.first → after_of e' slab x ≡ after_of e slab x
+  after-same_first e e' slab None h = h
+  after-same_first e e' slab (Some x) h = refl
+
+  after-updated : (e : Ends) (slab slab' : Slab (Node T W)) (at : ℕ) (o : Option (Node T W)) → Updates slab slab' at o → (x : Option ℕ) → x ≢ Some at → after_of e slab' x ≡ after_of e slab x
+  after-updated e slab slab' at o u None ne = refl
+  after-updated e slab slab' at o u (Some x) ne = ap node_after (u.others x (λ q. ne (ap Some q)))
+
+  -- a node that was made behind the last one, which then leads to it
+  pub Links_last-made : (e e2 e3 : Ends) (slab slab1 slab2 : Slab (Node T W)) (at serial : ℕ) (node : Node T W) → node.before ≡ e.last → node.after ≡ None → Updates slab slab1 at (Some node) → get slab at ≡ None → IfSome e.last (λ k. ContainsKey slab k) → e3.first ≡ e2.first → e3.last ≡ Some at → after_of e2 slab2 e.last ≡ Some at → ((x : Option ℕ) → x ≢ e.last → after_of e2 slab2 x ≡ after_of e slab1 x) → ((x : Option ℕ) → before_of e2 slab2 x ≡ before_of e slab1 x) → Links_last (after_of e slab) (before_of e slab) (after_of e3 slab2) (before_of e3 slab2) at
+  Links_last-made e e2 e3 slab slab1 slab2 at serial node nb na u absent live h3 l3 fa fo bk =
+      record {
+        forward = after-same_first e2 e3 slab2 e.last h3 ∙ fa;
+        forward_new = fo (Some at) (not_last e.last refl live) ∙ ap node_after u.changed ∙ na;
+        forward_rest = λ x ne nk. after-same_first e2 e3 slab2 x h3 ∙ fo x ne ∙ after-updated e slab slab1 at (Some node) u x nk;
+        backward = l3;
+        backward_new = bk (Some at) ∙ ap node_before u.changed ∙ nb;
+        backward_rest = rest;
+      }
+    where
+      not_last : (o : Option ℕ) → o ≡ e.last → IfSome o (λ k. ContainsKey slab k) → Some at ≢ o
+      not_last None q h eq = cc
+      not_last (Some k) q h eq = let f : k ≡ at = cc in let g : get slab k ≡ None = ap (get slab) f ∙ absent in let i : IsSome (get slab k) = h in absurd (cc)
+
+      rest : (x : Option ℕ) → x ≢ None → x ≢ Some at → before_of e3 slab2 x ≡ before_of e slab x
+      rest None ne nk = absurd (ne refl)
+      rest (Some x) ne nk = bk (Some x) ∙ ap node_before (u.others x (λ q. nk (ap Some q)))

@@ -1,0 +1,52 @@
+use Rattle.std.proofs.Common.{◌+◌, Some, refl, ap}
+use Rattle.slab.specs.Slab.{Slab}
+use Rattle.event_listener.specs.declared.node.Nodes.{Nodes}
+use Rattle.event_listener.proofs.InsideLemmas.{kept, inserted, last-present}
+use Rattle.std.proofs.Common.{◌∙◌}
+use Rattle.event_listener.specs.Lists.{ListView}
+use Rattle.event_listener.proofs.LeftLemmas.{left-kept, left-listened}
+use Rattle.event_listener.proofs.list.List.insert.Goals as goal
+
+pub invariant_of-self : goal.invariant_of-self
+invariant_of-self g c =
+    (kept c.self.inside
+    (record { nodes = c.begin.new.self; ends = c.self.inside.ends; cursor = c.self.inside.cursor; told = c.self.inside.told; serials = c.self.inside.serials })
+    c.self.invariant (ap (λ (n : Nodes _ _). n.slab.slots) c.begin.ensures) refl refl refl refl (rw c.begin.ensures c.self.invariant.2.within) (rw c.begin.ensures c.self.invariant.2.fits)).sound
+
+pub link_last-requires : goal.link_last-requires
+link_last-requires g c = record { live = last-present c.self.inside c.self.invariant }
+
+pub invariant_of-self-in-Err : goal.invariant_of-self-in-Err
+invariant_of-self-in-Err g c =
+    (kept c.self.inside
+    (record { nodes = c.link_last.new.nodes; ends = c.link_last.new.ends; cursor = c.self.inside.cursor; told = c.self.inside.told; serials = c.self.inside.serials })
+    c.self.invariant (ap (λ (s : Slab _). s.slots) c.in-Err.ensures.err) c.in-Err.ensures.err_ends refl refl refl c.in-Err.ensures.within c.in-Err.ensures.fits).sound
+
+pub invariant_of-self-in-Ok : goal.invariant_of-self-in-Ok
+invariant_of-self-in-Ok g c =
+    (inserted c.self.inside
+    (record { nodes = c.link_last.new.nodes; ends = c.link_last.new.ends; cursor = Some c.first_of.result; told = c.self.inside.told; serials = c.self.inside.serials + 1 })
+    c.self.invariant c.args.self.now c.self.view_is c.in-Ok.at c.in-Ok.ensures.absent c.in-Ok.ensures.links c.in-Ok.ensures.made c.in-Ok.ensures.others c.in-Ok.ensures.len c.in-Ok.ensures.within c.in-Ok.ensures.fits c.first_of.ensures refl refl).sound
+
+pub returns-in-Ok-clause-lists : goal.returns-in-Ok-clause-lists
+returns-in-Ok-clause-lists g c =
+    (inserted c.self.inside
+    (record { nodes = c.link_last.new.nodes; ends = c.link_last.new.ends; cursor = Some c.first_of.result; told = c.self.inside.told; serials = c.self.inside.serials + 1 })
+    c.self.invariant c.args.self.now c.self.view_is c.in-Ok.at c.in-Ok.ensures.absent c.in-Ok.ensures.links c.in-Ok.ensures.made c.in-Ok.ensures.others c.in-Ok.ensures.len c.in-Ok.ensures.within c.in-Ok.ensures.fits c.first_of.ensures refl refl).lists
+
+pub returns-in-Ok-clause-unknown : goal.returns-in-Ok-clause-unknown
+returns-in-Ok-clause-unknown g c =
+    (inserted c.self.inside
+    (record { nodes = c.link_last.new.nodes; ends = c.link_last.new.ends; cursor = Some c.first_of.result; told = c.self.inside.told; serials = c.self.inside.serials + 1 })
+    c.self.invariant c.args.self.now c.self.view_is c.in-Ok.at c.in-Ok.ensures.absent c.in-Ok.ensures.links c.in-Ok.ensures.made c.in-Ok.ensures.others c.in-Ok.ensures.len c.in-Ok.ensures.within c.in-Ok.ensures.fits c.first_of.ensures refl refl).unknown
+
+pub returns-then-self-clause-left : goal.returns-then-self-clause-left
+returns-then-self-clause-left g c =
+    left-kept ((kept c.self.inside
+    (record { nodes = c.begin.new.self; ends = c.self.inside.ends; cursor = c.self.inside.cursor; told = c.self.inside.told; serials = c.self.inside.serials })
+    c.self.invariant (ap (λ (n : Nodes _ _). n.slab.slots) c.begin.ensures) refl refl refl refl (rw c.begin.ensures c.self.invariant.2.within) (rw c.begin.ensures c.self.invariant.2.fits)).lists ∙ ap (λ (v : ListView _ _). v.lists) c.self.view_is)
+    (ap (λ (v : ListView _ _). v.serials) c.self.view_is)
+
+pub returns-in-Ok-clause-left : goal.returns-in-Ok-clause-left
+returns-in-Ok-clause-left g c =
+    left-listened (record { slot = c.in-Ok.at; serial = c.self.inside.serials }) (returns-in-Ok-clause-lists g c) (ap (λ (v : ListView _ _). v.serials) c.self.view_is) (ap (λ (v : ListView _ _). v.serials + 1) c.self.view_is)

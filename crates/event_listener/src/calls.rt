@@ -1,0 +1,156 @@
+//! The calls that tell listeners, and those by which a listener learns that it was told.
+//!
+//! They are written over the two lists alone, and know nothing of how these are kept.
+ghost use Rattle.std.specs.Prelude.{◌≡◌, ◌+◌, ◌*◌, ◌≤◌, if◌then◌else◌, is_some, IsSome, OnOk, false};
+ghost use Rattle.event_listener.specs.Lists.{moved, kind_of, told_as, registration, register_answer, polled, poll_answer, removed, remove_answer, removed_wakes, told_by};
+ghost use Rattle.event_listener.specs.Order.{HasLeft};
+ghost use Rattle.event_listener.specs.Notices.{Notifies, Woken};
+
+use crate::error::{NotifyError, UnknownListener};
+use crate::key::Key;
+use crate::list::List;
+use crate::node::State;
+use crate::notify::Notification;
+use crate::wakes::Wakes;
+
+/// What [`List::register`] found.
+#[derive(PartialEq, Eq, Debug, Drop)]
+pub enum Registered<T> {
+    /// The listener was told. It is off the list, and this is its tag.
+    Told(T),
+    /// The listener still waits, with the new task in the place of the older one.
+    Waiting,
+}
+
+impl<T: Drop, W: Drop> List<T, W> {
+    /// Stores the task to wake once the listener is told, or takes a told one off and gives its tag.
+    ///
+    /// The task takes the place of an older one, which is dropped. A told listener passes nothing on here: its notice
+    /// has reached it. A key of a listener that has left is refused by [`UnknownListener`], and then the task is
+    /// dropped. Never waits. As a poll of `event-listener` 5.4.2 registers.
+    pub fn register(&mut self, key: Key, task: W) -> Result<Registered<T>, UnknownListener>
+        ensures answer { result ≡ register_answer key self.old.lists }
+        ensures lists { self.new.lists ≡ registration key task self.old.lists }
+        ensures once { IsSome (told_as self.old.lists key) → HasLeft self.new key }
+        ensures left { (key : Key) → HasLeft self.old key → HasLeft self.new key }
+        ensures serials { self.new.serials ≡ self.old.serials }
+        ensures room { self.new.room ≡ (if is_some (told_as self.old.lists key) then self.old.room + 1 else self.old.room) }
+        ensures visits { self.new.visits ≤ 5 }
+    {
+        match self.kind(key) {
+            None => {
+                self.start();
+                Err(UnknownListener)
+            }
+            Some(false) => {
+                self.store(key, task);
+                Ok(Registered::Waiting)
+            }
+            Some(true) => match self.leave(key) {
+                State::Told { tag, .. } => Ok(Registered::Told(tag)),
+                State::Waiting(_) => unreachable!(),
+            },
+        }
+    }
+
+    /// Takes a told listener off and gives its tag; answers None of one that still waits.
+    ///
+    /// A key of a listener that has left is refused by [`UnknownListener`]. Never waits, and leaves the count of
+    /// [`List::last_visits`] as it was.
+    pub fn poll(&mut self, key: Key) -> Result<Option<T>, UnknownListener>
+        ensures answer { result ≡ poll_answer key self.old.lists }
+        ensures lists { self.new.lists ≡ polled key self.old.lists }
+        ensures once { IsSome (told_as self.old.lists key) → HasLeft self.new key }
+        ensures left { (key : Key) → HasLeft self.old key → HasLeft self.new key }
+        ensures serials { self.new.serials ≡ self.old.serials }
+        ensures room { self.new.room ≡ (if is_some (told_as self.old.lists key) then self.old.room + 1 else self.old.room) }
+        ensures visits { self.new.visits ≡ self.old.visits }
+    {
+        let visits = self.last_visits();
+        match self.kind(key) {
+            None => Err(UnknownListener),
+            Some(false) => Ok(None),
+            Some(true) => match self.leave(key) {
+                State::Told { tag, .. } => {
+                    self.restore(visits);
+                    Ok(Some(tag))
+                }
+                State::Waiting(_) => unreachable!(),
+            },
+        }
+    }
+
+    /// Tells the first waiting listeners, gives each the next tag of the notice, and wakes their tasks in order.
+    ///
+    /// An additional notice for n tells the first n that wait. One of the default kind tells so many of them that n are
+    /// told, those told before it included, so it tells nobody where n are told already. The answer is how many it
+    /// told. A notice is not kept for listeners to come. Where a tag is refused, [`NotifyError`] says how many were
+    /// told before: they stay so, and nobody else is. Takes no memory of its own. As `Event::notify` of
+    /// `event-listener` 5.4.2.
+    pub fn notify<N: Notification<Tag = T> + Drop, S: Wakes<W>>(
+        &mut self,
+        mut notice: N,
+        sink: &mut S,
+    ) -> Result<usize, NotifyError>
+        requires { N.can_give notice }
+        ensures notified { Notifies N.gives (N.additional notice) (moved (N.additional notice) (N.size notice) self.old.lists) notice self.old.lists self.new.lists S.wakes sink.old sink.new result }
+        ensures left { (key : Key) → HasLeft self.old key → HasLeft self.new key }
+        ensures serials { self.new.serials ≡ self.old.serials }
+        ensures room { self.new.room ≡ self.old.room }
+        ensures visits { self.new.visits ≤ 5 * told_by result }
+    {
+        self.start();
+        let additional = notice.is_additional();
+        let count = notice.count();
+        let many = self.to_move(additional, count);
+        for i in 0..many {
+            match notice.next_tag() {
+                Ok(tag) => {
+                    if let Some(task) = self.tell_first(additional, tag) {
+                        sink.wake(task);
+                    }
+                }
+                Err(_) => return Err(NotifyError { told: i }),
+            }
+        }
+        Ok(many)
+    }
+
+    /// Takes a listener off, and answers whether it was told.
+    ///
+    /// A told one passes its notice on where that is asked for: the list is then notified of one more of the same kind,
+    /// with its tag. Without passing on, the notice is lost. A waiting one changes nobody else, and its task is
+    /// dropped. A key of a listener that has left is refused by [`UnknownListener`]. As dropping, or discarding, a
+    /// listener of `event-listener` 5.4.2.
+    pub fn remove<S: Wakes<W>>(
+        &mut self,
+        key: Key,
+        pass_on: bool,
+        sink: &mut S,
+    ) -> Result<bool, UnknownListener>
+        ensures answer { result ≡ remove_answer key self.old.lists }
+        ensures lists { self.new.lists ≡ removed key pass_on self.old.lists }
+        ensures once { OnOk result (HasLeft self.new key) }
+        ensures left { (key : Key) → HasLeft self.old key → HasLeft self.new key }
+        ensures woken { Woken S.wakes sink.old (removed_wakes key pass_on self.old.lists) sink.new }
+        ensures serials { self.new.serials ≡ self.old.serials }
+        ensures room { self.new.room ≡ (if is_some (kind_of self.old.lists key) then self.old.room + 1 else self.old.room) }
+        ensures visits { pass_on ≡ false → self.new.visits ≤ 5 }
+    {
+        if self.kind(key).is_none() {
+            self.start();
+            return Err(UnknownListener);
+        }
+        match self.leave(key) {
+            State::Waiting(_) => Ok(false),
+            State::Told { additional, tag } => {
+                if pass_on && self.to_move(additional, 1) > 0 {
+                    if let Some(next) = self.tell_first(additional, tag) {
+                        sink.wake(next);
+                    }
+                }
+                Ok(true)
+            }
+        }
+    }
+}

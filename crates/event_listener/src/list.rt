@@ -1,0 +1,262 @@
+//! The type of lists, with the calls that touch its fields.
+//!
+//! The listeners stand in one chain in the order of listening. The told ones come first, so the list keeps which node
+//! is the first that waits, and how many are told.
+ghost use Rattle.std.specs.Prelude.{◌≡◌, ◌+◌, ◌-◌, ◌^◌, ◌<◌, ◌≤◌, ◌==◌, [], ◌++◌, length, is_some, IsSome, IsOk, IfOk, OnOk, OnErr, IfErr, MatchResult, Err};
+ghost use Rattle.std.specs.Prelude.{ℕ, ◌≢◌, if◌then◌else◌, ◌∷◌, take, Some, None, false};
+ghost use Rattle.std.specs.Option.{option_to_list};
+ghost use Rattle.event_listener.specs.Lists.{serial_of, kind_of, told_as, waits_as, listened, without, with_task, notified, tasks_of, moved, IsListenRefusal};
+ghost use Rattle.event_listener.specs.Order.{IsInOrder, HasLeft};
+ghost use Rattle.event_listener.specs.Chain.{IsStateOf, first_or};
+
+use crate::error::{ListenError, NoMemory};
+use crate::key::Key;
+use crate::links::{link_last, store_task, tell_node, unlink};
+use crate::node::{Ends, Nodes, State};
+use std::alloc::Global;
+use std::marker::Model;
+
+/// The listeners of one event, each told or waiting, with tags of type `T` and tasks of type `W`.
+///
+/// To its callers it is two lists: the told listeners, each with the kind of its notice and its tag, and the waiting
+/// ones, each perhaps with a task. Both keep the order of listening. Besides, it has the number of serials that it
+/// gave, the room for listeners that takes no more memory, and the visits of its last call.
+/// Own to this project: in `event-listener` 5.4.2 the list is private to its event.
+#[derive(Drop)]
+pub struct List<T, W> {
+    nodes: Nodes<T, W>,
+    ends: Ends,
+    cursor: Option<usize>,
+    told: usize,
+    serials: u64,
+}
+
+/// The first waiting node once the node at `at` is none, with what came after it.
+fn cursor_past(cursor: Option<usize>, at: usize, after: Option<usize>) -> Option<usize>
+    ensures moved { cursor ≡ Some at → result ≡ after }
+    ensures stays { cursor ≢ Some at → result ≡ cursor }
+{
+    match cursor {
+        Some(first) if first == at => after,
+        _ => cursor,
+    }
+}
+
+/// The first waiting node, where this one waits last.
+fn first_of(cursor: Option<usize>, at: usize) -> usize
+    ensures { Some result ≡ first_or (option_to_list cursor) (Some at) }
+{
+    match cursor {
+        Some(first) => first,
+        None => at,
+    }
+}
+
+fn one_if(told: bool) -> usize
+    ensures { result ≡ (if told then 1 else 0) }
+{
+    if told { 1 } else { 0 }
+}
+
+impl<T, W> Model for List<T, W> {
+    ghost use Rattle.event_listener.specs.Lists.{ListView};
+
+    ghost Value = { ListView T W };
+
+    ghost use Rattle.event_listener.specs.Inside.{shown, IsSound};
+
+    ghost view = { shown };
+
+    ghost invariant = { IsSound };
+}
+
+impl<T: Drop, W: Drop> List<T, W> {
+    /// An empty list. It takes no memory yet, and asks this allocator once it does.
+    pub fn new(alloc: Global) -> Self
+        ensures told { result.lists.told ≡ [] }
+        ensures waiting { result.lists.waiting ≡ [] }
+        ensures serials { result.serials ≡ 0 }
+        ensures room { result.room ≡ 0 }
+        ensures visits { result.visits ≡ 0 }
+    {
+        List {
+            nodes: Nodes::new(alloc),
+            ends: Ends {
+                first: None,
+                last: None,
+            },
+            cursor: None,
+            told: 0,
+            serials: 0,
+        }
+    }
+
+    /// Whether the key is listed, and then whether it is told.
+    pub(crate) fn kind(&self, key: Key) -> Option<bool>
+        ensures { result ≡ kind_of self.now.lists key }
+    {
+        self.nodes.find(key)
+    }
+
+    /// Takes a listed listener off.
+    pub(crate) fn leave(&mut self, key: Key) -> State<T, W>
+        requires { IsSome (kind_of self.old.lists key) }
+        ensures lists { self.new.lists ≡ without key self.old.lists }
+        ensures off { HasLeft self.new key }
+        ensures left { (k : Key) → HasLeft self.old k → HasLeft self.new k }
+        ensures state { IsStateOf result (told_as self.old.lists key) (waits_as self.old.lists key) }
+        ensures serials { self.new.serials ≡ self.old.serials }
+        ensures room { self.new.room ≡ self.old.room + 1 }
+        ensures visits { self.new.visits ≤ 2 }
+    {
+        let gone = unlink(&mut self.nodes, &mut self.ends, key.slot);
+        self.cursor = cursor_past(self.cursor, key.slot, gone.after);
+        self.told -= one_if(gone.told);
+        gone.state
+    }
+
+    /// Stores the task of a waiting listener.
+    pub(crate) fn store(&mut self, key: Key, task: W)
+        requires { kind_of self.old.lists key ≡ Some false }
+        ensures lists { self.new.lists ≡ with_task key task self.old.lists }
+        ensures left { (k : Key) → HasLeft self.old k → HasLeft self.new k }
+        ensures serials { self.new.serials ≡ self.old.serials }
+        ensures room { self.new.room ≡ self.old.room }
+        ensures visits { self.new.visits ≡ 0 }
+    {
+        store_task(&mut self.nodes, key.slot, task);
+    }
+
+    /// Adds a listener, which waits behind all others and without a task.
+    ///
+    /// Within the room that [`List::reserve`] made it isn't refused for memory. [`ListenError::NoMemory`] comes where
+    /// there was no room and a growth was refused, [`ListenError::SerialsUsedUp`] once all 2^64 - 1 serials were given;
+    /// after either the listeners are as before.
+    pub fn insert(&mut self) -> Result<Key, ListenError>
+        ensures lists { IfOk result (λ key. self.new.lists ≡ listened key self.old.lists) }
+        ensures serial { IfOk result (λ key. serial_of key ≡ self.old.serials) }
+        ensures serials { OnOk result (self.new.serials ≡ self.old.serials + 1) }
+        ensures unknown { IfOk result (λ key. kind_of self.old.lists key ≡ None) }
+        ensures room { OnOk result (self.old.room ≤ self.new.room + 1) }
+        ensures visits { self.new.visits ≤ 5 }
+        ensures unchanged { OnErr result (self.new.lists ≡ self.old.lists) }
+        ensures unchanged_serials { OnErr result (self.new.serials ≡ self.old.serials) }
+        ensures kept_room { OnErr result (self.old.room ≤ self.new.room) }
+        ensures why { IfErr result (λ e. IsListenRefusal self.old e) }
+        ensures used_up { self.old.serials ≡ 2 ^ 64 - 1 → result ≡ Err ListenError.SerialsUsedUp }
+        ensures left { (key : Key) → HasLeft self.old key → HasLeft self.new key }
+    {
+        if self.serials == u64::MAX {
+            self.nodes.begin(None);
+            return Err(ListenError::SerialsUsedUp);
+        }
+        match link_last(&mut self.nodes, &mut self.ends, self.serials) {
+            Ok(at) => {
+                self.cursor = Some(first_of(self.cursor, at));
+                let key = Key {
+                    slot: at,
+                    serial: self.serials,
+                };
+                self.serials += 1;
+                Ok(key)
+            }
+            Err(_) => Err(ListenError::NoMemory),
+        }
+    }
+
+    /// Tells the first waiting listener, and gives its task.
+    pub(crate) fn tell_first(&mut self, additional: bool, tag: T) -> Option<W>
+        requires waiting { 0 < length self.old.lists.waiting }
+        requires room { self.old.visits + 2 < 2 ^ 128 }
+        ensures lists { self.new.lists ≡ notified additional (tag ∷ []) self.old.lists }
+        ensures left { (k : Key) → HasLeft self.old k → HasLeft self.new k }
+        ensures task { option_to_list result ≡ tasks_of (take 1 self.old.lists.waiting) }
+        ensures serials { self.new.serials ≡ self.old.serials }
+        ensures room { self.new.room ≡ self.old.room }
+        ensures visits { self.new.visits ≤ self.old.visits + 2 }
+    {
+        match self.cursor {
+            Some(at) => {
+                let gone = tell_node(&mut self.nodes, at, additional, tag);
+                self.cursor = gone.after;
+                self.told += 1;
+                match gone.state {
+                    State::Waiting(task) => task,
+                    State::Told { .. } => unreachable!(),
+                }
+            }
+            None => unreachable!(),
+        }
+    }
+
+    /// How many are told.
+    ///
+    /// They are the first ones in the order of listening: that is the order in which serials are given, and the serials
+    /// of the told and then of the waiting ones ascend. So no key stands in a list twice either.
+    pub fn told(&self) -> usize
+        ensures count { result ≡ length self.now.lists.told }
+        ensures in_order { IsInOrder self.now.lists self.now.serials }
+    {
+        self.told
+    }
+
+    /// How many are listed, told and waiting together.
+    pub fn total(&self) -> usize
+        ensures { result ≡ length self.now.lists.told + length self.now.lists.waiting }
+    {
+        self.nodes.len()
+    }
+
+    /// How many nodes the last insert, register, remove or notify read or wrote, its own listener's left out.
+    ///
+    /// Each read and each write of a node counts as one visit. Before the first such call it is 0.
+    pub fn last_visits(&self) -> u128
+        ensures { result ≡ self.now.visits }
+    {
+        self.nodes.visits()
+    }
+
+    /// Makes room for this many more listeners, in all; where there is so much already it isn't refused.
+    ///
+    /// [`NoMemory`] where a growth was refused; the listeners are then as before.
+    pub fn reserve(&mut self, extra: usize) -> Result<(), NoMemory>
+        ensures room { OnOk result (extra ≤ self.new.room) }
+        ensures kept_room { self.old.room ≤ self.new.room }
+        ensures succeeds { extra ≤ self.old.room → IsOk result }
+        ensures lists { self.new.lists ≡ self.old.lists }
+        ensures left { (key : Key) → HasLeft self.old key → HasLeft self.new key }
+        ensures serials { self.new.serials ≡ self.old.serials }
+        ensures visits { self.new.visits ≡ self.old.visits }
+    {
+        self.nodes.reserve(extra)
+    }
+
+    /// Begins a call that has no node of its own.
+    pub(crate) fn start(&mut self)
+        ensures { self.new ≡ record self.old { visits = 0 } }
+    {
+        self.nodes.begin(None);
+    }
+
+    /// Goes back to the count of an earlier call.
+    pub(crate) fn restore(&mut self, visits: u128)
+        ensures { self.new ≡ record self.old { visits = visits } }
+    {
+        self.nodes.restore(visits);
+    }
+
+    /// How many a notice for so many moves.
+    pub(crate) fn to_move(&self, additional: bool, count: usize) -> usize
+        ensures value { result ≡ moved additional count self.now.lists }
+        ensures within { result ≤ length self.now.lists.waiting }
+    {
+        let told = self.told();
+        let waiting = self.total() - told;
+        let more = if additional {
+            count
+        } else {
+            count.saturating_sub(told)
+        };
+        more.min(waiting)
+    }
+}

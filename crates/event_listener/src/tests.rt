@@ -1,0 +1,389 @@
+//! What lists do, by worked examples.
+
+use crate::calls::Registered;
+use crate::error::{NoMemory, UnknownListener};
+use crate::key::Key;
+use crate::list::List;
+use crate::notify::Notification;
+use crate::run::{ListCall, ListReply, Target};
+use crate::wakes::Wakes;
+use std::collections::VecDeque;
+use std::test::Fail;
+
+/// A notice with the tags `first`, `first + 1` and so on.
+#[derive(Drop)]
+struct Counted {
+    count: usize,
+    additional: bool,
+    next: u32,
+}
+
+impl Notification for Counted {
+    type Tag = u32;
+
+    ghost size = { λ n. n.count };
+
+    ghost additional = { λ n. n.additional };
+
+    ghost can_give = { λ n. Unit {0} };
+
+    ghost gives = { λ n r m. Unit {0} };
+
+    fn count(&self) -> usize {
+        self.count
+    }
+
+    fn is_additional(&self) -> bool {
+        self.additional
+    }
+
+    fn next_tag(&mut self) -> Result<u32, NoMemory> {
+        let tag = self.next;
+        self.next = self.next.wrapping_add(1);
+        Ok(tag)
+    }
+}
+
+fn at_least(count: usize, first: u32) -> Counted {
+    Counted {
+        count,
+        additional: false,
+        next: first,
+    }
+}
+
+fn more(count: usize, first: u32) -> Counted {
+    Counted {
+        count,
+        additional: true,
+        next: first,
+    }
+}
+
+/// A sink that keeps the names of those who were woken.
+#[derive(Drop)]
+struct Names {
+    woken: Vec<u32>,
+}
+
+impl Wakes<u32> for Names {
+    ghost wakes = { λ s t u. Unit {0} };
+
+    fn wake(&mut self, task: u32) {
+        let _ = self.woken.push(task);
+    }
+}
+
+#[test]
+fn additional_notices_tell_more_and_others_count_the_told(rt: HostRuntime) -> Result<(), Fail> {
+    let mut list: List<u32, u32> = List::new(rt.alloc());
+    let mut sink = Names {
+        woken: Vec::new(rt.alloc()),
+    };
+    let first = list.insert()?;
+    let second = list.insert()?;
+    let third = list.insert()?;
+    assert_eq!(rt; list.notify(more(1, 10), &mut sink), Ok(1));
+    assert_eq!(rt; list.notify(at_least(1, 20), &mut sink), Ok(0));
+    assert_eq!(rt; list.notify(more(1, 30), &mut sink), Ok(1));
+    assert_eq!(rt; list.poll(first), Ok(Some(10)));
+    assert_eq!(rt; list.poll(second), Ok(Some(30)));
+    assert_eq!(rt; list.poll(third), Ok(None));
+    assert_eq!(rt; sink.woken.len(), 0);
+    Ok(())
+}
+
+#[test]
+fn a_told_listener_that_leaves_passes_its_notice_on(rt: HostRuntime) -> Result<(), Fail> {
+    let mut list: List<u32, u32> = List::new(rt.alloc());
+    let mut sink = Names {
+        woken: Vec::new(rt.alloc()),
+    };
+    let first = list.insert()?;
+    let second = list.insert()?;
+    let third = list.insert()?;
+    let fourth = list.insert()?;
+    for (key, name) in [(first, 1), (second, 2), (third, 3), (fourth, 4)] {
+        assert!(rt; matches!(list.register(key, name), Ok(Registered::Waiting)));
+    }
+    assert_eq!(rt; list.notify(more(1, 10), &mut sink), Ok(1));
+    assert_eq!(rt; list.notify(at_least(2, 20), &mut sink), Ok(1));
+    assert_eq!(rt; list.remove(first, true, &mut sink), Ok(true));
+    assert_eq!(rt; sink.woken.as_slice(), [1, 2, 3].as_slice());
+    assert_eq!(rt; list.told(), 2);
+    assert_eq!(rt; list.total(), 3);
+    assert_eq!(rt; list.poll(second), Ok(Some(20)));
+    assert_eq!(rt; list.poll(third), Ok(Some(10)));
+    assert_eq!(rt; list.poll(fourth), Ok(None));
+    Ok(())
+}
+
+/// The calls of the example above, with listeners named by the places of their insertions.
+fn told_listener_leaves(
+    rt: &impl AllocGlobal,
+    calls: &mut VecDeque<ListCall<u32, u32>>,
+) -> Result<(), Fail> {
+    for _ in 0..4 {
+        calls.push_back(ListCall::Insert)?;
+    }
+    for (place, task) in [(0, 1), (1, 2), (2, 3), (3, 4)] {
+        let listener = Target::Place(place);
+        calls.push_back(ListCall::Register { listener, task })?;
+    }
+    let mut one = VecDeque::new(rt.alloc());
+    one.push_back(10)?;
+    calls.push_back(ListCall::Notify {
+        count: 1,
+        additional: true,
+        tags: one,
+    })?;
+    let mut two = VecDeque::new(rt.alloc());
+    two.push_back(20)?;
+    two.push_back(21)?;
+    calls.push_back(ListCall::Notify {
+        count: 2,
+        additional: false,
+        tags: two,
+    })?;
+    calls.push_back(ListCall::Remove {
+        listener: Target::Place(0),
+        pass_on: true,
+    })?;
+    for place in [1, 2, 3, 4] {
+        let listener = Target::Place(place);
+        calls.push_back(ListCall::Poll { listener })?;
+    }
+    Ok(())
+}
+
+#[test]
+fn a_run_answers_as_its_calls_do_one_by_one(rt: HostRuntime) -> Result<(), Fail> {
+    let mut list: List<u32, u32> = List::new(rt.alloc());
+    let mut sink = Names {
+        woken: Vec::new(rt.alloc()),
+    };
+    let mut calls = VecDeque::new(rt.alloc());
+    told_listener_leaves(&rt, &mut calls)?;
+    let run = list.run(rt.alloc(), &mut calls, &mut sink);
+    assert!(rt; run.stopped.is_none());
+    assert_eq!(rt; calls.len(), 0);
+    assert_eq!(rt; run.replies.len(), 15);
+    for (place, reply) in run.replies.iter().enumerate() {
+        let right = match reply {
+            ListReply::Insert(Ok(_)) => place < 4,
+            ListReply::Register(Ok(Registered::Waiting)) => 4 <= place && place < 8,
+            ListReply::Notify(Ok(1)) => place == 8 || place == 9,
+            ListReply::Remove(Ok(true)) => place == 10,
+            ListReply::Poll(Ok(Some(20))) => place == 11,
+            ListReply::Poll(Ok(Some(10))) => place == 12,
+            ListReply::Poll(Ok(None)) => place == 13,
+            ListReply::Poll(Err(UnknownListener)) => place == 14,
+            _ => false,
+        };
+        assert!(rt; right, "at {place}");
+    }
+    assert_eq!(rt; sink.woken.as_slice(), [1, 2, 3].as_slice());
+    Ok(())
+}
+
+#[test]
+fn a_run_tells_no_more_than_it_has_tags(rt: HostRuntime) -> Result<(), Fail> {
+    let mut list: List<u32, u32> = List::new(rt.alloc());
+    let mut sink = Names {
+        woken: Vec::new(rt.alloc()),
+    };
+    let mut calls = VecDeque::new(rt.alloc());
+    calls.push_back(ListCall::Reserve { extra: 2 })?;
+    calls.push_back(ListCall::Insert)?;
+    calls.push_back(ListCall::Insert)?;
+    let mut tags = VecDeque::new(rt.alloc());
+    tags.push_back(7)?;
+    calls.push_back(ListCall::Notify {
+        count: 2,
+        additional: false,
+        tags,
+    })?;
+    let run = list.run(rt.alloc(), &mut calls, &mut sink);
+    assert!(rt; run.stopped.is_none());
+    assert_eq!(rt; run.replies.len(), 4);
+    assert!(rt; matches!(run.replies.first(), Some(ListReply::Reserve(Ok(())))));
+    let refused = match run.replies.last() {
+        Some(ListReply::Notify(Err(error))) => error.told == 1,
+        _ => false,
+    };
+    assert!(rt; refused);
+    assert_eq!(rt; list.told(), 1);
+    assert_eq!(rt; list.total(), 2);
+    Ok(())
+}
+
+#[test]
+fn tags_are_given_in_the_order_of_listening(rt: HostRuntime) -> Result<(), Fail> {
+    let mut list: List<u32, u32> = List::new(rt.alloc());
+    let mut sink = Names {
+        woken: Vec::new(rt.alloc()),
+    };
+    let first = list.insert()?;
+    let second = list.insert()?;
+    let third = list.insert()?;
+    assert_eq!(rt; list.notify(at_least(2, 10), &mut sink), Ok(2));
+    assert_eq!(rt; list.poll(first), Ok(Some(10)));
+    assert_eq!(rt; list.poll(second), Ok(Some(11)));
+    assert_eq!(rt; list.poll(third), Ok(None));
+    assert_eq!(rt; list.poll(second), Err(UnknownListener));
+    Ok(())
+}
+
+#[test]
+fn a_passed_notice_keeps_its_tag(rt: HostRuntime) -> Result<(), Fail> {
+    let mut list: List<u32, u32> = List::new(rt.alloc());
+    let mut sink = Names {
+        woken: Vec::new(rt.alloc()),
+    };
+    let first = list.insert()?;
+    assert_eq!(rt; list.notify(at_least(1, 7), &mut sink), Ok(1));
+    let second = list.insert()?;
+    assert_eq!(rt; list.remove(first, true, &mut sink), Ok(true));
+    assert_eq!(rt; list.poll(second), Ok(Some(7)));
+    Ok(())
+}
+
+#[test]
+fn a_listener_taken_off_without_passing_on_tells_nobody(rt: HostRuntime) -> Result<(), Fail> {
+    let mut list: List<u32, u32> = List::new(rt.alloc());
+    let mut sink = Names {
+        woken: Vec::new(rt.alloc()),
+    };
+    let first = list.insert()?;
+    let second = list.insert()?;
+    assert_eq!(rt; list.notify(at_least(1, 7), &mut sink), Ok(1));
+    assert_eq!(rt; list.remove(first, false, &mut sink), Ok(true));
+    assert_eq!(rt; list.poll(second), Ok(None));
+    assert_eq!(rt; list.remove(second, false, &mut sink), Ok(false));
+    assert_eq!(rt; list.total(), 0);
+    Ok(())
+}
+
+#[test]
+fn a_notice_for_nobody_is_not_kept(rt: HostRuntime) -> Result<(), Fail> {
+    let mut list: List<u32, u32> = List::new(rt.alloc());
+    let mut sink = Names {
+        woken: Vec::new(rt.alloc()),
+    };
+    assert_eq!(rt; list.notify(at_least(5, 7), &mut sink), Ok(0));
+    let first = list.insert()?;
+    assert_eq!(rt; list.poll(first), Ok(None));
+    Ok(())
+}
+
+#[test]
+fn a_key_of_a_reused_place_is_refused(rt: HostRuntime) -> Result<(), Fail> {
+    let mut list: List<u32, u32> = List::new(rt.alloc());
+    let mut sink = Names {
+        woken: Vec::new(rt.alloc()),
+    };
+    let old = list.insert()?;
+    assert_eq!(rt; list.remove(old, true, &mut sink), Ok(false));
+    let new = list.insert()?;
+    assert!(rt; old != new);
+    assert_eq!(rt; old.slot, new.slot);
+    assert!(rt; matches!(list.register(new, 2), Ok(Registered::Waiting)));
+    assert!(rt; matches!(list.register(old, 1), Err(UnknownListener)));
+    assert_eq!(rt; list.poll(old), Err(UnknownListener));
+    assert_eq!(rt; list.remove(old, true, &mut sink), Err(UnknownListener));
+    assert_eq!(rt; list.total(), 1);
+    assert_eq!(rt; list.notify(at_least(1, 7), &mut sink), Ok(1));
+    assert_eq!(rt; sink.woken.as_slice(), [2].as_slice());
+    assert!(rt; matches!(list.register(old, 1), Err(UnknownListener)));
+    assert_eq!(rt; list.poll(old), Err(UnknownListener));
+    assert_eq!(rt; list.remove(old, true, &mut sink), Err(UnknownListener));
+    assert!(rt; matches!(list.register(new, 3), Ok(Registered::Told(7))));
+    assert_eq!(rt; list.total(), 0);
+    Ok(())
+}
+
+#[test]
+fn the_newer_task_is_woken(rt: HostRuntime) -> Result<(), Fail> {
+    let mut list: List<u32, u32> = List::new(rt.alloc());
+    let mut sink = Names {
+        woken: Vec::new(rt.alloc()),
+    };
+    let key = list.insert()?;
+    assert!(rt; matches!(list.register(key, 1), Ok(Registered::Waiting)));
+    assert!(rt; matches!(list.register(key, 2), Ok(Registered::Waiting)));
+    assert_eq!(rt; list.notify(at_least(1, 7), &mut sink), Ok(1));
+    assert_eq!(rt; sink.woken.as_slice(), [2].as_slice());
+    Ok(())
+}
+
+#[test]
+fn reserved_room_takes_as_many_insertions(rt: HostRuntime) -> Result<(), Fail> {
+    let mut list: List<u32, u32> = List::new(rt.alloc());
+    list.reserve(100)?;
+    for _ in 0..100 {
+        assert!(rt; list.insert().is_ok());
+    }
+    assert_eq!(rt; list.total(), 100);
+    assert_eq!(rt; list.told(), 0);
+    Ok(())
+}
+
+#[test]
+fn no_call_visits_more_than_five_others(rt: HostRuntime) -> Result<(), Fail> {
+    let mut list: List<u32, u32> = List::new(rt.alloc());
+    let mut sink = Names {
+        woken: Vec::new(rt.alloc()),
+    };
+    assert_eq!(rt; list.last_visits(), 0);
+    let mut keys: Vec<Key> = Vec::new(rt.alloc());
+    for name in 0u32..10_000 {
+        let key = list.insert()?;
+        assert!(rt; list.last_visits() <= 5);
+        assert!(rt; list.register(key, name).is_ok());
+        assert!(rt; list.last_visits() <= 5);
+        keys.push(key)?;
+    }
+    for (place, key) in keys.iter().enumerate() {
+        if place % 2 == 0 {
+            assert_eq!(rt; list.remove(*key, false, &mut sink), Ok(false));
+            assert!(rt; list.last_visits() <= 5);
+        }
+    }
+    assert_eq!(rt; list.total(), 5_000);
+    for _ in 0..5_000 {
+        assert_eq!(rt; list.notify(more(1, 7), &mut sink), Ok(1));
+        assert!(rt; list.last_visits() <= 5);
+    }
+    assert_eq!(rt; list.notify(more(1, 7), &mut sink), Ok(0));
+    assert_eq!(rt; list.last_visits(), 0);
+    assert_eq!(rt; list.told(), 5_000);
+    assert_eq!(rt; sink.woken.len(), 5_000);
+    for (place, name) in sink.woken.iter().enumerate() {
+        assert!(rt; *name as usize == place.wrapping_mul(2).wrapping_add(1));
+    }
+    Ok(())
+}
+
+/// With `rt try --test --fail-alloc N` each growth is refused in turn; the list is then as it was before the call.
+#[test]
+fn a_refused_growth_leaves_the_list_as_it_was(rt: HostRuntime) -> Result<(), Fail> {
+    let mut list: List<u32, u32> = List::new(rt.alloc());
+    let mut sink = Names {
+        woken: Vec::new(rt.alloc()),
+    };
+    let mut inserted = 0usize;
+    let mut refused = 0usize;
+    for _ in 0..100 {
+        match list.insert() {
+            Ok(_) => inserted = inserted.wrapping_add(1),
+            Err(_) => refused = refused.wrapping_add(1),
+        }
+        assert_eq!(rt; list.total(), inserted);
+    }
+    assert_eq!(rt; inserted.wrapping_add(refused), 100);
+    assert!(rt; refused <= 1);
+    let answer = list.notify(more(1_000, 0), &mut sink);
+    assert_eq!(rt; answer, Ok(inserted));
+    assert_eq!(rt; list.told(), inserted);
+    Ok(())
+}
