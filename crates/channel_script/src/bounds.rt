@@ -1,0 +1,77 @@
+//! The greatest scripts.
+use channel_world::script::{ScriptEnd, run_script};
+use std::alloc::{AllocError, Global};
+use std::test::Fail;
+
+/// A first line, and then a line again and again.
+fn repeated(alloc: Global, first: &str, line: &str, times: usize) -> Result<Vec<u8>, AllocError> {
+    let mut script = Vec::new(alloc);
+    script.extend_from_slice(first.as_bytes())?;
+    for _ in 0..times {
+        script.extend_from_slice(line.as_bytes())?;
+    }
+    Ok(script)
+}
+
+#[test]
+fn a_million_lines_can_be_read_and_no_more(rt: HostRuntime) -> Result<(), Fail> {
+    for (times, end) in [
+        (999_999, ScriptEnd::Done),
+        (1_000_000, ScriptEnd::Unreadable { line: 1_000_001 }),
+    ] {
+        let script = repeated(rt.alloc(), "bounded 1\n", "close s\n", times)?;
+        let mut out = Vec::new(rt.alloc());
+        let ended = run_script(rt.alloc(), &mut script.as_slice(), &mut out);
+        assert_eq!(rt; ended, end);
+        assert!(rt; out.starts_with(b"ok\ntrue\nfalse\n"));
+    }
+    Ok(())
+}
+
+#[test]
+fn a_line_has_200_bytes_at_most(rt: HostRuntime) -> Result<(), Fail> {
+    for times in [200, 201] {
+        let script = repeated(rt.alloc(), "unbounded\n", "a", times)?;
+        let mut out = Vec::new(rt.alloc());
+        let end = run_script(rt.alloc(), &mut script.as_slice(), &mut out);
+        assert_eq!(rt; end, ScriptEnd::Unreadable { line: 2 });
+    }
+    Ok(())
+}
+
+#[test]
+fn the_greatest_script_is_read(rt: HostRuntime) -> Result<(), Fail> {
+    for (times, end) in [
+        (16_777_206, ScriptEnd::Unreadable { line: 2 }),
+        (16_777_207, ScriptEnd::Fault),
+    ] {
+        let script = repeated(rt.alloc(), "unbounded\n", "a", times)?;
+        let mut out = Vec::new(rt.alloc());
+        let ended = run_script(rt.alloc(), &mut script.as_slice(), &mut out);
+        assert_eq!(rt; ended, end, "{times}");
+    }
+    Ok(())
+}
+
+#[test]
+fn bytes_past_ascii_cannot_be_read(rt: HostRuntime) -> Result<(), Fail> {
+    let mut out = Vec::new(rt.alloc());
+    let script = b"unbounded\n\xff\n";
+    let end = run_script(rt.alloc(), &mut script.as_slice(), &mut out);
+    assert_eq!(rt; end, ScriptEnd::Unreadable { line: 2 });
+    assert_eq!(rt; out.as_slice(), b"ok\nline 2: can't be read\n".as_slice());
+    Ok(())
+}
+
+#[test]
+fn each_end_has_its_status(rt: HostRuntime) {
+    for (end, status) in [
+        (ScriptEnd::Done, 0),
+        (ScriptEnd::Unreadable { line: 1 }, 2),
+        (ScriptEnd::Capacity, 3),
+        (ScriptEnd::Memory, 4),
+        (ScriptEnd::Fault, 5),
+    ] {
+        assert_eq!(rt; end.status(), status);
+    }
+}

@@ -1,0 +1,19 @@
+//! Runs a script over one channel: reads it from standard input, and writes a reply line for each command to standard
+//! output. Arguments are ignored, and nothing goes to standard error.
+#![tactic(auto)]
+
+#[cfg(test)]
+mod bounds;
+#[cfg(test)]
+mod faults;
+#[cfg(test)]
+mod rows;
+
+use channel_world::script::run_script;
+use std::io;
+use std::process::ExitCode;
+
+fn main(rt: HostRuntime) -> ExitCode {
+    let end = run_script(rt.alloc(), &mut rt.reader(), &mut io::writer(&rt));
+    ExitCode::from(end.status())
+}

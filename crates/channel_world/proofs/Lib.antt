@@ -1,0 +1,16 @@
+pub mod WordLemmas
+pub mod CommandLemmas
+pub mod TableLemmas
+pub mod ScriptLemmas
+pub mod IoLemmas
+pub mod GrowthLemmas
+pub mod WaiterLemmas
+pub mod LruLemmas
+pub mod StandingLemmas
+pub mod NameLemmas
+pub mod RefusalLemmas
+pub mod RunLemmas
+pub mod WorldLemmas
+pub mod Counting
+pub mod Awake
+pub mod LawSteps

@@ -1,0 +1,92 @@
+-- Reply lines.
+use Rattle.std.specs.Prelude.{ℕ, List, [], ◌∷◌, ◌++◌, length, Bool, true, false, None, Some, Ok, Err, codes}
+use Rattle.std.specs.List.{flat_map, join_by}
+use Rattle.std.specs.Fmt.{decimal}
+use Rattle.channel_world.specs.Replies.{AnyReply}
+use Rattle.channel_world.specs.Replies as reply
+use Rattle.channel_world.specs.Table.{Table, waiter_name}
+use Rattle.channel_world.specs.declared.name.Waiter.{Waiter}
+use Rattle.channel_world.specs.declared.error.Refused.TheVariants.{Plain, NoMemory, SerialsUsedUp}
+use Rattle.channel_world.specs.declared.error.TrySendError.TheVariants as send_error
+use Rattle.channel_world.specs.declared.error.TryRecvError.TheVariants as recv_error
+use Rattle.channel_world.specs.declared.error.WorldRefusal.{WorldRefusal}
+use Rattle.channel_world.specs.declared.error.WorldRefusal.TheVariants as why
+use Rattle.futures.specs.declared.task.Poll.TheVariants.{Ready, Pending}
+
+abbrev pub yes_or_no : Bool → List ℕ
+yes_or_no true = codes "true"
+yes_or_no false = codes "false"
+
+-- a reply that wants memory or serials has no text, since it ends the script
+abbrev pub reply_text : AnyReply ℕ → List ℕ
+reply_text (reply.TrySend (Ok u)) = codes "ok"
+reply_text (reply.TrySend (Err (Plain (send_error.Full m)))) = codes "full " ++ decimal m
+reply_text (reply.TrySend (Err (Plain (send_error.Closed m)))) = codes "closed " ++ decimal m
+reply_text (reply.ForceSend (Ok None)) = codes "ok"
+reply_text (reply.ForceSend (Ok (Some m))) = codes "ok displaced " ++ decimal m
+reply_text (reply.ForceSend (Err (Plain e))) = codes "closed " ++ decimal e.0
+reply_text (reply.TryRecv (Ok m)) = codes "ok " ++ decimal m
+reply_text (reply.TryRecv (Err recv_error.Empty)) = codes "empty"
+reply_text (reply.TryRecv (Err recv_error.Closed)) = codes "closed"
+reply_text (reply.SendPoll Pending) = codes "pending"
+reply_text (reply.SendPoll (Ready (Ok u))) = codes "ok"
+reply_text (reply.SendPoll (Ready (Err (Plain e)))) = codes "closed " ++ decimal e.0
+reply_text (reply.RecvPoll Pending) = codes "pending"
+reply_text (reply.RecvPoll (Ready (Ok m))) = codes "ok " ++ decimal m
+reply_text (reply.RecvPoll (Ready (Err (Plain e)))) = codes "closed"
+reply_text (reply.ClosedPoll Pending) = codes "pending"
+reply_text (reply.ClosedPoll (Ready (Ok u))) = codes "ready"
+reply_text (reply.Next Pending) = codes "pending"
+reply_text (reply.Next (Ready None)) = codes "none"
+reply_text (reply.Next (Ready (Some (Ok m)))) = codes "some " ++ decimal m
+reply_text (reply.Closed b) = yes_or_no b
+reply_text (reply.Flag b) = yes_or_no b
+reply_text (reply.Count n) = decimal n
+reply_text (reply.Cap None) = codes "none"
+reply_text (reply.Cap (Some n)) = decimal n
+reply_text reply.Made = codes "ok"
+reply_text reply.NotMade = codes "none"
+reply_text reply.TooMany = codes "too many"
+reply_text (reply.GivenUp m) = codes "ok"
+reply_text reply.Gone = codes "ok"
+reply_text wanting = []
+
+-- the names that a call woke, after its reply
+abbrev pub wakes_text : Table → List Waiter → List ℕ
+wakes_text table [] = []
+wakes_text table (w ∷ ws) = codes " wakes" ++ flat_map (λ v. 32 ∷ waiter_name table v) (w ∷ ws)
+
+abbrev pub refusal_number : WorldRefusal → ℕ
+refusal_number why.Busy = 1
+refusal_number why.Idle = 2
+refusal_number why.UnknownName = 3
+refusal_number why.NameTaken = 4
+refusal_number why.OpUnderWay = 5
+refusal_number why.Borrowed = 6
+refusal_number why.WrongKind = 7
+refusal_number why.NoMemory = 8
+
+abbrev pub refused_text : WorldRefusal → List ℕ
+refused_text w = codes "refused " ++ decimal (refusal_number w)
+
+-- one poll of a settling, and all of them
+abbrev pub poll_text : Table → Waiter × AnyReply ℕ → List ℕ
+poll_text table p = waiter_name table p.0 ++ 32 ∷ reply_text p.1
+
+abbrev pub settle_text : Table → List (Waiter × AnyReply ℕ) → List ℕ
+settle_text table [] = codes "polls 0"
+settle_text table (p ∷ ps) = codes "polls " ++ decimal (length (p ∷ ps)) ++ codes ": " ++ join_by (poll_text table) (codes ", ") (p ∷ ps)
+
+-- a reply says that memory or serials were refused
+abbrev pub wants_growth : AnyReply ℕ → Bool
+wants_growth (reply.TrySend (Err (NoMemory m))) = true
+wants_growth (reply.TrySend (Err (SerialsUsedUp m))) = true
+wants_growth (reply.ForceSend (Err (NoMemory m))) = true
+wants_growth (reply.ForceSend (Err (SerialsUsedUp m))) = true
+wants_growth (reply.SendPoll (Ready (Err (NoMemory u)))) = true
+wants_growth (reply.SendPoll (Ready (Err (SerialsUsedUp u)))) = true
+wants_growth (reply.RecvPoll (Ready (Err (NoMemory u)))) = true
+wants_growth (reply.RecvPoll (Ready (Err (SerialsUsedUp u)))) = true
+wants_growth (reply.ClosedPoll (Ready (Err e))) = true
+wants_growth (reply.Next (Ready (Some (Err e)))) = true
+wants_growth r = false

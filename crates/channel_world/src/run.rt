@@ -1,0 +1,64 @@
+//! Whole lists of calls.
+use super::call::Call;
+use super::error::WorldRefusal;
+use super::reply::{CallRun, Done, Stopped};
+use super::world::World;
+use std::collections::VecDeque;
+
+impl<T: Drop> World<T> {
+    ghost use Rattle.std.specs.Prelude.{◌≡◌, ◌<◌, IfSome, IfNone, vec_len, vec_capacity};
+    ghost use Rattle.std.specs.Option.{option_map};
+    ghost use Rattle.channel_world.specs.State.{at_rest};
+    ghost use Rattle.channel_world.specs.Run.{Runs, MayStop};
+
+    /// Why the list of calls stops at this one, if it does; where it doesn't, there is room for what it answers.
+    fn stop(&self, call: &Call<T>, done: &mut Vec<Done<T>>) -> Option<WorldRefusal>
+        ensures why { MayStop self.now call.now result }
+        ensures items { done.new.items ≡ done.old.items }
+        ensures room { IfNone result (vec_len done.new < vec_capacity done.new) }
+    {
+        let why = self.refusal(call);
+        if why.is_none() && done.reserve(1).is_err() {
+            return Some(WorldRefusal::NoMemory);
+        }
+        why
+    }
+
+    /// Makes calls from the front, each from its begin to its end, up to the first that is refused.
+    ///
+    /// A refused call stays in front, with nothing of it done; `stopped` says at which place of the list, counted from
+    /// 0, and why. The room for a call's answer is taken before it begins, and where that is refused the call is too.
+    /// Nothing here waits. Own to this project.
+    pub fn run_calls(&mut self, calls: &mut VecDeque<Call<T>>) -> CallRun<T>
+        ensures run { Runs (at_rest self.old) calls.old.items result.done.items (option_map (λ s. s.why) result.stopped) calls.new.items (at_rest self.new) }
+        ensures place { IfSome result.stopped (λ s. s.place ≡ vec_len result.done) }
+    {
+        let mut done = Vec::new(self.alloc());
+        while let Some(call) = calls.front() {
+            if let Some(why) = self.stop(call, &mut done) {
+                let place = done.len();
+                return CallRun {
+                    done,
+                    stopped: Some(Stopped { place, why }),
+                };
+            }
+            let call = calls.pop_front().unwrap();
+            match self.answer(call) {
+                Ok(answer) => done.push_reserved(answer),
+                Err(call) => {
+                    calls.push_front_reserved(call);
+                    let place = done.len();
+                    let why = WorldRefusal::NoMemory;
+                    return CallRun {
+                        done,
+                        stopped: Some(Stopped { place, why }),
+                    };
+                }
+            }
+        }
+        CallRun {
+            done,
+            stopped: None,
+        }
+    }
+}

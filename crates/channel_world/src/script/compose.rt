@@ -1,0 +1,158 @@
+//! Scripts, from bytes to bytes.
+ghost use Rattle.std.specs.Prelude.{◌≡◌, ◌≤◌, ◌<◌, ◌^◌, ◌++◌, ◌∷◌, [], length, Some, None, IfOk, OnOk, OnErr, OnSome, IfSome};
+ghost use Rattle.std.specs.Option.{option_map};
+ghost use Rattle.channel_world.specs.State.{start, at_rest};
+ghost use Rattle.channel_world.specs.Words.{lines_of};
+ghost use Rattle.channel_world.specs.Language.{today};
+ghost use Rattle.channel_world.specs.Said.{said, scene_of};
+ghost use Rattle.channel_world.specs.Script.{readable, ending, followed, first_names, opened, script_of_lines};
+ghost use Rattle.channel_world.specs.Added.{Extends};
+
+use super::command::{Command, Opening, parse_line, parse_opening};
+use super::end::ScriptEnd;
+use super::scene::Scene;
+use super::table::{Sort, Table};
+use super::words::first_line;
+use crate::event_id::EventIds;
+use crate::world::World;
+use std::alloc::{AllocError, Global};
+
+/// A script has at most this many lines.
+const LINES_LIMIT: u32 = 1_000_000;
+
+/// Adds a line and its end, or leaves the text as it was.
+fn add_line(out: &mut Vec<u8>, line: &[u8]) -> Result<(), AllocError>
+    ensures ok { OnOk result (out.new.items ≡ out.old.items ++ line.now ++ 10 ∷ []) }
+    ensures err { OnErr result (out.new.items ≡ out.old.items) }
+{
+    out.reserve(line.len().checked_add(1).ok_or(AllocError)?)?;
+    out.extend_from_slice(line)?;
+    out.push_reserved(b'\n');
+    Ok(())
+}
+
+/// The command of a line of this number, if it can be read.
+fn readable(number: u32, line: &[u8]) -> Option<Command<'_>>
+    ensures command { option_map said result ≡ readable today number line.entry.now }
+    ensures small { OnSome result (number ≤ LINES_LIMIT) }
+{
+    if number > LINES_LIMIT {
+        return None;
+    }
+    parse_line(line)
+}
+
+/// Ends a script at a line that can't be read.
+fn end_unreadable(alloc: Global, line: u32, out: &mut Vec<u8>) -> ScriptEnd
+    ensures { Extends (ending (ScriptEnd.Unreadable line)) result out.old.items out.new.items }
+{
+    let Ok(text) = format!(in alloc; "line {line}: can't be read") else {
+        return ScriptEnd::Memory;
+    };
+    match add_line(out, text.as_bytes()) {
+        Ok(()) => ScriptEnd::Unreadable { line },
+        Err(_) => ScriptEnd::Memory,
+    }
+}
+
+/// Ends a script whose channel would hold nothing.
+fn end_without_capacity(out: &mut Vec<u8>) -> ScriptEnd
+    ensures { Extends (ending ScriptEnd.Capacity) result out.old.items out.new.items }
+{
+    match add_line(out, b"capacity must be positive") {
+        Ok(()) => ScriptEnd::Capacity,
+        Err(_) => ScriptEnd::Memory,
+    }
+}
+
+/// Runs the lines of a script after the first, and adds its text.
+fn follow<'a>(alloc: Global, scene: &mut Scene<'a>, text: &'a [u8], out: &mut Vec<u8>) -> ScriptEnd
+    requires { length scene.old.table ≤ 2 }
+    ensures { Extends (followed today (scene_of scene.old) 2 (lines_of text.now)) result out.old.items out.new.items }
+{
+    let mut rest = text;
+    let mut number = 2u32;
+    while let Some((line, after)) = first_line(rest) {
+        let Some(command) = readable(number, line) else {
+            return end_unreadable(alloc, number, out);
+        };
+        let Ok(reply) = scene.obey(alloc, &command) else {
+            return ScriptEnd::Memory;
+        };
+        let Ok(()) = add_line(out, reply.as_slice()) else {
+            return ScriptEnd::Memory;
+        };
+        rest = after;
+        number += 1;
+    }
+    ScriptEnd::Done
+}
+
+/// The first names of a script.
+fn first_names<'a>(alloc: Global) -> Result<Table<'a>, AllocError>
+    ensures { IfOk result (λ table. table ≡ first_names) }
+{
+    let mut table = Table::new(alloc);
+    table.give(b"s", Sort::Handle)?;
+    table.give(b"r", Sort::Handle)?;
+    Ok(table)
+}
+
+/// A channel of this capacity, or of any number of messages.
+fn open(alloc: Global, capacity: Option<usize>) -> Result<World<u64>, AllocError>
+    requires { IfSome capacity (λ c. 0 < c) }
+    ensures world { IfOk result (λ world. at_rest world ≡ start capacity) }
+    ensures fits { OnOk result (IfSome capacity (λ c. c ≤ 2 ^ 58)) }
+{
+    let mut ids = EventIds::new();
+    match capacity {
+        Some(capacity) => match World::bounded(alloc, capacity, &mut ids) {
+            Ok(world) => Ok(world),
+            Err(_) => Err(AllocError),
+        },
+        None => match World::unbounded(alloc, &mut ids) {
+            Ok(world) => Ok(world),
+            Err(_) => Err(AllocError),
+        },
+    }
+}
+
+/// Opens the channel of a script, runs the lines after the first, and adds the text of all.
+fn run_opened<'a>(
+    alloc: Global,
+    capacity: Option<usize>,
+    text: &'a [u8],
+    out: &mut Vec<u8>,
+) -> ScriptEnd
+    requires { IfSome capacity (λ c. 0 < c) }
+    ensures { Extends (opened today capacity (lines_of text.now)) result out.old.items out.new.items }
+{
+    let Ok(world) = open(alloc, capacity) else {
+        return ScriptEnd::Memory;
+    };
+    let Ok(table) = first_names(alloc) else {
+        return ScriptEnd::Memory;
+    };
+    let Ok(()) = add_line(out, b"ok") else {
+        return ScriptEnd::Memory;
+    };
+    let mut scene = Scene { world, table };
+    follow(alloc, &mut scene, text, out)
+}
+
+/// Runs a script, and adds its text, but for the last line where memory was refused.
+pub fn compose(alloc: Global, input: &[u8], out: &mut Vec<u8>) -> ScriptEnd
+    ensures { Extends (script_of_lines today (lines_of input.now)) result out.old.items out.new.items }
+{
+    let Some((line, rest)) = first_line(input) else {
+        return ScriptEnd::Done;
+    };
+    let Some(opening) = parse_opening(line) else {
+        return end_unreadable(alloc, 1, out);
+    };
+    match opening {
+        Opening::Bounded { capacity: 0 } => end_without_capacity(out),
+        Opening::Bounded { capacity } => run_opened(alloc, Some(capacity as usize), rest, out),
+        Opening::Unbounded => run_opened(alloc, None, rest, out),
+    }
+}

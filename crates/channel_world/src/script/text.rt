@@ -1,0 +1,102 @@
+//! Reply lines.
+ghost use Rattle.std.specs.Prelude.{◌≡◌, ◌++◌, false, IfOk, OnOk, string_bytes};
+ghost use Rattle.channel_world.specs.Text.{reply_text, wakes_text, refused_text, refusal_number, wants_growth};
+ghost use Rattle.channel_world.specs.Today.{any_reply};
+
+use super::table::Table;
+use crate::error::{Refused, SendError, TryRecvError, TrySendError, WorldRefusal};
+use crate::name::Waiter;
+use crate::reply::{Done, Reply};
+use futures::task::Poll;
+use std::alloc::{AllocError, Global};
+
+/// The text of a reply; none where the call was refused memory or serials.
+fn reply_text(alloc: Global, reply: &Reply<u64>) -> Result<String, AllocError>
+    ensures text { IfOk result (λ line. string_bytes line ≡ reply_text (any_reply reply.now)) }
+    ensures whole { OnOk result (wants_growth (any_reply reply.now) ≡ false) }
+{
+    match reply {
+        Reply::TrySend(Ok(_)) => String::from_str(alloc, "ok"),
+        Reply::TrySend(Err(Refused::Plain(TrySendError::Full(msg)))) => {
+            format!(in alloc; "full {msg}")
+        }
+        Reply::TrySend(Err(Refused::Plain(TrySendError::Closed(msg)))) => {
+            format!(in alloc; "closed {msg}")
+        }
+        Reply::TrySend(Err(Refused::NoMemory(_) | Refused::SerialsUsedUp(_))) => Err(AllocError),
+        Reply::TryRecv(Ok(msg)) => format!(in alloc; "ok {msg}"),
+        Reply::TryRecv(Err(TryRecvError::Empty)) => String::from_str(alloc, "empty"),
+        Reply::TryRecv(Err(TryRecvError::Closed)) => String::from_str(alloc, "closed"),
+        Reply::SendPoll(Poll::Ready(Ok(_))) => String::from_str(alloc, "ok"),
+        Reply::SendPoll(Poll::Ready(Err(Refused::Plain(SendError(msg))))) => {
+            format!(in alloc; "closed {msg}")
+        }
+        Reply::SendPoll(Poll::Ready(Err(Refused::NoMemory(_) | Refused::SerialsUsedUp(_)))) => {
+            Err(AllocError)
+        }
+        Reply::RecvPoll(Poll::Ready(Ok(msg))) => format!(in alloc; "ok {msg}"),
+        Reply::RecvPoll(Poll::Ready(Err(Refused::Plain(_)))) => String::from_str(alloc, "closed"),
+        Reply::RecvPoll(Poll::Ready(Err(Refused::NoMemory(_) | Refused::SerialsUsedUp(_)))) => {
+            Err(AllocError)
+        }
+        Reply::SendPoll(Poll::Pending) | Reply::RecvPoll(Poll::Pending) => {
+            String::from_str(alloc, "pending")
+        }
+        Reply::Closed(true) | Reply::Flag(true) => String::from_str(alloc, "true"),
+        Reply::Closed(false) | Reply::Flag(false) => String::from_str(alloc, "false"),
+        Reply::Made | Reply::GivenUp(_) | Reply::Unit => String::from_str(alloc, "ok"),
+    }
+}
+
+/// Adds the names that a call woke.
+fn add_wakes(table: &Table<'_>, woken: &[Waiter], line: &mut Vec<u8>) -> Result<(), AllocError>
+    ensures { OnOk result (line.new.items ≡ line.old.items ++ wakes_text table.now woken.now) }
+{
+    if woken.is_empty() {
+        return Ok(());
+    }
+    line.extend_from_slice(b" wakes")?;
+    for waiter in woken {
+        line.push(b' ')?;
+        line.extend_from_slice(table.waiter_name(*waiter))?;
+    }
+    Ok(())
+}
+
+/// The line for what a call answered; none where it was refused memory or serials.
+pub fn answer_line(
+    alloc: Global,
+    table: &Table<'_>,
+    done: &Done<u64>,
+) -> Result<Vec<u8>, AllocError>
+    ensures text { IfOk result (λ line. line.items ≡ reply_text (any_reply done.now.reply) ++ wakes_text table.now done.now.woken.items) }
+    ensures whole { OnOk result (wants_growth (any_reply done.now.reply) ≡ false) }
+{
+    let mut line = reply_text(alloc, &done.reply)?.into_bytes();
+    add_wakes(table, done.woken.as_slice(), &mut line)?;
+    Ok(line)
+}
+
+/// The line for a refusal.
+pub fn refused_line(alloc: Global, why: WorldRefusal) -> Result<Vec<u8>, AllocError>
+    ensures { IfOk result (λ line. line.items ≡ refused_text why) }
+{
+    let number = number_of(why);
+    Ok(format!(in alloc; "refused {number}")?.into_bytes())
+}
+
+/// The number of a refusal.
+fn number_of(why: WorldRefusal) -> u8
+    ensures { result ≡ refusal_number why }
+{
+    match why {
+        WorldRefusal::Busy => 1,
+        WorldRefusal::Idle => 2,
+        WorldRefusal::UnknownName => 3,
+        WorldRefusal::NameTaken => 4,
+        WorldRefusal::OpUnderWay => 5,
+        WorldRefusal::Borrowed => 6,
+        WorldRefusal::WrongKind => 7,
+        WorldRefusal::NoMemory => 8,
+    }
+}
