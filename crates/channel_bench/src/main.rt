@@ -1,0 +1,27 @@
+//! Measures what the calls of this workspace cost: `channel_bench WORD ..`, a line for each call that is measured.
+//!
+//! With no word nothing is measured and nothing printed. Measure on the compiled program, and compare only numbers of
+//! one run: the calls that a line compares are timed in turns, and the best of many rounds counts.
+#![tactic(auto)]
+
+mod decimal;
+mod list;
+
+use std::alloc::Global;
+use std::rt::Clock;
+use std::{env, io};
+
+/// Measures what the word names.
+fn measure<R: Clock + Print>(rt: &R, alloc: Global, word: &str) -> io::Result<()> {
+    match word {
+        "list" => list::measure_lists(rt, alloc),
+        _ => println!(rt; "nothing to measure is named {word}"),
+    }
+}
+
+fn main(rt: HostRuntime) -> io::Result<()> {
+    for word in env::args(&rt)?.skip(1) {
+        measure(&rt, rt.alloc(), word.as_str())?;
+    }
+    Ok(())
+}
