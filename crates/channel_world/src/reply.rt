@@ -4,7 +4,7 @@ use super::name::Waiter;
 use futures::task::Poll;
 
 /// The reply of a call.
-#[derive(Drop)]
+#[derive(Debug, Drop, PartialEq, Eq)]
 pub enum Reply<T> {
     TrySend(Result<(), Refused<TrySendError<T>, T>>),
     TryRecv(Result<T, TryRecvError>),
@@ -23,7 +23,7 @@ pub enum Reply<T> {
 }
 
 /// What a call answered, and whom it woke, in order.
-#[derive(Drop)]
+#[derive(Debug, Drop, PartialEq, Eq)]
 pub struct Done<T> {
     pub reply: Reply<T>,
     pub woken: Vec<Waiter>,
@@ -37,7 +37,7 @@ pub struct Stopped {
 }
 
 /// What the calls of a list answered, in order, and where the list stopped.
-#[derive(Drop)]
+#[derive(Debug, Drop, PartialEq, Eq)]
 pub struct CallRun<T> {
     pub done: Vec<Done<T>>,
     pub stopped: Option<Stopped>,
