@@ -1,5 +1,6 @@
 //! What no contract says: that calls are answered while there is memory, what worked rows come to, and the texts of
 //! errors.
 
+mod errors;
 mod row;
 mod rows;
