@@ -2,5 +2,6 @@
 //! errors.
 
 mod errors;
+mod memory;
 mod row;
 mod rows;
