@@ -28,22 +28,44 @@ fn was_refused(run: &CallRun<u64>) -> bool {
     }
 }
 
+/// A call that can be made again.
+#[derive(Clone, Copy)]
+enum Ask {
+    Recv(OpId),
+    Send(OpId, u64),
+    Poll(OpId),
+    GiveUp(OpId),
+    TrySend(u64),
+    TryRecv,
+}
+
+fn call(ask: Ask) -> Call<u64> {
+    match ask {
+        Ask::Recv(op) => Call::NewRecv { op, receiver: R },
+        Ask::Send(op, msg) => Call::NewSend { op, sender: S, msg },
+        Ask::Poll(op) => Call::Poll { op },
+        Ask::GiveUp(op) => Call::GiveUp { op },
+        Ask::TrySend(msg) => Call::TrySend { sender: S, msg },
+        Ask::TryRecv => Call::TryRecv { receiver: R },
+    }
+}
+
 /// Makes a call, once more where a growth was refused, and compares its answer.
-fn ask(
+fn show(
     rt: &(impl AllocGlobal + Abort),
     world: &mut World<u64>,
-    call: impl Fn() -> Call<u64>,
+    ask: Ask,
     reply: Reply<u64>,
     woken: &[Waiter],
 ) -> Result<(), Fail> {
     let mut calls = VecDeque::new(rt.alloc());
-    calls.push_back(call())?;
+    calls.push_back(call(ask))?;
     let mut run = world.run_calls(&mut calls);
     if was_refused(&run) {
         if run.done.is_empty() {
             assert_eq!(rt; calls.len(), 1);
         } else {
-            calls.push_back(call())?;
+            calls.push_back(call(ask))?;
         }
         run = world.run_calls(&mut calls);
     }
@@ -62,71 +84,36 @@ fn a_refused_growth_loses_nothing(rt: HostRuntime) -> Result<(), Fail> {
     let mut world: World<u64> = World::unbounded(rt.alloc(), &mut ids)?;
     for number in 0..COUNT {
         let op = OpId(number);
-        ask(
-            &rt,
-            &mut world,
-            || Call::NewRecv { op, receiver: R },
-            Reply::Made,
-            &[],
-        )?;
-        ask(
-            &rt,
-            &mut world,
-            || Call::Poll { op },
-            Reply::RecvPoll(Poll::Pending),
-            &[],
-        )?;
+        show(&rt, &mut world, Ask::Recv(op), Reply::Made, &[])?;
+        let pending = Reply::RecvPoll(Poll::Pending);
+        show(&rt, &mut world, Ask::Poll(op), pending, &[])?;
     }
     for number in 0..COUNT {
         let msg = u64::from(number);
         let first = [Waiter::Op(OpId(number))];
-        ask(
-            &rt,
-            &mut world,
-            || Call::TrySend { sender: S, msg },
-            Reply::TrySend(Ok(())),
-            &first,
-        )?;
+        let accepted = Reply::TrySend(Ok(()));
+        show(&rt, &mut world, Ask::TrySend(msg), accepted, &first)?;
     }
     for number in 0..COUNT {
-        let op = OpId(number);
-        let reply = Reply::RecvPoll(Poll::Ready(Ok(u64::from(number))));
-        ask(&rt, &mut world, || Call::Poll { op }, reply, &[])?;
+        let received = Reply::RecvPoll(Poll::Ready(Ok(u64::from(number))));
+        show(&rt, &mut world, Ask::Poll(OpId(number)), received, &[])?;
     }
     for number in COUNT..2 * COUNT {
         let op = OpId(number);
-        let msg = u64::from(number);
-        ask(
+        let sent = Reply::SendPoll(Poll::Ready(Ok(())));
+        show(
             &rt,
             &mut world,
-            || Call::NewSend { op, sender: S, msg },
+            Ask::Send(op, u64::from(number)),
             Reply::Made,
             &[],
         )?;
-        ask(
-            &rt,
-            &mut world,
-            || Call::Poll { op },
-            Reply::SendPoll(Poll::Ready(Ok(()))),
-            &[],
-        )?;
-        ask(
-            &rt,
-            &mut world,
-            || Call::GiveUp { op },
-            Reply::GivenUp(None),
-            &[],
-        )?;
+        show(&rt, &mut world, Ask::Poll(op), sent, &[])?;
+        show(&rt, &mut world, Ask::GiveUp(op), Reply::GivenUp(None), &[])?;
     }
     for number in COUNT..2 * COUNT {
-        let msg = u64::from(number);
-        ask(
-            &rt,
-            &mut world,
-            || Call::TryRecv { receiver: R },
-            Reply::TryRecv(Ok(msg)),
-            &[],
-        )?;
+        let received = Reply::TryRecv(Ok(u64::from(number)));
+        show(&rt, &mut world, Ask::TryRecv, received, &[])?;
     }
     Ok(())
 }
