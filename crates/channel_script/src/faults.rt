@@ -173,7 +173,7 @@ fn slow_writer_gets_all(rt: HostRuntime) -> Result<(), Fail> {
     let held = writer(rt.alloc(), TEXT.as_bytes())?;
     let mut out = Limited {
         held,
-        limit: TEXT.len(),
+        limit: usize::MAX,
         error: None,
     };
     let end = run_script(rt.alloc(), &mut SCRIPT.as_bytes(), &mut out);

@@ -76,44 +76,72 @@ fn show(
     Ok(())
 }
 
+/// Receives wait, one after the other.
+fn wait_all(rt: &(impl AllocGlobal + Abort), world: &mut World<u64>) -> Result<(), Fail> {
+    for number in 0..COUNT {
+        let op = OpId(number);
+        show(rt, world, Ask::Recv(op), Reply::Made, &[])?;
+        let pending = Reply::RecvPoll(Poll::Pending);
+        show(rt, world, Ask::Poll(op), pending, &[])?;
+    }
+    Ok(())
+}
+
+/// Each message wakes the next receive.
+fn send_all(rt: &(impl AllocGlobal + Abort), world: &mut World<u64>) -> Result<(), Fail> {
+    for number in 0..COUNT {
+        let next = [Waiter::Op(OpId(number))];
+        let accepted = Reply::TrySend(Ok(()));
+        show(rt, world, Ask::TrySend(u64::from(number)), accepted, &next)?;
+    }
+    Ok(())
+}
+
+/// Each receive gets its message.
+fn receive_all(rt: &(impl AllocGlobal + Abort), world: &mut World<u64>) -> Result<(), Fail> {
+    for number in 0..COUNT {
+        let received = Reply::RecvPoll(Poll::Ready(Ok(u64::from(number))));
+        show(rt, world, Ask::Poll(OpId(number)), received, &[])?;
+    }
+    Ok(())
+}
+
+/// Sends are made, finished and given up.
+fn finish_all(rt: &(impl AllocGlobal + Abort), world: &mut World<u64>) -> Result<(), Fail> {
+    for number in COUNT..2 * COUNT {
+        let op = OpId(number);
+        let sent = Reply::SendPoll(Poll::Ready(Ok(())));
+        show(
+            rt,
+            world,
+            Ask::Send(op, u64::from(number)),
+            Reply::Made,
+            &[],
+        )?;
+        show(rt, world, Ask::Poll(op), sent, &[])?;
+        show(rt, world, Ask::GiveUp(op), Reply::GivenUp(None), &[])?;
+    }
+    Ok(())
+}
+
+/// All messages are taken, in order.
+fn take_all(rt: &(impl AllocGlobal + Abort), world: &mut World<u64>) -> Result<(), Fail> {
+    for number in COUNT..2 * COUNT {
+        let received = Reply::TryRecv(Ok(u64::from(number)));
+        show(rt, world, Ask::TryRecv, received, &[])?;
+    }
+    Ok(())
+}
+
 /// With one growth refused, wherever that is, and the call made once more, all answers are those of ample memory: a
 /// refusal is named, and loses and changes nothing.
 #[test]
 fn a_refused_growth_loses_nothing(rt: HostRuntime) -> Result<(), Fail> {
     let mut ids = EventIds::new();
     let mut world: World<u64> = World::unbounded(rt.alloc(), &mut ids)?;
-    for number in 0..COUNT {
-        let op = OpId(number);
-        show(&rt, &mut world, Ask::Recv(op), Reply::Made, &[])?;
-        let pending = Reply::RecvPoll(Poll::Pending);
-        show(&rt, &mut world, Ask::Poll(op), pending, &[])?;
-    }
-    for number in 0..COUNT {
-        let msg = u64::from(number);
-        let first = [Waiter::Op(OpId(number))];
-        let accepted = Reply::TrySend(Ok(()));
-        show(&rt, &mut world, Ask::TrySend(msg), accepted, &first)?;
-    }
-    for number in 0..COUNT {
-        let received = Reply::RecvPoll(Poll::Ready(Ok(u64::from(number))));
-        show(&rt, &mut world, Ask::Poll(OpId(number)), received, &[])?;
-    }
-    for number in COUNT..2 * COUNT {
-        let op = OpId(number);
-        let sent = Reply::SendPoll(Poll::Ready(Ok(())));
-        show(
-            &rt,
-            &mut world,
-            Ask::Send(op, u64::from(number)),
-            Reply::Made,
-            &[],
-        )?;
-        show(&rt, &mut world, Ask::Poll(op), sent, &[])?;
-        show(&rt, &mut world, Ask::GiveUp(op), Reply::GivenUp(None), &[])?;
-    }
-    for number in COUNT..2 * COUNT {
-        let received = Reply::TryRecv(Ok(u64::from(number)));
-        show(&rt, &mut world, Ask::TryRecv, received, &[])?;
-    }
-    Ok(())
+    wait_all(&rt, &mut world)?;
+    send_all(&rt, &mut world)?;
+    receive_all(&rt, &mut world)?;
+    finish_all(&rt, &mut world)?;
+    take_all(&rt, &mut world)
 }
