@@ -1,7 +1,11 @@
 //! The greatest scripts.
+use super::cut::{check, writer};
 use channel_world::script::{ScriptEnd, run_script};
 use std::alloc::{AllocError, Global};
 use std::test::Fail;
+
+/// The text of a script whose second line can't be read.
+const UNREADABLE: &[u8] = b"ok\nline 2: can't be read\n";
 
 /// A first line, and then a line again and again.
 fn repeated(alloc: Global, first: &str, line: &str, times: usize) -> Result<Vec<u8>, AllocError> {
@@ -20,10 +24,20 @@ fn a_million_lines_can_be_read_and_no_more(rt: HostRuntime) -> Result<(), Fail> 
         (1_000_000, ScriptEnd::Unreadable { line: 1_000_001 }),
     ] {
         let script = repeated(rt.alloc(), "bounded 1\n", "close s\n", times)?;
-        let mut out = Vec::new(rt.alloc());
+        let mut text = repeated(rt.alloc(), "ok\ntrue\n", "false\n", times.min(999_999) - 1)?;
+        if end != ScriptEnd::Done {
+            text.extend_from_slice(b"line 1000001: can't be read\n")?;
+        }
+        let mut out = writer(rt.alloc(), text.as_slice())?;
         let ended = run_script(rt.alloc(), &mut script.as_slice(), &mut out);
-        assert_eq!(rt; ended, end);
-        assert!(rt; out.starts_with(b"ok\ntrue\nfalse\n"));
+        check(
+            &rt,
+            out.as_slice(),
+            text.as_slice(),
+            ended,
+            end,
+            "a million lines",
+        )?;
     }
     Ok(())
 }
@@ -32,35 +46,42 @@ fn a_million_lines_can_be_read_and_no_more(rt: HostRuntime) -> Result<(), Fail> 
 fn a_line_has_200_bytes_at_most(rt: HostRuntime) -> Result<(), Fail> {
     for times in [200, 201] {
         let script = repeated(rt.alloc(), "unbounded\n", "a", times)?;
-        let mut out = Vec::new(rt.alloc());
-        let end = run_script(rt.alloc(), &mut script.as_slice(), &mut out);
-        assert_eq!(rt; end, ScriptEnd::Unreadable { line: 2 });
+        let mut out = writer(rt.alloc(), UNREADABLE)?;
+        let ended = run_script(rt.alloc(), &mut script.as_slice(), &mut out);
+        let end = ScriptEnd::Unreadable { line: 2 };
+        check(&rt, out.as_slice(), UNREADABLE, ended, end, "a long line")?;
     }
     Ok(())
 }
 
 #[test]
 fn the_greatest_script_is_read(rt: HostRuntime) -> Result<(), Fail> {
-    for (times, end) in [
-        (16_777_206, ScriptEnd::Unreadable { line: 2 }),
-        (16_777_207, ScriptEnd::Fault),
+    for (times, end, text) in [
+        (16_777_206, ScriptEnd::Unreadable { line: 2 }, UNREADABLE),
+        (16_777_207, ScriptEnd::Fault, b"read fault\n"),
     ] {
         let script = repeated(rt.alloc(), "unbounded\n", "a", times)?;
-        let mut out = Vec::new(rt.alloc());
+        let mut out = writer(rt.alloc(), text)?;
         let ended = run_script(rt.alloc(), &mut script.as_slice(), &mut out);
-        assert_eq!(rt; ended, end, "{times}");
+        check(&rt, out.as_slice(), text, ended, end, "many bytes")?;
     }
     Ok(())
 }
 
 #[test]
 fn bytes_past_ascii_cannot_be_read(rt: HostRuntime) -> Result<(), Fail> {
-    let mut out = Vec::new(rt.alloc());
+    let mut out = writer(rt.alloc(), UNREADABLE)?;
     let script = b"unbounded\n\xff\n";
-    let end = run_script(rt.alloc(), &mut script.as_slice(), &mut out);
-    assert_eq!(rt; end, ScriptEnd::Unreadable { line: 2 });
-    assert_eq!(rt; out.as_slice(), b"ok\nline 2: can't be read\n".as_slice());
-    Ok(())
+    let ended = run_script(rt.alloc(), &mut script.as_slice(), &mut out);
+    let end = ScriptEnd::Unreadable { line: 2 };
+    check(
+        &rt,
+        out.as_slice(),
+        UNREADABLE,
+        ended,
+        end,
+        "a byte past ascii",
+    )
 }
 
 #[test]

@@ -1,4 +1,5 @@
 //! Readers and writers in memory that fail, at every place of a short script.
+use super::cut::{check, check_front, writer};
 use channel_world::script::{ScriptEnd, run_script};
 use std::io;
 use std::io::{ErrorKind, Read, Write};
@@ -7,6 +8,8 @@ use std::test::Fail;
 const SCRIPT: &str = "bounded 1\nrecv a r\npoll a\ndrop r\ntry_recv x\nclose s\n";
 
 const TEXT: &str = "ok\nok\npending\nrefused 6\nrefused 3\ntrue wakes a\n";
+
+const READ_FAULT: &[u8] = b"read fault\n";
 
 /// What a reader does once its text is given.
 #[derive(Clone, Copy, PartialEq, Eq)]
@@ -100,29 +103,36 @@ impl Write for Limited {
 /// failed is refused here, and one that writes nothing.
 #[test]
 fn interrupted_reader_is_asked_again(rt: HostRuntime) -> Result<(), Fail> {
-    let mut out = Vec::new(rt.alloc());
+    let mut out = writer(rt.alloc(), TEXT.as_bytes())?;
     let end = run_script(
         rt.alloc(),
         &mut trickling(SCRIPT.as_bytes(), AtEnd::Ends),
         &mut out,
     );
-    assert_eq!(rt; end, ScriptEnd::Done);
-    assert_eq!(rt; out.as_slice(), TEXT.as_bytes());
-    Ok(())
+    check(
+        &rt,
+        out.as_slice(),
+        TEXT.as_bytes(),
+        end,
+        ScriptEnd::Done,
+        SCRIPT,
+    )
 }
 
 #[test]
 fn read_fault_stands_alone(rt: HostRuntime) -> Result<(), Fail> {
     for given in 0..=SCRIPT.len() {
-        let mut out = Vec::new(rt.alloc());
+        let mut out = writer(rt.alloc(), READ_FAULT)?;
         let text = &SCRIPT.as_bytes()[..given];
         let end = run_script(rt.alloc(), &mut trickling(text, AtEnd::Fails), &mut out);
-        assert_eq!(rt; end, ScriptEnd::Fault, "after {given} bytes");
-        assert_eq!(rt;
+        check(
+            &rt,
             out.as_slice(),
-            b"read fault\n".as_slice(),
-            "after {given} bytes"
-        );
+            READ_FAULT,
+            end,
+            ScriptEnd::Fault,
+            "a reader that fails",
+        )?;
     }
     Ok(())
 }
@@ -130,10 +140,16 @@ fn read_fault_stands_alone(rt: HostRuntime) -> Result<(), Fail> {
 #[test]
 fn endless_reader_is_a_read_fault(rt: HostRuntime) -> Result<(), Fail> {
     for byte in [Some(b'\n'), None] {
-        let mut out = Vec::new(rt.alloc());
+        let mut out = writer(rt.alloc(), READ_FAULT)?;
         let end = run_script(rt.alloc(), &mut Endless { byte }, &mut out);
-        assert_eq!(rt; end, ScriptEnd::Fault);
-        assert_eq!(rt; out.as_slice(), b"read fault\n".as_slice());
+        check(
+            &rt,
+            out.as_slice(),
+            READ_FAULT,
+            end,
+            ScriptEnd::Fault,
+            "an endless reader",
+        )?;
     }
     Ok(())
 }
@@ -142,15 +158,10 @@ fn endless_reader_is_a_read_fault(rt: HostRuntime) -> Result<(), Fail> {
 fn write_fault_leaves_a_front(rt: HostRuntime) -> Result<(), Fail> {
     for error in [None, Some(ErrorKind::Other), Some(ErrorKind::Interrupted)] {
         for limit in 0..TEXT.len() {
-            let held = Vec::new(rt.alloc());
+            let held = writer(rt.alloc(), TEXT.as_bytes())?;
             let mut out = Limited { held, limit, error };
             let end = run_script(rt.alloc(), &mut SCRIPT.as_bytes(), &mut out);
-            assert_eq!(rt; end, ScriptEnd::Fault, "after {limit} bytes");
-            assert_eq!(rt;
-                out.held.as_slice(),
-                &TEXT.as_bytes()[..limit],
-                "after {limit} bytes"
-            );
+            check_front(&rt, out.held.as_slice(), TEXT.as_bytes(), limit, end)?;
         }
     }
     Ok(())
@@ -159,40 +170,46 @@ fn write_fault_leaves_a_front(rt: HostRuntime) -> Result<(), Fail> {
 /// A writer that takes every byte, one at a time, gets the whole text.
 #[test]
 fn slow_writer_gets_all(rt: HostRuntime) -> Result<(), Fail> {
-    let held = Vec::new(rt.alloc());
+    let held = writer(rt.alloc(), TEXT.as_bytes())?;
     let mut out = Limited {
         held,
-        limit: TEXT.len(),
+        limit: usize::MAX,
         error: None,
     };
     let end = run_script(rt.alloc(), &mut SCRIPT.as_bytes(), &mut out);
-    assert_eq!(rt; end, ScriptEnd::Done);
-    assert_eq!(rt; out.held.as_slice(), TEXT.as_bytes());
-    Ok(())
+    check(
+        &rt,
+        out.held.as_slice(),
+        TEXT.as_bytes(),
+        end,
+        ScriptEnd::Done,
+        SCRIPT,
+    )
 }
 
 /// A write fault wins over an unreadable line, over a capacity of 0, over want of memory and over a read fault.
 #[test]
 fn write_fault_wins(rt: HostRuntime) -> Result<(), Fail> {
-    for script in ["poll", "bounded 0", "bounded 288230376151711745"] {
-        let held = Vec::new(rt.alloc());
+    for (script, text) in [
+        ("poll", "line 1: can't be read\n"),
+        ("bounded 0", "capacity must be positive\n"),
+        ("bounded 288230376151711745", "want of memory\n"),
+    ] {
+        let held = writer(rt.alloc(), text.as_bytes())?;
         let mut out = Limited {
             held,
             limit: 3,
             error: None,
         };
         let end = run_script(rt.alloc(), &mut script.as_bytes(), &mut out);
-        assert_eq!(rt; end, ScriptEnd::Fault, "{script}");
-        assert_eq!(rt; out.held.len(), 3, "{script}");
+        check_front(&rt, out.held.as_slice(), text.as_bytes(), 3, end)?;
     }
-    let held = Vec::new(rt.alloc());
+    let held = writer(rt.alloc(), READ_FAULT)?;
     let mut out = Limited {
         held,
         limit: 3,
         error: None,
     };
     let end = run_script(rt.alloc(), &mut trickling(b"", AtEnd::Fails), &mut out);
-    assert_eq!(rt; end, ScriptEnd::Fault);
-    assert_eq!(rt; out.held.as_slice(), b"rea".as_slice());
-    Ok(())
+    check_front(&rt, out.held.as_slice(), READ_FAULT, 3, end)
 }

@@ -5,6 +5,8 @@
 #[cfg(test)]
 mod bounds;
 #[cfg(test)]
+mod cut;
+#[cfg(test)]
 mod faults;
 #[cfg(test)]
 mod rows;

@@ -65,6 +65,10 @@ pub forced_send_displaces_the_oldest : replies (start (Some 3)) (call.NewSend (o
     ≡ made ∷ made ∷ alone finished ∷ alone finished ∷ alone (reply.ForceSend (Ok None)) ∷ alone (reply.ForceSend (Ok (Some 1))) ∷ alone (reply.TryRecv (Ok 2)) ∷ alone (reply.TryRecv (Ok 3)) ∷ alone (reply.TryRecv (Ok 4)) ∷ []
 forced_send_displaces_the_oldest = refl
 
+pub sends_after_the_last_receiver_find_it_closed : replies (start (Some 100)) (call.NewSend (op 1) s 1 ∷ polled 1 ∷ call.NewSend (op 2) s 2 ∷ polled 2 ∷ call.NewSend (op 3) s 3 ∷ polled 3 ∷ call.Drop r ∷ call.NewSend (op 4) s 4 ∷ polled 4 ∷ call.TrySend s 5 ∷ [])
+    ≡ made ∷ alone finished ∷ made ∷ alone finished ∷ made ∷ alone finished ∷ alone reply.Gone ∷ made ∷ alone (reply.SendPoll (Ready (Err (Plain (record { 0 = 4 }))))) ∷ alone (reply.TrySend (Err (Plain (try_send.Closed 5)))) ∷ []
+sends_after_the_last_receiver_find_it_closed = refl
+
 pub told_receive_given_up_passes_on : replies (start (Some 1)) (call.NewRecv (op 1) r ∷ call.NewRecv (op 2) r ∷ polled 1 ∷ polled 2 ∷ call.TrySend s 10 ∷ call.TrySend s 20 ∷ call.GiveUp (op 1) ∷ polled 2 ∷ [])
     ≡ made ∷ made ∷ none_yet ∷ none_yet ∷ (sent, Op (op 1) ∷ []) ∷ full 20 ∷ (reply.GivenUp None, Op (op 2) ∷ []) ∷ alone (got 10) ∷ []
 told_receive_given_up_passes_on = refl

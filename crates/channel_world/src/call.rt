@@ -2,7 +2,7 @@
 use super::name::{HandleId, OpId};
 
 /// A call, made on handles and operations by their names.
-#[derive(Drop)]
+#[derive(Debug, Drop, PartialEq, Eq)]
 pub enum Call<T> {
     /// A new operation `op` that sends `msg` through the sender.
     NewSend { op: OpId, sender: HandleId, msg: T },

@@ -2,22 +2,22 @@
 #![tactic(auto)]
 
 mod answer;
-pub mod arrivals;
+mod arrivals;
 pub mod call;
-pub mod directory;
+mod directory;
 pub mod error;
 pub mod event_id;
 pub mod laws;
-pub mod lines;
+mod lines;
 pub mod name;
-pub mod names;
+mod names;
 mod parts;
-pub mod queues;
+mod queues;
 pub mod reply;
 mod run;
 pub mod script;
-pub mod space;
-pub mod standings;
+mod space;
+mod standings;
 #[cfg(test)]
 mod tests;
 pub mod world;

@@ -40,7 +40,7 @@ impl Model for Lines {
 }
 
 impl Lines {
-    ghost use Rattle.std.specs.Prelude.{◌≡◌, ◌≢◌, ◌+◌, ◌≤◌, ◌∷◌, ◌++◌, [], length, take, slice_get, vec_len, vec_capacity, IfOk, IfSome, OnOk, OnErr, true, is_some};
+    ghost use Rattle.std.specs.Prelude.{◌≡◌, ◌≢◌, ◌+◌, ◌≤◌, ◌∷◌, ◌++◌, [], length, take, slice_get, vec_len, vec_capacity, IfOk, IfSome, IfNone, OnOk, OnErr, true, is_some, ◌^◌};
     ghost use Rattle.std.specs.List.{list_any};
     ghost use Rattle.channel_world.specs.Lines.{nobody, untold, with_untold, told_by, after_news, gone, passed_on, left_after, told_after, standing, is_among, is_stream};
     ghost use Rattle.channel_world.specs.Standings.{all_told, untold_count};
@@ -57,7 +57,8 @@ impl Lines {
 
     /// How many wait untold; None where there is no such number.
     pub fn untold_count(&self) -> Option<usize>
-        ensures { IfSome result (λ n. n ≡ untold_count self.now) }
+        ensures count { IfSome result (λ n. n ≡ untold_count self.now) }
+        ensures none { IfNone result (2 ^ 64 ≤ untold_count self.now) }
     {
         self.queues.count()
     }

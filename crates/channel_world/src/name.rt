@@ -11,15 +11,21 @@ pub struct OpId(pub u32);
 /// A task that may be woken: that of an operation, or that of a receiver polled as a stream.
 #[derive(Clone, Copy, Debug, PartialEq, Eq, Hash)]
 pub enum Waiter {
+    /// That of an operation.
     Op(OpId),
+    /// That of a receiver polled as a stream.
     Stream(HandleId),
 }
 
 /// What a handle is. A strong one keeps its side of the channel alive, a weak one doesn't.
 #[derive(Clone, Copy, Debug, PartialEq, Eq)]
 pub enum HandleKind {
+    /// A strong handle that sends.
     Sender,
+    /// A strong handle that receives.
     Receiver,
+    /// A weak handle of the sending side.
     WeakSender,
+    /// A weak handle of the receiving side.
     WeakReceiver,
 }

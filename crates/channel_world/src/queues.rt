@@ -32,7 +32,7 @@ impl Model for Queues {
 }
 
 impl Queues {
-    ghost use Rattle.std.specs.Prelude.{◌≡◌, ◌∷◌, ◌++◌, [], false, length, drop, slice_get, IfOk, IfSome, OnOk, OnErr};
+    ghost use Rattle.std.specs.Prelude.{◌≡◌, ◌≤◌, ◌^◌, ◌∷◌, ◌++◌, [], false, length, drop, slice_get, IfOk, IfSome, IfNone, OnOk, OnErr};
     ghost use Rattle.std.specs.List.{IsDistinct};
     ghost use Rattle.channel_world.specs.Lines.{nobody, same_waiter, is_among, untold, with_untold, gone};
     ghost use Rattle.channel_world.specs.Standings.{untold_count};
@@ -51,7 +51,8 @@ impl Queues {
 
     /// How many wait; None where there is no such number.
     pub fn count(&self) -> Option<usize>
-        ensures { IfSome result (λ n. n ≡ untold_count self.now) }
+        ensures count { IfSome result (λ n. n ≡ untold_count self.now) }
+        ensures none { IfNone result (2 ^ 64 ≤ untold_count self.now) }
     {
         let some = self.sends.len() + self.receives.len();
         some.checked_add(self.streams.len())?
