@@ -1,12 +1,13 @@
 -- A call that is stepped to its end with no other beside it, from the contract of a step alone.
-use Rattle.std.proofs.Common.{◌≡◌, ℕ, ◌+◌, ◌<◌, Bool, true, false, not, List, [], ◌∷◌, ◌++◌, length, drop, Option, None, Some, Ok, Err, MatchOption, if◌then◌else◌, ◌==◌, ◌⊎◌, inl, inr, refl, sym, ap, ◌∙◌, subst, arith}
+use Rattle.std.proofs.Common.{◌≡◌, ℕ, ◌+◌, ◌<◌, ◌≤◌, ◌^◌, ⊎_elim, Bool, true, false, not, List, [], ◌∷◌, ◌++◌, length, drop, Option, None, Some, Ok, Err, ◌==◌, ◌⊎◌, inl, inr, refl, sym, ap, ◌∙◌, subst, arith}
 use Rattle.concurrent_queue.specs.Contents.{Contents}
 use Rattle.concurrent_queue.specs.Dispatch.{capacity_of}
-use Rattle.concurrent_queue.specs.Queue.{Queue, opened, Stage, trying, displaced, appended, taken, read, measured, Phase, asked, is_filled, is_full_at, is_stuck, IsOpen, IsShut, IsOldest, message, marked, after, is_displaced, seen_after, Goes, GoesPush, GoesForce, GoesPop, GoesOn, Answers, AnswersPush, AnswersForce, AnswersPop, AnswersTo}
-use Rattle.concurrent_queue.specs.Step.{Seat, seat, Fits, Steps, IsQueueStep, Starts, rank, items_in, closed_in}
+use Rattle.concurrent_queue.specs.Queue.{Queue, opened, Stage, trying, displaced, appended, taken, read, measured, Phase, asked, is_filled, is_full_at, is_stuck, IsOpen, IsShut, IsOldest, message, marked, after, is_displaced, seen_after, IsInRange, GoesPush, GoesForce, GoesPop, GoesOn, AnswersPush, AnswersForce, AnswersPop, AnswersTo}
+use Rattle.concurrent_queue.specs.Step.{seat, Fits, Steps, IsQueueStep, Starts, rank, items_in, closed_in, counted_in, counted_by}
 use Rattle.concurrent_queue.specs.Made.{IsNew}
-use Rattle.concurrent_queue.specs.declared.cells.QueueForm.TheVariants.{Bounded}
-use Rattle.concurrent_queue.specs.Alone.{Held, Gives, PushGives, ForceGives, PopGives}
+use Rattle.concurrent_queue.specs.declared.cells.QueueForm.{QueueForm}
+use Rattle.concurrent_queue.specs.declared.cells.QueueForm.TheVariants.{Bounded, Unbounded}
+use Rattle.concurrent_queue.specs.Alone.{Held, Gives, ForceGives, PopGives, HasRoom}
 use Rattle.concurrent_queue.specs.declared.call.QueueAsk.{QueueAsk}
 use Rattle.concurrent_queue.specs.declared.call.QueueAsk.TheVariants as ask
 use Rattle.concurrent_queue.specs.declared.call.QueueMark.{QueueMark}
@@ -230,7 +231,104 @@ module _ {T : Type 0} where
       ap by_items (sym (sh.at_rest refl).0) ∙ ap by_closed sh.flag ∙ ap by_capacity (sym sh.limit)
 
   abbrev pub IsSoundIn : Contents T → Type 0
-  IsSoundIn c = (q : Queue T) × Fits c q [] × (q.capacity ≡ Some 1)
+  IsSoundIn c = (q : Queue T) × Fits c q [] × IsInRange q
+
+  -- how many messages a call is still to bring
+  abbrev pub due : QueueAsk T → Stage T → ℕ
+  due (ask.Push v) (trying b) = 1
+  due (ask.Push v) (displaced d) = 1
+  due (ask.ForcePush v) (trying b) = 1
+  due (ask.ForcePush v) (displaced d) = 1
+  due _ s = 0
+
+  abbrev pub IsWithin : Queue T → QueueAsk T → Stage T → Type 0
+  IsWithin q a s = (q.capacity ≡ Some 1) ⊎ (q.accepted + due a s < 2 ^ 61)
+
+  in_range : (q : Queue T) (a : QueueAsk T) (s : Stage T) → IsWithin q a s → IsInRange q
+  in_range q a s (inl h) = inl h
+  in_range q a s (inr h) = inr (omega arith)
+
+  due_push : (q : Queue T) (v : T) (m : QueueMark) (s t : Stage T) → GoesPush q m s t → (marked (ask.Push v) (is_displaced s) m q).accepted + due (ask.Push v) t ≤ q.accepted + due (ask.Push v) s
+  due_push q v Nothing (trying b) t g = let e = ap (due (ask.Push v)) g in omega arith
+  due_push q v Nothing (appended None) t g = let e = ap (due (ask.Push v)) g in omega arith
+  due_push q v Append (trying b) t g = let e = ap (due (ask.Push v)) g.2 in omega arith
+  due_push q v m s t g = absurd g
+
+  due_force : (q : Queue T) (v : T) (m : QueueMark) (s t : Stage T) → GoesForce q m s t → (marked (ask.ForcePush v) (is_displaced s) m q).accepted + due (ask.ForcePush v) t ≤ q.accepted + due (ask.ForcePush v) s
+  due_force q v Nothing (trying b) t g = let e = ap (due (ask.ForcePush v)) g in omega arith
+  due_force q v Nothing (displaced d) t g = let e = ap (due (ask.ForcePush v)) g in omega arith
+  due_force q v Nothing (appended o) t g = let e = ap (due (ask.ForcePush v)) g in omega arith
+  due_force q v Append (trying b) t g = let e = ap (due (ask.ForcePush v)) g.2 in omega arith
+  due_force q v Append (displaced d) t g = let e = ap (due (ask.ForcePush v)) g.2 in omega arith
+  due_force q v Replace (trying b) t g = let e = ap (due (ask.ForcePush v)) g.5 in omega arith
+  due_force q v TakeDisplaced (trying b) t g = let e = ap (due (ask.ForcePush v)) g.5 in omega arith
+  due_force q v m s t g = absurd g
+
+  due_pop : (q : Queue T) (m : QueueMark) (s t : Stage T) → GoesPop q m s t → (marked ask.Pop (is_displaced s) m q).accepted + due ask.Pop t ≤ q.accepted + due ask.Pop s
+  due_pop q Nothing s t g = omega arith
+  due_pop q Take s t g = omega arith
+  due_pop q m s t g = absurd g
+
+  -- a step that appends brings what was due
+  due_goes : (q : Queue T) (a : QueueAsk T) (m : QueueMark) (s t : Stage T) → GoesOn q a m s t → (marked a (is_displaced s) m q).accepted + due a t ≤ q.accepted + due a s
+  due_goes q (ask.Push v) m s t g = due_push q v m s t g
+  due_goes q (ask.ForcePush v) m s t g = due_force q v m s t g
+  due_goes q ask.Pop m s t g = due_pop q m s t g
+  due_goes q ask.Close m s t g = absurd g
+  due_goes q ask.IsClosed m s t g = absurd g
+  due_goes q ask.IsEmpty Nothing s t g = omega arith
+  due_goes q ask.IsEmpty m s t g = absurd g
+  due_goes q ask.IsFull Nothing s t g = omega arith
+  due_goes q ask.IsFull m s t g = absurd g
+  due_goes q ask.Len Nothing s t g = omega arith
+  due_goes q ask.Len m s t g = absurd g
+  due_goes q ask.Capacity m s t g = absurd g
+
+  no_append : (q : Queue T) (a : QueueAsk T) (r : QueueReply T) (s : Stage T) → AnswersTo q a Append r s → ⊥
+  no_append q (ask.Push v) r s h = h
+  no_append q (ask.ForcePush v) r s h = h
+  no_append q ask.Pop r s h = h
+  no_append q ask.Close r s h = h
+  no_append q ask.IsClosed r s h = h
+  no_append q ask.IsEmpty r s h = h
+  no_append q ask.IsFull r s h = h
+  no_append q ask.Len r s h = h
+  no_append q ask.Capacity r s h = h
+
+  no_replace : (q : Queue T) (a : QueueAsk T) (r : QueueReply T) (s : Stage T) → AnswersTo q a Replace r s → ⊥
+  no_replace q (ask.Push v) r s h = h
+  no_replace q (ask.ForcePush v) r s h = h
+  no_replace q ask.Pop r s h = h
+  no_replace q ask.Close r s h = h
+  no_replace q ask.IsClosed r s h = h
+  no_replace q ask.IsEmpty r s h = h
+  no_replace q ask.IsFull r s h = h
+  no_replace q ask.Len r s h = h
+  no_replace q ask.Capacity r s h = h
+
+  -- a step that ends its call appends nothing
+  none_more : (q : Queue T) (a : QueueAsk T) (m : QueueMark) (r : QueueReply T) (s : Stage T) → AnswersTo q a m r s → (marked a (is_displaced s) m q).accepted ≡ q.accepted
+  none_more q a Nothing r s h = refl
+  none_more q a Take r s h = refl
+  none_more q a TakeDisplaced r s h = refl
+  none_more q a Close r s h = refl
+  none_more q a Append r s h = absurd (no_append q a r s h)
+  none_more q a Replace r s h = absurd (no_replace q a r s h)
+
+  within_of : (q : Queue T) → IsInRange q → (q.capacity ≡ Some 1) ⊎ (q.accepted + 0 < 2 ^ 61)
+  within_of q (inl h) = inl h
+  within_of q (inr h) = inr (omega arith)
+
+  room_for : (q : Queue T) (a : QueueAsk T) (c : Contents T) → IsInRange q → counted_in c ≡ q.accepted → HasRoom a c → IsWithin q a (trying false)
+  room_for q (ask.Push v) c k e h = inr (omega arith)
+  room_for q (ask.ForcePush v) c k e h = inr (omega arith)
+  room_for q ask.Pop c k e h = within_of q k
+  room_for q ask.Close c k e h = within_of q k
+  room_for q ask.IsClosed c k e h = within_of q k
+  room_for q ask.IsEmpty c k e h = within_of q k
+  room_for q ask.IsFull c k e h = within_of q k
+  room_for q ask.Len c k e h = within_of q k
+  room_for q ask.Capacity c k e h = within_of q k
 
   pub record IsAlone (m : Held T) (a : QueueAsk T) (c : Contents T) (call : QueueCall T) : Type 0 where
     pub start : Queue T
@@ -239,16 +337,25 @@ module _ {T : Type 0} where
     pub phase : Phase T
     pub asks : phase.ask ≡ a
     pub fits : Fits c now (seat call phase ∷ [])
-    pub limit : now.capacity ≡ Some 1
+    pub range : IsWithin now phase.ask phase.stage
     pub so : So start phase.ask phase.stage now
 
-  pub alone_start : (c : Contents T) (a : QueueAsk T) (call : QueueCall T) → Starts call a → IsSoundIn c → IsAlone (held_in c) a c call
-  alone_start c a call starts (q, fits, limit) =
-      record { start = q; was = held_is c q fits; now = q; phase = asked a; asks = refl; fits = starts c q [] [] fits; limit = limit; so = (refl, λ e. absurd cc) }
+  pub alone_start : (c : Contents T) (a : QueueAsk T) (call : QueueCall T) → Starts call a → IsSoundIn c → HasRoom a c → IsAlone (held_in c) a c call
+  alone_start c a call starts (q, fits, range) room =
+      record {
+        start = q;
+        was = held_is c q fits;
+        now = q;
+        phase = asked a;
+        asks = refl;
+        fits = starts c q [] [] fits;
+        range = ⊎_elim (λ g. inl g.0) (λ g. room_for q a c range g.1 room) (shows c q [] fits).numbered;
+        so = (refl, λ e. absurd cc);
+      }
 
   module _ (m : Held T) (a : QueueAsk T) (c : Contents T) (call : QueueCall T) (x : IsAlone m a c call) (d : Contents T) (next : QueueCall T) where
     step_of : (r : Option (QueueReply T)) → IsQueueStep c call d next r → Steps c call x.phase d next r x.now [] []
-    step_of r step = step x.now x.phase [] [] (inl x.limit) x.fits
+    step_of r step = step x.now x.phase [] [] (in_range x.now x.phase.ask x.phase.stage x.range) x.fits
 
     pub alone_more : IsQueueStep c call d next None → IsAlone m a d next
     alone_more step =
@@ -263,7 +370,9 @@ module _ {T : Type 0} where
           phase = p;
           asks = goes.0 ∙ x.asks;
           fits = h.does.2;
-          limit = same_capacity x.now x.phase next.mark ∙ x.limit;
+          range = ⊎_elim (λ l. inl (same_capacity x.now x.phase next.mark ∙ l))
+              (λ l. inr (let e = due_goes x.now x.phase.ask next.mark x.phase.stage p.stage goes.1 in
+              let o : due p.ask p.stage ≡ due x.phase.ask p.stage = ap (λ (b : QueueAsk T). due b p.stage) goes.0 in omega arith)) x.range;
           so = subst (λ (b : QueueAsk T). So x.start b p.stage (after x.phase next.mark x.now)) (sym goes.0) so;
         }
 
@@ -271,7 +380,11 @@ module _ {T : Type 0} where
     alone_nearer step = (step_of None step).ends (tt, λ e. inr refl)
 
     pub alone_sound : (r : QueueReply T) → IsQueueStep c call d next (Some r) → IsSoundIn d
-    alone_sound r step = let h = step_of (Some r) step in (after x.phase next.mark x.now, h.does.1, same_capacity x.now x.phase next.mark ∙ x.limit)
+    alone_sound r step = let h = step_of (Some r) step in (
+      after x.phase next.mark x.now,
+      h.does.1,
+      ⊎_elim (λ l. inl (same_capacity x.now x.phase next.mark ∙ l)) (λ l. inr (let e = none_more x.now x.phase.ask next.mark r x.phase.stage h.does.0 in omega arith)) x.range,
+    )
 
     pub alone_end : (r : QueueReply T) → IsQueueStep c call d next (Some r) → Gives a m (held_in d) r
     alone_end r step =
@@ -286,3 +399,19 @@ module _ {T : Type 0} where
 -- cells that were just made hold nothing
 pub new_held : {T : Type 0} (c : Contents T) (cap : ℕ) → IsNew (Bounded cap) c → held_in c ≡ record { items = []; closed = false; capacity = Some cap }
 new_held c cap new = held_is c (opened (Some cap)) new.1
+
+pub new_unbounded : {T : Type 0} (c : Contents T) → IsNew Unbounded c → held_in c ≡ record { items = []; closed = false; capacity = None }
+new_unbounded c new = held_is c (opened None) new.1
+
+-- cells that were just made hold nothing up
+pub new_sound : {T : Type 0} (form : QueueForm) (c : Contents T) → IsNew form c → IsSoundIn c
+new_sound form c new = (opened (capacity_of form), new.1, inr (omega arith))
+
+-- only an unbounded queue counts its positions
+pub only_unbounded : {T : Type 0} (c : Contents T) → 1 ≤ counted_in c → capacity_of c.form ≡ None
+unfolding counted_in
+only_unbounded c h = by_form c.form refl
+  where
+    by_form : (f : QueueForm) → f ≡ c.form → capacity_of f ≡ None
+    by_form (Bounded cap) e = absurd (let z : counted_by (Bounded cap) c ≡ counted_by c.form c = ap (λ (x : QueueForm). counted_by x c) e in omega arith)
+    by_form Unbounded e = refl

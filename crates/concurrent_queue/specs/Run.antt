@@ -1,5 +1,5 @@
 -- Runs of a closable queue: what may follow from steps of many calls in any order.
-use Rattle.std.specs.Prelude.{◌≡◌, ℕ, ◌+◌, ◌<◌, ◌^◌, List, [], ◌∷◌, ◌++◌, length, Option, None, Some, MatchOption, ◌⊎◌}
+use Rattle.std.specs.Prelude.{◌≡◌, ℕ, ◌+◌, ◌<◌, ◌^◌, List, [], ◌∷◌, ◌++◌, length, Option, Some, MatchOption, ◌⊎◌}
 use Rattle.concurrent_queue.specs.Contents.{Contents}
 use Rattle.concurrent_queue.specs.Dispatch.{capacity_of}
 use Rattle.concurrent_queue.specs.Scene.{Scene, Under, Begins, Steps, NotUnderWay, IsUnderWay, Reads, new_scene}

@@ -615,7 +615,10 @@ pub(crate) fn step<T: Drop, C: Cells<T>>(
 ) -> Stepped<RingAction<T>, T>
     ensures { C.known → IsRingStep (ring_cap (C.contents cells.old).form) (C.contents cells.old) action (C.contents cells.new) result }
 {
-    let QueueForm::Bounded(capacity) = cells.form();
+    let capacity = match cells.form() {
+        QueueForm::Bounded(capacity) => capacity,
+        QueueForm::Unbounded => 0,
+    };
     step_ring(Shape::of(capacity), action, cells)
 }
 

@@ -1,6 +1,7 @@
 //! A queue of one owner.
 
-ghost use Rattle.concurrent_queue.specs.Alone.{Gives, held, IsSound};
+ghost use Rattle.concurrent_queue.specs.Alone.{Gives, held, IsSound, HasRoom};
+ghost use Rattle.concurrent_queue.specs.Plain.{contents_of};
 
 use crate::call::{QueueAsk, QueueReply};
 use crate::cells::QueueForm;
@@ -27,9 +28,13 @@ impl<T> Model for Exclusive<T> {
     ghost invariant = { λ q. IsSound q.cells };
 }
 
+/// A queue takes so many messages, less one. At a thousand million a second that is seventy years.
+const POSITIONS: u64 = 0x2000_0000_0000_0000;
+
 /// Steps a call to its end.
 fn finish<T: Drop>(cells: &mut PlainCells<T>, ask: QueueAsk<T>) -> QueueReply<T>
-    requires { IsSound cells.old }
+    requires sound { IsSound cells.old }
+    requires room { HasRoom ask (contents_of cells.old) }
     ensures sound { IsSound cells.new }
     ensures answer { Gives ask (held cells.old) (held cells.new) result }
 {
@@ -43,7 +48,7 @@ fn finish<T: Drop>(cells: &mut PlainCells<T>, ask: QueueAsk<T>) -> QueueReply<T>
 }
 
 impl<T: Drop> Exclusive<T> {
-    ghost use Rattle.std.specs.Prelude.{IfOk, ◌≡◌, ◌==◌, List, [], Some, true, false, not, length};
+    ghost use Rattle.std.specs.Prelude.{IfOk, ◌≡◌, ◌==◌, List, [], Some, None, true, false, not, length};
     ghost use Rattle.concurrent_queue.specs.Alone.{PushGives, ForceGives, PopGives, is_full};
 
     /// An open empty queue that holds at most `capacity` messages, which is 1 for now. `Err` where there is no memory for
@@ -57,10 +62,23 @@ impl<T: Drop> Exclusive<T> {
         })
     }
 
+    /// An open empty queue with no bound. It takes no memory: that comes with the messages, a block for 31 of them, and
+    /// a block whose messages were all taken is used again.
+    pub fn unbounded(alloc: Global) -> Exclusive<T>
+        ensures { result ≡ record { items = []; closed = false; capacity = None } }
+    {
+        Exclusive {
+            cells: PlainCells::unbounded(alloc),
+        }
+    }
+
     /// Appends the message. A refusal hands it back: the queue was full or closed, and is as it was.
     pub fn push(&mut self, value: T) -> Result<(), PushError<T>>
         ensures { PushGives self.old value self.new result }
     {
+        if self.cells.counted() >= POSITIONS - 1 {
+            return Err(PushError::NoMemory(value));
+        }
         match finish(&mut self.cells, QueueAsk::Push(value)) {
             QueueReply::Push(result) => result,
             _ => unreachable!(),
@@ -72,6 +90,9 @@ impl<T: Drop> Exclusive<T> {
     pub fn force_push(&mut self, value: T) -> Result<Option<T>, ForcePushError<T>>
         ensures { ForceGives self.old value self.new result }
     {
+        if self.cells.counted() >= POSITIONS - 1 {
+            return Err(ForcePushError::NoMemory(value));
+        }
         match finish(&mut self.cells, QueueAsk::ForcePush(value)) {
             QueueReply::Force(result) => result,
             _ => unreachable!(),

@@ -12,3 +12,4 @@ mod pool;
 pub mod queue_call;
 pub mod run;
 mod single;
+mod unbounded;

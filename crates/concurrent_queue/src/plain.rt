@@ -6,6 +6,7 @@ ghost use Rattle.concurrent_queue.specs.RingMade.{numbers_below, vacant_slots};
 use crate::bounded::GREATEST;
 use crate::cells::{Cells, NoMemory, QueueForm, Slot, Word};
 use crate::pool::Pool;
+use crate::unbounded::number_of;
 use std::alloc::{AllocError, Global};
 
 /// The cells of a queue of one owner, for each form of queue.
@@ -125,9 +126,10 @@ impl<T: Drop> Cells<T> for PlainCells<T> {
 
 impl<T: Drop> PlainCells<T> {
     ghost use Rattle.std.specs.Prelude.{◌≡◌, ◌<◌, None, IfOk};
-    ghost use Rattle.concurrent_queue.specs.Contents.{read, write, slot_at, write_slot, PutGives, empty_slot};
+    ghost use Rattle.concurrent_queue.specs.Contents.{read, write, slot_at, write_slot, PutGives, empty_slot, empty_blocks};
     ghost use Rattle.concurrent_queue.specs.Made.{CanBeMade, IsNew};
     ghost use Rattle.concurrent_queue.specs.RingMade.{empty_ring};
+    ghost use Rattle.concurrent_queue.specs.Step.{counted_in};
     ghost use Rattle.concurrent_queue.specs.declared.cells.QueueForm.TheVariants as form;
     ghost use Rattle.concurrent_queue.specs.Plain.{contents_of};
     ghost use Rattle.concurrent_queue.specs.declared.cells.Slot.TheVariants as slot;
@@ -140,6 +142,7 @@ impl<T: Drop> PlainCells<T> {
     {
         match form {
             QueueForm::Bounded(capacity) => PlainCells::bounded(alloc, capacity),
+            QueueForm::Unbounded => Ok(PlainCells::unbounded(alloc)),
         }
     }
 
@@ -196,6 +199,34 @@ impl<T: Drop> PlainCells<T> {
             tail_block: 0,
             pool: Pool::new(alloc),
         })
+    }
+
+    /// The cells of an open and empty unbounded queue. It takes no memory: blocks are made when messages come.
+    pub(crate) fn unbounded(alloc: Global) -> PlainCells<T>
+        ensures { contents_of result ≡ empty_blocks }
+    {
+        PlainCells {
+            form: QueueForm::Unbounded,
+            state: 0,
+            head: 0,
+            tail: 0,
+            stamps: Vec::new(alloc),
+            slots: Vec::new(alloc),
+            head_block: 0,
+            tail_block: 0,
+            pool: Pool::new(alloc),
+        }
+    }
+
+    /// How many positions were used; a queue of one slot counts none.
+    #[tactic(auto, unfolding(crate::specs::Step::counted_in))]
+    pub(crate) fn counted(&self) -> u64
+        ensures { result ≡ counted_in (contents_of self.now) }
+    {
+        match self.form {
+            QueueForm::Bounded(_) => 0,
+            QueueForm::Unbounded => number_of(self.tail / 2),
+        }
     }
 
     fn read(&self, at: Word) -> u64

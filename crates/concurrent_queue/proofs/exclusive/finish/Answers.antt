@@ -4,7 +4,7 @@ use Rattle.concurrent_queue.proofs.AloneFacts.{alone_start, alone_more, alone_ne
 use Rattle.concurrent_queue.proofs.exclusive.finish.Goals as goal
 
 pub loop-reply-init : goal.loop-reply-init
-loop-reply-init g c = alone_start (contents_of c.args.cells.now) c.args.ask c.new-call.result c.new-call.ensures c.requires
+loop-reply-init g c = alone_start (contents_of c.args.cells.now) c.args.ask c.new-call.result c.new-call.ensures c.requires.sound c.requires.room
 
 pub returns-in-Some-clause-sound : goal.returns-in-Some-clause-sound
 returns-in-Some-clause-sound g c =
