@@ -310,6 +310,15 @@ module _ {T : Type 0} where
   unfolding Fits rank
   ranks c q p call l r fits = ranks_in c.form c q p call.mark call.state l r fits
 
+  most_of : (cap : ℕ) (c : Contents T) (q : Queue T) (seats : List (Seat T)) → FitsForm (Bounded cap) c q seats → cap ≤ 2 ^ 58
+  most_of cap c q seats (inl h) = let one = h.one in omega arith
+  most_of cap c q seats (inr h) = h.most
+
+  -- a bounded queue has 2^58 slots at most
+  pub most_fits : (c : Contents T) (q : Queue T) (seats : List (Seat T)) (cap : ℕ) → c.form ≡ Bounded cap → Fits c q seats → cap ≤ 2 ^ 58
+  unfolding Fits
+  most_fits c q seats cap e fits = most_of cap c q seats (subst (λ (f : QueueForm). FitsForm f c q seats) e fits)
+
 -- a queue that was just made
 pub fits_one_slot : (T : Type 0) → Fits {T = T} empty_slot (opened (Some 1)) []
 unfolding Fits

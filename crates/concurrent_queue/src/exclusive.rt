@@ -1,10 +1,11 @@
 //! A queue of one owner.
 
-ghost use Rattle.concurrent_queue.specs.Alone.{Gives, held, IsSound, HasRoom};
-ghost use Rattle.concurrent_queue.specs.Plain.{contents_of};
+ghost use Rattle.std.specs.Prelude.{◌≡◌, ◌<◌, ◌^◌};
+ghost use Rattle.concurrent_queue.specs.Alone.{Gives, held, IsSound, HasRoom, one_more, used_after};
+ghost use Rattle.concurrent_queue.specs.Dispatch.{capacity_of};
 
 use crate::call::{QueueAsk, QueueReply};
-use crate::cells::QueueForm;
+use crate::cells::{Cells, QueueForm};
 use crate::error::{ForcePushError, PopError, PushError};
 use crate::plain::PlainCells;
 use crate::queue_call::QueueCall;
@@ -13,9 +14,13 @@ use std::marker::Model;
 
 /// A queue of one owner, which can be closed. Its calls run the same steps as those of a shared queue, each to its end, and
 /// none of them waits. Own to this project.
+///
+/// A ring or an unbounded queue gives each message that it accepts a position of its own, and has 2^61 - 1 of them: at a
+/// thousand million messages a second that is seventy years. A queue of one slot has no positions, and no end.
 #[derive(Drop)]
 pub struct Exclusive<T> {
     cells: PlainCells<T>,
+    used: u64,
 }
 
 impl<T> Model for Exclusive<T> {
@@ -23,77 +28,111 @@ impl<T> Model for Exclusive<T> {
 
     ghost Value = { Held T };
 
-    ghost view = { λ q. held q.cells };
+    ghost view = { λ q. held q.cells q.used };
 
-    ghost invariant = { λ q. IsSound q.cells };
+    ghost invariant = { λ q. IsSound q.cells q.used };
 }
 
-/// A queue takes so many messages, less one. At a thousand million a second that is seventy years.
-const POSITIONS: u64 = 0x2000_0000_0000_0000;
+/// How many positions a queue has.
+const POSITIONS: u64 = 0x1fff_ffff_ffff_ffff;
 
-/// Steps a call to its end.
-fn finish<T: Drop>(cells: &mut PlainCells<T>, ask: QueueAsk<T>) -> QueueReply<T>
-    requires sound { IsSound cells.old }
-    requires room { HasRoom ask (contents_of cells.old) }
-    ensures sound { IsSound cells.new }
-    ensures answer { Gives ask (held cells.old) (held cells.new) result }
+/// How many positions are used up with one more message.
+fn with_one_more(form: QueueForm, used: u64) -> u64
+    requires { used < 2 ^ 61 }
+    ensures { result ≡ one_more (capacity_of form) used }
+{
+    match form {
+        QueueForm::Bounded(1) => used,
+        _ => used + 1,
+    }
+}
+
+/// How many positions are used up once a call has answered so.
+fn count<T>(form: QueueForm, used: u64, reply: &QueueReply<T>) -> u64
+    requires { used < 2 ^ 61 }
+    ensures { result ≡ used_after (capacity_of form) used reply.now }
+{
+    match reply {
+        QueueReply::Push(Ok(())) => with_one_more(form, used),
+        QueueReply::Force(Ok(_)) => with_one_more(form, used),
+        _ => used,
+    }
+}
+
+/// Steps a call to its end, and counts the position of the message that it brings.
+fn finish<T: Drop>(cells: &mut PlainCells<T>, used: &mut u64, ask: QueueAsk<T>) -> QueueReply<T>
+    requires sound { IsSound cells.old used.old }
+    requires room { HasRoom ask used.old }
+    ensures sound { IsSound cells.new used.new }
+    ensures answer { Gives ask (held cells.old used.old) (held cells.new used.new) result }
 {
     let mut call = QueueCall::new(ask);
     loop {
         match call.step(cells) {
-            Some(reply) => return reply,
+            Some(reply) => {
+                *used = count(cells.form(), *used, &reply);
+                return reply;
+            }
             None => {}
         }
     }
 }
 
 impl<T: Drop> Exclusive<T> {
-    ghost use Rattle.std.specs.Prelude.{IfOk, ◌≡◌, ◌==◌, List, [], Some, None, true, false, not, length};
-    ghost use Rattle.concurrent_queue.specs.Alone.{PushGives, ForceGives, PopGives, is_full};
+    ghost use Rattle.std.specs.Prelude.{IfOk, ◌≡◌, ◌==◌, ◌<◌, ◌≤◌, ◌^◌, ℕ, List, [], Some, None, true, false, not, length};
+    ghost use Rattle.concurrent_queue.specs.Alone.{PushGives, ForceGives, PopGives, is_full, shut};
 
-    /// An open empty queue that holds at most `capacity` messages, which is 1 for now. `Err` where there is no memory for
-    /// its slots.
+    /// An open empty queue that holds at most `capacity` messages. `Err` where there is no memory for its slots, which for
+    /// a capacity above 2^58 nobody is asked for.
     pub fn bounded(alloc: Global, capacity: usize) -> Result<Exclusive<T>, AllocError>
-        requires { capacity ≡ 1 }
-        ensures { IfOk result (λ q. q ≡ record { items = []; closed = false; capacity = Some capacity }) }
+        requires { 0 < capacity }
+        ensures opened { IfOk result (λ q. q ≡ record { items = []; closed = false; capacity = Some capacity; used = 0 }) }
+        ensures most { IfOk result (λ q. capacity ≤ 2 ^ 58) }
     {
         Ok(Exclusive {
             cells: PlainCells::new(alloc, QueueForm::Bounded(capacity))?,
+            used: 0,
         })
     }
 
     /// An open empty queue with no bound. It takes no memory: that comes with the messages, a block for 31 of them, and
     /// a block whose messages were all taken is used again.
     pub fn unbounded(alloc: Global) -> Exclusive<T>
-        ensures { result ≡ record { items = []; closed = false; capacity = None } }
+        ensures { result ≡ record { items = []; closed = false; capacity = None; used = 0 } }
     {
         Exclusive {
             cells: PlainCells::unbounded(alloc),
+            used: 0,
         }
     }
 
-    /// Appends the message. A refusal hands it back: the queue was full or closed, and is as it was.
+    /// Appends the message. A refusal hands it back: there was no memory for it, the queue was full, or nothing more comes
+    /// in, since it was closed or its positions are used up. In the last case the queue closes itself; else a refused push
+    /// leaves it as it was.
     pub fn push(&mut self, value: T) -> Result<(), PushError<T>>
         ensures { PushGives self.old value self.new result }
     {
-        if self.cells.counted() >= POSITIONS - 1 {
-            return Err(PushError::NoMemory(value));
+        if self.used == POSITIONS {
+            self.close();
+            return Err(PushError::Closed(value));
         }
-        match finish(&mut self.cells, QueueAsk::Push(value)) {
+        match finish(&mut self.cells, &mut self.used, QueueAsk::Push(value)) {
             QueueReply::Push(result) => result,
             _ => unreachable!(),
         }
     }
 
     /// Appends the message; where the queue is full, the oldest one leaves for it and is answered. A refusal hands the
-    /// message back: the queue was closed, and is as it was.
+    /// message back: there was no memory for it, or nothing more comes in, since the queue was closed or its positions are
+    /// used up. In the last case the queue closes itself; else a refused push leaves it as it was.
     pub fn force_push(&mut self, value: T) -> Result<Option<T>, ForcePushError<T>>
         ensures { ForceGives self.old value self.new result }
     {
-        if self.cells.counted() >= POSITIONS - 1 {
-            return Err(ForcePushError::NoMemory(value));
+        if self.used == POSITIONS {
+            self.close();
+            return Err(ForcePushError::Closed(value));
         }
-        match finish(&mut self.cells, QueueAsk::ForcePush(value)) {
+        match finish(&mut self.cells, &mut self.used, QueueAsk::ForcePush(value)) {
             QueueReply::Force(result) => result,
             _ => unreachable!(),
         }
@@ -103,7 +142,7 @@ impl<T: Drop> Exclusive<T> {
     pub fn pop(&mut self) -> Result<T, PopError>
         ensures { PopGives self.old self.new result }
     {
-        match finish(&mut self.cells, QueueAsk::Pop) {
+        match finish(&mut self.cells, &mut self.used, QueueAsk::Pop) {
             QueueReply::Pop(result) => result,
             _ => unreachable!(),
         }
@@ -112,9 +151,9 @@ impl<T: Drop> Exclusive<T> {
     /// Closes the queue: nothing more comes in, and what is in can still be popped. True where it was open.
     pub fn close(&mut self) -> bool
         ensures answer { result ≡ not self.old.closed }
-        ensures left { self.new ≡ record self.old { closed = true } }
+        ensures left { self.new ≡ shut self.old }
     {
-        match finish(&mut self.cells, QueueAsk::Close) {
+        match finish(&mut self.cells, &mut self.used, QueueAsk::Close) {
             QueueReply::Close(result) => result,
             _ => unreachable!(),
         }
@@ -125,7 +164,7 @@ impl<T: Drop> Exclusive<T> {
         ensures answer { result ≡ self.old.closed }
         ensures left { self.new ≡ self.old }
     {
-        match finish(&mut self.cells, QueueAsk::IsClosed) {
+        match finish(&mut self.cells, &mut self.used, QueueAsk::IsClosed) {
             QueueReply::Flag(result) => result,
             _ => unreachable!(),
         }
@@ -136,7 +175,7 @@ impl<T: Drop> Exclusive<T> {
         ensures answer { result ≡ (length self.old.items == 0) }
         ensures left { self.new ≡ self.old }
     {
-        match finish(&mut self.cells, QueueAsk::IsEmpty) {
+        match finish(&mut self.cells, &mut self.used, QueueAsk::IsEmpty) {
             QueueReply::Flag(result) => result,
             _ => unreachable!(),
         }
@@ -147,18 +186,19 @@ impl<T: Drop> Exclusive<T> {
         ensures answer { result ≡ is_full self.old }
         ensures left { self.new ≡ self.old }
     {
-        match finish(&mut self.cells, QueueAsk::IsFull) {
+        match finish(&mut self.cells, &mut self.used, QueueAsk::IsFull) {
             QueueReply::Flag(result) => result,
             _ => unreachable!(),
         }
     }
 
-    /// How many messages it holds.
+    /// How many messages it holds, never more than its capacity.
     pub fn len(&mut self) -> usize
         ensures answer { result ≡ length self.old.items }
+        ensures within { (cap : ℕ) → self.old.capacity ≡ Some cap → result ≤ cap }
         ensures left { self.new ≡ self.old }
     {
-        match finish(&mut self.cells, QueueAsk::Len) {
+        match finish(&mut self.cells, &mut self.used, QueueAsk::Len) {
             QueueReply::Count(result) => result,
             _ => unreachable!(),
         }
@@ -169,7 +209,7 @@ impl<T: Drop> Exclusive<T> {
         ensures answer { result ≡ self.old.capacity }
         ensures left { self.new ≡ self.old }
     {
-        match finish(&mut self.cells, QueueAsk::Capacity) {
+        match finish(&mut self.cells, &mut self.used, QueueAsk::Capacity) {
             QueueReply::Cap(result) => result,
             _ => unreachable!(),
         }
