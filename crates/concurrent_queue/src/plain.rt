@@ -6,7 +6,6 @@ ghost use Rattle.concurrent_queue.specs.RingMade.{numbers_below, vacant_slots};
 use crate::bounded::GREATEST;
 use crate::cells::{Cells, NoMemory, QueueForm, Slot, Word};
 use crate::pool::Pool;
-use crate::unbounded::number_of;
 use std::alloc::{AllocError, Global};
 
 /// The cells of a queue of one owner, for each form of queue.
@@ -129,7 +128,6 @@ impl<T: Drop> PlainCells<T> {
     ghost use Rattle.concurrent_queue.specs.Contents.{read, write, slot_at, write_slot, PutGives, empty_slot, empty_blocks};
     ghost use Rattle.concurrent_queue.specs.Made.{CanBeMade, IsNew};
     ghost use Rattle.concurrent_queue.specs.RingMade.{empty_ring};
-    ghost use Rattle.concurrent_queue.specs.Step.{counted_in};
     ghost use Rattle.concurrent_queue.specs.declared.cells.QueueForm.TheVariants as form;
     ghost use Rattle.concurrent_queue.specs.Plain.{contents_of};
     ghost use Rattle.concurrent_queue.specs.declared.cells.Slot.TheVariants as slot;
@@ -215,17 +213,6 @@ impl<T: Drop> PlainCells<T> {
             head_block: 0,
             tail_block: 0,
             pool: Pool::new(alloc),
-        }
-    }
-
-    /// How many positions were used; a queue of one slot counts none.
-    #[tactic(auto, unfolding(crate::specs::Step::counted_in))]
-    pub(crate) fn counted(&self) -> u64
-        ensures { result ≡ counted_in (contents_of self.now) }
-    {
-        match self.form {
-            QueueForm::Bounded(_) => 0,
-            QueueForm::Unbounded => number_of(self.tail / 2),
         }
     }
 

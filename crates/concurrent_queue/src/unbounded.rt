@@ -21,7 +21,6 @@ use crate::unbounded::ask::{
     ask_closed, ask_empty, ask_len, close_load, empty_tail, len_head, len_tail, tell,
 };
 use crate::unbounded::ending::Ending;
-pub(crate) use crate::unbounded::pop::number_of;
 use crate::unbounded::pop::{
     pop_block, pop_count, pop_head, pop_load, pop_look, pop_next, pop_retire, pop_swap, pop_tail,
     pop_take, pop_wait,
