@@ -120,7 +120,9 @@ fn measure_ring<R: Clock + Print>(rt: &R, alloc: Global) -> io::Result<()> {
     let ratio = Decimal::of(ring.best, plain.best);
     let ours = Decimal::of(ring.best, PAIRS as u128);
     let theirs = Decimal::of(plain.best, PAIRS as u128);
-    println!(rt; "queue, ring: a push and a pop take {ours} ns, of a deque {theirs} ns, {ratio} times as long")
+    println!(rt;
+        "queue, ring: a push and a pop take {ours} ns, of a deque {theirs} ns, {ratio} times as long"
+    )
 }
 
 /// An unbounded queue that holds few messages beside one that holds many.
@@ -154,5 +156,8 @@ pub fn measure_queues<R: Clock + Print>(rt: &R, alloc: Global) -> io::Result<()>
 pub fn make_pairs<R: Print>(rt: &R, alloc: Global) -> io::Result<()> {
     let mut bench = Bench::of(Exclusive::unbounded(alloc));
     bench.pairs(MANY);
-    println!(rt; "pairs: {MANY} pushes and pops, {} messages left", bench.queue.len())
+    println!(rt;
+        "pairs: {MANY} pushes and pops, {} messages left",
+        bench.queue.len()
+    )
 }
