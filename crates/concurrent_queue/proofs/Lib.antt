@@ -43,6 +43,8 @@ mod BlocksShows
 pub mod Slots
 pub mod Evidence
 pub mod Runs
+mod Accounts
+mod Lone
 pub mod PartyFacts
 pub mod RingMade
 pub mod AloneFacts

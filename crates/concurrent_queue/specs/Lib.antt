@@ -26,6 +26,8 @@ pub mod Rows
 pub mod Scene
 pub mod Parties
 pub mod Run
+pub mod Accounts
+pub mod Lone
 pub mod Made
 pub mod Errors
 pub mod Alone

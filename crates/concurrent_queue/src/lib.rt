@@ -7,6 +7,7 @@ pub mod call;
 pub mod cells;
 pub mod error;
 pub mod exclusive;
+pub mod laws;
 pub mod plain;
 mod pool;
 pub mod queue_call;
