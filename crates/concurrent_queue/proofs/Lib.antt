@@ -48,3 +48,4 @@ mod Lone
 pub mod PartyFacts
 pub mod RingMade
 pub mod AloneFacts
+pub mod AtOnce

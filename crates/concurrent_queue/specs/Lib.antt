@@ -21,6 +21,7 @@ pub mod RingMeans
 pub mod RingRank
 pub mod RingReadings
 pub mod RingMade
+pub mod RingAtOnce
 pub mod BlocksForm
 pub mod Rows
 pub mod Scene

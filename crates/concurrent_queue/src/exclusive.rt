@@ -1,9 +1,11 @@
 //! A queue of one owner.
 
 ghost use Rattle.std.specs.Prelude.{◌≡◌, ◌<◌, ◌^◌};
-ghost use Rattle.concurrent_queue.specs.Alone.{Gives, held, IsSound, HasRoom, one_more, used_after};
+ghost use Rattle.concurrent_queue.specs.Alone.{Gives, PushGives, PopGives, held, IsSound, HasRoom, one_more, used_after};
+ghost use Rattle.concurrent_queue.specs.declared.call.QueueAsk.TheVariants as ask;
 ghost use Rattle.concurrent_queue.specs.Dispatch.{capacity_of};
 
+use crate::bounded::at_once::{pop_at_once, push_at_once};
 use crate::call::{QueueAsk, QueueReply};
 use crate::cells::{Cells, QueueForm};
 use crate::error::{ForcePushError, PopError, PushError};
@@ -78,6 +80,45 @@ fn finish<T: Drop>(cells: &mut PlainCells<T>, used: &mut u64, ask: QueueAsk<T>) 
     }
 }
 
+/// Appends a message: at once where nothing stands against it, else step by step.
+fn push_into<T: Drop>(
+    cells: &mut PlainCells<T>,
+    used: &mut u64,
+    value: T,
+) -> Result<(), PushError<T>>
+    requires sound { IsSound cells.old used.old }
+    requires room { HasRoom (ask.Push value) used.old }
+    ensures sound { IsSound cells.new used.new }
+    ensures answer { PushGives (held cells.old used.old) value (held cells.new used.new) result }
+{
+    let value = match push_at_once(value, cells) {
+        Ok(()) => {
+            *used += 1;
+            return Ok(());
+        }
+        Err(value) => value,
+    };
+    match finish(cells, used, QueueAsk::Push(value)) {
+        QueueReply::Push(result) => result,
+        _ => unreachable!(),
+    }
+}
+
+/// Takes the oldest message: at once where it lies there, else step by step.
+fn pop_from<T: Drop>(cells: &mut PlainCells<T>, used: &mut u64) -> Result<T, PopError>
+    requires sound { IsSound cells.old used.old }
+    ensures sound { IsSound cells.new used.new }
+    ensures answer { PopGives (held cells.old used.old) (held cells.new used.new) result }
+{
+    if let Some(value) = pop_at_once(cells) {
+        return Ok(value);
+    }
+    match finish(cells, used, QueueAsk::Pop) {
+        QueueReply::Pop(result) => result,
+        _ => unreachable!(),
+    }
+}
+
 impl<T: Drop> Exclusive<T> {
     ghost use Rattle.std.specs.Prelude.{IfOk, ◌≡◌, ◌==◌, ◌<◌, ◌≤◌, ◌^◌, ℕ, List, [], Some, None, true, false, not, length};
     ghost use Rattle.concurrent_queue.specs.Alone.{PushGives, ForceGives, PopGives, is_full, shut};
@@ -116,10 +157,7 @@ impl<T: Drop> Exclusive<T> {
             self.close();
             return Err(PushError::Closed(value));
         }
-        match finish(&mut self.cells, &mut self.used, QueueAsk::Push(value)) {
-            QueueReply::Push(result) => result,
-            _ => unreachable!(),
-        }
+        push_into(&mut self.cells, &mut self.used, value)
     }
 
     /// Appends the message; where the queue is full, the oldest one leaves for it and is answered. A refusal hands the
@@ -142,10 +180,7 @@ impl<T: Drop> Exclusive<T> {
     pub fn pop(&mut self) -> Result<T, PopError>
         ensures { PopGives self.old self.new result }
     {
-        match finish(&mut self.cells, &mut self.used, QueueAsk::Pop) {
-            QueueReply::Pop(result) => result,
-            _ => unreachable!(),
-        }
+        pop_from(&mut self.cells, &mut self.used)
     }
 
     /// Closes the queue: nothing more comes in, and what is in can still be popped. True where it was open.
