@@ -20,9 +20,9 @@ const SHORT: usize = 1_000;
 const LONG: usize = 1_000_000;
 
 /// How many pairs of a push and a pop are timed together, and how many rounds there are.
-const PAIRS: u32 = 100_000;
+const PAIRS: u32 = 20_000;
 
-const ROUNDS: u32 = 40;
+const ROUNDS: u32 = 400;
 
 /// How many pairs show that blocks are used again.
 const MANY: u32 = 1_000_000;

@@ -81,6 +81,7 @@ fn finish<T: Drop>(cells: &mut PlainCells<T>, used: &mut u64, ask: QueueAsk<T>) 
 }
 
 /// Appends a message: at once where nothing stands against it, else step by step.
+#[inline]
 fn push_into<T: Drop>(
     cells: &mut PlainCells<T>,
     used: &mut u64,
@@ -105,6 +106,7 @@ fn push_into<T: Drop>(
 }
 
 /// Takes the oldest message: at once where it lies there, else step by step.
+#[inline]
 fn pop_from<T: Drop>(cells: &mut PlainCells<T>, used: &mut u64) -> Result<T, PopError>
     requires sound { IsSound cells.old used.old }
     ensures sound { IsSound cells.new used.new }
@@ -150,6 +152,7 @@ impl<T: Drop> Exclusive<T> {
     /// Appends the message. A refusal hands it back: there was no memory for it, the queue was full, or nothing more comes
     /// in, since it was closed or its positions are used up. In the last case the queue closes itself; else a refused push
     /// leaves it as it was.
+    #[inline(always)]
     pub fn push(&mut self, value: T) -> Result<(), PushError<T>>
         ensures { PushGives self.old value self.new result }
     {
@@ -177,6 +180,7 @@ impl<T: Drop> Exclusive<T> {
     }
 
     /// Takes the oldest message. `Err` where there is none: `Empty` while the queue is open, `Closed` once it is closed.
+    #[inline]
     pub fn pop(&mut self) -> Result<T, PopError>
         ensures { PopGives self.old self.new result }
     {
