@@ -2,7 +2,6 @@
 use Rattle.std.proofs.Common.{◌≡◌, Bool, List, [], ◌∷◌, ◌++◌, take, drop, refl, sym, ap, ◌∙◌}
 use Rattle.std.proofs.lemmas.List.{append_assoc, append-nil, take-append-drop}
 use Rattle.concurrent_queue.specs.Queue.{Queue, message, marked}
-use Rattle.concurrent_queue.specs.Scene.{Scene}
 use Rattle.concurrent_queue.specs.Run.{Config, Next, IsRun}
 use Rattle.concurrent_queue.specs.Accounts.{accepted_by, removed_by, accepted_at, accepted_over, removed_over}
 use Rattle.concurrent_queue.specs.declared.call.QueueAsk.{QueueAsk}

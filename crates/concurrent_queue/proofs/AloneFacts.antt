@@ -1,5 +1,5 @@
 -- A call that is stepped to its end with no other beside it, from the contract of a step alone.
-use Rattle.std.proofs.Common.{◌≡◌, ℕ, ◌+◌, ◌-◌, if◌then◌else◌, ◌<◌, ◌≤◌, ◌^◌, ⊎_elim, Bool, true, false, not, List, [], ◌∷◌, ◌++◌, length, drop, Option, None, Some, Ok, Err, ◌==◌, ◌⊎◌, inl, inr, refl, sym, ap, ◌∙◌, subst, arith}
+use Rattle.std.proofs.Common.{◌≡◌, ℕ, ◌+◌, if◌then◌else◌, ◌<◌, ◌≤◌, ◌^◌, ⊎_elim, Bool, true, false, not, List, [], ◌∷◌, ◌++◌, length, drop, Option, None, Some, Ok, Err, ◌==◌, ◌⊎◌, inl, inr, refl, sym, ap, ◌∙◌, subst, arith}
 use Rattle.concurrent_queue.specs.Contents.{Contents}
 use Rattle.concurrent_queue.specs.Dispatch.{capacity_of}
 use Rattle.concurrent_queue.specs.Queue.{Queue, opened, Stage, trying, displaced, appended, taken, read, measured, Phase, asked, is_filled, is_full_at, is_stuck, IsOpen, IsShut, IsOldest, message, marked, after, is_displaced, seen_after, IsInRange, GoesPush, GoesForce, GoesPop, GoesOn, AnswersPush, AnswersForce, AnswersPop, AnswersTo}
@@ -8,7 +8,7 @@ use Rattle.concurrent_queue.specs.Step.{seat, Fits, Steps, IsQueueStep, Starts, 
 use Rattle.concurrent_queue.specs.Made.{IsNew}
 use Rattle.concurrent_queue.specs.declared.cells.QueueForm.{QueueForm}
 use Rattle.concurrent_queue.specs.declared.cells.QueueForm.TheVariants.{Bounded, Unbounded}
-use Rattle.concurrent_queue.specs.Alone.{Held, is_one_slot, used_of, one_more, is_used_up, shut, TakesMore, Gives, ForceGives, PopGives, HasRoom, is_accepted, used_after}
+use Rattle.concurrent_queue.specs.Alone.{Held, is_one_slot, used_of, one_more, shut, Gives, ForceGives, PopGives, HasRoom, is_accepted, used_after}
 use Rattle.concurrent_queue.specs.declared.call.QueueAsk.{QueueAsk}
 use Rattle.concurrent_queue.specs.declared.call.QueueAsk.TheVariants as ask
 use Rattle.concurrent_queue.specs.declared.call.QueueMark.{QueueMark}

@@ -1,11 +1,11 @@
 -- A push and a pop of a ring at once are the steps of their calls, one after another.
-use Rattle.std.proofs.Common.{◌≡◌, ℕ, zero, suc, ◌+◌, ◌%◌, ◌*◌, ◌^◌, ◌==◌, ◌⊎◌, ⊎_elim, inl, inr, Bool, true, false, List, Option, None, Some, Result, Ok, Err, MatchOption, if◌then◌else◌, slice_set, slice_index_or, refl, sym, ap, ◌∙◌, subst, arith}
+use Rattle.std.proofs.Common.{◌≡◌, ℕ, zero, suc, ◌+◌, ◌==◌, Bool, true, false, Option, None, Some, Ok, MatchOption, if◌then◌else◌, refl, sym, ap, ◌∙◌, subst, arith}
 use Rattle.std.proofs.lemmas.Bool.Decides.{nat_tests}
-use Rattle.concurrent_queue.specs.Contents.{Contents, write_slot, slot_at, is_vacant}
+use Rattle.concurrent_queue.specs.Contents.{Contents, write_slot}
 use Rattle.concurrent_queue.specs.Dispatch.{capacity_of, IsStateStep, IsFirstStep, IsBoundedFirst, ByRing, in_ring, ring_cap}
-use Rattle.concurrent_queue.specs.RingWords.{cap_of, ring_mark, index, next_word, set_tail, set_head, set_stamp, stays, marks, finishes, pushed_reply, ring_start, ring_step}
+use Rattle.concurrent_queue.specs.RingWords.{cap_of, ring_mark, index, next_word, set_tail, set_head, stays, marks, finishes, pushed_reply, ring_start, ring_step}
 use Rattle.concurrent_queue.specs.RingAtOnce.{IsFree, pushed, IsThere, popped, PushesBounded, PushesAtOnce, PopsBounded, PopsAtOnce}
-use Rattle.concurrent_queue.specs.Alone.{Held, is_one_slot, used_after, one_more, HasRoom, Gives}
+use Rattle.concurrent_queue.specs.Alone.{Held, used_after, one_more, HasRoom, Gives}
 use Rattle.concurrent_queue.specs.Step.{IsQueueStep}
 use Rattle.concurrent_queue.specs.declared.bounded.RingAction.{RingAction}
 use Rattle.concurrent_queue.specs.declared.bounded.RingAction.TheVariants as act

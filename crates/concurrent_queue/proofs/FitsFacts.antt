@@ -1,10 +1,10 @@
 -- What callers use of Fits, by the form of the queue.
-use Rattle.std.proofs.Common.{◌≡◌, ℕ, ◌+◌, ◌^◌, ◌<◌, ◌≤◌, ◌⊎◌, ⊎_elim, inl, inr, ◌==◌, nat_eq, Bool, true, false, if◌then◌else◌, arith, option_to_list, List, [], ◌∷◌, ◌++◌, Option, None, Some, MatchOption, Result, Ok, Err, IfOk, refl, sym, ap, ◌∙◌, subst}
+use Rattle.std.proofs.Common.{◌≡◌, ℕ, ◌^◌, ◌<◌, ◌≤◌, ⊎_elim, inl, inr, ◌==◌, Bool, true, false, if◌then◌else◌, arith, option_to_list, List, [], ◌∷◌, ◌++◌, Option, None, Some, MatchOption, Result, Ok, Err, IfOk, refl, sym, ap, subst}
 use Rattle.concurrent_queue.specs.Contents.{Contents, empty_slot, empty_blocks, slot_at}
 use Rattle.concurrent_queue.specs.Queue.{Queue, Phase, asked, after, Goes, Answers, IsInRange, opened}
 use Rattle.std.proofs.lemmas.Bool.Decides.{nat_tests}
 use Rattle.concurrent_queue.specs.Dispatch.{IsSingleStep, in_single, BySingle, IsRingStep, in_ring, ByRing, in_blocks, ByBlocks, IsBoundedFirst, IsFirstStep, IsStateStep, capacity_of, ring_cap}
-use Rattle.concurrent_queue.specs.RingWords.{cap_of, ring_mark, ring_step, ring_start}
+use Rattle.concurrent_queue.specs.RingWords.{cap_of, ring_mark, ring_start}
 use Rattle.concurrent_queue.specs.RingMeans.{RingMeans}
 use Rattle.concurrent_queue.specs.RingRank.{ring_rank}
 use Rattle.concurrent_queue.specs.RingReadings.{ring_closed, ring_counted, ring_length, ring_held}
@@ -12,9 +12,9 @@ use Rattle.concurrent_queue.specs.Single.{start}
 use Rattle.concurrent_queue.specs.SingleState.{SingleMeans, single_rank}
 use Rattle.concurrent_queue.specs.BlocksForm.{UnboundedMeans}
 use Rattle.concurrent_queue.specs.BlocksWords.{IsBlocksStep, begin, blocks_closed, blocks_length, blocks_counted, blocks_items, blocks_rank}
-use Rattle.concurrent_queue.specs.Step.{Seat, seat, Fits, FitsForm, FitsSlot, FitsRing, FitsBy, IsAtSingle, IsAtRing, IsAtBlocks, phases, OneCell, HoldsNobodyUp, rank, rank_by, rank_first, rank_bounded, rank_blocks, single_closed, single_length, Starts, Steps, IsQueueStep, ShowsBy, Shows, closed_by, closed_in, length_by, length_in, counted_by, counted_in, items_by, items_in}
+use Rattle.concurrent_queue.specs.Step.{Seat, seat, Fits, FitsForm, FitsSlot, FitsRing, FitsBy, IsAtSingle, IsAtRing, IsAtBlocks, phases, OneCell, HoldsNobodyUp, rank, rank_by, rank_first, rank_bounded, rank_blocks, single_closed, single_length, Starts, IsQueueStep, ShowsBy, Shows, closed_by, closed_in, length_by, length_in, counted_by, counted_in, items_by, items_in}
 use Rattle.std.specs.declared.alloc.AllocError.{AllocError}
-use Rattle.concurrent_queue.specs.Made.{CanBeMade, IsNew}
+use Rattle.concurrent_queue.specs.Made.{IsNew}
 use Rattle.concurrent_queue.specs.Plain.{contents_of}
 use Rattle.concurrent_queue.specs.declared.plain.PlainCells.{PlainCells}
 use Rattle.concurrent_queue.specs.declared.call.QueueAsk.{QueueAsk}
@@ -35,7 +35,7 @@ use Rattle.concurrent_queue.proofs.SingleTheorem.{single_steps, single_starts, s
 use Rattle.concurrent_queue.proofs.SingleShows.{single_shows}
 use Rattle.concurrent_queue.proofs.BlocksFacts.{blocks_steps, blocks_starts, blocks_ranks, blocks_opened}
 use Rattle.concurrent_queue.proofs.BlocksShows.{unbounded_shows}
-use Rattle.concurrent_queue.proofs.RingShape.{IsMark, mark_is}
+use Rattle.concurrent_queue.proofs.RingShape.{mark_is}
 use Rattle.concurrent_queue.proofs.RingTheorem.{ring_form_steps, ring_form_starts, ring_form_ranks}
 use Rattle.concurrent_queue.proofs.RingShows.{ring_shows}
 use Rattle.concurrent_queue.proofs.RingMade.{ring_opened}

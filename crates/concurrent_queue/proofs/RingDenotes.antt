@@ -1,16 +1,16 @@
 -- What the words of a ring say of the numbers of its messages.
-use Rattle.std.proofs.Common.{◌≡◌, ℕ, zero, suc, ◌+◌, ◌-◌, ◌*◌, ◌/◌, ◌%◌, ◌^◌, ◌<◌, ◌≤◌, ⊎_elim, Bool, true, false, if◌then◌else◌, ◌==◌, nat_lt, nat_le, bit_or, bit_and, List, [], ◌∷◌, Option, None, Some, slice_get, slice_index, slice_set, refl, sym, ap, ◌∙◌, subst, arith}
+use Rattle.std.proofs.Common.{◌≡◌, ℕ, zero, suc, ◌+◌, ◌*◌, ◌/◌, ◌%◌, ◌^◌, ◌<◌, ◌≤◌, ⊎_elim, Bool, true, false, if◌then◌else◌, ◌==◌, bit_or, bit_and, List, [], ◌∷◌, Option, Some, slice_get, slice_index, slice_set, refl, sym, ap, ◌∙◌, arith}
 use Rattle.std.proofs.lemmas.Nat.{mod_below, mod-mul-add, div-add-mod', and_mask, and_block}
 use Rattle.std.specs.Int.Bits.{and_zero_r, or_add_and}
 use Rattle.std.proofs.Math.Nat.{mod-eq_of_lt, mul-le-mul_left}
-use Rattle.std.proofs.lemmas.Bool.{cases_lt, false≢true}
+use Rattle.std.proofs.lemmas.Bool.{cases_lt}
 use Rattle.std.proofs.lemmas.Bool.Decides.{nat_tests}
 use Rattle.concurrent_queue.specs.Contents.{Contents, write_slot}
 use Rattle.concurrent_queue.specs.declared.cells.Slot.TheVariants.{At}
 use Rattle.concurrent_queue.specs.Positions.{pos}
 use Rattle.concurrent_queue.specs.RingState.{SlotState, Ring, with_place}
 use Rattle.concurrent_queue.specs.RingMeans.{Denotes}
-use Rattle.concurrent_queue.specs.RingWords.{is_marked, unmarked, index, stride, next_word, count_of, between, set_tail, set_head, set_stamp}
+use Rattle.concurrent_queue.specs.RingWords.{is_marked, unmarked, index, stride, next_word, count_of, between, set_stamp}
 use Rattle.concurrent_queue.proofs.RingShape.{IsMark}
 use Rattle.concurrent_queue.proofs.RingPlaces.{pos-index, pos-same, pos-less, pos-turn, pos-next, pos-div, near_same}
 use Rattle.concurrent_queue.proofs.RingSound.{by_bool, by_eq, if_false, if_true}

@@ -2,15 +2,15 @@
 use Rattle.std.proofs.Common.{◌≡◌, ℕ, ◌+◌, ◌*◌, ◌^◌, ◌<◌, ◌≤◌, ⊎_elim, Bool, true, false, if◌then◌else◌, List, [], ◌∷◌, ◌++◌, map, Option, None, Some, MatchOption, refl, sym, ap, ◌∙◌, subst, arith}
 use Rattle.concurrent_queue.specs.Contents.{Contents}
 use Rattle.concurrent_queue.specs.Positions.{pos}
-use Rattle.concurrent_queue.specs.Queue.{Queue, Phase, Stage, trying, displaced, appended, taken, read, measured, asked, after, Goes, Answers, IsInRange}
+use Rattle.concurrent_queue.specs.Queue.{Queue, Phase, asked, after, Goes, Answers, IsInRange}
 use Rattle.concurrent_queue.specs.Places.{Place, Each, sum}
-use Rattle.concurrent_queue.specs.Step.{OneCell, IsQuiet, AllQuiet, HoldsNobodyUp}
+use Rattle.concurrent_queue.specs.Step.{IsQuiet, AllQuiet, HoldsNobodyUp}
 use Rattle.concurrent_queue.specs.Forms.{place, place_phases, FormStep, FormSteps, FormStarts, FormRanks}
-use Rattle.concurrent_queue.specs.RingState.{Ring, Sound, IsShown, busy}
+use Rattle.concurrent_queue.specs.RingState.{Ring, Sound, IsShown}
 use Rattle.concurrent_queue.specs.RingCalls.{Duty, hold, bring, IsDuty, owes, owed, Knows, placed}
-use Rattle.concurrent_queue.specs.RingMeans.{Later, Kept, Denotes, place_at, RingMeans}
+use Rattle.concurrent_queue.specs.RingMeans.{Later, Denotes, place_at, RingMeans}
 use Rattle.concurrent_queue.specs.RingRank.{ring_rank, rests_at}
-use Rattle.concurrent_queue.specs.RingWords.{ring_step, ring_start, unmarked}
+use Rattle.concurrent_queue.specs.RingWords.{ring_step, ring_start}
 use Rattle.concurrent_queue.proofs.Places.{sum_at, each_at, each_others, each_with}
 use Rattle.concurrent_queue.proofs.RingShape.{IsMark}
 use Rattle.concurrent_queue.proofs.RingLater.{later_keeps}
@@ -21,7 +21,6 @@ use Rattle.concurrent_queue.specs.declared.call.QueueAsk.{QueueAsk}
 use Rattle.concurrent_queue.specs.declared.call.QueueAsk.TheVariants as ask
 use Rattle.concurrent_queue.specs.declared.call.QueueReply.{QueueReply}
 use Rattle.concurrent_queue.specs.declared.call.Stepped.{Stepped}
-use Rattle.concurrent_queue.specs.declared.bounded.WhenFull.TheVariants.{Refuse, Displace}
 use Rattle.concurrent_queue.specs.declared.bounded.RingAction.{RingAction}
 use Rattle.concurrent_queue.specs.declared.bounded.RingAction.TheVariants as act
 

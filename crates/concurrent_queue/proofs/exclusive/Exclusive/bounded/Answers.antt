@@ -1,6 +1,5 @@
 use Rattle.concurrent_queue.specs.Plain.{contents_of}
-use Rattle.concurrent_queue.proofs.AloneFacts.{new_held, new_most, new_sound}
-use Rattle.concurrent_queue.specs.declared.cells.QueueForm.TheVariants.{Bounded}
+use Rattle.concurrent_queue.proofs.AloneFacts.{new_held, new_most}
 use Rattle.concurrent_queue.proofs.exclusive.Exclusive.bounded.Goals as goal
 
 pub returns-clause-opened : goal.returns-clause-opened
