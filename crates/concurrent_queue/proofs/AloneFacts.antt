@@ -337,7 +337,7 @@ module _ {T : Type 0} where
       ap by_items (sym (sh.at_rest refl).0) ∙ ap by_closed sh.flag ∙ ap by_capacity (sym sh.limit) ∙ ap by_used e
 
   abbrev pub IsSoundIn : Contents T → ℕ → Type 0
-  IsSoundIn c used = (q : Queue T) × Fits c q [] × (used ≡ used_of q.capacity q.accepted) × (used < 2 ^ 61)
+  IsSoundIn c used = (q : Queue T) × Fits c q [] × (used ≡ used_of q.capacity q.accepted) × (used ≤ 2 ^ 61)
 
   -- how many messages a call is still to bring
   abbrev pub due : QueueAsk T → Stage T → ℕ
@@ -348,7 +348,7 @@ module _ {T : Type 0} where
   due _ s = 0
 
   abbrev pub IsWithin : Queue T → QueueAsk T → Stage T → Type 0
-  IsWithin q a s = (q.capacity ≡ Some 1) ⊎ (q.accepted + due a s < 2 ^ 61)
+  IsWithin q a s = (q.capacity ≡ Some 1) ⊎ (q.accepted + due a s ≤ 2 ^ 61)
 
   in_range : (q : Queue T) (a : QueueAsk T) (s : Stage T) → IsWithin q a s → IsInRange q
   in_range q a s (inl h) = inl h
@@ -422,7 +422,7 @@ module _ {T : Type 0} where
   none_more q a Replace r s h = absurd (no_replace q a r s h)
 
   -- positions are left for the message that a call brings
-  room_due : (a : QueueAsk T) (used : ℕ) → used < 2 ^ 61 → HasRoom a used → used + due a (trying false) < 2 ^ 61
+  room_due : (a : QueueAsk T) (used : ℕ) → used ≤ 2 ^ 61 → HasRoom a used → used + due a (trying false) ≤ 2 ^ 61
   room_due (ask.Push v) used small h = grind (arith, nat_tests)
   room_due (ask.ForcePush v) used small h = grind (arith, nat_tests)
   room_due ask.Pop used small h = omega arith
@@ -433,11 +433,11 @@ module _ {T : Type 0} where
   room_due ask.Len used small h = omega arith
   room_due ask.Capacity used small h = omega arith
 
-  within_by : (q : Queue T) (a : QueueAsk T) (used : ℕ) (b : Bool) → is_one_slot q.capacity ≡ b → used ≡ (if b then 0 else q.accepted) → used + due a (trying false) < 2 ^ 61 → IsWithin q a (trying false)
+  within_by : (q : Queue T) (a : QueueAsk T) (used : ℕ) (b : Bool) → is_one_slot q.capacity ≡ b → used ≡ (if b then 0 else q.accepted) → used + due a (trying false) ≤ 2 ^ 61 → IsWithin q a (trying false)
   within_by q a used true o e h = inl (slot_of q.capacity o)
   within_by q a used false o e h = inr (omega arith)
 
-  small_by : (q : Queue T) (used : ℕ) (b : Bool) → is_one_slot q.capacity ≡ b → used ≡ (if b then 0 else q.accepted) → IsInRange q → used < 2 ^ 61
+  small_by : (q : Queue T) (used : ℕ) (b : Bool) → is_one_slot q.capacity ≡ b → used ≡ (if b then 0 else q.accepted) → IsInRange q → used ≤ 2 ^ 61
   small_by q used true o e h = omega arith
   small_by q used false o e (inl h) = absurd (let one : is_one_slot q.capacity ≡ true = ap is_one_slot h in cc)
   small_by q used false o e (inr h) = omega arith

@@ -50,7 +50,7 @@ module _ {T : Type 0} where
   none_left [] e = refl
   none_left (p ∷ ps) e = absurd cc
 
-  in_range : (r : Blocks T) (q : Queue T) → Stands r q → IsInRange q → r.tail < 2 ^ 61
+  in_range : (r : Blocks T) (q : Queue T) → Stands r q → IsInRange q → r.tail ≤ 2 ^ 61
   in_range r q st range = ⊎_elim (λ g. absurd (some_none (sym st.capacity ∙ g))) (λ g. let e = st.accepted in omega arith) range
 
   module _ (c : Contents T) (a : UnboundedCall T) (d : Contents T) (x : Progress T) (q : Queue T) (p : Phase T) (l r : List (Place (UnboundedCall T) T)) (n : Blocks T) (den : Denotes c n)

@@ -44,7 +44,7 @@ one_bit : (b : Bool) → (one_if b == 1) ≡ b
 one_bit false = refl
 one_bit true = refl
 
-module _ {T : Type 0} (c : Contents T) (r : Blocks T) (queue : List T) (s : Sound r queue) (d : Denotes c r) (u : Phase T) (small : r.tail < 2 ^ 61) where
+module _ {T : Type 0} (c : Contents T) (r : Blocks T) (queue : List T) (s : Sound r queue) (d : Denotes c r) (u : Phase T) (small : r.tail ≤ 2 ^ 61) where
   pub at-pop : Yields r act.Pop (load_head c)
   at-pop = choose (λ y. Yields r act.Pop (c, y)) (c.head % 32 == 31)
       (λ e. (r, d, pop_stays refl (sym (words_of.head_turns_is c r queue s d) ∙ e), tt))
@@ -77,7 +77,7 @@ module _ {T : Type 0} (c : Contents T) (r : Blocks T) (queue : List T) (s : Soun
           (λ e. (let z = not_eq x 0 e in (r, d, subst (λ (o : Option ℕ). Moves r (call.pop_tail (number p) o) r (call.pop_swap (number p) (x - 1)) mark.Nothing None) (sym (named_some x (x - 1) (omega arith))) (pop_goes refl ne), w)))
 
   -- the exchange of the head
-  head_small : r.head < 2 ^ 61
+  head_small : r.head ≤ 2 ^ 61
   head_small = let o = s.order in omega arith
 
   wins : (p b : ℕ) → IsHeadAt p → c.head ≡ p → (p % 32 ≡ 30 → ⊥) → Yields r (act.PopSwap p b) (record c { head = (p + 1) % 2 ^ 64 }, record { action = act.PopWait p b; mark = mark.Take; ending = None })

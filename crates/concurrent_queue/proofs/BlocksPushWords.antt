@@ -20,7 +20,7 @@ use Rattle.concurrent_queue.proofs.BlocksDenote as words_of
 use Rattle.concurrent_queue.proofs.BlocksRetire as retire
 use Rattle.concurrent_queue.proofs.BlocksYields.{Yields, choose, is_eq, not_eq, some_none, set_get, set_get_other, tail_offset, tail_place, shows_none, shows_some, chain_word}
 
-module _ {T : Type 0} (c : Contents T) (r : Blocks T) (queue : List T) (s : Sound r queue) (d : Denotes c r) (u : Phase T) (small : r.tail < 2 ^ 61) where
+module _ {T : Type 0} (c : Contents T) (r : Blocks T) (queue : List T) (s : Sound r queue) (d : Denotes c r) (u : Phase T) (small : r.tail ≤ 2 ^ 61) where
   shut_case : (v : T) (h : Option ℕ) → r.closed ≡ true → Yields r (act.Push v h) (c, when_shut v h)
   shut_case v None k = (r, d, push_shut refl k, tt)
   shut_case v (Some h) k = (r, d, push_shut_held refl k, tt)

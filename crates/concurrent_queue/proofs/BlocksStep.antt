@@ -103,7 +103,7 @@ module _ {T : Type 0} where
   small_step c act.AskCapacity x e = subst (Small c) (sym e) (same_cells c)
   small_step c act.Finished x e = subst (Small c) (sym e) (same_cells c)
 
-module _ {T : Type 0} (c : Contents T) (r : Blocks T) (queue : List T) (s : Sound r queue) (d : Denotes c r) (u : Phase T) (small : r.tail < 2 ^ 61) where
+module _ {T : Type 0} (c : Contents T) (r : Blocks T) (queue : List T) (s : Sound r queue) (d : Denotes c r) (u : Phase T) (small : r.tail ≤ 2 ^ 61) where
   counts_its : (a : UnboundedAction T) (k : ℕ) → ((e : Duty) → owes (act_of a) e ≤ owed r e) → owes (act_of a) (count k) ≡ 1 → 1 ≤ owed r (count k)
   counts_its a k mine e = let m = mine (count k) in omega arith
 

@@ -102,7 +102,7 @@ module _ (cap m : ℕ) (some : 0 < cap) (k : IsMark cap m) where
       let f' : n / cap * (4 * cap) ≡ 4 * (n / cap * cap) = omega arith in
       omega arith
 
-  pub next_is : (n : ℕ) → n < 2 ^ 61 → next_word cap m (pos cap (2 * m) n) ≡ pos cap (2 * m) (n + 1)
+  pub next_is : (n : ℕ) → n ≤ 2 ^ 61 → next_word cap m (pos cap (2 * m) n) ≡ pos cap (2 * m) (n + 1)
   next_is n h = let e = stride_is n in let b = pos_small (n + 1) in ap (λ (x : ℕ). x % 2 ^ 64) e ∙ mod-eq_of_lt (let g : pos cap (2 * m) (n + 1) < 2 ^ 64 = omega arith in g)
 
   -- before the first lap's end

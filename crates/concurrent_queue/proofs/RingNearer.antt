@@ -43,7 +43,7 @@ not_owed true e = absurd (omega arith)
 lt_no : (x y : ℕ) → nat_lt x y ≡ false → y ≤ x
 lt_no x y e = grind (arith, nat_tests)
 
-module _ {T : Type 0} (cap m : ℕ) (two : 2 ≤ cap) (limit : cap ≤ 2 ^ 58) (k : IsMark cap m) (c : Contents T) (r : Ring T) (q : Queue T) (d : Denotes cap m c r) (s : Sound cap r) (w : IsShown cap r q) (few : r.tail < 2 ^ 61) where
+module _ {T : Type 0} (cap m : ℕ) (two : 2 ≤ cap) (limit : cap ≤ 2 ^ 58) (k : IsMark cap m) (c : Contents T) (r : Ring T) (q : Queue T) (d : Denotes cap m c r) (s : Sound cap r) (w : IsShown cap r q) (few : r.tail ≤ 2 ^ 61) where
   abbrev Word : ℕ → ℕ
   Word n = pos cap (2 * m) n
 

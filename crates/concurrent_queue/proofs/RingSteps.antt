@@ -54,7 +54,7 @@ both true true e = (refl, refl)
 both true false e = absurd (false≢true e)
 both false b e = absurd (false≢true e)
 
-module _ {T : Type 0} (cap m : ℕ) (two : 2 ≤ cap) (limit : cap ≤ 2 ^ 58) (k : IsMark cap m) (c : Contents T) (r : Ring T) (q : Queue T) (d : Denotes cap m c r) (s : Sound cap r) (w : IsShown cap r q) (few : r.tail < 2 ^ 61) where
+module _ {T : Type 0} (cap m : ℕ) (two : 2 ≤ cap) (limit : cap ≤ 2 ^ 58) (k : IsMark cap m) (c : Contents T) (r : Ring T) (q : Queue T) (d : Denotes cap m c r) (s : Sound cap r) (w : IsShown cap r q) (few : r.tail ≤ 2 ^ 61) where
   at_pos : ℕ → ℕ
   at_pos n = pos cap (2 * m) n
 

@@ -206,7 +206,7 @@ module _ {T : Type 0} (cap m : ℕ) (two : 2 ≤ cap) (limit : cap ≤ 2 ^ 58) (
   abbrev pub IsMachineStep : Contents T → RingAction T → Contents T → Stepped (RingAction T) T → Type 0
   IsMachineStep c a d s = (d, s) ≡ ring_step cap m c a
 
-  module _ (c : Contents T) (q : Queue T) (p : Phase T) (l r : List (Place (RingAction T) T)) (ring : Ring T) (denotes : Denotes cap m c ring) (sound : Sound cap ring) (shown : IsShown cap ring q) (few : ring.tail < 2 ^ 61)
+  module _ (c : Contents T) (q : Queue T) (p : Phase T) (l r : List (Place (RingAction T) T)) (ring : Ring T) (denotes : Denotes cap m c ring) (sound : Sound cap ring) (shown : IsShown cap ring q) (few : ring.tail ≤ 2 ^ 61)
       (left right : List (Place (RingAction T) T)) (lefts : l ≡ map (place_at (pos cap (2 * m))) left) (rights : r ≡ map (place_at (pos cap (2 * m))) right) (a : RingAction T) (knows : Knows cap ring a p)
       (others : Each (KnowsAt cap ring) (left ++ right)) (counts : (y : Duty) → IsDuty cap y → owes cap a y + owners cap y (left ++ right) ≡ owed ring y) where
     some : 0 < cap
@@ -271,7 +271,7 @@ module _ {T : Type 0} (cap m : ℕ) (two : 2 ≤ cap) (limit : cap ≤ 2 ^ 58) (
           ends = λ (h : HoldsNobodyUp q (place_phases (l ++ r))). nearer cap m two limit k c ring q denotes sound shown few a p knows (quiet h.0);
         }
 
-  in_range : (q : Queue T) (ring : Ring T) → IsShown cap ring q → IsInRange q → ring.tail < 2 ^ 61
+  in_range : (q : Queue T) (ring : Ring T) → IsShown cap ring q → IsInRange q → ring.tail ≤ 2 ^ 61
   in_range q ring w range = ⊎_elim
       (λ e. absurd (let f : Some cap ≡ Some 1 = sym w.capacity ∙ e in let g : cap ≡ 1 = cc in omega arith))
       (λ h. let a = w.accepted in omega arith) range

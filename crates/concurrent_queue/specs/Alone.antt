@@ -1,5 +1,5 @@
 -- A closable list of one owner, whose calls are made one at a time.
-use Rattle.std.specs.Prelude.{◌≡◌, ℕ, ◌+◌, ◌-◌, ◌<◌, ◌^◌, ◌⊎◌, Bool, true, false, not, List, [], ◌∷◌, ◌++◌, length, Option, None, Some, Result, Ok, Err, ◌==◌, if◌then◌else◌}
+use Rattle.std.specs.Prelude.{◌≡◌, ℕ, ◌+◌, ◌≤◌, ◌^◌, ◌⊎◌, Bool, true, false, not, List, [], ◌∷◌, ◌++◌, length, Option, None, Some, Result, Ok, Err, ◌==◌, if◌then◌else◌}
 use Rattle.concurrent_queue.specs.Dispatch.{capacity_of}
 use Rattle.concurrent_queue.specs.Plain.{contents_of}
 use Rattle.concurrent_queue.specs.Queue.{Queue, is_full_at}
@@ -38,7 +38,7 @@ one_more capacity used = if is_one_slot capacity then used else used + 1
 
 -- no position is left
 abbrev pub is_used_up : ℕ → Bool
-is_used_up used = used == 2 ^ 61 - 1
+is_used_up used = used == 2 ^ 61
 
 module _ {T : Type 0} where
   abbrev pub is_full : Held T → Bool
@@ -116,7 +116,7 @@ module _ {T : Type 0} where
   -- no call is under way, and the cells mean a queue that has used up so many positions, within their end
   abbrev pub IsSound : PlainCells T → ℕ → Type 0
   IsSound cells used =
-      (q : Queue T) × Fits (contents_of cells) q [] × (used ≡ used_of q.capacity q.accepted) × (used < 2 ^ 61)
+      (q : Queue T) × Fits (contents_of cells) q [] × (used ≡ used_of q.capacity q.accepted) × (used ≤ 2 ^ 61)
 
   -- there is a position for the message of a call that brings one
   abbrev pub HasRoom : QueueAsk T → ℕ → Type 0

@@ -1,6 +1,6 @@
 //! A queue of one owner.
 
-ghost use Rattle.std.specs.Prelude.{◌≡◌, ◌<◌, ◌^◌};
+ghost use Rattle.std.specs.Prelude.{◌≡◌, ◌≤◌, ◌^◌};
 ghost use Rattle.concurrent_queue.specs.Alone.{Gives, PushGives, PopGives, held, IsSound, HasRoom, one_more, used_after};
 ghost use Rattle.concurrent_queue.specs.declared.call.QueueAsk.TheVariants as ask;
 ghost use Rattle.concurrent_queue.specs.Dispatch.{capacity_of};
@@ -17,7 +17,7 @@ use std::marker::Model;
 /// A queue of one owner, which can be closed. Its calls run the same steps as those of a shared queue, each to its end, and
 /// none of them waits. Own to this project.
 ///
-/// A ring or an unbounded queue gives each message that it accepts a position of its own, and has 2^61 - 1 of them: at a
+/// A ring or an unbounded queue gives each message that it accepts a position of its own, and has 2^61 of them: at a
 /// thousand million messages a second that is seventy years. A queue of one slot has no positions, and no end.
 #[derive(Drop)]
 pub struct Exclusive<T> {
@@ -36,11 +36,11 @@ impl<T> Model for Exclusive<T> {
 }
 
 /// How many positions a queue has.
-const POSITIONS: u64 = 0x1fff_ffff_ffff_ffff;
+const POSITIONS: u64 = 0x2000_0000_0000_0000;
 
 /// How many positions are used up with one more message.
 fn with_one_more(form: QueueForm, used: u64) -> u64
-    requires { used < 2 ^ 61 }
+    requires { used ≤ 2 ^ 61 }
     ensures { result ≡ one_more (capacity_of form) used }
 {
     match form {
@@ -51,7 +51,7 @@ fn with_one_more(form: QueueForm, used: u64) -> u64
 
 /// How many positions are used up once a call has answered so.
 fn count<T>(form: QueueForm, used: u64, reply: &QueueReply<T>) -> u64
-    requires { used < 2 ^ 61 }
+    requires { used ≤ 2 ^ 61 }
     ensures { result ≡ used_after (capacity_of form) used reply.now }
 {
     match reply {

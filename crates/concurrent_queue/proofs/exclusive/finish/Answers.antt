@@ -1,4 +1,4 @@
-use Rattle.std.proofs.Common.{◌≡◌, ◌<◌, ◌^◌, ℕ, refl, sym, ap, ◌∙◌, subst}
+use Rattle.std.proofs.Common.{◌≡◌, ◌≤◌, ◌^◌, ℕ, refl, sym, ap, ◌∙◌, subst}
 use Rattle.concurrent_queue.specs.Dispatch.{capacity_of}
 use Rattle.concurrent_queue.specs.Plain.{contents_of}
 use Rattle.concurrent_queue.specs.Alone.{held, used_after}
@@ -10,7 +10,7 @@ pub loop-reply-init : goal.loop-reply-init
 loop-reply-init g c = (alone_start (contents_of c.args.cells.now) c.args.used.now c.args.ask c.new-call.result c.new-call.ensures c.requires.sound c.requires.room, refl)
 
 pub count-requires : goal.count-requires
-count-requires g c = subst (λ (n : ℕ). n < 2 ^ 61) (sym c.loop-reply.invariant.1) c.requires.sound.3
+count-requires g c = subst (λ (n : ℕ). n ≤ 2 ^ 61) (sym c.loop-reply.invariant.1) c.requires.sound.3
 
 pub returns-in-Some-clause-sound : goal.returns-in-Some-clause-sound
 returns-in-Some-clause-sound g c =
