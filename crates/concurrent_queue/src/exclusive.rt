@@ -132,10 +132,8 @@ impl<T: Drop> Exclusive<T> {
         ensures opened { IfOk result (λ q. q ≡ record { items = []; closed = false; capacity = Some capacity; used = 0 }) }
         ensures most { IfOk result (λ q. capacity ≤ 2 ^ 58) }
     {
-        Ok(Exclusive {
-            cells: PlainCells::new(alloc, QueueForm::Bounded(capacity))?,
-            used: 0,
-        })
+        let cells = PlainCells::new(alloc, QueueForm::Bounded(capacity))?;
+        Ok(Exclusive { cells, used: 0 })
     }
 
     /// An open empty queue with no bound. It takes no memory: that comes with the messages, a block for 31 of them, and
