@@ -6,6 +6,7 @@
 
 mod decimal;
 mod list;
+mod queue;
 
 use std::alloc::Global;
 use std::rt::Clock;
@@ -15,6 +16,8 @@ use std::{env, io};
 fn measure<R: Clock + Print>(rt: &R, alloc: Global, word: &str) -> io::Result<()> {
     match word {
         "list" => list::measure_lists(rt, alloc),
+        "pairs" => queue::make_pairs(rt, alloc),
+        "queue" => queue::measure_queues(rt, alloc),
         _ => println!(rt; "nothing to measure is named {word}"),
     }
 }

@@ -1,9 +1,8 @@
 -- What is known of a call under way by how far it has come, and that its reply is one that it may give.
 use Rattle.std.proofs.Common.{◌≡◌, ℕ, zero, suc, ◌+◌, ◌<◌, ◌≤◌, Bool, true, false, List, [], ◌∷◌, ◌++◌, length, drop, Option, None, Some, Ok, Err, if◌then◌else◌, ◌==◌, ◌⊎◌, ⊎_elim, inl, inr, refl, sym, ap, ◌∙◌, subst, arith, length-append}
-use Rattle.std.proofs.lemmas.Bool.{cases_lt}
 use Rattle.std.proofs.lemmas.Bool.Decides.{nat_tests}
-use Rattle.concurrent_queue.specs.Queue.{Queue, Stage, trying, displaced, appended, taken, read, measured, Phase, is_filled, is_full_at, is_stuck, IsOpen, IsShut, IsDrained, IsOldest, message, marked, is_displaced, seen_after, GoesPush, GoesForce, GoesPop, GoesOn, AnswersPush, AnswersForce, AnswersPop, AnswersClose, AnswersShut, AnswersEmpty, AnswersFull, AnswersLen, AnswersCapacity, AnswersTo}
-use Rattle.concurrent_queue.specs.Rows.{Deed, Once, Appended, Took, Replaced, MadeRoom, Displaced, MayAnswer, IsBegun, PushAnswer, ForceAnswer, PopAnswer, CloseAnswer, FlagAnswer, LenAnswer, CapacityAnswer, is_closed, is_empty}
+use Rattle.concurrent_queue.specs.Queue.{Queue, Stage, trying, displaced, appended, taken, read, measured, is_filled, is_full_at, IsOpen, IsOldest, message, marked, is_displaced, seen_after, GoesPush, GoesForce, GoesPop, GoesOn, AnswersPush, AnswersForce, AnswersPop, AnswersClose, AnswersShut, AnswersEmpty, AnswersFull, AnswersLen, AnswersCapacity, AnswersTo}
+use Rattle.concurrent_queue.specs.Rows.{Deed, Once, Appended, Took, Replaced, MadeRoom, Displaced, MayAnswer, IsBegun, is_empty}
 use Rattle.concurrent_queue.specs.Scene.{makes_room, has_brought, with_deed}
 use Rattle.concurrent_queue.specs.Step.{IsQuiet, HasBrought}
 use Rattle.concurrent_queue.specs.declared.call.QueueAsk.{QueueAsk}

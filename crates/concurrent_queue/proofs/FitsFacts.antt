@@ -1,18 +1,20 @@
 -- What callers use of Fits, by the form of the queue.
-use Rattle.std.proofs.Common.{◌≡◌, ℕ, ◌+◌, ◌^◌, ◌<◌, ◌≤◌, ◌⊎◌, ⊎_elim, inl, inr, ◌==◌, nat_eq, Bool, true, false, if◌then◌else◌, arith, option_to_list, List, [], ◌∷◌, ◌++◌, Option, None, Some, MatchOption, Result, Ok, Err, IfOk, refl, sym, ap, ◌∙◌, subst}
-use Rattle.concurrent_queue.specs.Contents.{Contents, empty_slot, slot_at}
+use Rattle.std.proofs.Common.{◌≡◌, ℕ, ◌^◌, ◌<◌, ◌≤◌, ⊎_elim, inl, inr, ◌==◌, Bool, true, false, if◌then◌else◌, arith, option_to_list, List, [], ◌∷◌, ◌++◌, Option, None, Some, MatchOption, Result, Ok, Err, IfOk, refl, sym, ap, subst}
+use Rattle.concurrent_queue.specs.Contents.{Contents, empty_slot, empty_blocks, slot_at}
 use Rattle.concurrent_queue.specs.Queue.{Queue, Phase, asked, after, Goes, Answers, IsInRange, opened}
 use Rattle.std.proofs.lemmas.Bool.Decides.{nat_tests}
-use Rattle.concurrent_queue.specs.Dispatch.{IsSingleStep, in_single, BySingle, IsRingStep, in_ring, ByRing, IsBoundedFirst, IsFirstStep, IsStateStep, capacity_of, ring_cap}
-use Rattle.concurrent_queue.specs.RingWords.{cap_of, ring_mark, ring_step, ring_start}
+use Rattle.concurrent_queue.specs.Dispatch.{IsSingleStep, in_single, BySingle, IsRingStep, in_ring, ByRing, in_blocks, ByBlocks, IsBoundedFirst, IsFirstStep, IsStateStep, capacity_of, ring_cap}
+use Rattle.concurrent_queue.specs.RingWords.{cap_of, ring_mark, ring_start}
 use Rattle.concurrent_queue.specs.RingMeans.{RingMeans}
 use Rattle.concurrent_queue.specs.RingRank.{ring_rank}
 use Rattle.concurrent_queue.specs.RingReadings.{ring_closed, ring_counted, ring_length, ring_held}
 use Rattle.concurrent_queue.specs.Single.{start}
 use Rattle.concurrent_queue.specs.SingleState.{SingleMeans, single_rank}
-use Rattle.concurrent_queue.specs.Step.{Seat, seat, Fits, FitsForm, FitsSlot, FitsRing, FitsBy, IsAtSingle, IsAtRing, phases, OneCell, HoldsNobodyUp, rank, rank_by, rank_first, rank_bounded, single_closed, single_length, Starts, Steps, IsQueueStep, ShowsBy, Shows, closed_by, closed_in, length_by, length_in, counted_by, counted_in, items_by, items_in}
+use Rattle.concurrent_queue.specs.BlocksForm.{UnboundedMeans}
+use Rattle.concurrent_queue.specs.BlocksWords.{IsBlocksStep, begin, blocks_closed, blocks_length, blocks_counted, blocks_items, blocks_rank}
+use Rattle.concurrent_queue.specs.Step.{Seat, seat, Fits, FitsForm, FitsSlot, FitsRing, FitsBy, IsAtSingle, IsAtRing, IsAtBlocks, phases, OneCell, HoldsNobodyUp, rank, rank_by, rank_first, rank_bounded, rank_blocks, single_closed, single_length, Starts, IsQueueStep, ShowsBy, Shows, closed_by, closed_in, length_by, length_in, counted_by, counted_in, items_by, items_in}
 use Rattle.std.specs.declared.alloc.AllocError.{AllocError}
-use Rattle.concurrent_queue.specs.Made.{CanBeMade, IsNew}
+use Rattle.concurrent_queue.specs.Made.{IsNew}
 use Rattle.concurrent_queue.specs.Plain.{contents_of}
 use Rattle.concurrent_queue.specs.declared.plain.PlainCells.{PlainCells}
 use Rattle.concurrent_queue.specs.declared.call.QueueAsk.{QueueAsk}
@@ -20,17 +22,20 @@ use Rattle.concurrent_queue.specs.declared.call.QueueMark.{QueueMark}
 use Rattle.concurrent_queue.specs.declared.call.QueueReply.{QueueReply}
 use Rattle.concurrent_queue.specs.declared.call.Stepped.{Stepped}
 use Rattle.concurrent_queue.specs.declared.cells.QueueForm.{QueueForm}
-use Rattle.concurrent_queue.specs.declared.cells.QueueForm.TheVariants.{Bounded}
+use Rattle.concurrent_queue.specs.declared.cells.QueueForm.TheVariants.{Bounded, Unbounded}
 use Rattle.concurrent_queue.specs.declared.single.SingleAction.{SingleAction}
 use Rattle.concurrent_queue.specs.declared.bounded.RingAction.{RingAction}
+use Rattle.concurrent_queue.specs.declared.unbounded.action.UnboundedCall.{UnboundedCall}
 use Rattle.concurrent_queue.specs.declared.cells.Slot.TheVariants.{At}
 use Rattle.concurrent_queue.specs.declared.queue_call.CallState.{CallState}
-use Rattle.concurrent_queue.specs.declared.queue_call.CallState.TheVariants.{Asked, Single, Ring, Finished}
+use Rattle.concurrent_queue.specs.declared.queue_call.CallState.TheVariants.{Asked, Single, Ring, Blocks, Finished}
 use Rattle.concurrent_queue.specs.declared.queue_call.QueueCall.{QueueCall}
-use Rattle.concurrent_queue.proofs.StepFacts.{SeatStep, Parted, seat_step, seat_start, seat_ranks, part, same_phases}
+use Rattle.concurrent_queue.proofs.StepFacts.{SeatStep, seat_step, seat_start, seat_ranks, part, same_phases}
 use Rattle.concurrent_queue.proofs.SingleTheorem.{single_steps, single_starts, single_ranks, single_opened}
 use Rattle.concurrent_queue.proofs.SingleShows.{single_shows}
-use Rattle.concurrent_queue.proofs.RingShape.{IsMark, mark_is}
+use Rattle.concurrent_queue.proofs.BlocksFacts.{blocks_steps, blocks_starts, blocks_ranks, blocks_opened}
+use Rattle.concurrent_queue.proofs.BlocksShows.{unbounded_shows}
+use Rattle.concurrent_queue.proofs.RingShape.{mark_is}
 use Rattle.concurrent_queue.proofs.RingTheorem.{ring_form_steps, ring_form_starts, ring_form_ranks}
 use Rattle.concurrent_queue.proofs.RingShows.{ring_shows}
 use Rattle.concurrent_queue.proofs.RingMade.{ring_opened}
@@ -48,6 +53,9 @@ cap_same cap h = grind (arith, nat_tests)
 module _ {T : Type 0} where
   wraps_single : (a : SingleAction T) → IsAtSingle (Single a) a
   wraps_single a = refl
+
+  wraps_blocks : (a : UnboundedCall T) → IsAtBlocks (Blocks a) a
+  wraps_blocks a = refl
 
   -- the call after a step
   abbrev pub made_call : Stepped (CallState T) T → QueueCall T
@@ -102,6 +110,26 @@ module _ {T : Type 0} where
           ends = λ (quiet : HoldsNobodyUp q (phases (l ++ r))). subst (λ (n : ℕ). MatchOption x.reply (ring_rank (ring_mark cap) d x.action < n) (λ y. Unit {0})) (sym sized) (h.ends quiet);
         }
 
+  module _ (c : Contents T) (a : UnboundedCall T) (before : QueueCall T) (p : Phase T) (d : Contents T) (x : Stepped (UnboundedCall T) T) (q : Queue T) (l r : List (Seat T)) (sized : rank_blocks c before.state ≡ blocks_rank c a) where
+    blocks_does : (reply : Option (QueueReply T)) (call : QueueCall T)
+        → MatchOption reply
+        ((p' : Phase T) × Goes q p x.mark p' × FitsBy IsAtBlocks (UnboundedMeans d (after p x.mark q)) (l ++ seat call p' ∷ r))
+        (λ y. Answers q p x.mark y × FitsBy IsAtBlocks (UnboundedMeans d (after p x.mark q)) (l ++ r))
+        → MatchOption reply
+        ((p' : Phase T) × Goes q p x.mark p' × FitsForm Unbounded d (after p x.mark q) (l ++ seat call p' ∷ r))
+        (λ y. Answers q p x.mark y × FitsForm Unbounded d (after p x.mark q) (l ++ r))
+    blocks_does None call h = h
+    blocks_does (Some y) call h = h
+
+    pub blocks_in : SeatStep IsAtBlocks UnboundedMeans blocks_rank Blocks c a p d x q l r → StepsIn Unbounded c before p d (in_blocks x) q l r
+    blocks_in h =
+        record {
+          same_form = h.same_form;
+          one_cell = h.one_cell;
+          does = blocks_does x.reply (made_call (in_blocks x)) h.does;
+          ends = λ (quiet : HoldsNobodyUp q (phases (l ++ r))). subst (λ (n : ℕ). MatchOption x.reply (blocks_rank d x.action < n) (λ y. Unit {0})) (sym sized) (h.ends quiet);
+        }
+
   -- ---- a step, by the form and the state of its call
 
   module _ (c : Contents T) (before : QueueCall T) (p : Phase T) (d : Contents T) (s : Stepped (CallState T) T) (q : Queue T) (l r : List (Seat T)) (range : IsInRange q) where
@@ -120,6 +148,12 @@ module _ {T : Type 0} where
         (ring_form_steps cap (ring_mark cap) fits.two fits.most (mark_is cap (omega arith) fits.most)) c a d x q p l r before is step range fits.calls in
         subst (λ (y : Stepped (CallState T) T). StepsIn (Bounded cap) c before p d y q l r) (sym shape) (ring_in cap fits.two fits.most c a before p d x q l r sized h)
 
+    by_blocks : (a : UnboundedCall T) → ((x : UnboundedCall T) → IsAtBlocks before.state x → x ≡ a) → rank_blocks c before.state ≡ blocks_rank c a
+        → ByBlocks c a d s → FitsForm Unbounded c q (l ++ seat before p ∷ r) → StepsIn Unbounded c before p d s q l r
+    by_blocks a is sized (x, made, shape) fits =
+        let h = seat_step IsAtBlocks UnboundedMeans blocks_rank Blocks wraps_blocks IsBlocksStep blocks_steps c a d x q p l r before is made range fits in
+        subst (λ (y : Stepped (CallState T) T). StepsIn Unbounded c before p d y q l r) (sym shape) (blocks_in c a before p d x q l r sized h)
+
   module _ (c : Contents T) (mark : QueueMark) (p : Phase T) (d : Contents T) (s : Stepped (CallState T) T) (q : Queue T) (l r : List (Seat T)) (range : IsInRange q) where
     abbrev stood : CallState T → QueueCall T
     stood state = record { state = state; mark = mark }
@@ -132,6 +166,8 @@ module _ {T : Type 0} where
     slot_steps cap (Single a) e made fits = by_single c (stood (Single a)) p d s q l r range cap a (λ x h. h) refl made fits
     slot_steps cap (Ring a) e made fits =
         let parts = part IsAtSingle l r (seat (stood (Ring a)) p) fits.calls.0 fits.calls.1 in absurd parts.stands
+    slot_steps cap (Blocks a) e made fits =
+        let parts = part IsAtSingle l r (seat (stood (Blocks a)) p) fits.calls.0 fits.calls.1 in absurd parts.stands
     slot_steps cap Finished e made fits =
         let parts = part IsAtSingle l r (seat (stood Finished) p) fits.calls.0 fits.calls.1 in absurd parts.stands
 
@@ -143,11 +179,22 @@ module _ {T : Type 0} where
     ring_steps_in cap (Single a) e made fits =
         let parts = part IsAtRing l r (seat (stood (Single a)) p) fits.calls.0 fits.calls.1 in absurd parts.stands
     ring_steps_in cap (Ring a) e made fits = by_ring c (stood (Ring a)) p d s q l r range cap a (λ x h. h) refl (subst (λ (f : QueueForm). ByRing (ring_cap f) c a d s) e made) fits
+    ring_steps_in cap (Blocks a) e made fits =
+        let parts = part IsAtRing l r (seat (stood (Blocks a)) p) fits.calls.0 fits.calls.1 in absurd parts.stands
     ring_steps_in cap Finished e made fits =
         let parts = part IsAtRing l r (seat (stood Finished) p) fits.calls.0 fits.calls.1 in absurd parts.stands
 
     steps_in : (f : QueueForm) (state : CallState T) → c.form ≡ f → IsStateStep c state d s → FitsForm f c q (l ++ seat (stood state) p ∷ r) → StepsIn f c (stood state) p d s q l r
     steps_in (Bounded cap) state e made fits = ⊎_elim (slot_steps cap state e made) (ring_steps_in cap state e made) fits
+    steps_in Unbounded (Asked a) e made fits =
+        by_blocks c (stood (Asked a)) p d s q l r range (begin a) (λ x h. h) refl (subst (λ (f : QueueForm). IsFirstStep f c a d s) e made) fits
+    steps_in Unbounded (Blocks a) e made fits = by_blocks c (stood (Blocks a)) p d s q l r range a (λ x h. h) refl made fits
+    steps_in Unbounded (Single a) e made fits =
+        let parts = part IsAtBlocks l r (seat (stood (Single a)) p) fits.0 fits.1 in absurd parts.stands
+    steps_in Unbounded (Ring a) e made fits =
+        let parts = part IsAtBlocks l r (seat (stood (Ring a)) p) fits.0 fits.1 in absurd parts.stands
+    steps_in Unbounded Finished e made fits =
+        let parts = part IsAtBlocks l r (seat (stood Finished) p) fits.0 fits.1 in absurd parts.stands
 
   does_fits : (f : QueueForm) (c : Contents T) (p : Phase T) (d : Contents T) (s : Stepped (CallState T) T) (q : Queue T) (l r : List (Seat T)) → d.form ≡ f → (reply : Option (QueueReply T))
       → MatchOption reply
@@ -184,6 +231,7 @@ module _ {T : Type 0} where
         calls = (let two = h.two in seat_start IsAtRing (λ c' q' xs. RingMeans cap (ring_mark cap) c' q' xs) (ring_rank (ring_mark cap)) Ring ring_start
             (ring_form_starts cap (ring_mark cap) h.two h.most (mark_is cap (omega arith) h.most)) c q a l r (record { state = Asked a; mark = mark }) refl h.calls);
       })) fits
+  starts_in Unbounded c q a mark l r fits = seat_start IsAtBlocks UnboundedMeans blocks_rank Blocks begin blocks_starts c q a l r (record { state = Asked a; mark = mark }) refl fits
 
   pub starts : (a : QueueAsk T) (mark : QueueMark) → Starts (record { state = Asked a; mark = mark }) a
   unfolding Fits
@@ -212,6 +260,8 @@ module _ {T : Type 0} where
   no_phases : (f : QueueForm) (c : Contents T) (q : Queue T) (seats : List (Seat T)) → FitsForm f c q seats
       → ShowsBy (capacity_of f) (closed_by f c) (length_by f c) (counted_by f c) (items_by f c) c q (phases seats)
   no_phases (Bounded cap) c q seats fits = ⊎_elim (slot_shown cap c q seats) (ring_shown cap c q seats) fits
+  no_phases Unbounded c q seats (places, are, means) =
+      subst (λ (ps : List (Phase T)). ShowsBy None (blocks_closed c) (blocks_length c) (blocks_counted c) (blocks_items c) c q ps) (sym (same_phases IsAtBlocks seats places are)) (unbounded_shows c q places means)
 
   -- the cells and calls that mean a queue show it
   pub shows : (c : Contents T) (q : Queue T) (seats : List (Seat T)) → Fits c q seats → Shows c q (phases seats)
@@ -224,6 +274,8 @@ module _ {T : Type 0} where
   slot_ranks cap c q p mark (Single a) l r fits = seat_ranks IsAtSingle SingleMeans single_rank Single single_ranks c q p l r (record { state = Single a; mark = mark }) a (λ x h. h) fits.calls
   slot_ranks cap c q p mark (Ring a) l r fits =
       let parts = part IsAtSingle l r (seat (record { state = Ring a; mark = mark }) p) fits.calls.0 fits.calls.1 in absurd parts.stands
+  slot_ranks cap c q p mark (Blocks a) l r fits =
+      let parts = part IsAtSingle l r (seat (record { state = Blocks a; mark = mark }) p) fits.calls.0 fits.calls.1 in absurd parts.stands
   slot_ranks cap c q p mark Finished l r fits =
       let parts = part IsAtSingle l r (seat (record { state = Finished; mark = mark }) p) fits.calls.0 fits.calls.1 in absurd parts.stands
 
@@ -237,16 +289,35 @@ module _ {T : Type 0} where
       seat_ranks IsAtRing (λ c' q' xs. RingMeans cap (ring_mark cap) c' q' xs) (ring_rank (ring_mark cap)) Ring (ring_form_ranks cap (ring_mark cap) fits.two fits.most (mark_is cap (omega arith) fits.most)) c q p l r (record { state = Ring a; mark = mark }) a (λ x h. h) fits.calls
   ring_ranks cap c q p mark (Single a) l r fits =
       let parts = part IsAtRing l r (seat (record { state = Single a; mark = mark }) p) fits.calls.0 fits.calls.1 in absurd parts.stands
+  ring_ranks cap c q p mark (Blocks a) l r fits =
+      let parts = part IsAtRing l r (seat (record { state = Blocks a; mark = mark }) p) fits.calls.0 fits.calls.1 in absurd parts.stands
   ring_ranks cap c q p mark Finished l r fits =
       let parts = part IsAtRing l r (seat (record { state = Finished; mark = mark }) p) fits.calls.0 fits.calls.1 in absurd parts.stands
 
   ranks_in : (f : QueueForm) (c : Contents T) (q : Queue T) (p : Phase T) (mark : QueueMark) (state : CallState T) (l r : List (Seat T)) → FitsForm f c q (l ++ seat (record { state = state; mark = mark }) p ∷ r) → rank_by f c state < 64
   ranks_in (Bounded cap) c q p mark state l r fits = ⊎_elim (slot_ranks cap c q p mark state l r) (ring_ranks cap c q p mark state l r) fits
+  ranks_in Unbounded c q p mark (Asked a) l r fits = seat_ranks IsAtBlocks UnboundedMeans blocks_rank Blocks blocks_ranks c q p l r (record { state = Asked a; mark = mark }) (begin a) (λ x h. h) fits
+  ranks_in Unbounded c q p mark (Blocks a) l r fits = seat_ranks IsAtBlocks UnboundedMeans blocks_rank Blocks blocks_ranks c q p l r (record { state = Blocks a; mark = mark }) a (λ x h. h) fits
+  ranks_in Unbounded c q p mark (Single a) l r fits =
+      let parts = part IsAtBlocks l r (seat (record { state = Single a; mark = mark }) p) fits.0 fits.1 in absurd parts.stands
+  ranks_in Unbounded c q p mark (Ring a) l r fits =
+      let parts = part IsAtBlocks l r (seat (record { state = Ring a; mark = mark }) p) fits.0 fits.1 in absurd parts.stands
+  ranks_in Unbounded c q p mark Finished l r fits =
+      let parts = part IsAtBlocks l r (seat (record { state = Finished; mark = mark }) p) fits.0 fits.1 in absurd parts.stands
 
   -- no call needs more than 63 steps where nobody holds it up
   pub ranks : (c : Contents T) (q : Queue T) (p : Phase T) (call : QueueCall T) (l r : List (Seat T)) → Fits c q (l ++ seat call p ∷ r) → rank c call < 64
   unfolding Fits rank
   ranks c q p call l r fits = ranks_in c.form c q p call.mark call.state l r fits
+
+  most_of : (cap : ℕ) (c : Contents T) (q : Queue T) (seats : List (Seat T)) → FitsForm (Bounded cap) c q seats → cap ≤ 2 ^ 58
+  most_of cap c q seats (inl h) = let one = h.one in omega arith
+  most_of cap c q seats (inr h) = h.most
+
+  -- a bounded queue has 2^58 slots at most
+  pub most_fits : (c : Contents T) (q : Queue T) (seats : List (Seat T)) (cap : ℕ) → c.form ≡ Bounded cap → Fits c q seats → cap ≤ 2 ^ 58
+  unfolding Fits
+  most_fits c q seats cap e fits = most_of cap c q seats (subst (λ (f : QueueForm). FitsForm f c q seats) e fits)
 
 -- a queue that was just made
 pub fits_one_slot : (T : Type 0) → Fits {T = T} empty_slot (opened (Some 1)) []
@@ -257,6 +328,13 @@ fits_one_slot T = inl (record { one = refl; calls = ([], tt, single_opened) })
 pub fits_ring : (T : Type 0) (cap : ℕ) → 2 ≤ cap → cap ≤ 2 ^ 58 → Fits {T = T} (empty_ring cap) (opened (Some cap)) []
 unfolding Fits
 fits_ring T cap two most = inr (record { two = two; most = most; calls = ([], tt, ring_opened T cap (ring_mark cap) two (mark_is cap (omega arith) most)) })
+
+pub fits_blocks : (T : Type 0) → Fits {T = T} empty_blocks (opened None) []
+unfolding Fits
+fits_blocks T = ([], tt, blocks_opened T)
+
+blocks_are_new : {T : Type 0} (c : Contents T) → c ≡ empty_blocks → IsNew Unbounded c
+blocks_are_new {T} c e = subst (λ (x : Contents T). IsNew Unbounded x) (sym e) (refl, fits_blocks T)
 
 one_slot_is_new : {T : Type 0} (cap : ℕ) → cap ≡ 1 → (c : Contents T) → c ≡ empty_slot → IsNew (Bounded cap) c
 one_slot_is_new {T} cap one c e =
@@ -271,3 +349,6 @@ new_one_slot T cap one (Err e) h = tt
 pub new_ring : (T : Type 0) (cap : ℕ) → 2 ≤ cap → cap ≤ 2 ^ 58 → (r : Result (PlainCells T) AllocError) → IfOk r (λ cells. contents_of cells ≡ empty_ring cap) → IfOk r (λ cells. IsNew (Bounded cap) (contents_of cells))
 new_ring T cap two most (Ok cells) h = subst (λ (x : Contents T). IsNew (Bounded cap) x) (sym h) (refl, fits_ring T cap two most)
 new_ring T cap two most (Err e) h = tt
+
+pub new_blocks : (T : Type 0) (cells : PlainCells T) → contents_of cells ≡ empty_blocks → IsNew Unbounded (contents_of cells)
+new_blocks T cells e = blocks_are_new (contents_of cells) e

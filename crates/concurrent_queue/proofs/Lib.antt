@@ -1,3 +1,21 @@
+mod BlocksBasics
+mod BlocksSteps
+mod BlocksOthers
+mod BlocksLater
+mod BlocksPhases
+mod BlocksKeeps
+mod BlocksAsks
+mod BlocksDispatch
+mod BlocksTheorem
+mod BlocksNearer
+mod BlocksQuiet
+mod BlocksStart
+mod BlocksDenote
+mod BlocksSpares
+mod BlocksRetire
+mod BlocksYields
+mod BlocksPushWords
+mod BlocksPopWords
 pub mod StepFacts
 pub mod SingleSteps
 pub mod RingShape
@@ -19,9 +37,15 @@ pub mod RingNearer
 pub mod RingTheorem
 pub mod RingOneCell
 pub mod RingShows
+mod BlocksStep
+mod BlocksFacts
+mod BlocksShows
 pub mod Slots
 pub mod Evidence
 pub mod Runs
+mod Accounts
+mod Lone
 pub mod PartyFacts
 pub mod RingMade
 pub mod AloneFacts
+pub mod AtOnce

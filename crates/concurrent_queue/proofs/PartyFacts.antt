@@ -4,7 +4,6 @@ use Rattle.std.specs.List.{remove}
 use Rattle.concurrent_queue.specs.Contents.{Contents}
 use Rattle.concurrent_queue.specs.Step.{IsQueueStep, mark_of}
 use Rattle.concurrent_queue.specs.Parties.{SteppedAt, parties_after, party}
-use Rattle.concurrent_queue.specs.declared.call.QueueEntry.{QueueEntry}
 use Rattle.concurrent_queue.specs.declared.call.QueueReply.{QueueReply}
 use Rattle.concurrent_queue.specs.declared.call.QueueMark.{QueueMark}
 use Rattle.concurrent_queue.specs.declared.queue_call.QueueCall.{QueueCall}

@@ -1,5 +1,5 @@
 -- One call among others, in lists of calls under way.
-use Rattle.std.proofs.Common.{◌≡◌, ℕ, ◌+◌, ◌≤◌, List, [], ◌∷◌, ◌++◌, refl, ap, arith}
+use Rattle.std.proofs.Common.{◌≡◌, ℕ, ◌+◌, ◌≤◌, List, [], ◌∷◌, ◌++◌, refl, arith}
 use Rattle.concurrent_queue.specs.Places.{Place, Each, sum}
 
 module _ {A T : Type 0} where

@@ -1,16 +1,16 @@
 -- What the words of a ring say of the numbers of its messages.
-use Rattle.std.proofs.Common.{◌≡◌, ℕ, zero, suc, ◌+◌, ◌-◌, ◌*◌, ◌/◌, ◌%◌, ◌^◌, ◌<◌, ◌≤◌, ⊎_elim, Bool, true, false, if◌then◌else◌, ◌==◌, nat_lt, nat_le, bit_or, bit_and, List, [], ◌∷◌, Option, None, Some, slice_get, slice_index, slice_set, refl, sym, ap, ◌∙◌, subst, arith}
+use Rattle.std.proofs.Common.{◌≡◌, ℕ, zero, suc, ◌+◌, ◌*◌, ◌/◌, ◌%◌, ◌^◌, ◌<◌, ◌≤◌, ⊎_elim, Bool, true, false, if◌then◌else◌, ◌==◌, bit_or, bit_and, List, [], ◌∷◌, Option, Some, slice_get, slice_index, slice_set, refl, sym, ap, ◌∙◌, arith}
 use Rattle.std.proofs.lemmas.Nat.{mod_below, mod-mul-add, div-add-mod', and_mask, and_block}
 use Rattle.std.specs.Int.Bits.{and_zero_r, or_add_and}
 use Rattle.std.proofs.Math.Nat.{mod-eq_of_lt, mul-le-mul_left}
-use Rattle.std.proofs.lemmas.Bool.{cases_lt, false≢true}
+use Rattle.std.proofs.lemmas.Bool.{cases_lt}
 use Rattle.std.proofs.lemmas.Bool.Decides.{nat_tests}
 use Rattle.concurrent_queue.specs.Contents.{Contents, write_slot}
 use Rattle.concurrent_queue.specs.declared.cells.Slot.TheVariants.{At}
 use Rattle.concurrent_queue.specs.Positions.{pos}
 use Rattle.concurrent_queue.specs.RingState.{SlotState, Ring, with_place}
 use Rattle.concurrent_queue.specs.RingMeans.{Denotes}
-use Rattle.concurrent_queue.specs.RingWords.{is_marked, unmarked, index, stride, next_word, count_of, between, set_tail, set_head, set_stamp}
+use Rattle.concurrent_queue.specs.RingWords.{is_marked, unmarked, index, stride, next_word, count_of, between, set_stamp}
 use Rattle.concurrent_queue.proofs.RingShape.{IsMark}
 use Rattle.concurrent_queue.proofs.RingPlaces.{pos-index, pos-same, pos-less, pos-turn, pos-next, pos-div, near_same}
 use Rattle.concurrent_queue.proofs.RingSound.{by_bool, by_eq, if_false, if_true}
@@ -102,7 +102,7 @@ module _ (cap m : ℕ) (some : 0 < cap) (k : IsMark cap m) where
       let f' : n / cap * (4 * cap) ≡ 4 * (n / cap * cap) = omega arith in
       omega arith
 
-  pub next_is : (n : ℕ) → n < 2 ^ 61 → next_word cap m (pos cap (2 * m) n) ≡ pos cap (2 * m) (n + 1)
+  pub next_is : (n : ℕ) → n ≤ 2 ^ 61 → next_word cap m (pos cap (2 * m) n) ≡ pos cap (2 * m) (n + 1)
   next_is n h = let e = stride_is n in let b = pos_small (n + 1) in ap (λ (x : ℕ). x % 2 ^ 64) e ∙ mod-eq_of_lt (let g : pos cap (2 * m) (n + 1) < 2 ^ 64 = omega arith in g)
 
   -- before the first lap's end

@@ -1,19 +1,17 @@
 -- Each step of a call keeps what the ring means, by the numbers of messages.
-use Rattle.std.proofs.Common.{◌≡◌, ℕ, ◌+◌, ◌-◌, ◌%◌, ◌<◌, ◌≤◌, ⊎_elim, Bool, true, false, if◌then◌else◌, ◌==◌, nat_lt, List, ◌∷◌, [], ◌++◌, length, drop, Option, None, Some, Ok, Err, slice_get, refl, sym, ap, ◌∙◌, subst, inl, inr, arith}
+use Rattle.std.proofs.Common.{◌≡◌, ℕ, ◌+◌, ◌%◌, ◌<◌, ◌≤◌, ⊎_elim, Bool, true, false, if◌then◌else◌, ◌∷◌, [], ◌++◌, length, drop, Option, None, Some, Ok, Err, slice_get, refl, sym, ap, ◌∙◌, subst, inl, inr, arith}
 use Rattle.std.proofs.lemmas.Nat.{mod_below}
 use Rattle.std.proofs.lemmas.Bool.{cases_lt, false≢true}
 use Rattle.std.proofs.lemmas.Bool.Decides.{nat_tests}
-use Rattle.concurrent_queue.specs.Queue.{Queue, Phase, Stage, trying, displaced, appended, taken, read, measured, message, is_displaced, seen_after, Goes, Answers}
-use Rattle.concurrent_queue.specs.RingState.{SlotState, Ring, Sound, IsShown, busy, with_place, reach}
-use Rattle.concurrent_queue.specs.RingCalls.{ask_of, at_stage, Stands, IsItem, Saw, Reached, Knows}
+use Rattle.concurrent_queue.specs.Queue.{Queue, Phase, trying, displaced, appended, taken, read, measured, message, seen_after, Goes, Answers}
+use Rattle.concurrent_queue.specs.RingState.{SlotState, Ring, Sound, IsShown, with_place, reach}
+use Rattle.concurrent_queue.specs.RingCalls.{ask_of, at_stage, Stands, IsItem, Saw, Reached}
 use Rattle.concurrent_queue.specs.RingMeans.{Kept}
 use Rattle.concurrent_queue.specs.RingWords.{shut_reply, pushed_reply, behind}
 use Rattle.concurrent_queue.proofs.RingPlaces.{turn-index}
-use Rattle.concurrent_queue.proofs.RingSound as sound
-use Rattle.concurrent_queue.proofs.RingSound.{by_bool, by_eq}
+use Rattle.concurrent_queue.proofs.RingSound.{by_bool}
 use Rattle.concurrent_queue.proofs.RingLater.{eq_self}
 use Rattle.concurrent_queue.proofs.RingKinds as kind
-use Rattle.concurrent_queue.specs.declared.call.QueueAsk.{QueueAsk}
 use Rattle.concurrent_queue.specs.declared.call.QueueAsk.TheVariants as ask
 use Rattle.concurrent_queue.specs.declared.call.QueueMark.{QueueMark}
 use Rattle.concurrent_queue.specs.declared.call.QueueMark.TheVariants as mark

@@ -1,13 +1,12 @@
 -- The kinds of step that a ring makes: nothing changes, it closes, a message comes in at the tail or in a displacing push's
 -- place, the oldest leaves, or a place goes on. Each keeps what holds of the ring, shows its mark, and leaves to the other
 -- calls what they rely on.
-use Rattle.std.proofs.Common.{◌≡◌, ℕ, zero, suc, ◌+◌, ◌-◌, ◌%◌, ◌<◌, ◌≤◌, ◌⊎◌, ⊎_elim, Bool, true, false, if◌then◌else◌, ◌==◌, nat_lt, List, [], ◌∷◌, ◌++◌, length, Option, None, Some, drop, slice_get, MatchOption, refl, sym, ap, ◌∙◌, subst, inl, inr, arith, length-append}
-use Rattle.std.proofs.lemmas.Nat.{mod_below}
+use Rattle.std.proofs.Common.{◌≡◌, ℕ, zero, suc, ◌+◌, ◌-◌, ◌%◌, ◌<◌, ◌≤◌, ◌⊎◌, ⊎_elim, Bool, true, false, if◌then◌else◌, ◌==◌, nat_lt, List, [], ◌∷◌, ◌++◌, length, Option, None, Some, drop, slice_get, MatchOption, refl, sym, ap, ◌∙◌, subst, inl, inr, arith}
 use Rattle.std.proofs.lemmas.List.{drop-append-le, length-drop}
 use Rattle.std.proofs.lemmas.Bool.{cases_lt, false≢true}
 use Rattle.std.proofs.lemmas.Bool.Decides.{nat_tests}
-use Rattle.concurrent_queue.specs.Queue.{Queue, Phase, Stage, marked, is_displaced, message, is_filled, is_full_at, is_stuck, seen_after, after, Goes, Answers, IsOldest}
-use Rattle.concurrent_queue.specs.RingState.{SlotState, Ring, Sound, IsShown, busy, with_place, reach}
+use Rattle.concurrent_queue.specs.Queue.{Queue, Phase, is_displaced, message, is_filled, is_full_at, seen_after, after, Goes, Answers, IsOldest}
+use Rattle.concurrent_queue.specs.RingState.{SlotState, Ring, Sound, IsShown, busy, with_place}
 use Rattle.concurrent_queue.specs.RingCalls.{Duty, hold, bring, IsDuty, held, holds, brings, owes, owed, Knows}
 use Rattle.concurrent_queue.specs.RingMeans.{Later, Kept}
 use Rattle.concurrent_queue.proofs.RingPlaces.{turn-index}

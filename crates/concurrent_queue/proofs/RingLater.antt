@@ -1,9 +1,9 @@
 -- What a call knows outlasts a step of another.
-use Rattle.std.proofs.Common.{◌≡◌, ℕ, ◌+◌, ◌%◌, ◌<◌, ◌≤◌, ⊎_elim, Bool, true, false, if◌then◌else◌, ◌==◌, nat_lt, Option, None, Some, slice_get, refl, sym, ap, ◌∙◌, subst, inl, inr, arith}
+use Rattle.std.proofs.Common.{◌≡◌, ℕ, ◌+◌, ◌%◌, ◌<◌, ◌≤◌, ⊎_elim, Bool, true, false, if◌then◌else◌, ◌==◌, Option, None, Some, refl, sym, ◌∙◌, subst, inl, inr, arith}
 use Rattle.std.proofs.lemmas.Nat.{mod_below}
 use Rattle.std.proofs.lemmas.Bool.Decides.{nat_tests}
 use Rattle.concurrent_queue.specs.Queue.{Phase}
-use Rattle.concurrent_queue.specs.RingState.{SlotState, Ring, Sound, busy, reach}
+use Rattle.concurrent_queue.specs.RingState.{SlotState, Ring, busy}
 use Rattle.concurrent_queue.specs.RingCalls.{Duty, hold, bring, IsDuty, Stands, IsItem, Reached, Saw, Knows, held, owes, owed}
 use Rattle.concurrent_queue.specs.RingMeans.{Later}
 use Rattle.concurrent_queue.specs.declared.bounded.RingAction.{RingAction}

@@ -1,19 +1,17 @@
 -- A ring that was just made is open and empty, and each of its slots waits for its first message.
-use Rattle.std.proofs.Common.{◌≡◌, ℕ, zero, suc, ◌+◌, ◌*◌, ◌/◌, ◌%◌, ◌<◌, ◌≤◌, ⊎_elim, Bool, true, false, if◌then◌else◌, nat_lt, List, [], ◌∷◌, ◌++◌, length, drop, Option, None, Some, slice_get, refl, sym, ap, ◌∙◌, subst, arith, length-append}
-use Rattle.std.proofs.lemmas.Nat.{div-mul-add, mod_below}
+use Rattle.std.proofs.Common.{◌≡◌, ℕ, zero, suc, ◌+◌, ◌*◌, ◌/◌, ◌<◌, ◌≤◌, ⊎_elim, false, nat_lt, [], ◌∷◌, ◌++◌, length, None, Some, slice_get, refl, sym, ap, ◌∙◌, subst, arith, length-append}
+use Rattle.std.proofs.lemmas.Nat.{div-mul-add}
 use Rattle.std.proofs.Math.Nat.{mod-eq_of_lt}
 use Rattle.std.proofs.lemmas.Bool.{cases_lt, false≢true}
 use Rattle.std.proofs.lemmas.Bool.Decides.{nat_tests}
-use Rattle.concurrent_queue.specs.Contents.{Contents}
 use Rattle.concurrent_queue.specs.Positions.{pos}
 use Rattle.concurrent_queue.specs.Queue.{opened}
-use Rattle.concurrent_queue.specs.RingState.{SlotState, Ring, Sound, IsShown}
+use Rattle.concurrent_queue.specs.RingState.{Ring, Sound}
 use Rattle.concurrent_queue.specs.RingCalls.{Duty, hold, bring, IsDuty, owed}
 use Rattle.concurrent_queue.specs.RingMade.{numbers_below, vacant_slots, empty_ring}
 use Rattle.concurrent_queue.specs.RingMeans.{Denotes, RingMeans}
 use Rattle.concurrent_queue.proofs.RingShape.{IsMark}
 use Rattle.concurrent_queue.proofs.RingSound.{get_before, get_end}
-use Rattle.concurrent_queue.proofs.RingDenotes as denote
 
 pub next_number : (n : ℕ) → numbers_below n ++ n ∷ [] ≡ numbers_below (n + 1)
 next_number n = let e : n + 1 ≡ suc n = omega arith in rw e refl

@@ -1,14 +1,14 @@
 -- A call that no other holds up comes nearer to its end at each step.
-use Rattle.std.proofs.Common.{◌≡◌, ℕ, ◌+◌, ◌-◌, ◌*◌, ◌%◌, ◌^◌, ◌<◌, ◌≤◌, ◌&&◌, ⊎_elim, Bool, true, false, if◌then◌else◌, ◌==◌, nat_lt, nat_le, List, Option, None, Some, MatchOption, slice_get, slice_index, refl, sym, ap, ◌∙◌, subst, arith}
+use Rattle.std.proofs.Common.{◌≡◌, ℕ, ◌+◌, ◌-◌, ◌*◌, ◌%◌, ◌^◌, ◌<◌, ◌≤◌, ◌&&◌, Bool, true, false, if◌then◌else◌, ◌==◌, nat_lt, nat_le, Option, None, MatchOption, slice_index, refl, sym, ap, ◌∙◌, subst, arith}
 use Rattle.std.proofs.lemmas.Nat.{mod_below}
-use Rattle.std.proofs.lemmas.Bool.{cases_lt, false≢true}
+use Rattle.std.proofs.lemmas.Bool.{false≢true}
 use Rattle.std.proofs.lemmas.Bool.Decides.{nat_tests}
 use Rattle.std.proofs.Math.Nat.{mod-eq_of_lt}
-use Rattle.concurrent_queue.specs.Contents.{Contents, write_slot, slot_at, is_vacant}
+use Rattle.concurrent_queue.specs.Contents.{Contents, write_slot}
 use Rattle.concurrent_queue.specs.Positions.{pos}
 use Rattle.concurrent_queue.specs.Queue.{Queue, Phase}
 use Rattle.concurrent_queue.specs.RingState.{Ring, Sound, IsShown, busy}
-use Rattle.concurrent_queue.specs.RingCalls.{Duty, hold, bring, IsDuty, owes, owed, held, Knows, placed}
+use Rattle.concurrent_queue.specs.RingCalls.{Duty, hold, IsDuty, owes, owed, held, Knows, placed}
 use Rattle.concurrent_queue.specs.RingMeans.{Denotes}
 use Rattle.concurrent_queue.specs.RingRank.{ring_rank, rests_at}
 use Rattle.concurrent_queue.specs.RingWords as word
@@ -21,7 +21,6 @@ use Rattle.concurrent_queue.proofs.RingDenotes.{eq_true, eq_false, eq_holds}
 use Rattle.concurrent_queue.proofs.RingLater.{eq_self}
 use Rattle.concurrent_queue.proofs.RingSteps as step
 use Rattle.concurrent_queue.proofs.RingSteps.{pick, both, le_true}
-use Rattle.concurrent_queue.specs.declared.call.QueueReply.{QueueReply}
 use Rattle.concurrent_queue.specs.declared.call.Stepped.{Stepped}
 use Rattle.concurrent_queue.specs.declared.cells.Slot.TheVariants.{At}
 use Rattle.concurrent_queue.specs.declared.bounded.WhenFull.{WhenFull}
@@ -44,7 +43,7 @@ not_owed true e = absurd (omega arith)
 lt_no : (x y : ℕ) → nat_lt x y ≡ false → y ≤ x
 lt_no x y e = grind (arith, nat_tests)
 
-module _ {T : Type 0} (cap m : ℕ) (two : 2 ≤ cap) (limit : cap ≤ 2 ^ 58) (k : IsMark cap m) (c : Contents T) (r : Ring T) (q : Queue T) (d : Denotes cap m c r) (s : Sound cap r) (w : IsShown cap r q) (few : r.tail < 2 ^ 61) where
+module _ {T : Type 0} (cap m : ℕ) (two : 2 ≤ cap) (limit : cap ≤ 2 ^ 58) (k : IsMark cap m) (c : Contents T) (r : Ring T) (q : Queue T) (d : Denotes cap m c r) (s : Sound cap r) (w : IsShown cap r q) (few : r.tail ≤ 2 ^ 61) where
   abbrev Word : ℕ → ℕ
   Word n = pos cap (2 * m) n
 

@@ -1,23 +1,23 @@
 -- What the words and slots of a ring show of its queue.
-use Rattle.std.proofs.Common.{◌≡◌, ℕ, zero, suc, ◌+◌, ◌-◌, ◌*◌, ◌/◌, ◌%◌, ◌<◌, ◌≤◌, ◌⊎◌, ⊎_elim, Bool, true, false, if◌then◌else◌, ◌==◌, nat_lt, List, [], ◌∷◌, ◌++◌, length, map, drop, Option, None, Some, option_to_list, slice_get, refl, sym, ap, ◌∙◌, subst, inl, inr, arith}
+use Rattle.std.proofs.Common.{◌≡◌, ℕ, zero, suc, ◌+◌, ◌-◌, ◌*◌, ◌%◌, ◌<◌, ◌≤◌, ◌⊎◌, ⊎_elim, Bool, true, false, if◌then◌else◌, ◌==◌, nat_lt, List, [], ◌∷◌, length, drop, Option, None, Some, slice_get, refl, sym, ap, ◌∙◌, subst, inl, inr, arith}
 use Rattle.std.proofs.lemmas.Nat.{mod_below, div-add-mod'}
 use Rattle.std.proofs.lemmas.Bool.{cases_lt, false≢true}
 use Rattle.std.proofs.lemmas.Bool.Decides.{nat_tests}
 use Rattle.concurrent_queue.specs.Contents.{Contents, slot_at}
 use Rattle.concurrent_queue.specs.Positions.{pos}
-use Rattle.concurrent_queue.specs.Queue.{Queue, Stage, appended, Phase, message}
+use Rattle.concurrent_queue.specs.Queue.{appended, Phase, message}
 use Rattle.concurrent_queue.specs.Places.{Place, Each, sum}
-use Rattle.concurrent_queue.specs.Step.{HasBrought, IsBrought, Lies, ShowsBy}
+use Rattle.concurrent_queue.specs.Step.{HasBrought, IsBrought}
 use Rattle.concurrent_queue.specs.Forms.{place_phases, FormShows}
-use Rattle.concurrent_queue.specs.RingState.{SlotState, Ring, Sound, IsShown, busy, reach}
-use Rattle.concurrent_queue.specs.RingCalls.{Duty, hold, bring, IsDuty, ask_of, at_stage, IsItem, owes, owed, holds, held, Knows}
-use Rattle.concurrent_queue.specs.RingMeans.{Denotes, place_at, RingMeans}
+use Rattle.concurrent_queue.specs.RingState.{SlotState, Ring, Sound, busy, reach}
+use Rattle.concurrent_queue.specs.RingCalls.{Duty, hold, bring, IsDuty, ask_of, at_stage, owes, owed, Knows}
+use Rattle.concurrent_queue.specs.RingMeans.{Denotes, RingMeans}
 use Rattle.concurrent_queue.specs.RingRank.{ring_rank}
 use Rattle.concurrent_queue.specs.RingWords.{is_marked, unmarked}
 use Rattle.concurrent_queue.specs.RingReadings.{number_of, ring_closed, ring_counted, ring_length, held_from, ring_held}
 use Rattle.concurrent_queue.proofs.RingShape.{IsMark}
 use Rattle.concurrent_queue.proofs.RingPlaces.{near_same, turn-index, pos-div}
-use Rattle.concurrent_queue.proofs.RingSound.{by_bool, by_eq}
+use Rattle.concurrent_queue.proofs.RingSound.{by_bool}
 use Rattle.concurrent_queue.proofs.RingKinds.{length_is, drop_front, get_at}
 use Rattle.concurrent_queue.proofs.RingDenotes as denote
 use Rattle.concurrent_queue.proofs.RingDenotes.{eq_true}
@@ -25,7 +25,6 @@ use Rattle.concurrent_queue.proofs.RingSteps.{slot_of}
 use Rattle.concurrent_queue.proofs.RingTheorem.{same_phases}
 use Rattle.concurrent_queue.specs.declared.call.QueueAsk.{QueueAsk}
 use Rattle.concurrent_queue.specs.declared.call.QueueAsk.TheVariants as ask
-use Rattle.concurrent_queue.specs.declared.cells.Slot.{Slot}
 use Rattle.concurrent_queue.specs.declared.cells.Slot.TheVariants.{At}
 use Rattle.concurrent_queue.specs.declared.bounded.WhenFull.{WhenFull}
 use Rattle.concurrent_queue.specs.declared.bounded.WhenFull.TheVariants.{Refuse, Displace}

@@ -1,9 +1,8 @@
 -- The steps of a ring keep what holds of it at every moment.
-use Rattle.std.proofs.Common.{◌≡◌, ℕ, zero, suc, ◌+◌, ◌-◌, ◌%◌, ◌<◌, ◌≤◌, ⊎_elim, Bool, true, false, if◌then◌else◌, ◌==◌, List, [], ◌∷◌, ◌++◌, length, None, Some, slice_get, refl, sym, ap, ◌∙◌, subst, arith, length-append}
+use Rattle.std.proofs.Common.{◌≡◌, ℕ, zero, suc, ◌+◌, ◌%◌, ◌<◌, ◌≤◌, ⊎_elim, Bool, true, false, if◌then◌else◌, List, [], ◌∷◌, ◌++◌, length, None, Some, slice_get, refl, sym, ap, ◌∙◌, subst, arith, length-append}
 use Rattle.std.proofs.lemmas.Nat.{mod_below}
 use Rattle.std.proofs.lemmas.Bool.{cases_lt, false≢true}
-use Rattle.std.proofs.lemmas.Bool.Decides.{nat_tests}
-use Rattle.concurrent_queue.specs.RingState.{SlotState, Ring, Sound, with_place}
+use Rattle.concurrent_queue.specs.RingState.{Ring, Sound}
 use Rattle.concurrent_queue.proofs.RingPlaces.{near_same, turn-index}
 
 -- the end of a list

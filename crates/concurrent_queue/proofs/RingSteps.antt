@@ -1,13 +1,13 @@
 -- Each step of the machine on words and slots is one by the numbers of messages.
-use Rattle.std.proofs.Common.{◌≡◌, ℕ, zero, suc, ◌+◌, ◌-◌, ◌*◌, ◌%◌, ◌^◌, ◌<◌, ◌≤◌, ◌&&◌, ⊎_elim, Bool, true, false, if◌then◌else◌, ◌==◌, nat_lt, nat_le, bit_or, List, [], ◌∷◌, Option, None, Some, Ok, Err, slice_get, slice_index, slice_index_or, refl, sym, ap, ◌∙◌, subst, arith}
+use Rattle.std.proofs.Common.{◌≡◌, ℕ, zero, suc, ◌+◌, ◌-◌, ◌*◌, ◌%◌, ◌^◌, ◌<◌, ◌≤◌, ◌&&◌, ⊎_elim, Bool, true, false, if◌then◌else◌, ◌==◌, nat_le, bit_or, List, [], ◌∷◌, Option, None, Some, slice_get, slice_index, slice_index_or, refl, sym, ap, ◌∙◌, subst, arith}
 use Rattle.std.proofs.lemmas.Nat.{mod_below}
 use Rattle.std.proofs.Math.Nat.{mod-eq_of_lt}
 use Rattle.std.proofs.lemmas.Bool.{cases_lt, false≢true}
 use Rattle.std.proofs.lemmas.Bool.Decides.{nat_tests}
 use Rattle.concurrent_queue.specs.Contents.{Contents, write_slot, slot_at, is_vacant}
 use Rattle.concurrent_queue.specs.Positions.{pos}
-use Rattle.concurrent_queue.specs.Queue.{Queue, Phase, Stage, trying, displaced, appended, taken, read, measured}
-use Rattle.concurrent_queue.specs.RingState.{SlotState, Ring, Sound, IsShown, with_place}
+use Rattle.concurrent_queue.specs.Queue.{Queue, Phase, trying}
+use Rattle.concurrent_queue.specs.RingState.{Ring, Sound, IsShown, with_place}
 use Rattle.concurrent_queue.specs.RingCalls.{ask_of, at_stage, Saw, Knows, placed}
 use Rattle.concurrent_queue.specs.RingMeans.{Denotes, Kept}
 use Rattle.concurrent_queue.specs.RingWords as word
@@ -18,15 +18,9 @@ use Rattle.concurrent_queue.proofs.RingSound.{by_bool}
 use Rattle.concurrent_queue.proofs.RingDenotes as denote
 use Rattle.concurrent_queue.proofs.RingDenotes.{eq_true, eq_false, eq_holds}
 use Rattle.concurrent_queue.proofs.RingKeeps as keep
-use Rattle.concurrent_queue.specs.declared.call.QueueAsk.TheVariants as ask
-use Rattle.concurrent_queue.specs.declared.call.QueueMark.{QueueMark}
 use Rattle.concurrent_queue.specs.declared.call.QueueMark.TheVariants as mark
-use Rattle.concurrent_queue.specs.declared.call.QueueReply.{QueueReply}
-use Rattle.concurrent_queue.specs.declared.call.QueueReply.TheVariants as reply
 use Rattle.concurrent_queue.specs.declared.call.Stepped.{Stepped}
 use Rattle.concurrent_queue.specs.declared.cells.Slot.TheVariants.{At}
-use Rattle.concurrent_queue.specs.declared.error.PushError.TheVariants as push_error
-use Rattle.concurrent_queue.specs.declared.error.PopError.TheVariants as pop_error
 use Rattle.concurrent_queue.specs.declared.bounded.WhenFull.{WhenFull}
 use Rattle.concurrent_queue.specs.declared.bounded.WhenFull.TheVariants.{Refuse, Displace}
 use Rattle.concurrent_queue.specs.declared.bounded.RingAction.{RingAction}
@@ -60,7 +54,7 @@ both true true e = (refl, refl)
 both true false e = absurd (false≢true e)
 both false b e = absurd (false≢true e)
 
-module _ {T : Type 0} (cap m : ℕ) (two : 2 ≤ cap) (limit : cap ≤ 2 ^ 58) (k : IsMark cap m) (c : Contents T) (r : Ring T) (q : Queue T) (d : Denotes cap m c r) (s : Sound cap r) (w : IsShown cap r q) (few : r.tail < 2 ^ 61) where
+module _ {T : Type 0} (cap m : ℕ) (two : 2 ≤ cap) (limit : cap ≤ 2 ^ 58) (k : IsMark cap m) (c : Contents T) (r : Ring T) (q : Queue T) (d : Denotes cap m c r) (s : Sound cap r) (w : IsShown cap r q) (few : r.tail ≤ 2 ^ 61) where
   at_pos : ℕ → ℕ
   at_pos n = pos cap (2 * m) n
 

@@ -2,15 +2,15 @@
 use Rattle.std.proofs.Common.{◌≡◌, ℕ, ◌+◌, ◌*◌, ◌^◌, ◌<◌, ◌≤◌, ⊎_elim, Bool, true, false, if◌then◌else◌, List, [], ◌∷◌, ◌++◌, map, Option, None, Some, MatchOption, refl, sym, ap, ◌∙◌, subst, arith}
 use Rattle.concurrent_queue.specs.Contents.{Contents}
 use Rattle.concurrent_queue.specs.Positions.{pos}
-use Rattle.concurrent_queue.specs.Queue.{Queue, Phase, Stage, trying, displaced, appended, taken, read, measured, asked, after, Goes, Answers, IsInRange}
+use Rattle.concurrent_queue.specs.Queue.{Queue, Phase, asked, after, Goes, Answers, IsInRange}
 use Rattle.concurrent_queue.specs.Places.{Place, Each, sum}
-use Rattle.concurrent_queue.specs.Step.{OneCell, IsQuiet, AllQuiet, HoldsNobodyUp}
+use Rattle.concurrent_queue.specs.Step.{IsQuiet, AllQuiet, HoldsNobodyUp}
 use Rattle.concurrent_queue.specs.Forms.{place, place_phases, FormStep, FormSteps, FormStarts, FormRanks}
-use Rattle.concurrent_queue.specs.RingState.{Ring, Sound, IsShown, busy}
+use Rattle.concurrent_queue.specs.RingState.{Ring, Sound, IsShown}
 use Rattle.concurrent_queue.specs.RingCalls.{Duty, hold, bring, IsDuty, owes, owed, Knows, placed}
-use Rattle.concurrent_queue.specs.RingMeans.{Later, Kept, Denotes, place_at, RingMeans}
+use Rattle.concurrent_queue.specs.RingMeans.{Later, Denotes, place_at, RingMeans}
 use Rattle.concurrent_queue.specs.RingRank.{ring_rank, rests_at}
-use Rattle.concurrent_queue.specs.RingWords.{ring_step, ring_start, unmarked}
+use Rattle.concurrent_queue.specs.RingWords.{ring_step, ring_start}
 use Rattle.concurrent_queue.proofs.Places.{sum_at, each_at, each_others, each_with}
 use Rattle.concurrent_queue.proofs.RingShape.{IsMark}
 use Rattle.concurrent_queue.proofs.RingLater.{later_keeps}
@@ -21,7 +21,6 @@ use Rattle.concurrent_queue.specs.declared.call.QueueAsk.{QueueAsk}
 use Rattle.concurrent_queue.specs.declared.call.QueueAsk.TheVariants as ask
 use Rattle.concurrent_queue.specs.declared.call.QueueReply.{QueueReply}
 use Rattle.concurrent_queue.specs.declared.call.Stepped.{Stepped}
-use Rattle.concurrent_queue.specs.declared.bounded.WhenFull.TheVariants.{Refuse, Displace}
 use Rattle.concurrent_queue.specs.declared.bounded.RingAction.{RingAction}
 use Rattle.concurrent_queue.specs.declared.bounded.RingAction.TheVariants as act
 
@@ -207,7 +206,7 @@ module _ {T : Type 0} (cap m : ℕ) (two : 2 ≤ cap) (limit : cap ≤ 2 ^ 58) (
   abbrev pub IsMachineStep : Contents T → RingAction T → Contents T → Stepped (RingAction T) T → Type 0
   IsMachineStep c a d s = (d, s) ≡ ring_step cap m c a
 
-  module _ (c : Contents T) (q : Queue T) (p : Phase T) (l r : List (Place (RingAction T) T)) (ring : Ring T) (denotes : Denotes cap m c ring) (sound : Sound cap ring) (shown : IsShown cap ring q) (few : ring.tail < 2 ^ 61)
+  module _ (c : Contents T) (q : Queue T) (p : Phase T) (l r : List (Place (RingAction T) T)) (ring : Ring T) (denotes : Denotes cap m c ring) (sound : Sound cap ring) (shown : IsShown cap ring q) (few : ring.tail ≤ 2 ^ 61)
       (left right : List (Place (RingAction T) T)) (lefts : l ≡ map (place_at (pos cap (2 * m))) left) (rights : r ≡ map (place_at (pos cap (2 * m))) right) (a : RingAction T) (knows : Knows cap ring a p)
       (others : Each (KnowsAt cap ring) (left ++ right)) (counts : (y : Duty) → IsDuty cap y → owes cap a y + owners cap y (left ++ right) ≡ owed ring y) where
     some : 0 < cap
@@ -272,7 +271,7 @@ module _ {T : Type 0} (cap m : ℕ) (two : 2 ≤ cap) (limit : cap ≤ 2 ^ 58) (
           ends = λ (h : HoldsNobodyUp q (place_phases (l ++ r))). nearer cap m two limit k c ring q denotes sound shown few a p knows (quiet h.0);
         }
 
-  in_range : (q : Queue T) (ring : Ring T) → IsShown cap ring q → IsInRange q → ring.tail < 2 ^ 61
+  in_range : (q : Queue T) (ring : Ring T) → IsShown cap ring q → IsInRange q → ring.tail ≤ 2 ^ 61
   in_range q ring w range = ⊎_elim
       (λ e. absurd (let f : Some cap ≡ Some 1 = sym w.capacity ∙ e in let g : cap ≡ 1 = cc in omega arith))
       (λ h. let a = w.accepted in omega arith) range

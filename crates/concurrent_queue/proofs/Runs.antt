@@ -1,16 +1,15 @@
 -- A run goes on by one step.
-use Rattle.std.proofs.Common.{◌≡◌, ℕ, zero, suc, ◌+◌, ◌<◌, ◌≤◌, ◌^◌, List, [], ◌∷◌, ◌++◌, length, map, Option, None, Some, slice_get, slice_set, MatchOption, ◌⊎◌, ⊎_elim, inl, inr, refl, sym, ap, ◌∙◌, subst, arith, append_assoc, append-nil, length-append}
+use Rattle.std.proofs.Common.{◌≡◌, ℕ, zero, suc, ◌+◌, ◌<◌, ◌≤◌, List, [], ◌∷◌, ◌++◌, length, map, Option, None, Some, slice_get, slice_set, ◌⊎◌, ⊎_elim, inl, inr, refl, sym, ap, ◌∙◌, subst, arith, append_assoc, append-nil, length-append}
 use Rattle.std.specs.List.{remove}
 use Rattle.concurrent_queue.specs.Contents.{Contents}
 use Rattle.concurrent_queue.specs.Dispatch.{capacity_of}
-use Rattle.concurrent_queue.specs.Queue.{Queue, Phase, asked, after, marked, is_displaced, Goes, Answers, AnswersTo, IsInRange, message, opened}
+use Rattle.concurrent_queue.specs.Queue.{Queue, Phase, asked, after, marked, is_displaced, AnswersTo, IsInRange, opened}
 use Rattle.concurrent_queue.specs.Places.{Each}
-use Rattle.concurrent_queue.specs.Rows.{Deed, MayAnswer, IsBegun}
-use Rattle.concurrent_queue.specs.Scene.{Under, Scene, sees, does, begun, with_deed, makes_room, has_brought, AllIdle, HoldNobodyUp, GoesOnAs, unless_ended, Begins, NotUnderWay, IsUnderWay, IsBroughtBy, Reads, new_scene}
-use Rattle.concurrent_queue.specs.Scene as scene
-use Rattle.concurrent_queue.specs.Step.{Seat, seat, Fits, Shows, Steps, IsQueueStep, Starts, phases, IsQuiet, AllQuiet, HoldsNobodyUp, IsBrought, HasBrought, OneCell, rank, mark_of}
-use Rattle.concurrent_queue.specs.Parties.{party, HasParty, NoneHas, Turns, SteppedAt, parties_after, IsMade, TurnedOver, IsRefused}
-use Rattle.concurrent_queue.specs.Run.{Config, Next, IsRun, accepted_in, one_if_accepted, IsCounted, MayRefuse, opened_config, Ran, RanTo}
+use Rattle.concurrent_queue.specs.Rows.{Deed}
+use Rattle.concurrent_queue.specs.Scene.{Under, sees, does, with_deed, makes_room, AllIdle, HoldNobodyUp, GoesOnAs, unless_ended, NotUnderWay, IsUnderWay, IsBroughtBy, Reads, new_scene}
+use Rattle.concurrent_queue.specs.Step.{Seat, seat, Fits, Steps, IsQueueStep, phases, AllQuiet, HoldsNobodyUp, IsBrought, OneCell, rank, mark_of}
+use Rattle.concurrent_queue.specs.Parties.{party, HasParty, NoneHas, Turns, parties_after, TurnedOver, IsRefused}
+use Rattle.concurrent_queue.specs.Run.{Config, Next, IsRun, accepted_in, one_if_accepted, IsCounted, MayRefuse, opened_config, RanTo}
 use Rattle.concurrent_queue.specs.Made.{IsNew}
 use Rattle.concurrent_queue.specs.declared.call.QueueAsk.{QueueAsk}
 use Rattle.concurrent_queue.specs.declared.call.QueueAsk.TheVariants as ask
@@ -25,9 +24,8 @@ use Rattle.concurrent_queue.specs.declared.run.QueueStep.{QueueStep}
 use Rattle.concurrent_queue.specs.declared.run.QueueStep.TheVariants.{Begin, Step}
 use Rattle.concurrent_queue.specs.declared.run.QueueRefusal.{QueueRefusal}
 use Rattle.concurrent_queue.specs.declared.run.QueueRefusal.TheVariants.{Busy, Idle, NoMemory}
-use Rattle.concurrent_queue.specs.declared.run.Stopped.{Stopped}
 use Rattle.concurrent_queue.proofs.Balance.{IsBalanced, IsFair, fair_goes, fair_answers, same_capacity}
-use Rattle.concurrent_queue.proofs.Evidence.{Evidence, Gone, goes_known, answers_known, answers_same, evidence_keeps, quiet_of, brought_of}
+use Rattle.concurrent_queue.proofs.Evidence.{Evidence, goes_known, answers_known, answers_same, evidence_keeps, quiet_of, brought_of}
 use Rattle.concurrent_queue.proofs.FitsFacts.{shows, ranks}
 
 -- a party with its call, and what is known of the call beside its cells

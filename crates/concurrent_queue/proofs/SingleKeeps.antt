@@ -3,7 +3,7 @@ use Rattle.std.proofs.Common.{◌≡◌, ℕ, Bool, true, false, List, [], ◌�
 use Rattle.concurrent_queue.specs.Contents.{Contents}
 use Rattle.concurrent_queue.specs.Queue.{Queue, Stage, trying, displaced, appended, taken, read, measured, Phase}
 use Rattle.concurrent_queue.specs.Single.{single_step}
-use Rattle.concurrent_queue.specs.SingleState.{word_of, holds, Knows, Tries, Stands, IsTrying}
+use Rattle.concurrent_queue.specs.SingleState.{word_of, holds, Knows, Tries, IsTrying}
 use Rattle.concurrent_queue.specs.declared.call.QueueAsk.{QueueAsk}
 use Rattle.concurrent_queue.specs.declared.call.QueueAsk.TheVariants as ask
 use Rattle.concurrent_queue.specs.declared.single.SingleAction.{SingleAction}

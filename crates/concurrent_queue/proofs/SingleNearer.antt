@@ -1,5 +1,5 @@
 -- On one slot a call that meets nobody's hold comes nearer to its end at each step.
-use Rattle.std.proofs.Common.{◌≡◌, ℕ, ◌<◌, Bool, true, false, List, [], ◌∷◌, Option, None, Some, is_some, if◌then◌else◌, MatchOption, ⊎_elim, refl, subst, rules}
+use Rattle.std.proofs.Common.{◌≡◌, ◌<◌, Bool, true, false, [], ◌∷◌, Option, None, Some, is_some, if◌then◌else◌, MatchOption, ⊎_elim, refl, subst, rules}
 use Rattle.concurrent_queue.specs.Contents.{Contents}
 use Rattle.concurrent_queue.specs.Queue.{Phase}
 use Rattle.concurrent_queue.specs.Single.{single_step, clear}

@@ -1,14 +1,13 @@
 -- What the word and the slot show of a queue of one slot.
-use Rattle.std.proofs.Common.{◌≡◌, ℕ, zero, suc, ◌+◌, ◌<◌, ◌≤◌, Bool, true, false, not, List, [], ◌∷◌, ◌++◌, length, Option, None, Some, is_some, option_to_list, slice_get, if◌then◌else◌, ◌==◌, refl, sym, ap, ◌∙◌, subst, inl, inr, ◌⊎◌, ⊎_elim, arith}
+use Rattle.std.proofs.Common.{◌≡◌, ℕ, zero, suc, ◌<◌, ◌≤◌, Bool, true, false, not, List, [], ◌∷◌, length, Option, None, Some, is_some, option_to_list, slice_get, if◌then◌else◌, refl, sym, ap, ◌∙◌, subst, inl, inr, ◌⊎◌, ⊎_elim, arith}
 use Rattle.concurrent_queue.specs.Contents.{Contents, slot_at}
 use Rattle.concurrent_queue.specs.Queue.{Queue, Stage, appended, Phase, message}
 use Rattle.concurrent_queue.specs.Places.{Place, Each}
 use Rattle.concurrent_queue.specs.Single.{clear}
 use Rattle.concurrent_queue.specs.SingleState.{word_of, holds, holders, Knows, Means, SingleMeans, single_rank}
-use Rattle.concurrent_queue.specs.Step.{HasBrought, IsBrought, Lies, ShowsBy, single_closed, single_length}
+use Rattle.concurrent_queue.specs.Step.{HasBrought, IsBrought, single_closed, single_length}
 use Rattle.concurrent_queue.specs.Forms.{place_phases, FormShows}
 use Rattle.concurrent_queue.specs.declared.call.QueueAsk.{QueueAsk}
-use Rattle.concurrent_queue.specs.declared.cells.Slot.{Slot}
 use Rattle.concurrent_queue.specs.declared.cells.Slot.TheVariants.{At}
 use Rattle.concurrent_queue.specs.declared.single.SingleAction.{SingleAction}
 use Rattle.concurrent_queue.specs.declared.single.SingleAction.TheVariants.{Push, PushPut, PushUnlock, Force, ForceTake, ForcePut, ForceUnlock, Pop, PopTake, PopUnlock, Close, IsClosed, IsEmpty, IsFull, Len, Capacity, Finished}

@@ -1,9 +1,9 @@
 -- One step of one call on one slot keeps what the cells mean, at each of the few states of the slot.
-use Rattle.std.proofs.Common.{◌≡◌, ℕ, ◌+◌, Bool, true, false, List, [], ◌∷◌, Option, None, Some, is_some, option_to_list, if◌then◌else◌, MatchOption, refl, rules}
+use Rattle.std.proofs.Common.{◌≡◌, ◌+◌, Bool, true, false, [], ◌∷◌, Option, None, Some, is_some, option_to_list, if◌then◌else◌, MatchOption, refl, rules}
 use Rattle.concurrent_queue.specs.Contents.{Contents}
-use Rattle.concurrent_queue.specs.Queue.{Queue, Stage, trying, displaced, appended, taken, read, measured, Phase, after, seen_after, is_stuck, Goes, Answers}
+use Rattle.concurrent_queue.specs.Queue.{Queue, Stage, trying, appended, taken, Phase, after, seen_after, Goes, Answers}
 use Rattle.concurrent_queue.specs.Single.{single_step}
-use Rattle.concurrent_queue.specs.SingleState.{word_of, holds, Knows, Tries, Stands, IsTrying}
+use Rattle.concurrent_queue.specs.SingleState.{word_of, holds, Knows}
 use Rattle.concurrent_queue.specs.declared.call.QueueAsk.{QueueAsk}
 use Rattle.concurrent_queue.specs.declared.call.QueueAsk.TheVariants as ask
 use Rattle.concurrent_queue.specs.declared.call.Stepped.{Stepped}

@@ -1,13 +1,13 @@
 -- The machine of one slot meets what every form delivers.
-use Rattle.std.proofs.Common.{◌≡◌, ℕ, ◌+◌, ◌<◌, ◌≤◌, Bool, true, false, not, List, [], ◌∷◌, ◌++◌, length, Option, None, Some, is_some, option_to_list, slice_get, if◌then◌else◌, ◌==◌, MatchOption, refl, sym, ap, ◌∙◌, subst, inl, inr, ◌⊎◌, ⊎_elim, arith, rules}
-use Rattle.concurrent_queue.specs.Contents.{Contents, can_put, empty_slot, slot_at}
-use Rattle.concurrent_queue.specs.Queue.{Queue, Stage, trying, displaced, appended, taken, read, measured, Phase, asked, message, after, Goes, Answers, opened}
-use Rattle.concurrent_queue.specs.Places.{Place, Each, sum}
+use Rattle.std.proofs.Common.{◌≡◌, ℕ, ◌+◌, ◌<◌, ◌≤◌, Bool, true, false, List, [], ◌∷◌, ◌++◌, Option, None, Some, if◌then◌else◌, ◌==◌, MatchOption, refl, sym, ap, ◌∙◌, subst, inl, inr, arith}
+use Rattle.concurrent_queue.specs.Contents.{Contents, can_put, empty_slot}
+use Rattle.concurrent_queue.specs.Queue.{Queue, Stage, Phase, asked, after, Goes, Answers, opened}
+use Rattle.concurrent_queue.specs.Places.{Place, Each}
 use Rattle.concurrent_queue.specs.Dispatch.{IsSingleStep}
-use Rattle.concurrent_queue.specs.Single.{single_step, start, clear}
-use Rattle.concurrent_queue.specs.SingleState.{word_of, holds, holders, Knows, Means, SingleMeans, single_rank, IsTrying}
-use Rattle.concurrent_queue.specs.Step.{OneCell, IsQuiet, AllQuiet, HoldsNobodyUp, HasBrought, IsBrought, Lies, ShowsBy, single_closed, single_length}
-use Rattle.concurrent_queue.specs.Forms.{place, place_phases, FormStep, FormSteps, FormStarts, FormRanks, FormShows}
+use Rattle.concurrent_queue.specs.Single.{single_step, start}
+use Rattle.concurrent_queue.specs.SingleState.{holds, holders, Knows, Means, SingleMeans, single_rank}
+use Rattle.concurrent_queue.specs.Step.{OneCell, IsQuiet, AllQuiet, HoldsNobodyUp}
+use Rattle.concurrent_queue.specs.Forms.{place, place_phases, FormStep, FormSteps, FormStarts, FormRanks}
 use Rattle.concurrent_queue.specs.declared.call.QueueAsk.{QueueAsk}
 use Rattle.concurrent_queue.specs.declared.call.QueueAsk.TheVariants as ask
 use Rattle.concurrent_queue.specs.declared.call.QueueReply.{QueueReply}
@@ -16,7 +16,7 @@ use Rattle.concurrent_queue.specs.declared.cells.Slot.TheVariants.{At}
 use Rattle.concurrent_queue.specs.declared.cells.Word.TheVariants.{State}
 use Rattle.concurrent_queue.specs.declared.single.SingleAction.{SingleAction}
 use Rattle.concurrent_queue.specs.declared.single.SingleAction.TheVariants.{Push, PushPut, PushUnlock, Force, ForceTake, ForcePut, ForceUnlock, Pop, PopTake, PopUnlock, Close, IsClosed, IsEmpty, IsFull, Len, Capacity, Finished}
-use Rattle.concurrent_queue.proofs.Balance.{IsBalanced, IsFair, fair_goes, fair_answers, balance, same_capacity}
+use Rattle.concurrent_queue.proofs.Balance.{IsFair, fair_goes, fair_answers, balance, same_capacity}
 use Rattle.concurrent_queue.proofs.Places.{sum_at, each_at, each_others, each_with, each_keeps}
 use Rattle.concurrent_queue.proofs.SingleSteps.{Kept}
 use Rattle.concurrent_queue.proofs.SingleKeeps.{Keeps, keeps}

@@ -1,7 +1,7 @@
 -- Lists of empty slots, and blocks by their numbers.
-use Rattle.std.proofs.Common.{◌≡◌, ℕ, zero, suc, ◌+◌, ◌<◌, ◌≤◌, List, [], ◌∷◌, ◌++◌, length, map, drop, Option, None, Some, slice_get, slice_set, slice_index_or, Result, Ok, Err, MatchResult, true, false, refl, sym, ap, ◌∙◌, subst, arith, append-nil}
+use Rattle.std.proofs.Common.{◌≡◌, ℕ, zero, suc, ◌+◌, ◌<◌, ◌≤◌, List, [], ◌∷◌, ◌++◌, length, map, drop, Option, None, Some, slice_get, slice_set, Result, Ok, Err, MatchResult, true, false, refl, sym, ap, ◌∙◌, subst, arith, append-nil}
 use Rattle.std.proofs.lemmas.List.{map-set}
-use Rattle.concurrent_queue.specs.Contents.{Block, nones, blank, no_block, block_in, is_vacant, with_slot, PutGivesIn}
+use Rattle.concurrent_queue.specs.Contents.{Block, nones, no_block, block_in, is_vacant, with_slot, PutGivesIn}
 use Rattle.concurrent_queue.specs.Plain.{block_of}
 use Rattle.concurrent_queue.specs.declared.pool.PlainBlock.{PlainBlock}
 

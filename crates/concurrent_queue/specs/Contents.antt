@@ -1,7 +1,7 @@
 -- What the cells of a queue hold, and what one operation on one of them does.
 use Rattle.std.specs.Prelude.{◌≡◌, ℕ, List, [], ◌∷◌, ◌++◌, length, Option, None, Some, Result, Ok, Err, slice_index, slice_set, slice_index_or, slice_get, Bool, true, false, nat_lt, ◌<◌, ◌^◌, if◌then◌else◌}
 use Rattle.concurrent_queue.specs.declared.cells.QueueForm.{QueueForm}
-use Rattle.concurrent_queue.specs.declared.cells.QueueForm.TheVariants.{Bounded}
+use Rattle.concurrent_queue.specs.declared.cells.QueueForm.TheVariants.{Bounded, Unbounded}
 use Rattle.concurrent_queue.specs.declared.cells.NoMemory.{NoMemory}
 use Rattle.concurrent_queue.specs.declared.cells.Word.{Word}
 use Rattle.concurrent_queue.specs.declared.cells.Word.TheVariants.{State, Head, Tail, Stamp, HeadBlock, TailBlock, Next, Reads, Written}
@@ -163,3 +163,7 @@ module _ {T : Type 0} where
   -- an open and empty queue of one slot
   abbrev pub empty_slot : Contents T
   empty_slot = record (no_contents (Bounded 1)) { slots = None ∷ [] }
+
+  -- an open and empty unbounded queue, which has no block yet
+  abbrev pub empty_blocks : Contents T
+  empty_blocks = no_contents Unbounded

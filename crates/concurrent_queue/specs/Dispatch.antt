@@ -1,25 +1,29 @@
 -- Which form a queue has, and what each form's machine does at a step.
-use Rattle.std.specs.Prelude.{◌≡◌, ℕ, ◌==◌, Bool, true, false, Option, None, Some, if◌then◌else◌}
+use Rattle.std.specs.Prelude.{◌≡◌, ℕ, ◌==◌, Bool, true, false, Option, None, Some}
 use Rattle.concurrent_queue.specs.Contents.{Contents}
 use Rattle.concurrent_queue.specs.Single.{single_step, start}
 use Rattle.concurrent_queue.specs.RingWords.{cap_of, ring_mark, ring_step, ring_start}
+use Rattle.concurrent_queue.specs.BlocksWords.{IsBlocksStep, begin}
 use Rattle.concurrent_queue.specs.declared.call.QueueAsk.{QueueAsk}
 use Rattle.concurrent_queue.specs.declared.call.QueueMark.TheVariants.{Nothing}
 use Rattle.concurrent_queue.specs.declared.call.Stepped.{Stepped}
 use Rattle.concurrent_queue.specs.declared.cells.QueueForm.{QueueForm}
-use Rattle.concurrent_queue.specs.declared.cells.QueueForm.TheVariants.{Bounded}
+use Rattle.concurrent_queue.specs.declared.cells.QueueForm.TheVariants.{Bounded, Unbounded}
 use Rattle.concurrent_queue.specs.declared.single.SingleAction.{SingleAction}
 use Rattle.concurrent_queue.specs.declared.bounded.RingAction.{RingAction}
+use Rattle.concurrent_queue.specs.declared.unbounded.action.UnboundedCall.{UnboundedCall}
 use Rattle.concurrent_queue.specs.declared.queue_call.CallState.{CallState}
-use Rattle.concurrent_queue.specs.declared.queue_call.CallState.TheVariants.{Asked, Single, Ring, Finished}
+use Rattle.concurrent_queue.specs.declared.queue_call.CallState.TheVariants.{Asked, Single, Ring, Blocks, Finished}
 
 -- how many messages fit
 abbrev pub capacity_of : QueueForm → Option ℕ
 capacity_of (Bounded cap) = Some cap
+capacity_of Unbounded = None
 
--- how many slots a ring of this form has
+-- how many slots a ring of this form has; an unbounded queue is no ring
 abbrev pub ring_cap : QueueForm → ℕ
 ring_cap (Bounded cap) = cap_of cap
+ring_cap Unbounded = cap_of 0
 
 module _ {T : Type 0} where
   abbrev pub IsSingleStep : Contents T → SingleAction T → Contents T → Stepped (SingleAction T) T → Type 0
@@ -47,8 +51,16 @@ module _ {T : Type 0} where
   IsBoundedFirst true cap c a d s = BySingle c (start a) d s
   IsBoundedFirst false cap c a d s = ByRing cap c (ring_start a) d s
 
+  abbrev pub in_blocks : Stepped (UnboundedCall T) T → Stepped (CallState T) T
+  in_blocks s = record { action = Blocks s.action; mark = s.mark; reply = s.reply }
+
+  -- a step of an unbounded queue, in the words of all calls
+  abbrev pub ByBlocks : Contents T → UnboundedCall T → Contents T → Stepped (CallState T) T → Type 0
+  ByBlocks c a d s = (x : Stepped (UnboundedCall T) T) × IsBlocksStep c a d x × (s ≡ in_blocks x)
+
   abbrev pub IsFirstStep : QueueForm → Contents T → QueueAsk T → Contents T → Stepped (CallState T) T → Type 0
   IsFirstStep (Bounded cap) c a d s = IsBoundedFirst (cap == 1) (cap_of cap) c a d s
+  IsFirstStep Unbounded c a d s = ByBlocks c (begin a) d s
 
   abbrev pub ended : Stepped (CallState T) T
   ended = record { action = Finished; mark = Nothing; reply = None }
@@ -58,4 +70,5 @@ module _ {T : Type 0} where
   IsStateStep c (Asked a) d s = IsFirstStep c.form c a d s
   IsStateStep c (Single a) d s = BySingle c a d s
   IsStateStep c (Ring a) d s = ByRing (ring_cap c.form) c a d s
+  IsStateStep c (Blocks a) d s = ByBlocks c a d s
   IsStateStep c Finished d s = (d ≡ c) × (s ≡ ended)

@@ -1,6 +1,12 @@
 pub mod Contents
 pub mod Plain
+pub mod BlocksState
+pub mod BlocksCalls
+pub mod BlocksMoves
+pub mod BlocksLeft
 pub mod Queue
+pub mod BlocksWords
+pub mod BlocksDenotes
 pub mod Places
 pub mod Single
 pub mod SingleState
@@ -15,10 +21,14 @@ pub mod RingMeans
 pub mod RingRank
 pub mod RingReadings
 pub mod RingMade
+pub mod RingAtOnce
+pub mod BlocksForm
 pub mod Rows
 pub mod Scene
 pub mod Parties
 pub mod Run
+pub mod Accounts
+pub mod Lone
 pub mod Made
 pub mod Errors
 pub mod Alone

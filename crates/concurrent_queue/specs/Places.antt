@@ -1,5 +1,5 @@
 -- Lists of calls under way.
-use Rattle.std.specs.Prelude.{◌≡◌, ℕ, ◌+◌, List, [], ◌∷◌}
+use Rattle.std.specs.Prelude.{ℕ, ◌+◌, List, [], ◌∷◌}
 use Rattle.concurrent_queue.specs.Queue.{Phase}
 
 -- a call under way, by its next action in the form of its queue and by how far it has come

@@ -1,6 +1,6 @@
 -- A queue that can be closed, while calls are under way, and what each call's next step may do. There are no words or
 -- slots here, and no retries.
-use Rattle.std.specs.Prelude.{◌≡◌, ℕ, ◌+◌, ◌<◌, ◌^◌, ◌==◌, ◌⊎◌, Bool, true, false, List, [], ◌∷◌, ◌++◌, length, drop, Option, None, Some, Ok, Err, if◌then◌else◌}
+use Rattle.std.specs.Prelude.{◌≡◌, ℕ, ◌+◌, ◌<◌, ◌≤◌, ◌^◌, ◌==◌, ◌⊎◌, Bool, true, false, List, [], ◌∷◌, ◌++◌, length, drop, Option, None, Some, Ok, Err, if◌then◌else◌}
 use Rattle.concurrent_queue.specs.declared.call.QueueAsk.{QueueAsk}
 use Rattle.concurrent_queue.specs.declared.call.QueueAsk.TheVariants as ask
 use Rattle.concurrent_queue.specs.declared.call.QueueMark.{QueueMark}
@@ -66,7 +66,7 @@ module _ {T : Type 0} where
 
   -- positions are counted up to here; a queue of one slot counts none
   abbrev pub IsInRange : Queue T → Type 0
-  IsInRange q = (q.capacity ≡ Some 1) ⊎ (q.accepted < 2 ^ 61)
+  IsInRange q = (q.capacity ≡ Some 1) ⊎ (q.accepted ≤ 2 ^ 61)
 
   -- a queue that was just made
   abbrev pub opened : Option ℕ → Queue T

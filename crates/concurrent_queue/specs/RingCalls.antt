@@ -1,9 +1,8 @@
 -- The calls of a ring. Here an action goes by the numbers of messages, where the code's has their positions: n is the
 -- number of the message that a call is about, c that of the one which a displacing push takes out.
-use Rattle.std.specs.Prelude.{◌≡◌, ℕ, ◌+◌, ◌-◌, ◌%◌, ◌<◌, ◌≤◌, Bool, true, false, List, [], length, Option, None, Some, slice_get, if◌then◌else◌, ◌==◌, ◌⊎◌}
-use Rattle.concurrent_queue.specs.Positions.{pos}
-use Rattle.concurrent_queue.specs.Queue.{Queue, Phase, Stage, trying, displaced, appended, taken, read, measured}
-use Rattle.concurrent_queue.specs.RingState.{SlotState, Ring, busy, the_place, reach}
+use Rattle.std.specs.Prelude.{◌≡◌, ℕ, ◌+◌, ◌%◌, ◌<◌, ◌≤◌, Bool, true, false, Option, None, Some, slice_get, if◌then◌else◌, ◌==◌, ◌⊎◌}
+use Rattle.concurrent_queue.specs.Queue.{Phase, Stage, trying, displaced, appended, taken, read, measured}
+use Rattle.concurrent_queue.specs.RingState.{Ring, busy, the_place, reach}
 use Rattle.concurrent_queue.specs.declared.call.QueueAsk.{QueueAsk}
 use Rattle.concurrent_queue.specs.declared.call.QueueAsk.TheVariants as ask
 use Rattle.concurrent_queue.specs.declared.bounded.WhenFull.{WhenFull}

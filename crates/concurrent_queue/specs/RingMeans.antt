@@ -1,5 +1,5 @@
 -- One step of one call of a ring, and what it leaves to the others.
-use Rattle.std.specs.Prelude.{◌≡◌, ℕ, ◌+◌, ◌*◌, ◌%◌, ◌<◌, ◌≤◌, Bool, true, List, [], ◌∷◌, Option, None, Some, MatchOption, map, slice_get, if◌then◌else◌}
+use Rattle.std.specs.Prelude.{◌≡◌, ℕ, ◌+◌, ◌*◌, ◌%◌, ◌<◌, ◌≤◌, true, List, Option, Some, MatchOption, map, slice_get, if◌then◌else◌}
 use Rattle.concurrent_queue.specs.Contents.{Contents}
 use Rattle.concurrent_queue.specs.Positions.{pos}
 use Rattle.concurrent_queue.specs.Queue.{Queue, Phase, after, Goes, Answers}

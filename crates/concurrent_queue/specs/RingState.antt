@@ -1,5 +1,5 @@
 -- What a ring means, by the numbers of its messages: how far it has come, and how far each slot has.
-use Rattle.std.specs.Prelude.{◌≡◌, ℕ, ◌+◌, ◌-◌, ◌%◌, ◌<◌, ◌≤◌, Bool, true, false, List, length, drop, Option, None, Some, slice_get, if◌then◌else◌, nat_lt, ◌==◌}
+use Rattle.std.specs.Prelude.{◌≡◌, ℕ, ◌+◌, ◌%◌, ◌<◌, ◌≤◌, Bool, true, false, List, length, drop, Option, None, Some, slice_get, if◌then◌else◌, nat_lt, ◌==◌}
 use Rattle.concurrent_queue.specs.Queue.{Queue}
 
 -- a slot with its stamp: the number that the stamp stands for, whether that message is in, and what the slot holds

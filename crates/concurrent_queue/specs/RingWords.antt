@@ -1,6 +1,6 @@
 -- The steps of a ring, as functions of what its words and slots hold. A position is a multiple of a lap plus an index;
 -- a lap is twice the mark m.
-use Rattle.std.specs.Prelude.{ℕ, ◌+◌, ◌-◌, ◌*◌, ◌/◌, ◌%◌, ◌^◌, ◌&&◌, Bool, true, false, not, nat_lt, nat_le, Option, None, Some, Ok, Err, slice_index, slice_get, slice_set, if◌then◌else◌, ◌==◌, bit_or}
+use Rattle.std.specs.Prelude.{ℕ, ◌+◌, ◌-◌, ◌*◌, ◌/◌, ◌%◌, ◌^◌, ◌&&◌, Bool, true, false, nat_lt, nat_le, Option, None, Some, Ok, Err, slice_index, slice_get, slice_set, if◌then◌else◌, ◌==◌, bit_or}
 use lib.Count.{count_leading_zeros}
 use Rattle.concurrent_queue.specs.Contents.{Contents, write_slot, slot_at, is_vacant}
 use Rattle.concurrent_queue.specs.declared.call.QueueAsk.{QueueAsk}

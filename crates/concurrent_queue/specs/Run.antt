@@ -1,5 +1,5 @@
 -- Runs of a closable queue: what may follow from steps of many calls in any order.
-use Rattle.std.specs.Prelude.{◌≡◌, ℕ, ◌+◌, ◌<◌, ◌^◌, List, [], ◌∷◌, ◌++◌, length, Option, None, Some, MatchOption, ◌⊎◌}
+use Rattle.std.specs.Prelude.{◌≡◌, ℕ, ◌+◌, ◌≤◌, ◌^◌, List, [], ◌∷◌, ◌++◌, length, Option, Some, MatchOption, ◌⊎◌}
 use Rattle.concurrent_queue.specs.Contents.{Contents}
 use Rattle.concurrent_queue.specs.Dispatch.{capacity_of}
 use Rattle.concurrent_queue.specs.Scene.{Scene, Under, Begins, Steps, NotUnderWay, IsUnderWay, Reads, new_scene}
@@ -41,9 +41,9 @@ module _ {T : Type 0} where
   accepted_in [] = 0
   accepted_in (e ∷ es) = one_if_accepted e.mark + accepted_in es
 
-  -- fewer were accepted than there are positions; a queue of one slot counts none
+  -- no more were accepted than there are positions; a queue of one slot counts none
   abbrev pub IsCounted : QueueForm → List (QueueEntry T) → Type 0
-  IsCounted form trace = (capacity_of form ≡ Some 1) ⊎ (accepted_in trace < 2 ^ 61)
+  IsCounted form trace = (capacity_of form ≡ Some 1) ⊎ (accepted_in trace ≤ 2 ^ 61)
 
   -- why the next step may be refused
   abbrev pub MayRefuse : List (Under T) → List (QueueStep T) → QueueRefusal → Type 0

@@ -1,12 +1,12 @@
 -- A closable queue with calls under way, seen without its cells, and what one entry of a run does.
-use Rattle.std.specs.Prelude.{◌≡◌, ℕ, ◌<◌, Bool, true, false, List, [], ◌∷◌, ◌++◌, length, map, Option, None, Some, MatchOption, ◌⊎◌}
+use Rattle.std.specs.Prelude.{◌≡◌, ℕ, ◌<◌, Bool, true, false, List, [], ◌∷◌, ◌++◌, length, map, Option, None, Some, ◌⊎◌}
 use Rattle.concurrent_queue.specs.Contents.{Contents}
 use Rattle.concurrent_queue.specs.Queue.{Queue, message, marked, opened}
 use Rattle.concurrent_queue.specs.Rows.{Deed, MayAnswer, IsBegun}
 use Rattle.concurrent_queue.specs.Step.{Lies, closed_in, length_in}
 use Rattle.concurrent_queue.specs.declared.call.QueueAsk.{QueueAsk}
 use Rattle.concurrent_queue.specs.declared.call.QueueMark.{QueueMark}
-use Rattle.concurrent_queue.specs.declared.call.QueueMark.TheVariants.{Nothing, Append, Take, TakeDisplaced, Replace, Close}
+use Rattle.concurrent_queue.specs.declared.call.QueueMark.TheVariants.{Nothing, Append, TakeDisplaced, Replace}
 use Rattle.concurrent_queue.specs.declared.call.QueueReply.{QueueReply}
 use Rattle.concurrent_queue.specs.declared.call.QueueEntry.{QueueEntry}
 

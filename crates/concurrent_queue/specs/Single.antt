@@ -1,7 +1,6 @@
 -- The steps of a queue of one slot, as a function of what its cells hold.
-use Rattle.std.specs.Prelude.{ℕ, Bool, true, false, not, Option, None, Some, Ok, Err, slice_get, if◌then◌else◌, ◌==◌, bit_and, bit_or}
+use Rattle.std.specs.Prelude.{ℕ, Bool, true, false, not, None, Some, Ok, Err, if◌then◌else◌, ◌==◌, bit_and, bit_or}
 use Rattle.concurrent_queue.specs.Contents.{Contents, write_slot, slot_at, can_put}
-use Rattle.concurrent_queue.specs.declared.cells.Slot.{Slot}
 use Rattle.concurrent_queue.specs.declared.cells.Slot.TheVariants.{At}
 use Rattle.concurrent_queue.specs.declared.call.QueueAsk.{QueueAsk}
 use Rattle.concurrent_queue.specs.declared.call.QueueAsk.TheVariants as ask

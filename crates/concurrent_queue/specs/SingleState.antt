@@ -1,12 +1,10 @@
 -- What a queue of one slot means while calls are under way.
-use Rattle.std.specs.Prelude.{◌≡◌, ℕ, ◌+◌, ◌<◌, ◌==◌, Bool, true, false, not, List, [], ◌∷◌, length, Option, None, Some, is_some, option_to_list, if◌then◌else◌, MatchOption, ◌⊎◌}
-use Rattle.concurrent_queue.specs.Contents.{Contents, slot_at}
+use Rattle.std.specs.Prelude.{◌≡◌, ℕ, ◌+◌, ◌==◌, Bool, false, List, [], ◌∷◌, length, Option, None, Some, is_some, option_to_list, if◌then◌else◌, ◌⊎◌}
+use Rattle.concurrent_queue.specs.Contents.{Contents}
 use Rattle.concurrent_queue.specs.Queue.{Queue, Stage, trying, appended, taken, Phase}
 use Rattle.concurrent_queue.specs.Places.{Place, Each, sum}
-use Rattle.concurrent_queue.specs.Single.{clear}
 use Rattle.concurrent_queue.specs.declared.call.QueueAsk.{QueueAsk}
 use Rattle.concurrent_queue.specs.declared.call.QueueAsk.TheVariants as ask
-use Rattle.concurrent_queue.specs.declared.cells.Slot.TheVariants.{At}
 use Rattle.concurrent_queue.specs.declared.single.SingleAction.{SingleAction}
 use Rattle.concurrent_queue.specs.declared.single.SingleAction.TheVariants.{Push, PushPut, PushUnlock, Force, ForceTake, ForcePut, ForceUnlock, Pop, PopTake, PopUnlock, Close, IsClosed, IsEmpty, IsFull, Len, Capacity, Finished}
 

@@ -1,7 +1,7 @@
 -- A step of one call of a queue among all that are under way.
 use Rattle.std.specs.Prelude.{◌≡◌, ℕ, ◌+◌, ◌^◌, ◌<◌, ◌≤◌, ◌⊎◌, ◌==◌, not, Bool, true, false, List, [], ◌∷◌, ◌++◌, length, map, Option, None, Some, slice_get, MatchOption, option_to_list, if◌then◌else◌}
 use Rattle.concurrent_queue.specs.Contents.{Contents, write, write_slot, slot_at, without_spare, with_retired}
-use Rattle.concurrent_queue.specs.Queue.{Queue, Stage, trying, displaced, appended, taken, read, measured, Phase, asked, message, after, Goes, Answers, IsInRange}
+use Rattle.concurrent_queue.specs.Queue.{Queue, Stage, trying, appended, read, measured, Phase, asked, message, after, Goes, Answers, IsInRange}
 use Rattle.concurrent_queue.specs.Places.{Place}
 use Rattle.concurrent_queue.specs.Single.{start, clear}
 use Rattle.concurrent_queue.specs.SingleState.{SingleMeans, single_rank}
@@ -9,19 +9,22 @@ use Rattle.concurrent_queue.specs.RingWords.{ring_mark, ring_start}
 use Rattle.concurrent_queue.specs.RingMeans.{RingMeans}
 use Rattle.concurrent_queue.specs.RingRank.{ring_rank}
 use Rattle.concurrent_queue.specs.RingReadings.{ring_closed, ring_counted, ring_length, ring_held}
+use Rattle.concurrent_queue.specs.BlocksForm.{UnboundedMeans}
+use Rattle.concurrent_queue.specs.BlocksWords.{begin, blocks_closed, blocks_length, blocks_counted, blocks_items, blocks_rank}
 use Rattle.concurrent_queue.specs.Dispatch.{capacity_of}
 use Rattle.concurrent_queue.specs.declared.call.QueueAsk.{QueueAsk}
 use Rattle.concurrent_queue.specs.declared.call.QueueMark.{QueueMark}
 use Rattle.concurrent_queue.specs.declared.call.QueueReply.{QueueReply}
 use Rattle.concurrent_queue.specs.declared.cells.QueueForm.{QueueForm}
-use Rattle.concurrent_queue.specs.declared.cells.QueueForm.TheVariants.{Bounded}
+use Rattle.concurrent_queue.specs.declared.cells.QueueForm.TheVariants.{Bounded, Unbounded}
 use Rattle.concurrent_queue.specs.declared.cells.Word.{Word}
 use Rattle.concurrent_queue.specs.declared.cells.Slot.{Slot}
 use Rattle.concurrent_queue.specs.declared.cells.Slot.TheVariants.{At}
 use Rattle.concurrent_queue.specs.declared.single.SingleAction.{SingleAction}
 use Rattle.concurrent_queue.specs.declared.bounded.RingAction.{RingAction}
+use Rattle.concurrent_queue.specs.declared.unbounded.action.UnboundedCall.{UnboundedCall}
 use Rattle.concurrent_queue.specs.declared.queue_call.CallState.{CallState}
-use Rattle.concurrent_queue.specs.declared.queue_call.CallState.TheVariants.{Asked, Single, Ring, Finished}
+use Rattle.concurrent_queue.specs.declared.queue_call.CallState.TheVariants.{Asked, Single, Ring, Blocks}
 use Rattle.concurrent_queue.specs.declared.queue_call.QueueCall.{QueueCall}
 
 -- a call under way, and how far it has come
@@ -70,8 +73,14 @@ module _ {T : Type 0} where
     pub most : cap ≤ 2 ^ 58
     pub calls : FitsBy IsAtRing (RingMeans cap (ring_mark cap) c q) seats
 
+  abbrev pub IsAtBlocks : CallState T → UnboundedCall T → Type 0
+  IsAtBlocks (Asked a) x = x ≡ begin a
+  IsAtBlocks (Blocks y) x = x ≡ y
+  IsAtBlocks _ x = ⊥
+
   abbrev pub FitsForm : QueueForm → Contents T → Queue T → List (Seat T) → Type 0
   FitsForm (Bounded cap) c q seats = FitsSlot cap c q seats ⊎ FitsRing cap c q seats
+  FitsForm Unbounded c q seats = FitsBy IsAtBlocks (UnboundedMeans c q) seats
 
   -- the cells and the calls under way mean this queue. Callers do not open it
   unfoldable pub Fits : Contents T → Queue T → List (Seat T) → Type 0
@@ -88,6 +97,7 @@ module _ {T : Type 0} where
   -- whether the words say that the queue is closed
   abbrev pub closed_by : QueueForm → Contents T → Bool
   closed_by (Bounded cap) c = if cap == 1 then single_closed c else ring_closed (ring_mark cap) c
+  closed_by Unbounded c = blocks_closed c
 
   unfoldable pub closed_in : Contents T → Bool
   closed_in c = closed_by c.form c
@@ -95,6 +105,7 @@ module _ {T : Type 0} where
   -- how many messages the words say that it holds
   abbrev pub length_by : QueueForm → Contents T → ℕ
   length_by (Bounded cap) c = if cap == 1 then single_length c else ring_length cap (ring_mark cap) c
+  length_by Unbounded c = blocks_length c
 
   unfoldable pub length_in : Contents T → ℕ
   length_in c = length_by c.form c
@@ -102,6 +113,7 @@ module _ {T : Type 0} where
   -- how many positions the words say were used; one slot has none
   abbrev pub counted_by : QueueForm → Contents T → ℕ
   counted_by (Bounded cap) c = if cap == 1 then 0 else ring_counted cap (ring_mark cap) c
+  counted_by Unbounded c = blocks_counted c
 
   unfoldable pub counted_in : Contents T → ℕ
   counted_in c = counted_by c.form c
@@ -109,6 +121,7 @@ module _ {T : Type 0} where
   -- the messages that the slots hold, where no call is under way
   abbrev pub items_by : QueueForm → Contents T → List T
   items_by (Bounded cap) c = if cap == 1 then option_to_list (slot_at c (At 0)) else ring_held cap (ring_mark cap) c
+  items_by Unbounded c = blocks_items c
 
   unfoldable pub items_in : Contents T → List T
   items_in c = items_by c.form c
@@ -186,10 +199,16 @@ module _ {T : Type 0} where
   rank_bounded cap c (Asked a) = rank_first (cap == 1) (ring_mark cap) c a
   rank_bounded cap c (Single a) = single_rank c a
   rank_bounded cap c (Ring a) = ring_rank (ring_mark cap) c a
-  rank_bounded cap c Finished = 0
+  rank_bounded cap c _ = 0
+
+  abbrev pub rank_blocks : Contents T → CallState T → ℕ
+  rank_blocks c (Asked a) = blocks_rank c (begin a)
+  rank_blocks c (Blocks a) = blocks_rank c a
+  rank_blocks c _ = 0
 
   abbrev pub rank_by : QueueForm → Contents T → CallState T → ℕ
   rank_by (Bounded cap) c s = rank_bounded cap c s
+  rank_by Unbounded c s = rank_blocks c s
 
   unfoldable pub rank : Contents T → QueueCall T → ℕ
   rank c call = rank_by c.form c call.state

@@ -1,5 +1,5 @@
 -- Walking a queue of one owner.
-use Rattle.std.specs.Prelude.{◌≡◌, List, [], ◌∷◌, Option, MatchOption}
+use Rattle.std.specs.Prelude.{◌≡◌, [], ◌∷◌, Option, MatchOption}
 use Rattle.concurrent_queue.specs.Alone.{Held, with_items}
 
 module _ {T : Type 0} where

@@ -14,6 +14,8 @@ ghost use Rattle.std.specs.Prelude.{◌≡◌, ◌<◌, ◌^◌, ◌*◌, ◌+�
 ghost use Rattle.concurrent_queue.specs.RingWords.{cap_of, ring_mark, index, is_marked, unmarked, stride, next_word, count_of, between, shut_reply, pushed_reply, behind, stays, marks, finishes, push_load, push_shut, push_look, push_swap, push_put, push_store, push_head, force_head, force_add, force_take, force_put, force_store, pop_load, pop_look, pop_swap, pop_tail, pop_take, pop_store, close_step, ring_start, ask_is_closed, empty_load, empty_look, full_load, full_look, len_load, len_look, len_again, ring_step};
 ghost use Rattle.concurrent_queue.specs.Dispatch.{IsRingStep, ring_cap};
 
+pub(crate) mod at_once;
+
 use crate::call::{QueueAsk, QueueMark, QueueReply, Stepped};
 use crate::cells::{Cells, QueueForm, Slot, Word};
 use crate::error::{ForcePushError, PopError, PushError};
@@ -615,7 +617,10 @@ pub(crate) fn step<T: Drop, C: Cells<T>>(
 ) -> Stepped<RingAction<T>, T>
     ensures { C.known → IsRingStep (ring_cap (C.contents cells.old).form) (C.contents cells.old) action (C.contents cells.new) result }
 {
-    let QueueForm::Bounded(capacity) = cells.form();
+    let capacity = match cells.form() {
+        QueueForm::Bounded(capacity) => capacity,
+        QueueForm::Unbounded => 0,
+    };
     step_ring(Shape::of(capacity), action, cells)
 }
 

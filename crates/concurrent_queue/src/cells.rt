@@ -9,6 +9,8 @@ ghost use Rattle.concurrent_queue.specs.Contents.{Contents, read, write, slot_at
 pub enum QueueForm {
     /// At most this many messages.
     Bounded(usize),
+    /// As many messages as there is memory for.
+    Unbounded,
 }
 
 /// The name of a word. Blocks go by their numbers, from 0 in the order in which they were made.

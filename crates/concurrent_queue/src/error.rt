@@ -156,3 +156,6 @@ impl Debug for PopError {
         })
     }
 }
+
+#[cfg(test)]
+mod tests;

@@ -1,9 +1,13 @@
 //! A queue of one owner.
 
-ghost use Rattle.concurrent_queue.specs.Alone.{Gives, held, IsSound};
+ghost use Rattle.std.specs.Prelude.{◌≡◌, ◌≤◌, ◌^◌};
+ghost use Rattle.concurrent_queue.specs.Alone.{Gives, PushGives, PopGives, held, IsSound, HasRoom, one_more, used_after};
+ghost use Rattle.concurrent_queue.specs.declared.call.QueueAsk.TheVariants as ask;
+ghost use Rattle.concurrent_queue.specs.Dispatch.{capacity_of};
 
+use crate::bounded::at_once::{pop_at_once, push_at_once};
 use crate::call::{QueueAsk, QueueReply};
-use crate::cells::QueueForm;
+use crate::cells::{Cells, QueueForm};
 use crate::error::{ForcePushError, PopError, PushError};
 use crate::plain::PlainCells;
 use crate::queue_call::QueueCall;
@@ -12,9 +16,13 @@ use std::marker::Model;
 
 /// A queue of one owner, which can be closed. Its calls run the same steps as those of a shared queue, each to its end, and
 /// none of them waits. Own to this project.
+///
+/// A ring or an unbounded queue gives each message that it accepts a position of its own, and has 2^61 of them: at a
+/// thousand million messages a second that is seventy years. A queue of one slot has no positions, and no end.
 #[derive(Drop)]
 pub struct Exclusive<T> {
     cells: PlainCells<T>,
+    used: u64,
 }
 
 impl<T> Model for Exclusive<T> {
@@ -22,78 +30,167 @@ impl<T> Model for Exclusive<T> {
 
     ghost Value = { Held T };
 
-    ghost view = { λ q. held q.cells };
+    ghost view = { λ q. held q.cells q.used };
 
-    ghost invariant = { λ q. IsSound q.cells };
+    ghost invariant = { λ q. IsSound q.cells q.used };
 }
 
-/// Steps a call to its end.
-fn finish<T: Drop>(cells: &mut PlainCells<T>, ask: QueueAsk<T>) -> QueueReply<T>
-    requires { IsSound cells.old }
-    ensures sound { IsSound cells.new }
-    ensures answer { Gives ask (held cells.old) (held cells.new) result }
+/// How many positions a queue has.
+const POSITIONS: u64 = 0x2000_0000_0000_0000;
+
+/// How many positions are used up with one more message.
+fn with_one_more(form: QueueForm, used: u64) -> u64
+    requires { used ≤ 2 ^ 61 }
+    ensures { result ≡ one_more (capacity_of form) used }
+{
+    match form {
+        QueueForm::Bounded(1) => used,
+        _ => used + 1,
+    }
+}
+
+/// How many positions are used up once a call has answered so.
+fn count<T>(form: QueueForm, used: u64, reply: &QueueReply<T>) -> u64
+    requires { used ≤ 2 ^ 61 }
+    ensures { result ≡ used_after (capacity_of form) used reply.now }
+{
+    match reply {
+        QueueReply::Push(Ok(())) => with_one_more(form, used),
+        QueueReply::Force(Ok(_)) => with_one_more(form, used),
+        _ => used,
+    }
+}
+
+/// Steps a call to its end, and counts the position of the message that it brings.
+fn finish<T: Drop>(cells: &mut PlainCells<T>, used: &mut u64, ask: QueueAsk<T>) -> QueueReply<T>
+    requires sound { IsSound cells.old used.old }
+    requires room { HasRoom ask used.old }
+    ensures sound { IsSound cells.new used.new }
+    ensures answer { Gives ask (held cells.old used.old) (held cells.new used.new) result }
 {
     let mut call = QueueCall::new(ask);
     loop {
         match call.step(cells) {
-            Some(reply) => return reply,
+            Some(reply) => {
+                *used = count(cells.form(), *used, &reply);
+                return reply;
+            }
             None => {}
         }
     }
 }
 
-impl<T: Drop> Exclusive<T> {
-    ghost use Rattle.std.specs.Prelude.{IfOk, ◌≡◌, ◌==◌, List, [], Some, true, false, not, length};
-    ghost use Rattle.concurrent_queue.specs.Alone.{PushGives, ForceGives, PopGives, is_full};
+/// Appends a message: at once where nothing stands against it, else step by step.
+#[inline]
+fn push_into<T: Drop>(
+    cells: &mut PlainCells<T>,
+    used: &mut u64,
+    value: T,
+) -> Result<(), PushError<T>>
+    requires sound { IsSound cells.old used.old }
+    requires room { HasRoom (ask.Push value) used.old }
+    ensures sound { IsSound cells.new used.new }
+    ensures answer { PushGives (held cells.old used.old) value (held cells.new used.new) result }
+{
+    let value = match push_at_once(value, cells) {
+        Ok(()) => {
+            *used += 1;
+            return Ok(());
+        }
+        Err(value) => value,
+    };
+    match finish(cells, used, QueueAsk::Push(value)) {
+        QueueReply::Push(result) => result,
+        _ => unreachable!(),
+    }
+}
 
-    /// An open empty queue that holds at most `capacity` messages, which is 1 for now. `Err` where there is no memory for
-    /// its slots.
+/// Takes the oldest message: at once where it lies there, else step by step.
+#[inline]
+fn pop_from<T: Drop>(cells: &mut PlainCells<T>, used: &mut u64) -> Result<T, PopError>
+    requires sound { IsSound cells.old used.old }
+    ensures sound { IsSound cells.new used.new }
+    ensures answer { PopGives (held cells.old used.old) (held cells.new used.new) result }
+{
+    if let Some(value) = pop_at_once(cells) {
+        return Ok(value);
+    }
+    match finish(cells, used, QueueAsk::Pop) {
+        QueueReply::Pop(result) => result,
+        _ => unreachable!(),
+    }
+}
+
+impl<T: Drop> Exclusive<T> {
+    ghost use Rattle.std.specs.Prelude.{IfOk, ◌≡◌, ◌==◌, ◌<◌, ◌≤◌, ◌^◌, ℕ, List, [], Some, None, true, false, not, length};
+    ghost use Rattle.concurrent_queue.specs.Alone.{PushGives, ForceGives, PopGives, is_full, shut};
+
+    /// An open empty queue that holds at most `capacity` messages. `Err` where there is no memory for its slots, which for
+    /// a capacity above 2^58 nobody is asked for.
     pub fn bounded(alloc: Global, capacity: usize) -> Result<Exclusive<T>, AllocError>
-        requires { capacity ≡ 1 }
-        ensures { IfOk result (λ q. q ≡ record { items = []; closed = false; capacity = Some capacity }) }
+        requires { 0 < capacity }
+        ensures opened { IfOk result (λ q. q ≡ record { items = []; closed = false; capacity = Some capacity; used = 0 }) }
+        ensures most { IfOk result (λ q. capacity ≤ 2 ^ 58) }
     {
-        Ok(Exclusive {
-            cells: PlainCells::new(alloc, QueueForm::Bounded(capacity))?,
-        })
+        let cells = PlainCells::new(alloc, QueueForm::Bounded(capacity))?;
+        Ok(Exclusive { cells, used: 0 })
     }
 
-    /// Appends the message. A refusal hands it back: the queue was full or closed, and is as it was.
-    pub fn push(&mut self, value: T) -> Result<(), PushError<T>>
-        ensures { PushGives self.old value self.new result }
+    /// An open empty queue with no bound. It takes no memory: that comes with the messages, a block for 31 of them, and
+    /// a block whose messages were all taken is used again.
+    pub fn unbounded(alloc: Global) -> Exclusive<T>
+        ensures { result ≡ record { items = []; closed = false; capacity = None; used = 0 } }
     {
-        match finish(&mut self.cells, QueueAsk::Push(value)) {
-            QueueReply::Push(result) => result,
-            _ => unreachable!(),
+        Exclusive {
+            cells: PlainCells::unbounded(alloc),
+            used: 0,
         }
     }
 
+    /// Appends the message. A refusal hands it back: there was no memory for it, the queue was full, or nothing more comes
+    /// in, since it was closed or its positions are used up. In the last case the queue closes itself; else a refused push
+    /// leaves it as it was.
+    #[inline(always)]
+    pub fn push(&mut self, value: T) -> Result<(), PushError<T>>
+        ensures { PushGives self.old value self.new result }
+    {
+        if self.used == POSITIONS {
+            self.close();
+            return Err(PushError::Closed(value));
+        }
+        push_into(&mut self.cells, &mut self.used, value)
+    }
+
     /// Appends the message; where the queue is full, the oldest one leaves for it and is answered. A refusal hands the
-    /// message back: the queue was closed, and is as it was.
+    /// message back: there was no memory for it, or nothing more comes in, since the queue was closed or its positions are
+    /// used up. In the last case the queue closes itself; else a refused push leaves it as it was.
     pub fn force_push(&mut self, value: T) -> Result<Option<T>, ForcePushError<T>>
         ensures { ForceGives self.old value self.new result }
     {
-        match finish(&mut self.cells, QueueAsk::ForcePush(value)) {
+        if self.used == POSITIONS {
+            self.close();
+            return Err(ForcePushError::Closed(value));
+        }
+        match finish(&mut self.cells, &mut self.used, QueueAsk::ForcePush(value)) {
             QueueReply::Force(result) => result,
             _ => unreachable!(),
         }
     }
 
     /// Takes the oldest message. `Err` where there is none: `Empty` while the queue is open, `Closed` once it is closed.
+    #[inline]
     pub fn pop(&mut self) -> Result<T, PopError>
         ensures { PopGives self.old self.new result }
     {
-        match finish(&mut self.cells, QueueAsk::Pop) {
-            QueueReply::Pop(result) => result,
-            _ => unreachable!(),
-        }
+        pop_from(&mut self.cells, &mut self.used)
     }
 
     /// Closes the queue: nothing more comes in, and what is in can still be popped. True where it was open.
     pub fn close(&mut self) -> bool
         ensures answer { result ≡ not self.old.closed }
-        ensures left { self.new ≡ record self.old { closed = true } }
+        ensures left { self.new ≡ shut self.old }
     {
-        match finish(&mut self.cells, QueueAsk::Close) {
+        match finish(&mut self.cells, &mut self.used, QueueAsk::Close) {
             QueueReply::Close(result) => result,
             _ => unreachable!(),
         }
@@ -104,7 +201,7 @@ impl<T: Drop> Exclusive<T> {
         ensures answer { result ≡ self.old.closed }
         ensures left { self.new ≡ self.old }
     {
-        match finish(&mut self.cells, QueueAsk::IsClosed) {
+        match finish(&mut self.cells, &mut self.used, QueueAsk::IsClosed) {
             QueueReply::Flag(result) => result,
             _ => unreachable!(),
         }
@@ -115,7 +212,7 @@ impl<T: Drop> Exclusive<T> {
         ensures answer { result ≡ (length self.old.items == 0) }
         ensures left { self.new ≡ self.old }
     {
-        match finish(&mut self.cells, QueueAsk::IsEmpty) {
+        match finish(&mut self.cells, &mut self.used, QueueAsk::IsEmpty) {
             QueueReply::Flag(result) => result,
             _ => unreachable!(),
         }
@@ -126,18 +223,19 @@ impl<T: Drop> Exclusive<T> {
         ensures answer { result ≡ is_full self.old }
         ensures left { self.new ≡ self.old }
     {
-        match finish(&mut self.cells, QueueAsk::IsFull) {
+        match finish(&mut self.cells, &mut self.used, QueueAsk::IsFull) {
             QueueReply::Flag(result) => result,
             _ => unreachable!(),
         }
     }
 
-    /// How many messages it holds.
+    /// How many messages it holds, never more than its capacity.
     pub fn len(&mut self) -> usize
         ensures answer { result ≡ length self.old.items }
+        ensures within { (cap : ℕ) → self.old.capacity ≡ Some cap → result ≤ cap }
         ensures left { self.new ≡ self.old }
     {
-        match finish(&mut self.cells, QueueAsk::Len) {
+        match finish(&mut self.cells, &mut self.used, QueueAsk::Len) {
             QueueReply::Count(result) => result,
             _ => unreachable!(),
         }
@@ -148,7 +246,7 @@ impl<T: Drop> Exclusive<T> {
         ensures answer { result ≡ self.old.capacity }
         ensures left { self.new ≡ self.old }
     {
-        match finish(&mut self.cells, QueueAsk::Capacity) {
+        match finish(&mut self.cells, &mut self.used, QueueAsk::Capacity) {
             QueueReply::Cap(result) => result,
             _ => unreachable!(),
         }
@@ -190,59 +288,4 @@ impl<T: Drop> Exclusive<T> {
 }
 
 #[cfg(test)]
-mod tests {
-    use super::*;
-    use std::rc::Rc;
-    use std::test::Fail;
-
-    #[test]
-    fn one_slot_one_at_a_time(rt: HostRuntime) -> Result<(), Fail> {
-        let mut queue = Exclusive::bounded(rt.alloc(), 1)?;
-        assert_eq!(rt; queue.capacity(), Some(1));
-        assert!(rt; queue.is_empty());
-        assert!(rt; queue.push(10u64).is_ok());
-        assert!(rt; queue.is_full());
-        assert_eq!(rt; queue.len(), 1);
-        assert!(rt; matches!(queue.push(20), Err(PushError::Full(20))));
-        assert!(rt; matches!(queue.force_push(30), Ok(Some(10))));
-        assert!(rt; matches!(queue.pop(), Ok(30)));
-        assert!(rt; matches!(queue.pop(), Err(PopError::Empty)));
-        assert!(rt; matches!(queue.force_push(40), Ok(None)));
-        assert!(rt; queue.close());
-        assert!(rt; !queue.close());
-        assert!(rt; queue.is_closed());
-        assert!(rt; matches!(queue.push(50), Err(PushError::Closed(50))));
-        assert!(rt; matches!(queue.force_push(60), Err(ForcePushError::Closed(60))));
-        assert!(rt; matches!(queue.pop(), Ok(40)));
-        assert!(rt; matches!(queue.pop(), Err(PopError::Closed)));
-        Ok(())
-    }
-
-    #[test]
-    fn walked_to_its_end_or_dropped_early(rt: HostRuntime) -> Result<(), Fail> {
-        let mut queue = Exclusive::bounded(rt.alloc(), 1)?;
-        assert!(rt; queue.push(10u64).is_ok());
-        {
-            let _early = queue.try_iter();
-        }
-        assert_eq!(rt; queue.len(), 1);
-        let mut walk = queue.try_iter();
-        assert_eq!(rt; walk.next(), Some(10));
-        assert_eq!(rt; walk.next(), None);
-        assert!(rt; queue.is_empty());
-        Ok(())
-    }
-
-    #[test]
-    fn what_is_left_is_dropped_once(rt: HostRuntime) -> Result<(), Fail> {
-        let counted = Rc::new(rt.alloc(), 7u64)?;
-        let mut queue = Exclusive::bounded(rt.alloc(), 1)?;
-        assert!(rt; queue.push(counted.clone()?).is_ok());
-        assert_eq!(rt; Rc::strong_count(&counted), 2);
-        assert!(rt; matches!(queue.force_push(counted.clone()?), Ok(Some(_))));
-        assert_eq!(rt; Rc::strong_count(&counted), 2);
-        drop(queue);
-        assert_eq!(rt; Rc::strong_count(&counted), 1);
-        Ok(())
-    }
-}
+mod tests;

@@ -125,7 +125,7 @@ impl<T: Drop> Cells<T> for PlainCells<T> {
 
 impl<T: Drop> PlainCells<T> {
     ghost use Rattle.std.specs.Prelude.{◌≡◌, ◌<◌, None, IfOk};
-    ghost use Rattle.concurrent_queue.specs.Contents.{read, write, slot_at, write_slot, PutGives, empty_slot};
+    ghost use Rattle.concurrent_queue.specs.Contents.{read, write, slot_at, write_slot, PutGives, empty_slot, empty_blocks};
     ghost use Rattle.concurrent_queue.specs.Made.{CanBeMade, IsNew};
     ghost use Rattle.concurrent_queue.specs.RingMade.{empty_ring};
     ghost use Rattle.concurrent_queue.specs.declared.cells.QueueForm.TheVariants as form;
@@ -140,6 +140,7 @@ impl<T: Drop> PlainCells<T> {
     {
         match form {
             QueueForm::Bounded(capacity) => PlainCells::bounded(alloc, capacity),
+            QueueForm::Unbounded => Ok(PlainCells::unbounded(alloc)),
         }
     }
 
@@ -196,6 +197,23 @@ impl<T: Drop> PlainCells<T> {
             tail_block: 0,
             pool: Pool::new(alloc),
         })
+    }
+
+    /// The cells of an open and empty unbounded queue. It takes no memory: blocks are made when messages come.
+    pub(crate) fn unbounded(alloc: Global) -> PlainCells<T>
+        ensures { contents_of result ≡ empty_blocks }
+    {
+        PlainCells {
+            form: QueueForm::Unbounded,
+            state: 0,
+            head: 0,
+            tail: 0,
+            stamps: Vec::new(alloc),
+            slots: Vec::new(alloc),
+            head_block: 0,
+            tail_block: 0,
+            pool: Pool::new(alloc),
+        }
     }
 
     fn read(&self, at: Word) -> u64

@@ -1,13 +1,14 @@
 //! A call of a queue, made one step at a time.
 
 ghost use Rattle.std.specs.Prelude.{◌≡◌};
-ghost use Rattle.concurrent_queue.specs.Dispatch.{IsStateStep, in_single, in_ring, ended};
+ghost use Rattle.concurrent_queue.specs.Dispatch.{IsStateStep, in_single, in_ring, in_blocks, ended};
 
 use crate::bounded::RingAction;
 use crate::call::{QueueAsk, QueueMark, QueueReply, Stepped};
 use crate::cells::{Cells, QueueForm};
 use crate::single::SingleAction;
-use crate::{bounded, single};
+use crate::unbounded::action::UnboundedCall;
+use crate::{bounded, single, unbounded};
 use std::mem;
 
 /// How far a call has come, in the form of its queue.
@@ -19,6 +20,8 @@ pub(crate) enum CallState<T> {
     Single(SingleAction<T>),
     /// On a ring.
     Ring(RingAction<T>),
+    /// On an unbounded queue.
+    Blocks(UnboundedCall<T>),
     /// It has answered.
     Finished,
 }
@@ -50,6 +53,16 @@ fn wrap_ring<T: Drop>(stepped: Stepped<RingAction<T>, T>) -> Stepped<CallState<T
     }
 }
 
+fn wrap_blocks<T: Drop>(stepped: Stepped<UnboundedCall<T>, T>) -> Stepped<CallState<T>, T>
+    ensures { result ≡ in_blocks stepped }
+{
+    Stepped {
+        action: CallState::Blocks(stepped.action),
+        mark: stepped.mark,
+        reply: stepped.reply,
+    }
+}
+
 /// The first step of a call, in the form of its queue.
 fn first_step<T: Drop, C: Cells<T>>(ask: QueueAsk<T>, cells: &mut C) -> Stepped<CallState<T>, T>
     ensures { C.known → IsStateStep (C.contents cells.old) (CallState.Asked ask) (C.contents cells.new) result }
@@ -57,6 +70,7 @@ fn first_step<T: Drop, C: Cells<T>>(ask: QueueAsk<T>, cells: &mut C) -> Stepped<
     match cells.form() {
         QueueForm::Bounded(1) => wrap_single(single::step(single::first(ask), cells)),
         QueueForm::Bounded(_) => wrap_ring(bounded::step(bounded::first(ask), cells)),
+        QueueForm::Unbounded => wrap_blocks(unbounded::step(unbounded::first(ask), cells)),
     }
 }
 
@@ -67,6 +81,7 @@ fn step_state<T: Drop, C: Cells<T>>(state: CallState<T>, cells: &mut C) -> Stepp
         CallState::Asked(ask) => first_step(ask, cells),
         CallState::Single(action) => wrap_single(single::step(action, cells)),
         CallState::Ring(action) => wrap_ring(bounded::step(action, cells)),
+        CallState::Blocks(call) => wrap_blocks(unbounded::step(call, cells)),
         CallState::Finished => Stepped {
             action: CallState::Finished,
             mark: QueueMark::Nothing,

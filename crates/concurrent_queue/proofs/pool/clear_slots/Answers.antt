@@ -1,4 +1,4 @@
-use Rattle.std.proofs.Common.{◌≡◌, ℕ, ◌<◌, ◌++◌, drop, length, slice_set, List, Option, None, ap, ◌∙◌, arith, rules}
+use Rattle.std.proofs.Common.{◌≡◌, ℕ, ◌<◌, ◌++◌, drop, slice_set, List, Option, None, ap, ◌∙◌, arith, rules}
 use Rattle.std.proofs.lemmas.List.{length-set}
 use Rattle.concurrent_queue.proofs.Slots.{empties, emptied_more, all_emptied}
 use Rattle.concurrent_queue.proofs.pool.clear_slots.Goals as goal

@@ -1,4 +1,4 @@
-use Rattle.std.proofs.Common.{◌≡◌, length, inl, inr, refl, ◌∙◌, ap, arith, rules}
+use Rattle.std.proofs.Common.{◌≡◌, length, inr, refl, ◌∙◌, ap, arith}
 use Rattle.concurrent_queue.specs.Plain.{contents_of}
 use Rattle.concurrent_queue.proofs.Runs.{running_start, running_more, running_stop, running_end, no_items}
 use Rattle.concurrent_queue.proofs.run.run_queue_steps.Goals as goal

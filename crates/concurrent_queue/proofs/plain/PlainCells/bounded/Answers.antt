@@ -1,4 +1,4 @@
-use Rattle.std.proofs.Common.{◌≡◌, ℕ, ◌≤◌, ◌^◌, arith}
+use Rattle.std.proofs.Common.{arith}
 use Rattle.concurrent_queue.proofs.FitsFacts.{new_one_slot, new_ring}
 use Rattle.concurrent_queue.proofs.plain.PlainCells.bounded.Goals as goal
 

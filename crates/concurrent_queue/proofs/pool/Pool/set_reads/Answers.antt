@@ -1,6 +1,6 @@
-use Rattle.std.proofs.Common.{None, rules, arith}
+use Rattle.std.proofs.Common.{rules, arith}
 use Rattle.std.proofs.lemmas.Option.{slice_get_read}
-use Rattle.concurrent_queue.specs.Contents.{with_next, with_reads, with_written, with_slot}
+use Rattle.concurrent_queue.specs.Contents.{with_reads}
 use Rattle.concurrent_queue.proofs.Slots.{edited}
 use Rattle.concurrent_queue.proofs.pool.Pool.set_reads.Goals as goal
 

@@ -1,0 +1,123 @@
+-- What the words and slots of an unbounded queue stand for: this is where blocks are used again.
+use Rattle.std.specs.Prelude.{◌≡◌, ℕ, zero, suc, ◌+◌, ◌-◌, ◌*◌, ◌^◌, ◌/◌, ◌%◌, ◌<◌, ◌≤◌, ◌⊎◌, Bool, true, false, List, [], ◌∷◌, length, Option, None, Some, slice_get, if◌then◌else◌}
+use Rattle.concurrent_queue.specs.Contents.{Contents, block_at, blank}
+use Rattle.concurrent_queue.specs.Contents as words
+use Rattle.concurrent_queue.specs.BlocksState.{Blocks, Spot, unmade, spare, held, one_if, position, number, tail_word}
+use Rattle.concurrent_queue.specs.BlocksCalls as call
+use Rattle.concurrent_queue.specs.BlocksCalls.{Act, same}
+use Rattle.concurrent_queue.specs.declared.unbounded.action.UnboundedAction.{UnboundedAction}
+use Rattle.concurrent_queue.specs.declared.unbounded.action.UnboundedAction.TheVariants as act
+
+-- a word for the f-th block of the chain, 0 for none
+abbrev pub Shows : {T : Type 0} → Blocks T → ℕ → ℕ → Type 0
+Shows r f w = ((f ≡ 0) × (w ≡ 0)) ⊎ ((1 ≤ f) × (w ≡ r.num (f - 1) + 1))
+
+pub record IsBlock {T : Type 0} (r : Blocks T) (k : ℕ) (x : words.Block T) : Type 0 where
+  pub next : x.next ≡ (if (r.block k).linked then r.num (k + 1) + 1 else 0)
+  pub reads : x.reads ≡ (r.block k).reads
+  pub written : (i : ℕ) → i < 31 → slice_get x.written i ≡ Some (one_if (r.cell (31 * k + i)).written)
+  pub slots : (i : ℕ) → i < 31 → slice_get x.slots i ≡ Some (r.cell (31 * k + i)).slot
+
+-- how often a number is on a list
+abbrev pub times : ℕ → List ℕ → ℕ
+times b [] = 0
+times b (x ∷ xs) = same x b + times b xs
+
+abbrev pub is_spare : Spot → Bool
+is_spare spare = true
+is_spare _ = false
+
+-- whether nothing of a block is in use
+abbrev pub IsIdle : Spot → Type 0
+IsIdle spare = Unit {0}
+IsIdle held = Unit {0}
+IsIdle _ = ⊥
+
+pub record Denotes {T : Type 0} (c : Contents T) (r : Blocks T) : Type 0 where
+  pub head : c.head ≡ position r.head r.head_turns
+  pub tail : c.tail ≡ tail_word r
+  pub head_block : Shows r r.first c.head_block
+  pub tail_block : Shows r r.last c.tail_block
+  pub used : (k : ℕ) → k < r.last → (r.block k).retired ≡ false → IsBlock r k (block_at c (r.num k))
+  pub numbered : (k : ℕ) → k < r.last → r.num k < length c.blocks
+  pub idle : (b : ℕ) → IsIdle (r.spot b) → block_at c b ≡ blank
+  pub spares : (b : ℕ) → times b c.spares ≡ one_if (is_spare (r.spot b))
+  pub made : (b : ℕ) → length c.blocks ≤ b → r.spot b ≡ unmade
+  pub few : length c.blocks < 2 ^ 64
+
+-- the block that a word names
+abbrev pub named : ℕ → Option ℕ
+named zero = None
+named (suc b) = Some b
+
+-- an action by the numbers of its items
+abbrev pub act_of : {T : Type 0} → UnboundedAction T → Act T
+act_of (act.Push v h) = call.push v h
+act_of (act.PushShut v h) = call.finished
+act_of (act.PushReturn v h) = call.push_return v h
+act_of (act.PushLook v t h) = call.push_look v (number (t / 2)) h
+act_of (act.PushMake v t) = call.push_make v (number (t / 2))
+act_of (act.PushFirst v t h) = call.push_first v (number (t / 2)) h
+act_of (act.PushStart v t b) = call.push_start v (number (t / 2)) b
+act_of (act.PushMore v t b) = call.push_more v (number (t / 2)) b
+act_of (act.PushSwap v t b h) = call.push_swap v (number (t / 2)) b h
+act_of (act.PushTurn v t b h) = call.push_turn v (number (t / 2)) b h
+act_of (act.PushAdd v t b h) = call.push_add v (number (t / 2)) b h
+act_of (act.PushLink v t b h) = call.push_link v (number (t / 2)) b h
+act_of (act.PushPut v t b h) = call.push_put v (number (t / 2)) b h
+act_of (act.PushStore t b h) = call.push_store (number (t / 2)) b h
+act_of (act.PushGive h) = call.push_give h
+act_of act.Pop = call.pop
+act_of (act.PopLook p) = call.pop_look (number p)
+act_of (act.PopTail p b) = call.pop_tail (number p) (named b)
+act_of (act.PopSwap p b) = call.pop_swap (number p) b
+act_of (act.PopNext p b) = call.pop_next (number p) b
+act_of (act.PopBlock p b c) = call.pop_block (number p) b (c - 1)
+act_of (act.PopHead p b) = call.pop_head (number p) b
+act_of (act.PopWait p b) = call.pop_wait (number p) b
+act_of (act.PopTake p b) = call.pop_take (number p) b
+act_of (act.PopCount p b d) = call.pop_count (number p) b d
+act_of (act.PopRetire p b d) = call.pop_retire (number p) b d
+act_of act.Close = call.close
+act_of act.AskClosed = call.ask_closed
+act_of act.AskEmpty = call.ask_empty
+act_of (act.EmptyTail p) = call.empty_tail (number p)
+act_of act.AskFull = call.ask_full
+act_of act.AskLen = call.ask_len
+act_of (act.LenHead t) = call.len_head t
+act_of (act.LenTail t p) = call.len_tail t (number p)
+act_of act.AskCapacity = call.ask_capacity
+act_of act.Finished = call.finished
+
+-- a tail word of an open queue whose page is not being turned, and a head position at rest
+abbrev pub IsTailAt : ℕ → Type 0
+IsTailAt t = (t % 2 ≡ 0) × (t / 2 % 32 < 31)
+
+abbrev pub IsHeadAt : ℕ → Type 0
+IsHeadAt p = p % 32 < 31
+
+-- the words that an action goes by are such words
+abbrev pub IsProper : {T : Type 0} → UnboundedAction T → Type 0
+IsProper (act.PushShut v h) = ⊥
+IsProper (act.PushLook v t h) = IsTailAt t
+IsProper (act.PushMake v t) = IsTailAt t
+IsProper (act.PushFirst v t h) = IsTailAt t
+IsProper (act.PushStart v t b) = IsTailAt t
+IsProper (act.PushMore v t b) = IsTailAt t
+IsProper (act.PushSwap v t b h) = IsTailAt t × (t / 2 % 32 ≡ 30 → (h ≡ None → ⊥))
+IsProper (act.PushTurn v t b h) = IsTailAt t
+IsProper (act.PushAdd v t b h) = IsTailAt t
+IsProper (act.PushLink v t b h) = IsTailAt t
+IsProper (act.PushPut v t b h) = IsTailAt t
+IsProper (act.PushStore t b h) = IsTailAt t
+IsProper (act.PopLook p) = IsHeadAt p
+IsProper (act.PopTail p b) = IsHeadAt p
+IsProper (act.PopSwap p b) = IsHeadAt p
+IsProper (act.PopNext p b) = IsHeadAt p
+IsProper (act.PopBlock p b c) = IsHeadAt p × (1 ≤ c)
+IsProper (act.PopHead p b) = IsHeadAt p
+IsProper (act.PopWait p b) = IsHeadAt p
+IsProper (act.PopTake p b) = IsHeadAt p
+IsProper (act.PopCount p b d) = IsHeadAt p
+IsProper (act.PopRetire p b d) = IsHeadAt p
+IsProper _ = Unit {0}

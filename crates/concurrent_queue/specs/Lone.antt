@@ -1,0 +1,33 @@
+-- A call that goes on alone, with nobody who holds it up.
+use Rattle.std.specs.Prelude.{◌≡◌, ℕ, ◌≤◌, List, [], ◌∷◌, ◌++◌, MatchOption}
+use Rattle.std.proofs.Common.{zero, suc}
+use Rattle.concurrent_queue.specs.Contents.{Contents}
+use Rattle.concurrent_queue.specs.Scene.{Scene, Under, HoldNobodyUp}
+use Rattle.concurrent_queue.specs.Run.{Config, IsRun, opened_config}
+use Rattle.concurrent_queue.specs.declared.call.QueueEntry.{QueueEntry}
+use Rattle.concurrent_queue.specs.declared.cells.QueueForm.{QueueForm}
+use Rattle.concurrent_queue.specs.declared.run.QueueStep.{QueueStep}
+use Rattle.concurrent_queue.specs.declared.run.QueueStep.TheVariants.{Step}
+
+module _ {T : Type 0} where
+  -- k steps of one party, one after another
+  abbrev pub steps_of : ℕ → ℕ → List (QueueStep T)
+  steps_of p zero = []
+  steps_of p (suc k) = Step p ∷ steps_of p k
+
+  -- one of these entries has a reply
+  abbrev pub HasReply : List (QueueEntry T) → Type 0
+  HasReply [] = ⊥
+  HasReply (e ∷ es) = MatchOption e.reply (HasReply es) (λ r. Unit {0})
+
+  -- the calls beside this party's hold nobody up: none has a mark, and an unbounded queue has had its first removal or
+  -- there is no other call
+  abbrev pub NobodyHoldsUp : ℕ → Scene T → Type 0
+  NobodyHoldsUp p s =
+      (before behind : List (Under T)) (mine : Under T) → s.under_way ≡ before ++ mine ∷ behind → mine.party ≡ p → HoldNobodyUp s.now (before ++ behind)
+
+-- from wherever a run has come, a call that nobody holds up replies within its next 64 steps, where these are the next ones
+abbrev pub LoneCallsEnd : Type 0 → Type 0
+LoneCallsEnd T =
+    (form : QueueForm) (start : Contents T) (made : List (QueueStep T)) (trace : List (QueueEntry T)) (f : Config T) → IsRun (opened_config start form) made trace f
+    → (p : ℕ) → NobodyHoldsUp p f.scene → (k : ℕ) → 64 ≤ k → (entries : List (QueueEntry T)) (g : Config T) → IsRun f (steps_of p k) entries g → HasReply entries

@@ -1,0 +1,83 @@
+//! Closing an unbounded queue, and its questions.
+
+ghost use Rattle.std.specs.Prelude.{◌≡◌, ℕ, None};
+ghost use Rattle.concurrent_queue.specs.BlocksWords.{tells, close_tail, ask_tail, empty_load_head, empty_load_tail, len_load_tail, len_load_head, len_again};
+
+use crate::call::{QueueMark, QueueReply};
+use crate::cells::{Cells, Word};
+use crate::unbounded::action::{Progress, UnboundedAction, finish, stay};
+use crate::unbounded::ending::Ending;
+use crate::unbounded::pop::number_of;
+
+pub(crate) fn tell<T>(reply: QueueReply<T>) -> Progress<T>
+    ensures { result ≡ tells reply }
+{
+    finish(Ending::Replied(reply))
+}
+
+pub(crate) fn close_load<T: Drop, C: Cells<T>>(cells: &mut C) -> Progress<T>
+    ensures steps { C.known → (C.contents cells.new, result) ≡ close_tail (C.contents cells.old) }
+    ensures form { C.form_of cells.new ≡ C.form_of cells.old }
+{
+    let tail = cells.fetch_or(Word::Tail, 1);
+    if tail % 2 == 1 {
+        tell(QueueReply::Close(false))
+    } else {
+        Progress {
+            action: UnboundedAction::Finished,
+            mark: QueueMark::Close,
+            ending: Some(Ending::Replied(QueueReply::Close(true))),
+        }
+    }
+}
+
+pub(crate) fn ask_closed<T: Drop, C: Cells<T>>(cells: &mut C) -> Progress<T>
+    ensures steps { C.known → (C.contents cells.new, result) ≡ ask_tail (C.contents cells.old) }
+    ensures form { C.form_of cells.new ≡ C.form_of cells.old }
+{
+    let tail = cells.load(Word::Tail);
+    tell(QueueReply::Flag(tail % 2 == 1))
+}
+
+pub(crate) fn ask_empty<T: Drop, C: Cells<T>>(cells: &mut C) -> Progress<T>
+    ensures steps { C.known → (C.contents cells.new, result) ≡ empty_load_head (C.contents cells.old) }
+    ensures form { C.form_of cells.new ≡ C.form_of cells.old }
+{
+    let head = cells.load(Word::Head);
+    stay(UnboundedAction::EmptyTail(head))
+}
+
+pub(crate) fn empty_tail<T: Drop, C: Cells<T>>(head: u64, cells: &mut C) -> Progress<T>
+    ensures steps { C.known → (C.contents cells.new, result) ≡ empty_load_tail (C.contents cells.old) head }
+    ensures form { C.form_of cells.new ≡ C.form_of cells.old }
+{
+    let tail = cells.load(Word::Tail);
+    tell(QueueReply::Flag(number_of(tail / 2) == number_of(head)))
+}
+
+pub(crate) fn ask_len<T: Drop, C: Cells<T>>(cells: &mut C) -> Progress<T>
+    ensures steps { C.known → (C.contents cells.new, result) ≡ len_load_tail (C.contents cells.old) }
+    ensures form { C.form_of cells.new ≡ C.form_of cells.old }
+{
+    let tail = cells.load(Word::Tail);
+    stay(UnboundedAction::LenHead(tail))
+}
+
+pub(crate) fn len_head<T: Drop, C: Cells<T>>(tail: u64, cells: &mut C) -> Progress<T>
+    ensures steps { C.known → (C.contents cells.new, result) ≡ len_load_head (C.contents cells.old) tail }
+    ensures form { C.form_of cells.new ≡ C.form_of cells.old }
+{
+    let head = cells.load(Word::Head);
+    stay(UnboundedAction::LenTail(tail, head))
+}
+
+pub(crate) fn len_tail<T: Drop, C: Cells<T>>(tail: u64, head: u64, cells: &mut C) -> Progress<T>
+    ensures steps { C.known → (C.contents cells.new, result) ≡ len_again (C.contents cells.old) tail head }
+    ensures form { C.form_of cells.new ≡ C.form_of cells.old }
+{
+    if cells.load(Word::Tail) == tail {
+        tell(QueueReply::Count(number_of(tail / 2).saturating_sub(number_of(head)) as usize))
+    } else {
+        stay(UnboundedAction::AskLen)
+    }
+}

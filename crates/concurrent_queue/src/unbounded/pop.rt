@@ -1,0 +1,150 @@
+//! The steps of a pop from an unbounded queue.
+
+ghost use Rattle.std.specs.Prelude.{◌≡◌, ℕ};
+ghost use Rattle.concurrent_queue.specs.BlocksState.{number};
+ghost use Rattle.concurrent_queue.specs.BlocksWords.{load_head, look_head_block, look_tail, swap_head, load_next, store_head_block, store_head, wait_written, take_message, count_read, retire_block};
+
+use crate::call::{QueueMark, QueueReply};
+use crate::cells::{Cells, Slot, Word};
+use crate::error::PopError;
+use crate::unbounded::action::{Progress, UnboundedAction, finish, marked, stay};
+use crate::unbounded::ending::Ending;
+
+/// How many items come before a position.
+pub(crate) fn number_of(p: u64) -> u64
+    ensures { result ≡ number p }
+{
+    31 * (p / 32) + p % 32
+}
+
+pub(crate) fn pop_load<T: Drop, C: Cells<T>>(cells: &mut C) -> Progress<T>
+    ensures steps { C.known → (C.contents cells.new, result) ≡ load_head (C.contents cells.old) }
+    ensures form { C.form_of cells.new ≡ C.form_of cells.old }
+{
+    let head = cells.load(Word::Head);
+    if head % 32 == 31 {
+        stay(UnboundedAction::Pop)
+    } else {
+        stay(UnboundedAction::PopLook(head))
+    }
+}
+
+pub(crate) fn pop_look<T: Drop, C: Cells<T>>(head: u64, cells: &mut C) -> Progress<T>
+    ensures steps { C.known → (C.contents cells.new, result) ≡ look_head_block (C.contents cells.old) head }
+    ensures form { C.form_of cells.new ≡ C.form_of cells.old }
+{
+    let block = cells.load(Word::HeadBlock);
+    stay(UnboundedAction::PopTail(head, block))
+}
+
+pub(crate) fn pop_tail<T: Drop, C: Cells<T>>(head: u64, block: u64, cells: &mut C) -> Progress<T>
+    ensures steps { C.known → (C.contents cells.new, result) ≡ look_tail (C.contents cells.old) head block }
+    ensures form { C.form_of cells.new ≡ C.form_of cells.old }
+{
+    let tail = cells.load(Word::Tail);
+    if number_of(tail / 2) == number_of(head) {
+        if tail % 2 == 1 {
+            finish(Ending::Replied(QueueReply::Pop(Err(PopError::Closed))))
+        } else {
+            finish(Ending::Replied(QueueReply::Pop(Err(PopError::Empty))))
+        }
+    } else if block == 0 {
+        stay(UnboundedAction::Pop)
+    } else {
+        stay(UnboundedAction::PopSwap(head, block - 1))
+    }
+}
+
+pub(crate) fn pop_swap<T: Drop, C: Cells<T>>(head: u64, block: u64, cells: &mut C) -> Progress<T>
+    ensures steps { C.known → (C.contents cells.new, result) ≡ swap_head (C.contents cells.old) head block }
+    ensures form { C.form_of cells.new ≡ C.form_of cells.old }
+{
+    match cells.compare_exchange(Word::Head, head, head.wrapping_add(1)) {
+        Ok(_) => {
+            if head % 32 == 30 {
+                marked(UnboundedAction::PopNext(head, block), QueueMark::Take)
+            } else {
+                marked(UnboundedAction::PopWait(head, block), QueueMark::Take)
+            }
+        }
+        Err(_) => stay(UnboundedAction::Pop),
+    }
+}
+
+pub(crate) fn pop_next<T: Drop, C: Cells<T>>(head: u64, block: u64, cells: &mut C) -> Progress<T>
+    ensures steps { C.known → (C.contents cells.new, result) ≡ load_next (C.contents cells.old) head block }
+    ensures form { C.form_of cells.new ≡ C.form_of cells.old }
+{
+    let next = cells.load(Word::Next(block));
+    if next == 0 {
+        stay(UnboundedAction::PopNext(head, block))
+    } else {
+        stay(UnboundedAction::PopBlock(head, block, next))
+    }
+}
+
+pub(crate) fn pop_block<T: Drop, C: Cells<T>>(
+    head: u64,
+    block: u64,
+    next: u64,
+    cells: &mut C,
+) -> Progress<T>
+    ensures steps { C.known → (C.contents cells.new, result) ≡ store_head_block (C.contents cells.old) head block next }
+    ensures form { C.form_of cells.new ≡ C.form_of cells.old }
+{
+    cells.store(Word::HeadBlock, next);
+    stay(UnboundedAction::PopHead(head, block))
+}
+
+pub(crate) fn pop_head<T: Drop, C: Cells<T>>(head: u64, block: u64, cells: &mut C) -> Progress<T>
+    ensures steps { C.known → (C.contents cells.new, result) ≡ store_head (C.contents cells.old) head block }
+    ensures form { C.form_of cells.new ≡ C.form_of cells.old }
+{
+    cells.store(Word::Head, head.wrapping_add(2));
+    stay(UnboundedAction::PopWait(head, block))
+}
+
+pub(crate) fn pop_wait<T: Drop, C: Cells<T>>(head: u64, block: u64, cells: &mut C) -> Progress<T>
+    ensures steps { C.known → (C.contents cells.new, result) ≡ wait_written (C.contents cells.old) head block }
+    ensures form { C.form_of cells.new ≡ C.form_of cells.old }
+{
+    if cells.load(Word::Written(block, head % 32)) == 1 {
+        stay(UnboundedAction::PopTake(head, block))
+    } else {
+        stay(UnboundedAction::PopWait(head, block))
+    }
+}
+
+pub(crate) fn pop_take<T: Drop, C: Cells<T>>(head: u64, block: u64, cells: &mut C) -> Progress<T>
+    ensures steps { C.known → (C.contents cells.new, result) ≡ take_message (C.contents cells.old) head block }
+    ensures form { C.form_of cells.new ≡ C.form_of cells.old }
+{
+    match cells.take(Slot::In(block, head % 32)) {
+        Some(value) => stay(UnboundedAction::PopCount(head, block, value)),
+        None => stay(UnboundedAction::PopTake(head, block)),
+    }
+}
+
+pub(crate) fn pop_count<T: Drop, C: Cells<T>>(
+    head: u64,
+    block: u64,
+    value: T,
+    cells: &mut C,
+) -> Progress<T>
+    ensures steps { C.known → (C.contents cells.new, result) ≡ count_read (C.contents cells.old) head block value }
+    ensures form { C.form_of cells.new ≡ C.form_of cells.old }
+{
+    if cells.fetch_add(Word::Reads(block), 1) == 30 {
+        stay(UnboundedAction::PopRetire(head, block, value))
+    } else {
+        finish(Ending::Replied(QueueReply::Pop(Ok(value))))
+    }
+}
+
+pub(crate) fn pop_retire<T: Drop, C: Cells<T>>(block: u64, value: T, cells: &mut C) -> Progress<T>
+    ensures steps { C.known → (C.contents cells.new, result) ≡ retire_block (C.contents cells.old) block value }
+    ensures form { C.form_of cells.new ≡ C.form_of cells.old }
+{
+    cells.retire(block);
+    finish(Ending::Replied(QueueReply::Pop(Ok(value))))
+}

@@ -1,0 +1,274 @@
+//! The steps of a push into an unbounded queue.
+
+ghost use Rattle.std.specs.Prelude.{◌≡◌, ℕ};
+ghost use Rattle.concurrent_queue.specs.BlocksWords.{load_tail, shut_tail, give_back, look_with, look_first, when_shut, look_tail_block, Obtains, swap_first, start_head, after_swap, swap_tail, turn_tail_block, add_tail, link_next, put_message, after_store, store_written, give_spare};
+
+use crate::call::QueueMark;
+use crate::cells::{Cells, NoMemory, Slot, Word};
+use crate::unbounded::action::{Progress, UnboundedAction, finish, marked, stay};
+use crate::unbounded::ending::Ending;
+
+pub(crate) fn refuse_shut<T>(value: T, held: Option<u64>) -> Progress<T>
+    ensures { result ≡ when_shut value held }
+{
+    match held {
+        Some(h) => stay(UnboundedAction::PushReturn(value, h)),
+        None => finish(Ending::Closed(value)),
+    }
+}
+
+pub(crate) fn ready<T>(value: T, tail: u64, block: u64, held: Option<u64>) -> Progress<T>
+    ensures { result ≡ look_with value tail block held }
+{
+    match held {
+        Some(h) => stay(UnboundedAction::PushSwap(value, tail, block, Some(h))),
+        None => {
+            if tail / 2 % 32 == 30 {
+                stay(UnboundedAction::PushMore(value, tail, block))
+            } else {
+                stay(UnboundedAction::PushSwap(value, tail, block, None))
+            }
+        }
+    }
+}
+
+pub(crate) fn unready<T>(value: T, tail: u64, held: Option<u64>) -> Progress<T>
+    ensures { result ≡ look_first value tail held }
+{
+    match held {
+        Some(h) => stay(UnboundedAction::PushFirst(value, tail, h)),
+        None => stay(UnboundedAction::PushMake(value, tail)),
+    }
+}
+
+pub(crate) fn won<T>(value: T, tail: u64, block: u64, held: Option<u64>) -> UnboundedAction<T>
+    ensures { result ≡ after_swap value tail block held }
+{
+    match held {
+        Some(h) => {
+            if tail / 2 % 32 == 30 {
+                UnboundedAction::PushTurn(value, tail, block, h)
+            } else {
+                UnboundedAction::PushPut(value, tail, block, Some(h))
+            }
+        }
+        None => UnboundedAction::PushPut(value, tail, block, None),
+    }
+}
+
+pub(crate) fn push_load<T: Drop, C: Cells<T>>(
+    value: T,
+    held: Option<u64>,
+    cells: &mut C,
+) -> Progress<T>
+    ensures steps { C.known → (C.contents cells.new, result) ≡ load_tail (C.contents cells.old) value held }
+    ensures form { C.form_of cells.new ≡ C.form_of cells.old }
+{
+    let tail = cells.load(Word::Tail);
+    if tail % 2 == 1 {
+        refuse_shut(value, held)
+    } else if tail / 2 >= 9223372036854775744 {
+        stay(UnboundedAction::PushShut(value, held))
+    } else if tail / 2 % 32 == 31 {
+        stay(UnboundedAction::Push(value, held))
+    } else {
+        stay(UnboundedAction::PushLook(value, tail, held))
+    }
+}
+
+pub(crate) fn push_shut<T: Drop, C: Cells<T>>(
+    value: T,
+    held: Option<u64>,
+    cells: &mut C,
+) -> Progress<T>
+    ensures steps { C.known → (C.contents cells.new, result) ≡ shut_tail (C.contents cells.old) value held }
+    ensures form { C.form_of cells.new ≡ C.form_of cells.old }
+{
+    let tail = cells.fetch_or(Word::Tail, 1);
+    let refused = refuse_shut(value, held);
+    if tail % 2 == 1 {
+        refused
+    } else {
+        Progress {
+            action: refused.action,
+            mark: QueueMark::Close,
+            ending: refused.ending,
+        }
+    }
+}
+
+pub(crate) fn push_return<T: Drop, C: Cells<T>>(value: T, held: u64, cells: &mut C) -> Progress<T>
+    ensures steps { C.known → (C.contents cells.new, result) ≡ give_back (C.contents cells.old) value held }
+    ensures form { C.form_of cells.new ≡ C.form_of cells.old }
+{
+    cells.retire(held);
+    finish(Ending::Closed(value))
+}
+
+pub(crate) fn push_look<T: Drop, C: Cells<T>>(
+    value: T,
+    tail: u64,
+    held: Option<u64>,
+    cells: &mut C,
+) -> Progress<T>
+    ensures steps { C.known → (C.contents cells.new, result) ≡ look_tail_block (C.contents cells.old) value tail held }
+    ensures form { C.form_of cells.new ≡ C.form_of cells.old }
+{
+    let block = cells.load(Word::TailBlock);
+    if block == 0 {
+        unready(value, tail, held)
+    } else {
+        ready(value, tail, block - 1, held)
+    }
+}
+
+pub(crate) fn push_make<T: Drop, C: Cells<T>>(value: T, tail: u64, cells: &mut C) -> Progress<T>
+    ensures steps { C.known → Obtains (C.contents cells.old) value (λ h. UnboundedAction.PushFirst value tail h) (C.contents cells.new, result) }
+    ensures form { C.form_of cells.new ≡ C.form_of cells.old }
+{
+    match cells.spare() {
+        Ok(h) => stay(UnboundedAction::PushFirst(value, tail, h)),
+        Err(_) => finish(Ending::NoMemory(value)),
+    }
+}
+
+pub(crate) fn push_more<T: Drop, C: Cells<T>>(
+    value: T,
+    tail: u64,
+    block: u64,
+    cells: &mut C,
+) -> Progress<T>
+    ensures steps { C.known → Obtains (C.contents cells.old) value (λ h. UnboundedAction.PushSwap value tail block (Some h)) (C.contents cells.new, result) }
+    ensures form { C.form_of cells.new ≡ C.form_of cells.old }
+{
+    match cells.spare() {
+        Ok(h) => stay(UnboundedAction::PushSwap(value, tail, block, Some(h))),
+        Err(_) => finish(Ending::NoMemory(value)),
+    }
+}
+
+pub(crate) fn push_first<T: Drop, C: Cells<T>>(
+    value: T,
+    tail: u64,
+    held: u64,
+    cells: &mut C,
+) -> Progress<T>
+    ensures steps { C.known → (C.contents cells.new, result) ≡ swap_first (C.contents cells.old) value tail held }
+    ensures form { C.form_of cells.new ≡ C.form_of cells.old }
+{
+    match cells.compare_exchange(Word::TailBlock, 0, held.wrapping_add(1)) {
+        Ok(_) => stay(UnboundedAction::PushStart(value, tail, held)),
+        Err(_) => stay(UnboundedAction::Push(value, Some(held))),
+    }
+}
+
+pub(crate) fn push_start<T: Drop, C: Cells<T>>(
+    value: T,
+    tail: u64,
+    block: u64,
+    cells: &mut C,
+) -> Progress<T>
+    ensures steps { C.known → (C.contents cells.new, result) ≡ start_head (C.contents cells.old) value tail block }
+    ensures form { C.form_of cells.new ≡ C.form_of cells.old }
+{
+    cells.store(Word::HeadBlock, block.wrapping_add(1));
+    ready(value, tail, block, None)
+}
+
+pub(crate) fn push_swap<T: Drop, C: Cells<T>>(
+    value: T,
+    tail: u64,
+    block: u64,
+    held: Option<u64>,
+    cells: &mut C,
+) -> Progress<T>
+    ensures steps { C.known → (C.contents cells.new, result) ≡ swap_tail (C.contents cells.old) value tail block held }
+    ensures form { C.form_of cells.new ≡ C.form_of cells.old }
+{
+    match cells.compare_exchange(Word::Tail, tail, tail.wrapping_add(2)) {
+        Ok(_) => marked(won(value, tail, block, held), QueueMark::Append),
+        Err(_) => stay(UnboundedAction::Push(value, held)),
+    }
+}
+
+pub(crate) fn push_turn<T: Drop, C: Cells<T>>(
+    value: T,
+    tail: u64,
+    block: u64,
+    next: u64,
+    cells: &mut C,
+) -> Progress<T>
+    ensures steps { C.known → (C.contents cells.new, result) ≡ turn_tail_block (C.contents cells.old) value tail block next }
+    ensures form { C.form_of cells.new ≡ C.form_of cells.old }
+{
+    cells.store(Word::TailBlock, next.wrapping_add(1));
+    stay(UnboundedAction::PushAdd(value, tail, block, next))
+}
+
+pub(crate) fn push_add<T: Drop, C: Cells<T>>(
+    value: T,
+    tail: u64,
+    block: u64,
+    next: u64,
+    cells: &mut C,
+) -> Progress<T>
+    ensures steps { C.known → (C.contents cells.new, result) ≡ add_tail (C.contents cells.old) value tail block next }
+    ensures form { C.form_of cells.new ≡ C.form_of cells.old }
+{
+    cells.fetch_add(Word::Tail, 2);
+    stay(UnboundedAction::PushLink(value, tail, block, next))
+}
+
+pub(crate) fn push_link<T: Drop, C: Cells<T>>(
+    value: T,
+    tail: u64,
+    block: u64,
+    next: u64,
+    cells: &mut C,
+) -> Progress<T>
+    ensures steps { C.known → (C.contents cells.new, result) ≡ link_next (C.contents cells.old) value tail block next }
+    ensures form { C.form_of cells.new ≡ C.form_of cells.old }
+{
+    cells.store(Word::Next(block), next.wrapping_add(1));
+    stay(UnboundedAction::PushPut(value, tail, block, None))
+}
+
+pub(crate) fn push_put<T: Drop, C: Cells<T>>(
+    value: T,
+    tail: u64,
+    block: u64,
+    held: Option<u64>,
+    cells: &mut C,
+) -> Progress<T>
+    ensures steps { C.known → (C.contents cells.new, result) ≡ put_message (C.contents cells.old) value tail block held }
+    ensures form { C.form_of cells.new ≡ C.form_of cells.old }
+{
+    match cells.put(Slot::In(block, tail / 2 % 32), value) {
+        Ok(()) => stay(UnboundedAction::PushStore(tail, block, held)),
+        Err(value) => stay(UnboundedAction::PushPut(value, tail, block, held)),
+    }
+}
+
+pub(crate) fn push_store<T: Drop, C: Cells<T>>(
+    tail: u64,
+    block: u64,
+    held: Option<u64>,
+    cells: &mut C,
+) -> Progress<T>
+    ensures steps { C.known → (C.contents cells.new, result) ≡ store_written (C.contents cells.old) tail block held }
+    ensures form { C.form_of cells.new ≡ C.form_of cells.old }
+{
+    cells.store(Word::Written(block, tail / 2 % 32), 1);
+    match held {
+        Some(h) => stay(UnboundedAction::PushGive(h)),
+        None => finish(Ending::Sent),
+    }
+}
+
+pub(crate) fn push_give<T: Drop, C: Cells<T>>(held: u64, cells: &mut C) -> Progress<T>
+    ensures steps { C.known → (C.contents cells.new, result) ≡ give_spare (C.contents cells.old) held }
+    ensures form { C.form_of cells.new ≡ C.form_of cells.old }
+{
+    cells.retire(held);
+    finish(Ending::Sent)
+}
