@@ -5,6 +5,21 @@ ghost use Rattle.std.specs.Int.{saturate_unsigned, w64};
 use crate::into_notification::IntoNotification;
 use crate::notify::Notify;
 
+#[cfg(test)]
+mod tests;
+
+// A plain notice for this many: none for a negative number, the greatest `usize` for one past it.
+fn signed(count: i128) -> Notify
+    ensures { result.count ≡ saturate_unsigned w64 count }
+{
+    let count = if count < 0 {
+        0
+    } else {
+        usize::try_from(count).unwrap_or(usize::MAX)
+    };
+    Notify { count }
+}
+
 impl IntoNotification for u8 {
     type Tag = ();
 
@@ -95,9 +110,7 @@ impl IntoNotification for i8 {
     ghost becomes = { λ z m. m.count ≡ saturate_unsigned w64 z };
 
     fn into_notification(self) -> Notify {
-        Notify {
-            count: usize::try_from(self).unwrap_or(0),
-        }
+        signed(i128::from(self))
     }
 }
 
@@ -109,9 +122,7 @@ impl IntoNotification for i16 {
     ghost becomes = { λ z m. m.count ≡ saturate_unsigned w64 z };
 
     fn into_notification(self) -> Notify {
-        Notify {
-            count: usize::try_from(self).unwrap_or(0),
-        }
+        signed(i128::from(self))
     }
 }
 
@@ -123,9 +134,7 @@ impl IntoNotification for i32 {
     ghost becomes = { λ z m. m.count ≡ saturate_unsigned w64 z };
 
     fn into_notification(self) -> Notify {
-        Notify {
-            count: usize::try_from(self).unwrap_or(0),
-        }
+        signed(i128::from(self))
     }
 }
 
@@ -137,9 +146,7 @@ impl IntoNotification for i64 {
     ghost becomes = { λ z m. m.count ≡ saturate_unsigned w64 z };
 
     fn into_notification(self) -> Notify {
-        Notify {
-            count: usize::try_from(self).unwrap_or(0),
-        }
+        signed(i128::from(self))
     }
 }
 
@@ -151,9 +158,7 @@ impl IntoNotification for isize {
     ghost becomes = { λ z m. m.count ≡ saturate_unsigned w64 z };
 
     fn into_notification(self) -> Notify {
-        Notify {
-            count: usize::try_from(self).unwrap_or(0),
-        }
+        signed(self as i128)
     }
 }
 
@@ -165,11 +170,6 @@ impl IntoNotification for i128 {
     ghost becomes = { λ z m. m.count ≡ saturate_unsigned w64 z };
 
     fn into_notification(self) -> Notify {
-        let count = if self < 0 {
-            0
-        } else {
-            usize::try_from(self).unwrap_or(usize::MAX)
-        };
-        Notify { count }
+        signed(self)
     }
 }

@@ -27,18 +27,16 @@ pub trait IntoNotification: Sized {
     final fn additional(self) -> Additional<Self::Notify>
         ensures { becomes self result.inner }
     {
-        Additional {
-            inner: self.into_notification(),
-        }
+        let inner = self.into_notification();
+        Additional { inner }
     }
 
     /// The notice relaxed, which here changes nothing.
     final fn relaxed(self) -> Relaxed<Self::Notify>
         ensures { becomes self result.inner }
     {
-        Relaxed {
-            inner: self.into_notification(),
-        }
+        let inner = self.into_notification();
+        Relaxed { inner }
     }
 
     /// The notice with a tag, of which each listener gets a clone. A clone of the tag must equal it.
@@ -47,10 +45,8 @@ pub trait IntoNotification: Sized {
         ensures notice { becomes self result.inner }
         ensures tag { result.tag ≡ tag }
     {
-        Tag {
-            inner: self.into_notification(),
-            tag,
-        }
+        let inner = self.into_notification();
+        Tag { inner, tag }
     }
 
     /// The notice with tags that `make` gives, one for each listener in the order of telling.
@@ -59,10 +55,12 @@ pub trait IntoNotification: Sized {
         ensures notice { becomes self result.inner }
         ensures make { result.make ≡ make }
     {
+        let inner = self.into_notification();
+        let marker = PhantomData;
         TagWith {
-            inner: self.into_notification(),
+            inner,
             make,
-            marker: PhantomData,
+            marker,
         }
     }
 }

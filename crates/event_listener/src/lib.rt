@@ -25,10 +25,14 @@ mod parker;
 mod place;
 pub mod recorded;
 mod recording;
+#[cfg(test)]
+mod refusals;
 pub mod run;
 pub mod stack;
 pub mod tagged;
 #[cfg(test)]
 mod tests;
+#[cfg(test)]
+mod texts;
 pub mod wakes;
 mod waking;

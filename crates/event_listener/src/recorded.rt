@@ -1,12 +1,11 @@
 //! An event that keeps a record of its calls.
-ghost use Rattle.std.specs.Prelude.{◌≡◌, List};
-ghost use Rattle.event_listener.specs.Lists.{Lists};
 ghost use Rattle.event_listener.specs.Replay.{Replays, nobody};
 
 use crate::calls::Registered;
 use crate::error::{ListenError, NoMemory, NotifyError, UnknownListener};
 use crate::into_notification::IntoNotification;
 use crate::key::Key;
+use crate::list::List;
 use crate::recording::Recording;
 use crate::wakes::Wakes;
 use std::alloc::Global;
@@ -168,11 +167,11 @@ impl<T: Copy, W: Copy> RecordedEvent<T, W> {
         self.inner.lock(rt).told()
     }
 
-    /// The record, at the event's end.
-    pub fn into_calls(self) -> Vec<RecordedCall<T, W>>
-        ensures { (last : Lists T W) × Replays nobody result.items last }
+    /// The list as it stands at the event's end, and the record that leads there from an empty one.
+    pub fn into_parts(self) -> (List<T, W>, Vec<RecordedCall<T, W>>)
+        ensures { Replays nobody result.1.items result.0.lists }
     {
         let RecordedEvent { alloc: _, inner } = self;
-        inner.into_inner().into_calls()
+        inner.into_inner().into_parts()
     }
 }

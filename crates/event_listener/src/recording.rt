@@ -223,13 +223,14 @@ impl<T: Copy, W: Copy> Recording<T, W> {
         self.list.told()
     }
 
-    /// The record, which leads to the list as it stands.
-    pub(crate) fn into_calls(self) -> Vec<RecordedCall<T, W>>
-        ensures calls { result.items ≡ self.calls }
-        ensures replays { Replays nobody result.items self.lists }
+    /// The list as it stands, and the record that leads there.
+    pub(crate) fn into_parts(self) -> (List<T, W>, Vec<RecordedCall<T, W>>)
+        ensures lists { result.0.lists ≡ self.lists }
+        ensures calls { result.1.items ≡ self.calls }
+        ensures replays { Replays nobody result.1.items result.0.lists }
     {
-        let Recording { list: _, calls } = self;
-        calls
+        let Recording { list, calls } = self;
+        (list, calls)
     }
 }
 

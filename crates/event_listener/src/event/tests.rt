@@ -1,14 +1,16 @@
-use crate::error::{ListenError, NoMemory};
+ghost use Rattle.std.specs.Prelude.{true};
+
+use crate::error::{ListenError, NoMemory, NotifyError};
 use crate::event::Event;
-use crate::id::{EventId, EventIds, IdsUsedUp};
+use crate::id::{EventIds, IdsUsedUp};
 use crate::into_notification::IntoNotification;
-use crate::listener::{EventListener, Listener, PollFault, WaitError};
+use crate::listener::{Listener, PollFault};
+use crate::notify::Notification;
 use futures::task::{Poll, Source, Waker};
 use futures::test::MockTask;
 use std::alloc::Global;
 use std::sync::Wait;
 use std::test::Fail;
-use std::time::{Duration, Instant};
 
 /// Why a test can't go on.
 #[derive(Debug, Drop)]
@@ -180,6 +182,99 @@ fn a_notice_for_nobody<R: Wait + Copy>(
     let told = event.notify(&rt, 5i8).unwrap_or(9);
     let mut l1 = event.listen(rt)?;
     Ok((told, poll(task, &mut l1)?))
+}
+
+/// Four listeners, told by each kind of notice for units: how many each told, and whether somebody was told before
+/// and after.
+fn units<R: Wait + Copy>(rt: R, alloc: Global) -> Result<([usize; 5], [bool; 2], usize), Stuck> {
+    let event = Event::new(alloc, EventIds::new().next()?);
+    let _first = event.listen(rt)?;
+    let _second = event.listen(rt)?;
+    let _third = event.listen(rt)?;
+    let _fourth = event.listen(rt)?;
+    let before = event.is_notified(&rt);
+    let told = [
+        event.notify_relaxed(&rt, 1),
+        event.notify_relaxed(&rt, 1),
+        event.notify_additional_relaxed(&rt, 1),
+        event.notify(&rt, 3u8.relaxed()).unwrap_or(9),
+        event
+            .notify(&rt, 1u8.additional().additional())
+            .unwrap_or(9),
+    ];
+    let after = event.is_notified(&rt);
+    Ok((told, [before, after], event.total_listeners(&rt)))
+}
+
+#[test]
+fn notices_of_units(rt: HostRuntime) -> Result<(), Fail> {
+    let (told, notified, total) = units(&rt, rt.alloc()).expect(&rt, "memory");
+    assert_eq!(rt; told, [1, 0, 1, 1, 1]);
+    assert_eq!(rt; (notified, total), ([false, true], 4));
+    Ok(())
+}
+
+/// An additional notice for three that can make so many tags, the last of which is 0.
+#[derive(Drop)]
+pub(crate) struct Scarce {
+    pub(crate) left: u32,
+}
+
+impl Notification for Scarce {
+    type Tag = u32;
+
+    ghost size = { λ n. 3 };
+
+    ghost additional = { λ n. true };
+
+    ghost can_give = { λ n. Unit {0} };
+
+    ghost gives = { λ n r m. Unit {0} };
+
+    fn count(&self) -> usize {
+        3
+    }
+
+    fn is_additional(&self) -> bool {
+        true
+    }
+
+    fn next_tag(&mut self) -> Result<u32, NoMemory> {
+        if self.left == 0 {
+            return Err(NoMemory);
+        }
+        self.left -= 1;
+        Ok(self.left)
+    }
+}
+
+fn tags_run_out<R: Wait + Copy>(
+    rt: R,
+    alloc: Global,
+    task: &MockTask,
+) -> Result<(Result<usize, NotifyError>, [Polled<u32>; 3]), Stuck> {
+    let event: Event<u32> = event(alloc)?;
+    let mut l1 = event.listen(rt)?;
+    let mut l2 = event.listen(rt)?;
+    let mut l3 = event.listen(rt)?;
+    let answer = event.notify(&rt, Scarce { left: 2 });
+    Ok((
+        answer,
+        [
+            poll(task, &mut l1)?,
+            poll(task, &mut l2)?,
+            poll(task, &mut l3)?,
+        ],
+    ))
+}
+
+#[test]
+fn a_refused_tag_leaves_those_before_it_told(rt: HostRuntime) -> Result<(), Fail> {
+    let task = MockTask::new(&rt)?;
+    let (answer, polled) = tags_run_out(&rt, rt.alloc(), &task).expect(&rt, "memory");
+    assert_eq!(rt; answer, Err(NotifyError { told: 2 }));
+    assert_eq!(rt; polled, [Polled::Tag(1), Polled::Tag(0), Polled::Pending]);
+    Ok(())
 }
 
 #[test]
