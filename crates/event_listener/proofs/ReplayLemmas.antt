@@ -1,5 +1,5 @@
 -- A record grows by a call, and keeps room for the end of each listener.
-use Rattle.std.proofs.Common.{◌≡◌, ℕ, zero, suc, ◌+◌, ◌-◌, ◌≤◌, ◌<◌, nat_lt, ◌==◌, Bool, true, false, cond, List, [], ◌∷◌, ◌++◌, length, take, drop, Option, Some, None, is_some, Result, Ok, Err, OnErr, if◌then◌else◌, refl, sym, ap, subst, ◌∙◌, arith, rules, length-append}
+use Rattle.std.proofs.Common.{◌≡◌, ℕ, zero, suc, ◌+◌, ◌-◌, ◌≤◌, ◌<◌, nat_lt, ◌==◌, Bool, true, false, cond, List, [], ◌∷◌, ◌++◌, length, take, drop, Option, Some, None, is_some, Result, Ok, Err, OnErr, IfOk, if◌then◌else◌, refl, sym, ap, subst, ◌∙◌, arith, rules, length-append}
 use Rattle.std.proofs.lemmas.Map.{length-set_value}
 use Rattle.std.proofs.lemmas.Bool.Decides.{nat_tests}
 use Rattle.std.specs.Map.{lookup, remove_entry, set_value}
@@ -9,7 +9,7 @@ use Rattle.event_listener.specs.declared.error.NotifyError.{NotifyError}
 use Rattle.event_listener.specs.declared.recorded.RecordedCall.{RecordedCall}
 use Rattle.event_listener.specs.Lists.{Lists, Notice, same_key, told_as, waits_as, kind_of, listened, without, with_task, told_with, notified, moved, told_by, registration, register_answer, polled, poll_answer, passed, removed, remove_answer}
 use Rattle.event_listener.specs.Runs.{tags_given}
-use Rattle.event_listener.specs.Replay.{total_of, after, IsAnswered, Replays, IsKept, nobody, found}
+use Rattle.event_listener.specs.Replay.{total_of, after, IsAnswered, Replays, IsKept, RecordView, nobody, found, recorded}
 
 module _ {K X : Type 0} (test : K → Bool) where
   remove_entry-length : (es : List (K × X)) → length (remove_entry test es) ≤ length es
@@ -73,9 +73,16 @@ some-told n many tags waiting = at (nat_lt n many)
     at false = waiting
 
 -- where somebody was told, nothing is owed for nobody
-pub told-somebody : (P : Type 0) (r : Result ℕ NotifyError) → 0 < told_by r → OnErr r (told_by r ≡ 0 → P)
-told-somebody P (Ok k) h = tt
-told-somebody P (Err e) h = λ none. absurd (let n : 0 < 0 = rw none at h in omega (arith, n))
+pub told-somebody : (P : Type 0) (told : ℕ) → 0 < told → told ≡ 0 → P
+told-somebody P told some none = absurd (let n : 0 < 0 = rw none at some in omega (arith, n))
+
+-- a notice that ran out of no tags told as many as it moves
+pub ok-moved : {T W : Type 0} (n : ℕ) (a b : Bool) (k m : ℕ) (lists : Lists T W) → a ≡ b → k ≡ m → IfOk {E = NotifyError} (if nat_lt n (moved a k lists) then Err (record { told = n }) else Ok (moved a k lists)) (λ told. told ≡ moved b m lists)
+ok-moved n a b k m lists kind size = rw (sym kind) (rw (sym size) (at (nat_lt n (moved a k lists))))
+  where
+    at : (x : Bool) → IfOk {E = NotifyError} (if x then Err (record { told = n }) else Ok (moved a k lists)) (λ told. told ≡ moved a k lists)
+    at true = tt
+    at false = refl
 
 pub some-left : (n : ℕ) → (n == 0) ≡ false → 0 < n
 some-left zero e = absurd (cc)
@@ -97,6 +104,10 @@ module _ {T W : Type 0} where
       → IsKept calls' count' capacity' new
   kept calls count capacity lists h call calls' count' capacity' new answered made grown room =
       record { replays = rw grown (Replays-more nobody lists new calls call h.replays answered made); room = room }
+
+  -- a record and lists that have both gone on by this call
+  pub is-recorded : (call : RecordedCall T W) (old : RecordView T W) (calls : List (RecordedCall T W)) (lists : Lists T W) → lists ≡ after call old.lists → calls ≡ old.calls ++ call ∷ [] → (let new : RecordView T W = record { calls = calls; lists = lists } in new) ≡ recorded call old
+  is-recorded call old calls lists made grown = rw (made, grown) refl
 
   pub total-listened : (key : Key) (lists : Lists T W) → total_of (listened key lists) ≡ total_of lists + 1
   total-listened key lists = rw (length-append lists.waiting ((key, None) ∷ [])) (omega arith)

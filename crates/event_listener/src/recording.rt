@@ -1,7 +1,7 @@
 //! A list of listeners with the record of its calls.
 ghost use Rattle.std.specs.Prelude.{◌≡◌, ◌+◌, ◌≤◌, ◌<◌, ◌↔◌, length, IfOk, OnErr, OnOk, IfErr, IsOk, Ok, Err, Some, None, true, false, [], vec_len};
 ghost use Rattle.std.specs.Vec.{vec_capacity};
-ghost use Rattle.event_listener.specs.Lists.{Lists, kind_of, register_answer, poll_answer, polled, remove_answer, removed_wakes, told_by};
+ghost use Rattle.event_listener.specs.Lists.{Lists, kind_of, register_answer, poll_answer, polled, remove_answer, removed_wakes, told_by, moved};
 ghost use Rattle.event_listener.specs.Notices.{Woken};
 ghost use Rattle.event_listener.specs.Replay.{Replays, nobody, recorded, tag_found, total_of};
 
@@ -169,7 +169,9 @@ impl<T: Copy, W: Copy> Recording<T, W> {
     ) -> Result<usize, NotifyError>
         requires { N.can_give notice }
         ensures at_most { told_by result ≤ N.size notice }
-        ensures unchanged { OnErr result (told_by result ≡ 0 → self.new ≡ self.old) }
+        ensures answer { IfOk result (λ told. told ≡ moved (N.additional notice) (N.size notice) self.old.lists) }
+        ensures recorded { 0 < told_by result → (tags : _) × (self.new ≡ recorded (RecordedCall.Notified (N.size notice) (N.additional notice) tags result) self.old) }
+        ensures unchanged { told_by result ≡ 0 → self.new ≡ self.old }
     {
         let additional = notice.is_additional();
         let count = notice.count();
