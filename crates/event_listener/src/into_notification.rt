@@ -2,7 +2,9 @@
 ghost use Rattle.std.specs.Prelude.{◌≡◌, ℕ};
 
 use crate::notify::{Additional, Notification};
-use crate::tagged::{Relaxed, Tag, TagWith};
+use crate::relaxed::Relaxed;
+use crate::tagged::Tag;
+use crate::tagged_with::TagWith;
 use std::marker::PhantomData;
 
 /// What can be made a notice: each notice, and each integer as a notice of the default kind for so many listeners.

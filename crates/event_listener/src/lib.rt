@@ -27,9 +27,11 @@ pub mod recorded;
 mod recording;
 #[cfg(test)]
 mod refusals;
+pub mod relaxed;
 pub mod run;
 pub mod stack;
 pub mod tagged;
+pub mod tagged_with;
 #[cfg(test)]
 mod tests;
 #[cfg(test)]
