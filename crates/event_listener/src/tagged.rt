@@ -1,5 +1,5 @@
 //! Notices with a tag of which each listener gets a clone.
-ghost use Rattle.std.specs.Prelude.{◌≡◌, IfOk};
+ghost use Rattle.std.specs.Prelude.{◌≡◌, MatchResult};
 
 use crate::error::NoMemory;
 use crate::notify::Notification;
@@ -26,7 +26,8 @@ impl<N: Notification, T: Clone + Drop> Notification for Tag<N, T> {
 
     ghost can_give = { λ n. Unit {0} };
 
-    ghost gives = { λ n r m. IfOk r (λ t. t ≡ n.tag) × (m ≡ n) };
+    // Each tag is the notice's own, and is refused only where a clone of it can be.
+    ghost gives = { λ n r m. MatchResult r (λ t. t ≡ n.tag) (λ _. ¬ (T.is_infallible n.tag)) × (m ≡ n) };
 
     fn count(&self) -> usize {
         self.inner.count()

@@ -1,5 +1,5 @@
 //! Notices with tags that a closure makes.
-ghost use Rattle.std.specs.Prelude.{◌≡◌, IfOk};
+ghost use Rattle.std.specs.Prelude.{MatchResult};
 
 use crate::error::NoMemory;
 use crate::notify::Notification;
@@ -26,7 +26,8 @@ impl<N: Notification, T, F: FnMut() -> T> Notification for TagWith<N, F, T> {
 
     ghost can_give = { λ n. F.IsAlwaysCallable n.make };
 
-    ghost gives = { λ n r m. IfOk r (λ t. F.step n.make t m.make) };
+    // Each tag is what the closure makes next, and none is refused.
+    ghost gives = { λ n r m. MatchResult r (λ t. F.step n.make t m.make) (λ _. ⊥) };
 
     fn count(&self) -> usize {
         self.inner.count()
