@@ -1,14 +1,13 @@
 -- A record grows by a call, and keeps room for the end of each listener.
-use Rattle.std.proofs.Common.{◌≡◌, ℕ, zero, suc, ◌+◌, ◌-◌, ◌≤◌, ◌<◌, nat_lt, ◌==◌, Bool, true, false, cond, List, [], ◌∷◌, ◌++◌, length, take, drop, Option, Some, None, is_some, Result, Ok, Err, OnErr, IfOk, if◌then◌else◌, refl, sym, ap, subst, ◌∙◌, arith, rules, length-append}
+use Rattle.std.proofs.Common.{◌≡◌, ℕ, zero, suc, ◌+◌, ◌≤◌, ◌<◌, nat_lt, ◌==◌, Bool, true, false, cond, List, [], ◌∷◌, ◌++◌, length, take, drop, Option, Some, None, is_some, Result, Ok, Err, IfOk, if◌then◌else◌, refl, sym, ap, arith, length-append}
 use Rattle.std.proofs.lemmas.Map.{length-set_value}
 use Rattle.std.proofs.lemmas.Bool.Decides.{nat_tests}
-use Rattle.std.specs.Map.{lookup, remove_entry, set_value}
+use Rattle.std.specs.Map.{lookup, remove_entry}
 use Rattle.event_listener.specs.declared.key.Key.{Key}
 use Rattle.event_listener.specs.declared.error.UnknownListener.{UnknownListener}
 use Rattle.event_listener.specs.declared.error.NotifyError.{NotifyError}
 use Rattle.event_listener.specs.declared.recorded.RecordedCall.{RecordedCall}
-use Rattle.event_listener.specs.Lists.{Lists, Notice, same_key, told_as, waits_as, kind_of, listened, without, with_task, told_with, notified, moved, told_by, registration, register_answer, polled, poll_answer, passed, removed, remove_answer}
-use Rattle.event_listener.specs.Runs.{tags_given}
+use Rattle.event_listener.specs.Lists.{Lists, Notice, same_key, told_as, waits_as, kind_of, listened, without, with_task, told_with, notified, moved, told_by, registration, register_answer, polled, poll_answer, removed, remove_answer}
 use Rattle.event_listener.specs.Replay.{total_of, after, IsAnswered, Replays, IsKept, RecordView, nobody, found, recorded}
 
 module _ {K X : Type 0} (test : K → Bool) where

@@ -1,5 +1,5 @@
 -- A notice that tells listeners among other threads.
-use Rattle.std.proofs.Common.{◌≡◌, ℕ, ◌≤◌, Bool, true, false, arith}
+use Rattle.std.proofs.Common.{ℕ, ◌≤◌, Bool, true, false, arith}
 use Rattle.event_listener.specs.Lists.{Lists, moved}
 
 -- no more are moved than the notice is for

@@ -1,6 +1,5 @@
 -- A record of calls, replayed from an empty list.
-use Rattle.std.specs.Prelude.{◌≡◌, ℕ, ◌+◌, ◌≤◌, List, [], ◌∷◌, ◌++◌, length, Option, Some, None, Result, Ok}
-use Rattle.event_listener.specs.declared.key.Key.{Key}
+use Rattle.std.specs.Prelude.{◌≡◌, ℕ, ◌+◌, ◌≤◌, List, [], ◌∷◌, ◌++◌, length, Option, Some, None, Ok}
 use Rattle.event_listener.specs.declared.calls.Registered.{Registered}
 use Rattle.event_listener.specs.declared.calls.Registered.TheVariants as registered
 use Rattle.event_listener.specs.declared.recorded.RecordedCall.{RecordedCall}

@@ -1,6 +1,4 @@
-use Rattle.std.proofs.Common.{◌≡◌, ◌+◌, ◌≤◌, ◌++◌, ◌∷◌, [], Some, None, ap, ◌∙◌, arith, vec_len}
-use Rattle.std.specs.Vec.{vec_capacity}
-use Rattle.event_listener.specs.declared.recorded.RecordedCall.{RecordedCall}
+use Rattle.std.proofs.Common.{◌++◌, ◌∷◌, [], ap, ◌∙◌, arith}
 use Rattle.event_listener.specs.declared.recorded.RecordedCall.TheVariants.{Listened}
 use Rattle.event_listener.specs.Replay.{total_of}
 use Rattle.event_listener.proofs.ReplayLemmas.{kept, total-listened}

@@ -1,6 +1,4 @@
-use Rattle.std.proofs.Common.{◌≡◌, ◌≢◌, ℕ, ◌+◌, ◌≤◌, ◌<◌, ◌++◌, ◌∷◌, [], List, length, OnErr, ap, sym, subst, ◌∙◌, arith, rules, vec_len}
-use Rattle.std.specs.Vec.{vec_capacity}
-use Rattle.event_listener.specs.declared.recorded.RecordedCall.{RecordedCall}
+use Rattle.std.proofs.Common.{◌≡◌, ◌<◌, ◌++◌, ◌∷◌, [], length, ap, sym, ◌∙◌, arith, rules, vec_len}
 use Rattle.event_listener.specs.declared.recorded.RecordedCall.TheVariants.{Notified}
 use Rattle.event_listener.specs.Lists.{notified, told_by, moved}
 use Rattle.event_listener.specs.Runs.{tags_given, tags_answer}

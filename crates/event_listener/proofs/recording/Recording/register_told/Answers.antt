@@ -1,6 +1,4 @@
-use Rattle.std.proofs.Common.{◌≡◌, ◌+◌, ◌≤◌, ◌++◌, ◌∷◌, [], Some, None, Ok, ap, sym, subst, true, false, ◌∙◌, arith, vec_len}
-use Rattle.std.specs.Vec.{vec_capacity}
-use Rattle.event_listener.specs.declared.recorded.RecordedCall.{RecordedCall}
+use Rattle.std.proofs.Common.{◌≡◌, Some, Ok, ap, sym, subst, true, ◌∙◌, arith}
 use Rattle.event_listener.specs.declared.recorded.RecordedCall.TheVariants.{Registered}
 use Rattle.event_listener.specs.Lists.{kind_of}
 use Rattle.event_listener.specs.Replay.{total_of}

@@ -1,8 +1,5 @@
-use Rattle.std.proofs.Common.{◌≡◌, ◌+◌, ◌≤◌, ◌++◌, ◌∷◌, [], Some, None, ap, sym, subst, true, false, ◌∙◌, arith, vec_len}
-use Rattle.std.specs.Vec.{vec_capacity}
-use Rattle.event_listener.specs.declared.recorded.RecordedCall.{RecordedCall}
+use Rattle.std.proofs.Common.{ap, sym, arith}
 use Rattle.event_listener.specs.declared.recorded.RecordedCall.TheVariants.{Removed}
-use Rattle.event_listener.specs.Lists.{kind_of}
 use Rattle.event_listener.specs.Replay.{total_of}
 use Rattle.event_listener.proofs.ReplayLemmas.{kept, gone-removed}
 use Rattle.event_listener.proofs.recording.Recording.remove.Goals as goal
