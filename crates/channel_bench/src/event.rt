@@ -1,5 +1,6 @@
 //! What a notice for nobody costs, and a listening with its giving up, beside a lock alone.
 
+use crate::decimal::Decimal;
 use event_listener::event::Event;
 use event_listener::id::EventIds;
 use std::alloc::Global;
@@ -62,7 +63,7 @@ fn listen_and_drop<R: Wait + Copy>(rt: R, event: &Event<()>) -> u64 {
     refused
 }
 
-/// One round of each kind.
+/// One round of each kind, and how many of its calls were refused or told somebody.
 fn round<R: Clock + Wait + Copy>(
     rt: R,
     count: &Mutex<u64>,
@@ -90,21 +91,20 @@ fn round<R: Clock + Wait + Copy>(
     Ok((costs, none.wrapping_add(nobody).wrapping_add(refused)))
 }
 
-fn report<R: Print>(rt: &R, costs: Costs, odd: u64) -> io::Result<()> {
-    let calls = CALLS as u128 / 10;
-    let lock = costs.lock / calls;
-    let new = costs.notify_new / calls;
-    let empty = costs.notify_empty / calls;
-    let listen = costs.listen_drop / calls;
-    println!(rt; "events: tenths of ns a call: lock alone {lock}, notify on a new event {new}, notify on an empty list {empty}, listen and drop {listen}, odd {odd}")
+/// Prints what one call took, and how many times as long as a lock taken and given back.
+fn report<R: Print>(rt: &R, call: &str, nanos: u128, lock: u128) -> io::Result<()> {
+    let ratio = Decimal::of(nanos, lock);
+    let each = Decimal::of(nanos, CALLS as u128);
+    println!(rt; "event, {call}: {each} ns, {ratio} times a lock alone")
 }
 
-/// Measures a lock alone, notices for nobody and listenings in turns, and prints what one call of each kind took in
-/// its best round. `odd` counts refused listenings and told listeners: none is expected.
+/// Measures a lock alone, notices for nobody and listenings in turns, and prints a line for each, of its best rounds.
+///
+/// A call that was refused, or that told somebody, would not be the one that is measured, so those are counted.
 pub fn measure_events<R: Clock + Print + Wait + Copy>(rt: R, alloc: Global) -> io::Result<()> {
     let mut ids = EventIds::new();
     let (Ok(first), Ok(second)) = (ids.next(), ids.next()) else {
-        return println!(&rt; "no identities left");
+        return println!(&rt; "event: no identities left");
     };
     let new = Event::new(alloc, first);
     let used = Event::new(alloc, second);
@@ -115,5 +115,21 @@ pub fn measure_events<R: Clock + Print + Wait + Copy>(rt: R, alloc: Global) -> i
         best = best.least(costs);
         odd = odd.wrapping_add(more);
     }
-    report(&rt, best, odd)
+    if odd != 0 {
+        return println!(&rt; "event: {odd} calls were refused or told somebody");
+    }
+    report(&rt, "a lock taken and given back", best.lock, best.lock)?;
+    report(
+        &rt,
+        "notify where nobody ever listened",
+        best.notify_new,
+        best.lock,
+    )?;
+    report(
+        &rt,
+        "notify where nobody listens now",
+        best.notify_empty,
+        best.lock,
+    )?;
+    report(&rt, "listen and drop", best.listen_drop, best.lock)
 }
