@@ -5,20 +5,23 @@
 #![tactic(auto)]
 
 mod decimal;
+mod event;
 mod list;
 mod queue;
 
 use std::alloc::Global;
 use std::rt::Clock;
+use std::sync::Wait;
 use std::{env, io};
 
-/// Measures what the word names.
-fn measure<R: Clock + Print>(rt: &R, alloc: Global, word: &str) -> io::Result<()> {
+/// Measures what the word names. Locks are measured too, and taking one may wait.
+fn measure<R: Clock + Print + Wait + Copy>(rt: R, alloc: Global, word: &str) -> io::Result<()> {
     match word {
-        "list" => list::measure_lists(rt, alloc),
-        "pairs" => queue::make_pairs(rt, alloc),
-        "queue" => queue::measure_queues(rt, alloc),
-        _ => println!(rt; "nothing to measure is named {word}"),
+        "list" => list::measure_lists(&rt, alloc),
+        "event" => event::measure_events(rt, alloc),
+        "pairs" => queue::make_pairs(&rt, alloc),
+        "queue" => queue::measure_queues(&rt, alloc),
+        _ => println!(&rt; "nothing to measure is named {word}"),
     }
 }
 

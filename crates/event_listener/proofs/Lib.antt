@@ -6,4 +6,6 @@ pub mod InsideLemmas
 pub mod NoticeLemmas
 mod RunLemmas
 mod OrderLemmas
+mod TellingLemmas
+mod ReplayLemmas
 pub mod LeftLemmas

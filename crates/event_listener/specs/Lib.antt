@@ -3,5 +3,9 @@ pub mod Nodes
 pub mod Chain
 pub mod Inside
 pub mod Notices
+pub mod Listening
+pub mod Waits
 pub mod Runs
 pub mod Order
+pub mod Telling
+pub mod Replay

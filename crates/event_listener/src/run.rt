@@ -199,7 +199,7 @@ impl<T: Drop, W: Drop> List<T, W> {
         }
     }
 
-    fn notify_with<S: Wakes<W>>(
+    pub(crate) fn notify_with<S: Wakes<W>>(
         &mut self,
         count: usize,
         additional: bool,

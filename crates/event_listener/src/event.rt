@@ -1,0 +1,176 @@
+//! Events, on which threads and tasks listen for notices.
+ghost use Rattle.std.specs.Prelude.{◌≡◌, ◌≤◌, false, IfOk};
+ghost use Rattle.event_listener.specs.Telling.{Tells};
+
+use crate::error::{ListenError, NoMemory, NotifyError};
+use crate::id::EventId;
+use crate::into_notification::IntoNotification;
+use crate::list::List;
+use crate::listener::EventListener;
+use crate::notify::{Additional, Notify};
+use crate::waking::{Task, WakeNow, WakerCell};
+use std::alloc::Global;
+use std::marker::Model;
+use std::sync::{Arc, Mutex, OnceLock, Wait};
+
+#[cfg(test)]
+pub(crate) mod tests;
+
+/// The list of an event, which it shares with its listeners.
+pub(crate) type Home<T> = Mutex<List<T, Task>>;
+
+/// An event: who waits for something listens on it first and looks for the thing again, and who brings it about
+/// notifies it afterwards, so that no notice falls between.
+///
+/// It takes no memory until the first listening. Contracts see it as its identity. As `event-listener` 5.4.2, but for
+/// the identity, the refusals, and the runtime and allocator that are passed in.
+#[derive(Drop)]
+pub struct Event<T> {
+    id: EventId,
+    alloc: Global,
+    home: OnceLock<Arc<Home<T>>>,
+}
+
+impl<T> Model for Event<T> {
+    ghost use Rattle.std.specs.Prelude.{ℕ};
+
+    ghost Value = { ℕ };
+
+    ghost view = { λ event. event.id };
+}
+
+impl<T: Drop> Event<T> {
+    /// An event of this identity without listeners, whose notices carry tags. It takes no memory.
+    pub fn with_tag(alloc: Global, id: EventId) -> Event<T>
+        ensures { result ≡ id }
+    {
+        Event {
+            id,
+            alloc,
+            home: OnceLock::new(),
+        }
+    }
+
+    /// Adds a listener, which is told by the next notice that reaches it. It gives up its place when it is dropped.
+    ///
+    /// Refused for memory, or where all serials of the event's list were given; the listeners are as before then. It
+    /// may wait for the list's lock.
+    pub fn listen<R: Wait + Copy>(&self, rt: R) -> Result<EventListener<T, R>, ListenError>
+        ensures event { IfOk result (λ listener. listener.event ≡ self.now) }
+        ensures listens { IfOk result (λ listener. listener.is_finished ≡ false) }
+    {
+        match Arc::new(self.alloc, WakerCell::new()) {
+            Ok(cell) => EventListener::new(rt, self, cell),
+            Err(_) => Err(ListenError::NoMemory),
+        }
+    }
+
+    pub(crate) fn number(&self) -> u64
+        ensures { result ≡ self.now }
+    {
+        self.id.number()
+    }
+
+    pub(crate) fn alloc(&self) -> Global {
+        self.alloc
+    }
+
+    /// The shared list, made here where nobody listened yet. Where two threads make it, the first one's stays.
+    pub(crate) fn home<R: Wait>(&self, rt: &R) -> Result<Arc<Home<T>>, NoMemory> {
+        if let Some(home) = self.home.get() {
+            return Arc::try_clone(home).map_err(|_| NoMemory);
+        }
+        let made = match Arc::new(self.alloc, Mutex::new(List::new(self.alloc))) {
+            Ok(made) => made,
+            Err(_) => return Err(NoMemory),
+        };
+        let _ = self.home.set(rt, made);
+        Arc::try_clone(self.home.wait(rt)).map_err(|_| NoMemory)
+    }
+
+    /// Tells listeners, the longest listening first: of the default kind so many that at least the notice's number are
+    /// told, those told before included; of an additional notice its number more. Each gets one tag and is woken at
+    /// once. The answer is how many were told now. A notice for nobody isn't kept.
+    ///
+    /// Refused where a tag was; those told before it stay told. A notice of plain counts takes no memory and is never
+    /// refused. It may wait for the list's lock.
+    pub fn notify<N: IntoNotification<Tag = T>, R: Wait>(
+        &self,
+        rt: &R,
+        notice: N,
+    ) -> Result<usize, NotifyError>
+        requires { (n : N.Notify) → N.becomes notice n → N.Notify.can_give n }
+        ensures tells { (n : N.Notify) × N.becomes notice n × Tells N.Notify.size N.Notify.gives n result }
+    {
+        let notice = notice.into_notification();
+        match self.home.get() {
+            Some(home) => home.lock(rt).notify(notice, &mut WakeNow { rt }),
+            None => Ok(0),
+        }
+    }
+
+    /// Whether some listener was told and has not taken its tag yet. It may wait for the list's lock.
+    ///
+    /// Never so on an event without listeners. Own meaning: `event-listener` compares a count read outside the lock.
+    pub fn is_notified<R: Wait>(&self, rt: &R) -> bool {
+        match self.home.get() {
+            Some(home) => home.lock(rt).told() > 0,
+            None => false,
+        }
+    }
+
+    /// How many listeners there are, told and waiting. It may wait for the list's lock. As `event-listener` 5.4.2.
+    pub fn total_listeners<R: Wait>(&self, rt: &R) -> usize {
+        match self.home.get() {
+            Some(home) => home.lock(rt).total(),
+            None => 0,
+        }
+    }
+}
+
+impl Event<()> {
+    /// An event of this identity without listeners. It takes no memory. As `event-listener` 5.4.2.
+    pub fn new(alloc: Global, id: EventId) -> Event<()>
+        ensures { result ≡ id }
+    {
+        Event::with_tag(alloc, id)
+    }
+
+    /// A default notice for so many listeners, which promises no order among other steps; here it is a plain one.
+    ///
+    /// It takes no memory. It may wait for the list's lock.
+    pub fn notify_relaxed<R: Wait>(&self, rt: &R, count: usize) -> usize
+        ensures at_most { result ≤ count }
+    {
+        match self.notify(rt, Notify { count }) {
+            Ok(told) => told,
+            Err(_) => unreachable!(),
+        }
+    }
+
+    /// A notice that tells so many more listeners, whoever is told already: how many were told now.
+    ///
+    /// It takes no memory. It may wait for the list's lock.
+    pub fn notify_additional<R: Wait>(&self, rt: &R, count: usize) -> usize
+        ensures at_most { result ≤ count }
+    {
+        match self.notify(
+            rt,
+            Additional {
+                inner: Notify { count },
+            },
+        ) {
+            Ok(told) => told,
+            Err(_) => unreachable!(),
+        }
+    }
+
+    /// As [`notify_additional`](Event::notify_additional), relaxed, which here is the same.
+    ///
+    /// It takes no memory. It may wait for the list's lock.
+    pub fn notify_additional_relaxed<R: Wait>(&self, rt: &R, count: usize) -> usize
+        ensures at_most { result ≤ count }
+    {
+        self.notify_additional(rt, count)
+    }
+}

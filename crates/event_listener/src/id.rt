@@ -1,0 +1,117 @@
+//! Identities of events.
+ghost use Rattle.std.specs.Prelude.{◌≡◌, ◌+◌, ◌-◌, ◌*◌, ◌^◌, ◌<◌, ◌≤◌, ◌↔◌, ◌∷◌, [], IsTrue, IfOk, OnOk, OnErr};
+
+use std::error::Error;
+use std::fmt;
+use std::marker::Model;
+
+#[cfg(test)]
+mod tests;
+
+/// The identity of one event.
+///
+/// [`EventIds`] alone makes one, no two that come from one source are equal, and there is no copy of it: the event
+/// that it is moved into is the only one of its name. Own to this project: `event-listener` tells events apart by
+/// their addresses.
+#[derive(Drop)]
+pub struct EventId {
+    number: u64,
+}
+
+impl Model for EventId {
+    ghost use Rattle.std.specs.Prelude.{ℕ};
+
+    ghost Value = { ℕ };
+
+    ghost view = { λ id. id.number };
+}
+
+impl EventId {
+    // Who listens keeps the number, so that the identity itself stays with its event.
+    pub(crate) fn number(&self) -> u64
+        ensures { result ≡ self.now }
+    {
+        self.number
+    }
+}
+
+/// A source of identities, which never gives one twice: the numbers from 0 on, each below 2^64 - 1.
+///
+/// It takes no memory and waits for nobody. A contract sees it as the number of identities given so far, which is the
+/// next one's number too. Own to this project.
+#[derive(Drop)]
+pub struct EventIds {
+    given: u64,
+}
+
+impl Model for EventIds {
+    ghost use Rattle.std.specs.Prelude.{ℕ};
+
+    ghost Value = { ℕ };
+
+    ghost view = { λ ids. ids.given };
+
+    ghost use Rattle.std.specs.Prelude.{◌<◌, ◌^◌};
+
+    ghost invariant = { λ ids. ids.given < 2 ^ 64 };
+}
+
+/// Fewer identities were left than were asked for. None was taken.
+#[derive(Clone, Copy, PartialEq, Eq, Debug)]
+pub struct IdsUsedUp;
+
+impl fmt::Display for IdsUsedUp {
+    fn fmt<W: fmt::Write>(&self, f: &mut fmt::Formatter<W>) -> fmt::Result {
+        write!(f, "all identities were given")
+    }
+}
+
+impl Error for IdsUsedUp {}
+
+impl EventIds {
+    /// A source that has given none. Identities of two sources may be equal: use one for events that are compared.
+    pub fn new() -> EventIds
+        ensures { result ≡ 0 }
+    {
+        EventIds { given: 0 }
+    }
+
+    /// The next identity, which was never given before.
+    ///
+    /// Refused where all 2^64 - 1 were given; nothing is changed then.
+    pub fn next(&mut self) -> Result<EventId, IdsUsedUp>
+        ensures id { IfOk result (λ id. id ≡ self.old) }
+        ensures given { OnOk result (self.new ≡ self.old + 1) }
+        ensures used_up { OnErr result (self.old ≡ 2 ^ 64 - 1) }
+        ensures unchanged { OnErr result (self.new ≡ self.old) }
+    {
+        if self.given == u64::MAX {
+            return Err(IdsUsedUp);
+        }
+        let number = self.given;
+        self.given += 1;
+        Ok(EventId { number })
+    }
+
+    /// The next four identities, for the four events of a channel.
+    ///
+    /// Refused where fewer than four are left; none is taken then.
+    pub fn next_four(&mut self) -> Result<[EventId; 4], IdsUsedUp>
+        ensures ids { IfOk result (λ ids. ids ≡ self.old ∷ (self.old + 1) ∷ (self.old + 2) ∷ (self.old + 3) ∷ []) }
+        ensures given { OnOk result (self.new ≡ self.old + 4) }
+        ensures used_up { OnErr result (2 ^ 64 - 1 < self.old + 4) }
+        ensures unchanged { OnErr result (self.new ≡ self.old) }
+    {
+        if u64::MAX - self.given < 4 {
+            return Err(IdsUsedUp);
+        }
+        let first = self.given;
+        self.given += 4;
+        Ok([
+            EventId { number: first },
+            EventId { number: first + 1 },
+            EventId { number: first + 2 },
+            EventId { number: first + 3 },
+        ])
+    }
+}

@@ -1,0 +1,234 @@
+use crate::event::Event;
+use crate::event::tests::{Polled, Stuck, event, poll};
+use crate::into_notification::IntoNotification;
+use crate::listener::{EventListener, Listener, WaitError};
+use futures::test::MockTask;
+use std::alloc::Global;
+use std::sync::Wait;
+use std::sync::atomic::{AtomicUsize, Ordering};
+use std::test::Fail;
+use std::thread;
+use std::thread::Threads;
+use std::time::{Clock, Duration, Instant};
+
+fn tag_of<T: Drop, L: Listener<T> + Drop>(waited: Result<T, WaitError<L>>) -> Option<T> {
+    waited.ok()
+}
+
+fn waited<R: Wait + Copy>(rt: R, alloc: Global) -> Result<Option<u32>, Stuck> {
+    let event: Event<u32> = event(alloc)?;
+    let listener = event.listen(rt)?;
+    let _ = event.notify(&rt, 1u8.tag(5u32));
+    Ok(tag_of(listener.wait()))
+}
+
+fn out_of_time<R: Wait + Clock + Copy>(
+    rt: R,
+    alloc: Global,
+) -> Result<(bool, bool, Option<u32>, usize), Stuck> {
+    let event: Event<u32> = event(alloc)?;
+    let now = Instant::now(&rt).map_err(|_| Stuck::Waits)?;
+    let zero = matches!(
+        event.listen(rt)?.wait_timeout(&rt, Duration::ZERO),
+        Ok(None)
+    );
+    let present = matches!(event.listen(rt)?.wait_deadline(&rt, now), Ok(None));
+    let told = event.listen(rt)?;
+    let _ = event.notify(&rt, 1u8.tag(6u32));
+    let tag = told.wait_timeout(&rt, Duration::ZERO).unwrap_or(None);
+    Ok((zero, present, tag, event.total_listeners(&rt)))
+}
+
+fn finished<R: Wait + Clock + Copy>(
+    rt: R,
+    alloc: Global,
+    task: &MockTask,
+) -> Result<([Polled<()>; 2], bool, bool), Stuck> {
+    let event: Event<()> = event(alloc)?;
+    let mut listener = event.listen(rt)?;
+    let other = event.listen(rt)?;
+    let same = listener.same_event(&other) && listener.listens_to(&event);
+    let _ = event.notify(&rt, 1u8);
+    let polled = [poll(task, &mut listener)?, poll(task, &mut listener)?];
+    let handed_back = match listener.wait_timeout(&rt, Duration::ZERO) {
+        Err(WaitError::NeverInserted(listener)) => !listener.discard(),
+        Err(WaitError::NoMemory(_listener)) => false,
+        Ok(_tag) => false,
+    };
+    Ok((polled, handed_back, same))
+}
+
+#[test]
+fn waits(rt: HostRuntime) -> Result<(), Fail> {
+    let task = MockTask::new(&rt)?;
+    let alloc = rt.alloc();
+    assert_eq!(rt; waited(&rt, alloc).expect(&rt, "memory"), Some(5));
+    let (zero, present, tag, left) = out_of_time(&rt, alloc).expect(&rt, "memory");
+    assert_eq!(rt; (zero, present, tag, left), (true, true, Some(6), 0));
+    let (polled, handed_back, same) = finished(&rt, alloc, &task).expect(&rt, "memory");
+    assert_eq!(rt; polled, [Polled::Tag(()), Polled::Finished]);
+    assert!(rt; handed_back && same);
+    Ok(())
+}
+
+fn told_twice<R: Wait + Copy>(rt: R, alloc: Global, task: &MockTask) -> Result<[bool; 5], Stuck> {
+    let event: Event<()> = event(alloc)?;
+    let mut listener = event.listen(rt)?;
+    let first = task.poll(&mut listener).is_pending();
+    let second = task.poll(&mut listener).is_pending();
+    let silent = !task.is_woken();
+    let _ = event.notify(&rt, 1u8);
+    let woken = task.is_woken();
+    let ready = task.poll(&mut listener).is_ready();
+    Ok([first, second, silent, woken, ready])
+}
+
+fn polled_by_hand<R: Wait + Copy>(
+    rt: R,
+    alloc: Global,
+    task: &MockTask,
+) -> Result<[bool; 2], Stuck> {
+    let event: Event<()> = event(alloc)?;
+    let mut listener = event.listen(rt)?;
+    poll(task, &mut listener)?;
+    let silent = !task.is_woken();
+    poll(task, &mut listener)?;
+    Ok([silent, task.is_woken()])
+}
+
+#[test]
+fn a_second_poll_is_silent(rt: HostRuntime) -> Result<(), Fail> {
+    let task = MockTask::new(&rt)?;
+    assert_eq!(rt;
+        told_twice(&rt, rt.alloc(), &task).expect(&rt, "memory"),
+        [true; 5]
+    );
+    let other = MockTask::new(&rt)?;
+    // By hand the waker of the first poll is let go at the second one.
+    assert_eq!(rt;
+        polled_by_hand(&rt, rt.alloc(), &other).expect(&rt, "memory"),
+        [true, true]
+    );
+    Ok(())
+}
+
+fn crosses<X: Send + Sync>(_: &X) -> bool {
+    true
+}
+
+/// Events and listeners cross threads wherever their tags do.
+fn all_cross<T: Drop + Send, R: Wait + Copy + Send + Sync>(
+    event: &Event<T>,
+    listener: &EventListener<T, R>,
+) -> bool {
+    crosses(event) && crosses(listener)
+}
+
+/// Two threads wait and two notify: how many were told, and how many went on.
+fn four_threads<R: Wait + Threads + Copy + Send + Sync>(
+    rt: R,
+    event: &Event<()>,
+) -> Result<(usize, usize), Stuck> {
+    let first = event.listen(rt)?;
+    let second = event.listen(rt)?;
+    let told = AtomicUsize::new(0);
+    let counted = &told;
+    let (one, two) = thread::join(
+        &rt,
+        move || both_wait(rt, first, second),
+        move || both_notify(rt, event, counted),
+    );
+    let _ = two;
+    Ok((told.load(Ordering::SeqCst), one))
+}
+
+fn both_wait<R: Wait + Threads + Copy + Send + Sync>(
+    rt: R,
+    first: EventListener<(), R>,
+    second: EventListener<(), R>,
+) -> usize {
+    let (one, two) = thread::join(&rt, move || goes_on(first), move || goes_on(second));
+    usize::from(one) + usize::from(two)
+}
+
+fn goes_on<R: Wait + Copy>(listener: EventListener<(), R>) -> bool {
+    listener.wait().is_ok()
+}
+
+fn both_notify<R: Wait + Threads + Copy + Send + Sync>(
+    rt: R,
+    event: &Event<()>,
+    told: &AtomicUsize,
+) {
+    thread::join(
+        &rt,
+        move || {
+            told.fetch_add(event.notify_additional(&rt, 1), Ordering::SeqCst);
+        },
+        move || {
+            told.fetch_add(event.notify_additional(&rt, 1), Ordering::SeqCst);
+        },
+    );
+}
+
+#[test]
+fn no_notice_is_lost(rt: HostRuntime) -> Result<(), Fail> {
+    let event: Event<()> = event(rt.alloc()).expect(&rt, "memory");
+    for _ in 0..1000 {
+        let (told, went_on) = four_threads(rt, &event).expect(&rt, "memory");
+        assert_eq!(rt; (told, went_on), (2, 2));
+    }
+    assert_eq!(rt; event.total_listeners(&rt), 0);
+    Ok(())
+}
+
+/// One thread opens the gate and sleeps, the other one goes through the gate and notifies.
+fn parked<R: Wait + Threads + Copy + Send + Sync>(
+    rt: R,
+    alloc: Global,
+) -> Result<(bool, usize), Stuck> {
+    let woken: Event<()> = event(alloc)?;
+    let gate: Event<()> = event(alloc)?;
+    let sleeper = woken.listen(rt)?;
+    let at_gate = gate.listen(rt)?;
+    let (out, inside) = (&gate, &woken);
+    let (went_on, told) = thread::join(
+        &rt,
+        move || {
+            out.notify_additional(&rt, 1);
+            goes_on(sleeper)
+        },
+        move || {
+            goes_on(at_gate);
+            inside.notify_additional(&rt, 1)
+        },
+    );
+    Ok((went_on, told))
+}
+
+fn dropped_elsewhere<R: Wait + Threads + Copy + Send + Sync>(
+    rt: R,
+    alloc: Global,
+    task: &MockTask,
+) -> Result<Polled<u32>, Stuck> {
+    let event: Event<u32> = event(alloc)?;
+    let told = event.listen(rt)?;
+    let mut waiting = event.listen(rt)?;
+    if !all_cross(&event, &told) {
+        return Err(Stuck::Waits);
+    }
+    let _ = event.notify(&rt, 1u8.tag(7u32));
+    thread::join(&rt, move || drop(told), || ());
+    poll(task, &mut waiting)
+}
+
+#[test]
+fn threads(rt: HostRuntime) -> Result<(), Fail> {
+    let task = MockTask::new(&rt)?;
+    assert_eq!(rt; parked(rt, rt.alloc()).expect(&rt, "memory"), (true, 1));
+    assert_eq!(rt;
+        dropped_elsewhere(rt, rt.alloc(), &task).expect(&rt, "memory"),
+        Polled::Tag(7)
+    );
+    Ok(())
+}

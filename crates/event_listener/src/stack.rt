@@ -1,0 +1,186 @@
+//! Listeners that live no longer than their event, and the macro that makes one.
+ghost use Rattle.std.specs.Prelude.{◌≡◌, true, false, IfOk};
+ghost use Rattle.event_listener.specs.Listening.{Listening};
+
+use crate::error::{ListenError, NoMemory};
+use crate::event::Event;
+use crate::listener::{EventListener, Listener, PollFault, WaitError};
+use crate::waking::WakerCell;
+use futures::future::Future;
+use futures::task::{Context, Poll, Waker};
+use std::alloc::Global;
+use std::marker::Model;
+use std::sync::{Arc, Wait};
+use std::time::{Clock, Duration, Instant};
+
+#[cfg(test)]
+mod tests;
+
+/// The place of a listener that lives no longer than its event.
+///
+/// As `event-listener` 5.4.2, but that the node itself is in the list's memory, so that nothing is pinned.
+#[derive(Drop)]
+pub struct StackSlot<'ev, T> {
+    event: &'ev Event<T>,
+    alloc: Global,
+    cell: Option<Arc<WakerCell>>,
+}
+
+impl<'ev, T> Model for StackSlot<'ev, T> {
+    ghost use Rattle.std.specs.Prelude.{ℕ};
+
+    ghost Value = { ℕ };
+
+    ghost view = { λ slot. slot.event.now };
+}
+
+impl<'ev, T: Drop> StackSlot<'ev, T> {
+    /// A slot for listeners of this event, with what the first of them needs to be woken.
+    ///
+    /// Refused where that was refused for memory.
+    pub fn new(alloc: Global, event: &'ev Event<T>) -> Result<Self, NoMemory>
+        ensures { IfOk result (λ slot. slot ≡ event.now) }
+    {
+        match Arc::new(alloc, WakerCell::new()) {
+            Ok(cell) => Ok(StackSlot {
+                event,
+                alloc,
+                cell: Some(cell),
+            }),
+            Err(_) => Err(NoMemory),
+        }
+    }
+
+    /// Adds a listener, as [`Event::listen`] does, and refused as there. It may wait for the list's lock.
+    pub fn listen<R: Wait + Copy>(&mut self, rt: R) -> Result<StackListener<'ev, T, R>, ListenError>
+        ensures event { IfOk result (λ listener. listener.event ≡ self.old) }
+        ensures listens { IfOk result (λ listener. listener.is_finished ≡ false) }
+        ensures slot { self.new ≡ self.old }
+    {
+        let cell = match self.cell.take() {
+            Some(cell) => cell,
+            None => match Arc::new(self.alloc, WakerCell::new()) {
+                Ok(cell) => cell,
+                Err(_) => return Err(ListenError::NoMemory),
+            },
+        };
+        match EventListener::new(rt, self.event, cell) {
+            Ok(inner) => Ok(StackListener {
+                _event: self.event,
+                inner,
+            }),
+            Err(error) => Err(error),
+        }
+    }
+}
+
+/// A listener in a slot. It is dropped as an [`EventListener`] is.
+#[derive(Drop)]
+pub struct StackListener<'ev, T: Drop, R: Wait + Copy> {
+    _event: &'ev Event<T>,
+    inner: EventListener<T, R>,
+}
+
+impl<'ev, T: Drop, R: Wait + Copy> Model for StackListener<'ev, T, R> {
+    ghost use Rattle.event_listener.specs.Listening.{Listening};
+
+    ghost Value = { Listening };
+
+    ghost view = { λ l. l.inner };
+}
+
+impl<'ev, T: Drop, R: Wait + Copy> Listener<T> for StackListener<'ev, T, R> {
+    ghost identity = { λ l. l.event };
+
+    ghost is_finished = { λ l. l.is_finished };
+
+    fn poll(&mut self, waker: Waker) -> Poll<Result<T, PollFault>> {
+        Listener::poll(&mut self.inner, waker)
+    }
+
+    fn wait(self) -> Result<T, WaitError<Self>> {
+        let Self { _event, inner } = self;
+        match inner.wait() {
+            Ok(tag) => Ok(tag),
+            Err(error) => Err(in_slot(_event, error)),
+        }
+    }
+
+    fn wait_timeout<K: Clock>(
+        self,
+        clock: &K,
+        timeout: Duration,
+    ) -> Result<Option<T>, WaitError<Self>> {
+        let Self { _event, inner } = self;
+        match inner.wait_timeout(clock, timeout) {
+            Ok(tag) => Ok(tag),
+            Err(error) => Err(in_slot(_event, error)),
+        }
+    }
+
+    fn wait_deadline<K: Clock>(
+        self,
+        clock: &K,
+        deadline: Instant,
+    ) -> Result<Option<T>, WaitError<Self>> {
+        let Self { _event, inner } = self;
+        match inner.wait_deadline(clock, deadline) {
+            Ok(tag) => Ok(tag),
+            Err(error) => Err(in_slot(_event, error)),
+        }
+    }
+
+    fn discard(self) -> bool {
+        let Self { _event, inner } = self;
+        inner.discard()
+    }
+
+    fn listens_to(&self, event: &Event<T>) -> bool {
+        self.inner.listens_to(event)
+    }
+
+    fn same_event(&self, other: &Self) -> bool {
+        self.inner.same_event(&other.inner)
+    }
+}
+
+impl<'ev, T: Drop, R: Wait + Copy> Future for StackListener<'ev, T, R> {
+    type Output = Result<T, PollFault>;
+
+    /// As [`Listener::poll`], with the waker of the task that is polled. A second poll wakes nobody.
+    fn poll(&mut self, cx: &mut Context<'_>) -> Poll<Result<T, PollFault>> {
+        Future::poll(&mut self.inner, cx)
+    }
+}
+
+// The listener that a wait hands back, in its slot again.
+fn in_slot<'ev, T: Drop, R: Wait + Copy>(
+    event: &'ev Event<T>,
+    error: WaitError<EventListener<T, R>>,
+) -> WaitError<StackListener<'ev, T, R>>
+    ensures no_memory { (l : _) → error ≡ WaitError.NoMemory l → result ≡ WaitError.NoMemory l }
+    ensures never_inserted { (l : _) → error ≡ WaitError.NeverInserted l → result ≡ WaitError.NeverInserted l }
+{
+    match error {
+        WaitError::NoMemory(inner) => WaitError::NoMemory(StackListener {
+            _event: event,
+            inner,
+        }),
+        WaitError::NeverInserted(inner) => WaitError::NeverInserted(StackListener {
+            _event: event,
+            inner,
+        }),
+    }
+}
+
+/// A listener of the event under the name: `listener!(rt, alloc, event => name)`.
+///
+/// It writes `let` statements that end in `?`, so it stands in a function whose error is made of [`NoMemory`] and of
+/// [`ListenError`]. As `event-listener` 5.4.2, but for the runtime and the refusals.
+#[macro_export]
+macro_rules! listener {
+    ($rt:expr, $alloc:expr, $event:expr => $name:ident) => {
+        let mut slot = $crate::stack::StackSlot::new($alloc, $event)?;
+        let $name = slot.listen($rt)?;
+    };
+}

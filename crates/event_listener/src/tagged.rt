@@ -1,0 +1,46 @@
+//! Notices with a tag of which each listener gets a clone.
+ghost use Rattle.std.specs.Prelude.{◌≡◌, MatchResult};
+
+use crate::error::NoMemory;
+use crate::notify::Notification;
+
+/// The same number and kind, with one tag of which each listener gets a clone.
+///
+/// A clone may want memory: where it is refused, so is the notice, after those that were told. A clone equals the tag;
+/// whoever makes the notice answers for that. As `event-listener` 5.4.2, whose clones can't be refused.
+#[derive(Drop)]
+pub struct Tag<N, T: Clone> {
+    /// The notice whose number and kind these are.
+    pub inner: N,
+    /// What each listener gets a clone of.
+    pub tag: T,
+    pub ghost exact: { (x : _) (y : _) → T.is_clone x y → y ≡ x },
+}
+
+impl<N: Notification, T: Clone + Drop> Notification for Tag<N, T> {
+    type Tag = T;
+
+    ghost size = { λ n. N.size n.inner };
+
+    ghost additional = { λ n. N.additional n.inner };
+
+    ghost can_give = { λ n. Unit {0} };
+
+    // Each tag is the notice's own, and is refused only where a clone of it can be.
+    ghost gives = { λ n r m. MatchResult r (λ t. t ≡ n.tag) (λ _. ¬ (T.is_infallible n.tag)) × (m ≡ n) };
+
+    fn count(&self) -> usize {
+        self.inner.count()
+    }
+
+    fn is_additional(&self) -> bool {
+        self.inner.is_additional()
+    }
+
+    fn next_tag(&mut self) -> Result<T, NoMemory> {
+        match self.tag.clone() {
+            Ok(tag) => Ok(tag),
+            Err(_) => Err(NoMemory),
+        }
+    }
+}
