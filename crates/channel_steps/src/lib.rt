@@ -1,0 +1,5 @@
+//! A channel of one owner with the calls of many parties under way: any interleaving of their steps.
+#![tactic(auto)]
+
+pub mod party;
+pub mod run;
