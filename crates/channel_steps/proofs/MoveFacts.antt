@@ -14,6 +14,7 @@ use Rattle.async_channel.specs.declared.stage.Turn.{Turn}
 use Rattle.async_channel.specs.declared.stage.Turn.TheVariants.{Tries, Works, Ends}
 use Rattle.async_channel.specs.declared.stage.Work.{Work}
 use Rattle.async_channel.specs.declared.stage.Work.TheVariants.{TellReceive, TellStreams, TellSend, TellAll, Insert, Register, Leave, Lower, Count, Load, Raise}
+use Rattle.async_channel.specs.Asks.{kept_by}
 use Rattle.async_channel.specs.Marks.{up}
 use Rattle.async_channel.specs.Parts.{listeners, count, is_raised, waits}
 use Rattle.async_channel.specs.Turns.{line_of, leaving, nothing_kept, ends_by, again, pends_by, unlistened, told_all_next, lowered_next, loaded_next, raised_next}
@@ -106,6 +107,11 @@ module _ {T W : Type 0} where
   no_seats f (Trying call aim) kept e = absurd (let no : (let x : Stage (Phase T) T W = Trying f aim in x) ≡ Finished kept = e in cc)
   no_seats f (Working w) kept e = refl
   no_seats f (Finished k) kept e = refl
+
+  pub kept_at : (f : Phase T) (s : Stage (QueueCall T) T W) (kept : Kept T) → phase f s ≡ Finished kept → kept_by s ≡ kept
+  kept_at f (Trying call aim) kept e = absurd (let no : (let x : Stage (Phase T) T W = Trying f aim in x) ≡ Finished kept = e in cc)
+  kept_at f (Working w) kept e = absurd (let no : (let x : Stage (Phase T) T W = Working w in x) ≡ Finished kept = e in cc)
+  kept_at f (Finished k) kept e = (let same : (let x : Stage (Phase T) T W = Finished k in x) ≡ Finished kept = e in cc)
 
   -- a call that has answered has no call of the queue under way
   pub answered_alone : (c : Channel T W) (at : Stage (Phase T) T W) (e : Effect T W) (y : Reply T) (f : Phase T) (s : Stage (QueueCall T) T W) → Moves c at e (Some y) (phase f s) → seats f s ≡ []

@@ -22,6 +22,7 @@ use Rattle.async_channel.specs.declared.stage.Aim.{Aim}
 use Rattle.async_channel.specs.declared.stage.Aim.TheVariants as aim
 use Rattle.async_channel.specs.declared.stage.Closer.TheVariants as closer
 use Rattle.async_channel.specs.declared.stage.Held.{Held}
+use Rattle.async_channel.specs.declared.stage.Kept.{Kept}
 use Rattle.async_channel.specs.declared.stage.Line.TheVariants.{Sends, Receives, Streams, Closings}
 use Rattle.async_channel.specs.declared.stage.Side.{Side}
 use Rattle.async_channel.specs.declared.stage.Side.TheVariants.{Senders, Receivers}
@@ -256,10 +257,10 @@ module _ {T W : Type 0} where
         let h = own c u.ask u.told u.deeds u.seen bal u.at effect None s k.stands k.tells g in
         record { older = u.seen; latest = refl; stands = h.0; tells = h.1; quick = λ q. (let i = k.quick q in let j = quick_moves c u.ask u.at effect s u.deeds u.seen k.stands q g in omega (arith, i, j)) }
 
-    pub own_finishes : (r : Reply T) → Moves c u.at effect (Some r) s → Finishes (does u s m c d) r
-    own_finishes r g =
+    pub own_finishes : (r : Reply T) (left : Kept T) → ((kept : Kept T) → s ≡ Finished kept → left ≡ kept) → Moves c u.at effect (Some r) s → Finishes (does u s m c d) r (Some left)
+    own_finishes r left same g =
         let h = own c u.ask u.told u.deeds u.seen bal u.at effect (Some r) s k.stands k.tells g in
-        record { kept = h.0; at_end = h.1; met = h.2; keeps = h.3; all_told = h.4 }
+        record { kept = h.0; at_end = h.1; given = ap (λ (z : Kept T). Some z) (same h.0 h.1); met = h.2; keeps = h.3; all_told = h.4 }
 
     pub own_in_time : (r : Option (Reply T)) → Moves c u.at effect r s → IsQuick u.ask → EndsInTime u.made r
     own_in_time None g q =

@@ -58,7 +58,7 @@ module _ {T W : Type 0} where
 
   module _ {S : Type 0} (wakes : S → W → S → Type 0) (any : Phase T) where
     pub begun : (p : ℕ) (ask : ChannelAsk T W) (call : ChannelCall T W) (parts : Parts T W) (parties : List (Party T W)) (a : S) (e : Entry T) (parties' : List (Party T W))
-        → IsNewCall call (first ask) → parties' ≡ parties ++ record { id = p; call = call } ∷ [] → e ≡ record { mark = Nothing; reply = None }
+        → IsNewCall call (first ask) → parties' ≡ parties ++ record { id = p; call = call } ∷ [] → e ≡ record { mark = Nothing; reply = None; kept = None }
         → Turns wakes (step.Begin p ask) parts parties a e parts parties' a
     begun p ask call parts parties a e parties' new left entry s range sh =
         let k = came parts sh.queue (all_seats sh.sittings) sh.fits any (first ask) call.stage new.0 new.1 in

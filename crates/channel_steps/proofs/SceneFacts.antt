@@ -8,13 +8,15 @@ use Rattle.async_channel.specs.Moves.{Channel, Effect, channel, seats, phase, Is
 use Rattle.async_channel.specs.declared.call.ChannelCall.{ChannelCall}
 use Rattle.async_channel.specs.declared.mark.Mark.{Mark}
 use Rattle.async_channel.specs.declared.reply.Reply.{Reply}
+use Rattle.async_channel.specs.Asks.{kept_by}
+use Rattle.async_channel.specs.declared.stage.Kept.{Kept}
 use Rattle.async_channel.specs.declared.stage.Stage.{Stage}
 use Rattle.channel_steps.specs.declared.party.Party.{Party}
 use Rattle.channel_steps.specs.declared.party.Entry.{Entry}
 use Rattle.channel_steps.specs.Moments.{with_deed}
-use Rattle.channel_steps.specs.Scene.{Under, Scene, sees, does, gone_by, came_by, Known, AllKnown, IsBalanced, Steps, Sitting, under_of, seats_of, all_seats, Shows, parties_after, SteppedAt, StepsAt}
+use Rattle.channel_steps.specs.Scene.{Under, Scene, sees, does, gone_by, came_by, Known, AllKnown, IsBalanced, Steps, Sitting, under_of, seats_of, all_seats, Shows, parties_after, left_by, SteppedAt, StepsAt}
 use Rattle.channel_steps.specs.Tellings.{telling}
-use Rattle.channel_steps.proofs.MoveFacts.{answered_alone}
+use Rattle.channel_steps.proofs.MoveFacts.{answered_alone, kept_at}
 use Rattle.channel_steps.proofs.TryFacts.{Progress}
 use Rattle.channel_steps.proofs.OwnFacts.{moves_on, names_of, moves_held, all_see, own_known, own_finishes, own_in_time}
 
@@ -22,6 +24,11 @@ pub remove-set : {A : Type 0} (xs : List A) (k : ℕ) (y : A) → remove (slice_
 remove-set [] k y = refl
 remove-set (x ∷ xs) zero y = refl
 remove-set (x ∷ xs) (suc k) y = ap (λ zs. x ∷ zs) (remove-set xs k y)
+
+pub get-set : {A : Type 0} (xs : List A) (k : ℕ) (y z : A) → slice_get xs k ≡ Some z → slice_get (slice_set xs k y) k ≡ Some y
+get-set [] k y z e = absurd cc
+get-set (x ∷ xs) zero y z e = refl
+get-set (x ∷ xs) (suc k) y z e = get-set xs k y z e
 
 module _ {A B : Type 0} (g : A → B) where
   -- where the k-th of the images is, and what the list is round it
@@ -110,7 +117,7 @@ module _ {T W : Type 0} where
     right_known = let h = known_right before_it (map under_of l) (under_of x ∷ map under_of r) all_round in h.1
 
     abbrev pub Outcome : Option (Reply T) → List (Party T W) → Type 0
-    Outcome reply parties' = (t : Scene T W) × Steps (scene_of q parts (l ++ (x ∷ r)) gone came) x.party.id (record { mark = m; reply = reply }) names t × Shows parts' parties' t × OnePlace parts parts'
+    Outcome reply parties' = (t : Scene T W) × Steps (scene_of q parts (l ++ (x ∷ r)) gone came) x.party.id (record { mark = m; reply = reply; kept = left_by p' reply }) names t × Shows parts' parties' t × OnePlace parts parts'
 
     pub core : (reply : Option (Reply T)) → IsStepOver parts x.party.call.stage names parts' p'.call.stage m reply
         → Outcome reply (parties_after (map party_of (l ++ (x ∷ r))) (length l) p' reply)
@@ -147,7 +154,7 @@ module _ {T W : Type 0} where
             moves = made.moves;
             left = under_are;
             named = names_of before_it at0 e None at' made.moves;
-            finishes = tt;
+            finishes = refl;
             quick = own_in_time before_it (under_of x) bal mine_known m now names at' None made.moves;
             gone = refl;
             came = refl;
@@ -196,7 +203,7 @@ module _ {T W : Type 0} where
             moves = made.moves;
             left = under_are;
             named = names_of before_it at0 e (Some y) at' made.moves;
-            finishes = own_finishes before_it (under_of x) bal mine_known m now names at' y made.moves;
+            finishes = own_finishes before_it (under_of x) bal mine_known m now names at' y (kept_by p'.call.stage) (λ kept there. kept_at made.phase_now p'.call.stage kept there) made.moves;
             quick = own_in_time before_it (under_of x) bal mine_known m now names at' (Some y) made.moves;
             gone = refl;
             came = refl;
@@ -232,23 +239,24 @@ module _ {T W : Type 0} where
       let o = core parts parts' l r x sh.queue c.0 e.mark c.2.0 c.1 in_range fits known sh.balanced s.gone s.came e.reply c.2.2 in
       let parties_is : parties ≡ map party_of (l ++ (x ∷ r)) = sh.parties_are ∙ ap (λ (xs : List (Sitting T W)). map party_of xs) d.3 in
       let left : parties_after (map party_of (l ++ (x ∷ r))) (length l) c.0 e.reply ≡ parties' =
-      ap (λ (zs : List (Party T W)). parties_after zs (length l) c.0 e.reply) (sym parties_is) ∙ (ap (λ n. parties_after parties n c.0 e.reply) d.5 ∙ sym c.3) in
+      ap (λ (zs : List (Party T W)). parties_after zs (length l) c.0 e.reply) (sym parties_is) ∙ (ap (λ n. parties_after parties n c.0 e.reply) d.5 ∙ sym c.4) in
       let scene_is : scene_of sh.queue parts (l ++ (x ∷ r)) s.gone s.came ≡ s = same_scene s (channel sh.queue parts) (map under_of (l ++ (x ∷ r))) (sym sh.now) (sym under_is) in
+      let before_all : Scene T W = scene_of sh.queue parts (l ++ (x ∷ r)) s.gone s.came in
       record {
         names = c.2.0;
         woken = c.2.1;
         after = o.0;
-        step = subst (λ (n : ℕ). Steps s n e c.2.0 o.0) (ap (λ (y : Party T W). y.id) d.4) (subst (λ (z : Scene T W). Steps z x.party.id e c.2.0 o.0) scene_is o.1);
+        step = subst (λ (n : ℕ). Steps s n e c.2.0 o.0) (ap (λ (y : Party T W). y.id) d.4) (subst (λ (z : Scene T W). Steps z x.party.id e c.2.0 o.0) scene_is (subst (λ (kept : Option (Kept T)). Steps before_all x.party.id (record { mark = e.mark; reply = e.reply; kept = kept }) c.2.0 o.0) (sym c.3) o.1));
         one_place = o.3;
         shown = subst (λ (zs : List (Party T W)). Shows parts' zs o.0) left o.2;
       }
 
   pub made_at : {S : Type 0} (wakes : S → W → S → Type 0) (parts parts' : Parts T W) (parties parties' : List (Party T W)) (k : ℕ) (sink sink' : S) (x : Party T W) (next : ChannelCall T W) (m : Mark) (r : Option (Reply T))
-      → slice_get parties k ≡ Some x → m ≡ next.mark → IsChannelStep wakes parts x.call.stage sink parts' next.stage next.mark r sink'
-      → parties' ≡ parties_after parties k (record { id = x.id; call = next }) r
-      → SteppedAt wakes parts parties k sink (record { mark = m; reply = r }) parts' parties' sink'
-  made_at wakes parts parts' parties parties' k sink sink' x next m r there e step left p there' =
+      (kept : Option (Kept T)) → slice_get parties k ≡ Some x → m ≡ next.mark → IsChannelStep wakes parts x.call.stage sink parts' next.stage next.mark r sink'
+      → kept ≡ left_by (record { id = x.id; call = next }) r → parties' ≡ parties_after parties k (record { id = x.id; call = next }) r
+      → SteppedAt wakes parts parties k sink (record { mark = m; reply = r; kept = kept }) parts' parties' sink'
+  made_at wakes parts parts' parties parties' k sink sink' x next m r kept there e step given left p there' =
       let next_party : Party T W = record { id = x.id; call = next } in
       let at_x : IsChannelStep wakes parts x.call.stage sink parts' next.stage m r sink' = subst (λ (n : Mark). IsChannelStep wakes parts x.call.stage sink parts' next.stage n r sink') (sym e) step in
       let same : x ≡ p = cc in
-      (next_party, ap (λ (y : Party T W). y.id) same, subst (λ (y : Party T W). IsChannelStep wakes parts y.call.stage sink parts' next.stage m r sink') same at_x, left)
+      (next_party, ap (λ (y : Party T W). y.id) same, subst (λ (y : Party T W). IsChannelStep wakes parts y.call.stage sink parts' next.stage m r sink') same at_x, given, left)

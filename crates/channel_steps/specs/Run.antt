@@ -46,7 +46,7 @@ module _ {T W : Type 0} where
 
   -- a party begins a call, at its first stage; no cell is touched
   pub record Begins (s : Scene T W) (p : ℕ) (ask : ChannelAsk T W) (e : Entry T) (t : Scene T W) : Type 0 where
-    pub entry : e ≡ record { mark = Nothing; reply = None }
+    pub entry : e ≡ record { mark = Nothing; reply = None; kept = None }
     pub at : Stage (Phase T) T W
     pub answer : Option (Reply T)
     pub turned : Turned (first ask) answer at

@@ -1,9 +1,10 @@
 -- A channel with calls under way, seen without its cells, and what one step of one of them does.
-use Rattle.std.specs.Prelude.{◌≡◌, ℕ, ◌+◌, ◌<◌, ◌≤◌, List, [], ◌∷◌, ◌++◌, length, take, Option, None, Some, MatchOption, map, slice_get, slice_set}
+use Rattle.std.specs.Prelude.{◌≡◌, ℕ, ◌+◌, ◌<◌, ◌≤◌, List, [], ◌∷◌, ◌++◌, length, take, Option, None, Some, map, slice_get, slice_set}
 use Rattle.std.specs.List.{remove}
 use Rattle.concurrent_queue.specs.Queue.{Queue, Phase, IsInRange}
 use Rattle.concurrent_queue.specs.Step.{Seat, Fits}
 use Rattle.event_listener.specs.Notices.{Woken}
+use Rattle.async_channel.specs.Asks.{kept_by}
 use Rattle.async_channel.specs.Parts.{Parts}
 use Rattle.async_channel.specs.Moves.{Channel, channel, Moves, seats, phase, OnePlace, IsChannelStep}
 use Rattle.async_channel.specs.declared.ask.ChannelAsk.{ChannelAsk}
@@ -93,12 +94,18 @@ module _ {T W : Type 0} where
 
   -- a call that ends with this reply: its marks and moments are what the reply says, all that its marks owe was told, and it
   -- leaves to its operation what it has to
-  pub record Finishes (u : Under T W) (r : Reply T) : Type 0 where
+  pub record Finishes (u : Under T W) (r : Reply T) (left : Option (Kept T)) : Type 0 where
     pub kept : Kept T
     pub at_end : u.at ≡ Finished kept
+    pub given : left ≡ Some kept
     pub met : Met u.ask u.deeds u.seen r
     pub keeps : Keeps u.ask r kept
     pub all_told : u.told ≡ owed u.deeds
+
+  -- a call that goes on gives nothing yet
+  abbrev pub MayFinish : Under T W → Option (Reply T) → Option (Kept T) → Type 0
+  MayFinish u None left = left ≡ None
+  MayFinish u (Some r) left = Finishes u r left
 
   -- the message that a call brings
   abbrev pub brought : ChannelAsk T W → List T
@@ -124,7 +131,7 @@ module _ {T W : Type 0} where
     pub moves : Moves s.now mine.at (record { channel = t.now; mark = e.mark; woken = names }) e.reply at_now
     pub left : t.under_way ≡ map (sees t.now) before ++ (unless_ended (does mine at_now e.mark s.now t.now) e.reply ++ map (sees t.now) behind)
     pub named : Names (telling mine.at) (dropping mine.at) s.now names
-    pub finishes : MatchOption e.reply (Unit {0}) (Finishes (does mine at_now e.mark s.now t.now))
+    pub finishes : MayFinish (does mine at_now e.mark s.now t.now) e.reply e.kept
     pub quick : IsQuick mine.ask → EndsInTime mine.made e.reply
     pub gone : t.gone ≡ s.gone ++ gone_by e.mark s.now.queue.items
     pub came : t.came ≡ s.came ++ came_by e.mark mine.ask
@@ -189,12 +196,20 @@ module _ {T W : Type 0} where
   parties_after parties k q None = slice_set parties k q
   parties_after parties k q (Some r) = remove parties k
 
+  -- what the call of the k-th party leaves to its operation
+  abbrev pub IsLeftBy : List (Party T W) → ℕ → Kept T → Type 0
+  IsLeftBy parties k kept = (p : Party T W) → slice_get parties k ≡ Some p → kept ≡ kept_by p.call.stage
+
+  abbrev pub left_by : Party T W → Option (Reply T) → Option (Kept T)
+  left_by p None = None
+  left_by p (Some r) = Some (kept_by p.call.stage)
+
   module _ {S : Type 0} (wakes : S → W → S → Type 0) where
     -- the code of one step
     abbrev pub SteppedAt : Parts T W → List (Party T W) → ℕ → S → Entry T → Parts T W → List (Party T W) → S → Type 0
     SteppedAt parts parties k sink e parts' parties' sink' =
         (p : Party T W) → slice_get parties k ≡ Some p →
-        (p' : Party T W) × (p'.id ≡ p.id) × IsChannelStep wakes parts p.call.stage sink parts' p'.call.stage e.mark e.reply sink' × (parties' ≡ parties_after parties k p' e.reply)
+        (p' : Party T W) × (p'.id ≡ p.id) × IsChannelStep wakes parts p.call.stage sink parts' p'.call.stage e.mark e.reply sink' × (e.kept ≡ left_by p' e.reply) × (parties' ≡ parties_after parties k p' e.reply)
 
     -- a step that was made in the scene s
     pub record Stepped (parts : Parts T W) (sink : S) (e : Entry T) (parts' : Parts T W) (parties' : List (Party T W)) (sink' : S) (s : Scene T W) (p : ℕ) : Type 0 where

@@ -3,3 +3,5 @@
 
 pub mod party;
 pub mod run;
+#[cfg(test)]
+mod tests;

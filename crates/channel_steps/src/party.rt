@@ -2,28 +2,31 @@
 
 ghost use Rattle.std.specs.Prelude.{◌≡◌, ◌<◌, vec_len, MatchOption};
 ghost use Rattle.std.specs.List.{remove};
-ghost use Rattle.channel_steps.specs.Scene.{StepsAt, HasParty, NoneHas};
+ghost use Rattle.channel_steps.specs.Scene.{StepsAt, HasParty, NoneHas, IsLeftBy};
 
 use async_channel::call::ChannelCall;
 use async_channel::cells::ChannelCells;
 use async_channel::mark::Mark;
 use async_channel::reply::Reply;
+use async_channel::stage::Kept;
 use event_listener::wakes::Wakes;
 
-/// A party with its call under way.
+/// A party with its call under way. Own to this project.
 #[derive(Drop)]
 pub struct Party<T, W> {
     pub(crate) id: u32,
     pub(crate) call: ChannelCall<T, W>,
 }
 
-/// What one step of a run did: its mark, and the reply where a call ended.
+/// What one step of a run did: its mark, and the reply where a call ended. Own to this project.
 #[derive(Drop)]
 pub struct Entry<T> {
     /// What was done to the channel.
     pub mark: Mark,
     /// What the call answers, where this was its last step.
     pub reply: Option<Reply<T>>,
+    /// What it leaves to its operation then: the listener of a pending one, the message of an unfinished send.
+    pub kept: Option<Kept<T>>,
 }
 
 /// The place of this party's call among those under way.
@@ -38,12 +41,14 @@ pub(crate) fn find<T, W>(parties: &Vec<Party<T, W>>, id: u32) -> Option<usize>
     None
 }
 
-/// Takes the k-th party out.
-fn leave<T: Drop, W: Drop>(parties: &mut Vec<Party<T, W>>, k: usize)
+/// Takes the k-th party out, whose call has answered, with what it leaves to its operation.
+fn leave<T: Drop, W: Drop>(parties: &mut Vec<Party<T, W>>, k: usize) -> Kept<T>
     requires { k < vec_len parties.old }
-    ensures { parties.new.items ≡ remove parties.old.items k }
+    ensures parties { parties.new.items ≡ remove parties.old.items k }
+    ensures kept { IsLeftBy parties.old.items k result }
 {
-    let _ = parties.remove(k);
+    let party = parties.remove(k);
+    party.call.into_kept()
 }
 
 /// One step of the k-th call under way. A call that answers is under way no more.
@@ -59,9 +64,9 @@ pub(crate) fn step_at<T: Drop, W: Drop, C: ChannelCells<T, W>, S: Wakes<W>>(
     let party = &mut parties[k];
     let reply = party.call.step(cells, sink);
     let mark = party.call.last_mark();
-    match &reply {
-        Some(_) => leave(parties, k),
-        None => {}
-    }
-    Entry { mark, reply }
+    let kept = match &reply {
+        Some(_) => Some(leave(parties, k)),
+        None => None,
+    };
+    Entry { mark, reply, kept }
 }

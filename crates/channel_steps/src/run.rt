@@ -13,7 +13,7 @@ use event_listener::wakes::Wakes;
 use std::alloc::Global;
 use std::collections::VecDeque;
 
-/// A step of a run: a party begins a call, or makes one step of the call that it has under way.
+/// A step of a run: a party begins a call, or makes one step of the call that it has under way. Own to this project.
 #[derive(Drop)]
 pub enum Step<T, W> {
     /// Begins a call. No cell is touched.
@@ -30,7 +30,7 @@ pub enum Step<T, W> {
     },
 }
 
-/// Why a step was refused. Nothing of it was done.
+/// Why a step was refused. Nothing of it was done. Own to this project.
 #[derive(Clone, Copy, PartialEq, Eq, Debug)]
 pub enum Refusal {
     /// The party that begins a call has one under way.
@@ -41,7 +41,7 @@ pub enum Refusal {
     NoMemory,
 }
 
-/// What a run did.
+/// What a run did. Own to this project.
 #[derive(Drop)]
 pub struct Run<T> {
     /// An entry for each step that was made.
@@ -85,6 +85,7 @@ fn turn<T: Drop, W: Drop, C: ChannelCells<T, W>, S: Wakes<W>>(
             Ok(Entry {
                 mark: Mark::Nothing,
                 reply: None,
+                kept: None,
             })
         }
         Step::Step { party } => match find(parties, party) {
@@ -114,6 +115,11 @@ fn back<X: Drop>(steps: &mut VecDeque<X>, step: X)
 }
 
 /// Runs steps of any parties, from the front. The first one that is refused stays in front, and nothing of it is done.
+///
+/// A step is one step of one call. Whatever the order of the parties' steps is, and wherever the list ends, each call that
+/// answers has the marks that its reply names and found what its reply says at a moment of its own; whom it has to tell, it
+/// has told; and what left the channel, followed by what it holds, is what it held followed by what came, in order. Tasks
+/// that are woken go to the sink in order. Nothing waits. Own to this project.
 pub fn run_steps<T: Drop, W: Drop, C: ChannelCells<T, W>, S: Wakes<W>>(
     alloc: Global,
     steps: &mut VecDeque<Step<T, W>>,
