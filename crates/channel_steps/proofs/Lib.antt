@@ -7,3 +7,4 @@ pub mod MoveFacts
 pub mod OwnFacts
 pub mod SceneFacts
 pub mod RunFacts
+pub mod StartFacts

@@ -4,3 +4,4 @@ pub mod Answers
 pub mod Known
 pub mod Scene
 pub mod Run
+pub mod Start

@@ -3,5 +3,6 @@
 
 pub mod party;
 pub mod run;
+pub mod start;
 #[cfg(test)]
 mod tests;

@@ -4,6 +4,7 @@ ghost use Rattle.async_channel.specs.Plain.{parts_of};
 
 use crate::party::{Entry, Party};
 use crate::run::{Refusal, Run, Step, run_steps};
+use crate::start::{is_quiet, open_channel, under_way};
 use async_channel::ask::ChannelAsk;
 use async_channel::cells::ChannelCells;
 use async_channel::error::Refused;
@@ -105,7 +106,8 @@ fn make_fixture<C>(cells: C, alloc: Global) -> Fixture<C> {
 }
 
 fn one_slot(alloc: Global) -> Result<PlainChannel<u64, u32>, Fail> {
-    Ok(PlainChannel::new(QueueForm::Bounded(1), alloc)?)
+    let opened = open_channel(QueueForm::Bounded(1), alloc)?;
+    Ok(opened.cells)
 }
 
 impl<C: ChannelCells<u64, u32> + Drop> Fixture<C> {
@@ -115,22 +117,22 @@ impl<C: ChannelCells<u64, u32> + Drop> Fixture<C> {
         party: u32,
         ask: ChannelAsk<u64, u32>,
         steps: usize,
-    ) -> Result<Option<Entry<u64>>, Fail> {
+    ) -> Result<(Said, Option<Key>), Fail> {
         let mut list = VecDeque::new(self.alloc);
         list.push_back(Step::Begin { party, ask })?;
         for _ in 0..steps {
             list.push_back(Step::Step { party })?;
         }
-        Ok(last_entry(self.run(&mut list)))
+        Ok(in_short(last_entry(self.run(&mut list))))
     }
 
     /// A party makes so many more steps. What the last one did.
-    fn go_on(&mut self, party: u32, steps: usize) -> Result<Option<Entry<u64>>, Fail> {
+    fn go_on(&mut self, party: u32, steps: usize) -> Result<(Said, Option<Key>), Fail> {
         let mut list = VecDeque::new(self.alloc);
         for _ in 0..steps {
             list.push_back(Step::Step { party })?;
         }
-        Ok(last_entry(self.run(&mut list)))
+        Ok(in_short(last_entry(self.run(&mut list))))
     }
 
     fn run(&mut self, list: &mut VecDeque<Step<u64, u32>>) -> Run<u64> {
@@ -153,78 +155,109 @@ fn last_entry(run: Run<u64>) -> Option<Entry<u64>> {
     }
 }
 
-/// What the call that ended with this entry replied.
-fn reply_of(entry: Option<Entry<u64>>) -> Option<Reply<u64>> {
-    match entry {
-        Some(entry) => entry.reply,
-        None => None,
+/// What an entry says, in short.
+#[derive(Clone, Copy, PartialEq, Eq, Debug)]
+enum Said {
+    /// There is none.
+    Missing,
+    /// The call goes on.
+    GoesOn,
+    /// The message was sent.
+    Sent,
+    /// This message was received.
+    Received(u64),
+    /// The poll is pending.
+    Pending,
+    /// The operation was given up, and handed this back.
+    GivenUp(Option<u64>),
+    /// Memory was refused.
+    Refused,
+    /// Something else.
+    Else,
+}
+
+fn reply_says(reply: Reply<u64>) -> Said {
+    match reply {
+        Reply::TrySend(Ok(())) => Said::Sent,
+        Reply::TryRecv(Ok(message)) => Said::Received(message),
+        Reply::SendPoll(Poll::Ready(Ok(()))) => Said::Sent,
+        Reply::SendPoll(Poll::Pending) => Said::Pending,
+        Reply::RecvPoll(Poll::Ready(Ok(message))) => Said::Received(message),
+        Reply::RecvPoll(Poll::Ready(Err(Refused::NoMemory(())))) => Said::Refused,
+        Reply::RecvPoll(Poll::Pending) => Said::Pending,
+        Reply::GivenUp(message) => Said::GivenUp(message),
+        _ => Said::Else,
     }
 }
 
-/// Whether a call goes on after this entry.
-fn is_under_way(entry: Option<Entry<u64>>) -> bool {
+/// What an entry says, and the listener that its call leaves to its operation.
+fn in_short(entry: Option<Entry<u64>>) -> (Said, Option<Key>) {
     match entry {
-        Some(entry) => entry.reply.is_none(),
-        None => false,
-    }
-}
-
-/// The listener that the call that ended with this entry leaves to its operation.
-fn key_of(entry: Option<Entry<u64>>) -> Option<Key> {
-    match entry {
-        Some(entry) => entry.kept.and_then(|kept| kept.key),
-        None => None,
+        None => (Said::Missing, None),
+        Some(entry) => {
+            let key = entry.kept.and_then(|kept| kept.key);
+            match entry.reply {
+                None => (Said::GoesOn, key),
+                Some(reply) => (reply_says(reply), key),
+            }
+        }
     }
 }
 
 #[test]
 fn a_message_between_two_tries_is_taken(rt: HostRuntime) -> Result<(), Fail> {
     let mut all = make_fixture(one_slot(rt.alloc())?, rt.alloc());
-    assert!(rt; is_under_way(all.begin(0, ChannelAsk::PollRecv(None, 7), 2)?));
-    assert!(rt; is_under_way(all.begin(1, ChannelAsk::TrySend(5), 3)?));
-    let reply = reply_of(all.go_on(0, 5)?);
-    assert!(rt; matches!(reply, Some(Reply::RecvPoll(Poll::Ready(Ok(5))))));
-    let reply = reply_of(all.go_on(1, 2)?);
-    assert!(rt; matches!(reply, Some(Reply::TrySend(Ok(())))));
+    assert_eq!(rt;
+        all.begin(0, ChannelAsk::PollRecv(None, 7), 2)?.0,
+        Said::GoesOn
+    );
+    assert_eq!(rt; all.begin(1, ChannelAsk::TrySend(5), 3)?.0, Said::GoesOn);
+    assert_eq!(rt; all.go_on(0, 5)?.0, Said::Received(5));
+    assert_eq!(rt; all.go_on(1, 2)?.0, Said::Sent);
     assert_eq!(rt; all.names.woken.len(), 0);
-    assert_eq!(rt; all.parties.len(), 0);
+    assert!(rt; is_quiet(&all.parties));
     Ok(())
 }
 
 #[test]
 fn a_pending_receive_is_woken_after_the_push(rt: HostRuntime) -> Result<(), Fail> {
     let mut all = make_fixture(one_slot(rt.alloc())?, rt.alloc());
-    let reply = reply_of(all.begin(0, ChannelAsk::PollRecv(None, 7), 4)?);
-    assert!(rt; matches!(reply, Some(Reply::RecvPoll(Poll::Pending))));
-    assert!(rt; is_under_way(all.begin(1, ChannelAsk::TrySend(5), 3)?));
+    assert_eq!(rt;
+        all.begin(0, ChannelAsk::PollRecv(None, 7), 4)?.0,
+        Said::Pending
+    );
+    assert_eq!(rt; all.begin(1, ChannelAsk::TrySend(5), 3)?.0, Said::GoesOn);
     assert_eq!(rt; all.names.woken.len(), 0);
-    assert_eq!(rt; all.parties.len(), 1);
-    assert!(rt; is_under_way(all.go_on(1, 1)?));
+    assert_eq!(rt; under_way(&all.parties), 1);
+    assert_eq!(rt; all.go_on(1, 1)?.0, Said::GoesOn);
     assert_eq!(rt; all.names.woken.as_slice(), [7].as_slice());
-    let reply = reply_of(all.go_on(1, 1)?);
-    assert!(rt; matches!(reply, Some(Reply::TrySend(Ok(())))));
-    assert_eq!(rt; all.parties.len(), 0);
+    assert_eq!(rt; all.go_on(1, 1)?.0, Said::Sent);
+    assert!(rt; is_quiet(&all.parties));
     Ok(())
 }
 
 #[test]
 fn a_taking_wakes_the_send_that_still_waits(rt: HostRuntime) -> Result<(), Fail> {
     let mut all = make_fixture(one_slot(rt.alloc())?, rt.alloc());
-    let reply = reply_of(all.begin(0, ChannelAsk::TrySend(1), 5)?);
-    assert!(rt; matches!(reply, Some(Reply::TrySend(Ok(())))));
-    let first = key_of(all.begin(1, ChannelAsk::PollSend(2, None, 2), 4)?);
-    let second = key_of(all.begin(2, ChannelAsk::PollSend(3, None, 3), 4)?);
-    assert!(rt; first.is_some() && second.is_some());
-    assert!(rt; is_under_way(all.begin(3, ChannelAsk::TryRecv, 3)?));
-    let reply = reply_of(all.begin(1, ChannelAsk::GiveUp(Line::Sends, Some(2), first), 1)?);
-    assert!(rt; matches!(reply, Some(Reply::GivenUp(Some(2)))));
+    assert_eq!(rt; all.begin(0, ChannelAsk::TrySend(1), 5)?.0, Said::Sent);
+    let (first, first_key) = all.begin(1, ChannelAsk::PollSend(2, None, 2), 4)?;
+    let (second, second_key) = all.begin(2, ChannelAsk::PollSend(3, None, 3), 4)?;
+    assert_eq!(rt; first, Said::Pending);
+    assert_eq!(rt; second, Said::Pending);
+    assert_eq!(rt; all.begin(3, ChannelAsk::TryRecv, 3)?.0, Said::GoesOn);
+    assert_eq!(rt;
+        all.begin(1, ChannelAsk::GiveUp(Line::Sends, Some(2), first_key), 1)?
+            .0,
+        Said::GivenUp(Some(2))
+    );
     assert_eq!(rt; all.names.woken.len(), 0);
-    let reply = reply_of(all.go_on(3, 1)?);
-    assert!(rt; matches!(reply, Some(Reply::TryRecv(Ok(1)))));
+    assert_eq!(rt; all.go_on(3, 1)?.0, Said::Received(1));
     assert_eq!(rt; all.names.woken.as_slice(), [3].as_slice());
-    let reply = reply_of(all.begin(2, ChannelAsk::PollSend(3, second, 3), 6)?);
-    assert!(rt; matches!(reply, Some(Reply::SendPoll(Poll::Ready(Ok(()))))));
-    assert_eq!(rt; all.parties.len(), 0);
+    assert_eq!(rt;
+        all.begin(2, ChannelAsk::PollSend(3, second_key, 3), 6)?.0,
+        Said::Sent
+    );
+    assert!(rt; is_quiet(&all.parties));
     Ok(())
 }
 
@@ -234,22 +267,12 @@ fn a_poll_that_may_not_listen_is_not_pending(rt: HostRuntime) -> Result<(), Fail
         channel: one_slot(rt.alloc())?,
     };
     let mut all = make_fixture(cells, rt.alloc());
-    let entry = all.begin(0, ChannelAsk::PollRecv(None, 7), 2)?;
-    assert!(rt;
-        matches!(
-            &entry,
-            Some(Entry {
-                reply: Some(Reply::RecvPoll(Poll::Ready(Err(Refused::NoMemory(()))))),
-                ..
-            })
-        )
-    );
-    assert!(rt; key_of(entry).is_none());
-    let reply = reply_of(all.begin(1, ChannelAsk::TrySend(5), 5)?);
-    assert!(rt; matches!(reply, Some(Reply::TrySend(Ok(())))));
+    let (refused, key) = all.begin(0, ChannelAsk::PollRecv(None, 7), 2)?;
+    assert_eq!(rt; refused, Said::Refused);
+    assert!(rt; key.is_none());
+    assert_eq!(rt; all.begin(1, ChannelAsk::TrySend(5), 5)?.0, Said::Sent);
     assert_eq!(rt; all.names.woken.len(), 0);
-    let reply = reply_of(all.begin(2, ChannelAsk::TryRecv, 4)?);
-    assert!(rt; matches!(reply, Some(Reply::TryRecv(Ok(5)))));
+    assert_eq!(rt; all.begin(2, ChannelAsk::TryRecv, 4)?.0, Said::Received(5));
     Ok(())
 }
 
@@ -268,19 +291,13 @@ fn a_party_with_a_call_under_way_begins_no_other(rt: HostRuntime) -> Result<(), 
     let run = all.run(&mut list);
     assert_eq!(rt; run.trace.len(), 1);
     assert_eq!(rt; run.stopped, Some(Refusal::Busy));
-    assert!(rt;
-        matches!(
-            list.pop_front(),
-            Some(Step::Begin {
-                party: 0,
-                ask: ChannelAsk::TrySend(2)
-            })
-        )
-    );
-    assert_eq!(rt; all.parties.len(), 1);
-    let mut list = VecDeque::new(rt.alloc());
-    list.push_back(Step::Step { party: 9 })?;
-    assert_eq!(rt; all.run(&mut list).stopped, Some(Refusal::Idle));
+    assert_eq!(rt; list.len(), 1);
+    assert_eq!(rt; under_way(&all.parties), 1);
+    assert_eq!(rt; all.go_on(0, 5)?.0, Said::Sent);
+    list.clear();
+    list.push_back(Step::Step { party: 0 })?;
+    let run = all.run(&mut list);
+    assert_eq!(rt; run.stopped, Some(Refusal::Idle));
     assert_eq!(rt; list.len(), 1);
     Ok(())
 }
