@@ -1,4 +1,3 @@
-use Rattle.std.proofs.Common.{◌≡◌, Option, None, Some, true, false, [], refl, ◌∙◌, sym, ap}
 use Rattle.async_channel.proofs.Steps.{inserted, not_inserted}
 use Rattle.async_channel.proofs.step.insert.Goals as goal
 

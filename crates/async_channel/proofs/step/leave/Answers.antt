@@ -1,4 +1,4 @@
-use Rattle.std.proofs.Common.{◌≡◌, Option, None, Some, true, false, [], refl, ◌∙◌, sym, ap}
+use Rattle.std.proofs.Common.{[], refl}
 use Rattle.async_channel.proofs.Steps.{left_none, left_one}
 use Rattle.async_channel.proofs.step.leave.Goals as goal
 

@@ -1,4 +1,4 @@
-use Rattle.std.proofs.Common.{◌≡◌, Option, None, Some, true, false, [], refl, ◌∙◌, sym, ap}
+use Rattle.std.proofs.Common.{◌∙◌, ap}
 use Rattle.std.proofs.Common.{ℕ, ◌-◌}
 use Rattle.async_channel.specs.declared.stage.Work.TheVariants.{Lower}
 use Rattle.async_channel.specs.Marks.{down}

@@ -1,4 +1,4 @@
-use Rattle.std.proofs.Common.{◌≡◌, Option, None, Some, true, false, [], rules, refl, ◌∙◌, sym, ap}
+use Rattle.std.proofs.Common.{◌∙◌, sym}
 use Rattle.async_channel.proofs.Steps.{raised, not_raised}
 use Rattle.async_channel.proofs.step.raise.Goals as goal
 

@@ -1,4 +1,4 @@
-use Rattle.std.proofs.Common.{◌≡◌, Option, None, Some, true, false, [], refl, ◌∙◌, sym, ap}
+use Rattle.std.proofs.Common.{None, true, false, ◌∙◌, ap}
 use Rattle.async_channel.specs.Turns.{again}
 use Rattle.async_channel.proofs.Steps.{registered}
 use Rattle.async_channel.proofs.step.register.Goals as goal

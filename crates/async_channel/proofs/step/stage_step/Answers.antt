@@ -1,4 +1,4 @@
-use Rattle.std.proofs.Common.{◌≡◌, Option, None, Some, true, false, [], rules, refl, ◌∙◌, sym, ap}
+use Rattle.std.proofs.Common.{[], refl}
 use Rattle.async_channel.specs.declared.stage.Stage.TheVariants.{Trying, Working, Finished}
 use Rattle.async_channel.proofs.Steps.{rests, at_stage}
 use Rattle.async_channel.proofs.step.stage_step.Goals as goal

@@ -1,4 +1,4 @@
-use Rattle.std.proofs.Common.{◌≡◌, Option, None, Some, true, false, [], rules, refl, ◌∙◌, sym, ap}
+use Rattle.std.proofs.Common.{[], refl, ◌∙◌, ap}
 use Rattle.std.proofs.Common.{ℕ}
 use Rattle.async_channel.specs.declared.reply.Reply.TheVariants as reply
 use Rattle.async_channel.specs.declared.stage.Line.TheVariants.{Sends, Receives, Streams}

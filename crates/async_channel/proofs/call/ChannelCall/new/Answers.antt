@@ -1,4 +1,3 @@
-use Rattle.std.proofs.Common.{◌≡◌, ap, ◌∙◌}
 use Rattle.async_channel.proofs.Steps.{at_turn}
 use Rattle.async_channel.proofs.call.ChannelCall.new.Goals as goal
 

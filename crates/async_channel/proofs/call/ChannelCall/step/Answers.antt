@@ -1,4 +1,4 @@
-use Rattle.std.proofs.Common.{◌≡◌, Option, None, Some, true, false, [], rules, refl, ◌∙◌, sym, ap}
+use Rattle.std.proofs.Common.{◌≡◌, rules, sym}
 use Rattle.async_channel.proofs.Steps.{at_stage}
 use Rattle.async_channel.proofs.call.ChannelCall.step.Goals as goal
 
