@@ -1,11 +1,11 @@
 -- The queue answers, and what is known of the call after that.
-use Rattle.std.proofs.Common.{◌≡◌, ℕ, ◌+◌, ◌<◌, ◌≤◌, ◌==◌, Bool, true, false, List, [], ◌∷◌, ◌++◌, length, Option, None, Some, Ok, Err, IsSome, ◌⊎◌, ⊎_elim, inl, inr, refl, sym, ap, ◌∙◌, subst, arith}
+use Rattle.std.proofs.Common.{◌≡◌, ℕ, ◌+◌, ◌<◌, ◌≤◌, ◌==◌, true, false, List, [], ◌∷◌, ◌++◌, length, Option, None, Some, Ok, Err, ◌⊎◌, ⊎_elim, inl, inr, refl, sym, ap, ◌∙◌, subst, arith}
 use Rattle.concurrent_queue.specs.Queue.{trying, displaced, appended, taken, read, measured, is_filled, is_full_at, AnswersTo, AnswersPush, AnswersForce, AnswersPop, AnswersClose, AnswersShut, AnswersEmpty, AnswersFull, AnswersLen, AnswersCapacity}
 use Rattle.concurrent_queue.specs.Queue as queue
 use Rattle.concurrent_queue.specs.declared.call.QueueAsk.{QueueAsk}
 use Rattle.concurrent_queue.specs.declared.call.QueueAsk.TheVariants as ask
 use Rattle.concurrent_queue.specs.declared.call.QueueMark.{QueueMark}
-use Rattle.concurrent_queue.specs.declared.call.QueueMark.TheVariants.{Nothing, Append, Take, TakeDisplaced, Replace, Close}
+use Rattle.concurrent_queue.specs.declared.call.QueueMark.TheVariants.{Nothing, Close}
 use Rattle.concurrent_queue.specs.declared.call.QueueReply.{QueueReply}
 use Rattle.concurrent_queue.specs.declared.call.QueueReply.TheVariants.{Push, Force, Pop, Flag, Count, Cap}
 use Rattle.concurrent_queue.specs.declared.call.QueueReply.TheVariants as answer
@@ -20,12 +20,10 @@ use Rattle.async_channel.specs.Turns.{leaving, closer_ending}
 use Rattle.async_channel.specs.declared.ask.ChannelAsk.{ChannelAsk}
 use Rattle.async_channel.specs.declared.ask.ChannelAsk.TheVariants as channel
 use Rattle.async_channel.specs.declared.mark.Mark.{Mark}
-use Rattle.async_channel.specs.declared.mark.Mark.TheVariants as mark
 use Rattle.async_channel.specs.declared.error.Refused.TheVariants as refused
 use Rattle.async_channel.specs.declared.reply.Reply.TheVariants as reply
 use Rattle.async_channel.specs.declared.stage.Aim.{Aim}
 use Rattle.async_channel.specs.declared.stage.Aim.TheVariants as aim
-use Rattle.async_channel.specs.declared.stage.Closer.{Closer}
 use Rattle.async_channel.specs.declared.stage.Closer.TheVariants as closer
 use Rattle.async_channel.specs.declared.stage.Kept.{Kept}
 use Rattle.async_channel.specs.declared.stage.Line.TheVariants.{Sends, Receives, Streams, Closings}
@@ -33,12 +31,12 @@ use Rattle.async_channel.specs.declared.stage.Side.{Side}
 use Rattle.async_channel.specs.declared.stage.Side.TheVariants.{Senders, Receivers}
 use Rattle.async_channel.specs.declared.stage.Turn.{Turn}
 use Rattle.futures.specs.declared.task.Poll.TheVariants.{Ready}
-use Rattle.channel_steps.specs.Moments.{Deed, with_deed, Open, Shut, HasRoom, HasMessage, is_empty, Once, Appended, Took, Replaced, MadeRoom, Displaced, LeftLast, OnceBehind}
+use Rattle.channel_steps.specs.Moments.{Deed, with_deed, Open, Shut, HasRoom, HasMessage, is_empty, Once, Appended, Took, Replaced, Displaced, LeftLast}
 use Rattle.channel_steps.specs.Known.{TriesFor, TryAt, all_from}
 use Rattle.channel_steps.specs.Scene.{IsBalanced}
 use Rattle.channel_steps.specs.Tellings.{Telling, one_of, all_of, owed_for, owed}
-use Rattle.channel_steps.proofs.TryFacts.{eq_of, ne_of, stuck_seen, next_channel}
-use Rattle.channel_steps.proofs.TurnFacts.{TurnAt, met, owes_nothing, ended}
+use Rattle.channel_steps.proofs.TryFacts.{ne_of, stuck_seen, next_channel}
+use Rattle.channel_steps.proofs.TurnFacts.{TurnAt, owes_nothing, ended}
 
 -- what a message owes
 abbrev pub news : List Telling

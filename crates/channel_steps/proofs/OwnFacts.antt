@@ -1,5 +1,5 @@
 -- A step of a call: what is known of it after, whom it wakes, and what it takes and brings.
-use Rattle.std.proofs.Common.{◌≡◌, map, ℕ, ◌+◌, ◌<◌, ◌≤◌, Bool, true, false, if◌then◌else◌, List, [], ◌∷◌, ◌++◌, take, drop, length, Option, None, Some, ◌⊎◌, inl, inr, refl, sym, ap, ◌∙◌, subst, arith, append-nil, append_assoc}
+use Rattle.std.proofs.Common.{◌≡◌, map, ℕ, ◌+◌, ◌<◌, ◌≤◌, Bool, true, false, if◌then◌else◌, List, [], ◌∷◌, ◌++◌, take, drop, Option, None, Some, ◌⊎◌, inl, inr, refl, sym, ap, ◌∙◌, subst, arith, append-nil, append_assoc}
 use Rattle.concurrent_queue.specs.Queue.{Queue, Phase, trying, displaced, appended, taken, read, measured, after, message, Goes, GoesOn, Answers}
 use Rattle.concurrent_queue.specs.Queue as queue
 use Rattle.concurrent_queue.specs.declared.call.QueueAsk.{QueueAsk}
@@ -7,12 +7,11 @@ use Rattle.concurrent_queue.specs.declared.call.QueueAsk.TheVariants as ask
 use Rattle.concurrent_queue.specs.declared.call.QueueMark.{QueueMark}
 use Rattle.concurrent_queue.specs.declared.call.QueueMark.TheVariants as queue_mark
 use Rattle.concurrent_queue.specs.declared.call.QueueReply.{QueueReply}
-use Rattle.event_listener.specs.Lists.{removed_wakes}
 use Rattle.async_channel.specs.Answered.{answered_next}
 use Rattle.async_channel.specs.Asks.{first}
 use Rattle.async_channel.specs.Marks.{mark_of_queue, up, down}
-use Rattle.async_channel.specs.Moves.{Channel, Effect, queued, untouched, on_count, leaves, Turned, Tried, Worked, Moves}
-use Rattle.async_channel.specs.Parts.{is_raised, listeners, told_one_wakes, told_all_wakes}
+use Rattle.async_channel.specs.Moves.{Channel, Effect, untouched, on_count, leaves, Turned, Tried, Worked, Moves}
+use Rattle.async_channel.specs.Parts.{is_raised}
 use Rattle.async_channel.specs.declared.ask.ChannelAsk.{ChannelAsk}
 use Rattle.async_channel.specs.declared.ask.ChannelAsk.TheVariants as channel
 use Rattle.async_channel.specs.declared.mark.Mark.{Mark}
@@ -33,7 +32,7 @@ use Rattle.async_channel.specs.declared.stage.Turn.TheVariants.{Tries, Works, En
 use Rattle.async_channel.specs.declared.stage.Work.{Work}
 use Rattle.async_channel.specs.declared.stage.Work.TheVariants.{TellReceive, TellStreams, TellSend, TellAll, Insert, Register, Leave, Lower, Count, Load, Raise}
 use Rattle.channel_steps.specs.Moments.{Deed, with_deed}
-use Rattle.channel_steps.specs.Known.{TriesFor, TryAt, WorkAt, StageAt, ToldAt, IsQuick, steps_left, left_to_try}
+use Rattle.channel_steps.specs.Known.{TriesFor, TryAt, StageAt, ToldAt, IsQuick, steps_left}
 use Rattle.channel_steps.specs.Run.{begun}
 use Rattle.channel_steps.specs.Scene.{Under, sees, does, Finishes, EndsInTime, brought, gone_by, came_by, Known, AllKnown, IsBalanced}
 use Rattle.channel_steps.specs.Tellings.{Telling, telling, dropping, Names}

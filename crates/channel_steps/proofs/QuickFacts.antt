@@ -1,5 +1,5 @@
 -- Quick calls end within eight steps.
-use Rattle.std.proofs.Common.{◌≡◌, ℕ, ◌+◌, ◌<◌, ◌≤◌, ◌==◌, Bool, true, false, if◌then◌else◌, List, Option, None, Some, ◌⊎◌, inl, inr, refl, sym, ap, ◌∙◌, subst, arith}
+use Rattle.std.proofs.Common.{◌≡◌, ℕ, ◌<◌, ◌≤◌, ◌==◌, Bool, true, false, if◌then◌else◌, List, Option, None, Some, ◌⊎◌, inl, inr, refl, sym, ap, subst, arith}
 use Rattle.concurrent_queue.specs.Queue.{Phase, trying, displaced, appended, taken, read, measured, GoesOn, AnswersTo}
 use Rattle.concurrent_queue.specs.Queue as queue
 use Rattle.concurrent_queue.specs.declared.call.QueueAsk.{QueueAsk}
@@ -25,14 +25,12 @@ use Rattle.async_channel.specs.declared.stage.Held.{Held}
 use Rattle.async_channel.specs.declared.stage.Line.{Line}
 use Rattle.async_channel.specs.declared.stage.Line.TheVariants.{Sends, Receives, Streams, Closings}
 use Rattle.async_channel.specs.declared.stage.Making.{Making}
-use Rattle.async_channel.specs.declared.stage.Making.TheVariants as making
 use Rattle.async_channel.specs.declared.stage.Side.{Side}
 use Rattle.async_channel.specs.declared.stage.Stage.{Stage}
 use Rattle.async_channel.specs.declared.stage.Stage.TheVariants.{Trying, Working, Finished}
 use Rattle.async_channel.specs.declared.stage.Turn.{Turn}
 use Rattle.async_channel.specs.declared.stage.Turn.TheVariants.{Tries, Works, Ends}
 use Rattle.async_channel.specs.declared.stage.Waiting.{Waiting}
-use Rattle.async_channel.specs.declared.stage.Waiting.TheVariants as waiting
 use Rattle.async_channel.specs.declared.stage.Work.{Work}
 use Rattle.async_channel.specs.declared.stage.Work.TheVariants.{TellReceive, TellStreams, TellSend, TellAll, Insert, Register, Leave, Lower, Count, Load, Raise}
 use Rattle.channel_steps.specs.Moments.{Deed}

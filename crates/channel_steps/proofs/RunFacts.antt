@@ -1,17 +1,16 @@
 -- Beginning a call, and runs.
-use Rattle.std.proofs.Common.{◌≡◌, ℕ, suc, List, [], ◌∷◌, ◌++◌, length, Option, None, refl, sym, ap, ◌∙◌, subst, append-nil, append_assoc, arith, inl, inr}
+use Rattle.std.proofs.Common.{◌≡◌, ℕ, suc, List, [], ◌∷◌, ◌++◌, length, Option, None, refl, sym, ap, ◌∙◌, subst, append-nil, append_assoc, arith}
 use Rattle.concurrent_queue.specs.Queue.{Queue, Phase, asked}
 use Rattle.concurrent_queue.specs.Step.{Seat, Fits}
 use Rattle.concurrent_queue.specs.declared.queue_call.QueueCall.{QueueCall}
 use Rattle.event_listener.specs.Notices.{Woken}
 use Rattle.async_channel.specs.Parts.{Parts}
 use Rattle.async_channel.specs.Asks.{first}
-use Rattle.async_channel.specs.Moves.{Channel, seats, phase, Turned, IsTaken, IsNewCall, OnePlace}
+use Rattle.async_channel.specs.Moves.{Channel, seats, phase, Turned, IsTaken, IsNewCall}
 use Rattle.async_channel.specs.declared.ask.ChannelAsk.{ChannelAsk}
 use Rattle.async_channel.specs.declared.call.ChannelCall.{ChannelCall}
 use Rattle.async_channel.specs.declared.mark.Mark.TheVariants.{Nothing}
 use Rattle.async_channel.specs.declared.reply.Reply.{Reply}
-use Rattle.async_channel.specs.declared.stage.Line.TheVariants as line
 use Rattle.async_channel.specs.declared.stage.Stage.{Stage}
 use Rattle.async_channel.specs.declared.stage.Turn.{Turn}
 use Rattle.async_channel.specs.declared.stage.Turn.TheVariants.{Tries, Works, Ends}

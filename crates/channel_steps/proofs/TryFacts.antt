@@ -1,5 +1,5 @@
 -- A step of the queue's call that goes on, and what is known of the channel's call after it.
-use Rattle.std.proofs.Common.{◌≡◌, ℕ, zero, suc, ◌+◌, ◌<◌, ◌≤◌, ◌==◌, Bool, true, false, if◌then◌else◌, List, [], ◌∷◌, ◌++◌, length, drop, take, Option, None, Some, Ok, Err, ◌⊎◌, ⊎_elim, inl, inr, refl, sym, ap, ◌∙◌, subst, arith, length-append}
+use Rattle.std.proofs.Common.{◌≡◌, ℕ, zero, suc, ◌+◌, ◌≤◌, ◌==◌, Bool, true, false, if◌then◌else◌, List, [], ◌∷◌, ◌++◌, length, drop, None, Some, ◌⊎◌, ⊎_elim, inl, inr, refl, sym, ap, ◌∙◌, subst, arith, length-append}
 use Rattle.std.proofs.lemmas.Bool.Decides.{nat_tests}
 use Rattle.concurrent_queue.specs.Queue.{Queue, trying, displaced, appended, taken, read, measured, is_filled, is_full_at, IsOpen, IsOldest, message, marked, is_displaced, seen_after, GoesPush, GoesForce, GoesPop, GoesOn, AnswersTo}
 use Rattle.concurrent_queue.specs.Queue as queue
@@ -18,7 +18,7 @@ use Rattle.async_channel.specs.declared.stage.Closer.TheVariants as closer
 use Rattle.async_channel.specs.declared.stage.Line.TheVariants.{Sends, Receives, Streams, Closings}
 use Rattle.async_channel.specs.declared.stage.Side.{Side}
 use Rattle.async_channel.specs.declared.stage.Side.TheVariants.{Senders, Receivers}
-use Rattle.channel_steps.specs.Moments.{Deed, with_deed, Open, Shut, HasRoom, Crowded, HasMessage, is_empty, Once, Appended, MadeRoom, Displaced, LeftLast}
+use Rattle.channel_steps.specs.Moments.{Deed, with_deed, Open, HasRoom, Crowded, HasMessage, Once, MadeRoom, Displaced, LeftLast}
 use Rattle.channel_steps.specs.Known.{TriesFor, TryAt}
 use Rattle.channel_steps.specs.Scene.{IsBalanced}
 

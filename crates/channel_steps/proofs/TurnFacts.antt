@@ -1,7 +1,6 @@
 -- What is known of a call once it has taken its turn.
-use Rattle.std.proofs.Common.{◌≡◌, ℕ, ◌+◌, ◌<◌, ◌≤◌, ◌==◌, Bool, true, false, if◌then◌else◌, List, [], ◌∷◌, ◌++◌, length, Option, None, Some, IsSome, ◌⊎◌, inl, inr, refl, sym, ap, ◌∙◌, subst, append-nil}
-use Rattle.concurrent_queue.specs.Queue.{Phase, trying, asked}
-use Rattle.async_channel.specs.Asks.{first}
+use Rattle.std.proofs.Common.{◌≡◌, true, false, List, [], ◌∷◌, ◌++◌, Option, None, Some, refl, sym, ap, ◌∙◌, subst, append-nil}
+use Rattle.concurrent_queue.specs.Queue.{Phase, trying}
 use Rattle.async_channel.specs.Moves.{Channel, Turned}
 use Rattle.async_channel.specs.Turns.{leaving, ends_by, again}
 use Rattle.async_channel.specs.declared.ask.ChannelAsk.{ChannelAsk}
@@ -11,7 +10,7 @@ use Rattle.async_channel.specs.declared.stage.Ending.{Ending}
 use Rattle.async_channel.specs.declared.stage.Held.{Held}
 use Rattle.async_channel.specs.declared.stage.Kept.{Kept}
 use Rattle.async_channel.specs.declared.stage.Stage.{Stage}
-use Rattle.async_channel.specs.declared.stage.Stage.TheVariants.{Trying, Working, Finished}
+use Rattle.async_channel.specs.declared.stage.Stage.TheVariants.{Finished}
 use Rattle.async_channel.specs.declared.stage.Turn.{Turn}
 use Rattle.async_channel.specs.declared.stage.Turn.TheVariants.{Tries, Works, Ends}
 use Rattle.async_channel.specs.declared.stage.Waiting.{Waiting}

@@ -1,5 +1,5 @@
 -- A step on a list or on a count, and what is known of the call after it.
-use Rattle.std.proofs.Common.{◌≡◌, ℕ, ◌+◌, ◌<◌, ◌≤◌, ◌==◌, ◌&&◌, nat_lt, ◌^◌, ◌-◌, Bool, true, false, if◌then◌else◌, List, [], ◌∷◌, ◌++◌, Option, None, Some, Ok, Err, IsSome, ◌⊎◌, inl, inr, refl, sym, ap, ◌∙◌, subst, arith, append-nil, append_assoc}
+use Rattle.std.proofs.Common.{◌≡◌, ℕ, ◌+◌, ◌<◌, ◌≤◌, ◌==◌, ◌&&◌, nat_lt, ◌^◌, ◌-◌, Bool, true, false, if◌then◌else◌, List, [], ◌∷◌, ◌++◌, Option, None, Some, inl, inr, refl, sym, ap, ◌∙◌, subst, arith, append-nil, append_assoc}
 use Rattle.std.proofs.lemmas.Bool.Decides.{nat_tests}
 use Rattle.concurrent_queue.specs.Queue.{Phase}
 use Rattle.concurrent_queue.specs.declared.call.QueueAsk.TheVariants as ask
@@ -9,7 +9,7 @@ use Rattle.event_listener.specs.declared.error.ListenError.TheVariants as listen
 use Rattle.async_channel.specs.Marks.{up, down}
 use Rattle.async_channel.specs.Moves.{Channel, Effect, untouched, on_count, leaves, Turned, Worked}
 use Rattle.async_channel.specs.Parts.{Roster, listeners, count, is_raised, waits}
-use Rattle.async_channel.specs.Turns.{most, line_of, message_of, leaving, nothing_kept, closer_ending, dropper, ends_by, again, pends_by, unlistened, told_all_next, lowered_next, counted_next, loaded_next, raised_next}
+use Rattle.async_channel.specs.Turns.{most, line_of, leaving, nothing_kept, closer_ending, dropper, ends_by, again, pends_by, unlistened, told_all_next, lowered_next, counted_next, loaded_next, raised_next}
 use Rattle.async_channel.specs.declared.ask.ChannelAsk.{ChannelAsk}
 use Rattle.async_channel.specs.declared.ask.ChannelAsk.TheVariants as channel
 use Rattle.async_channel.specs.declared.mark.Mark.{Mark}
@@ -28,15 +28,15 @@ use Rattle.async_channel.specs.declared.stage.Making.TheVariants as making
 use Rattle.async_channel.specs.declared.stage.Side.{Side}
 use Rattle.async_channel.specs.declared.stage.Side.TheVariants.{Senders, Receivers}
 use Rattle.async_channel.specs.declared.stage.Stage.{Stage}
-use Rattle.async_channel.specs.declared.stage.Stage.TheVariants.{Trying, Working, Finished}
+use Rattle.async_channel.specs.declared.stage.Stage.TheVariants.{Working}
 use Rattle.async_channel.specs.declared.stage.Turn.{Turn}
 use Rattle.async_channel.specs.declared.stage.Turn.TheVariants.{Tries, Works, Ends}
 use Rattle.async_channel.specs.declared.stage.Waiting.{Waiting}
 use Rattle.async_channel.specs.declared.stage.Waiting.TheVariants as waiting
 use Rattle.async_channel.specs.declared.stage.Work.{Work}
 use Rattle.async_channel.specs.declared.stage.Work.TheVariants.{TellReceive, TellStreams, TellSend, TellAll, Insert, Register, Leave, Lower, Count, Load, Raise}
-use Rattle.channel_steps.specs.Moments.{Deed, with_deed, Open, Shut, TooManyOf, Once, Dropped}
-use Rattle.channel_steps.specs.Answers.{WaitsFor, Keeps, Met}
+use Rattle.channel_steps.specs.Moments.{Deed, with_deed, Open, Once}
+use Rattle.channel_steps.specs.Answers.{WaitsFor}
 use Rattle.channel_steps.specs.Known.{IsFor, Makes, Drops, MayRaise, Answered, WorkAt, to_tell}
 use Rattle.channel_steps.specs.Tellings.{Telling, one_of, all_of, owed, telling}
 use Rattle.channel_steps.proofs.TryFacts.{eq_of}

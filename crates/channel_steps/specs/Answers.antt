@@ -1,8 +1,7 @@
 -- What each reply of a call says of the call's marks and moments, and what a call leaves to its operation.
-use Rattle.std.specs.Prelude.{◌≡◌, ℕ, ◌++◌, Bool, true, false, List, [], ◌∷◌, length, Option, None, Some, IsSome, Ok, Err, ◌⊎◌}
+use Rattle.std.specs.Prelude.{◌≡◌, ℕ, ◌++◌, Bool, true, false, List, [], length, Option, None, Some, IsSome, Ok, Err, ◌⊎◌}
 use Rattle.concurrent_queue.specs.Queue.{is_filled}
 use Rattle.event_listener.specs.declared.error.ListenError.TheVariants as listen_error
-use Rattle.event_listener.specs.declared.key.Key.{Key}
 use Rattle.futures.specs.declared.task.Poll.TheVariants.{Ready, Pending}
 use Rattle.async_channel.specs.Moves.{Channel}
 use Rattle.async_channel.specs.Parts.{count}

@@ -1,5 +1,5 @@
 -- The moments and the marks of one call.
-use Rattle.std.specs.Prelude.{◌≡◌, ℕ, ◌<◌, ◌≤◌, ◌==◌, Bool, true, false, List, [], ◌∷◌, ◌++◌, length, None, ◌⊎◌}
+use Rattle.std.specs.Prelude.{◌≡◌, ◌<◌, ◌≤◌, ◌==◌, Bool, true, false, List, [], ◌∷◌, ◌++◌, length, None, ◌⊎◌}
 use Rattle.concurrent_queue.specs.Queue.{is_filled, IsOpen, IsShut, IsDrained, IsOldest}
 use Rattle.async_channel.specs.Marks.{up, down}
 use Rattle.async_channel.specs.Moves.{Channel}

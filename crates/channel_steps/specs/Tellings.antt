@@ -10,8 +10,7 @@ use Rattle.async_channel.specs.declared.stage.Held.{Held}
 use Rattle.async_channel.specs.declared.stage.Line.{Line}
 use Rattle.async_channel.specs.declared.stage.Line.TheVariants.{Sends, Receives, Streams, Closings}
 use Rattle.async_channel.specs.declared.stage.Stage.{Stage}
-use Rattle.async_channel.specs.declared.stage.Stage.TheVariants.{Trying, Working, Finished}
-use Rattle.async_channel.specs.declared.stage.Work.{Work}
+use Rattle.async_channel.specs.declared.stage.Stage.TheVariants.{Working}
 use Rattle.async_channel.specs.declared.stage.Work.TheVariants.{TellReceive, TellStreams, TellSend, TellAll, Leave}
 use Rattle.channel_steps.specs.Moments.{Deed}
 

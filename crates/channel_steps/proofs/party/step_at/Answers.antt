@@ -1,4 +1,4 @@
-use Rattle.std.proofs.Common.{◌≡◌, rules, arith, refl, ap, Option, Some}
+use Rattle.std.proofs.Common.{◌≡◌, rules, arith, refl, ap, Some}
 use Rattle.std.proofs.lemmas.Option.{slice_get_read}
 use Rattle.async_channel.specs.declared.stage.Kept.{Kept}
 use Rattle.channel_steps.specs.declared.party.Party.{Party}
