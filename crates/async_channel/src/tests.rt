@@ -44,25 +44,94 @@ fn make_fixture(rt: &impl AllocGlobal) -> Result<Fixture, Fail> {
     })
 }
 
+/// What a call says, in short.
+#[derive(Clone, Copy, PartialEq, Eq, Debug)]
+enum Said {
+    /// It goes on.
+    GoesOn,
+    /// The message was sent.
+    Sent,
+    /// The message was sent, and this one was displaced.
+    Displaced(Option<u64>),
+    /// This message was received.
+    Received(u64),
+    /// The poll is pending.
+    Pending,
+    /// The channel is closed, as one that waited for it is told.
+    Ready,
+    /// This message came to a closed channel.
+    Closed(u64),
+    /// The operation was given up, and handed this back.
+    GivenUp(Option<u64>),
+    /// Memory was refused.
+    Refused,
+    /// A handle was made.
+    Made,
+    /// None was made.
+    NotMade,
+    /// So many.
+    Count(usize),
+    /// Whether it is so.
+    Flag(bool),
+    /// It is done.
+    Done,
+    /// Something else.
+    Else,
+}
+
+fn poll_says(reply: Reply<u64>) -> Said {
+    match reply {
+        Reply::SendPoll(Poll::Ready(Ok(()))) => Said::Sent,
+        Reply::SendPoll(Poll::Pending) => Said::Pending,
+        Reply::RecvPoll(Poll::Ready(Ok(message))) => Said::Received(message),
+        Reply::RecvPoll(Poll::Ready(Err(Refused::NoMemory(())))) => Said::Refused,
+        Reply::RecvPoll(Poll::Pending) => Said::Pending,
+        Reply::ClosedPoll(Poll::Ready(Ok(()))) => Said::Ready,
+        Reply::ClosedPoll(Poll::Pending) => Said::Pending,
+        Reply::Next(Poll::Ready(Some(Ok(message)))) => Said::Received(message),
+        Reply::Next(Poll::Pending) => Said::Pending,
+        _ => Said::Else,
+    }
+}
+
+fn reply_says(reply: Reply<u64>) -> Said {
+    match reply {
+        Reply::TrySend(Ok(())) => Said::Sent,
+        Reply::TrySend(Err(Refused::Plain(TrySendError::Closed(message)))) => Said::Closed(message),
+        Reply::ForceSend(Ok(displaced)) => Said::Displaced(displaced),
+        Reply::TryRecv(Ok(message)) => Said::Received(message),
+        Reply::GivenUp(message) => Said::GivenUp(message),
+        Reply::Made => Said::Made,
+        Reply::NotMade => Said::NotMade,
+        Reply::Count(count) => Said::Count(count),
+        Reply::Flag(flag) => Said::Flag(flag),
+        Reply::Unit => Said::Done,
+        reply => poll_says(reply),
+    }
+}
+
 impl Fixture {
-    /// So many steps of a call, and the reply of the last one.
-    fn steps(&mut self, call: &mut ChannelCall<u64, u32>, number: usize) -> Option<Reply<u64>> {
-        let mut last = None;
+    /// So many steps of a call, and what the last one says.
+    fn steps(&mut self, call: &mut ChannelCall<u64, u32>, number: usize) -> Said {
+        let mut last = Said::GoesOn;
         for _ in 0..number {
-            last = call.step(&mut self.channel, &mut self.names);
+            last = match call.step(&mut self.channel, &mut self.names) {
+                Some(reply) => reply_says(reply),
+                None => Said::GoesOn,
+            };
         }
         last
     }
 
     /// A call from its beginning to its end, with what it leaves to its operation.
-    fn run(&mut self, ask: ChannelAsk<u64, u32>) -> (Option<Reply<u64>>, Kept<u64>) {
+    fn run(&mut self, ask: ChannelAsk<u64, u32>) -> (Said, Kept<u64>) {
         let mut call = ChannelCall::new(ask);
         for _ in 0..64 {
             if let Some(reply) = call.step(&mut self.channel, &mut self.names) {
-                return (Some(reply), call.into_kept());
+                return (reply_says(reply), call.into_kept());
             }
         }
-        (None, call.into_kept())
+        (Said::GoesOn, call.into_kept())
     }
 }
 
@@ -134,13 +203,11 @@ fn errors_have_their_texts(rt: HostRuntime) -> Result<(), Fail> {
 fn a_message_that_comes_between_two_tries_is_taken(rt: HostRuntime) -> Result<(), Fail> {
     let mut all = make_fixture(&rt)?;
     let mut receive = ChannelCall::new(ChannelAsk::PollRecv(None, 1));
-    assert!(rt; all.steps(&mut receive, 2).is_none());
+    assert_eq!(rt; all.steps(&mut receive, 2), Said::GoesOn);
     let mut send = ChannelCall::new(ChannelAsk::TrySend(5));
-    assert!(rt; all.steps(&mut send, 3).is_none());
-    let reply = all.steps(&mut receive, 5);
-    assert!(rt; matches!(reply, Some(Reply::RecvPoll(Poll::Ready(Ok(5))))));
-    let reply = all.steps(&mut send, 2);
-    assert!(rt; matches!(reply, Some(Reply::TrySend(Ok(())))));
+    assert_eq!(rt; all.steps(&mut send, 3), Said::GoesOn);
+    assert_eq!(rt; all.steps(&mut receive, 5), Said::Received(5));
+    assert_eq!(rt; all.steps(&mut send, 2), Said::Sent);
     assert_eq!(rt; all.names.woken.len(), 0);
     Ok(())
 }
@@ -149,38 +216,33 @@ fn a_message_that_comes_between_two_tries_is_taken(rt: HostRuntime) -> Result<()
 fn a_pending_receive_is_woken_by_the_section_after_the_push(rt: HostRuntime) -> Result<(), Fail> {
     let mut all = make_fixture(&rt)?;
     let mut receive = ChannelCall::new(ChannelAsk::PollRecv(None, 1));
-    let reply = all.steps(&mut receive, 4);
-    assert!(rt; matches!(reply, Some(Reply::RecvPoll(Poll::Pending))));
+    assert_eq!(rt; all.steps(&mut receive, 4), Said::Pending);
     let mut send = ChannelCall::new(ChannelAsk::TrySend(5));
-    assert!(rt; all.steps(&mut send, 3).is_none());
+    assert_eq!(rt; all.steps(&mut send, 3), Said::GoesOn);
     assert_eq!(rt; all.names.woken.len(), 0);
-    assert!(rt; all.steps(&mut send, 1).is_none());
+    assert_eq!(rt; all.steps(&mut send, 1), Said::GoesOn);
     assert_eq!(rt; all.names.woken.as_slice(), [1].as_slice());
-    let reply = all.steps(&mut send, 1);
-    assert!(rt; matches!(reply, Some(Reply::TrySend(Ok(())))));
+    assert_eq!(rt; all.steps(&mut send, 1), Said::Sent);
     Ok(())
 }
 
 #[test]
 fn a_taking_wakes_the_send_that_still_waits(rt: HostRuntime) -> Result<(), Fail> {
     let mut all = make_fixture(&rt)?;
-    let (reply, _) = all.run(ChannelAsk::TrySend(1));
-    assert!(rt; matches!(reply, Some(Reply::TrySend(Ok(())))));
-    let (reply, first) = all.run(ChannelAsk::PollSend(2, None, 2));
-    assert!(rt; matches!(reply, Some(Reply::SendPoll(Poll::Pending))));
+    assert_eq!(rt; all.run(ChannelAsk::TrySend(1)).0, Said::Sent);
+    let (said, first) = all.run(ChannelAsk::PollSend(2, None, 2));
+    assert_eq!(rt; said, Said::Pending);
     assert_eq!(rt; first.message, Some(2));
     let (_, second) = all.run(ChannelAsk::PollSend(3, None, 3));
     let mut receive = ChannelCall::new(ChannelAsk::TryRecv);
-    assert!(rt; all.steps(&mut receive, 3).is_none());
-    let (reply, _) = all.run(ChannelAsk::GiveUp(Line::Sends, first.message, first.key));
-    assert!(rt; matches!(reply, Some(Reply::GivenUp(Some(2)))));
+    assert_eq!(rt; all.steps(&mut receive, 3), Said::GoesOn);
+    let (said, _) = all.run(ChannelAsk::GiveUp(Line::Sends, first.message, first.key));
+    assert_eq!(rt; said, Said::GivenUp(Some(2)));
     assert_eq!(rt; all.names.woken.len(), 0);
-    let reply = all.steps(&mut receive, 1);
-    assert!(rt; matches!(reply, Some(Reply::TryRecv(Ok(1)))));
+    assert_eq!(rt; all.steps(&mut receive, 1), Said::Received(1));
     assert_eq!(rt; all.names.woken.as_slice(), [3].as_slice());
     let mut send = ChannelCall::new(ChannelAsk::PollSend(3, second.key, 3));
-    let reply = all.steps(&mut send, 6);
-    assert!(rt; matches!(reply, Some(Reply::SendPoll(Poll::Ready(Ok(()))))));
+    assert_eq!(rt; all.steps(&mut send, 6), Said::Sent);
     Ok(())
 }
 
@@ -192,41 +254,36 @@ fn a_refused_poll_passes_on_and_the_last_sender_closes(rt: HostRuntime) -> Resul
     let (_, stream) = all.run(ChannelAsk::PollNext(None, 3));
     let (_, closing) = all.run(ChannelAsk::PollClosed(None, 4));
     assert!(rt; second.key.is_some() && stream.key.is_some() && closing.key.is_some());
-    let (reply, _) = all.run(ChannelAsk::ForceSend(7));
-    assert!(rt; matches!(reply, Some(Reply::ForceSend(Ok(None)))));
+    assert_eq!(rt; all.run(ChannelAsk::ForceSend(7)).0, Said::Displaced(None));
     assert_eq!(rt; all.names.woken.as_slice(), [1, 3].as_slice());
-    let (reply, kept) = all.run(ChannelAsk::RefusePoll(Line::Receives, None, first.key));
-    assert!(rt;
-        matches!(
-            reply,
-            Some(Reply::RecvPoll(Poll::Ready(Err(Refused::NoMemory(())))))
-        )
-    );
+    let (said, kept) = all.run(ChannelAsk::RefusePoll(Line::Receives, None, first.key));
+    assert_eq!(rt; said, Said::Refused);
     assert!(rt; kept.key.is_none());
     assert_eq!(rt; all.names.woken.as_slice(), [1, 3, 2].as_slice());
-    let (reply, _) = all.run(ChannelAsk::CloneHandle(Side::Receivers));
-    assert!(rt; matches!(reply, Some(Reply::Made)));
-    let (reply, _) = all.run(ChannelAsk::HandleCount(Side::Receivers));
-    assert!(rt; matches!(reply, Some(Reply::Count(2))));
-    let (reply, _) = all.run(ChannelAsk::DropSender);
-    assert!(rt; matches!(reply, Some(Reply::Unit)));
-    assert_eq!(rt; all.names.woken.as_slice(), [1, 3, 2, 4].as_slice());
-    let (reply, _) = all.run(ChannelAsk::Upgrade(Side::Receivers));
-    assert!(rt; matches!(reply, Some(Reply::NotMade)));
-    let (reply, _) = all.run(ChannelAsk::IsTerminated);
-    assert!(rt; matches!(reply, Some(Reply::Flag(false))));
-    let (reply, _) = all.run(ChannelAsk::PollNext(stream.key, 3));
-    assert!(rt; matches!(reply, Some(Reply::Next(Poll::Ready(Some(Ok(7)))))));
-    let (reply, _) = all.run(ChannelAsk::IsTerminated);
-    assert!(rt; matches!(reply, Some(Reply::Flag(true))));
-    let (reply, _) = all.run(ChannelAsk::TrySend(8));
-    assert!(rt;
-        matches!(
-            reply,
-            Some(Reply::TrySend(Err(Refused::Plain(TrySendError::Closed(8)))))
-        )
+    assert_eq!(rt;
+        all.run(ChannelAsk::CloneHandle(Side::Receivers)).0,
+        Said::Made
     );
-    let (reply, _) = all.run(ChannelAsk::PollClosed(closing.key, 4));
-    assert!(rt; matches!(reply, Some(Reply::ClosedPoll(Poll::Ready(Ok(()))))));
+    assert_eq!(rt;
+        all.run(ChannelAsk::HandleCount(Side::Receivers)).0,
+        Said::Count(2)
+    );
+    assert_eq!(rt; all.run(ChannelAsk::DropSender).0, Said::Done);
+    assert_eq!(rt; all.names.woken.as_slice(), [1, 3, 2, 4].as_slice());
+    assert_eq!(rt;
+        all.run(ChannelAsk::Upgrade(Side::Receivers)).0,
+        Said::NotMade
+    );
+    assert_eq!(rt; all.run(ChannelAsk::IsTerminated).0, Said::Flag(false));
+    assert_eq!(rt;
+        all.run(ChannelAsk::PollNext(stream.key, 3)).0,
+        Said::Received(7)
+    );
+    assert_eq!(rt; all.run(ChannelAsk::IsTerminated).0, Said::Flag(true));
+    assert_eq!(rt; all.run(ChannelAsk::TrySend(8)).0, Said::Closed(8));
+    assert_eq!(rt;
+        all.run(ChannelAsk::PollClosed(closing.key, 4)).0,
+        Said::Ready
+    );
     Ok(())
 }
