@@ -189,6 +189,12 @@ module _ {T W : Type 0} where
         let h' = subst (λ (xs : List T). PollsFor xs w got closed key task d p) (ap (λ (q : Queue T). q.items) e ∙ empty) h in
         given_else d.queue.closed _ _ (ap (λ (q : Queue T). q.closed) e ∙ opened) h'
 
+    abbrev ForReceive : Option Key → W → List T → Type 0
+    ForReceive key task xs = PollsFor xs waiting.Receive (λ m. reply.RecvPoll (poll.Ready (Ok m))) (reply.RecvPoll (poll.Ready (Err (refused.Plain (record {}))))) key task c o
+
+    abbrev ForStream : Option Key → W → List T → Type 0
+    ForStream key task xs = PollsFor xs waiting.Stream (λ m. reply.Next (poll.Ready (Some (Ok m)))) (reply.Next (poll.Ready None)) key task c o
+
     module _ (key : Option Key) (task : W) where
       fresh_on : (line : Line) (k : Key) → kind_of (listeners line c.roster) k ≡ None → waits k (listeners line (listens line k c).channel.roster) ≡ true
       fresh_on line k none =
@@ -208,21 +214,21 @@ module _ {T W : Type 0} where
       send_rest m y q' g k = absurd g
 
       receive_rest : (y : QueueReply T) (q' : Queue T) → Gives ask.Pop (view c.queue) (view q') y → RestTurn (receive_next y key task) (now_is c (left_by ask.Pop y c.queue)) o → RestTry ask.Pop (aim.Poll Receives key task) c o
-      receive_rest (answer.Pop (Ok m)) q' g k = subst (λ (xs : List T). PollsFor xs waiting.Receive _ _ key task c o) (sym g.0) k
+      receive_rest (answer.Pop (Ok m)) q' g k = subst (λ (xs : List T). ForReceive key task xs) (sym g.0) k
       receive_rest (answer.Pop (Err pop_error.Empty)) q' g k =
-          subst (λ (xs : List T). PollsFor xs waiting.Receive _ _ key task c o) (sym g.1)
-          (where_else c.queue.closed _ _ g.0 (refused_rest c waiting.Receive (fresh_on Receives) (stuck_for waiting.Receive _ _ g.0 g.1) task o key k))
+          subst (λ (xs : List T). ForReceive key task xs) (sym g.1)
+          (where_else c.queue.closed _ _ g.0 (refused_rest c waiting.Receive (fresh_on Receives) (stuck_for waiting.Receive (λ m. reply.RecvPoll (poll.Ready (Ok m))) (reply.RecvPoll (poll.Ready (Err (refused.Plain (record {}))))) g.0 g.1) task o key k))
       receive_rest (answer.Pop (Err pop_error.Closed)) q' g k =
-          subst (λ (xs : List T). PollsFor xs waiting.Receive _ _ key task c o) (sym g.1) (where_then c.queue.closed _ _ g.0 (ends_rest c o _ k))
+          subst (λ (xs : List T). ForReceive key task xs) (sym g.1) (where_then c.queue.closed _ (Waits waiting.Receive key task c o) g.0 (ends_rest c o _ k))
       receive_rest y q' g k = absurd g
 
       stream_rest : (y : QueueReply T) (q' : Queue T) → Gives ask.Pop (view c.queue) (view q') y → RestTurn (stream_next y key task) (now_is c (left_by ask.Pop y c.queue)) o → RestTry ask.Pop (aim.Poll Streams key task) c o
-      stream_rest (answer.Pop (Ok m)) q' g k = subst (λ (xs : List T). PollsFor xs waiting.Stream _ _ key task c o) (sym g.0) k
+      stream_rest (answer.Pop (Ok m)) q' g k = subst (λ (xs : List T). ForStream key task xs) (sym g.0) k
       stream_rest (answer.Pop (Err pop_error.Empty)) q' g k =
-          subst (λ (xs : List T). PollsFor xs waiting.Stream _ _ key task c o) (sym g.1)
-          (where_else c.queue.closed _ _ g.0 (refused_rest c waiting.Stream (fresh_on Streams) (stuck_for waiting.Stream _ _ g.0 g.1) task o key k))
+          subst (λ (xs : List T). ForStream key task xs) (sym g.1)
+          (where_else c.queue.closed _ _ g.0 (refused_rest c waiting.Stream (fresh_on Streams) (stuck_for waiting.Stream (λ m. reply.Next (poll.Ready (Some (Ok m)))) (reply.Next (poll.Ready None)) g.0 g.1) task o key k))
       stream_rest (answer.Pop (Err pop_error.Closed)) q' g k =
-          subst (λ (xs : List T). PollsFor xs waiting.Stream _ _ key task c o) (sym g.1) (where_then c.queue.closed _ _ g.0 (ends_rest c o _ k))
+          subst (λ (xs : List T). ForStream key task xs) (sym g.1) (where_then c.queue.closed _ (Waits waiting.Stream key task c o) g.0 (ends_rest c o _ k))
       stream_rest y q' g k = absurd g
 
       stuck_closing : c.queue.closed ≡ false → (d : Channel T W) (key : Option Key) (task : W) (p : Outcome T W) → d.queue ≡ c.queue

@@ -4,3 +4,6 @@ pub mod Rest
 pub mod LineFacts
 pub mod AnswerFacts
 pub mod WorkFacts
+pub mod FirstFacts
+pub mod AloneFacts
+pub mod LoopFacts

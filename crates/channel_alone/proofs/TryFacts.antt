@@ -38,85 +38,103 @@ module _ {T : Type 0} where
   brought_by (answer.Force (Ok d)) = 1
   brought_by _ = 0
 
+  pub brought_most : (s : Stage T) → brought s ≤ 1
+  brought_most (appended o) = omega arith
+  brought_most s = omega arith
+
+  pub brought_by_is : (x : QueueReply T) → (brought_by x ≡ 0) ⊎ (brought_by x ≡ 1)
+  brought_by_is (answer.Push (Ok u)) = inr refl
+  brought_by_is (answer.Force (Ok d)) = inr refl
+  brought_by_is x = inl refl
+
+  -- what of a message is in, and whether one is on its way
+  abbrev pub Counts : Queue T → Stage T → Queue T → Type 0
+  Counts q0 s q = (q.accepted ≡ q0.accepted + brought s) × (q.coming ≡ is_displaced s)
+
   -- how far a try has come that began at the queue q0
   pub record Tries (q0 : Queue T) (f : Phase T) (q : Queue T) : Type 0 where
     pub so : So q0 f.ask f.stage q
-    pub accepted : q.accepted ≡ q0.accepted + brought f.stage
+    pub counts : Counts q0 f.stage q
     pub capacity : q.capacity ≡ q0.capacity
 
-  pub tries_start : (q : Queue T) (a : QueueAsk T) → Tries q (asked a) q
-  tries_start q a = record { so = (refl, λ e. absurd cc); accepted = omega arith; capacity = refl }
+  pub tries_start : (q : Queue T) (a : QueueAsk T) → IsIdle q → Tries q (asked a) q
+  tries_start q a i = record { so = (refl, λ e. absurd cc); counts = (omega arith, i.nothing_comes); capacity = refl }
 
   module _ (q0 q : Queue T) where
-    accepted_push : (v : T) (m : QueueMark) (s t : Stage T) → GoesPush q m s t → q.accepted ≡ q0.accepted + brought s
-        → (marked (ask.Push v) (is_displaced s) m q).accepted ≡ q0.accepted + brought t
-    accepted_push v Nothing (trying b) t g h = h ∙ ap (λ (x : Stage T). q0.accepted + brought x) (sym g)
-    accepted_push v Nothing (appended None) t g h = h ∙ ap (λ (x : Stage T). q0.accepted + brought x) (sym g)
-    accepted_push v Append (trying b) t g h = let e = ap (λ (x : Stage T). brought x) g.2 in let h' : q.accepted ≡ q0.accepted + 0 = h in omega arith
-    accepted_push v m s t g h = absurd g
+    at_next : (p : Queue T) (s t : Stage T) → t ≡ s → Counts q0 s p → Counts q0 t p
+    at_next p s t e h = subst (λ (x : Stage T). Counts q0 x p) (sym e) h
 
-    accepted_force : (v : T) (m : QueueMark) (s t : Stage T) → GoesForce q m s t → q.accepted ≡ q0.accepted + brought s
-        → (marked (ask.ForcePush v) (is_displaced s) m q).accepted ≡ q0.accepted + brought t
-    accepted_force v Nothing (trying b) t g h = h ∙ ap (λ (x : Stage T). q0.accepted + brought x) (sym g)
-    accepted_force v Nothing (displaced d) t g h = h ∙ ap (λ (x : Stage T). q0.accepted + brought x) (sym g)
-    accepted_force v Nothing (appended o) t g h = h ∙ ap (λ (x : Stage T). q0.accepted + brought x) (sym g)
-    accepted_force v Append (trying b) t g h = let e = ap (λ (x : Stage T). brought x) g.2 in let h' : q.accepted ≡ q0.accepted + 0 = h in omega arith
-    accepted_force v Append (displaced d) t g h = let e = ap (λ (x : Stage T). brought x) g.2 in let h' : q.accepted ≡ q0.accepted + 0 = h in omega arith
-    accepted_force v Replace (trying b) t g h = let e = ap (λ (x : Stage T). brought x) g.5 in let h' : q.accepted ≡ q0.accepted + 0 = h in omega arith
-    accepted_force v TakeDisplaced (trying b) t g h = h ∙ ap (λ (x : Stage T). q0.accepted + brought x) (sym g.5)
-    accepted_force v m s t g h = absurd g
+    one_more : (n : ℕ) → n ≡ q0.accepted + 0 → n + 1 ≡ q0.accepted + 1
+    one_more n h = omega arith
 
-    accepted_pop : (m : QueueMark) (s t : Stage T) → GoesPop q m s t → q.accepted ≡ q0.accepted + brought s
-        → (marked ask.Pop (is_displaced s) m q).accepted ≡ q0.accepted + brought t
-    accepted_pop Nothing (trying b) t g h = h ∙ ap (λ (x : Stage T). q0.accepted + brought x) (sym g)
-    accepted_pop Nothing (taken v) t g h = h ∙ ap (λ (x : Stage T). q0.accepted + brought x) (sym g)
-    accepted_pop Take (trying b) t g h = h ∙ ap (λ (x : Stage T). q0.accepted + brought x) (sym g.2)
-    accepted_pop m s t g h = absurd g
+    counts_push : (v : T) (m : QueueMark) (s t : Stage T) → GoesPush q m s t → Counts q0 s q → Counts q0 t (marked (ask.Push v) (is_displaced s) m q)
+    counts_push v Nothing (trying b) t g h = at_next q _ t g h
+    counts_push v Nothing (appended None) t g h = at_next q _ t g h
+    counts_push v Append (trying b) t g h = at_next (marked (ask.Push v) false Append q) _ t g.2 (one_more q.accepted h.0, h.1)
+    counts_push v m s t g h = absurd g
 
-    accepted_on : (a : QueueAsk T) (m : QueueMark) (s t : Stage T) → GoesOn q a m s t → q.accepted ≡ q0.accepted + brought s
-        → (marked a (is_displaced s) m q).accepted ≡ q0.accepted + brought t
-    accepted_on (ask.Push v) m s t g h = accepted_push v m s t g h
-    accepted_on (ask.ForcePush v) m s t g h = accepted_force v m s t g h
-    accepted_on ask.Pop m s t g h = accepted_pop m s t g h
-    accepted_on ask.IsEmpty Nothing (trying b) t g h = h ∙ ap (λ (x : Stage T). q0.accepted + brought x) (sym g)
-    accepted_on ask.IsFull Nothing (trying b) t g h = h ∙ ap (λ (x : Stage T). q0.accepted + brought x) (sym g.0)
-    accepted_on ask.Len Nothing (trying b) t g h = h ∙ ap (λ (x : Stage T). q0.accepted + brought x) (sym g)
-    accepted_on ask.Len Nothing (read n) t g h = h ∙ ap (λ (x : Stage T). q0.accepted + brought x) (sym g)
-    accepted_on ask.Len Nothing (measured n k) t g h = h ∙ ap (λ (x : Stage T). q0.accepted + brought x) (sym g)
-    accepted_on a m s t g h = absurd g
+    counts_force : (v : T) (m : QueueMark) (s t : Stage T) → GoesForce q m s t → Counts q0 s q → Counts q0 t (marked (ask.ForcePush v) (is_displaced s) m q)
+    counts_force v Nothing (trying b) t g h = at_next q _ t g h
+    counts_force v Nothing (displaced d) t g h = at_next q _ t g h
+    counts_force v Nothing (appended o) t g h = at_next q _ t g h
+    counts_force v Append (trying b) t g h = at_next (marked (ask.ForcePush v) false Append q) _ t g.2 (one_more q.accepted h.0, h.1)
+    counts_force v Append (displaced d) t g h = at_next (marked (ask.ForcePush v) true Append q) _ t g.2 (one_more q.accepted h.0, refl)
+    counts_force v Replace (trying b) t g h = at_next (marked (ask.ForcePush v) false Replace q) _ t g.5 (one_more q.accepted h.0, h.1)
+    counts_force v TakeDisplaced (trying b) t g h = at_next (marked (ask.ForcePush v) false TakeDisplaced q) _ t g.5 (h.0, refl)
+    counts_force v m s t g h = absurd g
 
-    accepted_end : (a : QueueAsk T) (m : QueueMark) (r : QueueReply T) (s : Stage T) → AnswersTo q a m r s → q.accepted ≡ q0.accepted + brought s
-        → (marked a (is_displaced s) m q).accepted ≡ q0.accepted + brought_by r
-    accepted_end (ask.Push v) Nothing (answer.Push (Ok u)) (appended None) x h = h
-    accepted_end (ask.Push v) Nothing (answer.Push (Err (push_error.Full w))) (trying b) x h = h
-    accepted_end (ask.Push v) Nothing (answer.Push (Err (push_error.Closed w))) (trying b) x h = h
-    accepted_end (ask.Push v) Nothing (answer.Push (Err (push_error.NoMemory w))) (trying b) x h = h
-    accepted_end (ask.ForcePush v) Nothing (answer.Force (Ok d)) (appended o) x h = h
-    accepted_end (ask.ForcePush v) Nothing (answer.Force (Err (force_error.Closed w))) (trying b) x h = h
-    accepted_end (ask.ForcePush v) Nothing (answer.Force (Err (force_error.NoMemory w))) (trying b) x h = h
-    accepted_end ask.Pop Nothing (answer.Pop (Ok w)) (taken v) x h = h
-    accepted_end ask.Pop Nothing (answer.Pop (Err pop_error.Empty)) (trying b) x h = h
-    accepted_end ask.Pop Nothing (answer.Pop (Err pop_error.Closed)) (trying b) x h = h
-    accepted_end ask.Close Close (answer.Close true) (trying b) x h = h
-    accepted_end ask.Close Nothing (answer.Close false) (trying b) x h = h
-    accepted_end ask.IsClosed Nothing (answer.Flag b) (trying s) x h = h
-    accepted_end ask.IsEmpty Nothing (answer.Flag b) (trying s) x h = h
-    accepted_end ask.IsEmpty Nothing (answer.Flag true) (read n) x h = h
-    accepted_end ask.IsEmpty Nothing (answer.Flag false) (read n) x h = h
-    accepted_end ask.IsFull Nothing (answer.Flag b) (trying s) x h = h
-    accepted_end ask.IsFull Nothing (answer.Flag true) (read n) x h = h
-    accepted_end ask.IsFull Nothing (answer.Flag false) (read n) x h = h
-    accepted_end ask.Len Nothing (answer.Count n) (trying s) x h = h
-    accepted_end ask.Len Nothing (answer.Count n) (measured k l) x h = h
-    accepted_end ask.Capacity Nothing (answer.Cap k) (trying s) x h = h
-    accepted_end a m r s x h = absurd x
+    counts_pop : (m : QueueMark) (s t : Stage T) → GoesPop q m s t → Counts q0 s q → Counts q0 t (marked ask.Pop (is_displaced s) m q)
+    counts_pop Nothing (trying b) t g h = at_next q _ t g h
+    counts_pop Nothing (taken v) t g h = at_next q _ t g h
+    counts_pop Take (trying b) t g h = at_next (marked ask.Pop false Take q) _ t g.2 h
+    counts_pop m s t g h = absurd g
+
+    counts_on : (a : QueueAsk T) (m : QueueMark) (s t : Stage T) → GoesOn q a m s t → Counts q0 s q → Counts q0 t (marked a (is_displaced s) m q)
+    counts_on (ask.Push v) m s t g h = counts_push v m s t g h
+    counts_on (ask.ForcePush v) m s t g h = counts_force v m s t g h
+    counts_on ask.Pop m s t g h = counts_pop m s t g h
+    counts_on ask.IsEmpty Nothing (trying b) t g h = at_next q _ t g h
+    counts_on ask.IsFull Nothing (trying b) t g h = at_next q _ t g.0 h
+    counts_on ask.Len Nothing (trying b) t g h = at_next q _ t g h
+    counts_on ask.Len Nothing (read n) t g h = at_next q _ t g h
+    counts_on ask.Len Nothing (measured n k) t g h = at_next q _ t g h
+    counts_on a m s t g h = absurd g
+
+    -- at the end
+    abbrev AreIn : Queue T → QueueReply T → Type 0
+    AreIn p r = (p.accepted ≡ q0.accepted + brought_by r) × (p.coming ≡ false)
+
+    counts_end : (a : QueueAsk T) (m : QueueMark) (r : QueueReply T) (s : Stage T) → AnswersTo q a m r s → Counts q0 s q → AreIn (marked a (is_displaced s) m q) r
+    counts_end (ask.Push v) Nothing (answer.Push (Ok u)) (appended None) x h = h
+    counts_end (ask.Push v) Nothing (answer.Push (Err (push_error.Full w))) (trying b) x h = h
+    counts_end (ask.Push v) Nothing (answer.Push (Err (push_error.Closed w))) (trying b) x h = h
+    counts_end (ask.Push v) Nothing (answer.Push (Err (push_error.NoMemory w))) (trying b) x h = h
+    counts_end (ask.ForcePush v) Nothing (answer.Force (Ok d)) (appended o) x h = h
+    counts_end (ask.ForcePush v) Nothing (answer.Force (Err (force_error.Closed w))) (trying b) x h = h
+    counts_end (ask.ForcePush v) Nothing (answer.Force (Err (force_error.NoMemory w))) (trying b) x h = h
+    counts_end ask.Pop Nothing (answer.Pop (Ok w)) (taken v) x h = h
+    counts_end ask.Pop Nothing (answer.Pop (Err pop_error.Empty)) (trying b) x h = h
+    counts_end ask.Pop Nothing (answer.Pop (Err pop_error.Closed)) (trying b) x h = h
+    counts_end ask.Close Close (answer.Close true) (trying b) x h = h
+    counts_end ask.Close Nothing (answer.Close false) (trying b) x h = h
+    counts_end ask.IsClosed Nothing (answer.Flag b) (trying s) x h = h
+    counts_end ask.IsEmpty Nothing (answer.Flag b) (trying s) x h = h
+    counts_end ask.IsEmpty Nothing (answer.Flag true) (read n) x h = h
+    counts_end ask.IsEmpty Nothing (answer.Flag false) (read n) x h = h
+    counts_end ask.IsFull Nothing (answer.Flag b) (trying s) x h = h
+    counts_end ask.IsFull Nothing (answer.Flag true) (read n) x h = h
+    counts_end ask.IsFull Nothing (answer.Flag false) (read n) x h = h
+    counts_end ask.Len Nothing (answer.Count n) (trying s) x h = h
+    counts_end ask.Len Nothing (answer.Count n) (measured k l) x h = h
+    counts_end ask.Capacity Nothing (answer.Cap k) (trying s) x h = h
+    counts_end a m r s x h = absurd x
 
   pub tries_on : (q0 q : Queue T) (f g : Phase T) (m : QueueMark) → Goes q f m g → Tries q0 f q → Tries q0 g (after f m q)
   tries_on q0 q f g m goes h =
       let so : So q0 f.ask g.stage (after f m q) = so_goes q0 q f.ask m f.stage g.stage goes.1 h.so in
       record {
         so = subst (λ (b : QueueAsk T). So q0 b g.stage (after f m q)) (sym goes.0) so;
-        accepted = accepted_on q0 q f.ask m f.stage g.stage goes.1 h.accepted;
+        counts = counts_on q0 q f.ask m f.stage g.stage goes.1 h.counts;
         capacity = same_capacity q f m ∙ h.capacity;
       }
 
@@ -208,7 +226,17 @@ module _ {T : Type 0} where
     left ask.Capacity (answer.Cap k) g n = same g.1 n
     left a x g n = absurd g
 
-  pub tries_end : (q0 q : Queue T) (f : Phase T) (m : QueueMark) (x : QueueReply T) → IsIdle q0 → IsBalanced q → IsIdle (after f m q) → Answers q f m x → Tries q0 f q → Finds f.ask q0 x (after f m q)
-  tries_end q0 q f m x idle0 balanced idle1 answers h =
+  -- what a try gave that has ended
+  pub record Found (q0 : Queue T) (a : QueueAsk T) (x : QueueReply T) (q : Queue T) : Type 0 where
+    pub gives : Gives a (view q0) (view q) x
+    pub left : q ≡ left_by a x q0
+    pub accepted : q.accepted ≡ q0.accepted + brought_by x
+    pub capacity : q.capacity ≡ q0.capacity
+    pub idle : IsIdle q
+
+  pub tries_end : (q0 q : Queue T) (f : Phase T) (m : QueueMark) (x : QueueReply T) → IsIdle q0 → IsBalanced q → IsBalanced (after f m q) → Answers q f m x → Tries q0 f q → Found q0 f.ask x (after f m q)
+  tries_end q0 q f m x idle0 balanced balanced1 answers h =
       let gives : Gives f.ask (view q0) (view (after f m q)) x = ends q0 q f.ask m x f.stage balanced answers h.so in
-      (gives, left q0 (after f m q) idle0 idle1 f.ask x gives (accepted_end q0 q f.ask m x f.stage answers h.accepted))
+      let counts : ((after f m q).accepted ≡ q0.accepted + brought_by x) × ((after f m q).coming ≡ false) = counts_end q0 q f.ask m x f.stage answers h.counts in
+      let idle1 : IsIdle (after f m q) = record { balanced = balanced1; nothing_comes = counts.1 } in
+      record { gives = gives; left = left q0 (after f m q) idle0 idle1 f.ask x gives counts.0; accepted = counts.0; capacity = same_capacity q f m ∙ h.capacity; idle = idle1 }
