@@ -43,11 +43,11 @@ pub woken_on : {S W : Type 0} (wakes : S → W → S → Type 0) (s m t : S) (xs
 woken_on wakes s m t [] ys h k = subst (λ z. Woken wakes z ys t) h k
 woken_on wakes s m t (x ∷ xs) ys (n, w, h) k = (n, w, woken_on wakes n m t xs ys h k)
 
-module _ {T : Type 0} where
-  most_one : (n : ℕ) → (n ≡ 0) ⊎ (n ≡ 1) → n ≤ 1
-  most_one n (inl e) = omega (arith, e)
-  most_one n (inr e) = omega (arith, e)
+most_one : (n : ℕ) → (n ≡ 0) ⊎ (n ≡ 1) → n ≤ 1
+most_one n (inl e) = omega (arith, e)
+most_one n (inr e) = omega (arith, e)
 
+module _ {T : Type 0} where
   pub still_in_range : (q p : Queue T) (n : ℕ) → HasPosition q → p.capacity ≡ q.capacity → p.accepted ≡ q.accepted + n → n ≤ 1 → IsInRange p
   still_in_range q p n (inl h) c e k = inl (c ∙ h)
   still_in_range q p n (inr h) c e k = inr (omega (arith, h, e, k))
@@ -60,6 +60,9 @@ module _ {T : Type 0} where
   ranged q (inl h) = inl h
   ranged q (inr h) = inr (omega (arith, h))
 
+  at_asked : (q : Queue T) (f : Phase T) (a : QueueAsk T) → IsIdle q → f ≡ asked a → try_facts.Tries q f q
+  at_asked q f a i e = subst (λ (g : Phase T). try_facts.Tries q g q) (sym e) (tries_start q a i)
+
 module _ {T W : Type 0} where
   -- ---- stages
 
@@ -70,9 +73,6 @@ module _ {T W : Type 0} where
 
   same_asked : (f g : Phase T) (x y : Aim W) → (let s : Stage (Phase T) T W = Trying f x in s) ≡ Trying g y → f ≡ g
   same_asked f g x y e = cc
-
-  at_asked : (q : Queue T) (f : Phase T) (a : QueueAsk T) → IsIdle q → f ≡ asked a → try_facts.Tries q f q
-  at_asked q f a i e = subst (λ (g : Phase T). try_facts.Tries q g q) (sym e) (tries_start q a i)
 
   -- the stage after a turn that does not answer
   at_turn : (turn : Turn T W) (f : Phase T) (s : Stage (QueueCall T) T W) (q : Queue T) → IsIdle q → Turned turn None (phase f s) → At q f s q
@@ -105,14 +105,14 @@ module _ {T W : Type 0} where
     pub finished : s ≡ Finished kept
     pub rests : (c : Channel T W) → RestTurn turn c (answers x kept c)
 
-  answered : (turn : Turn T W) (x : Reply T) (s : Stage (Phase T) T W) → Turned turn (Some x) s → Answered turn x s
+  pub answered : (turn : Turn T W) (x : Reply T) (s : Stage (Phase T) T W) → Turned turn (Some x) s → Answered turn x s
   answered (Tries a y) x s h = absurd (let no : Some x ≡ None = h.0 in cc)
   answered (Works w) x s h = absurd (let no : Some x ≡ None = h.0 in cc)
   answered (Ends y kept) x s h =
       let e : x ≡ y = (let some : Some x ≡ Some y = h.0 in cc) in
       record { kept = kept; finished = h.1; rests = λ c. ap (λ (z : Reply T). answers z kept c) e }
 
-  finished_kept : (f : Phase T) (s : Stage (QueueCall T) T W) (kept : Kept T) → phase f s ≡ Finished kept → (kept_by s ≡ kept) × (seats f s ≡ [])
+  pub finished_kept : (f : Phase T) (s : Stage (QueueCall T) T W) (kept : Kept T) → phase f s ≡ Finished kept → (kept_by s ≡ kept) × (seats f s ≡ [])
   finished_kept f (Trying call x) kept e = absurd (let no : (let s : Stage (Phase T) T W = Trying f x in s) ≡ Finished kept = e in cc)
   finished_kept f (Working w) kept e = absurd (let no : (let s : Stage (Phase T) T W = Working w in s) ≡ Finished kept = e in cc)
   finished_kept f (Finished k) kept e = ((let same : (let s : Stage (Phase T) T W = Finished k in s) ≡ Finished kept = e in cc), refl)
@@ -143,7 +143,7 @@ module _ {T W : Type 0} where
     pub position : 5 < order_turn parts'.roster turn → HasPosition queue
     pub on : (o : Outcome T W) → RestTurn turn (channel queue parts') o → Alone a c0 (after_waking woken o)
 
-  goes_on : (a : ChannelAsk T W) (c0 : Channel T W) (parts' : Parts T W) (stage' : Stage (QueueCall T) T W) (woken : List W) → Advances a c0 parts' stage' woken None → IsAlone a c0 parts' stage' woken
+  pub goes_on : (a : ChannelAsk T W) (c0 : Channel T W) (parts' : Parts T W) (stage' : Stage (QueueCall T) T W) (woken : List W) → Advances a c0 parts' stage' woken None → IsAlone a c0 parts' stage' woken
   goes_on a c0 parts' stage' woken x =
       record {
         from = x.queue;

@@ -32,9 +32,12 @@ pub fn run_alone<T: Drop, W: Drop, S: Wakes<W>>(
 {
     let mut call = ChannelCall::new(ask);
     loop {
-        if let Some(reply) = call.step(channel, sink) {
-            let kept = call.into_kept();
-            return Done { reply, kept };
+        match call.step(channel, sink) {
+            Some(reply) => {
+                let kept = call.into_kept();
+                return Done { reply, kept };
+            }
+            None => {}
         }
     }
 }
