@@ -48,20 +48,12 @@ most_one n (inl e) = omega (arith, e)
 most_one n (inr e) = omega (arith, e)
 
 module _ {T : Type 0} where
-  pub still_in_range : (q p : Queue T) (n : ℕ) → HasPosition q → p.capacity ≡ q.capacity → p.accepted ≡ q.accepted + n → n ≤ 1 → IsInRange p
-  still_in_range q p n (inl h) c e k = inl (c ∙ h)
-  still_in_range q p n (inr h) c e k = inr (omega (arith, h, e, k))
+  pub still_in_range : (q p : Queue T) → HasPosition q → p.capacity ≡ q.capacity → p.accepted ≤ q.accepted + 1 → IsInRange p
+  still_in_range q p (inl h) c e = inl (c ∙ h)
+  still_in_range q p (inr h) c e = inr (omega (arith, h, e))
 
-  pub still_positioned : (q p : Queue T) → HasPosition q → p.capacity ≡ q.capacity → p.accepted ≡ q.accepted + 0 → HasPosition p
-  still_positioned q p (inl h) c e = inl (c ∙ h)
-  still_positioned q p (inr h) c e = inr (omega (arith, h, e))
-
-  pub ranged : (q : Queue T) → HasPosition q → IsInRange q
-  ranged q (inl h) = inl h
-  ranged q (inr h) = inr (omega (arith, h))
-
-  at_asked : (q : Queue T) (f : Phase T) (a : QueueAsk T) → IsIdle q → f ≡ asked a → try_facts.Tries q f q
-  at_asked q f a i e = subst (λ (g : Phase T). try_facts.Tries q g q) (sym e) (tries_start q a i)
+at_asked : {T : Type 0} (q : Queue T) (f : Phase T) (a : QueueAsk T) → IsIdle q → f ≡ asked a → try_facts.Tries q f q
+at_asked {T} q f a i e = subst (λ (g : Phase T). try_facts.Tries q g q) (sym e) (tries_start q a i)
 
 module _ {T W : Type 0} where
   -- ---- stages
@@ -127,8 +119,10 @@ module _ {T W : Type 0} where
     pub idle : IsIdle from
     pub fits : Fits parts.cells now (seats at stage ++ [])
     pub known : At from at stage now
-    pub range : IsInRange from
-    pub position : 5 < order parts.roster stage → HasPosition from
+    pub place : HasPosition c0.queue
+    pub capacity : from.capacity ≡ c0.queue.capacity
+    pub accepted : from.accepted ≤ c0.queue.accepted + 1
+    pub unspent : 5 < order parts.roster stage → from.accepted ≡ c0.queue.accepted
     pub on : (o : Outcome T W) → RestStage (phase at stage) (channel from parts) o → Alone a c0 (after_waking so_far o)
 
   -- a step after which a turn was taken
@@ -139,8 +133,10 @@ module _ {T W : Type 0} where
     pub turned : Turned turn r (phase at stage')
     pub idle : IsIdle queue
     pub fits : Fits parts'.cells queue (seats at stage' ++ [])
-    pub range : IsInRange queue
-    pub position : 5 < order_turn parts'.roster turn → HasPosition queue
+    pub place : HasPosition c0.queue
+    pub capacity : queue.capacity ≡ c0.queue.capacity
+    pub accepted : queue.accepted ≤ c0.queue.accepted + 1
+    pub unspent : 5 < order_turn parts'.roster turn → queue.accepted ≡ c0.queue.accepted
     pub on : (o : Outcome T W) → RestTurn turn (channel queue parts') o → Alone a c0 (after_waking woken o)
 
   pub goes_on : (a : ChannelAsk T W) (c0 : Channel T W) (parts' : Parts T W) (stage' : Stage (QueueCall T) T W) (woken : List W) → Advances a c0 parts' stage' woken None → IsAlone a c0 parts' stage' woken
@@ -152,8 +148,10 @@ module _ {T W : Type 0} where
         idle = x.idle;
         fits = x.fits;
         known = at_turn x.turn x.at stage' x.queue x.idle x.turned;
-        range = x.range;
-        position = λ h. x.position (let e = sym (order_phase parts'.roster x.at stage') ∙ order_turned parts'.roster x.turn None (phase x.at stage') x.turned in subst (λ (n : ℕ). 5 < n) e h);
+        place = x.place;
+        capacity = x.capacity;
+        accepted = x.accepted;
+        unspent = λ h. x.unspent (let e = sym (order_phase parts'.roster x.at stage') ∙ order_turned parts'.roster x.turn None (phase x.at stage') x.turned in subst (λ (n : ℕ). 5 < n) e h);
         on = λ o k. x.on o (turn_rests x.turn (phase x.at stage') (channel x.queue parts') o x.turned k);
       }
 
@@ -178,8 +176,10 @@ module _ {T W : Type 0} where
           turned = b.turned;
           idle = subst (λ (q : Queue T). IsIdle q) (sym same) x.idle;
           fits = made.fits;
-          range = subst (λ (q : Queue T). IsInRange q) (sym same) x.range;
-          position = λ h. subst (λ (q : Queue T). HasPosition q) (sym same) (x.position (let f = b.falls in omega (arith, h, f)));
+          place = x.place;
+          capacity = ap (λ (q : Queue T). q.capacity) same ∙ x.capacity;
+          accepted = (let n = ap (λ (q : Queue T). q.accepted) same in let k = x.accepted in omega (arith, n, k));
+          unspent = λ h. ap (λ (q : Queue T). q.accepted) same ∙ x.unspent (let f = b.falls in omega (arith, h, f));
           on = λ o k. woken_more o (x.on (after_waking names o) (subst (λ (q : Queue T). RestWork w (channel q parts) (after_waking names o)) x.known (b.back o k)));
         }
 
@@ -198,8 +198,8 @@ module _ {T W : Type 0} where
       queue_now : made.queue ≡ after x.at tried.mark x.now
       queue_now = ap (λ (e : Effect T W). e.channel.queue) tried.effect
 
-      place : HasPosition x.from
-      place = x.position (try_is_late parts.roster y)
+      unspent_yet : x.from.accepted ≡ c0.queue.accepted
+      unspent_yet = x.unspent (try_is_late parts.roster y)
 
       balanced_now : IsBalanced x.now
       balanced_now = (shows parts.cells x.now (seat call x.at ∷ []) x.fits).balance
@@ -218,8 +218,10 @@ module _ {T W : Type 0} where
             fits = made.fits;
             known = subst (λ (z : Stage (QueueCall T) T W). At x.from made.phase_now z made.queue) (sym e)
                 (subst (λ (g : Phase T). try_facts.Tries x.from g made.queue) (sym same) (subst (λ (q : Queue T). try_facts.Tries x.from f' q) (sym queue_now) (tries_on x.from x.now x.at f' tried.mark goes x.known)));
-            range = x.range;
-            position = λ h. place;
+            place = x.place;
+            capacity = x.capacity;
+            accepted = x.accepted;
+            unspent = λ h. unspent_yet;
             on = λ o k.
                 let k1 : RestTry made.phase_now.ask y (channel x.from parts') o = subst (λ (z : Stage (QueueCall T) T W). RestStage (phase made.phase_now z) (channel x.from parts') o) e k in
                 let k2 : RestTry f'.ask y (channel x.from parts') o = subst (λ (g : Phase T). RestTry g.ask y (channel x.from parts') o) same k1 in
@@ -240,8 +242,10 @@ module _ {T W : Type 0} where
             turned = turned;
             idle = found.idle;
             fits = made.fits;
-            range = still_in_range x.from made.queue (brought_by z) place found.capacity found.accepted (most_one (brought_by z) (brought_by_is z));
-            position = λ h. positioned z found h (brought_by_is z);
+            place = x.place;
+            capacity = found.capacity ∙ x.capacity;
+            accepted = (let n = found.accepted in let k = most_one (brought_by z) (brought_by_is z) in let e = unspent_yet in omega (arith, n, k, e));
+            unspent = λ h. unspent_still z found h (brought_by_is z);
             on = λ o k.
                 let k1 : RestTurn (answered_next y z) (record { queue = made.queue; roster = parts.roster }) o = subst (λ (b : Roster W). RestTurn (answered_next y z) (record { queue = made.queue; roster = b }) o) same_roster k in
                 let k2 : RestTurn (answered_next y z) (record { queue = try_facts.left_by x.at.ask z x.from; roster = parts.roster }) o =
@@ -250,9 +254,9 @@ module _ {T W : Type 0} where
                 woken_none nobody o (x.on o (answered_rest (channel x.from parts) o x.at.ask y z made.queue found.gives k2));
           }
         where
-          positioned : (z : QueueReply T) → Found x.from x.at.ask z made.queue → 5 < order_turn parts'.roster (answered_next y z) → (brought_by z ≡ 0) ⊎ (brought_by z ≡ 1) → HasPosition made.queue
-          positioned z found h (inl none) = still_positioned x.from made.queue place found.capacity (found.accepted ∙ ap (λ (n : ℕ). x.from.accepted + n) none)
-          positioned z found h (inr one) = absurd (let k = telling_order parts'.roster y z one in omega (arith, h, k))
+          unspent_still : (z : QueueReply T) → Found x.from x.at.ask z made.queue → 5 < order_turn parts'.roster (answered_next y z) → (brought_by z ≡ 0) ⊎ (brought_by z ≡ 1) → made.queue.accepted ≡ c0.queue.accepted
+          unspent_still z found h (inl none) = let n = found.accepted in let e = unspent_yet in omega (arith, n, e, none)
+          unspent_still z found h (inr one) = absurd (let k = telling_order parts'.roster y z one in omega (arith, h, k))
 
     -- ---- a step
 
@@ -281,8 +285,9 @@ module _ {T W : Type 0} where
 
     in_range : (stage : Stage (QueueCall T) T W) (x : IsAlone a c0 parts stage so_far) → IsInRange x.now
     in_range (Trying call y) x =
-        still_in_range x.from x.now (brought x.at.stage) (x.position (try_is_late parts.roster y)) x.known.capacity x.known.counts.0 (brought_most x.at.stage)
-    in_range (Working w) x = subst (λ (q : Queue T). IsInRange q) (sym x.known) x.range
+        let n = x.known.counts.0 in let k = brought_most x.at.stage in let e = x.unspent (try_is_late parts.roster y) in
+        still_in_range c0.queue x.now x.place (x.known.capacity ∙ x.capacity) (omega (arith, n, k, e))
+    in_range (Working w) x = subst (λ (q : Queue T). IsInRange q) (sym x.known) (still_in_range c0.queue x.from x.place x.capacity x.accepted)
     in_range (Finished kept) x = absurd x.known
 
     pub made_by : (stage : Stage (QueueCall T) T W) (x : IsAlone a c0 parts stage so_far) → IsStepOver parts stage names parts' stage' m r → Made parts stage names parts' stage' m r x.now x.at [] []

@@ -21,7 +21,7 @@ use Rattle.channel_alone.specs.declared.run.Done.{Done}
 use Rattle.channel_alone.proofs.TryFacts.{idle}
 use Rattle.channel_alone.proofs.Order.{measure}
 use Rattle.channel_alone.proofs.FirstFacts.{first_rest, first_goes_on}
-use Rattle.channel_alone.proofs.AloneFacts.{IsAlone, Advances, Answered, woken_on, ranged, answered, finished_kept, goes_on, step_next, step_nearer}
+use Rattle.channel_alone.proofs.AloneFacts.{IsAlone, Advances, Answered, woken_on, answered, finished_kept, goes_on, step_next, step_nearer}
 
 module _ {T W S : Type 0} (wakes : S → W → S → Type 0) where
   -- how far the call has come, over the queue that the cells meant where it began
@@ -47,8 +47,10 @@ module _ {T W S : Type 0} (wakes : S → W → S → Type 0) where
           turned = subst (λ (r : Option (Reply T)). Turned (first a) r (phase t.phase_now call.stage)) none t.turned;
           idle = idle parts0.cells q fits;
           fits = t.fits;
-          range = ranged q position;
-          position = λ h. position;
+          place = position;
+          capacity = refl;
+          accepted = omega arith;
+          unspent = λ h. refl;
           on = λ o k. first_rest a (channel q parts0) o k;
         }
         in
@@ -87,6 +89,8 @@ module _ {T W S : Type 0} (wakes : S → W → S → Type 0) where
               reply = refl;
               kept = left ∙ f.0;
               roster = refl;
+              capacity = x.capacity;
+              accepted = x.accepted;
               at_rest = subst (λ (ss : List (Seat T)). Fits parts'.cells x.queue (ss ++ [])) f.1 x.fits;
               woken = subst (λ (ws : List W). Woken wakes sink0 ws sink') (sym (append-nil woken)) w;
             }

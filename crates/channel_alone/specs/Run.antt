@@ -1,5 +1,5 @@
 -- A call that is stepped to its end with nobody else at work.
-use Rattle.std.specs.Prelude.{◌≡◌, ◌+◌, ◌<◌, ◌^◌, List, [], Some, ◌⊎◌}
+use Rattle.std.specs.Prelude.{◌≡◌, ◌+◌, ◌<◌, ◌≤◌, ◌^◌, List, [], Some, ◌⊎◌}
 use Rattle.concurrent_queue.specs.Queue.{Queue}
 use Rattle.concurrent_queue.specs.Step.{Fits}
 use Rattle.event_listener.specs.Notices.{Woken}
@@ -27,9 +27,15 @@ module _ {T W : Type 0} where
     pub kept : done.kept ≡ outcome.kept
     pub roster : parts'.roster ≡ outcome.channel.roster
     pub at_rest : Fits parts'.cells outcome.channel.queue []
+    pub capacity : outcome.channel.queue.capacity ≡ q.capacity
+    pub accepted : outcome.channel.queue.accepted ≤ q.accepted + 1
     pub woken : Woken wakes sink outcome.woken sink'
 
   -- whatever queue the cells mean
   abbrev pub RunsAlone : {S : Type 0} → (S → W → S → Type 0) → ChannelAsk T W → Parts T W → S → Done T → Parts T W → S → Type 0
   RunsAlone wakes ask parts sink done parts' sink' =
       (q : Queue T) → HasPosition q → Fits parts.cells q [] → Ran wakes ask q parts sink done parts' sink'
+
+  -- a channel of one slot, which counts no positions, with no call under way
+  abbrev pub IsOneSlot : Parts T W → Type 0
+  IsOneSlot parts = (q : Queue T) × (q.capacity ≡ Some 1) × Fits parts.cells q []
