@@ -1,8 +1,7 @@
 -- A call that is stepped to its end with nobody else at work, from the contract of a step alone.
-use Rattle.std.proofs.Common.{◌≡◌, ℕ, ◌+◌, ◌*◌, ◌<◌, ◌≤◌, ◌^◌, Bool, true, false, List, [], ◌∷◌, ◌++◌, append_assoc, append-nil, Option, None, Some, ◌⊎◌, inl, inr, refl, sym, ap, ◌∙◌, subst, arith}
-use Rattle.concurrent_queue.specs.Contents.{Contents}
+use Rattle.std.proofs.Common.{◌≡◌, ℕ, ◌+◌, ◌*◌, ◌<◌, ◌≤◌, List, [], ◌∷◌, ◌++◌, append_assoc, Option, None, Some, ◌⊎◌, inl, inr, refl, sym, ap, ◌∙◌, subst, arith}
 use Rattle.concurrent_queue.specs.Queue.{Queue, Phase, asked, after, Goes, Answers, IsInRange}
-use Rattle.concurrent_queue.specs.Step.{Seat, seat, Fits, Starts, rank}
+use Rattle.concurrent_queue.specs.Step.{seat, Fits, rank}
 use Rattle.concurrent_queue.specs.declared.queue_call.QueueCall.{QueueCall}
 use Rattle.concurrent_queue.specs.declared.call.QueueAsk.{QueueAsk}
 use Rattle.concurrent_queue.specs.declared.call.QueueMark.{QueueMark}
@@ -22,20 +21,16 @@ use Rattle.async_channel.specs.declared.stage.Turn.TheVariants.{Tries, Works, En
 use Rattle.async_channel.specs.declared.stage.Work.{Work}
 use Rattle.async_channel.specs.Parts.{Parts, Roster}
 use Rattle.async_channel.specs.Answered.{answered_next}
-use Rattle.async_channel.specs.Asks.{first, kept_by}
-use Rattle.async_channel.specs.Marks.{mark_of_queue}
-use Rattle.async_channel.specs.Moves.{Channel, Effect, channel, queued, Turned, Tried, Worked, Moves, seats, phase, IsTaken, Hastens, Made, IsStepOver, IsChannelStep}
-use Rattle.async_channel.proofs.Steps.{entered}
+use Rattle.async_channel.specs.Asks.{kept_by}
+use Rattle.async_channel.specs.Moves.{Channel, Effect, channel, Turned, Tried, seats, phase, IsTaken, Hastens, Made, IsStepOver}
 use Rattle.channel_alone.specs.Alone.{Outcome, Alone, after_waking, answers}
-use Rattle.channel_alone.specs.Run.{HasPosition, IsAtRest, Ran, RunsAlone}
-use Rattle.channel_alone.specs.declared.run.Done.{Done}
+use Rattle.channel_alone.specs.Run.{HasPosition}
 use Rattle.channel_alone.proofs.TryFacts as try_facts
 use Rattle.channel_alone.proofs.TryFacts.{IsIdle, idle, brought, brought_most, brought_by, brought_by_is, Counts, Found, tries_start, tries_on, tries_end}
-use Rattle.channel_alone.proofs.Order.{order, order_turn, order_try, order_work, measure, measure_falls, try_is_late, answered_order, telling_order}
+use Rattle.channel_alone.proofs.Order.{order, order_turn, order_try, measure, measure_falls, try_is_late, answered_order, telling_order}
 use Rattle.channel_alone.proofs.Rest.{RestTry, RestWork, RestTurn, RestStage, turn_rests}
 use Rattle.channel_alone.proofs.AnswerFacts.{answered_rest}
 use Rattle.channel_alone.proofs.WorkFacts.{Backs, work_backs}
-use Rattle.channel_alone.proofs.FirstFacts.{first_rest, first_goes_on}
 
 -- ---- the sink
 

@@ -1,5 +1,5 @@
 -- What comes after an answer of the queue to a call that is alone at work.
-use Rattle.std.proofs.Common.{◌≡◌, ℕ, ◌+◌, ◌<◌, ◌==◌, ◌&&◌, not, Bool, true, false, if◌then◌else◌, List, [], ◌∷◌, ◌++◌, Option, None, Some, is_some, Result, Ok, Err, ◌⊎◌, inl, inr, refl, sym, ap, ◌∙◌, subst, arith}
+use Rattle.std.proofs.Common.{◌≡◌, ℕ, ◌==◌, ◌&&◌, not, Bool, true, false, if◌then◌else◌, List, [], Option, None, Some, Ok, Err, inl, inr, refl, sym, ap, ◌∙◌, subst}
 use Rattle.std.specs.Prelude.{length, slice_get}
 use Rattle.concurrent_queue.specs.Queue.{Queue, is_filled, is_full_at}
 use Rattle.concurrent_queue.specs.Alone.{Gives}
@@ -12,10 +12,9 @@ use Rattle.concurrent_queue.specs.declared.error.ForcePushError.TheVariants as f
 use Rattle.concurrent_queue.specs.declared.error.PopError.TheVariants as pop_error
 use Rattle.concurrent_queue.proofs.AloneFacts.{view}
 use Rattle.event_listener.specs.declared.key.Key.{Key}
-use Rattle.event_listener.specs.Lists.{kind_of, told_as, waits_as, listened}
+use Rattle.event_listener.specs.Lists.{kind_of, listened}
 use Rattle.futures.specs.declared.task.Poll.TheVariants as poll
 use Rattle.async_channel.specs.declared.error.Refused.TheVariants as refused
-use Rattle.async_channel.specs.declared.error.TrySendError.TheVariants as try_send_error
 use Rattle.async_channel.specs.declared.error.TryRecvError.{TryRecvError}
 use Rattle.async_channel.specs.declared.error.TryRecvError.TheVariants as try_recv_error
 use Rattle.async_channel.specs.declared.reply.Reply.{Reply}
@@ -26,14 +25,12 @@ use Rattle.async_channel.specs.declared.stage.Closer.{Closer}
 use Rattle.async_channel.specs.declared.stage.Line.{Line}
 use Rattle.async_channel.specs.declared.stage.Line.TheVariants.{Sends, Receives, Streams, Closings}
 use Rattle.async_channel.specs.declared.stage.Side.{Side}
-use Rattle.async_channel.specs.declared.stage.Turn.{Turn}
-use Rattle.async_channel.specs.declared.stage.Turn.TheVariants.{Tries, Works, Ends}
 use Rattle.async_channel.specs.declared.stage.Work.TheVariants.{Insert}
 use Rattle.async_channel.specs.declared.stage.Waiting.{Waiting}
 use Rattle.async_channel.specs.declared.stage.Waiting.TheVariants as waiting
-use Rattle.async_channel.specs.Parts.{Roster, Listeners, listeners, with_listeners, waits, count}
-use Rattle.async_channel.specs.Turns.{says, line_of, ask_of, refused_next, nothing_kept}
-use Rattle.async_channel.specs.Answered.{over, sent_next, forced_next, received_next, send_next, receive_next, stream_next, closing_next, polled_next, closed_next, asked_next, terminated_next, upgraded_next, answered_next}
+use Rattle.async_channel.specs.Parts.{Roster, Listeners, listeners, with_listeners, waits}
+use Rattle.async_channel.specs.Turns.{says, line_of, ask_of, refused_next}
+use Rattle.async_channel.specs.Answered.{over, sent_next, forced_next, received_next, send_next, receive_next, stream_next, closing_next, closed_next, asked_next, terminated_next, upgraded_next, answered_next}
 use Rattle.async_channel.specs.Moves.{Channel, listens, registers}
 use Rattle.channel_alone.specs.Alone as alone
 use Rattle.channel_alone.specs.Alone.{Outcome, Where, ends, receives_by, says_only, Waits, Listens, PollsFor}

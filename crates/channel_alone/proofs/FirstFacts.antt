@@ -1,5 +1,5 @@
 -- The first turn of a call that is alone at work.
-use Rattle.std.proofs.Common.{◌≡◌, Option, None, Some, refl}
+use Rattle.std.proofs.Common.{◌≡◌, Option, None, Some}
 use Rattle.concurrent_queue.specs.declared.queue_call.QueueCall.{QueueCall}
 use Rattle.async_channel.specs.declared.ask.ChannelAsk.{ChannelAsk}
 use Rattle.async_channel.specs.declared.ask.ChannelAsk.TheVariants.{TrySend, ForceSend, TryRecv, Close, PollSend, PollFinishedSend, PollRecv, PollClosed, PollNext, RefusePoll, GiveUp, DropSender, DropReceiver, CloneHandle, Upgrade, HandleCount, IsClosed, IsEmpty, IsFull, Len, Capacity, IsTerminated, SendIsTerminated, SameChannel, Make, DropWeak}

@@ -1,9 +1,9 @@
 -- A listener that was just added waits.
-use Rattle.std.proofs.Common.{◌≡◌, ℕ, ◌==◌, ◌&&◌, not, Bool, true, false, if◌then◌else◌, List, [], ◌∷◌, ◌++◌, Option, None, Some, is_some, refl, sym, ap, ◌∙◌, subst, arith}
+use Rattle.std.proofs.Common.{◌≡◌, not, Bool, true, false, if◌then◌else◌, List, [], ◌∷◌, ◌++◌, Option, None, Some, is_some, refl, sym, subst, arith}
 use Rattle.std.proofs.lemmas.Bool.Decides.{nat_tests}
 use Rattle.std.specs.Map.{lookup}
 use Rattle.event_listener.specs.declared.key.Key.{Key}
-use Rattle.event_listener.specs.Lists.{Lists, kind_of, told_as, waits_as, same_key, listened}
+use Rattle.event_listener.specs.Lists.{kind_of, told_as, waits_as, same_key, listened}
 use Rattle.async_channel.specs.Parts.{Listeners, waits}
 
 same_as_itself : (key : Key) → same_key key key ≡ true

@@ -1,6 +1,6 @@
 -- The steps of a call that is alone at work, one after another.
-use Rattle.std.proofs.Common.{◌≡◌, ℕ, ◌+◌, ◌<◌, List, [], ◌∷◌, ◌++◌, append-nil, Option, None, Some, ◌⊎◌, inl, inr, refl, sym, ap, ◌∙◌, subst, arith}
-use Rattle.concurrent_queue.specs.Queue.{Queue, Phase, asked}
+use Rattle.std.proofs.Common.{◌≡◌, ◌<◌, List, [], ◌++◌, append-nil, Option, None, Some, ◌⊎◌, inl, inr, refl, sym, ◌∙◌, subst, arith}
+use Rattle.concurrent_queue.specs.Queue.{Queue, asked}
 use Rattle.concurrent_queue.specs.Step.{Seat, Fits}
 use Rattle.concurrent_queue.specs.declared.queue_call.QueueCall.{QueueCall}
 use Rattle.concurrent_queue.specs.declared.call.QueueAsk.TheVariants as ask
@@ -13,11 +13,10 @@ use Rattle.async_channel.specs.declared.stage.Kept.{Kept}
 use Rattle.async_channel.specs.declared.stage.Stage.{Stage}
 use Rattle.async_channel.specs.Parts.{Parts}
 use Rattle.async_channel.specs.Asks.{first, kept_by}
-use Rattle.async_channel.specs.Moves.{Channel, channel, Turned, seats, phase, IsNewCall, IsStepOver, IsChannelStep}
+use Rattle.async_channel.specs.Moves.{Channel, channel, Turned, phase, IsNewCall, IsChannelStep}
 use Rattle.async_channel.proofs.Steps.{entered}
-use Rattle.channel_alone.specs.Alone.{Outcome, Alone, after_waking, answers}
+use Rattle.channel_alone.specs.Alone.{Outcome, after_waking, answers}
 use Rattle.channel_alone.specs.Run.{HasPosition, IsAtRest, Ran, RunsAlone}
-use Rattle.channel_alone.specs.declared.run.Done.{Done}
 use Rattle.channel_alone.proofs.TryFacts.{idle}
 use Rattle.channel_alone.proofs.Order.{measure}
 use Rattle.channel_alone.proofs.FirstFacts.{first_rest, first_goes_on}

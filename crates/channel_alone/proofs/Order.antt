@@ -1,5 +1,5 @@
 -- A measure of what a call that is alone at work still has to do.
-use Rattle.std.proofs.Common.{◌≡◌, ℕ, ◌+◌, ◌*◌, ◌<◌, ◌≤◌, ◌==◌, nat_lt, Bool, true, false, if◌then◌else◌, List, [], ◌∷◌, ◌++◌, Option, None, Some, Result, Ok, Err, is_some, refl, sym, ap, ◌∙◌, subst, arith}
+use Rattle.std.proofs.Common.{◌≡◌, ℕ, ◌+◌, ◌*◌, ◌<◌, ◌==◌, Bool, true, false, if◌then◌else◌, Option, None, Some, Ok, Err, refl, subst, arith}
 use Rattle.concurrent_queue.specs.Contents.{Contents}
 use Rattle.concurrent_queue.specs.Step.{rank, rank_by, rank_bounded, rank_first}
 use Rattle.concurrent_queue.specs.Single.{start}
@@ -26,7 +26,6 @@ use Rattle.async_channel.specs.declared.reply.Reply.{Reply}
 use Rattle.async_channel.specs.declared.stage.Aim.{Aim}
 use Rattle.async_channel.specs.declared.stage.Aim.TheVariants as aim
 use Rattle.async_channel.specs.declared.stage.Closer.{Closer}
-use Rattle.async_channel.specs.declared.stage.Closer.TheVariants as closer
 use Rattle.async_channel.specs.declared.stage.Ending.{Ending}
 use Rattle.async_channel.specs.declared.stage.Held.{Held}
 use Rattle.async_channel.specs.declared.stage.Line.{Line}

@@ -1,6 +1,6 @@
 -- What a call that is alone at work does from each of its stages on.
-use Rattle.std.proofs.Common.{◌≡◌, ℕ, ◌+◌, ◌*◌, ◌<◌, ◌≤◌, ◌^◌, ◌==◌, ◌&&◌, nat_lt, not, Bool, true, false, if◌then◌else◌, List, [], ◌∷◌, ◌++◌, Option, None, Some, is_some, Result, Ok, Err, ◌⊎◌, inl, inr, refl, sym, ap, ◌∙◌, subst, arith}
-use Rattle.concurrent_queue.specs.Queue.{Queue, Phase, asked, is_filled, is_full_at}
+use Rattle.std.proofs.Common.{◌≡◌, ◌==◌, true, if◌then◌else◌, List, [], ◌∷◌, Option, None, Some, ◌⊎◌, subst}
+use Rattle.concurrent_queue.specs.Queue.{Phase}
 use Rattle.concurrent_queue.specs.declared.call.QueueAsk.{QueueAsk}
 use Rattle.concurrent_queue.specs.declared.call.QueueAsk.TheVariants as ask
 use Rattle.event_listener.specs.declared.key.Key.{Key}
@@ -9,7 +9,6 @@ use Rattle.async_channel.specs.declared.reply.Reply.{Reply}
 use Rattle.async_channel.specs.declared.reply.Reply.TheVariants as reply
 use Rattle.async_channel.specs.declared.stage.Aim.{Aim}
 use Rattle.async_channel.specs.declared.stage.Aim.TheVariants as aim
-use Rattle.async_channel.specs.declared.stage.Closer.{Closer}
 use Rattle.async_channel.specs.declared.stage.Ending.{Ending}
 use Rattle.async_channel.specs.declared.stage.Held.{Held}
 use Rattle.async_channel.specs.declared.stage.Line.{Line}
@@ -21,15 +20,14 @@ use Rattle.async_channel.specs.declared.stage.Stage.{Stage}
 use Rattle.async_channel.specs.declared.stage.Stage.TheVariants.{Trying, Working, Finished}
 use Rattle.async_channel.specs.declared.stage.Turn.{Turn}
 use Rattle.async_channel.specs.declared.stage.Turn.TheVariants.{Tries, Works, Ends}
-use Rattle.async_channel.specs.declared.stage.Waiting.{Waiting}
 use Rattle.async_channel.specs.declared.stage.Work.{Work}
 use Rattle.async_channel.specs.declared.stage.Work.TheVariants.{TellReceive, TellStreams, TellSend, TellAll, Insert, Register, Leave, Lower, Count, Load, Raise}
 use Rattle.event_listener.specs.Lists.{kind_of}
 use Rattle.event_listener.specs.declared.error.ListenError.{ListenError}
 use Rattle.async_channel.specs.Parts.{listeners, count, is_raised}
 use Rattle.async_channel.specs.Turns.{line_of, message_of, ask_of, leaving, nothing_kept, ends_by, refused_reply, closer_ending}
-use Rattle.async_channel.specs.Moves.{Channel, Effect, Turned, tells_all, listens, registers, raises}
-use Rattle.channel_alone.specs.Alone.{Outcome, Where, after_waking, answers, ends, of_message, of_room, of_closing, says_only, closes, Registers, PollsSend, PollsReceive, PollsStream, PollsClosing, drops, clones, Alone}
+use Rattle.async_channel.specs.Moves.{Channel, Effect, Turned, tells_all, listens, raises}
+use Rattle.channel_alone.specs.Alone.{Outcome, Where, answers, ends, of_message, of_room, of_closing, says_only, closes, Registers, PollsSend, PollsReceive, PollsStream, PollsClosing, drops, clones, Alone}
 
 module _ {T W : Type 0} where
   -- a try that begins, by what it asks of the queue and what for; no other asks are made for these

@@ -1,7 +1,7 @@
 -- What one call of the queue gives where nobody else is at work.
-use Rattle.std.proofs.Common.{◌≡◌, ℕ, ◌+◌, ◌<◌, ◌^◌, ◌≤◌, Bool, true, false, not, if◌then◌else◌, List, [], ◌∷◌, ◌++◌, length, drop, Option, None, Some, Result, Ok, Err, ◌⊎◌, inl, inr, refl, sym, ap, ◌∙◌, subst, arith, length-append}
+use Rattle.std.proofs.Common.{◌≡◌, ℕ, ◌+◌, ◌≤◌, Bool, true, false, not, List, [], ◌∷◌, ◌++◌, length, drop, Option, None, Some, Ok, Err, ◌⊎◌, inl, inr, refl, sym, ap, ◌∙◌, subst, arith, length-append}
 use Rattle.concurrent_queue.specs.Contents.{Contents}
-use Rattle.concurrent_queue.specs.Queue.{Queue, Stage, trying, displaced, appended, taken, read, measured, Phase, asked, marked, after, message, is_displaced, is_filled, GoesPush, GoesForce, GoesPop, GoesOn, Goes, AnswersPush, AnswersForce, AnswersPop, AnswersTo, Answers}
+use Rattle.concurrent_queue.specs.Queue.{Queue, Stage, trying, displaced, appended, taken, read, measured, Phase, asked, marked, after, is_displaced, GoesPush, GoesForce, GoesPop, GoesOn, Goes, AnswersTo, Answers}
 use Rattle.concurrent_queue.specs.Step.{Fits}
 use Rattle.concurrent_queue.specs.Alone.{Held, Gives}
 use Rattle.concurrent_queue.specs.declared.call.QueueAsk.{QueueAsk}

@@ -1,12 +1,11 @@
 -- A step on a list or on a count of a call that is alone at work.
-use Rattle.std.proofs.Common.{◌≡◌, ℕ, ◌+◌, ◌-◌, ◌*◌, ◌/◌, ◌<◌, ◌≤◌, ◌^◌, ◌==◌, ◌&&◌, nat_lt, not, Bool, true, false, if◌then◌else◌, List, [], ◌∷◌, ◌++◌, Option, None, Some, is_some, Result, Ok, Err, ◌⊎◌, inl, inr, refl, sym, ap, ◌∙◌, subst, arith}
+use Rattle.std.proofs.Common.{◌≡◌, ℕ, ◌+◌, ◌-◌, ◌<◌, ◌^◌, ◌==◌, ◌&&◌, nat_lt, Bool, true, false, if◌then◌else◌, [], Option, None, Some, inl, inr, refl, sym, ap, subst, arith}
 use Rattle.std.proofs.lemmas.Bool.Decides.{nat_tests}
-use Rattle.concurrent_queue.specs.Queue.{Queue, Phase}
+use Rattle.concurrent_queue.specs.Queue.{Phase}
 use Rattle.concurrent_queue.specs.declared.call.QueueAsk.TheVariants as ask
 use Rattle.event_listener.specs.declared.key.Key.{Key}
 use Rattle.event_listener.specs.declared.error.ListenError.{ListenError}
 use Rattle.event_listener.specs.Lists.{kind_of, listened}
-use Rattle.async_channel.specs.declared.mark.Mark.{Mark}
 use Rattle.async_channel.specs.declared.reply.Reply.{Reply}
 use Rattle.async_channel.specs.declared.reply.Reply.TheVariants as reply
 use Rattle.async_channel.specs.declared.stage.Aim.TheVariants as aim
@@ -18,7 +17,6 @@ use Rattle.async_channel.specs.declared.stage.Line.TheVariants.{Sends, Receives,
 use Rattle.async_channel.specs.declared.stage.Making.{Making}
 use Rattle.async_channel.specs.declared.stage.Making.TheVariants as making
 use Rattle.async_channel.specs.declared.stage.Side.{Side}
-use Rattle.async_channel.specs.declared.stage.Side.TheVariants.{Senders, Receivers}
 use Rattle.async_channel.specs.declared.stage.Stage.{Stage}
 use Rattle.async_channel.specs.declared.stage.Turn.{Turn}
 use Rattle.async_channel.specs.declared.stage.Turn.TheVariants.{Tries, Works, Ends}
@@ -29,11 +27,11 @@ use Rattle.async_channel.specs.Marks.{up}
 use Rattle.async_channel.specs.Parts.{Roster, Listeners, listeners, with_listeners, waits, count, is_raised}
 use Rattle.async_channel.specs.Turns.{most, line_of, message_of, ask_of, leaving, nothing_kept, ends_by, again, pends_by, pending_reply, unlistened, closer_ending, dropper, told_all_next, lowered_next, counted_next, loaded_next, raised_next}
 use Rattle.async_channel.specs.Moves.{Channel, Effect, Turned, Worked, tells_one, tells_all, listens, registers, leaves, lowers, raises, untouched, on_count}
-use Rattle.channel_alone.specs.Alone.{Outcome, Where, after_waking, answers, ends, closes, clones, Registers}
-use Rattle.channel_alone.proofs.Order.{order_turn, order_work, ends_soon, below_both}
-use Rattle.channel_alone.proofs.Rest.{RestTry, RestWork, RestTurn, RestLoad, of_closing_from, ends_rest}
+use Rattle.channel_alone.specs.Alone.{Outcome, Where, after_waking, answers, ends, closes, clones}
+use Rattle.channel_alone.proofs.Order.{order_turn, order_work, ends_soon}
+use Rattle.channel_alone.proofs.Rest.{RestTry, RestWork, RestTurn, RestLoad, ends_rest}
 use Rattle.channel_alone.proofs.LineFacts.{fresh_waits}
-use Rattle.channel_alone.proofs.AnswerFacts.{same_line, pick_then, pick_else, given_then}
+use Rattle.channel_alone.proofs.AnswerFacts.{same_line, given_then}
 
 raised_now : (n : ℕ) → nat_lt most n ≡ false → ((n == n) && nat_lt n (2 ^ 64 - 1)) ≡ true
 raised_now n e = grind (arith, nat_tests)

@@ -1,6 +1,6 @@
 -- What a call of a channel does where nobody else is at work: what it answers, what it leaves to its operation, whom it
 -- wakes in order, and the channel after it.
-use Rattle.std.specs.Prelude.{◌≡◌, ℕ, ◌+◌, ◌==◌, ◌&&◌, nat_lt, Bool, true, false, if◌then◌else◌, List, [], ◌∷◌, ◌++◌, drop, length, slice_get, Option, None, Some, Result, Ok, Err, ◌⊎◌}
+use Rattle.std.specs.Prelude.{◌≡◌, ◌+◌, ◌==◌, ◌&&◌, nat_lt, Bool, true, false, if◌then◌else◌, List, [], ◌∷◌, ◌++◌, drop, length, slice_get, Option, None, Some, Ok, Err, ◌⊎◌}
 use Rattle.concurrent_queue.specs.Queue.{Queue, is_filled}
 use Rattle.event_listener.specs.Lists.{kind_of}
 use Rattle.event_listener.specs.declared.key.Key.{Key}
@@ -17,13 +17,12 @@ use Rattle.async_channel.specs.declared.stage.Closer.{Closer}
 use Rattle.async_channel.specs.declared.stage.Closer.TheVariants as closer
 use Rattle.async_channel.specs.declared.stage.Ending.{Ending}
 use Rattle.async_channel.specs.declared.stage.Kept.{Kept}
-use Rattle.async_channel.specs.declared.stage.Line.{Line}
 use Rattle.async_channel.specs.declared.stage.Line.TheVariants.{Sends, Receives, Streams, Closings}
 use Rattle.async_channel.specs.declared.stage.Side.{Side}
 use Rattle.async_channel.specs.declared.stage.Side.TheVariants.{Senders, Receivers}
 use Rattle.async_channel.specs.declared.stage.Waiting.{Waiting}
 use Rattle.async_channel.specs.declared.stage.Waiting.TheVariants as waiting
-use Rattle.async_channel.specs.Parts.{Listeners, listeners, count, waits}
+use Rattle.async_channel.specs.Parts.{listeners, count, waits}
 use Rattle.async_channel.specs.Turns.{most, says, leaving, nothing_kept, line_of, message_of, pending_reply, refused_reply, closer_ending, dropper}
 use Rattle.async_channel.specs.Answered.{over}
 use Rattle.async_channel.specs.Asks.{is_refused, gives_up}
@@ -130,7 +129,7 @@ module _ {T W : Type 0} where
   abbrev pub Listens : Waiting T → W → Channel T W → Outcome T W → Type 0
   Listens w task c o =
       ((key : Key) × (kind_of (listeners (line_of w) c.roster) key ≡ None)
-          × (o ≡ answers (pending_reply (line_of w)) (leaving (Some key) (message_of w)) (registers (line_of w) key task (listens (line_of w) key c).channel).channel))
+      × (o ≡ answers (pending_reply (line_of w)) (leaving (Some key) (message_of w)) (registers (line_of w) key task (listens (line_of w) key c).channel).channel))
       ⊎ ((error : ListenError) × (o ≡ answers (refused_reply (line_of w) error) (leaving None (message_of w)) c))
 
   -- a listener that it holds and that waits keeps the task; one that was told is used up

@@ -1,11 +1,11 @@
 -- A call that is stepped to its end with nobody else at work.
-use Rattle.std.specs.Prelude.{◌≡◌, ◌+◌, ◌<◌, ◌≤◌, ◌^◌, List, [], Some, ◌⊎◌}
+use Rattle.std.specs.Prelude.{◌≡◌, ◌+◌, ◌<◌, ◌≤◌, ◌^◌, [], Some, ◌⊎◌}
 use Rattle.concurrent_queue.specs.Queue.{Queue}
 use Rattle.concurrent_queue.specs.Step.{Fits}
 use Rattle.event_listener.specs.Notices.{Woken}
 use Rattle.async_channel.specs.declared.ask.ChannelAsk.{ChannelAsk}
 use Rattle.async_channel.specs.Parts.{Parts}
-use Rattle.async_channel.specs.Moves.{Channel, channel}
+use Rattle.async_channel.specs.Moves.{channel}
 use Rattle.channel_alone.specs.Alone.{Outcome, Alone}
 use Rattle.channel_alone.specs.declared.run.Done.{Done}
 

@@ -198,7 +198,11 @@ fn the_last_handle_closes(rt: HostRuntime) -> Result<(), Fail> {
     assert!(rt; matches!(done.reply, Reply::ClosedPoll(Poll::Ready(Ok(())))));
     let done = run(ChannelAsk::SameChannel(true), &mut channel, &mut names);
     assert!(rt; matches!(done.reply, Reply::Flag(true)));
-    let done = run(ChannelAsk::SendIsTerminated(false), &mut channel, &mut names);
+    let done = run(
+        ChannelAsk::SendIsTerminated(false),
+        &mut channel,
+        &mut names,
+    );
     assert!(rt; matches!(done.reply, Reply::Flag(false)));
     let done = run(ChannelAsk::Make, &mut channel, &mut names);
     assert!(rt; matches!(done.reply, Reply::Made));
