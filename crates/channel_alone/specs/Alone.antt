@@ -86,23 +86,15 @@ module _ {T W : Type 0} where
 
   -- ---- calls that do not wait
 
-  -- the two refusals of a message, and its coming in
-  abbrev pub sends_by : Ending T → Ending T → Ending T → T → Channel T W → Outcome T W
-  sends_by closed full sent m c =
-      if c.queue.closed then ends [] closed c else (if is_filled c.queue then ends [] full c else ends of_message sent (over_queue (appended m) c))
-
   -- only where a queue has no bound may memory be refused to a message
   abbrev pub MayLackRoom : Ending T → Channel T W → Outcome T W → Type 0
   MayLackRoom x c o = (c.queue.capacity ≡ None) × (o ≡ ends [] x c)
 
   abbrev pub sends : T → Channel T W → Outcome T W
   sends m c =
-      sends_by
-      (says (reply.TrySend (Err (refused.Plain (try_send_error.Closed m)))))
-      (says (reply.TrySend (Err (refused.Plain (try_send_error.Full m)))))
-      (says (reply.TrySend (Ok tt)))
-      m
-      c
+      if c.queue.closed then ends [] (says (reply.TrySend (Err (refused.Plain (try_send_error.Closed m))))) c
+      else (if is_filled c.queue then ends [] (says (reply.TrySend (Err (refused.Plain (try_send_error.Full m))))) c
+      else ends of_message (says (reply.TrySend (Ok tt))) (over_queue (appended m) c))
 
   -- the oldest message of a full channel is displaced; no send is told
   abbrev pub force_sends : T → Channel T W → Outcome T W

@@ -30,6 +30,13 @@ impl Wakes<u32> for Names {
     }
 }
 
+/// A sink that was given nothing.
+fn no_names(rt: &impl AllocGlobal) -> Names {
+    Names {
+        woken: Vec::new(rt.alloc()),
+    }
+}
+
 /// A channel of one slot.
 fn one_slot(alloc: Global) -> Result<PlainChannel<u64, u32>, AllocError>
     ensures { IfOk result (λ channel. IsOneSlot (parts_of channel)) }
@@ -52,9 +59,7 @@ fn run(
 #[test]
 fn messages_go_in_and_out(rt: HostRuntime) -> Result<(), Fail> {
     let mut channel = one_slot(rt.alloc())?;
-    let mut names = Names {
-        woken: Vec::new(rt.alloc()),
-    };
+    let mut names = no_names(&rt);
     let done = run(ChannelAsk::TrySend(10), &mut channel, &mut names);
     assert!(rt; matches!(done.reply, Reply::TrySend(Ok(()))));
     let done = run(ChannelAsk::TrySend(20), &mut channel, &mut names);
@@ -78,8 +83,6 @@ fn messages_go_in_and_out(rt: HostRuntime) -> Result<(), Fail> {
     assert!(rt; matches!(done.reply, Reply::TryRecv(Err(TryRecvError::Empty))));
     let done = run(ChannelAsk::IsEmpty, &mut channel, &mut names);
     assert!(rt; matches!(done.reply, Reply::Flag(true)));
-    let done = run(ChannelAsk::PollFinishedSend, &mut channel, &mut names);
-    assert!(rt; matches!(done.reply, Reply::SendPoll(Poll::Pending)));
     assert_eq!(rt; names.woken.len(), 0);
     Ok(())
 }
@@ -87,9 +90,7 @@ fn messages_go_in_and_out(rt: HostRuntime) -> Result<(), Fail> {
 #[test]
 fn those_who_wait_are_told_in_order(rt: HostRuntime) -> Result<(), Fail> {
     let mut channel = one_slot(rt.alloc())?;
-    let mut names = Names {
-        woken: Vec::new(rt.alloc()),
-    };
+    let mut names = no_names(&rt);
     let first = run(ChannelAsk::PollRecv(None, 1), &mut channel, &mut names);
     assert!(rt; matches!(first.reply, Reply::RecvPoll(Poll::Pending)));
     let second = run(ChannelAsk::PollRecv(None, 2), &mut channel, &mut names);
@@ -121,9 +122,7 @@ fn those_who_wait_are_told_in_order(rt: HostRuntime) -> Result<(), Fail> {
 #[test]
 fn a_full_channel_keeps_the_message_of_a_send(rt: HostRuntime) -> Result<(), Fail> {
     let mut channel = one_slot(rt.alloc())?;
-    let mut names = Names {
-        woken: Vec::new(rt.alloc()),
-    };
+    let mut names = no_names(&rt);
     let done = run(ChannelAsk::PollSend(1, None, 1), &mut channel, &mut names);
     assert!(rt; matches!(done.reply, Reply::SendPoll(Poll::Ready(Ok(())))));
     let kept = run(ChannelAsk::PollSend(2, None, 2), &mut channel, &mut names).kept;
@@ -136,11 +135,21 @@ fn a_full_channel_keeps_the_message_of_a_send(rt: HostRuntime) -> Result<(), Fai
     let done = run(give_up, &mut channel, &mut names);
     assert!(rt; matches!(done.reply, Reply::GivenUp(Some(2))));
     assert_eq!(rt; names.woken.as_slice(), [2, 3].as_slice());
+    let poll = ChannelAsk::PollSend(3, last.key, 3);
+    let done = run(poll, &mut channel, &mut names);
+    assert!(rt; matches!(done.reply, Reply::SendPoll(Poll::Ready(Ok(())))));
+    Ok(())
+}
+
+#[test]
+fn a_closed_channel_refuses(rt: HostRuntime) -> Result<(), Fail> {
+    let mut channel = one_slot(rt.alloc())?;
+    let mut names = no_names(&rt);
     let done = run(ChannelAsk::Close, &mut channel, &mut names);
     assert!(rt; matches!(done.reply, Reply::Closed(true)));
     let done = run(ChannelAsk::Close, &mut channel, &mut names);
     assert!(rt; matches!(done.reply, Reply::Closed(false)));
-    let poll = ChannelAsk::PollSend(3, last.key, 3);
+    let poll = ChannelAsk::PollSend(3, None, 3);
     let done = run(poll, &mut channel, &mut names);
     assert!(rt;
         matches!(
@@ -159,29 +168,32 @@ fn a_full_channel_keeps_the_message_of_a_send(rt: HostRuntime) -> Result<(), Fai
 }
 
 #[test]
-fn the_last_handle_closes(rt: HostRuntime) -> Result<(), Fail> {
+fn handles_are_counted(rt: HostRuntime) -> Result<(), Fail> {
     let mut channel = one_slot(rt.alloc())?;
-    let mut names = Names {
-        woken: Vec::new(rt.alloc()),
-    };
-    let closing = run(ChannelAsk::PollClosed(None, 4), &mut channel, &mut names);
-    assert!(rt; matches!(closing.reply, Reply::ClosedPoll(Poll::Pending)));
-    let stream = run(ChannelAsk::PollNext(None, 3), &mut channel, &mut names);
-    let made = run(
-        ChannelAsk::CloneHandle(Side::Senders),
-        &mut channel,
-        &mut names,
-    );
-    assert!(rt; matches!(made.reply, Reply::Made));
+    let mut names = no_names(&rt);
+    let ask = ChannelAsk::CloneHandle(Side::Senders);
+    let done = run(ask, &mut channel, &mut names);
+    assert!(rt; matches!(done.reply, Reply::Made));
     let done = run(ChannelAsk::DropSender, &mut channel, &mut names);
     assert!(rt; matches!(done.reply, Reply::Unit));
-    assert_eq!(rt; names.woken.len(), 0);
-    let ask = ChannelAsk::HandleCount(Side::Senders);
-    let done = run(ask, &mut channel, &mut names);
-    assert!(rt; matches!(done.reply, Reply::Count(1)));
     let ask = ChannelAsk::Upgrade(Side::Senders);
     let done = run(ask, &mut channel, &mut names);
     assert!(rt; matches!(done.reply, Reply::Made));
+    let ask = ChannelAsk::HandleCount(Side::Senders);
+    let done = run(ask, &mut channel, &mut names);
+    assert!(rt; matches!(done.reply, Reply::Count(2)));
+    let done = run(ChannelAsk::IsClosed, &mut channel, &mut names);
+    assert!(rt; matches!(done.reply, Reply::Flag(false)));
+    Ok(())
+}
+
+#[test]
+fn the_last_receiver_closes_before_its_listener_leaves(rt: HostRuntime) -> Result<(), Fail> {
+    let mut channel = one_slot(rt.alloc())?;
+    let mut names = no_names(&rt);
+    let closing = run(ChannelAsk::PollClosed(None, 4), &mut channel, &mut names);
+    assert!(rt; matches!(closing.reply, Reply::ClosedPoll(Poll::Pending)));
+    let stream = run(ChannelAsk::PollNext(None, 3), &mut channel, &mut names);
     let ask = ChannelAsk::DropReceiver(stream.kept.key);
     let done = run(ask, &mut channel, &mut names);
     assert!(rt; matches!(done.reply, Reply::Unit));
@@ -191,11 +203,18 @@ fn the_last_handle_closes(rt: HostRuntime) -> Result<(), Fail> {
     assert!(rt; matches!(done.reply, Reply::NotMade));
     let done = run(ChannelAsk::IsTerminated, &mut channel, &mut names);
     assert!(rt; matches!(done.reply, Reply::Flag(true)));
-    let done = run(ChannelAsk::IsClosed, &mut channel, &mut names);
-    assert!(rt; matches!(done.reply, Reply::Flag(true)));
     let poll = ChannelAsk::PollClosed(closing.kept.key, 4);
     let done = run(poll, &mut channel, &mut names);
     assert!(rt; matches!(done.reply, Reply::ClosedPoll(Poll::Ready(Ok(())))));
+    Ok(())
+}
+
+#[test]
+fn calls_that_touch_nothing(rt: HostRuntime) -> Result<(), Fail> {
+    let mut channel = one_slot(rt.alloc())?;
+    let mut names = no_names(&rt);
+    let done = run(ChannelAsk::PollFinishedSend, &mut channel, &mut names);
+    assert!(rt; matches!(done.reply, Reply::SendPoll(Poll::Pending)));
     let done = run(ChannelAsk::SameChannel(true), &mut channel, &mut names);
     assert!(rt; matches!(done.reply, Reply::Flag(true)));
     let done = run(
@@ -208,5 +227,6 @@ fn the_last_handle_closes(rt: HostRuntime) -> Result<(), Fail> {
     assert!(rt; matches!(done.reply, Reply::Made));
     let done = run(ChannelAsk::DropWeak, &mut channel, &mut names);
     assert!(rt; matches!(done.reply, Reply::Unit));
+    assert_eq!(rt; names.woken.len(), 0);
     Ok(())
 }
