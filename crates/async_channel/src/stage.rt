@@ -1,0 +1,159 @@
+//! How far a call of a channel has come. All of it is own to this project.
+
+use crate::reply::Reply;
+use concurrent_queue::call::QueueAsk;
+use event_listener::key::Key;
+
+/// One of a channel's four lists of listeners, and so one of the four kinds of waiting operations.
+#[derive(Clone, Copy, PartialEq, Eq, Debug)]
+pub enum Line {
+    /// Sends, which wait for a free place.
+    Sends,
+    /// Receives, which wait for a message.
+    Receives,
+    /// Receivers polled as streams, which wait for a message.
+    Streams,
+    /// Those who wait for the channel's closing.
+    Closings,
+}
+
+/// One of the two kinds of strong handles, each with its count.
+#[derive(Clone, Copy, PartialEq, Eq, Debug)]
+pub enum Side {
+    /// Senders.
+    Senders,
+    /// Receivers.
+    Receivers,
+}
+
+/// A listener that an operation holds.
+#[derive(Clone, Copy, PartialEq, Eq, Debug)]
+pub struct Held {
+    /// The list that it is on.
+    pub line: Line,
+    /// Its name there.
+    pub key: Key,
+}
+
+/// How a call ends once it has told whom it has to tell: it drops the listener that it still holds, and answers.
+#[derive(Drop)]
+pub struct Ending<T> {
+    /// What it answers.
+    pub reply: Reply<T>,
+    /// The message that stays with a send.
+    pub message: Option<T>,
+    /// The listener to be dropped.
+    pub held: Option<Held>,
+}
+
+/// What a call that has answered leaves to its operation.
+#[derive(Drop)]
+pub struct Kept<T> {
+    /// The listener of an operation that is pending.
+    pub key: Option<Key>,
+    /// The message of a send that isn't finished.
+    pub message: Option<T>,
+}
+
+/// Who closes, and so what is answered and dropped at the end.
+#[derive(Clone, Copy, PartialEq, Eq, Debug)]
+pub enum Closer {
+    /// A call that closes by hand.
+    Call,
+    /// The drop of the last sender.
+    Sender,
+    /// The drop of the last receiver, which may hold a listener as a stream.
+    Receiver(Option<Key>),
+}
+
+/// A waiting operation, with the message that a send brings.
+#[derive(Drop)]
+pub enum Waiting<T> {
+    /// A send of this message.
+    Send(T),
+    /// A receive.
+    Receive,
+    /// A receiver polled as a stream.
+    Stream,
+    /// A wait for the closing.
+    Closing,
+}
+
+/// Why a count is raised.
+#[derive(Clone, Copy, PartialEq, Eq, Debug)]
+pub enum Making {
+    /// A strong handle is cloned.
+    Clone,
+    /// A weak handle is upgraded.
+    Upgrade,
+}
+
+/// What a call of the queue is made for.
+#[derive(Drop)]
+pub enum Aim<W> {
+    /// A send that doesn't wait.
+    TrySend,
+    /// A send that displaces.
+    ForceSend,
+    /// A receive that doesn't wait.
+    TryRecv,
+    /// A try of a polled operation of this kind, which may hold a listener, and its task.
+    Poll(Line, Option<Key>, W),
+    /// A closing.
+    Close(Closer),
+    /// A question that the queue's answer answers.
+    Ask,
+    /// Whether a receiver has got its last message: closed is asked first, then empty.
+    IsTerminated,
+    /// Whether a weak handle of this kind may still be upgraded.
+    Upgrade(Side),
+}
+
+/// A step on a list or on a count that is made next, and why.
+#[derive(Drop)]
+pub enum Work<T, W> {
+    /// A message is in: one more receive is told, the streams next.
+    TellReceive(Ending<T>),
+    /// All streams are told.
+    TellStreams(Ending<T>),
+    /// A message is taken: one more send is told.
+    TellSend(Ending<T>),
+    /// The channel is closed: all of this list are told, those of the later lists next.
+    TellAll(Line, Closer),
+    /// An operation that was refused listens, and tries again.
+    Insert(Waiting<T>, W),
+    /// An operation that was refused asks its listener: told, it tries again; else its poll ends.
+    Register(Waiting<T>, Key, W),
+    /// A listener that is still held is dropped, and the call answers.
+    Leave(Ending<T>),
+    /// A strong handle of this kind is dropped; a receiver may hold a listener as a stream.
+    Lower(Side, Option<Key>),
+    /// A count is asked for.
+    Count(Side),
+    /// A count is read before it is raised.
+    Load(Side, Making),
+    /// A count is raised by one, if it is still this one.
+    Raise(Side, usize, Making),
+}
+
+/// How far a call has come. `Q` is its call of the queue that is under way.
+#[derive(Drop)]
+pub enum Stage<Q, T, W> {
+    /// The queue's call has the next step.
+    Trying(Q, Aim<W>),
+    /// A list or a count has the next step.
+    Working(Work<T, W>),
+    /// The call has answered.
+    Finished(Kept<T>),
+}
+
+/// What comes after a step on a list or a count, or after an answer of the queue.
+#[derive(Drop)]
+pub enum Turn<T, W> {
+    /// A new call of the queue.
+    Tries(QueueAsk<T>, Aim<W>),
+    /// A step on a list or a count.
+    Works(Work<T, W>),
+    /// The answer.
+    Ends(Reply<T>, Kept<T>),
+}

@@ -1,0 +1,265 @@
+-- The queue answers, and what is known of the call after that.
+use Rattle.std.proofs.Common.{◌≡◌, ℕ, ◌+◌, ◌<◌, ◌≤◌, ◌==◌, true, false, List, [], ◌∷◌, ◌++◌, length, Option, None, Some, Ok, Err, ◌⊎◌, ⊎_elim, inl, inr, refl, sym, ap, ◌∙◌, subst, arith}
+use Rattle.concurrent_queue.specs.Queue.{trying, displaced, appended, taken, read, measured, is_filled, is_full_at, AnswersTo, AnswersPush, AnswersForce, AnswersPop, AnswersClose, AnswersShut, AnswersEmpty, AnswersFull, AnswersLen, AnswersCapacity}
+use Rattle.concurrent_queue.specs.Queue as queue
+use Rattle.concurrent_queue.specs.declared.call.QueueAsk.{QueueAsk}
+use Rattle.concurrent_queue.specs.declared.call.QueueAsk.TheVariants as ask
+use Rattle.concurrent_queue.specs.declared.call.QueueMark.{QueueMark}
+use Rattle.concurrent_queue.specs.declared.call.QueueMark.TheVariants.{Nothing, Close}
+use Rattle.concurrent_queue.specs.declared.call.QueueReply.{QueueReply}
+use Rattle.concurrent_queue.specs.declared.call.QueueReply.TheVariants.{Push, Force, Pop, Flag, Count, Cap}
+use Rattle.concurrent_queue.specs.declared.call.QueueReply.TheVariants as answer
+use Rattle.concurrent_queue.specs.declared.error.PushError.TheVariants as push_error
+use Rattle.concurrent_queue.specs.declared.error.ForcePushError.TheVariants as force_error
+use Rattle.concurrent_queue.specs.declared.error.PopError.TheVariants as pop_error
+use Rattle.event_listener.specs.declared.key.Key.{Key}
+use Rattle.async_channel.specs.Answered.{over, sent_next, forced_next, received_next, send_next, receive_next, stream_next, closing_next, closed_next, asked_next, terminated_next, upgraded_next, answered_next}
+use Rattle.async_channel.specs.Marks.{mark_of_queue, down}
+use Rattle.async_channel.specs.Moves.{Channel}
+use Rattle.async_channel.specs.Turns.{leaving, closer_ending}
+use Rattle.async_channel.specs.declared.ask.ChannelAsk.{ChannelAsk}
+use Rattle.async_channel.specs.declared.ask.ChannelAsk.TheVariants as channel
+use Rattle.async_channel.specs.declared.mark.Mark.{Mark}
+use Rattle.async_channel.specs.declared.error.Refused.TheVariants as refused
+use Rattle.async_channel.specs.declared.reply.Reply.TheVariants as reply
+use Rattle.async_channel.specs.declared.stage.Aim.{Aim}
+use Rattle.async_channel.specs.declared.stage.Aim.TheVariants as aim
+use Rattle.async_channel.specs.declared.stage.Closer.TheVariants as closer
+use Rattle.async_channel.specs.declared.stage.Kept.{Kept}
+use Rattle.async_channel.specs.declared.stage.Line.TheVariants.{Sends, Receives, Streams, Closings}
+use Rattle.async_channel.specs.declared.stage.Side.{Side}
+use Rattle.async_channel.specs.declared.stage.Side.TheVariants.{Senders, Receivers}
+use Rattle.async_channel.specs.declared.stage.Turn.{Turn}
+use Rattle.futures.specs.declared.task.Poll.TheVariants.{Ready}
+use Rattle.channel_steps.specs.Moments.{Deed, with_deed, Open, Shut, HasRoom, HasMessage, is_empty, Once, Appended, Took, Replaced, Displaced, LeftLast}
+use Rattle.channel_steps.specs.Known.{TriesFor, TryAt, all_from}
+use Rattle.channel_steps.specs.Scene.{IsBalanced}
+use Rattle.channel_steps.specs.Tellings.{Telling, one_of, all_of, owed_for, owed}
+use Rattle.channel_steps.proofs.TryFacts.{ne_of, stuck_seen, next_channel}
+use Rattle.channel_steps.proofs.TurnFacts.{TurnAt, owes_nothing, ended}
+
+-- what a message owes
+abbrev pub news : List Telling
+news = one_of Receives ∷ all_of Streams ∷ []
+
+module _ {T W : Type 0} where
+  -- ---- what marks owe
+
+  owed_appended : (ds : List (Deed T W)) → Appended ds → news ≡ owed ds
+  owed_appended [] h = absurd h
+  owed_appended (d ∷ []) h = sym (ap (λ m. owed_for m ++ []) h.0)
+  owed_appended (d ∷ e ∷ ds) h = absurd h
+
+  owed_replaced : (ds : List (Deed T W)) (v : T) → Replaced ds v → news ≡ owed ds
+  owed_replaced [] v h = absurd h
+  owed_replaced (d ∷ []) v h = sym (ap (λ m. owed_for m ++ []) h.0)
+  owed_replaced (d ∷ e ∷ ds) v h = absurd h
+
+  owed_displaced : (ds : List (Deed T W)) (v : T) → Displaced ds v → news ≡ owed ds
+  owed_displaced [] v h = absurd h
+  owed_displaced (d ∷ []) v h = absurd h
+  owed_displaced (d ∷ e ∷ []) v h = sym (ap (λ m. owed_for m ++ (owed_for e.mark ++ [])) h.0.0 ∙ ap (λ m. owed_for m ++ []) h.1)
+  owed_displaced (d ∷ e ∷ f ∷ ds) v h = absurd h
+
+  owed_took : (ds : List (Deed T W)) (v : T) → Took ds v → (let one : List Telling = one_of Sends ∷ [] in one) ≡ owed ds
+  owed_took [] v h = absurd h
+  owed_took (d ∷ []) v h = sym (ap (λ m. owed_for m ++ []) h.0)
+  owed_took (d ∷ e ∷ ds) v h = absurd h
+
+  once_map : (P Q : Channel T W → Type 0) → ((c : Channel T W) → P c → Q c) → (seen : List (Channel T W)) → Once P seen → Once Q seen
+  once_map P Q f [] h = absurd h
+  once_map P Q f (c ∷ cs) (inl h) = inl (f c h)
+  once_map P Q f (c ∷ cs) (inr h) = inr (once_map P Q f cs h)
+
+  module _ (c : Channel T W) (seen : List (Channel T W)) where
+    -- what is known once the turn after an answer is taken; nobody has been told before
+    abbrev pub Then : ChannelAsk T W → QueueAsk T → queue.Stage T → QueueMark → List (Deed T W) → Turn T W → Type 0
+    Then x a st m ds turn = TurnAt (next_channel a st m c) x [] (with_deed ds (mark_of_queue m) c seen) (next_channel a st m c ∷ seen) turn
+
+    -- ---- sends
+
+    sent : (msg v : T) (ds : List (Deed T W)) → v ≡ msg → (m : QueueMark) (r : QueueReply T) (st : queue.Stage T) → AnswersPush c.queue v m r st → TryAt c (ask.Push v) st ds seen
+        → Then (channel.TrySend msg) (ask.Push v) st m ds (sent_next r)
+    sent msg v ds e Nothing (Push (Ok u)) (appended None) h ev = ((([], c ∷ seen, refl, ev), refl), owed_appended ds ev)
+    sent msg v ds e Nothing (Push (Err (push_error.Full w))) (trying b) h ev = ((([], c ∷ seen, refl, (h.0 ∙ e, ev.0, stuck_seen b c seen ev.1 h.2)), refl), owes_nothing ds ev.0)
+    sent msg v ds e Nothing (Push (Err (push_error.Closed w))) (trying b) h ev = ((([], c ∷ seen, refl, (h.0 ∙ e, ev.0, inl h.1)), refl), owes_nothing ds ev.0)
+    sent msg v ds e Nothing (Push (Err (push_error.NoMemory w))) (trying b) h ev = ((([], c ∷ seen, refl, (h.0 ∙ e, ev.0, inl h.1)), refl), owes_nothing ds ev.0)
+    sent msg v ds e m r st h ev = absurd h
+
+    forced : (msg v : T) (ds : List (Deed T W)) → v ≡ msg → (m : QueueMark) (r : QueueReply T) (st : queue.Stage T) → AnswersForce c.queue v m r st → TryAt c (ask.ForcePush v) st ds seen
+        → Then (channel.ForceSend msg) (ask.ForcePush v) st m ds (forced_next r)
+    forced msg v ds e Nothing (Force (Ok None)) (appended None) h ev = ((([], c ∷ seen, refl, ev), refl), owed_appended ds ev)
+    forced msg v ds e Nothing (Force (Ok None)) (appended (Some d)) h ev = absurd (let no : None ≡ Some d = h in cc)
+    forced msg v ds e Nothing (Force (Ok (Some w))) (appended None) h ev = absurd (let no : Some w ≡ None = h in cc)
+    forced msg v ds e Nothing (Force (Ok (Some w))) (appended (Some d)) h ev =
+        let same : Some w ≡ Some d = h in
+        let k : w ≡ d = cc in
+        ((([], c ∷ seen, refl, subst (λ (z : T). Replaced ds z ⊎ Displaced ds z) (sym k) ev), refl), ⊎_elim (λ z. owed_replaced ds d z) (λ z. owed_displaced ds d z) ev)
+    forced msg v ds e Nothing (Force (Err (force_error.Closed w))) (trying b) h ev = ((([], c ∷ seen, refl, (h.0 ∙ e, ev.0, inl h.1)), refl), owes_nothing ds ev.0)
+    forced msg v ds e Nothing (Force (Err (force_error.NoMemory w))) (trying b) h ev = ((([], c ∷ seen, refl, (h.0 ∙ e, ev.0, inl h.1)), refl), owes_nothing ds ev.0)
+    forced msg v ds e m r st h ev = absurd h
+
+    poll_sent : (msg v : T) (k : Option Key) (t : W) (key : Option Key) (task : W) (ds : List (Deed T W)) → v ≡ msg → (m : QueueMark) (r : QueueReply T) (st : queue.Stage T) → AnswersPush c.queue v m r st → TryAt c (ask.Push v) st ds seen
+        → Then (channel.PollSend msg k t) (ask.Push v) st m ds (send_next r key task)
+    poll_sent msg v k t key task ds e Nothing (Push (Ok u)) (appended None) h ev = ((([], c ∷ seen, refl, ev), refl), owed_appended ds ev)
+    poll_sent msg v k t None task ds e Nothing (Push (Err (push_error.Full w))) (trying b) h ev = ((h.0 ∙ e, ev.0), owes_nothing ds ev.0)
+    poll_sent msg v k t (Some key) task ds e Nothing (Push (Err (push_error.Full w))) (trying b) h ev = ((h.0 ∙ e, ev.0, stuck_seen b c seen ev.1 h.2), owes_nothing ds ev.0)
+    poll_sent msg v k t key task ds e Nothing (Push (Err (push_error.Closed w))) (trying b) h ev =
+        ended c (channel.PollSend msg k t) [] ds (c ∷ seen) (over (reply.SendPoll (Ready (Err (refused.Plain (record { 0 = w }))))) None Sends key)
+        (([], c ∷ seen, refl, (h.0 ∙ e, ev.0, inl h.1)), refl) (owes_nothing ds ev.0)
+    poll_sent msg v k t key task ds e Nothing (Push (Err (push_error.NoMemory w))) (trying b) h ev =
+        ended c (channel.PollSend msg k t) [] ds (c ∷ seen) (over (reply.SendPoll (Ready (Err (refused.NoMemory tt)))) (Some w) Sends key)
+        (([], c ∷ seen, refl, ev.0), ap (λ (z : T). let kept : Kept T = leaving None (Some z) in kept) (h.0 ∙ e)) (owes_nothing ds ev.0)
+    poll_sent msg v k t key task ds e m r st h ev = absurd h
+
+    -- ---- receives
+
+    received : (ds : List (Deed T W)) (m : QueueMark) (r : QueueReply T) (st : queue.Stage T) → AnswersPop c.queue m r st → TryAt c ask.Pop st ds seen
+        → Then channel.TryRecv ask.Pop st m ds (received_next r)
+    received ds Nothing (Pop (Ok w)) (taken v) h ev = ((([], c ∷ seen, refl, subst (λ (z : T). Took ds z) (sym h) ev), refl), owed_took ds v ev)
+    received ds Nothing (Pop (Err pop_error.Empty)) (trying b) h ev = ((([], c ∷ seen, refl, (ev, inl h)), refl), owes_nothing ds ev)
+    received ds Nothing (Pop (Err pop_error.Closed)) (trying b) h ev = ((([], c ∷ seen, refl, (ev, inl h)), refl), owes_nothing ds ev)
+    received ds m r st h ev = absurd h
+
+    poll_received : (k : Option Key) (t : W) (key : Option Key) (task : W) (ds : List (Deed T W)) (m : QueueMark) (r : QueueReply T) (st : queue.Stage T) → AnswersPop c.queue m r st → TryAt c ask.Pop st ds seen
+        → Then (channel.PollRecv k t) ask.Pop st m ds (receive_next r key task)
+    poll_received k t key task ds Nothing (Pop (Ok w)) (taken v) h ev = ((([], c ∷ seen, refl, subst (λ (z : T). Took ds z) (sym h) ev), refl), owed_took ds v ev)
+    poll_received k t None task ds Nothing (Pop (Err pop_error.Empty)) (trying b) h ev = ((tt, ev), owes_nothing ds ev)
+    poll_received k t (Some key) task ds Nothing (Pop (Err pop_error.Empty)) (trying b) h ev = ((tt, ev, inl h), owes_nothing ds ev)
+    poll_received k t key task ds Nothing (Pop (Err pop_error.Closed)) (trying b) h ev =
+        ended c (channel.PollRecv k t) [] ds (c ∷ seen) (over (reply.RecvPoll (Ready (Err (refused.Plain (record {}))))) None Receives key) (([], c ∷ seen, refl, (ev, inl h)), refl) (owes_nothing ds ev)
+    poll_received k t key task ds m r st h ev = absurd h
+
+    streamed : (k : Option Key) (t : W) (key : Option Key) (task : W) (ds : List (Deed T W)) (m : QueueMark) (r : QueueReply T) (st : queue.Stage T) → AnswersPop c.queue m r st → TryAt c ask.Pop st ds seen
+        → Then (channel.PollNext k t) ask.Pop st m ds (stream_next r key task)
+    streamed k t key task ds Nothing (Pop (Ok w)) (taken v) h ev = ((([], c ∷ seen, refl, subst (λ (z : T). Took ds z) (sym h) ev), refl), owed_took ds v ev)
+    streamed k t None task ds Nothing (Pop (Err pop_error.Empty)) (trying b) h ev = ((tt, ev), owes_nothing ds ev)
+    streamed k t (Some key) task ds Nothing (Pop (Err pop_error.Empty)) (trying b) h ev = ((tt, ev, tt), owes_nothing ds ev)
+    streamed k t key task ds Nothing (Pop (Err pop_error.Closed)) (trying b) h ev =
+        ended c (channel.PollNext k t) [] ds (c ∷ seen) (over (reply.Next (Ready None)) None Streams key) (([], c ∷ seen, refl, (ev, inl h)), refl) (owes_nothing ds ev)
+    streamed k t key task ds m r st h ev = absurd h
+
+    -- ---- closing
+
+    waited : (k : Option Key) (t : W) (key : Option Key) (task : W) (ds : List (Deed T W)) (m : QueueMark) (r : QueueReply T) (st : queue.Stage T) → AnswersShut c.queue m r st → TryAt c ask.IsClosed st ds seen
+        → Then (channel.PollClosed k t) ask.IsClosed st m ds (closing_next r key task)
+    waited k t key task ds Nothing (Flag true) (trying b) h ev =
+        ended c (channel.PollClosed k t) [] ds (c ∷ seen) (over (reply.ClosedPoll (Ready (Ok tt))) None Closings key) (([], c ∷ seen, refl, (ev, inl h)), refl) (owes_nothing ds ev)
+    waited k t None task ds Nothing (Flag false) (trying b) h ev = ((tt, ev), owes_nothing ds ev)
+    waited k t (Some key) task ds Nothing (Flag false) (trying b) h ev = ((tt, ev, inl h), owes_nothing ds ev)
+    waited k t key task ds m r st h ev = absurd h
+
+    closed_none : (m : QueueMark) (r : QueueReply T) (st : queue.Stage T) → AnswersClose c.queue m r st → Then channel.Close ask.Close st m [] (closed_next r closer.Call)
+    closed_none Close (answer.Close true) (trying b) h = ((([], _, refl, (refl, h)), refl), refl)
+    closed_none Nothing (answer.Close false) (trying b) h = ((([], c ∷ seen, refl, (refl, inl h)), refl), refl)
+    closed_none m r st h = absurd h
+
+    closed_by : (ds : List (Deed T W)) → ds ≡ [] → (m : QueueMark) (r : QueueReply T) (st : queue.Stage T) → AnswersClose c.queue m r st → Then channel.Close ask.Close st m ds (closed_next r closer.Call)
+    closed_by ds e m r st h = subst (λ (xs : List (Deed T W)). Then channel.Close ask.Close st m xs (closed_next r closer.Call)) (sym e) (closed_none m r st h)
+
+    owed_last : (side : Side) (m : Mark) → m ≡ down side → (ts : List Telling) → ts ≡ owed_for m ++ ts
+    owed_last Senders m e ts = sym (ap (λ x. owed_for x ++ ts) e)
+    owed_last Receivers m e ts = sym (ap (λ x. owed_for x ++ ts) e)
+
+    sender_left : (ds : List (Deed T W)) → LeftLast Senders ds seen → (m : QueueMark) (r : QueueReply T) (st : queue.Stage T) → AnswersClose c.queue m r st → Then channel.DropSender ask.Close st m ds (closed_next r closer.Sender)
+    sender_left [] l m r st h = absurd l
+    sender_left (d ∷ e ∷ ds) l m r st h = absurd l
+    sender_left (d ∷ []) l Close (answer.Close true) (trying b) h = ((([], _, refl, ((l.0, l.1, refl, h), refl)), refl), owed_last Senders d.mark l.0 (all_from Sends))
+    sender_left (d ∷ []) l Nothing (answer.Close false) (trying b) h =
+        ((([], c ∷ seen, refl, ((l.0, inr (c ∷ l.2, ap (λ (cs : List (Channel T W)). c ∷ cs) l.3, inl h)), refl)), refl), owed_last Senders d.mark l.0 [])
+    sender_left (d ∷ []) l m r st h = absurd h
+
+    receiver_left : (k key : Option Key) (ds : List (Deed T W)) → LeftLast Receivers ds seen → (m : QueueMark) (r : QueueReply T) (st : queue.Stage T) → AnswersClose c.queue m r st
+        → Then (channel.DropReceiver k) ask.Close st m ds (closed_next r (closer.Receiver key))
+    receiver_left k key [] l m r st h = absurd l
+    receiver_left k key (d ∷ e ∷ ds) l m r st h = absurd l
+    receiver_left k key (d ∷ []) l Close (answer.Close true) (trying b) h = ((([], _, refl, ((l.0, l.1, refl, h), refl)), refl), owed_last Receivers d.mark l.0 (all_from Sends))
+    receiver_left k key (d ∷ []) l Nothing (answer.Close false) (trying b) h =
+        ended c (channel.DropReceiver k) [] (d ∷ []) (c ∷ seen) (closer_ending (closer.Receiver key) false)
+        (([], c ∷ seen, refl, ((l.0, inr (c ∷ l.2, ap (λ (cs : List (Channel T W)). c ∷ cs) l.3, inl h)), refl)), refl) (owed_last Receivers d.mark l.0 [])
+    receiver_left k key (d ∷ []) l m r st h = absurd h
+
+    -- ---- questions
+
+    upgraded : (side s : Side) (ds : List (Deed T W)) → s ≡ side → (m : QueueMark) (r : QueueReply T) (st : queue.Stage T) → AnswersShut c.queue m r st → TryAt c ask.IsClosed st ds seen
+        → Then (channel.Upgrade side) ask.IsClosed st m ds (upgraded_next r s)
+    upgraded side s ds e Nothing (Flag true) (trying b) h ev = ((([], c ∷ seen, refl, (ev, inl (inl h))), refl), owes_nothing ds ev)
+    upgraded side s ds e Nothing (Flag false) (trying b) h ev = (((e, inl h), ev), owes_nothing ds ev)
+    upgraded side s ds e m r st h ev = absurd h
+
+    shut : (ds : List (Deed T W)) (m : QueueMark) (r : QueueReply T) (st : queue.Stage T) → AnswersShut c.queue m r st → TryAt c ask.IsClosed st ds seen → Then channel.IsClosed ask.IsClosed st m ds (asked_next r)
+    shut ds Nothing (Flag f) (trying b) h ev = ((([], c ∷ seen, refl, (ev, inl h)), refl), owes_nothing ds ev)
+    shut ds m r st h ev = absurd h
+
+    terminated : (ds : List (Deed T W)) (m : QueueMark) (r : QueueReply T) (st : queue.Stage T) → AnswersShut c.queue m r st → TryAt c ask.IsClosed st ds seen → Then channel.IsTerminated ask.IsClosed st m ds (terminated_next r)
+    terminated ds Nothing (Flag true) (trying b) h ev = ((inl h, ev), refl)
+    terminated ds Nothing (Flag false) (trying b) h ev = ((([], c ∷ seen, refl, (ev, inl (inl h))), refl), owes_nothing ds ev)
+    terminated ds m r st h ev = absurd h
+
+    none_there : c.queue.items ≡ [] → is_empty c ≡ true
+    none_there e = ap (λ (xs : List T). length xs == 0) e
+
+    some_there : (n : ℕ) → n < c.queue.accepted → Once HasMessage seen ⊎ (c.queue.accepted ≤ n) → Once HasMessage (c ∷ seen)
+    some_there n h (inl k) = inr k
+    some_there n h (inr k) = absurd (omega arith)
+
+    empty : (ds : List (Deed T W)) (m : QueueMark) (r : QueueReply T) (st : queue.Stage T) → AnswersEmpty c.queue m r st → TryAt c ask.IsEmpty st ds seen → Then channel.IsEmpty ask.IsEmpty st m ds (asked_next r)
+    empty ds Nothing (Flag f) (trying b) h ev = ((([], c ∷ seen, refl, (ev, inl h)), refl), owes_nothing ds ev)
+    empty ds Nothing (Flag true) (read n) h ev = ((([], c ∷ seen, refl, (ev.0, inl (none_there h))), refl), owes_nothing ds ev.0)
+    empty ds Nothing (Flag false) (read n) h ev = ((([], c ∷ seen, refl, (ev.0, some_there n h ev.1)), refl), owes_nothing ds ev.0)
+    empty ds m r st h ev = absurd h
+
+    spent : (ds : List (Deed T W)) → Once Shut seen → (m : QueueMark) (r : QueueReply T) (st : queue.Stage T) → AnswersEmpty c.queue m r st → TryAt c ask.IsEmpty st ds seen → Then channel.IsTerminated ask.IsEmpty st m ds (asked_next r)
+    spent ds o Nothing (Flag true) (trying b) h ev = ((([], c ∷ seen, refl, (ev, inl (h, inr o))), refl), owes_nothing ds ev)
+    spent ds o Nothing (Flag false) (trying b) h ev = ((([], c ∷ seen, refl, (ev, inl (inr h))), refl), owes_nothing ds ev)
+    spent ds o Nothing (Flag true) (read n) h ev = ((([], c ∷ seen, refl, (ev.0, inl (none_there h, inr o))), refl), owes_nothing ds ev.0)
+    spent ds o Nothing (Flag false) (read n) h ev =
+        ((([], c ∷ seen, refl, (ev.0, once_map HasMessage (λ z. Open z ⊎ HasMessage z) (λ z k. inr k) (c ∷ seen) (some_there n h ev.1))), refl), owes_nothing ds ev.0)
+    spent ds o m r st h ev = absurd h
+
+    room_there : (n cap : ℕ) → c.queue.capacity ≡ Some cap → n < c.queue.removed + cap → IsBalanced c.queue → Once HasRoom seen ⊎ (c.queue.accepted ≡ n) → Once HasRoom (c ∷ seen)
+    room_there n cap e k b (inl h) = inr h
+    room_there n cap e k b (inr h) =
+        let b' : length c.queue.items + c.queue.removed ≡ c.queue.accepted = b in
+        let short : (length c.queue.items == cap) ≡ false = ne_of (length c.queue.items) cap (λ same. absurd (omega (arith, same, h, k, b'))) in
+        inl (subst (λ (o : Option ℕ). is_full_at o c.queue.items ≡ false) (sym e) short)
+
+    full : (ds : List (Deed T W)) → IsBalanced c.queue → (m : QueueMark) (r : QueueReply T) (st : queue.Stage T) → AnswersFull c.queue m r st → TryAt c ask.IsFull st ds seen → Then channel.IsFull ask.IsFull st m ds (asked_next r)
+    full ds b Nothing (Flag f) (trying s) h ev = ((([], c ∷ seen, refl, (ev, inl h)), refl), owes_nothing ds ev)
+    full ds b Nothing (Flag true) (read n) h ev = ((([], c ∷ seen, refl, (ev.0, inl h)), refl), owes_nothing ds ev.0)
+    full ds b Nothing (Flag false) (read n) h ev = ((([], c ∷ seen, refl, (ev.0, room_there n h.0 h.1 h.2 b ev.2)), refl), owes_nothing ds ev.0)
+    full ds b m r st h ev = absurd h
+
+    counted : (ds : List (Deed T W)) (m : QueueMark) (r : QueueReply T) (st : queue.Stage T) → AnswersLen c.queue m r st → TryAt c ask.Len st ds seen → Then channel.Len ask.Len st m ds (asked_next r)
+    counted ds Nothing (Count n) (trying s) h ev = ((([], c ∷ seen, refl, (ev, inl h)), refl), owes_nothing ds ev)
+    counted ds Nothing (Count n) (measured i k) h ev =
+        ((([], c ∷ seen, refl, (ev.0, inr (once_map (λ z. length z.queue.items ≡ k) (λ z. length z.queue.items ≡ n) (λ z e. e ∙ sym h.0) seen ev.1))), refl), owes_nothing ds ev.0)
+    counted ds m r st h ev = absurd h
+
+    sized : (ds : List (Deed T W)) (m : QueueMark) (r : QueueReply T) (st : queue.Stage T) → AnswersCapacity c.queue m r st → TryAt c ask.Capacity st ds seen → Then channel.Capacity ask.Capacity st m ds (asked_next r)
+    sized ds Nothing (Cap n) (trying s) h ev = ((([], c ∷ seen, refl, (ev, inl (sym h))), refl), owes_nothing ds ev)
+    sized ds m r st h ev = absurd h
+
+    -- ---- by what the call asks, and what its queue's call is made for
+
+    pub answered : (ds : List (Deed T W)) → IsBalanced c.queue → (x : ChannelAsk T W) (y : Aim W) (a : QueueAsk T) (st : queue.Stage T) (m : QueueMark) (r : QueueReply T)
+        → TriesFor x y a ds seen → TryAt c a st ds seen → AnswersTo c.queue a m r st → Then x a st m ds (answered_next y r)
+    answered ds b (channel.TrySend msg) aim.TrySend (ask.Push v) st m r f ev h = sent msg v ds f m r st h ev
+    answered ds b (channel.ForceSend msg) aim.ForceSend (ask.ForcePush v) st m r f ev h = forced msg v ds f m r st h ev
+    answered ds b channel.TryRecv aim.TryRecv ask.Pop st m r f ev h = received ds m r st h ev
+    answered ds b channel.Close (aim.Close closer.Call) ask.Close st m r f ev h = closed_by ds f m r st h
+    answered ds b (channel.PollSend msg k t) (aim.Poll Sends key task) (ask.Push v) st m r f ev h = poll_sent msg v k t key task ds f m r st h ev
+    answered ds b (channel.PollRecv k t) (aim.Poll Receives key task) ask.Pop st m r f ev h = poll_received k t key task ds m r st h ev
+    answered ds b (channel.PollClosed k t) (aim.Poll Closings key task) ask.IsClosed st m r f ev h = waited k t key task ds m r st h ev
+    answered ds b (channel.PollNext k t) (aim.Poll Streams key task) ask.Pop st m r f ev h = streamed k t key task ds m r st h ev
+    answered ds b channel.DropSender (aim.Close closer.Sender) ask.Close st m r f ev h = sender_left ds f m r st h
+    answered ds b (channel.DropReceiver k) (aim.Close (closer.Receiver key)) ask.Close st m r f ev h = receiver_left k key ds f m r st h
+    answered ds b (channel.Upgrade side) (aim.Upgrade s) ask.IsClosed st m r f ev h = upgraded side s ds f m r st h ev
+    answered ds b channel.IsClosed aim.Ask ask.IsClosed st m r f ev h = shut ds m r st h ev
+    answered ds b channel.IsEmpty aim.Ask ask.IsEmpty st m r f ev h = empty ds m r st h ev
+    answered ds b channel.IsFull aim.Ask ask.IsFull st m r f ev h = full ds b m r st h ev
+    answered ds b channel.Len aim.Ask ask.Len st m r f ev h = counted ds m r st h ev
+    answered ds b channel.Capacity aim.Ask ask.Capacity st m r f ev h = sized ds m r st h ev
+    answered ds b channel.IsTerminated aim.IsTerminated ask.IsClosed st m r f ev h = terminated ds m r st h ev
+    answered ds b channel.IsTerminated aim.Ask ask.IsEmpty st m r f ev h = spent ds f m r st h ev
+    answered ds b x y a st m r f ev h = absurd f

@@ -1,0 +1,10 @@
+pub mod TryFacts
+pub mod TurnFacts
+pub mod AnswerFacts
+pub mod WorkFacts
+pub mod QuickFacts
+pub mod MoveFacts
+pub mod OwnFacts
+pub mod SceneFacts
+pub mod RunFacts
+pub mod StartFacts

@@ -1,0 +1,323 @@
+-- A step of a call: what is known of it after, whom it wakes, and what it takes and brings.
+use Rattle.std.proofs.Common.{◌≡◌, map, ℕ, ◌+◌, ◌<◌, ◌≤◌, Bool, true, false, if◌then◌else◌, List, [], ◌∷◌, ◌++◌, take, drop, Option, None, Some, ◌⊎◌, inl, inr, refl, sym, ap, ◌∙◌, subst, arith, append-nil, append_assoc}
+use Rattle.concurrent_queue.specs.Queue.{Queue, Phase, trying, displaced, appended, taken, read, measured, after, message, Goes, GoesOn, Answers}
+use Rattle.concurrent_queue.specs.Queue as queue
+use Rattle.concurrent_queue.specs.declared.call.QueueAsk.{QueueAsk}
+use Rattle.concurrent_queue.specs.declared.call.QueueAsk.TheVariants as ask
+use Rattle.concurrent_queue.specs.declared.call.QueueMark.{QueueMark}
+use Rattle.concurrent_queue.specs.declared.call.QueueMark.TheVariants as queue_mark
+use Rattle.concurrent_queue.specs.declared.call.QueueReply.{QueueReply}
+use Rattle.async_channel.specs.Answered.{answered_next}
+use Rattle.async_channel.specs.Asks.{first}
+use Rattle.async_channel.specs.Marks.{mark_of_queue, up, down}
+use Rattle.async_channel.specs.Moves.{Channel, Effect, untouched, on_count, leaves, Turned, Tried, Worked, Moves}
+use Rattle.async_channel.specs.Parts.{is_raised}
+use Rattle.async_channel.specs.declared.ask.ChannelAsk.{ChannelAsk}
+use Rattle.async_channel.specs.declared.ask.ChannelAsk.TheVariants as channel
+use Rattle.async_channel.specs.declared.mark.Mark.{Mark}
+use Rattle.async_channel.specs.declared.mark.Mark.TheVariants as mark
+use Rattle.async_channel.specs.declared.reply.Reply.{Reply}
+use Rattle.async_channel.specs.declared.stage.Aim.{Aim}
+use Rattle.async_channel.specs.declared.stage.Aim.TheVariants as aim
+use Rattle.async_channel.specs.declared.stage.Closer.TheVariants as closer
+use Rattle.async_channel.specs.declared.stage.Held.{Held}
+use Rattle.async_channel.specs.declared.stage.Kept.{Kept}
+use Rattle.async_channel.specs.declared.stage.Line.TheVariants.{Sends, Receives, Streams, Closings}
+use Rattle.async_channel.specs.declared.stage.Side.{Side}
+use Rattle.async_channel.specs.declared.stage.Side.TheVariants.{Senders, Receivers}
+use Rattle.async_channel.specs.declared.stage.Stage.{Stage}
+use Rattle.async_channel.specs.declared.stage.Stage.TheVariants.{Trying, Working, Finished}
+use Rattle.async_channel.specs.declared.stage.Turn.{Turn}
+use Rattle.async_channel.specs.declared.stage.Turn.TheVariants.{Tries, Works, Ends}
+use Rattle.async_channel.specs.declared.stage.Work.{Work}
+use Rattle.async_channel.specs.declared.stage.Work.TheVariants.{TellReceive, TellStreams, TellSend, TellAll, Insert, Register, Leave, Lower, Count, Load, Raise}
+use Rattle.channel_steps.specs.Moments.{Deed, with_deed}
+use Rattle.channel_steps.specs.Known.{TriesFor, TryAt, StageAt, ToldAt, IsQuick, steps_left}
+use Rattle.channel_steps.specs.Run.{begun}
+use Rattle.channel_steps.specs.Scene.{Under, sees, does, Finishes, EndsInTime, brought, gone_by, came_by, Known, AllKnown, IsBalanced}
+use Rattle.channel_steps.specs.Tellings.{Telling, telling, dropping, Names}
+use Rattle.channel_steps.proofs.MoveFacts.{worked_queue}
+use Rattle.channel_steps.proofs.TryFacts.{Progress, still, progress, answer_progress, next_channel, goes, IsClosing, tries_more, try_stays}
+use Rattle.channel_steps.proofs.TurnFacts.{TurnAt, After, turned_at}
+use Rattle.channel_steps.proofs.AnswerFacts.{answered}
+use Rattle.channel_steps.proofs.WorkFacts.{work_more, worked}
+use Rattle.channel_steps.proofs.QuickFacts.{quick_moves, some_left, few_left}
+
+-- a mark of no queue
+abbrev IsOther : Mark → Type 0
+IsOther mark.Nothing = Unit {0}
+IsOther mark.SenderUp = Unit {0}
+IsOther mark.SenderDown = Unit {0}
+IsOther mark.ReceiverUp = Unit {0}
+IsOther mark.ReceiverDown = Unit {0}
+IsOther m = ⊥
+
+other_up : (side : Side) → IsOther (up side)
+other_up Senders = tt
+other_up Receivers = tt
+
+other_down : (side : Side) → IsOther (down side)
+other_down Senders = tt
+other_down Receivers = tt
+
+module _ {T : Type 0} where
+  never_closes : (q : Queue T) (a : QueueAsk T) (m : QueueMark) (s t : queue.Stage T) → GoesOn q a m s t → IsClosing a → ⊥
+  never_closes q ask.Close m s t g h = g
+  never_closes q a m s t g h = h
+
+  split_first : (items : List T) → take 1 items ++ drop 1 items ≡ items
+  split_first [] = refl
+  split_first (v ∷ items) = refl
+
+module _ {T W : Type 0} where
+  -- ---- what is known of the call after its step
+
+  module _ (c : Channel T W) (x : ChannelAsk T W) (told : List Telling) (ds : List (Deed T W)) (seen : List (Channel T W)) (bal : IsBalanced c.queue) where
+    went : (f f' : Phase T) (y : Aim W) (m : QueueMark) → TriesFor x y f.ask ds seen → TryAt c f.ask f.stage ds seen → Goes c.queue f m f'
+        → After (next_channel f.ask f.stage m c) x [] (with_deed ds (mark_of_queue m) c seen) (next_channel f.ask f.stage m c ∷ seen) None (Trying f' y)
+    went f f' y m tf ta g =
+        let d : Channel T W = next_channel f.ask f.stage m c in
+        let es : List (Deed T W) = with_deed ds (mark_of_queue m) c seen in (
+          subst (λ (a : QueueAsk T). TriesFor x y a es (d ∷ seen) × TryAt d a f'.stage es (d ∷ seen)) (sym g.0)
+              (tries_more d ds es seen x y f.ask (λ h. absurd (never_closes c.queue f.ask m f.stage f'.stage g.1 h)) tf, goes c seen f.ask m f.stage f'.stage ds g.1 bal ta),
+          refl,
+        )
+
+    tried_by : (f : Phase T) (y : Aim W) (m : QueueMark) (r : Option (Reply T)) (s : Stage (Phase T) T W) → TriesFor x y f.ask ds seen → TryAt c f.ask f.stage ds seen
+        → ((f' : Phase T) × Goes c.queue f m f' × (r ≡ None) × (s ≡ Trying f' y)) ⊎ ((z : QueueReply T) × Answers c.queue f m z × Turned (answered_next y z) r s)
+        → After (next_channel f.ask f.stage m c) x [] (with_deed ds (mark_of_queue m) c seen) (next_channel f.ask f.stage m c ∷ seen) r s
+    tried_by f y m r s tf ta (inl h) =
+        let d : Channel T W = next_channel f.ask f.stage m c in
+        let es : List (Deed T W) = with_deed ds (mark_of_queue m) c seen in
+        subst (λ (z : Option (Reply T)). After d x [] es (d ∷ seen) z s) (sym h.2)
+        (subst (λ (z : Stage (Phase T) T W). After d x [] es (d ∷ seen) None z) (sym h.3) (went f h.0 y m tf ta h.1))
+    tried_by f y m r s tf ta (inr h) =
+        let d : Channel T W = next_channel f.ask f.stage m c in
+        turned_at d x [] (with_deed ds (mark_of_queue m) c seen) (d ∷ seen) (answered_next y h.0) r s h.2 (answered c seen ds bal x y f.ask f.stage m h.0 tf ta h.1)
+
+    tried : (f : Phase T) (y : Aim W) (e : Effect T W) (r : Option (Reply T)) (s : Stage (Phase T) T W) → TriesFor x y f.ask ds seen → TryAt c f.ask f.stage ds seen → told ≡ [] → Tried c f y e r s
+        → After e.channel x (told ++ []) (with_deed ds e.mark c seen) (e.channel ∷ seen) r s
+    tried f y e r s tf ta none h =
+        subst (λ (z : Effect T W). After z.channel x (told ++ []) (with_deed ds z.mark c seen) (z.channel ∷ seen) r s) (sym h.effect)
+        (subst (λ (ts : List Telling). After (next_channel f.ask f.stage h.mark c) x (ts ++ []) (with_deed ds (mark_of_queue h.mark) c seen) (next_channel f.ask f.stage h.mark c ∷ seen) r s) (sym none)
+        (tried_by f y h.mark r s tf ta h.how))
+
+    pub own : (at : Stage (Phase T) T W) (e : Effect T W) (r : Option (Reply T)) (s : Stage (Phase T) T W) → StageAt c x at ds seen → ToldAt told at ds → Moves c at e r s
+        → After e.channel x (told ++ telling at) (with_deed ds e.mark c seen) (e.channel ∷ seen) r s
+    own (Trying f y) e r s h k g = tried f y e r s h.0 h.1 k g
+    own (Working w) e r s h k g = worked c x told ds seen w e r s h k g
+    own (Finished kept) e r s h k g = absurd h
+
+  -- ---- how it changes the queue
+
+  tried_on : (c : Channel T W) (f : Phase T) (m : QueueMark) (y : Aim W) (r : Option (Reply T)) (s : Stage (Phase T) T W)
+      → ((f' : Phase T) × Goes c.queue f m f' × (r ≡ None) × (s ≡ Trying f' y)) ⊎ ((z : QueueReply T) × Answers c.queue f m z × Turned (answered_next y z) r s)
+      → Progress c.queue (after f m c.queue)
+  tried_on c f m y r s (inl h) = progress c.queue f.ask m f.stage h.0.stage h.1.1
+  tried_on c f m y r s (inr h) = answer_progress c.queue f.ask m h.0 f.stage h.1
+
+  same_queue : (c d : Channel T W) → d.queue ≡ c.queue → Progress c.queue d.queue
+  same_queue c d e = subst (λ (q : Queue T). Progress c.queue q) (sym e) (still c.queue)
+
+  pub moves_on : (c : Channel T W) (at : Stage (Phase T) T W) (e : Effect T W) (r : Option (Reply T)) (s : Stage (Phase T) T W) → Moves c at e r s → Progress c.queue e.channel.queue
+  moves_on c (Trying f y) e r s h = subst (λ (z : Effect T W). Progress c.queue z.channel.queue) (sym h.effect) (tried_on c f h.mark y r s h.how)
+  moves_on c (Working w) e r s h = same_queue c e.channel (worked_queue c w e r s h)
+  moves_on c (Finished kept) e r s h = same_queue c e.channel (ap (λ (z : Effect T W). z.channel.queue) h.0)
+
+  -- ---- whom it wakes
+
+  left_names : (o : Option Held) (c : Channel T W) (e : Effect T W) → e ≡ leaves o c → Names [] o c e.woken
+  left_names None c e h = ap (λ (z : Effect T W). z.woken) h
+  left_names (Some held) c e h = ap (λ (z : Effect T W). z.woken) h
+
+  raised_names : (b : Bool) (side : Side) (n : ℕ) (c : Channel T W) (e : Effect T W) → e ≡ (if b then on_count side (n + 1) (up side) c else untouched c) → e.woken ≡ []
+  raised_names true side n c e h = ap (λ (z : Effect T W). z.woken) h
+  raised_names false side n c e h = ap (λ (z : Effect T W). z.woken) h
+
+  work_names : (c : Channel T W) (w : Work T W) (e : Effect T W) (r : Option (Reply T)) (s : Stage (Phase T) T W) → Worked c w e r s → Names (telling (Working w)) (dropping (Working w)) c e.woken
+  work_names c (TellReceive y) e r s h = ap (λ (z : Effect T W). z.woken) h.0
+  work_names c (TellStreams y) e r s h = ap (λ (z : Effect T W). z.woken) h.0
+  work_names c (TellSend y) e r s h = ap (λ (z : Effect T W). z.woken) h.0
+  work_names c (TellAll line y) e r s h = ap (λ (z : Effect T W). z.woken) h.0
+  work_names c (Insert w task) e r s (inl h) = ap (λ (z : Effect T W). z.woken) h.2
+  work_names c (Insert w task) e r s (inr h) = ap (λ (z : Effect T W). z.woken) h.1
+  work_names c (Register w key task) e r s h = ap (λ (z : Effect T W). z.woken) h.0
+  work_names c (Leave y) e r s h = left_names y.held c e h.0
+  work_names c (Lower side key) e r s h = ap (λ (z : Effect T W). z.woken) h.0
+  work_names c (Count side) e r s h = ap (λ (z : Effect T W). z.woken) h.0
+  work_names c (Load side m) e r s h = ap (λ (z : Effect T W). z.woken) h.0
+  work_names c (Raise side n m) e r s h = raised_names (is_raised side n c.roster) side n c e h.0
+
+  pub names_of : (c : Channel T W) (at : Stage (Phase T) T W) (e : Effect T W) (r : Option (Reply T)) (s : Stage (Phase T) T W) → Moves c at e r s → Names (telling at) (dropping at) c e.woken
+  names_of c (Trying f y) e r s h = ap (λ (z : Effect T W). z.woken) h.effect
+  names_of c (Working w) e r s h = work_names c w e r s h
+  names_of c (Finished kept) e r s h = ap (λ (z : Effect T W). z.woken) h.0
+
+  -- ---- what it takes and brings
+
+  brings_own : (x : ChannelAsk T W) (y : Aim W) (a : QueueAsk T) (ds : List (Deed T W)) (seen : List (Channel T W)) → TriesFor x y a ds seen → message a ≡ brought x
+  brings_own (channel.TrySend m) aim.TrySend (ask.Push v) ds seen h = ap (λ (z : T). z ∷ []) h
+  brings_own (channel.ForceSend m) aim.ForceSend (ask.ForcePush v) ds seen h = ap (λ (z : T). z ∷ []) h
+  brings_own (channel.PollSend m k t) (aim.Poll Sends key task) (ask.Push v) ds seen h = ap (λ (z : T). z ∷ []) h
+  brings_own channel.TryRecv aim.TryRecv ask.Pop ds seen h = refl
+  brings_own channel.Close (aim.Close closer.Call) ask.Close ds seen h = refl
+  brings_own (channel.PollRecv k t) (aim.Poll Receives key task) ask.Pop ds seen h = refl
+  brings_own (channel.PollClosed k t) (aim.Poll Closings key task) ask.IsClosed ds seen h = refl
+  brings_own (channel.PollNext k t) (aim.Poll Streams key task) ask.Pop ds seen h = refl
+  brings_own channel.DropSender (aim.Close closer.Sender) ask.Close ds seen h = refl
+  brings_own (channel.DropReceiver k) (aim.Close (closer.Receiver key)) ask.Close ds seen h = refl
+  brings_own (channel.Upgrade side) (aim.Upgrade s) ask.IsClosed ds seen h = refl
+  brings_own channel.IsClosed aim.Ask ask.IsClosed ds seen h = refl
+  brings_own channel.IsEmpty aim.Ask ask.IsEmpty ds seen h = refl
+  brings_own channel.IsFull aim.Ask ask.IsFull ds seen h = refl
+  brings_own channel.Len aim.Ask ask.Len ds seen h = refl
+  brings_own channel.Capacity aim.Ask ask.Capacity ds seen h = refl
+  brings_own channel.IsTerminated aim.IsTerminated ask.IsClosed ds seen h = refl
+  brings_own channel.IsTerminated aim.Ask ask.IsEmpty ds seen h = refl
+  brings_own x y a ds seen h = absurd h
+
+  -- what leaves and what stays is what was there and what came
+  abbrev pub Held_by : Mark → ChannelAsk T W → List T → List T → Type 0
+  Held_by m x items items' = gone_by m items ++ items' ≡ items ++ came_by m x
+
+  queue_held : (x : ChannelAsk T W) (f : Phase T) (m : QueueMark) (q : Queue T) → message f.ask ≡ brought x → Held_by (mark_of_queue m) x q.items (after f m q).items
+  queue_held x f queue_mark.Nothing q e = sym (append-nil q.items)
+  queue_held x f queue_mark.Append q e = ap (λ (vs : List T). q.items ++ vs) e
+  queue_held x f queue_mark.Take q e = split_first q.items ∙ sym (append-nil q.items)
+  queue_held x f queue_mark.TakeDisplaced q e = split_first q.items ∙ sym (append-nil q.items)
+  queue_held x f queue_mark.Replace q e =
+      sym (append_assoc (take 1 q.items) (drop 1 q.items) (message f.ask)) ∙ (ap (λ (vs : List T). vs ++ message f.ask) (split_first q.items) ∙ ap (λ (vs : List T). q.items ++ vs) e)
+  queue_held x f queue_mark.Close q e = sym (append-nil q.items)
+
+  other_held : (m : Mark) (x : ChannelAsk T W) (items items' : List T) → IsOther m → items' ≡ items → Held_by m x items items'
+  other_held mark.Nothing x items items' h e = e ∙ sym (append-nil items)
+  other_held mark.SenderUp x items items' h e = e ∙ sym (append-nil items)
+  other_held mark.SenderDown x items items' h e = e ∙ sym (append-nil items)
+  other_held mark.ReceiverUp x items items' h e = e ∙ sym (append-nil items)
+  other_held mark.ReceiverDown x items items' h e = e ∙ sym (append-nil items)
+  other_held m x items items' h e = absurd h
+
+  other_mark : (e f : Effect T W) → e ≡ f → IsOther f.mark → IsOther e.mark
+  other_mark e f h k = subst (λ (m : Mark). IsOther m) (sym (ap (λ (z : Effect T W). z.mark) h)) k
+
+  left_other : (o : Option Held) (c : Channel T W) → IsOther (leaves o c).mark
+  left_other None c = tt
+  left_other (Some h) c = tt
+
+  raised_other : (b : Bool) (side : Side) (n : ℕ) (c : Channel T W) → IsOther (if b then on_count side (n + 1) (up side) c else untouched c).mark
+  raised_other true side n c = other_up side
+  raised_other false side n c = tt
+
+  work_other : (c : Channel T W) (w : Work T W) (e : Effect T W) (r : Option (Reply T)) (s : Stage (Phase T) T W) → Worked c w e r s → IsOther e.mark
+  work_other c (TellReceive y) e r s h = other_mark e _ h.0 tt
+  work_other c (TellStreams y) e r s h = other_mark e _ h.0 tt
+  work_other c (TellSend y) e r s h = other_mark e _ h.0 tt
+  work_other c (TellAll line y) e r s h = other_mark e _ h.0 tt
+  work_other c (Insert w task) e r s (inl h) = other_mark e _ h.2 tt
+  work_other c (Insert w task) e r s (inr h) = other_mark e _ h.1 tt
+  work_other c (Register w key task) e r s h = other_mark e _ h.0 tt
+  work_other c (Leave y) e r s h = other_mark e (leaves y.held c) h.0 (left_other y.held c)
+  work_other c (Lower side key) e r s h = other_mark e _ h.0 (other_down side)
+  work_other c (Count side) e r s h = other_mark e _ h.0 tt
+  work_other c (Load side m) e r s h = other_mark e _ h.0 tt
+  work_other c (Raise side n m) e r s h = other_mark e _ h.0 (raised_other (is_raised side n c.roster) side n c)
+
+  pub moves_held : (c : Channel T W) (x : ChannelAsk T W) (at : Stage (Phase T) T W) (ds : List (Deed T W)) (seen : List (Channel T W)) (e : Effect T W) (r : Option (Reply T)) (s : Stage (Phase T) T W) → StageAt c x at ds seen → Moves c at e r s
+      → Held_by e.mark x c.queue.items e.channel.queue.items
+  moves_held c x (Trying f y) ds seen e r s k h =
+      subst (λ (z : Effect T W). Held_by z.mark x c.queue.items z.channel.queue.items) (sym h.effect) (queue_held x f h.mark c.queue (brings_own x y f.ask ds seen k.0))
+  moves_held c x (Working w) ds seen e r s k h =
+      other_held e.mark x c.queue.items e.channel.queue.items (work_other c w e r s h) (ap (λ (q : Queue T). q.items) (worked_queue c w e r s h))
+  moves_held c x (Finished kept) ds seen e r s k h = absurd k
+
+  -- ---- the calls under way after a step
+
+  -- another's step
+  pub sees_known : (c d : Channel T W) → Progress c.queue d.queue → (u : Under T W) → Known c u → Known d (sees d u)
+  sees_known c d p u k =
+      record { older = u.seen; latest = refl; stands = stays u.at k.stands; tells = k.tells; quick = k.quick }
+    where
+      stays : (at : Stage (Phase T) T W) → StageAt c u.ask at u.deeds u.seen → StageAt d u.ask at u.deeds (d ∷ u.seen)
+      stays (Trying f y) h = (tries_more d u.deeds u.deeds u.seen u.ask y f.ask (λ z. refl) h.0, try_stays c d p k.older u.seen k.latest f.ask f.stage u.deeds h.1)
+      stays (Working w) h = work_more u.ask w d u.deeds u.seen h
+      stays (Finished kept) h = h
+
+  pub all_see : (c d : Channel T W) → Progress c.queue d.queue → (us : List (Under T W)) → AllKnown c us → AllKnown d (map (sees d) us)
+  all_see c d p [] h = tt
+  all_see c d p (u ∷ us) h = (sees_known c d p u h.0, all_see c d p us h.1)
+
+  -- its own step
+  module _ (c : Channel T W) (u : Under T W) (bal : IsBalanced c.queue) (k : Known c u) (m : Mark) (d : Channel T W) (names : List W) (s : Stage (Phase T) T W) where
+    abbrev effect : Effect T W
+    effect = record { channel = d; mark = m; woken = names }
+
+    pub own_known : Moves c u.at effect None s → Known d (does u s m c d)
+    own_known g =
+        let h = own c u.ask u.told u.deeds u.seen bal u.at effect None s k.stands k.tells g in
+        record { older = u.seen; latest = refl; stands = h.0; tells = h.1; quick = λ q. (let i = k.quick q in let j = quick_moves c u.ask u.at effect s u.deeds u.seen k.stands q g in omega (arith, i, j)) }
+
+    pub own_finishes : (r : Reply T) (left : Kept T) → ((kept : Kept T) → s ≡ Finished kept → left ≡ kept) → Moves c u.at effect (Some r) s → Finishes (does u s m c d) r (Some left)
+    own_finishes r left same g =
+        let h = own c u.ask u.told u.deeds u.seen bal u.at effect (Some r) s k.stands k.tells g in
+        record { kept = h.0; at_end = h.1; given = ap (λ (z : Kept T). Some z) (same h.0 h.1); met = h.2; keeps = h.3; all_told = h.4 }
+
+    pub own_in_time : (r : Option (Reply T)) → Moves c u.at effect r s → IsQuick u.ask → EndsInTime u.made r
+    own_in_time None g q =
+        let h = own_known g in
+        let i : u.made + 1 + steps_left s ≤ 8 = h.quick q in
+        let j : 0 < steps_left s = some_left d u.ask s _ _ h.stands in
+        omega (arith, i, j)
+    own_in_time (Some r) g q =
+        let i : u.made + steps_left u.at ≤ 8 = k.quick q in
+        let j : 0 < steps_left u.at = some_left c u.ask u.at u.deeds u.seen k.stands in
+        omega (arith, i, j)
+
+  -- ---- a call that begins
+
+  -- a call has something to do
+  abbrev GoesOnAt : Turn T W → Type 0
+  GoesOnAt (Tries a y) = Unit {0}
+  GoesOnAt (Works w) = Unit {0}
+  GoesOnAt (Ends y kept) = ⊥
+
+  begins_at : (c : Channel T W) (x : ChannelAsk T W) → TurnAt c x [] [] (c ∷ []) (first x) × GoesOnAt (first x)
+  begins_at c (channel.TrySend m) = (((refl, (refl, λ e. absurd (let no : false ≡ true = e in cc))), refl), tt)
+  begins_at c (channel.ForceSend m) = (((refl, (refl, λ e. absurd (let no : false ≡ true = e in cc))), refl), tt)
+  begins_at c channel.TryRecv = (((tt, refl), refl), tt)
+  begins_at c channel.Close = (((refl, tt), refl), tt)
+  begins_at c (channel.PollSend m k t) = (((refl, (refl, λ e. absurd (let no : false ≡ true = e in cc))), refl), tt)
+  begins_at c channel.PollFinishedSend = (((([], c ∷ [], refl, (refl, refl)), refl), refl), tt)
+  begins_at c (channel.PollRecv k t) = (((tt, refl), refl), tt)
+  begins_at c (channel.PollClosed k t) = (((tt, refl), refl), tt)
+  begins_at c (channel.PollNext None t) = (((tt, refl), refl), tt)
+  begins_at c (channel.PollNext (Some key) t) = (((tt, refl, tt), refl), tt)
+  begins_at c (channel.RefusePoll line msg key) = (((([], c ∷ [], refl, (refl, refl)), refl), refl), tt)
+  begins_at c (channel.GiveUp line msg key) = (((([], c ∷ [], refl, (refl, refl)), refl), refl), tt)
+  begins_at c channel.DropSender = (((tt, refl), refl), tt)
+  begins_at c (channel.DropReceiver k) = (((tt, refl), refl), tt)
+  begins_at c (channel.CloneHandle side) = (((refl, refl), refl), tt)
+  begins_at c (channel.Upgrade side) = (((refl, refl), refl), tt)
+  begins_at c (channel.HandleCount side) = (((refl, refl), refl), tt)
+  begins_at c channel.IsClosed = (((tt, refl), refl), tt)
+  begins_at c channel.IsEmpty = (((tt, refl), refl), tt)
+  begins_at c channel.IsFull = (((tt, refl), refl), tt)
+  begins_at c channel.Len = (((tt, refl), refl), tt)
+  begins_at c channel.Capacity = (((tt, refl), refl), tt)
+  begins_at c channel.IsTerminated = (((tt, refl), refl), tt)
+  begins_at c (channel.SendIsTerminated b) = (((([], c ∷ [], refl, (refl, refl)), refl), refl), tt)
+  begins_at c (channel.SameChannel b) = (((([], c ∷ [], refl, (refl, refl)), refl), refl), tt)
+  begins_at c channel.Make = (((([], c ∷ [], refl, (refl, refl)), refl), refl), tt)
+  begins_at c channel.DropWeak = (((([], c ∷ [], refl, (refl, refl)), refl), refl), tt)
+
+  known_at : (c : Channel T W) (p : ℕ) (x : ChannelAsk T W) (turn : Turn T W) (r : Option (Reply T)) (at : Stage (Phase T) T W) → r ≡ None → TurnAt c x [] [] (c ∷ []) turn → Turned turn r at → Known c (begun p x at c)
+  known_at c p x turn r at none h t =
+      let k : After c x [] [] (c ∷ []) None at = subst (λ (z : Option (Reply T)). After c x [] [] (c ∷ []) z at) none (turned_at c x [] [] (c ∷ []) turn r at t h) in
+      record { older = []; latest = refl; stands = k.0; tells = k.1; quick = λ q. (let i = few_left at in omega (arith, i)) }
+
+  first_known : (c : Channel T W) (p : ℕ) (x : ChannelAsk T W) (turn : Turn T W) (r : Option (Reply T)) (at : Stage (Phase T) T W) → TurnAt c x [] [] (c ∷ []) turn → GoesOnAt turn → Turned turn r at → Known c (begun p x at c)
+  first_known c p x (Tries a y) r at h o t = known_at c p x (Tries a y) r at t.0 h t
+  first_known c p x (Works w) r at h o t = known_at c p x (Works w) r at t.0 h t
+  first_known c p x (Ends y kept) r at h o t = absurd o
+
+  pub begins_known : (c : Channel T W) (p : ℕ) (x : ChannelAsk T W) (r : Option (Reply T)) (at : Stage (Phase T) T W) → Turned (first x) r at → Known c (begun p x at c)
+  begins_known c p x r at t = let h = begins_at c x in first_known c p x (first x) r at h.0 h.1 t

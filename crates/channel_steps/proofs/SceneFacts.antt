@@ -1,0 +1,262 @@
+-- A step of one party among all.
+use Rattle.std.proofs.Common.{◌≡◌, ℕ, zero, suc, ◌+◌, List, [], ◌∷◌, ◌++◌, map, length, slice_get, slice_set, Option, None, Some, refl, sym, ap, ◌∙◌, subst, append_assoc}
+use Rattle.std.specs.List.{remove}
+use Rattle.concurrent_queue.specs.Queue.{Queue, Phase, IsInRange}
+use Rattle.concurrent_queue.specs.Step.{Seat, Fits}
+use Rattle.async_channel.specs.Parts.{Parts}
+use Rattle.async_channel.specs.Moves.{Channel, Effect, channel, seats, phase, IsStepOver, IsChannelStep, OnePlace}
+use Rattle.async_channel.specs.declared.call.ChannelCall.{ChannelCall}
+use Rattle.async_channel.specs.declared.mark.Mark.{Mark}
+use Rattle.async_channel.specs.declared.reply.Reply.{Reply}
+use Rattle.async_channel.specs.Asks.{kept_by}
+use Rattle.async_channel.specs.declared.stage.Kept.{Kept}
+use Rattle.async_channel.specs.declared.stage.Stage.{Stage}
+use Rattle.channel_steps.specs.declared.party.Party.{Party}
+use Rattle.channel_steps.specs.declared.party.Entry.{Entry}
+use Rattle.channel_steps.specs.Moments.{with_deed}
+use Rattle.channel_steps.specs.Scene.{Under, Scene, sees, does, gone_by, came_by, Known, AllKnown, IsBalanced, Steps, Sitting, under_of, seats_of, all_seats, Shows, parties_after, left_by, SteppedAt, StepsAt}
+use Rattle.channel_steps.specs.Tellings.{telling}
+use Rattle.channel_steps.proofs.MoveFacts.{answered_alone, kept_at}
+use Rattle.channel_steps.proofs.TryFacts.{Progress}
+use Rattle.channel_steps.proofs.OwnFacts.{moves_on, names_of, moves_held, all_see, own_known, own_finishes, own_in_time}
+
+pub remove-set : {A : Type 0} (xs : List A) (k : ℕ) (y : A) → remove (slice_set xs k y) k ≡ remove xs k
+remove-set [] k y = refl
+remove-set (x ∷ xs) zero y = refl
+remove-set (x ∷ xs) (suc k) y = ap (λ zs. x ∷ zs) (remove-set xs k y)
+
+pub get-set : {A : Type 0} (xs : List A) (k : ℕ) (y z : A) → slice_get xs k ≡ Some z → slice_get (slice_set xs k y) k ≡ Some y
+get-set [] k y z e = absurd cc
+get-set (x ∷ xs) zero y z e = refl
+get-set (x ∷ xs) (suc k) y z e = get-set xs k y z e
+
+module _ {A B : Type 0} (g : A → B) where
+  -- where the k-th of the images is, and what the list is round it
+  pub split : (xs : List A) (k : ℕ) (y : B) → slice_get (map g xs) k ≡ Some y → (l : List A) × (x : A) × (r : List A) × (xs ≡ l ++ (x ∷ r)) × (g x ≡ y) × (length l ≡ k)
+  split [] k y e = absurd cc
+  split (x ∷ xs) zero y e = ([], x, xs, refl, (let same : g x ≡ y = cc in same), refl)
+  split (x ∷ xs) (suc k) y e =
+      let h = split xs k y e in
+      (x ∷ h.0, h.1, h.2, ap (λ (zs : List A). x ∷ zs) h.3, h.4, ap (λ n. suc n) h.5)
+
+  pub map-round : (l r : List A) → map g (l ++ r) ≡ map g l ++ map g r
+  map-round [] r = refl
+  map-round (x ∷ l) r = ap (λ zs. g x ∷ zs) (map-round l r)
+
+  pub set-round : (l : List A) (x : A) (r : List A) (y : B) → slice_set (map g (l ++ (x ∷ r))) (length l) y ≡ map g l ++ (y ∷ map g r)
+  set-round [] x r y = refl
+  set-round (z ∷ l) x r y = ap (λ zs. g z ∷ zs) (set-round l x r y)
+
+  pub remove-round : (l : List A) (x : A) (r : List A) → remove (map g (l ++ (x ∷ r))) (length l) ≡ map g l ++ map g r
+  remove-round [] x r = refl
+  remove-round (z ∷ l) x r = ap (λ zs. g z ∷ zs) (remove-round l x r)
+
+module _ {T W : Type 0} where
+  abbrev pub saw : Channel T W → Sitting T W → Sitting T W
+  saw c x = record x { seen = c ∷ x.seen }
+
+  abbrev pub party_of : Sitting T W → Party T W
+  party_of x = x.party
+
+  pub seats_append : (l r : List (Sitting T W)) → all_seats (l ++ r) ≡ all_seats l ++ all_seats r
+  seats_append [] r = refl
+  seats_append (x ∷ l) r = ap (λ (zs : List (Seat T)). seats_of x ++ zs) (seats_append l r) ∙ sym (append_assoc (seats_of x) (all_seats l) (all_seats r))
+
+  seats_saw : (q : Channel T W) (l : List (Sitting T W)) → all_seats (map (saw q) l) ≡ all_seats l
+  seats_saw q [] = refl
+  seats_saw q (x ∷ l) = ap (λ (zs : List (Seat T)). seats_of x ++ zs) (seats_saw q l)
+
+  under_saw : (q : Channel T W) (l : List (Sitting T W)) → map under_of (map (saw q) l) ≡ map (sees q) (map under_of l)
+  under_saw q [] = refl
+  under_saw q (x ∷ l) = ap (λ (zs : List (Under T W)). sees q (under_of x) ∷ zs) (under_saw q l)
+
+  pub party_saw : (q : Channel T W) (l : List (Sitting T W)) → map party_of (map (saw q) l) ≡ map party_of l
+  party_saw q [] = refl
+  party_saw q (x ∷ l) = ap (λ (zs : List (Party T W)). x.party ∷ zs) (party_saw q l)
+
+  -- the scene of these sittings
+  abbrev pub scene_of : Queue T → Parts T W → List (Sitting T W) → List T → List T → Scene T W
+  scene_of q parts xs gone came = record { now = channel q parts; under_way = map under_of xs; gone = gone; came = came }
+
+  same_scene : (s : Scene T W) (c : Channel T W) (us : List (Under T W)) → c ≡ s.now → us ≡ s.under_way → (let z : Scene T W = record { now = c; under_way = us; gone = s.gone; came = s.came } in z) ≡ s
+  same_scene s c us e f =
+      ap (λ (n : Channel T W). let z : Scene T W = record { now = n; under_way = us; gone = s.gone; came = s.came } in z) e
+      ∙ ap (λ (vs : List (Under T W)). let z : Scene T W = record { now = s.now; under_way = vs; gone = s.gone; came = s.came } in z) f
+
+  -- what is known of the calls before one, of that one, and of those behind it
+  known_left : (c : Channel T W) (us vs : List (Under T W)) → AllKnown c (us ++ vs) → AllKnown c us
+  known_left c [] vs h = tt
+  known_left c (u ∷ us) vs h = (h.0, known_left c us vs h.1)
+
+  known_right : (c : Channel T W) (us vs : List (Under T W)) → AllKnown c (us ++ vs) → AllKnown c vs
+  known_right c [] vs h = h
+  known_right c (u ∷ us) vs h = known_right c us vs h.1
+
+  pub known_both : (c : Channel T W) (us vs : List (Under T W)) → AllKnown c us → AllKnown c vs → AllKnown c (us ++ vs)
+  known_both c [] vs h k = k
+  known_both c (u ∷ us) vs h k = (h.0, known_both c us vs h.1 k)
+
+  module _ (parts parts' : Parts T W) (l r : List (Sitting T W)) (x : Sitting T W) (q : Queue T) (p' : Party T W) (m : Mark) (names : List W) (id : p'.id ≡ x.party.id)
+      (range : IsInRange q) (fits : Fits parts.cells q (all_seats (l ++ (x ∷ r)))) (known : AllKnown (channel q parts) (map under_of (l ++ (x ∷ r)))) (bal : IsBalanced q) (gone came : List T) where
+    round : Fits parts.cells q (all_seats l ++ (seats_of x ++ all_seats r))
+    round = subst (λ (ss : List (Seat T)). Fits parts.cells q ss) (seats_append l (x ∷ r)) fits
+
+    abbrev before_it : Channel T W
+    before_it = channel q parts
+
+    all_round : AllKnown before_it (map under_of l ++ (under_of x ∷ map under_of r))
+    all_round = subst (λ (us : List (Under T W)). AllKnown before_it us) (map-round under_of l (x ∷ r)) known
+
+    mine_known : Known before_it (under_of x)
+    mine_known = let h = known_right before_it (map under_of l) (under_of x ∷ map under_of r) all_round in h.0
+
+    left_known : AllKnown before_it (map under_of l)
+    left_known = known_left before_it (map under_of l) (under_of x ∷ map under_of r) all_round
+
+    right_known : AllKnown before_it (map under_of r)
+    right_known = let h = known_right before_it (map under_of l) (under_of x ∷ map under_of r) all_round in h.1
+
+    abbrev pub Outcome : Option (Reply T) → List (Party T W) → Type 0
+    Outcome reply parties' = (t : Scene T W) × Steps (scene_of q parts (l ++ (x ∷ r)) gone came) x.party.id (record { mark = m; reply = reply; kept = left_by p' reply }) names t × Shows parts' parties' t × OnePlace parts parts'
+
+    pub core : (reply : Option (Reply T)) → IsStepOver parts x.party.call.stage names parts' p'.call.stage m reply
+        → Outcome reply (parties_after (map party_of (l ++ (x ∷ r))) (length l) p' reply)
+    core None step =
+        let made = step q x.inner (all_seats l) (all_seats r) range round in
+        let q' : Queue T = made.queue in
+        let now : Channel T W = channel q' parts' in
+        let at' = phase made.phase_now p'.call.stage in
+        let at0 : Stage (Phase T) T W = phase x.inner x.party.call.stage in
+        let e : Effect T W = record { channel = now; mark = m; woken = names } in
+        let on : Progress q q' = moves_on before_it at0 e None at' made.moves in
+        let next : Sitting T W = record { party = p'; inner = made.phase_now; ask = x.ask; seen = now ∷ x.seen; deeds = with_deed x.deeds m before_it x.seen; told = x.told ++ telling at0; made = x.made + 1 } in
+        let after_all : List (Sitting T W) = map (saw now) l ++ (next ∷ map (saw now) r) in
+        let seats_are : all_seats after_all ≡ all_seats l ++ (seats made.phase_now p'.call.stage ++ all_seats r) =
+        seats_append (map (saw now) l) (next ∷ map (saw now) r) ∙ (ap (λ (zs : List (Seat T)). zs ++ (seats made.phase_now p'.call.stage ++ all_seats (map (saw now) r))) (seats_saw now l) ∙ ap (λ (zs : List (Seat T)). all_seats l ++ (seats made.phase_now p'.call.stage ++ zs)) (seats_saw now r)) in
+        let parties_are : slice_set (map party_of (l ++ (x ∷ r))) (length l) p' ≡ map party_of after_all =
+        set-round party_of l x r p' ∙ (ap (λ (zs : List (Party T W)). zs ++ (p' ∷ map party_of r)) (sym (party_saw now l)) ∙ (ap (λ (zs : List (Party T W)). map party_of (map (saw now) l) ++ (p' ∷ zs)) (sym (party_saw now r)) ∙ sym (map-round party_of (map (saw now) l) (next ∷ map (saw now) r)))) in
+        let mine_after : Under T W = under_of next in
+        let mine_named : Under T W = does (under_of x) at' m before_it now in
+        let same : mine_after ≡ mine_named = ap (λ (n : ℕ). let u : Under T W = record mine_named { party = n } in u) id in
+        let under_are : map under_of after_all ≡ map (sees now) (map under_of l) ++ (mine_named ∷ map (sees now) (map under_of r)) =
+        map-round under_of (map (saw now) l) (next ∷ map (saw now) r) ∙ (ap (λ (zs : List (Under T W)). zs ++ (mine_after ∷ map under_of (map (saw now) r))) (under_saw now l) ∙ (ap (λ (zs : List (Under T W)). map (sees now) (map under_of l) ++ (mine_after ∷ zs)) (under_saw now r) ∙ ap (λ (u : Under T W). map (sees now) (map under_of l) ++ (u ∷ map (sees now) (map under_of r))) same)) in
+        let all_known : AllKnown now (map (sees now) (map under_of l) ++ (mine_named ∷ map (sees now) (map under_of r))) =
+        known_both now (map (sees now) (map under_of l)) (mine_named ∷ map (sees now) (map under_of r)) (all_see before_it now on (map under_of l) left_known)
+        (own_known before_it (under_of x) bal mine_known m now names at' made.moves, all_see before_it now on (map under_of r) right_known) in (
+          scene_of q' parts' after_all (gone ++ gone_by m q.items) (came ++ came_by m x.ask),
+          record {
+            before = map under_of l;
+            mine = under_of x;
+            behind = map under_of r;
+            at_now = at';
+            there = map-round under_of l (x ∷ r);
+            whose = refl;
+            moves = made.moves;
+            left = under_are;
+            named = names_of before_it at0 e None at' made.moves;
+            finishes = refl;
+            quick = own_in_time before_it (under_of x) bal mine_known m now names at' None made.moves;
+            gone = refl;
+            came = refl;
+            held = moves_held before_it x.ask at0 x.deeds x.seen e None at' mine_known.stands made.moves;
+          },
+          record {
+            sittings = after_all;
+            queue = q';
+            parties_are = parties_are;
+            under_way = refl;
+            now = refl;
+            fits = subst (λ (ss : List (Seat T)). Fits parts'.cells q' ss) (sym seats_are) made.fits;
+            known = subst (λ (us : List (Under T W)). AllKnown now us) (sym under_are) all_known;
+            balanced = on.balanced bal;
+          },
+          made.one_place,
+        )
+    core (Some y) step =
+        let made = step q x.inner (all_seats l) (all_seats r) range round in
+        let q' : Queue T = made.queue in
+        let now : Channel T W = channel q' parts' in
+        let at' = phase made.phase_now p'.call.stage in
+        let at0 : Stage (Phase T) T W = phase x.inner x.party.call.stage in
+        let e : Effect T W = record { channel = now; mark = m; woken = names } in
+        let on : Progress q q' = moves_on before_it at0 e (Some y) at' made.moves in
+        let alone : seats made.phase_now p'.call.stage ≡ [] =
+        answered_alone before_it at0 e y made.phase_now p'.call.stage made.moves in
+        let after_all : List (Sitting T W) = map (saw now) l ++ map (saw now) r in
+        let fits' : Fits parts'.cells q' (all_seats l ++ all_seats r) = subst (λ (ss : List (Seat T)). Fits parts'.cells q' (all_seats l ++ (ss ++ all_seats r))) alone made.fits in
+        let seats_are : all_seats after_all ≡ all_seats l ++ all_seats r =
+        seats_append (map (saw now) l) (map (saw now) r) ∙ (ap (λ (zs : List (Seat T)). zs ++ all_seats (map (saw now) r)) (seats_saw now l) ∙ ap (λ (zs : List (Seat T)). all_seats l ++ zs) (seats_saw now r)) in
+        let parties_are : remove (map party_of (l ++ (x ∷ r))) (length l) ≡ map party_of after_all =
+        remove-round party_of l x r ∙ (ap (λ (zs : List (Party T W)). zs ++ map party_of r) (sym (party_saw now l)) ∙ (ap (λ (zs : List (Party T W)). map party_of (map (saw now) l) ++ zs) (sym (party_saw now r)) ∙ sym (map-round party_of (map (saw now) l) (map (saw now) r)))) in
+        let under_are : map under_of after_all ≡ map (sees now) (map under_of l) ++ map (sees now) (map under_of r) =
+        map-round under_of (map (saw now) l) (map (saw now) r) ∙ (ap (λ (zs : List (Under T W)). zs ++ map under_of (map (saw now) r)) (under_saw now l) ∙ ap (λ (zs : List (Under T W)). map (sees now) (map under_of l) ++ zs) (under_saw now r)) in
+        let all_known : AllKnown now (map (sees now) (map under_of l) ++ map (sees now) (map under_of r)) =
+        known_both now (map (sees now) (map under_of l)) (map (sees now) (map under_of r)) (all_see before_it now on (map under_of l) left_known) (all_see before_it now on (map under_of r) right_known) in (
+          scene_of q' parts' after_all (gone ++ gone_by m q.items) (came ++ came_by m x.ask),
+          record {
+            before = map under_of l;
+            mine = under_of x;
+            behind = map under_of r;
+            at_now = at';
+            there = map-round under_of l (x ∷ r);
+            whose = refl;
+            moves = made.moves;
+            left = under_are;
+            named = names_of before_it at0 e (Some y) at' made.moves;
+            finishes = own_finishes before_it (under_of x) bal mine_known m now names at' y (kept_by p'.call.stage) (λ kept there. kept_at made.phase_now p'.call.stage kept there) made.moves;
+            quick = own_in_time before_it (under_of x) bal mine_known m now names at' (Some y) made.moves;
+            gone = refl;
+            came = refl;
+            held = moves_held before_it x.ask at0 x.deeds x.seen e (Some y) at' mine_known.stands made.moves;
+          },
+          record {
+            sittings = after_all;
+            queue = q';
+            parties_are = parties_are;
+            under_way = refl;
+            now = refl;
+            fits = subst (λ (ss : List (Seat T)). Fits parts'.cells q' ss) (sym seats_are) fits';
+            known = subst (λ (us : List (Under T W)). AllKnown now us) (sym under_are) all_known;
+            balanced = on.balanced bal;
+          },
+          made.one_place,
+        )
+
+  -- a step of the k-th party, as the code makes it, is a step in each scene that is shown
+  pub stepped_at : {S : Type 0} (wakes : S → W → S → Type 0) (parts parts' : Parts T W) (parties parties' : List (Party T W)) (k : ℕ) (sink sink' : S) (e : Entry T)
+      → SteppedAt wakes parts parties k sink e parts' parties' sink' → StepsAt wakes parts parties k sink e parts' parties' sink'
+  stepped_at wakes parts parts' parties parties' k sink sink' e h s p range sh there =
+      let d = split party_of sh.sittings k p (subst (λ (zs : List (Party T W)). slice_get zs k ≡ Some p) sh.parties_are there) in
+      let l = d.0 in
+      let x = d.1 in
+      let r = d.2 in
+      let at_x : slice_get parties k ≡ Some x.party = subst (λ (y : Party T W). slice_get parties k ≡ Some y) (sym d.4) there in
+      let c = h x.party at_x in
+      let in_range : IsInRange sh.queue = subst (λ (z : Channel T W). IsInRange z.queue) sh.now range in
+      let fits : Fits parts.cells sh.queue (all_seats (l ++ (x ∷ r))) = subst (λ (xs : List (Sitting T W)). Fits parts.cells sh.queue (all_seats xs)) d.3 sh.fits in
+      let under_is : s.under_way ≡ map under_of (l ++ (x ∷ r)) = sh.under_way ∙ ap (λ (xs : List (Sitting T W)). map under_of xs) d.3 in
+      let known : AllKnown (channel sh.queue parts) (map under_of (l ++ (x ∷ r))) = subst (λ (us : List (Under T W)). AllKnown (channel sh.queue parts) us) under_is (subst (λ (z : Channel T W). AllKnown z s.under_way) sh.now sh.known) in
+      let o = core parts parts' l r x sh.queue c.0 e.mark c.2.0 c.1 in_range fits known sh.balanced s.gone s.came e.reply c.2.2 in
+      let parties_is : parties ≡ map party_of (l ++ (x ∷ r)) = sh.parties_are ∙ ap (λ (xs : List (Sitting T W)). map party_of xs) d.3 in
+      let left : parties_after (map party_of (l ++ (x ∷ r))) (length l) c.0 e.reply ≡ parties' =
+      ap (λ (zs : List (Party T W)). parties_after zs (length l) c.0 e.reply) (sym parties_is) ∙ (ap (λ n. parties_after parties n c.0 e.reply) d.5 ∙ sym c.4) in
+      let scene_is : scene_of sh.queue parts (l ++ (x ∷ r)) s.gone s.came ≡ s = same_scene s (channel sh.queue parts) (map under_of (l ++ (x ∷ r))) (sym sh.now) (sym under_is) in
+      let before_all : Scene T W = scene_of sh.queue parts (l ++ (x ∷ r)) s.gone s.came in
+      record {
+        names = c.2.0;
+        woken = c.2.1;
+        after = o.0;
+        step = subst (λ (n : ℕ). Steps s n e c.2.0 o.0) (ap (λ (y : Party T W). y.id) d.4) (subst (λ (z : Scene T W). Steps z x.party.id e c.2.0 o.0) scene_is (subst (λ (kept : Option (Kept T)). Steps before_all x.party.id (record { mark = e.mark; reply = e.reply; kept = kept }) c.2.0 o.0) (sym c.3) o.1));
+        one_place = o.3;
+        shown = subst (λ (zs : List (Party T W)). Shows parts' zs o.0) left o.2;
+      }
+
+  pub made_at : {S : Type 0} (wakes : S → W → S → Type 0) (parts parts' : Parts T W) (parties parties' : List (Party T W)) (k : ℕ) (sink sink' : S) (x : Party T W) (next : ChannelCall T W) (m : Mark) (r : Option (Reply T))
+      (kept : Option (Kept T)) → slice_get parties k ≡ Some x → m ≡ next.mark → IsChannelStep wakes parts x.call.stage sink parts' next.stage next.mark r sink'
+      → kept ≡ left_by (record { id = x.id; call = next }) r → parties' ≡ parties_after parties k (record { id = x.id; call = next }) r
+      → SteppedAt wakes parts parties k sink (record { mark = m; reply = r; kept = kept }) parts' parties' sink'
+  made_at wakes parts parts' parties parties' k sink sink' x next m r kept there e step given left p there' =
+      let next_party : Party T W = record { id = x.id; call = next } in
+      let at_x : IsChannelStep wakes parts x.call.stage sink parts' next.stage m r sink' = subst (λ (n : Mark). IsChannelStep wakes parts x.call.stage sink parts' next.stage n r sink') (sym e) step in
+      let same : x ≡ p = cc in
+      (next_party, ap (λ (y : Party T W). y.id) same, subst (λ (y : Party T W). IsChannelStep wakes parts y.call.stage sink parts' next.stage m r sink') same at_x, given, left)

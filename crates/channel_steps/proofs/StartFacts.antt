@@ -1,0 +1,46 @@
+-- A channel that was just opened, and the number of calls under way.
+use Rattle.std.proofs.Common.{◌≡◌, ℕ, ◌==◌, Bool, true, false, List, [], ◌∷◌, map, length, refl, sym, ap, ◌∙◌, arith}
+use Rattle.std.proofs.lemmas.Bool.Decides.{nat_tests}
+use Rattle.concurrent_queue.specs.Dispatch.{capacity_of}
+use Rattle.concurrent_queue.specs.Made.{IsNew}
+use Rattle.concurrent_queue.specs.Queue.{opened}
+use Rattle.concurrent_queue.specs.declared.cells.QueueForm.{QueueForm}
+use Rattle.async_channel.specs.Moves.{channel}
+use Rattle.async_channel.specs.Parts.{Parts, Roster, new_roster}
+use Rattle.channel_steps.specs.declared.party.Party.{Party}
+use Rattle.channel_steps.specs.Run.{new_scene}
+use Rattle.channel_steps.specs.Scene.{Scene, Sitting, under_of, Shows}
+use Rattle.channel_steps.specs.Start.{CountsCalls, IsQuietOrNot, TellsQuiet}
+
+long_as : {A B : Type 0} (g : A → B) (xs : List A) → length (map g xs) ≡ length xs
+long_as g [] = refl
+long_as g (x ∷ xs) = omega (arith, long_as g xs)
+
+no_items : {A : Type 0} (xs : List A) → length xs ≡ 0 → xs ≡ []
+no_items [] h = refl
+no_items (x ∷ xs) h = absurd (omega arith)
+
+module _ {T W : Type 0} where
+  pub new_shown : (form : QueueForm) (parts : Parts T W) (parties : List (Party T W)) → IsNew form parts.cells → parts.roster ≡ new_roster → parties ≡ [] → Shows parts parties (new_scene (capacity_of form))
+  new_shown form parts parties new roster none =
+      record {
+        sittings = [];
+        queue = opened (capacity_of form);
+        parties_are = none;
+        under_way = refl;
+        now = sym (ap (λ (a : Roster W). channel (opened (capacity_of form)) (record { cells = parts.cells; roster = a })) roster);
+        fits = new.1;
+        known = tt;
+        balanced = refl;
+      }
+
+  pub counts : (parties : List (Party T W)) (n : ℕ) → n ≡ length parties → CountsCalls parties n
+  counts parties n e parts s sh =
+      e ∙ (ap length sh.parties_are ∙ (long_as (λ (x : Sitting T W). x.party) sh.sittings ∙ (sym (long_as under_of sh.sittings) ∙ sym (ap length sh.under_way))))
+
+  none_or_some : (n : ℕ) (b : Bool) (s : Scene T W) → n ≡ length s.under_way → (n == 0) ≡ b → IsQuietOrNot s b
+  none_or_some n true s e f = no_items s.under_way (grind (arith, nat_tests))
+  none_or_some n false s e f = λ none. (let k : length s.under_way ≡ 0 = ap length none in absurd (grind (arith, nat_tests)))
+
+  pub quiet : (parties : List (Party T W)) (b : Bool) → (length parties == 0) ≡ b → TellsQuiet parties b
+  quiet parties b f parts s sh = none_or_some (length parties) b s (counts parties (length parties) refl parts s sh) f

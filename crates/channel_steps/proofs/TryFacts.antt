@@ -1,0 +1,283 @@
+-- A step of the queue's call that goes on, and what is known of the channel's call after it.
+use Rattle.std.proofs.Common.{◌≡◌, ℕ, zero, suc, ◌+◌, ◌≤◌, ◌==◌, Bool, true, false, if◌then◌else◌, List, [], ◌∷◌, ◌++◌, length, drop, None, Some, ◌⊎◌, ⊎_elim, inl, inr, refl, sym, ap, ◌∙◌, subst, arith, length-append}
+use Rattle.std.proofs.lemmas.Bool.Decides.{nat_tests}
+use Rattle.concurrent_queue.specs.Queue.{Queue, trying, displaced, appended, taken, read, measured, is_filled, is_full_at, IsOpen, IsOldest, message, marked, is_displaced, seen_after, GoesPush, GoesForce, GoesPop, GoesOn, AnswersTo}
+use Rattle.concurrent_queue.specs.Queue as queue
+use Rattle.concurrent_queue.specs.declared.call.QueueAsk.{QueueAsk}
+use Rattle.concurrent_queue.specs.declared.call.QueueAsk.TheVariants as ask
+use Rattle.concurrent_queue.specs.declared.call.QueueMark.{QueueMark}
+use Rattle.concurrent_queue.specs.declared.call.QueueMark.TheVariants.{Nothing, Append, Take, TakeDisplaced, Replace, Close}
+use Rattle.concurrent_queue.specs.declared.call.QueueReply.{QueueReply}
+use Rattle.async_channel.specs.Marks.{mark_of_queue}
+use Rattle.async_channel.specs.Moves.{Channel}
+use Rattle.async_channel.specs.declared.ask.ChannelAsk.{ChannelAsk}
+use Rattle.async_channel.specs.declared.ask.ChannelAsk.TheVariants as channel
+use Rattle.async_channel.specs.declared.stage.Aim.{Aim}
+use Rattle.async_channel.specs.declared.stage.Aim.TheVariants as aim
+use Rattle.async_channel.specs.declared.stage.Closer.TheVariants as closer
+use Rattle.async_channel.specs.declared.stage.Line.TheVariants.{Sends, Receives, Streams, Closings}
+use Rattle.async_channel.specs.declared.stage.Side.{Side}
+use Rattle.async_channel.specs.declared.stage.Side.TheVariants.{Senders, Receivers}
+use Rattle.channel_steps.specs.Moments.{Deed, with_deed, Open, HasRoom, Crowded, HasMessage, Once, MadeRoom, Displaced, LeftLast}
+use Rattle.channel_steps.specs.Known.{TriesFor, TryAt}
+use Rattle.channel_steps.specs.Scene.{IsBalanced}
+
+pub eq_of : (m n : ℕ) → (m == n) ≡ true → m ≡ n
+eq_of m n e = grind (arith, nat_tests)
+
+pub ne_of : (m n : ℕ) → (m ≡ n → ⊥) → (m == n) ≡ false
+ne_of m n e = grind (arith, nat_tests)
+
+module _ {T : Type 0} where
+  -- ---- how a step changes the queue
+
+  -- where more were accepted, there is a message now, and there was room before or there is but one place
+  pub record Progress (q q' : Queue T) : Type 0 where
+    pub capacity : q'.capacity ≡ q.capacity
+    pub grew : (q'.accepted ≡ q.accepted) ⊎ (((length q'.items == 0) ≡ false) × ((is_filled q ≡ false) ⊎ (q.capacity ≡ Some 1)))
+    pub balanced : IsBalanced q → IsBalanced q'
+
+  pub still : (q : Queue T) → Progress q q
+  still q = record { capacity = refl; grew = inl refl; balanced = λ h. h }
+
+  module _ (q : Queue T) where
+    brings : (a : QueueAsk T) (v : T) → message a ≡ v ∷ [] → (b : Bool) → is_filled q ≡ false → Progress q (marked a b Append q)
+    brings a v one b room =
+        let k = length-append q.items (message a) in
+        let n : length (message a) ≡ 1 = ap length one in
+        record {
+          capacity = refl;
+          grew = inr (ne_of (length (q.items ++ message a)) 0 (λ e. absurd (omega (arith, k, n, e))), inl room);
+          balanced = λ h. (let h' : length q.items + q.removed ≡ q.accepted = h in omega (arith, k, n));
+        }
+
+    takes : (a : QueueAsk T) (v : T) → IsOldest v q → (coming : Bool) → Progress q (record q { items = drop 1 q.items; coming = coming; removed = q.removed + 1 })
+    takes a v oldest coming =
+        record {
+          capacity = refl;
+          grew = inl refl;
+          balanced = λ h. (let n : length q.items ≡ length (v ∷ oldest.0) = ap length oldest.1 in let k : length (drop 1 q.items) ≡ length oldest.0 = ap (λ (xs : List T). length (drop 1 xs)) oldest.1 in
+              let h' : length q.items + q.removed ≡ q.accepted = h in omega arith);
+        }
+
+    replaces : (a : QueueAsk T) (v w : T) → message a ≡ v ∷ [] → IsOldest w q → q.capacity ≡ Some 1 → Progress q (marked a false Replace q)
+    replaces a v w one oldest cap =
+        let i = length-append (drop 1 q.items) (message a) in
+        let j : length (message a) ≡ 1 = ap length one in
+        record {
+          capacity = refl;
+          grew = inr (ne_of (length (drop 1 q.items ++ message a)) 0 (λ e. absurd (omega (arith, i, j, e))), inr cap);
+          balanced = λ h. (let n : length q.items ≡ length (w ∷ oldest.0) = ap length oldest.1 in let k : length (drop 1 q.items) ≡ length oldest.0 = ap (λ (xs : List T). length (drop 1 xs)) oldest.1 in
+              let h' : length q.items + q.removed ≡ q.accepted = h in omega (arith, i, j));
+        }
+
+    progress_push : (v : T) (m : QueueMark) (s t : queue.Stage T) → GoesPush q m s t → Progress q (marked (ask.Push v) (is_displaced s) m q)
+    progress_push v Nothing s t g = still q
+    progress_push v Append (trying b) t g = brings (ask.Push v) v refl false g.1
+    progress_push v m s t g = absurd g
+
+    progress_force : (v : T) (m : QueueMark) (s t : queue.Stage T) → GoesForce q m s t → Progress q (marked (ask.ForcePush v) (is_displaced s) m q)
+    progress_force v Nothing s t g = still q
+    progress_force v Append (trying b) t g = brings (ask.ForcePush v) v refl false g.1
+    progress_force v Append (displaced d) t g = brings (ask.ForcePush v) v refl true g.1
+    progress_force v Replace (trying b) t g = replaces (ask.ForcePush v) v g.0 refl g.1 g.4
+    progress_force v TakeDisplaced (trying b) t g = takes (ask.ForcePush v) g.0 g.1 true
+    progress_force v m s t g = absurd g
+
+    progress_pop : (m : QueueMark) (s t : queue.Stage T) → GoesPop q m s t → Progress q (marked ask.Pop (is_displaced s) m q)
+    progress_pop Nothing s t g = still q
+    progress_pop Take (trying b) t g = takes ask.Pop g.0 g.1 q.coming
+    progress_pop m s t g = absurd g
+
+    pub progress : (a : QueueAsk T) (m : QueueMark) (s t : queue.Stage T) → GoesOn q a m s t → Progress q (marked a (is_displaced s) m q)
+    progress (ask.Push v) m s t g = progress_push v m s t g
+    progress (ask.ForcePush v) m s t g = progress_force v m s t g
+    progress ask.Pop m s t g = progress_pop m s t g
+    progress ask.Close m s t g = absurd g
+    progress ask.IsClosed m s t g = absurd g
+    progress ask.IsEmpty Nothing s t g = still q
+    progress ask.IsEmpty m s t g = absurd g
+    progress ask.IsFull Nothing s t g = still q
+    progress ask.IsFull m s t g = absurd g
+    progress ask.Len Nothing s t g = still q
+    progress ask.Len m s t g = absurd g
+    progress ask.Capacity m s t g = absurd g
+
+    closes : Progress q (record q { closed = true })
+    closes = record { capacity = refl; grew = inl refl; balanced = λ h. h }
+
+    -- an answer comes by a step with no mark, or by a closing one
+    pub answer_progress : (a : QueueAsk T) (m : QueueMark) (r : QueueReply T) (s : queue.Stage T) → AnswersTo q a m r s → Progress q (marked a (is_displaced s) m q)
+    answer_progress a Nothing r s h = still q
+    answer_progress a Close r s h = closes
+    answer_progress (ask.Push v) m r s h = absurd h
+    answer_progress (ask.ForcePush v) m r s h = absurd h
+    answer_progress ask.Pop m r s h = absurd h
+    answer_progress ask.Close m r s h = absurd h
+    answer_progress ask.IsClosed m r s h = absurd h
+    answer_progress ask.IsEmpty m r s h = absurd h
+    answer_progress ask.IsFull m r s h = absurd h
+    answer_progress ask.Len m r s h = absurd h
+    answer_progress ask.Capacity m r s h = absurd h
+
+module _ {T : Type 0} where
+  abbrev pub IsClosing : QueueAsk T → Type 0
+  IsClosing ask.Close = Unit {0}
+  IsClosing a = ⊥
+
+module _ {T W : Type 0} where
+  -- ---- moments
+
+  stuck_of : (c : Channel T W) (b : Bool) → c.queue.closed ≡ b → (if b then false else is_filled c.queue) ≡ true → Crowded c
+  stuck_of c false e h = (e, h)
+  stuck_of c true e h = absurd cc
+
+  pub stuck_seen : (b : Bool) (c : Channel T W) (seen : List (Channel T W)) → (b ≡ true → Once Crowded seen) → seen_after b c.queue ≡ true → Once Crowded (c ∷ seen)
+  stuck_seen true c seen f h = inr (f refl)
+  stuck_seen false c seen f h = inl (stuck_of c c.queue.closed refl h)
+
+  open_once : (seen : List (Channel T W)) → Once Crowded seen → Once Open seen
+  open_once [] h = absurd h
+  open_once (c ∷ cs) (inl h) = inl h.0
+  open_once (c ∷ cs) (inr h) = inr (open_once cs h)
+
+  displaced_now : (ds : List (Deed T W)) (d : T) (e : Deed T W) → MadeRoom ds d → e.mark ≡ mark_of_queue Append → Displaced (ds ++ e ∷ []) d
+  displaced_now [] d e h m = absurd h
+  displaced_now (x ∷ []) d e h m = (h, m)
+  displaced_now (x ∷ y ∷ ds) d e h m = absurd h
+
+  -- ---- a step of the queue's call that goes on
+
+  -- the channel, and the call's marks, after a step of the queue's call
+  abbrev pub next_channel : QueueAsk T → queue.Stage T → QueueMark → Channel T W → Channel T W
+  next_channel a s m c = record c { queue = marked a (is_displaced s) m c.queue }
+
+  module _ (c : Channel T W) (seen : List (Channel T W)) where
+    -- it is known where the queue's call is now
+    abbrev pub Went : QueueAsk T → QueueMark → queue.Stage T → queue.Stage T → List (Deed T W) → Type 0
+    Went a m s t ds =
+        TryAt (next_channel a s m c) a t (with_deed ds (mark_of_queue m) c seen) (next_channel a s m c ∷ seen)
+
+    at_stage : (a : QueueAsk T) (m : QueueMark) (s t u : queue.Stage T) (ds : List (Deed T W)) → t ≡ u → Went a m s u ds → Went a m s t ds
+    at_stage a m s t u ds e h = subst (λ (x : queue.Stage T). Went a m s x ds) (sym e) h
+
+    at_deeds : (a : QueueAsk T) (m : QueueMark) (s t : queue.Stage T) (ds : List (Deed T W)) → ds ≡ [] → Went a m s t [] → Went a m s t ds
+    at_deeds a m s t ds e h = subst (λ (x : List (Deed T W)). Went a m s t x) (sym e) h
+
+    goes_push : (v : T) (m : QueueMark) (s t : queue.Stage T) (ds : List (Deed T W)) → GoesPush c.queue m s t → TryAt c (ask.Push v) s ds seen → Went (ask.Push v) m s t ds
+    goes_push v Nothing (trying b) t ds g ev = at_stage (ask.Push v) Nothing (trying b) t (trying (seen_after b c.queue)) ds g (ev.0, λ e. stuck_seen b c seen ev.1 e)
+    goes_push v Nothing (appended None) t ds g ev = at_stage (ask.Push v) Nothing (appended None) t (appended None) ds g ev
+    goes_push v Append (trying b) t ds g ev = at_stage (ask.Push v) Append (trying b) t (appended None) ds g.2 (at_deeds (ask.Push v) Append (trying b) (appended None) ds ev.0 (refl, g.0, g.1))
+    goes_push v m s t ds g ev = absurd g
+
+    goes_force : (v : T) (m : QueueMark) (s t : queue.Stage T) (ds : List (Deed T W)) → GoesForce c.queue m s t → TryAt c (ask.ForcePush v) s ds seen → Went (ask.ForcePush v) m s t ds
+    goes_force v Nothing (trying b) t ds g ev = at_stage (ask.ForcePush v) Nothing (trying b) t (trying (seen_after b c.queue)) ds g (ev.0, λ e. stuck_seen b c seen ev.1 e)
+    goes_force v Nothing (displaced d) t ds g ev = at_stage (ask.ForcePush v) Nothing (displaced d) t (displaced d) ds g ev
+    goes_force v Nothing (appended None) t ds g ev = at_stage (ask.ForcePush v) Nothing (appended None) t (appended None) ds g ev
+    goes_force v Nothing (appended (Some d)) t ds g ev = at_stage (ask.ForcePush v) Nothing (appended (Some d)) t (appended (Some d)) ds g ev
+    goes_force v Append (trying b) t ds g ev = at_stage (ask.ForcePush v) Append (trying b) t (appended None) ds g.2 (at_deeds (ask.ForcePush v) Append (trying b) (appended None) ds ev.0 (refl, g.0, g.1))
+    goes_force v Append (displaced d) t ds g ev = at_stage (ask.ForcePush v) Append (displaced d) t (appended (Some d)) ds g.2 (inr (displaced_now ds d _ ev refl))
+    goes_force v Replace (trying b) t ds g ev = at_stage (ask.ForcePush v) Replace (trying b) t (appended (Some g.0)) ds g.5 (at_deeds (ask.ForcePush v) Replace (trying b) (appended (Some g.0)) ds ev.0 (inl (refl, (g.2, g.3), g.1)))
+    goes_force v TakeDisplaced (trying b) t ds g ev =
+        at_stage (ask.ForcePush v) TakeDisplaced (trying b) t (displaced g.0) ds g.5 (at_deeds (ask.ForcePush v) TakeDisplaced (trying b) (displaced g.0) ds ev.0 (refl, g.3, g.4, g.1, open_once (c ∷ seen) (stuck_seen b c seen ev.1 g.2)))
+    goes_force v m s t ds g ev = absurd g
+
+    goes_pop : (m : QueueMark) (s t : queue.Stage T) (ds : List (Deed T W)) → GoesPop c.queue m s t → TryAt c ask.Pop s ds seen → Went ask.Pop m s t ds
+    goes_pop Nothing (trying b) t ds g ev = at_stage ask.Pop Nothing (trying b) t (trying (seen_after b c.queue)) ds g ev
+    goes_pop Nothing (taken v) t ds g ev = at_stage ask.Pop Nothing (taken v) t (taken v) ds g ev
+    goes_pop Take (trying b) t ds g ev = at_stage ask.Pop Take (trying b) t (taken g.0) ds g.2 (at_deeds ask.Pop Take (trying b) (taken g.0) ds ev (refl, g.1))
+    goes_pop m s t ds g ev = absurd g
+
+    empty_or_not : (n : ℕ) → n ≡ length c.queue.items → IsBalanced c.queue → Once HasMessage (c ∷ seen) ⊎ (c.queue.accepted ≤ c.queue.removed)
+    empty_or_not zero e h = let h' : length c.queue.items + c.queue.removed ≡ c.queue.accepted = h in inr (omega arith)
+    empty_or_not (suc n) e h = inl (inl (ne_of (length c.queue.items) 0 (λ k. absurd (omega (arith, e, k)))))
+
+    goes_empty : (m : QueueMark) (s t : queue.Stage T) (ds : List (Deed T W)) → GoesOn c.queue ask.IsEmpty m s t → IsBalanced c.queue → TryAt c ask.IsEmpty s ds seen → Went ask.IsEmpty m s t ds
+    goes_empty Nothing (trying b) t ds g h ev = at_stage ask.IsEmpty Nothing (trying b) t (read c.queue.removed) ds g (ev, empty_or_not (length c.queue.items) refl h)
+    goes_empty m s t ds g h ev = absurd g
+
+    goes_full : (m : QueueMark) (s t : queue.Stage T) (ds : List (Deed T W)) → GoesOn c.queue ask.IsFull m s t → TryAt c ask.IsFull s ds seen → Went ask.IsFull m s t ds
+    goes_full Nothing (trying b) t ds g ev = at_stage ask.IsFull Nothing (trying b) t (read c.queue.accepted) ds g.0 (ev, g.1, inr refl)
+    goes_full m s t ds g ev = absurd g
+
+    goes_len : (m : QueueMark) (s t : queue.Stage T) (ds : List (Deed T W)) → GoesOn c.queue ask.Len m s t → TryAt c ask.Len s ds seen → Went ask.Len m s t ds
+    goes_len Nothing (trying b) t ds g ev = at_stage ask.Len Nothing (trying b) t (read c.queue.accepted) ds g ev
+    goes_len Nothing (read n) t ds g ev = at_stage ask.Len Nothing (read n) t (measured n (length c.queue.items)) ds g (ev, inl refl)
+    goes_len Nothing (measured n k) t ds g ev = at_stage ask.Len Nothing (measured n k) t (trying false) ds g ev.0
+    goes_len m s t ds g ev = absurd g
+
+    pub goes : (a : QueueAsk T) (m : QueueMark) (s t : queue.Stage T) (ds : List (Deed T W)) → GoesOn c.queue a m s t → IsBalanced c.queue → TryAt c a s ds seen → Went a m s t ds
+    goes (ask.Push v) m s t ds g h ev = goes_push v m s t ds g ev
+    goes (ask.ForcePush v) m s t ds g h ev = goes_force v m s t ds g ev
+    goes ask.Pop m s t ds g h ev = goes_pop m s t ds g ev
+    goes ask.Close m s t ds g h ev = absurd g
+    goes ask.IsClosed m s t ds g h ev = absurd g
+    goes ask.IsEmpty m s t ds g h ev = goes_empty m s t ds g h ev
+    goes ask.IsFull m s t ds g h ev = goes_full m s t ds g ev
+    goes ask.Len m s t ds g h ev = goes_len m s t ds g ev
+    goes ask.Capacity m s t ds g h ev = absurd g
+
+  -- ---- a new moment leaves the queue's call one of this call
+
+  last_left : (side : Side) (c : Channel T W) (ds es : List (Deed T W)) (seen : List (Channel T W)) → es ≡ ds → LeftLast side ds seen → LeftLast side es (c ∷ seen)
+  last_left side c [] es seen e h = absurd h
+  last_left side c (d ∷ []) es seen e h =
+      subst (λ (xs : List (Deed T W)). LeftLast side xs (c ∷ seen)) (sym e) (h.0, h.1, c ∷ h.2, ap (λ (cs : List (Channel T W)). c ∷ cs) h.3)
+  last_left side c (d ∷ f ∷ ds) es seen e h = absurd h
+
+  pub tries_more : (c : Channel T W) (ds es : List (Deed T W)) (seen : List (Channel T W)) (x : ChannelAsk T W) (y : Aim W) (a : QueueAsk T) → (IsClosing a → es ≡ ds) → TriesFor x y a ds seen → TriesFor x y a es (c ∷ seen)
+  tries_more c ds es seen (channel.TrySend m) aim.TrySend (ask.Push v) e h = h
+  tries_more c ds es seen (channel.ForceSend m) aim.ForceSend (ask.ForcePush v) e h = h
+  tries_more c ds es seen channel.TryRecv aim.TryRecv ask.Pop e h = h
+  tries_more c ds es seen channel.Close (aim.Close closer.Call) ask.Close e h = e tt ∙ h
+  tries_more c ds es seen (channel.PollSend m k t) (aim.Poll Sends key task) (ask.Push v) e h = h
+  tries_more c ds es seen (channel.PollRecv k t) (aim.Poll Receives key task) ask.Pop e h = h
+  tries_more c ds es seen (channel.PollClosed k t) (aim.Poll Closings key task) ask.IsClosed e h = h
+  tries_more c ds es seen (channel.PollNext k t) (aim.Poll Streams key task) ask.Pop e h = h
+  tries_more c ds es seen channel.DropSender (aim.Close closer.Sender) ask.Close e h = last_left Senders c ds es seen (e tt) h
+  tries_more c ds es seen (channel.DropReceiver k) (aim.Close (closer.Receiver key)) ask.Close e h = last_left Receivers c ds es seen (e tt) h
+  tries_more c ds es seen (channel.Upgrade side) (aim.Upgrade s) ask.IsClosed e h = h
+  tries_more c ds es seen channel.IsClosed aim.Ask ask.IsClosed e h = h
+  tries_more c ds es seen channel.IsEmpty aim.Ask ask.IsEmpty e h = h
+  tries_more c ds es seen channel.IsFull aim.Ask ask.IsFull e h = h
+  tries_more c ds es seen channel.Len aim.Ask ask.Len e h = h
+  tries_more c ds es seen channel.Capacity aim.Ask ask.Capacity e h = h
+  tries_more c ds es seen channel.IsTerminated aim.IsTerminated ask.IsClosed e h = h
+  tries_more c ds es seen channel.IsTerminated aim.Ask ask.IsEmpty e h = inr h
+  tries_more c ds es seen x y a e h = absurd h
+
+  -- ---- another call's step leaves what is known of the queue's call
+
+  module _ (c c' : Channel T W) (p : Progress c.queue c'.queue) (older : List (Channel T W)) (seen : List (Channel T W)) (latest : seen ≡ c ∷ older) where
+    grown_message : (n : ℕ) → Once HasMessage seen ⊎ (c.queue.accepted ≤ n) → Once HasMessage (c' ∷ seen) ⊎ (c'.queue.accepted ≤ n)
+    grown_message n (inl h) = inl (inr h)
+    grown_message n (inr h) = ⊎_elim (λ e. inr (omega (arith, h, e))) (λ k. inl (inl k.0)) p.grew
+
+    was_there : HasRoom c → Once HasRoom seen
+    was_there h = subst (λ (cs : List (Channel T W)). Once HasRoom cs) (sym latest) (inl h)
+
+    grown_room : (n : ℕ) → (c.queue.capacity ≡ Some 1 → ⊥) → Once HasRoom seen ⊎ (c.queue.accepted ≡ n) → Once HasRoom (c' ∷ seen) ⊎ (c'.queue.accepted ≡ n)
+    grown_room n many (inl h) = inl (inr h)
+    grown_room n many (inr h) =
+        ⊎_elim (λ e. inr (e ∙ h)) (λ k. ⊎_elim (λ room. inl (inr (was_there room))) (λ one. absurd (many one)) k.1) p.grew
+
+    pub try_stays : (a : QueueAsk T) (s : queue.Stage T) (ds : List (Deed T W)) → TryAt c a s ds seen → TryAt c' a s ds (c' ∷ seen)
+    try_stays (ask.Push v) (trying b) ds ev = (ev.0, λ e. inr (ev.1 e))
+    try_stays (ask.Push v) (appended None) ds ev = ev
+    try_stays (ask.ForcePush v) (trying b) ds ev = (ev.0, λ e. inr (ev.1 e))
+    try_stays (ask.ForcePush v) (displaced d) ds ev = ev
+    try_stays (ask.ForcePush v) (appended None) ds ev = ev
+    try_stays (ask.ForcePush v) (appended (Some d)) ds ev = ev
+    try_stays ask.Pop (trying b) ds ev = ev
+    try_stays ask.Pop (taken v) ds ev = ev
+    try_stays ask.Close (trying b) ds ev = tt
+    try_stays ask.IsClosed (trying b) ds ev = ev
+    try_stays ask.IsEmpty (trying b) ds ev = ev
+    try_stays ask.IsEmpty (read n) ds ev = (ev.0, grown_message n ev.1)
+    try_stays ask.IsFull (trying b) ds ev = ev
+    try_stays ask.IsFull (read n) ds ev = (ev.0, (λ e. ev.1 (sym p.capacity ∙ e)), grown_room n ev.1 ev.2)
+    try_stays ask.Len (trying b) ds ev = ev
+    try_stays ask.Len (read n) ds ev = ev
+    try_stays ask.Len (measured n k) ds ev = (ev.0, inr ev.1)
+    try_stays ask.Capacity (trying b) ds ev = ev
+    try_stays a s ds ev = absurd ev

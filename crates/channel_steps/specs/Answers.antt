@@ -1,0 +1,182 @@
+-- What each reply of a call says of the call's marks and moments, and what a call leaves to its operation.
+use Rattle.std.specs.Prelude.{◌≡◌, ℕ, ◌++◌, Bool, true, false, List, [], length, Option, None, Some, IsSome, Ok, Err, ◌⊎◌}
+use Rattle.concurrent_queue.specs.Queue.{is_filled}
+use Rattle.event_listener.specs.declared.error.ListenError.TheVariants as listen_error
+use Rattle.futures.specs.declared.task.Poll.TheVariants.{Ready, Pending}
+use Rattle.async_channel.specs.Moves.{Channel}
+use Rattle.async_channel.specs.Parts.{count}
+use Rattle.async_channel.specs.Turns.{leaving, nothing_kept, refused_reply}
+use Rattle.async_channel.specs.declared.ask.ChannelAsk.{ChannelAsk}
+use Rattle.async_channel.specs.declared.ask.ChannelAsk.TheVariants.{TrySend, ForceSend, TryRecv, Close, PollSend, PollFinishedSend, PollRecv, PollClosed, PollNext, RefusePoll, GiveUp, DropSender, DropReceiver, CloneHandle, Upgrade, HandleCount, IsClosed, IsEmpty, IsFull, Len, Capacity, IsTerminated, SendIsTerminated, SameChannel, Make, DropWeak}
+use Rattle.async_channel.specs.declared.error.Refused.TheVariants as refused
+use Rattle.async_channel.specs.declared.error.TrySendError.TheVariants as try_send_error
+use Rattle.async_channel.specs.declared.error.TryRecvError.TheVariants as try_recv_error
+use Rattle.async_channel.specs.declared.reply.Reply.{Reply}
+use Rattle.async_channel.specs.declared.reply.Reply.TheVariants as reply
+use Rattle.async_channel.specs.declared.stage.Kept.{Kept}
+use Rattle.async_channel.specs.declared.stage.Line.{Line}
+use Rattle.async_channel.specs.declared.stage.Line.TheVariants.{Sends, Receives, Streams, Closings}
+use Rattle.async_channel.specs.declared.stage.Side.{Side}
+use Rattle.async_channel.specs.declared.stage.Side.TheVariants.{Senders, Receivers}
+use Rattle.channel_steps.specs.Moments.{Deed, Open, Shut, Crowded, Bare, Spent, Unbounded, is_empty, HasMessage, TooManyOf, Once, Since, Appended, Took, Replaced, Displaced, ClosedIt, Raised, Upgraded, Dropped}
+
+module _ {T : Type 0} where
+  -- what a finished poll leaves to its operation, whose message is m
+  -- a pending one keeps its listener and its message; one that is refused for memory or serials its message alone
+  abbrev pub PollKeeps : Option T → Reply T → Kept T → Type 0
+  PollKeeps m (reply.SendPoll Pending) k = IsSome k.key × (k.message ≡ m)
+  PollKeeps m (reply.RecvPoll Pending) k = IsSome k.key × (k.message ≡ m)
+  PollKeeps m (reply.ClosedPoll Pending) k = IsSome k.key × (k.message ≡ m)
+  PollKeeps m (reply.Next Pending) k = IsSome k.key × (k.message ≡ m)
+  PollKeeps m (reply.SendPoll (Ready (Err (refused.NoMemory u)))) k = k ≡ leaving None m
+  PollKeeps m (reply.SendPoll (Ready (Err (refused.SerialsUsedUp u)))) k = k ≡ leaving None m
+  PollKeeps m r k = k ≡ nothing_kept
+
+module _ {T W : Type 0} where
+  -- what an operation of this kind waits for did not hold at a moment of its poll; of a stream nothing is said
+  abbrev pub WaitsFor : Line → List (Channel T W) → Type 0
+  WaitsFor Sends seen = Once Crowded seen
+  WaitsFor Receives seen = Once Bare seen
+  WaitsFor Streams seen = Unit {0}
+  WaitsFor Closings seen = Once Open seen
+
+  -- ---- the marks and the moments of a call that gives this reply
+
+  abbrev pub TrySendRow : T → List (Deed T W) → List (Channel T W) → Reply T → Type 0
+  TrySendRow m ds seen (reply.TrySend (Ok u)) = Appended ds
+  TrySendRow m ds seen (reply.TrySend (Err (refused.Plain (try_send_error.Full v)))) = (v ≡ m) × (ds ≡ []) × Once Crowded seen
+  TrySendRow m ds seen (reply.TrySend (Err (refused.Plain (try_send_error.Closed v)))) = (v ≡ m) × (ds ≡ []) × Once Shut seen
+  TrySendRow m ds seen (reply.TrySend (Err (refused.NoMemory v))) = (v ≡ m) × (ds ≡ []) × Once Unbounded seen
+  TrySendRow m ds seen _ = ⊥
+
+  abbrev pub ForceSendRow : T → List (Deed T W) → List (Channel T W) → Reply T → Type 0
+  ForceSendRow m ds seen (reply.ForceSend (Ok None)) = Appended ds
+  ForceSendRow m ds seen (reply.ForceSend (Ok (Some d))) = Replaced ds d ⊎ Displaced ds d
+  ForceSendRow m ds seen (reply.ForceSend (Err (refused.Plain e))) = (e.0 ≡ m) × (ds ≡ []) × Once Shut seen
+  ForceSendRow m ds seen (reply.ForceSend (Err (refused.NoMemory v))) = (v ≡ m) × (ds ≡ []) × Once Unbounded seen
+  ForceSendRow m ds seen _ = ⊥
+
+  abbrev pub TryRecvRow : List (Deed T W) → List (Channel T W) → Reply T → Type 0
+  TryRecvRow ds seen (reply.TryRecv (Ok v)) = Took ds v
+  TryRecvRow ds seen (reply.TryRecv (Err try_recv_error.Empty)) = (ds ≡ []) × Once Bare seen
+  TryRecvRow ds seen (reply.TryRecv (Err try_recv_error.Closed)) = (ds ≡ []) × Once Spent seen
+  TryRecvRow ds seen _ = ⊥
+
+  abbrev pub SendPollRow : T → List (Deed T W) → List (Channel T W) → Reply T → Type 0
+  SendPollRow m ds seen (reply.SendPoll (Ready (Ok u))) = Appended ds
+  SendPollRow m ds seen (reply.SendPoll (Ready (Err (refused.Plain e)))) = (e.0 ≡ m) × (ds ≡ []) × Once Shut seen
+  SendPollRow m ds seen (reply.SendPoll (Ready (Err (refused.NoMemory u)))) = ds ≡ []
+  SendPollRow m ds seen (reply.SendPoll (Ready (Err (refused.SerialsUsedUp u)))) = ds ≡ []
+  SendPollRow m ds seen (reply.SendPoll Pending) = (ds ≡ []) × WaitsFor Sends seen
+  SendPollRow m ds seen _ = ⊥
+
+  abbrev pub RecvPollRow : List (Deed T W) → List (Channel T W) → Reply T → Type 0
+  RecvPollRow ds seen (reply.RecvPoll (Ready (Ok v))) = Took ds v
+  RecvPollRow ds seen (reply.RecvPoll (Ready (Err (refused.Plain e)))) = (ds ≡ []) × Once Spent seen
+  RecvPollRow ds seen (reply.RecvPoll (Ready (Err (refused.NoMemory u)))) = ds ≡ []
+  RecvPollRow ds seen (reply.RecvPoll (Ready (Err (refused.SerialsUsedUp u)))) = ds ≡ []
+  RecvPollRow ds seen (reply.RecvPoll Pending) = (ds ≡ []) × WaitsFor Receives seen
+  RecvPollRow ds seen _ = ⊥
+
+  abbrev pub ClosedPollRow : List (Deed T W) → List (Channel T W) → Reply T → Type 0
+  ClosedPollRow ds seen (reply.ClosedPoll (Ready (Ok u))) = (ds ≡ []) × Once Shut seen
+  ClosedPollRow ds seen (reply.ClosedPoll (Ready (Err e))) = ds ≡ []
+  ClosedPollRow ds seen (reply.ClosedPoll Pending) = (ds ≡ []) × WaitsFor Closings seen
+  ClosedPollRow ds seen _ = ⊥
+
+  abbrev pub NextRow : List (Deed T W) → List (Channel T W) → Reply T → Type 0
+  NextRow ds seen (reply.Next (Ready (Some (Ok v)))) = Took ds v
+  NextRow ds seen (reply.Next (Ready (Some (Err e)))) = ds ≡ []
+  NextRow ds seen (reply.Next (Ready None)) = (ds ≡ []) × Once Spent seen
+  NextRow ds seen (reply.Next Pending) = (ds ≡ []) × WaitsFor Streams seen
+  NextRow ds seen _ = ⊥
+
+  abbrev pub CloseRow : List (Deed T W) → List (Channel T W) → Reply T → Type 0
+  CloseRow ds seen (reply.Closed true) = ClosedIt ds
+  CloseRow ds seen (reply.Closed false) = (ds ≡ []) × Once Shut seen
+  CloseRow ds seen _ = ⊥
+
+  abbrev pub CloneRow : Side → List (Deed T W) → List (Channel T W) → Reply T → Type 0
+  CloneRow side ds seen reply.Made = Raised side ds
+  CloneRow side ds seen reply.TooMany = (ds ≡ []) × Once (TooManyOf side) seen
+  CloneRow side ds seen _ = ⊥
+
+  abbrev pub UpgradeRow : Side → List (Deed T W) → List (Channel T W) → Reply T → Type 0
+  UpgradeRow side ds seen reply.Made = Upgraded side ds
+  UpgradeRow side ds seen reply.NotMade = (ds ≡ []) × Once (λ c. Shut c ⊎ (count side c.roster ≡ 0)) seen
+  UpgradeRow side ds seen reply.TooMany = (ds ≡ []) × Since Open (TooManyOf side) seen
+  UpgradeRow side ds seen _ = ⊥
+
+  -- a question: the answer was so at one moment
+  abbrev pub FlagRow : (Channel T W → Bool) → List (Deed T W) → List (Channel T W) → Reply T → Type 0
+  FlagRow test ds seen (reply.Flag b) = (ds ≡ []) × Once (λ c. test c ≡ b) seen
+  FlagRow test ds seen _ = ⊥
+
+  abbrev pub CountRow : (Channel T W → ℕ) → List (Deed T W) → List (Channel T W) → Reply T → Type 0
+  CountRow number ds seen (reply.Count n) = (ds ≡ []) × Once (λ c. number c ≡ n) seen
+  CountRow number ds seen _ = ⊥
+
+  abbrev pub CapacityRow : List (Deed T W) → List (Channel T W) → Reply T → Type 0
+  CapacityRow ds seen (reply.Cap cap) = (ds ≡ []) × Once (λ c. c.queue.capacity ≡ cap) seen
+  CapacityRow ds seen _ = ⊥
+
+  -- a receiver that got its last message: closed at a moment, and then or later empty
+  abbrev pub TerminatedRow : List (Deed T W) → List (Channel T W) → Reply T → Type 0
+  TerminatedRow ds seen (reply.Flag true) = (ds ≡ []) × Since Shut (λ c. is_empty c ≡ true) seen
+  TerminatedRow ds seen (reply.Flag false) = (ds ≡ []) × Once (λ c. Open c ⊎ HasMessage c) seen
+  TerminatedRow ds seen _ = ⊥
+
+  -- a call that touches nothing
+  abbrev pub OnlyRow : Reply T → List (Deed T W) → Reply T → Type 0
+  OnlyRow said ds r = (ds ≡ []) × (r ≡ said)
+
+  abbrev pub is_closed : Channel T W → Bool
+  is_closed c = c.queue.closed
+
+  abbrev pub is_full : Channel T W → Bool
+  is_full c = is_filled c.queue
+
+  abbrev pub held : Channel T W → ℕ
+  held c = length c.queue.items
+
+  abbrev pub Row : ChannelAsk T W → List (Deed T W) → List (Channel T W) → Reply T → Type 0
+  Row (TrySend m) ds seen r = TrySendRow m ds seen r
+  Row (ForceSend m) ds seen r = ForceSendRow m ds seen r
+  Row TryRecv ds seen r = TryRecvRow ds seen r
+  Row Close ds seen r = CloseRow ds seen r
+  Row (PollSend m key task) ds seen r = SendPollRow m ds seen r
+  Row PollFinishedSend ds seen r = OnlyRow (reply.SendPoll Pending) ds r
+  Row (PollRecv key task) ds seen r = RecvPollRow ds seen r
+  Row (PollClosed key task) ds seen r = ClosedPollRow ds seen r
+  Row (PollNext key task) ds seen r = NextRow ds seen r
+  Row (RefusePoll line message key) ds seen r = OnlyRow (refused_reply line listen_error.NoMemory) ds r
+  Row (GiveUp line message key) ds seen r = OnlyRow (reply.GivenUp message) ds r
+  Row DropSender ds seen r = Dropped Senders ds seen × (r ≡ reply.Unit)
+  Row (DropReceiver key) ds seen r = Dropped Receivers ds seen × (r ≡ reply.Unit)
+  Row (CloneHandle side) ds seen r = CloneRow side ds seen r
+  Row (Upgrade side) ds seen r = UpgradeRow side ds seen r
+  Row (HandleCount side) ds seen r = CountRow (λ c. count side c.roster) ds seen r
+  Row IsClosed ds seen r = FlagRow is_closed ds seen r
+  Row IsEmpty ds seen r = FlagRow is_empty ds seen r
+  Row IsFull ds seen r = FlagRow is_full ds seen r
+  Row Len ds seen r = CountRow held ds seen r
+  Row Capacity ds seen r = CapacityRow ds seen r
+  Row IsTerminated ds seen r = TerminatedRow ds seen r
+  Row (SendIsTerminated b) ds seen r = OnlyRow (reply.Flag b) ds r
+  Row (SameChannel b) ds seen r = OnlyRow (reply.Flag b) ds r
+  Row Make ds seen r = OnlyRow reply.Made ds r
+  Row DropWeak ds seen r = OnlyRow reply.Unit ds r
+
+  -- ---- what a finished call leaves to its operation
+
+  abbrev pub Keeps : ChannelAsk T W → Reply T → Kept T → Type 0
+  Keeps (PollSend m key task) r k = PollKeeps (Some m) r k
+  Keeps (PollRecv key task) r k = PollKeeps None r k
+  Keeps (PollClosed key task) r k = PollKeeps None r k
+  Keeps (PollNext key task) r k = PollKeeps None r k
+  Keeps (RefusePoll line message key) r k = k ≡ leaving None message
+  Keeps ask r k = k ≡ nothing_kept
+
+  -- by some moment of the call, its marks and moments were what its reply says
+  abbrev pub Met : ChannelAsk T W → List (Deed T W) → List (Channel T W) → Reply T → Type 0
+  Met ask ds seen r = (newer older : List (Channel T W)) × (seen ≡ newer ++ older) × Row ask ds older r

@@ -1,0 +1,7 @@
+pub mod Moments
+pub mod Tellings
+pub mod Answers
+pub mod Known
+pub mod Scene
+pub mod Run
+pub mod Start

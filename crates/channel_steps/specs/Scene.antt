@@ -1,0 +1,226 @@
+-- A channel with calls under way, seen without its cells, and what one step of one of them does.
+use Rattle.std.specs.Prelude.{◌≡◌, ℕ, ◌+◌, ◌<◌, ◌≤◌, List, [], ◌∷◌, ◌++◌, length, take, Option, None, Some, map, slice_get, slice_set}
+use Rattle.std.specs.List.{remove}
+use Rattle.concurrent_queue.specs.Queue.{Queue, Phase, IsInRange}
+use Rattle.concurrent_queue.specs.Step.{Seat, Fits}
+use Rattle.event_listener.specs.Notices.{Woken}
+use Rattle.async_channel.specs.Asks.{kept_by}
+use Rattle.async_channel.specs.Parts.{Parts}
+use Rattle.async_channel.specs.Moves.{Channel, channel, Moves, seats, phase, OnePlace, IsChannelStep}
+use Rattle.async_channel.specs.declared.ask.ChannelAsk.{ChannelAsk}
+use Rattle.async_channel.specs.declared.ask.ChannelAsk.TheVariants.{TrySend, ForceSend, PollSend}
+use Rattle.async_channel.specs.declared.call.ChannelCall.{ChannelCall}
+use Rattle.async_channel.specs.declared.mark.Mark.{Mark}
+use Rattle.async_channel.specs.declared.mark.Mark.TheVariants.{Append, Take, TakeDisplaced, Replace}
+use Rattle.async_channel.specs.declared.reply.Reply.{Reply}
+use Rattle.async_channel.specs.declared.stage.Kept.{Kept}
+use Rattle.async_channel.specs.declared.stage.Stage.{Stage}
+use Rattle.async_channel.specs.declared.stage.Stage.TheVariants.{Finished}
+use Rattle.channel_steps.specs.Answers.{Met, Keeps}
+use Rattle.channel_steps.specs.Known.{StageAt, ToldAt, IsQuick, steps_left}
+use Rattle.channel_steps.specs.Moments.{Deed, with_deed}
+use Rattle.channel_steps.specs.Tellings.{Telling, owed, telling, dropping, Names}
+use Rattle.channel_steps.specs.declared.party.Party.{Party}
+use Rattle.channel_steps.specs.declared.party.Entry.{Entry}
+
+-- a call under way: whose it is, what it asks, how far it has come, the channel at the moments since it began, newest
+-- first, its marks and its tellings, oldest first, and how many steps it made
+pub record Under (T W : Type 0) : Type 0 where
+  pub party : ℕ
+  pub ask : ChannelAsk T W
+  pub at : Stage (Phase T) T W
+  pub seen : List (Channel T W)
+  pub deeds : List (Deed T W)
+  pub told : List Telling
+  pub made : ℕ
+
+-- a channel, its calls under way, in the order in which they began, and all messages that have left it and that have come
+-- into it, in order
+pub record Scene (T W : Type 0) : Type 0 where
+  pub now : Channel T W
+  pub under_way : List (Under T W)
+  pub gone : List T
+  pub came : List T
+
+-- a party with its call, and what is told of the call beside its cells
+pub record Sitting (T W : Type 0) : Type 0 where
+  pub party : Party T W
+  pub inner : Phase T
+  pub ask : ChannelAsk T W
+  pub seen : List (Channel T W)
+  pub deeds : List (Deed T W)
+  pub told : List Telling
+  pub made : ℕ
+
+module _ {T : Type 0} where
+  -- the messages that are there and those that were taken out are those that came
+  abbrev pub IsBalanced : Queue T → Type 0
+  IsBalanced q = length q.items + q.removed ≡ q.accepted
+
+  -- what a mark takes out of these messages
+  abbrev pub gone_by : Mark → List T → List T
+  gone_by Take items = take 1 items
+  gone_by TakeDisplaced items = take 1 items
+  gone_by Replace items = take 1 items
+  gone_by m items = []
+
+  -- a quick call ends by its eighth step
+  abbrev pub EndsInTime : ℕ → Option (Reply T) → Type 0
+  EndsInTime made None = made + 1 < 8
+  EndsInTime made (Some r) = made < 8
+
+module _ {T W : Type 0} where
+  -- another call's step is one more moment
+  abbrev pub sees : Channel T W → Under T W → Under T W
+  sees c u = record u { seen = c ∷ u.seen }
+
+  -- the call u after a step of its own with this mark, over the channel c, which left d
+  abbrev pub does : Under T W → Stage (Phase T) T W → Mark → Channel T W → Channel T W → Under T W
+  does u at m c d =
+      record {
+        party = u.party;
+        ask = u.ask;
+        at = at;
+        seen = d ∷ u.seen;
+        deeds = with_deed u.deeds m c u.seen;
+        told = u.told ++ telling u.at;
+        made = u.made + 1;
+      }
+
+  -- a call that has answered is under way no more
+  abbrev pub unless_ended : Under T W → Option (Reply T) → List (Under T W)
+  unless_ended u None = u ∷ []
+  unless_ended u (Some r) = []
+
+  -- a call that ends with this reply: its marks and moments are what the reply says, all that its marks owe was told, and it
+  -- leaves to its operation what it has to
+  pub record Finishes (u : Under T W) (r : Reply T) (left : Option (Kept T)) : Type 0 where
+    pub kept : Kept T
+    pub at_end : u.at ≡ Finished kept
+    pub given : left ≡ Some kept
+    pub met : Met u.ask u.deeds u.seen r
+    pub keeps : Keeps u.ask r kept
+    pub all_told : u.told ≡ owed u.deeds
+
+  -- a call that goes on gives nothing yet
+  abbrev pub MayFinish : Under T W → Option (Reply T) → Option (Kept T) → Type 0
+  MayFinish u None left = left ≡ None
+  MayFinish u (Some r) left = Finishes u r left
+
+  -- the message that a call brings
+  abbrev pub brought : ChannelAsk T W → List T
+  brought (TrySend m) = m ∷ []
+  brought (ForceSend m) = m ∷ []
+  brought (PollSend m key task) = m ∷ []
+  brought ask = []
+
+  -- what a mark brings in
+  abbrev pub came_by : Mark → ChannelAsk T W → List T
+  came_by Append ask = brought ask
+  came_by Replace ask = brought ask
+  came_by m ask = []
+
+  -- one step of a call of the party p, which wakes these: a step of its stage, and all others only see it
+  pub record Steps (s : Scene T W) (p : ℕ) (e : Entry T) (names : List W) (t : Scene T W) : Type 0 where
+    pub before : List (Under T W)
+    pub mine : Under T W
+    pub behind : List (Under T W)
+    pub at_now : Stage (Phase T) T W
+    pub there : s.under_way ≡ before ++ (mine ∷ behind)
+    pub whose : mine.party ≡ p
+    pub moves : Moves s.now mine.at (record { channel = t.now; mark = e.mark; woken = names }) e.reply at_now
+    pub left : t.under_way ≡ map (sees t.now) before ++ (unless_ended (does mine at_now e.mark s.now t.now) e.reply ++ map (sees t.now) behind)
+    pub named : Names (telling mine.at) (dropping mine.at) s.now names
+    pub finishes : MayFinish (does mine at_now e.mark s.now t.now) e.reply e.kept
+    pub quick : IsQuick mine.ask → EndsInTime mine.made e.reply
+    pub gone : t.gone ≡ s.gone ++ gone_by e.mark s.now.queue.items
+    pub came : t.came ≡ s.came ++ came_by e.mark mine.ask
+    pub held : gone_by e.mark s.now.queue.items ++ t.now.queue.items ≡ s.now.queue.items ++ came_by e.mark mine.ask
+
+  -- ---- what is known of the calls under way
+
+  -- what is known of a call under way: its newest moment is this one, its marks and moments are those of its stage, what it
+  -- has told and will tell is what its marks owe, and a quick one has so many steps left
+  pub record Known (now : Channel T W) (u : Under T W) : Type 0 where
+    pub older : List (Channel T W)
+    pub latest : u.seen ≡ now ∷ older
+    pub stands : StageAt now u.ask u.at u.deeds u.seen
+    pub tells : ToldAt u.told u.at u.deeds
+    pub quick : IsQuick u.ask → u.made + steps_left u.at ≤ 8
+
+  abbrev pub AllKnown : Channel T W → List (Under T W) → Type 0
+  AllKnown now [] = Unit {0}
+  AllKnown now (u ∷ us) = Known now u × AllKnown now us
+
+  -- ---- what the cells and the parties show
+
+  abbrev pub under_of : Sitting T W → Under T W
+  under_of x =
+      record {
+        party = x.party.id;
+        ask = x.ask;
+        at = phase x.inner x.party.call.stage;
+        seen = x.seen;
+        deeds = x.deeds;
+        told = x.told;
+        made = x.made;
+      }
+
+  abbrev pub seats_of : Sitting T W → List (Seat T)
+  seats_of x = seats x.inner x.party.call.stage
+
+  abbrev pub all_seats : List (Sitting T W) → List (Seat T)
+  all_seats [] = []
+  all_seats (x ∷ xs) = seats_of x ++ all_seats xs
+
+  -- the cells and the parties show this scene
+  pub record Shows (parts : Parts T W) (parties : List (Party T W)) (s : Scene T W) : Type 0 where
+    pub sittings : List (Sitting T W)
+    pub queue : Queue T
+    pub parties_are : parties ≡ map (λ (x : Sitting T W). x.party) sittings
+    pub under_way : s.under_way ≡ map under_of sittings
+    pub now : s.now ≡ channel queue parts
+    pub fits : Fits parts.cells queue (all_seats sittings)
+    pub known : AllKnown s.now s.under_way
+    pub balanced : IsBalanced queue
+
+  -- the k-th call under way is this party's
+  abbrev pub HasParty : ℕ → List (Party T W) → ℕ → Type 0
+  HasParty p parties k = (call : ChannelCall T W) × (slice_get parties k ≡ Some (record { id = p; call = call }))
+
+  -- this party has no call under way
+  abbrev pub NoneHas : ℕ → List (Party T W) → Type 0
+  NoneHas p parties = (k : ℕ) (q : Party T W) → slice_get parties k ≡ Some q → q.id ≡ p → ⊥
+
+  abbrev pub parties_after : List (Party T W) → ℕ → Party T W → Option (Reply T) → List (Party T W)
+  parties_after parties k q None = slice_set parties k q
+  parties_after parties k q (Some r) = remove parties k
+
+  -- what the call of the k-th party leaves to its operation
+  abbrev pub IsLeftBy : List (Party T W) → ℕ → Kept T → Type 0
+  IsLeftBy parties k kept = (p : Party T W) → slice_get parties k ≡ Some p → kept ≡ kept_by p.call.stage
+
+  abbrev pub left_by : Party T W → Option (Reply T) → Option (Kept T)
+  left_by p None = None
+  left_by p (Some r) = Some (kept_by p.call.stage)
+
+  module _ {S : Type 0} (wakes : S → W → S → Type 0) where
+    -- the code of one step
+    abbrev pub SteppedAt : Parts T W → List (Party T W) → ℕ → S → Entry T → Parts T W → List (Party T W) → S → Type 0
+    SteppedAt parts parties k sink e parts' parties' sink' =
+        (p : Party T W) → slice_get parties k ≡ Some p →
+        (p' : Party T W) × (p'.id ≡ p.id) × IsChannelStep wakes parts p.call.stage sink parts' p'.call.stage e.mark e.reply sink' × (e.kept ≡ left_by p' e.reply) × (parties' ≡ parties_after parties k p' e.reply)
+
+    -- a step that was made in the scene s
+    pub record Stepped (parts : Parts T W) (sink : S) (e : Entry T) (parts' : Parts T W) (parties' : List (Party T W)) (sink' : S) (s : Scene T W) (p : ℕ) : Type 0 where
+      pub names : List W
+      pub woken : Woken wakes sink names sink'
+      pub after : Scene T W
+      pub step : Steps s p e names after
+      pub one_place : OnePlace parts parts'
+      pub shown : Shows parts' parties' after
+
+    -- the k-th call under way makes a step, in every scene that the cells and the parties show
+    abbrev pub StepsAt : Parts T W → List (Party T W) → ℕ → S → Entry T → Parts T W → List (Party T W) → S → Type 0
+    StepsAt parts parties k sink e parts' parties' sink' =
+        (s : Scene T W) (p : Party T W) → IsInRange s.now.queue → Shows parts parties s → slice_get parties k ≡ Some p → Stepped parts sink e parts' parties' sink' s p.id

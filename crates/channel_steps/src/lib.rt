@@ -1,0 +1,8 @@
+//! A channel of one owner with the calls of many parties under way: any interleaving of their steps.
+#![tactic(auto)]
+
+pub mod party;
+pub mod run;
+pub mod start;
+#[cfg(test)]
+mod tests;

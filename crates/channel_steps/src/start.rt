@@ -1,0 +1,52 @@
+//! Where runs start, and what is asked between them.
+
+ghost use Rattle.std.specs.Prelude.{◌≡◌, IfOk};
+ghost use Rattle.concurrent_queue.specs.Dispatch.{capacity_of};
+ghost use Rattle.concurrent_queue.specs.Made.{CanBeMade};
+ghost use Rattle.async_channel.specs.Plain.{parts_of};
+ghost use Rattle.channel_steps.specs.Scene.{Shows};
+ghost use Rattle.channel_steps.specs.Run.{new_scene};
+ghost use Rattle.channel_steps.specs.Start.{CountsCalls, TellsQuiet};
+
+use crate::party::Party;
+use async_channel::plain::PlainChannel;
+use concurrent_queue::cells::QueueForm;
+use std::alloc::{AllocError, Global};
+
+/// A channel of one owner with the parties that have a call under way. Own to this project.
+#[derive(Drop)]
+pub struct Opened<T, W> {
+    /// The channel's queue, lists and counts.
+    pub cells: PlainChannel<T, W>,
+    /// Those at work on it.
+    pub parties: Vec<Party<T, W>>,
+}
+
+/// An open and empty channel over a queue of this form, with one sender, one receiver and nobody at work. `Err` where there
+/// is no memory for the queue. Own to this project.
+pub fn open_channel<T: Drop, W: Drop>(
+    form: QueueForm,
+    alloc: Global,
+) -> Result<Opened<T, W>, AllocError>
+    requires form { CanBeMade form }
+    ensures shown { IfOk result (λ o. Shows (parts_of o.cells) o.parties.items (new_scene (capacity_of form))) }
+{
+    Ok(Opened {
+        cells: PlainChannel::new(form, alloc)?,
+        parties: Vec::new(alloc),
+    })
+}
+
+/// How many calls are under way. Own to this project.
+pub fn under_way<T, W>(parties: &Vec<Party<T, W>>) -> usize
+    ensures { CountsCalls parties.now.items result }
+{
+    parties.len()
+}
+
+/// Whether no call is under way. Own to this project.
+pub fn is_quiet<T, W>(parties: &Vec<Party<T, W>>) -> bool
+    ensures { TellsQuiet parties.now.items result }
+{
+    parties.is_empty()
+}
