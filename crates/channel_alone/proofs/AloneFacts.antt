@@ -6,8 +6,7 @@ use Rattle.concurrent_queue.specs.declared.queue_call.QueueCall.{QueueCall}
 use Rattle.concurrent_queue.specs.declared.call.QueueAsk.{QueueAsk}
 use Rattle.concurrent_queue.specs.declared.call.QueueMark.{QueueMark}
 use Rattle.concurrent_queue.specs.declared.call.QueueReply.{QueueReply}
-use Rattle.concurrent_queue.proofs.Balance.{IsBalanced}
-use Rattle.concurrent_queue.proofs.FitsFacts.{shows}
+use Rattle.concurrent_queue.proofs.Interface.{shows, IsIdle, Comes, Does, does}
 use Rattle.event_listener.specs.Notices.{Woken}
 use Rattle.async_channel.specs.declared.ask.ChannelAsk.{ChannelAsk}
 use Rattle.async_channel.specs.declared.mark.Mark.{Mark}
@@ -25,9 +24,8 @@ use Rattle.async_channel.specs.Asks.{kept_by}
 use Rattle.async_channel.specs.Moves.{Channel, Effect, channel, Turned, Tried, seats, phase, IsTaken, Hastens, Made, IsStepOver}
 use Rattle.channel_alone.specs.Alone.{Outcome, Alone, after_waking, answers}
 use Rattle.channel_alone.specs.Run.{HasPosition}
-use Rattle.channel_alone.proofs.TryFacts as try_facts
-use Rattle.channel_alone.proofs.TryFacts.{IsIdle, idle, brought, brought_most, brought_by, brought_by_is, Counts, Found, tries_start, tries_on, tries_end}
-use Rattle.channel_alone.proofs.Order.{order, order_turn, order_try, measure, measure_falls, try_is_late, answered_order, telling_order}
+use Rattle.channel_alone.proofs.TryFacts.{brought_by, brought_by_is, left_by, Found, tries_start, tries_on, tries_end}
+use Rattle.channel_alone.proofs.Order.{order, order_turn, order_try, near, measure, measure_falls, try_is_late, answered_order, telling_order}
 use Rattle.channel_alone.proofs.Rest.{RestTry, RestWork, RestTurn, RestStage, turn_rests}
 use Rattle.channel_alone.proofs.AnswerFacts.{answered_rest}
 use Rattle.channel_alone.proofs.WorkFacts.{Backs, work_backs}
@@ -47,14 +45,14 @@ module _ {T : Type 0} where
   still_in_range q p (inl h) c e = inl (c ∙ h)
   still_in_range q p (inr h) c e = inr (omega (arith, h, e))
 
-at_asked : {T : Type 0} (q : Queue T) (f : Phase T) (a : QueueAsk T) → IsIdle q → f ≡ asked a → try_facts.Tries q f q
-at_asked {T} q f a i e = subst (λ (g : Phase T). try_facts.Tries q g q) (sym e) (tries_start q a i)
+at_asked : {T : Type 0} (q : Queue T) (f : Phase T) (a : QueueAsk T) → f ≡ asked a → Comes q q f
+at_asked {T} q f a e = subst (λ (g : Phase T). Comes q q g) (sym e) (tries_start q a)
 
 module _ {T W : Type 0} where
   -- ---- stages
 
   abbrev pub At : Queue T → Phase T → Stage (QueueCall T) T W → Queue T → Type 0
-  At from f (Trying call x) now = try_facts.Tries from f now
+  At from f (Trying call x) now = Comes from now f
   At from f (Working w) now = now ≡ from
   At from f (Finished kept) now = ⊥
 
@@ -62,14 +60,14 @@ module _ {T W : Type 0} where
   same_asked f g x y e = cc
 
   -- the stage after a turn that does not answer
-  at_turn : (turn : Turn T W) (f : Phase T) (s : Stage (QueueCall T) T W) (q : Queue T) → IsIdle q → Turned turn None (phase f s) → At q f s q
-  at_turn (Tries a x) f (Trying call y) q i h = at_asked q f a i (same_asked f (asked a) y x h.1)
-  at_turn (Tries a x) f (Working w) q i h = absurd (let no : (let s : Stage (Phase T) T W = Working w in s) ≡ Trying (asked a) x = h.1 in cc)
-  at_turn (Tries a x) f (Finished kept) q i h = absurd (let no : (let s : Stage (Phase T) T W = Finished kept in s) ≡ Trying (asked a) x = h.1 in cc)
-  at_turn (Works v) f (Trying call y) q i h = absurd (let no : (let s : Stage (Phase T) T W = Trying f y in s) ≡ Working v = h.1 in cc)
-  at_turn (Works v) f (Working w) q i h = refl
-  at_turn (Works v) f (Finished kept) q i h = absurd (let no : (let s : Stage (Phase T) T W = Finished kept in s) ≡ Working v = h.1 in cc)
-  at_turn (Ends x kept) f s q i h = absurd (let no : (let y : Option (Reply T) = None in y) ≡ Some x = h.0 in cc)
+  at_turn : (turn : Turn T W) (f : Phase T) (s : Stage (QueueCall T) T W) (q : Queue T) → Turned turn None (phase f s) → At q f s q
+  at_turn (Tries a x) f (Trying call y) q h = at_asked q f a (same_asked f (asked a) y x h.1)
+  at_turn (Tries a x) f (Working w) q h = absurd (let no : (let s : Stage (Phase T) T W = Working w in s) ≡ Trying (asked a) x = h.1 in cc)
+  at_turn (Tries a x) f (Finished kept) q h = absurd (let no : (let s : Stage (Phase T) T W = Finished kept in s) ≡ Trying (asked a) x = h.1 in cc)
+  at_turn (Works v) f (Trying call y) q h = absurd (let no : (let s : Stage (Phase T) T W = Trying f y in s) ≡ Working v = h.1 in cc)
+  at_turn (Works v) f (Working w) q h = refl
+  at_turn (Works v) f (Finished kept) q h = absurd (let no : (let s : Stage (Phase T) T W = Finished kept in s) ≡ Working v = h.1 in cc)
+  at_turn (Ends x kept) f s q h = absurd (let no : (let y : Option (Reply T) = None in y) ≡ Some x = h.0 in cc)
 
   order_phase : (a : Roster W) (f : Phase T) (s : Stage (QueueCall T) T W) → order a (phase f s) ≡ order a s
   order_phase a f (Trying call x) = refl
@@ -142,7 +140,7 @@ module _ {T W : Type 0} where
         at = x.at;
         idle = x.idle;
         fits = x.fits;
-        known = at_turn x.turn x.at stage' x.queue x.idle x.turned;
+        known = at_turn x.turn x.at stage' x.queue x.turned;
         place = x.place;
         capacity = x.capacity;
         accepted = x.accepted;
@@ -196,12 +194,6 @@ module _ {T W : Type 0} where
       unspent_yet : x.from.accepted ≡ c0.queue.accepted
       unspent_yet = x.unspent (try_is_late parts.roster y)
 
-      balanced_now : IsBalanced x.now
-      balanced_now = (shows parts.cells x.now (seat call x.at ∷ []) x.fits).balance
-
-      balanced_then : IsBalanced (after x.at tried.mark x.now)
-      balanced_then = subst (λ (q : Queue T). IsBalanced q) queue_now (shows parts'.cells made.queue (seats made.phase_now stage' ++ []) made.fits).balance
-
       -- it goes on
       on_try : (f' : Phase T) → Goes x.now x.at tried.mark f' → (call' : QueueCall T) → stage' ≡ Trying call' y → made.phase_now ≡ f' → IsAlone a c0 parts' stage' (so_far ++ names)
       on_try f' goes call' e same =
@@ -212,7 +204,7 @@ module _ {T W : Type 0} where
             idle = x.idle;
             fits = made.fits;
             known = subst (λ (z : Stage (QueueCall T) T W). At x.from made.phase_now z made.queue) (sym e)
-                (subst (λ (g : Phase T). try_facts.Tries x.from g made.queue) (sym same) (subst (λ (q : Queue T). try_facts.Tries x.from f' q) (sym queue_now) (tries_on x.from x.now x.at f' tried.mark goes x.known)));
+                (subst (λ (g : Phase T). Comes x.from made.queue g) (sym same) (subst (λ (q : Queue T). Comes x.from q f') (sym queue_now) (tries_on x.from x.now x.at f' tried.mark goes x.known)));
             place = x.place;
             capacity = x.capacity;
             accepted = x.accepted;
@@ -228,14 +220,14 @@ module _ {T W : Type 0} where
       -- it answers
       at_answer : (z : QueueReply T) → Answers x.now x.at tried.mark z → Turned (answered_next y z) r (phase made.phase_now stage') → Advances a c0 parts' stage' (so_far ++ names) r
       at_answer z answers turned =
-          let found0 : Found x.from x.at.ask z (after x.at tried.mark x.now) = tries_end x.from x.now x.at tried.mark z x.idle balanced_now balanced_then answers x.known in
+          let found0 : Found x.from x.at.ask z (after x.at tried.mark x.now) = tries_end x.from x.now x.at tried.mark z x.idle answers x.known in
           let found : Found x.from x.at.ask z made.queue = subst (λ (q : Queue T). Found x.from x.at.ask z q) (sym queue_now) found0 in
           record {
             queue = made.queue;
             at = made.phase_now;
             turn = answered_next y z;
             turned = turned;
-            idle = found.idle;
+            idle = record { balanced = (shows parts'.cells made.queue (seats made.phase_now stage' ++ []) made.fits).balance; nothing_comes = found.nothing_comes };
             fits = made.fits;
             place = x.place;
             capacity = found.capacity ∙ x.capacity;
@@ -243,10 +235,10 @@ module _ {T W : Type 0} where
             unspent = λ h. unspent_still z found h (brought_by_is z);
             on = λ o k.
                 let k1 : RestTurn (answered_next y z) (record { queue = made.queue; roster = parts.roster }) o = subst (λ (b : Roster W). RestTurn (answered_next y z) (record { queue = made.queue; roster = b }) o) same_roster k in
-                let k2 : RestTurn (answered_next y z) (record { queue = try_facts.left_by x.at.ask z x.from; roster = parts.roster }) o =
+                let k2 : RestTurn (answered_next y z) (record { queue = left_by x.at.ask z x.from; roster = parts.roster }) o =
                 subst (λ (q : Queue T). RestTurn (answered_next y z) (record { queue = q; roster = parts.roster }) o) found.left k1
                 in
-                woken_none nobody o (x.on o (answered_rest (channel x.from parts) o x.at.ask y z made.queue found.gives k2));
+                woken_none nobody o (x.on o (answered_rest (channel x.from parts) o x.at.ask y z found.finds k2));
           }
         where
           unspent_still : (z : QueueReply T) → Found x.from x.at.ask z made.queue → 5 < order_turn parts'.roster (answered_next y z) → (brought_by z ≡ 0) ⊎ (brought_by z ≡ 1) → made.queue.accepted ≡ c0.queue.accepted
@@ -280,8 +272,9 @@ module _ {T W : Type 0} where
 
     in_range : (stage : Stage (QueueCall T) T W) (x : IsAlone a c0 parts stage so_far) → IsInRange x.now
     in_range (Trying call y) x =
-        let n = x.known.counts.0 in let k = brought_most x.at.stage in let e = x.unspent (try_is_late parts.roster y) in
-        still_in_range c0.queue x.now x.place (x.known.capacity ∙ x.capacity) (omega (arith, n, k, e))
+        let d : Does x.from x.now x.at = does x.from x.now x.at x.idle x.known in
+        let n = d.most in let e = x.unspent (try_is_late parts.roster y) in
+        still_in_range c0.queue x.now x.place (d.capacity ∙ x.capacity) (omega (arith, n, e))
     in_range (Working w) x = subst (λ (q : Queue T). IsInRange q) (sym x.known) (still_in_range c0.queue x.from x.place x.capacity x.accepted)
     in_range (Finished kept) x = absurd x.known
 
@@ -297,13 +290,13 @@ module _ {T W : Type 0} where
         → measure parts'.cells parts'.roster stage' < measure parts.cells parts.roster (Trying call y)
     hastened call y x made (inl (call', e, less)) =
         let same : order_try parts'.roster y ≡ order_try parts.roster y = ap (λ (b : Roster W). order_try b y) (same_roster call y x made) in
-        let now : order_try parts'.roster y * 15 + rank parts'.cells call' < order_try parts.roster y * 15 + rank parts.cells call = omega (arith, same, less) in
+        let now : order_try parts'.roster y * 64 + rank parts'.cells call' < order_try parts.roster y * 64 + rank parts.cells call = omega (arith, same, less) in
         subst (λ (z : Stage (QueueCall T) T W). measure parts'.cells parts'.roster z < measure parts.cells parts.roster (Trying call y)) (sym e) now
     hastened call y x made (inr (z, k, ans, taken)) =
         let same : order_try parts'.roster y ≡ order_try parts.roster y = ap (λ (b : Roster W). order_try b y) (same_roster call y x made) in
         let turn = order_taken parts'.roster (answered_next y z) r stage' taken in
         let falls = answered_order parts'.roster y z in
-        measure_falls parts.cells parts'.cells parts.roster parts'.roster (Trying call y) stage' (omega (arith, same, turn, falls))
+        measure_falls parts.cells parts'.cells parts.roster parts'.roster (Trying call y) stage' (near parts'.cells made.queue made.phase_now stage' made.fits) (omega (arith, same, turn, falls))
 
     nearer_by : (stage : Stage (QueueCall T) T W) (x : IsAlone a c0 parts stage so_far) → Made parts stage names parts' stage' m r x.now x.at [] []
         → measure parts'.cells parts'.roster stage' < measure parts.cells parts.roster stage
@@ -313,7 +306,7 @@ module _ {T W : Type 0} where
         let b : Backs (channel x.now parts) w e r (phase made.phase_now stage') = work_backs (channel x.now parts) w e r (phase made.phase_now stage') made.moves in
         let turn = sym (order_phase parts'.roster made.phase_now stage') ∙ order_turned parts'.roster b.turn r (phase made.phase_now stage') b.turned in
         let falls = b.falls in
-        measure_falls parts.cells parts'.cells parts.roster parts'.roster (Working w) stage' (omega (arith, turn, falls))
+        measure_falls parts.cells parts'.cells parts.roster parts'.roster (Working w) stage' (near parts'.cells made.queue made.phase_now stage' made.fits) (omega (arith, turn, falls))
     nearer_by (Finished kept) x made = absurd x.known
 
     pub step_nearer : (stage : Stage (QueueCall T) T W) → IsAlone a c0 parts stage so_far → IsStepOver parts stage names parts' stage' m r → measure parts'.cells parts'.roster stage' < measure parts.cells parts.roster stage

@@ -1,12 +1,18 @@
 -- The first turn of a call that is alone at work.
-use Rattle.std.proofs.Common.{◌≡◌, Option, None, Some}
+use Rattle.std.proofs.Common.{◌≡◌, [], ◌++◌, Option, None, Some, refl, sym, ap, ◌∙◌, subst}
+use Rattle.concurrent_queue.specs.Contents.{Contents}
+use Rattle.concurrent_queue.specs.Queue.{Queue, Phase, asked}
+use Rattle.concurrent_queue.specs.Step.{Fits}
+use Rattle.concurrent_queue.specs.declared.call.QueueAsk.TheVariants as ask
 use Rattle.concurrent_queue.specs.declared.queue_call.QueueCall.{QueueCall}
 use Rattle.async_channel.specs.declared.ask.ChannelAsk.{ChannelAsk}
 use Rattle.async_channel.specs.declared.ask.ChannelAsk.TheVariants.{TrySend, ForceSend, TryRecv, Close, PollSend, PollFinishedSend, PollRecv, PollClosed, PollNext, RefusePoll, GiveUp, DropSender, DropReceiver, CloneHandle, Upgrade, HandleCount, IsClosed, IsEmpty, IsFull, Len, Capacity, IsTerminated, SendIsTerminated, SameChannel, Make, DropWeak}
 use Rattle.async_channel.specs.declared.reply.Reply.{Reply}
 use Rattle.async_channel.specs.declared.stage.Stage.{Stage}
+use Rattle.async_channel.specs.declared.stage.Turn.{Turn}
+use Rattle.async_channel.specs.declared.stage.Turn.TheVariants.{Tries, Works, Ends}
 use Rattle.async_channel.specs.Asks.{first}
-use Rattle.async_channel.specs.Moves.{Channel, IsTaken}
+use Rattle.async_channel.specs.Moves.{Channel, Turned, seats, phase, IsTaken}
 use Rattle.channel_alone.specs.Alone.{Outcome, Alone}
 use Rattle.channel_alone.proofs.Rest.{RestTurn}
 
@@ -70,3 +76,24 @@ module _ {T W : Type 0} where
   first_goes_on (SameChannel b) r s h = h.0
   first_goes_on Make r s h = h.0
   first_goes_on DropWeak r s h = h.0
+
+  -- a call that took its first turn over cells with no call under way, and did not answer by it
+  pub record Begun (turn : Turn T W) (cells : Contents T) (q : Queue T) (s : Stage (QueueCall T) T W) : Type 0 where
+    pub at : Phase T
+    pub turned : Turned turn None (phase at s)
+    pub fits : Fits cells q (seats at s ++ [])
+
+  pub begun : (cells : Contents T) (q : Queue T) → Fits cells q [] → (turn : Turn T W) (r : Option (Reply T)) (s : Stage (QueueCall T) T W) → r ≡ None → IsTaken turn r s → Begun turn cells q s
+  begun cells q h (Tries x aim) r s none (call, starts, here, e) =
+      record {
+        at = asked x;
+        turned = (refl, ap (λ (z : Stage (QueueCall T) T W). phase (asked x) z) e);
+        fits = subst (λ (z : Stage (QueueCall T) T W). Fits cells q (seats (asked x) z ++ [])) (sym e) (starts cells q [] [] h);
+      }
+  begun cells q h (Works w) r s none (here, e) =
+      record {
+        at = asked ask.Pop;
+        turned = (refl, ap (λ (z : Stage (QueueCall T) T W). phase (asked ask.Pop) z) e);
+        fits = subst (λ (z : Stage (QueueCall T) T W). Fits cells q (seats (asked ask.Pop) z ++ [])) (sym e) h;
+      }
+  begun cells q h (Ends x kept) r s none (some, e) = absurd (let no : Some x ≡ None = sym some ∙ none in cc)

@@ -1,9 +1,8 @@
 -- The steps of a call that is alone at work, one after another.
 use Rattle.std.proofs.Common.{◌≡◌, ◌<◌, List, [], ◌++◌, append-nil, Option, None, Some, ◌⊎◌, inl, inr, refl, sym, ◌∙◌, subst, arith}
-use Rattle.concurrent_queue.specs.Queue.{Queue, asked}
+use Rattle.concurrent_queue.specs.Queue.{Queue}
 use Rattle.concurrent_queue.specs.Step.{Seat, Fits}
 use Rattle.concurrent_queue.specs.declared.queue_call.QueueCall.{QueueCall}
-use Rattle.concurrent_queue.specs.declared.call.QueueAsk.TheVariants as ask
 use Rattle.event_listener.specs.Notices.{Woken}
 use Rattle.async_channel.specs.declared.ask.ChannelAsk.{ChannelAsk}
 use Rattle.async_channel.specs.declared.call.ChannelCall.{ChannelCall}
@@ -14,12 +13,11 @@ use Rattle.async_channel.specs.declared.stage.Stage.{Stage}
 use Rattle.async_channel.specs.Parts.{Parts}
 use Rattle.async_channel.specs.Asks.{first, kept_by}
 use Rattle.async_channel.specs.Moves.{Channel, channel, Turned, phase, IsNewCall, IsChannelStep}
-use Rattle.async_channel.proofs.Steps.{entered}
 use Rattle.channel_alone.specs.Alone.{Outcome, after_waking, answers}
 use Rattle.channel_alone.specs.Run.{HasPosition, IsAtRest, Ran, RunsAlone}
 use Rattle.channel_alone.proofs.TryFacts.{idle}
 use Rattle.channel_alone.proofs.Order.{measure}
-use Rattle.channel_alone.proofs.FirstFacts.{first_rest, first_goes_on}
+use Rattle.channel_alone.proofs.FirstFacts.{first_rest, first_goes_on, Begun, begun}
 use Rattle.channel_alone.proofs.AloneFacts.{IsAlone, Advances, Answered, woken_on, answered, finished_kept, goes_on, step_next, step_nearer}
 
 module _ {T W S : Type 0} (wakes : S → W → S → Type 0) where
@@ -37,13 +35,13 @@ module _ {T W S : Type 0} (wakes : S → W → S → Type 0) where
     pub way_starts : (call : ChannelCall T W) → IsNewCall call (first a) → IsOnItsWay a parts0 sink0 parts0 call.stage sink0
     way_starts call begins q position fits =
         let none : begins.0 ≡ None = first_goes_on a begins.0 call.stage begins.1 in
-        let t = entered parts0.cells q (asked ask.Pop) [] [] fits (first a) begins.0 call.stage begins.1 in
+        let t : Begun (first a) parts0.cells q call.stage = begun parts0.cells q fits (first a) begins.0 call.stage none begins.1 in
         let x : Advances a (channel q parts0) parts0 call.stage [] None =
         record {
           queue = q;
-          at = t.phase_now;
+          at = t.at;
           turn = first a;
-          turned = subst (λ (r : Option (Reply T)). Turned (first a) r (phase t.phase_now call.stage)) none t.turned;
+          turned = t.turned;
           idle = idle parts0.cells q fits;
           fits = t.fits;
           place = position;

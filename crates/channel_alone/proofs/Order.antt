@@ -1,26 +1,15 @@
 -- A measure of what a call that is alone at work still has to do.
-use Rattle.std.proofs.Common.{◌≡◌, ℕ, ◌+◌, ◌*◌, ◌<◌, ◌==◌, Bool, true, false, if◌then◌else◌, Option, None, Some, Ok, Err, refl, subst, arith}
+use Rattle.std.proofs.Common.{◌≡◌, ℕ, ◌+◌, ◌*◌, ◌<◌, Bool, true, false, if◌then◌else◌, [], ◌++◌, Option, None, Some, Ok, Err, refl, subst, arith}
 use Rattle.concurrent_queue.specs.Contents.{Contents}
-use Rattle.concurrent_queue.specs.Step.{rank, rank_by, rank_bounded, rank_first}
-use Rattle.concurrent_queue.specs.Single.{start}
-use Rattle.concurrent_queue.specs.SingleState.{single_rank}
-use Rattle.concurrent_queue.specs.RingRank.{ring_rank, rests_at}
-use Rattle.concurrent_queue.specs.RingWords.{ring_mark, ring_start, unmarked}
-use Rattle.concurrent_queue.specs.declared.call.QueueAsk.{QueueAsk}
+use Rattle.concurrent_queue.specs.Queue.{Queue, Phase}
+use Rattle.concurrent_queue.specs.Step.{Fits, rank}
 use Rattle.concurrent_queue.specs.declared.call.QueueReply.{QueueReply}
 use Rattle.concurrent_queue.specs.declared.call.QueueReply.TheVariants as answer
 use Rattle.concurrent_queue.specs.declared.error.PushError.TheVariants as push_error
 use Rattle.concurrent_queue.specs.declared.error.ForcePushError.TheVariants as force_error
 use Rattle.concurrent_queue.specs.declared.error.PopError.TheVariants as pop_error
-use Rattle.concurrent_queue.specs.declared.cells.QueueForm.{QueueForm}
-use Rattle.concurrent_queue.specs.declared.cells.QueueForm.TheVariants.{Bounded}
-use Rattle.concurrent_queue.specs.declared.single.SingleAction.{SingleAction}
-use Rattle.concurrent_queue.specs.declared.single.SingleAction.TheVariants as single
-use Rattle.concurrent_queue.specs.declared.bounded.RingAction.{RingAction}
-use Rattle.concurrent_queue.specs.declared.bounded.RingAction.TheVariants as ring
-use Rattle.concurrent_queue.specs.declared.queue_call.CallState.{CallState}
-use Rattle.concurrent_queue.specs.declared.queue_call.CallState.TheVariants as call_state
 use Rattle.concurrent_queue.specs.declared.queue_call.QueueCall.{QueueCall}
+use Rattle.concurrent_queue.proofs.Interface.{ranks}
 use Rattle.event_listener.specs.declared.key.Key.{Key}
 use Rattle.async_channel.specs.declared.reply.Reply.{Reply}
 use Rattle.async_channel.specs.declared.stage.Aim.{Aim}
@@ -42,57 +31,8 @@ use Rattle.async_channel.specs.declared.stage.Work.TheVariants.{TellReceive, Tel
 use Rattle.async_channel.specs.Parts.{Roster, listeners, waits, is_raised}
 use Rattle.async_channel.specs.Turns.{line_of, ends_by, refused_next, closer_ending}
 use Rattle.async_channel.specs.Answered.{sent_next, forced_next, received_next, send_next, receive_next, stream_next, closing_next, polled_next, closed_next, asked_next, terminated_next, upgraded_next, answered_next}
+use Rattle.async_channel.specs.Moves.{seats}
 use Rattle.channel_alone.proofs.TryFacts.{brought_by}
-
--- ---- the queue's own steps
-
-among : (b : Bool) (i j : ℕ) → i < 15 → j < 15 → (if b then i else j) < 15
-among true i j h k = h
-among false i j h k = k
-
-module _ {T : Type 0} where
-  single_bound : (c : Contents T) (a : SingleAction T) → single_rank c a < 15
-  single_bound c (single.Push v) = omega arith
-  single_bound c (single.PushPut v) = omega arith
-  single_bound c single.PushUnlock = omega arith
-  single_bound c (single.Force v x) = among (c.state == x) 4 5 (omega arith) (omega arith)
-  single_bound c (single.ForceTake v) = omega arith
-  single_bound c (single.ForcePut v d) = omega arith
-  single_bound c (single.ForceUnlock d) = omega arith
-  single_bound c (single.Pop x) = among (c.state == x) 3 4 (omega arith) (omega arith)
-  single_bound c single.PopTake = omega arith
-  single_bound c (single.PopUnlock v) = omega arith
-  single_bound c a = omega arith
-
-  ring_bound : (m : ℕ) (c : Contents T) (a : RingAction T) → ring_rank m c a < 15
-  ring_bound m c (ring.PushStamp k v t) = among (c.tail == t) 6 14 (omega arith) (omega arith)
-  ring_bound m c (ring.PushSwap k v t) = among (c.tail == t) 3 11 (omega arith) (omega arith)
-  ring_bound m c (ring.PushHead v h) = among (c.head == h) 1 9 (omega arith) (omega arith)
-  ring_bound m c (ring.ForceHead v h) = among (c.head == h) 5 13 (omega arith) (omega arith)
-  ring_bound m c (ring.PopStamp h) = among (c.head == h) 4 10 (omega arith) (omega arith)
-  ring_bound m c (ring.PopSwap h) = among (c.head == h) 3 9 (omega arith) (omega arith)
-  ring_bound m c (ring.PopTail h) = among (unmarked m c.tail == h) 1 7 (omega arith) (omega arith)
-  ring_bound m c (ring.LenHead t b) = among (rests_at m c t b) 2 6 (omega arith) (omega arith)
-  ring_bound m c (ring.LenTail t b h) = among (rests_at m c t b) 1 5 (omega arith) (omega arith)
-  ring_bound m c a = omega arith
-
-  first_bound : (b : Bool) (m : ℕ) (c : Contents T) (a : QueueAsk T) → rank_first b m c a < 15
-  first_bound true m c a = single_bound c (start a)
-  first_bound false m c a = ring_bound m c (ring_start a)
-
-  state_bound : (cap : ℕ) (c : Contents T) (s : CallState T) → rank_bounded cap c s < 15
-  state_bound cap c (call_state.Asked a) = first_bound (cap == 1) (ring_mark cap) c a
-  state_bound cap c (call_state.Single a) = single_bound c a
-  state_bound cap c (call_state.Ring a) = ring_bound (ring_mark cap) c a
-  state_bound cap c call_state.Finished = omega arith
-
-  form_bound : (f : QueueForm) (c : Contents T) (s : CallState T) → rank_by f c s < 15
-  form_bound (Bounded cap) c s = state_bound cap c s
-
-  -- a call of the queue that nobody holds up has no more steps than this before it
-  pub rank_bound : (c : Contents T) (call : QueueCall T) → rank c call < 15
-  unfolding rank
-  rank_bound c call = form_bound c.form c call.state
 
 -- ---- the order of the things that a call does
 
@@ -162,16 +102,17 @@ module _ {T W : Type 0} where
   nearness c (Working w) = 0
   nearness c (Finished kept) = 0
 
-  pub nearness_bound : (c : Contents T) (s : Stage (QueueCall T) T W) → nearness c s < 15
-  nearness_bound c (Trying call aim) = rank_bound c call
-  nearness_bound c (Working w) = omega arith
-  nearness_bound c (Finished kept) = omega arith
+  -- a call of the queue that nobody holds up ends within 63 steps
+  pub near : (c : Contents T) (q : Queue T) (f : Phase T) (s : Stage (QueueCall T) T W) → Fits c q (seats f s ++ []) → nearness c s < 64
+  near c q f (Trying call aim) fits = ranks c q f call [] [] fits
+  near c q f (Working w) fits = omega arith
+  near c q f (Finished kept) fits = omega arith
 
   abbrev pub measure : Contents T → Roster W → Stage (QueueCall T) T W → ℕ
-  measure c a s = order a s * 15 + nearness c s
+  measure c a s = order a s * 64 + nearness c s
 
-  pub measure_falls : (c d : Contents T) (a b : Roster W) (s t : Stage (QueueCall T) T W) → order b t < order a s → measure d b t < measure c a s
-  measure_falls c d a b s t h = let k = nearness_bound d t in omega (arith, h, k)
+  pub measure_falls : (c d : Contents T) (a b : Roster W) (s t : Stage (QueueCall T) T W) → nearness d t < 64 → order b t < order a s → measure d b t < measure c a s
+  measure_falls c d a b s t k h = omega (arith, h, k)
 
   module _ (a : Roster W) where
     ended : (x : Reply T) (message : Option T) (held : Option Held) → order_turn a (ends_by (record { reply = x; message = message; held = held })) < 2

@@ -12,7 +12,7 @@ use Rattle.channel_alone.specs.declared.run.Done.{Done}
 module _ {T : Type 0} where
   -- one more message may be accepted within the positions of a queue; a queue of one slot counts none
   abbrev pub HasPosition : Queue T → Type 0
-  HasPosition q = (q.capacity ≡ Some 1) ⊎ (q.accepted + 1 < 2 ^ 61)
+  HasPosition q = (q.capacity ≡ Some 1) ⊎ (q.accepted < 2 ^ 61)
 
 module _ {T W : Type 0} where
   -- the cells mean a queue, and no call is under way

@@ -1,8 +1,9 @@
-//! Each kind of call once, alone over a channel of one slot.
+//! Each kind of call once, alone over a channel of one slot, and one call over each other form.
 
 ghost use Rattle.std.specs.Prelude.{IfOk};
+ghost use Rattle.concurrent_queue.specs.Made.{CanBeMade};
 ghost use Rattle.async_channel.specs.Plain.{parts_of};
-ghost use Rattle.channel_alone.specs.Run.{IsOneSlot};
+ghost use Rattle.channel_alone.specs.Run.{IsAtRest, IsOneSlot};
 
 use crate::run::{Done, run_alone};
 use async_channel::ask::ChannelAsk;
@@ -228,5 +229,33 @@ fn calls_that_touch_nothing(rt: HostRuntime) -> Result<(), Fail> {
     let done = run(ChannelAsk::DropWeak, &mut channel, &mut names);
     assert!(rt; matches!(done.reply, Reply::Unit));
     assert_eq!(rt; names.woken.len(), 0);
+    Ok(())
+}
+
+/// A channel of this form that was just made, with no call under way.
+fn at_rest(form: QueueForm, alloc: Global) -> Result<PlainChannel<u64, u32>, AllocError>
+    requires { CanBeMade form }
+    ensures { IfOk result (λ channel. IsAtRest (parts_of channel)) }
+{
+    PlainChannel::new(form, alloc)
+}
+
+#[test]
+fn a_ring_takes_a_message(rt: HostRuntime) -> Result<(), Fail> {
+    let mut channel = at_rest(QueueForm::Bounded(3), rt.alloc())?;
+    let mut names = no_names(&rt);
+    let done = run_alone(ChannelAsk::TrySend(10), &mut channel, &mut names);
+    assert!(rt; matches!(done.reply, Reply::TrySend(Ok(()))));
+    Ok(())
+}
+
+#[test]
+fn an_unbounded_channel_keeps_a_listener(rt: HostRuntime) -> Result<(), Fail> {
+    let mut channel = at_rest(QueueForm::Unbounded, rt.alloc())?;
+    let mut names = no_names(&rt);
+    let ask = ChannelAsk::PollRecv(None, 1);
+    let done = run_alone(ask, &mut channel, &mut names);
+    assert!(rt; matches!(done.reply, Reply::RecvPoll(Poll::Pending)));
+    assert!(rt; done.kept.key.is_some());
     Ok(())
 }
