@@ -14,10 +14,10 @@ module _ {T : Type 0} where
   idle c q fits = let sh = shows c q [] fits in record { balanced = sh.balance; nothing_comes = (sh.at_rest refl).1 }
 
   pub tries_start : (q : Queue T) (a : QueueAsk T) → Comes q q (asked a)
-  tries_start q a = (a, zero, refl, refl)
+  tries_start q a = (a, zero, (refl, refl))
 
   pub tries_on : (q0 q : Queue T) (f g : Phase T) (m : QueueMark) → Goes q f m g → Comes q0 q f → Comes q0 (after f m q) g
-  tries_on q0 q f g m goes (a, n, leads) = (a, suc n, q, f, m, leads, goes, refl)
+  tries_on q0 q f g m goes (a, n, leads) = (a, suc n, (q, f, m, leads, goes, refl))
 
   -- ---- the answer
 
