@@ -12,7 +12,7 @@ use Rattle.async_channel.specs.declared.stage.Kept.{Kept}
 use Rattle.async_channel.specs.declared.stage.Stage.{Stage}
 use Rattle.async_channel.specs.Parts.{Parts}
 use Rattle.async_channel.specs.Asks.{first, kept_by}
-use Rattle.async_channel.specs.Moves.{Channel, channel, Turned, phase, IsNewCall, IsChannelStep}
+use Rattle.async_channel.specs.Moves.{Channel, channel, phase, IsNewCall, IsChannelStep}
 use Rattle.channel_alone.specs.Alone.{Outcome, after_waking, answers}
 use Rattle.channel_alone.specs.Run.{HasPosition, IsAtRest, Ran, RunsAlone}
 use Rattle.channel_alone.proofs.TryFacts.{idle}

@@ -1,5 +1,5 @@
 -- What one call of the queue gives where nobody else is at work.
-use Rattle.std.proofs.Common.{◌≡◌, ℕ, ◌+◌, ◌≤◌, true, false, [], Option, None, Some, Ok, ◌⊎◌, inl, inr, refl, sym, ap, ◌∙◌, subst, zero, suc, arith}
+use Rattle.std.proofs.Common.{◌≡◌, ℕ, ◌+◌, true, false, [], None, Some, Ok, ◌⊎◌, inl, inr, refl, ap, ◌∙◌, zero, suc, arith}
 use Rattle.concurrent_queue.specs.Contents.{Contents}
 use Rattle.concurrent_queue.specs.Queue.{Queue, Phase, asked, marked, after, Goes, Answers}
 use Rattle.concurrent_queue.specs.Step.{Fits}
