@@ -35,29 +35,13 @@ module _ {T : Type 0} where
   abbrev pub left_by : QueueAsk T → QueueReply T → Queue T → Queue T
   left_by a x q = marked a false (did x) q
 
-  accepts : (a : QueueAsk T) (x : QueueReply T) (q : Queue T) → (left_by a x q).accepted ≡ q.accepted + brought_by x
-  accepts a (answer.Push (Ok u)) q = refl
-  accepts a (answer.Force (Ok None)) q = refl
-  accepts a (answer.Force (Ok (Some d))) q = refl
-  accepts a (answer.Pop (Ok v)) q = omega arith
-  accepts a (answer.Close true) q = omega arith
-  accepts a x q = omega arith
-
-  none_coming : (a : QueueAsk T) (x : QueueReply T) (q : Queue T) → (left_by a x q).coming ≡ q.coming
-  none_coming a (answer.Push (Ok u)) q = refl
-  none_coming a (answer.Force (Ok None)) q = refl
-  none_coming a (answer.Force (Ok (Some d))) q = refl
-  none_coming a (answer.Pop (Ok v)) q = refl
-  none_coming a (answer.Close true) q = refl
-  none_coming a x q = refl
-
-  same_capacity : (a : QueueAsk T) (x : QueueReply T) (q : Queue T) → (left_by a x q).capacity ≡ q.capacity
-  same_capacity a (answer.Push (Ok u)) q = refl
-  same_capacity a (answer.Force (Ok None)) q = refl
-  same_capacity a (answer.Force (Ok (Some d))) q = refl
-  same_capacity a (answer.Pop (Ok v)) q = refl
-  same_capacity a (answer.Close true) q = refl
-  same_capacity a x q = refl
+  counts : (a : QueueAsk T) (x : QueueReply T) (q : Queue T) → ((left_by a x q).accepted ≡ q.accepted + brought_by x) × ((left_by a x q).capacity ≡ q.capacity) × ((left_by a x q).coming ≡ q.coming)
+  counts a (answer.Push (Ok u)) q = (refl, refl, refl)
+  counts a (answer.Force (Ok None)) q = (refl, refl, refl)
+  counts a (answer.Force (Ok (Some d))) q = (refl, refl, refl)
+  counts a (answer.Pop (Ok v)) q = (omega arith, refl, refl)
+  counts a (answer.Close true) q = (omega arith, refl, refl)
+  counts a x q = (omega arith, refl, refl)
 
   -- what a try gave that has ended
   pub record Found (q0 : Queue T) (a : QueueAsk T) (x : QueueReply T) (q : Queue T) : Type 0 where
@@ -70,11 +54,11 @@ module _ {T : Type 0} where
   pub tries_end : (q0 q : Queue T) (f : Phase T) (m : QueueMark) (x : QueueReply T) → IsIdle q0 → Answers q f m x → Comes q0 q f → Found q0 f.ask x (after f m q)
   tries_end q0 q f m x i answers h =
       let d : Does q0 q f = does q0 q f i h in
-      let l = d.answer m x answers in
+      let l = d.answer m x answers in let k = counts f.ask x q0 in
       record {
         finds = l.0;
         left = l.1;
-        accepted = ap (λ (p : Queue T). p.accepted) l.1 ∙ accepts f.ask x q0;
-        capacity = ap (λ (p : Queue T). p.capacity) l.1 ∙ same_capacity f.ask x q0;
-        nothing_comes = ap (λ (p : Queue T). p.coming) l.1 ∙ none_coming f.ask x q0 ∙ i.nothing_comes;
+        accepted = ap (λ (p : Queue T). p.accepted) l.1 ∙ k.0;
+        capacity = ap (λ (p : Queue T). p.capacity) l.1 ∙ k.1;
+        nothing_comes = ap (λ (p : Queue T). p.coming) l.1 ∙ k.2 ∙ i.nothing_comes;
       }
