@@ -49,3 +49,4 @@ pub mod PartyFacts
 pub mod RingMade
 pub mod AloneFacts
 pub mod AtOnce
+pub mod Interface

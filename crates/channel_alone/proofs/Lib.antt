@@ -1,0 +1,9 @@
+pub mod TryFacts
+pub mod Order
+pub mod Rest
+pub mod LineFacts
+pub mod AnswerFacts
+pub mod WorkFacts
+pub mod FirstFacts
+pub mod AloneFacts
+pub mod LoopFacts

@@ -1,0 +1,101 @@
+-- What a call that is alone at work does from each of its stages on.
+use Rattle.std.proofs.Common.{◌≡◌, ◌==◌, true, if◌then◌else◌, List, [], ◌∷◌, Option, None, Some, ◌⊎◌, subst}
+use Rattle.concurrent_queue.specs.Queue.{Phase}
+use Rattle.concurrent_queue.specs.declared.call.QueueAsk.{QueueAsk}
+use Rattle.concurrent_queue.specs.declared.call.QueueAsk.TheVariants as ask
+use Rattle.event_listener.specs.declared.key.Key.{Key}
+use Rattle.async_channel.specs.declared.ask.ChannelAsk.TheVariants as call
+use Rattle.async_channel.specs.declared.reply.Reply.{Reply}
+use Rattle.async_channel.specs.declared.reply.Reply.TheVariants as reply
+use Rattle.async_channel.specs.declared.stage.Aim.{Aim}
+use Rattle.async_channel.specs.declared.stage.Aim.TheVariants as aim
+use Rattle.async_channel.specs.declared.stage.Ending.{Ending}
+use Rattle.async_channel.specs.declared.stage.Held.{Held}
+use Rattle.async_channel.specs.declared.stage.Line.{Line}
+use Rattle.async_channel.specs.declared.stage.Line.TheVariants.{Sends, Receives, Streams, Closings}
+use Rattle.async_channel.specs.declared.stage.Making.{Making}
+use Rattle.async_channel.specs.declared.stage.Making.TheVariants as making
+use Rattle.async_channel.specs.declared.stage.Side.{Side}
+use Rattle.async_channel.specs.declared.stage.Stage.{Stage}
+use Rattle.async_channel.specs.declared.stage.Stage.TheVariants.{Trying, Working, Finished}
+use Rattle.async_channel.specs.declared.stage.Turn.{Turn}
+use Rattle.async_channel.specs.declared.stage.Turn.TheVariants.{Tries, Works, Ends}
+use Rattle.async_channel.specs.declared.stage.Work.{Work}
+use Rattle.async_channel.specs.declared.stage.Work.TheVariants.{TellReceive, TellStreams, TellSend, TellAll, Insert, Register, Leave, Lower, Count, Load, Raise}
+use Rattle.event_listener.specs.Lists.{kind_of}
+use Rattle.event_listener.specs.declared.error.ListenError.{ListenError}
+use Rattle.async_channel.specs.Parts.{listeners, count, is_raised}
+use Rattle.async_channel.specs.Turns.{line_of, message_of, ask_of, leaving, nothing_kept, ends_by, refused_reply, closer_ending}
+use Rattle.async_channel.specs.Moves.{Channel, Effect, Turned, tells_all, listens, raises}
+use Rattle.channel_alone.specs.Alone.{Outcome, Where, answers, ends, of_message, of_room, of_closing, says_only, closes, Registers, PollsSend, PollsReceive, PollsStream, PollsClosing, drops, clones, Alone}
+
+module _ {T W : Type 0} where
+  -- a try that begins, by what it asks of the queue and what for; no other asks are made for these
+  abbrev pub RestTry : QueueAsk T → Aim W → Channel T W → Outcome T W → Type 0
+  RestTry (ask.Push m) aim.TrySend c o = Alone (call.TrySend m) c o
+  RestTry (ask.ForcePush m) aim.ForceSend c o = Alone (call.ForceSend m) c o
+  RestTry ask.Pop aim.TryRecv c o = Alone call.TryRecv c o
+  RestTry ask.Close (aim.Close closer) c o = o ≡ closes closer c
+  RestTry (ask.Push m) (aim.Poll Sends key task) c o = PollsSend m key task c o
+  RestTry ask.Pop (aim.Poll Receives key task) c o = PollsReceive key task c o
+  RestTry ask.Pop (aim.Poll Streams key task) c o = PollsStream key task c o
+  RestTry ask.IsClosed (aim.Poll Closings key task) c o = PollsClosing key task c o
+  RestTry ask.IsClosed aim.Ask c o = Alone call.IsClosed c o
+  RestTry ask.IsEmpty aim.Ask c o = Alone call.IsEmpty c o
+  RestTry ask.IsFull aim.Ask c o = Alone call.IsFull c o
+  RestTry ask.Len aim.Ask c o = Alone call.Len c o
+  RestTry ask.Capacity aim.Ask c o = Alone call.Capacity c o
+  RestTry ask.IsClosed aim.IsTerminated c o = Alone call.IsTerminated c o
+  RestTry ask.IsClosed (aim.Upgrade side) c o = Alone (call.Upgrade side) c o
+  RestTry a x c o = Unit {0}
+
+  -- the lists that a closing still tells
+  abbrev pub of_closing_from : Line → List (Channel T W → Effect T W)
+  of_closing_from Sends = of_closing
+  of_closing_from Receives = tells_all Receives ∷ tells_all Streams ∷ tells_all Closings ∷ []
+  of_closing_from Streams = tells_all Streams ∷ tells_all Closings ∷ []
+  of_closing_from Closings = tells_all Closings ∷ []
+
+  abbrev pub RestLoad : Side → Making → Channel T W → Outcome T W → Type 0
+  RestLoad side making.Clone c o = o ≡ clones side c
+  RestLoad side making.Upgrade c o = o ≡ (if count side c.roster == 0 then answers reply.NotMade nothing_kept c else clones side c)
+
+  abbrev pub RestWork : Work T W → Channel T W → Outcome T W → Type 0
+  RestWork (TellReceive x) c o = o ≡ ends of_message x c
+  RestWork (TellStreams x) c o = o ≡ ends (tells_all Streams ∷ []) x c
+  RestWork (TellSend x) c o = o ≡ ends of_room x c
+  RestWork (TellAll line closer) c o = o ≡ ends (of_closing_from line) (closer_ending closer true) c
+  RestWork (Insert w task) c o =
+      ((key : Key) × (kind_of (listeners (line_of w) c.roster) key ≡ None) × RestTry (ask_of w) (aim.Poll (line_of w) (Some key) task) (listens (line_of w) key c).channel o)
+      ⊎ ((error : ListenError) × (o ≡ answers (refused_reply (line_of w) error) (leaving None (message_of w)) c))
+  RestWork (Register w key task) c o = Registers w key task c o (λ d. RestTry (ask_of w) (aim.Poll (line_of w) None task) d o)
+  RestWork (Leave x) c o = o ≡ ends [] x c
+  RestWork (Lower side key) c o = o ≡ drops side key c
+  RestWork (Count side) c o = o ≡ says_only (reply.Count (count side c.roster)) c
+  RestWork (Load side m) c o = RestLoad side m c o
+  RestWork (Raise side n m) c o =
+      Where (is_raised side n c.roster) (o ≡ answers reply.Made nothing_kept (raises side n c).channel) (RestLoad side m c o)
+
+  abbrev pub RestTurn : Turn T W → Channel T W → Outcome T W → Type 0
+  RestTurn (Tries a x) c o = RestTry a x c o
+  RestTurn (Works w) c o = RestWork w c o
+  RestTurn (Ends x kept) c o = o ≡ answers x kept c
+
+  -- at a stage; where the queue is being asked, of the channel at the beginning of this try
+  abbrev pub RestStage : Stage (Phase T) T W → Channel T W → Outcome T W → Type 0
+  RestStage (Trying f x) c o = RestTry f.ask x c o
+  RestStage (Working w) c o = RestWork w c o
+  RestStage (Finished kept) c o = ⊥
+
+  -- a turn that was taken
+  pub turn_rests : (turn : Turn T W) (s : Stage (Phase T) T W) (c : Channel T W) (o : Outcome T W) → Turned turn None s → RestStage s c o → RestTurn turn c o
+  turn_rests (Tries a x) s c o h k = subst (λ (z : Stage (Phase T) T W). RestStage z c o) h.1 k
+  turn_rests (Works w) s c o h k = subst (λ (z : Stage (Phase T) T W). RestStage z c o) h.1 k
+  turn_rests (Ends x kept) s c o h k = absurd (let no : (let y : Option (Reply T) = None in y) ≡ Some x = h.0 in cc)
+
+  left : (c : Channel T W) (o : Outcome T W) (x : Reply T) (message : Option T) (held : Option Held) → RestTurn (ends_by (record { reply = x; message = message; held = held })) c o → o ≡ ends [] (record { reply = x; message = message; held = held }) c
+  left c o x message None k = k
+  left c o x message (Some h) k = k
+
+  pub ends_rest : (c : Channel T W) (o : Outcome T W) (x : Ending T) → RestTurn (ends_by x) c o → o ≡ ends [] x c
+  ends_rest c o x k = left c o x.reply x.message x.held k

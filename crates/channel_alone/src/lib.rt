@@ -1,0 +1,6 @@
+//! A call of a channel of one owner, from its beginning to its end, with nobody else at work.
+#![tactic(auto)]
+
+pub mod run;
+#[cfg(test)]
+mod tests;

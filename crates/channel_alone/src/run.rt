@@ -1,0 +1,43 @@
+//! A call of a channel that is stepped to its end.
+
+ghost use Rattle.async_channel.specs.Plain.{parts_of};
+ghost use Rattle.channel_alone.specs.Run.{IsAtRest, RunsAlone};
+
+use async_channel::ask::ChannelAsk;
+use async_channel::call::ChannelCall;
+use async_channel::plain::PlainChannel;
+use async_channel::reply::Reply;
+use async_channel::stage::Kept;
+use event_listener::wakes::Wakes;
+
+/// What a call left at its end.
+#[derive(Drop)]
+pub struct Done<T> {
+    /// What it answers.
+    pub reply: Reply<T>,
+    /// What it leaves to its operation.
+    pub kept: Kept<T>,
+}
+
+/// Makes a call of a channel of one owner from its beginning to its end, with no other call under way, and never waits.
+/// Tasks that it wakes go to the sink in order. Want of memory is answered as the call's own refusal, with the message kept
+/// or handed back. Own to this project.
+pub fn run_alone<T: Drop, W: Drop, S: Wakes<W>>(
+    ask: ChannelAsk<T, W>,
+    channel: &mut PlainChannel<T, W>,
+    sink: &mut S,
+) -> Done<T>
+    requires at_rest { IsAtRest (parts_of channel.old) }
+    ensures alone { RunsAlone S.wakes ask (parts_of channel.old) sink.old result (parts_of channel.new) sink.new }
+{
+    let mut call = ChannelCall::new(ask);
+    loop {
+        match call.step(channel, sink) {
+            Some(reply) => {
+                let kept = call.into_kept();
+                return Done { reply, kept };
+            }
+            None => {}
+        }
+    }
+}
