@@ -10,6 +10,8 @@ mod member;
 mod owed;
 mod plan;
 mod random;
+#[cfg(test)]
+mod tests;
 mod trial;
 
 use crate::differs::Differs;

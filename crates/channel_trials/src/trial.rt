@@ -355,7 +355,7 @@ impl Trial {
     /// Runs it, and compares after each entry.
     pub fn interleave(&mut self) -> Result<(), Differs> {
         self.gather()?;
-        let turns = TURNS + self.random.below(MORE);
+        let turns = TURNS.saturating_add(self.random.below(MORE));
         for _ in 0..turns {
             self.turn()?;
         }
