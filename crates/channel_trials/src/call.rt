@@ -37,6 +37,7 @@ fn part_of(line: Line) -> Part {
 }
 
 impl Kind {
+    /// What it answers for.
     pub fn part(self) -> Part {
         match self {
             Kind::TrySend(_) => Part::Sending,
@@ -112,6 +113,7 @@ pub struct Call {
 }
 
 impl Call {
+    /// A call of this kind that has done and seen nothing.
     pub fn new(kind: Kind, name: u32) -> Self {
         Call {
             kind,

@@ -31,14 +31,17 @@ impl Count {
         }
     }
 
+    /// Whether the channel is closed.
     pub fn is_closed(&self) -> bool {
         self.closed
     }
 
+    /// Whether no message is held.
     pub fn is_empty(&self) -> bool {
         self.held.is_empty()
     }
 
+    /// How many messages are held.
     pub fn messages(&self) -> usize {
         self.held.len()
     }

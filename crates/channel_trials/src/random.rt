@@ -10,6 +10,7 @@ pub struct Random {
 }
 
 impl Random {
+    /// The generator of this seed.
     pub fn new(seed: u64) -> Self {
         Random {
             words: Pcg32::new(seed, 0),
