@@ -8,6 +8,7 @@ mod decimal;
 mod event;
 mod list;
 mod queue;
+mod steps;
 
 use std::alloc::Global;
 use std::rt::Clock;
@@ -21,6 +22,7 @@ fn measure<R: Clock + Print + Wait + Copy>(rt: R, alloc: Global, word: &str) -> 
         "event" => event::measure_events(rt, alloc),
         "pairs" => queue::make_pairs(&rt, alloc),
         "queue" => queue::measure_queues(&rt, alloc),
+        "steps" => steps::measure_steps(&rt, alloc),
         _ => println!(&rt; "nothing to measure is named {word}"),
     }
 }
