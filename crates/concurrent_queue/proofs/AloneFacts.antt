@@ -2,13 +2,13 @@
 use Rattle.std.proofs.Common.{◌≡◌, ℕ, ◌+◌, if◌then◌else◌, ◌<◌, ◌≤◌, ◌^◌, ⊎_elim, Bool, true, false, not, List, [], ◌∷◌, ◌++◌, length, drop, Option, None, Some, Ok, Err, ◌==◌, ◌⊎◌, inl, inr, refl, sym, ap, ◌∙◌, subst, arith}
 use Rattle.concurrent_queue.specs.Contents.{Contents}
 use Rattle.concurrent_queue.specs.Dispatch.{capacity_of}
-use Rattle.concurrent_queue.specs.Queue.{Queue, opened, Stage, trying, displaced, appended, taken, read, measured, Phase, asked, is_filled, is_full_at, is_stuck, IsOpen, IsShut, IsOldest, message, marked, after, is_displaced, seen_after, IsInRange, GoesPush, GoesForce, GoesPop, GoesOn, AnswersPush, AnswersForce, AnswersPop, AnswersTo}
+use Rattle.concurrent_queue.specs.Queue.{Queue, opened, Stage, trying, displaced, appended, taken, read, measured, Phase, asked, is_filled, is_full_at, may_refuse, IsOpen, IsShut, IsOldest, message, marked, after, is_displaced, seen_after, IsInRange, GoesPush, GoesForce, GoesPop, GoesOn, AnswersPush, AnswersForce, AnswersPop, AnswersTo}
 use Rattle.std.proofs.lemmas.Bool.Decides.{nat_tests}
 use Rattle.concurrent_queue.specs.Step.{seat, Fits, Steps, IsQueueStep, Starts, rank, items_in, closed_in}
 use Rattle.concurrent_queue.specs.Made.{IsNew}
 use Rattle.concurrent_queue.specs.declared.cells.QueueForm.{QueueForm}
 use Rattle.concurrent_queue.specs.declared.cells.QueueForm.TheVariants.{Bounded, Unbounded}
-use Rattle.concurrent_queue.specs.Alone.{Held, is_one_slot, used_of, one_more, shut, Gives, ForceGives, PopGives, HasRoom, is_accepted, used_after}
+use Rattle.concurrent_queue.specs.Alone.{Held, held, IsSound, is_one_slot, used_of, one_more, shut, Gives, ForceGives, PopGives, HasRoom, is_accepted, used_after}
 use Rattle.concurrent_queue.specs.declared.call.QueueAsk.{QueueAsk}
 use Rattle.concurrent_queue.specs.declared.call.QueueAsk.TheVariants as ask
 use Rattle.concurrent_queue.specs.declared.call.QueueMark.{QueueMark}
@@ -20,8 +20,9 @@ use Rattle.concurrent_queue.specs.declared.error.ForcePushError.TheVariants as f
 use Rattle.concurrent_queue.specs.declared.error.PopError.TheVariants as pop_error
 use Rattle.concurrent_queue.specs.declared.queue_call.QueueCall.{QueueCall}
 use Rattle.concurrent_queue.proofs.Balance.{IsBalanced, same_capacity}
-use Rattle.concurrent_queue.proofs.Evidence.{IsStuck, stuck_of, not_zero, not_full_after, eq_of}
+use Rattle.concurrent_queue.proofs.Evidence.{IsStuck, not_zero, not_full_after, eq_of}
 use Rattle.concurrent_queue.proofs.FitsFacts.{shows, most_fits}
+use Rattle.concurrent_queue.proofs.Refusing.{refuses_open}
 
 -- ---- positions
 
@@ -59,28 +60,32 @@ module _ {T : Type 0} where
 
   -- where a call that began at q0 has come this far with nobody beside it, the queue is this one
   abbrev pub So : Queue T → QueueAsk T → Stage T → Queue T → Type 0
-  So q0 a (trying b) q = (q ≡ q0) × (b ≡ true → is_stuck q0 ≡ true)
-  So q0 a (displaced d) q = IsOldest d q0 × (is_stuck q0 ≡ true) × (q ≡ marked a false TakeDisplaced q0)
+  So q0 a (trying b) q = (q ≡ q0) × (b ≡ true → may_refuse q0 ≡ true)
+  So q0 a (displaced d) q = IsOldest d q0 × IsStuck q0 × (q ≡ marked a false TakeDisplaced q0)
   So q0 a (appended None) q = IsOpen q0 × (is_filled q0 ≡ false) × (q ≡ marked a false Append q0)
   So q0 a (appended (Some d)) q =
-      IsOldest d q0 × (is_stuck q0 ≡ true) × (q.items ≡ drop 1 q0.items ++ message a) × (q.closed ≡ q0.closed) × (q.capacity ≡ q0.capacity) × (q.accepted ≡ q0.accepted + 1)
+      IsOldest d q0 × IsStuck q0 × (q.items ≡ drop 1 q0.items ++ message a) × (q.closed ≡ q0.closed) × (q.capacity ≡ q0.capacity) × (q.accepted ≡ q0.accepted + 1)
   So q0 a (taken v) q = IsOldest v q0 × (q ≡ marked a false Take q0)
   So q0 a (read n) q = (q ≡ q0) × ReadOf a n q0
   So q0 a (measured n k) q = (q ≡ q0) × (k ≡ length q0.items)
 
-  stuck_from : (b : Bool) (q q0 : Queue T) → q ≡ q0 → (b ≡ true → is_stuck q0 ≡ true) → seen_after b q ≡ true → is_stuck q0 ≡ true
-  stuck_from true q q0 e f h = f refl
-  stuck_from false q q0 e f h = subst (λ (x : Queue T). is_stuck x ≡ true) e h
+  refuses_from : (b : Bool) (q q0 : Queue T) → q ≡ q0 → (b ≡ true → may_refuse q0 ≡ true) → seen_after b q ≡ true → may_refuse q0 ≡ true
+  refuses_from true q q0 e f h = f refl
+  refuses_from false q q0 e f h = subst (λ (x : Queue T). may_refuse x ≡ true) e h
 
-  stuck_now : (q : Queue T) → IsOpen q → is_filled q ≡ true → is_stuck q ≡ true
-  stuck_now q e f = rw e f
+  -- it was open where it might refuse
+  pub open_from : (b : Bool) (q q0 : Queue T) → q ≡ q0 → (b ≡ true → may_refuse q0 ≡ true) → seen_after b q ≡ true → IsOpen q0
+  open_from b q q0 e f h = refuses_open q0 (refuses_from b q q0 e f h)
+
+  pub filled_at : (q q0 : Queue T) → q ≡ q0 → is_filled q ≡ true → is_filled q0 ≡ true
+  filled_at q q0 e h = subst (λ (x : Queue T). is_filled x ≡ true) e h
 
   module _ (q0 : Queue T) where
     next_so : (a : QueueAsk T) (t s : Stage T) (q : Queue T) → t ≡ s → So q0 a s q → So q0 a t q
     next_so a t s q e h = subst (λ (x : Stage T). So q0 a x q) (sym e) h
 
     so_push : (q : Queue T) (v : T) (m : QueueMark) (s t : Stage T) → GoesPush q m s t → So q0 (ask.Push v) s q → So q0 (ask.Push v) t (marked (ask.Push v) (is_displaced s) m q)
-    so_push q v Nothing (trying b) t g h = next_so (ask.Push v) t _ q g (h.0, λ e. stuck_from b q q0 h.0 h.1 e)
+    so_push q v Nothing (trying b) t g h = next_so (ask.Push v) t _ q g (h.0, λ e. refuses_from b q q0 h.0 h.1 e)
     so_push q v Nothing (appended None) t g h = next_so (ask.Push v) t _ q g h
     so_push q v Append (trying b) t g h =
         next_so (ask.Push v) t _ _ g.2
@@ -88,7 +93,7 @@ module _ {T : Type 0} where
     so_push q v m s t g h = absurd g
 
     so_force : (q : Queue T) (v : T) (m : QueueMark) (s t : Stage T) → GoesForce q m s t → So q0 (ask.ForcePush v) s q → So q0 (ask.ForcePush v) t (marked (ask.ForcePush v) (is_displaced s) m q)
-    so_force q v Nothing (trying b) t g h = next_so (ask.ForcePush v) t _ q g (h.0, λ e. stuck_from b q q0 h.0 h.1 e)
+    so_force q v Nothing (trying b) t g h = next_so (ask.ForcePush v) t _ q g (h.0, λ e. refuses_from b q q0 h.0 h.1 e)
     so_force q v Nothing (displaced d) t g h = next_so (ask.ForcePush v) t _ q g h
     so_force q v Nothing (appended None) t g h = next_so (ask.ForcePush v) t _ q g h
     so_force q v Nothing (appended (Some d)) t g h = next_so (ask.ForcePush v) t _ q g h
@@ -101,7 +106,7 @@ module _ {T : Type 0} where
     so_force q v Replace (trying b) t g h =
         next_so (ask.ForcePush v) t _ _ g.5 (
           subst (λ (x : Queue T). IsOldest g.0 x) h.0 g.1,
-          subst (λ (x : Queue T). is_stuck x ≡ true) h.0 (stuck_now q g.2 g.3),
+          subst (λ (x : Queue T). IsStuck x) h.0 (g.2, g.3),
           ap (λ (x : Queue T). drop 1 x.items ++ v ∷ []) h.0,
           ap (λ (x : Queue T). x.closed) h.0,
           ap (λ (x : Queue T). x.capacity) h.0,
@@ -109,11 +114,11 @@ module _ {T : Type 0} where
         )
     so_force q v TakeDisplaced (trying b) t g h =
         next_so (ask.ForcePush v) t _ _ g.5
-        (subst (λ (x : Queue T). IsOldest g.0 x) h.0 g.1, stuck_from b q q0 h.0 h.1 g.2, ap (λ (x : Queue T). marked (ask.ForcePush v) false TakeDisplaced x) h.0)
+        (subst (λ (x : Queue T). IsOldest g.0 x) h.0 g.1, (open_from b q q0 h.0 h.1 g.2, filled_at q q0 h.0 g.3), ap (λ (x : Queue T). marked (ask.ForcePush v) false TakeDisplaced x) h.0)
     so_force q v m s t g h = absurd g
 
     so_pop : (q : Queue T) (m : QueueMark) (s t : Stage T) → GoesPop q m s t → So q0 ask.Pop s q → So q0 ask.Pop t (marked ask.Pop (is_displaced s) m q)
-    so_pop q Nothing (trying b) t g h = next_so ask.Pop t _ q g (h.0, λ e. stuck_from b q q0 h.0 h.1 e)
+    so_pop q Nothing (trying b) t g h = next_so ask.Pop t _ q g (h.0, λ e. refuses_from b q q0 h.0 h.1 e)
     so_pop q Nothing (taken v) t g h = next_so ask.Pop t _ q g h
     so_pop q Take (trying b) t g h =
         next_so ask.Pop t _ _ g.2 (subst (λ (x : Queue T). IsOldest g.0 x) h.0 g.1, ap (λ (x : Queue T). marked ask.Pop false Take x) h.0)
@@ -149,9 +154,6 @@ module _ {T : Type 0} where
     abbrev Ends : QueueAsk T → Queue T → QueueMark → Stage T → QueueReply T → Type 0
     Ends a q m s r = Gives a (view q0) (view (marked a (is_displaced s) m q)) r
 
-    both : is_stuck q0 ≡ true → IsStuck q0
-    both h = stuck_of q0 q0.closed refl h
-
     -- q0 with one message more, which left it these items
     abbrev with_more : List T → ℕ → Held T
     with_more items used = record { items = items; closed = q0.closed; capacity = q0.capacity; used = used }
@@ -164,16 +166,17 @@ module _ {T : Type 0} where
     ends_push q v Nothing (reply.Push (Ok u)) (appended None) room h so =
         ((so.0, room), so.1, ap view so.2 ∙ ap (with_more (q0.items ++ v ∷ [])) (used_more q0.capacity q0.accepted))
     ends_push q v Nothing (reply.Push (Err (push_error.Full w))) (trying b) room h so =
-        let k = both (stuck_from b q q0 so.0 so.1 h.2) in ((k.0, room), k.1, h.0, ap view so.0)
+        ((open_from b q q0 so.0 so.1 h.2, room), filled_at q q0 so.0 h.1, h.0, ap view so.0)
     ends_push q v Nothing (reply.Push (Err (push_error.Closed w))) (trying b) room h so =
         let e = subst (λ (x : Queue T). IsShut x) so.0 h.1 in (inl e, h.0, shut_view q so.0 e)
-    ends_push q v Nothing (reply.Push (Err (push_error.NoMemory w))) (trying b) room h so = (subst (λ (x : Queue T). x.capacity ≡ None) so.0 h.1, h.0, ap view so.0)
+    ends_push q v Nothing (reply.Push (Err (push_error.NoMemory w))) (trying b) room h so =
+        ((open_from b q q0 so.0 so.1 h.2, room), subst (λ (x : Queue T). x.capacity ≡ None) so.0 h.1, h.0, ap view so.0)
     ends_push q v m r s room h so = absurd h
 
     replaced : (q : Queue T) (v d : T) → HasRoom (ask.ForcePush v) (view q0).used → So q0 (ask.ForcePush v) (appended (Some d)) q → ForceGives (view q0) v (view q) (Ok (Some d))
     replaced q v d room so =
         let rest = so.0.0 in
-        let k = both so.1 in
+        let k = so.1 in
         let items : q.items ≡ rest ++ v ∷ [] = so.2 ∙ ap (λ (xs : List T). drop 1 xs ++ v ∷ []) so.0.1 in
         let by_items : List T → Held T = λ x. record { items = x; closed = q.closed; capacity = q.capacity; used = used_of q.capacity q.accepted } in
         let by_closed : Bool → Held T = λ x. record { items = rest ++ v ∷ []; closed = x; capacity = q.capacity; used = used_of q.capacity q.accepted } in
@@ -191,7 +194,8 @@ module _ {T : Type 0} where
         let same : d ≡ w = cc in subst (λ (x : T). ForceGives (view q0) v (view q) (Ok (Some x))) same (replaced q v d room so)
     ends_force q v Nothing (reply.Force (Err (force_error.Closed w))) (trying b) room h so =
         let e = subst (λ (x : Queue T). IsShut x) so.0 h.1 in (inl e, h.0, shut_view q so.0 e)
-    ends_force q v Nothing (reply.Force (Err (force_error.NoMemory w))) (trying b) room h so = (subst (λ (x : Queue T). x.capacity ≡ None) so.0 h.1, h.0, ap view so.0)
+    ends_force q v Nothing (reply.Force (Err (force_error.NoMemory w))) (trying b) room h so =
+        ((open_from b q q0 so.0 so.1 h.2, room), subst (λ (x : Queue T). x.capacity ≡ None) so.0 h.1, h.0, ap view so.0)
     ends_force q v m r s room h so = absurd h
 
     popped : (q : Queue T) (v : T) → So q0 ask.Pop (taken v) q → PopGives (view q0) (view q) (Ok v)
@@ -324,10 +328,7 @@ module _ {T : Type 0} where
 
   -- ---- the loop
 
-  abbrev pub held_in : Contents T → ℕ → Held T
-  held_in c used = record { items = items_in c; closed = closed_in c; capacity = capacity_of c.form; used = used }
-
-  pub held_is : (c : Contents T) (q : Queue T) (used : ℕ) → Fits c q [] → used ≡ used_of q.capacity q.accepted → held_in c used ≡ view q
+  pub held_is : (c : Contents T) (q : Queue T) (used : ℕ) → Fits c q [] → used ≡ used_of q.capacity q.accepted → held c used ≡ view q
   held_is c q used fits e =
       let sh = shows c q [] fits in
       let by_items : List T → Held T = λ x. record { items = x; closed = closed_in c; capacity = capacity_of c.form; used = used } in
@@ -335,9 +336,6 @@ module _ {T : Type 0} where
       let by_capacity : Option ℕ → Held T = λ x. record { items = q.items; closed = q.closed; capacity = x; used = used } in
       let by_used : ℕ → Held T = λ x. record { items = q.items; closed = q.closed; capacity = q.capacity; used = x } in
       ap by_items (sym (sh.at_rest refl).0) ∙ ap by_closed sh.flag ∙ ap by_capacity (sym sh.limit) ∙ ap by_used e
-
-  abbrev pub IsSoundIn : Contents T → ℕ → Type 0
-  IsSoundIn c used = (q : Queue T) × Fits c q [] × (used ≡ used_of q.capacity q.accepted) × (used ≤ 2 ^ 61)
 
   -- how many messages a call is still to bring
   abbrev pub due : QueueAsk T → Stage T → ℕ
@@ -454,7 +452,7 @@ module _ {T : Type 0} where
     pub limit : now.capacity ≡ start.capacity
     pub so : So start phase.ask phase.stage now
 
-  pub alone_start : (c : Contents T) (used : ℕ) (a : QueueAsk T) (call : QueueCall T) → Starts call a → IsSoundIn c used → HasRoom a used → IsAlone (held_in c used) a c call
+  pub alone_start : (c : Contents T) (used : ℕ) (a : QueueAsk T) (call : QueueCall T) → Starts call a → IsSound c used → HasRoom a used → IsAlone (held c used) a c call
   alone_start c used a call starts (q, fits, e, small) room =
       record {
         start = q;
@@ -511,7 +509,7 @@ module _ {T : Type 0} where
         ap (λ (k : Option ℕ). used_after k m.used r) limit ∙ ap (λ (n : ℕ). used_after x.start.capacity n r) was
         ∙ used_then (is_accepted r) x.start.capacity x.start.accepted ∙ ap (λ (n : ℕ). used_of x.start.capacity n) (sym accepted) ∙ ap (λ (k : Option ℕ). used_of k q'.accepted) (sym same_limit)
 
-    pub alone_sound : (r : QueueReply T) (used : ℕ) → used ≡ used_after (capacity_of d.form) m.used r → IsQueueStep c call d next (Some r) → IsSoundIn d used
+    pub alone_sound : (r : QueueReply T) (used : ℕ) → used ≡ used_after (capacity_of d.form) m.used r → IsQueueStep c call d next (Some r) → IsSound d used
     alone_sound r used e step =
         let h = step_of (Some r) step in
         let q' : Queue T = after x.phase next.mark x.now in
@@ -520,7 +518,7 @@ module _ {T : Type 0} where
         let range : IsInRange q' = ⊎_elim (λ l. inl (same_capacity x.now x.phase next.mark ∙ l)) (λ l. inr (omega arith)) x.range in
         (q', h.does.1, same, small_by q' used (is_one_slot q'.capacity) refl same range)
 
-    pub alone_end : (r : QueueReply T) (used : ℕ) → used ≡ used_after (capacity_of d.form) m.used r → IsQueueStep c call d next (Some r) → Gives a m (held_in d used) r
+    pub alone_end : (r : QueueReply T) (used : ℕ) → used ≡ used_after (capacity_of d.form) m.used r → IsQueueStep c call d next (Some r) → Gives a m (held d used) r
     alone_end r used e step =
         let h = step_of (Some r) step in
         let q' : Queue T = after x.phase next.mark x.now in
@@ -534,25 +532,25 @@ module _ {T : Type 0} where
         subst (λ (n : Held T). Gives a m n r) (sym (held_is d q' used h.does.1 same)) g2
 
   -- a queue that no call is under way on holds no more than its capacity
-  pub long_within : (c : Contents T) (used : ℕ) → IsSoundIn c used → (cap : ℕ) → capacity_of c.form ≡ Some cap → length (items_in c) ≤ cap
+  pub long_within : (c : Contents T) (used : ℕ) → IsSound c used → (cap : ℕ) → capacity_of c.form ≡ Some cap → length (items_in c) ≤ cap
   long_within c used sound cap e =
       let sh = shows c sound.0 [] sound.1 in
       subst (λ (xs : List T). length xs ≤ cap) (sh.at_rest refl).0 (sh.within cap (sh.limit ∙ e))
 
 -- cells that were just made hold nothing
-opened_held : {T : Type 0} (form : QueueForm) (c : Contents T) → IsNew form c → held_in c 0 ≡ record { items = []; closed = false; capacity = capacity_of form; used = 0 }
+opened_held : {T : Type 0} (form : QueueForm) (c : Contents T) → IsNew form c → held c 0 ≡ record { items = []; closed = false; capacity = capacity_of form; used = 0 }
 opened_held {T} form c new =
     let by_used : ℕ → Held T = λ n. record { items = []; closed = false; capacity = capacity_of form; used = n } in
     held_is c (opened (capacity_of form)) 0 new.1 (sym (none_used (capacity_of form))) ∙ ap by_used (none_used (capacity_of form))
 
-pub new_held : {T : Type 0} (c : Contents T) (cap : ℕ) → IsNew (Bounded cap) c → held_in c 0 ≡ record { items = []; closed = false; capacity = Some cap; used = 0 }
+pub new_held : {T : Type 0} (c : Contents T) (cap : ℕ) → IsNew (Bounded cap) c → held c 0 ≡ record { items = []; closed = false; capacity = Some cap; used = 0 }
 new_held c cap new = opened_held (Bounded cap) c new
 
-pub new_unbounded : {T : Type 0} (c : Contents T) → IsNew Unbounded c → held_in c 0 ≡ record { items = []; closed = false; capacity = None; used = 0 }
+pub new_unbounded : {T : Type 0} (c : Contents T) → IsNew Unbounded c → held c 0 ≡ record { items = []; closed = false; capacity = None; used = 0 }
 new_unbounded c new = opened_held Unbounded c new
 
 -- cells that were just made have used up nothing
-pub new_sound : {T : Type 0} (form : QueueForm) (c : Contents T) → IsNew form c → IsSoundIn c 0
+pub new_sound : {T : Type 0} (form : QueueForm) (c : Contents T) → IsNew form c → IsSound c 0
 new_sound form c new = (opened (capacity_of form), new.1, sym (none_used (capacity_of form)), omega arith)
 
 -- a bounded queue has 2^58 slots at most

@@ -5,7 +5,7 @@ use Rattle.concurrent_queue.specs.Contents.{Contents, write_slot}
 use Rattle.concurrent_queue.specs.Dispatch.{capacity_of, IsStateStep, IsFirstStep, IsBoundedFirst, ByRing, in_ring, ring_cap}
 use Rattle.concurrent_queue.specs.RingWords.{cap_of, ring_mark, index, next_word, set_tail, set_head, stays, marks, finishes, pushed_reply, ring_start, ring_step}
 use Rattle.concurrent_queue.specs.RingAtOnce.{IsFree, pushed, IsThere, popped, PushesBounded, PushesAtOnce, PopsBounded, PopsAtOnce}
-use Rattle.concurrent_queue.specs.Alone.{Held, used_after, one_more, HasRoom, Gives}
+use Rattle.concurrent_queue.specs.Alone.{Held, held, IsSound, used_after, one_more, HasRoom, Gives}
 use Rattle.concurrent_queue.specs.Step.{IsQueueStep}
 use Rattle.concurrent_queue.specs.declared.bounded.RingAction.{RingAction}
 use Rattle.concurrent_queue.specs.declared.bounded.RingAction.TheVariants as act
@@ -23,7 +23,7 @@ use Rattle.concurrent_queue.specs.declared.cells.Slot.TheVariants.{At}
 use Rattle.concurrent_queue.specs.declared.queue_call.CallState.{CallState}
 use Rattle.concurrent_queue.specs.declared.queue_call.CallState.TheVariants.{Asked, Ring}
 use Rattle.concurrent_queue.specs.declared.queue_call.QueueCall.{QueueCall}
-use Rattle.concurrent_queue.proofs.AloneFacts.{IsAlone, IsSoundIn, held_in, alone_start, alone_more, alone_sound, alone_end}
+use Rattle.concurrent_queue.proofs.AloneFacts.{IsAlone, alone_start, alone_more, alone_sound, alone_end}
 use Rattle.concurrent_queue.proofs.FitsFacts.{is_queue_step, starts}
 
 itself : (n : ℕ) → (n == n) ≡ true
@@ -41,7 +41,7 @@ module _ {T : Type 0} where
 
   module _ (m : Held T) (a : QueueAsk T) (d : Contents T) (r : QueueReply T) (used : ℕ) where
     abbrev Ended : Type 0
-    Ended = used ≡ used_after (capacity_of d.form) m.used r → IsSoundIn d used × Gives a m (held_in d used) r
+    Ended = used ≡ used_after (capacity_of d.form) m.used r → IsSound d used × Gives a m (held d used) r
 
     one_run : (c : Contents T) (call : QueueCall T) → IsAlone m a c call → (e : Contents T) (action : CallState T) (mark : QueueMark) (answer : Option (QueueReply T))
         → IsStateStep c call.state e (record { action = action; mark = mark; reply = answer })
@@ -66,11 +66,11 @@ module _ {T : Type 0} where
         (further run.1.reply run.0 (λ (h : Runs k run.0 run.1.action d r). runs_end k run.0 (record { state = run.1.action; mark = run.1.mark }) h) run.3)
 
   -- a call that nobody comes between, from its start
-  ran : (k : ℕ) (c : Contents T) (used : ℕ) (a : QueueAsk T) (d : Contents T) (r : QueueReply T) (used' : ℕ) → IsSoundIn c used → HasRoom a used → Runs k c (Asked a) d r → used' ≡ used_after (capacity_of d.form) used r
-      → IsSoundIn d used' × Gives a (held_in c used) (held_in d used') r
+  ran : (k : ℕ) (c : Contents T) (used : ℕ) (a : QueueAsk T) (d : Contents T) (r : QueueReply T) (used' : ℕ) → IsSound c used → HasRoom a used → Runs k c (Asked a) d r → used' ≡ used_after (capacity_of d.form) used r
+      → IsSound d used' × Gives a (held c used) (held d used') r
   ran k c used a d r used' sound room run e =
       let call : QueueCall T = record { state = Asked a; mark = Nothing } in
-      runs_end (held_in c used) a d r used' k c call run (alone_start c used a call (starts a Nothing) sound room) e
+      runs_end (held c used) a d r used' k c call run (alone_start c used a call (starts a Nothing) sound room) e
 
   -- ---- the steps of a ring
 
@@ -155,45 +155,45 @@ module _ {T : Type 0} where
 
     -- ---- a queue of one owner
 
-    pushed_ring : (c : Contents T) (used : ℕ) (v : T) (d : Contents T) → c.form ≡ Bounded capacity → IsSoundIn c used → HasRoom (ask.Push v) used → IsFree (cap_of capacity) (ring_mark (cap_of capacity)) c → d ≡ pushed (cap_of capacity) (ring_mark (cap_of capacity)) c v
-        → IsSoundIn d (used + 1) × Gives (ask.Push v) (held_in c used) (held_in d (used + 1)) (reply.Push (Ok tt))
+    pushed_ring : (c : Contents T) (used : ℕ) (v : T) (d : Contents T) → c.form ≡ Bounded capacity → IsSound c used → HasRoom (ask.Push v) used → IsFree (cap_of capacity) (ring_mark (cap_of capacity)) c → d ≡ pushed (cap_of capacity) (ring_mark (cap_of capacity)) c v
+        → IsSound d (used + 1) × Gives (ask.Push v) (held c used) (held d (used + 1)) (reply.Push (Ok tt))
     pushed_ring c used v d form sound room free e =
         let end : Contents T = pushed (cap_of capacity) (ring_mark (cap_of capacity)) c v in
         let done : QueueReply T = reply.Push (Ok tt) in
         let counted : used + 1 ≡ used_after (capacity_of end.form) used done = used_more capacity more used ∙ ap (λ (f : QueueForm). one_more (capacity_of f) used) (sym form) in
-        subst (λ (x : Contents T). IsSoundIn x (used + 1) × Gives (ask.Push v) (held_in c used) (held_in x (used + 1)) (reply.Push (Ok tt))) (sym e)
+        subst (λ (x : Contents T). IsSound x (used + 1) × Gives (ask.Push v) (held c used) (held x (used + 1)) (reply.Push (Ok tt))) (sym e)
         (ran 5 c used (ask.Push v) end (reply.Push (Ok tt)) (used + 1) sound room (push_runs c v form free) counted)
 
-    popped_ring : (c : Contents T) (used : ℕ) (v : T) (d : Contents T) → c.form ≡ Bounded capacity → IsSoundIn c used → IsThere (cap_of capacity) (ring_mark (cap_of capacity)) c v → d ≡ popped (cap_of capacity) (ring_mark (cap_of capacity)) c
-        → IsSoundIn d used × Gives ask.Pop (held_in c used) (held_in d used) (reply.Pop (Ok v))
+    popped_ring : (c : Contents T) (used : ℕ) (v : T) (d : Contents T) → c.form ≡ Bounded capacity → IsSound c used → IsThere (cap_of capacity) (ring_mark (cap_of capacity)) c v → d ≡ popped (cap_of capacity) (ring_mark (cap_of capacity)) c
+        → IsSound d used × Gives ask.Pop (held c used) (held d used) (reply.Pop (Ok v))
     popped_ring c used v d form sound there e =
-        subst (λ (x : Contents T). IsSoundIn x used × Gives ask.Pop (held_in c used) (held_in x used) (reply.Pop (Ok v))) (sym e)
+        subst (λ (x : Contents T). IsSound x used × Gives ask.Pop (held c used) (held x used) (reply.Pop (Ok v))) (sym e)
         (ran 5 c used ask.Pop (popped (cap_of capacity) (ring_mark (cap_of capacity)) c) (reply.Pop (Ok v)) used sound tt (pop_runs c v form there) refl)
 
-  push_by : (f : QueueForm) (c : Contents T) (used : ℕ) (v : T) (d : Contents T) → c.form ≡ f → IsSoundIn c used → HasRoom (ask.Push v) used → PushesAtOnce f c v (Ok tt) d
-      → IsSoundIn d (used + 1) × Gives (ask.Push v) (held_in c used) (held_in d (used + 1)) (reply.Push (Ok tt))
+  push_by : (f : QueueForm) (c : Contents T) (used : ℕ) (v : T) (d : Contents T) → c.form ≡ f → IsSound c used → HasRoom (ask.Push v) used → PushesAtOnce f c v (Ok tt) d
+      → IsSound d (used + 1) × Gives (ask.Push v) (held c used) (held d (used + 1)) (reply.Push (Ok tt))
   push_by Unbounded c used v d form sound room h = absurd h
   push_by (Bounded capacity) c used v d form sound room h = by_slot (capacity == 1) refl h
     where
       by_slot : (b : Bool) → (capacity == 1) ≡ b → PushesBounded b (cap_of capacity) c v (Ok tt) d
-          → IsSoundIn d (used + 1) × Gives (ask.Push v) (held_in c used) (held_in d (used + 1)) (reply.Push (Ok tt))
+          → IsSound d (used + 1) × Gives (ask.Push v) (held c used) (held d (used + 1)) (reply.Push (Ok tt))
       by_slot true e g = absurd g
       by_slot false e g = pushed_ring capacity e c used v d form sound room g.0 g.1
 
   -- a push at once does what its steps do
-  pub pushed_at_once : (c : Contents T) (used : ℕ) (v : T) (d : Contents T) → IsSoundIn c used → HasRoom (ask.Push v) used → PushesAtOnce c.form c v (Ok tt) d
-      → IsSoundIn d (used + 1) × Gives (ask.Push v) (held_in c used) (held_in d (used + 1)) (reply.Push (Ok tt))
+  pub pushed_at_once : (c : Contents T) (used : ℕ) (v : T) (d : Contents T) → IsSound c used → HasRoom (ask.Push v) used → PushesAtOnce c.form c v (Ok tt) d
+      → IsSound d (used + 1) × Gives (ask.Push v) (held c used) (held d (used + 1)) (reply.Push (Ok tt))
   pushed_at_once c used v d sound room h = push_by c.form c used v d refl sound room h
 
-  pop_by : (f : QueueForm) (c : Contents T) (used : ℕ) (v : T) (d : Contents T) → c.form ≡ f → IsSoundIn c used → PopsAtOnce f c (Some v) d
-      → IsSoundIn d used × Gives ask.Pop (held_in c used) (held_in d used) (reply.Pop (Ok v))
+  pop_by : (f : QueueForm) (c : Contents T) (used : ℕ) (v : T) (d : Contents T) → c.form ≡ f → IsSound c used → PopsAtOnce f c (Some v) d
+      → IsSound d used × Gives ask.Pop (held c used) (held d used) (reply.Pop (Ok v))
   pop_by Unbounded c used v d form sound h = absurd h
   pop_by (Bounded capacity) c used v d form sound h = by_slot (capacity == 1) refl h
     where
-      by_slot : (b : Bool) → (capacity == 1) ≡ b → PopsBounded b (cap_of capacity) c (Some v) d → IsSoundIn d used × Gives ask.Pop (held_in c used) (held_in d used) (reply.Pop (Ok v))
+      by_slot : (b : Bool) → (capacity == 1) ≡ b → PopsBounded b (cap_of capacity) c (Some v) d → IsSound d used × Gives ask.Pop (held c used) (held d used) (reply.Pop (Ok v))
       by_slot true e g = absurd g
       by_slot false e g = popped_ring capacity e c used v d form sound g.0 g.1
 
-  pub popped_at_once : (c : Contents T) (used : ℕ) (v : T) (d : Contents T) → IsSoundIn c used → PopsAtOnce c.form c (Some v) d
-      → IsSoundIn d used × Gives ask.Pop (held_in c used) (held_in d used) (reply.Pop (Ok v))
+  pub popped_at_once : (c : Contents T) (used : ℕ) (v : T) (d : Contents T) → IsSound c used → PopsAtOnce c.form c (Some v) d
+      → IsSound d used × Gives ask.Pop (held c used) (held d used) (reply.Pop (Ok v))
   popped_at_once c used v d sound h = pop_by c.form c used v d refl sound h

@@ -1,13 +1,14 @@
 -- Every step of an unbounded queue's call keeps what the queue means.
-use Rattle.std.proofs.Common.{◌≡◌, ℕ, ◌-◌, ◌/◌, ◌<◌, ◌≤◌, ⊎_elim, Option, None, Some, refl, sym, ap, ◌∙◌, subst, arith}
+use Rattle.std.proofs.Common.{◌≡◌, ℕ, ◌-◌, ◌/◌, ◌<◌, ◌≤◌, ⊎_elim, Bool, true, Option, None, Some, refl, sym, ap, ◌∙◌, subst, arith}
 use Rattle.std.proofs.lemmas.Bool.{cases_lt}
 use Rattle.concurrent_queue.specs.BlocksState.{Blocks, Sound, held, Duty, fill, take, count, retire, link, turn_tail, turn_head, start, keep, owed, with_spot}
 use Rattle.concurrent_queue.specs.BlocksCalls.{Act, push, push_return, push_look, push_make, push_first, push_more, push_swap, push_give, pop, pop_look, pop_tail, pop_swap, pop_next, pop_wait, pop_take, finished, AtTail, TailBlock, AtHead, HeadBlock, Knows, holding, owes}
 use Rattle.concurrent_queue.specs.BlocksMoves.{Moves, push_opens, push_stays, push_shut, push_shut_held, push_returns, look_none, look_none_held, look_more, look_ready, makes, makes_more, refused, refused_more, first_wins, first_loses, starts, starts_more, swap_wins, swap_wins_edge, swap_loses, turns, adds, links, puts, stores, stores_held, gives, pop_loads, pop_stays, pop_looks_none, pop_looks, pop_empty, pop_shut, pop_back, pop_goes, pop_wins, pop_wins_edge, pop_loses, next_waits, next_found, blocks, heads, wait_waits, wait_found, takes, counts, counts_last, retires, closes, closed_before, tells_closed, empty_loads, empty_tells, empty_denies, tells_full, len_loads, len_looks, len_tells, len_back, tells_capacity, Stands, BlocksKept}
-use Rattle.concurrent_queue.specs.Queue.{Queue, Phase, seen_after}
+use Rattle.concurrent_queue.specs.Queue.{Queue, Phase, trying, seen_after}
 use Rattle.concurrent_queue.proofs.BlocksKeeps as keep
 use Rattle.concurrent_queue.proofs.BlocksAsks as asks
 use Rattle.concurrent_queue.proofs.BlocksPhases as phase
+use Rattle.concurrent_queue.proofs.Refusing.{open_refuses}
 use Rattle.concurrent_queue.proofs.BlocksSteps.{by_eq, pick_here, taken_all}
 use Rattle.concurrent_queue.proofs.BlocksLater.{same_is}
 use Rattle.concurrent_queue.proofs.BlocksOthers.{same_self}
@@ -44,23 +45,23 @@ module _ {T : Type 0} (r : Blocks T) (now : Queue T) (s : Sound r now.items) (st
 
   pub blocks_keeps : {a : Act T} {r' : Blocks T} {a' : Act T} {k : QueueMark} {x : Option (Ending T)} → Moves r a r' a' k x → Knows r a u → ((d : Duty) → owes a d ≤ owed r d)
       → ((m : ℕ) → owes a (count (m / 31)) ≡ 1 → owes a (take m) ≡ 0 → owed r (count (m / 31)) ≡ 1 → owed r (take m) ≡ 0) → BlocksKept r now a u r' a' k x
-  blocks_keeps (push_opens {v = v} {h = h} {n = n} {r' = r'} e c t o) f mine dry = keep.quiet r now s st u (push v h) r' (push_look v n h) None e (λ d. refl) (keep.still r now s st u f.1.0, keep.send_goes r now s st u v f.0 f.1, (f.0, (seen_after f.1.0 now, refl), f.2, (omega arith, λ g. o)))
+  blocks_keeps (push_opens {v = v} {h = h} {n = n} {r' = r'} e c t o) f mine dry = keep.quiet r now s st u (push v h) r' (push_look v n h) None e (λ d. refl) (keep.still r now s st u f.1.0, keep.send_goes r now s st u v f.0 f.1, (f.0, ap trying (open_refuses f.1.0 now (sym st.closed ∙ c) st.capacity), f.2, (omega arith, λ g. o)))
   blocks_keeps (push_stays {v = v} {h = h} {r' = r'} e z) f mine dry = keep.quiet r now s st u (push v h) r' (push v h) None e (λ d. refl) (keep.still r now s st u f.1.0, keep.send_goes r now s st u v f.0 f.1, (f.0, (seen_after f.1.0 now, refl), f.2))
   blocks_keeps (push_shut {v = v} {r' = r'} e c) f mine dry = keep.quiet r now s st u (push v None) r' finished _ e (λ d. sym (holding_none d)) (phase.shut_answers now u.ask u.stage v f.1.0 f.0 f.1.1 (sym st.closed ∙ c), refl)
   blocks_keeps (push_shut_held {v = v} {h = h} {r' = r'} e c) f mine dry = keep.quiet r now s st u (push v (Some h)) r' (push_return v h) None e (λ d. refl) (keep.still r now s st u f.1.0, keep.send_goes r now s st u v f.0 f.1, (f.0, (seen_after f.1.0 now, refl), f.2, c))
   blocks_keeps (push_returns {v = v} {h = h} {r' = r'} e) f mine dry = keep.at-gives r now s st u (push_return v h) h _ r' e (λ d. refl) f.2 (phase.shut_answers now u.ask u.stage v f.1.0 f.0 f.1.1 (sym st.closed ∙ f.3))
-  blocks_keeps (look_none {v = v} {n = n} {r' = r'} e z) f mine dry = keep.quiet r now s st u (push_look v n None) r' (push_make v n) None e (λ d. sym (holding_none d)) (keep.still r now s st u f.1.0, keep.send_goes r now s st u v f.0 f.1, (f.0, (seen_after f.1.0 now, refl), f.3))
-  blocks_keeps (look_none_held {v = v} {n = n} {h = h} {r' = r'} e z) f mine dry = keep.quiet r now s st u (push_look v n (Some h)) r' (push_first v n h) None e (λ d. refl) (keep.still r now s st u f.1.0, keep.send_goes r now s st u v f.0 f.1, (f.0, (seen_after f.1.0 now, refl), f.2, f.3))
-  blocks_keeps (look_more {v = v} {n = n} {b = b} {r' = r'} e l q) f mine dry = keep.quiet r now s st u (push_look v n None) r' (push_more v n b) None e (λ d. sym (holding_none d)) (keep.still r now s st u f.1.0, keep.send_goes r now s st u v f.0 f.1, (f.0, (seen_after f.1.0 now, refl), f.3, shown n b f.3 l q))
-  blocks_keeps (look_ready {v = v} {n = n} {b = b} {h = h} {r' = r'} e l q) f mine dry = keep.quiet r now s st u (push_look v n h) r' (push_swap v n b h) None e (λ d. refl) (keep.still r now s st u f.1.0, keep.send_goes r now s st u v f.0 f.1, (f.0, (seen_after f.1.0 now, refl), f.2, f.3, shown n b f.3 l q))
-  blocks_keeps (makes {v = v} {n = n} {h = h} {r' = r'} e free) f mine dry = keep.at-makes r now s st u (push_make v n) (push_first v n h) h r' e free (λ d. refl) (λ d. refl) (keep.still r now s st u f.1.0, keep.send_goes r now s st u v f.0 f.1, (f.0, (seen_after f.1.0 now, refl), got h, f.2))
-  blocks_keeps (makes_more {v = v} {n = n} {b = b} {h = h} {r' = r'} e free) f mine dry = keep.at-makes r now s st u (push_more v n b) (push_swap v n b (Some h)) h r' e free (λ d. refl) (λ d. refl) (keep.still r now s st u f.1.0, keep.send_goes r now s st u v f.0 f.1, (f.0, (seen_after f.1.0 now, refl), got h, f.2, f.3))
-  blocks_keeps (refused {v = v} {n = n} {r' = r'} e) f mine dry = keep.quiet r now s st u (push_make v n) r' finished _ e (λ d. refl) (phase.refused_answers now u.ask u.stage v f.1.0 f.0 f.1.1 st.capacity, refl)
-  blocks_keeps (refused_more {v = v} {n = n} {b = b} {r' = r'} e) f mine dry = keep.quiet r now s st u (push_more v n b) r' finished _ e (λ d. refl) (phase.refused_answers now u.ask u.stage v f.1.0 f.0 f.1.1 st.capacity, refl)
+  blocks_keeps (look_none {v = v} {n = n} {r' = r'} e z) f mine dry = keep.quiet r now s st u (push_look v n None) r' (push_make v n) None e (λ d. sym (holding_none d)) (keep.still r now s st u true, keep.send_goes r now s st u v f.0 (true, f.1), (f.0, refl, f.3))
+  blocks_keeps (look_none_held {v = v} {n = n} {h = h} {r' = r'} e z) f mine dry = keep.quiet r now s st u (push_look v n (Some h)) r' (push_first v n h) None e (λ d. refl) (keep.still r now s st u true, keep.send_goes r now s st u v f.0 (true, f.1), (f.0, refl, f.2, f.3))
+  blocks_keeps (look_more {v = v} {n = n} {b = b} {r' = r'} e l q) f mine dry = keep.quiet r now s st u (push_look v n None) r' (push_more v n b) None e (λ d. sym (holding_none d)) (keep.still r now s st u true, keep.send_goes r now s st u v f.0 (true, f.1), (f.0, refl, f.3, shown n b f.3 l q))
+  blocks_keeps (look_ready {v = v} {n = n} {b = b} {h = h} {r' = r'} e l q) f mine dry = keep.quiet r now s st u (push_look v n h) r' (push_swap v n b h) None e (λ d. refl) (keep.still r now s st u true, keep.send_goes r now s st u v f.0 (true, f.1), (f.0, (true, refl), f.2, f.3, shown n b f.3 l q))
+  blocks_keeps (makes {v = v} {n = n} {h = h} {r' = r'} e free) f mine dry = keep.at-makes r now s st u (push_make v n) (push_first v n h) h r' e free (λ d. refl) (λ d. refl) (keep.still r now s st u true, keep.send_goes r now s st u v f.0 (true, f.1), (f.0, refl, got h, f.2))
+  blocks_keeps (makes_more {v = v} {n = n} {b = b} {h = h} {r' = r'} e free) f mine dry = keep.at-makes r now s st u (push_more v n b) (push_swap v n b (Some h)) h r' e free (λ d. refl) (λ d. refl) (keep.still r now s st u true, keep.send_goes r now s st u v f.0 (true, f.1), (f.0, (true, refl), got h, f.2, f.3))
+  blocks_keeps (refused {v = v} {n = n} {r' = r'} e) f mine dry = keep.quiet r now s st u (push_make v n) r' finished _ e (λ d. refl) (phase.refused_answers now u.ask u.stage v f.0 f.1 st.capacity, refl)
+  blocks_keeps (refused_more {v = v} {n = n} {b = b} {r' = r'} e) f mine dry = keep.quiet r now s st u (push_more v n b) r' finished _ e (λ d. refl) (phase.refused_answers now u.ask u.stage v f.0 f.1 st.capacity, refl)
   blocks_keeps (first_wins {v = v} {n = n} {h = h} {r' = r'} e z) f mine dry = keep.at-first_wins r now s st u v n h r' e z f
-  blocks_keeps (first_loses {v = v} {n = n} {h = h} {r' = r'} e z) f mine dry = keep.quiet r now s st u (push_first v n h) r' (push v (Some h)) None e (λ d. refl) (keep.still r now s st u f.1.0, keep.send_goes r now s st u v f.0 f.1, (f.0, (seen_after f.1.0 now, refl), f.2))
-  blocks_keeps (starts {v = v} {n = n} {b = b} {r' = r'} e) f mine dry = keep.at-starts r now s st u v n b r' (push_swap v n b None) e holding_none f (keep.still r now s st u f.1.0, keep.send_goes r now s st u v f.0 f.1, (f.0, (seen_after f.1.0 now, refl), tt, f.2, f.3))
-  blocks_keeps (starts_more {v = v} {n = n} {b = b} {r' = r'} e) f mine dry = keep.at-starts r now s st u v n b r' (push_more v n b) e (λ d. refl) f (keep.still r now s st u f.1.0, keep.send_goes r now s st u v f.0 f.1, (f.0, (seen_after f.1.0 now, refl), f.2, f.3))
+  blocks_keeps (first_loses {v = v} {n = n} {h = h} {r' = r'} e z) f mine dry = keep.quiet r now s st u (push_first v n h) r' (push v (Some h)) None e (λ d. refl) (keep.still r now s st u true, keep.send_goes r now s st u v f.0 (true, f.1), (f.0, (true, refl), f.2))
+  blocks_keeps (starts {v = v} {n = n} {b = b} {r' = r'} e) f mine dry = keep.at-starts r now s st u v n b r' (push_swap v n b None) e holding_none f (keep.still r now s st u true, keep.send_goes r now s st u v f.0 (true, f.1), (f.0, (true, refl), tt, f.2, f.3))
+  blocks_keeps (starts_more {v = v} {n = n} {b = b} {r' = r'} e) f mine dry = keep.at-starts r now s st u v n b r' (push_more v n b) e (λ d. refl) f (keep.still r now s st u true, keep.send_goes r now s st u v f.0 (true, f.1), (f.0, refl, f.2, f.3))
   blocks_keeps (swap_wins {v = v} {n = n} {b = b} {h = h} {r' = r'} e t o c ne) f mine dry = keep.at-swap_wins r now s st u v n b h r' e t o c ne f
   blocks_keeps (swap_wins_edge {v = v} {n = n} {b = b} {h = h} {r' = r'} e t o c ed) f mine dry = keep.at-swap_wins_edge r now s st u v n b h r' e t o c ed f
   blocks_keeps (swap_loses {v = v} {n = n} {b = b} {h = h} {r' = r'} e z) f mine dry = keep.quiet r now s st u (push_swap v n b h) r' (push v h) None e (λ d. refl) (keep.still r now s st u f.1.0, keep.send_goes r now s st u v f.0 f.1, (f.0, (seen_after f.1.0 now, refl), f.2))

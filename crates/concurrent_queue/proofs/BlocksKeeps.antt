@@ -375,7 +375,7 @@ module _ {T : Type 0} (r : Blocks T) (now : Queue T) (s : Sound r now.items) (st
         stands = unmarked (step.chain_keeps r now.items s h k.2 (inr (o, z, none))) refl refl refl;
         owners = first_owners v n h k.2 z f;
         others = later.later_chain r now.items s (push_first v n h) h (same_self h) (λ q. absurd (rest q)) (λ g q. q);
-        leaves = (still k.1.0, send_goes v k.0 k.1, (k.0, (seen_after k.1.0 now, refl), k.3, (omega arith, λ t. sym (pick_here (n / 31) r.last h (r.num (n / 31)) (omega (arith, k.3.0)))), f, sym (pick_here 0 r.last h (r.num 0) (omega arith))));
+        leaves = (still true, send_goes v k.0 (true, k.1), (k.0, refl, k.3, (omega arith, λ t. sym (pick_here (n / 31) r.last h (r.num (n / 31)) (omega (arith, k.3.0)))), f, sym (pick_here 0 r.last h (r.num 0) (omega arith))));
       })
 
   start_owners : (v : T) (n b : ℕ) (a' : Act T) → ((d : Duty) → owes a' d ≡ 0) → r.first ≡ 0 → 1 ≤ r.last → (d : Duty) → owes a' d + owed r d ≡ owes (push_start v n b) d + owed (record r { first = 1 }) d

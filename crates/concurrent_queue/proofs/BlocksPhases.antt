@@ -45,8 +45,8 @@ module _ {T : Type 0} where
   pub shut_answers : (q : Queue T) (a : QueueAsk T) (x : Stage T) (v : T) (seen : Bool) → IsSend a v → x ≡ trying seen → q.closed ≡ true → Ends q (ending.Closed v) a x
   shut_answers q a x v seen i f c = ⊎_elim (λ e. at_both (Ends q (ending.Closed v)) e f (refl, c)) (λ e. at_both (Ends q (ending.Closed v)) e f (refl, c)) i
 
-  pub refused_answers : (q : Queue T) (a : QueueAsk T) (x : Stage T) (v : T) (seen : Bool) → IsSend a v → x ≡ trying seen → q.capacity ≡ None → Ends q (ending.NoMemory v) a x
-  refused_answers q a x v seen i f c = ⊎_elim (λ e. at_both (Ends q (ending.NoMemory v)) e f (refl, c)) (λ e. at_both (Ends q (ending.NoMemory v)) e f (refl, c)) i
+  pub refused_answers : (q : Queue T) (a : QueueAsk T) (x : Stage T) (v : T) → IsSend a v → x ≡ trying true → q.capacity ≡ None → Ends q (ending.NoMemory v) a x
+  refused_answers q a x v i f c = ⊎_elim (λ e. at_both (Ends q (ending.NoMemory v)) e f (refl, c, refl)) (λ e. at_both (Ends q (ending.NoMemory v)) e f (refl, c, refl)) i
 
   pub took_answers : (q : Queue T) (a : QueueAsk T) (x : Stage T) (d : T) → a ≡ ask.Pop → x ≡ taken d → Ends q (ending.Replied (reply.Pop (Ok d))) a x
   took_answers q a x d e f = at_both (Ends q (ending.Replied (reply.Pop (Ok d)))) e f refl

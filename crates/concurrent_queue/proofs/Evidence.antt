@@ -1,7 +1,7 @@
 -- What is known of a call under way by how far it has come, and that its reply is one that it may give.
 use Rattle.std.proofs.Common.{◌≡◌, ℕ, zero, suc, ◌+◌, ◌<◌, ◌≤◌, Bool, true, false, List, [], ◌∷◌, ◌++◌, length, drop, Option, None, Some, Ok, Err, if◌then◌else◌, ◌==◌, ◌⊎◌, ⊎_elim, inl, inr, refl, sym, ap, ◌∙◌, subst, arith, length-append}
 use Rattle.std.proofs.lemmas.Bool.Decides.{nat_tests}
-use Rattle.concurrent_queue.specs.Queue.{Queue, Stage, trying, displaced, appended, taken, read, measured, is_filled, is_full_at, IsOpen, IsOldest, message, marked, is_displaced, seen_after, GoesPush, GoesForce, GoesPop, GoesOn, AnswersPush, AnswersForce, AnswersPop, AnswersClose, AnswersShut, AnswersEmpty, AnswersFull, AnswersLen, AnswersCapacity, AnswersTo}
+use Rattle.concurrent_queue.specs.Queue.{Queue, Stage, trying, displaced, appended, taken, read, measured, is_filled, is_full_at, IsOpen, IsOldest, message, marked, is_displaced, may_refuse_at, seen_after, GoesPush, GoesForce, GoesPop, GoesOn, AnswersPush, AnswersForce, AnswersPop, AnswersClose, AnswersShut, AnswersEmpty, AnswersFull, AnswersLen, AnswersCapacity, AnswersTo}
 use Rattle.concurrent_queue.specs.Rows.{Deed, Once, Appended, Took, Replaced, MadeRoom, Displaced, MayAnswer, IsBegun, is_empty}
 use Rattle.concurrent_queue.specs.Scene.{makes_room, has_brought, with_deed}
 use Rattle.concurrent_queue.specs.Step.{IsQuiet, HasBrought}
@@ -29,6 +29,11 @@ module _ {T : Type 0} where
   abbrev pub IsStuck : Queue T → Type 0
   IsStuck m = IsOpen m × (is_filled m ≡ true)
 
+  -- a queue of this capacity was open and might refuse
+  abbrev pub Refuses : Option ℕ → Queue T → Type 0
+  Refuses None m = IsOpen m × (m.capacity ≡ None)
+  Refuses (Some n) m = IsStuck m
+
   -- a count that a question read still says something
   abbrev pub ReadSo : Queue T → QueueAsk T → ℕ → List (Queue T) → Type 0
   ReadSo now ask.IsEmpty n seen = Once (λ m. is_empty m ≡ false) seen ⊎ (now.accepted ≤ n)
@@ -37,7 +42,7 @@ module _ {T : Type 0} where
   ReadSo now _ n seen = Unit {0}
 
   abbrev pub Evidence : Queue T → QueueAsk T → Stage T → List (Deed T) → List (Queue T) → Type 0
-  Evidence now a (trying b) ds seen = (ds ≡ []) × (b ≡ true → Once IsStuck seen)
+  Evidence now a (trying b) ds seen = (ds ≡ []) × (b ≡ true → Once (λ m. Refuses now.capacity m) seen)
   Evidence now a (displaced d) ds seen = MadeRoom ds d
   Evidence now a (appended None) ds seen = Appended ds
   Evidence now a (appended (Some d)) ds seen = Replaced ds d ⊎ Displaced ds d
@@ -83,18 +88,32 @@ module _ {T : Type 0} where
 
   -- ---- moments
 
-  pub stuck_of : (q : Queue T) (b : Bool) → q.closed ≡ b → (if b then false else is_filled q) ≡ true → IsStuck q
-  stuck_of q false e h = (e, h)
-  stuck_of q true e h = absurd cc
+  refuses_of : (q : Queue T) (cap : Option ℕ) (b : Bool) → q.capacity ≡ cap → q.closed ≡ b → (if b then false else may_refuse_at cap q.items) ≡ true → Refuses cap q
+  refuses_of q None false e f h = (f, e)
+  refuses_of q (Some n) false e f h = (f, ap (λ (x : Option ℕ). is_full_at x q.items) e ∙ h)
+  refuses_of q cap true e f h = absurd cc
 
-  pub stuck_seen : (b : Bool) (q : Queue T) (seen : List (Queue T)) → (b ≡ true → Once IsStuck seen) → seen_after b q ≡ true → Once IsStuck (q ∷ seen)
-  stuck_seen true q seen f h = inr (f refl)
-  stuck_seen false q seen f h = inl (stuck_of q q.closed refl h)
+  pub refusal_seen : (b : Bool) (q : Queue T) (seen : List (Queue T)) → (b ≡ true → Once (λ m. Refuses q.capacity m) seen) → seen_after b q ≡ true
+      → Once (λ m. Refuses q.capacity m) (q ∷ seen)
+  refusal_seen true q seen f h = inr (f refl)
+  refusal_seen false q seen f h = inl (refuses_of q q.capacity q.closed refl refl h)
 
-  open_once : (seen : List (Queue T)) → Once IsStuck seen → Once IsOpen seen
-  open_once [] h = absurd h
-  open_once (q ∷ qs) (inl h) = inl h.0
-  open_once (q ∷ qs) (inr h) = inr (open_once qs h)
+  full_once : (cap : Option ℕ) (xs : List T) (seen : List (Queue T)) → is_full_at cap xs ≡ true → Once (λ m. Refuses cap m) seen → Once IsStuck seen
+  full_once None xs seen e h = absurd cc
+  full_once (Some n) xs seen e h = h
+
+  unbounded_once : (cap : Option ℕ) (seen : List (Queue T)) → cap ≡ None → Once (λ m. Refuses cap m) seen → Once (λ m. IsOpen m × (m.capacity ≡ None)) seen
+  unbounded_once None seen e h = h
+  unbounded_once (Some n) seen e h = absurd cc
+
+  was_open : (cap : Option ℕ) (m : Queue T) → Refuses cap m → IsOpen m
+  was_open None m h = h.0
+  was_open (Some n) m h = h.0
+
+  open_once : (cap : Option ℕ) (seen : List (Queue T)) → Once (λ m. Refuses cap m) seen → Once IsOpen seen
+  open_once cap [] h = absurd h
+  open_once cap (q ∷ qs) (inl h) = inl (was_open cap q h)
+  open_once cap (q ∷ qs) (inr h) = inr (open_once cap qs h)
 
   -- ---- a step that goes on
 
@@ -123,7 +142,7 @@ module _ {T : Type 0} where
   module _ (q : Queue T) (seen : List (Queue T)) where
     goes_push : (v : T) (m : QueueMark) (s t : Stage T) (ds : List (Deed T)) → GoesPush q m s t → Evidence q (ask.Push v) s ds seen → Gone q (ask.Push v) m s t ds seen
     goes_push v Nothing (trying b) t ds g ev =
-        at_stage q _ _ _ t _ ds seen g (record { same = refl; begun = inl ev.0; evidence = (ev.0, λ e. stuck_seen b q seen ev.1 e) })
+        at_stage q _ _ _ t _ ds seen g (record { same = refl; begun = inl ev.0; evidence = (ev.0, λ e. refusal_seen b q seen ev.1 e) })
     goes_push v Nothing (appended None) t ds g ev =
         at_stage q _ _ _ t _ ds seen g (record { same = refl; begun = inr ev; evidence = ev })
     goes_push v Append (trying b) t ds g ev =
@@ -132,7 +151,7 @@ module _ {T : Type 0} where
 
     goes_force : (v : T) (m : QueueMark) (s t : Stage T) (ds : List (Deed T)) → GoesForce q m s t → Evidence q (ask.ForcePush v) s ds seen → Gone q (ask.ForcePush v) m s t ds seen
     goes_force v Nothing (trying b) t ds g ev =
-        at_stage q _ _ _ t _ ds seen g (record { same = refl; begun = inl ev.0; evidence = (ev.0, λ e. stuck_seen b q seen ev.1 e) })
+        at_stage q _ _ _ t _ ds seen g (record { same = refl; begun = inl ev.0; evidence = (ev.0, λ e. refusal_seen b q seen ev.1 e) })
     goes_force v Nothing (displaced d) t ds g ev =
         at_stage q _ _ _ t _ ds seen g (record { same = refl; begun = inr (inr (inr (inl (d, ev)))); evidence = ev })
     goes_force v Nothing (appended None) t ds g ev =
@@ -152,14 +171,14 @@ module _ {T : Type 0} where
         at_stage q _ _ _ t _ ds seen g.5 (at_deeds q _ _ _ _ ds seen ev.0
         (record { same = refl; begun = inr (inr (inl (g.0, (refl, g.2, g.3, g.1)))); evidence = inl (refl, g.2, g.3, g.1) }))
     goes_force v TakeDisplaced (trying b) t ds g ev =
-        let once = open_once (q ∷ seen) (stuck_seen b q seen ev.1 g.2) in
+        let once = open_once q.capacity (q ∷ seen) (refusal_seen b q seen ev.1 g.2) in
         at_stage q _ _ _ t _ ds seen g.5 (at_deeds q _ _ _ _ ds seen ev.0
         (record { same = refl; begun = inr (inr (inr (inl (g.0, (refl, g.3, g.4, g.1, once))))); evidence = (refl, g.3, g.4, g.1, once) }))
     goes_force v m s t ds g ev = absurd g
 
     goes_pop : (m : QueueMark) (s t : Stage T) (ds : List (Deed T)) → GoesPop q m s t → Evidence q ask.Pop s ds seen → Gone q ask.Pop m s t ds seen
     goes_pop Nothing (trying b) t ds g ev =
-        at_stage q _ _ _ t _ ds seen g (record { same = refl; begun = inl ev.0; evidence = (ev.0, λ e. stuck_seen b q seen ev.1 e) })
+        at_stage q _ _ _ t _ ds seen g (record { same = refl; begun = inl ev.0; evidence = (ev.0, λ e. refusal_seen b q seen ev.1 e) })
     goes_pop Nothing (taken v) t ds g ev =
         at_stage q _ _ _ t _ ds seen g (record { same = refl; begun = inr (v, ev); evidence = ev })
     goes_pop Take (trying b) t ds g ev =
@@ -211,9 +230,9 @@ module _ {T : Type 0} where
 
     answers_push : (v : T) (m : QueueMark) (r : QueueReply T) (s : Stage T) (ds : List (Deed T)) → AnswersPush q v m r s → Evidence q (ask.Push v) s ds seen → Given (ask.Push v) m s ds r
     answers_push v Nothing (reply.Push (Ok u)) (appended None) ds h ev = ev
-    answers_push v Nothing (reply.Push (Err (push_error.Full w))) (trying b) ds h ev = (h.0, ev.0, stuck_seen b q seen ev.1 h.2)
+    answers_push v Nothing (reply.Push (Err (push_error.Full w))) (trying b) ds h ev = (h.0, ev.0, full_once q.capacity q.items (q ∷ seen) h.1 (refusal_seen b q seen ev.1 h.2))
     answers_push v Nothing (reply.Push (Err (push_error.Closed w))) (trying b) ds h ev = (h.0, ev.0, inl h.1)
-    answers_push v Nothing (reply.Push (Err (push_error.NoMemory w))) (trying b) ds h ev = (h.0, ev.0, inl h.1)
+    answers_push v Nothing (reply.Push (Err (push_error.NoMemory w))) (trying b) ds h ev = (h.0, ev.0, unbounded_once q.capacity (q ∷ seen) h.1 (refusal_seen b q seen ev.1 h.2))
     answers_push v m r s ds h ev = absurd h
 
     answers_force : (v : T) (m : QueueMark) (r : QueueReply T) (s : Stage T) (ds : List (Deed T)) → AnswersForce q v m r s → Evidence q (ask.ForcePush v) s ds seen → Given (ask.ForcePush v) m s ds r
@@ -223,7 +242,7 @@ module _ {T : Type 0} where
     answers_force v Nothing (reply.Force (Ok (Some w))) (appended (Some d)) ds h ev =
         let same : d ≡ w = cc in subst (λ (x : T). Replaced ds x ⊎ Displaced ds x) same ev
     answers_force v Nothing (reply.Force (Err (force_error.Closed w))) (trying b) ds h ev = (h.0, ev.0, inl h.1)
-    answers_force v Nothing (reply.Force (Err (force_error.NoMemory w))) (trying b) ds h ev = (h.0, ev.0, inl h.1)
+    answers_force v Nothing (reply.Force (Err (force_error.NoMemory w))) (trying b) ds h ev = (h.0, ev.0, unbounded_once q.capacity (q ∷ seen) h.1 (refusal_seen b q seen ev.1 h.2))
     answers_force v m r s ds h ev = absurd h
 
     answers_pop : (m : QueueMark) (r : QueueReply T) (s : Stage T) (ds : List (Deed T)) → AnswersPop q m r s → Evidence q ask.Pop s ds seen → Given ask.Pop m s ds r
@@ -340,7 +359,7 @@ module _ {T : Type 0} where
     keeps_read ask.Capacity n seen h = tt
 
     pub evidence_keeps : (a : QueueAsk T) (s : Stage T) (ds : List (Deed T)) (seen : List (Queue T)) → Evidence q a s ds seen → Evidence (marked k b m q) a s ds (marked k b m q ∷ seen)
-    evidence_keeps a (trying c) ds seen ev = (ev.0, λ e. inr (ev.1 e))
+    evidence_keeps a (trying c) ds seen ev = (ev.0, λ e. inr (subst (λ (cap : Option ℕ). Once (λ x. Refuses cap x) seen) (sym (same_limit q k b m)) (ev.1 e)))
     evidence_keeps a (displaced d) ds seen ev = ev
     evidence_keeps a (appended None) ds seen ev = ev
     evidence_keeps a (appended (Some d)) ds seen ev = ev

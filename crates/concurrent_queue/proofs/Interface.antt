@@ -1,7 +1,7 @@
 -- What a layer above may use of the queue: what cells show, how far an end is, and what a lone call did.
 use Rattle.std.proofs.Common.{◌≡◌, ℕ, zero, suc, ◌+◌, ◌<◌, ◌≤◌, ◌==◌, Bool, true, false, not, List, [], ◌∷◌, ◌++◌, length, None, Some, Ok, Err, refl, sym, ap, ◌∙◌, subst, arith}
 use Rattle.concurrent_queue.specs.Contents.{Contents}
-use Rattle.concurrent_queue.specs.Queue.{Queue, Stage, trying, displaced, appended, taken, read, measured, Phase, asked, is_filled, is_stuck, IsOpen, IsShut, IsOldest, marked, after, is_displaced, seen_after, GoesPush, GoesForce, GoesPop, GoesOn, Goes, AnswersPush, AnswersForce, AnswersPop, AnswersTo, Answers}
+use Rattle.concurrent_queue.specs.Queue.{Queue, Stage, trying, displaced, appended, taken, read, measured, Phase, asked, is_filled, IsOpen, IsShut, IsOldest, marked, after, is_displaced, GoesPush, GoesForce, GoesPop, GoesOn, Goes, AnswersPush, AnswersForce, AnswersPop, AnswersTo, Answers}
 use Rattle.concurrent_queue.specs.Step.{Seat, seat, Fits, phases, rank, Shows}
 use Rattle.concurrent_queue.specs.declared.call.QueueAsk.{QueueAsk}
 use Rattle.concurrent_queue.specs.declared.call.QueueAsk.TheVariants as ask
@@ -13,7 +13,7 @@ use Rattle.concurrent_queue.specs.declared.error.PushError.TheVariants as push_e
 use Rattle.concurrent_queue.specs.declared.error.ForcePushError.TheVariants as force_error
 use Rattle.concurrent_queue.specs.declared.error.PopError.TheVariants as pop_error
 use Rattle.concurrent_queue.specs.declared.queue_call.QueueCall.{QueueCall}
-use Rattle.concurrent_queue.proofs.AloneFacts.{So, so_goes, ends}
+use Rattle.concurrent_queue.proofs.AloneFacts.{So, open_from, filled_at, so_goes, ends}
 use Rattle.concurrent_queue.proofs.Balance.{IsBalanced, fair_goes, balance}
 use Rattle.concurrent_queue.proofs.FitsFacts as fits_facts
 
@@ -56,11 +56,11 @@ module _ {T : Type 0} where
   Finds (ask.Push v) q (reply.Push (Ok u)) = IsOpen q × (is_filled q ≡ false)
   Finds (ask.Push v) q (reply.Push (Err (push_error.Full w))) = IsOpen q × (is_filled q ≡ true) × (w ≡ v)
   Finds (ask.Push v) q (reply.Push (Err (push_error.Closed w))) = IsShut q × (w ≡ v)
-  Finds (ask.Push v) q (reply.Push (Err (push_error.NoMemory w))) = (q.capacity ≡ None) × (w ≡ v)
+  Finds (ask.Push v) q (reply.Push (Err (push_error.NoMemory w))) = IsOpen q × (q.capacity ≡ None) × (w ≡ v)
   Finds (ask.ForcePush v) q (reply.Force (Ok None)) = IsOpen q × (is_filled q ≡ false)
   Finds (ask.ForcePush v) q (reply.Force (Ok (Some d))) = IsOpen q × (is_filled q ≡ true) × IsOldest d q
   Finds (ask.ForcePush v) q (reply.Force (Err (force_error.Closed w))) = IsShut q × (w ≡ v)
-  Finds (ask.ForcePush v) q (reply.Force (Err (force_error.NoMemory w))) = (q.capacity ≡ None) × (w ≡ v)
+  Finds (ask.ForcePush v) q (reply.Force (Err (force_error.NoMemory w))) = IsOpen q × (q.capacity ≡ None) × (w ≡ v)
   Finds ask.Pop q (reply.Pop (Ok v)) = IsOldest v q
   Finds ask.Pop q (reply.Pop (Err pop_error.Empty)) = IsOpen q × (q.items ≡ [])
   Finds ask.Pop q (reply.Pop (Err pop_error.Closed)) = IsShut q × (q.items ≡ [])
@@ -132,23 +132,13 @@ module _ {T : Type 0} where
 
     -- ---- the answer
 
-    open_at : (b : Bool) → q0.closed ≡ b → is_stuck q0 ≡ true → IsOpen q0 × (is_filled q0 ≡ true)
-    open_at false e h = (e, sym (rw e refl) ∙ h)
-    open_at true e h = absurd (let no : false ≡ true = sym (rw e refl) ∙ h in cc)
-
-    was_stuck : is_stuck q0 ≡ true → IsOpen q0 × (is_filled q0 ≡ true)
-    was_stuck h = open_at q0.closed refl h
-
-    seen_stuck : (b : Bool) (q : Queue T) → So q0 ask.Pop (trying b) q → seen_after b q ≡ true → IsOpen q0 × (is_filled q0 ≡ true)
-    seen_stuck true q so h = was_stuck (so.1 refl)
-    seen_stuck false q so h = was_stuck (subst (λ (x : Queue T). is_stuck x ≡ true) so.0 h)
-
     push_leaves : (q : Queue T) (v : T) (m : QueueMark) (x : QueueReply T) (s : Stage T) → AnswersPush q v m x s → So q0 (ask.Push v) s q → Leaves (ask.Push v) q0 x (marked (ask.Push v) (is_displaced s) m q)
     push_leaves q v Nothing (reply.Push (Ok u)) (appended None) h so = ((so.0, so.1), so.2)
     push_leaves q v Nothing (reply.Push (Err (push_error.Full w))) (trying b) h so =
-        let k = seen_stuck b q so h.2 in ((k.0, k.1, h.0), so.0)
+        ((open_from b q q0 so.0 so.1 h.2, filled_at q q0 so.0 h.1, h.0), so.0)
     push_leaves q v Nothing (reply.Push (Err (push_error.Closed w))) (trying b) h so = ((subst (λ (p : Queue T). IsShut p) so.0 h.1, h.0), so.0)
-    push_leaves q v Nothing (reply.Push (Err (push_error.NoMemory w))) (trying b) h so = ((subst (λ (p : Queue T). p.capacity ≡ None) so.0 h.1, h.0), so.0)
+    push_leaves q v Nothing (reply.Push (Err (push_error.NoMemory w))) (trying b) h so =
+        ((open_from b q q0 so.0 so.1 h.2, subst (λ (p : Queue T). p.capacity ≡ None) so.0 h.1, h.0), so.0)
     push_leaves q v m x s h so = absurd h
 
     force_leaves : (q : Queue T) (v : T) (m : QueueMark) (x : QueueReply T) (s : Stage T) → AnswersForce q v m x s → So q0 (ask.ForcePush v) s q → InPlace s (ask.ForcePush v) q → Leaves (ask.ForcePush v) q0 x (marked (ask.ForcePush v) (is_displaced s) m q)
@@ -156,9 +146,10 @@ module _ {T : Type 0} where
     force_leaves q v Nothing (reply.Force (Ok None)) (appended (Some d)) h so p = absurd cc
     force_leaves q v Nothing (reply.Force (Ok (Some w))) (appended None) h so p = absurd cc
     force_leaves q v Nothing (reply.Force (Ok (Some w))) (appended (Some d)) h so p =
-        let same : d ≡ w = cc in let k = was_stuck so.1 in ((k.0, k.1, subst (λ (x : T). IsOldest x q0) same so.0), p)
+        let same : d ≡ w = cc in ((so.1.0, so.1.1, subst (λ (x : T). IsOldest x q0) same so.0), p)
     force_leaves q v Nothing (reply.Force (Err (force_error.Closed w))) (trying b) h so p = ((subst (λ (x : Queue T). IsShut x) so.0 h.1, h.0), so.0)
-    force_leaves q v Nothing (reply.Force (Err (force_error.NoMemory w))) (trying b) h so p = ((subst (λ (x : Queue T). x.capacity ≡ None) so.0 h.1, h.0), so.0)
+    force_leaves q v Nothing (reply.Force (Err (force_error.NoMemory w))) (trying b) h so p =
+        ((open_from b q q0 so.0 so.1 h.2, subst (λ (x : Queue T). x.capacity ≡ None) so.0 h.1, h.0), so.0)
     force_leaves q v m x s h so p = absurd h
 
     pop_leaves : (q : Queue T) (m : QueueMark) (x : QueueReply T) (s : Stage T) → AnswersPop q m x s → So q0 ask.Pop s q → Leaves ask.Pop q0 x (marked ask.Pop (is_displaced s) m q)

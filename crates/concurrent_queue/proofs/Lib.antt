@@ -1,3 +1,4 @@
+pub mod Refusing
 mod BlocksBasics
 mod BlocksSteps
 mod BlocksOthers
@@ -50,3 +51,6 @@ pub mod RingMade
 pub mod AloneFacts
 pub mod AtOnce
 pub mod Interface
+pub mod Guards
+mod ReplyFacts
+mod AheadFacts

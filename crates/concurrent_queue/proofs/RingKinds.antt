@@ -10,6 +10,7 @@ use Rattle.concurrent_queue.specs.RingState.{SlotState, Ring, Sound, IsShown, bu
 use Rattle.concurrent_queue.specs.RingCalls.{Duty, hold, bring, IsDuty, held, holds, brings, owes, owed, Knows}
 use Rattle.concurrent_queue.specs.RingMeans.{Later, Kept}
 use Rattle.concurrent_queue.proofs.RingPlaces.{turn-index}
+use Rattle.concurrent_queue.proofs.Refusing.{full_refuses}
 use Rattle.concurrent_queue.proofs.RingSound as sound
 use Rattle.concurrent_queue.proofs.RingSound.{get_before, get_end, get_below, by_bool, by_eq, if_false, if_true}
 use Rattle.concurrent_queue.proofs.RingLater.{eq_self}
@@ -69,7 +70,7 @@ module _ {T : Type 0} (cap : ℕ) (some : 0 < cap) (r : Ring T) (q : Queue T) (s
   saw_full true o = inl refl
   saw_full false o = ⊎_elim (λ h. inr h)
       (λ h. let m = s.room in
-      let f = filled (omega arith) in
+      let f = full_refuses q.capacity q.items (filled (omega arith)) in
       let g : q.closed ≡ false = w.closed ∙ o in
       inl (rw g f)) (cases_lt r.tail (r.head + cap))
 

@@ -1,7 +1,7 @@
 -- A closable list of one owner, whose calls are made one at a time.
 use Rattle.std.specs.Prelude.{◌≡◌, ℕ, ◌+◌, ◌≤◌, ◌^◌, ◌⊎◌, Bool, true, false, not, List, [], ◌∷◌, ◌++◌, length, Option, None, Some, Result, Ok, Err, ◌==◌, if◌then◌else◌}
 use Rattle.concurrent_queue.specs.Dispatch.{capacity_of}
-use Rattle.concurrent_queue.specs.Plain.{contents_of}
+use Rattle.concurrent_queue.specs.Contents.{Contents}
 use Rattle.concurrent_queue.specs.Queue.{Queue, is_full_at}
 use Rattle.concurrent_queue.specs.Step.{Fits, items_in, closed_in}
 use Rattle.concurrent_queue.specs.declared.call.QueueAsk.{QueueAsk}
@@ -14,7 +14,6 @@ use Rattle.concurrent_queue.specs.declared.error.ForcePushError.{ForcePushError}
 use Rattle.concurrent_queue.specs.declared.error.ForcePushError.TheVariants as force_error
 use Rattle.concurrent_queue.specs.declared.error.PopError.{PopError}
 use Rattle.concurrent_queue.specs.declared.error.PopError.TheVariants as pop_error
-use Rattle.concurrent_queue.specs.declared.plain.PlainCells.{PlainCells}
 
 -- what a queue of one owner holds: its messages, oldest first, whether it is closed, how many fit, and how many of its
 -- positions are used up, one by each message accepted. A queue of one slot has no positions and uses none
@@ -67,14 +66,14 @@ module _ {T : Type 0} where
   PushGives m v n (Ok u) = TakesMore m × (is_full m ≡ false) × (n ≡ accepting m (m.items ++ v ∷ []))
   PushGives m v n (Err (push_error.Full w)) = TakesMore m × (is_full m ≡ true) × (w ≡ v) × (n ≡ m)
   PushGives m v n (Err (push_error.Closed w)) = IsAtEnd m × (w ≡ v) × (n ≡ shut m)
-  PushGives m v n (Err (push_error.NoMemory w)) = (m.capacity ≡ None) × (w ≡ v) × (n ≡ m)
+  PushGives m v n (Err (push_error.NoMemory w)) = TakesMore m × (m.capacity ≡ None) × (w ≡ v) × (n ≡ m)
 
   abbrev pub ForceGives : Held T → T → Held T → Result (Option T) (ForcePushError T) → Type 0
   ForceGives m v n (Ok None) = TakesMore m × (is_full m ≡ false) × (n ≡ accepting m (m.items ++ v ∷ []))
   ForceGives m v n (Ok (Some d)) =
       (rest : List T) × TakesMore m × (is_full m ≡ true) × (m.items ≡ d ∷ rest) × (n ≡ accepting m (rest ++ v ∷ []))
   ForceGives m v n (Err (force_error.Closed w)) = IsAtEnd m × (w ≡ v) × (n ≡ shut m)
-  ForceGives m v n (Err (force_error.NoMemory w)) = (m.capacity ≡ None) × (w ≡ v) × (n ≡ m)
+  ForceGives m v n (Err (force_error.NoMemory w)) = TakesMore m × (m.capacity ≡ None) × (w ≡ v) × (n ≡ m)
 
   abbrev pub PopGives : Held T → Held T → Result T PopError → Type 0
   PopGives m n (Ok v) = (m.items ≡ v ∷ n.items) × (n ≡ with_items m n.items)
@@ -104,19 +103,12 @@ module _ {T : Type 0} where
   used_after capacity used r = if is_accepted r then one_more capacity used else used
 
   -- what cells hold while no call is under way
-  abbrev pub held : PlainCells T → ℕ → Held T
-  held cells used =
-      record {
-        items = items_in (contents_of cells);
-        closed = closed_in (contents_of cells);
-        capacity = capacity_of (contents_of cells).form;
-        used = used;
-      }
+  abbrev pub held : Contents T → ℕ → Held T
+  held c used = record { items = items_in c; closed = closed_in c; capacity = capacity_of c.form; used = used }
 
   -- no call is under way, and the cells mean a queue that has used up so many positions, within their end
-  abbrev pub IsSound : PlainCells T → ℕ → Type 0
-  IsSound cells used =
-      (q : Queue T) × Fits (contents_of cells) q [] × (used ≡ used_of q.capacity q.accepted) × (used ≤ 2 ^ 61)
+  abbrev pub IsSound : Contents T → ℕ → Type 0
+  IsSound c used = (q : Queue T) × Fits c q [] × (used ≡ used_of q.capacity q.accepted) × (used ≤ 2 ^ 61)
 
   -- there is a position for the message of a call that brings one
   abbrev pub HasRoom : QueueAsk T → ℕ → Type 0

@@ -76,6 +76,10 @@ IsSend a v = (a ≡ ask.Push v) ⊎ (a ≡ ask.ForcePush v)
 abbrev pub IsTry : {T : Type 0} → Phase T → Type 0
 IsTry p = (seen : Bool) × (p.stage ≡ trying seen)
 
+-- one that found the queue open
+abbrev pub HasFoundOpen : {T : Type 0} → Phase T → Type 0
+HasFoundOpen p = p.stage ≡ trying true
+
 -- the n-th item is v, and its cell isn't written yet and holds this
 abbrev pub Fills : {T : Type 0} → Blocks T → Phase T → T → ℕ → ℕ → Option T → Type 0
 Fills r p v n b x = IsSend p.ask v × (p.stage ≡ appended None) × (slice_get r.all n ≡ Some v) × (n < r.tail) × IsBlockOf r n b × ((r.cell n).written ≡ false) × ((r.cell n).slot ≡ x)
@@ -87,11 +91,11 @@ Takes r p n b d = (p.ask ≡ ask.Pop) × (p.stage ≡ taken d) × (slice_get r.a
 abbrev pub Knows : {T : Type 0} → Blocks T → Act T → Phase T → Type 0
 Knows r (push v h) p = IsSend p.ask v × IsTry p × Holds r h
 Knows r (push_return v h) p = IsSend p.ask v × IsTry p × (r.spot h ≡ held) × (r.closed ≡ true)
-Knows r (push_look v n h) p = IsSend p.ask v × IsTry p × Holds r h × AtTail r n
-Knows r (push_make v n) p = IsSend p.ask v × IsTry p × AtTail r n
-Knows r (push_first v n h) p = IsSend p.ask v × IsTry p × (r.spot h ≡ held) × AtTail r n
-Knows r (push_start v n b) p = IsSend p.ask v × IsTry p × AtTail r n × TailBlock r n b × (r.first ≡ 0) × (b ≡ r.num 0)
-Knows r (push_more v n b) p = IsSend p.ask v × IsTry p × AtTail r n × TailBlock r n b
+Knows r (push_look v n h) p = IsSend p.ask v × HasFoundOpen p × Holds r h × AtTail r n
+Knows r (push_make v n) p = IsSend p.ask v × HasFoundOpen p × AtTail r n
+Knows r (push_first v n h) p = IsSend p.ask v × HasFoundOpen p × (r.spot h ≡ held) × AtTail r n
+Knows r (push_start v n b) p = IsSend p.ask v × HasFoundOpen p × AtTail r n × TailBlock r n b × (r.first ≡ 0) × (b ≡ r.num 0)
+Knows r (push_more v n b) p = IsSend p.ask v × HasFoundOpen p × AtTail r n × TailBlock r n b
 Knows r (push_swap v n b h) p = IsSend p.ask v × IsTry p × Holds r h × AtTail r n × TailBlock r n b
 Knows r (push_turn v n b h) p = Fills r p v n b None × (r.spot h ≡ held) × (n % 31 ≡ 30) × (r.tail ≡ n + 1) × (r.tail_turns ≡ true) × (r.last ≡ n / 31 + 1)
 Knows r (push_add v n b h) p = Fills r p v n b None × (n % 31 ≡ 30) × (r.tail ≡ n + 1) × (r.tail_turns ≡ true) × (r.last ≡ n / 31 + 2) × (h ≡ r.num (n / 31 + 1))

@@ -33,3 +33,8 @@ pub mod Made
 pub mod Errors
 pub mod Alone
 pub mod Walk
+pub mod Guarded
+pub mod Turns
+pub mod Replies
+pub mod SharedQueue
+pub mod Ahead

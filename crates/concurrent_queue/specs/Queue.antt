@@ -22,8 +22,9 @@ pub record Queue (T : Type 0) : Type 0 where
   pub capacity : Option ℕ
 
 -- how far a call has come. `trying seen`: it has no mark, and `seen` says whether at a step of its own the queue was open
--- and full; `displaced d`: it took d out, and its own message is on its way; `appended o`: its message is in, in place of
--- o; `taken v`: it took v; `read n`: a question that read a count; `measured n k`: one that read a count and then a length
+-- and might refuse a message; `displaced d`: it took d out, and its own message is on its way; `appended o`: its message is
+-- in, in place of o; `taken v`: it took v; `read n`: a question that read a count; `measured n k`: one that read a count and
+-- then a length
 pub data Stage (T : Type 0) : Type 0 where
   trying : Bool → Stage T
   displaced : T → Stage T
@@ -56,9 +57,14 @@ module _ {T : Type 0} where
   abbrev pub IsDrained : Queue T → Type 0
   IsDrained q = (q.items ≡ []) × (q.coming ≡ false)
 
-  -- open and full, at this moment
-  abbrev pub is_stuck : Queue T → Bool
-  is_stuck q = if q.closed then false else is_filled q
+  -- what might keep a message out of an open queue: one with a bound is full, one without lacks memory
+  abbrev pub may_refuse_at : Option ℕ → List T → Bool
+  may_refuse_at None items = true
+  may_refuse_at (Some cap) items = length items == cap
+
+  -- open, and may refuse a message, at this moment
+  abbrev pub may_refuse : Queue T → Bool
+  may_refuse q = if q.closed then false else may_refuse_at q.capacity q.items
 
   -- v is the oldest message
   abbrev pub IsOldest : T → Queue T → Type 0
@@ -103,9 +109,9 @@ module _ {T : Type 0} where
   abbrev pub after : Phase T → QueueMark → Queue T → Queue T
   after p mark q = marked p.ask (is_displaced p.stage) mark q
 
-  -- whether a try has found the queue open and full, with a step here
+  -- whether a try has found the queue open and one that may refuse, with a step here
   abbrev pub seen_after : Bool → Queue T → Bool
-  seen_after seen q = if seen then true else is_stuck q
+  seen_after seen q = if seen then true else may_refuse q
 
   -- ---- a step that does not end its call: over the queue q, by this mark, from one stage to the next
 
@@ -165,19 +171,20 @@ module _ {T : Type 0} where
   abbrev pub Goes : Queue T → Phase T → QueueMark → Phase T → Type 0
   Goes q p m p' = (p'.ask ≡ p.ask) × GoesOn q p.ask m p.stage p'.stage
 
-  -- ---- a step that ends its call: what a refusal says holds at this very step
+  -- ---- a step that ends its call: what a refusal says holds at this very step. That the queue was open where it was found
+  -- full, or where memory was refused, was so at a step of the call's own: another may have closed it since
 
   abbrev pub AnswersPush : Queue T → T → QueueMark → QueueReply T → Stage T → Type 0
   AnswersPush q v Nothing (reply.Push (Ok u)) (appended None) = Unit {0}
   AnswersPush q v Nothing (reply.Push (Err (push_error.Full w))) (trying seen) = (w ≡ v) × (is_filled q ≡ true) × (seen_after seen q ≡ true)
   AnswersPush q v Nothing (reply.Push (Err (push_error.Closed w))) (trying seen) = (w ≡ v) × IsShut q
-  AnswersPush q v Nothing (reply.Push (Err (push_error.NoMemory w))) (trying seen) = (w ≡ v) × (q.capacity ≡ None)
+  AnswersPush q v Nothing (reply.Push (Err (push_error.NoMemory w))) (trying seen) = (w ≡ v) × (q.capacity ≡ None) × (seen_after seen q ≡ true)
   AnswersPush q v _ _ _ = ⊥
 
   abbrev pub AnswersForce : Queue T → T → QueueMark → QueueReply T → Stage T → Type 0
   AnswersForce q v Nothing (reply.Force (Ok d)) (appended o) = d ≡ o
   AnswersForce q v Nothing (reply.Force (Err (force_error.Closed w))) (trying seen) = (w ≡ v) × IsShut q
-  AnswersForce q v Nothing (reply.Force (Err (force_error.NoMemory w))) (trying seen) = (w ≡ v) × (q.capacity ≡ None)
+  AnswersForce q v Nothing (reply.Force (Err (force_error.NoMemory w))) (trying seen) = (w ≡ v) × (q.capacity ≡ None) × (seen_after seen q ≡ true)
   AnswersForce q v _ _ _ = ⊥
 
   abbrev pub AnswersPop : Queue T → QueueMark → QueueReply T → Stage T → Type 0

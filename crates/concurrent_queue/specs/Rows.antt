@@ -55,14 +55,14 @@ module _ {T : Type 0} where
   PushAnswer v deeds seen (reply.Push (Ok u)) = Appended deeds
   PushAnswer v deeds seen (reply.Push (Err (push_error.Full w))) = (w ≡ v) × (deeds ≡ []) × Once (λ m. IsOpen m × (is_filled m ≡ true)) seen
   PushAnswer v deeds seen (reply.Push (Err (push_error.Closed w))) = (w ≡ v) × (deeds ≡ []) × Once IsShut seen
-  PushAnswer v deeds seen (reply.Push (Err (push_error.NoMemory w))) = (w ≡ v) × (deeds ≡ []) × Once (λ m. m.capacity ≡ None) seen
+  PushAnswer v deeds seen (reply.Push (Err (push_error.NoMemory w))) = (w ≡ v) × (deeds ≡ []) × Once (λ m. IsOpen m × (m.capacity ≡ None)) seen
   PushAnswer v deeds seen _ = ⊥
 
   abbrev pub ForceAnswer : T → List (Deed T) → List (Queue T) → QueueReply T → Type 0
   ForceAnswer v deeds seen (reply.Force (Ok None)) = Appended deeds
   ForceAnswer v deeds seen (reply.Force (Ok (Some d))) = Replaced deeds d ⊎ Displaced deeds d
   ForceAnswer v deeds seen (reply.Force (Err (force_error.Closed w))) = (w ≡ v) × (deeds ≡ []) × Once IsShut seen
-  ForceAnswer v deeds seen (reply.Force (Err (force_error.NoMemory w))) = (w ≡ v) × (deeds ≡ []) × Once (λ m. m.capacity ≡ None) seen
+  ForceAnswer v deeds seen (reply.Force (Err (force_error.NoMemory w))) = (w ≡ v) × (deeds ≡ []) × Once (λ m. IsOpen m × (m.capacity ≡ None)) seen
   ForceAnswer v deeds seen _ = ⊥
 
   abbrev pub PopAnswer : List (Deed T) → List (Queue T) → QueueReply T → Type 0

@@ -13,7 +13,9 @@
 ghost use Rattle.std.specs.Prelude.{◌≡◌, ◌<◌, ◌^◌, ◌*◌, ◌+◌, ◌-◌, ◌%◌, None, Some, if◌then◌else◌};
 ghost use Rattle.concurrent_queue.specs.RingWords.{cap_of, ring_mark, index, is_marked, unmarked, stride, next_word, count_of, between, shut_reply, pushed_reply, behind, stays, marks, finishes, push_load, push_shut, push_look, push_swap, push_put, push_store, push_head, force_head, force_add, force_take, force_put, force_store, pop_load, pop_look, pop_swap, pop_tail, pop_take, pop_store, close_step, ring_start, ask_is_closed, empty_load, empty_look, full_load, full_look, len_load, len_look, len_again, ring_step};
 ghost use Rattle.concurrent_queue.specs.Dispatch.{IsRingStep, ring_cap};
+ghost use Rattle.concurrent_queue.specs.Replies.{RingFollows, MaySend};
 
+pub(crate) mod ahead;
 pub(crate) mod at_once;
 
 use crate::call::{QueueAsk, QueueMark, QueueReply, Stepped};
@@ -231,7 +233,8 @@ fn closed_by<T>(reply: QueueReply<T>, mark: QueueMark) -> Stepped<RingAction<T>,
 
 /// The answer of a push to a closed queue.
 fn refused<T>(when_full: WhenFull, value: T) -> QueueReply<T>
-    ensures { result ≡ shut_reply when_full value }
+    ensures reply { result ≡ shut_reply when_full value }
+    ensures back { MaySend when_full value result }
 {
     match when_full {
         WhenFull::Refuse => QueueReply::Push(Err(PushError::Closed(value))),
@@ -241,7 +244,8 @@ fn refused<T>(when_full: WhenFull, value: T) -> QueueReply<T>
 
 /// The answer of a push that displaced nothing.
 fn accepted<T>(when_full: WhenFull) -> QueueReply<T>
-    ensures { result ≡ pushed_reply when_full }
+    ensures reply { result ≡ pushed_reply when_full }
+    ensures sent { (v : T) → MaySend when_full v result }
 {
     match when_full {
         WhenFull::Refuse => QueueReply::Push(Ok(())),
@@ -256,7 +260,8 @@ fn push_load<T: Drop, C: Cells<T>>(
     value: T,
     cells: &mut C,
 ) -> Stepped<RingAction<T>, T>
-    ensures { C.known → (C.contents cells.new, result) ≡ push_load shape.cap shape.mark (C.contents cells.old) when_full value }
+    ensures steps { C.known → (C.contents cells.new, result) ≡ push_load shape.cap shape.mark (C.contents cells.old) when_full value }
+    ensures answers { RingFollows (RingAction.Push when_full value) result }
 {
     let tail = cells.load(Word::Tail);
     if shape.is_marked(tail) {
@@ -276,7 +281,8 @@ fn push_shut<T: Drop, C: Cells<T>>(
     value: T,
     cells: &mut C,
 ) -> Stepped<RingAction<T>, T>
-    ensures { C.known → (C.contents cells.new, result) ≡ push_shut shape.cap shape.mark (C.contents cells.old) when_full value }
+    ensures steps { C.known → (C.contents cells.new, result) ≡ push_shut shape.cap shape.mark (C.contents cells.old) when_full value }
+    ensures answers { RingFollows (RingAction.PushShut when_full value) result }
 {
     let tail = cells.fetch_or(Word::Tail, shape.mark);
     let reply = refused(when_full, value);
@@ -295,7 +301,8 @@ fn push_look<T: Drop, C: Cells<T>>(
     tail: u64,
     cells: &mut C,
 ) -> Stepped<RingAction<T>, T>
-    ensures { C.known → (C.contents cells.new, result) ≡ push_look shape.cap shape.mark (C.contents cells.old) when_full value tail }
+    ensures steps { C.known → (C.contents cells.new, result) ≡ push_look shape.cap shape.mark (C.contents cells.old) when_full value tail }
+    ensures answers { RingFollows (RingAction.PushStamp when_full value tail) result }
 {
     let stamp = cells.load(shape.stamp(tail));
     if stamp == tail {
@@ -320,7 +327,8 @@ fn push_swap<T: Drop, C: Cells<T>>(
     tail: u64,
     cells: &mut C,
 ) -> Stepped<RingAction<T>, T>
-    ensures { C.known → (C.contents cells.new, result) ≡ push_swap shape.cap shape.mark (C.contents cells.old) when_full value tail }
+    ensures steps { C.known → (C.contents cells.new, result) ≡ push_swap shape.cap shape.mark (C.contents cells.old) when_full value tail }
+    ensures answers { RingFollows (RingAction.PushSwap when_full value tail) result }
 {
     match cells.compare_exchange(Word::Tail, tail, shape.next(tail)) {
         Ok(_) => did(
@@ -338,7 +346,8 @@ fn push_put<T: Drop, C: Cells<T>>(
     tail: u64,
     cells: &mut C,
 ) -> Stepped<RingAction<T>, T>
-    ensures { C.known → (C.contents cells.new, result) ≡ push_put shape.cap shape.mark (C.contents cells.old) when_full value tail }
+    ensures steps { C.known → (C.contents cells.new, result) ≡ push_put shape.cap shape.mark (C.contents cells.old) when_full value tail }
+    ensures answers { RingFollows (RingAction.PushPut when_full value tail) result }
 {
     match cells.put(Slot::At(shape.index(tail)), value) {
         Ok(()) => stay(RingAction::PushStore(when_full, tail)),
@@ -352,7 +361,8 @@ fn push_store<T: Drop, C: Cells<T>>(
     tail: u64,
     cells: &mut C,
 ) -> Stepped<RingAction<T>, T>
-    ensures { C.known → (C.contents cells.new, result) ≡ push_store shape.cap shape.mark (C.contents cells.old) when_full tail }
+    ensures steps { C.known → (C.contents cells.new, result) ≡ push_store shape.cap shape.mark (C.contents cells.old) when_full tail }
+    ensures answers { RingFollows (RingAction.PushStore when_full tail) result }
 {
     cells.store(shape.stamp(tail), tail.wrapping_add(1));
     finish(accepted(when_full))
@@ -360,7 +370,8 @@ fn push_store<T: Drop, C: Cells<T>>(
 
 /// The queue is full where the message of the lap before is the oldest.
 fn push_head<T: Drop, C: Cells<T>>(value: T, head: u64, cells: &mut C) -> Stepped<RingAction<T>, T>
-    ensures { C.known → (C.contents cells.new, result) ≡ push_head (C.contents cells.old) value head }
+    ensures steps { C.known → (C.contents cells.new, result) ≡ push_head (C.contents cells.old) value head }
+    ensures answers { RingFollows (RingAction.PushHead value head) result }
 {
     if cells.load(Word::Head) == head {
         finish(QueueReply::Push(Err(PushError::Full(value))))
@@ -377,7 +388,8 @@ fn force_head<T: Drop, C: Cells<T>>(
     head: u64,
     cells: &mut C,
 ) -> Stepped<RingAction<T>, T>
-    ensures { C.known → (C.contents cells.new, result) ≡ force_head shape.cap shape.mark (C.contents cells.old) value head }
+    ensures steps { C.known → (C.contents cells.new, result) ≡ force_head shape.cap shape.mark (C.contents cells.old) value head }
+    ensures answers { RingFollows (RingAction.ForceHead value head) result }
 {
     match cells.compare_exchange(Word::Head, head, shape.next(head)) {
         Ok(_) => did(RingAction::ForceAdd(value, head), QueueMark::TakeDisplaced),
@@ -392,7 +404,8 @@ fn force_add<T: Drop, C: Cells<T>>(
     head: u64,
     cells: &mut C,
 ) -> Stepped<RingAction<T>, T>
-    ensures { C.known → (C.contents cells.new, result) ≡ force_add shape.cap shape.mark (C.contents cells.old) value head }
+    ensures steps { C.known → (C.contents cells.new, result) ≡ force_add shape.cap shape.mark (C.contents cells.old) value head }
+    ensures answers { RingFollows (RingAction.ForceAdd value head) result }
 {
     cells.fetch_add(Word::Tail, shape.stride(head));
     did(RingAction::ForceTake(value, head), QueueMark::Append)
@@ -404,7 +417,8 @@ fn force_take<T: Drop, C: Cells<T>>(
     head: u64,
     cells: &mut C,
 ) -> Stepped<RingAction<T>, T>
-    ensures { C.known → (C.contents cells.new, result) ≡ force_take shape.cap shape.mark (C.contents cells.old) value head }
+    ensures steps { C.known → (C.contents cells.new, result) ≡ force_take shape.cap shape.mark (C.contents cells.old) value head }
+    ensures answers { RingFollows (RingAction.ForceTake value head) result }
 {
     match cells.take(Slot::At(shape.index(head))) {
         Some(old) => stay(RingAction::ForcePut(value, head, old)),
@@ -419,7 +433,8 @@ fn force_put<T: Drop, C: Cells<T>>(
     old: T,
     cells: &mut C,
 ) -> Stepped<RingAction<T>, T>
-    ensures { C.known → (C.contents cells.new, result) ≡ force_put shape.cap shape.mark (C.contents cells.old) value head old }
+    ensures steps { C.known → (C.contents cells.new, result) ≡ force_put shape.cap shape.mark (C.contents cells.old) value head old }
+    ensures answers { RingFollows (RingAction.ForcePut value head old) result }
 {
     match cells.put(Slot::At(shape.index(head)), value) {
         Ok(()) => stay(RingAction::ForceStore(head, old)),
@@ -433,7 +448,8 @@ fn force_store<T: Drop, C: Cells<T>>(
     old: T,
     cells: &mut C,
 ) -> Stepped<RingAction<T>, T>
-    ensures { C.known → (C.contents cells.new, result) ≡ force_store shape.cap shape.mark (C.contents cells.old) head old }
+    ensures steps { C.known → (C.contents cells.new, result) ≡ force_store shape.cap shape.mark (C.contents cells.old) head old }
+    ensures answers { RingFollows (RingAction.ForceStore head old) result }
 {
     cells.store(shape.stamp(head), head.wrapping_add(shape.lap() + 1));
     finish(QueueReply::Force(Ok(Some(old))))
@@ -445,7 +461,8 @@ fn pop_look<T: Drop, C: Cells<T>>(
     head: u64,
     cells: &mut C,
 ) -> Stepped<RingAction<T>, T>
-    ensures { C.known → (C.contents cells.new, result) ≡ pop_look shape.cap shape.mark (C.contents cells.old) head }
+    ensures steps { C.known → (C.contents cells.new, result) ≡ pop_look shape.cap shape.mark (C.contents cells.old) head }
+    ensures answers { RingFollows (RingAction.PopStamp head) result }
 {
     let stamp = cells.load(shape.stamp(head));
     if stamp == head.wrapping_add(1) {
@@ -462,7 +479,8 @@ fn pop_swap<T: Drop, C: Cells<T>>(
     head: u64,
     cells: &mut C,
 ) -> Stepped<RingAction<T>, T>
-    ensures { C.known → (C.contents cells.new, result) ≡ pop_swap shape.cap shape.mark (C.contents cells.old) head }
+    ensures steps { C.known → (C.contents cells.new, result) ≡ pop_swap shape.cap shape.mark (C.contents cells.old) head }
+    ensures answers { RingFollows (RingAction.PopSwap head) result }
 {
     match cells.compare_exchange(Word::Head, head, shape.next(head)) {
         Ok(_) => did(RingAction::PopTake(head), QueueMark::Take),
@@ -477,7 +495,8 @@ fn pop_tail<T: Drop, C: Cells<T>>(
     head: u64,
     cells: &mut C,
 ) -> Stepped<RingAction<T>, T>
-    ensures { C.known → (C.contents cells.new, result) ≡ pop_tail shape.cap shape.mark (C.contents cells.old) head }
+    ensures steps { C.known → (C.contents cells.new, result) ≡ pop_tail shape.cap shape.mark (C.contents cells.old) head }
+    ensures answers { RingFollows (RingAction.PopTail head) result }
 {
     let tail = cells.load(Word::Tail);
     if shape.unmarked(tail) != head {
@@ -495,7 +514,8 @@ fn pop_take<T: Drop, C: Cells<T>>(
     head: u64,
     cells: &mut C,
 ) -> Stepped<RingAction<T>, T>
-    ensures { C.known → (C.contents cells.new, result) ≡ pop_take shape.cap shape.mark (C.contents cells.old) head }
+    ensures steps { C.known → (C.contents cells.new, result) ≡ pop_take shape.cap shape.mark (C.contents cells.old) head }
+    ensures answers { RingFollows (RingAction.PopTake head) result }
 {
     match cells.take(Slot::At(shape.index(head))) {
         Some(value) => stay(RingAction::PopStore(head, value)),
@@ -509,14 +529,16 @@ fn pop_store<T: Drop, C: Cells<T>>(
     value: T,
     cells: &mut C,
 ) -> Stepped<RingAction<T>, T>
-    ensures { C.known → (C.contents cells.new, result) ≡ pop_store shape.cap shape.mark (C.contents cells.old) head value }
+    ensures steps { C.known → (C.contents cells.new, result) ≡ pop_store shape.cap shape.mark (C.contents cells.old) head value }
+    ensures answers { RingFollows (RingAction.PopStore head value) result }
 {
     cells.store(shape.stamp(head), head.wrapping_add(shape.lap()));
     finish(QueueReply::Pop(Ok(value)))
 }
 
 fn close<T: Drop, C: Cells<T>>(shape: Shape, cells: &mut C) -> Stepped<RingAction<T>, T>
-    ensures { C.known → (C.contents cells.new, result) ≡ close_step shape.cap shape.mark (C.contents cells.old) }
+    ensures steps { C.known → (C.contents cells.new, result) ≡ close_step shape.cap shape.mark (C.contents cells.old) }
+    ensures answers { RingFollows RingAction.Close result }
 {
     let tail = cells.fetch_or(Word::Tail, shape.mark);
     if shape.is_marked(tail) {
@@ -527,7 +549,8 @@ fn close<T: Drop, C: Cells<T>>(shape: Shape, cells: &mut C) -> Stepped<RingActio
 }
 
 fn is_closed<T: Drop, C: Cells<T>>(shape: Shape, cells: &mut C) -> Stepped<RingAction<T>, T>
-    ensures { C.known → (C.contents cells.new, result) ≡ ask_is_closed shape.cap shape.mark (C.contents cells.old) }
+    ensures steps { C.known → (C.contents cells.new, result) ≡ ask_is_closed shape.cap shape.mark (C.contents cells.old) }
+    ensures answers { RingFollows RingAction.IsClosed result }
 {
     let tail = cells.load(Word::Tail);
     finish(QueueReply::Flag(shape.is_marked(tail)))
@@ -538,14 +561,16 @@ fn empty_look<T: Drop, C: Cells<T>>(
     head: u64,
     cells: &mut C,
 ) -> Stepped<RingAction<T>, T>
-    ensures { C.known → (C.contents cells.new, result) ≡ empty_look shape.cap shape.mark (C.contents cells.old) head }
+    ensures steps { C.known → (C.contents cells.new, result) ≡ empty_look shape.cap shape.mark (C.contents cells.old) head }
+    ensures answers { RingFollows (RingAction.IsEmptyTail head) result }
 {
     let tail = cells.load(Word::Tail);
     finish(QueueReply::Flag(shape.unmarked(tail) == head))
 }
 
 fn full_load<T: Drop, C: Cells<T>>(shape: Shape, cells: &mut C) -> Stepped<RingAction<T>, T>
-    ensures { C.known → (C.contents cells.new, result) ≡ full_load shape.cap shape.mark (C.contents cells.old) }
+    ensures steps { C.known → (C.contents cells.new, result) ≡ full_load shape.cap shape.mark (C.contents cells.old) }
+    ensures answers { RingFollows RingAction.IsFull result }
 {
     let tail = cells.load(Word::Tail);
     stay(RingAction::IsFullHead(shape.unmarked(tail)))
@@ -556,7 +581,8 @@ fn full_look<T: Drop, C: Cells<T>>(
     tail: u64,
     cells: &mut C,
 ) -> Stepped<RingAction<T>, T>
-    ensures { C.known → (C.contents cells.new, result) ≡ full_look shape.cap shape.mark (C.contents cells.old) tail }
+    ensures steps { C.known → (C.contents cells.new, result) ≡ full_look shape.cap shape.mark (C.contents cells.old) tail }
+    ensures answers { RingFollows (RingAction.IsFullHead tail) result }
 {
     let head = cells.load(Word::Head);
     let lap = shape.lap();
@@ -564,7 +590,8 @@ fn full_look<T: Drop, C: Cells<T>>(
 }
 
 fn len_load<T: Drop, C: Cells<T>>(shape: Shape, cells: &mut C) -> Stepped<RingAction<T>, T>
-    ensures { C.known → (C.contents cells.new, result) ≡ len_load shape.cap shape.mark (C.contents cells.old) }
+    ensures steps { C.known → (C.contents cells.new, result) ≡ len_load shape.cap shape.mark (C.contents cells.old) }
+    ensures answers { RingFollows RingAction.Len result }
 {
     let tail = cells.load(Word::Tail);
     stay(RingAction::LenHead(shape.unmarked(tail), shape.is_marked(tail)))
@@ -578,7 +605,8 @@ fn len_again<T: Drop, C: Cells<T>>(
     head: u64,
     cells: &mut C,
 ) -> Stepped<RingAction<T>, T>
-    ensures { C.known → (C.contents cells.new, result) ≡ len_again shape.cap shape.mark (C.contents cells.old) tail marked head }
+    ensures steps { C.known → (C.contents cells.new, result) ≡ len_again shape.cap shape.mark (C.contents cells.old) tail marked head }
+    ensures answers { RingFollows (RingAction.LenTail tail marked head) result }
 {
     let word = if marked {
         tail.wrapping_add(shape.mark)
@@ -615,7 +643,8 @@ pub(crate) fn step<T: Drop, C: Cells<T>>(
     action: RingAction<T>,
     cells: &mut C,
 ) -> Stepped<RingAction<T>, T>
-    ensures { C.known → IsRingStep (ring_cap (C.contents cells.old).form) (C.contents cells.old) action (C.contents cells.new) result }
+    ensures steps { C.known → IsRingStep (ring_cap (C.contents cells.old).form) (C.contents cells.old) action (C.contents cells.new) result }
+    ensures answers { RingFollows action result }
 {
     let capacity = match cells.form() {
         QueueForm::Bounded(capacity) => capacity,
@@ -629,7 +658,8 @@ fn step_ring<T: Drop, C: Cells<T>>(
     action: RingAction<T>,
     cells: &mut C,
 ) -> Stepped<RingAction<T>, T>
-    ensures { C.known → (C.contents cells.new, result) ≡ ring_step shape.cap shape.mark (C.contents cells.old) action }
+    ensures steps { C.known → (C.contents cells.new, result) ≡ ring_step shape.cap shape.mark (C.contents cells.old) action }
+    ensures answers { RingFollows action result }
 {
     match action {
         RingAction::Push(when_full, value) => push_load(shape, when_full, value, cells),

@@ -1,8 +1,11 @@
 //! The words and slots that the steps of a queue work on, one operation on one of them at a time.
 
 ghost use Rattle.std.specs.Prelude.{◌≡◌, ℕ, ◌+◌, ◌%◌, ◌^◌, Option, Result};
-ghost use Rattle.std.specs.Prelude.{bit_or, bit_and, MatchResult};
+ghost use Rattle.std.specs.Prelude.{bit_or, bit_and, MatchResult, IfErr};
 ghost use Rattle.concurrent_queue.specs.Contents.{Contents, read, write, slot_at, write_slot, PutGives, SpareGives, with_retired};
+
+use std::error::Error;
+use std::fmt;
 
 /// Which kind of queue the cells are of.
 #[derive(Clone, Copy)]
@@ -45,9 +48,17 @@ pub enum Slot {
     In(u64, u64),
 }
 
-/// There was no memory for another block.
-#[derive(Clone, Copy)]
+/// There was no memory for another block, or for the words and slots of a new queue.
+#[derive(Clone, Copy, PartialEq, Eq, Debug)]
 pub struct NoMemory;
+
+impl fmt::Display for NoMemory {
+    fn fmt<W: fmt::Write>(&self, f: &mut fmt::Formatter<W>) -> fmt::Result {
+        write!(f, "out of memory")
+    }
+}
+
+impl Error for NoMemory {}
 
 /// The cells of one queue. Each call is one atomic operation on one word or slot, or one section of the spare list with
 /// the block that enters or leaves it. A word that does not exist reads 0 and stays so; a slot that does not exist holds
@@ -105,6 +116,7 @@ pub trait Cells<T> {
 
     /// Fills an empty slot. `Err` hands the message back: it isn't time yet, since the slot is not empty or in another's hands.
     fn put(&mut self, at: Slot, value: T) -> Result<(), T>
+        ensures back { IfErr result (λ back. back ≡ value) }
         ensures gives { known → PutGives (contents self.old) at value result (contents self.new) }
         ensures form { form_of self.new ≡ form_of self.old };
 

@@ -27,16 +27,17 @@ pub struct Exclusive<T> {
 
 impl<T> Model for Exclusive<T> {
     ghost use Rattle.concurrent_queue.specs.Alone.{Held, held, IsSound};
+    ghost use Rattle.concurrent_queue.specs.Plain.{contents_of};
 
     ghost Value = { Held T };
 
-    ghost view = { λ q. held q.cells q.used };
+    ghost view = { λ q. held (contents_of q.cells) q.used };
 
-    ghost invariant = { λ q. IsSound q.cells q.used };
+    ghost invariant = { λ q. IsSound (contents_of q.cells) q.used };
 }
 
 /// How many positions a queue has.
-const POSITIONS: u64 = 0x2000_0000_0000_0000;
+pub(crate) const POSITIONS: u64 = 0x2000_0000_0000_0000;
 
 /// How many positions are used up with one more message.
 fn with_one_more(form: QueueForm, used: u64) -> u64
@@ -62,11 +63,16 @@ fn count<T>(form: QueueForm, used: u64, reply: &QueueReply<T>) -> u64
 }
 
 /// Steps a call to its end, and counts the position of the message that it brings.
-fn finish<T: Drop>(cells: &mut PlainCells<T>, used: &mut u64, ask: QueueAsk<T>) -> QueueReply<T>
-    requires sound { IsSound cells.old used.old }
+pub(crate) fn finish<T: Drop, C: Cells<T>>(
+    cells: &mut C,
+    used: &mut u64,
+    ask: QueueAsk<T>,
+) -> QueueReply<T>
+    requires known { C.known }
+    requires sound { IsSound (C.contents cells.old) used.old }
     requires room { HasRoom ask used.old }
-    ensures sound { IsSound cells.new used.new }
-    ensures answer { Gives ask (held cells.old used.old) (held cells.new used.new) result }
+    ensures sound { IsSound (C.contents cells.new) used.new }
+    ensures answer { Gives ask (held (C.contents cells.old) used.old) (held (C.contents cells.new) used.new) result }
 {
     let mut call = QueueCall::new(ask);
     loop {
@@ -82,15 +88,16 @@ fn finish<T: Drop>(cells: &mut PlainCells<T>, used: &mut u64, ask: QueueAsk<T>) 
 
 /// Appends a message: at once where nothing stands against it, else step by step.
 #[inline]
-fn push_into<T: Drop>(
-    cells: &mut PlainCells<T>,
+pub(crate) fn push_into<T: Drop, C: Cells<T>>(
+    cells: &mut C,
     used: &mut u64,
     value: T,
 ) -> Result<(), PushError<T>>
-    requires sound { IsSound cells.old used.old }
+    requires known { C.known }
+    requires sound { IsSound (C.contents cells.old) used.old }
     requires room { HasRoom (ask.Push value) used.old }
-    ensures sound { IsSound cells.new used.new }
-    ensures answer { PushGives (held cells.old used.old) value (held cells.new used.new) result }
+    ensures sound { IsSound (C.contents cells.new) used.new }
+    ensures answer { PushGives (held (C.contents cells.old) used.old) value (held (C.contents cells.new) used.new) result }
 {
     let value = match push_at_once(value, cells) {
         Ok(()) => {
@@ -107,10 +114,11 @@ fn push_into<T: Drop>(
 
 /// Takes the oldest message: at once where it lies there, else step by step.
 #[inline]
-fn pop_from<T: Drop>(cells: &mut PlainCells<T>, used: &mut u64) -> Result<T, PopError>
-    requires sound { IsSound cells.old used.old }
-    ensures sound { IsSound cells.new used.new }
-    ensures answer { PopGives (held cells.old used.old) (held cells.new used.new) result }
+pub(crate) fn pop_from<T: Drop, C: Cells<T>>(cells: &mut C, used: &mut u64) -> Result<T, PopError>
+    requires known { C.known }
+    requires sound { IsSound (C.contents cells.old) used.old }
+    ensures sound { IsSound (C.contents cells.new) used.new }
+    ensures answer { PopGives (held (C.contents cells.old) used.old) (held (C.contents cells.new) used.new) result }
 {
     if let Some(value) = pop_at_once(cells) {
         return Ok(value);
@@ -147,9 +155,9 @@ impl<T: Drop> Exclusive<T> {
         }
     }
 
-    /// Appends the message. A refusal hands it back: there was no memory for it, the queue was full, or nothing more comes
-    /// in, since it was closed or its positions are used up. In the last case the queue closes itself; else a refused push
-    /// leaves it as it was.
+    /// Appends the message. A refusal hands it back: there was no memory for it, which an open queue with no bound may say,
+    /// the queue was full, or nothing more comes in, since it was closed or its positions are used up. In the last case the
+    /// queue closes itself; else a refused push leaves it as it was.
     #[inline(always)]
     pub fn push(&mut self, value: T) -> Result<(), PushError<T>>
         ensures { PushGives self.old value self.new result }
@@ -162,8 +170,9 @@ impl<T: Drop> Exclusive<T> {
     }
 
     /// Appends the message; where the queue is full, the oldest one leaves for it and is answered. A refusal hands the
-    /// message back: there was no memory for it, or nothing more comes in, since the queue was closed or its positions are
-    /// used up. In the last case the queue closes itself; else a refused push leaves it as it was.
+    /// message back: there was no memory for it, which an open queue with no bound may say, or nothing more comes in, since
+    /// the queue was closed or its positions are used up. In the last case the queue closes itself; else a refused push
+    /// leaves it as it was.
     pub fn force_push(&mut self, value: T) -> Result<Option<T>, ForcePushError<T>>
         ensures { ForceGives self.old value self.new result }
     {

@@ -12,5 +12,6 @@ pub mod plain;
 mod pool;
 pub mod queue_call;
 pub mod run;
+pub mod shared;
 mod single;
 mod unbounded;

@@ -2,6 +2,10 @@
 
 ghost use Rattle.std.specs.Prelude.{◌≡◌};
 ghost use Rattle.concurrent_queue.specs.Dispatch.{IsStateStep, in_single, in_ring, in_blocks, ended};
+ghost use Rattle.concurrent_queue.specs.Replies.{StateFollows, is_bounded};
+
+pub(crate) mod ahead;
+mod place;
 
 use crate::bounded::RingAction;
 use crate::call::{QueueAsk, QueueMark, QueueReply, Stepped};
@@ -65,7 +69,8 @@ fn wrap_blocks<T: Drop>(stepped: Stepped<UnboundedCall<T>, T>) -> Stepped<CallSt
 
 /// The first step of a call, in the form of its queue.
 fn first_step<T: Drop, C: Cells<T>>(ask: QueueAsk<T>, cells: &mut C) -> Stepped<CallState<T>, T>
-    ensures { C.known → IsStateStep (C.contents cells.old) (CallState.Asked ask) (C.contents cells.new) result }
+    ensures steps { C.known → IsStateStep (C.contents cells.old) (CallState.Asked ask) (C.contents cells.new) result }
+    ensures answers { StateFollows (is_bounded (C.form_of cells.old)) (CallState.Asked ask) result.action result.reply }
 {
     match cells.form() {
         QueueForm::Bounded(1) => wrap_single(single::step(single::first(ask), cells)),
@@ -75,7 +80,8 @@ fn first_step<T: Drop, C: Cells<T>>(ask: QueueAsk<T>, cells: &mut C) -> Stepped<
 }
 
 fn step_state<T: Drop, C: Cells<T>>(state: CallState<T>, cells: &mut C) -> Stepped<CallState<T>, T>
-    ensures { C.known → IsStateStep (C.contents cells.old) state (C.contents cells.new) result }
+    ensures steps { C.known → IsStateStep (C.contents cells.old) state (C.contents cells.new) result }
+    ensures answers { StateFollows (is_bounded (C.form_of cells.old)) state result.action result.reply }
 {
     match state {
         CallState::Asked(ask) => first_step(ask, cells),
@@ -93,10 +99,12 @@ fn step_state<T: Drop, C: Cells<T>>(state: CallState<T>, cells: &mut C) -> Stepp
 impl<T: Drop> QueueCall<T> {
     ghost use Rattle.std.specs.Prelude.{◌≡◌};
     ghost use Rattle.concurrent_queue.specs.Step.{Starts, IsQueueStep, mark_of};
+    ghost use Rattle.concurrent_queue.specs.Replies.{Follows, IsAsking};
 
     /// The call that asks this. It has made no step.
     pub fn new(ask: QueueAsk<T>) -> QueueCall<T>
-        ensures { Starts result ask }
+        ensures starts { Starts result ask }
+        ensures asked { IsAsking result ask }
     {
         QueueCall {
             state: CallState::Asked(ask),
@@ -113,7 +121,8 @@ impl<T: Drop> QueueCall<T> {
 
     /// One step.
     pub fn step<C: Cells<T>>(&mut self, cells: &mut C) -> Option<QueueReply<T>>
-        ensures { C.known → IsQueueStep (C.contents cells.old) self.old (C.contents cells.new) self.new result }
+        ensures steps { C.known → IsQueueStep (C.contents cells.old) self.old (C.contents cells.new) self.new result }
+        ensures answers { Follows (C.form_of cells.old) self.old self.new result }
     {
         let state = mem::replace(&mut self.state, CallState::Finished);
         let stepped = step_state(state, cells);
@@ -125,67 +134,77 @@ impl<T: Drop> QueueCall<T> {
 
 impl<T: Drop> QueueCall<T> {
     ghost use Rattle.concurrent_queue.specs.Step.{Starts};
+    ghost use Rattle.concurrent_queue.specs.Replies.{IsAsking};
     ghost use Rattle.concurrent_queue.specs.declared.call.QueueAsk.TheVariants as ask;
 
     /// A call that appends this message.
     pub fn push(value: T) -> QueueCall<T>
-        ensures { Starts result (ask.Push value) }
+        ensures starts { Starts result (ask.Push value) }
+        ensures asked { IsAsking result (ask.Push value) }
     {
         QueueCall::new(QueueAsk::Push(value))
     }
 
     /// A call that appends this message; where the queue is full, the oldest one leaves for it.
     pub fn force_push(value: T) -> QueueCall<T>
-        ensures { Starts result (ask.ForcePush value) }
+        ensures starts { Starts result (ask.ForcePush value) }
+        ensures asked { IsAsking result (ask.ForcePush value) }
     {
         QueueCall::new(QueueAsk::ForcePush(value))
     }
 
     /// A call that takes the oldest message.
     pub fn pop() -> QueueCall<T>
-        ensures { Starts result ask.Pop }
+        ensures starts { Starts result ask.Pop }
+        ensures asked { IsAsking result ask.Pop }
     {
         QueueCall::new(QueueAsk::Pop)
     }
 
     /// A call that closes the queue.
     pub fn close() -> QueueCall<T>
-        ensures { Starts result ask.Close }
+        ensures starts { Starts result ask.Close }
+        ensures asked { IsAsking result ask.Close }
     {
         QueueCall::new(QueueAsk::Close)
     }
 
     /// A call that asks whether the queue is closed.
     pub fn is_closed() -> QueueCall<T>
-        ensures { Starts result ask.IsClosed }
+        ensures starts { Starts result ask.IsClosed }
+        ensures asked { IsAsking result ask.IsClosed }
     {
         QueueCall::new(QueueAsk::IsClosed)
     }
 
     /// A call that asks whether the queue holds no message.
     pub fn is_empty() -> QueueCall<T>
-        ensures { Starts result ask.IsEmpty }
+        ensures starts { Starts result ask.IsEmpty }
+        ensures asked { IsAsking result ask.IsEmpty }
     {
         QueueCall::new(QueueAsk::IsEmpty)
     }
 
     /// A call that asks whether the queue is full.
     pub fn is_full() -> QueueCall<T>
-        ensures { Starts result ask.IsFull }
+        ensures starts { Starts result ask.IsFull }
+        ensures asked { IsAsking result ask.IsFull }
     {
         QueueCall::new(QueueAsk::IsFull)
     }
 
     /// A call that asks how many messages the queue holds.
     pub fn len() -> QueueCall<T>
-        ensures { Starts result ask.Len }
+        ensures starts { Starts result ask.Len }
+        ensures asked { IsAsking result ask.Len }
     {
         QueueCall::new(QueueAsk::Len)
     }
 
     /// A call that asks how many messages the queue can hold.
     pub fn capacity() -> QueueCall<T>
-        ensures { Starts result ask.Capacity }
+        ensures starts { Starts result ask.Capacity }
+        ensures asked { IsAsking result ask.Capacity }
     {
         QueueCall::new(QueueAsk::Capacity)
     }

@@ -6,6 +6,9 @@
 
 ghost use Rattle.std.specs.Prelude.{◌≡◌, ℕ};
 ghost use Rattle.concurrent_queue.specs.Single.{single_step, close_step, push_step, force_step, pop_step, stays, marks, finishes, start};
+ghost use Rattle.concurrent_queue.specs.Replies.{SingleFollows};
+
+pub(crate) mod ahead;
 
 use crate::call::{QueueAsk, QueueMark, QueueReply, Stepped};
 use crate::cells::{Cells, Slot, Word};
@@ -103,7 +106,8 @@ pub(crate) fn step<T: Drop, C: Cells<T>>(
     action: SingleAction<T>,
     cells: &mut C,
 ) -> Stepped<SingleAction<T>, T>
-    ensures { C.known → (C.contents cells.new, result) ≡ single_step (C.contents cells.old) action }
+    ensures steps { C.known → (C.contents cells.new, result) ≡ single_step (C.contents cells.old) action }
+    ensures answers { SingleFollows action result }
 {
     match action {
         SingleAction::Push(value) => push(value, cells),
@@ -161,7 +165,8 @@ pub(crate) fn step<T: Drop, C: Cells<T>>(
 
 /// Wins the empty slot. A refusal is read off the word that was found, so that it holds at this step.
 fn push<T: Drop, C: Cells<T>>(value: T, cells: &mut C) -> Stepped<SingleAction<T>, T>
-    ensures { C.known → (C.contents cells.new, result) ≡ push_step (C.contents cells.old) value }
+    ensures steps { C.known → (C.contents cells.new, result) ≡ push_step (C.contents cells.old) value }
+    ensures answers { SingleFollows (SingleAction.Push value) result }
 {
     match cells.compare_exchange(Word::State, 0, FILLING) {
         Ok(_) => mark(SingleAction::PushPut(value), QueueMark::Append),
@@ -183,7 +188,8 @@ fn force_push<T: Drop, C: Cells<T>>(
     expected: u64,
     cells: &mut C,
 ) -> Stepped<SingleAction<T>, T>
-    ensures { C.known → (C.contents cells.new, result) ≡ force_step (C.contents cells.old) value expected }
+    ensures steps { C.known → (C.contents cells.new, result) ≡ force_step (C.contents cells.old) value expected }
+    ensures answers { SingleFollows (SingleAction.Force value expected) result }
 {
     match cells.compare_exchange(Word::State, expected, FILLING) {
         Ok(_) => {
@@ -207,7 +213,8 @@ fn force_push<T: Drop, C: Cells<T>>(
 
 /// Wins the message. The closed bit is kept.
 fn pop<T: Drop, C: Cells<T>>(expected: u64, cells: &mut C) -> Stepped<SingleAction<T>, T>
-    ensures { C.known → (C.contents cells.new, result) ≡ pop_step (C.contents cells.old) expected }
+    ensures steps { C.known → (C.contents cells.new, result) ≡ pop_step (C.contents cells.old) expected }
+    ensures answers { SingleFollows (SingleAction.Pop expected) result }
 {
     match cells.compare_exchange(Word::State, expected, (expected | LOCKED) & NOT_PUSHED) {
         Ok(_) => mark(SingleAction::PopTake, QueueMark::Take),
@@ -225,7 +232,8 @@ fn pop<T: Drop, C: Cells<T>>(expected: u64, cells: &mut C) -> Stepped<SingleActi
 
 /// Sets the closed bit.
 fn close<T: Drop, C: Cells<T>>(cells: &mut C) -> Stepped<SingleAction<T>, T>
-    ensures { C.known → (C.contents cells.new, result) ≡ close_step (C.contents cells.old) }
+    ensures steps { C.known → (C.contents cells.new, result) ≡ close_step (C.contents cells.old) }
+    ensures answers { SingleFollows SingleAction.Close result }
 {
     let found = cells.fetch_or(Word::State, CLOSED);
     if found & CLOSED == 0 {

@@ -4,8 +4,10 @@
 ghost use Rattle.std.specs.Prelude.{◌≡◌, None};
 ghost use Rattle.concurrent_queue.specs.BlocksMoves.{answer_as};
 ghost use Rattle.concurrent_queue.specs.BlocksWords.{IsUnboundedStep, IsBlocksStep, begin, reply_of};
+ghost use Rattle.concurrent_queue.specs.Replies.{EndFollows, BlocksFollows};
 
 pub(crate) mod action;
+pub(crate) mod ahead;
 mod ask;
 pub(crate) mod ending;
 mod pop;
@@ -81,6 +83,7 @@ pub(crate) fn step<T: Drop, C: Cells<T>>(
 ) -> Stepped<UnboundedCall<T>, T>
     ensures steps { C.known → IsBlocksStep (C.contents cells.old) call (C.contents cells.new) result }
     ensures form { C.form_of cells.new ≡ C.form_of cells.old }
+    ensures answers { BlocksFollows call result }
 {
     let displacing = call.displacing;
     let progress = step_unbounded(call.action, cells);
@@ -108,6 +111,7 @@ fn answer<T: Drop>(displacing: bool, ending: Option<Ending<T>>) -> Option<QueueR
 fn step_unbounded<T: Drop, C: Cells<T>>(action: UnboundedAction<T>, cells: &mut C) -> Progress<T>
     ensures steps { C.known → IsUnboundedStep (C.contents cells.old) action (C.contents cells.new, result) }
     ensures form { C.form_of cells.new ≡ C.form_of cells.old }
+    ensures ends { EndFollows action result }
 {
     match action {
         UnboundedAction::Push(value, held) => push_load(value, held, cells),

@@ -97,6 +97,32 @@ fn a_walk_gives_the_messages_in_order(rt: HostRuntime) -> Result<(), Fail> {
     Ok(())
 }
 
+/// A refused push hands its message back and changes nothing, and is accepted when it is made once more. The first request
+/// for memory is refused by `rt try --test --fail-alloc 1 -- a_push_refused`, and none where there is enough.
+#[test]
+fn a_push_refused_for_memory_is_made_again(rt: HostRuntime) -> Result<(), Fail> {
+    let mut queue = Exclusive::unbounded(rt.alloc());
+    if let Err(refused) = queue.push(5u64) {
+        assert!(rt; matches!(refused, PushError::NoMemory(5)));
+        assert_eq!(rt; queue.len(), 0);
+        assert!(rt; queue.push(5).is_ok());
+    }
+    assert!(rt; matches!(queue.pop(), Ok(5)));
+    Ok(())
+}
+
+/// Two blocks serve any number of messages that are pushed and popped one by one. They are made by the first four requests
+/// for memory: `rt try --test --fail-alloc N -- one_at_a_time` fails for N up to 4, and finds no request past it to refuse.
+#[test]
+fn one_at_a_time_takes_no_more_memory(rt: HostRuntime) -> Result<(), Fail> {
+    let mut queue = Exclusive::unbounded(rt.alloc());
+    for value in 1..1001u64 {
+        assert!(rt; queue.push(value).is_ok());
+        assert!(rt; matches!(queue.pop(), Ok(popped) if popped == value));
+    }
+    Ok(())
+}
+
 #[test]
 fn what_is_left_is_dropped_once(rt: HostRuntime) -> Result<(), Fail> {
     let counted = Rc::new(rt.alloc(), 7u64)?;

@@ -2,6 +2,7 @@
 
 ghost use Rattle.std.specs.Prelude.{◌≡◌, ℕ, None};
 ghost use Rattle.concurrent_queue.specs.BlocksWords.{tells, close_tail, ask_tail, empty_load_head, empty_load_tail, len_load_tail, len_load_head, len_again};
+ghost use Rattle.concurrent_queue.specs.Replies.{EndFollows};
 
 use crate::call::{QueueMark, QueueReply};
 use crate::cells::{Cells, Word};
@@ -18,6 +19,7 @@ pub(crate) fn tell<T>(reply: QueueReply<T>) -> Progress<T>
 pub(crate) fn close_load<T: Drop, C: Cells<T>>(cells: &mut C) -> Progress<T>
     ensures steps { C.known → (C.contents cells.new, result) ≡ close_tail (C.contents cells.old) }
     ensures form { C.form_of cells.new ≡ C.form_of cells.old }
+    ensures ends { EndFollows UnboundedAction.Close result }
 {
     let tail = cells.fetch_or(Word::Tail, 1);
     if tail % 2 == 1 {
@@ -34,6 +36,7 @@ pub(crate) fn close_load<T: Drop, C: Cells<T>>(cells: &mut C) -> Progress<T>
 pub(crate) fn ask_closed<T: Drop, C: Cells<T>>(cells: &mut C) -> Progress<T>
     ensures steps { C.known → (C.contents cells.new, result) ≡ ask_tail (C.contents cells.old) }
     ensures form { C.form_of cells.new ≡ C.form_of cells.old }
+    ensures ends { EndFollows UnboundedAction.AskClosed result }
 {
     let tail = cells.load(Word::Tail);
     tell(QueueReply::Flag(tail % 2 == 1))
@@ -42,6 +45,7 @@ pub(crate) fn ask_closed<T: Drop, C: Cells<T>>(cells: &mut C) -> Progress<T>
 pub(crate) fn ask_empty<T: Drop, C: Cells<T>>(cells: &mut C) -> Progress<T>
     ensures steps { C.known → (C.contents cells.new, result) ≡ empty_load_head (C.contents cells.old) }
     ensures form { C.form_of cells.new ≡ C.form_of cells.old }
+    ensures ends { EndFollows UnboundedAction.AskEmpty result }
 {
     let head = cells.load(Word::Head);
     stay(UnboundedAction::EmptyTail(head))
@@ -50,6 +54,7 @@ pub(crate) fn ask_empty<T: Drop, C: Cells<T>>(cells: &mut C) -> Progress<T>
 pub(crate) fn empty_tail<T: Drop, C: Cells<T>>(head: u64, cells: &mut C) -> Progress<T>
     ensures steps { C.known → (C.contents cells.new, result) ≡ empty_load_tail (C.contents cells.old) head }
     ensures form { C.form_of cells.new ≡ C.form_of cells.old }
+    ensures ends { EndFollows (UnboundedAction.EmptyTail head) result }
 {
     let tail = cells.load(Word::Tail);
     tell(QueueReply::Flag(number_of(tail / 2) == number_of(head)))
@@ -58,6 +63,7 @@ pub(crate) fn empty_tail<T: Drop, C: Cells<T>>(head: u64, cells: &mut C) -> Prog
 pub(crate) fn ask_len<T: Drop, C: Cells<T>>(cells: &mut C) -> Progress<T>
     ensures steps { C.known → (C.contents cells.new, result) ≡ len_load_tail (C.contents cells.old) }
     ensures form { C.form_of cells.new ≡ C.form_of cells.old }
+    ensures ends { EndFollows UnboundedAction.AskLen result }
 {
     let tail = cells.load(Word::Tail);
     stay(UnboundedAction::LenHead(tail))
@@ -66,6 +72,7 @@ pub(crate) fn ask_len<T: Drop, C: Cells<T>>(cells: &mut C) -> Progress<T>
 pub(crate) fn len_head<T: Drop, C: Cells<T>>(tail: u64, cells: &mut C) -> Progress<T>
     ensures steps { C.known → (C.contents cells.new, result) ≡ len_load_head (C.contents cells.old) tail }
     ensures form { C.form_of cells.new ≡ C.form_of cells.old }
+    ensures ends { EndFollows (UnboundedAction.LenHead tail) result }
 {
     let head = cells.load(Word::Head);
     stay(UnboundedAction::LenTail(tail, head))
@@ -74,6 +81,7 @@ pub(crate) fn len_head<T: Drop, C: Cells<T>>(tail: u64, cells: &mut C) -> Progre
 pub(crate) fn len_tail<T: Drop, C: Cells<T>>(tail: u64, head: u64, cells: &mut C) -> Progress<T>
     ensures steps { C.known → (C.contents cells.new, result) ≡ len_again (C.contents cells.old) tail head }
     ensures form { C.form_of cells.new ≡ C.form_of cells.old }
+    ensures ends { EndFollows (UnboundedAction.LenTail tail head) result }
 {
     if cells.load(Word::Tail) == tail {
         tell(QueueReply::Count(number_of(tail / 2).saturating_sub(number_of(head)) as usize))

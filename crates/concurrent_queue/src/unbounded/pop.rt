@@ -3,6 +3,7 @@
 ghost use Rattle.std.specs.Prelude.{◌≡◌, ℕ};
 ghost use Rattle.concurrent_queue.specs.BlocksState.{number};
 ghost use Rattle.concurrent_queue.specs.BlocksWords.{load_head, look_head_block, look_tail, swap_head, load_next, store_head_block, store_head, wait_written, take_message, count_read, retire_block};
+ghost use Rattle.concurrent_queue.specs.Replies.{EndFollows};
 
 use crate::call::{QueueMark, QueueReply};
 use crate::cells::{Cells, Slot, Word};
@@ -20,6 +21,7 @@ pub(crate) fn number_of(p: u64) -> u64
 pub(crate) fn pop_load<T: Drop, C: Cells<T>>(cells: &mut C) -> Progress<T>
     ensures steps { C.known → (C.contents cells.new, result) ≡ load_head (C.contents cells.old) }
     ensures form { C.form_of cells.new ≡ C.form_of cells.old }
+    ensures ends { EndFollows UnboundedAction.Pop result }
 {
     let head = cells.load(Word::Head);
     if head % 32 == 31 {
@@ -32,6 +34,7 @@ pub(crate) fn pop_load<T: Drop, C: Cells<T>>(cells: &mut C) -> Progress<T>
 pub(crate) fn pop_look<T: Drop, C: Cells<T>>(head: u64, cells: &mut C) -> Progress<T>
     ensures steps { C.known → (C.contents cells.new, result) ≡ look_head_block (C.contents cells.old) head }
     ensures form { C.form_of cells.new ≡ C.form_of cells.old }
+    ensures ends { EndFollows (UnboundedAction.PopLook head) result }
 {
     let block = cells.load(Word::HeadBlock);
     stay(UnboundedAction::PopTail(head, block))
@@ -40,6 +43,7 @@ pub(crate) fn pop_look<T: Drop, C: Cells<T>>(head: u64, cells: &mut C) -> Progre
 pub(crate) fn pop_tail<T: Drop, C: Cells<T>>(head: u64, block: u64, cells: &mut C) -> Progress<T>
     ensures steps { C.known → (C.contents cells.new, result) ≡ look_tail (C.contents cells.old) head block }
     ensures form { C.form_of cells.new ≡ C.form_of cells.old }
+    ensures ends { EndFollows (UnboundedAction.PopTail head block) result }
 {
     let tail = cells.load(Word::Tail);
     if number_of(tail / 2) == number_of(head) {
@@ -58,6 +62,7 @@ pub(crate) fn pop_tail<T: Drop, C: Cells<T>>(head: u64, block: u64, cells: &mut 
 pub(crate) fn pop_swap<T: Drop, C: Cells<T>>(head: u64, block: u64, cells: &mut C) -> Progress<T>
     ensures steps { C.known → (C.contents cells.new, result) ≡ swap_head (C.contents cells.old) head block }
     ensures form { C.form_of cells.new ≡ C.form_of cells.old }
+    ensures ends { EndFollows (UnboundedAction.PopSwap head block) result }
 {
     match cells.compare_exchange(Word::Head, head, head.wrapping_add(1)) {
         Ok(_) => {
@@ -74,6 +79,7 @@ pub(crate) fn pop_swap<T: Drop, C: Cells<T>>(head: u64, block: u64, cells: &mut 
 pub(crate) fn pop_next<T: Drop, C: Cells<T>>(head: u64, block: u64, cells: &mut C) -> Progress<T>
     ensures steps { C.known → (C.contents cells.new, result) ≡ load_next (C.contents cells.old) head block }
     ensures form { C.form_of cells.new ≡ C.form_of cells.old }
+    ensures ends { EndFollows (UnboundedAction.PopNext head block) result }
 {
     let next = cells.load(Word::Next(block));
     if next == 0 {
@@ -91,6 +97,7 @@ pub(crate) fn pop_block<T: Drop, C: Cells<T>>(
 ) -> Progress<T>
     ensures steps { C.known → (C.contents cells.new, result) ≡ store_head_block (C.contents cells.old) head block next }
     ensures form { C.form_of cells.new ≡ C.form_of cells.old }
+    ensures ends { EndFollows (UnboundedAction.PopBlock head block next) result }
 {
     cells.store(Word::HeadBlock, next);
     stay(UnboundedAction::PopHead(head, block))
@@ -99,6 +106,7 @@ pub(crate) fn pop_block<T: Drop, C: Cells<T>>(
 pub(crate) fn pop_head<T: Drop, C: Cells<T>>(head: u64, block: u64, cells: &mut C) -> Progress<T>
     ensures steps { C.known → (C.contents cells.new, result) ≡ store_head (C.contents cells.old) head block }
     ensures form { C.form_of cells.new ≡ C.form_of cells.old }
+    ensures ends { EndFollows (UnboundedAction.PopHead head block) result }
 {
     cells.store(Word::Head, head.wrapping_add(2));
     stay(UnboundedAction::PopWait(head, block))
@@ -107,6 +115,7 @@ pub(crate) fn pop_head<T: Drop, C: Cells<T>>(head: u64, block: u64, cells: &mut 
 pub(crate) fn pop_wait<T: Drop, C: Cells<T>>(head: u64, block: u64, cells: &mut C) -> Progress<T>
     ensures steps { C.known → (C.contents cells.new, result) ≡ wait_written (C.contents cells.old) head block }
     ensures form { C.form_of cells.new ≡ C.form_of cells.old }
+    ensures ends { EndFollows (UnboundedAction.PopWait head block) result }
 {
     if cells.load(Word::Written(block, head % 32)) == 1 {
         stay(UnboundedAction::PopTake(head, block))
@@ -118,6 +127,7 @@ pub(crate) fn pop_wait<T: Drop, C: Cells<T>>(head: u64, block: u64, cells: &mut 
 pub(crate) fn pop_take<T: Drop, C: Cells<T>>(head: u64, block: u64, cells: &mut C) -> Progress<T>
     ensures steps { C.known → (C.contents cells.new, result) ≡ take_message (C.contents cells.old) head block }
     ensures form { C.form_of cells.new ≡ C.form_of cells.old }
+    ensures ends { EndFollows (UnboundedAction.PopTake head block) result }
 {
     match cells.take(Slot::In(block, head % 32)) {
         Some(value) => stay(UnboundedAction::PopCount(head, block, value)),
@@ -133,6 +143,7 @@ pub(crate) fn pop_count<T: Drop, C: Cells<T>>(
 ) -> Progress<T>
     ensures steps { C.known → (C.contents cells.new, result) ≡ count_read (C.contents cells.old) head block value }
     ensures form { C.form_of cells.new ≡ C.form_of cells.old }
+    ensures ends { EndFollows (UnboundedAction.PopCount head block value) result }
 {
     if cells.fetch_add(Word::Reads(block), 1) == 30 {
         stay(UnboundedAction::PopRetire(head, block, value))
@@ -144,6 +155,7 @@ pub(crate) fn pop_count<T: Drop, C: Cells<T>>(
 pub(crate) fn pop_retire<T: Drop, C: Cells<T>>(block: u64, value: T, cells: &mut C) -> Progress<T>
     ensures steps { C.known → (C.contents cells.new, result) ≡ retire_block (C.contents cells.old) block value }
     ensures form { C.form_of cells.new ≡ C.form_of cells.old }
+    ensures ends { (h : ℕ) → EndFollows (UnboundedAction.PopRetire h block value) result }
 {
     cells.retire(block);
     finish(Ending::Replied(QueueReply::Pop(Ok(value))))

@@ -2,6 +2,7 @@
 
 ghost use Rattle.std.specs.Prelude.{◌≡◌, ℕ};
 ghost use Rattle.concurrent_queue.specs.BlocksWords.{load_tail, shut_tail, give_back, look_with, look_first, when_shut, look_tail_block, Obtains, swap_first, start_head, after_swap, swap_tail, turn_tail_block, add_tail, link_next, put_message, after_store, store_written, give_spare};
+ghost use Rattle.concurrent_queue.specs.Replies.{EndFollows, MayEnd, Sends};
 
 use crate::call::QueueMark;
 use crate::cells::{Cells, NoMemory, Slot, Word};
@@ -9,7 +10,8 @@ use crate::unbounded::action::{Progress, UnboundedAction, finish, marked, stay};
 use crate::unbounded::ending::Ending;
 
 pub(crate) fn refuse_shut<T>(value: T, held: Option<u64>) -> Progress<T>
-    ensures { result ≡ when_shut value held }
+    ensures steps { result ≡ when_shut value held }
+    ensures ends { EndFollows (UnboundedAction.Push value held) result }
 {
     match held {
         Some(h) => stay(UnboundedAction::PushReturn(value, h)),
@@ -18,7 +20,8 @@ pub(crate) fn refuse_shut<T>(value: T, held: Option<u64>) -> Progress<T>
 }
 
 pub(crate) fn ready<T>(value: T, tail: u64, block: u64, held: Option<u64>) -> Progress<T>
-    ensures { result ≡ look_with value tail block held }
+    ensures steps { result ≡ look_with value tail block held }
+    ensures ends { EndFollows (UnboundedAction.PushLook value tail held) result }
 {
     match held {
         Some(h) => stay(UnboundedAction::PushSwap(value, tail, block, Some(h))),
@@ -33,7 +36,8 @@ pub(crate) fn ready<T>(value: T, tail: u64, block: u64, held: Option<u64>) -> Pr
 }
 
 pub(crate) fn unready<T>(value: T, tail: u64, held: Option<u64>) -> Progress<T>
-    ensures { result ≡ look_first value tail held }
+    ensures steps { result ≡ look_first value tail held }
+    ensures ends { EndFollows (UnboundedAction.PushLook value tail held) result }
 {
     match held {
         Some(h) => stay(UnboundedAction::PushFirst(value, tail, h)),
@@ -42,7 +46,8 @@ pub(crate) fn unready<T>(value: T, tail: u64, held: Option<u64>) -> Progress<T>
 }
 
 pub(crate) fn won<T>(value: T, tail: u64, block: u64, held: Option<u64>) -> UnboundedAction<T>
-    ensures { result ≡ after_swap value tail block held }
+    ensures action { result ≡ after_swap value tail block held }
+    ensures ends { (e : Ending T) → MayEnd result e → Sends value e }
 {
     match held {
         Some(h) => {
@@ -63,6 +68,7 @@ pub(crate) fn push_load<T: Drop, C: Cells<T>>(
 ) -> Progress<T>
     ensures steps { C.known → (C.contents cells.new, result) ≡ load_tail (C.contents cells.old) value held }
     ensures form { C.form_of cells.new ≡ C.form_of cells.old }
+    ensures ends { EndFollows (UnboundedAction.Push value held) result }
 {
     let tail = cells.load(Word::Tail);
     if tail % 2 == 1 {
@@ -83,6 +89,7 @@ pub(crate) fn push_shut<T: Drop, C: Cells<T>>(
 ) -> Progress<T>
     ensures steps { C.known → (C.contents cells.new, result) ≡ shut_tail (C.contents cells.old) value held }
     ensures form { C.form_of cells.new ≡ C.form_of cells.old }
+    ensures ends { EndFollows (UnboundedAction.PushShut value held) result }
 {
     let tail = cells.fetch_or(Word::Tail, 1);
     let refused = refuse_shut(value, held);
@@ -100,6 +107,7 @@ pub(crate) fn push_shut<T: Drop, C: Cells<T>>(
 pub(crate) fn push_return<T: Drop, C: Cells<T>>(value: T, held: u64, cells: &mut C) -> Progress<T>
     ensures steps { C.known → (C.contents cells.new, result) ≡ give_back (C.contents cells.old) value held }
     ensures form { C.form_of cells.new ≡ C.form_of cells.old }
+    ensures ends { EndFollows (UnboundedAction.PushReturn value held) result }
 {
     cells.retire(held);
     finish(Ending::Closed(value))
@@ -113,6 +121,7 @@ pub(crate) fn push_look<T: Drop, C: Cells<T>>(
 ) -> Progress<T>
     ensures steps { C.known → (C.contents cells.new, result) ≡ look_tail_block (C.contents cells.old) value tail held }
     ensures form { C.form_of cells.new ≡ C.form_of cells.old }
+    ensures ends { EndFollows (UnboundedAction.PushLook value tail held) result }
 {
     let block = cells.load(Word::TailBlock);
     if block == 0 {
@@ -125,6 +134,7 @@ pub(crate) fn push_look<T: Drop, C: Cells<T>>(
 pub(crate) fn push_make<T: Drop, C: Cells<T>>(value: T, tail: u64, cells: &mut C) -> Progress<T>
     ensures steps { C.known → Obtains (C.contents cells.old) value (λ h. UnboundedAction.PushFirst value tail h) (C.contents cells.new, result) }
     ensures form { C.form_of cells.new ≡ C.form_of cells.old }
+    ensures ends { EndFollows (UnboundedAction.PushMake value tail) result }
 {
     match cells.spare() {
         Ok(h) => stay(UnboundedAction::PushFirst(value, tail, h)),
@@ -140,6 +150,7 @@ pub(crate) fn push_more<T: Drop, C: Cells<T>>(
 ) -> Progress<T>
     ensures steps { C.known → Obtains (C.contents cells.old) value (λ h. UnboundedAction.PushSwap value tail block (Some h)) (C.contents cells.new, result) }
     ensures form { C.form_of cells.new ≡ C.form_of cells.old }
+    ensures ends { EndFollows (UnboundedAction.PushMore value tail block) result }
 {
     match cells.spare() {
         Ok(h) => stay(UnboundedAction::PushSwap(value, tail, block, Some(h))),
@@ -155,6 +166,7 @@ pub(crate) fn push_first<T: Drop, C: Cells<T>>(
 ) -> Progress<T>
     ensures steps { C.known → (C.contents cells.new, result) ≡ swap_first (C.contents cells.old) value tail held }
     ensures form { C.form_of cells.new ≡ C.form_of cells.old }
+    ensures ends { EndFollows (UnboundedAction.PushFirst value tail held) result }
 {
     match cells.compare_exchange(Word::TailBlock, 0, held.wrapping_add(1)) {
         Ok(_) => stay(UnboundedAction::PushStart(value, tail, held)),
@@ -170,6 +182,7 @@ pub(crate) fn push_start<T: Drop, C: Cells<T>>(
 ) -> Progress<T>
     ensures steps { C.known → (C.contents cells.new, result) ≡ start_head (C.contents cells.old) value tail block }
     ensures form { C.form_of cells.new ≡ C.form_of cells.old }
+    ensures ends { EndFollows (UnboundedAction.PushStart value tail block) result }
 {
     cells.store(Word::HeadBlock, block.wrapping_add(1));
     ready(value, tail, block, None)
@@ -184,6 +197,7 @@ pub(crate) fn push_swap<T: Drop, C: Cells<T>>(
 ) -> Progress<T>
     ensures steps { C.known → (C.contents cells.new, result) ≡ swap_tail (C.contents cells.old) value tail block held }
     ensures form { C.form_of cells.new ≡ C.form_of cells.old }
+    ensures ends { EndFollows (UnboundedAction.PushSwap value tail block held) result }
 {
     match cells.compare_exchange(Word::Tail, tail, tail.wrapping_add(2)) {
         Ok(_) => marked(won(value, tail, block, held), QueueMark::Append),
@@ -200,6 +214,7 @@ pub(crate) fn push_turn<T: Drop, C: Cells<T>>(
 ) -> Progress<T>
     ensures steps { C.known → (C.contents cells.new, result) ≡ turn_tail_block (C.contents cells.old) value tail block next }
     ensures form { C.form_of cells.new ≡ C.form_of cells.old }
+    ensures ends { EndFollows (UnboundedAction.PushTurn value tail block next) result }
 {
     cells.store(Word::TailBlock, next.wrapping_add(1));
     stay(UnboundedAction::PushAdd(value, tail, block, next))
@@ -214,6 +229,7 @@ pub(crate) fn push_add<T: Drop, C: Cells<T>>(
 ) -> Progress<T>
     ensures steps { C.known → (C.contents cells.new, result) ≡ add_tail (C.contents cells.old) value tail block next }
     ensures form { C.form_of cells.new ≡ C.form_of cells.old }
+    ensures ends { EndFollows (UnboundedAction.PushAdd value tail block next) result }
 {
     cells.fetch_add(Word::Tail, 2);
     stay(UnboundedAction::PushLink(value, tail, block, next))
@@ -228,6 +244,7 @@ pub(crate) fn push_link<T: Drop, C: Cells<T>>(
 ) -> Progress<T>
     ensures steps { C.known → (C.contents cells.new, result) ≡ link_next (C.contents cells.old) value tail block next }
     ensures form { C.form_of cells.new ≡ C.form_of cells.old }
+    ensures ends { EndFollows (UnboundedAction.PushLink value tail block next) result }
 {
     cells.store(Word::Next(block), next.wrapping_add(1));
     stay(UnboundedAction::PushPut(value, tail, block, None))
@@ -242,6 +259,7 @@ pub(crate) fn push_put<T: Drop, C: Cells<T>>(
 ) -> Progress<T>
     ensures steps { C.known → (C.contents cells.new, result) ≡ put_message (C.contents cells.old) value tail block held }
     ensures form { C.form_of cells.new ≡ C.form_of cells.old }
+    ensures ends { EndFollows (UnboundedAction.PushPut value tail block held) result }
 {
     match cells.put(Slot::In(block, tail / 2 % 32), value) {
         Ok(()) => stay(UnboundedAction::PushStore(tail, block, held)),
@@ -257,6 +275,7 @@ pub(crate) fn push_store<T: Drop, C: Cells<T>>(
 ) -> Progress<T>
     ensures steps { C.known → (C.contents cells.new, result) ≡ store_written (C.contents cells.old) tail block held }
     ensures form { C.form_of cells.new ≡ C.form_of cells.old }
+    ensures ends { EndFollows (UnboundedAction.PushStore tail block held) result }
 {
     cells.store(Word::Written(block, tail / 2 % 32), 1);
     match held {
@@ -268,6 +287,7 @@ pub(crate) fn push_store<T: Drop, C: Cells<T>>(
 pub(crate) fn push_give<T: Drop, C: Cells<T>>(held: u64, cells: &mut C) -> Progress<T>
     ensures steps { C.known → (C.contents cells.new, result) ≡ give_spare (C.contents cells.old) held }
     ensures form { C.form_of cells.new ≡ C.form_of cells.old }
+    ensures ends { EndFollows (UnboundedAction.PushGive held) result }
 {
     cells.retire(held);
     finish(Ending::Sent)

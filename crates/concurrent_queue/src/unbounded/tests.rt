@@ -1,13 +1,18 @@
+ghost use Rattle.std.specs.Prelude.{◌≡◌};
+ghost use Rattle.concurrent_queue.specs.Contents.{empty_blocks};
+ghost use Rattle.concurrent_queue.specs.Plain.{contents_of};
+
 use super::*;
 use crate::call::QueueMark;
 use crate::cells::{NoMemory, QueueForm, Slot, Word};
 use crate::error::PopError;
-use crate::exclusive::Exclusive;
+use crate::exclusive::{Exclusive, POSITIONS, finish, pop_from, push_into};
 use crate::plain::PlainCells;
 use crate::queue_call::QueueCall;
 use crate::run::{QueueRun, QueueStep, run_queue_steps};
 use std::alloc::Global;
 use std::collections::VecDeque;
+use std::marker::Model;
 use std::test::Fail;
 
 /// The cells of an unbounded queue for which only so many more blocks can be made: each request for memory past them is
@@ -82,7 +87,9 @@ impl Cells<u64> for Scarce {
     }
 }
 
-fn cells_with(alloc: Global, left: u32) -> Scarce {
+fn cells_with(alloc: Global, left: u32) -> Scarce
+    ensures { contents_of result.cells ≡ empty_blocks }
+{
     Scarce {
         cells: PlainCells::unbounded(alloc),
         left,
@@ -130,26 +137,76 @@ fn has_length(cells: &mut Scarce, length: usize) -> bool {
     }
 }
 
+/// A queue of one owner over such cells. `Exclusive` makes its calls by the same functions.
+#[derive(Drop)]
+struct Short {
+    cells: Scarce,
+    used: u64,
+}
+
+impl Model for Short {
+    ghost use Rattle.std.specs.Prelude.{ℕ};
+    ghost use Rattle.concurrent_queue.specs.Alone.{Held, held, IsSound};
+    ghost use Rattle.concurrent_queue.specs.Plain.{contents_of};
+
+    ghost Value = { Held ℕ };
+
+    ghost view = { λ q. held (contents_of q.cells.cells) q.used };
+
+    ghost invariant = { λ q. IsSound (contents_of q.cells.cells) q.used };
+}
+
+impl Short {
+    fn new(alloc: Global, left: u32) -> Short {
+        Short {
+            cells: cells_with(alloc, left),
+            used: 0,
+        }
+    }
+
+    fn allow(&mut self, blocks: u32) {
+        self.cells.left = blocks;
+    }
+
+    fn push(&mut self, value: u64) -> Result<(), PushError<u64>> {
+        if self.used == POSITIONS {
+            return Err(PushError::Closed(value));
+        }
+        push_into(&mut self.cells, &mut self.used, value)
+    }
+
+    fn pop(&mut self) -> Result<u64, PopError> {
+        pop_from(&mut self.cells, &mut self.used)
+    }
+
+    fn is_empty(&mut self) -> bool {
+        match finish(&mut self.cells, &mut self.used, QueueAsk::Len) {
+            QueueReply::Count(length) => length == 0,
+            _ => false,
+        }
+    }
+}
+
 #[test]
 fn a_refused_push_changes_nothing(rt: HostRuntime) -> Result<(), Fail> {
-    let mut cells = cells_with(rt.alloc(), 0);
-    assert!(rt; refuses(&mut cells, 5));
-    assert!(rt; has_length(&mut cells, 0));
-    cells.left = 1;
-    assert!(rt; pushes(&mut cells, 5));
-    assert!(rt; pops(&mut cells, 5));
+    let mut queue = Short::new(rt.alloc(), 0);
+    assert!(rt; matches!(queue.push(5), Err(PushError::NoMemory(5))));
+    assert!(rt; queue.is_empty());
+    queue.allow(1);
+    assert!(rt; queue.push(5).is_ok());
+    assert!(rt; matches!(queue.pop(), Ok(5)));
     Ok(())
 }
 
 #[test]
 fn two_blocks_serve_one_message_at_a_time(rt: HostRuntime) -> Result<(), Fail> {
-    let mut cells = cells_with(rt.alloc(), 2);
+    let mut queue = Short::new(rt.alloc(), 2);
     for value in 1..1001u64 {
         if value == 32 {
-            cells.left = 0;
+            queue.allow(0);
         }
-        assert!(rt; pushes(&mut cells, value));
-        assert!(rt; pops(&mut cells, value));
+        assert!(rt; queue.push(value).is_ok());
+        assert!(rt; queue.pop() == Ok(value));
     }
     Ok(())
 }

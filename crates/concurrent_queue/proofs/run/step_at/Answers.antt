@@ -16,4 +16,4 @@ returns g c =
       | in-Some w ↦ rw (w.in-Some.is, w.parties-is, w.leave.ensures) (remove-set ps.items c.args.k _)
       | in-None w ↦ rw (w.in-None.is, w.parties-is) refl
     ] in
-    stepped (contents_of c.args.cells.now) (contents_of c.step-reply.new.cells) ps.items c.match-reply.parties.items c.args.k x c.step-reply.new.self c.step-reply.result c.last_mark-mark.result there (c.step-reply.ensures tt) c.last_mark-mark.ensures after
+    stepped (contents_of c.args.cells.now) (contents_of c.step-reply.new.cells) ps.items c.match-reply.parties.items c.args.k x c.step-reply.new.self c.step-reply.result c.last_mark-mark.result there (c.step-reply.ensures.steps tt) c.last_mark-mark.ensures after

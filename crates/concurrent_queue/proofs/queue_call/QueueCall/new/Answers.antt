@@ -1,5 +1,5 @@
 use Rattle.concurrent_queue.proofs.FitsFacts.{starts}
 use Rattle.concurrent_queue.proofs.queue_call.QueueCall.new.Goals as goal
 
-pub returns : goal.returns
-returns g c = starts c.args.ask _
+pub returns-clause-starts : goal.returns-clause-starts
+returns-clause-starts g c = starts c.args.ask _

@@ -1,0 +1,128 @@
+-- The steps that a push and a pop make on end are those of their machines.
+use Rattle.std.proofs.Common.{◌≡◌, ℕ, ◌+◌, ◌%◌, ◌^◌, ◌==◌, true, arith, slice_index, None, Some, Result, Ok, Err, ⊎_elim, refl, ap}
+use Rattle.std.proofs.lemmas.Bool.Decides.{nat_tests}
+use Rattle.concurrent_queue.specs.Contents.{Contents, write_slot, slot_at}
+use Rattle.concurrent_queue.specs.Ahead.{IsStep, PushesSingle, PopsSingle, PushesRing, PopsRing, CanWin, GoesAhead, PopsOnEnd}
+use Rattle.concurrent_queue.specs.RingWords.{index, next_word, set_tail, set_head, ring_step}
+use Rattle.concurrent_queue.specs.RingWords as words
+use Rattle.concurrent_queue.specs.Single.{set_state, single_step}
+use Rattle.concurrent_queue.specs.Single as one
+use Rattle.concurrent_queue.specs.declared.bounded.RingAction.{RingAction}
+use Rattle.concurrent_queue.specs.declared.bounded.RingAction.TheVariants as ring
+use Rattle.concurrent_queue.specs.declared.bounded.WhenFull.TheVariants.{Refuse}
+use Rattle.concurrent_queue.specs.declared.call.QueueMark.TheVariants.{Nothing, Append, Take}
+use Rattle.concurrent_queue.specs.declared.call.QueueReply.TheVariants as reply
+use Rattle.concurrent_queue.specs.declared.cells.Slot.TheVariants.{At}
+use Rattle.concurrent_queue.specs.declared.single.SingleAction.{SingleAction}
+use Rattle.concurrent_queue.specs.declared.single.SingleAction.TheVariants as single
+
+itself : (n : ℕ) → (n == n) ≡ true
+itself n = grind (arith, nat_tests)
+
+module _ {T : Type 0} where
+  -- ---- one slot
+
+  won_slot : (c : Contents T) (v : T) → c.state ≡ 0 → IsStep single_step c (single.Push v) (set_state c 3) (single.PushPut v)
+  won_slot c v free =
+      let e : (c.state == 0) ≡ true = ap (λ (n : ℕ). n == 0) free in
+      let made : (set_state c 3, one.marks (single.PushPut v) Append) ≡ single_step c (single.Push v) = rw e refl in (Append, made)
+
+  pub single_pushes : (c : Contents T) (v : T) (r : Result Unit (SingleAction T)) (d : Contents T) → PushesSingle c v r d → GoesAhead single_step c (single.Push v) (reply.Push (Ok tt)) r d
+  single_pushes c v (Ok u) d (free, vacant, left) =
+      let c1 : Contents T = set_state c 3 in
+      let c2 : Contents T = write_slot c1 (At 0) (Some v) in
+      let put : (c2, one.stays single.PushUnlock) ≡ single_step c1 (single.PushPut v) = rw vacant refl in
+      let unlock : (d, one.finishes (reply.Push (Ok tt))) ≡ single_step c2 single.PushUnlock = ap (λ (x : Contents T). (x, one.finishes (reply.Push (Ok tt)))) left in
+      (2, (c2, single.PushUnlock, single.Finished, Nothing, (c1, single.PushPut v, won_slot c v free, (c2, single.PushUnlock, (Nothing, put), (refl, refl))), unlock))
+  single_pushes c v (Err a) d h =
+      ⊎_elim (λ (x : (a ≡ single.Push v) × (d ≡ c)). (0, (x.1, x.0)))
+      (λ (x : (c.state ≡ 0) × (a ≡ single.PushPut v) × (d ≡ set_state c 3)). (1, (set_state c 3, single.PushPut v, won_slot c v x.0, (x.2, x.1))))
+      h
+
+  won_message : (c : Contents T) → c.state ≡ 2 → IsStep single_step c (single.Pop 2) (set_state c 1) single.PopTake
+  won_message c there =
+      let e : (c.state == 2) ≡ true = ap (λ (n : ℕ). n == 2) there in
+      let made : (set_state c 1, one.marks single.PopTake Take) ≡ single_step c (single.Pop 2) = rw e refl in (Take, made)
+
+  pub single_pops : (c : Contents T) (r : Result T (SingleAction T)) (d : Contents T) → PopsSingle c r d → PopsOnEnd single_step c (single.Pop 2) r d
+  single_pops c (Ok v) d (there, full, left) =
+      let c1 : Contents T = set_state c 1 in
+      let c2 : Contents T = write_slot c1 (At 0) None in
+      let take : (c2, one.stays (single.PopUnlock v)) ≡ single_step c1 single.PopTake = rw full refl in
+      let unlock : (d, one.finishes (reply.Pop (Ok v))) ≡ single_step c2 (single.PopUnlock v) = ap (λ (x : Contents T). (x, one.finishes (reply.Pop (Ok v)))) left in
+      (2, (c2, single.PopUnlock v, single.Finished, Nothing, (c1, single.PopTake, won_message c there, (c2, single.PopUnlock v, (Nothing, take), (refl, refl))), unlock))
+  single_pops c (Err a) d h =
+      let c1 : Contents T = set_state c 1 in
+      let c2 : Contents T = write_slot c1 (At 0) None in
+      ⊎_elim (λ (x : (a ≡ single.Pop 2) × (d ≡ c)). (0, (x.1, x.0)))
+      (λ (x : (c.state ≡ 2) × (slot_at c (At 0) ≡ None) × (a ≡ single.PopTake) × (d ≡ c2)).
+      let take : (c2, one.stays single.PopTake) ≡ single_step c1 single.PopTake = rw (x.1) refl in
+      (2, (c1, single.PopTake, won_message c x.0, (c2, single.PopTake, (Nothing, take), (x.3, x.2)))))
+      h
+
+  -- ---- a ring
+
+  module _ (cap m : ℕ) (c : Contents T) where
+    pub ring_pushes : (v : T) (r : Result Unit (RingAction T)) (d : Contents T) → PushesRing cap m c v r d → GoesAhead (ring_step cap m) c (ring.Push Refuse v) (reply.Push (Ok tt)) r d
+    ring_pushes v (Ok u) d (free, left) =
+        let t = c.tail in
+        let c1 : Contents T = set_tail c (next_word cap m t) in
+        let c2 : Contents T = write_slot c1 (At (index m t)) (Some v) in
+        let e1 : (c, words.stays (ring.PushStamp Refuse v t)) ≡ ring_step cap m c (ring.Push Refuse v) = rw (free.0, free.1) refl in
+        let e2 : (c, words.stays (ring.PushSwap Refuse v t)) ≡ ring_step cap m c (ring.PushStamp Refuse v t) = rw free.2 refl in
+        let e3 : (c1, words.marks (ring.PushPut Refuse v t) Append) ≡ ring_step cap m c (ring.PushSwap Refuse v t) = rw (itself t) refl in
+        let e4 : (c2, words.stays (ring.PushStore Refuse t)) ≡ ring_step cap m c1 (ring.PushPut Refuse v t) = rw free.3 refl in
+        let e5 : (d, words.finishes (reply.Push (Ok tt))) ≡ ring_step cap m c2 (ring.PushStore Refuse t) = ap (λ (x : Contents T). (x, words.finishes (reply.Push (Ok tt)))) left in (
+          4,
+          (
+            c2,
+            ring.PushStore Refuse t,
+            ring.Finished,
+            Nothing,
+            (c, ring.PushStamp Refuse v t, (Nothing, e1), (c, ring.PushSwap Refuse v t, (Nothing, e2), (c1, ring.PushPut Refuse v t, (Append, e3), (c2, ring.PushStore Refuse t, (Nothing, e4), (refl, refl))))),
+            e5,
+          ),
+        )
+    ring_pushes v (Err a) d h =
+        let t = c.tail in
+        let c1 : Contents T = set_tail c (next_word cap m t) in
+        ⊎_elim (λ (x : (a ≡ ring.Push Refuse v) × (d ≡ c)). (0, (x.1, x.0)))
+        (λ (x : CanWin cap m c × (a ≡ ring.PushPut Refuse v t) × (d ≡ c1)).
+        let e1 : (c, words.stays (ring.PushStamp Refuse v t)) ≡ ring_step cap m c (ring.Push Refuse v) = rw (x.0.0, x.0.1) refl in
+        let e2 : (c, words.stays (ring.PushSwap Refuse v t)) ≡ ring_step cap m c (ring.PushStamp Refuse v t) = rw x.0.2 refl in
+        let e3 : (c1, words.marks (ring.PushPut Refuse v t) Append) ≡ ring_step cap m c (ring.PushSwap Refuse v t) = rw (itself t) refl in
+        (3, (c, ring.PushStamp Refuse v t, (Nothing, e1), (c, ring.PushSwap Refuse v t, (Nothing, e2), (c1, ring.PushPut Refuse v t, (Append, e3), (x.2, x.1))))))
+        h
+
+    pub ring_pops : (r : Result T (RingAction T)) (d : Contents T) → PopsRing cap m c r d → PopsOnEnd (ring_step cap m) c ring.Pop r d
+    ring_pops (Ok v) d (there, left) =
+        let h = c.head in
+        let c1 : Contents T = set_head c (next_word cap m h) in
+        let c2 : Contents T = write_slot c1 (At (index m h)) None in
+        let e1 : (c, words.stays (ring.PopStamp h)) ≡ ring_step cap m c ring.Pop = refl in
+        let e2 : (c, words.stays (ring.PopSwap h)) ≡ ring_step cap m c (ring.PopStamp h) = rw there.0 refl in
+        let e3 : (c1, words.marks (ring.PopTake h) Take) ≡ ring_step cap m c (ring.PopSwap h) = rw (itself h) refl in
+        let e4 : (c2, words.stays (ring.PopStore h v)) ≡ ring_step cap m c1 (ring.PopTake h) = rw there.1 refl in
+        let e5 : (d, words.finishes (reply.Pop (Ok v))) ≡ ring_step cap m c2 (ring.PopStore h v) = ap (λ (x : Contents T). (x, words.finishes (reply.Pop (Ok v)))) left in (
+          4,
+          (
+            c2,
+            ring.PopStore h v,
+            ring.Finished,
+            Nothing,
+            (c, ring.PopStamp h, (Nothing, e1), (c, ring.PopSwap h, (Nothing, e2), (c1, ring.PopTake h, (Take, e3), (c2, ring.PopStore h v, (Nothing, e4), (refl, refl))))),
+            e5,
+          ),
+        )
+    ring_pops (Err a) d h =
+        let p = c.head in
+        let c1 : Contents T = set_head c (next_word cap m p) in
+        let c2 : Contents T = write_slot c1 (At (index m p)) None in
+        ⊎_elim (λ (x : (a ≡ ring.Pop) × (d ≡ c)). (0, (x.1, x.0)))
+        (λ (x : ((slice_index c.stamps (index m p) == (p + 1) % 2 ^ 64) ≡ true) × (slot_at c (At (index m p)) ≡ None) × (a ≡ ring.PopTake p) × (d ≡ c2)).
+        let e1 : (c, words.stays (ring.PopStamp p)) ≡ ring_step cap m c ring.Pop = refl in
+        let e2 : (c, words.stays (ring.PopSwap p)) ≡ ring_step cap m c (ring.PopStamp p) = rw x.0 refl in
+        let e3 : (c1, words.marks (ring.PopTake p) Take) ≡ ring_step cap m c (ring.PopSwap p) = rw (itself p) refl in
+        let e4 : (c2, words.stays (ring.PopTake p)) ≡ ring_step cap m c1 (ring.PopTake p) = rw x.1 refl in
+        (4, (c, ring.PopStamp p, (Nothing, e1), (c, ring.PopSwap p, (Nothing, e2), (c1, ring.PopTake p, (Take, e3), (c2, ring.PopTake p, (Nothing, e4), (x.3, x.2)))))))
+        h

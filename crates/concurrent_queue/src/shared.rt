@@ -1,0 +1,11 @@
+//! The queue that threads share, and what it stands on: tables of words and slots, blocks under their numbers, and cells
+//! over both, on which the steps of a call run.
+
+pub(crate) mod blocks;
+pub(crate) mod cells;
+pub(crate) mod guard;
+pub mod iter;
+pub mod queue;
+pub(crate) mod table;
+#[cfg(test)]
+mod tests;

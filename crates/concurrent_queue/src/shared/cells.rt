@@ -1,0 +1,298 @@
+//! The cells of a shared queue, on which a call steps: one form with the runtime value, and one of words alone for the calls
+//! that wait for nobody. Nothing is known of what they hold, since any thread may step on them at any time.
+
+use crate::cells::{Cells, NoMemory, QueueForm, Slot, Word};
+use crate::shared::blocks::{Blocks, NEXT, READS, WRITTEN};
+use crate::shared::table::SeatedTable;
+use std::sync::Wait;
+
+/// The words of a queue by their indices. A ring has a stamp for each slot behind them.
+const STATE: usize = 0;
+
+const HEAD: usize = 1;
+
+const TAIL: usize = 2;
+
+const HEAD_BLOCK: usize = 3;
+
+const TAIL_BLOCK: usize = 4;
+
+pub(crate) const STAMPS: usize = 5;
+
+/// Where a word lies: among the queue's own words, or among those of a block.
+enum Place {
+    Own(usize),
+    InBlock(u64, usize),
+}
+
+#[inline(always)]
+fn place_of(at: Word) -> Place {
+    match at {
+        Word::State => Place::Own(STATE),
+        Word::Head => Place::Own(HEAD),
+        Word::Tail => Place::Own(TAIL),
+        Word::Stamp(index) => Place::Own(STAMPS.saturating_add(index as usize)),
+        Word::HeadBlock => Place::Own(HEAD_BLOCK),
+        Word::TailBlock => Place::Own(TAIL_BLOCK),
+        Word::Next(block) => Place::InBlock(block, NEXT),
+        Word::Reads(block) => Place::InBlock(block, READS),
+        Word::Written(block, offset) => Place::InBlock(
+            block,
+            WRITTEN.saturating_add(offset as usize),
+        ),
+    }
+}
+
+/// Words and slots, from a seat of its own. It has no spare block and keeps none. It remembers the block that it looked up
+/// last, since a call stays with one block for most of its steps.
+#[derive(Drop)]
+pub(crate) struct WordCells<'a, T: Drop> {
+    form: QueueForm,
+    own: SeatedTable<'a, T>,
+    blocks: Option<&'a Blocks<T>>,
+    near: Option<SeatedTable<'a, T>>,
+    number: u64,
+}
+
+impl<'a, T: Drop> WordCells<'a, T> {
+    ghost use Rattle.std.specs.Prelude.{◌≡◌};
+
+    /// The cells of a queue with these words, these slots and these blocks.
+    #[inline(always)]
+    pub(crate) fn new(
+        form: QueueForm,
+        own: SeatedTable<'a, T>,
+        blocks: Option<&'a Blocks<T>>,
+    ) -> WordCells<'a, T>
+        ensures { result.form ≡ form }
+    {
+        WordCells {
+            form,
+            own,
+            blocks,
+            near: None,
+            number: 0,
+        }
+    }
+
+    /// Looks up the block of this number.
+    #[inline(always)]
+    fn look_up(&mut self, block: u64)
+        ensures { self.new.form ≡ self.old.form }
+    {
+        if self.near.is_none() || self.number != block {
+            self.near = match self.blocks {
+                Some(blocks) => blocks.seat(block),
+                None => None,
+            };
+            self.number = block;
+        }
+    }
+}
+
+impl<'a, T: Drop> Cells<T> for WordCells<'a, T> {
+    ghost use Rattle.concurrent_queue.specs.Contents.{no_contents};
+
+    ghost known = { ⊥ };
+
+    ghost contents = { λ c. no_contents c.form };
+
+    ghost form_of = { λ c. c.form };
+
+    #[inline(always)]
+    fn form(&self) -> QueueForm {
+        self.form
+    }
+
+    #[inline(always)]
+    fn load(&mut self, at: Word) -> u64 {
+        match place_of(at) {
+            Place::Own(word) => self.own.load(word),
+            Place::InBlock(block, word) => {
+                self.look_up(block);
+                match &mut self.near {
+                    Some(words) => words.load(word),
+                    None => 0,
+                }
+            }
+        }
+    }
+
+    #[inline(always)]
+    fn store(&mut self, at: Word, value: u64) {
+        match place_of(at) {
+            Place::Own(word) => self.own.store(word, value),
+            Place::InBlock(block, word) => {
+                self.look_up(block);
+                if let Some(words) = &mut self.near {
+                    words.store(word, value);
+                }
+            }
+        }
+    }
+
+    #[inline(always)]
+    fn compare_exchange(&mut self, at: Word, expected: u64, next: u64) -> Result<u64, u64> {
+        match place_of(at) {
+            Place::Own(word) => self.own.compare_exchange(word, expected, next),
+            Place::InBlock(block, word) => {
+                self.look_up(block);
+                match &mut self.near {
+                    Some(words) => words.compare_exchange(word, expected, next),
+                    None => Err(0),
+                }
+            }
+        }
+    }
+
+    #[inline(always)]
+    fn fetch_add(&mut self, at: Word, by: u64) -> u64 {
+        match place_of(at) {
+            Place::Own(word) => self.own.fetch_add(word, by),
+            Place::InBlock(block, word) => {
+                self.look_up(block);
+                match &mut self.near {
+                    Some(words) => words.fetch_add(word, by),
+                    None => 0,
+                }
+            }
+        }
+    }
+
+    #[inline(always)]
+    fn fetch_or(&mut self, at: Word, bits: u64) -> u64 {
+        match place_of(at) {
+            Place::Own(word) => self.own.fetch_or(word, bits),
+            Place::InBlock(block, word) => {
+                self.look_up(block);
+                match &mut self.near {
+                    Some(words) => words.fetch_or(word, bits),
+                    None => 0,
+                }
+            }
+        }
+    }
+
+    #[inline(always)]
+    fn fetch_and(&mut self, at: Word, bits: u64) -> u64 {
+        match place_of(at) {
+            Place::Own(word) => self.own.fetch_and(word, bits),
+            Place::InBlock(block, word) => {
+                self.look_up(block);
+                match &mut self.near {
+                    Some(words) => words.fetch_and(word, bits),
+                    None => 0,
+                }
+            }
+        }
+    }
+
+    #[inline(always)]
+    fn put(&mut self, at: Slot, value: T) -> Result<(), T> {
+        match at {
+            Slot::At(index) => self.own.put(index as usize, value),
+            Slot::In(block, offset) => {
+                self.look_up(block);
+                match &mut self.near {
+                    Some(slots) => slots.put(offset as usize, value),
+                    None => Err(value),
+                }
+            }
+        }
+    }
+
+    #[inline(always)]
+    fn take(&mut self, at: Slot) -> Option<T> {
+        match at {
+            Slot::At(index) => self.own.take(index as usize),
+            Slot::In(block, offset) => {
+                self.look_up(block);
+                match &mut self.near {
+                    Some(slots) => slots.take(offset as usize),
+                    None => None,
+                }
+            }
+        }
+    }
+
+    fn spare(&mut self) -> Result<u64, NoMemory> {
+        Err(NoMemory)
+    }
+
+    fn retire(&mut self, _block: u64) {}
+}
+
+/// The same with the runtime value, by which it locks the spare list.
+#[derive(Drop)]
+pub(crate) struct SharedCells<'a, T: Drop, R: Wait> {
+    pub(crate) words: WordCells<'a, T>,
+    pub(crate) rt: &'a R,
+}
+
+impl<'a, T: Drop, R: Wait> Cells<T> for SharedCells<'a, T, R> {
+    ghost use Rattle.concurrent_queue.specs.Contents.{no_contents};
+
+    ghost known = { ⊥ };
+
+    ghost contents = { λ c. no_contents c.words.form };
+
+    ghost form_of = { λ c. c.words.form };
+
+    #[inline(always)]
+    fn form(&self) -> QueueForm {
+        self.words.form
+    }
+
+    #[inline(always)]
+    fn load(&mut self, at: Word) -> u64 {
+        self.words.load(at)
+    }
+
+    #[inline(always)]
+    fn store(&mut self, at: Word, value: u64) {
+        self.words.store(at, value);
+    }
+
+    #[inline(always)]
+    fn compare_exchange(&mut self, at: Word, expected: u64, next: u64) -> Result<u64, u64> {
+        self.words.compare_exchange(at, expected, next)
+    }
+
+    #[inline(always)]
+    fn fetch_add(&mut self, at: Word, by: u64) -> u64 {
+        self.words.fetch_add(at, by)
+    }
+
+    #[inline(always)]
+    fn fetch_or(&mut self, at: Word, bits: u64) -> u64 {
+        self.words.fetch_or(at, bits)
+    }
+
+    #[inline(always)]
+    fn fetch_and(&mut self, at: Word, bits: u64) -> u64 {
+        self.words.fetch_and(at, bits)
+    }
+
+    #[inline(always)]
+    fn put(&mut self, at: Slot, value: T) -> Result<(), T> {
+        self.words.put(at, value)
+    }
+
+    #[inline(always)]
+    fn take(&mut self, at: Slot) -> Option<T> {
+        self.words.take(at)
+    }
+
+    fn spare(&mut self) -> Result<u64, NoMemory> {
+        match self.words.blocks {
+            Some(blocks) => blocks.spare(self.rt),
+            None => Err(NoMemory),
+        }
+    }
+
+    fn retire(&mut self, block: u64) {
+        if let Some(blocks) = self.words.blocks {
+            blocks.retire(self.rt, block);
+        }
+    }
+}

@@ -1,0 +1,197 @@
+//! Words and slots that threads share, by their indices.
+
+ghost use Rattle.std.specs.Prelude.{◌≡◌, ◌<◌, ◌≤◌, ◌+◌, ◌*◌, [], None, IfSome, IfErr, IfOk, length};
+ghost use Rattle.concurrent_queue.specs.Guarded.{AreFree};
+
+use crate::shared::guard::{Give, GuardRule, Look, Sit, Win};
+use atomic_table::{Seat, Table};
+use std::alloc::{AllocError, Global};
+
+/// A place from which a thread steps on a table. It knows which slot it holds.
+type GuardSeat<T> = Seat<Option<T>, Option<u64>>;
+
+type GuardTable<T> = Table<Option<T>, Option<u64>, (), GuardRule, Global>;
+
+/// Words and slots of a queue or of one of its blocks. The table has a guard for each slot in front of the words, which is
+/// 1 while some seat has the slot.
+#[derive(Drop)]
+pub(crate) struct SharedTable<T> {
+    table: GuardTable<T>,
+    ghost wide: { table.shared.table_id.slots < table.shared.table_id.words },
+}
+
+/// The same, with a seat that holds no slot.
+#[derive(Drop)]
+pub(crate) struct SeatedTable<'a, T> {
+    table: &'a GuardTable<T>,
+    seat: GuardSeat<T>,
+    ghost wide: { table.now.shared.table_id.slots < table.now.shared.table_id.words },
+    ghost seated: { (seat.table_id ≡ table.now.shared.table_id) × (seat.me ≡ (None, [])) },
+}
+
+/// The guards, all 0, and then these words.
+fn with_guards(alloc: Global, slots: usize, words: &[u64]) -> Result<Vec<u64>, AllocError>
+    requires { 0 < length words.now }
+    ensures { IfOk result (λ v. (slots < length v.items) × AreFree slots v.items) }
+{
+    let Some(all) = slots.checked_add(words.len()) else {
+        return Err(AllocError);
+    };
+    let mut guarded = Vec::with_capacity(alloc, all)?;
+    for i in 0..all {
+        guarded.push(if i < slots { 0 } else { words[i - slots] })?;
+    }
+    Ok(guarded)
+}
+
+impl<T> SharedTable<T> {
+    /// A table with these words, and so many empty slots.
+    pub(crate) fn new(
+        alloc: Global,
+        words: &[u64],
+        slots: usize,
+    ) -> Result<SharedTable<T>, AllocError>
+        requires { 0 < length words.now }
+    {
+        let guarded = with_guards(alloc, slots, words)?;
+        let (table, _seat) = Table::vacant(alloc, guarded.as_slice(), slots, &())?;
+        Ok(SharedTable { table })
+    }
+
+    /// A new seat. It costs one load.
+    #[inline(always)]
+    pub(crate) fn seat(&self) -> SeatedTable<'_, T> {
+        let slots = self.table.slot_count();
+        SeatedTable {
+            table: &self.table,
+            seat: self.table.shared.load_new_seat::<Sit>(slots).1,
+        }
+    }
+}
+
+impl<'a, T> SeatedTable<'a, T> {
+    /// Where a word lies in the table, if it is there.
+    #[inline(always)]
+    fn place(&self, word: usize) -> Option<usize>
+        ensures { IfSome result (λ i. (self.now.table.now.shared.table_id.slots ≤ i) × (i < self.now.table.now.shared.table_id.words)) }
+    {
+        let place = self.table.slot_count().checked_add(word)?;
+        if place < self.table.word_count() {
+            Some(place)
+        } else {
+            None
+        }
+    }
+
+    /// What the word holds; 0 where there is none.
+    #[inline(always)]
+    pub(crate) fn load(&mut self, word: usize) -> u64 {
+        match self.place(word) {
+            Some(at) => self.table.shared.load::<Look>(&mut self.seat, at),
+            None => 0,
+        }
+    }
+
+    /// Writes the word, where there is one.
+    #[inline(always)]
+    pub(crate) fn store(&mut self, word: usize, value: u64) {
+        if let Some(at) = self.place(word) {
+            self.table.shared.store::<Look>(&mut self.seat, at, value);
+        }
+    }
+
+    /// Writes the word where it holds `expected`; `Err` with what it holds where it does not.
+    #[inline(always)]
+    pub(crate) fn compare_exchange(
+        &mut self,
+        word: usize,
+        expected: u64,
+        next: u64,
+    ) -> Result<u64, u64> {
+        let found = match self.place(word) {
+            Some(at) => self
+                .table
+                .shared
+                .compare_exchange::<Look>(&mut self.seat, at, expected, next),
+            None => 0,
+        };
+        if found == expected {
+            Ok(found)
+        } else {
+            Err(found)
+        }
+    }
+
+    /// Adds to the word, and answers what it held.
+    #[inline(always)]
+    pub(crate) fn fetch_add(&mut self, word: usize, by: u64) -> u64 {
+        match self.place(word) {
+            Some(at) => self.table.shared.fetch_add::<Look>(&mut self.seat, at, by),
+            None => 0,
+        }
+    }
+
+    /// Sets these bits of the word, and answers what it held.
+    #[inline(always)]
+    pub(crate) fn fetch_or(&mut self, word: usize, bits: u64) -> u64 {
+        match self.place(word) {
+            Some(at) => self.table.shared.fetch_or::<Look>(&mut self.seat, at, bits),
+            None => 0,
+        }
+    }
+
+    /// Keeps these bits of the word and clears all others, and answers what it held.
+    #[inline(always)]
+    pub(crate) fn fetch_and(&mut self, word: usize, bits: u64) -> u64 {
+        match self.place(word) {
+            Some(at) => self
+                .table
+                .shared
+                .fetch_and::<Look>(&mut self.seat, at, bits),
+            None => 0,
+        }
+    }
+
+    /// Fills an empty slot. `Err` hands the message back: the slot is full, or another seat has it, or there is none.
+    #[inline(always)]
+    pub(crate) fn put(&mut self, slot: usize, value: T) -> Result<(), T>
+        ensures { IfErr result (λ back. back ≡ value) }
+    {
+        if slot >= self.table.slot_count() {
+            return Err(value);
+        }
+        let shared = &self.table.shared;
+        if shared.compare_exchange::<Win>(&mut self.seat, slot, 0, 1) != 0 {
+            return Err(value);
+        }
+        match shared.exchange(&mut self.seat, slot, Some(value)) {
+            None => {
+                shared.store::<Give>(&mut self.seat, slot, 0);
+                Ok(())
+            }
+            full => {
+                let back = shared.exchange(&mut self.seat, slot, full);
+                shared.store::<Give>(&mut self.seat, slot, 0);
+                match back {
+                    Some(value) => Err(value),
+                    None => unreachable!(),
+                }
+            }
+        }
+    }
+
+    /// Empties a slot. `None`: it is empty, or another seat has it, or there is none.
+    #[inline(always)]
+    pub(crate) fn take(&mut self, slot: usize) -> Option<T> {
+        if slot >= self.table.slot_count() {
+            return None;
+        }
+        let shared = &self.table.shared;
+        if shared.compare_exchange::<Win>(&mut self.seat, slot, 0, 1) != 0 {
+            return None;
+        }
+        let found = shared.exchange(&mut self.seat, slot, None);
+        shared.store::<Give>(&mut self.seat, slot, 0);
+        found
+    }
+}

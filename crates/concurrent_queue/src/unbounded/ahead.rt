@@ -1,0 +1,127 @@
+//! The steps of a push and of a pop of an unbounded queue made on end, as `bounded::ahead` makes them of a ring.
+
+ghost use Rattle.std.specs.Prelude.{MatchResult};
+ghost use Rattle.concurrent_queue.specs.Replies.{MayEnd, Sends, Tells};
+ghost use Rattle.concurrent_queue.specs.declared.call.QueueAsk.TheVariants as ask;
+ghost use Rattle.concurrent_queue.specs.declared.unbounded.ending.Ending.{Ending};
+
+use crate::cells::{Cells, Slot, Word};
+use crate::unbounded::action::UnboundedAction;
+use crate::unbounded::pop::number_of;
+
+/// Pushes, or answers the action at which the machine has to go on: its first where there is no block yet, where nothing more
+/// comes in, and where another call was quicker.
+#[inline(always)]
+pub(crate) fn push_ahead<T: Drop, C: Cells<T>>(
+    value: T,
+    cells: &mut C,
+) -> Result<(), UnboundedAction<T>>
+    ensures answers { MatchResult result (λ _. Unit {0}) (λ a. (e : Ending T) → MayEnd a e → Sends value e) }
+{
+    let tail = cells.load(Word::Tail);
+    let offset = tail / 2 % 32;
+    if tail % 2 == 1 || tail / 2 >= 9223372036854775744 || offset == 31 {
+        return Err(UnboundedAction::Push(value, None));
+    }
+    let block = cells.load(Word::TailBlock);
+    if block == 0 {
+        return Err(UnboundedAction::Push(value, None));
+    }
+    if offset == 30 {
+        return push_last(value, tail, block - 1, cells);
+    }
+    if cells
+        .compare_exchange(Word::Tail, tail, tail.wrapping_add(2))
+        .is_err()
+    {
+        return Err(UnboundedAction::Push(value, None));
+    }
+    if let Err(value) = cells.put(Slot::In(block - 1, offset), value) {
+        return Err(UnboundedAction::PushPut(value, tail, block - 1, None));
+    }
+    cells.store(Word::Written(block - 1, offset), 1);
+    Ok(())
+}
+
+/// Pushes into the last slot of a block, for which the next one is got first. Where there is no memory for it the machine is
+/// left to say so.
+fn push_last<T: Drop, C: Cells<T>>(
+    value: T,
+    tail: u64,
+    block: u64,
+    cells: &mut C,
+) -> Result<(), UnboundedAction<T>>
+    ensures answers { MatchResult result (λ _. Unit {0}) (λ a. (e : Ending T) → MayEnd a e → Sends value e) }
+{
+    let Ok(next) = cells.spare() else {
+        return Err(UnboundedAction::PushMore(value, tail, block));
+    };
+    if cells
+        .compare_exchange(Word::Tail, tail, tail.wrapping_add(2))
+        .is_err()
+    {
+        return Err(UnboundedAction::Push(value, Some(next)));
+    }
+    cells.store(Word::TailBlock, next.wrapping_add(1));
+    cells.fetch_add(Word::Tail, 2);
+    cells.store(Word::Next(block), next.wrapping_add(1));
+    if let Err(value) = cells.put(Slot::In(block, 30), value) {
+        return Err(UnboundedAction::PushPut(value, tail, block, None));
+    }
+    cells.store(Word::Written(block, 30), 1);
+    Ok(())
+}
+
+/// Pops, or answers the action at which the machine has to go on: its first where there is no message and where another call
+/// was quicker, a later one where the message is not written yet or was the last of its block.
+#[inline(always)]
+pub(crate) fn pop_ahead<T: Drop, C: Cells<T>>(cells: &mut C) -> Result<T, UnboundedAction<T>>
+    ensures answers { MatchResult result (λ _. Unit {0}) (λ a. (e : Ending T) → MayEnd a e → Tells ask.Pop e) }
+{
+    let head = cells.load(Word::Head);
+    let offset = head % 32;
+    let block = cells.load(Word::HeadBlock);
+    let tail = cells.load(Word::Tail);
+    if offset == 31 || block == 0 || number_of(tail / 2) == number_of(head) {
+        return Err(UnboundedAction::Pop);
+    }
+    if cells
+        .compare_exchange(Word::Head, head, head.wrapping_add(1))
+        .is_err()
+    {
+        return Err(UnboundedAction::Pop);
+    }
+    if offset == 30 {
+        let next = cells.load(Word::Next(block - 1));
+        if next == 0 {
+            return Err(UnboundedAction::PopNext(head, block - 1));
+        }
+        cells.store(Word::HeadBlock, next);
+        cells.store(Word::Head, head.wrapping_add(2));
+    }
+    pop_written(head, block - 1, cells)
+}
+
+/// Takes the message at this position of a block, whose place the call has won.
+#[inline(always)]
+fn pop_written<T: Drop, C: Cells<T>>(
+    head: u64,
+    block: u64,
+    cells: &mut C,
+) -> Result<T, UnboundedAction<T>>
+    ensures answers { MatchResult result (λ _. Unit {0}) (λ a. (e : Ending T) → MayEnd a e → Tells ask.Pop e) }
+{
+    if cells.load(Word::Written(block, head % 32)) != 1 {
+        return Err(UnboundedAction::PopWait(head, block));
+    }
+    match cells.take(Slot::In(block, head % 32)) {
+        Some(value) => {
+            if cells.fetch_add(Word::Reads(block), 1) == 30 {
+                Err(UnboundedAction::PopRetire(head, block, value))
+            } else {
+                Ok(value)
+            }
+        }
+        None => Err(UnboundedAction::PopTake(head, block)),
+    }
+}
