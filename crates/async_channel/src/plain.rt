@@ -26,10 +26,10 @@ pub struct PlainChannel<T, W> {
 }
 
 impl<T: Drop, W: Drop> PlainChannel<T, W> {
-    ghost use Rattle.std.specs.Prelude.{◌≡◌, IfOk};
+    ghost use Rattle.std.specs.Prelude.{◌≡◌, length, IfOk};
     ghost use Rattle.concurrent_queue.specs.Made.{CanBeMade, IsNew};
     ghost use Rattle.concurrent_queue.specs.Plain.{contents_of};
-    ghost use Rattle.async_channel.specs.Parts.{new_roster};
+    ghost use Rattle.async_channel.specs.Parts.{new_roster, listeners};
     ghost use Rattle.async_channel.specs.Plain.{parts_of};
 
     /// An open and empty channel over a queue of this form, with one sender, one receiver and no listeners. `Err` where
@@ -41,6 +41,18 @@ impl<T: Drop, W: Drop> PlainChannel<T, W> {
     {
         let cells = PlainCells::new(alloc, form)?;
         Ok(PlainChannel::over(cells, alloc))
+    }
+
+    /// How many listeners of this list wait untold.
+    pub fn waiting(&self, line: Line) -> usize
+        ensures { result ≡ length (listeners line (parts_of self.now).roster).waiting }
+    {
+        match line {
+            Line::Sends => self.sends.total() - self.sends.told(),
+            Line::Receives => self.receives.total() - self.receives.told(),
+            Line::Streams => self.streams.total() - self.streams.told(),
+            Line::Closings => self.closings.total() - self.closings.told(),
+        }
     }
 
     /// A channel over the cells of this queue, with one sender, one receiver and no listeners.
@@ -57,6 +69,25 @@ impl<T: Drop, W: Drop> PlainChannel<T, W> {
             senders: 1,
             receivers: 1,
         }
+    }
+}
+
+impl<T: Drop, W: Drop> PlainChannel<T, W> {
+    ghost use Rattle.std.specs.Prelude.{◌≤◌, length};
+    ghost use Rattle.async_channel.specs.Parts.{listeners};
+    ghost use Rattle.async_channel.specs.Plain.{parts_of};
+    ghost use Rattle.async_channel.specs.declared.stage.Line.{Line};
+
+    /// A number that none of the four lists of listeners is longer than: how many listen on the longest. So no step wakes
+    /// more. Own to this project.
+    pub fn most_listeners(&self) -> usize
+        ensures { (line : Line) → length (listeners line (parts_of self.now).roster).waiting ≤ result }
+    {
+        self.sends
+            .total()
+            .max(self.receives.total())
+            .max(self.streams.total())
+            .max(self.closings.total())
     }
 }
 

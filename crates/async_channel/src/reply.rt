@@ -5,7 +5,7 @@ use event_listener::error::ListenError;
 use futures::task::Poll;
 
 /// What a call answers. Own to this project.
-#[derive(Drop)]
+#[derive(Debug, Drop, PartialEq, Eq)]
 pub enum Reply<T> {
     /// Of a send that doesn't wait.
     TrySend(Result<(), Refused<TrySendError<T>, T>>),

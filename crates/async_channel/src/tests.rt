@@ -200,6 +200,24 @@ fn errors_have_their_texts(rt: HostRuntime) -> Result<(), Fail> {
 }
 
 #[test]
+fn errors_are_told_apart(rt: HostRuntime) -> Result<(), Fail> {
+    let alloc = rt.alloc();
+    let full = TrySendError::Full(5);
+    let closed = TrySendError::Closed(6);
+    assert_eq!(rt; (full.is_full(), full.is_closed()), (true, false));
+    assert_eq!(rt; (closed.is_full(), closed.is_closed()), (false, true));
+    assert_eq!(rt; full.into_inner(), 5);
+    let (empty, over) = (TryRecvError::Empty, TryRecvError::Closed);
+    assert_eq!(rt; (empty.is_empty(), empty.is_closed()), (true, false));
+    assert_eq!(rt; (over.is_empty(), over.is_closed()), (false, true));
+    let opening = format!(in alloc; "{}, {}", OpenError::NoMemory, OpenError::IdsUsedUp)?;
+    assert_eq!(rt; opening.as_str(), "want of memory, identities used up");
+    let handle = format!(in alloc; "{}, {}", HandleError::TooMany, HandleError::NoMemory)?;
+    assert_eq!(rt; handle.as_str(), "too many handles, want of memory");
+    Ok(())
+}
+
+#[test]
 fn a_message_that_comes_between_two_tries_is_taken(rt: HostRuntime) -> Result<(), Fail> {
     let mut all = make_fixture(&rt)?;
     let mut receive = ChannelCall::new(ChannelAsk::PollRecv(None, 1));
