@@ -35,7 +35,7 @@ use Rattle.channel_steps.specs.Moments.{Deed, with_deed, Open, Shut, HasRoom, Ha
 use Rattle.channel_steps.specs.Known.{TriesFor, TryAt, all_from}
 use Rattle.channel_steps.specs.Scene.{IsBalanced}
 use Rattle.channel_steps.specs.Tellings.{Telling, one_of, all_of, owed_for, owed}
-use Rattle.channel_steps.proofs.TryFacts.{ne_of, stuck_seen, next_channel}
+use Rattle.channel_steps.proofs.TryFacts.{ne_of, refusal_seen, full_once, unbounded_once, open_once, next_channel}
 use Rattle.channel_steps.proofs.TurnFacts.{TurnAt, owes_nothing, ended}
 
 -- what a message owes
@@ -81,9 +81,9 @@ module _ {T W : Type 0} where
     sent : (msg v : T) (ds : List (Deed T W)) → v ≡ msg → (m : QueueMark) (r : QueueReply T) (st : queue.Stage T) → AnswersPush c.queue v m r st → TryAt c (ask.Push v) st ds seen
         → Then (channel.TrySend msg) (ask.Push v) st m ds (sent_next r)
     sent msg v ds e Nothing (Push (Ok u)) (appended None) h ev = ((([], c ∷ seen, refl, ev), refl), owed_appended ds ev)
-    sent msg v ds e Nothing (Push (Err (push_error.Full w))) (trying b) h ev = ((([], c ∷ seen, refl, (h.0 ∙ e, ev.0, stuck_seen b c seen ev.1 h.2)), refl), owes_nothing ds ev.0)
+    sent msg v ds e Nothing (Push (Err (push_error.Full w))) (trying b) h ev = ((([], c ∷ seen, refl, (h.0 ∙ e, ev.0, full_once c.queue.capacity c.queue.items (c ∷ seen) h.1 (refusal_seen b c seen ev.1 h.2))), refl), owes_nothing ds ev.0)
     sent msg v ds e Nothing (Push (Err (push_error.Closed w))) (trying b) h ev = ((([], c ∷ seen, refl, (h.0 ∙ e, ev.0, inl h.1)), refl), owes_nothing ds ev.0)
-    sent msg v ds e Nothing (Push (Err (push_error.NoMemory w))) (trying b) h ev = ((([], c ∷ seen, refl, (h.0 ∙ e, ev.0, inl h.1)), refl), owes_nothing ds ev.0)
+    sent msg v ds e Nothing (Push (Err (push_error.NoMemory w))) (trying b) h ev = ((([], c ∷ seen, refl, (h.0 ∙ e, ev.0, unbounded_once c.queue.capacity (c ∷ seen) h.1 (refusal_seen b c seen ev.1 h.2))), refl), owes_nothing ds ev.0)
     sent msg v ds e m r st h ev = absurd h
 
     forced : (msg v : T) (ds : List (Deed T W)) → v ≡ msg → (m : QueueMark) (r : QueueReply T) (st : queue.Stage T) → AnswersForce c.queue v m r st → TryAt c (ask.ForcePush v) st ds seen
@@ -96,20 +96,20 @@ module _ {T W : Type 0} where
         let k : w ≡ d = cc in
         ((([], c ∷ seen, refl, subst (λ (z : T). Replaced ds z ⊎ Displaced ds z) (sym k) ev), refl), ⊎_elim (λ z. owed_replaced ds d z) (λ z. owed_displaced ds d z) ev)
     forced msg v ds e Nothing (Force (Err (force_error.Closed w))) (trying b) h ev = ((([], c ∷ seen, refl, (h.0 ∙ e, ev.0, inl h.1)), refl), owes_nothing ds ev.0)
-    forced msg v ds e Nothing (Force (Err (force_error.NoMemory w))) (trying b) h ev = ((([], c ∷ seen, refl, (h.0 ∙ e, ev.0, inl h.1)), refl), owes_nothing ds ev.0)
+    forced msg v ds e Nothing (Force (Err (force_error.NoMemory w))) (trying b) h ev = ((([], c ∷ seen, refl, (h.0 ∙ e, ev.0, unbounded_once c.queue.capacity (c ∷ seen) h.1 (refusal_seen b c seen ev.1 h.2))), refl), owes_nothing ds ev.0)
     forced msg v ds e m r st h ev = absurd h
 
     poll_sent : (msg v : T) (k : Option Key) (t : W) (key : Option Key) (task : W) (ds : List (Deed T W)) → v ≡ msg → (m : QueueMark) (r : QueueReply T) (st : queue.Stage T) → AnswersPush c.queue v m r st → TryAt c (ask.Push v) st ds seen
         → Then (channel.PollSend msg k t) (ask.Push v) st m ds (send_next r key task)
     poll_sent msg v k t key task ds e Nothing (Push (Ok u)) (appended None) h ev = ((([], c ∷ seen, refl, ev), refl), owed_appended ds ev)
-    poll_sent msg v k t None task ds e Nothing (Push (Err (push_error.Full w))) (trying b) h ev = ((h.0 ∙ e, ev.0), owes_nothing ds ev.0)
-    poll_sent msg v k t (Some key) task ds e Nothing (Push (Err (push_error.Full w))) (trying b) h ev = ((h.0 ∙ e, ev.0, stuck_seen b c seen ev.1 h.2), owes_nothing ds ev.0)
+    poll_sent msg v k t None task ds e Nothing (Push (Err (push_error.Full w))) (trying b) h ev = ((h.0 ∙ e, ev.0, full_once c.queue.capacity c.queue.items (c ∷ seen) h.1 (refusal_seen b c seen ev.1 h.2)), owes_nothing ds ev.0)
+    poll_sent msg v k t (Some key) task ds e Nothing (Push (Err (push_error.Full w))) (trying b) h ev = ((h.0 ∙ e, ev.0, full_once c.queue.capacity c.queue.items (c ∷ seen) h.1 (refusal_seen b c seen ev.1 h.2)), owes_nothing ds ev.0)
     poll_sent msg v k t key task ds e Nothing (Push (Err (push_error.Closed w))) (trying b) h ev =
         ended c (channel.PollSend msg k t) [] ds (c ∷ seen) (over (reply.SendPoll (Ready (Err (refused.Plain (record { 0 = w }))))) None Sends key)
         (([], c ∷ seen, refl, (h.0 ∙ e, ev.0, inl h.1)), refl) (owes_nothing ds ev.0)
     poll_sent msg v k t key task ds e Nothing (Push (Err (push_error.NoMemory w))) (trying b) h ev =
         ended c (channel.PollSend msg k t) [] ds (c ∷ seen) (over (reply.SendPoll (Ready (Err (refused.NoMemory tt)))) (Some w) Sends key)
-        (([], c ∷ seen, refl, ev.0), ap (λ (z : T). let kept : Kept T = leaving None (Some z) in kept) (h.0 ∙ e)) (owes_nothing ds ev.0)
+        (([], c ∷ seen, refl, (ev.0, open_once c.queue.capacity (c ∷ seen) (refusal_seen b c seen ev.1 h.2))), ap (λ (z : T). let kept : Kept T = leaving None (Some z) in kept) (h.0 ∙ e)) (owes_nothing ds ev.0)
     poll_sent msg v k t key task ds e m r st h ev = absurd h
 
     -- ---- receives
@@ -124,7 +124,7 @@ module _ {T W : Type 0} where
     poll_received : (k : Option Key) (t : W) (key : Option Key) (task : W) (ds : List (Deed T W)) (m : QueueMark) (r : QueueReply T) (st : queue.Stage T) → AnswersPop c.queue m r st → TryAt c ask.Pop st ds seen
         → Then (channel.PollRecv k t) ask.Pop st m ds (receive_next r key task)
     poll_received k t key task ds Nothing (Pop (Ok w)) (taken v) h ev = ((([], c ∷ seen, refl, subst (λ (z : T). Took ds z) (sym h) ev), refl), owed_took ds v ev)
-    poll_received k t None task ds Nothing (Pop (Err pop_error.Empty)) (trying b) h ev = ((tt, ev), owes_nothing ds ev)
+    poll_received k t None task ds Nothing (Pop (Err pop_error.Empty)) (trying b) h ev = ((tt, ev, inl h), owes_nothing ds ev)
     poll_received k t (Some key) task ds Nothing (Pop (Err pop_error.Empty)) (trying b) h ev = ((tt, ev, inl h), owes_nothing ds ev)
     poll_received k t key task ds Nothing (Pop (Err pop_error.Closed)) (trying b) h ev =
         ended c (channel.PollRecv k t) [] ds (c ∷ seen) (over (reply.RecvPoll (Ready (Err (refused.Plain (record {}))))) None Receives key) (([], c ∷ seen, refl, (ev, inl h)), refl) (owes_nothing ds ev)
@@ -133,7 +133,7 @@ module _ {T W : Type 0} where
     streamed : (k : Option Key) (t : W) (key : Option Key) (task : W) (ds : List (Deed T W)) (m : QueueMark) (r : QueueReply T) (st : queue.Stage T) → AnswersPop c.queue m r st → TryAt c ask.Pop st ds seen
         → Then (channel.PollNext k t) ask.Pop st m ds (stream_next r key task)
     streamed k t key task ds Nothing (Pop (Ok w)) (taken v) h ev = ((([], c ∷ seen, refl, subst (λ (z : T). Took ds z) (sym h) ev), refl), owed_took ds v ev)
-    streamed k t None task ds Nothing (Pop (Err pop_error.Empty)) (trying b) h ev = ((tt, ev), owes_nothing ds ev)
+    streamed k t None task ds Nothing (Pop (Err pop_error.Empty)) (trying b) h ev = ((tt, ev, tt), owes_nothing ds ev)
     streamed k t (Some key) task ds Nothing (Pop (Err pop_error.Empty)) (trying b) h ev = ((tt, ev, tt), owes_nothing ds ev)
     streamed k t key task ds Nothing (Pop (Err pop_error.Closed)) (trying b) h ev =
         ended c (channel.PollNext k t) [] ds (c ∷ seen) (over (reply.Next (Ready None)) None Streams key) (([], c ∷ seen, refl, (ev, inl h)), refl) (owes_nothing ds ev)
@@ -145,7 +145,7 @@ module _ {T W : Type 0} where
         → Then (channel.PollClosed k t) ask.IsClosed st m ds (closing_next r key task)
     waited k t key task ds Nothing (Flag true) (trying b) h ev =
         ended c (channel.PollClosed k t) [] ds (c ∷ seen) (over (reply.ClosedPoll (Ready (Ok tt))) None Closings key) (([], c ∷ seen, refl, (ev, inl h)), refl) (owes_nothing ds ev)
-    waited k t None task ds Nothing (Flag false) (trying b) h ev = ((tt, ev), owes_nothing ds ev)
+    waited k t None task ds Nothing (Flag false) (trying b) h ev = ((tt, ev, inl h), owes_nothing ds ev)
     waited k t (Some key) task ds Nothing (Flag false) (trying b) h ev = ((tt, ev, inl h), owes_nothing ds ev)
     waited k t key task ds m r st h ev = absurd h
 

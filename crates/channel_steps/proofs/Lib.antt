@@ -8,3 +8,4 @@ pub mod OwnFacts
 pub mod SceneFacts
 pub mod RunFacts
 pub mod StartFacts
+pub mod Interface

@@ -19,7 +19,7 @@ use Rattle.channel_steps.specs.declared.party.Entry.{Entry}
 use Rattle.channel_steps.specs.declared.run.Step.{Step}
 use Rattle.channel_steps.specs.declared.run.Step.TheVariants as step
 use Rattle.channel_steps.specs.Scene.{Under, Scene, Sitting, under_of, all_seats, gone_by, came_by, StepsAt, HasParty}
-use Rattle.channel_steps.specs.Run.{Accounts, Touches, Next, HasRange, IsRun, Turns, RanTo}
+use Rattle.channel_steps.specs.Run.{Accounts, HasBegun, Touches, Next, HasRange, IsRun, Turns, RanTo}
 use Rattle.channel_steps.proofs.MoveFacts.{grows, in_range, range_grows}
 use Rattle.channel_steps.proofs.OwnFacts.{begins_known}
 use Rattle.channel_steps.proofs.SceneFacts.{map-round, seats_append, party_of, known_both}
@@ -55,11 +55,11 @@ module _ {T W : Type 0} where
           fits = subst (λ (z : Stage (QueueCall T) T W). Fits parts.cells q (others ++ (seats any z ++ []))) (sym e) round;
         }
 
-  module _ {S : Type 0} (wakes : S → W → S → Type 0) (any : Phase T) where
-    pub begun : (p : ℕ) (ask : ChannelAsk T W) (call : ChannelCall T W) (parts : Parts T W) (parties : List (Party T W)) (a : S) (e : Entry T) (parties' : List (Party T W))
+  module _ (any : Phase T) where
+    pub begun : (p : ℕ) (ask : ChannelAsk T W) (call : ChannelCall T W) (parties : List (Party T W)) (e : Entry T) (parties' : List (Party T W))
         → IsNewCall call (first ask) → parties' ≡ parties ++ record { id = p; call = call } ∷ [] → e ≡ record { mark = Nothing; reply = None; kept = None }
-        → Turns wakes (step.Begin p ask) parts parties a e parts parties' a
-    begun p ask call parts parties a e parties' new left entry s range sh =
+        → HasBegun p ask parties e parties'
+    begun p ask call parties e parties' new left entry parts s sh =
         let k = came parts sh.queue (all_seats sh.sittings) sh.fits any (first ask) call.stage new.0 new.1 in
         let mine : Sitting T W = record { party = record { id = p; call = call }; inner = k.inner; ask = ask; seen = s.now ∷ []; deeds = []; told = []; made = 0 } in
         let all : List (Sitting T W) = sh.sittings ++ (mine ∷ []) in
@@ -67,11 +67,8 @@ module _ {T W : Type 0} where
         let fits : Fits parts.cells sh.queue (all_seats all) = subst (λ (ss : List (Seat T)). Fits parts.cells sh.queue ss) (sym seats_are) k.fits in
         let t : Scene T W = record { now = s.now; under_way = s.under_way ++ (under_of mine ∷ []); gone = s.gone; came = s.came } in
         record {
-          names = [];
           after = t;
-          next = (record { entry = entry; at = phase k.inner call.stage; answer = new.0; turned = k.turned; now = refl; under_way = refl; gone = refl; came = refl }, refl);
-          touches = refl;
-          woken = refl;
+          begins = record { entry = entry; at = phase k.inner call.stage; answer = new.0; turned = k.turned; now = refl; under_way = refl; gone = refl; came = refl };
           shown = record {
             sittings = all;
             queue = sh.queue;
@@ -83,6 +80,13 @@ module _ {T W : Type 0} where
             balanced = sh.balanced;
           };
         }
+
+  module _ {S : Type 0} (wakes : S → W → S → Type 0) where
+    pub turns_begun : (p : ℕ) (ask : ChannelAsk T W) (parts : Parts T W) (parties : List (Party T W)) (a : S) (e : Entry T) (parties' : List (Party T W))
+        → HasBegun p ask parties e parties' → Turns wakes (step.Begin p ask) parts parties a e parts parties' a
+    turns_begun p ask parts parties a e parties' h s range sh =
+        let b = h parts s sh in
+        record { names = []; after = b.after; next = (b.begins, refl); touches = refl; woken = refl; shown = b.shown }
 
   module _ {S : Type 0} (wakes : S → W → S → Type 0) where
     pub stepped_by : (p k : ℕ) (parts : Parts T W) (parties : List (Party T W)) (a : S) (e : Entry T) (parts' : Parts T W) (parties' : List (Party T W)) (b : S)

@@ -14,7 +14,7 @@ use Rattle.async_channel.specs.declared.stage.Stage.{Stage}
 use Rattle.channel_steps.specs.declared.party.Party.{Party}
 use Rattle.channel_steps.specs.declared.party.Entry.{Entry}
 use Rattle.channel_steps.specs.Moments.{with_deed}
-use Rattle.channel_steps.specs.Scene.{Under, Scene, sees, does, gone_by, came_by, Known, AllKnown, IsBalanced, Steps, Sitting, under_of, seats_of, all_seats, Shows, parties_after, left_by, SteppedAt, StepsAt}
+use Rattle.channel_steps.specs.Scene.{Under, Scene, sees, does, gone_by, came_by, Known, AllKnown, IsBalanced, Steps, Sitting, under_of, seats_of, all_seats, Shows, parties_in, unless_answered, parties_after, left_by, SteppedAt, StepsAt}
 use Rattle.channel_steps.specs.Tellings.{telling}
 use Rattle.channel_steps.proofs.MoveFacts.{answered_alone, kept_at}
 use Rattle.channel_steps.proofs.TryFacts.{Progress}
@@ -29,6 +29,25 @@ pub get-set : {A : Type 0} (xs : List A) (k : ℕ) (y z : A) → slice_get xs k 
 get-set [] k y z e = absurd cc
 get-set (x ∷ xs) zero y z e = refl
 get-set (x ∷ xs) (suc k) y z e = get-set xs k y z e
+
+-- ---- whose the calls are
+
+map-remove : {A B : Type 0} (g : A → B) (xs : List A) (k : ℕ) → map g (remove xs k) ≡ remove (map g xs) k
+map-remove g [] zero = refl
+map-remove g [] (suc k) = refl
+map-remove g (x ∷ xs) zero = refl
+map-remove g (x ∷ xs) (suc k) = ap (λ zs. g x ∷ zs) (map-remove g xs k)
+
+map-set : {A B : Type 0} (g : A → B) (xs : List A) (k : ℕ) (x y : A) → slice_get xs k ≡ Some x → g y ≡ g x → map g (slice_set xs k y) ≡ map g xs
+map-set g [] k x y e same = absurd cc
+map-set g (z ∷ zs) zero x y e same = let first : z ≡ x = cc in ap (λ b. b ∷ map g zs) (same ∙ sym (ap g first))
+map-set g (z ∷ zs) (suc k) x y e same = ap (λ bs. g z ∷ bs) (map-set g zs k x y e same)
+
+module _ {T W : Type 0} where
+  pub ids_after : (ps : List (Party T W)) (k : ℕ) (x y : Party T W) → slice_get ps k ≡ Some x → y.id ≡ x.id → (r : Option (Reply T))
+      → parties_in (parties_after ps k y r) ≡ unless_answered k r (parties_in ps)
+  ids_after ps k x y there same None = map-set (λ (p : Party T W). p.id) ps k x y there same
+  ids_after ps k x y there same (Some r) = map-remove (λ (p : Party T W). p.id) ps k
 
 module _ {A B : Type 0} (g : A → B) where
   -- where the k-th of the images is, and what the list is round it
@@ -84,11 +103,11 @@ module _ {T W : Type 0} where
       ∙ ap (λ (vs : List (Under T W)). let z : Scene T W = record { now = s.now; under_way = vs; gone = s.gone; came = s.came } in z) f
 
   -- what is known of the calls before one, of that one, and of those behind it
-  known_left : (c : Channel T W) (us vs : List (Under T W)) → AllKnown c (us ++ vs) → AllKnown c us
+  pub known_left : (c : Channel T W) (us vs : List (Under T W)) → AllKnown c (us ++ vs) → AllKnown c us
   known_left c [] vs h = tt
   known_left c (u ∷ us) vs h = (h.0, known_left c us vs h.1)
 
-  known_right : (c : Channel T W) (us vs : List (Under T W)) → AllKnown c (us ++ vs) → AllKnown c vs
+  pub known_right : (c : Channel T W) (us vs : List (Under T W)) → AllKnown c (us ++ vs) → AllKnown c vs
   known_right c [] vs h = h
   known_right c (u ∷ us) vs h = known_right c us vs h.1
 

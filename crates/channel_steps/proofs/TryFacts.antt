@@ -1,7 +1,7 @@
 -- A step of the queue's call that goes on, and what is known of the channel's call after it.
-use Rattle.std.proofs.Common.{◌≡◌, ℕ, zero, suc, ◌+◌, ◌≤◌, ◌==◌, Bool, true, false, if◌then◌else◌, List, [], ◌∷◌, ◌++◌, length, drop, None, Some, ◌⊎◌, ⊎_elim, inl, inr, refl, sym, ap, ◌∙◌, subst, arith, length-append}
+use Rattle.std.proofs.Common.{◌≡◌, ℕ, zero, suc, ◌+◌, ◌≤◌, ◌==◌, Bool, true, false, if◌then◌else◌, List, [], ◌∷◌, ◌++◌, length, drop, Option, None, Some, ◌⊎◌, ⊎_elim, inl, inr, refl, sym, ap, ◌∙◌, subst, arith, length-append}
 use Rattle.std.proofs.lemmas.Bool.Decides.{nat_tests}
-use Rattle.concurrent_queue.specs.Queue.{Queue, trying, displaced, appended, taken, read, measured, is_filled, is_full_at, IsOpen, IsOldest, message, marked, is_displaced, seen_after, GoesPush, GoesForce, GoesPop, GoesOn, AnswersTo}
+use Rattle.concurrent_queue.specs.Queue.{Queue, trying, displaced, appended, taken, read, measured, is_filled, is_full_at, IsOpen, IsOldest, message, marked, is_displaced, may_refuse_at, seen_after, GoesPush, GoesForce, GoesPop, GoesOn, AnswersTo}
 use Rattle.concurrent_queue.specs.Queue as queue
 use Rattle.concurrent_queue.specs.declared.call.QueueAsk.{QueueAsk}
 use Rattle.concurrent_queue.specs.declared.call.QueueAsk.TheVariants as ask
@@ -18,7 +18,7 @@ use Rattle.async_channel.specs.declared.stage.Closer.TheVariants as closer
 use Rattle.async_channel.specs.declared.stage.Line.TheVariants.{Sends, Receives, Streams, Closings}
 use Rattle.async_channel.specs.declared.stage.Side.{Side}
 use Rattle.async_channel.specs.declared.stage.Side.TheVariants.{Senders, Receivers}
-use Rattle.channel_steps.specs.Moments.{Deed, with_deed, Open, HasRoom, Crowded, HasMessage, Once, MadeRoom, Displaced, LeftLast}
+use Rattle.channel_steps.specs.Moments.{Deed, with_deed, Open, HasRoom, Crowded, Unbounded, Refuses, HasMessage, Once, MadeRoom, Displaced, LeftLast}
 use Rattle.channel_steps.specs.Known.{TriesFor, TryAt}
 use Rattle.channel_steps.specs.Scene.{IsBalanced}
 
@@ -128,18 +128,32 @@ module _ {T : Type 0} where
 module _ {T W : Type 0} where
   -- ---- moments
 
-  stuck_of : (c : Channel T W) (b : Bool) → c.queue.closed ≡ b → (if b then false else is_filled c.queue) ≡ true → Crowded c
-  stuck_of c false e h = (e, h)
-  stuck_of c true e h = absurd cc
+  refuses_of : (c : Channel T W) (cap : Option ℕ) (b : Bool) → c.queue.capacity ≡ cap → c.queue.closed ≡ b → (if b then false else may_refuse_at cap c.queue.items) ≡ true → Refuses cap c
+  refuses_of c None false f e h = (e, f)
+  refuses_of c (Some n) false f e h = (e, ap (λ (x : Option ℕ). is_full_at x c.queue.items) f ∙ h)
+  refuses_of c cap true f e h = absurd cc
 
-  pub stuck_seen : (b : Bool) (c : Channel T W) (seen : List (Channel T W)) → (b ≡ true → Once Crowded seen) → seen_after b c.queue ≡ true → Once Crowded (c ∷ seen)
-  stuck_seen true c seen f h = inr (f refl)
-  stuck_seen false c seen f h = inl (stuck_of c c.queue.closed refl h)
+  pub refusal_seen : (b : Bool) (c : Channel T W) (seen : List (Channel T W)) → (b ≡ true → Once (Refuses c.queue.capacity) seen) → seen_after b c.queue ≡ true
+      → Once (Refuses c.queue.capacity) (c ∷ seen)
+  refusal_seen true c seen f h = inr (f refl)
+  refusal_seen false c seen f h = inl (refuses_of c c.queue.capacity c.queue.closed refl refl h)
 
-  open_once : (seen : List (Channel T W)) → Once Crowded seen → Once Open seen
-  open_once [] h = absurd h
-  open_once (c ∷ cs) (inl h) = inl h.0
-  open_once (c ∷ cs) (inr h) = inr (open_once cs h)
+  pub full_once : (cap : Option ℕ) (xs : List T) (seen : List (Channel T W)) → is_full_at cap xs ≡ true → Once (Refuses cap) seen → Once Crowded seen
+  full_once None xs seen e h = absurd cc
+  full_once (Some n) xs seen e h = h
+
+  pub unbounded_once : (cap : Option ℕ) (seen : List (Channel T W)) → cap ≡ None → Once (Refuses cap) seen → Once Unbounded seen
+  unbounded_once None seen e h = h
+  unbounded_once (Some n) seen e h = absurd cc
+
+  was_open : (cap : Option ℕ) (c : Channel T W) → Refuses cap c → Open c
+  was_open None c h = h.0
+  was_open (Some n) c h = h.0
+
+  pub open_once : (cap : Option ℕ) (seen : List (Channel T W)) → Once (Refuses cap) seen → Once Open seen
+  open_once cap [] h = absurd h
+  open_once cap (c ∷ cs) (inl h) = inl (was_open cap c h)
+  open_once cap (c ∷ cs) (inr h) = inr (open_once cap cs h)
 
   displaced_now : (ds : List (Deed T W)) (d : T) (e : Deed T W) → MadeRoom ds d → e.mark ≡ mark_of_queue Append → Displaced (ds ++ e ∷ []) d
   displaced_now [] d e h m = absurd h
@@ -165,13 +179,13 @@ module _ {T W : Type 0} where
     at_deeds a m s t ds e h = subst (λ (x : List (Deed T W)). Went a m s t x) (sym e) h
 
     goes_push : (v : T) (m : QueueMark) (s t : queue.Stage T) (ds : List (Deed T W)) → GoesPush c.queue m s t → TryAt c (ask.Push v) s ds seen → Went (ask.Push v) m s t ds
-    goes_push v Nothing (trying b) t ds g ev = at_stage (ask.Push v) Nothing (trying b) t (trying (seen_after b c.queue)) ds g (ev.0, λ e. stuck_seen b c seen ev.1 e)
+    goes_push v Nothing (trying b) t ds g ev = at_stage (ask.Push v) Nothing (trying b) t (trying (seen_after b c.queue)) ds g (ev.0, λ e. refusal_seen b c seen ev.1 e)
     goes_push v Nothing (appended None) t ds g ev = at_stage (ask.Push v) Nothing (appended None) t (appended None) ds g ev
     goes_push v Append (trying b) t ds g ev = at_stage (ask.Push v) Append (trying b) t (appended None) ds g.2 (at_deeds (ask.Push v) Append (trying b) (appended None) ds ev.0 (refl, g.0, g.1))
     goes_push v m s t ds g ev = absurd g
 
     goes_force : (v : T) (m : QueueMark) (s t : queue.Stage T) (ds : List (Deed T W)) → GoesForce c.queue m s t → TryAt c (ask.ForcePush v) s ds seen → Went (ask.ForcePush v) m s t ds
-    goes_force v Nothing (trying b) t ds g ev = at_stage (ask.ForcePush v) Nothing (trying b) t (trying (seen_after b c.queue)) ds g (ev.0, λ e. stuck_seen b c seen ev.1 e)
+    goes_force v Nothing (trying b) t ds g ev = at_stage (ask.ForcePush v) Nothing (trying b) t (trying (seen_after b c.queue)) ds g (ev.0, λ e. refusal_seen b c seen ev.1 e)
     goes_force v Nothing (displaced d) t ds g ev = at_stage (ask.ForcePush v) Nothing (displaced d) t (displaced d) ds g ev
     goes_force v Nothing (appended None) t ds g ev = at_stage (ask.ForcePush v) Nothing (appended None) t (appended None) ds g ev
     goes_force v Nothing (appended (Some d)) t ds g ev = at_stage (ask.ForcePush v) Nothing (appended (Some d)) t (appended (Some d)) ds g ev
@@ -179,7 +193,7 @@ module _ {T W : Type 0} where
     goes_force v Append (displaced d) t ds g ev = at_stage (ask.ForcePush v) Append (displaced d) t (appended (Some d)) ds g.2 (inr (displaced_now ds d _ ev refl))
     goes_force v Replace (trying b) t ds g ev = at_stage (ask.ForcePush v) Replace (trying b) t (appended (Some g.0)) ds g.5 (at_deeds (ask.ForcePush v) Replace (trying b) (appended (Some g.0)) ds ev.0 (inl (refl, (g.2, g.3), g.1)))
     goes_force v TakeDisplaced (trying b) t ds g ev =
-        at_stage (ask.ForcePush v) TakeDisplaced (trying b) t (displaced g.0) ds g.5 (at_deeds (ask.ForcePush v) TakeDisplaced (trying b) (displaced g.0) ds ev.0 (refl, g.3, g.4, g.1, open_once (c ∷ seen) (stuck_seen b c seen ev.1 g.2)))
+        at_stage (ask.ForcePush v) TakeDisplaced (trying b) t (displaced g.0) ds g.5 (at_deeds (ask.ForcePush v) TakeDisplaced (trying b) (displaced g.0) ds ev.0 (refl, g.3, g.4, g.1, open_once c.queue.capacity (c ∷ seen) (refusal_seen b c seen ev.1 g.2)))
     goes_force v m s t ds g ev = absurd g
 
     goes_pop : (m : QueueMark) (s t : queue.Stage T) (ds : List (Deed T W)) → GoesPop c.queue m s t → TryAt c ask.Pop s ds seen → Went ask.Pop m s t ds
@@ -261,10 +275,13 @@ module _ {T W : Type 0} where
     grown_room n many (inr h) =
         ⊎_elim (λ e. inr (e ∙ h)) (λ k. ⊎_elim (λ room. inl (inr (was_there room))) (λ one. absurd (many one)) k.1) p.grew
 
+    refused_before : Once (Refuses c.queue.capacity) seen → Once (Refuses c'.queue.capacity) (c' ∷ seen)
+    refused_before h = inr (subst (λ (cap : Option ℕ). Once (Refuses cap) seen) (sym p.capacity) h)
+
     pub try_stays : (a : QueueAsk T) (s : queue.Stage T) (ds : List (Deed T W)) → TryAt c a s ds seen → TryAt c' a s ds (c' ∷ seen)
-    try_stays (ask.Push v) (trying b) ds ev = (ev.0, λ e. inr (ev.1 e))
+    try_stays (ask.Push v) (trying b) ds ev = (ev.0, λ e. refused_before (ev.1 e))
     try_stays (ask.Push v) (appended None) ds ev = ev
-    try_stays (ask.ForcePush v) (trying b) ds ev = (ev.0, λ e. inr (ev.1 e))
+    try_stays (ask.ForcePush v) (trying b) ds ev = (ev.0, λ e. refused_before (ev.1 e))
     try_stays (ask.ForcePush v) (displaced d) ds ev = ev
     try_stays (ask.ForcePush v) (appended None) ds ev = ev
     try_stays (ask.ForcePush v) (appended (Some d)) ds ev = ev

@@ -39,7 +39,7 @@ use Rattle.channel_steps.specs.Moments.{Deed, with_deed, Open, Once}
 use Rattle.channel_steps.specs.Answers.{WaitsFor}
 use Rattle.channel_steps.specs.Known.{IsFor, Makes, Drops, MayRaise, Answered, WorkAt, to_tell}
 use Rattle.channel_steps.specs.Tellings.{Telling, one_of, all_of, owed, telling}
-use Rattle.channel_steps.proofs.TryFacts.{eq_of}
+use Rattle.channel_steps.proofs.TryFacts.{eq_of, open_once}
 use Rattle.channel_steps.proofs.TurnFacts.{TurnAt, After, turned_at, ended, met_more, owes_nothing, told_nobody, tries_again}
 
 most_of : (n : ℕ) → nat_lt most n ≡ false → n ≤ most
@@ -77,7 +77,7 @@ module _ {T W : Type 0} where
   work_more x (TellStreams e) c ds seen h = answered_more x e c ds seen h
   work_more x (TellSend e) c ds seen h = answered_more x e c ds seen h
   work_more x (TellAll line closer) c ds seen h = answered_more x (closer_ending closer true) c ds seen h
-  work_more x (Insert w task) c ds seen h = h
+  work_more x (Insert w task) c ds seen h = (h.0, h.1, waits_more (line_of w) c seen h.2)
   work_more x (Register w key task) c ds seen h = (h.0, h.1, waits_more (line_of w) c seen h.2)
   work_more x (Leave e) c ds seen h = answered_more x e c ds seen h
   work_more x (Lower side key) c ds seen h = h
@@ -89,14 +89,14 @@ module _ {T W : Type 0} where
     -- ---- a poll
 
     -- it was not let listen
-    not_listening : (x : ChannelAsk T W) (w : Waiting T) (error : ListenError) → IsFor x w → ds ≡ [] → TurnAt d x [] ds (d ∷ seen) (unlistened w error)
-    not_listening (channel.PollSend m k t) (waiting.Send v) listen_error.NoMemory h e = ((([], d ∷ seen, refl, e), ap (λ (z : T). let kept : Kept T = leaving None (Some z) in kept) h), owes_nothing ds e)
-    not_listening (channel.PollSend m k t) (waiting.Send v) listen_error.SerialsUsedUp h e = ((([], d ∷ seen, refl, e), ap (λ (z : T). let kept : Kept T = leaving None (Some z) in kept) h), owes_nothing ds e)
-    not_listening (channel.PollRecv k t) waiting.Receive listen_error.NoMemory h e = ((([], d ∷ seen, refl, e), refl), owes_nothing ds e)
-    not_listening (channel.PollRecv k t) waiting.Receive listen_error.SerialsUsedUp h e = ((([], d ∷ seen, refl, e), refl), owes_nothing ds e)
-    not_listening (channel.PollNext k t) waiting.Stream error h e = ((([], d ∷ seen, refl, e), refl), owes_nothing ds e)
-    not_listening (channel.PollClosed k t) waiting.Closing error h e = ((([], d ∷ seen, refl, e), refl), owes_nothing ds e)
-    not_listening x w error h e = absurd h
+    not_listening : (x : ChannelAsk T W) (w : Waiting T) (error : ListenError) → IsFor x w → ds ≡ [] → WaitsFor (line_of w) (d ∷ seen) → TurnAt d x [] ds (d ∷ seen) (unlistened w error)
+    not_listening (channel.PollSend m k t) (waiting.Send v) listen_error.NoMemory h e n = ((([], d ∷ seen, refl, (e, open_once (Some 0) (d ∷ seen) n)), ap (λ (z : T). let kept : Kept T = leaving None (Some z) in kept) h), owes_nothing ds e)
+    not_listening (channel.PollSend m k t) (waiting.Send v) listen_error.SerialsUsedUp h e n = ((([], d ∷ seen, refl, (e, n)), ap (λ (z : T). let kept : Kept T = leaving None (Some z) in kept) h), owes_nothing ds e)
+    not_listening (channel.PollRecv k t) waiting.Receive listen_error.NoMemory h e n = ((([], d ∷ seen, refl, (e, n)), refl), owes_nothing ds e)
+    not_listening (channel.PollRecv k t) waiting.Receive listen_error.SerialsUsedUp h e n = ((([], d ∷ seen, refl, (e, n)), refl), owes_nothing ds e)
+    not_listening (channel.PollNext k t) waiting.Stream error h e n = ((([], d ∷ seen, refl, e), refl), owes_nothing ds e)
+    not_listening (channel.PollClosed k t) waiting.Closing error h e n = ((([], d ∷ seen, refl, (e, n)), refl), owes_nothing ds e)
+    not_listening x w error h e n = absurd h
 
     -- it is pending
     pending : (x : ChannelAsk T W) (w : Waiting T) (key : Key) → IsFor x w → ds ≡ [] → WaitsFor (line_of w) (d ∷ seen) → TurnAt d x [] ds (d ∷ seen) (pends_by w key)
@@ -252,7 +252,7 @@ module _ {T W : Type 0} where
         first_step Nothing e r s (again w (Some g.0) task) (mark_is e _ g.2) none g.3 (tries_again e.channel [] ds (e.channel ∷ seen) x w (Some g.0) task h.0 h.1 refl)
     worked (Insert w task) e r s h k (inr g) =
         let none : told ≡ [] = told_nobody told ds k h.1 in
-        first_step Nothing e r s (unlistened w g.0) (mark_is e _ g.1) none g.2 (not_listening e.channel ds seen x w g.0 h.0 h.1)
+        first_step Nothing e r s (unlistened w g.0) (mark_is e _ g.1) none g.2 (not_listening e.channel ds seen x w g.0 h.0 h.1 (waits_more (line_of w) e.channel seen h.2))
     worked (Register w key task) e r s h k g =
         let none : told ≡ [] = told_nobody told ds k h.1 in
         first_step Nothing e r s (if waits key (listeners (line_of w) c.roster) then pends_by w key else again w None task) (mark_is e _ g.0) none g.1

@@ -65,22 +65,22 @@ module _ {T W : Type 0} where
   abbrev pub SendPollRow : T → List (Deed T W) → List (Channel T W) → Reply T → Type 0
   SendPollRow m ds seen (reply.SendPoll (Ready (Ok u))) = Appended ds
   SendPollRow m ds seen (reply.SendPoll (Ready (Err (refused.Plain e)))) = (e.0 ≡ m) × (ds ≡ []) × Once Shut seen
-  SendPollRow m ds seen (reply.SendPoll (Ready (Err (refused.NoMemory u)))) = ds ≡ []
-  SendPollRow m ds seen (reply.SendPoll (Ready (Err (refused.SerialsUsedUp u)))) = ds ≡ []
+  SendPollRow m ds seen (reply.SendPoll (Ready (Err (refused.NoMemory u)))) = (ds ≡ []) × Once Open seen
+  SendPollRow m ds seen (reply.SendPoll (Ready (Err (refused.SerialsUsedUp u)))) = (ds ≡ []) × WaitsFor Sends seen
   SendPollRow m ds seen (reply.SendPoll Pending) = (ds ≡ []) × WaitsFor Sends seen
   SendPollRow m ds seen _ = ⊥
 
   abbrev pub RecvPollRow : List (Deed T W) → List (Channel T W) → Reply T → Type 0
   RecvPollRow ds seen (reply.RecvPoll (Ready (Ok v))) = Took ds v
   RecvPollRow ds seen (reply.RecvPoll (Ready (Err (refused.Plain e)))) = (ds ≡ []) × Once Spent seen
-  RecvPollRow ds seen (reply.RecvPoll (Ready (Err (refused.NoMemory u)))) = ds ≡ []
-  RecvPollRow ds seen (reply.RecvPoll (Ready (Err (refused.SerialsUsedUp u)))) = ds ≡ []
+  RecvPollRow ds seen (reply.RecvPoll (Ready (Err (refused.NoMemory u)))) = (ds ≡ []) × WaitsFor Receives seen
+  RecvPollRow ds seen (reply.RecvPoll (Ready (Err (refused.SerialsUsedUp u)))) = (ds ≡ []) × WaitsFor Receives seen
   RecvPollRow ds seen (reply.RecvPoll Pending) = (ds ≡ []) × WaitsFor Receives seen
   RecvPollRow ds seen _ = ⊥
 
   abbrev pub ClosedPollRow : List (Deed T W) → List (Channel T W) → Reply T → Type 0
   ClosedPollRow ds seen (reply.ClosedPoll (Ready (Ok u))) = (ds ≡ []) × Once Shut seen
-  ClosedPollRow ds seen (reply.ClosedPoll (Ready (Err e))) = ds ≡ []
+  ClosedPollRow ds seen (reply.ClosedPoll (Ready (Err e))) = (ds ≡ []) × WaitsFor Closings seen
   ClosedPollRow ds seen (reply.ClosedPoll Pending) = (ds ≡ []) × WaitsFor Closings seen
   ClosedPollRow ds seen _ = ⊥
 

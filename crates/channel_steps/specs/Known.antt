@@ -24,7 +24,7 @@ use Rattle.async_channel.specs.declared.stage.Waiting.{Waiting}
 use Rattle.async_channel.specs.declared.stage.Waiting.TheVariants as waiting
 use Rattle.async_channel.specs.declared.stage.Work.{Work}
 use Rattle.async_channel.specs.declared.stage.Work.TheVariants.{TellReceive, TellStreams, TellSend, TellAll, Insert, Register, Leave, Lower, Count, Load, Raise}
-use Rattle.channel_steps.specs.Moments.{Deed, Open, Shut, HasRoom, Crowded, HasMessage, Once, Appended, Took, Replaced, MadeRoom, Displaced, LeftLast}
+use Rattle.channel_steps.specs.Moments.{Deed, Open, Shut, HasRoom, Refuses, HasMessage, Once, Appended, Took, Replaced, MadeRoom, Displaced, LeftLast}
 use Rattle.channel_steps.specs.Answers.{WaitsFor, Keeps, Met}
 use Rattle.channel_steps.specs.Tellings.{Telling, one_of, all_of, owed}
 
@@ -85,9 +85,9 @@ module _ {T W : Type 0} where
 
   -- a count that a question read still says something of the moments
   abbrev pub TryAt : Channel T W → QueueAsk T → queue.Stage T → List (Deed T W) → List (Channel T W) → Type 0
-  TryAt now (ask.Push v) (trying b) ds seen = (ds ≡ []) × (b ≡ true → Once Crowded seen)
+  TryAt now (ask.Push v) (trying b) ds seen = (ds ≡ []) × (b ≡ true → Once (Refuses now.queue.capacity) seen)
   TryAt now (ask.Push v) (appended None) ds seen = Appended ds
-  TryAt now (ask.ForcePush v) (trying b) ds seen = (ds ≡ []) × (b ≡ true → Once Crowded seen)
+  TryAt now (ask.ForcePush v) (trying b) ds seen = (ds ≡ []) × (b ≡ true → Once (Refuses now.queue.capacity) seen)
   TryAt now (ask.ForcePush v) (displaced d) ds seen = MadeRoom ds d
   TryAt now (ask.ForcePush v) (appended None) ds seen = Appended ds
   TryAt now (ask.ForcePush v) (appended (Some d)) ds seen = Replaced ds d ⊎ Displaced ds d
@@ -136,7 +136,7 @@ module _ {T W : Type 0} where
   WorkAt ask (TellStreams x) ds seen = Answered ask x ds seen
   WorkAt ask (TellSend x) ds seen = Answered ask x ds seen
   WorkAt ask (TellAll line closer) ds seen = Answered ask (closer_ending closer true) ds seen
-  WorkAt ask (Insert w task) ds seen = IsFor ask w × (ds ≡ [])
+  WorkAt ask (Insert w task) ds seen = IsFor ask w × (ds ≡ []) × WaitsFor (line_of w) seen
   WorkAt ask (Register w key task) ds seen = IsFor ask w × (ds ≡ []) × WaitsFor (line_of w) seen
   WorkAt ask (Leave x) ds seen = Answered ask x ds seen
   WorkAt ask (Lower side key) ds seen = Drops ask side × (ds ≡ [])

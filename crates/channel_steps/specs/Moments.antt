@@ -1,5 +1,5 @@
 -- The moments and the marks of one call.
-use Rattle.std.specs.Prelude.{◌≡◌, ◌<◌, ◌≤◌, ◌==◌, Bool, true, false, List, [], ◌∷◌, ◌++◌, length, None, ◌⊎◌}
+use Rattle.std.specs.Prelude.{◌≡◌, ℕ, ◌<◌, ◌≤◌, ◌==◌, Bool, true, false, List, [], ◌∷◌, ◌++◌, length, Option, None, Some, ◌⊎◌}
 use Rattle.concurrent_queue.specs.Queue.{is_filled, IsOpen, IsShut, IsDrained, IsOldest}
 use Rattle.async_channel.specs.Marks.{up, down}
 use Rattle.async_channel.specs.Moves.{Channel}
@@ -44,8 +44,14 @@ module _ {T W : Type 0} where
   abbrev pub Spent : Channel T W → Type 0
   Spent c = IsShut c.queue × IsDrained c.queue
 
+  -- open, with no bound
   abbrev pub Unbounded : Channel T W → Type 0
-  Unbounded c = c.queue.capacity ≡ None
+  Unbounded c = IsOpen c.queue × (c.queue.capacity ≡ None)
+
+  -- open, and one that might refuse a message: with this capacity a full one, with no bound any
+  abbrev pub Refuses : Option ℕ → Channel T W → Type 0
+  Refuses None c = Unbounded c
+  Refuses (Some n) c = Crowded c
 
   abbrev pub is_empty : Channel T W → Bool
   is_empty c = length c.queue.items == 0

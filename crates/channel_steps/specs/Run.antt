@@ -55,6 +55,16 @@ module _ {T W : Type 0} where
     pub gone : t.gone ≡ s.gone
     pub came : t.came ≡ s.came
 
+  -- a call that began in the scene s
+  pub record Began (p : ℕ) (ask : ChannelAsk T W) (parts : Parts T W) (e : Entry T) (parties' : List (Party T W)) (s : Scene T W) : Type 0 where
+    pub after : Scene T W
+    pub begins : Begins s p ask e after
+    pub shown : Shows parts parties' after
+
+  -- a call has begun, over any cells, in every scene that is shown
+  abbrev pub HasBegun : ℕ → ChannelAsk T W → List (Party T W) → Entry T → List (Party T W) → Type 0
+  HasBegun p ask parties e parties' = (parts : Parts T W) (s : Scene T W) → Shows parts parties s → Began p ask parts e parties' s
+
   -- one entry of a run, which wakes these
   abbrev pub Next : Scene T W → Step T W → Entry T → List W → Scene T W → Type 0
   Next s (step.Begin p ask) e names t = Begins s p ask e t × (names ≡ [])

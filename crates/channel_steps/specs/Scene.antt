@@ -64,6 +64,11 @@ module _ {T : Type 0} where
   gone_by Replace items = take 1 items
   gone_by m items = []
 
+  -- the k-th of those at work is so no more, if its call has answered
+  abbrev pub unless_answered : ℕ → Option (Reply T) → List ℕ → List ℕ
+  unless_answered k None ids = ids
+  unless_answered k (Some r) ids = remove ids k
+
   -- a quick call ends by its eighth step
   abbrev pub EndsInTime : ℕ → Option (Reply T) → Type 0
   EndsInTime made None = made + 1 < 8
@@ -183,6 +188,10 @@ module _ {T W : Type 0} where
     pub fits : Fits parts.cells queue (all_seats sittings)
     pub known : AllKnown s.now s.under_way
     pub balanced : IsBalanced queue
+
+  -- whose the calls under way are, in the order in which they began
+  abbrev pub parties_in : List (Party T W) → List ℕ
+  parties_in parties = map (λ (p : Party T W). p.id) parties
 
   -- the k-th call under way is this party's
   abbrev pub HasParty : ℕ → List (Party T W) → ℕ → Type 0

@@ -2,7 +2,7 @@
 
 ghost use Rattle.std.specs.Prelude.{◌≡◌, ◌<◌, vec_len, MatchOption};
 ghost use Rattle.std.specs.List.{remove};
-ghost use Rattle.channel_steps.specs.Scene.{StepsAt, HasParty, NoneHas, IsLeftBy};
+ghost use Rattle.channel_steps.specs.Scene.{parties_in, unless_answered, StepsAt, HasParty, NoneHas, IsLeftBy};
 
 use async_channel::call::ChannelCall;
 use async_channel::cells::ChannelCells;
@@ -51,15 +51,16 @@ fn leave<T: Drop, W: Drop>(parties: &mut Vec<Party<T, W>>, k: usize) -> Kept<T>
     party.call.into_kept()
 }
 
-/// One step of the k-th call under way. A call that answers is under way no more.
-pub(crate) fn step_at<T: Drop, W: Drop, C: ChannelCells<T, W>, S: Wakes<W>>(
+/// One step of the k-th call under way. A call that answers is under way no more. Nothing waits. Own to this project.
+pub fn step_at<T: Drop, W: Drop, C: ChannelCells<T, W>, S: Wakes<W>>(
     parties: &mut Vec<Party<T, W>>,
     k: usize,
     cells: &mut C,
     sink: &mut S,
 ) -> Entry<T>
     requires { k < vec_len parties.old }
-    ensures { C.known → StepsAt S.wakes (C.parts cells.old) parties.old.items k sink.old result (C.parts cells.new) parties.new.items sink.new }
+    ensures steps { C.known → StepsAt S.wakes (C.parts cells.old) parties.old.items k sink.old result (C.parts cells.new) parties.new.items sink.new }
+    ensures parties { parties_in parties.new.items ≡ unless_answered k result.reply (parties_in parties.old.items) }
 {
     let party = &mut parties[k];
     let reply = party.call.step(cells, sink);

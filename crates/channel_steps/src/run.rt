@@ -2,7 +2,8 @@
 
 ghost use Rattle.std.specs.Prelude.{◌≡◌, ◌<◌, ◌∷◌, ◌++◌, [], vec_len, vec_capacity, MatchOption, MatchResult, IsTrue};
 ghost use Rattle.std.specs.VecDeque.{deque_len, deque_capacity};
-ghost use Rattle.channel_steps.specs.Run.{Turns, MayRefuse, IsStoppedBy, RanTo};
+ghost use Rattle.channel_steps.specs.Scene.{parties_in};
+ghost use Rattle.channel_steps.specs.Run.{HasBegun, Turns, MayRefuse, IsStoppedBy, RanTo};
 
 use crate::party::{Entry, Party, find, step_at};
 use async_channel::ask::ChannelAsk;
@@ -61,6 +62,25 @@ fn append<X: Drop>(items: &mut Vec<X>, item: X)
     }
 }
 
+/// Begins a call, within the room that was taken for its party. No cell is touched, and nobody is woken. Own to this project.
+pub fn begin<T: Drop, W: Drop>(
+    parties: &mut Vec<Party<T, W>>,
+    party: u32,
+    ask: ChannelAsk<T, W>,
+) -> Entry<T>
+    requires room { vec_len parties.old < vec_capacity parties.old }
+    ensures begins { HasBegun party ask parties.old.items result parties.new.items }
+    ensures parties { parties_in parties.new.items ≡ parties_in parties.old.items ++ party ∷ [] }
+{
+    let call = ChannelCall::new(ask);
+    append(parties, Party { id: party, call });
+    Entry {
+        mark: Mark::Nothing,
+        reply: None,
+        kept: None,
+    }
+}
+
 /// Makes a step, or refuses it and changes nothing.
 fn turn<T: Drop, W: Drop, C: ChannelCells<T, W>, S: Wakes<W>>(
     step: Step<T, W>,
@@ -80,13 +100,7 @@ fn turn<T: Drop, W: Drop, C: ChannelCells<T, W>, S: Wakes<W>>(
             if parties.reserve(1).is_err() {
                 return Err((Refusal::NoMemory, Step::Begin { party, ask }));
             }
-            let call = ChannelCall::new(ask);
-            append(parties, Party { id: party, call });
-            Ok(Entry {
-                mark: Mark::Nothing,
-                reply: None,
-                kept: None,
-            })
+            Ok(begin(parties, party, ask))
         }
         Step::Step { party } => match find(parties, party) {
             Some(k) => Ok(step_at(parties, k, cells, sink)),
