@@ -1,0 +1,7 @@
+pub mod WaiterLemmas
+pub mod RunLemmas
+pub mod Counting
+pub mod Awake
+pub mod LawSteps
+pub mod Interface
+pub mod DirectoryLemmas

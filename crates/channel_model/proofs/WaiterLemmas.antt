@@ -1,0 +1,166 @@
+-- Names in lists, and names as the keys of entries.
+use Rattle.std.proofs.Common.{arith, ◌≡◌, ◌⊎◌, ℕ, nat_eq, List, [], ◌∷◌, Bool, true, false, ◌||◌, not, cond, None, Some, IsSome, refl, sym, ap, subst, inl, inr}
+use Rattle.std.specs.List.{IsDistinct, AllByRecursion}
+use Rattle.std.specs.Cmp.{IsEquivalence}
+use Rattle.std.proofs.lemmas.Cmp.{nat_eq_equiv}
+use Rattle.std.proofs.lemmas.Bool.Decides.{nat_tests}
+use Rattle.std.specs.Map.{keys_of, lookup, lookup_entry, remove_entry, set_value}
+use Rattle.channel_model.specs.Lines.{Waiting, same_waiter, is_among, without, untold, gone}
+use Rattle.channel_model.specs.declared.name.Waiter.{Waiter}
+use Rattle.channel_model.specs.contracts.name.WaiterPartialEq.TheImpl as derived
+use Rattle.channel_model.specs.declared.name.Waiter.TheVariants.{Op, Stream}
+use Rattle.async_channel.specs.declared.stage.Line.{Line}
+use Rattle.async_channel.specs.declared.stage.Line.TheVariants.{Sends, Receives, Streams, Closings}
+
+-- ---- one name and another
+
+pub same_refl : (w : Waiter) → same_waiter w w ≡ true
+same_refl (Op a) = nat_eq_equiv.refl a.0
+same_refl (Stream a) = nat_eq_equiv.refl a.0
+
+pub same_symm : (v w : Waiter) → same_waiter v w ≡ same_waiter w v
+same_symm (Op a) (Op b) = nat_eq_equiv.symm a.0 b.0
+same_symm (Op a) (Stream b) = refl
+same_symm (Stream a) (Op b) = refl
+same_symm (Stream a) (Stream b) = nat_eq_equiv.symm a.0 b.0
+
+pub same_number : (m n : ℕ) → nat_eq m n ≡ true → m ≡ n
+same_number m n e = grind (arith, nat_tests)
+
+pub same_sound : (v w : Waiter) → same_waiter v w ≡ true → v ≡ w
+same_sound (Op a) (Op b) e = ap (λ (n : ℕ). Op (record { 0 = n })) (same_number a.0 b.0 e)
+same_sound (Op a) (Stream b) e = cc e
+same_sound (Stream a) (Op b) e = cc e
+same_sound (Stream a) (Stream b) e = ap (λ (n : ℕ). Stream (record { 0 = n })) (same_number a.0 b.0 e)
+
+pub same_equiv : IsEquivalence same_waiter
+same_equiv = record {
+  refl = same_refl;
+  symm = same_symm;
+  congr = λ x y z e. ap (λ (w : Waiter). same_waiter w z) (same_sound x y e);
+}
+
+pub decided : (b : Bool) → (b ≡ true) ⊎ (b ≡ false)
+decided true = inl refl
+decided false = inr refl
+
+pub or_false : (b r : Bool) → (b || r) ≡ false → (b ≡ false) × (r ≡ false)
+or_false true r e = cc e
+or_false false r e = (refl, e)
+
+pub or_true : (b r : Bool) → (b || r) ≡ true → (b ≡ true) ⊎ (r ≡ true)
+or_true true r e = inl refl
+or_true false r e = inr e
+
+same_as_derived : (v w : Waiter) → derived.eq-value.it v w ≡ same_waiter v w
+same_as_derived (Op a) (Op b) = refl
+same_as_derived (Op a) (Stream b) = refl
+same_as_derived (Stream a) (Op b) = refl
+same_as_derived (Stream a) (Stream b) = refl
+
+-- the comparison of keys is that of the definitions
+pub derived_is : derived.eq-value.it ≡ same_waiter
+derived_is = λ i v w. same_as_derived v w i
+
+-- ---- lists of names
+
+keeps_head : (b r : Bool) (v : Waiter) (vs kept : List Waiter) → (b || r) ≡ false → (r ≡ false → kept ≡ vs) → cond (not b) (v ∷ kept) kept ≡ v ∷ vs
+keeps_head true r v vs kept e h = cc e
+keeps_head false r v vs kept e h = ap (λ xs. v ∷ xs) (h e)
+
+-- to take out one who isn't there changes nothing
+pub without_absent : (w : Waiter) (ws : List Waiter) → is_among w ws ≡ false → without w ws ≡ ws
+without_absent w [] e = refl
+without_absent w (v ∷ vs) e = keeps_head (same_waiter w v) (is_among w vs) v vs (without w vs) e (without_absent w vs)
+
+not_among_others : (w : Waiter) (ws : List Waiter) → AllByRecursion (λ v. same_waiter w v ≡ false) ws → is_among w ws ≡ false
+not_among_others w [] h = refl
+not_among_others w (v ∷ vs) h = rw h.0 (not_among_others w vs h.1)
+
+-- the first of names that are apart is not among the others
+pub first_apart : (w : Waiter) (ws : List Waiter) → IsDistinct same_waiter (w ∷ ws) → is_among w ws ≡ false
+unfolding IsDistinct
+first_apart w ws d = not_among_others w ws d.0
+
+pub rest_apart : (w : Waiter) (ws : List Waiter) → IsDistinct same_waiter (w ∷ ws) → IsDistinct same_waiter ws
+unfolding IsDistinct
+rest_apart w ws d = d.1
+
+-- ---- entries under names
+
+module _ {X : Type 0} (w : Waiter) where
+  pub no_entry : (es : List (Waiter × X)) → is_among w (keys_of es) ≡ false → lookup_entry (same_waiter w) es ≡ None
+  no_entry [] e = refl
+  no_entry (f ∷ es) e = let h = or_false (same_waiter w f.0) (is_among w (keys_of es)) e in rw h.0 (no_entry es h.1)
+
+  pub lookup_from_entry : (es : List (Waiter × X)) → lookup_entry (same_waiter w) es ≡ None → lookup (same_waiter w) es ≡ None
+  lookup_from_entry [] e = refl
+  lookup_from_entry (f ∷ es) e = elim (decided (same_waiter w f.0)) [
+    | inl t ↦ cc (rw t at e)
+    | inr t ↦ rw t (lookup_from_entry es (rw t at e))
+  ]
+
+  pub entry_is : (es : List (Waiter × X)) (g : Waiter × X) → lookup_entry (same_waiter w) es ≡ Some g → same_waiter w g.0 ≡ true
+  entry_is [] g e = cc e
+  entry_is (f ∷ es) g e = elim (decided (same_waiter w f.0)) [
+    | inl t ↦ let same : f ≡ g = cc (rw t at e) in subst (λ (h : Waiter × X). same_waiter w h.0 ≡ true) same t
+    | inr t ↦ entry_is es g (rw t at e)
+  ]
+
+  -- to take out one who has no entry changes nothing
+  pub remove_absent : (es : List (Waiter × X)) → lookup (same_waiter w) es ≡ None → remove_entry (same_waiter w) es ≡ es
+  remove_absent [] e = refl
+  remove_absent (f ∷ es) e = elim (decided (same_waiter w f.0)) [
+    | inl t ↦ cc (rw t at e)
+    | inr t ↦ rw t (ap (λ xs. f ∷ xs) (remove_absent es (rw t at e)))
+  ]
+
+  -- the entry taken out is that of the name
+  pub keys_without : (es : List (Waiter × X)) → IsDistinct same_waiter (keys_of es) → keys_of (remove_entry (same_waiter w) es) ≡ without w (keys_of es)
+  keys_without [] d = refl
+  keys_without (f ∷ es) d = elim (decided (same_waiter w f.0)) [
+    | inl t ↦
+        let absent : is_among w (keys_of es) ≡ false = subst (λ (v : Waiter). is_among v (keys_of es) ≡ false) (sym (same_sound w f.0 t)) (first_apart f.0 (keys_of es) d) in
+        rw t (sym (without_absent w (keys_of es) absent))
+    | inr t ↦ rw t (ap (λ xs. f.0 ∷ xs) (keys_without es (rest_apart f.0 (keys_of es) d)))
+  ]
+
+  -- an entry that is changed and then moved to the end
+  pub moved_to_end : (es : List (Waiter × X)) (x : X) → IsSome (lookup (same_waiter w) es)
+      → (lookup_entry (same_waiter w) (set_value (same_waiter w) es x) ≡ Some (w, x)) × (remove_entry (same_waiter w) (set_value (same_waiter w) es x) ≡ remove_entry (same_waiter w) es)
+  moved_to_end [] x h = cc h
+  moved_to_end (f ∷ es) x h = elim (decided (same_waiter w f.0)) [
+    | inl t ↦ (rw (t, t) (ap (λ (v : Waiter). Some (v, x)) (sym (same_sound w f.0 t))), rw (t, t) refl)
+    | inr t ↦ let on = moved_to_end es x (rw t at h) in (rw (t, t) on.0, rw (t, t) (ap (λ xs. f ∷ xs) on.1))
+  ]
+
+-- ---- who is left where one was taken out
+
+or_right : (b r : Bool) → r ≡ true → (b || r) ≡ true
+or_right true r e = refl
+or_right false r e = e
+
+-- who is left where one was taken out
+pub left_among : (w x : Waiter) (ws : List Waiter) → is_among x (without w ws) ≡ true → (is_among x ws ≡ true) × (same_waiter w x ≡ false)
+left_among w x [] e = cc e
+left_among w x (v ∷ vs) e = elim (decided (same_waiter w v)) [
+  | inl t ↦ let on = left_among w x vs (rw t at e) in (or_right (same_waiter x v) (is_among x vs) on.0, on.1)
+  | inr t ↦ elim (or_true (same_waiter x v) (is_among x (without w vs)) (rw t at e)) [
+    | inl s ↦ (rw s refl, rw (same_sound x v s) t)
+    | inr r ↦ let on = left_among w x vs r in (or_right (same_waiter x v) (is_among x vs) on.0, on.1)
+  ]
+]
+
+-- one who was taken out is not among the rest
+pub none_left : (w : Waiter) (ws : List Waiter) → is_among w (without w ws) ≡ false
+none_left w [] = refl
+none_left w (v ∷ vs) = elim (decided (same_waiter w v)) [
+  | inl t ↦ rw t (none_left w vs)
+  | inr t ↦ rw (t, t) (none_left w vs)
+]
+
+pub untold_gone : (line : Line) (w : Waiter) (l : Waiting) → untold line (gone w l) ≡ without w (untold line l)
+untold_gone Sends w l = refl
+untold_gone Receives w l = refl
+untold_gone Streams w l = refl
+untold_gone Closings w l = refl

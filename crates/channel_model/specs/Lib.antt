@@ -1,0 +1,13 @@
+pub mod Channel
+pub mod Names
+pub mod Lines
+pub mod State
+pub mod Refusal
+pub mod Answer
+pub mod Asked
+pub mod Refused
+pub mod Run
+pub mod Settling
+pub mod Laws
+pub mod Awake
+pub mod Rows

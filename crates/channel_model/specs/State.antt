@@ -1,0 +1,37 @@
+-- The state between two calls, when calls are made one at a time.
+use Rattle.std.specs.Prelude.{ℕ, [], ◌∷◌, Option, Some}
+use Rattle.channel_model.specs.Channel.{Channel, opened}
+use Rattle.channel_model.specs.Names.{Names, Directory}
+use Rattle.channel_model.specs.Lines.{Waiting, nobody}
+use Rattle.channel_model.specs.declared.name.Handle.{Handle}
+use Rattle.channel_model.specs.declared.name.HandleKind.TheVariants.{Sender, Receiver}
+
+pub record State (T : Type 0) : Type 0 where
+  pub channel : Channel T
+  pub names : Names T
+  pub waiting : Waiting
+
+-- handle 0 is the first sender, handle 1 the first receiver; nobody borrows them
+abbrev pub first_handles : Directory Handle
+first_handles = (1, Some (record { kind = Receiver; borrowers = 0 })) ∷ (0, Some (record { kind = Sender; borrowers = 0 })) ∷ []
+
+-- as a channel of this capacity is opened
+abbrev pub start : {T : Type 0} → Option ℕ → State T
+start capacity = record {
+  channel = opened capacity;
+  names = record { handles = first_handles; operations = [] };
+  waiting = nobody;
+}
+
+-- The state of a world with no call under way. While calls are made one at a time this is all that a world is.
+abbrev pub at_rest : {T : Type 0} → State T → State T
+at_rest world = world
+
+abbrev pub with_channel : {T : Type 0} → Channel T → State T → State T
+with_channel c s = record s { channel = c }
+
+abbrev pub with_names : {T : Type 0} → Names T → State T → State T
+with_names names s = record s { names = names }
+
+abbrev pub with_waiting : {T : Type 0} → Waiting → State T → State T
+with_waiting waiting s = record s { waiting = waiting }

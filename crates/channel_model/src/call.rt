@@ -1,0 +1,58 @@
+//! What may be asked of a channel by the names of its handles and operations.
+use super::name::{HandleId, OpId};
+
+/// A call, made on handles and operations by their names. Own to this project; each does what the method of this name does in
+/// `async-channel` 2.5.0, if there is one.
+#[derive(Debug, Drop, PartialEq, Eq)]
+pub enum Call<T> {
+    /// A new operation `op` that sends `msg` through the sender.
+    NewSend { op: OpId, sender: HandleId, msg: T },
+    /// A new operation `op` that receives through the receiver.
+    NewRecv { op: OpId, receiver: HandleId },
+    /// A new operation `op` that waits for the closing through the sender.
+    NewClosed { op: OpId, sender: HandleId },
+    /// A poll of the operation.
+    Poll { op: OpId },
+    /// A poll of the operation that got no copy of its waker, for want of memory.
+    PollRefused { op: OpId },
+    /// The operation is given up.
+    GiveUp { op: OpId },
+    /// Whether the operation, a send, has finished.
+    SendIsTerminated { op: OpId },
+    /// A poll of the receiver as a stream.
+    PollNext { receiver: HandleId },
+    /// Whether the receiver, as a stream, gives no more message: the channel is closed and empty.
+    StreamIsTerminated { receiver: HandleId },
+    /// A send that doesn't wait.
+    TrySend { sender: HandleId, msg: T },
+    /// A send that displaces the oldest message of a full channel.
+    ForceSend { sender: HandleId, msg: T },
+    /// A receive that doesn't wait.
+    TryRecv { receiver: HandleId },
+    /// The channel is closed through either strong handle.
+    Close { handle: HandleId },
+    /// The handle is dropped. The last strong one of its side closes the channel.
+    Drop { handle: HandleId },
+    /// One more handle `new` of the same kind.
+    TryClone { handle: HandleId, new: HandleId },
+    /// A weak handle `new` beside a strong one.
+    Downgrade { handle: HandleId, new: HandleId },
+    /// A strong handle `new` from a weak one, while the channel is open and another of its side lives.
+    Upgrade { weak: HandleId, new: HandleId },
+    /// Whether two handles of one side are of the same channel.
+    SameChannel { a: HandleId, b: HandleId },
+    /// Whether the channel is closed.
+    IsClosed { handle: HandleId },
+    /// Whether it holds no message.
+    IsEmpty { handle: HandleId },
+    /// Whether it holds as many messages as its capacity.
+    IsFull { handle: HandleId },
+    /// How many messages it holds.
+    Len { handle: HandleId },
+    /// How many it can hold at most.
+    Capacity { handle: HandleId },
+    /// How many senders live.
+    SenderCount { handle: HandleId },
+    /// How many receivers live.
+    ReceiverCount { handle: HandleId },
+}

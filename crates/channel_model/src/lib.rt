@@ -1,0 +1,14 @@
+//! What a channel does whose calls are made one at a time: its state, its calls, and what each of them answers, as functions;
+//! and two laws that hold of all runs of calls.
+//!
+//! There is no channel here: the crates above prove that theirs does this.
+#![tactic(auto)]
+
+pub mod call;
+pub mod directory;
+pub mod laws;
+pub mod name;
+pub mod news;
+pub mod refusal;
+pub mod run;
+pub mod space;

@@ -1,0 +1,44 @@
+//! Why a call by names is not begun.
+
+use std::error::Error;
+use std::fmt;
+
+/// Why a world refuses a call. Nothing is changed then.
+///
+/// The numbers are those by which a script names them.
+#[derive(Clone, Copy, Debug, PartialEq, Eq)]
+pub enum WorldRefusal {
+    /// 1: the party has a call under way.
+    Busy,
+    /// 2: the party has no call under way.
+    Idle,
+    /// 3: a used name is not live.
+    UnknownName,
+    /// 4: a new name was taken before.
+    NameTaken,
+    /// 5: the operation, or the stream, is being polled.
+    OpUnderWay,
+    /// 6: a live operation borrows the handle.
+    Borrowed,
+    /// 7: what lives under a used name is of another kind.
+    WrongKind,
+    /// 8: there is no room for the answer.
+    NoMemory,
+}
+
+impl fmt::Display for WorldRefusal {
+    fn fmt<W: fmt::Write>(&self, f: &mut fmt::Formatter<W>) -> fmt::Result {
+        f.pad(match self {
+            WorldRefusal::Busy => "the party has a call under way",
+            WorldRefusal::Idle => "the party has no call under way",
+            WorldRefusal::UnknownName => "a used name is not live",
+            WorldRefusal::NameTaken => "a new name was taken before",
+            WorldRefusal::OpUnderWay => "the operation is being polled",
+            WorldRefusal::Borrowed => "a live operation borrows the handle",
+            WorldRefusal::WrongKind => "a used name is of another kind",
+            WorldRefusal::NoMemory => "want of memory",
+        })
+    }
+}
+
+impl Error for WorldRefusal {}
