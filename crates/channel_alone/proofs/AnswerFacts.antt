@@ -115,8 +115,8 @@ module _ {T W : Type 0} where
         let k' = subst (λ (x : T). RestTurn (sent_next (answer.Push (Err (push_error.Closed x)))) c o) g.1 k in
         inr (pick_then c.queue.closed o _ _ g.0 k')
     sent_rest m (answer.Push (Err (push_error.NoMemory n))) g k =
-        let k' = subst (λ (x : T). RestTurn (sent_next (answer.Push (Err (push_error.NoMemory x)))) c o) g.1 k in
-        inl (g.0, k')
+        let k' = subst (λ (x : T). RestTurn (sent_next (answer.Push (Err (push_error.NoMemory x)))) c o) g.2 k in
+        inl (g.0, g.1, k')
     sent_rest m y g k = absurd g
 
     forced_rest : (m : T) (y : QueueReply T) → Finds (ask.ForcePush m) c.queue y → RestTurn (forced_next y) (now_is c (left_by (ask.ForcePush m) y c.queue)) o → RestTry (ask.ForcePush m) aim.ForceSend c o
@@ -129,8 +129,8 @@ module _ {T W : Type 0} where
         let k' = subst (λ (x : T). RestTurn (forced_next (answer.Force (Err (force_error.Closed x)))) c o) g.1 k in
         inr (pick_then c.queue.closed o _ _ g.0 k')
     forced_rest m (answer.Force (Err (force_error.NoMemory n))) g k =
-        let k' = subst (λ (x : T). RestTurn (forced_next (answer.Force (Err (force_error.NoMemory x)))) c o) g.1 k in
-        inl (g.0, k')
+        let k' = subst (λ (x : T). RestTurn (forced_next (answer.Force (Err (force_error.NoMemory x)))) c o) g.2 k in
+        inl (g.0, g.1, k')
     forced_rest m y g k = absurd g
 
     received_rest : (y : QueueReply T) → Finds ask.Pop c.queue y → RestTurn (received_next y) (now_is c (left_by ask.Pop y c.queue)) o → RestTry ask.Pop aim.TryRecv c o
@@ -175,7 +175,7 @@ module _ {T W : Type 0} where
     stuck_send : (m : T) → c.queue.closed ≡ false → is_filled c.queue ≡ true → (d : Channel T W) (key : Option Key) (task : W) (p : Outcome T W) → d.queue ≡ c.queue
         → RestTry (ask.Push m) (aim.Poll Sends key task) d p → Waits (waiting.Send m) key task d p
     stuck_send m opened full d key task p e (inl h) =
-        absurd (bounded d.queue.capacity d.queue.items h.0 (ap (λ (q : Queue T). is_filled q) e ∙ full))
+        absurd (bounded d.queue.capacity d.queue.items h.1 (ap (λ (q : Queue T). is_filled q) e ∙ full))
     stuck_send m opened full d key task p e (inr h) =
         given_then (is_filled d.queue) _ _ (ap (λ (q : Queue T). is_filled q) e ∙ full) (given_else d.queue.closed _ _ (ap (λ (q : Queue T). q.closed) e ∙ opened) h)
 
@@ -205,8 +205,8 @@ module _ {T W : Type 0} where
           let k' = subst (λ (x : T). o ≡ ends [] (over (reply.SendPoll (poll.Ready (Err (refused.Plain (record { 0 = x }))))) None Sends key) c) g.1 (ends_rest c o _ k) in
           inr (where_then c.queue.closed _ _ g.0 k')
       send_rest m (answer.Push (Err (push_error.NoMemory n))) g k =
-          let k' = subst (λ (x : T). o ≡ ends [] (over (reply.SendPoll (poll.Ready (Err (refused.NoMemory tt)))) (Some x) Sends key) c) g.1 (ends_rest c o _ k) in
-          inl (g.0, k')
+          let k' = subst (λ (x : T). o ≡ ends [] (over (reply.SendPoll (poll.Ready (Err (refused.NoMemory tt)))) (Some x) Sends key) c) g.2 (ends_rest c o _ k) in
+          inl (g.0, g.1, k')
       send_rest m y g k = absurd g
 
       receive_rest : (y : QueueReply T) → Finds ask.Pop c.queue y → RestTurn (receive_next y key task) (now_is c (left_by ask.Pop y c.queue)) o → RestTry ask.Pop (aim.Poll Receives key task) c o

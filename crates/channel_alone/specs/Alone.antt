@@ -1,7 +1,7 @@
 -- What a call of a channel does where nobody else is at work: what it answers, what it leaves to its operation, whom it
 -- wakes in order, and the channel after it.
 use Rattle.std.specs.Prelude.{◌≡◌, ◌+◌, ◌==◌, ◌&&◌, nat_lt, Bool, true, false, if◌then◌else◌, List, [], ◌∷◌, ◌++◌, drop, length, slice_get, Option, None, Some, Ok, Err, ◌⊎◌}
-use Rattle.concurrent_queue.specs.Queue.{Queue, is_filled}
+use Rattle.concurrent_queue.specs.Queue.{Queue, IsOpen, is_filled}
 use Rattle.event_listener.specs.Lists.{kind_of}
 use Rattle.event_listener.specs.declared.key.Key.{Key}
 use Rattle.event_listener.specs.declared.error.ListenError.{ListenError}
@@ -86,9 +86,9 @@ module _ {T W : Type 0} where
 
   -- ---- calls that do not wait
 
-  -- only where a queue has no bound may memory be refused to a message
+  -- only an open queue without a bound may refuse memory to a message; a closed one says that it is closed
   abbrev pub MayLackRoom : Ending T → Channel T W → Outcome T W → Type 0
-  MayLackRoom x c o = (c.queue.capacity ≡ None) × (o ≡ ends [] x c)
+  MayLackRoom x c o = IsOpen c.queue × (c.queue.capacity ≡ None) × (o ≡ ends [] x c)
 
   abbrev pub sends : T → Channel T W → Outcome T W
   sends m c =
