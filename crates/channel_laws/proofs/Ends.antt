@@ -1,0 +1,164 @@
+-- What is over stays over, over runs.
+use Rattle.std.proofs.Common.{◌≡◌, ℕ, List, [], ◌∷◌, ◌++◌, ◌⊎◌, inl, inr, refl, sym, ap, ◌∙◌, subst, append-nil}
+use Rattle.concurrent_queue.specs.Queue.{Queue, IsShut, IsDrained}
+use Rattle.async_channel.specs.Moves.{Channel}
+use Rattle.async_channel.specs.Parts.{Parts}
+use Rattle.async_channel.specs.declared.ask.ChannelAsk.{ChannelAsk}
+use Rattle.async_channel.specs.declared.mark.Mark.{Mark}
+use Rattle.async_channel.specs.declared.mark.Mark.TheVariants.{Append, Take, TakeDisplaced, Replace, Close}
+use Rattle.channel_steps.specs.Moments.{Spent, Once}
+use Rattle.channel_steps.specs.Scene.{Under, Scene, Steps, does, gone_by, came_by}
+use Rattle.channel_steps.specs.Run.{Next, IsRun}
+use Rattle.channel_steps.specs.declared.party.Entry.{Entry}
+use Rattle.channel_steps.specs.declared.run.Step.{Step}
+use Rattle.channel_steps.specs.declared.run.Step.TheVariants as step
+use Rattle.channel_laws.specs.Ends.{IsStill, GivesMessage, Replies, Each, KnowsTheEnd, GetsNothing, StaysOver, EndIsForGood, EndIsKnown, NothingComesAfterTheEnd}
+use Rattle.channel_laws.proofs.EachFacts.{of_mine, each_steps, each_begins}
+use Rattle.channel_laws.proofs.ClosedMoves.{over_spares}
+use Rattle.channel_laws.proofs.ReplyFacts.{StillDeeds, with_still, finish_gives, finish_ends}
+
+module _ {T : Type 0} where
+  nothing_gone : (m : Mark) (items : List T) → IsStill m → gone_by m items ≡ []
+  nothing_gone Append items h = absurd h
+  nothing_gone Take items h = absurd h
+  nothing_gone TakeDisplaced items h = absurd h
+  nothing_gone Replace items h = absurd h
+  nothing_gone Close items h = absurd h
+  nothing_gone m items h = refl
+
+  same_over : (q q' : Queue T) → q' ≡ q → IsShut q × IsDrained q → IsShut q' × IsDrained q'
+  same_over q q' e h = subst (λ (x : Queue T). IsShut x × IsDrained x) (sym e) h
+
+module _ {T W : Type 0} where
+  nothing_came : (m : Mark) (ask : ChannelAsk T W) → IsStill m → came_by m ask ≡ []
+  nothing_came Append ask h = absurd h
+  nothing_came Take ask h = absurd h
+  nothing_came TakeDisplaced ask h = absurd h
+  nothing_came Replace ask h = absurd h
+  nothing_came Close ask h = absurd h
+  nothing_came m ask h = refl
+
+  -- ---- one entry
+
+  pub record Rests (s : Scene T W) (e : Entry T) (t : Scene T W) : Type 0 where
+    pub over : Spent t.now
+    pub still : IsStill e.mark
+    pub gone : t.gone ≡ s.gone
+    pub came : t.came ≡ s.came
+
+  rests : (s : Scene T W) (x : Step T W) (e : Entry T) (names : List W) (t : Scene T W) → Spent s.now → Next s x e names t → Rests s e t
+  rests s (step.Begin p ask) e names t over n =
+      record {
+        over = subst (λ (c : Channel T W). Spent c) (sym n.0.now) over;
+        still = subst (λ (x : Entry T). IsStill x.mark) (sym n.0.entry) tt;
+        gone = n.0.gone;
+        came = n.0.came;
+      }
+  rests s (step.Step p) e names t over n =
+      let h = over_spares s.now n.mine.at (record { channel = t.now; mark = e.mark; woken = names }) e.reply n.at_now over n.moves in
+      record {
+        over = same_over s.now.queue t.now.queue h.0 over;
+        still = h.1;
+        gone = n.gone ∙ (ap (λ (vs : List T). s.gone ++ vs) (nothing_gone e.mark s.now.queue.items h.1) ∙ append-nil s.gone);
+        came = n.came ∙ (ap (λ (vs : List T). s.came ++ vs) (nothing_came e.mark n.mine.ask h.1) ∙ append-nil s.came);
+      }
+
+  -- ---- what calls know of the end
+
+  abbrev Knows : Channel T W → Under T W → Type 0
+  Knows now u = Once Spent u.seen → Spent now
+
+  now_or_before : (now : Channel T W) (seen : List (Channel T W)) → (Once Spent seen → Spent now) → Spent now ⊎ Once Spent seen → Spent now
+  now_or_before now seen f (inl h) = h
+  now_or_before now seen f (inr h) = f h
+
+  over_after : (s : Scene T W) (x : Step T W) (e : Entry T) (names : List W) (t : Scene T W) → Next s x e names t → Spent s.now → Spent t.now
+  over_after s x e names t n over = let h = rests s x e names t over n in h.over
+
+  true_next : (s : Scene T W) (x : Step T W) (e : Entry T) (names : List W) (t : Scene T W) → Next s x e names t → KnowsTheEnd s → KnowsTheEnd t
+  true_next s (step.Begin p ask) e names t n h =
+      let b = n.0 in
+      each_begins (Knows s.now) (Knows t.now) s t p ask e b
+      (λ u k once. over_after s (step.Begin p ask) e names t n (k once))
+      (λ once. now_or_before t.now [] (λ no. absurd no) (subst (λ (c : Channel T W). Once Spent (c ∷ [])) (sym b.now) once))
+      h
+  true_next s (step.Step p) e names t n h =
+      each_steps (Knows s.now) (Knows t.now) s t p e names n
+      (λ u k once. now_or_before t.now u.seen (λ o. over_after s (step.Step p) e names t n (k o)) once)
+      (λ k once. now_or_before t.now n.mine.seen (λ o. over_after s (step.Step p) e names t n (k o)) once)
+      h
+
+  -- ---- a party that was idle when it was over
+
+  abbrev Silent : ℕ → Under T W → Type 0
+  Silent q u = u.party ≡ q → StillDeeds u.deeds
+
+  silent_next : (q : ℕ) (s : Scene T W) (x : Step T W) (e : Entry T) (names : List W) (t : Scene T W) → Next s x e names t → IsStill e.mark → Each (Silent q) s.under_way → Each (Silent q) t.under_way
+  silent_next q s (step.Begin p ask) e names t n still h =
+      each_begins (Silent q) (Silent q) s t p ask e n.0 (λ u k. k) (λ same. tt) h
+  silent_next q s (step.Step p) e names t n still h =
+      each_steps (Silent q) (Silent q) s t p e names n (λ u k. k) (λ k same. with_still n.mine.deeds e.mark s.now n.mine.seen (k same) still) h
+
+  gives_none : (q : ℕ) (s : Scene T W) (p : ℕ) (e : Entry T) (names : List W) (t : Scene T W) → Steps s p e names t → IsStill e.mark → Each (Silent q) s.under_way → p ≡ q → Replies GivesMessage e.reply → ⊥
+  gives_none q s p e names t st still h same g =
+      let k = of_mine (Silent q) s t p e names st h in
+      finish_gives (does st.mine st.at_now e.mark s.now t.now) e.reply e.kept st.finishes (with_still st.mine.deeds e.mark s.now st.mine.seen (k (st.whose ∙ same)) still) g
+
+  silent_from : (q : ℕ) (us : List (Under T W)) → Each (λ u. u.party ≡ q → ⊥) us → Each (Silent q) us
+  silent_from q [] h = tt
+  silent_from q (u ∷ us) h = (λ same. absurd (h.0 same), silent_from q us h.1)
+
+  -- ---- runs
+
+  module _ {S : Type 0} (wakes : S → W → S → Type 0) where
+    rests_long : (parts parts' : Parts T W) (s t : Scene T W) (a b : S) (xs : List (Step T W)) (es : List (Entry T)) → Spent s.now → IsRun wakes parts s a xs es parts' t b → StaysOver s es t
+    rests_long parts parts' s t a b [] [] over run =
+        record {
+          over = subst (λ (z : Scene T W). Spent z.now) (sym run.1) over;
+          still = tt;
+          gone = ap (λ (z : Scene T W). z.gone) run.1;
+          came = ap (λ (z : Scene T W). z.came) run.1;
+        }
+    rests_long parts parts' s t a b (x ∷ xs) (e ∷ es) over run =
+        let h = rests s x e run.3 run.1 over run.5 in
+        let k = rests_long run.0 parts' run.1 t run.2 b xs es h.over run.7 in
+        record { over = k.over; still = (h.still, k.still); gone = k.gone ∙ h.gone; came = k.came ∙ h.came }
+    rests_long parts parts' s t a b [] (e ∷ es) over run = absurd run
+    rests_long parts parts' s t a b (x ∷ xs) [] over run = absurd run
+
+    true_long : (parts parts' : Parts T W) (s t : Scene T W) (a b : S) (xs : List (Step T W)) (es : List (Entry T)) → KnowsTheEnd s → IsRun wakes parts s a xs es parts' t b → KnowsTheEnd t
+    true_long parts parts' s t a b [] [] h run = subst (λ (z : Scene T W). KnowsTheEnd z) (sym run.1) h
+    true_long parts parts' s t a b (x ∷ xs) (e ∷ es) h run =
+        true_long run.0 parts' run.1 t run.2 b xs es (true_next s x e run.3 run.1 run.5 h) run.7
+    true_long parts parts' s t a b [] (e ∷ es) h run = absurd run
+    true_long parts parts' s t a b (x ∷ xs) [] h run = absurd run
+
+    silent_long : (q : ℕ) (parts parts' : Parts T W) (s t : Scene T W) (a b : S) (xs : List (Step T W)) (es : List (Entry T)) → Spent s.now → Each (Silent q) s.under_way → IsRun wakes parts s a xs es parts' t b → GetsNothing q xs es
+    silent_long q parts parts' s t a b [] [] over h run = tt
+    silent_long q parts parts' s t a b (step.Begin p ask ∷ xs) (e ∷ es) over h run =
+        let r = rests s (step.Begin p ask) e run.3 run.1 over run.5 in
+        silent_long q run.0 parts' run.1 t run.2 b xs es r.over (silent_next q s (step.Begin p ask) e run.3 run.1 run.5 r.still h) run.7
+    silent_long q parts parts' s t a b (step.Step p ∷ xs) (e ∷ es) over h run =
+        let r = rests s (step.Step p) e run.3 run.1 over run.5 in (
+          λ same g. gives_none q s p e run.3 run.1 run.5 r.still h same g,
+          silent_long q run.0 parts' run.1 t run.2 b xs es r.over (silent_next q s (step.Step p) e run.3 run.1 run.5 r.still h) run.7,
+        )
+    silent_long q parts parts' s t a b [] (e ∷ es) over h run = absurd run
+    silent_long q parts parts' s t a b (x ∷ xs) [] over h run = absurd run
+
+module _ (T W S : Type 0) (wakes : S → W → S → Type 0) where
+  pub end_is_for_good : EndIsForGood T W S wakes
+  end_is_for_good s t steps trace over run = rests_long wakes run.0 run.1 s t run.2 run.3 steps trace over run.4
+
+  pub end_is_known : EndIsKnown T W S wakes
+  end_is_known s t steps trace h run = true_long wakes run.0 run.1 s t run.2 run.3 steps trace h run.4
+
+  pub nothing_comes : NothingComesAfterTheEnd T W S wakes
+  nothing_comes start said after later last before between behind first second third p q e names h to_said says end to_later idle to_last =
+      let known : KnowsTheEnd said = end_is_known start said before first h to_said in
+      let known' : KnowsTheEnd after = true_next said (step.Step p) e names after says known in
+      let once = finish_ends (does says.mine says.at_now e.mark said.now after.now) e.reply e.kept says.finishes end in
+      let mine = of_mine (Knows said.now) said after p e names says known in
+      let over : Spent after.now = now_or_before after.now says.mine.seen (λ o. over_after said (step.Step p) e names after says (mine o)) once in
+      let over' = end_is_for_good after later between second over to_later in
+      silent_long wakes q to_last.0 to_last.1 later last to_last.2 to_last.3 behind third over'.over (silent_from q later.under_way idle) to_last.4

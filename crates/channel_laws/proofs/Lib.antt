@@ -1,0 +1,12 @@
+pub mod EachFacts
+pub mod AnyFacts
+pub mod ClosedMoves
+pub mod ReplyFacts
+pub mod Ends
+pub mod Closed
+pub mod ListFacts
+pub mod ListMoves
+pub mod StreamMoves
+pub mod Streams
+pub mod ClosingMoves
+pub mod Closings

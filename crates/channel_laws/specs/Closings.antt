@@ -1,0 +1,85 @@
+-- Who waits on a closed channel is told by the call that closed it, or a poll that has the listener in hand looks again.
+use Rattle.std.specs.Prelude.{◌≡◌, ℕ, false, List, ◌∷◌, [], Option, Some, ◌⊎◌}
+use Rattle.concurrent_queue.specs.Queue.{Phase, Stage, trying, taken}
+use Rattle.event_listener.specs.declared.key.Key.{Key}
+use Rattle.async_channel.specs.declared.mark.Mark.TheVariants.{Close}
+use Rattle.async_channel.specs.declared.stage.Aim.TheVariants as aim
+use Rattle.async_channel.specs.declared.stage.Line.{Line}
+use Rattle.async_channel.specs.declared.stage.Line.TheVariants.{Sends, Receives, Streams, Closings}
+use Rattle.async_channel.specs.declared.stage.Stage as stage
+use Rattle.async_channel.specs.declared.stage.Stage.TheVariants.{Trying, Working}
+use Rattle.async_channel.specs.declared.stage.Work.TheVariants.{TellSend, TellAll, Leave}
+use Rattle.channel_steps.specs.Moments.{Deed, Shut}
+use Rattle.channel_steps.specs.Scene.{Under, Scene, AllKnown, IsBalanced}
+use Rattle.channel_steps.specs.Run.{new_scene}
+use Rattle.channel_steps.specs.declared.party.Entry.{Entry}
+use Rattle.channel_steps.specs.declared.run.Step.{Step}
+use Rattle.channel_laws.specs.Ends.{Each, Leads}
+use Rattle.channel_laws.specs.Waits.{Waits, WaitApart, Any}
+
+-- a closing that tells the first list next has the second one to tell
+abbrev pub IsToTell : Line → Line → Type 0
+IsToTell Sends line = Unit {0}
+IsToTell Receives Sends = ⊥
+IsToTell Receives line = Unit {0}
+IsToTell Streams Sends = ⊥
+IsToTell Streams Receives = ⊥
+IsToTell Streams line = Unit {0}
+IsToTell Closings Closings = Unit {0}
+IsToTell Closings line = ⊥
+
+module _ {T : Type 0} where
+  -- a try that has found the queue at no step open and with cause to refuse, or has its message
+  abbrev pub HasNoCauseToWait : Stage T → Type 0
+  HasNoCauseToWait (trying seen) = seen ≡ false
+  HasNoCauseToWait (taken v) = Unit {0}
+  HasNoCauseToWait s = ⊥
+
+module _ {T W : Type 0} where
+  -- one of these is a closing
+  abbrev pub HasClosed : List (Deed T W) → Type 0
+  HasClosed [] = ⊥
+  HasClosed (d ∷ ds) = (d.mark ≡ Close) ⊎ HasClosed ds
+
+  -- this list is yet to be told
+  abbrev pub HasToTell : Line → stage.Stage (Phase T) T W → Type 0
+  HasToTell line (Working (TellAll next closer)) = IsToTell next line
+  HasToTell line at = ⊥
+
+  -- the poll that listens on this list under this key tries again and has found no cause to wait, or it has its answer and
+  -- leaves the list next
+  abbrev pub LooksAgain : Line → Key → stage.Stage (Phase T) T W → Type 0
+  LooksAgain line key (Trying f (aim.Poll at (Some k) task)) = (at ≡ line) × (k ≡ key) × HasNoCauseToWait f.stage
+  LooksAgain line key (Working (TellSend x)) = x.held ≡ Some (record { line = line; key = key })
+  LooksAgain line key (Working (Leave x)) = x.held ≡ Some (record { line = line; key = key })
+  LooksAgain line key at = ⊥
+
+  -- who answers for one that waits on a closed channel: the call that closed it, or such a poll
+  abbrev pub AnswersClosed : Line → Key → Under T W → Type 0
+  AnswersClosed line key u = (HasClosed u.deeds × HasToTell line u.at) ⊎ LooksAgain line key u.at
+
+  -- on a closed channel a call under way answers for each that waits
+  abbrev pub ClosingIsOwed : Scene T W → Type 0
+  ClosingIsOwed s = (line : Line) (key : Key) → Shut s.now → Waits line key s.now → Any (AnswersClosed line key) s.under_way
+
+  -- for one whose listener no call under way has in hand, as where its poll ended pending, the call that closed the channel is
+  -- under way and has its list to tell
+  abbrev pub PendingIsOwedTheClosing : Scene T W → Type 0
+  PendingIsOwedTheClosing s =
+      (line : Line) (key : Key) → Shut s.now → Waits line key s.now → Each (λ u. LooksAgain line key u.at → ⊥) s.under_way
+      → Any (λ u. HasClosed u.deeds × HasToTell line u.at) s.under_way
+
+  -- with what every run needs to keep it: what is known of its calls, and no listener twice on a list
+  pub record ClosingSound (s : Scene T W) : Type 0 where
+    pub known : AllKnown s.now s.under_way
+    pub balanced : IsBalanced s.now.queue
+    pub apart : (line : Line) → WaitApart line s.now
+    pub owed : ClosingIsOwed s
+
+module _ (T W S : Type 0) (wakes : S → W → S → Type 0) where
+  abbrev pub ClosingStaysOwed : Type 0
+  ClosingStaysOwed = (s t : Scene T W) (steps : List (Step T W)) (trace : List (Entry T)) → ClosingSound s → Leads wakes s steps trace t → ClosingSound t
+
+  -- in every run from a channel that was just opened
+  abbrev pub NobodyMissesTheClosing : Type 0
+  NobodyMissesTheClosing = (cap : Option ℕ) (t : Scene T W) (steps : List (Step T W)) (trace : List (Entry T)) → Leads wakes (new_scene cap) steps trace t → ClosingIsOwed t × PendingIsOwedTheClosing t

@@ -1,0 +1,107 @@
+-- What is over stays over: a channel that is closed, with nothing there and nothing on its way.
+use Rattle.std.specs.Prelude.{◌≡◌, ℕ, List, [], ◌∷◌, Option, None, Some, Ok, Err}
+use Rattle.async_channel.specs.Parts.{Parts}
+use Rattle.async_channel.specs.declared.error.Refused.TheVariants as refused
+use Rattle.async_channel.specs.declared.error.TryRecvError.TheVariants as try_recv_error
+use Rattle.async_channel.specs.declared.mark.Mark.{Mark}
+use Rattle.async_channel.specs.declared.mark.Mark.TheVariants.{Append, Take, TakeDisplaced, Replace, Close}
+use Rattle.async_channel.specs.declared.reply.Reply.{Reply}
+use Rattle.async_channel.specs.declared.reply.Reply.TheVariants as reply
+use Rattle.futures.specs.declared.task.Poll.TheVariants.{Ready}
+use Rattle.channel_steps.specs.Moments.{Spent, Once}
+use Rattle.channel_steps.specs.Scene.{Under, Scene, Steps}
+use Rattle.channel_steps.specs.Run.{IsRun}
+use Rattle.channel_steps.specs.declared.party.Entry.{Entry}
+use Rattle.channel_steps.specs.declared.run.Step.{Step}
+use Rattle.channel_steps.specs.declared.run.Step.TheVariants as step
+
+-- a mark of a step that brings no message, takes none and closes nothing
+abbrev pub IsStill : Mark → Type 0
+IsStill Append = ⊥
+IsStill Take = ⊥
+IsStill TakeDisplaced = ⊥
+IsStill Replace = ⊥
+IsStill Close = ⊥
+IsStill m = Unit {0}
+
+module _ {T : Type 0} where
+  abbrev pub AllStill : List (Entry T) → Type 0
+  AllStill [] = Unit {0}
+  AllStill (e ∷ es) = IsStill e.mark × AllStill es
+
+  -- replies that say that no message will come any more
+  abbrev pub SaysTheEnd : Reply T → Type 0
+  SaysTheEnd (reply.TryRecv (Err try_recv_error.Closed)) = Unit {0}
+  SaysTheEnd (reply.RecvPoll (Ready (Err (refused.Plain e)))) = Unit {0}
+  SaysTheEnd (reply.Next (Ready None)) = Unit {0}
+  SaysTheEnd r = ⊥
+
+  -- replies with a message out of the channel: one that was received, or displaced
+  abbrev pub GivesMessage : Reply T → Type 0
+  GivesMessage (reply.TryRecv (Ok m)) = Unit {0}
+  GivesMessage (reply.RecvPoll (Ready (Ok m))) = Unit {0}
+  GivesMessage (reply.Next (Ready (Some (Ok m)))) = Unit {0}
+  GivesMessage (reply.ForceSend (Ok (Some m))) = Unit {0}
+  GivesMessage r = ⊥
+
+  -- a step that ended its call with such a reply
+  abbrev pub Replies : (Reply T → Type 0) → Option (Reply T) → Type 0
+  Replies P None = ⊥
+  Replies P (Some r) = P r
+
+module _ {T W : Type 0} where
+  abbrev pub Each : (Under T W → Type 0) → List (Under T W) → Type 0
+  Each P [] = Unit {0}
+  Each P (u ∷ us) = P u × Each P us
+
+  -- this party has no call under way
+  abbrev pub IsIdle : ℕ → Scene T W → Type 0
+  IsIdle p s = Each (λ u. u.party ≡ p → ⊥) s.under_way
+
+  -- where the channel was over at a moment of a call under way, it is over now. So it is in a channel that was just opened,
+  -- where none is under way
+  abbrev pub KnowsTheEnd : Scene T W → Type 0
+  KnowsTheEnd s = Each (λ u. Once Spent u.seen → Spent s.now) s.under_way
+
+  -- no step of this party gives a message
+  abbrev pub GetsNothing : ℕ → List (Step T W) → List (Entry T) → Type 0
+  GetsNothing p (step.Step q ∷ xs) (e ∷ es) = (q ≡ p → Replies GivesMessage e.reply → ⊥) × GetsNothing p xs es
+  GetsNothing p (step.Begin q ask ∷ xs) (e ∷ es) = GetsNothing p xs es
+  GetsNothing p xs es = Unit {0}
+
+  -- after a run the channel is over still, nothing was brought or taken, and nothing left or came
+  pub record StaysOver (s : Scene T W) (trace : List (Entry T)) (t : Scene T W) : Type 0 where
+    pub over : Spent t.now
+    pub still : AllStill trace
+    pub gone : t.gone ≡ s.gone
+    pub came : t.came ≡ s.came
+
+  module _ {S : Type 0} (wakes : S → W → S → Type 0) where
+    -- these steps, with these entries, lead from one scene to another
+    abbrev pub Leads : Scene T W → List (Step T W) → List (Entry T) → Scene T W → Type 0
+    Leads s steps trace t = (parts parts' : Parts T W) × (a b : S) × IsRun wakes parts s a steps trace parts' t b
+
+module _ (T W S : Type 0) (wakes : S → W → S → Type 0) where
+  -- in every run from a channel that is over
+  abbrev pub EndIsForGood : Type 0
+  EndIsForGood =
+      (s t : Scene T W) (steps : List (Step T W)) (trace : List (Entry T)) → Spent s.now → Leads wakes s steps trace t → StaysOver s trace t
+
+  -- what calls under way know of the end is true after every run, where it was before
+  abbrev pub EndIsKnown : Type 0
+  EndIsKnown =
+      (s t : Scene T W) (steps : List (Step T W)) (trace : List (Entry T)) → KnowsTheEnd s → Leads wakes s steps trace t → KnowsTheEnd t
+
+  -- a call says the end; at any later moment a party has no call under way; no call of it that begins from then on gives a
+  -- message
+  abbrev pub NothingComesAfterTheEnd : Type 0
+  NothingComesAfterTheEnd =
+      (start said after later last : Scene T W) (before between behind : List (Step T W)) (first second third : List (Entry T))
+      (p q : ℕ) (e : Entry T) (names : List W)
+      → KnowsTheEnd start
+      → Leads wakes start before first said
+      → Steps said p e names after → Replies SaysTheEnd e.reply
+      → Leads wakes after between second later
+      → IsIdle q later
+      → Leads wakes later behind third last
+      → GetsNothing q behind third

@@ -1,0 +1,65 @@
+//! Laws of every run of a channel's steps. Each is the contract of a function that does nothing; what
+//! `channel_steps::run::run_steps` does is such a run.
+
+ghost use Rattle.channel_laws.specs.Closed.{ClosingIsForGood};
+ghost use Rattle.channel_laws.specs.Closings.{ClosingStaysOwed, NobodyMissesTheClosing};
+ghost use Rattle.channel_laws.specs.Ends.{EndIsForGood, EndIsKnown, NothingComesAfterTheEnd};
+ghost use Rattle.channel_laws.specs.Streams.{NoStreamIsForgotten, StreamsStayOwed};
+
+use event_listener::wakes::Wakes;
+
+/// A closed channel stays closed in every run, whatever calls are under way already: none closes it again or replaces a
+/// message, and no message comes in but one that was on its way, by the displacing send that had made room for it. So it never
+/// holds more messages than it held, with the one on its way.
+///
+/// Own to this project.
+pub fn a_closed_channel_stays_closed<T, W, S: Wakes<W>>()
+    ensures closed { ClosingIsForGood T W S S.wakes }
+{}
+
+/// A channel that is closed, with nothing there and nothing on its way, stays so in every run, whatever calls are under way
+/// already: no step brings a message, takes one or closes, and no message leaves or comes.
+///
+/// Own to this project.
+pub fn what_is_over_stays_over<T, W, S: Wakes<W>>()
+    ensures stays { EndIsForGood T W S S.wakes }
+{}
+
+/// Once a receive answered that the channel is closed and empty, or a stream that it has ended, no receive that is begun later
+/// gives a message, at whatever later moment, and no send gives back a displaced one: of every message type, in every run
+/// of whatever calls. A party that has no call under way at that later moment begins all its calls after it.
+///
+/// The run may start in the midst of calls, if what they have found so far is true; it is true in a channel that was just
+/// opened, and stays so.
+///
+/// Own to this project.
+pub fn nothing_comes_after_the_end<T, W, S: Wakes<W>>()
+    ensures known { EndIsKnown T W S S.wakes }
+    ensures nothing { NothingComesAfterTheEnd T W S S.wakes }
+{}
+
+/// Wherever a run from a channel that was just opened has come, whatever its steps are: where a stream waits there is no
+/// message, or a sending call under way has brought its message and has not told the streams yet, or a poll under way has the
+/// stream's listener in hand, and tries again or leaves the list. So where no call has it in hand, as after a poll that ended
+/// pending, a message beside it means such a sending call.
+///
+/// What makes it so is kept by every run, from whatever scene it holds of.
+///
+/// Own to this project.
+pub fn no_stream_is_forgotten<T, W, S: Wakes<W>>()
+    ensures kept { StreamsStayOwed T W S S.wakes }
+    ensures owed { NoStreamIsForgotten T W S S.wakes }
+{}
+
+/// Wherever a run from a channel that was just opened has come, whatever its steps are: where the channel is closed, then for
+/// each send, receive, stream or wait for the closing that waits on a list, the call that closed is under way and has that list
+/// to tell, or a poll under way has the listener in hand, and tries again and has found no cause to wait, or leaves the
+/// list. So where no call has it in hand, as after a poll that ended pending, the call that closed is about to tell it.
+///
+/// What makes it so is kept by every run, from whatever scene it holds of.
+///
+/// Own to this project.
+pub fn nobody_misses_the_closing<T, W, S: Wakes<W>>()
+    ensures kept { ClosingStaysOwed T W S S.wakes }
+    ensures owed { NobodyMissesTheClosing T W S S.wakes }
+{}
