@@ -1,0 +1,4 @@
+pub mod RefusalLemmas
+pub mod WokenFacts
+pub mod CountFacts
+pub mod FloorFacts

@@ -1,0 +1,43 @@
+-- Tests of one name, and names as one call at a time sees them.
+use Rattle.std.proofs.Common.{◌≡◌, ℕ, Bool, true, false, ◌&&◌, ◌||◌, Option, None, Some, is_some, refl, sym, ap, ◌∙◌}
+use Rattle.std.specs.Option.{option_map, option_map_or}
+use Rattle.channel_model.proofs.DirectoryLemmas.{at_seen}
+use Rattle.channel_model.specs.Names.{at}
+use Rattle.channel_model.specs.Names as model
+use Rattle.channel_model.specs.Refusal.{a_send, operation_fits, is_fit}
+use Rattle.channel_model.specs.declared.name.Handle.{Handle}
+use Rattle.channel_interleaving.specs.Roll.{operation_of, names_of}
+use Rattle.channel_interleaving.specs.declared.names.Hold.{Hold}
+use Rattle.channel_interleaving.specs.declared.names.Operation.{Operation}
+use Rattle.channel_interleaving.specs.declared.roll.Roll.{Roll}
+
+pub and_true : (b : Bool) → (b && true) ≡ b
+and_true true = refl
+and_true false = refl
+
+pub or_false : (b : Bool) → (b || false) ≡ b
+or_false true = refl
+or_false false = refl
+
+module _ {T : Type 0} (r : Roll T) (name : ℕ) where
+  pub handle_at : at name (names_of r).handles ≡ option_map (λ (h : Hold). h.handle) (at name r.handles)
+  handle_at = at_seen (λ (h : Hold). h.handle) name r.handles
+
+  pub operation_at : at name (names_of r).operations ≡ option_map operation_of (at name r.operations)
+  operation_at = at_seen operation_of name r.operations
+
+  -- an operation is there as it is there for one call at a time
+  pub operation_there : is_some (at name r.operations) ≡ is_some (at name (names_of r).operations)
+  operation_there = same (at name r.operations) ∙ sym (ap (λ (o : Option (model.Operation T)). is_some o) operation_at) where
+    same : (o : Option (Operation T)) → is_some o ≡ is_some (option_map operation_of o)
+    same None = refl
+    same (Some o) = refl
+
+  pub handle_there : option_map (λ (h : Hold). h.handle) (at name r.handles) ≡ at name (names_of r).handles
+  handle_there = sym handle_at
+
+  pub send_there : option_map_or (λ (o : Operation T). operation_fits a_send (operation_of o)) (at name r.operations) false ≡ is_fit (names_of r) (name, a_send)
+  send_there = same (at name r.operations) ∙ sym (ap (λ (o : Option (model.Operation T)). option_map_or (operation_fits a_send) o false) operation_at) where
+    same : (o : Option (Operation T)) → option_map_or (λ (x : Operation T). operation_fits a_send (operation_of x)) o false ≡ option_map_or (operation_fits a_send) (option_map operation_of o) false
+    same None = refl
+    same (Some o) = refl

@@ -1,0 +1,81 @@
+-- What the parts of an interleaved channel stand for.
+use Rattle.std.specs.Prelude.{◌≡◌, ℕ, ◌+◌, ◌-◌, ◌^◌, ◌≤◌, min, List, [], ◌++◌, map, length, Option}
+use Rattle.async_channel.specs.Parts.{Parts}
+use Rattle.async_channel.specs.Plain.{parts_of}
+use Rattle.async_channel.specs.declared.mark.Mark.{Mark}
+use Rattle.async_channel.specs.declared.mark.Mark.TheVariants.{Append, Take, TakeDisplaced}
+use Rattle.channel_model.specs.declared.name.Waiter.{Waiter}
+use Rattle.channel_steps.specs.Run.{new_scene, Accounts, Touches}
+use Rattle.channel_steps.specs.Scene.{Scene, Shows, parties_in}
+use Rattle.channel_interleaving.specs.Roll.{first_roll}
+use Rattle.channel_interleaving.specs.Run.{Book, Made, IsRun, channel_step}
+use Rattle.channel_interleaving.specs.declared.floor.Floor.{Floor}
+use Rattle.channel_interleaving.specs.declared.names.Agent.{Agent}
+use Rattle.channel_interleaving.specs.declared.step.Entry.{Entry}
+use Rattle.channel_interleaving.specs.declared.step.Step.{Step}
+
+-- how many messages there are after a step with this mark
+abbrev pub counted : ℕ → Mark → ℕ
+counted n Append = min (n + 1) (2 ^ 64 - 1)
+counted n Take = n - 1
+counted n TakeDisplaced = n - 1
+counted n mark = n
+
+module _ {T : Type 0} where
+  abbrev pub book_of : Floor T → Book T
+  book_of f = record { roll = f.roll; agents = f.agents.items }
+
+  abbrev pub parts_in : Floor T → Parts T Waiter
+  parts_in f = parts_of f.channel
+
+  -- The cells and the calls under way stand for this scene, which has accepted no more messages than steps were made, and
+  -- holds as many as are counted.
+  pub record Shown (f : Floor T) (s : Scene T Waiter) : Type 0 where
+    pub shows : Shows (parts_in f) f.parties.items s
+    pub accepted : s.now.queue.accepted ≤ f.made
+    pub messages : f.messages ≡ length s.now.queue.items
+
+  -- the parties at work are those whose calls are under way, in the same order
+  abbrev pub AreAtWork : Floor T → Type 0
+  AreAtWork f = map (λ (a : Agent T). a.party) f.agents.items ≡ parties_in f.parties.items
+
+  -- nothing is changed but the room that was taken
+  pub record IsSame (f g : Floor T) : Type 0 where
+    pub channel : g.channel ≡ f.channel
+    pub parties : g.parties.items ≡ f.parties.items
+    pub book : book_of g ≡ book_of f
+    pub messages : g.messages ≡ f.messages
+    pub made : g.made ≡ f.made
+
+  -- what is always so: there is a scene that is shown
+  pub record IsKept (f : Floor T) : Type 0 where
+    pub scene : Scene T Waiter
+    pub shown : Shown f scene
+    pub at_work : AreAtWork f
+
+  -- a channel that was just opened: its first sender and its first receiver live, and nobody is at work
+  pub record IsOpen (capacity : Option ℕ) (f : Floor T) : Type 0 where
+    pub shown : Shown f (new_scene capacity)
+    pub book : book_of f ≡ record { roll = first_roll; agents = [] }
+
+  -- a step that was made, from any scene that was shown
+  pub record Stepped (x : Step T) (old : Floor T) (e : Entry T) (new : Floor T) (s : Scene T Waiter) : Type 0 where
+    pub after : Scene T Waiter
+    pub touches : Touches (channel_step old.roll x) (parts_in old) (parts_in new)
+    pub made : Made (book_of old) s x e (book_of new) after
+    pub shown : Shown new after
+
+  abbrev pub Steps : Step T → Floor T → Entry T → Floor T → Type 0
+  Steps x old e new = (s : Scene T Waiter) → Shown old s → Stepped x old e new s
+
+  -- a run of the first steps of a list, from any scene that was shown
+  pub record Ran (steps left : List (Step T)) (old : Floor T) (trace : List (Entry T)) (new : Floor T) (s : Scene T Waiter) : Type 0 where
+    pub made : List (Step T)
+    pub last : Scene T Waiter
+    pub first : steps ≡ made ++ left
+    pub run : IsRun (parts_in old) s (book_of old) made trace (parts_in new) last (book_of new)
+    pub shown : Shown new last
+    pub accounts : Accounts s last
+
+  abbrev pub RanTo : List (Step T) → List (Step T) → Floor T → List (Entry T) → Floor T → Type 0
+  RanTo steps left old trace new = (s : Scene T Waiter) → Shown old s → Ran steps left old trace new s

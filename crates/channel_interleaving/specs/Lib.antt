@@ -1,0 +1,6 @@
+pub mod Roll
+pub mod Refusal
+pub mod Bookkeeping
+pub mod Woken
+pub mod Run
+pub mod Floor

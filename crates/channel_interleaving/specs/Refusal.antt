@@ -1,0 +1,57 @@
+-- Which steps are refused, and why. Room for memory is another matter: see `Run`.
+use Rattle.std.specs.Prelude.{ℕ, List, Bool, true, false, not, Option, None, Some, if◌then◌else◌}
+use Rattle.std.specs.List.{list_all, list_any}
+use Rattle.std.specs.Option.{option_map_or}
+use Rattle.channel_model.specs.Names.{at, is_taken}
+use Rattle.channel_model.specs.Refusal.{uses, is_live, are_fit, takes_borrowed}
+use Rattle.channel_model.specs.declared.call.Call.{Call}
+use Rattle.channel_model.specs.declared.call.Call.TheVariants as call
+use Rattle.channel_model.specs.declared.refusal.WorldRefusal.{WorldRefusal}
+use Rattle.channel_model.specs.declared.refusal.WorldRefusal.TheVariants.{Busy, Idle, UnknownName, WrongKind, OpUnderWay, Borrowed, NameTaken}
+use Rattle.channel_interleaving.specs.Roll.{is_polled, names_of, is_at_work}
+use Rattle.channel_interleaving.specs.declared.names.Agent.{Agent}
+use Rattle.channel_interleaving.specs.declared.names.Hold.{Hold}
+use Rattle.channel_interleaving.specs.declared.names.Operation.{Operation}
+use Rattle.channel_interleaving.specs.declared.roll.Roll.{Roll}
+use Rattle.channel_interleaving.specs.declared.step.Step.{Step}
+use Rattle.channel_interleaving.specs.declared.step.Step.TheVariants as step
+
+module _ {T : Type 0} where
+  -- whether a poll of it is under way
+  abbrev pub is_operation_polled : ℕ → Roll T → Bool
+  is_operation_polled op r = option_map_or (λ (o : Operation T). is_polled o.standing) (at op r.operations) false
+
+  abbrev pub is_stream_polled : ℕ → Roll T → Bool
+  is_stream_polled handle r = option_map_or (λ (h : Hold). is_polled h.standing) (at handle r.handles) false
+
+  -- a poll or the giving up of an operation whose poll is under way; a call through a receiver whose stream is being polled
+  abbrev pub meets_poll : Roll T → Call T → Bool
+  meets_poll r (call.Poll op) = is_operation_polled op.0 r
+  meets_poll r (call.PollRefused op) = is_operation_polled op.0 r
+  meets_poll r (call.GiveUp op) = is_operation_polled op.0 r
+  meets_poll r (call.SendIsTerminated op) = false
+  meets_poll r c = list_any (λ u. is_stream_polled u.0 r) (uses c)
+
+  -- a new name that was taken before
+  abbrev pub names_taken : Roll T → Call T → Bool
+  names_taken r (call.NewSend op sender msg) = is_taken op.0 r.operations
+  names_taken r (call.NewRecv op receiver) = is_taken op.0 r.operations
+  names_taken r (call.NewClosed op sender) = is_taken op.0 r.operations
+  names_taken r (call.TryClone handle new) = is_taken new.0 r.handles
+  names_taken r (call.Downgrade handle new) = is_taken new.0 r.handles
+  names_taken r (call.Upgrade weak new) = is_taken new.0 r.handles
+  names_taken r c = false
+
+  -- the first of these reasons that there is; a handle is borrowed as long as a live operation or a call under way uses it
+  abbrev pub refusal : Roll T → Call T → Option WorldRefusal
+  refusal r c =
+      if not (list_all (is_live (names_of r)) (uses c)) then Some UnknownName
+      else (if not (are_fit (names_of r) c) then Some WrongKind
+      else (if meets_poll r c then Some OpUnderWay
+      else (if takes_borrowed (names_of r) c then Some Borrowed
+      else (if names_taken r c then Some NameTaken else None))))
+
+  -- why a step is refused
+  abbrev pub step_refusal : Roll T → List (Agent T) → Step T → Option WorldRefusal
+  step_refusal r agents (step.Begin p c) = if is_at_work p.0 agents then Some Busy else refusal r c
+  step_refusal r agents (step.Step p) = if is_at_work p.0 agents then None else Some Idle

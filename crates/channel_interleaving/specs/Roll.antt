@@ -1,0 +1,148 @@
+-- What lives under which name.
+use Rattle.std.specs.Prelude.{◌≡◌, ℕ, ◌+◌, ◌-◌, ◌^◌, min, Bool, true, false, not, nat_eq, List, [], ◌∷◌, map, slice_get, is_none, Option, None, Some}
+use Rattle.std.specs.List.{list_any}
+use Rattle.std.specs.Option.{option_map, option_map_or}
+use Rattle.event_listener.specs.declared.key.Key.{Key}
+use Rattle.async_channel.specs.declared.stage.Line.{Line}
+use Rattle.async_channel.specs.declared.stage.Line.TheVariants.{Sends, Receives, Closings}
+use Rattle.channel_model.specs.Asked.{Held}
+use Rattle.channel_model.specs.Names.{Directory, Names, at, with_changed}
+use Rattle.channel_model.specs.Names as model
+use Rattle.channel_model.specs.declared.name.Handle.{Handle}
+use Rattle.channel_model.specs.declared.name.HandleId.{HandleId}
+use Rattle.channel_model.specs.declared.name.HandleKind.{HandleKind}
+use Rattle.channel_model.specs.declared.name.HandleKind.TheVariants as handle_kind
+use Rattle.channel_model.specs.declared.name.OpId.{OpId}
+use Rattle.channel_model.specs.declared.name.Waiter.{Waiter}
+use Rattle.channel_model.specs.declared.name.Waiter.TheVariants.{Op, Stream}
+use Rattle.channel_interleaving.specs.declared.names.Agent.{Agent}
+use Rattle.channel_interleaving.specs.declared.names.Hold.{Hold}
+use Rattle.channel_interleaving.specs.declared.names.Operation.{Operation}
+use Rattle.channel_interleaving.specs.declared.names.OperationKind.{OperationKind}
+use Rattle.channel_interleaving.specs.declared.names.OperationKind.TheVariants.{Send, Receive, Closing}
+use Rattle.channel_interleaving.specs.declared.names.Standing.{Standing}
+use Rattle.channel_interleaving.specs.declared.names.Standing.TheVariants.{Rests, Waits, IsPolled}
+use Rattle.channel_interleaving.specs.declared.roll.Roll.{Roll}
+
+-- ---- standings
+
+-- the listener of one that is pending
+abbrev pub key_of : Standing → Option Key
+key_of Rests = None
+key_of (Waits key is_woken) = Some key
+key_of (IsPolled brings) = None
+
+-- after a poll that left this listener, or none
+abbrev pub standing_with : Option Key → Standing
+standing_with None = Rests
+standing_with (Some key) = Waits key false
+
+abbrev pub is_polled : Standing → Bool
+is_polled Rests = false
+is_polled (Waits key is_woken) = false
+is_polled (IsPolled brings) = true
+
+abbrev pub is_woken : Standing → Bool
+is_woken Rests = false
+is_woken (Waits key woken) = woken
+is_woken (IsPolled brings) = false
+
+-- one that is pending is woken
+abbrev pub told : Standing → Standing
+told Rests = Rests
+told (Waits key is_woken) = Waits key true
+told (IsPolled brings) = IsPolled brings
+
+-- ---- operations
+
+-- the line in which it waits
+abbrev pub line_of : OperationKind → Line
+line_of Send = Sends
+line_of Receive = Receives
+line_of Closing = Closings
+
+-- whether a poll under way has the message
+abbrev pub is_lent : Standing → Bool
+is_lent Rests = false
+is_lent (Waits key is_woken) = false
+is_lent (IsPolled brings) = brings
+
+module _ {T : Type 0} where
+  -- a send is finished whose message is gone, and that no poll under way has
+  abbrev pub has_finished : OperationKind → Option T → Standing → Bool
+  has_finished Send None s = not (is_lent s)
+  has_finished Send (Some m) s = false
+  has_finished Receive m s = false
+  has_finished Closing m s = false
+
+  abbrev pub is_finished : Operation T → Bool
+  is_finished o = has_finished o.kind o.message o.standing
+
+  -- an operation as one call at a time sees it
+  abbrev pub operation_of : Operation T → model.Operation T
+  operation_of o = elim o.kind [ Send ↦ model.send o.handle o.message | Receive ↦ model.recv o.handle | Closing ↦ model.closing o.handle ]
+
+-- ---- all names
+
+-- handle 0 is the first sender, handle 1 the first receiver; nobody uses them
+abbrev pub unused : HandleKind → Hold
+unused kind = record { handle = record { kind = kind; borrowers = 0 }; standing = Rests }
+
+abbrev pub first_handles : Directory Hold
+first_handles = (1, Some (unused handle_kind.Receiver)) ∷ (0, Some (unused handle_kind.Sender)) ∷ []
+
+-- one more uses it, or one fewer
+abbrev pub used_more : Hold → Hold
+used_more h = record h { handle = record h.handle { borrowers = min (h.handle.borrowers + 1) (2 ^ 64 - 1) } }
+
+abbrev pub used_less : Hold → Hold
+used_less h = record h { handle = record h.handle { borrowers = h.handle.borrowers - 1 } }
+
+module _ {T : Type 0} where
+  abbrev pub first_roll : Roll T
+  first_roll = record { handles = first_handles; operations = [] }
+
+  -- what lives under a name, as one call at a time sees it
+  abbrev pub handle_at : HandleId → Roll T → Option Handle
+  handle_at handle r = option_map (λ (h : Hold). h.handle) (at handle.0 r.handles)
+
+  abbrev pub operation_at : OpId → Roll T → Option (model.Operation T)
+  operation_at op r = option_map operation_of (at op.0 r.operations)
+
+  -- all that lives, as one call at a time sees it
+  abbrev pub names_of : Roll T → Names T
+  names_of r = record {
+    handles = map (λ e. (e.0, option_map (λ (h : Hold). h.handle) e.1)) r.handles;
+    operations = map (λ e. (e.0, option_map operation_of e.1)) r.operations;
+  }
+
+  -- the listener that each holds that is pending
+  abbrev pub held_of : Roll T → Held
+  held_of r = λ w. elim w [
+    | Op op ↦ option_map_or (λ (o : Operation T). key_of o.standing) (at op.0 r.operations) None
+    | Stream handle ↦ option_map_or (λ (h : Hold). key_of h.standing) (at handle.0 r.handles) None
+  ]
+
+  -- what lives under the handle's name is changed so, where something lives
+  abbrev pub with_handle : (Hold → Hold) → HandleId → Roll T → Roll T
+  with_handle change handle r = record r { handles = option_map_or (λ (h : Hold). with_changed handle.0 (change h) r.handles) (at handle.0 r.handles) r.handles }
+
+  abbrev pub with_lent : HandleId → Roll T → Roll T
+  with_lent handle r = with_handle used_more handle r
+
+  abbrev pub with_given_back : HandleId → Roll T → Roll T
+  with_given_back handle r = with_handle used_less handle r
+
+  -- the receiver's stream stands so
+  abbrev pub with_standing : Standing → HandleId → Roll T → Roll T
+  with_standing standing handle r = with_handle (λ (h : Hold). record h { standing = standing }) handle r
+
+  -- ---- parties
+
+  -- whether a party has a call under way
+  abbrev pub is_at_work : ℕ → List (Agent T) → Bool
+  is_at_work party agents = list_any (λ (a : Agent T). nat_eq a.party party) agents
+
+  -- the k-th call under way is this party's
+  abbrev pub IsAgent : ℕ → List (Agent T) → ℕ → Type 0
+  IsAgent party agents k = (a : Agent T) × (slice_get agents k ≡ Some a) × (a.party ≡ party)

@@ -1,0 +1,87 @@
+-- Runs: what may follow from steps of many parties in any order, by names.
+use Rattle.std.specs.Prelude.{◌≡◌, ℕ, ◌+◌, ◌≤◌, List, [], ◌∷◌, ◌++◌, length, slice_get, unwrap_or, Option, None, Some, ◌⊎◌}
+use Rattle.std.specs.List.{remove}
+use Rattle.async_channel.specs.Parts.{Parts}
+use Rattle.async_channel.specs.Turns.{nothing_kept}
+use Rattle.async_channel.specs.declared.reply.Reply.{Reply}
+use Rattle.async_channel.specs.declared.stage.Kept.{Kept}
+use Rattle.channel_model.specs.declared.call.Call.{Call}
+use Rattle.channel_model.specs.declared.name.Waiter.{Waiter}
+use Rattle.channel_model.specs.declared.refusal.WorldRefusal.{WorldRefusal}
+use Rattle.channel_model.specs.declared.refusal.WorldRefusal.TheVariants.{NoMemory}
+use Rattle.channel_model.specs.declared.run.Stopped.{Stopped}
+use Rattle.channel_steps.specs.Run.{Next, Touches, Accounts}
+use Rattle.channel_steps.specs.Scene.{Scene}
+use Rattle.channel_steps.specs.declared.party.Entry.{Entry as ChannelEntry}
+use Rattle.channel_steps.specs.declared.run.Step.{Step as ChannelStep}
+use Rattle.channel_steps.specs.declared.run.Step.TheVariants as channel
+use Rattle.channel_interleaving.specs.Bookkeeping.{asks, errand_of, names_begun, settled, all_woken}
+use Rattle.channel_interleaving.specs.Refusal.{step_refusal}
+use Rattle.channel_interleaving.specs.declared.names.Agent.{Agent}
+use Rattle.channel_interleaving.specs.declared.roll.Roll.{Roll}
+use Rattle.channel_interleaving.specs.declared.step.PartyId.{PartyId}
+use Rattle.channel_interleaving.specs.declared.step.Entry.{Entry}
+use Rattle.channel_interleaving.specs.declared.step.Step.{Step}
+use Rattle.channel_interleaving.specs.declared.step.Step.TheVariants as step
+
+-- the names, and the parties at work in the order in which their calls began
+pub record Book (T : Type 0) : Type 0 where
+  pub roll : Roll T
+  pub agents : List (Agent T)
+
+module _ {T : Type 0} where
+  -- ---- one step
+
+  -- what a step by names is to the channel: a call asks what it asks given the names and the listeners held at this moment
+  abbrev pub channel_step : Roll T → Step T → ChannelStep T Waiter
+  channel_step r (step.Begin p c) = channel.Begin p.0 (asks r c)
+  channel_step r (step.Step p) = channel.Step p.0
+
+  -- a call has begun
+  abbrev pub begun : PartyId → Call T → Book T → Book T
+  begun p c b = record { roll = names_begun b.roll c; agents = b.agents ++ record { party = p.0; errand = errand_of b.roll c } ∷ [] }
+
+  abbrev pub with_woken : List Waiter → Book T → Book T
+  with_woken names b = record b { roll = all_woken names b.roll }
+
+  -- the k-th call has ended, with this reply, and left this: it writes back what it has to, and its party is at work no more
+  abbrev pub ended : ℕ → Agent T → Option (Reply T) → Option (Kept T) → Book T → Book T
+  ended k a None kept b = b
+  ended k a (Some r) kept b = record { roll = settled a.errand r (unwrap_or kept nothing_kept) b.roll; agents = remove b.agents k }
+
+  -- the book after a step
+  abbrev pub IsBookAfter : Step T → Entry T → Option (Kept T) → Book T → Book T → Type 0
+  IsBookAfter (step.Begin p c) e kept old new = new ≡ begun p c old
+  IsBookAfter (step.Step p) e kept old new =
+      (k : ℕ) × (a : Agent T) × (slice_get old.agents k ≡ Some a) × (a.party ≡ p.0) × (new ≡ ended k a e.reply kept (with_woken e.woken.items old))
+
+  -- a step that was made: the channel's step of it has this entry's mark, woken names and reply, and the book is as it is to be
+  pub record Made (b : Book T) (s : Scene T Waiter) (x : Step T) (e : Entry T) (c : Book T) (t : Scene T Waiter) : Type 0 where
+    pub kept : Option (Kept T)
+    pub next : Next s (channel_step b.roll x) (record { mark = e.mark; reply = e.reply; kept = kept }) e.woken.items t
+    pub book : IsBookAfter x e kept b c
+
+  -- ---- runs
+
+  -- these steps, one after another, with these entries; at most one cell, list or count differs after each
+  abbrev pub IsRun : Parts T Waiter → Scene T Waiter → Book T → List (Step T) → List (Entry T) → Parts T Waiter → Scene T Waiter → Book T → Type 0
+  IsRun p s b [] [] q t c = (q ≡ p) × (t ≡ s) × (c ≡ b)
+  IsRun p s b (x ∷ xs) (e ∷ es) q t c =
+      (o : Parts T Waiter) × (m : Scene T Waiter) × (d : Book T) × Touches (channel_step b.roll x) p o × Made b s x e d m × IsRun o m d xs es q t c
+  IsRun p s b _ _ q t c = ⊥
+
+  -- ---- the end of a run
+
+  -- a step is refused for the first reason that there is, or for want of room where there is none
+  abbrev pub MayRefuse : Book T → Step T → WorldRefusal → Type 0
+  MayRefuse b x why = (step_refusal b.roll b.agents x ≡ Some why) ⊎ ((step_refusal b.roll b.agents x ≡ None) × (why ≡ NoMemory))
+
+  abbrev pub MayStop : Book T → Step T → Option WorldRefusal → Type 0
+  MayStop b x None = step_refusal b.roll b.agents x ≡ None
+  MayStop b x (Some why) = MayRefuse b x why
+
+  -- the list is at its end, or the step in front is refused, at the place that says how many were made
+  abbrev pub Stops : Book T → List (Step T) → ℕ → Option Stopped → Type 0
+  Stops b left made None = left ≡ []
+  Stops b [] made (Some stopped) = ⊥
+  Stops b (x ∷ xs) made (Some stopped) = (stopped.place ≡ made) × MayRefuse b x stopped.why

@@ -1,0 +1,208 @@
+//! The parts of an interleaved channel, and one step of it.
+
+use crate::beginning::Begun;
+use crate::ending::write_back;
+use crate::names::{Agent, find_agent, is_at_work};
+use crate::roll::Roll;
+use crate::step::{Entry, PartyId, Step};
+use crate::woken::Woken;
+use async_channel::mark::Mark;
+use async_channel::plain::PlainChannel;
+use channel_model::call::Call;
+use channel_model::name::Waiter;
+use channel_model::refusal::WorldRefusal;
+use channel_steps::party::{Entry as ChannelEntry, Party, step_at};
+use channel_steps::run::begin;
+use channel_steps::start::open_channel;
+use concurrent_queue::cells::QueueForm;
+use std::alloc::{AllocError, Global};
+
+/// A channel, the calls under way on it, and its names.
+#[derive(Drop)]
+pub struct Floor<T> {
+    /// The channel's queue, lists and counts.
+    pub channel: PlainChannel<T, Waiter>,
+    /// The calls under way, in the order in which they began.
+    pub parties: Vec<Party<T, Waiter>>,
+    /// The names.
+    pub roll: Roll<T>,
+    /// The parties with a call under way, in the same order.
+    pub agents: Vec<Agent<T>>,
+    /// How many messages the channel holds.
+    pub messages: u64,
+    /// How many steps were made, which is no fewer than the messages that were accepted.
+    pub made: u64,
+    /// Where memory comes from.
+    pub alloc: Global,
+}
+
+/// How many steps are made at most: the positions of a queue end there.
+pub(crate) const MOST_STEPS: u64 = 1 << 61;
+
+ghost use Rattle.std.specs.Prelude.{◌≡◌, ◌<◌, ◌++◌, ◌∷◌, [], IsTrue, vec_len, vec_capacity};
+ghost use Rattle.channel_interleaving.specs.Floor.{counted};
+
+/// How many messages there are after a step with this mark.
+fn counted(messages: u64, mark: Mark) -> u64
+    ensures { result ≡ counted messages mark }
+{
+    match mark {
+        Mark::Append => messages.saturating_add(1),
+        Mark::Take | Mark::TakeDisplaced => messages.saturating_sub(1),
+        _ => messages,
+    }
+}
+
+/// Room for one more.
+fn has_room<X: Drop>(items: &mut Vec<X>) -> bool
+    ensures items { items.new.items ≡ items.old.items }
+    ensures room { IsTrue result → vec_len items.new < vec_capacity items.new }
+{
+    items.reserve(1).is_ok()
+}
+
+/// Appends within the room that was taken.
+fn append<X: Drop>(items: &mut Vec<X>, item: X)
+    requires { vec_len items.old < vec_capacity items.old }
+    ensures { items.new.items ≡ items.old.items ++ item ∷ [] }
+{
+    match items.push(item) {
+        Ok(()) => {}
+        Err(_) => unreachable!(),
+    }
+}
+
+impl<T: Drop> Floor<T> {
+    ghost use Rattle.std.specs.Prelude.{◌≡◌, ◌<◌, [], None, IfOk, IfErr, OnErr, IfSome, IfNone, vec_len};
+    ghost use Rattle.concurrent_queue.specs.Dispatch.{capacity_of};
+    ghost use Rattle.concurrent_queue.specs.Made.{CanBeMade};
+    ghost use Rattle.channel_steps.specs.Run.{new_scene};
+    ghost use Rattle.channel_interleaving.specs.Roll.{first_roll, IsAgent};
+    ghost use Rattle.channel_interleaving.specs.Refusal.{step_refusal};
+    ghost use Rattle.channel_interleaving.specs.Floor.{book_of, Shown, AreAtWork, IsSame, Steps};
+
+    /// An open channel over a queue of this form, with its first two handles and nobody at work.
+    pub(crate) fn open(alloc: Global, form: QueueForm) -> Result<Floor<T>, AllocError>
+        requires form { CanBeMade form }
+        ensures shown { IfOk result (λ f. Shown f (new_scene (capacity_of form))) }
+        ensures book { IfOk result (λ f. book_of f ≡ record { roll = first_roll; agents = [] }) }
+        ensures at_work { IfOk result (λ f. AreAtWork f) }
+    {
+        let opened = open_channel(form, alloc)?;
+        let roll = Roll::new(alloc)?;
+        Ok(Floor {
+            channel: opened.cells,
+            parties: opened.parties,
+            roll,
+            agents: Vec::new(alloc),
+            messages: 0,
+            made: 0,
+            alloc,
+        })
+    }
+
+    /// Why a step is refused, room aside.
+    pub(crate) fn refusal(&self, step: &Step<T>) -> Option<WorldRefusal>
+        ensures { result ≡ step_refusal self.now.roll self.now.agents.items step.now }
+    {
+        match step {
+            Step::Begin { party, call } => {
+                if is_at_work(&self.agents, party.0) {
+                    return Some(WorldRefusal::Busy);
+                }
+                self.roll.refusal(call)
+            }
+            Step::Step { party } => {
+                if !is_at_work(&self.agents, party.0) {
+                    return Some(WorldRefusal::Idle);
+                }
+                None
+            }
+        }
+    }
+
+    /// Begins a call that is not refused; or hands it back where there was no room, with nothing changed.
+    fn start(&mut self, party: PartyId, call: Call<T>) -> Result<Entry<T>, Call<T>>
+        requires accepted { step_refusal self.old.roll self.old.agents.items (Step.Begin party call) ≡ None }
+        ensures ok { IfOk result (λ e. Steps (Step.Begin party call) self.old e self.new) }
+        ensures at_work { AreAtWork self.old → AreAtWork self.new }
+        ensures err { OnErr result (IsSame self.old self.new) }
+        ensures back { IfErr result (λ c. c ≡ call) }
+    {
+        if self.made >= MOST_STEPS || !has_room(&mut self.parties) || !has_room(&mut self.agents) {
+            return Err(call);
+        }
+        let Begun { ask, errand } = self.roll.begin(call)?;
+        append(
+            &mut self.agents,
+            Agent {
+                party: party.0,
+                errand,
+            },
+        );
+        let _ = begin(&mut self.parties, party.0, ask);
+        self.made += 1;
+        Ok(Entry {
+            mark: Mark::Nothing,
+            woken: Vec::new(self.alloc),
+            reply: None,
+        })
+    }
+
+    /// One step of the k-th call under way. None where there was no room for those whom it might wake.
+    fn go_on(&mut self, party: PartyId, k: usize) -> Option<Entry<T>>
+        requires party { IsAgent party.0 self.old.agents.items k }
+        requires at_work { AreAtWork self.old }
+        ensures some { IfSome result (λ e. Steps (Step.Step party) self.old e self.new) }
+        ensures at_work { AreAtWork self.new }
+        ensures none { IfNone result (IsSame self.old self.new) }
+    {
+        if self.made >= MOST_STEPS {
+            return None;
+        }
+        let room = self.channel.most_listeners();
+        let Ok(mut sink) = Woken::with_room(room, self.alloc) else {
+            return None;
+        };
+        let ChannelEntry { mark, reply, kept } = step_at(
+            &mut self.parties,
+            k,
+            &mut self.channel,
+            &mut sink,
+        );
+        self.made += 1;
+        self.messages = counted(self.messages, mark);
+        let Woken { names } = sink;
+        self.roll.wake_all(&names);
+        write_back(&mut self.roll, &mut self.agents, k, &reply, kept);
+        Some(Entry {
+            mark,
+            woken: names,
+            reply,
+        })
+    }
+
+    /// Makes a step that nothing but want of room refuses; or hands it back where there was none, with nothing changed.
+    pub(crate) fn turn(&mut self, step: Step<T>) -> Result<Entry<T>, Step<T>>
+        requires accepted { step_refusal self.old.roll self.old.agents.items step ≡ None }
+        requires at_work { AreAtWork self.old }
+        ensures ok { IfOk result (λ e. Steps step self.old e self.new) }
+        ensures at_work { AreAtWork self.new }
+        ensures err { OnErr result (IsSame self.old self.new) }
+        ensures back { IfErr result (λ x. x ≡ step) }
+    {
+        match step {
+            Step::Begin { party, call } => match self.start(party, call) {
+                Ok(entry) => Ok(entry),
+                Err(call) => Err(Step::Begin { party, call }),
+            },
+            Step::Step { party } => match find_agent(&self.agents, party.0) {
+                Some(k) => match self.go_on(party, k) {
+                    Some(entry) => Ok(entry),
+                    None => Err(Step::Step { party }),
+                },
+                None => Err(Step::Step { party }),
+            },
+        }
+    }
+}

@@ -1,0 +1,140 @@
+//! A channel whose handles and operations are called by name, with the calls of several parties under way.
+
+use crate::floor::Floor;
+use crate::step::{Run, Step};
+use async_channel::error::OpenError;
+use channel_steps::start::{is_quiet, under_way};
+use concurrent_queue::cells::QueueForm;
+use event_listener::id::EventIds;
+use std::alloc::Global;
+use std::collections::VecDeque;
+use std::marker::Model;
+
+/// A channel, its handles and operations by their names, and the calls that several parties have under way.
+///
+/// Handle 0 is the first sender, handle 1 the first receiver. However it came about, its cells, lists and counts stand for a
+/// channel with just these calls under way. Own to this project; what the calls do is as in `async-channel` 2.5.0.
+#[derive(Drop)]
+pub struct Interleaved<T> {
+    floor: Floor<T>,
+}
+
+impl<T> Model for Interleaved<T> {
+    ghost use Rattle.channel_interleaving.specs.Floor.{IsKept};
+    ghost use Rattle.channel_interleaving.specs.declared.floor.Floor.{Floor};
+
+    ghost Value = { Floor T };
+
+    ghost view = { λ w. w.floor };
+
+    ghost invariant = { λ w. IsKept w.floor };
+}
+
+impl<T: Drop> Interleaved<T> {
+    ghost use Rattle.std.specs.Prelude.{◌≡◌, ◌<◌, ◌+◌, ◌-◌, ◌^◌, None, Some, Err, OnOk, OnErr, IfOk, length, vec_len};
+    ghost use Rattle.channel_model.specs.declared.name.Waiter.{Waiter};
+    ghost use Rattle.channel_steps.specs.Scene.{Scene};
+    ghost use Rattle.channel_steps.specs.Start.{CountsCalls, TellsQuiet};
+    ghost use Rattle.channel_interleaving.specs.Run.{Stops};
+    ghost use Rattle.channel_interleaving.specs.Floor.{book_of, Shown, IsOpen, RanTo};
+
+    /// An open channel of this capacity, without a message, and nobody at work.
+    ///
+    /// Memory is taken first, and then four identities together or none. A capacity above 2^58 is want of memory,
+    /// without asking for any. As `async_channel::bounded`, which takes no source of identities.
+    pub fn bounded(
+        alloc: Global,
+        capacity: usize,
+        ids: &mut EventIds,
+    ) -> Result<Interleaved<T>, OpenError>
+        requires { 0 < capacity }
+        ensures open { IfOk result (λ world. IsOpen (Some capacity) world) }
+        ensures ids { OnOk result (ids.new ≡ ids.old + 4) }
+        ensures unchanged { OnErr result (ids.new ≡ ids.old) }
+        ensures limit { 2 ^ 58 < capacity → result ≡ Err OpenError.NoMemory }
+        ensures used_up { result ≡ Err OpenError.IdsUsedUp → 2 ^ 64 - 1 < ids.old + 4 }
+    {
+        if capacity > 1 << 58 {
+            return Err(OpenError::NoMemory);
+        }
+        let Ok(floor) = Floor::open(alloc, QueueForm::Bounded(capacity)) else {
+            return Err(OpenError::NoMemory);
+        };
+        let Ok(_ids) = ids.next_four() else {
+            return Err(OpenError::IdsUsedUp);
+        };
+        Ok(Interleaved { floor })
+    }
+
+    /// An open channel for any number of messages, without a message, and nobody at work.
+    ///
+    /// Memory is taken first, and then four identities together or none. As `async_channel::unbounded`, which takes no
+    /// source of identities.
+    pub fn unbounded(alloc: Global, ids: &mut EventIds) -> Result<Interleaved<T>, OpenError>
+        ensures open { IfOk result (λ world. IsOpen (None) world) }
+        ensures ids { OnOk result (ids.new ≡ ids.old + 4) }
+        ensures unchanged { OnErr result (ids.new ≡ ids.old) }
+        ensures used_up { result ≡ Err OpenError.IdsUsedUp → 2 ^ 64 - 1 < ids.old + 4 }
+    {
+        let Ok(floor) = Floor::open(alloc, QueueForm::Unbounded) else {
+            return Err(OpenError::NoMemory);
+        };
+        let Ok(_ids) = ids.next_four() else {
+            return Err(OpenError::IdsUsedUp);
+        };
+        Ok(Interleaved { floor })
+    }
+
+    /// Runs steps of any parties, from the front. The first one that is refused stays in front, with nothing of it done;
+    /// `stopped` says at which place of the list, counted from 0, and why.
+    ///
+    /// A step is one step of one call; a call that begins touches nothing. Whatever the order of the parties' steps is, and
+    /// wherever the list ends, the steps that were made are a run of the channel's steps, in which each call asked what it
+    /// asks given the names and the listeners held at that moment; each entry's mark, woken names and reply are that run's;
+    /// and the names are what the bookkeeping of these steps makes of them. So each call that answers has the marks that its
+    /// reply names and found what its reply says at a moment of its own, and what left the channel, followed by what it holds,
+    /// is what it held followed by what came, in order.
+    ///
+    /// A step is refused for the first of these reasons that there is: the party that begins is at work; the one that steps
+    /// isn't; a used name doesn't live; what lives there is of another kind; its operation or its receiver's stream is being
+    /// polled; it drops, or polls as a stream, a handle in use; a new name was taken. Else it may be refused for want of
+    /// memory; after 2^61 steps it is. Nothing waits. Own to this project.
+    pub fn run_steps(&mut self, steps: &mut VecDeque<Step<T>>) -> Run<T>
+        ensures ran { RanTo steps.old.items steps.new.items self.old result.trace.items self.new }
+        ensures stopped { Stops (book_of self.new) steps.new.items (vec_len result.trace) result.stopped }
+    {
+        self.floor.run_steps(steps)
+    }
+
+    /// Whether no call is under way. Own to this project.
+    pub fn is_quiet(&self) -> bool
+        ensures { TellsQuiet self.now.parties.items result }
+    {
+        is_quiet(&self.floor.parties)
+    }
+
+    /// How many calls are under way. Own to this project.
+    pub fn under_way(&self) -> usize
+        ensures { CountsCalls self.now.parties.items result }
+    {
+        under_way(&self.floor.parties)
+    }
+
+    /// How many messages the channel holds. Own to this project.
+    pub fn messages(&self) -> u64
+        ensures { (s : Scene T Waiter) → Shown self.now s → result ≡ length s.now.queue.items }
+    {
+        self.floor.messages
+    }
+
+    /// How many operations and streams are pending: they live, their last poll ended so, and no poll of them is under way. A
+    /// walk over all names. Own to this project.
+    pub fn pending(&self) -> usize {
+        self.floor.roll.count_pending()
+    }
+
+    /// How many of those that are pending were woken since their last poll. A walk over all names. Own to this project.
+    pub fn woken(&self) -> usize {
+        self.floor.roll.count_woken()
+    }
+}

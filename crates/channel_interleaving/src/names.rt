@@ -1,0 +1,226 @@
+//! What lives under which name, and what a call under way has to write back.
+
+use async_channel::stage::Line;
+use channel_model::name::{Handle, HandleId, HandleKind, OpId};
+use event_listener::key::Key;
+
+/// How an operation, or a receiver as a stream, stands.
+#[derive(Clone, Copy, Debug, PartialEq, Eq)]
+pub enum Standing {
+    /// It isn't pending.
+    Rests,
+    /// Its last poll ended pending: it holds this listener, and may have been woken since.
+    Waits {
+        /// The listener.
+        key: Key,
+        /// Whether it was woken.
+        is_woken: bool,
+    },
+    /// A poll of it is under way, which has its listener and, where it brings one, its message.
+    IsPolled {
+        /// Whether the poll has a message of the operation.
+        brings: bool,
+    },
+}
+
+impl Standing {
+    ghost use Rattle.std.specs.Prelude.{◌≡◌};
+    ghost use Rattle.channel_interleaving.specs.Roll.{key_of, standing_with, is_polled, is_woken, told};
+
+    /// The listener of one that is pending.
+    pub(crate) fn key(self) -> Option<Key>
+        ensures { result ≡ key_of self }
+    {
+        match self {
+            Standing::Waits { key, is_woken: _ } => Some(key),
+            Standing::Rests | Standing::IsPolled { brings: _ } => None,
+        }
+    }
+
+    /// The standing after a poll that left this listener, or none.
+    pub(crate) fn with(key: Option<Key>) -> Standing
+        ensures { result ≡ standing_with key }
+    {
+        match key {
+            Some(key) => Standing::Waits {
+                key,
+                is_woken: false,
+            },
+            None => Standing::Rests,
+        }
+    }
+
+    /// Whether a poll is under way.
+    pub(crate) fn is_polled(self) -> bool
+        ensures { result ≡ is_polled self }
+    {
+        match self {
+            Standing::IsPolled { brings: _ } => true,
+            Standing::Rests | Standing::Waits { .. } => false,
+        }
+    }
+
+    /// Whether it is pending and was woken.
+    pub(crate) fn is_woken(self) -> bool
+        ensures { result ≡ is_woken self }
+    {
+        match self {
+            Standing::Waits { key: _, is_woken } => is_woken,
+            Standing::Rests | Standing::IsPolled { brings: _ } => false,
+        }
+    }
+
+    /// The same, woken where it is pending.
+    pub(crate) fn told(self) -> Standing
+        ensures { result ≡ told self }
+    {
+        match self {
+            Standing::Waits { key, is_woken: _ } => Standing::Waits {
+                key,
+                is_woken: true,
+            },
+            other => other,
+        }
+    }
+}
+
+/// What an operation is.
+#[derive(Clone, Copy, Debug, PartialEq, Eq)]
+pub enum OperationKind {
+    /// A send.
+    Send,
+    /// A receive.
+    Receive,
+    /// A wait for the closing.
+    Closing,
+}
+
+impl OperationKind {
+    ghost use Rattle.std.specs.Prelude.{◌≡◌};
+    ghost use Rattle.channel_interleaving.specs.Roll.{line_of};
+
+    /// The line in which it waits.
+    pub(crate) fn line(self) -> Line
+        ensures { result ≡ line_of self }
+    {
+        match self {
+            OperationKind::Send => Line::Sends,
+            OperationKind::Receive => Line::Receives,
+            OperationKind::Closing => Line::Closings,
+        }
+    }
+}
+
+/// A live operation.
+#[derive(Drop)]
+pub struct Operation<T> {
+    /// What it is.
+    pub kind: OperationKind,
+    /// The handle that it borrows.
+    pub handle: HandleId,
+    /// The message of an unfinished send that no poll has.
+    pub message: Option<T>,
+    /// How it stands.
+    pub standing: Standing,
+}
+
+impl<T> Operation<T> {
+    ghost use Rattle.std.specs.Prelude.{◌≡◌};
+    ghost use Rattle.channel_interleaving.specs.Roll.{is_finished};
+
+    /// Whether a poll has finished a send: its message is gone, and no poll under way has it.
+    pub(crate) fn is_finished(&self) -> bool
+        ensures { result ≡ is_finished self.now }
+    {
+        match (self.kind, &self.message, self.standing) {
+            (OperationKind::Send, None, Standing::IsPolled { brings }) => !brings,
+            (OperationKind::Send, None, _) => true,
+            _ => false,
+        }
+    }
+}
+
+/// A live handle.
+#[derive(Clone, Copy, Debug, PartialEq, Eq)]
+pub struct Hold {
+    /// What it is, and how many live operations and calls under way use it.
+    pub handle: Handle,
+    /// How it stands as a stream.
+    pub standing: Standing,
+}
+
+/// What a call under way has to write back at its end.
+#[derive(Drop)]
+pub enum Errand<T> {
+    /// Nothing.
+    Nothing,
+    /// A handle is used no more.
+    Leave {
+        /// Which one.
+        handle: HandleId,
+    },
+    /// Two handles are used no more.
+    LeaveBoth {
+        /// The first.
+        a: HandleId,
+        /// The second.
+        b: HandleId,
+    },
+    /// This operation lives from now on.
+    Make {
+        /// Its name.
+        op: OpId,
+        /// What it is.
+        operation: Operation<T>,
+    },
+    /// The operation gets its listener and its message back.
+    Poll {
+        /// Its name.
+        op: OpId,
+    },
+    /// The receiver gets its stream's listener back, and is used no more.
+    PollNext {
+        /// Its name.
+        receiver: HandleId,
+    },
+    /// A handle is used no more; a new one of this kind lives from now on, if it was made.
+    New {
+        /// The handle that was used.
+        from: HandleId,
+        /// The new one's name.
+        new: HandleId,
+        /// What it is.
+        kind: HandleKind,
+    },
+}
+
+/// A party with a call under way, and what that has to write back.
+#[derive(Drop)]
+pub struct Agent<T> {
+    /// The party.
+    pub party: u32,
+    /// What its call has to write back.
+    pub errand: Errand<T>,
+}
+
+ghost use Rattle.std.specs.Prelude.{◌≡◌, IfSome};
+ghost use Rattle.channel_interleaving.specs.Roll.{is_at_work, IsAgent};
+
+/// Whether a party has a call under way.
+pub(crate) fn is_at_work<T>(agents: &Vec<Agent<T>>, party: u32) -> bool
+    ensures { result ≡ is_at_work party agents.now.items }
+{
+    agents.iter().any(|agent| agent.party == party)
+}
+
+/// The place of a party's call among those under way.
+pub(crate) fn find_agent<T>(agents: &Vec<Agent<T>>, party: u32) -> Option<usize>
+    ensures { IfSome result (λ k. IsAgent party agents.now.items k) }
+{
+    for k in 0..agents.len() {
+        if agents[k].party == party {
+            return Some(k);
+        }
+    }
+    None
+}

@@ -1,0 +1,206 @@
+//! The handles and the operations under their names.
+
+use crate::names::{Hold, Operation, Standing};
+use channel_model::directory::Directory;
+use channel_model::name::{Handle, HandleId, HandleKind, Waiter};
+use event_listener::key::Key;
+use std::alloc::{AllocError, Global};
+
+/// All names that were ever taken, with what lives under them.
+#[derive(Drop)]
+pub struct Roll<T> {
+    /// The handles.
+    pub handles: Directory<Hold>,
+    /// The operations.
+    pub operations: Directory<Operation<T>>,
+}
+
+ghost use Rattle.std.specs.Prelude.{◌≡◌, IfOk};
+ghost use Rattle.channel_interleaving.specs.Roll.{unused, first_handles};
+
+/// A handle that nobody uses.
+fn unused(kind: HandleKind) -> Hold
+    ensures { result ≡ unused kind }
+{
+    Hold {
+        handle: Handle { kind, borrowers: 0 },
+        standing: Standing::Rests,
+    }
+}
+
+/// The first sender and the first receiver.
+fn first_handles(alloc: Global) -> Result<Directory<Hold>, AllocError>
+    ensures { IfOk result (λ handles. handles ≡ first_handles) }
+{
+    let mut handles = Directory::new(alloc)?;
+    let Ok(()) = handles.add(0, unused(HandleKind::Sender)) else {
+        return Err(AllocError);
+    };
+    let Ok(()) = handles.add(1, unused(HandleKind::Receiver)) else {
+        return Err(AllocError);
+    };
+    Ok(handles)
+}
+
+impl<T> Roll<T> {
+    ghost use Rattle.std.specs.Prelude.{◌≡◌, [], IfOk};
+    ghost use Rattle.channel_interleaving.specs.Roll.{first_roll, with_lent, with_given_back};
+
+    /// The first sender and the first receiver, and no operations.
+    pub(crate) fn new(alloc: Global) -> Result<Roll<T>, AllocError>
+        ensures { IfOk result (λ roll. roll ≡ first_roll) }
+    {
+        let handles = first_handles(alloc)?;
+        let operations = Directory::new(alloc)?;
+        Ok(Roll {
+            handles,
+            operations,
+        })
+    }
+
+    /// One more uses the handle.
+    pub(crate) fn lend(&mut self, handle: HandleId)
+        ensures { self.new ≡ with_lent handle self.old }
+    {
+        if let Some(hold) = self.handles.get(handle.0) {
+            let Hold {
+                handle: Handle { kind, borrowers },
+                standing,
+            } = *hold;
+            let borrowers = borrowers.saturating_add(1);
+            self.handles.set(
+                handle.0,
+                Hold {
+                    handle: Handle { kind, borrowers },
+                    standing,
+                },
+            );
+        }
+    }
+
+    /// One fewer uses the handle.
+    pub(crate) fn give_back(&mut self, handle: HandleId)
+        ensures { self.new ≡ with_given_back handle self.old }
+    {
+        if let Some(hold) = self.handles.get(handle.0) {
+            let Hold {
+                handle: Handle { kind, borrowers },
+                standing,
+            } = *hold;
+            let borrowers = borrowers.saturating_sub(1);
+            self.handles.set(
+                handle.0,
+                Hold {
+                    handle: Handle { kind, borrowers },
+                    standing,
+                },
+            );
+        }
+    }
+}
+
+impl<T> Roll<T> {
+    ghost use Rattle.std.specs.Prelude.{◌≡◌, None, false};
+    ghost use Rattle.std.specs.Option.{option_map, option_map_or};
+    ghost use Rattle.channel_model.specs.Names.{at};
+    ghost use Rattle.channel_interleaving.specs.Roll.{key_of, handle_at, with_standing};
+    ghost use Rattle.channel_interleaving.specs.declared.names.Hold.{Hold};
+
+    /// What a handle is, and how many use it.
+    pub(crate) fn seen(&self, handle: HandleId) -> Option<Handle>
+        ensures { result ≡ handle_at handle self.now }
+    {
+        match self.handles.get(handle.0) {
+            Some(hold) => Some(hold.handle),
+            None => None,
+        }
+    }
+
+    /// How a handle stands as a stream.
+    pub(crate) fn standing(&self, handle: HandleId) -> Option<Standing>
+        ensures { result ≡ option_map (λ (h : Hold). h.standing) (at handle.0 self.now.handles) }
+    {
+        match self.handles.get(handle.0) {
+            Some(hold) => Some(hold.standing),
+            None => None,
+        }
+    }
+
+    /// A handle stands so from now on.
+    pub(crate) fn restand(&mut self, handle: HandleId, standing: Standing)
+        ensures { self.new ≡ with_standing standing handle self.old }
+    {
+        if let Some(hold) = self.handles.get(handle.0) {
+            let handle_now = hold.handle;
+            self.handles.set(
+                handle.0,
+                Hold {
+                    handle: handle_now,
+                    standing,
+                },
+            );
+        }
+    }
+
+    /// A poll takes the listener of a receiver's stream.
+    pub(crate) fn lend_stream(&mut self, receiver: HandleId) -> Option<Key>
+        ensures key { result ≡ option_map_or (λ (h : Hold). key_of h.standing) (at receiver.0 self.old.handles) None }
+        ensures standing { self.new ≡ with_standing (Standing.IsPolled false) receiver self.old }
+    {
+        let standing = self.standing(receiver)?;
+        self.restand(receiver, Standing::IsPolled { brings: false });
+        standing.key()
+    }
+}
+
+/// Whether an operation is pending.
+fn is_pending<T>(operation: &Option<Operation<T>>) -> bool {
+    match operation {
+        Some(operation) => operation.standing.key().is_some(),
+        None => false,
+    }
+}
+
+/// Whether a stream is pending.
+fn is_stream_pending(hold: &Option<Hold>) -> bool {
+    match hold {
+        Some(hold) => hold.standing.key().is_some(),
+        None => false,
+    }
+}
+
+/// Whether an operation is pending and was woken.
+fn is_woken<T>(operation: &Option<Operation<T>>) -> bool {
+    match operation {
+        Some(operation) => operation.standing.is_woken(),
+        None => false,
+    }
+}
+
+/// Whether a stream is pending and was woken.
+fn is_stream_woken(hold: &Option<Hold>) -> bool {
+    match hold {
+        Some(hold) => hold.standing.is_woken(),
+        None => false,
+    }
+}
+
+impl<T> Roll<T> {
+    /// How many operations and streams are pending.
+    pub(crate) fn count_pending(&self) -> usize {
+        let operations = self.operations.iter();
+        let operations = operations.filter(|(_, x)| is_pending(*x)).count();
+        let streams = self.handles.iter();
+        let streams = streams.filter(|(_, x)| is_stream_pending(*x)).count();
+        operations.saturating_add(streams)
+    }
+
+    /// How many of those that are pending were woken.
+    pub(crate) fn count_woken(&self) -> usize {
+        let operations = self.operations.iter();
+        let operations = operations.filter(|(_, x)| is_woken(*x)).count();
+        let streams = self.handles.iter();
+        let streams = streams.filter(|(_, x)| is_stream_woken(*x)).count();
+        operations.saturating_add(streams)
+    }
+}

@@ -1,0 +1,67 @@
+//! Runs of many parties' steps.
+
+ghost use Rattle.std.specs.Prelude.{◌≡◌, Some, vec_len};
+
+use crate::floor::Floor;
+use crate::step::{Entry, Run, Step};
+use channel_model::refusal::WorldRefusal;
+use channel_model::run::Stopped;
+use std::collections::VecDeque;
+
+/// What was done before a refused step.
+fn stopped<T: Drop>(trace: Vec<Entry<T>>, why: WorldRefusal) -> Run<T>
+    ensures trace { result.trace ≡ trace }
+    ensures stopped { result.stopped ≡ Some (record { place = vec_len trace; why = why }) }
+{
+    let place = trace.len();
+    Run {
+        trace,
+        stopped: Some(Stopped { place, why }),
+    }
+}
+
+impl<T: Drop> Floor<T> {
+    ghost use Rattle.std.specs.Prelude.{◌≡◌, ◌<◌, IfNone, vec_len, vec_capacity};
+    ghost use Rattle.channel_interleaving.specs.Run.{MayStop, Stops};
+    ghost use Rattle.channel_interleaving.specs.Floor.{book_of, AreAtWork, RanTo};
+
+    /// Why a run stops at this step, if it does; where it doesn't, there is room for an entry.
+    fn stop(&self, step: &Step<T>, trace: &mut Vec<Entry<T>>) -> Option<WorldRefusal>
+        ensures why { MayStop (book_of self.now) step.now result }
+        ensures items { trace.new.items ≡ trace.old.items }
+        ensures room { IfNone result (vec_len trace.new < vec_capacity trace.new) }
+    {
+        let why = self.refusal(step);
+        if why.is_none() && trace.reserve(1).is_err() {
+            return Some(WorldRefusal::NoMemory);
+        }
+        why
+    }
+
+    /// Runs steps of any parties, from the front, up to the first that is refused.
+    pub(crate) fn run_steps(&mut self, steps: &mut VecDeque<Step<T>>) -> Run<T>
+        requires at_work { AreAtWork self.old }
+        ensures ran { RanTo steps.old.items steps.new.items self.old result.trace.items self.new }
+        ensures at_work { AreAtWork self.new }
+        ensures stopped { Stops (book_of self.new) steps.new.items (vec_len result.trace) result.stopped }
+    {
+        let mut trace = Vec::new(self.alloc);
+        while let Some(step) = steps.front() {
+            if let Some(why) = self.stop(step, &mut trace) {
+                return stopped(trace, why);
+            }
+            let step = steps.pop_front().unwrap();
+            match self.turn(step) {
+                Ok(entry) => trace.push_reserved(entry),
+                Err(step) => {
+                    steps.push_front_reserved(step);
+                    return stopped(trace, WorldRefusal::NoMemory);
+                }
+            }
+        }
+        Run {
+            trace,
+            stopped: None,
+        }
+    }
+}

@@ -1,0 +1,461 @@
+//! Interleavings by names, step by step.
+
+ghost use Rattle.std.specs.Prelude.{◌<◌};
+
+use crate::interleaved::Interleaved;
+use crate::step::{Entry, PartyId, Run, Step};
+use async_channel::error::{Refused, TryRecvError, TrySendError};
+use async_channel::reply::Reply;
+use channel_model::call::Call;
+use channel_model::name::{HandleId, OpId, Waiter};
+use channel_model::refusal::WorldRefusal;
+use channel_model::run::Stopped;
+use event_listener::id::EventIds;
+use futures::task::Poll;
+use std::alloc::Global;
+use std::collections::VecDeque;
+use std::test::Fail;
+
+const SENDER: HandleId = HandleId(0);
+
+const RECEIVER: HandleId = HandleId(1);
+
+/// What the last entry of a run says, in short.
+#[derive(Clone, Copy, PartialEq, Eq, Debug)]
+enum Said {
+    /// There is no channel.
+    Unopened,
+    /// There is no entry.
+    Missing,
+    /// The run was stopped.
+    Stopped(Stopped),
+    /// The call goes on.
+    GoesOn,
+    /// It was made.
+    Made,
+    /// The message was sent.
+    Sent,
+    /// The message was sent, and this one displaced.
+    Displaced(Option<u64>),
+    /// The send came back with this message, for the channel is closed.
+    SendClosed(u64),
+    /// This message was received.
+    Received(u64),
+    /// The stream gave this message.
+    Next(u64),
+    /// The channel is closed and has no message.
+    ReceiveClosed,
+    /// The poll is pending.
+    Pending,
+    /// The operation was given up, and handed this back.
+    GivenUp(Option<u64>),
+    /// Whether the channel was closed by this call.
+    Closed(bool),
+    /// A question was answered.
+    Flag(bool),
+    /// Something else.
+    Else,
+}
+
+fn reply_says(reply: Reply<u64>) -> Said {
+    match reply {
+        Reply::Made => Said::Made,
+        Reply::TrySend(Ok(())) => Said::Sent,
+        Reply::TrySend(Err(Refused::Plain(TrySendError::Closed(message)))) => Said::SendClosed(
+            message,
+        ),
+        Reply::ForceSend(Ok(displaced)) => Said::Displaced(displaced),
+        Reply::TryRecv(Ok(message)) => Said::Received(message),
+        Reply::TryRecv(Err(TryRecvError::Closed)) => Said::ReceiveClosed,
+        Reply::SendPoll(Poll::Ready(Ok(()))) => Said::Sent,
+        Reply::SendPoll(Poll::Pending) => Said::Pending,
+        Reply::RecvPoll(Poll::Ready(Ok(message))) => Said::Received(message),
+        Reply::RecvPoll(Poll::Pending) => Said::Pending,
+        Reply::Next(Poll::Ready(Some(Ok(message)))) => Said::Next(message),
+        Reply::Next(Poll::Pending) => Said::Pending,
+        Reply::GivenUp(message) => Said::GivenUp(message),
+        Reply::Closed(closed) => Said::Closed(closed),
+        Reply::Flag(flag) => Said::Flag(flag),
+        _ => Said::Else,
+    }
+}
+
+fn entry_says(entry: Option<Entry<u64>>) -> Said {
+    match entry {
+        None => Said::Missing,
+        Some(entry) => match entry.reply {
+            None => Said::GoesOn,
+            Some(reply) => reply_says(reply),
+        },
+    }
+}
+
+/// All names that the entries have, in order, after those that are there.
+fn add_woken(woken: &mut Vec<Waiter>, trace: &Vec<Entry<u64>>) {
+    for entry in trace.iter() {
+        for name in entry.woken.iter() {
+            let _ = woken.push(*name);
+        }
+    }
+}
+
+fn last_says(run: Run<u64>) -> Said {
+    let Run { mut trace, stopped } = run;
+    match stopped {
+        Some(stopped) => Said::Stopped(stopped),
+        None => entry_says(trace.pop()),
+    }
+}
+
+/// The numbers that a channel says of itself.
+#[derive(Clone, Copy, PartialEq, Eq, Debug)]
+struct Numbers {
+    messages: u64,
+    pending: usize,
+    woken: usize,
+    under_way: usize,
+}
+
+/// A channel under test, and those who were woken.
+#[derive(Drop)]
+struct Fixture {
+    channel: Interleaved<u64>,
+    woken: Vec<Waiter>,
+    alloc: Global,
+}
+
+fn make_fixture(channel: Interleaved<u64>, alloc: Global) -> Fixture {
+    Fixture {
+        channel,
+        woken: Vec::new(alloc),
+        alloc,
+    }
+}
+
+fn bounded(capacity: usize, alloc: Global) -> Result<Fixture, Fail>
+    requires { 0 < capacity }
+{
+    let mut ids = EventIds::new();
+    let channel = Interleaved::bounded(alloc, capacity, &mut ids)?;
+    Ok(make_fixture(channel, alloc))
+}
+
+fn unbounded(alloc: Global) -> Result<Fixture, Fail> {
+    let mut ids = EventIds::new();
+    let channel = Interleaved::unbounded(alloc, &mut ids)?;
+    Ok(make_fixture(channel, alloc))
+}
+
+impl Fixture {
+    fn run(&mut self, steps: &mut VecDeque<Step<u64>>) -> Said {
+        let run = self.channel.run_steps(steps);
+        add_woken(&mut self.woken, &run.trace);
+        last_says(run)
+    }
+
+    /// A party begins a call and makes so many steps of it. What the last one says.
+    fn begin(&mut self, party: u32, call: Call<u64>, steps: usize) -> Said {
+        let mut list = VecDeque::new(self.alloc);
+        let party = PartyId(party);
+        let _ = list.push_back(Step::Begin { party, call });
+        for _ in 0..steps {
+            let _ = list.push_back(Step::Step { party });
+        }
+        self.run(&mut list)
+    }
+
+    /// A party makes so many more steps. What the last one says.
+    fn go_on(&mut self, party: u32, steps: usize) -> Said {
+        let mut list = VecDeque::new(self.alloc);
+        let party = PartyId(party);
+        for _ in 0..steps {
+            let _ = list.push_back(Step::Step { party });
+        }
+        self.run(&mut list)
+    }
+
+    fn numbers(&self) -> Numbers {
+        Numbers {
+            messages: self.channel.messages(),
+            pending: self.channel.pending(),
+            woken: self.channel.woken(),
+            under_way: self.channel.under_way(),
+        }
+    }
+}
+
+fn stopped(place: usize, why: WorldRefusal) -> Said {
+    Said::Stopped(Stopped { place, why })
+}
+
+fn new_recv(op: u32) -> Call<u64> {
+    Call::NewRecv {
+        op: OpId(op),
+        receiver: RECEIVER,
+    }
+}
+
+fn new_send(op: u32, msg: u64) -> Call<u64> {
+    Call::NewSend {
+        op: OpId(op),
+        sender: SENDER,
+        msg,
+    }
+}
+
+fn poll(op: u32) -> Call<u64> {
+    Call::Poll { op: OpId(op) }
+}
+
+fn try_send(msg: u64) -> Call<u64> {
+    Call::TrySend {
+        sender: SENDER,
+        msg,
+    }
+}
+
+fn try_recv() -> Call<u64> {
+    Call::TryRecv { receiver: RECEIVER }
+}
+
+fn poll_next() -> Call<u64> {
+    Call::PollNext { receiver: RECEIVER }
+}
+
+fn give_up(op: u32) -> Call<u64> {
+    Call::GiveUp { op: OpId(op) }
+}
+
+#[test]
+fn a_message_between_two_tries_is_taken(rt: HostRuntime) -> Result<(), Fail> {
+    let mut all = bounded(1, rt.alloc())?;
+    assert_eq!(rt; all.begin(0, new_recv(0), 1), Said::Made);
+    assert_eq!(rt; all.begin(0, poll(0), 2), Said::GoesOn);
+    assert_eq!(rt; all.begin(1, try_send(5), 3), Said::GoesOn);
+    assert_eq!(rt; all.go_on(0, 5), Said::Received(5));
+    assert_eq!(rt; all.go_on(1, 2), Said::Sent);
+    assert_eq!(rt; all.woken.len(), 0);
+    assert!(rt; all.channel.is_quiet());
+    Ok(())
+}
+
+#[test]
+fn a_pending_receive_is_woken_after_the_push(rt: HostRuntime) -> Result<(), Fail> {
+    let mut all = bounded(1, rt.alloc())?;
+    let before = Numbers {
+        messages: 1,
+        pending: 1,
+        woken: 0,
+        under_way: 1,
+    };
+    assert_eq!(rt; all.begin(0, new_recv(0), 1), Said::Made);
+    assert_eq!(rt; all.begin(0, poll(0), 4), Said::Pending);
+    assert_eq!(rt; all.begin(1, try_send(5), 1), Said::GoesOn);
+    assert_eq!(rt; all.numbers(), before);
+    assert_eq!(rt; all.go_on(1, 1), Said::GoesOn);
+    assert_eq!(rt; all.numbers(), before);
+    assert_eq!(rt; all.go_on(1, 1), Said::GoesOn);
+    assert_eq!(rt; all.numbers(), before);
+    assert_eq!(rt; all.go_on(1, 1), Said::GoesOn);
+    assert_eq!(rt; all.woken.as_slice(), [Waiter::Op(OpId(0))].as_slice());
+    assert_eq!(rt; all.numbers().woken, 1);
+    assert_eq!(rt; all.numbers().pending, 1);
+    assert_eq!(rt; all.go_on(1, 1), Said::Sent);
+    Ok(())
+}
+
+#[test]
+fn a_taking_wakes_the_send_that_still_waits(rt: HostRuntime) -> Result<(), Fail> {
+    let mut all = bounded(1, rt.alloc())?;
+    assert_eq!(rt; all.begin(0, try_send(1), 5), Said::Sent);
+    assert_eq!(rt; all.begin(0, new_send(0, 2), 1), Said::Made);
+    assert_eq!(rt; all.begin(0, poll(0), 4), Said::Pending);
+    assert_eq!(rt; all.begin(0, new_send(1, 3), 1), Said::Made);
+    assert_eq!(rt; all.begin(0, poll(1), 4), Said::Pending);
+    assert_eq!(rt; all.begin(3, try_recv(), 3), Said::GoesOn);
+    assert_eq!(rt; all.begin(1, give_up(0), 1), Said::GivenUp(Some(2)));
+    assert_eq!(rt; all.woken.len(), 0);
+    assert_eq!(rt; all.go_on(3, 1), Said::Received(1));
+    assert_eq!(rt; all.woken.as_slice(), [Waiter::Op(OpId(1))].as_slice());
+    assert_eq!(rt; all.begin(2, poll(1), 6), Said::Sent);
+    assert!(rt; all.channel.is_quiet());
+    Ok(())
+}
+
+#[test]
+fn a_stream_is_pending_beside_a_message_that_is_not_told_yet(rt: HostRuntime) -> Result<(), Fail> {
+    let mut all = unbounded(rt.alloc())?;
+    assert_eq!(rt; all.begin(0, poll_next(), 8), Said::Pending);
+    assert_eq!(rt; all.begin(1, try_send(7), 8), Said::GoesOn);
+    assert_eq!(rt; all.begin(0, poll_next(), 1), Said::Pending);
+    assert_eq!(rt; all.channel.messages(), 1);
+    assert_eq!(rt; all.go_on(1, 1), Said::GoesOn);
+    assert_eq!(rt; all.woken.len(), 0);
+    assert_eq!(rt; all.go_on(1, 1), Said::Sent);
+    assert_eq!(rt; all.woken.as_slice(), [Waiter::Stream(RECEIVER)].as_slice());
+    assert_eq!(rt; all.begin(0, poll_next(), 9), Said::Next(7));
+    Ok(())
+}
+
+#[test]
+fn a_message_on_its_way_is_still_received(rt: HostRuntime) -> Result<(), Fail> {
+    let mut all = bounded(2, rt.alloc())?;
+    let forced = Call::ForceSend {
+        sender: SENDER,
+        msg: 3,
+    };
+    let close = Call::Close { handle: SENDER };
+    let terminated = Call::StreamIsTerminated { receiver: RECEIVER };
+    let said = [
+        (all.begin(0, try_send(1), 7), Said::Sent),
+        (all.begin(0, try_send(2), 7), Said::Sent),
+        (all.begin(1, forced, 3), Said::GoesOn),
+        (all.begin(2, close, 5), Said::Closed(true)),
+        (all.begin(3, try_recv(), 6), Said::Received(2)),
+        (all.begin(4, terminated, 3), Said::Flag(true)),
+        (all.begin(5, try_recv(), 2), Said::GoesOn),
+        (all.go_on(1, 6), Said::Displaced(Some(1))),
+        (all.go_on(5, 6), Said::Received(3)),
+        (all.begin(0, try_recv(), 3), Said::ReceiveClosed),
+        (all.begin(0, try_send(4), 1), Said::SendClosed(4)),
+    ];
+    for row in said.iter() {
+        assert_eq!(rt; row.0, row.1);
+    }
+    Ok(())
+}
+
+/// The message of a send that party 0 begins through the first sender.
+fn sends(step: Option<Step<u64>>) -> Option<u64> {
+    match step {
+        Some(
+            Step::Begin {
+                party: PartyId(0),
+                call: Call::TrySend {
+                    sender: HandleId(0),
+                    msg,
+                },
+            },
+        ) => Some(msg),
+        _ => None,
+    }
+}
+
+#[test]
+fn a_refused_step_stays_in_front(rt: HostRuntime) -> Result<(), Fail> {
+    let mut all = bounded(1, rt.alloc())?;
+    let party = PartyId(0);
+    let mut list = VecDeque::new(rt.alloc());
+    let _ = list.push_back(Step::Begin {
+        party,
+        call: try_send(1),
+    });
+    let _ = list.push_back(Step::Begin {
+        party,
+        call: try_send(2),
+    });
+    assert_eq!(rt; all.run(&mut list), stopped(1, WorldRefusal::Busy));
+    assert_eq!(rt; sends(list.pop_front()), Some(2));
+    assert_eq!(rt; list.len(), 0);
+    assert_eq!(rt; all.channel.under_way(), 1);
+    assert_eq!(rt; all.go_on(0, 5), Said::Sent);
+    Ok(())
+}
+
+/// What a call says that begins while another is under way, or after it: the first one has made so many steps.
+fn second_says(first: Call<u64>, steps: usize, second: Call<u64>, alloc: Global) -> Said {
+    let mut ids = EventIds::new();
+    match Interleaved::bounded(alloc, 1, &mut ids) {
+        Ok(channel) => {
+            let mut all = make_fixture(channel, alloc);
+            let _ = all.begin(0, new_recv(0), 1);
+            let _ = all.begin(0, first, steps);
+            all.begin(1, second, 0)
+        }
+        Err(_) => Said::Unopened,
+    }
+}
+
+#[test]
+fn calls_are_refused_by_names(rt: HostRuntime) -> Result<(), Fail> {
+    let alloc = rt.alloc();
+    let drop_receiver = Call::Drop { handle: RECEIVER };
+    let drop_sender = Call::Drop { handle: SENDER };
+    let unknown = Call::TryRecv {
+        receiver: HandleId(9),
+    };
+    let wrong = Call::TryRecv { receiver: SENDER };
+    let table = [
+        (
+            second_says(try_recv(), 0, unknown, alloc),
+            stopped(0, WorldRefusal::UnknownName),
+        ),
+        (
+            second_says(new_send(1, 5), 0, poll(1), alloc),
+            stopped(0, WorldRefusal::UnknownName),
+        ),
+        (
+            second_says(drop_sender, 0, try_send(5), alloc),
+            stopped(0, WorldRefusal::UnknownName),
+        ),
+        (
+            second_says(give_up(0), 0, poll(0), alloc),
+            stopped(0, WorldRefusal::UnknownName),
+        ),
+        (
+            second_says(poll(0), 0, poll(0), alloc),
+            stopped(0, WorldRefusal::OpUnderWay),
+        ),
+        (
+            second_says(poll(0), 2, give_up(0), alloc),
+            stopped(0, WorldRefusal::OpUnderWay),
+        ),
+        (
+            second_says(try_send(5), 0, drop_receiver, alloc),
+            stopped(0, WorldRefusal::Borrowed),
+        ),
+        (
+            second_says(new_send(0, 5), 0, new_send(1, 5), alloc),
+            Said::GoesOn,
+        ),
+        (
+            second_says(new_send(1, 5), 0, new_send(1, 6), alloc),
+            stopped(0, WorldRefusal::NameTaken),
+        ),
+        (
+            second_says(try_send(5), 0, new_send(0, 5), alloc),
+            stopped(0, WorldRefusal::NameTaken),
+        ),
+        (
+            second_says(try_send(5), 5, wrong, alloc),
+            stopped(0, WorldRefusal::WrongKind),
+        ),
+    ];
+    for row in table.iter() {
+        assert_eq!(rt; row.0, row.1);
+    }
+    Ok(())
+}
+
+#[test]
+fn a_polled_stream_is_not_used(rt: HostRuntime) -> Result<(), Fail> {
+    let mut all = bounded(1, rt.alloc())?;
+    assert_eq!(rt; all.begin(0, poll_next(), 0), Said::GoesOn);
+    assert_eq!(rt;
+        all.begin(1, try_recv(), 0),
+        stopped(0, WorldRefusal::OpUnderWay)
+    );
+    Ok(())
+}
+
+#[test]
+fn a_used_receiver_is_not_polled_as_a_stream(rt: HostRuntime) -> Result<(), Fail> {
+    let mut all = bounded(1, rt.alloc())?;
+    assert_eq!(rt; all.begin(0, try_recv(), 0), Said::GoesOn);
+    assert_eq!(rt;
+        all.begin(1, poll_next(), 0),
+        stopped(0, WorldRefusal::Borrowed)
+    );
+    assert_eq!(rt; all.go_on(7, 1), stopped(0, WorldRefusal::Idle));
+    Ok(())
+}
