@@ -1,0 +1,60 @@
+-- A call that ends with nothing told: its operation or stream lets go of its listener, and passes on what it was told.
+use Rattle.std.proofs.Common.{◌≡◌, ◌⊎◌, List, [], Option, None, Some, refl, sym, ap, subst, ◌∙◌, append-nil}
+use Rattle.concurrent_queue.specs.Queue.{Queue}
+use Rattle.async_channel.specs.Moves.{Channel, leaves}
+use Rattle.async_channel.specs.Turns.{held_on}
+use Rattle.async_channel.specs.Answered.{over}
+use Rattle.async_channel.specs.declared.reply.Reply.{Reply}
+use Rattle.async_channel.specs.declared.stage.Line.{Line}
+use Rattle.channel_alone.specs.Alone.{Outcome, ends}
+use Rattle.channel_model.specs.Answer.{leaving}
+use Rattle.channel_model.specs.Awake.{AwakeIn}
+use Rattle.channel_model.specs.Laws.{line_of}
+use Rattle.channel_model.specs.Lines.{after_news}
+use Rattle.channel_model.specs.Refused.{Answers}
+use Rattle.channel_model.specs.State.{State}
+use Rattle.channel_model.specs.declared.call.Call.{Call}
+use Rattle.channel_model.specs.declared.name.Waiter.{Waiter}
+use Rattle.channel_model.specs.declared.news.News.TheVariants.{Nothing}
+use Rattle.channel_model.proofs.Awake.{placed_news, empty_news}
+use Rattle.channel_refinement.specs.Asked.{keeper}
+use Rattle.channel_refinement.specs.Over.{Matches, names_after}
+use Rattle.channel_model.specs.Asked.{Held}
+use Rattle.channel_refinement.specs.Shows.{with_held, Shows, list_of}
+use Rattle.channel_refinement.proofs.Departing.{Departed, departed, streams_are}
+use Rattle.channel_refinement.proofs.Matching.{matching}
+use Rattle.channel_refinement.proofs.News.{nothing_lines, keys_news}
+use Rattle.channel_refinement.proofs.Told.{told_left_as}
+
+module _ {T : Type 0} (held : Held) (c : Channel T Waiter) (s : State T) (h : Shows held c s) (awake : AwakeIn s) where
+  -- nothing is told, and w leaves
+  pub leaves_now : (line : Line) (w : Waiter) → (line_of s.names w ≡ Some line) ⊎ (line_of s.names w ≡ None)
+      → Departed (line_of s.names) held s.channel.closed line w (after_news Nothing s.waiting) c (leaves (held_on (list_of line) (held w)) c).channel (leaves (held_on (list_of line) (held w)) c).woken
+  leaves_now line w k =
+      departed (line_of s.names) held s.channel.closed (streams_are s.names) line w k (after_news Nothing s.waiting) (placed_news (line_of s.names) Nothing s.waiting awake.placed)
+      (keys_news (line_of s.names) held Nothing s.waiting h.keys) (λ e own. empty_news Nothing own s.waiting (awake.opened e own)) c
+      (nothing_lines (line_of s.names) held s.channel.closed c.roster s.waiting h.lines) (held w) refl
+
+  -- the state after it, where no name changed
+  pub left_state : (line : Line) (w : Waiter) (r : Reply T) (d : Channel T Waiter) (names : List Waiter)
+      → Departed (line_of s.names) held s.channel.closed line w (after_news Nothing s.waiting) c d names → Shows (with_held w None held) d (leaving Nothing line w s r).after
+  left_state line w r d names g = record {
+    messages = ap (λ (q : Queue T). q.items) g.queue ∙ h.messages;
+    closed = ap (λ (q : Queue T). q.closed) g.queue ∙ h.closed;
+    capacity = ap (λ (q : Queue T). q.capacity) g.queue ∙ h.capacity;
+    senders = g.senders ∙ h.senders;
+    receivers = g.receivers ∙ h.receivers;
+    lines = g.lines;
+    keys = g.keys;
+  }
+
+  -- a call of w's that ends so with this answer, and keeps this message
+  pub ends_so : (call : Call T) (line : Line) (w : Waiter) (r : Reply T) (m : Option T) (o : Outcome T Waiter) → keeper s call ≡ Some w
+      → (line_of s.names w ≡ Some line) ⊎ (line_of s.names w ≡ None) → Answers s call (leaving Nothing line w s r)
+      → s.names ≡ names_after s call (ends [] (over r m (list_of line) (held w)) c) → o ≡ ends [] (over r m (list_of line) (held w)) c → Matches held s call o
+  ends_so call line w r m o own k allowed names e =
+      let g = leaves_now line w k in
+      let woken = append-nil _ ∙ g.wakes in
+      subst (λ (x : Outcome T Waiter). Matches held s call x) (sym e)
+      (matching held s call (Some w) own (ends [] (over r m (list_of line) (held w)) c) (leaving Nothing line w s r) allowed refl woken (left_state line w r _ _ g) names
+      (told_left_as Nothing line w s.waiting _ woken))

@@ -1,0 +1,104 @@
+-- News are told over the four lists as over the four lines, and those who are woken are the same, in order.
+use Rattle.std.proofs.Common.{arith, ◌≡◌, ◌≤◌, List, ◌++◌, take, Bool, true, refl, sym, ap, subst, ◌∙◌, append_assoc, append-nil}
+use Rattle.async_channel.specs.Parts.{Roster, listeners, with_listeners, told_one, told_one_wakes, told_all, told_all_wakes}
+use Rattle.async_channel.specs.declared.stage.Line.TheVariants as list
+use Rattle.channel_model.specs.Lines.{Waiting, told_by, after_news}
+use Rattle.channel_model.specs.Lines.{all_told}
+use Rattle.channel_model.specs.Awake.{Kind}
+use Rattle.channel_model.specs.declared.name.Waiter.{Waiter}
+use Rattle.channel_model.specs.declared.news.News.{News}
+use Rattle.channel_model.specs.declared.news.News.TheVariants.{Nothing, Message, Room, Closing, NextIn}
+use Rattle.async_channel.specs.declared.stage.Line.{Line}
+use Rattle.async_channel.specs.declared.stage.Line.TheVariants.{Sends, Receives, Streams, Closings}
+use Rattle.channel_model.proofs.Awake.{times_news}
+use Rattle.channel_model.specs.Asked.{Held}
+use Rattle.channel_refinement.specs.Shows.{ShowsLines, KeysFit, list_of}
+use Rattle.channel_refinement.proofs.Entries.{told_closed}
+use Rattle.channel_refinement.proofs.Telling.{Lined, lined_all, lined_next, one_told, one_woken, all_are_told, all_woken, message_is, closing_is}
+
+abbrev pub room_told : Roster Waiter → Roster Waiter
+room_told a = with_listeners list.Sends (told_one a.sends) a
+
+abbrev pub receive_told : Roster Waiter → Roster Waiter
+receive_told a = with_listeners list.Receives (told_one a.receives) a
+
+abbrev pub streams_told : Roster Waiter → Roster Waiter
+streams_told a = with_listeners list.Streams (told_all a.streams) a
+
+abbrev pub message_told : Roster Waiter → Roster Waiter
+message_told a = streams_told (receive_told a)
+
+abbrev pub sends_told : Roster Waiter → Roster Waiter
+sends_told a = with_listeners list.Sends (told_all a.sends) a
+
+abbrev pub receives_told : Roster Waiter → Roster Waiter
+receives_told a = with_listeners list.Receives (told_all a.receives) a
+
+abbrev pub closings_told : Roster Waiter → Roster Waiter
+closings_told a = with_listeners list.Closings (told_all a.closings) a
+
+abbrev pub closing_told : Roster Waiter → Roster Waiter
+closing_told a = closings_told (streams_told (receives_told (sends_told a)))
+
+-- a closed channel asks nothing of how anybody was told
+pub shut_lines : (kind : Kind) (held : Held) (closed : Bool) (a : Roster Waiter) (l : Waiting) → ShowsLines kind held closed a l → ShowsLines kind held true a l
+shut_lines kind held closed a l h line = record { untold = (h line).untold; told = told_closed held closed line _ _ (h line).told }
+
+pub keys_news : (kind : Kind) (held : Held) (news : News) (l : Waiting) → KeysFit kind held l → KeysFit kind held (after_news news l)
+keys_news kind held news l h = record {
+  holds = λ w key e. let one : 1 ≤ _ = h.holds w key e in let same = times_news news w l in omega (arith, one, same);
+  apart = h.apart;
+}
+
+module _ (kind : Kind) (held : Held) where
+  pub nothing_lines : (closed : Bool) (a : Roster Waiter) (l : Waiting) → ShowsLines kind held closed a l → ShowsLines kind held closed a (after_news Nothing l)
+  nothing_lines closed a l h =
+      subst (λ (ws : List Waiter). let m : Waiting = record { sends = l.sends; receives = l.receives; streams = l.streams; closings = l.closings; woken = ws } in ShowsLines kind held closed a m)
+      (sym (append-nil l.woken)) h
+
+  pub room_lines : (closed : Bool) (a : Roster Waiter) (l : Waiting) → Lined kind l → ShowsLines kind held closed a l → ShowsLines kind held closed (room_told a) (after_news Room l)
+  room_lines closed a l lined h = one_told kind held closed Sends a l lined (λ c. refl) h
+
+  pub room_wakes : (closed : Bool) (a : Roster Waiter) (l : Waiting) (rest : List Waiter) → ShowsLines kind held closed a l → told_one_wakes a.sends ++ rest ≡ told_by Room l ++ rest
+  room_wakes closed a l rest h = ap (λ (ws : List Waiter). ws ++ rest) (one_woken kind held closed Sends a.sends l (h Sends))
+
+  receive_lines : (closed : Bool) (a : Roster Waiter) (l : Waiting) → Lined kind l → ShowsLines kind held closed a l → ShowsLines kind held closed (receive_told a) (after_news (NextIn Receives) l)
+  receive_lines closed a l lined h = one_told kind held closed Receives a l lined (λ c. refl) h
+
+  pub message_lines : (closed : Bool) (a : Roster Waiter) (l : Waiting) → Lined kind l → ShowsLines kind held closed a l → ShowsLines kind held closed (message_told a) (after_news Message l)
+  message_lines closed a l lined h =
+      subst (λ (m : Waiting). ShowsLines kind held closed (message_told a) m) (message_is l)
+      (all_are_told kind held closed Streams (receive_told a) (after_news (NextIn Receives) l) (lined_next kind Receives l lined) (λ c. refl) (receive_lines closed a l lined h))
+
+  pub message_wakes : (closed : Bool) (a : Roster Waiter) (l : Waiting) (rest : List Waiter) → ShowsLines kind held closed a l
+      → told_one_wakes a.receives ++ (told_all_wakes a.streams ++ rest) ≡ told_by Message l ++ rest
+  message_wakes closed a l rest h =
+      ap (λ (ws : List Waiter). ws ++ (told_all_wakes a.streams ++ rest)) (one_woken kind held closed Receives a.receives l (h Receives))
+      ∙ ap (λ (ws : List Waiter). take 1 l.receives ++ (ws ++ rest)) (all_woken kind held closed Streams a.streams l (h Streams))
+      ∙ sym (append_assoc (take 1 l.receives) l.streams rest)
+
+  all_shut : (line : Line) (a : Roster Waiter) (l : Waiting) → Lined kind l → ShowsLines kind held true a l → ShowsLines kind held true (with_listeners (list_of line) (told_all (listeners (list_of line) a)) a) (all_told line l)
+  all_shut line a l lined h = all_are_told kind held true line a l lined (λ c. cc c) h
+
+  pub closing_lines : (a : Roster Waiter) (l : Waiting) → Lined kind l → ShowsLines kind held true a l → ShowsLines kind held true (closing_told a) (after_news Closing l)
+  closing_lines a l lined h =
+      let m1 = all_told Sends l in
+      let m2 = all_told Receives m1 in
+      let m3 = all_told Streams m2 in
+      let lined1 = lined_all kind Sends l lined in
+      let lined2 = lined_all kind Receives m1 lined1 in
+      let lined3 = lined_all kind Streams m2 lined2 in
+      let h1 = all_shut Sends a l lined h in
+      let h2 = all_shut Receives (sends_told a) m1 lined1 h1 in
+      let h3 = all_shut Streams (receives_told (sends_told a)) m2 lined2 h2 in
+      let h4 = all_shut Closings (streams_told (receives_told (sends_told a))) m3 lined3 h3 in
+      subst (λ (m : Waiting). ShowsLines kind held true (closing_told a) m) (closing_is l) h4
+
+  pub closing_wakes : (closed : Bool) (a : Roster Waiter) (l : Waiting) (rest : List Waiter) → ShowsLines kind held closed a l
+      → told_all_wakes a.sends ++ (told_all_wakes a.receives ++ (told_all_wakes a.streams ++ (told_all_wakes a.closings ++ rest))) ≡ told_by Closing l ++ rest
+  closing_wakes closed a l rest h =
+      ap (λ (ws : List Waiter). ws ++ (told_all_wakes a.receives ++ (told_all_wakes a.streams ++ (told_all_wakes a.closings ++ rest)))) (all_woken kind held closed Sends a.sends l (h Sends))
+      ∙ ap (λ (ws : List Waiter). l.sends ++ (ws ++ (told_all_wakes a.streams ++ (told_all_wakes a.closings ++ rest)))) (all_woken kind held closed Receives a.receives l (h Receives))
+      ∙ ap (λ (ws : List Waiter). l.sends ++ (l.receives ++ (ws ++ (told_all_wakes a.closings ++ rest)))) (all_woken kind held closed Streams a.streams l (h Streams))
+      ∙ ap (λ (ws : List Waiter). l.sends ++ (l.receives ++ (l.streams ++ (ws ++ rest)))) (all_woken kind held closed Closings a.closings l (h Closings))
+      ∙ sym (append_assoc (l.sends ++ l.receives ++ l.streams) l.closings rest ∙ append_assoc (l.sends ++ l.receives) l.streams (l.closings ++ rest) ∙ append_assoc l.sends l.receives (l.streams ++ (l.closings ++ rest)))

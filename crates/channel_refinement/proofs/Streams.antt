@@ -1,0 +1,198 @@
+-- A poll of a receiver as a stream: unless it stands untold, its listener is used up, and then it finds a message, waits, or
+-- learns that none will come.
+use Rattle.std.proofs.Common.{◌≡◌, List, [], ◌∷◌, ◌++◌, length, true, false, Option, None, Some, Ok, refl, sym, ap, subst, ◌∙◌, inl, inr, append-nil}
+use Rattle.event_listener.specs.declared.error.ListenError.{ListenError}
+use Rattle.event_listener.specs.declared.error.ListenError.TheVariants as listening
+use Rattle.event_listener.specs.declared.key.Key.{Key}
+use Rattle.futures.specs.declared.task.Poll.TheVariants as poll
+use Rattle.async_channel.specs.Moves.{Channel, registers}
+use Rattle.async_channel.specs.Parts.{listeners, waits}
+use Rattle.async_channel.specs.Turns.{refused_reply}
+use Rattle.async_channel.specs.Answered.{over}
+use Rattle.async_channel.specs.declared.ask.ChannelAsk.TheVariants as ask
+use Rattle.async_channel.specs.declared.reply.Reply.TheVariants as reply
+use Rattle.async_channel.specs.declared.stage.Line.TheVariants as list
+use Rattle.async_channel.specs.declared.stage.Waiting.TheVariants as waiting
+use Rattle.channel_alone.specs.Alone as alone
+use Rattle.channel_alone.specs.Alone.{Outcome, Alone, ends, of_room, over_queue, answers, PollsFor, PollsStream}
+use Rattle.channel_model.specs.Answer.{Found, first, none_yet, none_ever, found, replying, next_answer, poll_next_answer}
+use Rattle.channel_model.specs.Awake.{AwakeIn}
+use Rattle.channel_model.specs.Laws.{line_of}
+use Rattle.channel_model.specs.Lines.{Waiting, is_among, without, told_by, gone, standing}
+use Rattle.channel_model.specs.Refused.{next_not_polled, answer_without}
+use Rattle.channel_model.specs.State.{State, with_waiting}
+use Rattle.channel_model.specs.declared.call.Call.TheVariants as call
+use Rattle.channel_model.specs.declared.name.HandleId.{HandleId}
+use Rattle.channel_model.specs.declared.name.Waiter.{Waiter}
+use Rattle.channel_model.specs.declared.name.Waiter.TheVariants.{Stream}
+use Rattle.channel_model.specs.declared.news.News.TheVariants.{Room}
+use Rattle.async_channel.specs.declared.stage.Line.TheVariants.{Sends, Streams}
+use Rattle.channel_model.proofs.Awake.{awake_without_stream}
+use Rattle.channel_model.proofs.WaiterLemmas.{decided, same_refl, without_absent, none_left}
+use Rattle.channel_refinement.specs.Over.{Matches}
+use Rattle.channel_model.specs.Asked.{Held}
+use Rattle.channel_refinement.specs.Shows.{with_held, Shows}
+use Rattle.channel_refinement.proofs.Departing.{streams_are, nowhere_after}
+use Rattle.channel_refinement.proofs.News.{keys_news, room_lines, room_wakes}
+use Rattle.channel_refinement.proofs.Operations.{lack_of, not_standing_is}
+use Rattle.channel_refinement.proofs.Pending.{Waited, away_unheld, away_told, stays, held_twice}
+use Rattle.channel_refinement.proofs.Polling.{WaitEnds, where_true, where_false, wait_ends, shown}
+use Rattle.channel_refinement.proofs.Standing.{Nowhere, gone_nowhere, nowhere_gone, keyless_nowhere, away_holds_none, with_own}
+use Rattle.channel_refinement.proofs.Told.{told_gone, told_standing, not_both, without_others}
+
+module _ {T : Type 0} (held : Held) (s : State T) (receiver : HandleId) (awake : AwakeIn s) where
+  -- the stream stands nowhere, and holds nothing
+  abbrev used_up : State T
+  used_up = with_waiting (gone (Stream receiver) s.waiting) s
+
+  abbrev unheld : Held
+  unheld = with_held (Stream receiver) None held
+
+  still_awake : AwakeIn used_up
+  still_awake = awake_without_stream (line_of s.names) s.channel.capacity s.channel.closed (length s.channel.messages) (Stream receiver) s.waiting refl awake
+
+  -- what a poll answers then
+  answer_then : (x : Found T) → is_among (Stream receiver) s.waiting.streams ≡ false → found s.channel ≡ x → next_answer used_up receiver x ≡ poll_next_answer s receiver
+  answer_then x u e = ap (λ (y : Found T). next_answer used_up receiver y) (sym e) ∙ by_place u where
+    by_place : is_among (Stream receiver) s.waiting.streams ≡ false → next_answer used_up receiver (found s.channel) ≡ poll_next_answer s receiver
+    by_place u = rw u refl
+
+  lacks_then : (error : ListenError) → is_among (Stream receiver) s.waiting.streams ≡ false → found s.channel ≡ none_yet
+      → answer_without (lack_of error) s (call.PollNext receiver) ≡ Some (replying used_up (refused_reply list.Streams error))
+  lacks_then listening.NoMemory u e =
+      ap (λ (x : Found T). next_not_polled (lack_of listening.NoMemory) s (Stream receiver) x) e ∙ not_standing_is Streams (Stream receiver) s (refused_reply list.Streams listening.NoMemory) u
+  lacks_then listening.SerialsUsedUp u e =
+      ap (λ (x : Found T). next_not_polled (lack_of listening.SerialsUsedUp) s (Stream receiver) x) e ∙ not_standing_is Streams (Stream receiver) s (refused_reply list.Streams listening.SerialsUsedUp) u
+
+  module _ (u : is_among (Stream receiver) s.waiting.streams ≡ false) (c : Channel T Waiter) (h : Shows unheld c used_up) where
+    got : (m : T) (ms : List T) → c.queue.items ≡ m ∷ ms → Matches held s (call.PollNext receiver) (ends of_room (over (reply.Next (poll.Ready (Some (Ok m)))) None list.Streams None) (over_queue alone.taken c))
+    got m ms e =
+        let found_first : found s.channel ≡ first m ms = rw (sym h.messages ∙ e) refl in
+        let l : Waiting = gone (Stream receiver) s.waiting in
+        let woken = room_wakes (line_of s.names) unheld s.channel.closed c.roster l [] h.lines ∙ append-nil _ in
+        record {
+          answer = next_answer used_up receiver (first m ms);
+          allowed = inl (answer_then (first m ms) u found_first);
+          reply = refl;
+          woken = woken;
+          shows = record {
+            messages = rw e refl;
+            closed = h.closed;
+            capacity = h.capacity;
+            senders = h.senders;
+            receivers = h.receivers;
+            lines = room_lines (line_of s.names) unheld s.channel.closed c.roster l still_awake.placed.lines h.lines;
+            keys = keys_news (line_of s.names) unheld Room l h.keys;
+          };
+          names = refl;
+          told =
+              without_others (Stream receiver) s.waiting.woken (told_by Room l) (nowhere_after Room (Stream receiver) s.waiting).woken
+              ∙ ap (λ (ws : List Waiter). without (Stream receiver) (s.waiting.woken ++ ws)) (sym woken);
+        }
+
+    ended : c.queue.items ≡ [] → c.queue.closed ≡ true → Matches held s (call.PollNext receiver) (ends [] (over (reply.Next (poll.Ready None)) None list.Streams None) c)
+    ended e t =
+        let none : found s.channel ≡ none_ever = rw (sym h.messages ∙ e, sym h.closed ∙ t) refl in
+        record {
+          answer = next_answer used_up receiver none_ever;
+          allowed = inl (answer_then none_ever u none);
+          reply = refl;
+          woken = refl;
+          shows = h;
+          names = refl;
+          told = told_gone (Stream receiver) s.waiting.woken;
+        }
+
+    waited : found s.channel ≡ none_yet → (o : Outcome T Waiter) → WaitEnds Streams (reply.Next poll.Pending) (λ e. refused_reply list.Streams e) None (Stream receiver) unheld used_up o → Matches held s (call.PollNext receiver) o
+    waited none o (inl (key, d, e, g)) =
+        subst (λ (x : Outcome T Waiter). Matches held s (call.PollNext receiver) x) (sym e)
+        (record {
+          answer = next_answer used_up receiver none_yet;
+          allowed = inl (answer_then none_yet u none);
+          reply = refl;
+          woken = refl;
+          shows = subst (λ (f : Held). Shows f d (next_answer used_up receiver none_yet).after) (held_twice (Stream receiver) (Some key) None held) g;
+          names = refl;
+          told =
+              told_standing (line_of s.names) Streams (Stream receiver) (gone (Stream receiver) s.waiting) still_awake.placed
+              ∙ sym (told_gone (Stream receiver) (without (Stream receiver) s.waiting.woken))
+              ∙ without_absent (Stream receiver) (without (Stream receiver) s.waiting.woken) (none_left (Stream receiver) s.waiting.woken)
+              ∙ told_gone (Stream receiver) s.waiting.woken;
+        })
+    waited none o (inr (error, d, e, v, g)) =
+        let l : Waiting = gone (Stream receiver) s.waiting in
+        let same : gone (Stream receiver) l ≡ l = gone_nowhere (Stream receiver) l (nowhere_gone (Stream receiver) s.waiting) in
+        subst (λ (x : Outcome T Waiter). Matches held s (call.PollNext receiver) x) (sym e)
+        (record {
+          answer = replying used_up (refused_reply list.Streams error);
+          allowed = inr (lack_of error, lacks_then error u none);
+          reply = refl;
+          woken = refl;
+          shows = subst (λ (m : Waiting). Shows unheld d (with_waiting m s)) same (subst (λ (f : Held). Shows f d (with_waiting (gone (Stream receiver) l) s)) (held_twice (Stream receiver) None None held) g);
+          names = refl;
+          told = told_gone (Stream receiver) s.waiting.woken;
+        })
+
+    polls : (items : List T) (o : Outcome T Waiter) → c.queue.items ≡ items
+        → PollsFor items waiting.Stream (λ m. reply.Next (poll.Ready (Some (Ok m)))) (reply.Next (poll.Ready None)) None (Stream receiver) c o → Matches held s (call.PollNext receiver) o
+    polls (m ∷ ms) o e x = subst (λ (y : Outcome T Waiter). Matches held s (call.PollNext receiver) y) (sym x) (got m ms e)
+    polls [] o e x = elim (decided c.queue.closed) [
+      | inl t ↦ subst (λ (y : Outcome T Waiter). Matches held s (call.PollNext receiver) y) (sym (where_true c.queue.closed _ _ t x)) (ended e t)
+      | inr t ↦
+          let none : found s.channel ≡ none_yet = rw (sym h.messages ∙ e, sym h.closed ∙ t) refl in
+          waited none o
+          (wait_ends Streams (reply.Next poll.Pending) (λ e. refused_reply list.Streams e) None (Stream receiver) unheld c used_up h still_awake refl None o
+          (with_own (Stream receiver) (Stream receiver) None held (same_refl (Stream receiver))) (where_false c.queue.closed _ _ t x))
+    ]
+
+    pub polls_used : (o : Outcome T Waiter) → PollsStream None (Stream receiver) c o → Matches held s (call.PollNext receiver) o
+    polls_used o x = polls c.queue.items o refl x
+
+-- ---- from what the stream holds
+
+module _ {T : Type 0} (held : Held) (c : Channel T Waiter) (s : State T) (h : Shows held c s) (awake : AwakeIn s) (receiver : HandleId) where
+  shown_so : (key : Option Key) (m : Waiting) (d : Channel T Waiter) → d.queue ≡ c.queue → Waited (line_of s.names) held s.channel.closed (Stream receiver) c.roster d.roster key m
+      → Shows (with_held (Stream receiver) key held) d (with_waiting m s)
+  shown_so key m d e g = shown Streams (reply.Next poll.Pending) (λ e. refused_reply list.Streams e) None (Stream receiver) held c s h awake refl key m d e g
+
+  told_not_untold : is_among (Stream receiver) s.waiting.woken ≡ true → is_among (Stream receiver) s.waiting.streams ≡ false
+  told_not_untold t = elim (decided (is_among (Stream receiver) s.waiting.streams)) [
+    | inr u ↦ u
+    | inl u ↦ absurd (not_both (line_of s.names) Streams (Stream receiver) s.waiting awake.placed u t)
+  ]
+
+  still_untold : is_among (Stream receiver) s.waiting.streams ≡ true → replying (with_waiting (standing Streams (Stream receiver) s.waiting) s) (reply.Next poll.Pending) ≡ poll_next_answer s receiver
+  still_untold u = rw u refl
+
+  polls_by : (key : Option Key) (o : Outcome T Waiter) → held (Stream receiver) ≡ key → Alone (ask.PollNext key (Stream receiver)) c o → Matches held s (call.PollNext receiver) o
+  polls_by None o e x =
+      let away : Nowhere (Stream receiver) s.waiting = keyless_nowhere (line_of s.names) held s.channel.closed c.roster s.waiting Streams (Stream receiver) refl e awake.placed h.lines in
+      polls_used held s receiver awake (away.lines Streams) c
+      (shown_so None (gone (Stream receiver) s.waiting) c refl
+      (away_unheld (line_of s.names) held s.channel.closed (streams_are s.names) Streams (Stream receiver) refl s.waiting awake.placed h.keys awake.opened c.roster h.lines e)) o x
+  polls_by (Some key) o e x = elim (decided (is_among (Stream receiver) s.waiting.woken)) [
+    | inl t ↦
+        let used = away_told (line_of s.names) held s.channel.closed (streams_are s.names) Streams (Stream receiver) refl s.waiting awake.placed h.keys awake.opened c.roster h.lines key e t in
+        let d : Channel T Waiter = (registers list.Streams key (Stream receiver) c).channel in
+        polls_used held s receiver awake (told_not_untold t) d (shown_so None (gone (Stream receiver) s.waiting) d refl used.1) o
+        (where_false (waits key (listeners list.Streams c.roster)) _ _ used.0 x)
+    | inr t ↦ elim (decided (is_among (Stream receiver) s.waiting.streams)) [
+      | inr u ↦ absurd (away_holds_none (line_of s.names) held Streams (Stream receiver) s.waiting key refl awake.placed h.keys e u t)
+      | inl u ↦
+          let stayed = stays (line_of s.names) held s.channel.closed (streams_are s.names) Streams (Stream receiver) refl s.waiting awake.placed h.keys awake.opened c.roster h.lines key e t u in
+          let d : Channel T Waiter = (registers list.Streams key (Stream receiver) c).channel in
+          subst (λ (y : Outcome T Waiter). Matches held s (call.PollNext receiver) y) (sym (where_true (waits key (listeners list.Streams c.roster)) _ _ stayed.0 x))
+          (record {
+            answer = replying (with_waiting (standing Streams (Stream receiver) s.waiting) s) (reply.Next poll.Pending);
+            allowed = inl (still_untold u);
+            reply = refl;
+            woken = refl;
+            shows = shown_so (Some key) (standing Streams (Stream receiver) s.waiting) d refl stayed.1;
+            names = refl;
+            told = told_standing (line_of s.names) Streams (Stream receiver) s.waiting awake.placed;
+          })
+    ]
+  ]
+
+  pub poll_next : (o : Outcome T Waiter) → Alone (ask.PollNext (held (Stream receiver)) (Stream receiver)) c o → Matches held s (call.PollNext receiver) o
+  poll_next o x = polls_by (held (Stream receiver)) o refl x

@@ -1,0 +1,88 @@
+-- Those who are woken after a call, and the names whose operation is what it was.
+use Rattle.std.proofs.Common.{arith, ◌≡◌, ◌≤◌, ◌+◌, nat_eq, List, [], ◌++◌, Bool, true, false, not, Option, None, Some, refl, sym, ap, ◌∙◌, append-nil, append_assoc, inl, inr}
+use Rattle.std.specs.Map.{lookup}
+use Rattle.std.specs.Option.{option_map_or}
+use Rattle.std.proofs.lemmas.List.Elements.{filter-append}
+use Rattle.std.proofs.lemmas.Map.Steps.{set_value_same}
+use Rattle.channel_model.specs.Awake.{Kind, Placed, times, times_in}
+use Rattle.channel_model.specs.Lines.{Waiting, same_waiter, is_among, without, untold, told_by, after_news, gone, passed_on, left_after, told_after, standing}
+use Rattle.channel_model.specs.Names.{Names, Directory, Operation, at, with_operation_changed}
+use Rattle.channel_model.specs.declared.name.OpId.{OpId}
+use Rattle.channel_model.specs.declared.name.Waiter.{Waiter}
+use Rattle.channel_model.specs.declared.news.News.{News}
+use Rattle.async_channel.specs.declared.stage.Line.{Line}
+use Rattle.async_channel.specs.declared.stage.Line.TheVariants.{Sends, Receives, Streams, Closings}
+use Rattle.channel_model.proofs.WaiterLemmas.{decided, without_absent, none_left}
+use Rattle.channel_model.proofs.Counting.{among_counts}
+use Rattle.channel_model.proofs.Awake.{left_nowhere}
+use Rattle.channel_refinement.proofs.Departing.{times_nowhere}
+
+-- ---- those who are woken
+
+without_append : (w : Waiter) (xs ys : List Waiter) → without w (xs ++ ys) ≡ without w xs ++ without w ys
+without_append w xs ys = filter-append (λ (v : Waiter). not (same_waiter w v)) xs ys
+
+-- one that was taken out, and is none of those who came, is taken out of all
+pub without_others : (w : Waiter) (xs ys : List Waiter) → is_among w (without w xs ++ ys) ≡ false → without w xs ++ ys ≡ without w (xs ++ ys)
+without_others w xs ys away =
+    sym (without_absent w (without w xs ++ ys) away)
+    ∙ without_append w (without w xs) ys
+    ∙ ap (λ (zs : List Waiter). zs ++ without w ys) (without_absent w (without w xs) (none_left w xs))
+    ∙ sym (without_append w xs ys)
+
+-- one who leaves after news is told no more
+pub told_left : (news : News) (line : Line) (w : Waiter) (l : Waiting) → (left_after news line w l).woken ≡ without w (l.woken ++ told_after news line w l)
+told_left news line w l =
+    let told : Waiting = after_news news l in
+    let away : is_among w (left_after news line w l).woken ≡ false = (times_nowhere w (left_after news line w l) (left_nowhere line w told)).woken in
+    without_others w (l.woken ++ told_by news l) (told_by (passed_on line w told) (gone w told)) away
+    ∙ ap (λ (ws : List Waiter). without w ws) (append_assoc l.woken (told_by news l) (told_by (passed_on line w told) (gone w told)))
+
+-- the same, where those woken by the call are these
+pub told_left_as : (news : News) (line : Line) (w : Waiter) (l : Waiting) (names : List Waiter) → names ≡ told_after news line w l → (left_after news line w l).woken ≡ without w (l.woken ++ names)
+told_left_as news line w l names e = told_left news line w l ∙ ap (λ (ws : List Waiter). without w (l.woken ++ ws)) (sym e)
+
+pub told_gone : (w : Waiter) (ws : List Waiter) → without w ws ≡ without w (ws ++ [])
+told_gone w ws = ap (λ (xs : List Waiter). without w xs) (sym (append-nil ws))
+
+pub told_away : (w : Waiter) (ws : List Waiter) → is_among w ws ≡ false → ws ≡ without w (ws ++ [])
+told_away w ws away = sym (without_absent w ws away) ∙ told_gone w ws
+
+both_counts : (line : Line) (w : Waiter) (l : Waiting) → times w (untold line l) + times w l.woken ≤ times_in w l
+both_counts Sends w l = omega arith
+both_counts Receives w l = omega arith
+both_counts Streams w l = omega arith
+both_counts Closings w l = omega arith
+
+-- one that stands untold is not woken, nor the other way round
+pub not_both : (kind : Kind) (line : Line) (w : Waiter) (l : Waiting) → Placed kind l → is_among w (untold line l) ≡ true → is_among w l.woken ≡ true → ⊥
+not_both kind line w l placed u t = omega (arith, placed.once w, among_counts w l.woken t, among_counts w (untold line l) u, both_counts line w l)
+
+stood_woken : (line : Line) (w : Waiter) (l : Waiting) (b : Bool) → is_among w (untold line l) ≡ b → b ≡ false → (standing line w l).woken ≡ without w l.woken
+stood_woken Sends w l b e f = rw (e ∙ f) refl
+stood_woken Receives w l b e f = rw (e ∙ f) refl
+stood_woken Streams w l b e f = rw (e ∙ f) refl
+stood_woken Closings w l b e f = rw (e ∙ f) refl
+
+-- one who stands in its line after a poll is told no more
+pub told_standing : (kind : Kind) (line : Line) (w : Waiter) (l : Waiting) → Placed kind l → (standing line w l).woken ≡ without w (l.woken ++ [])
+told_standing kind line w l placed = elim (decided (is_among w (untold line l))) [
+  | inl u ↦ elim (decided (is_among w l.woken)) [
+    | inl t ↦ absurd (not_both kind line w l placed u t)
+    | inr t ↦ let same : standing line w l ≡ l = rw u refl in ap (λ (m : Waiting). m.woken) same ∙ told_away w l.woken t
+  ]
+  | inr u ↦ stood_woken line w l false u refl ∙ told_gone w l.woken
+]
+
+-- ---- names
+
+module _ {T : Type 0} where
+  found_as : (o : Option (Option (Operation T))) (x : Operation T) → option_map_or (λ (y : Option (Operation T)). y) o None ≡ Some x → o ≡ Some (Some x)
+  found_as None x e = cc e
+  found_as (Some y) x e = ap (λ (z : Option (Operation T)). Some z) e
+
+  -- an operation that is changed to what it was
+  pub same_names : (op : OpId) (x : Operation T) (names : Names T) → at op.0 names.operations ≡ Some x → with_operation_changed op x names ≡ names
+  same_names op x names there =
+      ap (λ (d : Directory (Operation T)). let n : Names T = record { handles = names.handles; operations = d } in n)
+      (set_value_same (nat_eq op.0) names.operations (Some x) (found_as (lookup (nat_eq op.0) names.operations) x there))

@@ -1,0 +1,4 @@
+pub mod Shows
+pub mod Asked
+pub mod Over
+pub mod Opening

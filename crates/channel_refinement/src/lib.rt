@@ -1,0 +1,6 @@
+//! The calls of a channel, each made alone, do what the model of one call at a time says of them.
+//!
+//! There is no code here that does anything: the crates above run the calls and keep the names.
+#![tactic(auto)]
+
+pub mod laws;
