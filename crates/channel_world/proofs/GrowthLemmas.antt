@@ -1,19 +1,19 @@
 -- An answer that is not ample says so in its reply.
 use Rattle.std.proofs.Common.{◌≡◌, inl, inr, ℕ, Bool, true, false, cond, Option, Some, None, is_none, refl, subst}
-use Rattle.channel_world.specs.Names.{Operation, send, recv, closing, at}
-use Rattle.channel_world.specs.Channel.{Channel}
-use Rattle.channel_world.specs.State.{State}
-use Rattle.channel_world.specs.Lines.{is_among}
-use Rattle.channel_world.specs.Answer.{Answer, answer, Found, first, none_yet, none_ever, found, space_of}
-use Rattle.channel_world.specs.Refused.{Lack, memory, serials, Answers, answer_without, not_held, not_polled, send_not_polled, recv_not_polled, next_not_polled}
-use Rattle.channel_world.specs.Calls.{AnyCall}
-use Rattle.channel_world.specs.Calls as call
+use Rattle.channel_model.specs.Names.{Operation, send, recv, closing, at}
+use Rattle.channel_model.specs.Channel.{Channel}
+use Rattle.channel_model.specs.State.{State}
+use Rattle.channel_model.specs.Lines.{is_among}
+use Rattle.channel_model.specs.Answer.{Answer, answer, Found, first, none_yet, none_ever, found, space_of}
+use Rattle.channel_model.specs.Refused.{Lack, memory, serials, Answers, answer_without, not_held, not_polled, send_not_polled, recv_not_polled, next_not_polled}
+use Rattle.channel_model.specs.declared.call.Call.{Call}
+use Rattle.channel_model.specs.declared.call.Call.TheVariants as call
 use Rattle.channel_world.specs.Text.{wants_growth}
-use Rattle.channel_world.specs.declared.space.Space.{Space}
-use Rattle.channel_world.specs.declared.space.Space.TheVariants.{Open, Filled, Shut}
-use Rattle.channel_world.specs.declared.name.OpId.{OpId}
-use Rattle.channel_world.specs.declared.name.Waiter.{Waiter}
-use Rattle.channel_world.specs.declared.name.Waiter.TheVariants.{Op, Stream}
+use Rattle.channel_model.specs.declared.space.Space.{Space}
+use Rattle.channel_model.specs.declared.space.Space.TheVariants.{Open, Filled, Shut}
+use Rattle.channel_model.specs.declared.name.OpId.{OpId}
+use Rattle.channel_model.specs.declared.name.Waiter.{Waiter}
+use Rattle.channel_model.specs.declared.name.Waiter.TheVariants.{Op, Stream}
 
 where_false : (b : Bool) (a x : Answer ℕ) → wants_growth a.reply ≡ true → cond b None (Some a) ≡ Some x → wants_growth x.reply ≡ true
 where_false true a x w e = cc
@@ -60,7 +60,7 @@ next_polled serials s w none_yet x e = where_false (is_among w s.waiting.streams
 next_polled lack s w (first m ms) x e = cc
 next_polled lack s w none_ever x e = cc
 
-lacking : (lack : Lack) (s : State ℕ) (c : AnyCall ℕ) (x : Answer ℕ) → answer_without lack s c ≡ Some x → wants_growth x.reply ≡ true
+lacking : (lack : Lack) (s : State ℕ) (c : Call ℕ) (x : Answer ℕ) → answer_without lack s c ≡ Some x → wants_growth x.reply ≡ true
 lacking lack s (call.TrySend sender msg) x e = held lack s.channel (space_of s.channel) _ x refl e
 lacking lack s (call.ForceSend sender msg) x e = held lack s.channel (space_of s.channel) _ x refl e
 lacking lack s (call.Poll op) x e = polled lack s op (at op.0 s.names.operations) x e
@@ -68,6 +68,6 @@ lacking lack s (call.PollNext receiver) x e = next_polled lack s (Stream receive
 lacking lack s c x e = cc
 
 -- an answer that wants no growth is that of ample memory
-pub is_ample : (s : State ℕ) (c : AnyCall ℕ) (x : Answer ℕ) → Answers s c x → wants_growth x.reply ≡ false → x ≡ answer s c
+pub is_ample : (s : State ℕ) (c : Call ℕ) (x : Answer ℕ) → Answers s c x → wants_growth x.reply ≡ false → x ≡ answer s c
 is_ample s c x (inl same) w = same
 is_ample s c x (inr l) w = let wants : wants_growth x.reply ≡ true = lacking l.0 s c x l.1 in cc

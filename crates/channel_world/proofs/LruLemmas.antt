@@ -1,12 +1,12 @@
 -- The kit's list of recent use, as a list to which nothing but the end is added.
-use Rattle.std.proofs.Common.{arith, ◌≡◌, ℕ, ◌-◌, ◌^◌, ◌<◌, ◌≤◌, List, [], ◌∷◌, ◌++◌, length, take, Bool, true, false, Option, None, Some, IsSome, refl, sym, ap, subst, ◌∙◌}
+use Rattle.std.proofs.Common.{arith, ◌≡◌, ℕ, ◌-◌, ◌^◌, ◌<◌, ◌≤◌, List, [], ◌∷◌, ◌++◌, length, take, Bool, true, false, Option, None, Some, IsSome, refl, sym, ap, subst, ◌∙◌, ◌⊎◌, inl, inr}
 use Rattle.std.specs.Option.{option_map_or}
 use Rattle.std.specs.Map.{keys_of, lookup, lookup_entry, remove_entry, set_value}
 use Rattle.std.proofs.lemmas.List.{take_all, map-append}
 use Rattle.lru.specs.LruCache.{LruCache, put_entries, demoted}
-use Rattle.channel_world.specs.Lines.{same_waiter}
-use Rattle.channel_world.specs.declared.name.Waiter.{Waiter}
-use Rattle.channel_world.proofs.WaiterLemmas.{same_refl, same_sound, moved_to_end, remove_absent, lookup_from_entry, entry_is}
+use Rattle.channel_model.specs.Lines.{same_waiter}
+use Rattle.channel_model.specs.declared.name.Waiter.{Waiter}
+use Rattle.channel_model.proofs.WaiterLemmas.{decided, same_refl, same_sound, moved_to_end, remove_absent, lookup_from_entry, entry_is}
 
 module _ {X : Type 0} where
   -- one that has no entry gets the first place
@@ -37,3 +37,13 @@ module _ {X : Type 0} where
 
   pub keys_added : (w : Waiter) (x : X) (es : List (Waiter × X)) → keys_of (es ++ (w, x) ∷ []) ≡ keys_of es ++ w ∷ []
   keys_added w x es = map-append (λ (e : Waiter × X). e.0) es ((w, x) ∷ [])
+
+  -- one that has no entry isn't moved
+  pub absent_stays : (w : Waiter) (es : List (Waiter × X)) → lookup (same_waiter w) es ≡ None → demoted (same_waiter w) es ≡ es
+  absent_stays w es e = rw (no_entry_of es e) refl where
+    no_entry_of : (l : List (Waiter × X)) → lookup (same_waiter w) l ≡ None → lookup_entry (same_waiter w) l ≡ None
+    no_entry_of [] h = refl
+    no_entry_of (f ∷ l) h = elim (decided (same_waiter w f.0)) [
+      | inl t ↦ cc (rw t at h)
+      | inr t ↦ rw t (no_entry_of l (rw t at h))
+    ]

@@ -45,7 +45,7 @@ goes_on whole rest first out line out' g e = record {
 }
 
 -- a line that can be read
-pub followed_more : (language : Language) (s t : Scene) (n : ℕ) (lines rest : List (List ℕ)) (line reply : List ℕ) (command : Command) → lines ≡ line ∷ rest → Some command ≡ readable language n line → record { after = t; line = reply } ≡ obeyed language s command
+pub followed_more : (language : Language) (s t : Scene) (n : ℕ) (lines rest : List (List ℕ)) (line reply : List ℕ) (command : Command) → lines ≡ line ∷ rest → Some command ≡ readable language n line → record { after = t; line = reply } ≡ obeyed s command
     → followed language s n lines ≡ replying_first reply (followed language t (n + 1) rest)
 followed_more language s t n lines rest line reply command e r o = rw (e, ← r, ← o) refl
 

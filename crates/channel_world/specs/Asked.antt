@@ -1,9 +1,9 @@
 -- The names that a command uses and gives, and the call that it makes.
 use Rattle.std.specs.Prelude.{ℕ, List, [], ◌∷◌, ◌++◌, length, Bool, false, Option, None, Some, is_some, option_and_then}
 use Rattle.std.specs.Option.{option_map, option_map_or}
-use Rattle.channel_world.specs.Names.{Names, at}
-use Rattle.channel_world.specs.Calls.{AnyCall}
-use Rattle.channel_world.specs.Calls as call
+use Rattle.channel_model.specs.Names.{Names, at}
+use Rattle.channel_model.specs.declared.call.Call.{Call}
+use Rattle.channel_model.specs.declared.call.Call.TheVariants as call
 use Rattle.channel_world.specs.Words.{Name}
 use Rattle.channel_world.specs.Command.{Command, Question, try_send, force_send, try_recv, send, recv, closed, poll, next, drop, close, clone, downgrade, upgrade, same_channel, is_terminated, ask, settle, is_closed, is_empty, is_full, len, capacity, sender_count, receiver_count}
 use Rattle.channel_world.specs.Table.{Table, named_in, number_in}
@@ -11,8 +11,8 @@ use Rattle.channel_world.specs.declared.script.table.Sort.{Sort}
 use Rattle.channel_world.specs.declared.script.table.Sort.TheVariants as sort
 use Rattle.channel_world.specs.declared.script.table.Named.{Named}
 use Rattle.channel_world.specs.declared.script.table.Named.TheVariants as named
-use Rattle.channel_world.specs.declared.name.HandleId.{HandleId}
-use Rattle.channel_world.specs.declared.name.OpId.{OpId}
+use Rattle.channel_model.specs.declared.name.HandleId.{HandleId}
+use Rattle.channel_model.specs.declared.name.OpId.{OpId}
 
 -- ---- names
 
@@ -74,20 +74,20 @@ op_of (named.Handle handle) = None
 op_of (named.Op op) = Some op
 
 -- a call of the handle of this name; None where the name is no handle's
-abbrev pub of_handle : Table → Name → (HandleId → AnyCall ℕ) → Option (AnyCall ℕ)
+abbrev pub of_handle : Table → Name → (HandleId → Call ℕ) → Option (Call ℕ)
 of_handle table name call_by = option_map call_by (option_and_then handle_of (named_in table name))
 
 -- a call of the operation of this name; None where the name is no operation's
-abbrev pub of_op : Table → Name → (OpId → AnyCall ℕ) → Option (AnyCall ℕ)
+abbrev pub of_op : Table → Name → (OpId → Call ℕ) → Option (Call ℕ)
 of_op table name call_by = option_map call_by (option_and_then op_of (named_in table name))
 
 -- a call of the handle or the operation of this name
-abbrev pub of_either : Option Named → (HandleId → AnyCall ℕ) → (OpId → AnyCall ℕ) → Option (AnyCall ℕ)
+abbrev pub of_either : Option Named → (HandleId → Call ℕ) → (OpId → Call ℕ) → Option (Call ℕ)
 of_either None by_handle by_op = None
 of_either (Some (named.Handle handle)) by_handle by_op = Some (by_handle handle)
 of_either (Some (named.Op op)) by_handle by_op = Some (by_op op)
 
-abbrev pub question_call : Question → HandleId → AnyCall ℕ
+abbrev pub question_call : Question → HandleId → Call ℕ
 question_call is_closed h = call.IsClosed h
 question_call is_empty h = call.IsEmpty h
 question_call is_full h = call.IsFull h
@@ -104,7 +104,7 @@ abbrev pub new_op : Table → OpId
 new_op table = record { 0 = length table }
 
 -- the call of a command; None where a name is of the other sort
-abbrev pub call_of : Table → Command → Option (AnyCall ℕ)
+abbrev pub call_of : Table → Command → Option (Call ℕ)
 call_of t (try_send s m) = of_handle t s (λ h. call.TrySend h m)
 call_of t (force_send s m) = of_handle t s (λ h. call.ForceSend h m)
 call_of t (try_recv r) = of_handle t r (λ h. call.TryRecv h)

@@ -1,5 +1,5 @@
 -- What a line of a script says.
-use Rattle.std.specs.Prelude.{ℕ, ◌==◌, List, [], ◌∷◌, length, nat_lt, Option, None, Some, codes, option_and_then, if◌then◌else◌}
+use Rattle.std.specs.Prelude.{ℕ, ◌==◌, List, [], ◌∷◌, ◌++◌, length, nat_lt, Option, None, Some, codes, option_and_then, if◌then◌else◌}
 use Rattle.std.specs.Str.{bytes_eq}
 use Rattle.channel_world.specs.Words.{Name, words_of, first_name, first_number}
 
@@ -63,33 +63,55 @@ parse forms line = if nat_lt 200 (length line) then None else parsed forms (word
 
 -- ---- the commands
 
--- all commands of the language
-abbrev pub all_commands : List (List ℕ × Form Command)
-all_commands =
+-- sends and receives that don't wait, and a receiver polled as a stream
+abbrev pub message_commands : List (List ℕ × Form Command)
+message_commands =
     (codes "try_send", a_name (λ s. a_number (λ m. that_is (try_send s m))))
     ∷ (codes "force_send", a_name (λ s. a_number (λ m. that_is (force_send s m))))
     ∷ (codes "try_recv", a_name (λ r. that_is (try_recv r)))
-    ∷ (codes "send", a_name (λ o. a_name (λ s. a_number (λ m. that_is (send o s m)))))
+    ∷ (codes "next", a_name (λ r. that_is (next r)))
+    ∷ []
+
+-- polled operations
+abbrev pub operation_commands : List (List ℕ × Form Command)
+operation_commands =
+    (codes "send", a_name (λ o. a_name (λ s. a_number (λ m. that_is (send o s m)))))
     ∷ (codes "recv", a_name (λ o. a_name (λ r. that_is (recv o r))))
     ∷ (codes "closed", a_name (λ o. a_name (λ s. that_is (closed o s))))
     ∷ (codes "poll", a_name (λ o. that_is (poll o)))
-    ∷ (codes "next", a_name (λ r. that_is (next r)))
-    ∷ (codes "drop", a_name (λ x. that_is (drop x)))
+    ∷ (codes "is_terminated", a_name (λ x. that_is (is_terminated x)))
+    ∷ []
+
+-- handles
+abbrev pub handle_commands : List (List ℕ × Form Command)
+handle_commands =
+    (codes "drop", a_name (λ x. that_is (drop x)))
     ∷ (codes "close", a_name (λ h. that_is (close h)))
     ∷ (codes "clone", a_name (λ n. a_name (λ h. that_is (clone n h))))
     ∷ (codes "downgrade", a_name (λ n. a_name (λ h. that_is (downgrade n h))))
     ∷ (codes "upgrade", a_name (λ n. a_name (λ w. that_is (upgrade n w))))
     ∷ (codes "same_channel", a_name (λ a. a_name (λ b. that_is (same_channel a b))))
-    ∷ (codes "is_terminated", a_name (λ x. that_is (is_terminated x)))
-    ∷ (codes "is_closed", a_name (λ h. that_is (ask is_closed h)))
+    ∷ []
+
+-- questions
+abbrev pub question_commands : List (List ℕ × Form Command)
+question_commands =
+    (codes "is_closed", a_name (λ h. that_is (ask is_closed h)))
     ∷ (codes "is_empty", a_name (λ h. that_is (ask is_empty h)))
     ∷ (codes "is_full", a_name (λ h. that_is (ask is_full h)))
     ∷ (codes "len", a_name (λ h. that_is (ask len h)))
     ∷ (codes "capacity", a_name (λ h. that_is (ask capacity h)))
     ∷ (codes "sender_count", a_name (λ h. that_is (ask sender_count h)))
     ∷ (codes "receiver_count", a_name (λ h. that_is (ask receiver_count h)))
-    ∷ (codes "settle", that_is settle)
     ∷ []
+
+-- all that make one call
+abbrev pub call_commands : List (List ℕ × Form Command)
+call_commands = message_commands ++ operation_commands ++ handle_commands ++ question_commands
+
+-- all commands of the language
+abbrev pub all_commands : List (List ℕ × Form Command)
+all_commands = call_commands ++ (codes "settle", that_is settle) ∷ []
 
 -- the first line: a channel of a capacity, or of any number of messages
 pub data Opening : Type 0 where

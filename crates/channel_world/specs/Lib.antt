@@ -1,17 +1,7 @@
-pub mod Errors
-pub mod Channel
-pub mod Names
-pub mod Lines
 pub mod Standings
-pub mod State
-pub mod Calls
-pub mod Replies
-pub mod Today
-pub mod Refusal
-pub mod Answer
-pub mod Refused
-pub mod Run
-pub mod Settling
+pub mod Pending
+pub mod Kept
+pub mod Body
 pub mod Words
 pub mod Command
 pub mod Said
@@ -24,6 +14,3 @@ pub mod Output
 pub mod Added
 pub mod ScriptRows
 pub mod LanguageRows
-pub mod Laws
-pub mod Awake
-pub mod Rows

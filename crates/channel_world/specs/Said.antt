@@ -1,39 +1,114 @@
 -- What the code's commands, and its scene, stand for.
-use Rattle.channel_world.specs.Command.{Command, Form, a_name, a_number, that_is, Opening, bounded, unbounded, try_send, try_recv, send, recv, poll, drop, close, is_terminated}
+use Rattle.std.specs.Prelude.{ℕ, Option, None, Some}
+use Rattle.channel_world.specs.Command as say
+use Rattle.channel_world.specs.Command.{Command, Form, a_name, a_number, that_is, Opening, bounded, unbounded}
 use Rattle.channel_world.specs.Script.{Scene}
-use Rattle.channel_world.specs.State.{at_rest}
+use Rattle.channel_world.specs.Words.{Name}
+use Rattle.channel_world.specs.Asked.{question_call}
+use Rattle.channel_model.specs.declared.call.Call.{Call}
+use Rattle.channel_model.specs.declared.call.Call.TheVariants as call
+use Rattle.channel_model.specs.declared.name.HandleId.{HandleId}
+use Rattle.channel_model.specs.declared.name.OpId.{OpId}
+use Rattle.channel_world.specs.declared.script.table.Sort.{Sort}
+use Rattle.channel_world.specs.declared.script.table.Sort.TheVariants as sort
+use Rattle.channel_model.specs.State.{at_rest}
 use Rattle.channel_world.specs.declared.script.scene.Scene.{Scene as Staged}
 use Rattle.channel_world.specs.declared.script.command.Command.{Command as Parsed}
 use Rattle.channel_world.specs.declared.script.command.Command.TheVariants as parsed
+use Rattle.channel_world.specs.declared.script.command.Doing.{Doing}
+use Rattle.channel_world.specs.declared.script.command.Doing.TheVariants as doing
+use Rattle.channel_world.specs.declared.script.command.Making.{Making}
+use Rattle.channel_world.specs.declared.script.command.Making.TheVariants as making
 use Rattle.channel_world.specs.declared.script.command.Opening.{Opening as ParsedOpening}
 use Rattle.channel_world.specs.declared.script.command.Opening.TheVariants as opening
+use Rattle.channel_world.specs.declared.script.command.Question.{Question}
+use Rattle.channel_world.specs.declared.script.command.Question.TheVariants as question
+use Rattle.channel_world.specs.declared.script.command.Sending.{Sending}
+use Rattle.channel_world.specs.declared.script.command.Sending.TheVariants as sending
 use Rattle.channel_world.specs.declared.script.command.Verb.{Verb}
 use Rattle.channel_world.specs.declared.script.command.Verb.TheVariants as verb
 
 abbrev pub scene_of : Staged → Scene
 scene_of s = record { state = at_rest s.world; table = s.table }
 
+abbrev pub asked_as : Question → say.Question
+asked_as question.IsClosed = say.is_closed
+asked_as question.IsEmpty = say.is_empty
+asked_as question.IsFull = say.is_full
+asked_as question.Len = say.len
+asked_as question.Capacity = say.capacity
+asked_as question.SenderCount = say.sender_count
+asked_as question.ReceiverCount = say.receiver_count
+
+abbrev pub sent_by : Sending → Name → ℕ → Command
+sent_by sending.Try s m = say.try_send s m
+sent_by sending.Force s m = say.force_send s m
+
+abbrev pub done_to : Doing → Name → Command
+done_to doing.TryRecv r = say.try_recv r
+done_to doing.Next r = say.next r
+done_to doing.Poll o = say.poll o
+done_to doing.Drop x = say.drop x
+done_to doing.Close h = say.close h
+done_to doing.IsTerminated x = say.is_terminated x
+done_to (doing.Ask q) h = say.ask (asked_as q) h
+
+abbrev pub made_by : Making → Name → Name → Command
+made_by making.Recv o r = say.recv o r
+made_by making.Closed o s = say.closed o s
+made_by making.Clone n h = say.clone n h
+made_by making.Downgrade n h = say.downgrade n h
+made_by making.Upgrade n w = say.upgrade n w
+
 abbrev pub said : Parsed → Command
-said (parsed.TrySend sender msg) = try_send sender.now msg
-said (parsed.TryRecv receiver) = try_recv receiver.now
-said (parsed.Send op sender msg) = send op.now sender.now msg
-said (parsed.Recv op receiver) = recv op.now receiver.now
-said (parsed.Poll op) = poll op.now
-said (parsed.Drop name) = drop name.now
-said (parsed.Close handle) = close handle.now
-said (parsed.IsTerminated name) = is_terminated name.now
+said (parsed.Message how sender msg) = sent_by how sender.now msg
+said (parsed.Send op sender msg) = say.send op.now sender.now msg
+said (parsed.New what new handle) = made_by what new.now handle.now
+said (parsed.One what name) = done_to what name.now
+said (parsed.SameChannel a b) = say.same_channel a.now b.now
 
 abbrev pub said_first : ParsedOpening → Opening
 said_first (opening.Bounded capacity) = bounded capacity
 said_first opening.Unbounded = unbounded
 
+-- ---- calls
+
+abbrev pub sort_of : Making → Sort
+sort_of making.Recv = sort.Op
+sort_of making.Closed = sort.Op
+sort_of what = sort.Handle
+
+abbrev pub sending_call : Sending → HandleId → ℕ → Call ℕ
+sending_call sending.Try sender m = call.TrySend sender m
+sending_call sending.Force sender m = call.ForceSend sender m
+
+abbrev pub making_call : Making → ℕ → HandleId → Call ℕ
+making_call making.Recv n h = call.NewRecv (record { 0 = n }) h
+making_call making.Closed n h = call.NewClosed (record { 0 = n }) h
+making_call making.Clone n h = call.TryClone h (record { 0 = n })
+making_call making.Downgrade n h = call.Downgrade h (record { 0 = n })
+making_call making.Upgrade n h = call.Upgrade h (record { 0 = n })
+
+-- what is done to a handle, or to an operation
+abbrev pub handle_call : Doing → HandleId → Option (Call ℕ)
+handle_call doing.TryRecv h = Some (call.TryRecv h)
+handle_call doing.Next h = Some (call.PollNext h)
+handle_call doing.Poll h = None
+handle_call doing.Drop h = Some (call.Drop h)
+handle_call doing.Close h = Some (call.Close h)
+handle_call doing.IsTerminated h = Some (call.StreamIsTerminated h)
+handle_call (doing.Ask q) h = Some (question_call (asked_as q) h)
+
+abbrev pub op_call : Doing → OpId → Option (Call ℕ)
+op_call doing.Poll op = Some (call.Poll op)
+op_call doing.Drop op = Some (call.GiveUp op)
+op_call doing.IsTerminated op = Some (call.SendIsTerminated op)
+op_call what op = None
+
 -- how the words after a command's first word are read
 abbrev pub form_of : Verb → Form Command
-form_of verb.TrySend = a_name (λ s. a_number (λ m. that_is (try_send s m)))
-form_of verb.TryRecv = a_name (λ r. that_is (try_recv r))
-form_of verb.Send = a_name (λ o. a_name (λ s. a_number (λ m. that_is (send o s m))))
-form_of verb.Recv = a_name (λ o. a_name (λ r. that_is (recv o r)))
-form_of verb.Poll = a_name (λ o. that_is (poll o))
-form_of verb.Drop = a_name (λ x. that_is (drop x))
-form_of verb.Close = a_name (λ h. that_is (close h))
-form_of verb.IsTerminated = a_name (λ x. that_is (is_terminated x))
+form_of (verb.Message how) = a_name (λ s. a_number (λ m. that_is (sent_by how s m)))
+form_of verb.Send = a_name (λ o. a_name (λ s. a_number (λ m. that_is (say.send o s m))))
+form_of (verb.New what) = a_name (λ n. a_name (λ h. that_is (made_by what n h)))
+form_of (verb.One what) = a_name (λ x. that_is (done_to what x))
+form_of verb.SameChannel = a_name (λ a. a_name (λ b. that_is (say.same_channel a b)))

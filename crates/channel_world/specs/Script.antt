@@ -2,12 +2,12 @@
 use Rattle.std.specs.Prelude.{ℕ, ◌+◌, ◌*◌, ◌/◌, ◌^◌, ◌==◌, nat_lt, List, [], ◌∷◌, ◌++◌, length, false, not, Option, None, Some, Result, Ok, Err, codes, option_and_then, slice_get, if◌then◌else◌, zero, suc}
 use Rattle.std.specs.List.{list_all}
 use Rattle.std.specs.Option.{option_map_or, option_or}
-use Rattle.channel_world.specs.State.{State, start}
-use Rattle.channel_world.specs.Refusal.{refusal}
-use Rattle.channel_world.specs.Answer.{answer}
-use Rattle.channel_world.specs.Settling.{poll_of}
-use Rattle.channel_world.specs.Calls.{AnyCall}
-use Rattle.channel_world.specs.Replies.{AnyReply}
+use Rattle.channel_model.specs.State.{State, start}
+use Rattle.channel_model.specs.Refusal.{refusal}
+use Rattle.channel_model.specs.Answer.{answer}
+use Rattle.channel_model.specs.Settling.{poll_of}
+use Rattle.channel_model.specs.declared.call.Call.{Call}
+use Rattle.async_channel.specs.declared.reply.Reply.{Reply}
 use Rattle.channel_world.specs.Words.{lines_of}
 use Rattle.channel_world.specs.Command.{Command, settle, Opening, bounded, unbounded, parse, openings}
 use Rattle.channel_world.specs.Language.{Language, today}
@@ -17,9 +17,9 @@ use Rattle.channel_world.specs.Text.{reply_text, wakes_text, refused_text, settl
 use Rattle.channel_world.specs.declared.script.table.Sort.TheVariants as sort
 use Rattle.channel_world.specs.declared.script.end.ScriptEnd.{ScriptEnd}
 use Rattle.channel_world.specs.declared.script.end.ScriptEnd.TheVariants.{Done, Unreadable, Capacity, Memory, Fault}
-use Rattle.channel_world.specs.declared.name.Waiter.{Waiter}
-use Rattle.channel_world.specs.declared.error.WorldRefusal.{WorldRefusal}
-use Rattle.channel_world.specs.declared.error.WorldRefusal.TheVariants as why
+use Rattle.channel_model.specs.declared.name.Waiter.{Waiter}
+use Rattle.channel_model.specs.declared.refusal.WorldRefusal.{WorldRefusal}
+use Rattle.channel_model.specs.declared.refusal.WorldRefusal.TheVariants as why
 
 -- ---- one command
 
@@ -34,11 +34,11 @@ pub record Obeyed : Type 0 where
   pub line : List ℕ
 
 -- why this call of a command is refused whose names live and are of the right sort
-abbrev pub why_refused : Scene → Command → AnyCall ℕ → Option WorldRefusal
+abbrev pub why_refused : Scene → Command → Call ℕ → Option WorldRefusal
 why_refused scene command c =
     option_or (refusal scene.state c) (if is_given_before scene.table command then Some why.NameTaken else None)
 
-abbrev pub answered : Scene → Command → AnyCall ℕ → Obeyed
+abbrev pub answered : Scene → Command → Call ℕ → Obeyed
 answered scene command c =
     let a = answer scene.state c in
     record {
@@ -49,7 +49,7 @@ answered scene command c =
 -- ---- settling
 
 -- at most n polls, with the state after them
-abbrev pub settled : ℕ → State ℕ → List (Waiter × AnyReply ℕ) × State ℕ
+abbrev pub settled : ℕ → State ℕ → List (Waiter × Reply ℕ) × State ℕ
 settled zero s = ([], s)
 settled (suc n) s =
     option_map_or (λ (w : Waiter). let a = answer s (poll_of w) in let rest = settled n a.after in ((w, a.reply) ∷ rest.0, rest.1)) (slice_get s.waiting.woken 0) ([], s)
@@ -67,25 +67,21 @@ settles scene =
 
 -- ---- commands and scripts
 
--- the call of a command, if all names are of the right sort and the language has it
-abbrev pub call_in : Language → Table → Command → Option (AnyCall ℕ)
-call_in language table command = option_and_then (λ c. if language.has_call c then Some c else None) (call_of table command)
-
 -- The call of a command that is not refused; or the first of these reasons why it is: a used name that nothing living has;
 -- one of the wrong sort; what the world refuses; a new name that was given before.
-abbrev pub checked : Language → Scene → Command → Result (AnyCall ℕ) WorldRefusal
-checked language scene command =
+abbrev pub checked : Scene → Command → Result (Call ℕ) WorldRefusal
+checked scene command =
     if not (list_all (is_known scene.state.names scene.table) (used command)) then Err why.UnknownName
-    else option_map_or (λ c. option_map_or (λ w. Err w) (why_refused scene command c) (Ok c)) (call_in language scene.table command) (Err why.WrongKind)
+    else option_map_or (λ c. option_map_or (λ w. Err w) (why_refused scene command c) (Ok c)) (call_of scene.table command) (Err why.WrongKind)
 
 -- a refused command changes nothing, and gives no name
-abbrev pub obeyed_as : Scene → Command → Result (AnyCall ℕ) WorldRefusal → Obeyed
+abbrev pub obeyed_as : Scene → Command → Result (Call ℕ) WorldRefusal → Obeyed
 obeyed_as scene command (Ok c) = answered scene command c
 obeyed_as scene command (Err w) = record { after = scene; line = refused_text w }
 
-abbrev pub obeyed : Language → Scene → Command → Obeyed
-obeyed language scene settle = settles scene
-obeyed language scene command = obeyed_as scene command (checked language scene command)
+abbrev pub obeyed : Scene → Command → Obeyed
+obeyed scene settle = settles scene
+obeyed scene command = obeyed_as scene command (checked scene command)
 
 -- the reply lines of a script, and how it ends
 pub record Script : Type 0 where
@@ -100,13 +96,13 @@ replying_first line script = record script { replies = line ∷ script.replies }
 
 -- a line past the first 1,000,000 can't be read
 abbrev pub readable : Language → ℕ → List ℕ → Option Command
-readable language n line = if nat_lt 1000000 n then None else parse language.commands line
+readable language n line = if nat_lt 1000000 n then None else parse language line
 
 -- the rest of a script, whose next line has this number
 abbrev pub followed : Language → Scene → ℕ → List (List ℕ) → Script
 followed language scene n [] = ending Done
 followed language scene n (line ∷ lines) =
-    option_map_or (λ command. let o = obeyed language scene command in replying_first o.line (followed language o.after (n + 1) lines))
+    option_map_or (λ command. let o = obeyed scene command in replying_first o.line (followed language o.after (n + 1) lines))
     (readable language n line) (ending (Unreadable n))
 
 -- `s` is the first sender, `r` the first receiver

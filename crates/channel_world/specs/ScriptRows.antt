@@ -102,15 +102,15 @@ pub greatest_message : ran today (codes "bounded 1" ∷ codes "try_send s 184467
 unfolding digits
 greatest_message = refl
 
-pub not_read_yet : ran today (codes "bounded 1" ∷ codes "force_send s 1" ∷ [])
+pub not_read_yet : ran today (codes "bounded 1" ∷ codes "settle" ∷ [])
     ≡ (codes "ok" ∷ codes "line 2: can't be read" ∷ [], 2)
 unfolding digits
 not_read_yet = refl
 
-pub receiver_is_not_asked_yet_whether_its_stream_has_ended : ran today (codes "unbounded" ∷ codes "is_terminated r" ∷ [])
-    ≡ (codes "ok" ∷ codes "refused 7" ∷ [], 0)
+pub receiver_of_an_open_channel_is_not_terminated : ran today (codes "unbounded" ∷ codes "is_terminated r" ∷ codes "is_terminated s" ∷ [])
+    ≡ (codes "ok" ∷ codes "false" ∷ codes "refused 7" ∷ [], 0)
 unfolding digits
-receiver_is_not_asked_yet_whether_its_stream_has_ended = refl
+receiver_of_an_open_channel_is_not_terminated = refl
 
 pub untold_receive_takes_the_message : ran today (codes "unbounded" ∷ codes "recv a r" ∷ codes "recv b r" ∷ codes "recv c r" ∷ codes "poll a" ∷ codes "poll b" ∷ codes "poll c" ∷ codes "try_send s 1" ∷ codes "poll b" ∷ codes "poll a" ∷ codes "try_send s 2" ∷ codes "drop c" ∷ codes "poll a" ∷ codes "poll a" ∷ [])
     ≡ (codes "ok" ∷ codes "ok" ∷ codes "ok" ∷ codes "ok" ∷ codes "pending" ∷ codes "pending" ∷ codes "pending" ∷ codes "ok wakes a" ∷ codes "ok 1" ∷ codes "pending" ∷ codes "ok wakes c" ∷ codes "ok wakes a" ∷ codes "ok 2" ∷ codes "pending" ∷ [], 0)

@@ -4,8 +4,8 @@ use Rattle.std.specs.List.{position}
 use Rattle.std.specs.Option.{option_map, option_map_or}
 use Rattle.std.specs.Str.{bytes_eq}
 use Rattle.channel_world.specs.Words.{Name}
-use Rattle.channel_world.specs.declared.name.Waiter.{Waiter}
-use Rattle.channel_world.specs.declared.name.Waiter.TheVariants.{Op, Stream}
+use Rattle.channel_model.specs.declared.name.Waiter.{Waiter}
+use Rattle.channel_model.specs.declared.name.Waiter.TheVariants.{Op, Stream}
 use Rattle.channel_world.specs.declared.script.table.Sort.{Sort}
 use Rattle.channel_world.specs.declared.script.table.Sort.TheVariants as sort
 use Rattle.channel_world.specs.declared.script.table.Named.{Named}

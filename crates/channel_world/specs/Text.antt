@@ -2,15 +2,15 @@
 use Rattle.std.specs.Prelude.{ℕ, List, [], ◌∷◌, ◌++◌, length, Bool, true, false, None, Some, Ok, Err, codes}
 use Rattle.std.specs.List.{flat_map, join_by}
 use Rattle.std.specs.Fmt.{decimal}
-use Rattle.channel_world.specs.Replies.{AnyReply}
-use Rattle.channel_world.specs.Replies as reply
+use Rattle.async_channel.specs.declared.reply.Reply.{Reply}
+use Rattle.async_channel.specs.declared.reply.Reply.TheVariants as reply
 use Rattle.channel_world.specs.Table.{Table, waiter_name}
-use Rattle.channel_world.specs.declared.name.Waiter.{Waiter}
-use Rattle.channel_world.specs.declared.error.Refused.TheVariants.{Plain, NoMemory, SerialsUsedUp}
-use Rattle.channel_world.specs.declared.error.TrySendError.TheVariants as send_error
-use Rattle.channel_world.specs.declared.error.TryRecvError.TheVariants as recv_error
-use Rattle.channel_world.specs.declared.error.WorldRefusal.{WorldRefusal}
-use Rattle.channel_world.specs.declared.error.WorldRefusal.TheVariants as why
+use Rattle.channel_model.specs.declared.name.Waiter.{Waiter}
+use Rattle.async_channel.specs.declared.error.Refused.TheVariants.{Plain, NoMemory, SerialsUsedUp}
+use Rattle.async_channel.specs.declared.error.TrySendError.TheVariants as send_error
+use Rattle.async_channel.specs.declared.error.TryRecvError.TheVariants as recv_error
+use Rattle.channel_model.specs.declared.refusal.WorldRefusal.{WorldRefusal}
+use Rattle.channel_model.specs.declared.refusal.WorldRefusal.TheVariants as why
 use Rattle.futures.specs.declared.task.Poll.TheVariants.{Ready, Pending}
 
 abbrev pub yes_or_no : Bool → List ℕ
@@ -18,7 +18,7 @@ yes_or_no true = codes "true"
 yes_or_no false = codes "false"
 
 -- a reply that wants memory or serials has no text, since it ends the script
-abbrev pub reply_text : AnyReply ℕ → List ℕ
+abbrev pub reply_text : Reply ℕ → List ℕ
 reply_text (reply.TrySend (Ok u)) = codes "ok"
 reply_text (reply.TrySend (Err (Plain (send_error.Full m)))) = codes "full " ++ decimal m
 reply_text (reply.TrySend (Err (Plain (send_error.Closed m)))) = codes "closed " ++ decimal m
@@ -48,8 +48,22 @@ reply_text reply.Made = codes "ok"
 reply_text reply.NotMade = codes "none"
 reply_text reply.TooMany = codes "too many"
 reply_text (reply.GivenUp m) = codes "ok"
-reply_text reply.Gone = codes "ok"
+reply_text reply.Unit = codes "ok"
 reply_text wanting = []
+
+-- a reply of a try, or of a poll
+abbrev pub IsTry : Reply ℕ → Type 0
+IsTry (reply.TrySend r) = Unit {0}
+IsTry (reply.ForceSend r) = Unit {0}
+IsTry (reply.TryRecv r) = Unit {0}
+IsTry r = ⊥
+
+abbrev pub IsPoll : Reply ℕ → Type 0
+IsPoll (reply.SendPoll r) = Unit {0}
+IsPoll (reply.RecvPoll r) = Unit {0}
+IsPoll (reply.ClosedPoll r) = Unit {0}
+IsPoll (reply.Next r) = Unit {0}
+IsPoll r = ⊥
 
 -- the names that a call woke, after its reply
 abbrev pub wakes_text : Table → List Waiter → List ℕ
@@ -70,15 +84,15 @@ abbrev pub refused_text : WorldRefusal → List ℕ
 refused_text w = codes "refused " ++ decimal (refusal_number w)
 
 -- one poll of a settling, and all of them
-abbrev pub poll_text : Table → Waiter × AnyReply ℕ → List ℕ
+abbrev pub poll_text : Table → Waiter × Reply ℕ → List ℕ
 poll_text table p = waiter_name table p.0 ++ 32 ∷ reply_text p.1
 
-abbrev pub settle_text : Table → List (Waiter × AnyReply ℕ) → List ℕ
+abbrev pub settle_text : Table → List (Waiter × Reply ℕ) → List ℕ
 settle_text table [] = codes "polls 0"
 settle_text table (p ∷ ps) = codes "polls " ++ decimal (length (p ∷ ps)) ++ codes ": " ++ join_by (poll_text table) (codes ", ") (p ∷ ps)
 
 -- a reply says that memory or serials were refused
-abbrev pub wants_growth : AnyReply ℕ → Bool
+abbrev pub wants_growth : Reply ℕ → Bool
 wants_growth (reply.TrySend (Err (NoMemory m))) = true
 wants_growth (reply.TrySend (Err (SerialsUsedUp m))) = true
 wants_growth (reply.ForceSend (Err (NoMemory m))) = true

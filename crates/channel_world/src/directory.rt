@@ -1,8 +1,5 @@
 //! Tables of names.
-ghost use Rattle.std.specs.Prelude.{◌≡◌, None, Some};
-ghost use Rattle.channel_world.specs.declared.name.HandleId.{HandleId};
-
-use super::names::{Handle, Operation};
+use super::name::{Handle, HandleId};
 use lru::LruCache;
 use std::alloc::{AllocError, Global};
 use std::marker::Model;
@@ -28,7 +25,7 @@ impl<X> Model for Directory<X> {
 
 impl<X> Directory<X> {
     ghost use Rattle.std.specs.Prelude.{◌≡◌, ◌∷◌, [], false, option_copied, IfOk, IfErr, OnOk, OnErr};
-    ghost use Rattle.channel_world.specs.Names.{at, is_taken, with_new, without};
+    ghost use Rattle.channel_model.specs.Names.{at, is_taken, with_new, without};
 
     /// No name was taken.
     pub fn new(alloc: Global) -> Result<Directory<X>, AllocError>
@@ -87,40 +84,47 @@ impl<X> Directory<X> {
     }
 }
 
-impl<T> Directory<Operation<T>> {
-    ghost use Rattle.channel_world.specs.Names.{at, with_changed};
+impl<X: Drop> Directory<X> {
+    ghost use Rattle.std.specs.Prelude.{◌≡◌, false};
+    ghost use Rattle.std.specs.Bool.{OnTrue, OnFalse};
+    ghost use Rattle.channel_model.specs.Names.{is_taken, with_changed, with_spent};
 
-    /// Takes the message of an unfinished send, which is finished then.
-    pub fn take_message(&mut self, name: u32) -> Option<T>
-        ensures { (h : HandleId) (m : T) → at name self.old ≡ Some (Operation.Send h (Some m)) → (result ≡ Some m) × (self.new ≡ with_changed name (Operation.Send h None) self.old) }
+    /// A name that is new is taken, and nothing lives under it. False where memory was refused.
+    pub fn spend(&mut self, name: u32) -> bool
+        requires { is_taken name self.old ≡ false }
+        ensures ok { OnTrue result (self.new ≡ with_spent name self.old) }
+        ensures err { OnFalse result (self.new ≡ self.old) }
     {
-        match self.entries.peek_mut(&name) {
-            Some(place) => take_message_from(place),
-            None => None,
-        }
+        let _length = self.entries.len();
+        // The list is as long as memory allows, so nothing is ever pushed out of it.
+        let Ok(_none) = self.entries.push(name, None) else {
+            return false;
+        };
+        true
     }
-}
 
-/// Takes the message of an unfinished send.
-fn take_message_from<T>(place: &mut Option<Operation<T>>) -> Option<T>
-    ensures { (h : HandleId) (m : T) → place.old ≡ Some (Operation.Send h (Some m)) → (result ≡ Some m) × (place.new ≡ Some (Operation.Send h None)) }
-{
-    match place {
-        Some(operation) => operation.take_message(),
-        None => None,
+    /// What lives under the name, or lived there, is this from now on. A name that was never taken stays so.
+    pub fn set(&mut self, name: u32, x: X)
+        ensures { self.new ≡ with_changed name x self.old }
+    {
+        if let Some(place) = self.entries.peek_mut(&name) {
+            *place = Some(x);
+        }
     }
 }
 
 impl Directory<Handle> {
     ghost use Rattle.std.specs.Prelude.{◌≡◌};
-    ghost use Rattle.channel_world.specs.Names.{with_changed};
+    ghost use Rattle.channel_model.specs.Names.{given_back};
 
-    /// What lives under the name, or lived there, is this handle from now on.
-    pub fn set(&mut self, name: u32, handle: Handle)
-        ensures { self.new ≡ with_changed name handle self.old }
+    /// One live operation less borrows the handle.
+    pub fn give_back(&mut self, handle: HandleId)
+        ensures { self.new ≡ given_back handle self.old }
     {
-        if let Some(place) = self.entries.peek_mut(&name) {
-            *place = Some(handle);
+        if let Some(borrowed) = self.get(handle.0) {
+            let Handle { kind, borrowers } = *borrowed;
+            let borrowers = borrowers.saturating_sub(1);
+            self.set(handle.0, Handle { kind, borrowers });
         }
     }
 }

@@ -1,22 +1,23 @@
-//! A channel whose sends and receives are called one at a time, by names, with every reply and every waking said exactly.
+//! A channel whose calls are made one at a time, by names, with every reply and every waking said exactly.
+//!
+//! What is said stands in `channel_model`; the channel is that of `async_channel`, each call of it run to its end.
 #![tactic(auto)]
 
-mod answer;
-mod arrivals;
+mod asking;
+mod body;
 pub mod call;
+mod calling;
 mod directory;
-pub mod error;
-pub mod event_id;
-pub mod laws;
-mod lines;
+mod handling;
 pub mod name;
 mod names;
-mod parts;
-mod queues;
-pub mod reply;
+mod operations;
+mod pending;
+mod polling;
+mod refusal;
+mod room;
 mod run;
 pub mod script;
-mod space;
 mod standings;
 #[cfg(test)]
 mod tests;

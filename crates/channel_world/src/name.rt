@@ -1,31 +1,3 @@
 //! The names of handles and operations, and of whoever is woken.
 
-/// A handle by number: 0 is the first sender, 1 the first receiver.
-#[derive(Clone, Copy, Debug, PartialEq, Eq, Hash)]
-pub struct HandleId(pub u32);
-
-/// An operation by number.
-#[derive(Clone, Copy, Debug, PartialEq, Eq, Hash)]
-pub struct OpId(pub u32);
-
-/// A task that may be woken: that of an operation, or that of a receiver polled as a stream.
-#[derive(Clone, Copy, Debug, PartialEq, Eq, Hash)]
-pub enum Waiter {
-    /// That of an operation.
-    Op(OpId),
-    /// That of a receiver polled as a stream.
-    Stream(HandleId),
-}
-
-/// What a handle is. A strong one keeps its side of the channel alive, a weak one doesn't.
-#[derive(Clone, Copy, Debug, PartialEq, Eq)]
-pub enum HandleKind {
-    /// A strong handle that sends.
-    Sender,
-    /// A strong handle that receives.
-    Receiver,
-    /// A weak handle of the sending side.
-    WeakSender,
-    /// A weak handle of the receiving side.
-    WeakReceiver,
-}
+pub use channel_model::name::{Handle, HandleId, HandleKind, OpId, Waiter};

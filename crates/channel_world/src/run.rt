@@ -1,15 +1,13 @@
 //! Whole lists of calls.
-use super::call::Call;
-use super::error::WorldRefusal;
-use super::reply::{CallRun, Done, Stopped};
+use super::call::{Call, CallRun, Done, Stopped, WorldRefusal};
 use super::world::World;
 use std::collections::VecDeque;
 
 impl<T: Drop> World<T> {
     ghost use Rattle.std.specs.Prelude.{◌≡◌, ◌<◌, IfSome, IfNone, vec_len, vec_capacity};
     ghost use Rattle.std.specs.Option.{option_map};
-    ghost use Rattle.channel_world.specs.State.{at_rest};
-    ghost use Rattle.channel_world.specs.Run.{Runs, MayStop};
+    ghost use Rattle.channel_model.specs.State.{at_rest};
+    ghost use Rattle.channel_model.specs.Run.{Runs, MayStop};
 
     /// Why the list of calls stops at this one, if it does; where it doesn't, there is room for what it answers.
     fn stop(&self, call: &Call<T>, done: &mut Vec<Done<T>>) -> Option<WorldRefusal>

@@ -1,22 +1,23 @@
-//! How each pending name stands.
+//! How each name that waits stands.
 use super::name::Waiter;
-use super::queues::Line;
+use event_listener::key::Key;
 use lru::LruCache;
 use std::alloc::{AllocError, Global};
 use std::marker::Model;
 
-/// How a pending name stands.
+/// How a name stands: the key of the listener that it holds, and whether it was told.
+///
+/// A name that holds no key has a place that is kept for one.
 #[derive(Clone, Copy, Debug, PartialEq, Eq)]
-pub enum Standing {
-    /// In this line, untold.
-    Untold(Line),
-    /// Told, and so woken.
-    Woken,
+pub struct Standing {
+    pub key: Option<Key>,
+    pub is_woken: bool,
 }
 
-/// How each pending name stands, the woken in the order of their waking.
+/// How each name that waits stands, the woken in the order of their waking.
 ///
-/// Waking moves an entry that is there already, so it takes no memory.
+/// It is the kit's list of recent use: a name is found, moved and removed without a walk past the others. Each name has its
+/// place before it may be told, so telling takes no memory.
 #[derive(Drop)]
 pub struct Standings {
     entries: LruCache<Waiter, Standing>,
@@ -24,7 +25,7 @@ pub struct Standings {
 
 impl Model for Standings {
     ghost use Rattle.std.specs.Prelude.{◌≡◌, List, ◌-◌, ◌^◌};
-    ghost use Rattle.channel_world.specs.declared.name.Waiter.{Waiter};
+    ghost use Rattle.channel_model.specs.declared.name.Waiter.{Waiter};
     ghost use Rattle.channel_world.specs.declared.standings.Standing.{Standing};
 
     ghost Value = { List (Waiter × Standing) };
@@ -34,19 +35,14 @@ impl Model for Standings {
     ghost invariant = { λ s. s.entries.cap ≡ 2 ^ 64 - 1 };
 }
 
-ghost use Rattle.std.specs.Prelude.{◌≡◌};
-ghost use Rattle.channel_world.specs.Standings.{is_woken_stream};
-
 impl Standings {
-    ghost use Rattle.std.specs.List.{list_any};
-    ghost use Rattle.std.specs.Option.{option_map_or};
-    ghost use Rattle.channel_world.specs.Standings.{is_woken};
-    ghost use Rattle.std.specs.Prelude.{◌≡◌, [], ◌∷◌, ◌++◌, IfOk, OnOk, OnErr, IsSome, false};
-    ghost use Rattle.std.specs.List.{IsDistinct};
-    ghost use Rattle.std.specs.Map.{lookup, remove_entry, keys_of};
-    ghost use Rattle.channel_world.specs.Lines.{same_waiter};
+    ghost use Rattle.std.specs.Prelude.{◌≡◌, [], ◌∷◌, ◌++◌, length, IfOk, OnOk, OnErr, IsSome, true, false};
+    ghost use Rattle.channel_model.specs.Lines.{without};
+    ghost use Rattle.channel_model.specs.declared.name.Waiter.{Waiter};
+    ghost use Rattle.channel_refinement.specs.Shows.{with_held};
+    ghost use Rattle.channel_world.specs.Standings.{held_of, woken_of, has_place};
 
-    /// Nobody is pending.
+    /// Nobody waits.
     pub fn new(alloc: Global) -> Result<Standings, AllocError>
         ensures { IfOk result (λ s. s ≡ []) }
     {
@@ -54,69 +50,66 @@ impl Standings {
         Ok(Standings { entries })
     }
 
-    /// That nobody has two entries.
-    pub fn check_distinct(&self)
-        ensures { IsDistinct same_waiter (keys_of self.now) }
-    {
-        let _length = self.entries.len();
-    }
-
-    /// Whether w was told.
-    pub fn is_woken(&self, w: Waiter) -> bool
-        ensures { result ≡ option_map_or is_woken (lookup (same_waiter w) self.now) false }
+    /// The key that w holds.
+    pub fn key(&self, w: Waiter) -> Option<Key>
+        ensures { result ≡ held_of self.now w }
     {
         match self.entries.peek(&w) {
-            Some(Standing::Woken) => true,
-            _ => false,
+            Some(standing) => standing.key,
+            None => None,
         }
     }
 
-    /// w stands untold in this line; where memory was refused, nothing is changed.
-    pub fn stand(&mut self, w: Waiter, line: Line) -> Result<(), AllocError>
-        ensures ok { OnOk result (self.new ≡ (w, Standing.Untold line) ∷ remove_entry (same_waiter w) self.old) }
-        ensures err { OnErr result (self.new ≡ self.old) }
+    /// Makes sure of a place for w. Where memory was refused, nothing is changed.
+    pub fn keep_place(&mut self, w: Waiter) -> Result<(), AllocError>
+        ensures ok { OnOk result (has_place w self.new ≡ true) }
+        ensures held { (v : Waiter) → held_of self.new v ≡ held_of self.old v }
+        ensures woken { woken_of self.new ≡ woken_of self.old }
     {
         let _length = self.entries.len();
-        let Ok(_) = self.entries.put(w, Standing::Untold(line)) else {
+        if self.entries.contains(&w) {
+            return Ok(());
+        }
+        let standing = Standing {
+            key: None,
+            is_woken: false,
+        };
+        let Ok(_) = self.entries.put(w, standing) else {
             return Err(AllocError);
         };
         Ok(())
     }
 
-    /// w is woken, after all that were woken before.
+    /// w is woken, after all that were woken before. It has a place.
     pub fn wake(&mut self, w: Waiter)
-        requires { IsSome (lookup (same_waiter w) self.old) }
-        ensures { self.new ≡ remove_entry (same_waiter w) self.old ++ (w, Standing.Woken) ∷ [] }
+        ensures held { (v : Waiter) → held_of self.new v ≡ held_of self.old v }
+        ensures places { (v : Waiter) → has_place v self.new ≡ has_place v self.old }
+        ensures woken { has_place w self.old ≡ true → woken_of self.new ≡ without w (woken_of self.old) ++ w ∷ [] }
+        ensures nowhere { has_place w self.old ≡ false → woken_of self.new ≡ woken_of self.old }
     {
         let _length = self.entries.len();
         if let Some(standing) = self.entries.peek_mut(&w) {
-            *standing = Standing::Woken;
+            standing.is_woken = true;
         }
         let _moved = self.entries.demote(&w);
     }
 
-    /// w is pending no more.
-    pub fn remove(&mut self, w: Waiter)
-        ensures { self.new ≡ remove_entry (same_waiter w) self.old }
+    /// w holds this key, untold; or none, and waits no more.
+    pub fn settle(&mut self, w: Waiter, key: Option<Key>)
+        requires { IsSome key → has_place w self.old ≡ true }
+        ensures held { (v : Waiter) → held_of self.new v ≡ with_held w key (held_of self.old) v }
+        ensures woken { woken_of self.new ≡ without w (woken_of self.old) }
     {
-        let _removed = self.entries.pop(&w);
-    }
-
-    /// Whether a stream is woken. A walk over all, made only where a told stream leaves.
-    pub fn is_stream_woken(&self) -> bool
-        ensures { result ≡ list_any is_woken_stream self.now }
-    {
-        self.entries
-            .iter()
-            .any(|(w, standing)| is_woken_stream(*w, *standing))
-    }
-}
-
-fn is_woken_stream(w: Waiter, standing: Standing) -> bool
-    ensures { result ≡ is_woken_stream (w, standing) }
-{
-    match (standing, w) {
-        (Standing::Woken, Waiter::Stream(_)) => true,
-        _ => false,
+        let _length = self.entries.len();
+        if key.is_none() {
+            let _removed = self.entries.pop(&w);
+            return;
+        }
+        if let Some(standing) = self.entries.peek_mut(&w) {
+            *standing = Standing {
+                key,
+                is_woken: false,
+            };
+        }
     }
 }

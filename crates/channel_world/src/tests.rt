@@ -1,7 +1,12 @@
 //! What no contract says: that calls are answered while there is memory, what worked rows come to, and the texts of
-//! errors.
+//! refusals.
 
-mod errors;
+mod ask;
 mod memory;
+mod openings;
+mod receives;
+mod refusals;
 mod row;
-mod rows;
+mod said;
+mod sends;
+mod waits;

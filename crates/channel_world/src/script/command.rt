@@ -2,8 +2,8 @@
 ghost use Rattle.std.specs.Prelude.{◌≡◌, ◌==◌, ◌∷◌, length, option_copied};
 ghost use Rattle.std.specs.Option.{option_map};
 ghost use Rattle.channel_world.specs.Words.{words_after};
-ghost use Rattle.channel_world.specs.Command.{openings, parse, parsed, read, that_is, for_word};
-ghost use Rattle.channel_world.specs.Language.{commands_today};
+ghost use Rattle.channel_world.specs.Command.{openings, parse, parsed, read, that_is, for_word, message_commands, operation_commands, handle_commands, question_commands};
+ghost use Rattle.channel_world.specs.Language.{today};
 ghost use Rattle.channel_world.specs.Said.{said, said_first, form_of};
 
 use super::words::{first_word, next_name, next_number};
@@ -20,81 +20,208 @@ pub enum Opening {
     Unbounded,
 }
 
-/// A command, with the names and the message that it gives. The name of a new operation is `op`.
+/// A send that doesn't wait.
+#[derive(Clone, Copy)]
+pub enum Sending {
+    /// It is refused where the channel is full.
+    Try,
+    /// It displaces the oldest message of a full channel.
+    Force,
+}
+
+/// A question to a strong handle.
+#[derive(Clone, Copy)]
+pub enum Question {
+    IsClosed,
+    IsEmpty,
+    IsFull,
+    Len,
+    Capacity,
+    SenderCount,
+    ReceiverCount,
+}
+
+/// What is done to the one name that a command gives.
+#[derive(Clone, Copy)]
+pub enum Doing {
+    TryRecv,
+    Next,
+    Poll,
+    Drop,
+    Close,
+    IsTerminated,
+    Ask(Question),
+}
+
+/// What is made through a handle under a new name.
+#[derive(Clone, Copy)]
+pub enum Making {
+    /// A receive.
+    Recv,
+    /// A wait for the closing.
+    Closed,
+    /// A handle of the same kind.
+    Clone,
+    /// A weak handle from a strong one.
+    Downgrade,
+    /// A strong handle from a weak one.
+    Upgrade,
+}
+
+/// A command, with the names and the message that it gives.
 #[derive(Clone, Copy)]
 pub enum Command<'a> {
-    TrySend {
+    /// A send that doesn't wait.
+    Message {
+        sending: Sending,
         sender: &'a [u8],
         msg: u64,
     },
-    TryRecv {
-        receiver: &'a [u8],
-    },
+    /// A new send `op`.
     Send {
         op: &'a [u8],
         sender: &'a [u8],
         msg: u64,
     },
-    Recv {
-        op: &'a [u8],
-        receiver: &'a [u8],
-    },
-    Poll {
-        op: &'a [u8],
-    },
-    Drop {
-        name: &'a [u8],
-    },
-    Close {
+    /// Something else that is new.
+    New {
+        making: Making,
+        new: &'a [u8],
         handle: &'a [u8],
     },
-    IsTerminated {
+    /// What is done to one name.
+    One {
+        doing: Doing,
         name: &'a [u8],
+    },
+    /// Whether two handles are of the same channel.
+    SameChannel {
+        a: &'a [u8],
+        b: &'a [u8],
     },
 }
 
 /// The first word of a command.
 #[derive(Clone, Copy)]
 enum Verb {
-    TrySend,
-    TryRecv,
+    Message(Sending),
     Send,
-    Recv,
-    Poll,
-    Drop,
-    Close,
-    IsTerminated,
+    New(Making),
+    One(Doing),
+    SameChannel,
 }
 
-/// The verb that is spelled so.
-fn verb_spelled(word: &[u8]) -> Option<Verb>
-    ensures { option_map form_of result ≡ for_word word.now commands_today }
+/// The verb of a message that is spelled so.
+fn message_verb(word: &[u8]) -> Option<Verb>
+    ensures { option_map form_of result ≡ for_word word.now message_commands }
 {
     if word == b"try_send".as_slice() {
-        return Some(Verb::TrySend);
+        return Some(Verb::Message(Sending::Try));
+    }
+    if word == b"force_send".as_slice() {
+        return Some(Verb::Message(Sending::Force));
     }
     if word == b"try_recv".as_slice() {
-        return Some(Verb::TryRecv);
+        return Some(Verb::One(Doing::TryRecv));
     }
+    if word == b"next".as_slice() {
+        return Some(Verb::One(Doing::Next));
+    }
+    None
+}
+
+/// The verb of an operation that is spelled so.
+fn operation_verb(word: &[u8]) -> Option<Verb>
+    ensures { option_map form_of result ≡ for_word word.now operation_commands }
+{
     if word == b"send".as_slice() {
         return Some(Verb::Send);
     }
     if word == b"recv".as_slice() {
-        return Some(Verb::Recv);
+        return Some(Verb::New(Making::Recv));
+    }
+    if word == b"closed".as_slice() {
+        return Some(Verb::New(Making::Closed));
     }
     if word == b"poll".as_slice() {
-        return Some(Verb::Poll);
-    }
-    if word == b"drop".as_slice() {
-        return Some(Verb::Drop);
-    }
-    if word == b"close".as_slice() {
-        return Some(Verb::Close);
+        return Some(Verb::One(Doing::Poll));
     }
     if word == b"is_terminated".as_slice() {
-        return Some(Verb::IsTerminated);
+        return Some(Verb::One(Doing::IsTerminated));
     }
     None
+}
+
+/// The verb of a handle that is spelled so.
+fn handle_verb(word: &[u8]) -> Option<Verb>
+    ensures { option_map form_of result ≡ for_word word.now handle_commands }
+{
+    if word == b"drop".as_slice() {
+        return Some(Verb::One(Doing::Drop));
+    }
+    if word == b"close".as_slice() {
+        return Some(Verb::One(Doing::Close));
+    }
+    if word == b"clone".as_slice() {
+        return Some(Verb::New(Making::Clone));
+    }
+    if word == b"downgrade".as_slice() {
+        return Some(Verb::New(Making::Downgrade));
+    }
+    if word == b"upgrade".as_slice() {
+        return Some(Verb::New(Making::Upgrade));
+    }
+    if word == b"same_channel".as_slice() {
+        return Some(Verb::SameChannel);
+    }
+    None
+}
+
+/// The question that is spelled so.
+fn question_spelled(word: &[u8]) -> Option<Question>
+    ensures { option_map (λ q. form_of (Verb.One (Doing.Ask q))) result ≡ for_word word.now question_commands }
+{
+    if word == b"is_closed".as_slice() {
+        return Some(Question::IsClosed);
+    }
+    if word == b"is_empty".as_slice() {
+        return Some(Question::IsEmpty);
+    }
+    if word == b"is_full".as_slice() {
+        return Some(Question::IsFull);
+    }
+    if word == b"len".as_slice() {
+        return Some(Question::Len);
+    }
+    if word == b"capacity".as_slice() {
+        return Some(Question::Capacity);
+    }
+    if word == b"sender_count".as_slice() {
+        return Some(Question::SenderCount);
+    }
+    if word == b"receiver_count".as_slice() {
+        return Some(Question::ReceiverCount);
+    }
+    None
+}
+
+/// The verb that is spelled so.
+fn verb_spelled(word: &[u8]) -> Option<Verb>
+    ensures { option_map form_of result ≡ for_word word.now today }
+{
+    if let Some(verb) = message_verb(word) {
+        return Some(verb);
+    }
+    if let Some(verb) = operation_verb(word) {
+        return Some(verb);
+    }
+    if let Some(verb) = handle_verb(word) {
+        return Some(verb);
+    }
+    match question_spelled(word) {
+        Some(question) => Some(Verb::One(Doing::Ask(question))),
+        None => None,
+    }
 }
 
 /// Whether a line has no more words.
@@ -120,37 +247,47 @@ fn complete<'a>(verb: Verb, rest: Option<&'a [u8]>) -> Option<Command<'a>>
 {
     let (name, rest) = next_name(rest)?;
     match verb {
-        Verb::TryRecv => whole(Command::TryRecv { receiver: name }, rest),
-        Verb::Poll => whole(Command::Poll { op: name }, rest),
-        Verb::Drop => whole(Command::Drop { name }, rest),
-        Verb::Close => whole(Command::Close { handle: name }, rest),
-        Verb::IsTerminated => whole(Command::IsTerminated { name }, rest),
-        Verb::TrySend => {
+        Verb::One(doing) => whole(Command::One { doing, name }, rest),
+        Verb::Message(sending) => {
             let (msg, rest) = next_number(rest)?;
-            whole(Command::TrySend { sender: name, msg }, rest)
-        }
-        Verb::Recv => {
-            let (receiver, rest) = next_name(rest)?;
-            whole(Command::Recv { op: name, receiver }, rest)
-        }
-        Verb::Send => {
-            let (sender, rest) = next_name(rest)?;
-            let (msg, rest) = next_number(rest)?;
+            let sender = name;
             whole(
-                Command::Send {
-                    op: name,
+                Command::Message {
+                    sending,
                     sender,
                     msg,
                 },
                 rest,
             )
         }
+        Verb::New(making) => {
+            let (handle, rest) = next_name(rest)?;
+            let new = name;
+            whole(
+                Command::New {
+                    making,
+                    new,
+                    handle,
+                },
+                rest,
+            )
+        }
+        Verb::Send => {
+            let (sender, rest) = next_name(rest)?;
+            let (msg, rest) = next_number(rest)?;
+            let op = name;
+            whole(Command::Send { op, sender, msg }, rest)
+        }
+        Verb::SameChannel => {
+            let (b, rest) = next_name(rest)?;
+            whole(Command::SameChannel { a: name, b }, rest)
+        }
     }
 }
 
 /// The command that a line says; None where it can't be read.
 pub fn parse_line(line: &[u8]) -> Option<Command<'_>>
-    ensures { option_map said result ≡ parse commands_today line.entry.now }
+    ensures { option_map said result ≡ parse today line.entry.now }
 {
     if line.len() > LINE_LIMIT {
         return None;

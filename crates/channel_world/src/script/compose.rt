@@ -1,7 +1,7 @@
 //! Scripts, from bytes to bytes.
 ghost use Rattle.std.specs.Prelude.{◌≡◌, ◌≤◌, ◌<◌, ◌^◌, ◌++◌, ◌∷◌, [], length, Some, None, IfOk, OnOk, OnErr, OnSome, IfSome};
 ghost use Rattle.std.specs.Option.{option_map};
-ghost use Rattle.channel_world.specs.State.{start, at_rest};
+ghost use Rattle.channel_model.specs.State.{start, at_rest};
 ghost use Rattle.channel_world.specs.Words.{lines_of};
 ghost use Rattle.channel_world.specs.Language.{today};
 ghost use Rattle.channel_world.specs.Said.{said, scene_of};
@@ -13,8 +13,8 @@ use super::end::ScriptEnd;
 use super::scene::Scene;
 use super::table::{Sort, Table};
 use super::words::first_line;
-use crate::event_id::EventIds;
 use crate::world::World;
+use event_listener::id::EventIds;
 use std::alloc::{AllocError, Global};
 
 /// A script has at most this many lines.

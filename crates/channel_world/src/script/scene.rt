@@ -1,22 +1,21 @@
 //! One command of a script.
 ghost use Rattle.std.specs.Prelude.{◌≡◌, ◌<◌, ◌≤◌, ◌+◌, ◌^◌, ◌∷◌, [], ℕ, length, false, Ok, Err, IfOk, IfErr, OnOk, option_and_then, option_copied};
-ghost use Rattle.std.specs.Option.{option_map};
-ghost use Rattle.channel_world.specs.State.{at_rest};
-ghost use Rattle.channel_world.specs.Refusal.{refusal};
-ghost use Rattle.channel_world.specs.Today.{any_call};
-ghost use Rattle.channel_world.specs.Language.{today};
+ghost use Rattle.std.specs.Option.{option_map, option_to_list};
+ghost use Rattle.std.specs.List.{list_all};
+ghost use Rattle.channel_model.specs.State.{at_rest};
+ghost use Rattle.channel_model.specs.Refusal.{refusal};
 ghost use Rattle.channel_world.specs.Table.{named_in};
-ghost use Rattle.channel_world.specs.Asked.{used, given, lives, is_known, is_given_before, with_given, handle_of, op_of};
-ghost use Rattle.channel_world.specs.Script.{call_in, checked, answered, obeyed};
-ghost use Rattle.channel_world.specs.Said.{said, scene_of};
+ghost use Rattle.channel_world.specs.Asked.{used, given, lives, is_known, is_given_before, with_given, handle_of, question_call, call_of};
+ghost use Rattle.channel_world.specs.Script.{checked, answered, obeyed};
+ghost use Rattle.channel_world.specs.Said.{said, scene_of, asked_as, sort_of, sending_call, making_call, handle_call, op_call};
 
-use super::command::Command;
+use super::command::{Command, Doing, Making, Question, Sending};
 use super::table::{Named, Sort, Table};
 use super::text::{answer_line, refused_line};
-use crate::call::Call;
-use crate::error::WorldRefusal;
-use crate::name::{HandleId, OpId};
 use crate::world::World;
+use channel_model::call::Call;
+use channel_model::name::{HandleId, OpId};
+use channel_model::refusal::WorldRefusal;
 use std::alloc::{AllocError, Global};
 
 /// A channel, and the names that its script gave.
@@ -26,16 +25,25 @@ pub struct Scene<'a> {
     pub table: Table<'a>,
 }
 
-/// The name that a command uses.
-fn used<'a>(command: &Command<'a>) -> &'a [u8]
-    ensures { result.now ∷ [] ≡ used (said command.now) }
+/// The name that a command uses first, and the one after it, if it uses two.
+fn used<'a>(command: &Command<'a>) -> (&'a [u8], Option<&'a [u8]>)
+    ensures { result.0.now ∷ option_to_list (option_copied result.1) ≡ used (said command.now) }
 {
     match command {
-        Command::TrySend { sender, .. } | Command::Send { sender, .. } => sender,
-        Command::TryRecv { receiver } | Command::Recv { receiver, .. } => receiver,
-        Command::Poll { op } => op,
-        Command::Drop { name } | Command::IsTerminated { name } => name,
-        Command::Close { handle } => handle,
+        Command::Message { sender, .. } | Command::Send { sender, .. } => (sender, None),
+        Command::New { handle, .. } => (handle, None),
+        Command::One { name, .. } => (name, None),
+        Command::SameChannel { a, b } => (a, Some(*b)),
+    }
+}
+
+/// What is made under a new name.
+fn sort_of(making: Making) -> Sort
+    ensures { result ≡ sort_of making }
+{
+    match making {
+        Making::Recv | Making::Closed => Sort::Op,
+        Making::Clone | Making::Downgrade | Making::Upgrade => Sort::Handle,
     }
 }
 
@@ -44,7 +52,8 @@ fn given<'a>(command: &Command<'a>) -> Option<(&'a [u8], Sort)>
     ensures { option_map (λ n. (n.0.now, n.1)) result ≡ given (said command.now) }
 {
     match command {
-        Command::Send { op, .. } | Command::Recv { op, .. } => Some((op, Sort::Op)),
+        Command::Send { op, .. } => Some((op, Sort::Op)),
+        Command::New { making, new, .. } => Some((new, sort_of(*making))),
         _ => None,
     }
 }
@@ -71,59 +80,116 @@ fn handle_named(table: &Table<'_>, name: &[u8]) -> Option<HandleId>
     }
 }
 
-/// The operation of a name.
-fn op_named(table: &Table<'_>, name: &[u8]) -> Option<OpId>
-    ensures { result ≡ option_and_then op_of (named_in table.now name.now) }
+/// A send that doesn't wait.
+fn sending_call(sending: Sending, sender: HandleId, msg: u64) -> Call<u64>
+    ensures { result ≡ sending_call sending sender msg }
 {
-    match table.get(name) {
-        Some(Named::Op(op)) => Some(op),
-        Some(Named::Handle(_)) | None => None,
+    match sending {
+        Sending::Try => Call::TrySend { sender, msg },
+        Sending::Force => Call::ForceSend { sender, msg },
+    }
+}
+
+/// What makes an operation or a handle of this number.
+fn making_call(making: Making, number: u32, handle: HandleId) -> Call<u64>
+    ensures { result ≡ making_call making number handle }
+{
+    let op = OpId(number);
+    let new = HandleId(number);
+    match making {
+        Making::Recv => Call::NewRecv {
+            op,
+            receiver: handle,
+        },
+        Making::Closed => Call::NewClosed { op, sender: handle },
+        Making::Clone => Call::TryClone { handle, new },
+        Making::Downgrade => Call::Downgrade { handle, new },
+        Making::Upgrade => Call::Upgrade { weak: handle, new },
+    }
+}
+
+/// A question to a handle.
+fn question_call(question: Question, handle: HandleId) -> Call<u64>
+    ensures { result ≡ question_call (asked_as question) handle }
+{
+    match question {
+        Question::IsClosed => Call::IsClosed { handle },
+        Question::IsEmpty => Call::IsEmpty { handle },
+        Question::IsFull => Call::IsFull { handle },
+        Question::Len => Call::Len { handle },
+        Question::Capacity => Call::Capacity { handle },
+        Question::SenderCount => Call::SenderCount { handle },
+        Question::ReceiverCount => Call::ReceiverCount { handle },
+    }
+}
+
+/// What is done to a handle; None where it is done to operations alone.
+fn handle_call(doing: Doing, handle: HandleId) -> Option<Call<u64>>
+    ensures { result ≡ handle_call doing handle }
+{
+    match doing {
+        Doing::TryRecv => Some(Call::TryRecv { receiver: handle }),
+        Doing::Next => Some(Call::PollNext { receiver: handle }),
+        Doing::Poll => None,
+        Doing::Drop => Some(Call::Drop { handle }),
+        Doing::Close => Some(Call::Close { handle }),
+        Doing::IsTerminated => Some(Call::StreamIsTerminated { receiver: handle }),
+        Doing::Ask(question) => Some(question_call(question, handle)),
+    }
+}
+
+/// What is done to an operation; None where it is done to handles alone.
+fn op_call(doing: Doing, op: OpId) -> Option<Call<u64>>
+    ensures { result ≡ op_call doing op }
+{
+    match doing {
+        Doing::Poll => Some(Call::Poll { op }),
+        Doing::Drop => Some(Call::GiveUp { op }),
+        Doing::IsTerminated => Some(Call::SendIsTerminated { op }),
+        Doing::TryRecv | Doing::Next | Doing::Close | Doing::Ask(_) => None,
     }
 }
 
 /// The call of a command; None where a name is of the wrong sort.
 fn call_of(table: &Table<'_>, command: &Command<'_>) -> Option<Call<u64>>
     requires { length table.now < 2 ^ 32 }
-    ensures { option_map any_call result ≡ call_in today table.now (said command.now) }
+    ensures { result ≡ call_of table.now (said command.now) }
 {
-    let op = table.next_op();
     match command {
-        Command::TrySend { sender, msg } => {
+        Command::Message {
+            sending,
+            sender,
+            msg,
+        } => {
             let sender = handle_named(table, sender)?;
-            Some(Call::TrySend { sender, msg: *msg })
-        }
-        Command::TryRecv { receiver } => {
-            let receiver = handle_named(table, receiver)?;
-            Some(Call::TryRecv { receiver })
+            Some(sending_call(*sending, sender, *msg))
         }
         Command::Send { op: _, sender, msg } => {
             let sender = handle_named(table, sender)?;
+            let op = OpId(table.next());
             Some(Call::NewSend {
                 op,
                 sender,
                 msg: *msg,
             })
         }
-        Command::Recv { op: _, receiver } => {
-            let receiver = handle_named(table, receiver)?;
-            Some(Call::NewRecv { op, receiver })
-        }
-        Command::Poll { op } => {
-            let op = op_named(table, op)?;
-            Some(Call::Poll { op })
-        }
-        Command::Drop { name } => match table.get(name)? {
-            Named::Handle(handle) => Some(Call::Drop { handle }),
-            Named::Op(op) => Some(Call::GiveUp { op }),
-        },
-        Command::Close { handle } => {
+        Command::New {
+            making,
+            new: _,
+            handle,
+        } => {
             let handle = handle_named(table, handle)?;
-            Some(Call::Close { handle })
+            Some(making_call(*making, table.next(), handle))
         }
-        Command::IsTerminated { name } => match table.get(name)? {
-            Named::Handle(_) => None,
-            Named::Op(op) => Some(Call::SendIsTerminated { op }),
+        Command::One { doing, name } => match table.get(name)? {
+            Named::Handle(handle) => handle_call(*doing, handle),
+            Named::Op(op) => op_call(*doing, op),
         },
+        Command::SameChannel { a, b } => {
+            let a = handle_named(table, a)?;
+            let b = handle_named(table, b)?;
+            Some(Call::SameChannel { a, b })
+        }
     }
 }
 
@@ -135,6 +201,17 @@ impl<'a> Scene<'a> {
         match self.table.get(name) {
             Some(named) => lives(&self.world, named),
             None => false,
+        }
+    }
+
+    /// Whether all names that a command uses were given to something that lives.
+    fn are_known(&self, command: &Command<'_>) -> bool
+        ensures { result ≡ list_all (is_known (at_rest self.now.world).names self.now.table) (used (said command.now)) }
+    {
+        let (first, second) = used(command);
+        match second {
+            Some(second) => self.is_known(first) && self.is_known(second),
+            None => self.is_known(first),
         }
     }
 
@@ -151,12 +228,12 @@ impl<'a> Scene<'a> {
     /// The call of a command that is not refused; or the first reason why it is.
     fn check(&self, command: &Command<'_>) -> Result<Call<u64>, WorldRefusal>
         requires { length self.now.table < 2 ^ 32 }
-        ensures call { IfOk result (λ c. checked today (scene_of self.now) (said command.now) ≡ Ok (any_call c)) }
-        ensures why { IfErr result (λ w. checked today (scene_of self.now) (said command.now) ≡ Err w) }
-        ensures accepted { IfOk result (λ c. refusal (at_rest self.now.world) (any_call c) ≡ None) }
+        ensures call { IfOk result (λ c. checked (scene_of self.now) (said command.now) ≡ Ok c) }
+        ensures why { IfErr result (λ w. checked (scene_of self.now) (said command.now) ≡ Err w) }
+        ensures accepted { IfOk result (λ c. refusal (at_rest self.now.world) c ≡ None) }
         ensures new { OnOk result (is_given_before self.now.table (said command.now) ≡ false) }
     {
-        if !self.is_known(used(command)) {
+        if !self.are_known(command) {
             return Err(WorldRefusal::UnknownName);
         }
         let Some(call) = call_of(&self.table, command) else {
@@ -191,10 +268,10 @@ impl<'a> Scene<'a> {
         command: &Command<'a>,
         call: Call<u64>,
     ) -> Result<Vec<u8>, AllocError>
-        requires accepted { refusal (at_rest self.old.world) (any_call call) ≡ None }
+        requires accepted { refusal (at_rest self.old.world) call ≡ None }
         requires new { is_given_before self.old.table (said command.now) ≡ false }
         requires few { length self.old.table < 2 ^ 32 }
-        ensures { IfOk result (λ line. record { after = scene_of self.new; line = line.items } ≡ answered (scene_of self.old) (said command.now) (any_call call)) }
+        ensures { IfOk result (λ line. record { after = scene_of self.new; line = line.items } ≡ answered (scene_of self.old) (said command.now) call) }
     {
         let Ok(done) = self.world.answer(call) else {
             return Err(AllocError);
@@ -208,7 +285,7 @@ impl<'a> Scene<'a> {
     /// scene.
     pub fn obey(&mut self, alloc: Global, command: &Command<'a>) -> Result<Vec<u8>, AllocError>
         requires few { length self.old.table < 2 ^ 32 }
-        ensures line { IfOk result (λ line. record { after = scene_of self.new; line = line.items } ≡ obeyed today (scene_of self.old) (said command.now)) }
+        ensures line { IfOk result (λ line. record { after = scene_of self.new; line = line.items } ≡ obeyed (scene_of self.old) (said command.now)) }
         ensures names { OnOk result (length self.new.table ≤ length self.old.table + 1) }
     {
         match self.check(command) {

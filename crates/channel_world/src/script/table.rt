@@ -2,7 +2,7 @@
 ghost use Rattle.std.specs.Prelude.{◌≡◌};
 ghost use Rattle.channel_world.specs.Table.{numbered};
 
-use crate::name::{HandleId, OpId, Waiter};
+use channel_model::name::{HandleId, OpId, Waiter};
 use std::alloc::{AllocError, Global};
 use std::collections::HashMap;
 use std::marker::Model;
@@ -66,7 +66,6 @@ impl<'a> Model for Table<'a> {
 impl<'a> Table<'a> {
     ghost use Rattle.std.specs.Prelude.{◌≡◌, ◌<◌, ◌^◌, ◌++◌, ◌∷◌, [], length, None, is_some, OnOk};
     ghost use Rattle.channel_world.specs.Table.{number_in, named_in, waiter_name};
-    ghost use Rattle.channel_world.specs.Asked.{new_op};
 
     /// No names.
     pub fn new(alloc: Global) -> Table<'a>
@@ -98,12 +97,12 @@ impl<'a> Table<'a> {
         self.numbers.contains_key(name)
     }
 
-    /// The number of the next operation.
-    pub fn next_op(&self) -> OpId
+    /// The number of the next operation or handle.
+    pub fn next(&self) -> u32
         requires { length self.now < 2 ^ 32 }
-        ensures { result ≡ new_op self.now }
+        ensures { result ≡ length self.now }
     {
-        OpId(self.entries.len() as u32)
+        self.entries.len() as u32
     }
 
     /// Gives a new name. Where memory is refused nothing is known of the table.

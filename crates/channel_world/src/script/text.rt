@@ -1,50 +1,80 @@
 //! Reply lines.
 ghost use Rattle.std.specs.Prelude.{◌≡◌, ◌++◌, false, IfOk, OnOk, string_bytes};
-ghost use Rattle.channel_world.specs.Text.{reply_text, wakes_text, refused_text, refusal_number, wants_growth};
-ghost use Rattle.channel_world.specs.Today.{any_reply};
+ghost use Rattle.channel_world.specs.Text.{reply_text, wakes_text, refused_text, refusal_number, wants_growth, IsTry, IsPoll};
 
 use super::table::Table;
-use crate::error::{Refused, SendError, TryRecvError, TrySendError, WorldRefusal};
-use crate::name::Waiter;
-use crate::reply::{Done, Reply};
+use async_channel::error::{Refused, SendError, TryRecvError, TrySendError};
+use async_channel::reply::Reply;
+use channel_model::name::Waiter;
+use channel_model::refusal::WorldRefusal;
+use channel_model::run::Done;
 use futures::task::Poll;
 use std::alloc::{AllocError, Global};
 
-/// The text of a reply; none where the call was refused memory or serials.
-fn reply_text(alloc: Global, reply: &Reply<u64>) -> Result<String, AllocError>
-    ensures text { IfOk result (λ line. string_bytes line ≡ reply_text (any_reply reply.now)) }
-    ensures whole { OnOk result (wants_growth (any_reply reply.now) ≡ false) }
+/// The text of a try to send, or to receive.
+fn try_text(alloc: Global, reply: &Reply<u64>) -> Result<String, AllocError>
+    requires { IsTry reply.now }
+    ensures text { IfOk result (λ line. string_bytes line ≡ reply_text reply.now) }
+    ensures whole { OnOk result (wants_growth reply.now ≡ false) }
 {
     match reply {
-        Reply::TrySend(Ok(_)) => String::from_str(alloc, "ok"),
+        Reply::TrySend(Ok(_)) | Reply::ForceSend(Ok(None)) => String::from_str(alloc, "ok"),
         Reply::TrySend(Err(Refused::Plain(TrySendError::Full(msg)))) => {
             format!(in alloc; "full {msg}")
         }
         Reply::TrySend(Err(Refused::Plain(TrySendError::Closed(msg)))) => {
             format!(in alloc; "closed {msg}")
         }
-        Reply::TrySend(Err(Refused::NoMemory(_) | Refused::SerialsUsedUp(_))) => Err(AllocError),
+        Reply::ForceSend(Ok(Some(msg))) => format!(in alloc; "ok displaced {msg}"),
+        Reply::ForceSend(Err(Refused::Plain(SendError(msg)))) => format!(in alloc; "closed {msg}"),
         Reply::TryRecv(Ok(msg)) => format!(in alloc; "ok {msg}"),
         Reply::TryRecv(Err(TryRecvError::Empty)) => String::from_str(alloc, "empty"),
         Reply::TryRecv(Err(TryRecvError::Closed)) => String::from_str(alloc, "closed"),
+        _ => Err(AllocError),
+    }
+}
+
+/// The text of a poll.
+fn poll_text(alloc: Global, reply: &Reply<u64>) -> Result<String, AllocError>
+    requires { IsPoll reply.now }
+    ensures text { IfOk result (λ line. string_bytes line ≡ reply_text reply.now) }
+    ensures whole { OnOk result (wants_growth reply.now ≡ false) }
+{
+    match reply {
+        Reply::SendPoll(Poll::Pending) | Reply::RecvPoll(Poll::Pending) => {
+            String::from_str(alloc, "pending")
+        }
+        Reply::ClosedPoll(Poll::Pending) | Reply::Next(Poll::Pending) => {
+            String::from_str(alloc, "pending")
+        }
         Reply::SendPoll(Poll::Ready(Ok(_))) => String::from_str(alloc, "ok"),
         Reply::SendPoll(Poll::Ready(Err(Refused::Plain(SendError(msg))))) => {
             format!(in alloc; "closed {msg}")
         }
-        Reply::SendPoll(Poll::Ready(Err(Refused::NoMemory(_) | Refused::SerialsUsedUp(_)))) => {
-            Err(AllocError)
-        }
         Reply::RecvPoll(Poll::Ready(Ok(msg))) => format!(in alloc; "ok {msg}"),
         Reply::RecvPoll(Poll::Ready(Err(Refused::Plain(_)))) => String::from_str(alloc, "closed"),
-        Reply::RecvPoll(Poll::Ready(Err(Refused::NoMemory(_) | Refused::SerialsUsedUp(_)))) => {
-            Err(AllocError)
-        }
-        Reply::SendPoll(Poll::Pending) | Reply::RecvPoll(Poll::Pending) => {
-            String::from_str(alloc, "pending")
-        }
+        Reply::ClosedPoll(Poll::Ready(Ok(_))) => String::from_str(alloc, "ready"),
+        Reply::Next(Poll::Ready(None)) => String::from_str(alloc, "none"),
+        Reply::Next(Poll::Ready(Some(Ok(msg)))) => format!(in alloc; "some {msg}"),
+        _ => Err(AllocError),
+    }
+}
+
+/// The text of a reply; none where the call was refused memory or serials.
+fn reply_text(alloc: Global, reply: &Reply<u64>) -> Result<String, AllocError>
+    ensures text { IfOk result (λ line. string_bytes line ≡ reply_text reply.now) }
+    ensures whole { OnOk result (wants_growth reply.now ≡ false) }
+{
+    match reply {
+        Reply::TrySend(_) | Reply::ForceSend(_) | Reply::TryRecv(_) => try_text(alloc, reply),
+        Reply::SendPoll(_) | Reply::RecvPoll(_) => poll_text(alloc, reply),
+        Reply::ClosedPoll(_) | Reply::Next(_) => poll_text(alloc, reply),
         Reply::Closed(true) | Reply::Flag(true) => String::from_str(alloc, "true"),
         Reply::Closed(false) | Reply::Flag(false) => String::from_str(alloc, "false"),
+        Reply::Count(number) | Reply::Cap(Some(number)) => format!(in alloc; "{number}"),
+        Reply::Cap(None) | Reply::NotMade => String::from_str(alloc, "none"),
         Reply::Made | Reply::GivenUp(_) | Reply::Unit => String::from_str(alloc, "ok"),
+        Reply::TooMany => String::from_str(alloc, "too many"),
     }
 }
 
@@ -69,8 +99,8 @@ pub fn answer_line(
     table: &Table<'_>,
     done: &Done<u64>,
 ) -> Result<Vec<u8>, AllocError>
-    ensures text { IfOk result (λ line. line.items ≡ reply_text (any_reply done.now.reply) ++ wakes_text table.now done.now.woken.items) }
-    ensures whole { OnOk result (wants_growth (any_reply done.now.reply) ≡ false) }
+    ensures text { IfOk result (λ line. line.items ≡ reply_text done.now.reply ++ wakes_text table.now done.now.woken.items) }
+    ensures whole { OnOk result (wants_growth done.now.reply ≡ false) }
 {
     let mut line = reply_text(alloc, &done.reply)?.into_bytes();
     add_wakes(table, done.woken.as_slice(), &mut line)?;

@@ -1,19 +1,13 @@
 //! Refused growths.
-use super::row::wants_memory;
-use crate::call::Call;
-use crate::error::WorldRefusal;
-use crate::event_id::EventIds;
-use crate::name::{HandleId, OpId, Waiter};
-use crate::reply::{CallRun, Reply};
+use super::ask::{Ask, call};
+use super::said::{Said, says};
+use crate::call::{CallRun, WorldRefusal};
+use crate::name::{OpId, Waiter};
 use crate::world::World;
-use futures::task::Poll;
+use event_listener::id::EventIds;
 use std::collections::VecDeque;
 use std::process::Abort;
 use std::test::Fail;
-
-const S: HandleId = HandleId(0);
-
-const R: HandleId = HandleId(1);
 
 /// How many receives wait at once.
 const COUNT: u32 = 12;
@@ -21,32 +15,10 @@ const COUNT: u32 = 12;
 /// Whether a growth was refused in the run of one call.
 fn was_refused(run: &CallRun<u64>) -> bool {
     match run.done.first() {
-        Some(done) => wants_memory(&done.reply),
+        Some(done) => says(&done.reply) == Said::NoMemory,
         None => run
             .stopped
             .is_some_and(|stopped| stopped.why == WorldRefusal::NoMemory),
-    }
-}
-
-/// A call that can be made again.
-#[derive(Clone, Copy)]
-enum Ask {
-    Recv(OpId),
-    Send(OpId, u64),
-    Poll(OpId),
-    GiveUp(OpId),
-    TrySend(u64),
-    TryRecv,
-}
-
-fn call(ask: Ask) -> Call<u64> {
-    match ask {
-        Ask::Recv(op) => Call::NewRecv { op, receiver: R },
-        Ask::Send(op, msg) => Call::NewSend { op, sender: S, msg },
-        Ask::Poll(op) => Call::Poll { op },
-        Ask::GiveUp(op) => Call::GiveUp { op },
-        Ask::TrySend(msg) => Call::TrySend { sender: S, msg },
-        Ask::TryRecv => Call::TryRecv { receiver: R },
     }
 }
 
@@ -55,7 +27,7 @@ fn show(
     rt: &(impl AllocGlobal + Abort),
     world: &mut World<u64>,
     ask: Ask,
-    reply: Reply<u64>,
+    said: Said,
     woken: &[Waiter],
 ) -> Result<(), Fail> {
     let mut calls = VecDeque::new(rt.alloc());
@@ -71,7 +43,7 @@ fn show(
     }
     assert!(rt; calls.is_empty());
     assert_eq!(rt; run.done.len(), 1);
-    assert_eq!(rt; run.done[0].reply, reply);
+    assert_eq!(rt; says(&run.done[0].reply), said);
     assert_eq!(rt; run.done[0].woken.as_slice(), woken);
     Ok(())
 }
@@ -80,9 +52,8 @@ fn show(
 fn wait_all(rt: &(impl AllocGlobal + Abort), world: &mut World<u64>) -> Result<(), Fail> {
     for number in 0..COUNT {
         let op = OpId(number);
-        show(rt, world, Ask::Recv(op), Reply::Made, &[])?;
-        let pending = Reply::RecvPoll(Poll::Pending);
-        show(rt, world, Ask::Poll(op), pending, &[])?;
+        show(rt, world, Ask::Recv(op), Said::Made, &[])?;
+        show(rt, world, Ask::Poll(op), Said::Pending, &[])?;
     }
     Ok(())
 }
@@ -91,8 +62,8 @@ fn wait_all(rt: &(impl AllocGlobal + Abort), world: &mut World<u64>) -> Result<(
 fn send_all(rt: &(impl AllocGlobal + Abort), world: &mut World<u64>) -> Result<(), Fail> {
     for number in 0..COUNT {
         let next = [Waiter::Op(OpId(number))];
-        let accepted = Reply::TrySend(Ok(()));
-        show(rt, world, Ask::TrySend(u64::from(number)), accepted, &next)?;
+        let ask = Ask::TrySend(u64::from(number));
+        show(rt, world, ask, Said::Sent, &next)?;
     }
     Ok(())
 }
@@ -100,7 +71,7 @@ fn send_all(rt: &(impl AllocGlobal + Abort), world: &mut World<u64>) -> Result<(
 /// Each receive gets its message.
 fn receive_all(rt: &(impl AllocGlobal + Abort), world: &mut World<u64>) -> Result<(), Fail> {
     for number in 0..COUNT {
-        let received = Reply::RecvPoll(Poll::Ready(Ok(u64::from(number))));
+        let received = Said::Received(u64::from(number));
         show(rt, world, Ask::Poll(OpId(number)), received, &[])?;
     }
     Ok(())
@@ -110,16 +81,10 @@ fn receive_all(rt: &(impl AllocGlobal + Abort), world: &mut World<u64>) -> Resul
 fn finish_all(rt: &(impl AllocGlobal + Abort), world: &mut World<u64>) -> Result<(), Fail> {
     for number in COUNT..2 * COUNT {
         let op = OpId(number);
-        let sent = Reply::SendPoll(Poll::Ready(Ok(())));
-        show(
-            rt,
-            world,
-            Ask::Send(op, u64::from(number)),
-            Reply::Made,
-            &[],
-        )?;
-        show(rt, world, Ask::Poll(op), sent, &[])?;
-        show(rt, world, Ask::GiveUp(op), Reply::GivenUp(None), &[])?;
+        let ask = Ask::Send(op, u64::from(number));
+        show(rt, world, ask, Said::Made, &[])?;
+        show(rt, world, Ask::Poll(op), Said::Sent, &[])?;
+        show(rt, world, Ask::GiveUp(op), Said::GivenUp(None), &[])?;
     }
     Ok(())
 }
@@ -127,7 +92,7 @@ fn finish_all(rt: &(impl AllocGlobal + Abort), world: &mut World<u64>) -> Result
 /// All messages are taken, in order.
 fn take_all(rt: &(impl AllocGlobal + Abort), world: &mut World<u64>) -> Result<(), Fail> {
     for number in COUNT..2 * COUNT {
-        let received = Reply::TryRecv(Ok(u64::from(number)));
+        let received = Said::Received(u64::from(number));
         show(rt, world, Ask::TryRecv, received, &[])?;
     }
     Ok(())

@@ -1,73 +1,71 @@
-//! Calls, and the answers that they are to get.
-use crate::call::Call;
-use crate::error::{NoMemory, Refused, WorldRefusal};
+//! Calls, and what they are to answer.
+use super::ask::{Ask, call};
+use super::said::{Said, says};
+use crate::call::{CallRun, WorldRefusal};
 use crate::name::Waiter;
-use crate::reply::Reply;
 use crate::world::World;
-use futures::task::Poll;
+use std::alloc::AllocError;
 use std::collections::VecDeque;
 use std::process::Abort;
 use std::test::Fail;
 
-/// A call, and the answer that it is to get.
-#[derive(Drop)]
+/// A call, and what it is to answer.
+#[derive(Clone, Copy)]
 pub struct Row<'a> {
-    call: Call<u64>,
-    reply: Reply<u64>,
+    ask: Ask,
+    said: Said,
     woken: &'a [Waiter],
 }
 
 /// A call that is to wake nobody.
-pub fn quiet(call: Call<u64>, reply: Reply<u64>) -> Row<'static> {
+pub fn quiet(ask: Ask, said: Said) -> Row<'static> {
     Row {
-        call,
-        reply,
+        ask,
+        said,
         woken: &[],
     }
 }
 
 /// A call that is to wake these, in order.
-pub fn waking(call: Call<u64>, reply: Reply<u64>, woken: &[Waiter]) -> Row<'_> {
-    Row { call, reply, woken }
+pub fn waking(ask: Ask, said: Said, woken: &[Waiter]) -> Row<'_> {
+    Row { ask, said, woken }
 }
 
-/// Whether the reply says that memory was refused.
-pub fn wants_memory(reply: &Reply<u64>) -> bool {
-    matches!(
-        reply,
-        Reply::TrySend(Err(Refused::NoMemory(_)))
-            | Reply::SendPoll(Poll::Ready(Err(Refused::NoMemory(_))))
-            | Reply::RecvPoll(Poll::Ready(Err(Refused::NoMemory(_))))
-    )
+/// Compares each answer. A growth that was refused ends this by its name, after the rows before were compared.
+fn compare(
+    rt: &(impl AllocGlobal + Abort),
+    run: &CallRun<u64>,
+    rows: &[Row<'_>],
+) -> Result<(), Fail> {
+    for (done, row) in run.done.iter().zip(rows.iter()) {
+        let said = says(&done.reply);
+        if said == Said::NoMemory && said != row.said {
+            return Err(Fail::from(AllocError));
+        }
+        assert_eq!(rt; said, row.said);
+        assert_eq!(rt; done.woken.as_slice(), row.woken);
+    }
+    Ok(())
 }
 
-/// Makes the calls of all rows as one list, and compares each answer. A growth that was refused ends this by its name,
-/// after the rows before were compared.
+/// Makes the calls of all rows as one list, and compares each answer.
 pub fn run_rows(
     rt: &(impl AllocGlobal + Abort),
     world: &mut World<u64>,
-    rows: Vec<Row<'_>>,
+    rows: &[Row<'_>],
 ) -> Result<(), Fail> {
     let mut calls = VecDeque::new(rt.alloc());
-    let mut answers = Vec::new(rt.alloc());
     for row in rows {
-        calls.push_back(row.call)?;
-        answers.push((row.reply, row.woken))?;
+        calls.push_back(call(row.ask))?;
     }
     let run = world.run_calls(&mut calls);
-    for (done, (reply, woken)) in run.done.iter().zip(answers.iter()) {
-        if wants_memory(&done.reply) && done.reply != *reply {
-            return Err(Fail::from(NoMemory));
-        }
-        assert_eq!(rt; done.reply, *reply);
-        assert_eq!(rt; done.woken.as_slice(), *woken);
-    }
+    compare(rt, &run, rows)?;
     if let Some(stopped) = run.stopped {
         assert_eq!(rt; stopped.why, WorldRefusal::NoMemory);
         assert_eq!(rt; stopped.place, run.done.len());
-        return Err(Fail::from(NoMemory));
+        return Err(Fail::from(AllocError));
     }
-    assert_eq!(rt; run.done.len(), answers.len());
+    assert_eq!(rt; run.done.len(), rows.len());
     assert!(rt; calls.is_empty());
     Ok(())
 }
@@ -76,11 +74,11 @@ pub fn run_rows(
 pub fn run_refused(
     rt: &(impl AllocGlobal + Abort),
     world: &mut World<u64>,
-    call: Call<u64>,
+    ask: Ask,
     why: WorldRefusal,
 ) -> Result<(), Fail> {
     let mut calls = VecDeque::new(rt.alloc());
-    calls.push_back(call)?;
+    calls.push_back(call(ask))?;
     let run = world.run_calls(&mut calls);
     assert_eq!(rt;
         run.stopped.map(|stopped| (stopped.place, stopped.why)),

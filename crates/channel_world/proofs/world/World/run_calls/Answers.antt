@@ -1,8 +1,7 @@
 use Rattle.std.proofs.Common.{◌≡◌, Some, None, ◌∷◌, ◌++◌, [], rules, refl, ap, ◌∙◌}
 use Rattle.std.specs.Option.{option_to_list}
-use Rattle.channel_world.specs.Refusal.{refusal}
-use Rattle.channel_world.specs.Today.{any_call}
-use Rattle.channel_world.proofs.RunLemmas.{goes_on_empty, stop_in_front, stop_at_end, run_ends, run_ends_full, goes_on_by}
+use Rattle.channel_model.specs.Refusal.{refusal}
+use Rattle.channel_model.proofs.RunLemmas.{goes_on_empty, stop_in_front, stop_at_end, run_ends, run_ends_full, goes_on_by}
 use Rattle.channel_world.proofs.world.World.run_calls.Goals as goal
 
 pub loop-call-init : goal.loop-call-init
@@ -17,14 +16,14 @@ returns-in-Some-stop-clause-run g c =
 pub loop-call-preserved : goal.loop-call-preserved
 loop-call-preserved g c =
     let in_front : c.loop-call.calls.items ≡ c.unwrap-call.result ∷ c.pop_front.new.self.items = c.pop_front.ensures.items ∙ ap (λ o. option_to_list o ++ c.pop_front.new.self.items) c.unwrap-call.ensures in
-    let accepted : refusal c.loop-call.self (any_call c.unwrap-call.result) ≡ None = search rules in
+    let accepted : refusal c.loop-call.self c.unwrap-call.result ≡ None = search rules in
     goes_on_by c.unwrap-call.result c.in-Ok.answer c.loop-call.invariant in_front accepted c.in-Ok.ensures.ok
     (c.push_reserved.ensures.items ∙ ap (λ ds. ds ++ c.in-Ok.answer ∷ []) c.stop.ensures.items)
 
 pub returns-in-Err-clause-run : goal.returns-in-Err-clause-run
 returns-in-Err-clause-run g c =
     let in_front : c.loop-call.calls.items ≡ c.unwrap-call.result ∷ c.pop_front.new.self.items = c.pop_front.ensures.items ∙ ap (λ o. option_to_list o ++ c.pop_front.new.self.items) c.unwrap-call.ensures in
-    let accepted : refusal c.loop-call.self (any_call c.unwrap-call.result) ≡ None = search rules in
+    let accepted : refusal c.loop-call.self c.unwrap-call.result ≡ None = search rules in
     let back : c.push_front_reserved.new.self.items ≡ c.unwrap-call.result ∷ c.pop_front.new.self.items = c.push_front_reserved.ensures.items ∙ ap (λ x. x ∷ c.pop_front.new.self.items) c.in-Err.ensures.back in
     run_ends_full c.unwrap-call.result c.loop-call.invariant in_front accepted c.stop.ensures.items back c.in-Err.ensures.err
 

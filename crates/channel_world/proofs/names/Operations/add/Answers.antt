@@ -1,7 +1,0 @@
-use Rattle.std.proofs.Common.{◌∙◌, ap, sym}
-use Rattle.channel_world.specs.Names.{is_taken}
-use Rattle.channel_world.proofs.NameLemmas.{taken_any}
-use Rattle.channel_world.proofs.names.Operations.add.Goals as goal
-
-pub add-requires : goal.add-requires
-add-requires g c = sym (taken_any c.args.name c.self.inside.names) ∙ (ap (is_taken c.args.name) c.self.view_is ∙ c.requires)

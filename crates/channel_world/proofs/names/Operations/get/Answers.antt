@@ -1,9 +1,0 @@
-use Rattle.std.proofs.Common.{◌∙◌, ap, sym}
-use Rattle.std.specs.Option.{option_map}
-use Rattle.channel_world.specs.Names.{at}
-use Rattle.channel_world.specs.Today.{any_operation}
-use Rattle.channel_world.proofs.NameLemmas.{at_any}
-use Rattle.channel_world.proofs.names.Operations.get.Goals as goal
-
-pub returns : goal.returns
-returns g c = ap (option_map any_operation) c.get.ensures ∙ (sym (at_any c.args.name c.self.inside.names) ∙ ap (at c.args.name) c.self.view_is)

@@ -1,0 +1,213 @@
+//! Which calls are refused, and why.
+use super::body::Body;
+use super::call::{Call, WorldRefusal};
+use super::name::{HandleId, HandleKind, OpId};
+use async_channel::stage::Line;
+
+impl<T> Body<T> {
+    ghost use Rattle.std.specs.Prelude.{◌≡◌, is_some};
+    ghost use Rattle.std.specs.List.{list_all};
+    ghost use Rattle.channel_model.specs.Names.{at};
+    ghost use Rattle.channel_model.specs.Refusal.{refusal, uses, is_live, is_fit, are_fit, handles_are_alike, takes_borrowed, is_borrowed, names_taken};
+    ghost use Rattle.channel_model.specs.Refusal as want;
+    ghost use Rattle.channel_world.specs.Body.{names_of, state_of};
+
+    fn is_handle(&self, handle: HandleId) -> bool
+        ensures { result ≡ is_some (at handle.0 self.now.handles) }
+    {
+        self.handles.get(handle.0).is_some()
+    }
+
+    fn is_operation(&self, op: OpId) -> bool
+        ensures { result ≡ is_some (at op.0 self.now.operations) }
+    {
+        self.operations.get(op.0).is_some()
+    }
+
+    fn is_sender(&self, handle: HandleId) -> bool
+        ensures { result ≡ is_fit (names_of self.now) (handle.0, want.a_sender) }
+    {
+        match self.handles.get(handle.0) {
+            Some(handle) => handle.kind == HandleKind::Sender,
+            None => false,
+        }
+    }
+
+    fn is_receiver(&self, handle: HandleId) -> bool
+        ensures { result ≡ is_fit (names_of self.now) (handle.0, want.a_receiver) }
+    {
+        match self.handles.get(handle.0) {
+            Some(handle) => handle.kind == HandleKind::Receiver,
+            None => false,
+        }
+    }
+
+    fn is_strong(&self, handle: HandleId) -> bool
+        ensures { result ≡ is_fit (names_of self.now) (handle.0, want.a_strong_handle) }
+    {
+        match self.handles.get(handle.0) {
+            Some(handle) => {
+                handle.kind == HandleKind::Sender || handle.kind == HandleKind::Receiver
+            }
+            None => false,
+        }
+    }
+
+    fn is_weak(&self, handle: HandleId) -> bool
+        ensures { result ≡ is_fit (names_of self.now) (handle.0, want.a_weak_handle) }
+    {
+        match self.handles.get(handle.0) {
+            Some(handle) => {
+                handle.kind == HandleKind::WeakSender || handle.kind == HandleKind::WeakReceiver
+            }
+            None => false,
+        }
+    }
+
+    fn is_send(&self, op: OpId) -> bool
+        ensures { result ≡ is_fit (names_of self.now) (op.0, want.a_send) }
+    {
+        match self.operations.line(op.0) {
+            Some(line) => line == Line::Sends,
+            None => false,
+        }
+    }
+
+    /// Whether these are two senders or two receivers.
+    fn are_alike(&self, a: HandleId, b: HandleId) -> bool
+        ensures { result ≡ handles_are_alike (names_of self.now) a.0 b.0 }
+    {
+        let (Some(a), Some(b)) = (self.handles.get(a.0), self.handles.get(b.0)) else {
+            return false;
+        };
+        match (a.kind, b.kind) {
+            (HandleKind::Sender, HandleKind::Sender)
+            | (HandleKind::Receiver, HandleKind::Receiver) => true,
+            _ => false,
+        }
+    }
+
+    /// Whether a live operation borrows the handle.
+    fn is_borrowed(&self, handle: HandleId) -> bool
+        ensures { result ≡ is_borrowed handle.0 (names_of self.now) }
+    {
+        match self.handles.get(handle.0) {
+            Some(handle) => 0 < handle.borrowers,
+            None => false,
+        }
+    }
+
+    /// Whether all used names of the call live.
+    #[tactic(auto, using(crate::proofs::RefusalLemmas::and_true))]
+    fn is_live(&self, call: &Call<T>) -> bool
+        ensures { result ≡ list_all (is_live (names_of self.now)) (uses call.now) }
+    {
+        match call {
+            Call::NewSend { sender: handle, .. }
+            | Call::NewClosed { sender: handle, .. }
+            | Call::TrySend { sender: handle, .. }
+            | Call::ForceSend { sender: handle, .. }
+            | Call::NewRecv {
+                receiver: handle,
+                ..
+            }
+            | Call::PollNext { receiver: handle }
+            | Call::StreamIsTerminated { receiver: handle }
+            | Call::TryRecv { receiver: handle }
+            | Call::Close { handle }
+            | Call::Drop { handle }
+            | Call::TryClone { handle, .. }
+            | Call::Downgrade { handle, .. }
+            | Call::Upgrade { weak: handle, .. }
+            | Call::IsClosed { handle }
+            | Call::IsEmpty { handle }
+            | Call::IsFull { handle }
+            | Call::Len { handle }
+            | Call::Capacity { handle }
+            | Call::SenderCount { handle }
+            | Call::ReceiverCount { handle } => self.is_handle(*handle),
+            Call::SameChannel { a, b } => self.is_handle(*a) && self.is_handle(*b),
+            Call::Poll { op }
+            | Call::PollRefused { op }
+            | Call::GiveUp { op }
+            | Call::SendIsTerminated { op } => self.is_operation(*op),
+        }
+    }
+
+    /// Whether what lives under the used names of the call is of the kind that it wants.
+    #[tactic(auto, using(crate::proofs::RefusalLemmas::and_true))]
+    fn are_fit(&self, call: &Call<T>) -> bool
+        ensures { result ≡ are_fit (names_of self.now) call.now }
+    {
+        match call {
+            Call::NewSend { sender, .. }
+            | Call::NewClosed { sender, .. }
+            | Call::TrySend { sender, .. }
+            | Call::ForceSend { sender, .. } => self.is_sender(*sender),
+            Call::NewRecv { receiver, .. }
+            | Call::PollNext { receiver }
+            | Call::StreamIsTerminated { receiver }
+            | Call::TryRecv { receiver } => self.is_receiver(*receiver),
+            Call::Close { handle }
+            | Call::Downgrade { handle, .. }
+            | Call::IsClosed { handle }
+            | Call::IsEmpty { handle }
+            | Call::IsFull { handle }
+            | Call::Len { handle }
+            | Call::Capacity { handle }
+            | Call::SenderCount { handle }
+            | Call::ReceiverCount { handle } => self.is_strong(*handle),
+            Call::Drop { handle } | Call::TryClone { handle, .. } => self.is_handle(*handle),
+            Call::Upgrade { weak, .. } => self.is_weak(*weak),
+            Call::SameChannel { a, b } => self.are_alike(*a, *b),
+            Call::Poll { op } | Call::PollRefused { op } | Call::GiveUp { op } => {
+                self.is_operation(*op)
+            }
+            Call::SendIsTerminated { op } => self.is_send(*op),
+        }
+    }
+
+    /// Whether the call takes a handle whole that a live operation borrows.
+    fn takes_borrowed(&self, call: &Call<T>) -> bool
+        ensures { result ≡ takes_borrowed (names_of self.now) call.now }
+    {
+        match call {
+            Call::Drop { handle } => self.is_borrowed(*handle),
+            Call::PollNext { receiver } => self.is_borrowed(*receiver),
+            _ => false,
+        }
+    }
+
+    /// Whether the new name of the call was taken before.
+    fn names_taken(&self, call: &Call<T>) -> bool
+        ensures { result ≡ names_taken (names_of self.now) call.now }
+    {
+        match call {
+            Call::NewSend { op, .. } | Call::NewRecv { op, .. } | Call::NewClosed { op, .. } => {
+                self.operations.is_taken(op.0)
+            }
+            Call::TryClone { new, .. } | Call::Downgrade { new, .. } | Call::Upgrade { new, .. } =>
+                { self.handles.is_taken(new.0) }
+            _ => false,
+        }
+    }
+
+    /// Why the call is refused, room for its answer aside.
+    pub(crate) fn refusal(&self, call: &Call<T>) -> Option<WorldRefusal>
+        ensures { result ≡ refusal (state_of self.now) call.now }
+    {
+        if !self.is_live(call) {
+            return Some(WorldRefusal::UnknownName);
+        }
+        if !self.are_fit(call) {
+            return Some(WorldRefusal::WrongKind);
+        }
+        if self.takes_borrowed(call) {
+            return Some(WorldRefusal::Borrowed);
+        }
+        if self.names_taken(call) {
+            return Some(WorldRefusal::NameTaken);
+        }
+        None
+    }
+}
