@@ -1,7 +1,6 @@
 //! Texts that end early, because a growth was refused.
-use channel_world::error::NoMemory;
 use channel_world::script::ScriptEnd;
-use std::alloc::Global;
+use std::alloc::{AllocError, Global};
 use std::process::Abort;
 use std::test::Fail;
 
@@ -39,7 +38,7 @@ pub fn check(
 ) -> Result<(), Fail> {
     if ended == ScriptEnd::Memory && end != ScriptEnd::Memory {
         assert!(rt; is_cut(held, text) && held.ends_with(LAST_LINE), "{what}");
-        return Err(Fail::from(NoMemory));
+        return Err(Fail::from(AllocError));
     }
     assert_eq!(rt; ended, end, "{what}");
     assert_eq!(rt; held, text, "{what}");
@@ -58,7 +57,7 @@ pub fn check_front(
     let front = text.get(..limit).unwrap_or(text);
     if held != front && is_cut(held, text) {
         assert!(rt; ended == ScriptEnd::Memory || ended == ScriptEnd::Fault);
-        return Err(Fail::from(NoMemory));
+        return Err(Fail::from(AllocError));
     }
     assert_eq!(rt; ended, ScriptEnd::Fault, "after {limit} bytes");
     assert_eq!(rt; held, front, "after {limit} bytes");

@@ -121,7 +121,7 @@ fn what_cannot_be_read(rt: HostRuntime) -> Result<(), Fail> {
     // not read yet
     show(
         &rt,
-        "bounded 1\nforce_send s 1\n",
+        "bounded 1\nsettle\n",
         "ok\nline 2: can't be read\n",
         ScriptEnd::Unreadable { line: 2 },
     )?;
@@ -179,13 +179,6 @@ fn polled_operations(rt: HostRuntime) -> Result<(), Fail> {
         "ok\nok\nok\nok\npending\npending\nok wakes a\npending\nok 1 wakes c b\n",
         ScriptEnd::Done,
     )?;
-    // receiver is not asked yet whether its stream has ended
-    show(
-        &rt,
-        "unbounded\nis_terminated r\n",
-        "ok\nrefused 7\n",
-        ScriptEnd::Done,
-    )?;
     // untold receive takes the message
     show(
         &rt,
@@ -219,6 +212,100 @@ fn polled_operations(rt: HostRuntime) -> Result<(), Fail> {
         &rt,
         "bounded 2\ntry_send s 1\ntry_send s 2\nsend a s 3\nsend b s 4\npoll a\npoll b\ntry_recv r\ntry_recv r\n",
         "ok\nok\nok\nok\nok\npending\npending\nok 1 wakes a\nok 2 wakes b\n",
+        ScriptEnd::Done,
+    )?;
+    Ok(())
+}
+
+#[test]
+fn streams_and_notices_of_the_closing(rt: HostRuntime) -> Result<(), Fail> {
+    // closing wakes a receive, a stream and a notice
+    show(
+        &rt,
+        "unbounded\nclone q r\nrecv a r\nclosed c s\npoll a\nnext q\npoll c\nclose s\npoll a\nnext q\npoll c\n",
+        "ok\nok\nok\nok\npending\npending\npending\ntrue wakes a q c\nclosed\nnone\nready\n",
+        ScriptEnd::Done,
+    )?;
+    // last receiver dropped with its stream pending
+    show(
+        &rt,
+        "unbounded\nsend a s 1\nclosed c s\npoll c\nnext r\ndrop r\npoll a\npoll c\n",
+        "ok\nok\nok\npending\npending\nok wakes r c\nclosed 1\nready\n",
+        ScriptEnd::Done,
+    )?;
+    // told streams dropped
+    show(
+        &rt,
+        "unbounded\nclone p r\nclone q r\nnext r\nnext p\nnext q\ntry_send s 1\ntry_recv r\nnext q\ndrop r\ndrop p\ndrop q\n",
+        "ok\nok\nok\npending\npending\npending\nok wakes r p q\nok 1\npending\nok\nok wakes q\nok\n",
+        ScriptEnd::Done,
+    )?;
+    // told send accepted
+    show(
+        &rt,
+        "bounded 1\nclone q r\ntry_send s 1\nsend a s 2\nsend b s 3\npoll a\npoll b\ntry_recv r\nrecv c r\npoll c\nnext q\npoll a\n",
+        "ok\nok\nok\nok\nok\npending\npending\nok 1 wakes a\nok\npending\npending\nok wakes c q b\n",
+        ScriptEnd::Done,
+    )?;
+    // closing tells all lines
+    show(
+        &rt,
+        "bounded 1\nclone q r\nclosed e s\ntry_send s 1\nsend a s 2\nsend b s 3\npoll a\npoll b\ntry_recv r\nrecv c r\npoll e\nnext q\npoll c\nclose r\npoll b\npoll a\n",
+        "ok\nok\nok\nok\nok\nok\npending\npending\nok 1 wakes a\nok\npending\npending\npending\ntrue wakes b c q e\nclosed 3\nclosed 2\n",
+        ScriptEnd::Done,
+    )?;
+    Ok(())
+}
+
+#[test]
+fn handles_and_questions(rt: HostRuntime) -> Result<(), Fail> {
+    // upgrade of a closed channel
+    show(
+        &rt,
+        "unbounded\ndowngrade w s\nclose s\nupgrade t w\nupgrade t w\nsender_count t\nsender_count s\n",
+        "ok\nok\ntrue\nnone\nrefused 4\nrefused 3\n1\n",
+        ScriptEnd::Done,
+    )?;
+    // clone of a weak handle
+    show(
+        &rt,
+        "unbounded\ndowngrade w r\nclone v w\nupgrade t v\nreceiver_count t\n",
+        "ok\nok\nok\nok\n2\n",
+        ScriptEnd::Done,
+    )?;
+    // displacing tells no send
+    show(
+        &rt,
+        "bounded 1\nrecv a r\nrecv b r\npoll a\npoll b\ntry_send s 1\nsend c s 2\npoll c\nforce_send s 3\ntry_recv r\n",
+        "ok\nok\nok\npending\npending\nok wakes a\nok\npending\nok displaced 1 wakes b\nok 3 wakes c\n",
+        ScriptEnd::Done,
+    )?;
+    // one name space
+    show(
+        &rt,
+        "unbounded\nrecv a r\nclone a r\nsend s s 1\npoll s\ntry_send a 1\nsame_channel x a\nsend a x 1\nsend a r 1\nrecv z z\nsame_channel s r\nnext s\ndrop r\nsend r a 1\ndrop a\npoll a\nrecv a r\n",
+        "ok\nok\nrefused 4\nrefused 4\nrefused 7\nrefused 7\nrefused 3\nrefused 3\nrefused 7\nrefused 3\nrefused 7\nrefused 7\nrefused 6\nrefused 7\nok\nrefused 3\nrefused 4\n",
+        ScriptEnd::Done,
+    )?;
+    // upgrades count, weak drops do not
+    show(
+        &rt,
+        "unbounded\ndowngrade w r\ndowngrade v s\nupgrade u w\nupgrade t v\nreceiver_count s\nsender_count r\ndrop w\ndrop v\nreceiver_count s\nsender_count r\ndrop r\nis_closed s\ndrop u\nis_closed s\n",
+        "ok\nok\nok\nok\nok\n2\n2\nok\nok\n2\n2\nok\nfalse\nok\ntrue\n",
+        ScriptEnd::Done,
+    )?;
+    // closed before full
+    show(
+        &rt,
+        "bounded 1\ntry_send s 1\nclose s\ntry_send s 2\nforce_send s 3\nsend a s 4\nis_terminated a\npoll a\nis_terminated a\nis_terminated r\ntry_recv r\nis_terminated r\n",
+        "ok\nok\ntrue\nclosed 2\nclosed 3\nok\nfalse\nclosed 4\ntrue\nfalse\nok 1\ntrue\n",
+        ScriptEnd::Done,
+    )?;
+    // questions
+    show(
+        &rt,
+        "bounded 2\ncapacity s\nis_empty r\nforce_send s 1\nlen s\nforce_send s 2\nis_full r\nsame_channel s s\n",
+        "ok\n2\ntrue\nok\n1\nok\ntrue\ntrue\n",
         ScriptEnd::Done,
     )?;
     Ok(())
