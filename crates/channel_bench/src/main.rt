@@ -8,20 +8,27 @@ mod decimal;
 mod event;
 mod list;
 mod queue;
+mod shared;
 mod steps;
 
 use std::alloc::Global;
 use std::rt::Clock;
 use std::sync::Wait;
+use std::thread::Threads;
 use std::{env, io};
 
-/// Measures what the word names. Locks are measured too, and taking one may wait.
-fn measure<R: Clock + Print + Wait + Copy>(rt: R, alloc: Global, word: &str) -> io::Result<()> {
+/// Measures what the word names. Locks and queues between threads are measured too, and may wait.
+fn measure<R: Clock + Print + Wait + Threads + Copy + Sync>(
+    rt: R,
+    alloc: Global,
+    word: &str,
+) -> io::Result<()> {
     match word {
         "list" => list::measure_lists(&rt, alloc),
         "event" => event::measure_events(rt, alloc),
         "pairs" => queue::make_pairs(&rt, alloc),
         "queue" => queue::measure_queues(&rt, alloc),
+        "shared" => shared::measure_shared(&rt, alloc),
         "steps" => steps::measure_steps(&rt, alloc),
         _ => println!(&rt; "nothing to measure is named {word}"),
     }

@@ -1,0 +1,226 @@
+//! What a push and a pop cost together in queues that threads share, beside queues and a channel of the kit: on one thread,
+//! and with one thread that pushes and one that pops.
+
+ghost use Rattle.std.specs.Prelude.{◌<◌};
+
+use crate::decimal::Decimal;
+use concurrent_queue::shared::queue::ConcurrentQueue;
+use crossbeam_channel::{Receiver, Sender};
+use crossbeam_queue::{ArrayQueue, SegQueue};
+use std::alloc::Global;
+use std::rt::Clock;
+use std::sync::Wait;
+use std::thread::Threads;
+use std::time::Instant;
+use std::{io, thread};
+
+/// How many messages go through a queue in one round, and how many rounds there are. The best round counts.
+const ALONE: u64 = 200_000;
+
+const BETWEEN: u64 = 100_000;
+
+const ROUNDS: u32 = 12;
+
+/// A queue of either kind.
+trait Shared {
+    /// Whether the message is in.
+    fn put<R: Wait>(&self, rt: &R, message: u64) -> bool;
+
+    fn get<R: Wait>(&self, rt: &R) -> Option<u64>;
+}
+
+impl Shared for ConcurrentQueue<u64> {
+    fn put<R: Wait>(&self, rt: &R, message: u64) -> bool {
+        self.push(rt, message).is_ok()
+    }
+
+    fn get<R: Wait>(&self, rt: &R) -> Option<u64> {
+        self.pop(rt).ok()
+    }
+}
+
+impl Shared for ArrayQueue<u64> {
+    fn put<R: Wait>(&self, rt: &R, message: u64) -> bool {
+        self.push(rt, message).is_ok()
+    }
+
+    fn get<R: Wait>(&self, rt: &R) -> Option<u64> {
+        self.pop(rt)
+    }
+}
+
+impl Shared for SegQueue<u64> {
+    fn put<R: Wait>(&self, rt: &R, message: u64) -> bool {
+        self.push(rt, message).is_ok()
+    }
+
+    fn get<R: Wait>(&self, rt: &R) -> Option<u64> {
+        self.pop(rt)
+    }
+}
+
+/// Both ends of a channel of the kit, whose calls sleep where there is no room or no message.
+#[derive(Drop)]
+struct Ends {
+    to: Sender<u64>,
+    from: Receiver<u64>,
+}
+
+impl Shared for Ends {
+    fn put<R: Wait>(&self, rt: &R, message: u64) -> bool {
+        self.to.send(rt, message).is_ok()
+    }
+
+    fn get<R: Wait>(&self, rt: &R) -> Option<u64> {
+        self.from.recv(rt).ok()
+    }
+}
+
+/// Pushes a message and pops it, again and again.
+fn both<Q: Shared, R: Wait>(rt: &R, queue: &Q) -> u64 {
+    let mut sum = 0u64;
+    for message in 0..ALONE {
+        let _ = queue.put(rt, message);
+        if let Some(popped) = queue.get(rt) {
+            sum = sum.wrapping_add(popped);
+        }
+    }
+    sum
+}
+
+/// Pushes each message until it is in.
+fn put_all<Q: Shared, R: Wait>(rt: &R, queue: &Q) {
+    for message in 0..BETWEEN {
+        for _ in rt.forever() {
+            if queue.put(rt, message) {
+                break;
+            }
+            thread::yield_now();
+        }
+    }
+}
+
+/// Pops as many.
+fn get_all<Q: Shared, R: Wait>(rt: &R, queue: &Q) -> u64 {
+    let mut sum = 0u64;
+    for _ in 0..BETWEEN {
+        for _ in rt.forever() {
+            if let Some(message) = queue.get(rt) {
+                sum = sum.wrapping_add(message);
+                break;
+            }
+            thread::yield_now();
+        }
+    }
+    sum
+}
+
+/// The nanoseconds of the best rounds, and the sum of all messages that were popped.
+#[derive(Clone, Copy)]
+struct Costs {
+    alone: u128,
+    between: u128,
+    sum: u64,
+}
+
+impl Costs {
+    fn none() -> Self {
+        Costs {
+            alone: u128::MAX,
+            between: u128::MAX,
+            sum: 0,
+        }
+    }
+
+    fn per_message(self) -> (Decimal, Decimal) {
+        (
+            Decimal::of(self.alone, ALONE as u128),
+            Decimal::of(self.between, BETWEEN as u128),
+        )
+    }
+}
+
+fn round<Q: Shared + Sync, R: Threads + Wait + Clock + Sync>(
+    rt: &R,
+    queue: &Q,
+    costs: Costs,
+) -> io::Result<Costs> {
+    let start = Instant::now(rt)?;
+    let first = both(rt, queue);
+    let alone = start.elapsed(rt)?.as_nanos();
+    let start = Instant::now(rt)?;
+    let (_, second) = thread::join(rt, || put_all(rt, queue), || get_all(rt, queue));
+    let between = start.elapsed(rt)?.as_nanos();
+    Ok(Costs {
+        alone: costs.alone.min(alone),
+        between: costs.between.min(between),
+        sum: costs.sum.wrapping_add(first).wrapping_add(second),
+    })
+}
+
+fn report<R: Print>(rt: &R, name: &str, costs: Costs) -> io::Result<()> {
+    let (alone, between) = costs.per_message();
+    println!(rt; "shared, {name}: {alone} ns on one thread, {between} ns between two")
+}
+
+/// A queue of this capacity beside one of the kit and a channel.
+fn measure_bounded<R: Threads + Wait + Clock + Print + Sync>(
+    rt: &R,
+    alloc: Global,
+    capacity: usize,
+) -> io::Result<()>
+    requires { 0 < capacity }
+{
+    let Ok(ours) = ConcurrentQueue::bounded(alloc, capacity) else {
+        return println!(rt; "shared: out of memory");
+    };
+    let array = ArrayQueue::new(alloc, capacity)?;
+    let (to, from) = crossbeam_channel::bounded(alloc, capacity)?;
+    let ends = Ends { to, from };
+    let mut costs = (Costs::none(), Costs::none(), Costs::none());
+    for _ in 0..ROUNDS {
+        costs.0 = round(rt, &ours, costs.0)?;
+        costs.1 = round(rt, &array, costs.1)?;
+        costs.2 = round(rt, &ends, costs.2)?;
+    }
+    if costs.0.sum != costs.1.sum || costs.1.sum != costs.2.sum {
+        return println!(rt; "shared: a message was lost");
+    }
+    println!(rt; "shared, capacity {capacity}")?;
+    report(rt, "a push and a pop", costs.0)?;
+    report(rt, "of ArrayQueue", costs.1)?;
+    report(rt, "of crossbeam_channel", costs.2)
+}
+
+/// An unbounded queue beside one of the kit.
+fn measure_unbounded<R: Threads + Wait + Clock + Print + Sync>(
+    rt: &R,
+    alloc: Global,
+) -> io::Result<()> {
+    let Ok(ours) = ConcurrentQueue::unbounded(alloc) else {
+        return println!(rt; "shared: out of memory");
+    };
+    let segments = SegQueue::new(alloc)?;
+    let mut costs = (Costs::none(), Costs::none());
+    for _ in 0..ROUNDS {
+        costs.0 = round(rt, &ours, costs.0)?;
+        costs.1 = round(rt, &segments, costs.1)?;
+    }
+    if costs.0.sum != costs.1.sum {
+        return println!(rt; "shared: a message was lost");
+    }
+    println!(rt; "shared, unbounded")?;
+    report(rt, "a push and a pop", costs.0)?;
+    report(rt, "of SegQueue", costs.1)
+}
+
+/// Measures queues that threads share.
+pub fn measure_shared<R: Threads + Wait + Clock + Print + Sync>(
+    rt: &R,
+    alloc: Global,
+) -> io::Result<()> {
+    measure_bounded(rt, alloc, 1)?;
+    measure_bounded(rt, alloc, 3)?;
+    measure_bounded(rt, alloc, 128)?;
+    measure_unbounded(rt, alloc)
+}
