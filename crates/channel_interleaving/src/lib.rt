@@ -23,6 +23,4 @@ mod refusal;
 pub mod roll;
 mod run;
 pub mod step;
-#[cfg(test)]
-mod tests;
 mod woken;

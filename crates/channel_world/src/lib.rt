@@ -19,6 +19,4 @@ mod room;
 mod run;
 pub mod script;
 mod standings;
-#[cfg(test)]
-mod tests;
 pub mod world;

@@ -13,9 +13,6 @@ use std::alloc::Global;
 use std::marker::Model;
 use std::sync::{Arc, Mutex, OnceLock, Wait};
 
-#[cfg(test)]
-pub(crate) mod tests;
-
 /// The list of an event, which it shares with its listeners.
 pub(crate) type Home<T> = Mutex<List<T, Task>>;
 

@@ -5,9 +5,6 @@ use std::error::Error;
 use std::fmt;
 use std::marker::Model;
 
-#[cfg(test)]
-mod tests;
-
 /// The identity of one event.
 ///
 /// [`EventIds`] alone makes one, no two that come from one source are equal, and there is no copy of it: the event

@@ -5,9 +5,6 @@ ghost use Rattle.std.specs.Int.{saturate_unsigned, w64};
 use crate::into_notification::IntoNotification;
 use crate::notify::Notify;
 
-#[cfg(test)]
-mod tests;
-
 // A plain notice for this many: none for a negative number, the greatest `usize` for one past it.
 fn signed(count: i128) -> Notify
     ensures { result.count ≡ saturate_unsigned w64 count }

@@ -25,16 +25,10 @@ mod parker;
 mod place;
 pub mod recorded;
 mod recording;
-#[cfg(test)]
-mod refusals;
 pub mod relaxed;
 pub mod run;
 pub mod stack;
 pub mod tagged;
 pub mod tagged_with;
-#[cfg(test)]
-mod tests;
-#[cfg(test)]
-mod texts;
 pub mod wakes;
 mod waking;

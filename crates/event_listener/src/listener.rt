@@ -16,9 +16,6 @@ use std::marker::Model;
 use std::sync::{Arc, Wait};
 use std::time::{Clock, Duration, Instant};
 
-#[cfg(test)]
-mod tests;
-
 /// Why a poll of a listener has neither a tag to give nor one to wait for.
 #[derive(Clone, Copy, PartialEq, Eq, Debug)]
 pub enum PollFault {

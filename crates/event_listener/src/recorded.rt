@@ -15,9 +15,6 @@ use std::error::Error;
 use std::fmt;
 use std::sync::{Mutex, Wait};
 
-#[cfg(test)]
-mod tests;
-
 /// A call that changed the list of a recorded event, with its answer. Calls that change nothing leave no entry.
 #[derive(Drop)]
 pub enum RecordedCall<T, W> {

@@ -13,9 +13,6 @@ use std::marker::Model;
 use std::sync::{Arc, Wait};
 use std::time::{Clock, Duration, Instant};
 
-#[cfg(test)]
-mod tests;
-
 /// The place of a listener that lives no longer than its event.
 ///
 /// As `event-listener` 5.4.2, but that the node itself is in the list's memory, so that nothing is pinned.

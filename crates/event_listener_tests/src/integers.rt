@@ -1,5 +1,5 @@
-use crate::into_notification::IntoNotification;
-use crate::notify::Notification;
+use event_listener::into_notification::IntoNotification;
+use event_listener::notify::Notification;
 use std::test::Fail;
 
 /// How many listeners a notice made of this is for.

@@ -1,9 +1,9 @@
 //! What the refusals of this crate print.
 
-use crate::error::{ListenError, NoMemory, NotifyError, UnknownListener};
-use crate::id::IdsUsedUp;
-use crate::listener::PollFault;
-use crate::recorded::RegisterError;
+use event_listener::error::{ListenError, NoMemory, NotifyError, UnknownListener};
+use event_listener::id::IdsUsedUp;
+use event_listener::listener::PollFault;
+use event_listener::recorded::RegisterError;
 use std::fmt;
 use std::test::Fail;
 

@@ -1,7 +1,7 @@
-use crate::event::Event;
-use crate::event::tests::Stuck;
-use crate::id::EventIds;
-use crate::listener::Listener;
+use crate::event::Stuck;
+use event_listener::event::Event;
+use event_listener::id::EventIds;
+use event_listener::listener::Listener;
 use std::alloc::Global;
 use std::sync::Wait;
 use std::test::Fail;

@@ -1,11 +1,11 @@
 ghost use Rattle.std.specs.Prelude.{true};
 
-use crate::error::{ListenError, NoMemory, NotifyError};
-use crate::event::Event;
-use crate::id::{EventIds, IdsUsedUp};
-use crate::into_notification::IntoNotification;
-use crate::listener::{Listener, PollFault};
-use crate::notify::Notification;
+use event_listener::error::{ListenError, NoMemory, NotifyError};
+use event_listener::event::Event;
+use event_listener::id::{EventIds, IdsUsedUp};
+use event_listener::into_notification::IntoNotification;
+use event_listener::listener::{Listener, PollFault};
+use event_listener::notify::Notification;
 use futures::task::{Poll, Source, Waker};
 use futures::test::MockTask;
 use std::alloc::Global;

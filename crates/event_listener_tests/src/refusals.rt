@@ -3,15 +3,15 @@
 
 ghost use Rattle.std.specs.Prelude.{◌≡◌};
 
-use crate::error::{ListenError, NotifyError};
-use crate::event::Event;
-use crate::event::tests::Stuck;
-use crate::id::EventIds;
-use crate::into_notification::IntoNotification;
-use crate::listener::{EventListener, Listener, WaitError};
-use crate::recorded::{RecordedEvent, RegisterError};
-use crate::stack::StackSlot;
-use crate::wakes::Wakes;
+use crate::event::Stuck;
+use event_listener::error::{ListenError, NotifyError};
+use event_listener::event::Event;
+use event_listener::id::EventIds;
+use event_listener::into_notification::IntoNotification;
+use event_listener::listener::{EventListener, Listener, WaitError};
+use event_listener::recorded::{RecordedEvent, RegisterError};
+use event_listener::stack::StackSlot;
+use event_listener::wakes::Wakes;
 use std::alloc::{AllocError, Global};
 use std::sync::Wait;
 use std::test::Fail;

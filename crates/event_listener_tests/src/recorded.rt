@@ -1,10 +1,10 @@
-use crate::calls::Registered;
-use crate::error::{NotifyError, UnknownListener};
-use crate::event::tests::Scarce;
-use crate::into_notification::IntoNotification;
-use crate::key::Key;
-use crate::recorded::{RecordedCall, RecordedEvent, RegisterError};
-use crate::wakes::Wakes;
+use crate::event::Scarce;
+use event_listener::calls::Registered;
+use event_listener::error::{NotifyError, UnknownListener};
+use event_listener::into_notification::IntoNotification;
+use event_listener::key::Key;
+use event_listener::recorded::{RecordedCall, RecordedEvent, RegisterError};
+use event_listener::wakes::Wakes;
 use std::alloc::Global;
 use std::sync::Wait;
 use std::test::Fail;

@@ -1,7 +1,7 @@
-use crate::event::Event;
-use crate::event::tests::{Polled, Stuck, event, poll};
-use crate::into_notification::IntoNotification;
-use crate::listener::{EventListener, Listener, WaitError};
+use crate::event::{Polled, Stuck, event, poll};
+use event_listener::event::Event;
+use event_listener::into_notification::IntoNotification;
+use event_listener::listener::{EventListener, Listener, WaitError};
 use futures::test::MockTask;
 use std::alloc::Global;
 use std::sync::Wait;

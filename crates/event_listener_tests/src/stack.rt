@@ -1,8 +1,8 @@
-use crate::event::Event;
-use crate::event::tests::{Polled, Stuck, event, poll};
-use crate::into_notification::IntoNotification;
-use crate::listener::Listener;
-use crate::stack::StackSlot;
+use crate::event::{Polled, Stuck, event, poll};
+use event_listener::event::Event;
+use event_listener::into_notification::IntoNotification;
+use event_listener::listener::Listener;
+use event_listener::stack::StackSlot;
 use futures::test::MockTask;
 use std::alloc::Global;
 use std::sync::Wait;
@@ -15,9 +15,9 @@ fn in_slots<R: Wait + Copy>(
     task: &MockTask,
 ) -> Result<([usize; 3], [Polled<()>; 3]), Stuck> {
     let event: Event<()> = event(alloc)?;
-    crate::listener!(rt, alloc, &event => l1);
-    crate::listener!(rt, alloc, &event => l2);
-    crate::listener!(rt, alloc, &event => l3);
+    event_listener::listener!(rt, alloc, &event => l1);
+    event_listener::listener!(rt, alloc, &event => l2);
+    event_listener::listener!(rt, alloc, &event => l3);
     let (mut l1, mut l2, mut l3) = (l1, l2, l3);
     let told = [
         event.notify_additional(&rt, 1),

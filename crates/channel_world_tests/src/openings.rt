@@ -1,6 +1,6 @@
 //! Channels that are opened from one source of identities.
-use crate::world::World;
 use async_channel::error::OpenError;
+use channel_world::world::World;
 use event_listener::id::EventIds;
 use std::test::Fail;
 

@@ -2,10 +2,10 @@
 
 ghost use Rattle.std.specs.Prelude.{◌<◌};
 
-use crate::interleaved::Interleaved;
-use crate::step::{Entry, PartyId, Run, Step};
 use async_channel::error::{Refused, TryRecvError, TrySendError};
 use async_channel::reply::Reply;
+use channel_interleaving::interleaved::Interleaved;
+use channel_interleaving::step::{Entry, PartyId, Run, Step};
 use channel_model::call::Call;
 use channel_model::name::{HandleId, OpId, Waiter};
 use channel_model::refusal::WorldRefusal;

@@ -1,9 +1,9 @@
 //! Refused growths.
 use super::ask::{Ask, call};
 use super::said::{Said, says};
-use crate::call::{CallRun, WorldRefusal};
-use crate::name::{OpId, Waiter};
-use crate::world::World;
+use channel_world::call::{CallRun, WorldRefusal};
+use channel_world::name::{OpId, Waiter};
+use channel_world::world::World;
 use event_listener::id::EventIds;
 use std::collections::VecDeque;
 use std::process::Abort;

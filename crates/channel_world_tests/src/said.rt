@@ -1,6 +1,6 @@
 //! Replies, in short.
-use crate::call::Reply;
 use async_channel::error::{Refused, SendError, TryRecvError, TrySendError};
+use channel_world::call::Reply;
 use event_listener::error::ListenError;
 use futures::task::Poll;
 

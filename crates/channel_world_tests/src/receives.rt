@@ -2,9 +2,9 @@
 use super::ask::{Ask, R, S};
 use super::row::{quiet, run_refused, run_rows, waking};
 use super::said::Said;
-use crate::call::WorldRefusal;
-use crate::name::{OpId, Waiter};
-use crate::world::World;
+use channel_world::call::WorldRefusal;
+use channel_world::name::{OpId, Waiter};
+use channel_world::world::World;
 use event_listener::id::EventIds;
 use std::process::Abort;
 use std::test::Fail;

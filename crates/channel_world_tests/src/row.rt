@@ -1,9 +1,9 @@
 //! Calls, and what they are to answer.
 use super::ask::{Ask, call};
 use super::said::{Said, says};
-use crate::call::{CallRun, WorldRefusal};
-use crate::name::Waiter;
-use crate::world::World;
+use channel_world::call::{CallRun, WorldRefusal};
+use channel_world::name::Waiter;
+use channel_world::world::World;
 use std::alloc::AllocError;
 use std::collections::VecDeque;
 use std::process::Abort;

@@ -2,8 +2,8 @@
 use super::ask::{Ask, R, S};
 use super::row::{quiet, run_rows, waking};
 use super::said::Said;
-use crate::name::{HandleId, OpId, Waiter};
-use crate::world::World;
+use channel_world::name::{HandleId, OpId, Waiter};
+use channel_world::world::World;
 use event_listener::id::EventIds;
 use std::process::Abort;
 use std::test::Fail;

@@ -1,6 +1,6 @@
 //! Calls, in short.
-use crate::call::Call;
-use crate::name::{HandleId, OpId};
+use channel_world::call::Call;
+use channel_world::name::{HandleId, OpId};
 
 /// The first sender.
 pub const S: HandleId = HandleId(0);

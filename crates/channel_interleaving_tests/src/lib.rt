@@ -1,0 +1,6 @@
+//! Tests of `channel_interleaving`: worked interleavings, with the steps that each call takes. A crate of their own, so that
+//! what they prove is proved once.
+#![tactic(auto)]
+
+#[cfg(test)]
+mod rows;

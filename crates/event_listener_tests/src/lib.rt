@@ -1,0 +1,22 @@
+//! Tests of `event_listener`: of what no contract says, and of what it says in concrete values. A crate of their own, so that
+//! what they prove is proved once.
+#![tactic(auto)]
+
+#[cfg(test)]
+mod event;
+#[cfg(test)]
+mod id;
+#[cfg(test)]
+mod integers;
+#[cfg(test)]
+mod list;
+#[cfg(test)]
+mod listener;
+#[cfg(test)]
+mod recorded;
+#[cfg(test)]
+mod refusals;
+#[cfg(test)]
+mod stack;
+#[cfg(test)]
+mod texts;
