@@ -54,7 +54,8 @@ module _ {T W : Type 0} where
   abbrev pub StillHolds : Line → Key → Option (Reply T) → Stage (Phase T) T W → Type 0
   StillHolds line key r s = (r ≡ None) × HoldsListener line key s
 
-  pub newcomer_holds : (c : Channel T W) (e : Effect T W) (r : Option (Reply T)) (s : Stage (Phase T) T W) (line : Line) (key : Key) → Tries line c e r s key → StillHolds line key r s
+  pub newcomer_holds : (c : Channel T W) (e : Effect T W) (r : Option (Reply T)) (s : Stage (Phase T) T W) (line : Line)
+      (key : Key) → Tries line c e r s key → StillHolds line key r s
   newcomer_holds c e r s line key (w, task, at, turned) =
       (turned.0, subst (λ (z : Stage (Phase T) T W). HoldsListener line key z) (sym turned.1) (at, refl))
 
@@ -67,10 +68,14 @@ module _ {T W : Type 0} where
   DropsLater line key (Works (Leave x)) = x.held ≡ Some (record { line = line; key = key })
   DropsLater line key turn = ⊥
 
-  turned_holds : (line : Line) (key : Key) (turn : Turn T W) (r : Option (Reply T)) (s : Stage (Phase T) T W) → DropsLater line key turn → Turned turn r s → StillHolds line key r s
-  turned_holds line key (Works (TellReceive x)) r s h t = (t.0, subst (λ (z : Stage (Phase T) T W). HoldsListener line key z) (sym t.1) h)
-  turned_holds line key (Works (TellSend x)) r s h t = (t.0, subst (λ (z : Stage (Phase T) T W). HoldsListener line key z) (sym t.1) h)
-  turned_holds line key (Works (Leave x)) r s h t = (t.0, subst (λ (z : Stage (Phase T) T W). HoldsListener line key z) (sym t.1) h)
+  turned_holds : (line : Line) (key : Key) (turn : Turn T W) (r : Option (Reply T)) (s : Stage (Phase T) T W)
+      → DropsLater line key turn → Turned turn r s → StillHolds line key r s
+  turned_holds line key (Works (TellReceive x)) r s h t =
+      (t.0, subst (λ (z : Stage (Phase T) T W). HoldsListener line key z) (sym t.1) h)
+  turned_holds line key (Works (TellSend x)) r s h t =
+      (t.0, subst (λ (z : Stage (Phase T) T W). HoldsListener line key z) (sym t.1) h)
+  turned_holds line key (Works (Leave x)) r s h t =
+      (t.0, subst (λ (z : Stage (Phase T) T W). HoldsListener line key z) (sym t.1) h)
   turned_holds line key turn r s h t = absurd h
 
   module _ (q : Queue T) (k : Key) (task : W) where
@@ -89,12 +94,17 @@ module _ {T W : Type 0} where
     pop_answered Nothing (answer.Pop (Err pop_error.Closed)) (trying b) h = inl refl
     pop_answered m reply s h = absurd h
 
-    poll_answered : (line : Line) → IsOneByOne line → (x : ChannelAsk T W) (a : QueueAsk T) (ds : List (Deed T W)) (seen : List (Channel T W)) (m : QueueMark) (reply : QueueReply T) (s : queue.Stage T)
-        → TriesFor x (aim.Poll line (Some k) task) a ds seen → AnswersTo q a m reply s → DropsLater line k (polled_next line reply (Some k) task) ⊎ ((m ≡ Nothing) × HasCause line q)
+    poll_answered : (line : Line) → IsOneByOne line
+        → (x : ChannelAsk T W) (a : QueueAsk T) (ds : List (Deed T W)) (seen : List (Channel T W)) (m : QueueMark)
+        (reply : QueueReply T) (s : queue.Stage T)
+        → TriesFor x (aim.Poll line (Some k) task) a ds seen → AnswersTo q a m reply s
+        → DropsLater line k (polled_next line reply (Some k) task) ⊎ ((m ≡ Nothing) × HasCause line q)
     poll_answered Sends one x a ds seen m reply s h ans =
-        let p = sends_push x (Some k) task a ds seen h in push_answered p.0 m reply s (subst (λ (z : QueueAsk T). AnswersTo q z m reply s) p.1 ans)
+        let p = sends_push x (Some k) task a ds seen h in push_answered p.0 m reply s
+        (subst (λ (z : QueueAsk T). AnswersTo q z m reply s) p.1 ans)
     poll_answered Receives one x a ds seen m reply s h ans =
-        pop_answered m reply s (subst (λ (z : QueueAsk T). AnswersTo q z m reply s) (receives_pop x (Some k) task a ds seen h) ans)
+        pop_answered m reply s (subst (λ (z : QueueAsk T). AnswersTo q z m reply s) (receives_pop x (Some k) task a ds seen h)
+        ans)
     poll_answered line one x a ds seen m reply s h ans = absurd one
 
   -- ---- any step
@@ -103,31 +113,43 @@ module _ {T W : Type 0} where
   abbrev pub HoldsOrWaits : Line → Key → Effect T W → Option (Reply T) → Stage (Phase T) T W → Type 0
   HoldsOrWaits line key e r s = StillHolds line key r s ⊎ HasCause line e.channel.queue
 
-  caused : (line : Line) (c : Channel T W) (f : Phase T) (m : QueueMark) (e : Effect T W) → e ≡ queued f m c → m ≡ Nothing → HasCause line c.queue → HasCause line e.channel.queue
+  caused : (line : Line) (c : Channel T W) (f : Phase T) (m : QueueMark) (e : Effect T W) → e ≡ queued f m c → m ≡ Nothing
+      → HasCause line c.queue → HasCause line e.channel.queue
   caused line c f m e effect none h =
       subst (λ (z : Effect T W). HasCause line z.channel.queue) (sym (effect ∙ ap (λ (n : QueueMark). queued f n c) none)) h
 
-  polls : (line : Line) (key : Key) → IsOneByOne line → (c : Channel T W) (x : ChannelAsk T W) (f : Phase T) (task : W) (m : QueueMark) (ds : List (Deed T W)) (seen : List (Channel T W)) (e : Effect T W) (r : Option (Reply T)) (s : Stage (Phase T) T W)
-      → e ≡ queued f m c → TriesFor x (aim.Poll line (Some key) task) f.ask ds seen → How c f (aim.Poll line (Some key) task) m r s → HoldsOrWaits line key e r s
+  polls : (line : Line) (key : Key) → IsOneByOne line
+      → (c : Channel T W) (x : ChannelAsk T W) (f : Phase T) (task : W) (m : QueueMark) (ds : List (Deed T W))
+      (seen : List (Channel T W)) (e : Effect T W) (r : Option (Reply T)) (s : Stage (Phase T) T W)
+      → e ≡ queued f m c → TriesFor x (aim.Poll line (Some key) task) f.ask ds seen
+      → How c f (aim.Poll line (Some key) task) m r s → HoldsOrWaits line key e r s
   polls line key one c x f task m ds seen e r s effect h (inl (f', goes, none, there)) =
       inl (none, subst (λ (z : Stage (Phase T) T W). HoldsListener line key z) (sym there) (refl, refl))
-  polls line key one c x f task m ds seen e r s effect h (inr (reply, ans, turned)) = by_answer (poll_answered c.queue key task line one x f.ask ds seen m reply f.stage h ans)
+  polls line key one c x f task m ds seen e r s effect h (inr (reply, ans, turned)) =
+      by_answer (poll_answered c.queue key task line one x f.ask ds seen m reply f.stage h ans)
     where
-      by_answer : DropsLater line key (polled_next line reply (Some key) task) ⊎ ((m ≡ Nothing) × HasCause line c.queue) → HoldsOrWaits line key e r s
+      by_answer : DropsLater line key (polled_next line reply (Some key) task) ⊎ ((m ≡ Nothing) × HasCause line c.queue)
+          → HoldsOrWaits line key e r s
       by_answer (inl d) = inl (turned_holds line key (polled_next line reply (Some key) task) r s d turned)
       by_answer (inr d) = inr (caused line c f m e effect d.0 d.1)
 
-  module _ (line : Line) (key : Key) (one : IsOneByOne line) (c : Channel T W) (x : ChannelAsk T W) (ds : List (Deed T W)) (seen : List (Channel T W)) (e : Effect T W) (r : Option (Reply T)) (s : Stage (Phase T) T W) where
+  module _ (line : Line) (key : Key) (one : IsOneByOne line) (c : Channel T W) (x : ChannelAsk T W) (ds : List (Deed T W))
+      (seen : List (Channel T W)) (e : Effect T W) (r : Option (Reply T)) (s : Stage (Phase T) T W) where
     polls_at : (f : Phase T) (at : Line) (k : Key) (task : W) (m : QueueMark) → e ≡ queued f m c → at ≡ line → k ≡ key
-        → TriesFor x (aim.Poll at (Some k) task) f.ask ds seen → How c f (aim.Poll at (Some k) task) m r s → HoldsOrWaits line key e r s
+        → TriesFor x (aim.Poll at (Some k) task) f.ask ds seen → How c f (aim.Poll at (Some k) task) m r s
+        → HoldsOrWaits line key e r s
     polls_at f at k task m effect a b h how =
         polls line key one c x f task m ds seen e r s effect
-        (subst (λ (z : Line). TriesFor x (aim.Poll z (Some key) task) f.ask ds seen) a (subst (λ (z : Key). TriesFor x (aim.Poll at (Some z) task) f.ask ds seen) b h))
-        (subst (λ (z : Line). How c f (aim.Poll z (Some key) task) m r s) a (subst (λ (z : Key). How c f (aim.Poll at (Some z) task) m r s) b how))
+        (subst (λ (z : Line). TriesFor x (aim.Poll z (Some key) task) f.ask ds seen) a
+        (subst (λ (z : Key). TriesFor x (aim.Poll at (Some z) task) f.ask ds seen) b h))
+        (subst (λ (z : Line). How c f (aim.Poll z (Some key) task) m r s) a
+        (subst (λ (z : Key). How c f (aim.Poll at (Some z) task) m r s) b how))
 
-    pub holds_on : (at : Stage (Phase T) T W) → StageAt c x at ds seen → Moves c at e r s → HoldsListener line key at → WaitApart line c → Waits line key e.channel → HoldsOrWaits line key e r s
+    pub holds_on : (at : Stage (Phase T) T W) → StageAt c x at ds seen → Moves c at e r s → HoldsListener line key at
+        → WaitApart line c → Waits line key e.channel → HoldsOrWaits line key e r s
     holds_on (Trying f (aim.Poll at (Some k) task)) st g h apart w = polls_at f at k task g.mark g.effect h.0 h.1 st.0 g.how
-    holds_on (Working (TellReceive z)) st g h apart w = inl (g.1.0, subst (λ (at : Stage (Phase T) T W). HoldsListener line key at) (sym g.1.1) h)
+    holds_on (Working (TellReceive z)) st g h apart w =
+        inl (g.1.0, subst (λ (at : Stage (Phase T) T W). HoldsListener line key at) (sym g.1.1) h)
     holds_on (Working (TellStreams z)) st g h apart w =
         let t = leaves_next z z.held (record { line = line; key = key }) r s h g.1 in
         inl (t.0, subst (λ (at : Stage (Phase T) T W). HoldsListener line key at) (sym t.1) h)

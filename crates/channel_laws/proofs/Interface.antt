@@ -23,7 +23,8 @@ module _ {T W : Type 0} where
         tellings = (let h = tellings_new {T = T} {W = W} cap in h.fit);
       }
 
-  pub all_sound_next : (s : Scene T W) (x : Step T W) (e : Entry T) (names : List W) (t : Scene T W) → AllSound s → Next s x e names t → AllSound t
+  pub all_sound_next : (s : Scene T W) (x : Step T W) (e : Entry T) (names : List W) (t : Scene T W) → AllSound s
+      → Next s x e names t → AllSound t
   all_sound_next s x e names t sound n =
       let receives = receives_next s x e names t n sound.receives in
       record {

@@ -64,7 +64,8 @@ closing_owes Close h = refl
 closing_owes m h = absurd h
 
 module _ {T W : Type 0} where
-  by_mark : (d : Deed T W) (ds : List (Deed T W)) → (IsAmong (all_of Closings) (owed ds) → HasClosed ds) → IsAmong (all_of Closings) (owed_for d.mark) ⊎ IsAmong (all_of Closings) (owed ds) → HasClosed (d ∷ ds)
+  by_mark : (d : Deed T W) (ds : List (Deed T W)) → (IsAmong (all_of Closings) (owed ds) → HasClosed ds)
+      → IsAmong (all_of Closings) (owed_for d.mark) ⊎ IsAmong (all_of Closings) (owed ds) → HasClosed (d ∷ ds)
   by_mark d ds f (inl h) = inl (closing_owes d.mark h)
   by_mark d ds f (inr h) = inr (f h)
 
@@ -73,9 +74,11 @@ module _ {T W : Type 0} where
   has_owed (d ∷ ds) h = by_mark d ds (has_owed ds) (among_either (all_of Closings) (owed_for d.mark) (owed ds) h)
 
   -- who tells all of a list has closed the channel
-  pub teller_has_closed : (told : List Telling) (line : Line) (closer : Closer) (ds : List (Deed T W)) → ToldAt told (let at : Stage (Phase T) T W = Working (TellAll line closer) in at) ds → HasClosed ds
+  pub teller_has_closed : (told : List Telling) (line : Line) (closer : Closer) (ds : List (Deed T W))
+      → ToldAt told (let at : Stage (Phase T) T W = Working (TellAll line closer) in at) ds → HasClosed ds
   teller_has_closed told line closer ds h =
-      has_owed ds (subst (λ (ts : List Telling). IsAmong (all_of Closings) ts) h (among_right (all_of Closings) told (all_from line) (closings_last line)))
+      has_owed ds (subst (λ (ts : List Telling). IsAmong (all_of Closings) ts) h
+      (among_right (all_of Closings) told (all_from line) (closings_last line)))
 
   -- ---- marks
 
@@ -90,11 +93,13 @@ module _ {T W : Type 0} where
       deeper (inr h) = inr h
 
   -- a call that has closed after its step had so before, or the step did
-  pub closed_before : (ds : List (Deed T W)) (m : Mark) (c : Channel T W) (seen : List (Channel T W)) → HasClosed (with_deed ds m c seen) → HasClosed ds ⊎ (m ≡ Close)
+  pub closed_before : (ds : List (Deed T W)) (m : Mark) (c : Channel T W) (seen : List (Channel T W))
+      → HasClosed (with_deed ds m c seen) → HasClosed ds ⊎ (m ≡ Close)
   closed_before ds Nothing c seen h = inl h
   closed_before ds m c seen h = had_or_last ds (record { mark = m; before = c; seen = seen }) h
 
-  queue_closes : (f : Phase T) (m : QueueMark) (c : Channel T W) → mark_of_queue m ≡ Close → Shut (let e : Effect T W = queued f m c in e.channel)
+  queue_closes : (f : Phase T) (m : QueueMark) (c : Channel T W) → mark_of_queue m ≡ Close
+      → Shut (let e : Effect T W = queued f m c in e.channel)
   queue_closes f queue.Close c h = refl
   queue_closes f queue.Nothing c h = absurd (let never : Nothing ≡ Close = h in cc)
   queue_closes f queue.Append c h = absurd cc
@@ -103,15 +108,19 @@ module _ {T W : Type 0} where
   queue_closes f queue.Replace c h = absurd cc
 
   -- where a step closes the channel it is closed
-  pub close_shuts : (c : Channel T W) (at : Stage (Phase T) T W) (e : Effect T W) (r : Option (Reply T)) (s : Stage (Phase T) T W) → Moves c at e r s → e.mark ≡ Close → Shut e.channel
+  pub close_shuts : (c : Channel T W) (at : Stage (Phase T) T W) (e : Effect T W) (r : Option (Reply T))
+      (s : Stage (Phase T) T W) → Moves c at e r s → e.mark ≡ Close → Shut e.channel
   close_shuts c (Trying f aim) e r s g closes =
-      subst (λ (z : Effect T W). Shut z.channel) (sym g.effect) (queue_closes f g.mark c (sym (ap (λ (z : Effect T W). z.mark) g.effect) ∙ closes))
+      subst (λ (z : Effect T W). Shut z.channel) (sym g.effect)
+      (queue_closes f g.mark c (sym (ap (λ (z : Effect T W). z.mark) g.effect) ∙ closes))
   close_shuts c (Working w) e r s g closes = let k = worked_spares c w e r s g in absurd (subst IsStill closes k.1)
-  close_shuts c (Finished kept) e r s g closes = absurd (let never : Nothing ≡ Close = sym (ap (λ (z : Effect T W). z.mark) g.0) ∙ closes in cc)
+  close_shuts c (Finished kept) e r s g closes =
+      absurd (let never : Nothing ≡ Close = sym (ap (λ (z : Effect T W). z.mark) g.0) ∙ closes in cc)
 
   -- ---- all of a list
 
-  pub nobody_left : (line : Line) (key : Key) (c : Channel T W) → Waits line key (let e : Effect T W = tells_all line c in e.channel) → ⊥
+  pub nobody_left : (line : Line) (key : Key) (c : Channel T W)
+      → Waits line key (let e : Effect T W = tells_all line c in e.channel) → ⊥
   nobody_left Sends key c w = w
   nobody_left Receives key c w = w
   nobody_left Streams key c w = w

@@ -38,19 +38,23 @@ module _ {T : Type 0} where
   one_replaced q v = length-append (drop 1 q.items) (v ∷ [])
 
   module _ (q : Queue T) (v : T) where
-    pub push_brings : (m : QueueMark) (s t : queue.Stage T) → GoesPush q m s t → number (ask.Push v) s m q + has_appended s ≤ length q.items + has_appended t
+    pub push_brings : (m : QueueMark) (s t : queue.Stage T) → GoesPush q m s t
+        → number (ask.Push v) s m q + has_appended s ≤ length q.items + has_appended t
     push_brings Nothing (trying b) t g = let k = ap has_appended g in omega (arith, k)
     push_brings Nothing (appended None) t g = let k = ap has_appended g in omega (arith, k)
     push_brings Append (trying b) t g = let k = ap has_appended g.2 in let n = one_appended q v in omega (arith, k, n)
     push_brings m s t g = absurd g
 
-    pub push_fills : (m : QueueMark) (s t : queue.Stage T) → GoesPush q m s t → (length q.items + is_trying s ≤ number (ask.Push v) s m q + is_trying t) × (length q.items ≤ number (ask.Push v) s m q)
+    pub push_fills : (m : QueueMark) (s t : queue.Stage T) → GoesPush q m s t
+        → (length q.items + is_trying s ≤ number (ask.Push v) s m q + is_trying t)
+        × (length q.items ≤ number (ask.Push v) s m q)
     push_fills Nothing (trying b) t g = let k = ap is_trying g in (omega (arith, k), omega arith)
     push_fills Nothing (appended None) t g = let k = ap is_trying g in (omega (arith, k), omega arith)
     push_fills Append (trying b) t g = let n = one_appended q v in (omega (arith, n), omega (arith, n))
     push_fills m s t g = absurd g
 
-    pub force_brings : (m : QueueMark) (s t : queue.Stage T) → GoesForce q m s t → number (ask.ForcePush v) s m q + has_appended s ≤ length q.items + has_appended t
+    pub force_brings : (m : QueueMark) (s t : queue.Stage T) → GoesForce q m s t
+        → number (ask.ForcePush v) s m q + has_appended s ≤ length q.items + has_appended t
     force_brings Nothing (trying b) t g = let k = ap has_appended g in omega (arith, k)
     force_brings Nothing (displaced d) t g = let k = ap has_appended g in omega (arith, k)
     force_brings Nothing (appended o) t g = let k = ap has_appended g in omega (arith, k)
@@ -64,7 +68,8 @@ module _ {T : Type 0} where
     force_brings TakeDisplaced (trying b) t g = let f = one_fewer q g.0 g.1 in omega (arith, f)
     force_brings m s t g = absurd g
 
-    pub force_fills : (m : QueueMark) (s t : queue.Stage T) → GoesForce q m s t → length q.items + has_displaced s ≤ number (ask.ForcePush v) s m q + has_displaced t
+    pub force_fills : (m : QueueMark) (s t : queue.Stage T) → GoesForce q m s t
+        → length q.items + has_displaced s ≤ number (ask.ForcePush v) s m q + has_displaced t
     force_fills Nothing (trying b) t g = let k = ap has_displaced g in omega (arith, k)
     force_fills Nothing (displaced d) t g = let k = ap has_displaced g in omega (arith, k)
     force_fills Nothing (appended o) t g = let k = ap has_displaced g in omega (arith, k)
@@ -86,13 +91,15 @@ module _ {T : Type 0} where
   -- ---- pops
 
   module _ (q : Queue T) where
-    pub pop_takes : (m : QueueMark) (s t : queue.Stage T) → GoesPop q m s t → (number ask.Pop s m q + is_trying s ≤ length q.items + is_trying t) × (number ask.Pop s m q ≤ length q.items)
+    pub pop_takes : (m : QueueMark) (s t : queue.Stage T) → GoesPop q m s t
+        → (number ask.Pop s m q + is_trying s ≤ length q.items + is_trying t) × (number ask.Pop s m q ≤ length q.items)
     pop_takes Nothing (trying b) t g = let k = ap is_trying g in (omega (arith, k), omega arith)
     pop_takes Nothing (taken v) t g = let k = ap is_trying g in (omega (arith, k), omega arith)
     pop_takes Take (trying b) t g = let f = one_fewer q g.0 g.1 in (omega (arith, f), omega (arith, f))
     pop_takes m s t g = absurd g
 
-    pub pop_frees : (m : QueueMark) (s t : queue.Stage T) → GoesPop q m s t → length q.items + has_taken s ≤ number ask.Pop s m q + has_taken t
+    pub pop_frees : (m : QueueMark) (s t : queue.Stage T) → GoesPop q m s t
+        → length q.items + has_taken s ≤ number ask.Pop s m q + has_taken t
     pop_frees Nothing (trying b) t g = let k = ap has_taken g in omega (arith, k)
     pop_frees Nothing (taken v) t g = let k = ap has_taken g in omega (arith, k)
     pop_frees Take (trying b) t g = let k = ap has_taken g.2 in let f = one_fewer q g.0 g.1 in omega (arith, k, f)
@@ -101,7 +108,8 @@ module _ {T : Type 0} where
     -- ---- any call
 
     -- who pushes nothing brings nothing
-    pub goes_no_more : (a : QueueAsk T) (m : QueueMark) (s t : queue.Stage T) → (IsPush a → ⊥) → GoesOn q a m s t → number a s m q ≤ length q.items
+    pub goes_no_more : (a : QueueAsk T) (m : QueueMark) (s t : queue.Stage T) → (IsPush a → ⊥) → GoesOn q a m s t
+        → number a s m q ≤ length q.items
     goes_no_more (ask.Push v) m s t never g = absurd (never tt)
     goes_no_more (ask.ForcePush v) m s t never g = absurd (never tt)
     goes_no_more ask.Pop m s t never g = let k = pop_takes m s t g in k.1
@@ -111,7 +119,8 @@ module _ {T : Type 0} where
     goes_no_more a m s t never g = absurd g
 
     -- who may take none takes none
-    pub goes_no_fewer : (a : QueueAsk T) (m : QueueMark) (s t : queue.Stage T) → (MayTake a → ⊥) → GoesOn q a m s t → length q.items ≤ number a s m q
+    pub goes_no_fewer : (a : QueueAsk T) (m : QueueMark) (s t : queue.Stage T) → (MayTake a → ⊥) → GoesOn q a m s t
+        → length q.items ≤ number a s m q
     goes_no_fewer (ask.Push v) m s t never g = let k = push_fills q v m s t g in k.1
     goes_no_fewer (ask.ForcePush v) m s t never g = absurd (never tt)
     goes_no_fewer ask.Pop m s t never g = absurd (never tt)
@@ -121,7 +130,8 @@ module _ {T : Type 0} where
     goes_no_fewer a m s t never g = absurd g
 
     -- no answer brings or takes one
-    pub answers_same_number : (a : QueueAsk T) (m : QueueMark) (r : QueueReply T) (s : queue.Stage T) → AnswersTo q a m r s → number a s m q ≡ length q.items
+    pub answers_same_number : (a : QueueAsk T) (m : QueueMark) (r : QueueReply T) (s : queue.Stage T) → AnswersTo q a m r s
+        → number a s m q ≡ length q.items
     answers_same_number a Nothing r s h = refl
     answers_same_number a Close r s h = refl
     answers_same_number (ask.Push v) m r s h = absurd h
@@ -144,7 +154,8 @@ module _ {T : Type 0} where
 
 module _ {T W : Type 0} where
   -- a poll's try counts for one at most
-  pub anew_at_most : (f : Phase T) (line : Line) (key : Option Key) (task : W) → is_trying_anew (let at : Stage (Phase T) T W = Trying f (aim.Poll line key task) in at) ≤ is_trying f.stage
+  pub anew_at_most : (f : Phase T) (line : Line) (key : Option Key) (task : W)
+      → is_trying_anew (let at : Stage (Phase T) T W = Trying f (aim.Poll line key task) in at) ≤ is_trying f.stage
   anew_at_most f line None task = omega arith
   anew_at_most f line (Some k) task = omega arith
 
@@ -155,10 +166,13 @@ module _ {T W : Type 0} where
     weigh_turn (Works w) = weigh x (Working w)
     weigh_turn (Ends y kept) = 0
 
-    left_as : (r r' : Option (Reply T)) (s s' : Stage (Phase T) T W) → r ≡ r' → s ≡ s' → left_over weigh x r s ≡ left_over weigh x r' s'
-    left_as r r' s s' e f = ap (λ (z : Option (Reply T)). left_over weigh x z s) e ∙ ap (λ (z : Stage (Phase T) T W). left_over weigh x r' z) f
+    left_as : (r r' : Option (Reply T)) (s s' : Stage (Phase T) T W) → r ≡ r' → s ≡ s'
+        → left_over weigh x r s ≡ left_over weigh x r' s'
+    left_as r r' s s' e f =
+        ap (λ (z : Option (Reply T)). left_over weigh x z s) e ∙ ap (λ (z : Stage (Phase T) T W). left_over weigh x r' z) f
 
-    pub turned_weighs : (turn : Turn T W) (r : Option (Reply T)) (s : Stage (Phase T) T W) → Turned turn r s → left_over weigh x r s ≡ weigh_turn turn
+    pub turned_weighs : (turn : Turn T W) (r : Option (Reply T)) (s : Stage (Phase T) T W) → Turned turn r s
+        → left_over weigh x r s ≡ weigh_turn turn
     turned_weighs (Tries a y) r s t = left_as r None s (Trying (asked a) y) t.0 t.1
     turned_weighs (Works w) r s t = left_as r None s (Working w) t.0 t.1
     turned_weighs (Ends y kept) r s t = ap (λ (z : Option (Reply T)). left_over weigh x z s) t.0

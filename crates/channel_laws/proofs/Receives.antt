@@ -12,7 +12,8 @@ use Rattle.channel_laws.proofs.Owed.{owed_next, pending_owed}
 use Rattle.channel_laws.proofs.ReceiveMoves.{receive_ledger}
 
 module _ {T W : Type 0} where
-  pub receives_next : (s : Scene T W) (x : Step T W) (e : Entry T) (names : List W) (t : Scene T W) → Next s x e names t → ReceivesSound s → ReceivesSound t
+  pub receives_next : (s : Scene T W) (x : Step T W) (e : Entry T) (names : List W) (t : Scene T W) → Next s x e names t
+      → ReceivesSound s → ReceivesSound t
   receives_next s x e names t n sound =
       record {
         tellings = tellings_next s x e names t n sound.tellings;
@@ -24,7 +25,8 @@ module _ {T W : Type 0} where
 
 module _ (T W S : Type 0) (wakes : S → W → S → Type 0) where
   pub receives_stay_owed : ReceivesStayOwed T W S wakes
-  receives_stay_owed s t steps trace h run = kept_long wakes ReceivesSound receives_next run.0 run.1 s t run.2 run.3 steps trace h run.4
+  receives_stay_owed s t steps trace h run =
+      kept_long wakes ReceivesSound receives_next run.0 run.1 s t run.2 run.3 steps trace h run.4
 
   pub no_receive_is_forgotten : NoReceiveIsForgotten T W S wakes
   no_receive_is_forgotten cap t steps trace run =

@@ -68,7 +68,8 @@ module _ {T W : Type 0} where
   Takes (channel.ForceSend m) = Unit {0}
   Takes x = ⊥
 
-  takes_as : (x : ChannelAsk T W) (y : Aim W) (a : QueueAsk T) (ds : List (Deed T W)) (seen : List (Channel T W)) → TriesFor x y a ds seen → MayTake a → Takes x
+  takes_as : (x : ChannelAsk T W) (y : Aim W) (a : QueueAsk T) (ds : List (Deed T W)) (seen : List (Channel T W))
+      → TriesFor x y a ds seen → MayTake a → Takes x
   takes_as channel.TryRecv y a ds seen h p = tt
   takes_as (channel.PollRecv k t) y a ds seen h p = tt
   takes_as (channel.PollNext k t) y a ds seen h p = tt
@@ -95,12 +96,14 @@ module _ {T W : Type 0} where
 
   module _ (q : Queue T) (ds : List (Deed T W)) (seen : List (Channel T W)) where
     pushing : (v w : T) (k key : Option Key) (t' task : W) (m : QueueMark) (s t : queue.Stage T) → queue.GoesPush q m s t
-        → length q.items + counted (channel.PollSend v k t') (aim.Poll Sends key task) (ask.Push w) s ≤ number (ask.Push w) s m q + counted (channel.PollSend v k t') (aim.Poll Sends key task) (ask.Push w) t
+        → length q.items + counted (channel.PollSend v k t') (aim.Poll Sends key task) (ask.Push w) s ≤ number (ask.Push w) s m
+        q + counted (channel.PollSend v k t') (aim.Poll Sends key task) (ask.Push w) t
     pushing v w k None t' task m s t g = let n = push_fills q w m s t g in n.0
     pushing v w k (Some key) t' task m s t g = let n = push_fills q w m s t g in let f = n.1 in omega (arith, f)
 
     -- as it goes on
-    goes_pays : (x : ChannelAsk T W) (y : Aim W) (a : QueueAsk T) (m : QueueMark) (s t : queue.Stage T) → TriesFor x y a ds seen → GoesOn q a m s t
+    goes_pays : (x : ChannelAsk T W) (y : Aim W) (a : QueueAsk T) (m : QueueMark) (s t : queue.Stage T) → TriesFor x y a ds seen
+        → GoesOn q a m s t
         → length q.items + counted x y a s ≤ number a s m q + counted x y a t
     goes_pays channel.TryRecv aim.TryRecv ask.Pop m s t h g = pop_frees q m s t g
     goes_pays channel.TryRecv y a m s t h g = absurd h
@@ -116,42 +119,51 @@ module _ {T W : Type 0} where
 
     -- as it answers, or by such a refusal
     abbrev Answered : ChannelAsk T W → Aim W → QueueAsk T → QueueMark → QueueReply T → queue.Stage T → Type 0
-    Answered x y a m r s = (length q.items + counted x y a s ≤ number a s m q + weigh_turn counts_for_sends x (answered_next y r)) ⊎ ((m ≡ Nothing) × Refuses q)
+    Answered x y a m r s =
+        (length q.items + counted x y a s ≤ number a s m q + weigh_turn counts_for_sends x (answered_next y r))
+        ⊎ ((m ≡ Nothing) × Refuses q)
 
-    pushed : (v w : T) (k key : Option Key) (t' task : W) (m : QueueMark) (r : QueueReply T) (s : queue.Stage T) → AnswersPush q w m r s
+    pushed : (v w : T) (k key : Option Key) (t' task : W) (m : QueueMark) (r : QueueReply T) (s : queue.Stage T)
+        → AnswersPush q w m r s
         → Answered (channel.PollSend v k t') (aim.Poll Sends key task) (ask.Push w) m r s
     pushed v w k key t' task Nothing (answer.Push (Ok u)) (appended None) h =
-        let few = anew_at_most {T = T} (record { ask = ask.Push w; stage = appended None }) Sends key task in inl (omega (arith, few))
+        let few = anew_at_most {T = T} (record { ask = ask.Push w; stage = appended None }) Sends key task in inl
+        (omega (arith, few))
     pushed v w k key t' task Nothing (answer.Push (Err (push_error.Full z))) (trying b) h = inr (refl, inl h.1)
     pushed v w k key t' task Nothing (answer.Push (Err (push_error.Closed z))) (trying b) h = inr (refl, inr (inl h.1))
     pushed v w k key t' task Nothing (answer.Push (Err (push_error.NoMemory z))) (trying b) h = inr (refl, inr (inr h.1))
     pushed v w k key t' task m r s h = absurd h
 
-    forced : (v w : T) (m : QueueMark) (r : QueueReply T) (s : queue.Stage T) → AnswersForce q w m r s → Answered (channel.ForceSend v) aim.ForceSend (ask.ForcePush w) m r s
+    forced : (v w : T) (m : QueueMark) (r : QueueReply T) (s : queue.Stage T) → AnswersForce q w m r s
+        → Answered (channel.ForceSend v) aim.ForceSend (ask.ForcePush w) m r s
     forced v w Nothing (answer.Force (Ok d)) (appended o) h = inl (omega arith)
     forced v w Nothing (answer.Force (Err (force_error.Closed z))) (trying b) h = inl (omega arith)
     forced v w Nothing (answer.Force (Err (force_error.NoMemory z))) (trying b) h = inl (omega arith)
     forced v w m r s h = absurd h
 
-    popped_try : (m : QueueMark) (r : QueueReply T) (s : queue.Stage T) → AnswersPop q m r s → Answered channel.TryRecv aim.TryRecv ask.Pop m r s
+    popped_try : (m : QueueMark) (r : QueueReply T) (s : queue.Stage T) → AnswersPop q m r s
+        → Answered channel.TryRecv aim.TryRecv ask.Pop m r s
     popped_try Nothing (answer.Pop (Ok w)) (taken v) h = inl (omega arith)
     popped_try Nothing (answer.Pop (Err pop_error.Empty)) (trying b) h = inl (omega arith)
     popped_try Nothing (answer.Pop (Err pop_error.Closed)) (trying b) h = inl (omega arith)
     popped_try m r s h = absurd h
 
-    popped_poll : (k key : Option Key) (t' task : W) (m : QueueMark) (r : QueueReply T) (s : queue.Stage T) → AnswersPop q m r s → Answered (channel.PollRecv k t') (aim.Poll Receives key task) ask.Pop m r s
+    popped_poll : (k key : Option Key) (t' task : W) (m : QueueMark) (r : QueueReply T) (s : queue.Stage T) → AnswersPop q m r s
+        → Answered (channel.PollRecv k t') (aim.Poll Receives key task) ask.Pop m r s
     popped_poll k key t' task Nothing (answer.Pop (Ok w)) (taken v) h = inl (omega arith)
     popped_poll k key t' task Nothing (answer.Pop (Err pop_error.Empty)) (trying b) h = inl (omega arith)
     popped_poll k key t' task Nothing (answer.Pop (Err pop_error.Closed)) (trying b) h = inl (omega arith)
     popped_poll k key t' task m r s h = absurd h
 
-    popped_next : (k key : Option Key) (t' task : W) (m : QueueMark) (r : QueueReply T) (s : queue.Stage T) → AnswersPop q m r s → Answered (channel.PollNext k t') (aim.Poll Streams key task) ask.Pop m r s
+    popped_next : (k key : Option Key) (t' task : W) (m : QueueMark) (r : QueueReply T) (s : queue.Stage T) → AnswersPop q m r s
+        → Answered (channel.PollNext k t') (aim.Poll Streams key task) ask.Pop m r s
     popped_next k key t' task Nothing (answer.Pop (Ok w)) (taken v) h = inl (omega arith)
     popped_next k key t' task Nothing (answer.Pop (Err pop_error.Empty)) (trying b) h = inl (omega arith)
     popped_next k key t' task Nothing (answer.Pop (Err pop_error.Closed)) (trying b) h = inl (omega arith)
     popped_next k key t' task m r s h = absurd h
 
-    answers_pay : (x : ChannelAsk T W) (y : Aim W) (a : QueueAsk T) (m : QueueMark) (r : QueueReply T) (s : queue.Stage T) → TriesFor x y a ds seen → AnswersTo q a m r s → Answered x y a m r s
+    answers_pay : (x : ChannelAsk T W) (y : Aim W) (a : QueueAsk T) (m : QueueMark) (r : QueueReply T) (s : queue.Stage T)
+        → TriesFor x y a ds seen → AnswersTo q a m r s → Answered x y a m r s
     answers_pay channel.TryRecv aim.TryRecv ask.Pop m r s h g = popped_try m r s g
     answers_pay channel.TryRecv y a m r s h g = absurd h
     answers_pay (channel.PollRecv k t') (aim.Poll Receives key task) ask.Pop m r s h g = popped_poll k key t' task m r s g
@@ -171,24 +183,30 @@ module _ {T W : Type 0} where
 
   -- where the queue has places enough with this many, it has so with that many after the step
   places_on : (c d : Channel T W) (n k : ℕ) → (Shut c → Shut d) → d.queue.capacity ≡ c.queue.capacity
-      → length c.queue.items + length (told_of Sends c) + n ≤ length d.queue.items + length (told_of Sends d) + k → PlacesAreFew c n → PlacesAreFew d k
+      → length c.queue.items + length (told_of Sends c) + n ≤ length d.queue.items + length (told_of Sends d) + k
+      → PlacesAreFew c n → PlacesAreFew d k
   places_on c d n k shut cap less (inl h) = inl (shut h)
   places_on c d n k shut cap less (inr h) =
       inr (subst (λ (o : Option ℕ). HasPlaces o (length d.queue.items + length (told_of Sends d) + k)) (sym cap) (
-      has_more c.queue.capacity (length c.queue.items + length (told_of Sends c) + n) (length d.queue.items + length (told_of Sends d) + k) less h))
+      has_more c.queue.capacity (length c.queue.items + length (told_of Sends c) + n)
+      (length d.queue.items + length (told_of Sends d) + k) less h))
 
   full_places : (c : Channel T W) (n : ℕ) → is_filled c.queue ≡ true → PlacesAreFew c n
   full_places c n h =
-      inr (has_more c.queue.capacity (length c.queue.items + 0) (length c.queue.items + length (told_of Sends c) + n) (omega arith) (filled_as c.queue.capacity c.queue.items 0 h))
+      inr (has_more c.queue.capacity (length c.queue.items + 0) (length c.queue.items + length (told_of Sends c) + n)
+      (omega arith) (filled_as c.queue.capacity c.queue.items 0 h))
 
   -- a refusal leaves places as few as can be
   refused_places : (c : Channel T W) (n k : ℕ) → Refuses c.queue → PlacesAreFew c n → PlacesAreFew c k
   refused_places c n k (inl full) h = full_places c k full
   refused_places c n k (inr (inl shut)) h = inl shut
   refused_places c n k (inr (inr none)) (inl shut) = inl shut
-  refused_places c n k (inr (inr none)) (inr h) = absurd (subst (λ (o : Option ℕ). HasPlaces o (length c.queue.items + length (told_of Sends c) + n)) none h)
+  refused_places c n k (inr (inr none)) (inr h) =
+      absurd (subst (λ (o : Option ℕ). HasPlaces o (length c.queue.items + length (told_of Sends c) + n)) none h)
 
-  module _ (c : Channel T W) (x : ChannelAsk T W) (f : Phase T) (y : Aim W) (m : QueueMark) (ds : List (Deed T W)) (seen : List (Channel T W)) (r : Option (Reply T)) (s : Stage (Phase T) T W) (shut : Shut c → Shut (let e : Effect T W = queued f m c in e.channel)) where
+  module _ (c : Channel T W) (x : ChannelAsk T W) (f : Phase T) (y : Aim W) (m : QueueMark) (ds : List (Deed T W))
+      (seen : List (Channel T W)) (r : Option (Reply T)) (s : Stage (Phase T) T W)
+      (shut : Shut c → Shut (let e : Effect T W = queued f m c in e.channel)) where
     abbrev now : Channel T W
     now = let e : Effect T W = queued f m c in e.channel
 
@@ -201,15 +219,18 @@ module _ {T W : Type 0} where
         let k = goes_pays c.queue ds seen x y f.ask m f.stage f'.stage h goes.1 in
         let after = ap (λ (z : Option (Reply T)). left_over counts_for_sends x z s) none in
         let at = ap (λ (z : Stage (Phase T) T W). counts_for_sends x z) there in
-        places_on c now (counts_for_sends x (Trying f y) + n) (left_over counts_for_sends x r s + n) shut same_bound (omega (arith, same, k, after, at)) enough
+        places_on c now (counts_for_sends x (Trying f y) + n) (left_over counts_for_sends x r s + n) shut same_bound
+        (omega (arith, same, k, after, at)) enough
     tried_pays h (inr (reply, ans, turned)) n enough = by_answer (answers_pay c.queue ds seen x y f.ask m reply f.stage h ans)
       where
         by_answer : Answered c.queue ds seen x y f.ask m reply f.stage → PlacesAreFew now (left_over counts_for_sends x r s + n)
         by_answer (inl k) =
             let after = turned_weighs counts_for_sends x (answered_next y reply) r s turned in
-            places_on c now (counts_for_sends x (Trying f y) + n) (left_over counts_for_sends x r s + n) shut same_bound (omega (arith, k, after)) enough
+            places_on c now (counts_for_sends x (Trying f y) + n) (left_over counts_for_sends x r s + n) shut same_bound
+            (omega (arith, k, after)) enough
         by_answer (inr k) =
-            subst (λ (z : QueueMark). PlacesAreFew (let e : Effect T W = queued f z c in e.channel) (left_over counts_for_sends x r s + n)) (sym k.0) (
+            subst (λ (z : QueueMark). PlacesAreFew (let e : Effect T W = queued f z c in e.channel)
+            (left_over counts_for_sends x r s + n)) (sym k.0) (
             refused_places c (counts_for_sends x (Trying f y) + n) (left_over counts_for_sends x r s + n) k.1 enough)
 
   -- ---- a step on a list
@@ -224,7 +245,8 @@ module _ {T W : Type 0} where
   work_counts (channel.PollNext k t) w = tells_at_most w
   work_counts x w = omega arith
 
-  asks_as : (x : ChannelAsk T W) (v : Waiting T) (task : W) (r : Option (Reply T)) (s : Stage (Phase T) T W) → IsFor x v → Sends ≡ line_of v → Turned (again v None task) r s → left_over counts_for_sends x r s ≡ 1
+  asks_as : (x : ChannelAsk T W) (v : Waiting T) (task : W) (r : Option (Reply T)) (s : Stage (Phase T) T W) → IsFor x v
+      → Sends ≡ line_of v → Turned (again v None task) r s → left_over counts_for_sends x r s ≡ 1
   asks_as (channel.PollSend m k t) (waiting.Send v) task r s h at turned =
       turned_weighs counts_for_sends (channel.PollSend m k t) (again (waiting.Send v) None task) r s turned
   asks_as x waiting.Receive task r s h at turned = absurd (let never : Sends ≡ Receives = at in cc)
@@ -232,15 +254,18 @@ module _ {T W : Type 0} where
   asks_as x waiting.Closing task r s h at turned = absurd (let never : Sends ≡ Closings = at in cc)
   asks_as x v task r s h at turned = absurd h
 
-  asks_anew : (x : ChannelAsk T W) (w : Work T W) (ds : List (Deed T W)) (seen : List (Channel T W)) (r : Option (Reply T)) (s : Stage (Phase T) T W) → WorkAt x w ds seen → AsksAnew Sends w r s
+  asks_anew : (x : ChannelAsk T W) (w : Work T W) (ds : List (Deed T W)) (seen : List (Channel T W)) (r : Option (Reply T))
+      (s : Stage (Phase T) T W) → WorkAt x w ds seen → AsksAnew Sends w r s
       → (left_over counts_for_sends x r s ≡ 1) × (tells_now w Sends ≡ 0)
   asks_anew x (Register v key task) ds seen r s h k = (asks_as x v task r s h.0 k.0 k.1, refl)
   asks_anew x w ds seen r s h k = absurd k
 
-  module _ (c : Channel T W) (x : ChannelAsk T W) (w : Work T W) (ds : List (Deed T W)) (seen : List (Channel T W)) (e : Effect T W) (r : Option (Reply T)) (s : Stage (Phase T) T W) (shut : Shut c → Shut e.channel) where
+  module _ (c : Channel T W) (x : ChannelAsk T W) (w : Work T W) (ds : List (Deed T W)) (seen : List (Channel T W))
+      (e : Effect T W) (r : Option (Reply T)) (s : Stage (Phase T) T W) (shut : Shut c → Shut e.channel) where
     worked_pays : WorkAt x w ds seen → e.channel.queue ≡ c.queue
         → (length (told_of Sends c) + tells_now w Sends ≤ length (told_of Sends e.channel))
-          ⊎ ((AsksAnew Sends w r s × (length (told_of Sends c) ≤ length (told_of Sends e.channel) + 1)) ⊎ AnyTold false (told_of Sends c))
+        ⊎ ((AsksAnew Sends w r s × (length (told_of Sends c) ≤ length (told_of Sends e.channel) + 1))
+        ⊎ AnyTold false (told_of Sends c))
         → Paid c x (Working w) e r s ⊎ AnyTold false (told_of Sends c)
     worked_pays h same (inl k) = inl pays
       where
@@ -248,7 +273,8 @@ module _ {T W : Type 0} where
         pays n enough =
             let items = ap (λ (q : Queue T). length q.items) same in
             let counts = work_counts x w in
-            places_on c e.channel (counts_for_sends x (Working w) + n) (left_over counts_for_sends x r s + n) shut (ap (λ (q : Queue T). q.capacity) same) (omega (arith, items, counts, k)) enough
+            places_on c e.channel (counts_for_sends x (Working w) + n) (left_over counts_for_sends x r s + n) shut
+            (ap (λ (q : Queue T). q.capacity) same) (omega (arith, items, counts, k)) enough
     worked_pays h same (inr (inl (anew, k))) = inl pays
       where
         pays : Paid c x (Working w) e r s
@@ -258,18 +284,23 @@ module _ {T W : Type 0} where
             let tries = asks_anew x w ds seen r s h anew in
             let one = tries.0 in
             let none = tries.1 in
-            places_on c e.channel (counts_for_sends x (Working w) + n) (left_over counts_for_sends x r s + n) shut (ap (λ (q : Queue T). q.capacity) same) (omega (arith, items, counts, k, one, none)) enough
+            places_on c e.channel (counts_for_sends x (Working w) + n) (left_over counts_for_sends x r s + n) shut
+            (ap (λ (q : Queue T). q.capacity) same) (omega (arith, items, counts, k, one, none)) enough
     worked_pays h same (inr (inr d)) = inr d
 
-  send_pays : (c : Channel T W) (x : ChannelAsk T W) (at : Stage (Phase T) T W) (ds : List (Deed T W)) (seen : List (Channel T W)) (e : Effect T W) (r : Option (Reply T)) (s : Stage (Phase T) T W) (key : Key)
-      → StageAt c x at ds seen → Moves c at e r s → Waits Sends key e.channel → Paid c x at e r s ⊎ AnyTold false (told_of Sends c)
+  send_pays : (c : Channel T W) (x : ChannelAsk T W) (at : Stage (Phase T) T W) (ds : List (Deed T W))
+      (seen : List (Channel T W)) (e : Effect T W) (r : Option (Reply T)) (s : Stage (Phase T) T W) (key : Key)
+      → StageAt c x at ds seen → Moves c at e r s → Waits Sends key e.channel → Paid c x at e r s
+      ⊎ AnyTold false (told_of Sends c)
   send_pays c x (Trying f y) ds seen e r s key st g w =
       let shut : Shut c → Shut (let z : Effect T W = queued f g.mark c in z.channel) =
-          (λ h. subst (λ (z : Effect T W). Shut z.channel) g.effect (let k = shut_does c (Trying f y) e r s h g in k.0.0)) in
-      inl (subst (λ (z : Effect T W). Paid c x (Trying f y) z r s) (sym g.effect) (tried_pays c x f y g.mark ds seen r s shut st.0 g.how))
+      (λ h. subst (λ (z : Effect T W). Shut z.channel) g.effect (let k = shut_does c (Trying f y) e r s h g in k.0.0)) in
+      inl (subst (λ (z : Effect T W). Paid c x (Trying f y) z r s) (sym g.effect)
+      (tried_pays c x f y g.mark ds seen r s shut st.0 g.how))
   send_pays c x (Working z) ds seen e r s key st g w =
       let k = worked_spares c z e r s g in
-      worked_pays c x z ds seen e r s (λ h. (let d = shut_does c (Working z) e r s h g in d.0.0)) st k.0 (worked_counts key r s Sends tt c z e g w)
+      worked_pays c x z ds seen e r s (λ h. (let d = shut_does c (Working z) e r s h g in d.0.0)) st k.0
+      (worked_counts key r s Sends tt c z e g w)
   send_pays c x (Finished kept) ds seen e r s key st g w = absurd st
 
   places_more : (c : Channel T W) (m n : ℕ) → m ≤ n → PlacesAreFew c m → PlacesAreFew c n

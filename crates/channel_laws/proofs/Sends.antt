@@ -12,7 +12,8 @@ use Rattle.channel_laws.proofs.Owed.{owed_next, pending_owed}
 use Rattle.channel_laws.proofs.SendMoves.{send_ledger}
 
 module _ {T W : Type 0} where
-  pub sends_next : (s : Scene T W) (x : Step T W) (e : Entry T) (names : List W) (t : Scene T W) → Next s x e names t → SendsSound s → SendsSound t
+  pub sends_next : (s : Scene T W) (x : Step T W) (e : Entry T) (names : List W) (t : Scene T W) → Next s x e names t
+      → SendsSound s → SendsSound t
   sends_next s x e names t n sound =
       record {
         tellings = tellings_next s x e names t n sound.tellings;

@@ -50,7 +50,8 @@ module _ {T W : Type 0} (weigh : ChannelAsk T W → Stage (Phase T) T W → ℕ)
         omega (arith, all, joined, right, before, behind, mine)
 
   -- who begins takes nothing away
-  pub total_begins : (s t : Scene T W) (p : ℕ) (ask : ChannelAsk T W) (e : Entry T) (b : Begins s p ask e t) → total weigh s.under_way ≤ total weigh t.under_way
+  pub total_begins : (s t : Scene T W) (p : ℕ) (ask : ChannelAsk T W) (e : Entry T) (b : Begins s p ask e t)
+      → total weigh s.under_way ≤ total weigh t.under_way
   total_begins s t p ask e b =
       let all = ap (λ (us : List (Under T W)). total weigh us) b.under_way in
       let joined = total_join s.under_way (begun p ask b.at s.now ∷ []) in

@@ -58,10 +58,12 @@ module _ {T W : Type 0} where
 module _ (T W S : Type 0) (wakes : S → W → S → Type 0) where
   abbrev pub ReceivesStayOwed : Type 0
   ReceivesStayOwed =
-      (s t : Scene T W) (steps : List (Step T W)) (trace : List (Entry T)) → ReceivesSound s → Leads wakes s steps trace t → ReceivesSound t
+      (s t : Scene T W) (steps : List (Step T W)) (trace : List (Entry T)) → ReceivesSound s → Leads wakes s steps trace t
+      → ReceivesSound t
 
   -- in every run from a channel that was just opened
   abbrev pub NoReceiveIsForgotten : Type 0
   NoReceiveIsForgotten =
-      (cap : Option ℕ) (t : Scene T W) (steps : List (Step T W)) (trace : List (Entry T)) → Leads wakes (new_scene cap) steps trace t
+      (cap : Option ℕ) (t : Scene T W) (steps : List (Step T W)) (trace : List (Entry T))
+      → Leads wakes (new_scene cap) steps trace t
       → ReceivesAreOwed t × PendingReceivesAreOwed t

@@ -74,10 +74,12 @@ module _ {T W : Type 0} where
 module _ (T W S : Type 0) (wakes : S → W → S → Type 0) where
   abbrev pub SendsStayOwed : Type 0
   SendsStayOwed =
-      (s t : Scene T W) (steps : List (Step T W)) (trace : List (Entry T)) → SendsSound s → Leads wakes s steps trace t → SendsSound t
+      (s t : Scene T W) (steps : List (Step T W)) (trace : List (Entry T)) → SendsSound s → Leads wakes s steps trace t
+      → SendsSound t
 
   -- in every run from a channel that was just opened
   abbrev pub NoSendIsForgotten : Type 0
   NoSendIsForgotten =
-      (cap : Option ℕ) (t : Scene T W) (steps : List (Step T W)) (trace : List (Entry T)) → Leads wakes (new_scene cap) steps trace t
+      (cap : Option ℕ) (t : Scene T W) (steps : List (Step T W)) (trace : List (Entry T))
+      → Leads wakes (new_scene cap) steps trace t
       → SendsAreOwed t × PendingSendsAreOwed t
