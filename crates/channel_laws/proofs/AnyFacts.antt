@@ -16,6 +16,17 @@ module _ {T W : Type 0} where
   any_but P Q (u ∷ us) (inl (inr h)) none = absurd (none.0 h)
   any_but P Q (u ∷ us) (inr h) none = inr (any_but P Q us h none.1)
 
+  -- one of them is so, and none is
+  pub any_none : (P : Under T W → Type 0) (us : List (Under T W)) → Any P us → Each (λ u. P u → ⊥) us → ⊥
+  any_none P [] h none = h
+  any_none P (u ∷ us) (inl h) none = none.0 h
+  any_none P (u ∷ us) (inr h) none = any_none P us h none.1
+
+  pub any_weaker : (P Q : Under T W → Type 0) → ((u : Under T W) → P u → Q u) → (us : List (Under T W)) → Any P us → Any Q us
+  any_weaker P Q f [] h = h
+  any_weaker P Q f (u ∷ us) (inl h) = inl (f u h)
+  any_weaker P Q f (u ∷ us) (inr h) = inr (any_weaker P Q f us h)
+
 module _ {T W : Type 0} (P : Under T W → Type 0) where
   pub any_left : (us vs : List (Under T W)) → Any P us → Any P (us ++ vs)
   any_left [] vs h = absurd h

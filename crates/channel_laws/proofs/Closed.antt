@@ -30,13 +30,13 @@ module _ {T : Type 0} where
   one_message a = omega arith
 
   -- the queue keeps its flag, and holds no more
-  abbrev Keeps : Queue T → Queue T → Type 0
+  abbrev pub Keeps : Queue T → Queue T → Type 0
   Keeps q q' = IsShut q' × (within q' ≤ within q)
 
   keeps_same : (q q' : Queue T) → q' ≡ q → IsShut q → Keeps q q'
   keeps_same q q' e shut = subst (λ (x : Queue T). Keeps q x) (sym e) (shut, omega arith)
 
-  one_fewer : (q : Queue T) (v : T) → IsOldest v q → length (drop 1 q.items) + 1 ≡ length q.items
+  pub one_fewer : (q : Queue T) (v : T) → IsOldest v q → length (drop 1 q.items) + 1 ≡ length q.items
   one_fewer q v (rest, e) =
       let n : length q.items ≡ length (v ∷ rest) = ap length e in
       let k : length (drop 1 q.items) ≡ length rest = ap (λ (xs : List T). length (drop 1 xs)) e in
@@ -60,7 +60,7 @@ module _ {T : Type 0} where
 
 module _ {T W : Type 0} where
   -- what a step does to a closed channel
-  abbrev Does : Channel T W → Stage (Phase T) T W → Effect T W → Type 0
+  abbrev pub Does : Channel T W → Stage (Phase T) T W → Effect T W → Type 0
   Does c at e = Keeps c.queue e.channel.queue × MayStillDo e.mark c at
 
   may_mark : (c : Channel T W) (f : Phase T) (aim : Aim W) (m : QueueMark) → MayMark m f.stage c.queue → MayStillDo (let e : Effect T W = queued f m c in e.mark) c (Trying f aim)
@@ -79,7 +79,7 @@ module _ {T W : Type 0} where
   still_may c at Close h = absurd h
   still_may c at m h = tt
 
-  shut_does : (c : Channel T W) (at : Stage (Phase T) T W) (e : Effect T W) (r : Option (Reply T)) (s : Stage (Phase T) T W) → Shut c → Moves c at e r s → Does c at e
+  pub shut_does : (c : Channel T W) (at : Stage (Phase T) T W) (e : Effect T W) (r : Option (Reply T)) (s : Stage (Phase T) T W) → Shut c → Moves c at e r s → Does c at e
   shut_does c (Trying f aim) e r s shut h =
       let may = tried_may c f h.mark _ _ shut (λ k. (k.0, k.1)) (λ k. (k.0, k.1)) h.how in
       subst (λ (x : Effect T W). Does c (Trying f aim) x) (sym h.effect) (keeps_marked c.queue f h.mark shut may, may_mark c f aim h.mark may)

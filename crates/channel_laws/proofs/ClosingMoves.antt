@@ -152,11 +152,11 @@ module _ {T W : Type 0} where
     ask_drops m reply s h = absurd h
 
   -- what a poll asks of the queue
-  sends_push : (x : ChannelAsk T W) (o : Option Key) (task : W) (a : QueueAsk T) (ds : List (Deed T W)) (seen : List (Channel T W)) → TriesFor x (aim.Poll Sends o task) a ds seen → (v : T) × (a ≡ ask.Push v)
+  pub sends_push : (x : ChannelAsk T W) (o : Option Key) (task : W) (a : QueueAsk T) (ds : List (Deed T W)) (seen : List (Channel T W)) → TriesFor x (aim.Poll Sends o task) a ds seen → (v : T) × (a ≡ ask.Push v)
   sends_push (channel.PollSend m k t) o task (ask.Push v) ds seen h = (v, refl)
   sends_push x o task a ds seen h = absurd h
 
-  receives_pop : (x : ChannelAsk T W) (o : Option Key) (task : W) (a : QueueAsk T) (ds : List (Deed T W)) (seen : List (Channel T W)) → TriesFor x (aim.Poll Receives o task) a ds seen → a ≡ ask.Pop
+  pub receives_pop : (x : ChannelAsk T W) (o : Option Key) (task : W) (a : QueueAsk T) (ds : List (Deed T W)) (seen : List (Channel T W)) → TriesFor x (aim.Poll Receives o task) a ds seen → a ≡ ask.Pop
   receives_pop (channel.PollRecv k t) o task ask.Pop ds seen h = refl
   receives_pop x o task a ds seen h = absurd h
 
@@ -214,13 +214,13 @@ module _ {T W : Type 0} where
   looking done line at key k r s e f h =
       (h.0, inr (subst (λ (l : Line). LooksAgain l key s) e (subst (λ (z : Key). LooksAgain at z s) f h.1)))
 
-  left_line : (line : Line) (key : Key) (c : Channel T W) → WaitApart line c → Waits line key (removes (record { line = line; key = key }) c).channel → ⊥
+  pub left_line : (line : Line) (key : Key) (c : Channel T W) → WaitApart line c → Waits line key (removes (record { line = line; key = key }) c).channel → ⊥
   left_line Sends key c apart w = removed_leaves key c.roster.sends apart w
   left_line Receives key c apart w = removed_leaves key c.roster.receives apart w
   left_line Streams key c apart w = removed_leaves key c.roster.streams apart w
   left_line Closings key c apart w = removed_leaves key c.roster.closings apart w
 
-  looks_goes : (done : List (Deed T W)) (c : Channel T W) (x : ChannelAsk T W) (at : Stage (Phase T) T W) (ds : List (Deed T W)) (seen : List (Channel T W)) (e : Effect T W) (r : Option (Reply T)) (s : Stage (Phase T) T W) (line : Line) (key : Key)
+  pub looks_goes : (done : List (Deed T W)) (c : Channel T W) (x : ChannelAsk T W) (at : Stage (Phase T) T W) (ds : List (Deed T W)) (seen : List (Channel T W)) (e : Effect T W) (r : Option (Reply T)) (s : Stage (Phase T) T W) (line : Line) (key : Key)
       → StageAt c x at ds seen → Moves c at e r s → Shut c → LooksAgain line key at → WaitApart line c → Waits line key e.channel → GoesOnFor done line key r s
   looks_goes done c x (Trying f (aim.Poll at (Some k) task)) ds seen e r s line key st g shut h apart w =
       looking done line at key k r s h.0 h.1 (polls_on c x f at k task g.mark ds seen r s shut st.0 h.2 g.how)

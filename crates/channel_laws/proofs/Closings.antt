@@ -2,12 +2,11 @@
 use Rattle.std.proofs.Common.{ℕ, List, [], ◌∷◌, Option, ◌⊎◌, inl, inr, refl, sym, subst}
 use Rattle.event_listener.specs.declared.key.Key.{Key}
 use Rattle.async_channel.specs.Moves.{Channel, Effect}
-use Rattle.async_channel.specs.Parts.{Parts}
 use Rattle.async_channel.specs.declared.stage.Line.{Line}
 use Rattle.async_channel.specs.declared.stage.Line.TheVariants.{Sends, Receives, Streams, Closings}
 use Rattle.channel_steps.specs.Moments.{Deed, with_deed, Shut}
 use Rattle.channel_steps.specs.Scene.{Under, Scene, Steps, Known, sees}
-use Rattle.channel_steps.specs.Run.{Next, IsRun, new_scene}
+use Rattle.channel_steps.specs.Run.{Next, new_scene}
 use Rattle.channel_steps.specs.declared.party.Entry.{Entry}
 use Rattle.channel_steps.specs.declared.run.Step.{Step}
 use Rattle.channel_steps.specs.declared.run.Step.TheVariants as step
@@ -15,6 +14,7 @@ use Rattle.channel_steps.proofs.Interface.{known_next}
 use Rattle.channel_laws.specs.Waits.{Waits, WaitApart, Any}
 use Rattle.channel_laws.specs.Closings.{HasClosed, HasToTell, LooksAgain, ClosingIsOwed, PendingIsOwedTheClosing, AnswersClosed, ClosingSound, ClosingStaysOwed, NobodyMissesTheClosing}
 use Rattle.channel_laws.proofs.AnyFacts.{any_but, any_mine, any_steps, any_begins}
+use Rattle.channel_laws.proofs.RunFacts.{kept_long}
 use Rattle.channel_laws.proofs.EachFacts.{of_mine, each_known}
 use Rattle.channel_laws.proofs.ListMoves.{Tries, moved_lists, waited, stays_apart}
 use Rattle.channel_laws.proofs.ClosingMoves.{GoesOnFor, has_still, has_now, answering_on, shut_before, newcomer_looks}
@@ -65,7 +65,7 @@ module _ {T W : Type 0} where
     apart_after : (line : Line) → WaitApart line t.now
     apart_after line = stays_apart line s.now effect e.reply st.at_now (moved_lists line s.now st.mine.at effect e.reply st.at_now st.moves) (sound.apart line)
 
-  sound_next : (s : Scene T W) (x : Step T W) (e : Entry T) (names : List W) (t : Scene T W) → Next s x e names t → ClosingSound s → ClosingSound t
+  pub sound_next : (s : Scene T W) (x : Step T W) (e : Entry T) (names : List W) (t : Scene T W) → Next s x e names t → ClosingSound s → ClosingSound t
   sound_next s (step.Begin p ask) e names t n sound =
       let k = known_next s (step.Begin p ask) e names t n sound.known sound.balanced in
       let b = n.0 in
@@ -85,33 +85,24 @@ module _ {T W : Type 0} where
         owed = λ line key shut w. answered_after s t p e names n sound line key shut w;
       }
 
-  -- ---- runs
-
-  module _ {S : Type 0} (wakes : S → W → S → Type 0) where
-    sound_long : (parts parts' : Parts T W) (s t : Scene T W) (a b : S) (xs : List (Step T W)) (es : List (Entry T)) → ClosingSound s → IsRun wakes parts s a xs es parts' t b → ClosingSound t
-    sound_long parts parts' s t a b [] [] h run = subst (λ (z : Scene T W). ClosingSound z) (sym run.1) h
-    sound_long parts parts' s t a b (x ∷ xs) (e ∷ es) h run =
-        sound_long run.0 parts' run.1 t run.2 b xs es (sound_next s x e run.3 run.1 run.5 h) run.7
-    sound_long parts parts' s t a b [] (e ∷ es) h run = absurd run
-    sound_long parts parts' s t a b (x ∷ xs) [] h run = absurd run
+module _ (T W : Type 0) where
+  pub new_apart : (cap : Option ℕ) (line : Line) → WaitApart line (let s : Scene T W = new_scene cap in s.now)
+  new_apart cap Sends = tt
+  new_apart cap Receives = tt
+  new_apart cap Streams = tt
+  new_apart cap Closings = tt
 
 module _ {T W : Type 0} where
+  pub new_sound : (cap : Option ℕ) → ClosingSound (new_scene {T = T} {W = W} cap)
+  new_sound cap = record { known = tt; balanced = refl; apart = new_apart T W cap; owed = λ line key shut w. absurd cc }
+
   pending_owed : (s : Scene T W) → ClosingIsOwed s → PendingIsOwedTheClosing s
   pending_owed s owed line key shut w none =
       any_but (λ u. HasClosed u.deeds × HasToTell line u.at) (λ u. LooksAgain line key u.at) s.under_way (owed line key shut w) none
 
 module _ (T W S : Type 0) (wakes : S → W → S → Type 0) where
   pub closing_stays_owed : ClosingStaysOwed T W S wakes
-  closing_stays_owed s t steps trace h run = sound_long wakes run.0 run.1 s t run.2 run.3 steps trace h run.4
-
-  new_apart : (cap : Option ℕ) (line : Line) → WaitApart line (let s : Scene T W = new_scene cap in s.now)
-  new_apart cap Sends = tt
-  new_apart cap Receives = tt
-  new_apart cap Streams = tt
-  new_apart cap Closings = tt
-
-  new_sound : (cap : Option ℕ) → ClosingSound (new_scene {T = T} {W = W} cap)
-  new_sound cap = record { known = tt; balanced = refl; apart = new_apart cap; owed = λ line key shut w. absurd cc }
+  closing_stays_owed s t steps trace h run = kept_long wakes ClosingSound sound_next run.0 run.1 s t run.2 run.3 steps trace h run.4
 
   pub nobody_misses_the_closing : NobodyMissesTheClosing T W S wakes
   nobody_misses_the_closing cap t steps trace run = let h = closing_stays_owed (new_scene cap) t steps trace (new_sound cap) run in (h.owed, pending_owed t h.owed)

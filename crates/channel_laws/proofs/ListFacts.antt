@@ -60,7 +60,7 @@ module _ {W : Type 0} where
   thin_none : (ws : List (Key × Option W)) → Thinner ws []
   thin_none ws = (λ key h. absurd h, λ h. tt)
 
-  thin_drop : (n : ℕ) (ws : List (Key × Option W)) → Thinner ws (drop n ws)
+  pub thin_drop : (n : ℕ) (ws : List (Key × Option W)) → Thinner ws (drop n ws)
   thin_drop zero ws = thin_same ws
   thin_drop (suc n) [] = thin_same []
   thin_drop (suc n) (w ∷ ws) = let f = thin_drop n ws in (λ key h. inr (f.0 key h), λ h. f.1 h.1)
@@ -137,7 +137,7 @@ module _ {W : Type 0} where
   pub thin_registration : (key : Key) (task : W) (l : Listeners W) → Thinner l.waiting (registration key task l).waiting
   thin_registration key task l = thin_register (is_some (told_as l key)) (is_some (waits_as l key)) key task l
 
-  abbrev removed_as : Option (Notice Unit) → Bool → Key → Listeners W → Listeners W
+  abbrev pub removed_as : Option (Notice Unit) → Bool → Key → Listeners W → Listeners W
   removed_as o b key l = elim o [ Some notice ↦ (if true then passed notice (without key l) else without key l) | None ↦ (if b then without key l else l) ]
 
   thin_removed_as : (o : Option (Notice Unit)) (b : Bool) (key : Key) (l : Listeners W) → Thinner l.waiting (removed_as o b key l).waiting

@@ -72,7 +72,7 @@ module _ {T : Type 0} where
   pop_fills q m s t g h = absurd g
 
   -- a push, of either kind
-  abbrev IsPush : QueueAsk T → Type 0
+  abbrev pub IsPush : QueueAsk T → Type 0
   IsPush (ask.Push v) = Unit {0}
   IsPush (ask.ForcePush v) = Unit {0}
   IsPush a = ⊥
@@ -254,7 +254,7 @@ module _ {T W : Type 0} where
   turned_brings turn r s b t = absurd b
 
   -- who pushes is a sending call
-  push_sends : (x : ChannelAsk T W) (y : Aim W) (a : QueueAsk T) (ds : List (Deed T W)) (seen : List (Channel T W)) → TriesFor x y a ds seen → IsPush a → IsSending x
+  pub push_sends : (x : ChannelAsk T W) (y : Aim W) (a : QueueAsk T) (ds : List (Deed T W)) (seen : List (Channel T W)) → TriesFor x y a ds seen → IsPush a → IsSending x
   push_sends (channel.TrySend m) y a ds seen h p = tt
   push_sends (channel.ForceSend m) y a ds seen h p = tt
   push_sends (channel.PollSend m k t) y a ds seen h p = tt

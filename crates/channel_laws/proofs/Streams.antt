@@ -2,10 +2,9 @@
 use Rattle.std.proofs.Common.{◌≡◌, ℕ, List, [], ◌∷◌, Option, ◌⊎◌, inl, inr, refl, sym, ap, ◌∙◌, subst}
 use Rattle.event_listener.specs.declared.key.Key.{Key}
 use Rattle.async_channel.specs.Moves.{Channel, Effect}
-use Rattle.async_channel.specs.Parts.{Parts}
 use Rattle.async_channel.specs.declared.stage.Line.TheVariants.{Streams}
 use Rattle.channel_steps.specs.Scene.{Under, Scene, Steps, Known, sees}
-use Rattle.channel_steps.specs.Run.{Next, IsRun, Begins, new_scene}
+use Rattle.channel_steps.specs.Run.{Next, Begins, new_scene}
 use Rattle.channel_steps.specs.declared.party.Entry.{Entry}
 use Rattle.channel_steps.specs.declared.run.Step.{Step}
 use Rattle.channel_steps.specs.declared.run.Step.TheVariants as step
@@ -13,6 +12,7 @@ use Rattle.channel_steps.proofs.Interface.{known_next}
 use Rattle.channel_laws.specs.Streams.{IsSending, IsBringing, HasInHand, PendingStreamsAreOwed, AnswersFor, StreamsAreOwed, StreamsSound, StreamsStayOwed, NoStreamIsForgotten}
 use Rattle.channel_laws.specs.Waits.{Waits, WaitApart, Any}
 use Rattle.channel_laws.proofs.AnyFacts.{any_but, any_mine, any_steps, any_begins}
+use Rattle.channel_laws.proofs.RunFacts.{kept_long}
 use Rattle.channel_laws.proofs.EachFacts.{of_mine, each_known}
 use Rattle.channel_laws.proofs.ListMoves.{Tries, moved_lists, waited, stays_apart}
 use Rattle.channel_laws.proofs.StreamMoves.{Going, Settled, answering_goes, empty_goes, newcomer_goes}
@@ -70,7 +70,7 @@ module _ {T W : Type 0} where
   begun_owed s t p ask e b key (inl h) = inl (ap (λ (c : Channel T W). c.queue.items) b.now ∙ h)
   begun_owed s t p ask e b key (inr h) = inr (any_begins (AnswersFor key) s t p ask e b h)
 
-  sound_next : (s : Scene T W) (x : Step T W) (e : Entry T) (names : List W) (t : Scene T W) → Next s x e names t → StreamsSound s → StreamsSound t
+  pub sound_next : (s : Scene T W) (x : Step T W) (e : Entry T) (names : List W) (t : Scene T W) → Next s x e names t → StreamsSound s → StreamsSound t
   sound_next s (step.Begin p ask) e names t n sound =
       let k = known_next s (step.Begin p ask) e names t n sound.known sound.balanced in
       let b = n.0 in
@@ -84,17 +84,10 @@ module _ {T W : Type 0} where
       let k = known_next s (step.Step p) e names t n sound.known sound.balanced in
       record { known = k.0; balanced = k.1; apart = apart_after s t p e names n sound; owed = owed_after s t p e names n sound }
 
-  -- ---- runs
-
-  module _ {S : Type 0} (wakes : S → W → S → Type 0) where
-    sound_long : (parts parts' : Parts T W) (s t : Scene T W) (a b : S) (xs : List (Step T W)) (es : List (Entry T)) → StreamsSound s → IsRun wakes parts s a xs es parts' t b → StreamsSound t
-    sound_long parts parts' s t a b [] [] h run = subst (λ (z : Scene T W). StreamsSound z) (sym run.1) h
-    sound_long parts parts' s t a b (x ∷ xs) (e ∷ es) h run =
-        sound_long run.0 parts' run.1 t run.2 b xs es (sound_next s x e run.3 run.1 run.5 h) run.7
-    sound_long parts parts' s t a b [] (e ∷ es) h run = absurd run
-    sound_long parts parts' s t a b (x ∷ xs) [] h run = absurd run
-
 module _ {T W : Type 0} where
+  pub new_sound : (cap : Option ℕ) → StreamsSound (new_scene {T = T} {W = W} cap)
+  new_sound cap = record { known = tt; balanced = refl; apart = tt; owed = λ key w. inl refl }
+
   pending_owed : (s : Scene T W) → StreamsAreOwed s → PendingStreamsAreOwed s
   pending_owed s owed key w none = but_it (owed key w)
     where
@@ -104,10 +97,7 @@ module _ {T W : Type 0} where
 
 module _ (T W S : Type 0) (wakes : S → W → S → Type 0) where
   pub streams_stay_owed : StreamsStayOwed T W S wakes
-  streams_stay_owed s t steps trace h run = sound_long wakes run.0 run.1 s t run.2 run.3 steps trace h run.4
-
-  new_sound : (cap : Option ℕ) → StreamsSound (new_scene {T = T} {W = W} cap)
-  new_sound cap = record { known = tt; balanced = refl; apart = tt; owed = λ key w. inl refl }
+  streams_stay_owed s t steps trace h run = kept_long wakes StreamsSound sound_next run.0 run.1 s t run.2 run.3 steps trace h run.4
 
   pub no_stream_is_forgotten : NoStreamIsForgotten T W S wakes
   no_stream_is_forgotten cap t steps trace run = let h = streams_stay_owed (new_scene cap) t steps trace (new_sound cap) run in (h.owed, pending_owed t h.owed)

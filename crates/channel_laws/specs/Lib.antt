@@ -3,3 +3,8 @@ pub mod Closed
 pub mod Waits
 pub mod Streams
 pub mod Closings
+pub mod Amounts
+pub mod Notices
+pub mod Receives
+pub mod Sends
+pub mod Sound

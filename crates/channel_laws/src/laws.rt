@@ -4,6 +4,8 @@
 ghost use Rattle.channel_laws.specs.Closed.{ClosingIsForGood};
 ghost use Rattle.channel_laws.specs.Closings.{ClosingStaysOwed, NobodyMissesTheClosing};
 ghost use Rattle.channel_laws.specs.Ends.{EndIsForGood, EndIsKnown, NothingComesAfterTheEnd};
+ghost use Rattle.channel_laws.specs.Receives.{NoReceiveIsForgotten, ReceivesStayOwed};
+ghost use Rattle.channel_laws.specs.Sends.{NoSendIsForgotten, SendsStayOwed};
 ghost use Rattle.channel_laws.specs.Streams.{NoStreamIsForgotten, StreamsStayOwed};
 
 use event_listener::wakes::Wakes;
@@ -62,4 +64,34 @@ pub fn no_stream_is_forgotten<T, W, S: Wakes<W>>()
 pub fn nobody_misses_the_closing<T, W, S: Wakes<W>>()
     ensures kept { ClosingStaysOwed T W S S.wakes }
     ensures owed { NobodyMissesTheClosing T W S S.wakes }
+{}
+
+/// Wherever a run from a channel that was just opened has come, whatever its steps are: where a receive waits there are no
+/// more messages than receives that are told and calls under way that are to tell one more or try as one. Such a call is a
+/// sending one that has brought its message and has not told a receive yet, or a poll of a receive that tries with no listener
+/// in hand. Or a poll under way has the listener of the waiting one in hand, and tries again or leaves the list. So where no call
+/// has it in hand, as after a poll that ended pending, each message beside it has another receive that comes for it.
+///
+/// What makes it so is kept by every run, from whatever scene it holds of.
+///
+/// Own to this project.
+pub fn no_receive_is_forgotten<T, W, S: Wakes<W>>()
+    ensures kept { ReceivesStayOwed T W S S.wakes }
+    ensures owed { NoReceiveIsForgotten T W S S.wakes }
+{}
+
+/// Wherever a run from a channel that was just opened has come, whatever its steps are: where a send waits the channel is
+/// closed, or it has a bound and no more places than messages, sends that are told, and calls under way that are to tell one
+/// more, fill a place or try as one. Such a call is a receiving one that has taken a message and has not told a send yet, a
+/// displacing send that made room and has not brought its message, or a poll of a send that tries with no listener in hand. Or
+/// a poll under way has the listener of the waiting one in hand, and tries again or leaves the list. So where no call has it in
+/// hand, as after a poll that ended pending, each free place beside it on an open channel has another send that comes for it,
+/// and where there is no bound no such send waits.
+///
+/// What makes it so is kept by every run, from whatever scene it holds of.
+///
+/// Own to this project.
+pub fn no_send_is_forgotten<T, W, S: Wakes<W>>()
+    ensures kept { SendsStayOwed T W S S.wakes }
+    ensures owed { NoSendIsForgotten T W S S.wakes }
 {}

@@ -1,0 +1,162 @@
+-- A poll that has a listener in hand keeps it, leaves the list, or finds cause to wait.
+use Rattle.std.proofs.Common.{◌≡◌, true, List, [], Option, None, Some, Ok, Err, ◌⊎◌, inl, inr, refl, sym, ap, ◌∙◌, subst}
+use Rattle.concurrent_queue.specs.Queue.{Queue, Phase, trying, appended, taken, is_filled, AnswersPush, AnswersPop, AnswersTo, Goes}
+use Rattle.concurrent_queue.specs.Queue as queue
+use Rattle.concurrent_queue.specs.declared.call.QueueAsk.{QueueAsk}
+use Rattle.concurrent_queue.specs.declared.call.QueueMark.{QueueMark}
+use Rattle.concurrent_queue.specs.declared.call.QueueMark.TheVariants.{Nothing}
+use Rattle.concurrent_queue.specs.declared.call.QueueReply.{QueueReply}
+use Rattle.concurrent_queue.specs.declared.call.QueueReply.TheVariants as answer
+use Rattle.concurrent_queue.specs.declared.error.PopError.TheVariants as pop_error
+use Rattle.concurrent_queue.specs.declared.error.PushError.TheVariants as push_error
+use Rattle.event_listener.specs.declared.key.Key.{Key}
+use Rattle.async_channel.specs.Answered.{polled_next}
+use Rattle.async_channel.specs.Moves.{Channel, Effect, queued, leaves, removes, Turned, Moves}
+use Rattle.async_channel.specs.declared.ask.ChannelAsk.{ChannelAsk}
+use Rattle.async_channel.specs.declared.reply.Reply.{Reply}
+use Rattle.async_channel.specs.declared.stage.Aim.TheVariants as aim
+use Rattle.async_channel.specs.declared.stage.Held.{Held}
+use Rattle.async_channel.specs.declared.stage.Line.{Line}
+use Rattle.async_channel.specs.declared.stage.Line.TheVariants.{Sends, Receives}
+use Rattle.async_channel.specs.declared.stage.Stage.{Stage}
+use Rattle.async_channel.specs.declared.stage.Stage.TheVariants.{Trying, Working}
+use Rattle.async_channel.specs.declared.stage.Turn.{Turn}
+use Rattle.async_channel.specs.declared.stage.Turn.TheVariants.{Works}
+use Rattle.async_channel.specs.declared.stage.Work.TheVariants.{TellReceive, TellStreams, TellSend, Leave}
+use Rattle.channel_steps.specs.Known.{TriesFor, StageAt}
+use Rattle.channel_steps.specs.Moments.{Deed}
+use Rattle.channel_laws.specs.Amounts.{HoldsListener}
+use Rattle.channel_laws.specs.Closings.{LooksAgain}
+use Rattle.channel_laws.specs.Notices.{IsOneByOne}
+use Rattle.channel_laws.specs.Waits.{Waits, WaitApart}
+use Rattle.channel_laws.proofs.ClosingMoves.{sends_push, receives_pop, left_line}
+use Rattle.channel_laws.proofs.ListMoves.{Tries}
+use Rattle.channel_laws.proofs.StreamMoves.{How, leaves_next}
+
+module _ {T : Type 0} where
+  -- what a refusal found: no messages, or no free place
+  abbrev pub HasCause : Line → Queue T → Type 0
+  HasCause Sends q = is_filled q ≡ true
+  HasCause Receives q = q.items ≡ []
+  HasCause line q = ⊥
+
+module _ {T W : Type 0} where
+  -- ---- in whose hand it is
+
+  -- a poll that looks again has its listener in hand
+  pub looks_holds : (line : Line) (key : Key) (at : Stage (Phase T) T W) → LooksAgain line key at → HoldsListener line key at
+  looks_holds line key (Trying f (aim.Poll at (Some k) task)) h = (h.0, h.1)
+  looks_holds line key (Working (TellSend x)) h = h
+  looks_holds line key (Working (Leave x)) h = h
+  looks_holds line key at h = absurd h
+
+  -- the call goes on with it in hand
+  abbrev pub StillHolds : Line → Key → Option (Reply T) → Stage (Phase T) T W → Type 0
+  StillHolds line key r s = (r ≡ None) × HoldsListener line key s
+
+  pub newcomer_holds : (c : Channel T W) (e : Effect T W) (r : Option (Reply T)) (s : Stage (Phase T) T W) (line : Line)
+      (key : Key) → Tries line c e r s key → StillHolds line key r s
+  newcomer_holds c e r s line key (w, task, at, turned) =
+      (turned.0, subst (λ (z : Stage (Phase T) T W). HoldsListener line key z) (sym turned.1) (at, refl))
+
+  -- ---- the queue's answer
+
+  -- it has its answer, and drops its listener at the end
+  abbrev DropsLater : Line → Key → Turn T W → Type 0
+  DropsLater line key (Works (TellReceive x)) = x.held ≡ Some (record { line = line; key = key })
+  DropsLater line key (Works (TellSend x)) = x.held ≡ Some (record { line = line; key = key })
+  DropsLater line key (Works (Leave x)) = x.held ≡ Some (record { line = line; key = key })
+  DropsLater line key turn = ⊥
+
+  turned_holds : (line : Line) (key : Key) (turn : Turn T W) (r : Option (Reply T)) (s : Stage (Phase T) T W)
+      → DropsLater line key turn → Turned turn r s → StillHolds line key r s
+  turned_holds line key (Works (TellReceive x)) r s h t =
+      (t.0, subst (λ (z : Stage (Phase T) T W). HoldsListener line key z) (sym t.1) h)
+  turned_holds line key (Works (TellSend x)) r s h t =
+      (t.0, subst (λ (z : Stage (Phase T) T W). HoldsListener line key z) (sym t.1) h)
+  turned_holds line key (Works (Leave x)) r s h t =
+      (t.0, subst (λ (z : Stage (Phase T) T W). HoldsListener line key z) (sym t.1) h)
+  turned_holds line key turn r s h t = absurd h
+
+  module _ (q : Queue T) (k : Key) (task : W) where
+    push_answered : (v : T) (m : QueueMark) (reply : QueueReply T) (s : queue.Stage T) → AnswersPush q v m reply s
+        → DropsLater Sends k (polled_next Sends reply (Some k) task) ⊎ ((m ≡ Nothing) × HasCause Sends q)
+    push_answered v Nothing (answer.Push (Ok u)) (appended None) h = inl refl
+    push_answered v Nothing (answer.Push (Err (push_error.Full w))) (trying b) h = inr (refl, h.1)
+    push_answered v Nothing (answer.Push (Err (push_error.Closed w))) (trying b) h = inl refl
+    push_answered v Nothing (answer.Push (Err (push_error.NoMemory w))) (trying b) h = inl refl
+    push_answered v m reply s h = absurd h
+
+    pop_answered : (m : QueueMark) (reply : QueueReply T) (s : queue.Stage T) → AnswersPop q m reply s
+        → DropsLater Receives k (polled_next Receives reply (Some k) task) ⊎ ((m ≡ Nothing) × HasCause Receives q)
+    pop_answered Nothing (answer.Pop (Ok w)) (taken v) h = inl refl
+    pop_answered Nothing (answer.Pop (Err pop_error.Empty)) (trying b) h = inr (refl, h.1.0)
+    pop_answered Nothing (answer.Pop (Err pop_error.Closed)) (trying b) h = inl refl
+    pop_answered m reply s h = absurd h
+
+    poll_answered : (line : Line) → IsOneByOne line
+        → (x : ChannelAsk T W) (a : QueueAsk T) (ds : List (Deed T W)) (seen : List (Channel T W)) (m : QueueMark)
+        (reply : QueueReply T) (s : queue.Stage T)
+        → TriesFor x (aim.Poll line (Some k) task) a ds seen → AnswersTo q a m reply s
+        → DropsLater line k (polled_next line reply (Some k) task) ⊎ ((m ≡ Nothing) × HasCause line q)
+    poll_answered Sends one x a ds seen m reply s h ans =
+        let p = sends_push x (Some k) task a ds seen h in push_answered p.0 m reply s
+        (subst (λ (z : QueueAsk T). AnswersTo q z m reply s) p.1 ans)
+    poll_answered Receives one x a ds seen m reply s h ans =
+        pop_answered m reply s (subst (λ (z : QueueAsk T). AnswersTo q z m reply s) (receives_pop x (Some k) task a ds seen h)
+        ans)
+    poll_answered line one x a ds seen m reply s h ans = absurd one
+
+  -- ---- any step
+
+  -- the poll goes on with the listener in hand, or what it waits for is not there
+  abbrev pub HoldsOrWaits : Line → Key → Effect T W → Option (Reply T) → Stage (Phase T) T W → Type 0
+  HoldsOrWaits line key e r s = StillHolds line key r s ⊎ HasCause line e.channel.queue
+
+  caused : (line : Line) (c : Channel T W) (f : Phase T) (m : QueueMark) (e : Effect T W) → e ≡ queued f m c → m ≡ Nothing
+      → HasCause line c.queue → HasCause line e.channel.queue
+  caused line c f m e effect none h =
+      subst (λ (z : Effect T W). HasCause line z.channel.queue) (sym (effect ∙ ap (λ (n : QueueMark). queued f n c) none)) h
+
+  polls : (line : Line) (key : Key) → IsOneByOne line
+      → (c : Channel T W) (x : ChannelAsk T W) (f : Phase T) (task : W) (m : QueueMark) (ds : List (Deed T W))
+      (seen : List (Channel T W)) (e : Effect T W) (r : Option (Reply T)) (s : Stage (Phase T) T W)
+      → e ≡ queued f m c → TriesFor x (aim.Poll line (Some key) task) f.ask ds seen
+      → How c f (aim.Poll line (Some key) task) m r s → HoldsOrWaits line key e r s
+  polls line key one c x f task m ds seen e r s effect h (inl (f', goes, none, there)) =
+      inl (none, subst (λ (z : Stage (Phase T) T W). HoldsListener line key z) (sym there) (refl, refl))
+  polls line key one c x f task m ds seen e r s effect h (inr (reply, ans, turned)) =
+      by_answer (poll_answered c.queue key task line one x f.ask ds seen m reply f.stage h ans)
+    where
+      by_answer : DropsLater line key (polled_next line reply (Some key) task) ⊎ ((m ≡ Nothing) × HasCause line c.queue)
+          → HoldsOrWaits line key e r s
+      by_answer (inl d) = inl (turned_holds line key (polled_next line reply (Some key) task) r s d turned)
+      by_answer (inr d) = inr (caused line c f m e effect d.0 d.1)
+
+  module _ (line : Line) (key : Key) (one : IsOneByOne line) (c : Channel T W) (x : ChannelAsk T W) (ds : List (Deed T W))
+      (seen : List (Channel T W)) (e : Effect T W) (r : Option (Reply T)) (s : Stage (Phase T) T W) where
+    polls_at : (f : Phase T) (at : Line) (k : Key) (task : W) (m : QueueMark) → e ≡ queued f m c → at ≡ line → k ≡ key
+        → TriesFor x (aim.Poll at (Some k) task) f.ask ds seen → How c f (aim.Poll at (Some k) task) m r s
+        → HoldsOrWaits line key e r s
+    polls_at f at k task m effect a b h how =
+        polls line key one c x f task m ds seen e r s effect
+        (subst (λ (z : Line). TriesFor x (aim.Poll z (Some key) task) f.ask ds seen) a
+        (subst (λ (z : Key). TriesFor x (aim.Poll at (Some z) task) f.ask ds seen) b h))
+        (subst (λ (z : Line). How c f (aim.Poll z (Some key) task) m r s) a
+        (subst (λ (z : Key). How c f (aim.Poll at (Some z) task) m r s) b how))
+
+    pub holds_on : (at : Stage (Phase T) T W) → StageAt c x at ds seen → Moves c at e r s → HoldsListener line key at
+        → WaitApart line c → Waits line key e.channel → HoldsOrWaits line key e r s
+    holds_on (Trying f (aim.Poll at (Some k) task)) st g h apart w = polls_at f at k task g.mark g.effect h.0 h.1 st.0 g.how
+    holds_on (Working (TellReceive z)) st g h apart w =
+        inl (g.1.0, subst (λ (at : Stage (Phase T) T W). HoldsListener line key at) (sym g.1.1) h)
+    holds_on (Working (TellStreams z)) st g h apart w =
+        let t = leaves_next z z.held (record { line = line; key = key }) r s h g.1 in
+        inl (t.0, subst (λ (at : Stage (Phase T) T W). HoldsListener line key at) (sym t.1) h)
+    holds_on (Working (TellSend z)) st g h apart w =
+        let t = leaves_next z z.held (record { line = line; key = key }) r s h g.1 in
+        inl (t.0, subst (λ (at : Stage (Phase T) T W). HoldsListener line key at) (sym t.1) h)
+    holds_on (Working (Leave z)) st g h apart w =
+        let same : e ≡ removes (record { line = line; key = key }) c = g.0 ∙ ap (λ (o : Option Held). leaves o c) h in
+        absurd (left_line line key c apart (subst (λ (z : Effect T W). Waits line key z.channel) same w))
+    holds_on at st g h apart w = absurd h

@@ -1,0 +1,127 @@
+-- Who tells all of a list has closed the channel, and it is closed.
+use Rattle.std.proofs.Common.{◌≡◌, List, [], ◌∷◌, ◌++◌, Option, ◌⊎◌, inl, inr, refl, sym, ap, ◌∙◌, subst}
+use Rattle.concurrent_queue.specs.Queue.{Phase}
+use Rattle.concurrent_queue.specs.declared.call.QueueMark.{QueueMark}
+use Rattle.concurrent_queue.specs.declared.call.QueueMark.TheVariants as queue
+use Rattle.async_channel.specs.Marks.{mark_of_queue}
+use Rattle.async_channel.specs.Moves.{Channel, Effect, queued, tells_all, Moves}
+use Rattle.async_channel.specs.declared.mark.Mark.{Mark}
+use Rattle.async_channel.specs.declared.mark.Mark.TheVariants.{Nothing, Append, Take, Replace, Close}
+use Rattle.async_channel.specs.declared.reply.Reply.{Reply}
+use Rattle.async_channel.specs.declared.stage.Closer.{Closer}
+use Rattle.async_channel.specs.declared.stage.Line.{Line}
+use Rattle.async_channel.specs.declared.stage.Line.TheVariants.{Sends, Receives, Streams, Closings}
+use Rattle.async_channel.specs.declared.stage.Stage.{Stage}
+use Rattle.async_channel.specs.declared.stage.Stage.TheVariants.{Trying, Working, Finished}
+use Rattle.async_channel.specs.declared.stage.Work.TheVariants.{TellAll}
+use Rattle.event_listener.specs.declared.key.Key.{Key}
+use Rattle.channel_steps.specs.Known.{all_from, ToldAt}
+use Rattle.channel_steps.specs.Moments.{Deed, with_deed, Shut}
+use Rattle.channel_steps.specs.Tellings.{Telling, one_of, all_of, owed_for, owed}
+use Rattle.channel_laws.specs.Closings.{HasClosed}
+use Rattle.channel_laws.specs.Ends.{IsStill}
+use Rattle.channel_laws.specs.Waits.{Waits}
+use Rattle.channel_laws.proofs.ClosedMoves.{worked_spares}
+
+-- ---- tellings
+
+module _ (x : Telling) where
+  abbrev IsAmong : List Telling → Type 0
+  IsAmong [] = ⊥
+  IsAmong (y ∷ ys) = (y ≡ x) ⊎ IsAmong ys
+
+  among_right : (xs ys : List Telling) → IsAmong ys → IsAmong (xs ++ ys)
+  among_right [] ys h = h
+  among_right (y ∷ xs) ys h = inr (among_right xs ys h)
+
+  among_either : (xs ys : List Telling) → IsAmong (xs ++ ys) → IsAmong xs ⊎ IsAmong ys
+  among_either [] ys h = inr h
+  among_either (y ∷ xs) ys (inl h) = inl (inl h)
+  among_either (y ∷ xs) ys (inr h) = deeper (among_either xs ys h)
+    where
+      deeper : IsAmong xs ⊎ IsAmong ys → IsAmong (y ∷ xs) ⊎ IsAmong ys
+      deeper (inl h) = inl (inr h)
+      deeper (inr h) = inr h
+
+-- a closing tells those last who wait for it
+closings_last : (line : Line) → IsAmong (all_of Closings) (all_from line)
+closings_last Sends = inr (inr (inr (inl refl)))
+closings_last Receives = inr (inr (inl refl))
+closings_last Streams = inr (inl refl)
+closings_last Closings = inl refl
+
+-- and nothing else does
+closing_owes : (m : Mark) → IsAmong (all_of Closings) (owed_for m) → m ≡ Close
+closing_owes Append (inl e) = absurd (let never : one_of Receives ≡ all_of Closings = e in cc)
+closing_owes Append (inr (inl e)) = absurd (let never : all_of Streams ≡ all_of Closings = e in cc)
+closing_owes Append (inr (inr h)) = absurd h
+closing_owes Replace (inl e) = absurd (let never : one_of Receives ≡ all_of Closings = e in cc)
+closing_owes Replace (inr (inl e)) = absurd (let never : all_of Streams ≡ all_of Closings = e in cc)
+closing_owes Replace (inr (inr h)) = absurd h
+closing_owes Take (inl e) = absurd (let never : one_of Sends ≡ all_of Closings = e in cc)
+closing_owes Take (inr h) = absurd h
+closing_owes Close h = refl
+closing_owes m h = absurd h
+
+module _ {T W : Type 0} where
+  by_mark : (d : Deed T W) (ds : List (Deed T W)) → (IsAmong (all_of Closings) (owed ds) → HasClosed ds)
+      → IsAmong (all_of Closings) (owed_for d.mark) ⊎ IsAmong (all_of Closings) (owed ds) → HasClosed (d ∷ ds)
+  by_mark d ds f (inl h) = inl (closing_owes d.mark h)
+  by_mark d ds f (inr h) = inr (f h)
+
+  has_owed : (ds : List (Deed T W)) → IsAmong (all_of Closings) (owed ds) → HasClosed ds
+  has_owed [] h = absurd h
+  has_owed (d ∷ ds) h = by_mark d ds (has_owed ds) (among_either (all_of Closings) (owed_for d.mark) (owed ds) h)
+
+  -- who tells all of a list has closed the channel
+  pub teller_has_closed : (told : List Telling) (line : Line) (closer : Closer) (ds : List (Deed T W))
+      → ToldAt told (let at : Stage (Phase T) T W = Working (TellAll line closer) in at) ds → HasClosed ds
+  teller_has_closed told line closer ds h =
+      has_owed ds (subst (λ (ts : List Telling). IsAmong (all_of Closings) ts) h
+      (among_right (all_of Closings) told (all_from line) (closings_last line)))
+
+  -- ---- marks
+
+  had_or_last : (ds : List (Deed T W)) (d : Deed T W) → HasClosed (ds ++ d ∷ []) → HasClosed ds ⊎ (d.mark ≡ Close)
+  had_or_last [] d (inl h) = inr h
+  had_or_last [] d (inr h) = absurd h
+  had_or_last (x ∷ ds) d (inl h) = inl (inl h)
+  had_or_last (x ∷ ds) d (inr h) = deeper (had_or_last ds d h)
+    where
+      deeper : HasClosed ds ⊎ (d.mark ≡ Close) → HasClosed (x ∷ ds) ⊎ (d.mark ≡ Close)
+      deeper (inl h) = inl (inr h)
+      deeper (inr h) = inr h
+
+  -- a call that has closed after its step had so before, or the step did
+  pub closed_before : (ds : List (Deed T W)) (m : Mark) (c : Channel T W) (seen : List (Channel T W))
+      → HasClosed (with_deed ds m c seen) → HasClosed ds ⊎ (m ≡ Close)
+  closed_before ds Nothing c seen h = inl h
+  closed_before ds m c seen h = had_or_last ds (record { mark = m; before = c; seen = seen }) h
+
+  queue_closes : (f : Phase T) (m : QueueMark) (c : Channel T W) → mark_of_queue m ≡ Close
+      → Shut (let e : Effect T W = queued f m c in e.channel)
+  queue_closes f queue.Close c h = refl
+  queue_closes f queue.Nothing c h = absurd (let never : Nothing ≡ Close = h in cc)
+  queue_closes f queue.Append c h = absurd cc
+  queue_closes f queue.Take c h = absurd cc
+  queue_closes f queue.TakeDisplaced c h = absurd cc
+  queue_closes f queue.Replace c h = absurd cc
+
+  -- where a step closes the channel it is closed
+  pub close_shuts : (c : Channel T W) (at : Stage (Phase T) T W) (e : Effect T W) (r : Option (Reply T))
+      (s : Stage (Phase T) T W) → Moves c at e r s → e.mark ≡ Close → Shut e.channel
+  close_shuts c (Trying f aim) e r s g closes =
+      subst (λ (z : Effect T W). Shut z.channel) (sym g.effect)
+      (queue_closes f g.mark c (sym (ap (λ (z : Effect T W). z.mark) g.effect) ∙ closes))
+  close_shuts c (Working w) e r s g closes = let k = worked_spares c w e r s g in absurd (subst IsStill closes k.1)
+  close_shuts c (Finished kept) e r s g closes =
+      absurd (let never : Nothing ≡ Close = sym (ap (λ (z : Effect T W). z.mark) g.0) ∙ closes in cc)
+
+  -- ---- all of a list
+
+  pub nobody_left : (line : Line) (key : Key) (c : Channel T W)
+      → Waits line key (let e : Effect T W = tells_all line c in e.channel) → ⊥
+  nobody_left Sends key c w = w
+  nobody_left Receives key c w = w
+  nobody_left Streams key c w = w
+  nobody_left Closings key c w = w

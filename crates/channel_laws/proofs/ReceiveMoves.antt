@@ -1,0 +1,216 @@
+-- Each step pays for what it brings or uses up, as those count it who wait for a message.
+use Rattle.std.proofs.Common.{◌≡◌, ℕ, ◌+◌, ◌≤◌, false, List, [], length, Option, None, Some, Ok, Err, ◌⊎◌, inl, inr, refl, sym, ap, subst, arith}
+use Rattle.concurrent_queue.specs.Queue.{Queue, Phase, trying, appended, taken, marked, is_displaced, asked, AnswersPush, AnswersForce, AnswersPop, AnswersTo, GoesOn}
+use Rattle.concurrent_queue.specs.Queue as queue
+use Rattle.concurrent_queue.specs.declared.call.QueueAsk.{QueueAsk}
+use Rattle.concurrent_queue.specs.declared.call.QueueAsk.TheVariants as ask
+use Rattle.concurrent_queue.specs.declared.call.QueueMark.{QueueMark}
+use Rattle.concurrent_queue.specs.declared.call.QueueMark.TheVariants.{Nothing}
+use Rattle.concurrent_queue.specs.declared.call.QueueReply.{QueueReply}
+use Rattle.concurrent_queue.specs.declared.call.QueueReply.TheVariants as answer
+use Rattle.concurrent_queue.specs.declared.error.PopError.TheVariants as pop_error
+use Rattle.concurrent_queue.specs.declared.error.PushError.TheVariants as push_error
+use Rattle.concurrent_queue.specs.declared.error.ForcePushError.TheVariants as force_error
+use Rattle.event_listener.specs.declared.key.Key.{Key}
+use Rattle.async_channel.specs.Answered.{answered_next}
+use Rattle.async_channel.specs.Moves.{Channel, Effect, queued, Turned, Worked, Moves}
+use Rattle.async_channel.specs.Turns.{line_of, again}
+use Rattle.async_channel.specs.declared.ask.ChannelAsk.{ChannelAsk}
+use Rattle.async_channel.specs.declared.ask.ChannelAsk.TheVariants as channel
+use Rattle.async_channel.specs.declared.reply.Reply.{Reply}
+use Rattle.async_channel.specs.declared.stage.Aim.{Aim}
+use Rattle.async_channel.specs.declared.stage.Aim.TheVariants as aim
+use Rattle.async_channel.specs.declared.stage.Line.{Line}
+use Rattle.async_channel.specs.declared.stage.Line.TheVariants.{Sends, Receives, Streams, Closings}
+use Rattle.async_channel.specs.declared.stage.Stage.{Stage}
+use Rattle.async_channel.specs.declared.stage.Stage.TheVariants.{Trying, Working, Finished}
+use Rattle.async_channel.specs.declared.stage.Waiting.{Waiting}
+use Rattle.async_channel.specs.declared.stage.Waiting.TheVariants as waiting
+use Rattle.async_channel.specs.declared.stage.Work.{Work}
+use Rattle.async_channel.specs.declared.stage.Work.TheVariants.{TellReceive, Register}
+use Rattle.channel_steps.specs.Known.{TriesFor, IsFor, WorkAt, StageAt}
+use Rattle.channel_steps.specs.Moments.{Deed}
+use Rattle.channel_laws.specs.Amounts.{is_trying_anew}
+use Rattle.channel_laws.specs.Notices.{AnyTold, told_of}
+use Rattle.channel_laws.specs.Receives.{is_to_tell_receive, counts_for_receives, MessagesAreFew}
+use Rattle.channel_laws.specs.Waits.{Waits}
+use Rattle.channel_laws.proofs.ClosedMoves.{worked_spares}
+use Rattle.channel_laws.proofs.HandMoves.{HasCause}
+use Rattle.channel_laws.proofs.NumberMoves.{number, push_brings, force_brings, pop_takes, goes_no_more, answers_same_number, anew_at_most, weigh_turn, turned_weighs}
+use Rattle.channel_laws.proofs.Owed.{Pays, Ledger}
+use Rattle.channel_laws.proofs.StreamMoves.{How, push_sends}
+use Rattle.channel_laws.proofs.ToldMoves.{tells_now, AsksAnew, worked_counts}
+use Rattle.channel_laws.proofs.TotalFacts.{left_over}
+
+module _ {T W : Type 0} where
+  -- what a call of this queue's call counts for
+  abbrev counted : ChannelAsk T W → Aim W → QueueAsk T → queue.Stage T → ℕ
+  counted x y a s = counts_for_receives x (Trying (record { ask = a; stage = s }) y)
+
+  module _ (q : Queue T) (ds : List (Deed T W)) (seen : List (Channel T W)) where
+    popping : (k key : Option Key) (t' task : W) (m : QueueMark) (s t : queue.Stage T) → queue.GoesPop q m s t
+        → number ask.Pop s m q + counted (channel.PollRecv k t') (aim.Poll Receives key task) ask.Pop s ≤ length q.items
+        + counted (channel.PollRecv k t') (aim.Poll Receives key task) ask.Pop t
+    popping k None t' task m s t g = let n = pop_takes q m s t g in n.0
+    popping k (Some key) t' task m s t g = let n = pop_takes q m s t g in let f = n.1 in omega (arith, f)
+
+    -- as it goes on
+    goes_pays : (x : ChannelAsk T W) (y : Aim W) (a : QueueAsk T) (m : QueueMark) (s t : queue.Stage T) → TriesFor x y a ds seen
+        → GoesOn q a m s t
+        → number a s m q + counted x y a s ≤ length q.items + counted x y a t
+    goes_pays (channel.TrySend v) aim.TrySend (ask.Push w) m s t h g = push_brings q w m s t g
+    goes_pays (channel.TrySend v) y a m s t h g = absurd h
+    goes_pays (channel.PollSend v k t') (aim.Poll Sends key task) (ask.Push w) m s t h g = push_brings q w m s t g
+    goes_pays (channel.PollSend v k t') y a m s t h g = absurd h
+    goes_pays (channel.ForceSend v) aim.ForceSend (ask.ForcePush w) m s t h g = force_brings q w m s t g
+    goes_pays (channel.ForceSend v) y a m s t h g = absurd h
+    goes_pays (channel.PollRecv k t') (aim.Poll Receives key task) ask.Pop m s t h g = popping k key t' task m s t g
+    goes_pays (channel.PollRecv k t') y a m s t h g = absurd h
+    goes_pays x y a m s t h g = let n = goes_no_more q a m s t (λ p. push_sends x y a ds seen h p) g in omega (arith, n)
+
+    -- as it answers, or it found nothing
+    abbrev Answered : ChannelAsk T W → Aim W → QueueAsk T → QueueMark → QueueReply T → queue.Stage T → Type 0
+    Answered x y a m r s =
+        (number a s m q + counted x y a s ≤ length q.items + weigh_turn counts_for_receives x (answered_next y r))
+        ⊎ ((marked a (is_displaced s) m q).items ≡ [])
+
+    pushed_try : (v w : T) (m : QueueMark) (r : QueueReply T) (s : queue.Stage T) → AnswersPush q w m r s
+        → Answered (channel.TrySend v) aim.TrySend (ask.Push w) m r s
+    pushed_try v w Nothing (answer.Push (Ok u)) (appended None) h = inl (omega arith)
+    pushed_try v w Nothing (answer.Push (Err (push_error.Full z))) (trying b) h = inl (omega arith)
+    pushed_try v w Nothing (answer.Push (Err (push_error.Closed z))) (trying b) h = inl (omega arith)
+    pushed_try v w Nothing (answer.Push (Err (push_error.NoMemory z))) (trying b) h = inl (omega arith)
+    pushed_try v w m r s h = absurd h
+
+    pushed_poll : (v w : T) (k key : Option Key) (t' task : W) (m : QueueMark) (r : QueueReply T) (s : queue.Stage T)
+        → AnswersPush q w m r s
+        → Answered (channel.PollSend v k t') (aim.Poll Sends key task) (ask.Push w) m r s
+    pushed_poll v w k key t' task Nothing (answer.Push (Ok u)) (appended None) h = inl (omega arith)
+    pushed_poll v w k key t' task Nothing (answer.Push (Err (push_error.Full z))) (trying b) h = inl (omega arith)
+    pushed_poll v w k key t' task Nothing (answer.Push (Err (push_error.Closed z))) (trying b) h = inl (omega arith)
+    pushed_poll v w k key t' task Nothing (answer.Push (Err (push_error.NoMemory z))) (trying b) h = inl (omega arith)
+    pushed_poll v w k key t' task m r s h = absurd h
+
+    forced : (v w : T) (m : QueueMark) (r : QueueReply T) (s : queue.Stage T) → AnswersForce q w m r s
+        → Answered (channel.ForceSend v) aim.ForceSend (ask.ForcePush w) m r s
+    forced v w Nothing (answer.Force (Ok d)) (appended o) h = inl (omega arith)
+    forced v w Nothing (answer.Force (Err (force_error.Closed z))) (trying b) h = inl (omega arith)
+    forced v w Nothing (answer.Force (Err (force_error.NoMemory z))) (trying b) h = inl (omega arith)
+    forced v w m r s h = absurd h
+
+    popped : (k key : Option Key) (t' task : W) (m : QueueMark) (r : QueueReply T) (s : queue.Stage T) → AnswersPop q m r s
+        → Answered (channel.PollRecv k t') (aim.Poll Receives key task) ask.Pop m r s
+    popped k key t' task Nothing (answer.Pop (Ok w)) (taken v) h =
+        let few = anew_at_most {T = T} (record { ask = ask.Pop; stage = taken v }) Receives key task in inl (omega (arith, few))
+    popped k key t' task Nothing (answer.Pop (Err pop_error.Empty)) (trying b) h = inr h.1.0
+    popped k key t' task Nothing (answer.Pop (Err pop_error.Closed)) (trying b) h = inr h.1.0
+    popped k key t' task m r s h = absurd h
+
+    answers_pay : (x : ChannelAsk T W) (y : Aim W) (a : QueueAsk T) (m : QueueMark) (r : QueueReply T) (s : queue.Stage T)
+        → TriesFor x y a ds seen → AnswersTo q a m r s → Answered x y a m r s
+    answers_pay (channel.TrySend v) aim.TrySend (ask.Push w) m r s h g = pushed_try v w m r s g
+    answers_pay (channel.TrySend v) y a m r s h g = absurd h
+    answers_pay (channel.PollSend v k t') (aim.Poll Sends key task) (ask.Push w) m r s h g = pushed_poll v w k key t' task m r s g
+    answers_pay (channel.PollSend v k t') y a m r s h g = absurd h
+    answers_pay (channel.ForceSend v) aim.ForceSend (ask.ForcePush w) m r s h g = forced v w m r s g
+    answers_pay (channel.ForceSend v) y a m r s h g = absurd h
+    answers_pay (channel.PollRecv k t') (aim.Poll Receives key task) ask.Pop m r s h g = popped k key t' task m r s g
+    answers_pay (channel.PollRecv k t') y a m r s h g = absurd h
+    answers_pay x y a m r s h g = let n = answers_same_number q a m r s g in inl (omega (arith, n))
+
+  -- ---- a step of the queue's call
+
+  abbrev Paid : Channel T W → ChannelAsk T W → Stage (Phase T) T W → Effect T W → Option (Reply T) → Stage (Phase T) T W → Type 0
+  Paid c x at e r s = Pays Receives tt MessagesAreFew counts_for_receives c x at e r s
+
+  tried_pays : (c : Channel T W) (x : ChannelAsk T W) (f : Phase T) (y : Aim W) (m : QueueMark) (ds : List (Deed T W))
+      (seen : List (Channel T W)) (r : Option (Reply T)) (s : Stage (Phase T) T W)
+      → TriesFor x y f.ask ds seen → How c f y m r s → Paid c x (Trying f y) (queued f m c) r s
+  tried_pays c x f y m ds seen r s h (inl (f', goes, none, there)) n enough =
+      let same = ap (λ (a : QueueAsk T). counts_for_receives x (Trying (record { ask = a; stage = f'.stage }) y)) goes.0 in
+      let k = goes_pays c.queue ds seen x y f.ask m f.stage f'.stage h goes.1 in
+      let now = ap (λ (z : Option (Reply T)). left_over counts_for_receives x z s) none in
+      let at = ap (λ (z : Stage (Phase T) T W). counts_for_receives x z) there in
+      omega (arith, enough, same, k, now, at)
+  tried_pays c x f y m ds seen r s h (inr (reply, ans, turned)) n enough =
+      by_answer (answers_pay c.queue ds seen x y f.ask m reply f.stage h ans)
+    where
+      by_answer : Answered c.queue ds seen x y f.ask m reply f.stage
+          → MessagesAreFew (let e : Effect T W = queued f m c in e.channel) (left_over counts_for_receives x r s + n)
+      by_answer (inl k) =
+          let now = turned_weighs counts_for_receives x (answered_next y reply) r s turned in omega (arith, enough, k, now)
+      by_answer (inr k) =
+          let none : length (marked f.ask (is_displaced f.stage) m c.queue).items ≡ 0 = ap length k in omega (arith, none)
+
+  -- ---- a step on a list
+
+  tells_at_most : (w : Work T W) → is_to_tell_receive (let at : Stage (Phase T) T W = Working w in at) ≤ tells_now w Receives
+  tells_at_most (TellReceive x) = omega arith
+  tells_at_most w = omega arith
+
+  work_counts : (x : ChannelAsk T W) (w : Work T W) → counts_for_receives x (Working w) ≤ tells_now w Receives
+  work_counts (channel.TrySend v) w = tells_at_most w
+  work_counts (channel.ForceSend v) w = tells_at_most w
+  work_counts (channel.PollSend v k t) w = tells_at_most w
+  work_counts x w = omega arith
+
+  asks_as : (x : ChannelAsk T W) (v : Waiting T) (task : W) (r : Option (Reply T)) (s : Stage (Phase T) T W) → IsFor x v
+      → Receives ≡ line_of v → Turned (again v None task) r s → left_over counts_for_receives x r s ≡ 1
+  asks_as (channel.PollRecv k t) waiting.Receive task r s h at turned =
+      turned_weighs counts_for_receives (channel.PollRecv k t) (again waiting.Receive None task) r s turned
+  asks_as x (waiting.Send v) task r s h at turned = absurd (let never : Receives ≡ Sends = at in cc)
+  asks_as x waiting.Stream task r s h at turned = absurd (let never : Receives ≡ Streams = at in cc)
+  asks_as x waiting.Closing task r s h at turned = absurd (let never : Receives ≡ Closings = at in cc)
+  asks_as x v task r s h at turned = absurd h
+
+  asks_anew : (x : ChannelAsk T W) (w : Work T W) (ds : List (Deed T W)) (seen : List (Channel T W)) (r : Option (Reply T))
+      (s : Stage (Phase T) T W) → WorkAt x w ds seen → AsksAnew Receives w r s
+      → (left_over counts_for_receives x r s ≡ 1) × (tells_now w Receives ≡ 0)
+  asks_anew x (Register v key task) ds seen r s h k = (asks_as x v task r s h.0 k.0 k.1, refl)
+  asks_anew x w ds seen r s h k = absurd k
+
+  module _ (c : Channel T W) (x : ChannelAsk T W) (w : Work T W) (ds : List (Deed T W)) (seen : List (Channel T W))
+      (e : Effect T W) (r : Option (Reply T)) (s : Stage (Phase T) T W) where
+    worked_pays : WorkAt x w ds seen → e.channel.queue ≡ c.queue
+        → (length (told_of Receives c) + tells_now w Receives ≤ length (told_of Receives e.channel))
+        ⊎ ((AsksAnew Receives w r s × (length (told_of Receives c) ≤ length (told_of Receives e.channel) + 1))
+        ⊎ AnyTold false (told_of Receives c))
+        → Paid c x (Working w) e r s ⊎ AnyTold false (told_of Receives c)
+    worked_pays h same (inl k) = inl pays
+      where
+        pays : Paid c x (Working w) e r s
+        pays n enough =
+            let items = ap (λ (q : Queue T). length q.items) same in
+            let counts = work_counts x w in
+            omega (arith, enough, items, counts, k)
+    worked_pays h same (inr (inl (anew, k))) = inl pays
+      where
+        pays : Paid c x (Working w) e r s
+        pays n enough =
+            let items = ap (λ (q : Queue T). length q.items) same in
+            let counts = work_counts x w in
+            let tries = asks_anew x w ds seen r s h anew in
+            let one = tries.0 in
+            let none = tries.1 in
+            omega (arith, enough, items, counts, k, one, none)
+    worked_pays h same (inr (inr d)) = inr d
+
+  receive_pays : (c : Channel T W) (x : ChannelAsk T W) (at : Stage (Phase T) T W) (ds : List (Deed T W))
+      (seen : List (Channel T W)) (e : Effect T W) (r : Option (Reply T)) (s : Stage (Phase T) T W) (key : Key)
+      → StageAt c x at ds seen → Moves c at e r s → Waits Receives key e.channel → Paid c x at e r s
+      ⊎ AnyTold false (told_of Receives c)
+  receive_pays c x (Trying f y) ds seen e r s key st g w =
+      inl (subst (λ (z : Effect T W). Paid c x (Trying f y) z r s) (sym g.effect)
+      (tried_pays c x f y g.mark ds seen r s st.0 g.how))
+  receive_pays c x (Working z) ds seen e r s key st g w =
+      let k = worked_spares c z e r s g in worked_pays c x z ds seen e r s st k.0 (worked_counts key r s Receives tt c z e g w)
+  receive_pays c x (Finished kept) ds seen e r s key st g w = absurd st
+
+  few_caused : (c : Channel T W) (n : ℕ) → HasCause Receives c.queue → MessagesAreFew c n
+  few_caused c n h = let none : length c.queue.items ≡ 0 = ap length h in omega (arith, none)
+
+  few_more : (c : Channel T W) (m n : ℕ) → m ≤ n → MessagesAreFew c m → MessagesAreFew c n
+  few_more c m n less h = omega (arith, less, h)
+
+  pub receive_ledger : Ledger {T = T} {W = W} Receives tt MessagesAreFew counts_for_receives
+  receive_ledger = record { more = few_more; caused = few_caused; pays = receive_pays }

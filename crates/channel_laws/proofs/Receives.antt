@@ -1,0 +1,34 @@
+-- Waiting receives over runs.
+use Rattle.std.proofs.Common.{ℕ, List, [], ◌∷◌, Option, inl, sym, subst}
+use Rattle.async_channel.specs.declared.stage.Line.TheVariants.{Receives}
+use Rattle.channel_steps.specs.Run.{Next, new_scene}
+use Rattle.channel_steps.specs.Scene.{Scene}
+use Rattle.channel_steps.specs.declared.party.Entry.{Entry}
+use Rattle.channel_steps.specs.declared.run.Step.{Step}
+use Rattle.channel_laws.specs.Receives.{counts_for_receives, MessagesAreFew, ReceivesSound, ReceivesStayOwed, NoReceiveIsForgotten}
+use Rattle.channel_laws.proofs.Notices.{tellings_next, tellings_new}
+use Rattle.channel_laws.proofs.RunFacts.{kept_long}
+use Rattle.channel_laws.proofs.Owed.{owed_next, pending_owed}
+use Rattle.channel_laws.proofs.ReceiveMoves.{receive_ledger}
+
+module _ {T W : Type 0} where
+  pub receives_next : (s : Scene T W) (x : Step T W) (e : Entry T) (names : List W) (t : Scene T W) → Next s x e names t
+      → ReceivesSound s → ReceivesSound t
+  receives_next s x e names t n sound =
+      record {
+        tellings = tellings_next s x e names t n sound.tellings;
+        owed = owed_next Receives tt MessagesAreFew counts_for_receives receive_ledger s x e names t n sound.tellings sound.owed;
+      }
+
+  pub receives_new : (cap : Option ℕ) → ReceivesSound (new_scene {T = T} {W = W} cap)
+  receives_new cap = record { tellings = tellings_new cap; owed = λ key w. absurd w }
+
+module _ (T W S : Type 0) (wakes : S → W → S → Type 0) where
+  pub receives_stay_owed : ReceivesStayOwed T W S wakes
+  receives_stay_owed s t steps trace h run =
+      kept_long wakes ReceivesSound receives_next run.0 run.1 s t run.2 run.3 steps trace h run.4
+
+  pub no_receive_is_forgotten : NoReceiveIsForgotten T W S wakes
+  no_receive_is_forgotten cap t steps trace run =
+      let h = receives_stay_owed (new_scene cap) t steps trace (receives_new cap) run in
+      (h.owed, pending_owed Receives tt MessagesAreFew counts_for_receives t h.owed)

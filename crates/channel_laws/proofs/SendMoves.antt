@@ -1,0 +1,310 @@
+-- Each step pays for what it takes or uses up, as those count it who wait for a free place.
+use Rattle.std.proofs.Common.{◌≡◌, ℕ, ◌+◌, ◌≤◌, ◌==◌, Bool, true, false, List, [], length, Option, None, Some, Ok, Err, ◌⊎◌, inl, inr, refl, sym, ap, ◌∙◌, subst, arith}
+use Rattle.std.proofs.lemmas.Bool.Decides.{nat_tests}
+use Rattle.concurrent_queue.specs.Queue.{Queue, Phase, IsShut, trying, appended, taken, marked, is_displaced, is_full_at, is_filled, AnswersPush, AnswersForce, AnswersPop, AnswersTo, GoesOn}
+use Rattle.concurrent_queue.specs.Queue as queue
+use Rattle.concurrent_queue.specs.declared.call.QueueAsk.{QueueAsk}
+use Rattle.concurrent_queue.specs.declared.call.QueueAsk.TheVariants as ask
+use Rattle.concurrent_queue.specs.declared.call.QueueMark.{QueueMark}
+use Rattle.concurrent_queue.specs.declared.call.QueueMark.TheVariants.{Nothing}
+use Rattle.concurrent_queue.specs.declared.call.QueueReply.{QueueReply}
+use Rattle.concurrent_queue.specs.declared.call.QueueReply.TheVariants as answer
+use Rattle.concurrent_queue.specs.declared.error.PopError.TheVariants as pop_error
+use Rattle.concurrent_queue.specs.declared.error.PushError.TheVariants as push_error
+use Rattle.concurrent_queue.specs.declared.error.ForcePushError.TheVariants as force_error
+use Rattle.event_listener.specs.declared.key.Key.{Key}
+use Rattle.async_channel.specs.Answered.{answered_next}
+use Rattle.async_channel.specs.Moves.{Channel, Effect, queued, Turned, Worked, Moves}
+use Rattle.async_channel.specs.Turns.{line_of, again}
+use Rattle.async_channel.specs.declared.ask.ChannelAsk.{ChannelAsk}
+use Rattle.async_channel.specs.declared.ask.ChannelAsk.TheVariants as channel
+use Rattle.async_channel.specs.declared.reply.Reply.{Reply}
+use Rattle.async_channel.specs.declared.stage.Aim.{Aim}
+use Rattle.async_channel.specs.declared.stage.Aim.TheVariants as aim
+use Rattle.async_channel.specs.declared.stage.Closer.TheVariants as closer
+use Rattle.async_channel.specs.declared.stage.Line.{Line}
+use Rattle.async_channel.specs.declared.stage.Line.TheVariants.{Sends, Receives, Streams, Closings}
+use Rattle.async_channel.specs.declared.stage.Stage.{Stage}
+use Rattle.async_channel.specs.declared.stage.Stage.TheVariants.{Trying, Working, Finished}
+use Rattle.async_channel.specs.declared.stage.Waiting.{Waiting}
+use Rattle.async_channel.specs.declared.stage.Waiting.TheVariants as waiting
+use Rattle.async_channel.specs.declared.stage.Work.{Work}
+use Rattle.async_channel.specs.declared.stage.Work.TheVariants.{TellSend, Register}
+use Rattle.channel_steps.specs.Known.{TriesFor, IsFor, WorkAt, StageAt}
+use Rattle.channel_steps.specs.Moments.{Deed, Shut}
+use Rattle.channel_laws.specs.Amounts.{is_trying_anew}
+use Rattle.channel_laws.specs.Notices.{AnyTold, told_of}
+use Rattle.channel_laws.specs.Sends.{is_to_tell_send, counts_for_sends, HasPlaces, PlacesAreFew}
+use Rattle.channel_laws.specs.Waits.{Waits}
+use Rattle.channel_laws.proofs.Closed.{shut_does}
+use Rattle.channel_laws.proofs.ClosedMoves.{worked_spares}
+use Rattle.channel_laws.proofs.HandMoves.{HasCause}
+use Rattle.channel_laws.proofs.NumberMoves.{number, push_fills, force_fills, pop_frees, MayTake, goes_no_fewer, answers_same_number, capacity_same, anew_at_most, weigh_turn, turned_weighs}
+use Rattle.channel_laws.proofs.Owed.{Pays, Ledger}
+use Rattle.channel_laws.proofs.StreamMoves.{How}
+use Rattle.channel_laws.proofs.ToldMoves.{tells_now, AsksAnew, worked_counts}
+use Rattle.channel_laws.proofs.TotalFacts.{left_over}
+
+has_more : (cap : Option ℕ) (m n : ℕ) → m ≤ n → HasPlaces cap m → HasPlaces cap n
+has_more None m n less h = h
+has_more (Some cap) m n less h = omega (arith, less, h)
+
+module _ {T : Type 0} where
+  -- the queue is full, closed, or has no bound
+  abbrev Refuses : Queue T → Type 0
+  Refuses q = (is_filled q ≡ true) ⊎ (IsShut q ⊎ (q.capacity ≡ None))
+
+  filled_as : (cap : Option ℕ) (items : List T) (n : ℕ) → is_full_at cap items ≡ true → HasPlaces cap (length items + n)
+  filled_as None items n e = absurd (let never : false ≡ true = e in cc)
+  filled_as (Some cap) items n e = let same : length items ≡ cap = grind (arith, nat_tests, e) in omega (arith, same)
+
+module _ {T W : Type 0} where
+  -- ---- who may take a message
+
+  abbrev Takes : ChannelAsk T W → Type 0
+  Takes channel.TryRecv = Unit {0}
+  Takes (channel.PollRecv k t) = Unit {0}
+  Takes (channel.PollNext k t) = Unit {0}
+  Takes (channel.ForceSend m) = Unit {0}
+  Takes x = ⊥
+
+  takes_as : (x : ChannelAsk T W) (y : Aim W) (a : QueueAsk T) (ds : List (Deed T W)) (seen : List (Channel T W))
+      → TriesFor x y a ds seen → MayTake a → Takes x
+  takes_as channel.TryRecv y a ds seen h p = tt
+  takes_as (channel.PollRecv k t) y a ds seen h p = tt
+  takes_as (channel.PollNext k t) y a ds seen h p = tt
+  takes_as (channel.ForceSend m) y a ds seen h p = tt
+  takes_as (channel.TrySend m) aim.TrySend (ask.Push v) ds seen h p = absurd p
+  takes_as channel.Close (aim.Close closer.Call) ask.Close ds seen h p = absurd p
+  takes_as (channel.PollSend m k t) (aim.Poll Sends key task) (ask.Push v) ds seen h p = absurd p
+  takes_as (channel.PollClosed k t) (aim.Poll Closings key task) ask.IsClosed ds seen h p = absurd p
+  takes_as channel.DropSender (aim.Close closer.Sender) ask.Close ds seen h p = absurd p
+  takes_as (channel.DropReceiver k) (aim.Close (closer.Receiver key)) ask.Close ds seen h p = absurd p
+  takes_as (channel.Upgrade side) (aim.Upgrade other) ask.IsClosed ds seen h p = absurd p
+  takes_as channel.IsClosed aim.Ask ask.IsClosed ds seen h p = absurd p
+  takes_as channel.IsEmpty aim.Ask ask.IsEmpty ds seen h p = absurd p
+  takes_as channel.IsFull aim.Ask ask.IsFull ds seen h p = absurd p
+  takes_as channel.Len aim.Ask ask.Len ds seen h p = absurd p
+  takes_as channel.Capacity aim.Ask ask.Capacity ds seen h p = absurd p
+  takes_as channel.IsTerminated aim.IsTerminated ask.IsClosed ds seen h p = absurd p
+  takes_as channel.IsTerminated aim.Ask ask.IsEmpty ds seen h p = absurd p
+  takes_as x y a ds seen h p = absurd h
+
+  -- what a call of this queue's call counts for
+  abbrev counted : ChannelAsk T W → Aim W → QueueAsk T → queue.Stage T → ℕ
+  counted x y a s = counts_for_sends x (Trying (record { ask = a; stage = s }) y)
+
+  module _ (q : Queue T) (ds : List (Deed T W)) (seen : List (Channel T W)) where
+    pushing : (v w : T) (k key : Option Key) (t' task : W) (m : QueueMark) (s t : queue.Stage T) → queue.GoesPush q m s t
+        → length q.items + counted (channel.PollSend v k t') (aim.Poll Sends key task) (ask.Push w) s ≤ number (ask.Push w) s m
+        q + counted (channel.PollSend v k t') (aim.Poll Sends key task) (ask.Push w) t
+    pushing v w k None t' task m s t g = let n = push_fills q w m s t g in n.0
+    pushing v w k (Some key) t' task m s t g = let n = push_fills q w m s t g in let f = n.1 in omega (arith, f)
+
+    -- as it goes on
+    goes_pays : (x : ChannelAsk T W) (y : Aim W) (a : QueueAsk T) (m : QueueMark) (s t : queue.Stage T) → TriesFor x y a ds seen
+        → GoesOn q a m s t
+        → length q.items + counted x y a s ≤ number a s m q + counted x y a t
+    goes_pays channel.TryRecv aim.TryRecv ask.Pop m s t h g = pop_frees q m s t g
+    goes_pays channel.TryRecv y a m s t h g = absurd h
+    goes_pays (channel.PollRecv k t') (aim.Poll Receives key task) ask.Pop m s t h g = pop_frees q m s t g
+    goes_pays (channel.PollRecv k t') y a m s t h g = absurd h
+    goes_pays (channel.PollNext k t') (aim.Poll Streams key task) ask.Pop m s t h g = pop_frees q m s t g
+    goes_pays (channel.PollNext k t') y a m s t h g = absurd h
+    goes_pays (channel.ForceSend v) aim.ForceSend (ask.ForcePush w) m s t h g = force_fills q w m s t g
+    goes_pays (channel.ForceSend v) y a m s t h g = absurd h
+    goes_pays (channel.PollSend v k t') (aim.Poll Sends key task) (ask.Push w) m s t h g = pushing v w k key t' task m s t g
+    goes_pays (channel.PollSend v k t') y a m s t h g = absurd h
+    goes_pays x y a m s t h g = let n = goes_no_fewer q a m s t (λ p. takes_as x y a ds seen h p) g in omega (arith, n)
+
+    -- as it answers, or by such a refusal
+    abbrev Answered : ChannelAsk T W → Aim W → QueueAsk T → QueueMark → QueueReply T → queue.Stage T → Type 0
+    Answered x y a m r s =
+        (length q.items + counted x y a s ≤ number a s m q + weigh_turn counts_for_sends x (answered_next y r))
+        ⊎ ((m ≡ Nothing) × Refuses q)
+
+    pushed : (v w : T) (k key : Option Key) (t' task : W) (m : QueueMark) (r : QueueReply T) (s : queue.Stage T)
+        → AnswersPush q w m r s
+        → Answered (channel.PollSend v k t') (aim.Poll Sends key task) (ask.Push w) m r s
+    pushed v w k key t' task Nothing (answer.Push (Ok u)) (appended None) h =
+        let few = anew_at_most {T = T} (record { ask = ask.Push w; stage = appended None }) Sends key task in inl
+        (omega (arith, few))
+    pushed v w k key t' task Nothing (answer.Push (Err (push_error.Full z))) (trying b) h = inr (refl, inl h.1)
+    pushed v w k key t' task Nothing (answer.Push (Err (push_error.Closed z))) (trying b) h = inr (refl, inr (inl h.1))
+    pushed v w k key t' task Nothing (answer.Push (Err (push_error.NoMemory z))) (trying b) h = inr (refl, inr (inr h.1))
+    pushed v w k key t' task m r s h = absurd h
+
+    forced : (v w : T) (m : QueueMark) (r : QueueReply T) (s : queue.Stage T) → AnswersForce q w m r s
+        → Answered (channel.ForceSend v) aim.ForceSend (ask.ForcePush w) m r s
+    forced v w Nothing (answer.Force (Ok d)) (appended o) h = inl (omega arith)
+    forced v w Nothing (answer.Force (Err (force_error.Closed z))) (trying b) h = inl (omega arith)
+    forced v w Nothing (answer.Force (Err (force_error.NoMemory z))) (trying b) h = inl (omega arith)
+    forced v w m r s h = absurd h
+
+    popped_try : (m : QueueMark) (r : QueueReply T) (s : queue.Stage T) → AnswersPop q m r s
+        → Answered channel.TryRecv aim.TryRecv ask.Pop m r s
+    popped_try Nothing (answer.Pop (Ok w)) (taken v) h = inl (omega arith)
+    popped_try Nothing (answer.Pop (Err pop_error.Empty)) (trying b) h = inl (omega arith)
+    popped_try Nothing (answer.Pop (Err pop_error.Closed)) (trying b) h = inl (omega arith)
+    popped_try m r s h = absurd h
+
+    popped_poll : (k key : Option Key) (t' task : W) (m : QueueMark) (r : QueueReply T) (s : queue.Stage T) → AnswersPop q m r s
+        → Answered (channel.PollRecv k t') (aim.Poll Receives key task) ask.Pop m r s
+    popped_poll k key t' task Nothing (answer.Pop (Ok w)) (taken v) h = inl (omega arith)
+    popped_poll k key t' task Nothing (answer.Pop (Err pop_error.Empty)) (trying b) h = inl (omega arith)
+    popped_poll k key t' task Nothing (answer.Pop (Err pop_error.Closed)) (trying b) h = inl (omega arith)
+    popped_poll k key t' task m r s h = absurd h
+
+    popped_next : (k key : Option Key) (t' task : W) (m : QueueMark) (r : QueueReply T) (s : queue.Stage T) → AnswersPop q m r s
+        → Answered (channel.PollNext k t') (aim.Poll Streams key task) ask.Pop m r s
+    popped_next k key t' task Nothing (answer.Pop (Ok w)) (taken v) h = inl (omega arith)
+    popped_next k key t' task Nothing (answer.Pop (Err pop_error.Empty)) (trying b) h = inl (omega arith)
+    popped_next k key t' task Nothing (answer.Pop (Err pop_error.Closed)) (trying b) h = inl (omega arith)
+    popped_next k key t' task m r s h = absurd h
+
+    answers_pay : (x : ChannelAsk T W) (y : Aim W) (a : QueueAsk T) (m : QueueMark) (r : QueueReply T) (s : queue.Stage T)
+        → TriesFor x y a ds seen → AnswersTo q a m r s → Answered x y a m r s
+    answers_pay channel.TryRecv aim.TryRecv ask.Pop m r s h g = popped_try m r s g
+    answers_pay channel.TryRecv y a m r s h g = absurd h
+    answers_pay (channel.PollRecv k t') (aim.Poll Receives key task) ask.Pop m r s h g = popped_poll k key t' task m r s g
+    answers_pay (channel.PollRecv k t') y a m r s h g = absurd h
+    answers_pay (channel.PollNext k t') (aim.Poll Streams key task) ask.Pop m r s h g = popped_next k key t' task m r s g
+    answers_pay (channel.PollNext k t') y a m r s h g = absurd h
+    answers_pay (channel.ForceSend v) aim.ForceSend (ask.ForcePush w) m r s h g = forced v w m r s g
+    answers_pay (channel.ForceSend v) y a m r s h g = absurd h
+    answers_pay (channel.PollSend v k t') (aim.Poll Sends key task) (ask.Push w) m r s h g = pushed v w k key t' task m r s g
+    answers_pay (channel.PollSend v k t') y a m r s h g = absurd h
+    answers_pay x y a m r s h g = let n = answers_same_number q a m r s g in inl (omega (arith, n))
+
+  -- ---- a step of the queue's call
+
+  abbrev Paid : Channel T W → ChannelAsk T W → Stage (Phase T) T W → Effect T W → Option (Reply T) → Stage (Phase T) T W → Type 0
+  Paid c x at e r s = Pays Sends tt PlacesAreFew counts_for_sends c x at e r s
+
+  -- where the queue has places enough with this many, it has so with that many after the step
+  places_on : (c d : Channel T W) (n k : ℕ) → (Shut c → Shut d) → d.queue.capacity ≡ c.queue.capacity
+      → length c.queue.items + length (told_of Sends c) + n ≤ length d.queue.items + length (told_of Sends d) + k
+      → PlacesAreFew c n → PlacesAreFew d k
+  places_on c d n k shut cap less (inl h) = inl (shut h)
+  places_on c d n k shut cap less (inr h) =
+      inr (subst (λ (o : Option ℕ). HasPlaces o (length d.queue.items + length (told_of Sends d) + k)) (sym cap) (
+      has_more c.queue.capacity (length c.queue.items + length (told_of Sends c) + n)
+      (length d.queue.items + length (told_of Sends d) + k) less h))
+
+  full_places : (c : Channel T W) (n : ℕ) → is_filled c.queue ≡ true → PlacesAreFew c n
+  full_places c n h =
+      inr (has_more c.queue.capacity (length c.queue.items + 0) (length c.queue.items + length (told_of Sends c) + n)
+      (omega arith) (filled_as c.queue.capacity c.queue.items 0 h))
+
+  -- a refusal leaves places as few as can be
+  refused_places : (c : Channel T W) (n k : ℕ) → Refuses c.queue → PlacesAreFew c n → PlacesAreFew c k
+  refused_places c n k (inl full) h = full_places c k full
+  refused_places c n k (inr (inl shut)) h = inl shut
+  refused_places c n k (inr (inr none)) (inl shut) = inl shut
+  refused_places c n k (inr (inr none)) (inr h) =
+      absurd (subst (λ (o : Option ℕ). HasPlaces o (length c.queue.items + length (told_of Sends c) + n)) none h)
+
+  module _ (c : Channel T W) (x : ChannelAsk T W) (f : Phase T) (y : Aim W) (m : QueueMark) (ds : List (Deed T W))
+      (seen : List (Channel T W)) (r : Option (Reply T)) (s : Stage (Phase T) T W)
+      (shut : Shut c → Shut (let e : Effect T W = queued f m c in e.channel)) where
+    abbrev now : Channel T W
+    now = let e : Effect T W = queued f m c in e.channel
+
+    same_bound : now.queue.capacity ≡ c.queue.capacity
+    same_bound = capacity_same c.queue f.ask (is_displaced f.stage) m
+
+    tried_pays : TriesFor x y f.ask ds seen → How c f y m r s → Paid c x (Trying f y) (queued f m c) r s
+    tried_pays h (inl (f', goes, none, there)) n enough =
+        let same = ap (λ (a : QueueAsk T). counts_for_sends x (Trying (record { ask = a; stage = f'.stage }) y)) goes.0 in
+        let k = goes_pays c.queue ds seen x y f.ask m f.stage f'.stage h goes.1 in
+        let after = ap (λ (z : Option (Reply T)). left_over counts_for_sends x z s) none in
+        let at = ap (λ (z : Stage (Phase T) T W). counts_for_sends x z) there in
+        places_on c now (counts_for_sends x (Trying f y) + n) (left_over counts_for_sends x r s + n) shut same_bound
+        (omega (arith, same, k, after, at)) enough
+    tried_pays h (inr (reply, ans, turned)) n enough = by_answer (answers_pay c.queue ds seen x y f.ask m reply f.stage h ans)
+      where
+        by_answer : Answered c.queue ds seen x y f.ask m reply f.stage → PlacesAreFew now (left_over counts_for_sends x r s + n)
+        by_answer (inl k) =
+            let after = turned_weighs counts_for_sends x (answered_next y reply) r s turned in
+            places_on c now (counts_for_sends x (Trying f y) + n) (left_over counts_for_sends x r s + n) shut same_bound
+            (omega (arith, k, after)) enough
+        by_answer (inr k) =
+            subst (λ (z : QueueMark). PlacesAreFew (let e : Effect T W = queued f z c in e.channel)
+            (left_over counts_for_sends x r s + n)) (sym k.0) (
+            refused_places c (counts_for_sends x (Trying f y) + n) (left_over counts_for_sends x r s + n) k.1 enough)
+
+  -- ---- a step on a list
+
+  tells_at_most : (w : Work T W) → is_to_tell_send (let at : Stage (Phase T) T W = Working w in at) ≤ tells_now w Sends
+  tells_at_most (TellSend x) = omega arith
+  tells_at_most w = omega arith
+
+  work_counts : (x : ChannelAsk T W) (w : Work T W) → counts_for_sends x (Working w) ≤ tells_now w Sends
+  work_counts channel.TryRecv w = tells_at_most w
+  work_counts (channel.PollRecv k t) w = tells_at_most w
+  work_counts (channel.PollNext k t) w = tells_at_most w
+  work_counts x w = omega arith
+
+  asks_as : (x : ChannelAsk T W) (v : Waiting T) (task : W) (r : Option (Reply T)) (s : Stage (Phase T) T W) → IsFor x v
+      → Sends ≡ line_of v → Turned (again v None task) r s → left_over counts_for_sends x r s ≡ 1
+  asks_as (channel.PollSend m k t) (waiting.Send v) task r s h at turned =
+      turned_weighs counts_for_sends (channel.PollSend m k t) (again (waiting.Send v) None task) r s turned
+  asks_as x waiting.Receive task r s h at turned = absurd (let never : Sends ≡ Receives = at in cc)
+  asks_as x waiting.Stream task r s h at turned = absurd (let never : Sends ≡ Streams = at in cc)
+  asks_as x waiting.Closing task r s h at turned = absurd (let never : Sends ≡ Closings = at in cc)
+  asks_as x v task r s h at turned = absurd h
+
+  asks_anew : (x : ChannelAsk T W) (w : Work T W) (ds : List (Deed T W)) (seen : List (Channel T W)) (r : Option (Reply T))
+      (s : Stage (Phase T) T W) → WorkAt x w ds seen → AsksAnew Sends w r s
+      → (left_over counts_for_sends x r s ≡ 1) × (tells_now w Sends ≡ 0)
+  asks_anew x (Register v key task) ds seen r s h k = (asks_as x v task r s h.0 k.0 k.1, refl)
+  asks_anew x w ds seen r s h k = absurd k
+
+  module _ (c : Channel T W) (x : ChannelAsk T W) (w : Work T W) (ds : List (Deed T W)) (seen : List (Channel T W))
+      (e : Effect T W) (r : Option (Reply T)) (s : Stage (Phase T) T W) (shut : Shut c → Shut e.channel) where
+    worked_pays : WorkAt x w ds seen → e.channel.queue ≡ c.queue
+        → (length (told_of Sends c) + tells_now w Sends ≤ length (told_of Sends e.channel))
+        ⊎ ((AsksAnew Sends w r s × (length (told_of Sends c) ≤ length (told_of Sends e.channel) + 1))
+        ⊎ AnyTold false (told_of Sends c))
+        → Paid c x (Working w) e r s ⊎ AnyTold false (told_of Sends c)
+    worked_pays h same (inl k) = inl pays
+      where
+        pays : Paid c x (Working w) e r s
+        pays n enough =
+            let items = ap (λ (q : Queue T). length q.items) same in
+            let counts = work_counts x w in
+            places_on c e.channel (counts_for_sends x (Working w) + n) (left_over counts_for_sends x r s + n) shut
+            (ap (λ (q : Queue T). q.capacity) same) (omega (arith, items, counts, k)) enough
+    worked_pays h same (inr (inl (anew, k))) = inl pays
+      where
+        pays : Paid c x (Working w) e r s
+        pays n enough =
+            let items = ap (λ (q : Queue T). length q.items) same in
+            let counts = work_counts x w in
+            let tries = asks_anew x w ds seen r s h anew in
+            let one = tries.0 in
+            let none = tries.1 in
+            places_on c e.channel (counts_for_sends x (Working w) + n) (left_over counts_for_sends x r s + n) shut
+            (ap (λ (q : Queue T). q.capacity) same) (omega (arith, items, counts, k, one, none)) enough
+    worked_pays h same (inr (inr d)) = inr d
+
+  send_pays : (c : Channel T W) (x : ChannelAsk T W) (at : Stage (Phase T) T W) (ds : List (Deed T W))
+      (seen : List (Channel T W)) (e : Effect T W) (r : Option (Reply T)) (s : Stage (Phase T) T W) (key : Key)
+      → StageAt c x at ds seen → Moves c at e r s → Waits Sends key e.channel → Paid c x at e r s
+      ⊎ AnyTold false (told_of Sends c)
+  send_pays c x (Trying f y) ds seen e r s key st g w =
+      let shut : Shut c → Shut (let z : Effect T W = queued f g.mark c in z.channel) =
+      (λ h. subst (λ (z : Effect T W). Shut z.channel) g.effect (let k = shut_does c (Trying f y) e r s h g in k.0.0)) in
+      inl (subst (λ (z : Effect T W). Paid c x (Trying f y) z r s) (sym g.effect)
+      (tried_pays c x f y g.mark ds seen r s shut st.0 g.how))
+  send_pays c x (Working z) ds seen e r s key st g w =
+      let k = worked_spares c z e r s g in
+      worked_pays c x z ds seen e r s (λ h. (let d = shut_does c (Working z) e r s h g in d.0.0)) st k.0
+      (worked_counts key r s Sends tt c z e g w)
+  send_pays c x (Finished kept) ds seen e r s key st g w = absurd st
+
+  places_more : (c : Channel T W) (m n : ℕ) → m ≤ n → PlacesAreFew c m → PlacesAreFew c n
+  places_more c m n less h = places_on c c m n (λ h. h) refl (omega (arith, less)) h
+
+  pub send_ledger : Ledger {T = T} {W = W} Sends tt PlacesAreFew counts_for_sends
+  send_ledger = record { more = places_more; caused = full_places; pays = send_pays }

@@ -1,0 +1,33 @@
+-- Waiting sends over runs.
+use Rattle.std.proofs.Common.{ℕ, List, [], ◌∷◌, Option, inl, sym, subst}
+use Rattle.async_channel.specs.declared.stage.Line.TheVariants.{Sends}
+use Rattle.channel_steps.specs.Run.{Next, new_scene}
+use Rattle.channel_steps.specs.Scene.{Scene}
+use Rattle.channel_steps.specs.declared.party.Entry.{Entry}
+use Rattle.channel_steps.specs.declared.run.Step.{Step}
+use Rattle.channel_laws.specs.Sends.{counts_for_sends, PlacesAreFew, SendsSound, SendsStayOwed, NoSendIsForgotten}
+use Rattle.channel_laws.proofs.Notices.{tellings_next, tellings_new}
+use Rattle.channel_laws.proofs.RunFacts.{kept_long}
+use Rattle.channel_laws.proofs.Owed.{owed_next, pending_owed}
+use Rattle.channel_laws.proofs.SendMoves.{send_ledger}
+
+module _ {T W : Type 0} where
+  pub sends_next : (s : Scene T W) (x : Step T W) (e : Entry T) (names : List W) (t : Scene T W) → Next s x e names t
+      → SendsSound s → SendsSound t
+  sends_next s x e names t n sound =
+      record {
+        tellings = tellings_next s x e names t n sound.tellings;
+        owed = owed_next Sends tt PlacesAreFew counts_for_sends send_ledger s x e names t n sound.tellings sound.owed;
+      }
+
+  pub sends_new : (cap : Option ℕ) → SendsSound (new_scene {T = T} {W = W} cap)
+  sends_new cap = record { tellings = tellings_new cap; owed = λ key w. absurd w }
+
+module _ (T W S : Type 0) (wakes : S → W → S → Type 0) where
+  pub sends_stay_owed : SendsStayOwed T W S wakes
+  sends_stay_owed s t steps trace h run = kept_long wakes SendsSound sends_next run.0 run.1 s t run.2 run.3 steps trace h run.4
+
+  pub no_send_is_forgotten : NoSendIsForgotten T W S wakes
+  no_send_is_forgotten cap t steps trace run =
+      let h = sends_stay_owed (new_scene cap) t steps trace (sends_new cap) run in
+      (h.owed, pending_owed Sends tt PlacesAreFew counts_for_sends t h.owed)
