@@ -1,20 +1,19 @@
 -- How those who were told were told, over runs.
-use Rattle.std.proofs.Common.{◌≡◌, ℕ, Bool, true, false, List, [], ◌∷◌, Option, ◌⊎◌, inl, inr, refl, sym, ap, ◌∙◌, subst}
+use Rattle.std.proofs.Common.{◌≡◌, ℕ, Bool, true, false, List, [], Option, ◌⊎◌, inl, inr, refl, sym, ◌∙◌, subst}
 use Rattle.concurrent_queue.specs.Queue.{Phase}
 use Rattle.event_listener.specs.declared.key.Key.{Key}
 use Rattle.async_channel.specs.Moves.{Channel, Effect, tells_all, Moves}
-use Rattle.async_channel.specs.Parts.{Parts}
 use Rattle.async_channel.specs.declared.ask.ChannelAsk.{ChannelAsk}
 use Rattle.async_channel.specs.declared.mark.Mark.TheVariants as mark
 use Rattle.async_channel.specs.declared.reply.Reply.{Reply}
 use Rattle.async_channel.specs.declared.stage.Line.{Line}
 use Rattle.async_channel.specs.declared.stage.Line.TheVariants.{Sends, Receives, Streams, Closings}
 use Rattle.async_channel.specs.declared.stage.Stage.{Stage}
-use Rattle.async_channel.specs.declared.stage.Stage.TheVariants.{Trying, Working, Finished}
+use Rattle.async_channel.specs.declared.stage.Stage.TheVariants.{Working}
 use Rattle.async_channel.specs.declared.stage.Work.TheVariants.{TellReceive, TellStreams, TellSend, TellAll}
 use Rattle.channel_steps.specs.Known.{ToldAt}
-use Rattle.channel_steps.specs.Moments.{Deed, with_deed, Open, Shut}
-use Rattle.channel_steps.specs.Scene.{Under, Scene, Steps, Known, sees, does}
+use Rattle.channel_steps.specs.Moments.{Deed, Open, Shut}
+use Rattle.channel_steps.specs.Scene.{Scene, Steps, Known}
 use Rattle.channel_steps.specs.Tellings.{Telling}
 use Rattle.channel_steps.specs.Run.{Next, Begins, new_scene}
 use Rattle.channel_steps.specs.declared.party.Entry.{Entry}
@@ -23,7 +22,7 @@ use Rattle.channel_steps.specs.declared.run.Step.TheVariants as step
 use Rattle.channel_steps.proofs.Interface.{known_next}
 use Rattle.channel_laws.specs.Closings.{HasClosed, LooksAgain}
 use Rattle.channel_laws.specs.Ends.{Each}
-use Rattle.channel_laws.specs.Notices.{MayBeTold, IsOneByOne, EachTold, AnyTold, told_of, TellingsFit, TellingsSound}
+use Rattle.channel_laws.specs.Notices.{MayBeTold, IsOneByOne, EachTold, AnyTold, told_of, TellingsSound}
 use Rattle.channel_laws.specs.Waits.{Waits, WaitApart, Any}
 use Rattle.channel_laws.proofs.AnyFacts.{any_mine, any_steps, any_begins}
 use Rattle.channel_laws.proofs.Closed.{shut_does}
