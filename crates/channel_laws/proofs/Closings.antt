@@ -1,5 +1,5 @@
 -- Those who wait on a closed channel, over runs.
-use Rattle.std.proofs.Common.{ℕ, List, [], ◌∷◌, Option, ◌⊎◌, inl, inr, refl, sym, subst}
+use Rattle.std.proofs.Common.{ℕ, List, Option, ◌⊎◌, inl, inr, refl, sym, subst}
 use Rattle.event_listener.specs.declared.key.Key.{Key}
 use Rattle.async_channel.specs.Moves.{Channel, Effect}
 use Rattle.async_channel.specs.declared.stage.Line.{Line}

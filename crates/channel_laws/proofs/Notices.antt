@@ -1,20 +1,19 @@
 -- How those who were told were told, over runs.
-use Rattle.std.proofs.Common.{◌≡◌, ℕ, Bool, true, false, List, [], ◌∷◌, Option, ◌⊎◌, inl, inr, refl, sym, ap, ◌∙◌, subst}
+use Rattle.std.proofs.Common.{◌≡◌, ℕ, Bool, true, false, List, [], Option, ◌⊎◌, inl, inr, refl, sym, ◌∙◌, subst}
 use Rattle.concurrent_queue.specs.Queue.{Phase}
 use Rattle.event_listener.specs.declared.key.Key.{Key}
 use Rattle.async_channel.specs.Moves.{Channel, Effect, tells_all, Moves}
-use Rattle.async_channel.specs.Parts.{Parts}
 use Rattle.async_channel.specs.declared.ask.ChannelAsk.{ChannelAsk}
 use Rattle.async_channel.specs.declared.mark.Mark.TheVariants as mark
 use Rattle.async_channel.specs.declared.reply.Reply.{Reply}
 use Rattle.async_channel.specs.declared.stage.Line.{Line}
 use Rattle.async_channel.specs.declared.stage.Line.TheVariants.{Sends, Receives, Streams, Closings}
 use Rattle.async_channel.specs.declared.stage.Stage.{Stage}
-use Rattle.async_channel.specs.declared.stage.Stage.TheVariants.{Trying, Working, Finished}
+use Rattle.async_channel.specs.declared.stage.Stage.TheVariants.{Working}
 use Rattle.async_channel.specs.declared.stage.Work.TheVariants.{TellReceive, TellStreams, TellSend, TellAll}
 use Rattle.channel_steps.specs.Known.{ToldAt}
-use Rattle.channel_steps.specs.Moments.{Deed, with_deed, Open, Shut}
-use Rattle.channel_steps.specs.Scene.{Under, Scene, Steps, Known, sees, does}
+use Rattle.channel_steps.specs.Moments.{Deed, Open, Shut}
+use Rattle.channel_steps.specs.Scene.{Scene, Steps, Known}
 use Rattle.channel_steps.specs.Tellings.{Telling}
 use Rattle.channel_steps.specs.Run.{Next, Begins, new_scene}
 use Rattle.channel_steps.specs.declared.party.Entry.{Entry}
@@ -23,7 +22,7 @@ use Rattle.channel_steps.specs.declared.run.Step.TheVariants as step
 use Rattle.channel_steps.proofs.Interface.{known_next}
 use Rattle.channel_laws.specs.Closings.{HasClosed, LooksAgain}
 use Rattle.channel_laws.specs.Ends.{Each}
-use Rattle.channel_laws.specs.Notices.{MayBeTold, IsOneByOne, EachTold, AnyTold, told_of, TellingsFit, TellingsSound}
+use Rattle.channel_laws.specs.Notices.{MayBeTold, IsOneByOne, EachTold, AnyTold, told_of, TellingsSound, TellingsStayFit, TellingsAlwaysFit}
 use Rattle.channel_laws.specs.Waits.{Waits, WaitApart, Any}
 use Rattle.channel_laws.proofs.AnyFacts.{any_mine, any_steps, any_begins}
 use Rattle.channel_laws.proofs.Closed.{shut_does}
@@ -32,6 +31,7 @@ use Rattle.channel_laws.proofs.ClosingMoves.{GoesOnFor, looks_goes, newcomer_loo
 use Rattle.channel_laws.proofs.EachFacts.{of_mine, each_known, each_steps, each_begins}
 use Rattle.channel_laws.proofs.ListMoves.{Tries, moved_lists, waited, stays_apart}
 use Rattle.channel_laws.proofs.NoticeMoves.{teller_has_closed, closed_before, close_shuts, nobody_left}
+use Rattle.channel_laws.proofs.RunFacts.{kept_long}
 use Rattle.channel_laws.proofs.ToldFacts.{each_as, any_as}
 use Rattle.channel_laws.proofs.ToldMoves.{Tells, moved_told}
 
@@ -235,3 +235,11 @@ module _ {T W : Type 0} where
                   (new_default T W cap line h);
             };
       }
+
+module _ (T W S : Type 0) (wakes : S → W → S → Type 0) where
+  pub tellings_stay_fit : TellingsStayFit T W S wakes
+  tellings_stay_fit s t steps trace h run =
+      kept_long wakes TellingsSound tellings_next run.0 run.1 s t run.2 run.3 steps trace h run.4
+
+  pub tellings_always_fit : TellingsAlwaysFit T W S wakes
+  tellings_always_fit cap t steps trace run = let h = tellings_stay_fit (new_scene cap) t steps trace (tellings_new cap) run in h.fit

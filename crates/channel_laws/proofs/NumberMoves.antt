@@ -1,5 +1,5 @@
 -- How many messages there are after a step of the queue's call, and what the call counts for by its turn.
-use Rattle.std.proofs.Common.{◌≡◌, ℕ, ◌+◌, ◌≤◌, Bool, true, false, List, [], ◌∷◌, ◌++◌, length, drop, Option, None, Some, Ok, Err, ◌⊎◌, inl, inr, refl, ap, ◌∙◌, arith, length-append}
+use Rattle.std.proofs.Common.{◌≡◌, ℕ, ◌+◌, ◌≤◌, Bool, [], ◌∷◌, ◌++◌, length, drop, Option, None, Some, refl, ap, ◌∙◌, arith, length-append}
 use Rattle.concurrent_queue.specs.Queue.{Queue, Phase, trying, displaced, appended, taken, asked, marked, is_displaced, GoesPush, GoesForce, GoesPop, GoesOn, AnswersTo}
 use Rattle.concurrent_queue.specs.Queue as queue
 use Rattle.concurrent_queue.specs.declared.call.QueueAsk.{QueueAsk}

@@ -1,5 +1,5 @@
 -- Who waits on a list that is told one at a time, over one step of a run.
-use Rattle.std.proofs.Common.{◌≡◌, ℕ, ◌+◌, ◌≤◌, false, List, [], ◌∷◌, Option, ◌⊎◌, inl, inr, sym, subst}
+use Rattle.std.proofs.Common.{ℕ, ◌+◌, ◌≤◌, false, List, Option, ◌⊎◌, inl, inr, sym, subst}
 use Rattle.concurrent_queue.specs.Queue.{Phase}
 use Rattle.event_listener.specs.declared.key.Key.{Key}
 use Rattle.async_channel.specs.Moves.{Channel, Effect, Moves}
@@ -10,14 +10,14 @@ use Rattle.async_channel.specs.declared.stage.Stage.{Stage}
 use Rattle.channel_steps.specs.Known.{StageAt}
 use Rattle.channel_steps.specs.Moments.{Deed}
 use Rattle.channel_steps.specs.Run.{Next, Begins}
-use Rattle.channel_steps.specs.Scene.{Under, Scene, Steps, Known, sees}
+use Rattle.channel_steps.specs.Scene.{Scene, Steps, Known}
 use Rattle.channel_steps.specs.declared.party.Entry.{Entry}
 use Rattle.channel_steps.specs.declared.run.Step.{Step}
 use Rattle.channel_steps.specs.declared.run.Step.TheVariants as step
 use Rattle.channel_laws.specs.Amounts.{total, HoldsListener, AreOwed, PendingAreOwed}
 use Rattle.channel_laws.specs.Closings.{LooksAgain}
 use Rattle.channel_laws.specs.Notices.{IsOneByOne, AnyTold, told_of, TellingsSound}
-use Rattle.channel_laws.specs.Waits.{Waits, WaitApart, Any}
+use Rattle.channel_laws.specs.Waits.{Waits, Any}
 use Rattle.channel_laws.proofs.AnyFacts.{any_none, any_weaker, any_mine, any_steps, any_begins}
 use Rattle.channel_laws.proofs.EachFacts.{of_mine, each_known}
 use Rattle.channel_laws.proofs.HandMoves.{StillHolds, HasCause, looks_holds, newcomer_holds, holds_on}

@@ -13,14 +13,13 @@ use Rattle.concurrent_queue.specs.declared.error.PushError.TheVariants as push_e
 use Rattle.concurrent_queue.specs.declared.error.ForcePushError.TheVariants as force_error
 use Rattle.event_listener.specs.declared.key.Key.{Key}
 use Rattle.async_channel.specs.Answered.{answered_next}
-use Rattle.async_channel.specs.Moves.{Channel, Effect, queued, Turned, Worked, Moves}
+use Rattle.async_channel.specs.Moves.{Channel, Effect, queued, Turned, Moves}
 use Rattle.async_channel.specs.Turns.{line_of, again}
 use Rattle.async_channel.specs.declared.ask.ChannelAsk.{ChannelAsk}
 use Rattle.async_channel.specs.declared.ask.ChannelAsk.TheVariants as channel
 use Rattle.async_channel.specs.declared.reply.Reply.{Reply}
 use Rattle.async_channel.specs.declared.stage.Aim.{Aim}
 use Rattle.async_channel.specs.declared.stage.Aim.TheVariants as aim
-use Rattle.async_channel.specs.declared.stage.Line.{Line}
 use Rattle.async_channel.specs.declared.stage.Line.TheVariants.{Sends, Receives, Streams, Closings}
 use Rattle.async_channel.specs.declared.stage.Stage.{Stage}
 use Rattle.async_channel.specs.declared.stage.Stage.TheVariants.{Trying, Working, Finished}
@@ -30,7 +29,6 @@ use Rattle.async_channel.specs.declared.stage.Work.{Work}
 use Rattle.async_channel.specs.declared.stage.Work.TheVariants.{TellReceive, Register}
 use Rattle.channel_steps.specs.Known.{TriesFor, IsFor, WorkAt, StageAt}
 use Rattle.channel_steps.specs.Moments.{Deed}
-use Rattle.channel_laws.specs.Amounts.{is_trying_anew}
 use Rattle.channel_laws.specs.Notices.{AnyTold, told_of}
 use Rattle.channel_laws.specs.Receives.{is_to_tell_receive, counts_for_receives, MessagesAreFew}
 use Rattle.channel_laws.specs.Waits.{Waits}

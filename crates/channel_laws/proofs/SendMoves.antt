@@ -1,5 +1,5 @@
 -- Each step pays for what it takes or uses up, as those count it who wait for a free place.
-use Rattle.std.proofs.Common.{◌≡◌, ℕ, ◌+◌, ◌≤◌, ◌==◌, Bool, true, false, List, [], length, Option, None, Some, Ok, Err, ◌⊎◌, inl, inr, refl, sym, ap, ◌∙◌, subst, arith}
+use Rattle.std.proofs.Common.{◌≡◌, ℕ, ◌+◌, ◌≤◌, true, false, List, length, Option, None, Some, Ok, Err, ◌⊎◌, inl, inr, refl, sym, ap, subst, arith}
 use Rattle.std.proofs.lemmas.Bool.Decides.{nat_tests}
 use Rattle.concurrent_queue.specs.Queue.{Queue, Phase, IsShut, trying, appended, taken, marked, is_displaced, is_full_at, is_filled, AnswersPush, AnswersForce, AnswersPop, AnswersTo, GoesOn}
 use Rattle.concurrent_queue.specs.Queue as queue
@@ -14,7 +14,7 @@ use Rattle.concurrent_queue.specs.declared.error.PushError.TheVariants as push_e
 use Rattle.concurrent_queue.specs.declared.error.ForcePushError.TheVariants as force_error
 use Rattle.event_listener.specs.declared.key.Key.{Key}
 use Rattle.async_channel.specs.Answered.{answered_next}
-use Rattle.async_channel.specs.Moves.{Channel, Effect, queued, Turned, Worked, Moves}
+use Rattle.async_channel.specs.Moves.{Channel, Effect, queued, Turned, Moves}
 use Rattle.async_channel.specs.Turns.{line_of, again}
 use Rattle.async_channel.specs.declared.ask.ChannelAsk.{ChannelAsk}
 use Rattle.async_channel.specs.declared.ask.ChannelAsk.TheVariants as channel
@@ -22,7 +22,6 @@ use Rattle.async_channel.specs.declared.reply.Reply.{Reply}
 use Rattle.async_channel.specs.declared.stage.Aim.{Aim}
 use Rattle.async_channel.specs.declared.stage.Aim.TheVariants as aim
 use Rattle.async_channel.specs.declared.stage.Closer.TheVariants as closer
-use Rattle.async_channel.specs.declared.stage.Line.{Line}
 use Rattle.async_channel.specs.declared.stage.Line.TheVariants.{Sends, Receives, Streams, Closings}
 use Rattle.async_channel.specs.declared.stage.Stage.{Stage}
 use Rattle.async_channel.specs.declared.stage.Stage.TheVariants.{Trying, Working, Finished}
@@ -32,13 +31,11 @@ use Rattle.async_channel.specs.declared.stage.Work.{Work}
 use Rattle.async_channel.specs.declared.stage.Work.TheVariants.{TellSend, Register}
 use Rattle.channel_steps.specs.Known.{TriesFor, IsFor, WorkAt, StageAt}
 use Rattle.channel_steps.specs.Moments.{Deed, Shut}
-use Rattle.channel_laws.specs.Amounts.{is_trying_anew}
 use Rattle.channel_laws.specs.Notices.{AnyTold, told_of}
 use Rattle.channel_laws.specs.Sends.{is_to_tell_send, counts_for_sends, HasPlaces, PlacesAreFew}
 use Rattle.channel_laws.specs.Waits.{Waits}
 use Rattle.channel_laws.proofs.Closed.{shut_does}
 use Rattle.channel_laws.proofs.ClosedMoves.{worked_spares}
-use Rattle.channel_laws.proofs.HandMoves.{HasCause}
 use Rattle.channel_laws.proofs.NumberMoves.{number, push_fills, force_fills, pop_frees, MayTake, goes_no_fewer, answers_same_number, capacity_same, anew_at_most, weigh_turn, turned_weighs}
 use Rattle.channel_laws.proofs.Owed.{Pays, Ledger}
 use Rattle.channel_laws.proofs.StreamMoves.{How}

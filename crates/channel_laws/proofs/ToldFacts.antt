@@ -1,7 +1,7 @@
 -- How many are told after a section on a list, and how they were told.
-use Rattle.std.proofs.Common.{◌≡◌, ℕ, ◌+◌, ◌-◌, ◌≤◌, Bool, true, false, if◌then◌else◌, min, List, [], ◌∷◌, ◌++◌, length, drop, take, map, Option, None, Some, is_some, not, ◌⊎◌, inl, inr, refl, sym, ap, ◌∙◌, subst, arith, length-append}
+use Rattle.std.proofs.Common.{◌≡◌, ℕ, ◌+◌, ◌-◌, ◌≤◌, Bool, true, false, if◌then◌else◌, min, List, [], ◌∷◌, ◌++◌, length, take, map, Option, None, Some, is_some, not, ◌⊎◌, inl, inr, refl, sym, ap, ◌∙◌, subst, arith, length-append}
 use Rattle.std.specs.Map.{lookup, remove_entry}
-use Rattle.event_listener.specs.Lists.{Notice, same_key, told_as, waits_as, kind_of, told_with, without, with_task, moved, passed, registration, removed}
+use Rattle.event_listener.specs.Lists.{Notice, same_key, told_as, waits_as, told_with, without, with_task, moved, passed, registration, removed}
 use Rattle.event_listener.specs.declared.key.Key.{Key}
 use Rattle.async_channel.specs.Parts.{Listeners, told_one, told_all, waits}
 use Rattle.channel_laws.specs.Notices.{AnyTold, EachTold}

@@ -1,10 +1,10 @@
 -- What a step does to those of a list that were told.
-use Rattle.std.proofs.Common.{◌≡◌, ℕ, ◌+◌, ◌-◌, ◌≤◌, Bool, true, false, if◌then◌else◌, List, [], length, Option, None, Some, ◌⊎◌, inl, inr, refl, sym, ap, ◌∙◌, subst, arith}
+use Rattle.std.proofs.Common.{◌≡◌, ℕ, ◌+◌, ◌-◌, ◌≤◌, Bool, true, false, if◌then◌else◌, List, [], length, Option, None, Some, ◌⊎◌, inl, inr, refl, sym, ap, subst, arith}
 use Rattle.concurrent_queue.specs.Queue.{Phase}
 use Rattle.event_listener.specs.Lists.{listened, registration, removed, removed_wakes}
 use Rattle.event_listener.specs.declared.key.Key.{Key}
 use Rattle.async_channel.specs.Marks.{up, down}
-use Rattle.async_channel.specs.Moves.{Channel, Effect, queued, untouched, on_line, on_count, listens, leaves, Turned, Worked, Moves}
+use Rattle.async_channel.specs.Moves.{Channel, Effect, queued, untouched, on_line, on_count, leaves, Turned, Worked, Moves}
 use Rattle.async_channel.specs.Parts.{Listeners, listeners, count, is_raised, told_one, told_one_wakes, told_all, told_all_wakes, waits}
 use Rattle.async_channel.specs.Turns.{line_of, again, pends_by}
 use Rattle.async_channel.specs.declared.mark.Mark.{Mark}
@@ -21,7 +21,7 @@ use Rattle.async_channel.specs.declared.stage.Waiting.{Waiting}
 use Rattle.async_channel.specs.declared.stage.Work.{Work}
 use Rattle.async_channel.specs.declared.stage.Work.TheVariants.{TellReceive, TellStreams, TellSend, TellAll, Insert, Register, Leave, Lower, Count, Load, Raise}
 use Rattle.channel_laws.specs.Notices.{IsOneByOne, AnyTold, told_of}
-use Rattle.channel_laws.specs.Waits.{IsIn, Waits}
+use Rattle.channel_laws.specs.Waits.{IsIn}
 use Rattle.channel_laws.proofs.ToldFacts.{any_told_one, any_told_all, any_after_removal, any_registration, told_one_counts, removed_counts, registered_counts}
 
 abbrev pub is_receives : Line → ℕ

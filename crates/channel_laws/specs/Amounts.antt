@@ -1,7 +1,7 @@
 -- Who waits on a list that is told one at a time: what its calls under way count for is enough, or one of them has the
 -- listener in hand.
 use Rattle.std.specs.Prelude.{◌≡◌, ℕ, ◌+◌, List, [], ◌∷◌, None, Some, ◌⊎◌}
-use Rattle.concurrent_queue.specs.Queue.{Phase, Stage, trying, appended}
+use Rattle.concurrent_queue.specs.Queue.{Phase, Stage, trying}
 use Rattle.event_listener.specs.declared.key.Key.{Key}
 use Rattle.async_channel.specs.Moves.{Channel}
 use Rattle.async_channel.specs.declared.ask.ChannelAsk.{ChannelAsk}

@@ -1,5 +1,5 @@
 -- How those who were told were told: one at a time, or all at once.
-use Rattle.std.specs.Prelude.{◌≡◌, Bool, true, false, List, [], ◌∷◌, ◌⊎◌}
+use Rattle.std.specs.Prelude.{◌≡◌, ℕ, Bool, true, false, List, [], ◌∷◌, Option, ◌⊎◌}
 use Rattle.event_listener.specs.Lists.{Notice}
 use Rattle.event_listener.specs.declared.key.Key.{Key}
 use Rattle.async_channel.specs.Moves.{Channel}
@@ -7,9 +7,12 @@ use Rattle.async_channel.specs.Parts.{listeners}
 use Rattle.async_channel.specs.declared.stage.Line.{Line}
 use Rattle.async_channel.specs.declared.stage.Line.TheVariants.{Sends, Receives, Streams, Closings}
 use Rattle.channel_steps.specs.Moments.{Open, Shut}
+use Rattle.channel_steps.specs.Run.{new_scene}
 use Rattle.channel_steps.specs.Scene.{Scene, AllKnown, IsBalanced}
+use Rattle.channel_steps.specs.declared.party.Entry.{Entry}
+use Rattle.channel_steps.specs.declared.run.Step.{Step}
 use Rattle.channel_laws.specs.Closings.{HasClosed, LooksAgain}
-use Rattle.channel_laws.specs.Ends.{Each}
+use Rattle.channel_laws.specs.Ends.{Each, Leads}
 use Rattle.channel_laws.specs.Waits.{Waits, WaitApart, Any}
 
 -- how one of a list may be told while the channel is open: a send or a receive as one more, a stream by the default, and
@@ -59,3 +62,16 @@ module _ {T W : Type 0} where
     pub apart : (line : Line) → WaitApart line s.now
     pub closers : Each (λ u. HasClosed u.deeds → Shut s.now) s.under_way
     pub fit : TellingsFit s
+
+module _ (T W S : Type 0) (wakes : S → W → S → Type 0) where
+  abbrev pub TellingsStayFit : Type 0
+  TellingsStayFit =
+      (s t : Scene T W) (steps : List (Step T W)) (trace : List (Entry T)) → TellingsSound s → Leads wakes s steps trace t
+      → TellingsSound t
+
+  -- in every run from a channel that was just opened
+  abbrev pub TellingsAlwaysFit : Type 0
+  TellingsAlwaysFit =
+      (cap : Option ℕ) (t : Scene T W) (steps : List (Step T W)) (trace : List (Entry T))
+      → Leads wakes (new_scene cap) steps trace t
+      → TellingsFit t

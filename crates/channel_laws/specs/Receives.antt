@@ -1,5 +1,5 @@
 -- A receive waits beside messages only while as many receives are told, are about to be told, or try.
-use Rattle.std.specs.Prelude.{◌≡◌, ℕ, ◌+◌, ◌≤◌, List, length, Option}
+use Rattle.std.specs.Prelude.{ℕ, ◌+◌, ◌≤◌, List, length, Option}
 use Rattle.concurrent_queue.specs.Queue.{Phase, Stage, appended}
 use Rattle.async_channel.specs.Moves.{Channel}
 use Rattle.async_channel.specs.declared.ask.ChannelAsk.{ChannelAsk}

@@ -1,5 +1,5 @@
 -- A send waits beside free places only while as many sends are told, are about to be told, or try.
-use Rattle.std.specs.Prelude.{◌≡◌, ℕ, ◌+◌, ◌≤◌, List, length, Option, None, Some, ◌⊎◌}
+use Rattle.std.specs.Prelude.{ℕ, ◌+◌, ◌≤◌, List, length, Option, None, Some, ◌⊎◌}
 use Rattle.concurrent_queue.specs.Queue.{Phase, Stage, displaced, taken}
 use Rattle.async_channel.specs.Moves.{Channel}
 use Rattle.async_channel.specs.declared.ask.ChannelAsk.{ChannelAsk}

@@ -4,6 +4,7 @@
 ghost use Rattle.channel_laws.specs.Closed.{ClosingIsForGood};
 ghost use Rattle.channel_laws.specs.Closings.{ClosingStaysOwed, NobodyMissesTheClosing};
 ghost use Rattle.channel_laws.specs.Ends.{EndIsForGood, EndIsKnown, NothingComesAfterTheEnd};
+ghost use Rattle.channel_laws.specs.Notices.{TellingsAlwaysFit, TellingsStayFit};
 ghost use Rattle.channel_laws.specs.Receives.{NoReceiveIsForgotten, ReceivesStayOwed};
 ghost use Rattle.channel_laws.specs.Sends.{NoSendIsForgotten, SendsStayOwed};
 ghost use Rattle.channel_laws.specs.Streams.{NoStreamIsForgotten, StreamsStayOwed};
@@ -64,6 +65,20 @@ pub fn no_stream_is_forgotten<T, W, S: Wakes<W>>()
 pub fn nobody_misses_the_closing<T, W, S: Wakes<W>>()
     ensures kept { ClosingStaysOwed T W S S.wakes }
     ensures owed { NobodyMissesTheClosing T W S S.wakes }
+{}
+
+/// Wherever a run from a channel that was just opened has come, whatever its steps are: while the channel is open, each send
+/// and each receive that is told was told as one more, whoever was told before; each stream that is told was told by the default,
+/// as all of its list at once are; and none who waits for the closing is told. Where a send or a receive was told by the
+/// default the channel is closed, and for whoever still waits on that list a poll under way has the listener in hand, and tries
+/// again and has found no cause to wait, or leaves the list.
+///
+/// What makes it so is kept by every run, from whatever scene it holds of.
+///
+/// Own to this project.
+pub fn each_list_is_told_its_way<T, W, S: Wakes<W>>()
+    ensures kept { TellingsStayFit T W S S.wakes }
+    ensures fit { TellingsAlwaysFit T W S S.wakes }
 {}
 
 /// Wherever a run from a channel that was just opened has come, whatever its steps are: where a receive waits there are no
