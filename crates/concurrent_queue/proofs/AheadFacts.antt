@@ -1,9 +1,9 @@
 -- The steps that a push and a pop make on end are those of their machines.
-use Rattle.std.proofs.Common.{◌≡◌, ℕ, ◌+◌, ◌%◌, ◌^◌, ◌==◌, true, arith, slice_index, None, Some, Result, Ok, Err, ⊎_elim, refl, ap}
+use Rattle.std.proofs.Common.{◌≡◌, ℕ, ◌+◌, ◌%◌, ◌^◌, ◌==◌, Bool, true, false, arith, slice_index, None, Some, Result, Ok, Err, ⊎_elim, refl, sym, subst, ap}
 use Rattle.std.proofs.lemmas.Bool.Decides.{nat_tests}
 use Rattle.concurrent_queue.specs.Contents.{Contents, write_slot, slot_at}
-use Rattle.concurrent_queue.specs.Ahead.{IsStep, PushesSingle, PopsSingle, PushesRing, PopsRing, CanWin, GoesAhead, PopsOnEnd}
-use Rattle.concurrent_queue.specs.RingWords.{index, next_word, set_tail, set_head, ring_step}
+use Rattle.concurrent_queue.specs.Ahead.{IsStep, PushesSingle, PopsSingle, PushesRing, PopsRing, CanWin, GoesAhead, PopsOnEnd, PushesAhead, PushesAheadIn, PopsAhead, PopsAheadIn}
+use Rattle.concurrent_queue.specs.RingWords.{cap_of, ring_mark, index, next_word, set_tail, set_head, ring_step}
 use Rattle.concurrent_queue.specs.RingWords as words
 use Rattle.concurrent_queue.specs.Single.{set_state, single_step}
 use Rattle.concurrent_queue.specs.Single as one
@@ -12,6 +12,8 @@ use Rattle.concurrent_queue.specs.declared.bounded.RingAction.TheVariants as rin
 use Rattle.concurrent_queue.specs.declared.bounded.WhenFull.TheVariants.{Refuse}
 use Rattle.concurrent_queue.specs.declared.call.QueueMark.TheVariants.{Nothing, Append, Take}
 use Rattle.concurrent_queue.specs.declared.call.QueueReply.TheVariants as reply
+use Rattle.concurrent_queue.specs.declared.cells.QueueForm.{QueueForm}
+use Rattle.concurrent_queue.specs.declared.cells.QueueForm.TheVariants.{Bounded}
 use Rattle.concurrent_queue.specs.declared.cells.Slot.TheVariants.{At}
 use Rattle.concurrent_queue.specs.declared.single.SingleAction.{SingleAction}
 use Rattle.concurrent_queue.specs.declared.single.SingleAction.TheVariants as single
@@ -126,3 +128,22 @@ module _ {T : Type 0} where
         let e4 : (c2, words.stays (ring.PopTake p)) ≡ ring_step cap m c1 (ring.PopTake p) = rw x.1 refl in
         (4, (c, ring.PopStamp p, (Nothing, e1), (c, ring.PopSwap p, (Nothing, e2), (c1, ring.PopTake p, (Take, e3), (c2, ring.PopTake p, (Nothing, e4), (x.3, x.2)))))))
         h
+
+  -- ---- by the form of the queue
+
+  module _ (f : QueueForm) (cap k m : ℕ) (c d : Contents T) (form : f ≡ Bounded cap) (more : (cap == 1) ≡ false) (same : k ≡ cap_of cap) (marked : m ≡ ring_mark (cap_of cap)) where
+    pub ring_push_ahead : (v : T) → GoesAhead (ring_step k m) c (ring.Push Refuse v) (reply.Push (Ok tt)) (Ok tt) d → PushesAhead f c v (Ok tt) d
+    ring_push_ahead v went =
+        let measured : GoesAhead (ring_step k (ring_mark (cap_of cap))) c (ring.Push Refuse v) (reply.Push (Ok tt)) (Ok tt) d =
+        subst (λ (x : ℕ). GoesAhead (ring_step k x) c (ring.Push Refuse v) (reply.Push (Ok tt)) (Ok tt) d) marked went in
+        let made : GoesAhead (ring_step (cap_of cap) (ring_mark (cap_of cap))) c (ring.Push Refuse v) (reply.Push (Ok tt)) (Ok tt) d =
+        subst (λ (x : ℕ). GoesAhead (ring_step x (ring_mark (cap_of cap))) c (ring.Push Refuse v) (reply.Push (Ok tt)) (Ok tt) d) same measured in
+        subst (λ (x : QueueForm). PushesAhead x c v (Ok tt) d) (sym form) (subst (λ (b : Bool). PushesAheadIn b (cap_of cap) c v (Ok tt) d) (sym more) (Ok tt, made, refl))
+
+    pub ring_pop_ahead : (v : T) → PopsOnEnd (ring_step k m) c ring.Pop (Ok v) d → PopsAhead f c (Ok v) d
+    ring_pop_ahead v went =
+        let measured : PopsOnEnd (ring_step k (ring_mark (cap_of cap))) c ring.Pop (Ok v) d =
+        subst (λ (x : ℕ). PopsOnEnd (ring_step k x) c ring.Pop (Ok v) d) marked went in
+        let made : PopsOnEnd (ring_step (cap_of cap) (ring_mark (cap_of cap))) c ring.Pop (Ok v) d =
+        subst (λ (x : ℕ). PopsOnEnd (ring_step x (ring_mark (cap_of cap))) c ring.Pop (Ok v) d) same measured in
+        subst (λ (x : QueueForm). PopsAhead x c (Ok v) d) (sym form) (subst (λ (b : Bool). PopsAheadIn b (cap_of cap) c (Ok v) d) (sym more) (Ok v, made, refl))

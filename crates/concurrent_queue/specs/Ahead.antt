@@ -1,10 +1,10 @@
 -- Steps of a machine that are made on end.
-use Rattle.std.specs.Prelude.{◌≡◌, ◌⊎◌, ℕ, ◌+◌, ◌-◌, ◌*◌, ◌%◌, ◌^◌, ◌==◌, true, false, nat_le, None, Some, Result, Ok, Err, slice_index, MatchResult}
+use Rattle.std.specs.Prelude.{◌≡◌, ◌⊎◌, ℕ, ◌+◌, ◌-◌, ◌*◌, ◌%◌, ◌^◌, ◌==◌, Bool, true, false, nat_le, None, Some, Result, Ok, Err, slice_index, MatchResult}
 use Rattle.std.proofs.Common.{zero, suc}
 use Rattle.concurrent_queue.specs.Contents.{Contents, write_slot, slot_at, can_put}
 use Rattle.concurrent_queue.specs.RingAtOnce.{IsFree, pushed, IsThere, popped}
-use Rattle.concurrent_queue.specs.RingWords.{index, is_marked, next_word, set_tail, set_head}
-use Rattle.concurrent_queue.specs.Single.{set_state, unlocked}
+use Rattle.concurrent_queue.specs.RingWords.{cap_of, ring_mark, ring_step, index, is_marked, next_word, set_tail, set_head}
+use Rattle.concurrent_queue.specs.Single.{single_step, set_state, unlocked}
 use Rattle.concurrent_queue.specs.declared.bounded.RingAction.{RingAction}
 use Rattle.concurrent_queue.specs.declared.bounded.RingAction.TheVariants as ring
 use Rattle.concurrent_queue.specs.declared.bounded.WhenFull.TheVariants.{Refuse}
@@ -12,7 +12,12 @@ use Rattle.concurrent_queue.specs.declared.call.QueueMark.{QueueMark}
 use Rattle.concurrent_queue.specs.declared.call.QueueReply.{QueueReply}
 use Rattle.concurrent_queue.specs.declared.call.QueueReply.TheVariants as reply
 use Rattle.concurrent_queue.specs.declared.call.Stepped.{Stepped}
+use Rattle.concurrent_queue.specs.declared.cells.QueueForm.{QueueForm}
+use Rattle.concurrent_queue.specs.declared.cells.QueueForm.TheVariants.{Bounded, Unbounded}
 use Rattle.concurrent_queue.specs.declared.cells.Slot.TheVariants.{At}
+use Rattle.concurrent_queue.specs.declared.queue_call.CallState.{CallState}
+use Rattle.concurrent_queue.specs.declared.queue_call.CallState.TheVariants.{Single, Ring}
+use Rattle.concurrent_queue.specs.declared.queue_call.QueueCall.{QueueCall}
 use Rattle.concurrent_queue.specs.declared.single.SingleAction.{SingleAction}
 use Rattle.concurrent_queue.specs.declared.single.SingleAction.TheVariants as single
 
@@ -76,3 +81,34 @@ module _ {T : Type 0} (cap m : ℕ) (c : Contents T) where
       ((a ≡ ring.Pop) × (d ≡ c))
       ⊎ (((slice_index c.stamps (index m c.head) == (c.head + 1) % 2 ^ 64) ≡ true) × (slot_at c (At (index m c.head)) ≡ None) × (a ≡ ring.PopTake c.head)
       × (d ≡ write_slot (set_head c (next_word cap m c.head)) (At (index m c.head)) None))
+
+-- ---- by the form of the queue; of blocks nothing is said
+
+module _ {T : Type 0} where
+  -- a call stands at the action that is left
+  abbrev pub IsLeftAt : {A R : Type 0} → (A → CallState T) → Result R A → Result R (QueueCall T) → Type 0
+  IsLeftAt at (Ok x) (Ok y) = y ≡ x
+  IsLeftAt at (Err a) (Err call) = call.state ≡ at a
+  IsLeftAt at _ _ = ⊥
+
+  abbrev pub PushesAheadIn : Bool → ℕ → Contents T → T → Result Unit (QueueCall T) → Contents T → Type 0
+  PushesAheadIn true cap c v r d =
+      (x : Result Unit (SingleAction T)) × GoesAhead single_step c (single.Push v) (reply.Push (Ok tt)) x d × IsLeftAt Single x r
+  PushesAheadIn false cap c v r d =
+      (x : Result Unit (RingAction T)) × GoesAhead (ring_step cap (ring_mark cap)) c (ring.Push Refuse v) (reply.Push (Ok tt)) x d × IsLeftAt Ring x r
+
+  -- a push made on end
+  abbrev pub PushesAhead : QueueForm → Contents T → T → Result Unit (QueueCall T) → Contents T → Type 0
+  PushesAhead (Bounded cap) c v r d = PushesAheadIn (cap == 1) (cap_of cap) c v r d
+  PushesAhead Unbounded c v r d = Unit {0}
+
+  abbrev pub PopsAheadIn : Bool → ℕ → Contents T → Result T (QueueCall T) → Contents T → Type 0
+  PopsAheadIn true cap c r d =
+      (x : Result T (SingleAction T)) × PopsOnEnd single_step c (single.Pop 2) x d × IsLeftAt Single x r
+  PopsAheadIn false cap c r d =
+      (x : Result T (RingAction T)) × PopsOnEnd (ring_step cap (ring_mark cap)) c ring.Pop x d × IsLeftAt Ring x r
+
+  -- a pop made on end
+  abbrev pub PopsAhead : QueueForm → Contents T → Result T (QueueCall T) → Contents T → Type 0
+  PopsAhead (Bounded cap) c r d = PopsAheadIn (cap == 1) (cap_of cap) c r d
+  PopsAhead Unbounded c r d = Unit {0}

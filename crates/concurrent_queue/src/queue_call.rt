@@ -105,6 +105,7 @@ impl<T: Drop> QueueCall<T> {
     pub fn new(ask: QueueAsk<T>) -> QueueCall<T>
         ensures starts { Starts result ask }
         ensures asked { IsAsking result ask }
+        ensures unmarked { mark_of result ≡ QueueMark.Nothing }
     {
         QueueCall {
             state: CallState::Asked(ask),
@@ -133,7 +134,8 @@ impl<T: Drop> QueueCall<T> {
 }
 
 impl<T: Drop> QueueCall<T> {
-    ghost use Rattle.concurrent_queue.specs.Step.{Starts};
+    ghost use Rattle.std.specs.Prelude.{◌≡◌};
+    ghost use Rattle.concurrent_queue.specs.Step.{Starts, mark_of};
     ghost use Rattle.concurrent_queue.specs.Replies.{IsAsking};
     ghost use Rattle.concurrent_queue.specs.declared.call.QueueAsk.TheVariants as ask;
 
@@ -141,6 +143,7 @@ impl<T: Drop> QueueCall<T> {
     pub fn push(value: T) -> QueueCall<T>
         ensures starts { Starts result (ask.Push value) }
         ensures asked { IsAsking result (ask.Push value) }
+        ensures unmarked { mark_of result ≡ QueueMark.Nothing }
     {
         QueueCall::new(QueueAsk::Push(value))
     }
@@ -149,6 +152,7 @@ impl<T: Drop> QueueCall<T> {
     pub fn force_push(value: T) -> QueueCall<T>
         ensures starts { Starts result (ask.ForcePush value) }
         ensures asked { IsAsking result (ask.ForcePush value) }
+        ensures unmarked { mark_of result ≡ QueueMark.Nothing }
     {
         QueueCall::new(QueueAsk::ForcePush(value))
     }
@@ -157,6 +161,7 @@ impl<T: Drop> QueueCall<T> {
     pub fn pop() -> QueueCall<T>
         ensures starts { Starts result ask.Pop }
         ensures asked { IsAsking result ask.Pop }
+        ensures unmarked { mark_of result ≡ QueueMark.Nothing }
     {
         QueueCall::new(QueueAsk::Pop)
     }
@@ -165,6 +170,7 @@ impl<T: Drop> QueueCall<T> {
     pub fn close() -> QueueCall<T>
         ensures starts { Starts result ask.Close }
         ensures asked { IsAsking result ask.Close }
+        ensures unmarked { mark_of result ≡ QueueMark.Nothing }
     {
         QueueCall::new(QueueAsk::Close)
     }
@@ -173,6 +179,7 @@ impl<T: Drop> QueueCall<T> {
     pub fn is_closed() -> QueueCall<T>
         ensures starts { Starts result ask.IsClosed }
         ensures asked { IsAsking result ask.IsClosed }
+        ensures unmarked { mark_of result ≡ QueueMark.Nothing }
     {
         QueueCall::new(QueueAsk::IsClosed)
     }
@@ -181,6 +188,7 @@ impl<T: Drop> QueueCall<T> {
     pub fn is_empty() -> QueueCall<T>
         ensures starts { Starts result ask.IsEmpty }
         ensures asked { IsAsking result ask.IsEmpty }
+        ensures unmarked { mark_of result ≡ QueueMark.Nothing }
     {
         QueueCall::new(QueueAsk::IsEmpty)
     }
@@ -189,6 +197,7 @@ impl<T: Drop> QueueCall<T> {
     pub fn is_full() -> QueueCall<T>
         ensures starts { Starts result ask.IsFull }
         ensures asked { IsAsking result ask.IsFull }
+        ensures unmarked { mark_of result ≡ QueueMark.Nothing }
     {
         QueueCall::new(QueueAsk::IsFull)
     }
@@ -197,6 +206,7 @@ impl<T: Drop> QueueCall<T> {
     pub fn len() -> QueueCall<T>
         ensures starts { Starts result ask.Len }
         ensures asked { IsAsking result ask.Len }
+        ensures unmarked { mark_of result ≡ QueueMark.Nothing }
     {
         QueueCall::new(QueueAsk::Len)
     }
@@ -205,6 +215,7 @@ impl<T: Drop> QueueCall<T> {
     pub fn capacity() -> QueueCall<T>
         ensures starts { Starts result ask.Capacity }
         ensures asked { IsAsking result ask.Capacity }
+        ensures unmarked { mark_of result ≡ QueueMark.Nothing }
     {
         QueueCall::new(QueueAsk::Capacity)
     }
