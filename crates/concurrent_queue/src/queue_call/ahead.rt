@@ -24,7 +24,9 @@ fn going_on<T: Drop>(state: CallState<T>) -> QueueCall<T>
 /// Pushes, or answers the call that has to be stepped on.
 #[inline(always)]
 pub(crate) fn push_ahead<T: Drop, C: Cells<T>>(value: T, cells: &mut C) -> Result<(), QueueCall<T>>
-    ensures { MatchResult result (λ _. Unit {0}) (λ call. (b : Bool) (r : QueueReply T) → MayCall b call.state r → MayAnswer (is_bounded (C.form_of cells.old)) (ask.Push value) r) }
+    ensures { MatchResult result (λ _. Unit {0})
+        (λ call. (b : Bool) (r : QueueReply T) → MayCall b call.state r →
+        MayAnswer (is_bounded (C.form_of cells.old)) (ask.Push value) r) }
 {
     match cells.form() {
         QueueForm::Bounded(1) => match single::ahead::push_ahead(value, cells) {
@@ -50,7 +52,9 @@ pub(crate) fn push_ahead<T: Drop, C: Cells<T>>(value: T, cells: &mut C) -> Resul
 /// Pops, or answers the call that has to be stepped on.
 #[inline(always)]
 pub(crate) fn pop_ahead<T: Drop, C: Cells<T>>(cells: &mut C) -> Result<T, QueueCall<T>>
-    ensures { MatchResult result (λ _. Unit {0}) (λ call. (b : Bool) (r : QueueReply T) → MayCall b call.state r → MayAnswer (is_bounded (C.form_of cells.old)) ask.Pop r) }
+    ensures { MatchResult result (λ _. Unit {0})
+        (λ call. (b : Bool) (r : QueueReply T) → MayCall b call.state r →
+        MayAnswer (is_bounded (C.form_of cells.old)) ask.Pop r) }
 {
     match cells.form() {
         QueueForm::Bounded(1) => match single::ahead::pop_ahead(cells) {

@@ -6,7 +6,7 @@ use crate::shared::table::{SeatedTable, SharedTable};
 use std::alloc::{AllocError, Global};
 use std::sync::{Mutex, Wait};
 
-/// The words of a block: the next block, how many messages were read, and for each slot whether it is written.
+/// The words of a block: the next block, how many messages were read, and a bit for each slot whose message is written.
 pub(crate) const NEXT: usize = 0;
 
 pub(crate) const READS: usize = 1;
@@ -14,7 +14,7 @@ pub(crate) const READS: usize = 1;
 pub(crate) const WRITTEN: usize = 2;
 
 /// How many words a block has.
-const WORDS: usize = 33;
+const WORDS: usize = 3;
 
 /// All blocks that were made, under their numbers, and under a lock the numbers of those that are spare. A block is kept
 /// until its queue is dropped, so any thread may step on it at any time.

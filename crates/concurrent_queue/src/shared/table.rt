@@ -73,7 +73,8 @@ impl<'a, T> SeatedTable<'a, T> {
     /// Where a word lies in the table, if it is there.
     #[inline(always)]
     fn place(&self, word: usize) -> Option<usize>
-        ensures { IfSome result (λ i. (self.now.table.now.shared.table_id.slots ≤ i) × (i < self.now.table.now.shared.table_id.words)) }
+        ensures { IfSome result
+            (λ i. (self.now.table.now.shared.table_id.slots ≤ i) × (i < self.now.table.now.shared.table_id.words)) }
     {
         let place = self.table.slot_count().checked_add(word)?;
         if place < self.table.word_count() {

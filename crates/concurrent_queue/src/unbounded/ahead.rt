@@ -117,10 +117,9 @@ fn pop_written<T: Drop, C: Cells<T>>(
     match cells.take(Slot::In(block, head % 32)) {
         Some(value) => {
             if cells.fetch_add(Word::Reads(block), 1) == 30 {
-                Err(UnboundedAction::PopRetire(head, block, value))
-            } else {
-                Ok(value)
+                cells.retire(block);
             }
+            Ok(value)
         }
         None => Err(UnboundedAction::PopTake(head, block)),
     }
