@@ -4,21 +4,22 @@
 use crate::cells::{Cells, NoMemory, QueueForm, Slot, Word};
 use crate::pool::SLOTS;
 use crate::shared::blocks::{Blocks, NEXT, READS, WRITTEN};
-use crate::shared::table::SeatedTable;
+use crate::shared::table::{APART, SeatedTable};
 use std::sync::Wait;
 
-/// The words of a queue by their indices. A ring has a stamp for each slot behind them.
+/// The words of a queue by their indices, those of its head apart from those of its tail. A ring has a stamp for each slot
+/// behind them.
 const STATE: usize = 0;
 
 const HEAD: usize = 1;
 
-const TAIL: usize = 2;
+const HEAD_BLOCK: usize = 2;
 
-const HEAD_BLOCK: usize = 3;
+const TAIL: usize = APART;
 
-const TAIL_BLOCK: usize = 4;
+const TAIL_BLOCK: usize = APART + 1;
 
-pub(crate) const STAMPS: usize = 5;
+pub(crate) const STAMPS: usize = 2 * APART;
 
 /// Where a word lies: among the queue's own words, among those of a block, or as a bit of a block's word of written slots.
 /// Such a bit is loaded and stored, and takes part in no other step.
@@ -310,6 +311,7 @@ impl<'a, T: Drop, R: Wait> Cells<T> for SharedCells<'a, T, R> {
         self.words.take(at)
     }
 
+    #[inline(always)]
     fn spare(&mut self) -> Result<u64, NoMemory> {
         match self.words.blocks {
             Some(blocks) => blocks.spare(self.rt),
@@ -317,6 +319,7 @@ impl<'a, T: Drop, R: Wait> Cells<T> for SharedCells<'a, T, R> {
         }
     }
 
+    #[inline(always)]
     fn retire(&mut self, block: u64) {
         if let Some(blocks) = self.words.blocks {
             blocks.retire(self.rt, block);

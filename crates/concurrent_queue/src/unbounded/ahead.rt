@@ -45,6 +45,7 @@ pub(crate) fn push_ahead<T: Drop, C: Cells<T>>(
 
 /// Pushes into the last slot of a block, for which the next one is got first. Where there is no memory for it the machine is
 /// left to say so.
+#[inline(always)]
 fn push_last<T: Drop, C: Cells<T>>(
     value: T,
     tail: u64,
