@@ -20,8 +20,10 @@ pub(crate) fn push_ahead<T: Drop, C: Cells<T>>(
     value: T,
     cells: &mut C,
 ) -> Result<(), RingAction<T>>
-    ensures steps { C.known → GoesAhead (ring_step shape.cap shape.mark) (C.contents cells.old) (RingAction.Push WhenFull.Refuse value) (reply.Push (Ok tt)) result (C.contents cells.new) }
-    ensures answers { MatchResult result (λ _. Unit {0}) (λ a. (r : QueueReply T) → MayRing a r → MayAnswer true (ask.Push value) r) }
+    ensures steps { C.known → GoesAhead (ring_step shape.cap shape.mark) (C.contents cells.old)
+        (RingAction.Push WhenFull.Refuse value) (reply.Push (Ok tt)) result (C.contents cells.new) }
+    ensures answers { MatchResult result (λ _. Unit {0})
+        (λ a. (r : QueueReply T) → MayRing a r → MayAnswer true (ask.Push value) r) }
 {
     make_push(shape, value, cells)
 }
@@ -33,8 +35,10 @@ pub(crate) fn pop_ahead<T: Drop, C: Cells<T>>(
     shape: Shape,
     cells: &mut C,
 ) -> Result<T, RingAction<T>>
-    ensures steps { C.known → PopsOnEnd (ring_step shape.cap shape.mark) (C.contents cells.old) RingAction.Pop result (C.contents cells.new) }
-    ensures answers { MatchResult result (λ _. Unit {0}) (λ a. (r : QueueReply T) → MayRing a r → MayAnswer true ask.Pop r) }
+    ensures steps { C.known → PopsOnEnd (ring_step shape.cap shape.mark) (C.contents cells.old)
+        RingAction.Pop result (C.contents cells.new) }
+    ensures answers { MatchResult result (λ _. Unit {0})
+        (λ a. (r : QueueReply T) → MayRing a r → MayAnswer true ask.Pop r) }
 {
     make_pop(shape, cells)
 }
@@ -47,7 +51,8 @@ fn make_push<T: Drop, C: Cells<T>>(
     cells: &mut C,
 ) -> Result<(), RingAction<T>>
     ensures cells { C.known → PushesRing shape.cap shape.mark (C.contents cells.old) value result (C.contents cells.new) }
-    ensures answers { MatchResult result (λ _. Unit {0}) (λ a. (r : QueueReply T) → MayRing a r → MayAnswer true (ask.Push value) r) }
+    ensures answers { MatchResult result (λ _. Unit {0})
+        (λ a. (r : QueueReply T) → MayRing a r → MayAnswer true (ask.Push value) r) }
 {
     let tail = cells.load(Word::Tail);
     if shape.is_marked(tail) || u64::MAX - shape.lap() < tail {
@@ -73,7 +78,8 @@ fn make_push<T: Drop, C: Cells<T>>(
 #[inline(always)]
 fn make_pop<T: Drop, C: Cells<T>>(shape: Shape, cells: &mut C) -> Result<T, RingAction<T>>
     ensures cells { C.known → PopsRing shape.cap shape.mark (C.contents cells.old) result (C.contents cells.new) }
-    ensures answers { MatchResult result (λ _. Unit {0}) (λ a. (r : QueueReply T) → MayRing a r → MayAnswer true ask.Pop r) }
+    ensures answers { MatchResult result (λ _. Unit {0})
+        (λ a. (r : QueueReply T) → MayRing a r → MayAnswer true ask.Pop r) }
 {
     let head = cells.load(Word::Head);
     if cells.load(shape.stamp(head)) != head.wrapping_add(1) {

@@ -2,19 +2,17 @@
 
 use crate::cells::NoMemory;
 use crate::pool::SLOTS;
-use crate::shared::table::{SeatedTable, SharedTable};
+use crate::shared::table::{APART, SeatedTable, SharedTable};
 use std::alloc::{AllocError, Global};
 use std::sync::{Mutex, Wait};
 
-/// The words of a block: the next block, how many messages were read, and for each slot whether it is written.
+/// The words of a block by their indices: the next block, how many messages were read, and apart from these a bit for each
+/// slot whose message is written.
 pub(crate) const NEXT: usize = 0;
 
 pub(crate) const READS: usize = 1;
 
-pub(crate) const WRITTEN: usize = 2;
-
-/// How many words a block has.
-const WORDS: usize = 33;
+pub(crate) const WRITTEN: usize = APART;
 
 /// All blocks that were made, under their numbers, and under a lock the numbers of those that are spare. A block is kept
 /// until its queue is dropped, so any thread may step on it at any time.
@@ -50,7 +48,7 @@ impl<T: Drop> Blocks<T> {
         if spares.reserve(self.made.count().saturating_add(1)).is_err() {
             return Err(NoMemory);
         }
-        match SharedTable::new(self.alloc, &[0; WORDS], SLOTS as usize) {
+        match SharedTable::new(self.alloc, &[0; WRITTEN + 1], SLOTS as usize) {
             Ok(block) => match self.made.push(rt, block) {
                 Ok(number) => Ok(number as u64),
                 Err(_) => Err(NoMemory),
@@ -64,9 +62,9 @@ impl<T: Drop> Blocks<T> {
     pub(crate) fn retire<R: Wait>(&self, rt: &R, block: u64) {
         let mut spares = self.spares.lock(rt);
         if let Some(mut words) = self.seat(block) {
-            for word in 0..WORDS {
-                words.store(word, 0);
-            }
+            words.store(NEXT, 0);
+            words.store(READS, 0);
+            words.store(WRITTEN, 0);
             if spares.len() < self.made.count() {
                 let _ = spares.push(block);
             }

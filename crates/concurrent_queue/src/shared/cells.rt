@@ -2,27 +2,37 @@
 //! that wait for nobody. Nothing is known of what they hold, since any thread may step on them at any time.
 
 use crate::cells::{Cells, NoMemory, QueueForm, Slot, Word};
+use crate::pool::SLOTS;
 use crate::shared::blocks::{Blocks, NEXT, READS, WRITTEN};
-use crate::shared::table::SeatedTable;
+use crate::shared::table::{APART, SeatedTable};
 use std::sync::Wait;
 
-/// The words of a queue by their indices. A ring has a stamp for each slot behind them.
+/// The words of a queue by their indices, those of its head apart from those of its tail. A ring has a stamp for each slot
+/// behind them.
 const STATE: usize = 0;
 
 const HEAD: usize = 1;
 
-const TAIL: usize = 2;
+const HEAD_BLOCK: usize = 2;
 
-const HEAD_BLOCK: usize = 3;
+const TAIL: usize = APART;
 
-const TAIL_BLOCK: usize = 4;
+const TAIL_BLOCK: usize = APART + 1;
 
-pub(crate) const STAMPS: usize = 5;
+pub(crate) const STAMPS: usize = 2 * APART;
 
-/// Where a word lies: among the queue's own words, or among those of a block.
+/// Where a word lies: among the queue's own words, among those of a block, or as a bit of a block's word of written slots.
+/// Such a bit is loaded and stored, and takes part in no other step.
 enum Place {
     Own(usize),
     InBlock(u64, usize),
+    Bit(u64, u64),
+}
+
+/// The bit of a slot; none where a block has no such slot.
+#[inline(always)]
+fn bit_of(offset: u64) -> u64 {
+    if offset < SLOTS { 1 << offset } else { 0 }
 }
 
 #[inline(always)]
@@ -36,10 +46,7 @@ fn place_of(at: Word) -> Place {
         Word::TailBlock => Place::Own(TAIL_BLOCK),
         Word::Next(block) => Place::InBlock(block, NEXT),
         Word::Reads(block) => Place::InBlock(block, READS),
-        Word::Written(block, offset) => Place::InBlock(
-            block,
-            WRITTEN.saturating_add(offset as usize),
-        ),
+        Word::Written(block, offset) => Place::Bit(block, offset),
     }
 }
 
@@ -115,6 +122,13 @@ impl<'a, T: Drop> Cells<T> for WordCells<'a, T> {
                     None => 0,
                 }
             }
+            Place::Bit(block, offset) => {
+                self.look_up(block);
+                match &mut self.near {
+                    Some(words) => u64::from(words.load(WRITTEN) & bit_of(offset) != 0),
+                    None => 0,
+                }
+            }
         }
     }
 
@@ -126,6 +140,16 @@ impl<'a, T: Drop> Cells<T> for WordCells<'a, T> {
                 self.look_up(block);
                 if let Some(words) = &mut self.near {
                     words.store(word, value);
+                }
+            }
+            Place::Bit(block, offset) => {
+                self.look_up(block);
+                if let Some(words) = &mut self.near {
+                    if value == 0 {
+                        words.fetch_and(WRITTEN, !bit_of(offset));
+                    } else {
+                        words.fetch_or(WRITTEN, bit_of(offset));
+                    }
                 }
             }
         }
@@ -142,6 +166,7 @@ impl<'a, T: Drop> Cells<T> for WordCells<'a, T> {
                     None => Err(0),
                 }
             }
+            Place::Bit(_, _) => Err(0),
         }
     }
 
@@ -156,6 +181,7 @@ impl<'a, T: Drop> Cells<T> for WordCells<'a, T> {
                     None => 0,
                 }
             }
+            Place::Bit(_, _) => 0,
         }
     }
 
@@ -170,6 +196,7 @@ impl<'a, T: Drop> Cells<T> for WordCells<'a, T> {
                     None => 0,
                 }
             }
+            Place::Bit(_, _) => 0,
         }
     }
 
@@ -184,6 +211,7 @@ impl<'a, T: Drop> Cells<T> for WordCells<'a, T> {
                     None => 0,
                 }
             }
+            Place::Bit(_, _) => 0,
         }
     }
 
@@ -283,6 +311,7 @@ impl<'a, T: Drop, R: Wait> Cells<T> for SharedCells<'a, T, R> {
         self.words.take(at)
     }
 
+    #[inline(always)]
     fn spare(&mut self) -> Result<u64, NoMemory> {
         match self.words.blocks {
             Some(blocks) => blocks.spare(self.rt),
@@ -290,6 +319,7 @@ impl<'a, T: Drop, R: Wait> Cells<T> for SharedCells<'a, T, R> {
         }
     }
 
+    #[inline(always)]
     fn retire(&mut self, block: u64) {
         if let Some(blocks) = self.words.blocks {
             blocks.retire(self.rt, block);

@@ -12,12 +12,18 @@ type GuardSeat<T> = Seat<Option<T>, Option<u64>>;
 
 type GuardTable<T> = Table<Option<T>, Option<u64>, (), GuardRule, Global>;
 
+/// Words that lie so far apart share no cache line.
+pub(crate) const APART: usize = 16;
+
+/// How many words each table has at least, so that the first of them are found with no test.
+const LEAST: usize = 18;
+
 /// Words and slots of a queue or of one of its blocks. The table has a guard for each slot in front of the words, which is
 /// 1 while some seat has the slot.
 #[derive(Drop)]
 pub(crate) struct SharedTable<T> {
     table: GuardTable<T>,
-    ghost wide: { table.shared.table_id.slots < table.shared.table_id.words },
+    ghost wide: { table.shared.table_id.slots + 18 ≤ table.shared.table_id.words },
 }
 
 /// The same, with a seat that holds no slot.
@@ -25,23 +31,36 @@ pub(crate) struct SharedTable<T> {
 pub(crate) struct SeatedTable<'a, T> {
     table: &'a GuardTable<T>,
     seat: GuardSeat<T>,
-    ghost wide: { table.now.shared.table_id.slots < table.now.shared.table_id.words },
+    ghost wide: { table.now.shared.table_id.slots + 18 ≤ table.now.shared.table_id.words },
     ghost seated: { (seat.table_id ≡ table.now.shared.table_id) × (seat.me ≡ (None, [])) },
 }
 
-/// The guards, all 0, and then these words.
+/// The guards, all 0, then these words, and more of 0 where they are few.
 fn with_guards(alloc: Global, slots: usize, words: &[u64]) -> Result<Vec<u64>, AllocError>
     requires { 0 < length words.now }
-    ensures { IfOk result (λ v. (slots < length v.items) × AreFree slots v.items) }
+    ensures { IfOk result (λ v. (slots + 18 ≤ length v.items) × AreFree slots v.items) }
 {
-    let Some(all) = slots.checked_add(words.len()) else {
+    let Some(all) = slots.checked_add(words.len().max(LEAST)) else {
         return Err(AllocError);
     };
     let mut guarded = Vec::with_capacity(alloc, all)?;
     for i in 0..all {
-        guarded.push(if i < slots { 0 } else { words[i - slots] })?;
+        guarded.push(word_at(slots, words, i))?;
     }
     Ok(guarded)
+}
+
+/// What a new table holds at this place.
+fn word_at(slots: usize, words: &[u64], place: usize) -> u64
+    ensures { place < slots → result ≡ 0 }
+{
+    if place < slots {
+        return 0;
+    }
+    match words.get(place - slots) {
+        Some(word) => *word,
+        None => 0,
+    }
 }
 
 impl<T> SharedTable<T> {
@@ -73,14 +92,16 @@ impl<'a, T> SeatedTable<'a, T> {
     /// Where a word lies in the table, if it is there.
     #[inline(always)]
     fn place(&self, word: usize) -> Option<usize>
-        ensures { IfSome result (λ i. (self.now.table.now.shared.table_id.slots ≤ i) × (i < self.now.table.now.shared.table_id.words)) }
+        ensures { IfSome result
+            (λ i. (self.now.table.now.shared.table_id.slots ≤ i) × (i < self.now.table.now.shared.table_id.words)) }
     {
-        let place = self.table.slot_count().checked_add(word)?;
-        if place < self.table.word_count() {
-            Some(place)
-        } else {
-            None
+        let first = self.table.slot_count();
+        let end = self.table.word_count();
+        if word < LEAST {
+            return Some(first + word);
         }
+        let place = first.checked_add(word)?;
+        if place < end { Some(place) } else { None }
     }
 
     /// What the word holds; 0 where there is none.

@@ -17,8 +17,10 @@ pub(crate) fn push_ahead<T: Drop, C: Cells<T>>(
     value: T,
     cells: &mut C,
 ) -> Result<(), SingleAction<T>>
-    ensures steps { C.known → GoesAhead single_step (C.contents cells.old) (SingleAction.Push value) (reply.Push (Ok tt)) result (C.contents cells.new) }
-    ensures answers { MatchResult result (λ _. Unit {0}) (λ a. (r : QueueReply T) → MaySingle a r → MayAnswer true (ask.Push value) r) }
+    ensures steps { C.known → GoesAhead single_step (C.contents cells.old)
+        (SingleAction.Push value) (reply.Push (Ok tt)) result (C.contents cells.new) }
+    ensures answers { MatchResult result (λ _. Unit {0})
+        (λ a. (r : QueueReply T) → MaySingle a r → MayAnswer true (ask.Push value) r) }
 {
     make_push(value, cells)
 }
@@ -27,7 +29,8 @@ pub(crate) fn push_ahead<T: Drop, C: Cells<T>>(
 #[inline(always)]
 pub(crate) fn pop_ahead<T: Drop, C: Cells<T>>(cells: &mut C) -> Result<T, SingleAction<T>>
     ensures steps { C.known → PopsOnEnd single_step (C.contents cells.old) (SingleAction.Pop 2) result (C.contents cells.new) }
-    ensures answers { MatchResult result (λ _. Unit {0}) (λ a. (r : QueueReply T) → MaySingle a r → MayAnswer true ask.Pop r) }
+    ensures answers { MatchResult result (λ _. Unit {0})
+        (λ a. (r : QueueReply T) → MaySingle a r → MayAnswer true ask.Pop r) }
 {
     make_pop(cells)
 }
@@ -36,7 +39,8 @@ pub(crate) fn pop_ahead<T: Drop, C: Cells<T>>(cells: &mut C) -> Result<T, Single
 #[inline(always)]
 fn make_push<T: Drop, C: Cells<T>>(value: T, cells: &mut C) -> Result<(), SingleAction<T>>
     ensures cells { C.known → PushesSingle (C.contents cells.old) value result (C.contents cells.new) }
-    ensures answers { MatchResult result (λ _. Unit {0}) (λ a. (r : QueueReply T) → MaySingle a r → MayAnswer true (ask.Push value) r) }
+    ensures answers { MatchResult result (λ _. Unit {0})
+        (λ a. (r : QueueReply T) → MaySingle a r → MayAnswer true (ask.Push value) r) }
 {
     if cells.compare_exchange(Word::State, 0, FILLING).is_err() {
         return Err(SingleAction::Push(value));
@@ -52,7 +56,8 @@ fn make_push<T: Drop, C: Cells<T>>(value: T, cells: &mut C) -> Result<(), Single
 #[inline(always)]
 fn make_pop<T: Drop, C: Cells<T>>(cells: &mut C) -> Result<T, SingleAction<T>>
     ensures cells { C.known → PopsSingle (C.contents cells.old) result (C.contents cells.new) }
-    ensures answers { MatchResult result (λ _. Unit {0}) (λ a. (r : QueueReply T) → MaySingle a r → MayAnswer true ask.Pop r) }
+    ensures answers { MatchResult result (λ _. Unit {0})
+        (λ a. (r : QueueReply T) → MaySingle a r → MayAnswer true ask.Pop r) }
 {
     if cells.compare_exchange(Word::State, PUSHED, LOCKED).is_err() {
         return Err(SingleAction::Pop(PUSHED));

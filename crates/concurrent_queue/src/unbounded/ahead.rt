@@ -45,6 +45,7 @@ pub(crate) fn push_ahead<T: Drop, C: Cells<T>>(
 
 /// Pushes into the last slot of a block, for which the next one is got first. Where there is no memory for it the machine is
 /// left to say so.
+#[inline(always)]
 fn push_last<T: Drop, C: Cells<T>>(
     value: T,
     tail: u64,
@@ -117,10 +118,9 @@ fn pop_written<T: Drop, C: Cells<T>>(
     match cells.take(Slot::In(block, head % 32)) {
         Some(value) => {
             if cells.fetch_add(Word::Reads(block), 1) == 30 {
-                Err(UnboundedAction::PopRetire(head, block, value))
-            } else {
-                Ok(value)
+                cells.retire(block);
             }
+            Ok(value)
         }
         None => Err(UnboundedAction::PopTake(head, block)),
     }
