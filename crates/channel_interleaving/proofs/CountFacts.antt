@@ -1,10 +1,10 @@
 -- How a step changes the number of messages, by its mark.
-use Rattle.std.proofs.Common.{arith, ◌≡◌, ℕ, zero, suc, ◌+◌, ◌-◌, ◌^◌, ◌≤◌, ◌<◌, min, Bool, true, false, if◌then◌else◌, length, Option, None, Some, inl, inr, refl, sym, ap, ◌∙◌, subst}
+use Rattle.std.proofs.Common.{arith, ◌≡◌, ℕ, ◌+◌, ◌-◌, ◌^◌, ◌≤◌, ◌<◌, Bool, true, false, if◌then◌else◌, length, Option, None, Some, inl, inr, refl, sym, subst}
 use Rattle.concurrent_queue.specs.Queue.{Queue, Phase, after}
 use Rattle.concurrent_queue.specs.declared.call.QueueMark.{QueueMark}
 use Rattle.concurrent_queue.specs.declared.call.QueueMark.TheVariants as queue
 use Rattle.async_channel.specs.Marks.{mark_of_queue, up, down}
-use Rattle.async_channel.specs.Moves.{Channel, Effect, queued, untouched, on_count, leaves, Worked, Moves}
+use Rattle.async_channel.specs.Moves.{Channel, Effect, untouched, on_count, leaves, Worked, Moves}
 use Rattle.async_channel.specs.Parts.{is_raised, count}
 use Rattle.async_channel.specs.declared.mark.Mark.{Mark}
 use Rattle.async_channel.specs.declared.mark.Mark.TheVariants as mark

@@ -1,9 +1,9 @@
 -- Steps of an interleaved channel, and runs of them.
 use Rattle.std.specs.List.{remove}
-use Rattle.std.proofs.Common.{arith, ◌≡◌, ℕ, zero, suc, ◌+◌, ◌^◌, ◌≤◌, ◌<◌, true, false, nat_lt, slice_index_or, List, [], ◌∷◌, ◌++◌, map, length, slice_get, vec_len, vec_capacity, Option, None, Some, inl, inr, refl, sym, ap, ◌∙◌, subst, append-nil, append_assoc}
+use Rattle.std.proofs.Common.{arith, ◌≡◌, ℕ, zero, suc, ◌+◌, ◌^◌, ◌≤◌, ◌<◌, true, false, nat_lt, slice_index_or, List, [], ◌∷◌, ◌++◌, map, length, slice_get, vec_len, vec_capacity, Option, None, Some, inr, refl, sym, ap, ◌∙◌, subst, append-nil, append_assoc}
 use Rattle.concurrent_queue.specs.Queue.{Queue, IsInRange}
 use Rattle.async_channel.specs.Parts.{Parts, Roster, listeners}
-use Rattle.async_channel.specs.Moves.{Channel, channel}
+use Rattle.async_channel.specs.Moves.{Channel}
 use Rattle.async_channel.specs.Plain.{parts_of}
 use Rattle.async_channel.specs.declared.mark.Mark.TheVariants.{Nothing}
 use Rattle.async_channel.specs.declared.reply.Reply.{Reply}
@@ -17,12 +17,13 @@ use Rattle.channel_steps.specs.Scene.{Scene, Sitting, under_of, IsBalanced, Show
 use Rattle.channel_steps.specs.declared.party.Entry.{Entry as ChannelEntry}
 use Rattle.channel_steps.specs.declared.party.Party.{Party}
 use Rattle.channel_interleaving.specs.Bookkeeping.{asks}
-use Rattle.channel_interleaving.specs.Floor.{counted, parts_in, book_of, Shown, AreAtWork, IsSame, Stepped, Steps, Ran, RanTo}
+use Rattle.channel_interleaving.specs.Floor.{counted, parts_in, book_of, Shown, AreAtWork, AreOwned, IsSame, Steps, RanTo}
 use Rattle.channel_model.specs.declared.refusal.WorldRefusal.{WorldRefusal}
 use Rattle.channel_model.specs.declared.run.Stopped.{Stopped}
 use Rattle.std.proofs.lemmas.Bool.Decides.{nat_tests}
-use Rattle.channel_interleaving.specs.Roll.{IsAgent}
-use Rattle.channel_interleaving.specs.Run.{Book, IsBookAfter, Made, IsRun, MayRefuse, Stops, begun, ended, with_woken, channel_step}
+use Rattle.channel_interleaving.specs.Refusal.{step_refusal}
+use Rattle.channel_interleaving.specs.Roll.{first_roll, IsAgent}
+use Rattle.channel_interleaving.specs.Run.{Book, Made, IsRun, MayRefuse, Stops, begun, ended, with_woken, channel_step}
 use Rattle.channel_interleaving.specs.Woken.{Hears}
 use Rattle.channel_interleaving.specs.declared.floor.Floor.{Floor}
 use Rattle.channel_interleaving.specs.declared.names.Agent.{Agent}
@@ -32,6 +33,10 @@ use Rattle.channel_interleaving.specs.declared.step.Step.{Step}
 use Rattle.channel_interleaving.specs.declared.step.Step.TheVariants as step
 use Rattle.channel_interleaving.specs.declared.woken.Woken.{Woken as Sink}
 use Rattle.channel_interleaving.proofs.CountFacts.{moved_by, accepts_one, messages_counted}
+use Rattle.channel_laws.proofs.Interface.{all_sound_new, all_sound_next}
+use Rattle.channel_laws.specs.Sound.{AllSound}
+use Rattle.channel_interleaving.proofs.OwnerRuns.{owned_next}
+use Rattle.channel_interleaving.proofs.OwnerSteps.{owned_first}
 use Rattle.channel_interleaving.proofs.WokenFacts.{all_heard, few_woken}
 
 -- ---- lists
@@ -61,6 +66,9 @@ module _ {T : Type 0} where
 
   pub new_at_work : (f : Floor T) (cap : Option ℕ) → Shows (parts_in f) f.parties.items (new_scene cap) → f.agents.items ≡ [] → AreAtWork f
   new_at_work f cap sh none = rw (none, no_parties (parts_in f) f.parties.items cap sh) refl
+
+  pub new_owned : (f : Floor T) (cap : Option ℕ) → Shown f (new_scene cap) → book_of f ≡ record { roll = first_roll; agents = [] } → AreOwned f
+  new_owned f cap sh book = record { scene = new_scene cap; shown = sh; owned = rw book (owned_first T cap); sound = all_sound_new cap }
 
   -- ---- a call begins
 
@@ -191,12 +199,15 @@ module _ {T : Type 0} where
       let n = made.next in
       both s m t (gone_by e.mark m.now.queue.items) (came_by e.mark n.mine.ask) h n.gone n.came n.held
 
+  sound_next : (s t : Scene T Waiter) (b c : Book T) (x : Step T) (e : Entry T) → Made b s x e c t → AllSound s → AllSound t
+  sound_next s t b c x e made sound = all_sound_next s (channel_step b.roll x) _ e.woken.items t sound made.next
+
   pub ran_none : (steps : List (Step T)) (f : Floor T) → RanTo steps steps f [] f
-  ran_none steps f s sh = record { made = []; last = s; first = refl; run = (refl, refl, refl); shown = sh; accounts = no_accounts s }
+  ran_none steps f s sh = record { made = []; last = s; first = refl; run = (refl, refl, refl); shown = sh; accounts = no_accounts s; owned = λ o. o; sound = λ o. o }
 
   pub ran_more : (steps left : List (Step T)) (x : Step T) (f : Floor T) (trace : List (Entry T)) (g : Floor T) (e : Entry T) (h : Floor T)
-      → RanTo steps (x ∷ left) f trace g → Steps x g e h → RanTo steps left f (trace ++ e ∷ []) h
-  ran_more steps left x f trace g e h ran stepped s sh =
+      → RanTo steps (x ∷ left) f trace g → step_refusal g.roll g.agents.items x ≡ None → Steps x g e h → RanTo steps left f (trace ++ e ∷ []) h
+  ran_more steps left x f trace g e h ran fine stepped s sh =
       let r = ran s sh in
       let t = stepped r.last r.shown in
       record {
@@ -206,6 +217,8 @@ module _ {T : Type 0} where
         run = run_more (parts_in f) s (book_of f) r.made trace (parts_in g) r.last (book_of g) x e (parts_in h) t.after (book_of h) r.run t.touches t.made;
         shown = t.shown;
         accounts = next_accounts s r.last t.after (book_of g) (book_of h) x e r.accounts t.made;
+        owned = λ o. owned_next (book_of g) (book_of h) r.last t.after x e (let sh = r.shown.shows in sh.known) fine t.made (r.owned o);
+        sound = λ o. sound_next r.last t.after (book_of g) (book_of h) x e t.made (r.sound o);
       }
 
   -- ---- why a run stops
@@ -241,6 +254,8 @@ module _ {T : Type 0} where
           messages = rw same.messages r.shown.messages;
         };
         accounts = r.accounts;
+        owned = λ o. rw same.book (r.owned o);
+        sound = r.sound;
       }
 
   pub at_work_same : (g h : Floor T) → IsSame g h → AreAtWork g → AreAtWork h

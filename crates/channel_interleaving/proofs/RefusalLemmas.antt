@@ -5,7 +5,6 @@ use Rattle.channel_model.proofs.DirectoryLemmas.{at_seen}
 use Rattle.channel_model.specs.Names.{at}
 use Rattle.channel_model.specs.Names as model
 use Rattle.channel_model.specs.Refusal.{a_send, operation_fits, is_fit}
-use Rattle.channel_model.specs.declared.name.Handle.{Handle}
 use Rattle.channel_interleaving.specs.Roll.{operation_of, names_of}
 use Rattle.channel_interleaving.specs.declared.names.Hold.{Hold}
 use Rattle.channel_interleaving.specs.declared.names.Operation.{Operation}

@@ -1,5 +1,5 @@
 -- Whom a step wakes: how many, and that the sink has their names in order.
-use Rattle.std.proofs.Common.{arith, ◌≡◌, ℕ, zero, suc, ◌+◌, ◌≤◌, Bool, true, false, if◌then◌else◌, List, [], ◌∷◌, ◌++◌, length, take, drop, slice_get, vec_len, vec_capacity, Option, None, Some, refl, sym, ap, ◌∙◌, append_assoc, append-nil}
+use Rattle.std.proofs.Common.{arith, ◌≡◌, ℕ, zero, suc, ◌+◌, ◌≤◌, Bool, true, false, if◌then◌else◌, List, [], ◌∷◌, ◌++◌, length, take, drop, slice_get, vec_len, vec_capacity, Option, None, Some, sym, ap, ◌∙◌, append_assoc, append-nil}
 use Rattle.std.specs.Map.{remove_entry}
 use Rattle.event_listener.specs.Lists.{Notice, same_key, tasks_of, told_as, moved, passed_wakes, removed_wakes, without}
 use Rattle.event_listener.specs.Notices.{Woken}

@@ -1,5 +1,5 @@
 -- What a call asks as it begins, what it does to the names then, and what it writes back at its end.
-use Rattle.std.specs.Prelude.{◌≡◌, ℕ, List, [], ◌∷◌, Bool, true, false, is_some, Option, None, Some}
+use Rattle.std.specs.Prelude.{◌≡◌, List, [], ◌∷◌, false, is_some, Option, None, Some}
 use Rattle.std.specs.Option.{option_map_or}
 use Rattle.async_channel.specs.declared.ask.ChannelAsk.{ChannelAsk}
 use Rattle.async_channel.specs.declared.ask.ChannelAsk.TheVariants as ask
@@ -8,7 +8,7 @@ use Rattle.async_channel.specs.declared.reply.Reply.TheVariants as reply
 use Rattle.async_channel.specs.declared.stage.Kept.{Kept}
 use Rattle.channel_model.specs.Answer.{weak_of, strong_of}
 use Rattle.channel_model.specs.Asked.{asked, poll_asked, refusal_asked, giving_up_asked, drop_asked, clone_asked, upgrade_asked}
-use Rattle.channel_model.specs.Names.{Directory, at, with_spent, with_changed, without}
+use Rattle.channel_model.specs.Names.{at, with_spent, with_changed, without}
 use Rattle.channel_model.specs.declared.call.Call.{Call}
 use Rattle.channel_model.specs.declared.call.Call.TheVariants as call
 use Rattle.channel_model.specs.declared.name.Handle.{Handle}

@@ -7,6 +7,9 @@ use Rattle.async_channel.specs.declared.mark.Mark.TheVariants.{Append, Take, Tak
 use Rattle.channel_model.specs.declared.name.Waiter.{Waiter}
 use Rattle.channel_steps.specs.Run.{new_scene, Accounts, Touches}
 use Rattle.channel_steps.specs.Scene.{Scene, Shows, parties_in}
+use Rattle.channel_laws.specs.Sound.{AllSound}
+use Rattle.channel_interleaving.specs.Owed.{Owed}
+use Rattle.channel_interleaving.specs.Owners.{Owned}
 use Rattle.channel_interleaving.specs.Roll.{first_roll}
 use Rattle.channel_interleaving.specs.Run.{Book, Made, IsRun, channel_step}
 use Rattle.channel_interleaving.specs.declared.floor.Floor.{Floor}
@@ -47,10 +50,22 @@ module _ {T : Type 0} where
     pub messages : g.messages ≡ f.messages
     pub made : g.made ≡ f.made
 
-  -- what is always so: there is a scene that is shown
-  pub record IsKept (f : Floor T) : Type 0 where
+  -- each listener has its owner, and nobody who waits is forgotten, in a scene that is shown
+  pub record AreOwned (f : Floor T) : Type 0 where
     pub scene : Scene T Waiter
     pub shown : Shown f scene
+    pub owned : Owned (book_of f) scene
+    pub sound : AllSound scene
+
+  -- each who is pending and was not woken is owed no more than is to come, in a scene that is shown
+  pub record AreOwed (f : Floor T) : Type 0 where
+    pub scene : Scene T Waiter
+    pub shown : Shown f scene
+    pub owed : Owed (book_of f) scene
+
+  -- what is always so
+  pub record IsKept (f : Floor T) : Type 0 where
+    pub listeners : AreOwned f
     pub at_work : AreAtWork f
 
   -- a channel that was just opened: its first sender and its first receiver live, and nobody is at work
@@ -76,6 +91,8 @@ module _ {T : Type 0} where
     pub run : IsRun (parts_in old) s (book_of old) made trace (parts_in new) last (book_of new)
     pub shown : Shown new last
     pub accounts : Accounts s last
+    pub owned : Owned (book_of old) s → Owned (book_of new) last
+    pub sound : AllSound s → AllSound last
 
   abbrev pub RanTo : List (Step T) → List (Step T) → Floor T → List (Entry T) → Floor T → Type 0
   RanTo steps left old trace new = (s : Scene T Waiter) → Shown old s → Ran steps left old trace new s

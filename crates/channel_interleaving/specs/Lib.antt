@@ -3,4 +3,6 @@ pub mod Refusal
 pub mod Bookkeeping
 pub mod Woken
 pub mod Run
+pub mod Owners
+pub mod Owed
 pub mod Floor

@@ -1,5 +1,5 @@
 -- Which steps are refused, and why. Room for memory is another matter: see `Run`.
-use Rattle.std.specs.Prelude.{ℕ, List, Bool, true, false, not, Option, None, Some, if◌then◌else◌}
+use Rattle.std.specs.Prelude.{ℕ, List, Bool, false, not, Option, None, Some, if◌then◌else◌}
 use Rattle.std.specs.List.{list_all, list_any}
 use Rattle.std.specs.Option.{option_map_or}
 use Rattle.channel_model.specs.Names.{at, is_taken}

@@ -1,5 +1,5 @@
 -- Runs: what may follow from steps of many parties in any order, by names.
-use Rattle.std.specs.Prelude.{◌≡◌, ℕ, ◌+◌, ◌≤◌, List, [], ◌∷◌, ◌++◌, length, slice_get, unwrap_or, Option, None, Some, ◌⊎◌}
+use Rattle.std.specs.Prelude.{◌≡◌, ℕ, List, [], ◌∷◌, ◌++◌, slice_get, unwrap_or, Option, None, Some, ◌⊎◌}
 use Rattle.std.specs.List.{remove}
 use Rattle.async_channel.specs.Parts.{Parts}
 use Rattle.async_channel.specs.Turns.{nothing_kept}
@@ -10,9 +10,8 @@ use Rattle.channel_model.specs.declared.name.Waiter.{Waiter}
 use Rattle.channel_model.specs.declared.refusal.WorldRefusal.{WorldRefusal}
 use Rattle.channel_model.specs.declared.refusal.WorldRefusal.TheVariants.{NoMemory}
 use Rattle.channel_model.specs.declared.run.Stopped.{Stopped}
-use Rattle.channel_steps.specs.Run.{Next, Touches, Accounts}
+use Rattle.channel_steps.specs.Run.{Next, Touches}
 use Rattle.channel_steps.specs.Scene.{Scene}
-use Rattle.channel_steps.specs.declared.party.Entry.{Entry as ChannelEntry}
 use Rattle.channel_steps.specs.declared.run.Step.{Step as ChannelStep}
 use Rattle.channel_steps.specs.declared.run.Step.TheVariants as channel
 use Rattle.channel_interleaving.specs.Bookkeeping.{asks, errand_of, names_begun, settled, all_woken}

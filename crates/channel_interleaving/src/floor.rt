@@ -79,7 +79,7 @@ impl<T: Drop> Floor<T> {
     ghost use Rattle.channel_steps.specs.Run.{new_scene};
     ghost use Rattle.channel_interleaving.specs.Roll.{first_roll, IsAgent};
     ghost use Rattle.channel_interleaving.specs.Refusal.{step_refusal};
-    ghost use Rattle.channel_interleaving.specs.Floor.{book_of, Shown, AreAtWork, IsSame, Steps};
+    ghost use Rattle.channel_interleaving.specs.Floor.{book_of, Shown, AreAtWork, AreOwned, IsSame, Steps};
 
     /// An open channel over a queue of this form, with its first two handles and nobody at work.
     pub(crate) fn open(alloc: Global, form: QueueForm) -> Result<Floor<T>, AllocError>
@@ -87,6 +87,7 @@ impl<T: Drop> Floor<T> {
         ensures shown { IfOk result (λ f. Shown f (new_scene (capacity_of form))) }
         ensures book { IfOk result (λ f. book_of f ≡ record { roll = first_roll; agents = [] }) }
         ensures at_work { IfOk result (λ f. AreAtWork f) }
+        ensures owned { IfOk result (λ f. AreOwned f) }
     {
         let opened = open_channel(form, alloc)?;
         let roll = Roll::new(alloc)?;

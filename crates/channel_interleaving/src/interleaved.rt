@@ -36,7 +36,7 @@ impl<T: Drop> Interleaved<T> {
     ghost use Rattle.channel_steps.specs.Scene.{Scene};
     ghost use Rattle.channel_steps.specs.Start.{CountsCalls, TellsQuiet};
     ghost use Rattle.channel_interleaving.specs.Run.{Stops};
-    ghost use Rattle.channel_interleaving.specs.Floor.{book_of, Shown, IsOpen, RanTo};
+    ghost use Rattle.channel_interleaving.specs.Floor.{book_of, Shown, AreOwned, AreOwed, IsOpen, RanTo};
 
     /// An open channel of this capacity, without a message, and nobody at work.
     ///
@@ -95,6 +95,16 @@ impl<T: Drop> Interleaved<T> {
     /// reply names and found what its reply says at a moment of its own, and what left the channel, followed by what it holds,
     /// is what it held followed by what came, in order.
     ///
+    /// At the moment at which the run ends, each listener on the channel's lists is held by one alone: by an operation or a
+    /// stream that is pending, or by a call under way that has it in hand. What is pending has its listener on its list, where
+    /// it waits to wake that name, unless the name was woken since its last poll.
+    ///
+    /// So nobody who is pending and wasn't woken since its last poll is forgotten there. Beside such a receive there are no
+    /// more messages than woken pending receives and sending and receiving calls under way. Beside such a send, while the
+    /// channel is open, it has a bound, and there are no more free places than woken pending sends and those calls. Beside
+    /// such a stream there is no message, or a sending call is under way. Beside any such one, where the channel is closed,
+    /// the call that closed it is under way.
+    ///
     /// A step is refused for the first of these reasons that there is: the party that begins is at work; the one that steps
     /// isn't; a used name doesn't live; what lives there is of another kind; its operation or its receiver's stream is being
     /// polled; it drops, or polls as a stream, a handle in use; a new name was taken. Else it may be refused for want of
@@ -102,6 +112,8 @@ impl<T: Drop> Interleaved<T> {
     pub fn run_steps(&mut self, steps: &mut VecDeque<Step<T>>) -> Run<T>
         ensures ran { RanTo steps.old.items steps.new.items self.old result.trace.items self.new }
         ensures stopped { Stops (book_of self.new) steps.new.items (vec_len result.trace) result.stopped }
+        ensures owned { AreOwned self.new }
+        ensures owed { AreOwed self.new }
     {
         self.floor.run_steps(steps)
     }

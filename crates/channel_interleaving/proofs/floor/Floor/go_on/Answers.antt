@@ -1,5 +1,4 @@
-use Rattle.std.proofs.Common.{arith, rules, ◌≡◌, ◌<◌, ◌∙◌, Some, slice_get, length, vec_len, refl, sym, ap}
-use Rattle.channel_interleaving.specs.Floor.{book_of}
+use Rattle.std.proofs.Common.{arith, ◌≡◌, length, vec_len, refl, sym}
 use Rattle.channel_interleaving.proofs.FloorFacts.{party_at, within, has_stepped, stepped_at_work}
 use Rattle.channel_interleaving.proofs.floor.Floor.go_on.Goals as goal
 

@@ -1,4 +1,4 @@
-use Rattle.std.proofs.Common.{rules, ◌≡◌, ◌∙◌, refl, sym, ap}
+use Rattle.std.proofs.Common.{refl, sym}
 use Rattle.channel_interleaving.proofs.FloorFacts.{has_begun}
 use Rattle.channel_interleaving.proofs.floor.Floor.start.Goals as goal
 

@@ -1,0 +1,342 @@
+-- How many are told: no more than those whose names are pending and woken, and the calls that have a listener in hand.
+use Rattle.std.proofs.Common.{arith, ◌≡◌, ℕ, suc, nat_eq, ◌+◌, ◌≤◌, Bool, true, false, cond, if◌then◌else◌, ◌&&◌, List, [], ◌∷◌, ◌++◌, map, length, length-append, Option, None, Some, inl, inr, refl, sym, ap, ◌∙◌, subst}
+use Rattle.std.proofs.lemmas.Bool.Decides.{nat_tests}
+use Rattle.std.specs.Map.{lookup, keys_of}
+use Rattle.concurrent_queue.specs.Queue.{Phase, Stage, trying, displaced, appended, taken}
+use Rattle.event_listener.specs.declared.key.Key.{Key}
+use Rattle.async_channel.specs.Parts.{listeners}
+use Rattle.async_channel.specs.declared.ask.ChannelAsk.{ChannelAsk}
+use Rattle.async_channel.specs.declared.ask.ChannelAsk.TheVariants as ask
+use Rattle.async_channel.specs.declared.stage.Aim.TheVariants as aim
+use Rattle.async_channel.specs.declared.stage.Held.{Held}
+use Rattle.async_channel.specs.declared.stage.Line.{Line}
+use Rattle.async_channel.specs.declared.stage.Line.TheVariants.{Sends, Receives, Streams, Closings}
+use Rattle.async_channel.specs.declared.stage.Stage as stage
+use Rattle.async_channel.specs.declared.stage.Stage.TheVariants.{Trying, Working}
+use Rattle.async_channel.specs.declared.stage.Work.TheVariants.{TellReceive, TellSend}
+use Rattle.channel_model.specs.Names.{Directory}
+use Rattle.channel_model.specs.declared.name.Waiter.{Waiter}
+use Rattle.channel_model.specs.declared.name.Waiter.TheVariants.{Op, Stream}
+use Rattle.channel_steps.specs.Scene.{Under, Scene}
+use Rattle.channel_laws.specs.Amounts.{is_trying, is_trying_anew, total}
+use Rattle.channel_laws.specs.Receives.{has_appended, is_to_tell_receive, counts_for_receives}
+use Rattle.channel_laws.specs.Sends.{has_taken, has_displaced, is_to_tell_send, is_on_its_way, counts_for_sends}
+use Rattle.channel_interleaving.specs.Owed.{one_if, counted, is_line, is_woken_on, all_names, woken_on, is_sending, is_receiving, at_it}
+use Rattle.channel_interleaving.specs.Owners.{IsAmong, NoneTwice, AnyOf, Post, free, vacant, amiss, rests, waits, polled, posted, post, holding, line_asked, Together, HoldsIn, Holder, named, calling, Owned}
+use Rattle.channel_interleaving.specs.Run.{Book}
+use Rattle.channel_interleaving.specs.declared.names.Agent.{Agent}
+use Rattle.channel_interleaving.specs.declared.roll.Roll.{Roll}
+use Rattle.channel_interleaving.proofs.OwnerLists.{among_left, among_right, none_parts}
+use Rattle.channel_interleaving.proofs.OwnerTogether.{HasIt}
+
+-- ---- keys without repeats that are among others are no more than these
+
+pub record Without (k : Key) (ls : List Key) : Type 0 where
+  pub rest : List Key
+  pub fewer : length ls ≡ suc (length rest)
+  pub others : (j : Key) → (j ≡ k → ⊥) → IsAmong j ls → IsAmong j rest
+
+without : (k : Key) (ls : List Key) → IsAmong k ls → Without k ls
+without k [] h = absurd h
+without k (l ∷ ls) (inl e) =
+    record { rest = ls; fewer = refl; others = λ j other i. by j other i }
+  where
+    by : (j : Key) → (j ≡ k → ⊥) → IsAmong j (l ∷ ls) → IsAmong j ls
+    by j other (inl f) = absurd (other (sym f ∙ e))
+    by j other (inr i) = i
+without k (l ∷ ls) (inr h) =
+    let w = without k ls h in
+    record { rest = l ∷ w.rest; fewer = ap (λ n. suc n) w.fewer; others = λ j other i. by w j other i }
+  where
+    by : (w : Without k ls) (j : Key) → (j ≡ k → ⊥) → IsAmong j (l ∷ ls) → IsAmong j (l ∷ w.rest)
+    by w j other (inl f) = inl f
+    by w j other (inr i) = inr (w.others j other i)
+
+pub no_more : (ks ls : List Key) → NoneTwice ks → ((k : Key) → IsAmong k ks → IsAmong k ls) → length ks ≤ length ls
+no_more [] ls once f = omega arith
+no_more (k ∷ ks) ls once f =
+    let w = without k ls (f k (inl refl)) in
+    let fewer = w.fewer in
+    let rest = no_more ks w.rest once.1 (λ j i. w.others j (λ e. once.0 (subst (λ (x : Key). IsAmong x ks) e i)) (f j (inr i))) in
+    omega (arith, fewer, rest)
+
+-- ---- lines
+
+pub line_is : (a b : Line) → is_line a b ≡ true → a ≡ b
+line_is Sends Sends e = refl
+line_is Receives Receives e = refl
+line_is Streams Streams e = refl
+line_is Closings Closings e = refl
+line_is a b e = absurd (let no : false ≡ true = e in cc)
+
+own_line : (a : Line) → is_line a a ≡ true
+own_line Sends = refl
+own_line Receives = refl
+own_line Streams = refl
+own_line Closings = refl
+
+-- ---- the keys of those who are woken, and of calls
+
+abbrev woken_key : Line → Post → List Key
+woken_key line (waits h w) = if w && is_line h.line line then h.key ∷ [] else []
+woken_key line free = []
+woken_key line vacant = []
+woken_key line amiss = []
+woken_key line (rests l) = []
+woken_key line (polled l) = []
+
+abbrev hand_key : Line → Option Held → List Key
+hand_key line None = []
+hand_key line (Some h) = if is_line h.line line then h.key ∷ [] else []
+
+abbrev pub in_hand : Line → Option Held → ℕ
+in_hand line None = 0
+in_hand line (Some h) = one_if (is_line h.line line)
+
+one_key : (b : Bool) (k : Key) → length (if b then k ∷ [] else []) ≡ one_if b
+one_key true k = refl
+one_key false k = refl
+
+woken_key_length : (line : Line) (x : Post) → length (woken_key line x) ≡ one_if (is_woken_on line x)
+woken_key_length line (waits h w) = one_key (w && is_line h.line line) h.key
+woken_key_length line free = refl
+woken_key_length line vacant = refl
+woken_key_length line amiss = refl
+woken_key_length line (rests l) = refl
+woken_key_length line (polled l) = refl
+
+hand_key_length : (line : Line) (o : Option Held) → length (hand_key line o) ≡ in_hand line o
+hand_key_length line None = refl
+hand_key_length line (Some h) = one_key (is_line h.line line) h.key
+
+there_if : (b : Bool) (k : Key) → b ≡ true → IsAmong k (if b then k ∷ [] else [])
+there_if true k e = inl refl
+there_if false k e = absurd (let no : false ≡ true = e in cc)
+
+-- ---- names
+
+is_named : {X : Type 0} (p : X → Post) (n : ℕ) (d : Directory X) (h : Held) (b : Bool) → posted p (lookup (nat_eq n) d) ≡ waits h b → IsAmong n (keys_of d)
+is_named p n [] h b e = absurd (let no : free ≡ waits h b = e in cc)
+is_named p n (f ∷ d) h b e = at p n (nat_eq n f.0) f d h b refl (is_named p n d h b) e
+  where
+    at : {X : Type 0} (p : X → Post) (n : ℕ) (t : Bool) (f : ℕ × Option X) (d : Directory X) (h : Held) (b : Bool) → nat_eq n f.0 ≡ t → (posted p (lookup (nat_eq n) d) ≡ waits h b → IsAmong n (keys_of d))
+        → posted p (cond t (Some f.1) (lookup (nat_eq n) d)) ≡ waits h b → IsAmong n (keys_of (f ∷ d))
+    at p n true f d h b same on e = inl (sym (same_number n f.0 same))
+      where
+        same_number : (a c : ℕ) → nat_eq a c ≡ true → a ≡ c
+        same_number a c e = grind (arith, nat_tests, e)
+    at p n false f d h b same on e = inr (on e)
+
+among_map : {A B : Type 0} (f : A → B) (x : A) (xs : List A) → IsAmong x xs → IsAmong (f x) (map f xs)
+among_map f x [] h = h
+among_map f x (y ∷ xs) (inl e) = inl (ap f e)
+among_map f x (y ∷ xs) (inr h) = inr (among_map f x xs h)
+
+abbrev woken_keys : Line → (Waiter → Post) → List Waiter → List Key
+woken_keys line p [] = []
+woken_keys line p (w ∷ ws) = woken_key line (p w) ++ woken_keys line p ws
+
+woken_length : (line : Line) (p : Waiter → Post) (ws : List Waiter) → length (woken_keys line p ws) ≡ counted (λ w. is_woken_on line (p w)) ws
+woken_length line p [] = refl
+woken_length line p (w ∷ ws) =
+    let both = length-append (woken_key line (p w)) (woken_keys line p ws) in
+    let one = woken_key_length line (p w) in
+    let rest = woken_length line p ws in
+    omega (arith, both, one, rest)
+
+in_woken : (line : Line) (k : Key) (p : Waiter → Post) (w : Waiter) (ws : List Waiter) → IsAmong w ws → p w ≡ waits (record { line = line; key = k }) true → IsAmong k (woken_keys line p ws)
+in_woken line k p w [] i e = absurd i
+in_woken line k p w (v ∷ ws) (inl same) e =
+    among_left k (woken_key line (p v)) (woken_keys line p ws) (subst (λ (x : Post). IsAmong k (woken_key line x)) (sym (ap p same ∙ e)) (there_if (is_line line line) k (own_line line)))
+in_woken line k p w (v ∷ ws) (inr i) e = among_right k (woken_key line (p v)) (woken_keys line p ws) (in_woken line k p w ws i e)
+
+one_most : (b : Bool) → one_if b ≤ 1
+one_most true = omega arith
+one_most false = omega arith
+
+hand_most : (line : Line) (o : Option Held) → in_hand line o ≤ 1
+hand_most line None = omega arith
+hand_most line (Some h) = one_most (is_line h.line line)
+
+-- a call of another list has none of this one in hand
+abbrev Lined : Option Line → Option Held → Type 0
+Lined l o = (h : Held) → o ≡ Some h → l ≡ Some h.line
+
+no_hand : (line : Line) (l : Option Line) (o : Option Held) → Lined l o → (l ≡ Some line → ⊥) → in_hand line o ≡ 0
+no_hand line l None f g = refl
+no_hand line l (Some h) f g = by (is_line h.line line) refl
+  where
+    by : (t : Bool) → is_line h.line line ≡ t → one_if (is_line h.line line) ≡ 0
+    by true e = absurd (g (f h refl ∙ ap (λ (x : Line). let o : Option Line = Some x in o) (line_is h.line line e)))
+    by false e = ap one_if e
+
+module _ {T : Type 0} where
+  -- ---- calls under way
+
+  abbrev hand_keys : Line → List (Under T Waiter) → List Key
+  hand_keys line [] = []
+  hand_keys line (u ∷ us) = hand_key line (holding u.at) ++ hand_keys line us
+
+  -- the listeners of this list that calls have in hand
+  abbrev pub hands : Line → List (Under T Waiter) → ℕ
+  hands line [] = 0
+  hands line (u ∷ us) = in_hand line (holding u.at) + hands line us
+
+  hands_length : (line : Line) (us : List (Under T Waiter)) → length (hand_keys line us) ≡ hands line us
+  hands_length line [] = refl
+  hands_length line (u ∷ us) =
+      let both = length-append (hand_key line (holding u.at)) (hand_keys line us) in
+      let one = hand_key_length line (holding u.at) in
+      let rest = hands_length line us in
+      omega (arith, both, one, rest)
+
+  in_hands : (line : Line) (k : Key) (q : ℕ) (us : List (Under T Waiter)) → AnyOf (HasIt q (record { line = line; key = k })) us → IsAmong k (hand_keys line us)
+  in_hands line k q [] i = i
+  in_hands line k q (u ∷ us) (inl i) = among_left k (hand_key line (holding u.at)) (hand_keys line us) (subst (λ (o : Option Held). IsAmong k (hand_key line o)) (sym i.1) (there_if (is_line line line) k (own_line line)))
+  in_hands line k q (u ∷ us) (inr i) = among_right k (hand_key line (holding u.at)) (hand_keys line us) (in_hands line k q us i)
+
+  -- ---- names that are woken
+
+  named_there : (r : Roll T) (w : Waiter) (h : Held) (b : Bool) → post r w ≡ waits h b → IsAmong w (all_names r)
+  named_there r (Op op) h b e =
+      among_left (Op op) (map (λ n. Op (record { 0 = n })) (keys_of r.operations)) (map (λ n. Stream (record { 0 = n })) (keys_of r.handles)) (among_map (λ n. Op (record { 0 = n })) op.0 (keys_of r.operations) (is_named _ op.0 r.operations h b e))
+  named_there r (Stream handle) h b e =
+      among_right (Stream handle) (map (λ n. Op (record { 0 = n })) (keys_of r.operations)) (map (λ n. Stream (record { 0 = n })) (keys_of r.handles)) (among_map (λ n. Stream (record { 0 = n })) handle.0 (keys_of r.handles) (is_named _ handle.0 r.handles h b e))
+
+  -- the told listeners of a list are no more than its woken pending names and the calls that have one of it in hand
+  pub told_few : (b : Book T) (s : Scene T Waiter) (line : Line) → Owned b s → length (listeners line s.now.roster).told ≤ woken_on line b.roll + hands line s.under_way
+  told_few b s line o =
+      let l = listeners line s.now.roster in
+      let parts = none_parts (keys_of l.told) (keys_of l.waiting) (o.once line) in
+      let most = no_more (keys_of l.told) (woken_keys line (post b.roll) (all_names b.roll) ++ hand_keys line s.under_way) parts.left (λ k i. held_so k i) in
+      let both = length-append (woken_keys line (post b.roll) (all_names b.roll)) (hand_keys line s.under_way) in
+      let woken = woken_length line (post b.roll) (all_names b.roll) in
+      let hand = hands_length line s.under_way in
+      let same = map_length l.told in
+      omega (arith, most, both, woken, hand, same)
+    where
+      map_length : {X : Type 0} (es : List (Key × X)) → length (keys_of es) ≡ length es
+      map_length [] = refl
+      map_length (e ∷ es) = ap (λ n. suc n) (map_length es)
+
+      entry_key : {X : Type 0} (k : Key) (x : X) (es : List (Key × X)) → IsAmong (k, x) es → IsAmong k (keys_of es)
+      entry_key k x [] i = i
+      entry_key k x (e ∷ es) (inl f) = inl (ap (λ (y : Key × _). y.0) f)
+      entry_key k x (e ∷ es) (inr i) = inr (entry_key k x es i)
+
+      held_so : (k : Key) → IsAmong k (keys_of (listeners line s.now.roster).told) → IsAmong k (woken_keys line (post b.roll) (all_names b.roll) ++ hand_keys line s.under_way)
+      held_so k i = by (o.held h (among_left k (keys_of (listeners line s.now.roster).told) (keys_of (listeners line s.now.roster).waiting) i))
+        where
+          h : Held
+          h = record { line = line; key = k }
+
+          at_name : (w : Waiter) (x : Bool) → post b.roll w ≡ waits (record { line = line; key = k }) x → IsAmong k (woken_keys line (post b.roll) (all_names b.roll) ++ hand_keys line s.under_way)
+          at_name w true e = among_left k (woken_keys line (post b.roll) (all_names b.roll)) (hand_keys line s.under_way) (in_woken line k (post b.roll) w (all_names b.roll) (named_there b.roll w (record { line = line; key = k }) true e) e)
+          at_name w false e =
+              let parts = none_parts (keys_of (listeners line s.now.roster).told) (keys_of (listeners line s.now.roster).waiting) (o.once line) in
+              absurd (parts.apart k i (entry_key k (Some w) (listeners line s.now.roster).waiting (o.unwoken w (record { line = line; key = k }) e)))
+
+          by : (x : Holder) × HoldsIn (post b.roll) s.under_way x (record { line = line; key = k }) → IsAmong k (woken_keys line (post b.roll) (all_names b.roll) ++ hand_keys line s.under_way)
+          by (named w, e) = at_name w e.0 e.1
+          by (calling q, e) = among_right k (woken_keys line (post b.roll) (all_names b.roll)) (hand_keys line s.under_way) (in_hands line k q s.under_way e)
+
+  -- ---- what a call counts for
+
+  trying_most : (x : Stage T) → is_trying x ≤ 1
+  trying_most (trying b) = omega arith
+  trying_most x = omega arith
+
+  anew : (line : Line) (at : stage.Stage (Phase T) T Waiter) → is_trying_anew at + in_hand line (holding at) ≤ 1
+  anew line (Trying f (aim.Poll l None task)) = omega (arith, trying_most f.stage)
+  anew line at = let h = hand_most line (holding at) in omega (arith, h)
+
+  appended_most : (x : Stage T) → has_appended x ≤ 1
+  appended_most (appended o) = omega arith
+  appended_most x = omega arith
+
+  taken_most : (x : Stage T) → has_taken x ≤ 1
+  taken_most (taken o) = omega arith
+  taken_most x = omega arith
+
+  displaced_most : (x : Stage T) → has_displaced x ≤ 1
+  displaced_most (displaced o) = omega arith
+  displaced_most x = omega arith
+
+  tells_receive : (at : stage.Stage (Phase T) T Waiter) → is_to_tell_receive at ≤ 1
+  tells_receive (Trying f a) = appended_most f.stage
+  tells_receive (Working (TellReceive x)) = omega arith
+  tells_receive at = omega arith
+
+  tells_send : (at : stage.Stage (Phase T) T Waiter) → is_to_tell_send at ≤ 1
+  tells_send (Trying f a) = taken_most f.stage
+  tells_send (Working (TellSend x)) = omega arith
+  tells_send at = omega arith
+
+  on_way : (at : stage.Stage (Phase T) T Waiter) → is_on_its_way at ≤ 1
+  on_way (Trying f a) = displaced_most f.stage
+  on_way at = omega arith
+
+  abbrev May : ChannelAsk T Waiter → ℕ
+  May a = one_if (is_sending a) + one_if (is_receiving a)
+
+  -- beside the told receives a call counts for no more than one, and for none if it neither sends nor receives
+  receive_weight : (a : ChannelAsk T Waiter) (at : stage.Stage (Phase T) T Waiter) → Lined (line_asked a) (holding at) → counts_for_receives a at + in_hand Receives (holding at) ≤ May a
+  receive_weight (ask.TrySend m) at f = let h = no_hand Receives None (holding at) f (λ e. absurd (let no : None ≡ Some Receives = e in cc)) in let k = tells_receive at in omega (arith, h, k)
+  receive_weight (ask.ForceSend m) at f = let h = no_hand Receives None (holding at) f (λ e. absurd (let no : None ≡ Some Receives = e in cc)) in let k = tells_receive at in omega (arith, h, k)
+  receive_weight (ask.PollSend m key task) at f = let h = no_hand Receives (Some Sends) (holding at) f (λ e. absurd (let no : Some Sends ≡ Some Receives = e in cc)) in let k = tells_receive at in omega (arith, h, k)
+  receive_weight (ask.PollRecv key task) at f = let k = anew Receives at in omega (arith, k)
+  receive_weight ask.TryRecv at f = let h = hand_most Receives (holding at) in omega (arith, h)
+  receive_weight (ask.PollNext key task) at f = let h = hand_most Receives (holding at) in omega (arith, h)
+  receive_weight ask.PollFinishedSend at f = let h = hand_most Receives (holding at) in omega (arith, h)
+  receive_weight (ask.RefusePoll Sends m key) at f = let h = hand_most Receives (holding at) in omega (arith, h)
+  receive_weight (ask.RefusePoll Receives m key) at f = let h = hand_most Receives (holding at) in omega (arith, h)
+  receive_weight (ask.RefusePoll Streams m key) at f = let h = no_hand Receives (Some Streams) (holding at) f (λ e. absurd (let no : Some Streams ≡ Some Receives = e in cc)) in omega (arith, h)
+  receive_weight (ask.RefusePoll Closings m key) at f = let h = no_hand Receives (Some Closings) (holding at) f (λ e. absurd (let no : Some Closings ≡ Some Receives = e in cc)) in omega (arith, h)
+  receive_weight (ask.GiveUp Sends m key) at f = let h = hand_most Receives (holding at) in omega (arith, h)
+  receive_weight (ask.GiveUp Receives m key) at f = let h = hand_most Receives (holding at) in omega (arith, h)
+  receive_weight (ask.GiveUp Streams m key) at f = let h = no_hand Receives (Some Streams) (holding at) f (λ e. absurd (let no : Some Streams ≡ Some Receives = e in cc)) in omega (arith, h)
+  receive_weight (ask.GiveUp Closings m key) at f = let h = no_hand Receives (Some Closings) (holding at) f (λ e. absurd (let no : Some Closings ≡ Some Receives = e in cc)) in omega (arith, h)
+  receive_weight (ask.PollClosed key task) at f = let h = no_hand Receives (Some Closings) (holding at) f (λ e. absurd (let no : Some Closings ≡ Some Receives = e in cc)) in omega (arith, h)
+  receive_weight (ask.DropReceiver key) at f = let h = no_hand Receives (Some Streams) (holding at) f (λ e. absurd (let no : Some Streams ≡ Some Receives = e in cc)) in omega (arith, h)
+  receive_weight a at f = let h = no_hand Receives None (holding at) f (λ e. absurd (let no : None ≡ Some Receives = e in cc)) in omega (arith, h)
+
+  send_weight : (a : ChannelAsk T Waiter) (at : stage.Stage (Phase T) T Waiter) → Lined (line_asked a) (holding at) → counts_for_sends a at + in_hand Sends (holding at) ≤ May a
+  send_weight ask.TryRecv at f = let h = no_hand Sends None (holding at) f (λ e. absurd (let no : None ≡ Some Sends = e in cc)) in let k = tells_send at in omega (arith, h, k)
+  send_weight (ask.ForceSend m) at f = let h = no_hand Sends None (holding at) f (λ e. absurd (let no : None ≡ Some Sends = e in cc)) in let k = on_way at in omega (arith, h, k)
+  send_weight (ask.PollRecv key task) at f = let h = no_hand Sends (Some Receives) (holding at) f (λ e. absurd (let no : Some Receives ≡ Some Sends = e in cc)) in let k = tells_send at in omega (arith, h, k)
+  send_weight (ask.PollNext key task) at f = let h = no_hand Sends (Some Streams) (holding at) f (λ e. absurd (let no : Some Streams ≡ Some Sends = e in cc)) in let k = tells_send at in omega (arith, h, k)
+  send_weight (ask.PollSend m key task) at f = let k = anew Sends at in omega (arith, k)
+  send_weight (ask.TrySend m) at f = let h = hand_most Sends (holding at) in omega (arith, h)
+  send_weight ask.PollFinishedSend at f = let h = hand_most Sends (holding at) in omega (arith, h)
+  send_weight (ask.RefusePoll Sends m key) at f = let h = hand_most Sends (holding at) in omega (arith, h)
+  send_weight (ask.RefusePoll Receives m key) at f = let h = hand_most Sends (holding at) in omega (arith, h)
+  send_weight (ask.RefusePoll Streams m key) at f = let h = no_hand Sends (Some Streams) (holding at) f (λ e. absurd (let no : Some Streams ≡ Some Sends = e in cc)) in omega (arith, h)
+  send_weight (ask.RefusePoll Closings m key) at f = let h = no_hand Sends (Some Closings) (holding at) f (λ e. absurd (let no : Some Closings ≡ Some Sends = e in cc)) in omega (arith, h)
+  send_weight (ask.GiveUp Sends m key) at f = let h = hand_most Sends (holding at) in omega (arith, h)
+  send_weight (ask.GiveUp Receives m key) at f = let h = hand_most Sends (holding at) in omega (arith, h)
+  send_weight (ask.GiveUp Streams m key) at f = let h = no_hand Sends (Some Streams) (holding at) f (λ e. absurd (let no : Some Streams ≡ Some Sends = e in cc)) in omega (arith, h)
+  send_weight (ask.GiveUp Closings m key) at f = let h = no_hand Sends (Some Closings) (holding at) f (λ e. absurd (let no : Some Closings ≡ Some Sends = e in cc)) in omega (arith, h)
+  send_weight (ask.PollClosed key task) at f = let h = no_hand Sends (Some Closings) (holding at) f (λ e. absurd (let no : Some Closings ≡ Some Sends = e in cc)) in omega (arith, h)
+  send_weight (ask.DropReceiver key) at f = let h = no_hand Sends (Some Streams) (holding at) f (λ e. absurd (let no : Some Streams ≡ Some Sends = e in cc)) in omega (arith, h)
+  send_weight a at f = let h = no_hand Sends None (holding at) f (λ e. absurd (let no : None ≡ Some Sends = e in cc)) in omega (arith, h)
+
+  -- all calls under way
+  abbrev Weighs : Line → (ChannelAsk T Waiter → stage.Stage (Phase T) T Waiter → ℕ) → Type 0
+  Weighs line weigh = (a : ChannelAsk T Waiter) (at : stage.Stage (Phase T) T Waiter) → Lined (line_asked a) (holding at) → weigh a at + in_hand line (holding at) ≤ May a
+
+  all_weigh : (line : Line) (weigh : ChannelAsk T Waiter → stage.Stage (Phase T) T Waiter → ℕ) → Weighs line weigh → (p : Waiter → Post) (agents : List (Agent T)) (us : List (Under T Waiter)) → Together p agents us
+      → total weigh us + hands line us ≤ counted (λ (u : Under T Waiter). is_sending u.ask) us + counted (λ (u : Under T Waiter). is_receiving u.ask) us
+  all_weigh line weigh f p [] [] t = omega arith
+  all_weigh line weigh f p (a ∷ more) (u ∷ us) t =
+      let own = let k = t.0 in k.lines in
+      let one = f u.ask u.at own in
+      let rest = all_weigh line weigh f p more us t.1 in
+      omega (arith, one, rest)
+  all_weigh line weigh f p [] (u ∷ us) t = absurd t
+  all_weigh line weigh f p (a ∷ more) [] t = absurd t
+
+  pub receives_weigh : (b : Book T) (s : Scene T Waiter) → Owned b s → total counts_for_receives s.under_way + hands Receives s.under_way ≤ at_it s
+  receives_weigh b s o = all_weigh Receives counts_for_receives receive_weight (post b.roll) b.agents s.under_way o.together
+
+  pub sends_weigh : (b : Book T) (s : Scene T Waiter) → Owned b s → total counts_for_sends s.under_way + hands Sends s.under_way ≤ at_it s
+  sends_weigh b s o = all_weigh Sends counts_for_sends send_weight (post b.roll) b.agents s.under_way o.together

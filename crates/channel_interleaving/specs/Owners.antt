@@ -1,0 +1,291 @@
+-- Who holds each listener: what is pending, by its name, or one call under way.
+use Rattle.std.specs.Prelude.{◌≡◌, ℕ, nat_eq, Bool, false, List, [], ◌∷◌, ◌++◌, Option, None, Some, ◌⊎◌}
+use Rattle.std.specs.Map.{lookup, keys_of}
+use Rattle.concurrent_queue.specs.Queue.{Phase}
+use Rattle.event_listener.specs.declared.key.Key.{Key}
+use Rattle.async_channel.specs.Moves.{Channel}
+use Rattle.async_channel.specs.Parts.{Listeners, listeners}
+use Rattle.async_channel.specs.Turns.{held_on, line_of}
+use Rattle.async_channel.specs.declared.ask.ChannelAsk.{ChannelAsk}
+use Rattle.async_channel.specs.declared.ask.ChannelAsk.TheVariants as ask
+use Rattle.async_channel.specs.declared.stage.Aim.{Aim}
+use Rattle.async_channel.specs.declared.stage.Aim.TheVariants as aim
+use Rattle.async_channel.specs.declared.stage.Closer.{Closer}
+use Rattle.async_channel.specs.declared.stage.Closer.TheVariants as closer
+use Rattle.async_channel.specs.declared.stage.Held.{Held}
+use Rattle.async_channel.specs.declared.stage.Line.{Line}
+use Rattle.async_channel.specs.declared.stage.Line.TheVariants.{Sends, Receives, Streams, Closings}
+use Rattle.async_channel.specs.declared.stage.Side.TheVariants.{Senders, Receivers}
+use Rattle.async_channel.specs.declared.stage.Stage.{Stage}
+use Rattle.async_channel.specs.declared.stage.Stage.TheVariants.{Trying, Working, Finished}
+use Rattle.async_channel.specs.declared.stage.Work.{Work}
+use Rattle.async_channel.specs.declared.stage.Work.TheVariants.{TellReceive, TellStreams, TellSend, TellAll, Insert, Register, Leave, Lower, Count, Load, Raise}
+use Rattle.channel_model.specs.declared.name.HandleKind.{HandleKind}
+use Rattle.channel_model.specs.declared.name.HandleKind.TheVariants as handle_kind
+use Rattle.channel_model.specs.declared.name.Waiter.{Waiter}
+use Rattle.channel_model.specs.declared.name.Waiter.TheVariants.{Op, Stream}
+use Rattle.channel_steps.specs.Scene.{Under, Scene}
+use Rattle.channel_interleaving.specs.Run.{Book}
+use Rattle.channel_interleaving.specs.declared.names.Agent.{Agent}
+use Rattle.channel_interleaving.specs.declared.names.Errand.{Errand}
+use Rattle.channel_interleaving.specs.declared.names.Errand.TheVariants as errand
+use Rattle.channel_interleaving.specs.declared.names.Hold.{Hold}
+use Rattle.channel_interleaving.specs.declared.names.Operation.{Operation}
+use Rattle.channel_interleaving.specs.declared.names.OperationKind.{OperationKind}
+use Rattle.channel_interleaving.specs.declared.names.OperationKind.TheVariants as kind
+use Rattle.channel_interleaving.specs.declared.names.Standing.{Standing}
+use Rattle.channel_interleaving.specs.declared.names.Standing.TheVariants.{Rests, Waits, IsPolled}
+use Rattle.channel_interleaving.specs.declared.roll.Roll.{Roll}
+
+module _ {A : Type 0} where
+  abbrev pub IsAmong : A → List A → Type 0
+  IsAmong x [] = ⊥
+  IsAmong x (y ∷ ys) = (y ≡ x) ⊎ IsAmong x ys
+
+  abbrev pub NoneTwice : List A → Type 0
+  NoneTwice [] = Unit {0}
+  NoneTwice (x ∷ xs) = (IsAmong x xs → ⊥) × NoneTwice xs
+
+  abbrev pub All : (A → Type 0) → List A → Type 0
+  All P [] = Unit {0}
+  All P (x ∷ xs) = P x × All P xs
+
+-- ---- the names
+
+-- How a name stands: it was never taken; nothing lives under it; what lives there isn't pending; it is pending with this
+-- listener, and was woken or not; a poll of it is under way; or, which never is, a finished send or what is no receiver is
+-- pending.
+pub data Post : Type 0 where
+  free : Post
+  vacant : Post
+  amiss : Post
+  rests : Line → Post
+  waits : Held → Bool → Post
+  polled : Line → Post
+
+abbrev pub post_on : Line → Standing → Post
+post_on line Rests = rests line
+post_on line (Waits key is_woken) = waits (record { line = line; key = key }) is_woken
+post_on line (IsPolled brings) = polled line
+
+abbrev pub no_stream_post : Standing → Post
+no_stream_post Rests = rests Streams
+no_stream_post (Waits key is_woken) = amiss
+no_stream_post (IsPolled brings) = amiss
+
+-- only a receiver is polled as a stream
+abbrev pub stream_post : HandleKind → Standing → Post
+stream_post handle_kind.Receiver s = post_on Streams s
+stream_post handle_kind.Sender s = no_stream_post s
+stream_post handle_kind.WeakSender s = no_stream_post s
+stream_post handle_kind.WeakReceiver s = no_stream_post s
+
+abbrev pub posted : {X : Type 0} → (X → Post) → Option (Option X) → Post
+posted p None = free
+posted p (Some None) = vacant
+posted p (Some (Some x)) = p x
+
+module _ {T : Type 0} where
+  -- a finished send isn't pending
+  abbrev pub send_post : Option T → Standing → Post
+  send_post None Rests = rests Sends
+  send_post None (Waits key is_woken) = amiss
+  send_post None (IsPolled brings) = polled Sends
+  send_post (Some m) s = post_on Sends s
+
+  abbrev pub operation_post : OperationKind → Option T → Standing → Post
+  operation_post kind.Send m s = send_post m s
+  operation_post kind.Receive m s = post_on Receives s
+  operation_post kind.Closing m s = post_on Closings s
+
+  abbrev pub post : Roll T → Waiter → Post
+  post r (Op op) = posted (λ (o : Operation T). operation_post o.kind o.message o.standing) (lookup (nat_eq op.0) r.operations)
+  post r (Stream handle) = posted (λ (h : Hold). stream_post h.handle.kind h.standing) (lookup (nat_eq handle.0) r.handles)
+
+-- ---- the calls under way
+
+abbrev pub closer_holds : Closer → Option Held
+closer_holds closer.Call = None
+closer_holds closer.Sender = None
+closer_holds (closer.Receiver key) = held_on Streams key
+
+module _ {W : Type 0} where
+  abbrev pub aim_holds : Aim W → Option Held
+  aim_holds (aim.Poll line key task) = held_on line key
+  aim_holds (aim.Close c) = closer_holds c
+  aim_holds aim.TrySend = None
+  aim_holds aim.ForceSend = None
+  aim_holds aim.TryRecv = None
+  aim_holds aim.Ask = None
+  aim_holds aim.IsTerminated = None
+  aim_holds (aim.Upgrade side) = None
+
+  abbrev pub aim_task : Aim W → Option W
+  aim_task (aim.Poll line key task) = Some task
+  aim_task (aim.Close c) = None
+  aim_task aim.TrySend = None
+  aim_task aim.ForceSend = None
+  aim_task aim.TryRecv = None
+  aim_task aim.Ask = None
+  aim_task aim.IsTerminated = None
+  aim_task (aim.Upgrade side) = None
+
+  -- the task of its listener is that of its operation
+  abbrev pub Bears : Option W → Option (Line × W) → Type 0
+  Bears None wait = Unit {0}
+  Bears (Some task) wait = (line : Line) × (wait ≡ Some (line, task))
+
+module _ {T W : Type 0} where
+  abbrev pub work_holds : Work T W → Option Held
+  work_holds (TellReceive x) = x.held
+  work_holds (TellStreams x) = x.held
+  work_holds (TellSend x) = x.held
+  work_holds (TellAll line c) = closer_holds c
+  work_holds (Insert w task) = None
+  work_holds (Register w key task) = Some (record { line = line_of w; key = key })
+  work_holds (Leave x) = x.held
+  work_holds (Lower Senders key) = None
+  work_holds (Lower Receivers key) = held_on Streams key
+  work_holds (Count side) = None
+  work_holds (Load side making) = None
+  work_holds (Raise side n making) = None
+
+  -- the listener that a call at this stage has in hand
+  abbrev pub holding : Stage (Phase T) T W → Option Held
+  holding (Trying f a) = aim_holds a
+  holding (Working w) = work_holds w
+  holding (Finished kept) = None
+
+  abbrev pub work_task : Work T W → Option W
+  work_task (Insert w task) = Some task
+  work_task (Register w key task) = Some task
+  work_task (TellReceive x) = None
+  work_task (TellStreams x) = None
+  work_task (TellSend x) = None
+  work_task (TellAll line c) = None
+  work_task (Leave x) = None
+  work_task (Lower side key) = None
+  work_task (Count side) = None
+  work_task (Load side making) = None
+  work_task (Raise side n making) = None
+
+  -- the task that its listener is to wake
+  abbrev pub task_at : Stage (Phase T) T W → Option W
+  task_at (Trying f a) = aim_task a
+  task_at (Working w) = work_task w
+  task_at (Finished kept) = None
+
+  -- the list on which a call may wait, and for whom
+  abbrev pub wait_of : ChannelAsk T W → Option (Line × W)
+  wait_of (ask.PollSend m key task) = Some (Sends, task)
+  wait_of (ask.PollRecv key task) = Some (Receives, task)
+  wait_of (ask.PollClosed key task) = Some (Closings, task)
+  wait_of (ask.PollNext key task) = Some (Streams, task)
+  wait_of a = None
+
+module _ {T W : Type 0} where
+  -- the list whose listener a call may have in hand
+  abbrev pub line_asked : ChannelAsk T W → Option Line
+  line_asked (ask.PollSend m key task) = Some Sends
+  line_asked (ask.PollRecv key task) = Some Receives
+  line_asked (ask.PollClosed key task) = Some Closings
+  line_asked (ask.PollNext key task) = Some Streams
+  line_asked (ask.RefusePoll line message key) = Some line
+  line_asked (ask.GiveUp line message key) = Some line
+  line_asked (ask.DropReceiver key) = Some Streams
+  line_asked a = None
+
+-- ---- calls and their errands
+
+module _ {T : Type 0} where
+  -- the name at which an errand works: that of what it polls, or of what it makes
+  abbrev pub subject : Errand T → Option Waiter
+  subject (errand.Poll op) = Some (Op op)
+  subject (errand.PollNext receiver) = Some (Stream receiver)
+  subject (errand.Make op operation) = Some (Op op)
+  subject (errand.New from new kind) = Some (Stream new)
+  subject errand.Nothing = None
+  subject (errand.Leave handle) = None
+  subject (errand.LeaveBoth a b) = None
+
+  -- a call waits, if at all, for the name that it polls; under a name that it makes nothing lives yet
+  abbrev pub Suits : (Waiter → Post) → Errand T → Option (Line × Waiter) → Type 0
+  Suits p (errand.Poll op) wait = (line : Line) × (p (Op op) ≡ polled line) × ((wait ≡ None) ⊎ (wait ≡ Some (line, Op op)))
+  Suits p (errand.PollNext receiver) wait = (line : Line) × (p (Stream receiver) ≡ polled line) × ((wait ≡ None) ⊎ (wait ≡ Some (line, Stream receiver)))
+  Suits p (errand.Make op operation) wait = (p (Op op) ≡ vacant) × (operation.standing ≡ Rests) × (wait ≡ None)
+  Suits p (errand.New from new kind) wait = (p (Stream new) ≡ vacant) × (wait ≡ None)
+  Suits p errand.Nothing wait = wait ≡ None
+  Suits p (errand.Leave handle) wait = wait ≡ None
+  Suits p (errand.LeaveBoth a b) wait = wait ≡ None
+
+  -- an agent and the call of the same party under way
+  pub record Fits (p : Waiter → Post) (a : Agent T) (u : Under T Waiter) : Type 0 where
+    pub party : a.party ≡ u.party
+    pub suits : Suits p a.errand (wait_of u.ask)
+    pub bears : Bears (task_at u.at) (wait_of u.ask)
+    pub lines : (h : Held) → holding u.at ≡ Some h → line_asked u.ask ≡ Some h.line
+
+  -- one by one, in the same order
+  abbrev pub Together : (Waiter → Post) → List (Agent T) → List (Under T Waiter) → Type 0
+  Together p [] [] = Unit {0}
+  Together p [] (u ∷ us) = ⊥
+  Together p (a ∷ more) [] = ⊥
+  Together p (a ∷ more) (u ∷ us) = Fits p a u × Together p more us
+
+  -- two agents are of different parties, and don't work at the same name
+  pub record Differ (a b : Agent T) : Type 0 where
+    pub party : a.party ≡ b.party → ⊥
+    pub name : (w : Waiter) → subject a.errand ≡ Some w → subject b.errand ≡ Some w → ⊥
+
+  abbrev pub AllDiffer : List (Agent T) → Type 0
+  AllDiffer [] = Unit {0}
+  AllDiffer (a ∷ more) = All (Differ a) more × AllDiffer more
+
+-- ---- the lists
+
+module _ {W : Type 0} where
+  -- told or waiting, on one list
+  abbrev pub keys : Listeners W → List Key
+  keys l = keys_of l.told ++ keys_of l.waiting
+
+module _ {T W : Type 0} where
+  -- the listener is told or waits
+  abbrev pub IsListed : Held → Channel T W → Type 0
+  IsListed h c = IsAmong h.key (keys (listeners h.line c.roster))
+
+  -- it waits, to wake this task
+  abbrev pub WaitsFor : Held → W → Channel T W → Type 0
+  WaitsFor h task c = IsAmong (h.key, Some task) (listeners h.line c.roster).waiting
+
+  abbrev pub NoneListedTwice : Channel T W → Type 0
+  NoneListedTwice c = (line : Line) → NoneTwice (keys (listeners line c.roster))
+
+-- ---- owners
+
+-- one that may hold listeners: a name, or a party's call under way
+pub data Holder : Type 0 where
+  named : Waiter → Holder
+  calling : ℕ → Holder
+
+module _ {T : Type 0} where
+  abbrev pub AnyOf : (Under T Waiter → Type 0) → List (Under T Waiter) → Type 0
+  AnyOf P [] = ⊥
+  AnyOf P (u ∷ us) = P u ⊎ AnyOf P us
+
+  -- a name holds its listener while it is pending, a call while it has it in hand
+  abbrev pub HoldsIn : (Waiter → Post) → List (Under T Waiter) → Holder → Held → Type 0
+  HoldsIn p us (named w) h = (is_woken : Bool) × (p w ≡ waits h is_woken)
+  HoldsIn p us (calling party) h = AnyOf (λ u. (u.party ≡ party) × (holding u.at ≡ Some h)) us
+
+  -- Each call under way is of one agent, and no two of one party or at one name. What is pending has its listener on its list;
+  -- there it waits, to wake that name, unless the name was woken. Each listener on a list is held, and by one alone: by what
+  -- is pending, or by a call that has it in hand. None stands on a list twice.
+  pub record Owned (b : Book T) (s : Scene T Waiter) : Type 0 where
+    pub together : Together (post b.roll) b.agents s.under_way
+    pub differ : AllDiffer b.agents
+    pub none_amiss : (w : Waiter) → post b.roll w ≡ amiss → ⊥
+    pub once : NoneListedTwice s.now
+    pub unwoken : (w : Waiter) (h : Held) → post b.roll w ≡ waits h false → WaitsFor h w s.now
+    pub listed : (x : Holder) (h : Held) → HoldsIn (post b.roll) s.under_way x h → IsListed h s.now
+    pub held : (h : Held) → IsListed h s.now → (x : Holder) × HoldsIn (post b.roll) s.under_way x h
+    pub alone : (x y : Holder) (h : Held) → HoldsIn (post b.roll) s.under_way x h → HoldsIn (post b.roll) s.under_way y h → x ≡ y
