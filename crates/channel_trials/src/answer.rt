@@ -1,170 +1,172 @@
-//! What each reply says of its call.
+//! Replies, in short.
 
-use crate::call::{Call, Deed, Kind};
+use crate::plan::Kind;
 use async_channel::error::{RecvError, Refused, SendError, TryRecvError, TrySendError};
 use async_channel::reply::Reply;
-use async_channel::stage::{Kept, Line};
+use async_channel::stage::Line;
+use event_listener::error::ListenError;
 use futures::task::Poll;
 
-/// What becomes of the operation of a call that has answered.
+/// The kinds of replies, each of calls of its own.
 #[derive(Clone, Copy, PartialEq, Eq)]
-pub enum Left {
-    /// It wasn't touched.
-    AsItWas,
-    /// It is pending.
+pub enum Form {
+    TrySend,
+    ForceSend,
+    TryRecv,
+    /// A poll of an operation, or of a stream, on this line.
+    Poll(Line),
+    Closed,
+    Flag,
+    Count,
+    Capacity,
+    Made,
+    GivenUp,
+    Unit,
+}
+
+/// What a reply says.
+#[derive(Clone, Copy, PartialEq, Eq)]
+pub enum Answer {
+    /// The message is in.
+    Sent,
+    /// The message is in, and this one out for it.
+    Displaced(u64),
+    /// The channel is full; this message comes back.
+    Full(u64),
+    /// The channel is closed; this message comes back.
+    SendClosed(u64),
+    /// This message was received.
+    Received(u64),
+    /// The channel is empty.
+    Empty,
+    /// The channel is closed and empty.
+    ReceiveClosed,
+    /// The poll is pending.
     Pending,
-    /// It is not pending, and may be polled again.
-    Refused,
-    /// It is finished or given up.
-    Over,
+    /// The closing has come.
+    HasClosed,
+    /// Memory was refused.
+    NoMemory,
+    /// Whether this call closed the channel.
+    Closed(bool),
+    /// Yes or no.
+    Flag(bool),
+    /// A number.
+    Count(usize),
+    /// The capacity.
+    Capacity(Option<usize>),
+    /// It was made.
+    Made,
+    /// It wasn't made.
+    NotMade,
+    /// The operation is gone, and hands this back.
+    GivenUp(Option<u64>),
+    /// There is nothing to say.
+    Unit,
+    /// What no call of a trial answers.
+    Other,
 }
 
-fn try_send_is_due(call: &Call, answer: &Result<(), Refused<TrySendError<u64>, u64>>) -> bool {
-    let Kind::TrySend(sent) = call.kind else {
-        return false;
-    };
-    match answer {
-        Ok(()) => call.deed == Deed::Appended,
-        Err(Refused::Plain(TrySendError::Full(message))) => {
-            *message == sent && call.deed == Deed::Nothing && call.saw.crowded
-        }
-        Err(Refused::Plain(TrySendError::Closed(message))) => {
-            *message == sent && call.deed == Deed::Nothing && call.saw.shut
-        }
-        Err(_) => false,
-    }
-}
-
-fn try_recv_is_due(call: &Call, answer: &Result<u64, TryRecvError>) -> bool {
-    if call.kind != Kind::TryRecv {
-        return false;
-    }
-    match answer {
-        Ok(message) => call.deed == Deed::Took(*message),
-        Err(TryRecvError::Empty) => call.deed == Deed::Nothing && call.saw.bare,
-        Err(TryRecvError::Closed) => call.deed == Deed::Nothing && call.saw.spent,
-    }
-}
-
-/// Whether it is a refused poll of an operation of this kind.
-fn is_refused(call: &Call, line: Line) -> bool {
-    match call.kind {
-        Kind::RefusePoll(kind, _) => kind == line && call.deed == Deed::Nothing,
-        _ => false,
-    }
-}
-
-fn send_poll_is_due(call: &Call, poll: &Poll<Result<(), Refused<SendError<u64>>>>) -> bool {
-    if let Poll::Ready(Err(Refused::NoMemory(()))) = poll {
-        return is_refused(call, Line::Sends);
-    }
-    let Kind::PollSend(sent) = call.kind else {
-        return false;
-    };
-    match poll {
-        Poll::Ready(Ok(())) => call.deed == Deed::Appended,
-        Poll::Ready(Err(Refused::Plain(SendError(message)))) => {
-            *message == sent && call.deed == Deed::Nothing && call.saw.shut
-        }
-        Poll::Ready(Err(_)) => false,
-        Poll::Pending => call.deed == Deed::Nothing && call.saw.crowded,
-    }
-}
-
-fn recv_poll_is_due(call: &Call, poll: &Poll<Result<u64, Refused<RecvError>>>) -> bool {
-    if let Poll::Ready(Err(Refused::NoMemory(()))) = poll {
-        return is_refused(call, Line::Receives);
-    }
-    if call.kind != Kind::PollRecv {
-        return false;
-    }
-    match poll {
-        Poll::Ready(Ok(message)) => call.deed == Deed::Took(*message),
-        Poll::Ready(Err(Refused::Plain(_))) => call.deed == Deed::Nothing && call.saw.spent,
-        Poll::Ready(Err(_)) => false,
-        Poll::Pending => call.deed == Deed::Nothing && call.saw.bare,
-    }
-}
-
-fn close_is_due(call: &Call, closed: bool) -> bool {
-    let deed = if closed { Deed::Closed } else { Deed::Nothing };
-    call.kind == Kind::Close && call.deed == deed && (closed || call.saw.shut)
-}
-
-fn giving_up_is_due(call: &Call, message: Option<u64>) -> bool {
-    match call.kind {
-        Kind::GiveUp(_, kept) => kept == message && call.deed == Deed::Nothing,
-        _ => false,
-    }
-}
-
-/// The drop of the last handle closes, or finds the channel closed.
-fn drop_is_due(call: &Call) -> bool {
-    match call.deed {
-        Deed::Lowered { last } => !last || call.saw.shut,
-        Deed::LoweredAndClosed => true,
-        _ => false,
-    }
-}
-
-/// Whether this call may answer so, after what it did and saw.
-pub fn is_due(call: &Call, reply: &Reply<u64>) -> bool {
-    match reply {
-        Reply::TrySend(answer) => try_send_is_due(call, answer),
-        Reply::TryRecv(answer) => try_recv_is_due(call, answer),
-        Reply::SendPoll(poll) => send_poll_is_due(call, poll),
-        Reply::RecvPoll(poll) => recv_poll_is_due(call, poll),
-        Reply::Closed(closed) => close_is_due(call, *closed),
-        Reply::GivenUp(message) => giving_up_is_due(call, *message),
-        Reply::Made => call.deed == Deed::Raised,
-        Reply::Unit => drop_is_due(call),
-        _ => false,
-    }
-}
-
-/// The message that was received.
-pub fn received(reply: &Reply<u64>) -> Option<u64> {
-    match reply {
-        Reply::TryRecv(Ok(message)) => Some(*message),
-        Reply::RecvPoll(Poll::Ready(Ok(message))) => Some(*message),
-        _ => None,
-    }
-}
-
-fn is_pending(reply: &Reply<u64>) -> bool {
-    match reply {
-        Reply::SendPoll(Poll::Pending) => true,
-        Reply::RecvPoll(Poll::Pending) => true,
-        _ => false,
-    }
-}
-
-/// What becomes of the operation.
-pub fn left_by(kind: Kind, reply: &Reply<u64>) -> Left {
-    if is_pending(reply) {
-        return Left::Pending;
-    }
+/// The kind of the replies of a call of this kind, whose operation waits on this line.
+pub fn form_of(kind: Kind, line: Line) -> Form {
     match kind {
-        Kind::RefusePoll(..) => Left::Refused,
-        Kind::PollSend(_) => Left::Over,
-        Kind::PollRecv => Left::Over,
-        Kind::GiveUp(..) => Left::Over,
-        _ => Left::AsItWas,
+        Kind::TrySend => Form::TrySend,
+        Kind::ForceSend => Form::ForceSend,
+        Kind::TryRecv => Form::TryRecv,
+        Kind::Poll | Kind::PollRefused | Kind::PollNext => Form::Poll(line),
+        Kind::Close => Form::Closed,
+        Kind::SendIsTerminated | Kind::StreamIsTerminated | Kind::SameChannel => Form::Flag,
+        Kind::IsClosed | Kind::IsEmpty | Kind::IsFull => Form::Flag,
+        Kind::Len | Kind::SenderCount | Kind::ReceiverCount => Form::Count,
+        Kind::Capacity => Form::Capacity,
+        Kind::GiveUp => Form::GivenUp,
+        Kind::Drop => Form::Unit,
+        _ => Form::Made,
     }
 }
 
-/// The message of a send that goes on.
-fn message_of(kind: Kind) -> Option<u64> {
-    match kind {
-        Kind::PollSend(message) => Some(message),
-        Kind::RefusePoll(_, message) => message,
-        _ => None,
+fn try_send(answer: &Result<(), Refused<TrySendError<u64>, u64>>) -> Answer {
+    match answer {
+        Ok(()) => Answer::Sent,
+        Err(Refused::Plain(TrySendError::Full(message))) => Answer::Full(*message),
+        Err(Refused::Plain(TrySendError::Closed(message))) => Answer::SendClosed(*message),
+        Err(_) => Answer::Other,
     }
 }
 
-/// Whether a call leaves this to its operation: a listener where that is pending, the message of a send that goes on.
-pub fn keeps(kind: Kind, left: Left, kept: &Kept<u64>) -> bool {
-    let goes_on = left == Left::Pending || left == Left::Refused;
-    let message = if goes_on { message_of(kind) } else { None };
-    kept.key.is_some() == (left == Left::Pending) && kept.message == message
+fn force_send(answer: &Result<Option<u64>, Refused<SendError<u64>, u64>>) -> Answer {
+    match answer {
+        Ok(None) => Answer::Sent,
+        Ok(Some(message)) => Answer::Displaced(*message),
+        Err(Refused::Plain(SendError(message))) => Answer::SendClosed(*message),
+        Err(_) => Answer::Other,
+    }
+}
+
+fn try_recv(answer: &Result<u64, TryRecvError>) -> Answer {
+    match answer {
+        Ok(message) => Answer::Received(*message),
+        Err(TryRecvError::Empty) => Answer::Empty,
+        Err(TryRecvError::Closed) => Answer::ReceiveClosed,
+    }
+}
+
+fn send_poll(poll: &Poll<Result<(), Refused<SendError<u64>>>>) -> Answer {
+    match poll {
+        Poll::Ready(Ok(())) => Answer::Sent,
+        Poll::Ready(Err(Refused::Plain(SendError(message)))) => Answer::SendClosed(*message),
+        Poll::Ready(Err(Refused::NoMemory(()))) => Answer::NoMemory,
+        Poll::Ready(Err(_)) => Answer::Other,
+        Poll::Pending => Answer::Pending,
+    }
+}
+
+fn recv_poll(poll: &Poll<Result<u64, Refused<RecvError>>>) -> Answer {
+    match poll {
+        Poll::Ready(Ok(message)) => Answer::Received(*message),
+        Poll::Ready(Err(Refused::Plain(_))) => Answer::ReceiveClosed,
+        Poll::Ready(Err(Refused::NoMemory(()))) => Answer::NoMemory,
+        Poll::Ready(Err(_)) => Answer::Other,
+        Poll::Pending => Answer::Pending,
+    }
+}
+
+fn closed_poll(poll: &Poll<Result<(), ListenError>>) -> Answer {
+    match poll {
+        Poll::Ready(Ok(())) => Answer::HasClosed,
+        Poll::Ready(Err(ListenError::NoMemory)) => Answer::NoMemory,
+        Poll::Ready(Err(_)) => Answer::Other,
+        Poll::Pending => Answer::Pending,
+    }
+}
+
+fn next(poll: &Poll<Option<Result<u64, ListenError>>>) -> Answer {
+    match poll {
+        Poll::Ready(Some(Ok(message))) => Answer::Received(*message),
+        Poll::Ready(Some(Err(_))) => Answer::Other,
+        Poll::Ready(None) => Answer::ReceiveClosed,
+        Poll::Pending => Answer::Pending,
+    }
+}
+
+/// What kind of reply it is, and what it says.
+pub fn read(reply: &Reply<u64>) -> (Form, Answer) {
+    match reply {
+        Reply::TrySend(answer) => (Form::TrySend, try_send(answer)),
+        Reply::ForceSend(answer) => (Form::ForceSend, force_send(answer)),
+        Reply::TryRecv(answer) => (Form::TryRecv, try_recv(answer)),
+        Reply::SendPoll(poll) => (Form::Poll(Line::Sends), send_poll(poll)),
+        Reply::RecvPoll(poll) => (Form::Poll(Line::Receives), recv_poll(poll)),
+        Reply::ClosedPoll(poll) => (Form::Poll(Line::Closings), closed_poll(poll)),
+        Reply::Next(poll) => (Form::Poll(Line::Streams), next(poll)),
+        Reply::Closed(closed) => (Form::Closed, Answer::Closed(*closed)),
+        Reply::Flag(flag) => (Form::Flag, Answer::Flag(*flag)),
+        Reply::Count(count) => (Form::Count, Answer::Count(*count)),
+        Reply::Cap(capacity) => (Form::Capacity, Answer::Capacity(*capacity)),
+        Reply::Made => (Form::Made, Answer::Made),
+        Reply::NotMade => (Form::Made, Answer::NotMade),
+        Reply::TooMany => (Form::Made, Answer::Other),
+        Reply::GivenUp(message) => (Form::GivenUp, Answer::GivenUp(*message)),
+        Reply::Unit => (Form::Unit, Answer::Unit),
+    }
 }

@@ -1,20 +1,21 @@
 //! A plain count of a channel: what it holds, as the marks of its calls say.
 
 use crate::differs::Differs;
+use async_channel::mark::Mark;
 use async_channel::stage::Side;
 use std::alloc::Global;
-use std::collections::VecDeque;
 
-/// The messages that are held, those that came and those that left, and how many handles live.
+/// The messages that came, how many of them have left, whether it is closed, and how many strong handles live.
 #[derive(Drop)]
 pub struct Count {
     capacity: Option<usize>,
-    held: VecDeque<u64>,
     came: Vec<u64>,
-    gone: Vec<u64>,
+    gone: usize,
+    /// How many messages were taken out to make room for one that is not in yet.
+    on_way: usize,
     closed: bool,
-    senders: u32,
-    receivers: u32,
+    senders: usize,
+    receivers: usize,
 }
 
 impl Count {
@@ -22,13 +23,18 @@ impl Count {
     pub fn new(capacity: Option<usize>, alloc: Global) -> Self {
         Count {
             capacity,
-            held: VecDeque::new(alloc),
             came: Vec::new(alloc),
-            gone: Vec::new(alloc),
+            gone: 0,
+            on_way: 0,
             closed: false,
             senders: 1,
             receivers: 1,
         }
+    }
+
+    /// How many it can hold at most.
+    pub fn capacity(&self) -> Option<usize> {
+        self.capacity
     }
 
     /// Whether the channel is closed.
@@ -36,48 +42,75 @@ impl Count {
         self.closed
     }
 
-    /// Whether no message is held.
-    pub fn is_empty(&self) -> bool {
-        self.held.is_empty()
+    /// Whether a message is on its way that is to take the place of one that left.
+    pub fn has_one_on_way(&self) -> bool {
+        self.on_way > 0
     }
 
     /// How many messages are held.
     pub fn messages(&self) -> usize {
-        self.held.len()
+        self.came.len().saturating_sub(self.gone)
+    }
+
+    /// How many messages have left.
+    pub fn gone(&self) -> usize {
+        self.gone
+    }
+
+    /// Whether this is the message that came at this place.
+    pub fn came_as(&self, place: usize, message: u64) -> bool {
+        self.came.get(place) == Some(&message)
     }
 
     /// How many more messages there is room for; as many as there can be where there is no bound.
     pub fn free_places(&self) -> usize {
         match self.capacity {
-            Some(capacity) => capacity.saturating_sub(self.held.len()),
+            Some(capacity) => capacity.saturating_sub(self.messages()),
             None => usize::MAX,
         }
     }
 
-    /// A message came to the back.
-    pub fn append(&mut self, message: u64) -> Result<(), Differs> {
-        if self.closed || self.free_places() == 0 {
-            return Err(Differs::Mark);
+    /// How many strong handles of this kind live.
+    pub fn handles(&self, side: Side) -> usize {
+        match side {
+            Side::Senders => self.senders,
+            Side::Receivers => self.receivers,
         }
-        if self.held.push_back(message).is_err() || self.came.push(message).is_err() {
-            return Err(Differs::NoMemory);
-        }
-        Ok(())
     }
 
-    /// The oldest message left.
-    pub fn take(&mut self) -> Result<u64, Differs> {
-        let Some(message) = self.held.pop_front() else {
+    /// A message came to the back.
+    fn append(&mut self, message: Option<u64>) -> Result<(), Differs> {
+        let Some(message) = message else {
             return Err(Differs::Mark);
         };
-        match self.gone.push(message) {
-            Ok(()) => Ok(message),
+        if self.free_places() == 0 {
+            return Err(Differs::Mark);
+        }
+        match self.came.push(message) {
+            Ok(()) => Ok(()),
             Err(_) => Err(Differs::NoMemory),
         }
     }
 
+    /// The oldest message left.
+    fn take(&mut self) -> Result<(), Differs> {
+        if self.messages() == 0 {
+            return Err(Differs::Mark);
+        }
+        self.gone = self.gone.saturating_add(1);
+        Ok(())
+    }
+
+    /// The oldest message of a full channel left.
+    fn take_displaced(&mut self) -> Result<(), Differs> {
+        if self.free_places() > 0 || self.on_way > 0 {
+            return Err(Differs::Mark);
+        }
+        self.take()
+    }
+
     /// The open channel was closed.
-    pub fn close(&mut self) -> Result<(), Differs> {
+    fn close(&mut self) -> Result<(), Differs> {
         if self.closed {
             return Err(Differs::Mark);
         }
@@ -85,37 +118,54 @@ impl Count {
         Ok(())
     }
 
-    /// A handle is gone. Whether it was the last one of its kind.
-    pub fn lower(&mut self, side: Side) -> Result<bool, Differs> {
-        let before = match side {
-            Side::Senders => self.senders,
-            Side::Receivers => self.receivers,
-        };
-        let Some(after) = before.checked_sub(1) else {
+    /// There is one handle of this kind more, beside another one, or one fewer.
+    fn recount(&mut self, side: Side, more: bool) -> Result<(), Differs> {
+        let before = self.handles(side);
+        if before == 0 {
             return Err(Differs::Mark);
+        }
+        let after = if more {
+            before.saturating_add(1)
+        } else {
+            before.saturating_sub(1)
         };
         match side {
             Side::Senders => self.senders = after,
             Side::Receivers => self.receivers = after,
         }
-        Ok(after == 0)
+        Ok(())
     }
 
-    /// There is one handle more.
-    pub fn raise(&mut self, side: Side) {
-        match side {
-            Side::Senders => self.senders = self.senders.saturating_add(1),
-            Side::Receivers => self.receivers = self.receivers.saturating_add(1),
+    /// A step made this mark, of a call that brings this message, and that had made room for it or not.
+    pub fn apply(
+        &mut self,
+        mark: Mark,
+        message: Option<u64>,
+        made_room: bool,
+    ) -> Result<(), Differs> {
+        match mark {
+            Mark::Nothing => Ok(()),
+            Mark::Append if made_room => {
+                self.on_way = self.on_way.saturating_sub(1);
+                self.append(message)
+            }
+            Mark::Append if self.closed => Err(Differs::Mark),
+            Mark::Append => self.append(message),
+            Mark::Take => self.take(),
+            Mark::TakeDisplaced => {
+                self.take_displaced()?;
+                self.on_way = 1;
+                Ok(())
+            }
+            Mark::Replace => {
+                self.take_displaced()?;
+                self.append(message)
+            }
+            Mark::Close => self.close(),
+            Mark::SenderUp => self.recount(Side::Senders, true),
+            Mark::SenderDown => self.recount(Side::Senders, false),
+            Mark::ReceiverUp => self.recount(Side::Receivers, true),
+            Mark::ReceiverDown => self.recount(Side::Receivers, false),
         }
-    }
-
-    /// How many messages have left.
-    pub fn departed(&self) -> usize {
-        self.gone.len()
-    }
-
-    /// Whether all that came has left, in order.
-    pub fn is_settled(&self) -> bool {
-        self.held.is_empty() && self.came.as_slice() == self.gone.as_slice()
     }
 }

@@ -7,17 +7,17 @@ use std::fmt;
 pub enum Differs {
     /// A mark that its call may not make, or not over what is held.
     Mark,
-    /// A reply whose condition wasn't met.
+    /// A reply whose condition wasn't met, or whose call made other marks.
     Reply,
-    /// What a call left to its operation.
-    Kept,
+    /// A beginning that did something.
+    Begin,
     /// One was woken who didn't wait, or was woken before.
-    Names,
-    /// One waits unwoken beside a message, a free place or a closing for which nobody answers.
+    Woken,
+    /// A message, a free place or a closing for which nobody answers, beside one who waits unwoken.
     Owed,
-    /// The number of calls under way.
-    UnderWay,
-    /// A step was refused that is to be made, or the other way round.
+    /// The number of messages, of those who wait, of those woken among them or of the calls under way.
+    Numbers,
+    /// A step was refused that is to be made, or the other way round, or for another reason.
     Refusal,
     /// A call doesn't end.
     Endless,
@@ -32,10 +32,10 @@ impl fmt::Display for Differs {
         let text = match self {
             Differs::Mark => "a mark differs",
             Differs::Reply => "a reply differs",
-            Differs::Kept => "what a call left differs",
-            Differs::Names => "the names of those woken differ",
+            Differs::Begin => "a beginning did something",
+            Differs::Woken => "the names of those woken differ",
             Differs::Owed => "a wake-up is owed",
-            Differs::UnderWay => "the number of calls under way differs",
+            Differs::Numbers => "a number differs",
             Differs::Refusal => "a refusal differs",
             Differs::Endless => "a call doesn't end",
             Differs::Accounts => "what left isn't what came",

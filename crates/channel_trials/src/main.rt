@@ -3,22 +3,28 @@
 #![tactic(auto)]
 
 mod answer;
-mod call;
+mod book;
 mod count;
 mod differs;
-mod member;
+mod draw;
+mod due;
+mod names;
 mod owed;
 mod plan;
 mod random;
+mod saw;
 #[cfg(test)]
 mod tests;
 mod trial;
+mod under_way;
+mod waiting;
 
 use crate::differs::Differs;
 use crate::trial::Trial;
-use channel_steps::start::{Opened, open_channel};
-use concurrent_queue::cells::QueueForm;
-use std::alloc::{AllocError, Global};
+use async_channel::error::OpenError;
+use channel_interleaving::interleaved::Interleaved;
+use event_listener::id::EventIds;
+use std::alloc::Global;
 use std::io;
 use std::process::ExitCode;
 
@@ -53,11 +59,19 @@ impl Form {
         }
     }
 
-    fn open(self, alloc: Global) -> Result<Opened<u64, u32>, AllocError> {
+    fn open(self, alloc: Global) -> Result<Interleaved<u64>, OpenError> {
+        let mut ids = EventIds::new();
         match self {
-            Form::OneSlot => open_channel(QueueForm::Bounded(1), alloc),
-            Form::RingOfThree => open_channel(QueueForm::Bounded(3), alloc),
-            Form::Unbounded => open_channel(QueueForm::Unbounded, alloc),
+            Form::OneSlot => Interleaved::bounded(alloc, 1, &mut ids),
+            Form::RingOfThree => Interleaved::bounded(alloc, 3, &mut ids),
+            Form::Unbounded => Interleaved::unbounded(alloc, &mut ids),
+        }
+    }
+
+    fn trial(self, seed: u64, alloc: Global) -> Result<Trial, Differs> {
+        match self.open(alloc) {
+            Ok(channel) => Trial::new(channel, self.capacity(), seed, alloc),
+            Err(_) => Err(Differs::NoMemory),
         }
     }
 }
@@ -71,17 +85,18 @@ struct Shown {
 
 /// One interleaving.
 fn interleave(form: Form, seed: u64, alloc: Global) -> Shown {
-    let Ok(opened) = form.open(alloc) else {
-        return Shown {
+    match form.trial(seed, alloc) {
+        Ok(mut trial) => {
+            let differs = trial.interleave().err();
+            Shown {
+                steps: trial.steps_made(),
+                differs,
+            }
+        }
+        Err(differs) => Shown {
             steps: 0,
-            differs: Some(Differs::NoMemory),
-        };
-    };
-    let mut trial = Trial::new(opened, form.capacity(), seed, alloc);
-    let differs = trial.interleave().err();
-    Shown {
-        steps: trial.steps_made(),
-        differs,
+            differs: Some(differs),
+        },
     }
 }
 

@@ -1,77 +1,43 @@
-//! Who waits, and who answers for what came.
+//! Who answers for what came.
 
-use crate::call::{Call, Part};
-use crate::count::Count;
-use crate::member::Member;
+use crate::book::Book;
+use crate::under_way::Part;
 use async_channel::stage::Line;
 
-/// How many operations of each kind are pending, woken and not, and how many calls under way answer for them.
-#[derive(Clone, Copy)]
-struct Tally {
-    sleeping_sends: usize,
-    woken_sends: usize,
-    sleeping_receives: usize,
-    woken_receives: usize,
-    busy: usize,
-    closers: usize,
+/// How many calls under way have this part.
+fn at_work(book: &Book, part: Part) -> usize {
+    let calls = book.calls.iter();
+    calls.filter(|call| call.part() == part).count()
 }
 
-/// One more.
-fn up(number: &mut usize) {
-    *number = number.saturating_add(1);
+/// Whether at most so many of these have nobody who answers for them: of those who wait on this line and were woken, and of
+/// the calls under way that send or receive, each answers for one. Where nobody sleeps, nobody has to.
+fn are_answered_for(book: &Book, line: Line, number: usize) -> bool {
+    let busy = at_work(book, Part::Sending).saturating_add(at_work(book, Part::Receiving));
+    let answering = book.waiting.number(line, true).saturating_add(busy);
+    book.waiting.number(line, false) == 0 || number <= answering
 }
 
-impl Tally {
-    fn nobody() -> Self {
-        Tally {
-            sleeping_sends: 0,
-            woken_sends: 0,
-            sleeping_receives: 0,
-            woken_receives: 0,
-            busy: 0,
-            closers: 0,
-        }
-    }
+/// Whether no message is there beside a stream that sleeps, or a sending call is under way.
+fn streams_are_told(book: &Book) -> bool {
+    let sleeping = book.waiting.number(Line::Streams, false) > 0;
+    !sleeping || book.count.messages() == 0 || at_work(book, Part::Sending) > 0
+}
 
-    fn add_call(&mut self, call: &Call) {
-        if call.kind.part() != Part::Neither {
-            up(&mut self.busy);
-        }
-        if call.has_closed() {
-            up(&mut self.closers);
-        }
-    }
-
-    fn add(&mut self, member: &Member) {
-        match member.pending(Line::Sends) {
-            Some(true) => up(&mut self.woken_sends),
-            Some(false) => up(&mut self.sleeping_sends),
-            None => {}
-        }
-        match member.pending(Line::Receives) {
-            Some(true) => up(&mut self.woken_receives),
-            Some(false) => up(&mut self.sleeping_receives),
-            None => {}
-        }
-        if let Some(call) = &member.call {
-            self.add_call(call);
-        }
-    }
+/// Whether nobody sleeps beside a closed channel, or the call that closed it is under way.
+fn closing_is_told(book: &Book) -> bool {
+    let calls = book.calls.iter();
+    !book.count.is_closed()
+        || book.waiting.all(false) == 0
+        || calls.filter(|call| call.has_closed()).count() > 0
 }
 
 /// Whether somebody answers for each message, each free place and a closing beside one who waits and was not woken: one who
 /// was woken, or a call under way. Where no call is under way only those who were woken answer.
-pub fn is_nothing_owed(members: &[Member], count: &Count) -> bool {
-    let mut tally = Tally::nobody();
-    for member in members {
-        tally.add(member);
-    }
-    let receivers = tally.woken_receives.saturating_add(tally.busy);
-    let senders = tally.woken_sends.saturating_add(tally.busy);
-    let closed = count.is_closed();
-    let receives = tally.sleeping_receives == 0 || count.messages() <= receivers;
-    let sends = closed || tally.sleeping_sends == 0 || count.free_places() <= senders;
-    let asleep = tally.sleeping_sends > 0 || tally.sleeping_receives > 0;
-    let closing = !closed || !asleep || tally.closers > 0;
-    receives && sends && closing
+pub fn is_nothing_owed(book: &Book) -> bool {
+    let messages = book.count.messages();
+    let places = book.count.free_places();
+    let receives = are_answered_for(book, Line::Receives, messages);
+    let sends = book.count.is_closed() || are_answered_for(book, Line::Sends, places);
+    receives && sends && streams_are_told(book) && closing_is_told(book)
 }

@@ -1,76 +1,210 @@
-//! What a party begins.
+//! What a party may begin.
 
-use crate::call::Kind;
-use crate::member::{Member, Operation};
-use crate::random::Random;
-use async_channel::stage::{Line, Side};
+use channel_model::call::Call;
+use channel_model::name::{HandleId, HandleKind, OpId};
 
-/// A poll of the operation, or of a new one of this kind.
-fn poll(member: &Member, line: Line, message: u64) -> Option<Kind> {
-    match member.operation {
-        Some(operation) => again(operation),
-        None if line == Line::Sends && member.senders > 0 => Some(Kind::PollSend(message)),
-        None if line == Line::Receives && member.receivers > 0 => Some(Kind::PollRecv),
-        None => None,
+/// What is called, names aside.
+#[derive(Clone, Copy, PartialEq, Eq)]
+pub enum Kind {
+    NewSend,
+    NewRecv,
+    NewClosed,
+    Poll,
+    PollRefused,
+    GiveUp,
+    SendIsTerminated,
+    PollNext,
+    StreamIsTerminated,
+    TrySend,
+    ForceSend,
+    TryRecv,
+    Close,
+    Drop,
+    TryClone,
+    Downgrade,
+    Upgrade,
+    SameChannel,
+    IsClosed,
+    IsEmpty,
+    IsFull,
+    Len,
+    Capacity,
+    SenderCount,
+    ReceiverCount,
+}
+
+/// What is called upon.
+#[derive(Clone, Copy, PartialEq, Eq)]
+pub enum Target {
+    /// An operation.
+    Operation,
+    /// A sender.
+    Sender,
+    /// A receiver.
+    Receiver,
+    /// A handle that isn't weak.
+    Strong,
+    /// A weak handle.
+    Weak,
+    /// Any handle.
+    Handle,
+    /// Two senders or two receivers.
+    Two,
+}
+
+impl Kind {
+    /// What it is called upon.
+    pub fn target(self) -> Target {
+        match self {
+            Kind::Poll | Kind::PollRefused | Kind::GiveUp | Kind::SendIsTerminated => {
+                Target::Operation
+            }
+            Kind::NewSend | Kind::NewClosed | Kind::TrySend | Kind::ForceSend => Target::Sender,
+            Kind::NewRecv | Kind::TryRecv | Kind::PollNext | Kind::StreamIsTerminated => {
+                Target::Receiver
+            }
+            Kind::Upgrade => Target::Weak,
+            Kind::Drop | Kind::TryClone => Target::Handle,
+            Kind::SameChannel => Target::Two,
+            _ => Target::Strong,
+        }
+    }
+
+    /// Whether it makes an operation.
+    pub fn makes_operation(self) -> bool {
+        self == Kind::NewSend || self == Kind::NewRecv || self == Kind::NewClosed
+    }
+
+    /// Whether it makes a handle.
+    pub fn makes_handle(self) -> bool {
+        self == Kind::TryClone || self == Kind::Downgrade || self == Kind::Upgrade
+    }
+
+    /// Whether it brings a new message.
+    pub fn brings_message(self) -> bool {
+        self == Kind::NewSend || self == Kind::TrySend || self == Kind::ForceSend
+    }
+
+    /// Whether it takes its handle whole, so that nobody else may use it.
+    pub fn takes_whole(self) -> bool {
+        self == Kind::Drop || self == Kind::PollNext
+    }
+
+    /// Whether it polls its operation, or gives it up.
+    pub fn takes_operation(self) -> bool {
+        self == Kind::Poll || self == Kind::PollRefused || self == Kind::GiveUp
+    }
+
+    /// Whether it ends within eight steps of its own, whatever others do.
+    pub fn is_quick(self) -> bool {
+        match self {
+            Kind::NewSend | Kind::NewRecv | Kind::NewClosed | Kind::Downgrade => true,
+            Kind::PollRefused | Kind::GiveUp | Kind::Close | Kind::Drop => true,
+            Kind::SendIsTerminated | Kind::StreamIsTerminated | Kind::SameChannel => true,
+            Kind::IsClosed | Kind::IsEmpty | Kind::IsFull | Kind::Capacity => true,
+            Kind::SenderCount | Kind::ReceiverCount => true,
+            _ => false,
+        }
     }
 }
 
-/// One more poll of an operation.
-fn again(operation: Operation) -> Option<Kind> {
-    match operation.line {
-        Line::Sends => operation.message.map(|message| Kind::PollSend(message)),
-        Line::Receives => Some(Kind::PollRecv),
-        _ => None,
+/// The kind of the new handle.
+pub fn made_kind(kind: Kind, from: HandleKind) -> HandleKind {
+    match (kind, from) {
+        (Kind::Downgrade, HandleKind::Sender) => HandleKind::WeakSender,
+        (Kind::Downgrade, HandleKind::Receiver) => HandleKind::WeakReceiver,
+        (Kind::Upgrade, HandleKind::WeakSender) => HandleKind::Sender,
+        (Kind::Upgrade, HandleKind::WeakReceiver) => HandleKind::Receiver,
+        _ => from,
     }
 }
 
-fn refused(member: &Member) -> Option<Kind> {
-    let operation = member.operation?;
-    Some(Kind::RefusePoll(operation.line, operation.message))
+/// A call with its names.
+#[derive(Clone, Copy)]
+pub struct Plan {
+    pub kind: Kind,
+    /// The handle that is called upon.
+    pub handle: u32,
+    /// The operation that is called upon, or the name of what is made, or the second of two handles.
+    pub name: u32,
+    /// What a new send or a send that doesn't wait brings.
+    pub message: u64,
 }
 
-fn given_up(member: &Member) -> Option<Kind> {
-    let operation = member.operation?;
-    Some(Kind::GiveUp(operation.line, operation.message))
-}
-
-/// A handle that no operation uses is dropped.
-fn dropped(member: &Member, side: Side) -> Option<Kind> {
-    let handles = match side {
-        Side::Senders => member.senders,
-        Side::Receivers => member.receivers,
-    };
-    if handles == 0 || member.operation.is_some() {
-        return None;
+impl Plan {
+    /// The call upon an operation, or one that makes one.
+    fn of_operation(self) -> Option<Call<u64>> {
+        let op = OpId(self.name);
+        let handle = HandleId(self.handle);
+        let msg = self.message;
+        match self.kind {
+            Kind::NewSend => Some(Call::NewSend {
+                op,
+                sender: handle,
+                msg,
+            }),
+            Kind::NewRecv => Some(Call::NewRecv {
+                op,
+                receiver: handle,
+            }),
+            Kind::NewClosed => Some(Call::NewClosed { op, sender: handle }),
+            Kind::Poll => Some(Call::Poll { op }),
+            Kind::PollRefused => Some(Call::PollRefused { op }),
+            Kind::GiveUp => Some(Call::GiveUp { op }),
+            Kind::SendIsTerminated => Some(Call::SendIsTerminated { op }),
+            _ => None,
+        }
     }
-    Some(Kind::Drop(side))
-}
 
-/// One more of the handles that it has.
-fn cloned(member: &Member) -> Option<Kind> {
-    if member.senders > 0 {
-        Some(Kind::Clone(Side::Senders))
-    } else if member.receivers > 0 {
-        Some(Kind::Clone(Side::Receivers))
-    } else {
-        None
+    /// The call that makes a handle, or lets one go.
+    fn of_handles(self) -> Option<Call<u64>> {
+        let new = HandleId(self.name);
+        let handle = HandleId(self.handle);
+        match self.kind {
+            Kind::TryClone => Some(Call::TryClone { handle, new }),
+            Kind::Downgrade => Some(Call::Downgrade { handle, new }),
+            Kind::Upgrade => Some(Call::Upgrade { weak: handle, new }),
+            Kind::SameChannel => Some(Call::SameChannel { a: handle, b: new }),
+            Kind::Drop => Some(Call::Drop { handle }),
+            _ => None,
+        }
     }
-}
 
-/// What a party that has no call under way begins; nothing where it may not begin what was drawn. A new message is this
-/// one.
-pub fn draw(random: &mut Random, member: &Member, message: u64) -> Option<Kind> {
-    match random.below(64) {
-        0..=11 if member.senders > 0 => Some(Kind::TrySend(message)),
-        12..=23 if member.receivers > 0 => Some(Kind::TryRecv),
-        24..=37 => poll(member, Line::Sends, message),
-        38..=51 => poll(member, Line::Receives, message),
-        52..=54 => refused(member),
-        55..=57 => given_up(member),
-        58..=59 => dropped(member, Side::Senders),
-        60..=61 => dropped(member, Side::Receivers),
-        62 => cloned(member),
-        63 if member.senders > 0 || member.receivers > 0 => Some(Kind::Close),
-        _ => None,
+    /// The call that goes through a handle.
+    fn through(self) -> Call<u64> {
+        let handle = HandleId(self.handle);
+        let msg = self.message;
+        match self.kind {
+            Kind::TrySend => Call::TrySend {
+                sender: handle,
+                msg,
+            },
+            Kind::ForceSend => Call::ForceSend {
+                sender: handle,
+                msg,
+            },
+            Kind::TryRecv => Call::TryRecv { receiver: handle },
+            Kind::PollNext => Call::PollNext { receiver: handle },
+            Kind::StreamIsTerminated => Call::StreamIsTerminated { receiver: handle },
+            Kind::Close => Call::Close { handle },
+            Kind::IsClosed => Call::IsClosed { handle },
+            Kind::IsEmpty => Call::IsEmpty { handle },
+            Kind::IsFull => Call::IsFull { handle },
+            Kind::Len => Call::Len { handle },
+            Kind::SenderCount => Call::SenderCount { handle },
+            Kind::ReceiverCount => Call::ReceiverCount { handle },
+            _ => Call::Capacity { handle },
+        }
+    }
+
+    /// The call.
+    pub fn call(self) -> Call<u64> {
+        if let Some(call) = self.of_operation() {
+            return call;
+        }
+        match self.of_handles() {
+            Some(call) => call,
+            None => self.through(),
+        }
     }
 }

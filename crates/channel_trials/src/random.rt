@@ -23,6 +23,12 @@ impl Random {
         word.checked_rem(bound).unwrap_or(0)
     }
 
+    /// The same, of names.
+    pub fn name_below(&mut self, bound: u32) -> u32 {
+        let word = self.words.next_word();
+        word.checked_rem(bound).unwrap_or(0)
+    }
+
     /// True one time in so many.
     pub fn once_in(&mut self, times: usize) -> bool {
         self.below(times) == 0

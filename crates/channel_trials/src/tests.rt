@@ -1,114 +1,112 @@
-//! What the comparison refuses.
+//! What the plain count refuses by itself.
 
-use crate::answer::{Left, is_due, keeps};
-use crate::call::{Call, Deed, Kind};
+use crate::answer::Answer;
+use crate::book::Book;
 use crate::count::Count;
 use crate::differs::Differs;
-use crate::member::{Member, Operation, Waits};
+use crate::due::is_due;
 use crate::owed::is_nothing_owed;
-use crate::random::Random;
-use async_channel::error::TryRecvError;
+use crate::plan::{Kind, Plan};
+use crate::under_way::{Subject, UnderWay};
 use async_channel::mark::Mark;
-use async_channel::reply::Reply;
-use async_channel::stage::{Kept, Line, Side};
-use futures::task::Poll;
-use std::test::Fail;
+use async_channel::stage::Line;
+use channel_model::name::{OpId, Waiter};
+use std::alloc::Global;
 
-#[test]
-fn a_mark_is_of_its_call_and_of_what_is_held(rt: HostRuntime) {
-    let mut count = Count::new(Some(1), rt.alloc());
-    let mut send = Call::new(Kind::TrySend(4), 0);
-    let mut receive = Call::new(Kind::TryRecv, 0);
-    assert_eq!(rt; receive.step(Mark::Take, &mut count), Err(Differs::Mark));
-    assert_eq!(rt; receive.step(Mark::Append, &mut count), Err(Differs::Mark));
-    assert_eq!(rt; send.step(Mark::Append, &mut count), Ok(()));
-    assert_eq!(rt; send.step(Mark::Append, &mut count), Err(Differs::Mark));
-    let mut other = Call::new(Kind::PollSend(5), 0);
-    assert_eq!(rt; other.step(Mark::Append, &mut count), Err(Differs::Mark));
-    assert_eq!(rt; receive.step(Mark::Take, &mut count), Ok(()));
-    assert!(rt; receive.deed == Deed::Took(4));
-    assert!(rt; count.is_settled());
-}
-
-#[test]
-fn a_reply_needs_its_mark_or_its_moment(rt: HostRuntime) {
-    let mut count = Count::new(Some(1), rt.alloc());
-    let mut receive = Call::new(Kind::TryRecv, 0);
-    let empty = Reply::TryRecv(Err(TryRecvError::Empty));
-    assert!(rt; !is_due(&receive, &empty));
-    receive.see(&count);
-    assert!(rt; is_due(&receive, &empty));
-    assert!(rt; !is_due(&receive, &Reply::TryRecv(Ok(1))));
-    assert!(rt; !is_due(&receive, &Reply::TryRecv(Err(TryRecvError::Closed))));
-    assert!(rt; !is_due(&receive, &Reply::RecvPoll(Poll::Pending)));
-    assert_eq!(rt; count.close(), Ok(()));
-    receive.see(&count);
-    assert!(rt; is_due(&receive, &Reply::TryRecv(Err(TryRecvError::Closed))));
-    let mut leaving = Call::new(Kind::Drop(Side::Senders), 0);
-    assert_eq!(rt; leaving.step(Mark::SenderDown, &mut count), Ok(()));
-    assert!(rt; !is_due(&leaving, &Reply::Unit));
-    leaving.see(&count);
-    assert!(rt; is_due(&leaving, &Reply::Unit));
-}
-
-#[test]
-fn a_pending_send_keeps_its_message_and_a_listener(rt: HostRuntime) {
-    let kept = Kept {
-        key: None,
-        message: Some(3),
+/// A call through the first sender or the first receiver that brings this message.
+fn call_of(kind: Kind, handle: u32, message: Option<u64>) -> UnderWay {
+    let plan = Plan {
+        kind,
+        handle,
+        name: 0,
+        message: 0,
     };
-    assert!(rt; !keeps(Kind::PollSend(3), Left::Pending, &kept));
-    assert!(rt; !keeps(Kind::PollSend(3), Left::Over, &kept));
-    assert!(rt; keeps(Kind::RefusePoll(Line::Sends, Some(3)), Left::Refused, &kept));
-    assert!(rt; !keeps(Kind::RefusePoll(Line::Sends, Some(4)), Left::Refused, &kept));
+    let subject = Subject {
+        line: Line::Closings,
+        waiter: None,
+        side: None,
+        message,
+        uses: Some(handle),
+        uses_too: None,
+    };
+    UnderWay::new(0, plan, subject)
 }
 
 #[test]
-fn a_message_beside_one_who_sleeps_is_owed(rt: HostRuntime) -> Result<(), Fail> {
+fn a_mark_is_made_over_what_is_held(rt: HostRuntime) {
     let mut count = Count::new(Some(1), rt.alloc());
-    let mut member = Member::new(1, 1);
-    member.operation = Some(Operation {
-        line: Line::Receives,
-        message: None,
-        key: None,
-        waits: Waits::By(8),
-    });
-    assert!(rt; is_nothing_owed(&[member], &count));
-    assert_eq!(rt; count.append(1), Ok(()));
-    assert!(rt; !is_nothing_owed(&[member], &count));
-    let mut sender = Member::new(2, 1);
-    sender.call = Some(Call::new(Kind::TrySend(1), 0));
-    assert!(rt; is_nothing_owed(&[member, sender], &count));
-    assert!(rt; !member.is_woken_by(9));
-    assert!(rt; member.is_woken_by(8));
-    assert!(rt; !member.is_woken_by(8));
-    assert!(rt; is_nothing_owed(&[member], &count));
-    Ok(())
-}
-
-#[test]
-fn a_closing_beside_one_who_sleeps_is_owed(rt: HostRuntime) {
-    let mut count = Count::new(None, rt.alloc());
-    let mut member = Member::new(1, 1);
-    member.operation = Some(Operation {
-        line: Line::Sends,
-        message: Some(2),
-        key: None,
-        waits: Waits::By(8),
-    });
-    let mut closer = Member::new(2, 1);
-    let mut close = Call::new(Kind::Close, 0);
-    assert_eq!(rt; close.step(Mark::Close, &mut count), Ok(()));
-    assert!(rt; !is_nothing_owed(&[member, closer], &count));
-    closer.call = Some(close);
-    assert!(rt; is_nothing_owed(&[member, closer], &count));
-}
-
-#[test]
-fn numbers_are_below_their_bound(rt: HostRuntime) {
-    let mut random = Random::new(1);
-    for _ in 0..100 {
-        assert!(rt; random.below(5) < 5);
+    let rows = [
+        (Mark::Take, None, Err(Differs::Mark)),
+        (Mark::TakeDisplaced, None, Err(Differs::Mark)),
+        (Mark::Append, None, Err(Differs::Mark)),
+        (Mark::Append, Some(4), Ok(())),
+        (Mark::Append, Some(5), Err(Differs::Mark)),
+        (Mark::Replace, Some(6), Ok(())),
+        (Mark::Close, None, Ok(())),
+        (Mark::Close, None, Err(Differs::Mark)),
+        (Mark::Take, None, Ok(())),
+        (Mark::Append, Some(7), Err(Differs::Mark)),
+        (Mark::SenderDown, None, Ok(())),
+        (Mark::SenderUp, None, Err(Differs::Mark)),
+    ];
+    for (mark, message, want) in rows {
+        assert_eq!(rt; count.apply(mark, message, false), want);
     }
-    assert_eq!(rt; random.below(0), 0);
+    assert!(rt; count.came_as(1, 6) && !count.came_as(0, 6));
+}
+
+#[test]
+fn an_answer_needs_its_mark_or_its_moment(rt: HostRuntime) {
+    let mut count = Count::new(Some(1), rt.alloc());
+    let mut call = call_of(Kind::TryRecv, 1, None);
+    let rows = [
+        (Answer::Empty, false, true, false),
+        (Answer::ReceiveClosed, false, false, false),
+        (Answer::Received(4), false, false, true),
+        (Answer::Received(5), false, false, false),
+        (Answer::Sent, false, false, false),
+        (Answer::NoMemory, false, false, false),
+    ];
+    for (answer, due, _, _) in rows {
+        assert_eq!(rt; is_due(&call, answer, &count), due);
+    }
+    call.saw = call.saw.with(&count);
+    for (answer, _, due, _) in rows {
+        assert_eq!(rt; is_due(&call, answer, &count), due);
+    }
+    assert_eq!(rt; count.apply(Mark::Append, Some(4), false), Ok(()));
+    assert_eq!(rt; call.step(Mark::Take, &mut count), Ok(()));
+    for (answer, _, _, due) in rows {
+        assert_eq!(rt; is_due(&call, answer, &count), due);
+    }
+}
+
+/// What is owed to one who sleeps on this line, beside a message, on a channel of two places, and then on a closed one; and
+/// whether a call under way of this kind answers for it.
+fn owes(line: Line, kind: Kind, alloc: Global) -> Option<(bool, bool, bool)> {
+    let mut book = Book::new(Some(2), alloc).ok()?;
+    let name = Waiter::Op(OpId(0));
+    book.waiting.add(name, line).ok()?;
+    book.count.apply(Mark::Append, Some(1), false).ok()?;
+    let alone = is_nothing_owed(&book);
+    book.calls.push(call_of(kind, 0, None)).ok()?;
+    let beside = is_nothing_owed(&book);
+    book.count.apply(Mark::Close, None, false).ok()?;
+    let closed = is_nothing_owed(&book);
+    Some((alone, beside, closed))
+}
+
+#[test]
+fn one_who_sleeps_is_owed(rt: HostRuntime) {
+    let rows = [
+        (Line::Sends, Kind::TryRecv, Some((false, true, false))),
+        (Line::Receives, Kind::TrySend, Some((false, true, false))),
+        (Line::Streams, Kind::ForceSend, Some((false, true, false))),
+        (Line::Streams, Kind::TryRecv, Some((false, false, false))),
+        (Line::Receives, Kind::Close, Some((false, false, false))),
+        (Line::Closings, Kind::Close, Some((true, true, false))),
+    ];
+    for (line, kind, want) in rows {
+        assert_eq!(rt; owes(line, kind, rt.alloc()), want);
+    }
 }

@@ -1,0 +1,224 @@
+//! The plain count of a trial: what is held, what lives, who waits and who is at work.
+
+use crate::answer::{Answer, form_of, read};
+use crate::count::Count;
+use crate::differs::Differs;
+use crate::due::is_due;
+use crate::names::{Names, is_fit};
+use crate::plan::{Kind, Plan, Target};
+use crate::under_way::UnderWay;
+use crate::waiting::Waiting;
+use async_channel::mark::Mark;
+use async_channel::reply::Reply;
+use async_channel::stage::Line;
+use channel_model::name::{HandleKind, Waiter};
+use channel_model::refusal::WorldRefusal;
+use std::alloc::Global;
+
+/// The numbers that a channel tells of itself.
+#[derive(Clone, Copy, PartialEq, Eq)]
+pub struct Numbers {
+    pub messages: u64,
+    pub pending: usize,
+    pub woken: usize,
+    pub under_way: usize,
+    pub is_quiet: bool,
+}
+
+/// A plain count.
+#[derive(Drop)]
+pub struct Book {
+    pub count: Count,
+    pub names: Names,
+    pub waiting: Waiting,
+    /// The calls under way, in no order.
+    pub calls: Vec<UnderWay>,
+    /// How many messages were handed out.
+    handed: usize,
+}
+
+impl Book {
+    /// Of a channel of this capacity that was just opened.
+    pub fn new(capacity: Option<usize>, alloc: Global) -> Result<Self, Differs> {
+        Ok(Book {
+            count: Count::new(capacity, alloc),
+            names: Names::first(alloc)?,
+            waiting: Waiting::nobody(alloc),
+            calls: Vec::new(alloc),
+            handed: 0,
+        })
+    }
+
+    /// The numbers that the channel has to tell.
+    pub fn numbers(&self) -> Numbers {
+        let woken = self.waiting.all(true);
+        Numbers {
+            messages: self.count.messages() as u64,
+            pending: self.waiting.all(false).saturating_add(woken),
+            woken,
+            under_way: self.calls.len(),
+            is_quiet: self.calls.is_empty(),
+        }
+    }
+
+    /// The call that this party has under way.
+    pub fn call_of(&self, party: u32) -> Option<UnderWay> {
+        for call in &self.calls {
+            if call.party == party {
+                return Some(*call);
+            }
+        }
+        None
+    }
+
+    /// Whether a live operation or a call under way uses the handle.
+    fn is_used(&self, handle: u32) -> bool {
+        let calls = self.calls.iter();
+        self.names.borrowers(handle) > 0 || calls.filter(|call| call.uses(handle)).count() > 0
+    }
+
+    /// Why a call upon an operation is refused.
+    fn refuses_operation(&self, plan: Plan) -> Option<WorldRefusal> {
+        let Some(operation) = self.names.operation(plan.name) else {
+            return Some(WorldRefusal::UnknownName);
+        };
+        match (plan.kind, operation.line, operation.is_polled) {
+            (Kind::SendIsTerminated, Line::Sends, _) => None,
+            (Kind::SendIsTerminated, _, _) => Some(WorldRefusal::WrongKind),
+            (_, _, true) => Some(WorldRefusal::OpUnderWay),
+            (_, _, false) => None,
+        }
+    }
+
+    /// Why a call upon two handles is refused.
+    fn refuses_two(&self, plan: Plan) -> Option<WorldRefusal> {
+        let a = self.names.handle(plan.handle);
+        let b = self.names.handle(plan.name);
+        let (Some(a), Some(b)) = (a, b) else {
+            return Some(WorldRefusal::UnknownName);
+        };
+        if a.kind != b.kind || !is_fit(Target::Strong, a.kind) {
+            return Some(WorldRefusal::WrongKind);
+        }
+        (a.is_polled || b.is_polled).then_some(WorldRefusal::OpUnderWay)
+    }
+
+    /// Why a call through a handle is refused.
+    fn refuses_handle(&self, plan: Plan) -> Option<WorldRefusal> {
+        let Some(handle) = self.names.handle(plan.handle) else {
+            return Some(WorldRefusal::UnknownName);
+        };
+        if !is_fit(plan.kind.target(), handle.kind) {
+            return Some(WorldRefusal::WrongKind);
+        }
+        if handle.is_polled {
+            return Some(WorldRefusal::OpUnderWay);
+        }
+        if plan.kind.takes_whole() && self.is_used(handle.name) {
+            return Some(WorldRefusal::Borrowed);
+        }
+        self.names
+            .has_taken(plan)
+            .then_some(WorldRefusal::NameTaken)
+    }
+
+    /// Why a call of this party is refused that begins now, if it is.
+    pub fn refusal(&self, party: u32, plan: Plan) -> Option<WorldRefusal> {
+        if self.call_of(party).is_some() {
+            return Some(WorldRefusal::Busy);
+        }
+        match plan.kind.target() {
+            Target::Operation => self.refuses_operation(plan),
+            Target::Two => self.refuses_two(plan),
+            _ => self.refuses_handle(plan),
+        }
+    }
+
+    /// A call begins that isn't refused.
+    pub fn begin(&mut self, party: u32, plan: Plan) -> Result<(), Differs> {
+        let Some(subject) = self.names.subject(plan) else {
+            return Err(Differs::Refusal);
+        };
+        if let Some(name) = subject.waiter {
+            self.waiting.take_in_hand(name);
+        }
+        self.names.begin(plan);
+        match self.calls.push(UnderWay::new(party, plan, subject)) {
+            Ok(()) => Ok(()),
+            Err(_) => Err(Differs::NoMemory),
+        }
+    }
+
+    /// The party's call made a step with this mark.
+    pub fn step(&mut self, party: u32, mark: Mark) -> Result<(), Differs> {
+        for call in &mut self.calls {
+            if call.party == party {
+                return call.step(mark, &mut self.count);
+            }
+        }
+        Err(Differs::Refusal)
+    }
+
+    /// These were woken.
+    pub fn wake(&mut self, woken: &Vec<Waiter>) -> Result<(), Differs> {
+        for name in woken {
+            self.waiting.wake(*name)?;
+        }
+        Ok(())
+    }
+
+    /// The party's call has answered.
+    pub fn end(&mut self, party: u32, reply: &Reply<u64>) -> Result<(), Differs> {
+        let Some(call) = self.call_of(party) else {
+            return Err(Differs::Refusal);
+        };
+        let (form, answer) = read(reply);
+        if form != form_of(call.plan.kind, call.subject.line)
+            || !is_due(&call, answer, &self.count)
+        {
+            return Err(Differs::Reply);
+        }
+        self.calls.retain(|call| call.party != party);
+        self.names.end(call.plan, &call.subject, answer)?;
+        if call.has_taken() {
+            self.handed = self.handed.saturating_add(1);
+        }
+        self.leave(&call, answer)
+    }
+
+    /// Whom the call had in hand waits no more, or again where its poll ended pending. A finished send doesn't wait.
+    fn leave(&mut self, call: &UnderWay, answer: Answer) -> Result<(), Differs> {
+        let Some(name) = call.subject.waiter else {
+            return Ok(());
+        };
+        self.waiting.remove(name);
+        let line = call.subject.line;
+        let is_finished = line == Line::Sends && call.subject.message.is_none();
+        if answer == Answer::Pending && !is_finished {
+            return self.waiting.add(name, line);
+        }
+        Ok(())
+    }
+
+    /// One more moment of each call under way.
+    pub fn see(&mut self) {
+        for call in &mut self.calls {
+            call.saw = call.saw.with(&self.count);
+        }
+    }
+
+    /// A live receiver.
+    pub fn receiver(&self) -> Option<u32> {
+        for handle in &self.names.handles {
+            if handle.kind == HandleKind::Receiver {
+                return Some(handle.name);
+            }
+        }
+        None
+    }
+
+    /// Whether each message that left was handed out, and none is held.
+    pub fn is_drained(&self) -> bool {
+        self.count.messages() == 0 && self.handed == self.count.gone()
+    }
+}

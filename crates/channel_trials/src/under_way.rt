@@ -1,0 +1,133 @@
+//! A call under way, as the plain count sees it.
+
+use crate::count::Count;
+use crate::differs::Differs;
+use crate::plan::{Kind, Plan};
+use crate::saw::Saw;
+use async_channel::mark::Mark;
+use async_channel::stage::{Line, Side};
+use channel_model::name::Waiter;
+
+/// What a call has to do with, as it begins.
+#[derive(Clone, Copy)]
+pub struct Subject {
+    /// The line of its operation or of its receiver's stream, if it has to do with one.
+    pub line: Line,
+    /// The task of the operation that it polls or gives up, or of the receiver that it polls as a stream or drops.
+    pub waiter: Option<Waiter>,
+    /// Which strong handles are one more or one fewer by it.
+    pub side: Option<Side>,
+    /// The message that it brings, or that its operation has.
+    pub message: Option<u64>,
+    /// The handle that it uses, and a second one.
+    pub uses: Option<u32>,
+    pub uses_too: Option<u32>,
+}
+
+/// The kinds of calls that answer for a message or a free place while they are under way.
+#[derive(Clone, Copy, PartialEq, Eq)]
+pub enum Part {
+    Sending,
+    Receiving,
+    Neither,
+}
+
+/// A call with what it has done and what held at its moments.
+#[derive(Clone, Copy)]
+pub struct UnderWay {
+    pub party: u32,
+    pub plan: Plan,
+    pub subject: Subject,
+    /// The marks that it has made.
+    first: Mark,
+    second: Mark,
+    /// Which message it took, by its place among those that came, and whether it dropped the last handle of its kind.
+    pub place: usize,
+    pub was_last: bool,
+    pub saw: Saw,
+    steps: u32,
+}
+
+impl UnderWay {
+    /// A call that has done and seen nothing.
+    pub fn new(party: u32, plan: Plan, subject: Subject) -> Self {
+        UnderWay {
+            party,
+            plan,
+            subject,
+            first: Mark::Nothing,
+            second: Mark::Nothing,
+            place: 0,
+            was_last: false,
+            saw: Saw::nothing(),
+            steps: 0,
+        }
+    }
+
+    /// Whether these are the marks that it has made.
+    pub fn has_made(&self, first: Mark, second: Mark) -> bool {
+        self.first == first && self.second == second
+    }
+
+    /// Whether it closed the channel.
+    pub fn has_closed(&self) -> bool {
+        self.first == Mark::Close || self.second == Mark::Close
+    }
+
+    /// Whether it took a message out.
+    pub fn has_taken(&self) -> bool {
+        match self.first {
+            Mark::Take | Mark::TakeDisplaced | Mark::Replace => true,
+            _ => false,
+        }
+    }
+
+    /// Whether it uses this handle.
+    pub fn uses(&self, handle: u32) -> bool {
+        self.subject.uses == Some(handle) || self.subject.uses_too == Some(handle)
+    }
+
+    /// Whether it brings this message, or its operation has it.
+    pub fn has_message(&self, message: u64) -> bool {
+        self.subject.message == Some(message)
+    }
+
+    /// What it answers for.
+    pub fn part(&self) -> Part {
+        match (self.plan.kind, self.subject.line) {
+            (Kind::TrySend | Kind::ForceSend, _) => Part::Sending,
+            (Kind::TryRecv | Kind::PollNext, _) => Part::Receiving,
+            (Kind::Poll | Kind::PollRefused | Kind::GiveUp, Line::Sends) => Part::Sending,
+            (Kind::Poll | Kind::PollRefused | Kind::GiveUp, Line::Receives) => Part::Receiving,
+            _ => Part::Neither,
+        }
+    }
+
+    /// One more step of it.
+    pub fn step(&mut self, mark: Mark, count: &mut Count) -> Result<(), Differs> {
+        self.steps = self.steps.saturating_add(1);
+        if self.plan.kind.is_quick() && self.steps > 8 {
+            return Err(Differs::Endless);
+        }
+        if mark == Mark::Nothing {
+            return Ok(());
+        }
+        if self.second != Mark::Nothing {
+            return Err(Differs::Mark);
+        }
+        let made_room = self.first == Mark::TakeDisplaced;
+        if !made_room {
+            self.place = count.gone();
+        }
+        count.apply(mark, self.subject.message, made_room)?;
+        if let Some(side) = self.subject.side {
+            self.was_last = self.was_last || count.handles(side) == 0;
+        }
+        if self.first == Mark::Nothing {
+            self.first = mark;
+        } else {
+            self.second = mark;
+        }
+        Ok(())
+    }
+}
