@@ -1,12 +1,16 @@
-//! How many steps a run makes in a second, for one party that sends and one that receives, and what a step costs where few
-//! messages are held and where many are.
+//! How many steps a run makes in a second, for one party that sends and one that receives, what a step costs where few
+//! messages are held and where many are, and what it costs to wait: a poll that pends, whoever wakes it, and the next poll.
+
+ghost use Rattle.std.specs.Prelude.{◌<◌};
 
 use crate::decimal::Decimal;
 use async_channel::ask::ChannelAsk;
 use async_channel::reply::Reply;
+use channel_steps::party::Entry;
 use channel_steps::run::{Refusal, Step, run_steps};
 use channel_steps::start::{Opened, open_channel};
 use concurrent_queue::cells::QueueForm;
+use event_listener::key::Key;
 use event_listener::wakes::Wakes;
 use std::alloc::Global;
 use std::collections::VecDeque;
@@ -58,6 +62,68 @@ impl Cost {
         } else {
             self
         }
+    }
+}
+
+/// What waits: a send beside a full channel, or a receive beside an empty one.
+#[derive(Clone, Copy)]
+enum Waits {
+    Send,
+    Receive,
+}
+
+impl Waits {
+    fn name(self) -> &'static str {
+        match self {
+            Waits::Send => "send",
+            Waits::Receive => "receive",
+        }
+    }
+
+    /// A poll of it, which holds this listener.
+    fn poll(self, key: Option<Key>) -> ChannelAsk<u64, u64> {
+        match self {
+            Waits::Send => ChannelAsk::PollSend(0, key, 1),
+            Waits::Receive => ChannelAsk::PollRecv(key, 1),
+        }
+    }
+
+    /// What wakes it.
+    fn waking(self) -> ChannelAsk<u64, u64> {
+        match self {
+            Waits::Send => ChannelAsk::TryRecv,
+            Waits::Receive => ChannelAsk::TrySend(0),
+        }
+    }
+}
+
+/// How many steps a poll has that pends, the call that wakes its operation, and the poll that finishes it.
+#[derive(Clone, Copy)]
+struct Lengths {
+    pends: usize,
+    wakes: usize,
+    finishes: usize,
+}
+
+impl Lengths {
+    fn all(self) -> usize {
+        self.pends
+            .saturating_add(self.wakes)
+            .saturating_add(self.finishes)
+    }
+}
+
+/// The listener that a call left with its last step.
+fn left_by(entry: Option<Entry<u64>>) -> Option<Key> {
+    match entry {
+        Some(
+            Entry {
+                mark: _,
+                reply: _,
+                kept: Some(kept),
+            },
+        ) => kept.key,
+        _ => None,
     }
 }
 
@@ -200,6 +266,53 @@ impl Bench {
         }
     }
 
+    /// Makes a call of at most so many steps in one run: how many it had, and the listener that it left.
+    fn at_once(&mut self, ask: ChannelAsk<u64, u64>, most: usize) -> (usize, Option<Key>) {
+        self.plan(Step::Begin { party: SENDER, ask });
+        for _ in 0..most {
+            self.plan(Step::Step { party: SENDER });
+        }
+        let mut run = run_steps(
+            self.alloc,
+            &mut self.steps,
+            &mut self.opened.cells,
+            &mut self.opened.parties,
+            &mut self.sink,
+        );
+        let made = run.trace.len().saturating_sub(1);
+        let key = left_by(run.trace.pop());
+        self.steps.clear();
+        (made, key)
+    }
+
+    /// A poll that pends, the call that wakes its operation, and the poll that finishes it: how many steps each of them had.
+    fn wait(&mut self, waits: Waits, most: Lengths) -> Lengths {
+        let (pends, key) = self.at_once(waits.poll(None), most.pends);
+        let (wakes, _) = self.at_once(waits.waking(), most.wakes);
+        let (finishes, left) = self.at_once(waits.poll(key), most.finishes);
+        self.refused = self.refused || key.is_none() || left.is_some();
+        Lengths {
+            pends,
+            wakes,
+            finishes,
+        }
+    }
+
+    /// One round of waits, of which the quickest counts.
+    fn round_of_waits<R: Clock>(
+        &mut self,
+        rt: &R,
+        waits: Waits,
+        lengths: Lengths,
+    ) -> io::Result<()> {
+        let start = Instant::now(rt)?;
+        for _ in 0..PAIRS {
+            let _ = self.wait(waits, lengths);
+        }
+        self.best.nanos = self.best.nanos.min(start.elapsed(rt)?.as_nanos());
+        Ok(())
+    }
+
     /// One round, of which the quickest counts.
     fn round<R: Clock>(&mut self, rt: &R) -> io::Result<()> {
         for message in 0..PAIRS {
@@ -261,6 +374,53 @@ fn measure_held<R: Clock + Print>(rt: &R, mut short: Bench, mut long: Bench) -> 
     )
 }
 
+/// An operation that waits and is woken, over a channel that holds so many messages.
+fn measure_waits<R: Clock + Print>(
+    rt: &R,
+    name: &str,
+    mut bench: Bench,
+    waits: Waits,
+    messages: usize,
+) -> io::Result<()> {
+    bench.fill(messages);
+    let most = Lengths {
+        pends: 64,
+        wakes: 64,
+        finishes: 64,
+    };
+    let lengths = bench.wait(waits, most);
+    for _ in 0..ROUNDS {
+        bench.round_of_waits(rt, waits, lengths)?;
+    }
+    if bench.refused || bench.held() != messages {
+        return println!(rt; "steps, {name}: a call was refused");
+    }
+    let each = Decimal::of(bench.best.nanos, PAIRS as u128);
+    let steps = lengths.all();
+    let call = waits.name();
+    println!(rt;
+        "steps, {name}: a {call} that pends, is woken and finishes takes {each} ns in {steps} steps"
+    )
+}
+
+/// A receive that waits beside an empty channel of this capacity, and a send that waits beside a full one.
+fn measure_waiting<R: Clock + Print>(
+    rt: &R,
+    name: &str,
+    capacity: usize,
+    alloc: Global,
+) -> io::Result<()>
+    requires { 0 < capacity }
+{
+    let empty = open_channel(QueueForm::Bounded(capacity), alloc);
+    let full = open_channel(QueueForm::Bounded(capacity), alloc);
+    let (Ok(empty), Ok(full)) = (empty, full) else {
+        return println!(rt; "steps: out of memory");
+    };
+    measure_waits(rt, name, Bench::of(empty, alloc), Waits::Receive, 0)?;
+    measure_waits(rt, name, Bench::of(full, alloc), Waits::Send, capacity)
+}
+
 /// Measures runs of steps.
 pub fn measure_steps<R: Clock + Print>(rt: &R, alloc: Global) -> io::Result<()> {
     let slot = open_channel(QueueForm::Bounded(1), alloc);
@@ -272,5 +432,7 @@ pub fn measure_steps<R: Clock + Print>(rt: &R, alloc: Global) -> io::Result<()> 
     };
     measure_pair(rt, "one slot", Bench::of(slot, alloc), 0)?;
     measure_pair(rt, "bounded(100)", Bench::of(ring, alloc), 50)?;
-    measure_held(rt, Bench::of(short, alloc), Bench::of(long, alloc))
+    measure_held(rt, Bench::of(short, alloc), Bench::of(long, alloc))?;
+    measure_waiting(rt, "one slot", 1, alloc)?;
+    measure_waiting(rt, "bounded(100)", 100, alloc)
 }
