@@ -163,6 +163,27 @@ fn report<R: Print>(rt: &R, name: &str, costs: Costs) -> io::Result<()> {
     println!(rt; "shared, {name}: {alone} ns on one thread, {between} ns between two")
 }
 
+/// A queue with a bound beside one of the kit and a channel, in turns.
+fn compare_bounded<R: Threads + Wait + Clock + Print + Sync>(
+    rt: &R,
+    ours: &ConcurrentQueue<u64>,
+    array: &ArrayQueue<u64>,
+    ends: &Ends,
+) -> io::Result<()> {
+    let mut costs = (Costs::none(), Costs::none(), Costs::none());
+    for _ in 0..ROUNDS {
+        costs.0 = round(rt, ours, costs.0)?;
+        costs.1 = round(rt, array, costs.1)?;
+        costs.2 = round(rt, ends, costs.2)?;
+    }
+    if costs.0.sum != costs.1.sum || costs.1.sum != costs.2.sum {
+        return println!(rt; "shared: a message was lost");
+    }
+    report(rt, "a push and a pop", costs.0)?;
+    report(rt, "of ArrayQueue", costs.1)?;
+    report(rt, "of crossbeam_channel", costs.2)
+}
+
 /// A queue of this capacity beside one of the kit and a channel.
 fn measure_bounded<R: Threads + Wait + Clock + Print + Sync>(
     rt: &R,
@@ -171,25 +192,31 @@ fn measure_bounded<R: Threads + Wait + Clock + Print + Sync>(
 ) -> io::Result<()>
     requires { 0 < capacity }
 {
-    let Ok(ours) = ConcurrentQueue::bounded(alloc, capacity) else {
-        return println!(rt; "shared: out of memory");
-    };
+    println!(rt; "shared, capacity {capacity}")?;
     let array = ArrayQueue::new(alloc, capacity)?;
     let (to, from) = crossbeam_channel::bounded(alloc, capacity)?;
-    let ends = Ends { to, from };
-    let mut costs = (Costs::none(), Costs::none(), Costs::none());
-    for _ in 0..ROUNDS {
-        costs.0 = round(rt, &ours, costs.0)?;
-        costs.1 = round(rt, &array, costs.1)?;
-        costs.2 = round(rt, &ends, costs.2)?;
+    match ConcurrentQueue::bounded(alloc, capacity) {
+        Ok(ours) => compare_bounded(rt, &ours, &array, &Ends { to, from }),
+        Err(_) => println!(rt; "shared: out of memory"),
     }
-    if costs.0.sum != costs.1.sum || costs.1.sum != costs.2.sum {
+}
+
+/// An unbounded queue beside one of the kit, in turns.
+fn compare_unbounded<R: Threads + Wait + Clock + Print + Sync>(
+    rt: &R,
+    ours: &ConcurrentQueue<u64>,
+    segments: &SegQueue<u64>,
+) -> io::Result<()> {
+    let mut costs = (Costs::none(), Costs::none());
+    for _ in 0..ROUNDS {
+        costs.0 = round(rt, ours, costs.0)?;
+        costs.1 = round(rt, segments, costs.1)?;
+    }
+    if costs.0.sum != costs.1.sum {
         return println!(rt; "shared: a message was lost");
     }
-    println!(rt; "shared, capacity {capacity}")?;
     report(rt, "a push and a pop", costs.0)?;
-    report(rt, "of ArrayQueue", costs.1)?;
-    report(rt, "of crossbeam_channel", costs.2)
+    report(rt, "of SegQueue", costs.1)
 }
 
 /// An unbounded queue beside one of the kit.
@@ -197,21 +224,12 @@ fn measure_unbounded<R: Threads + Wait + Clock + Print + Sync>(
     rt: &R,
     alloc: Global,
 ) -> io::Result<()> {
-    let Ok(ours) = ConcurrentQueue::unbounded(alloc) else {
-        return println!(rt; "shared: out of memory");
-    };
-    let segments = SegQueue::new(alloc)?;
-    let mut costs = (Costs::none(), Costs::none());
-    for _ in 0..ROUNDS {
-        costs.0 = round(rt, &ours, costs.0)?;
-        costs.1 = round(rt, &segments, costs.1)?;
-    }
-    if costs.0.sum != costs.1.sum {
-        return println!(rt; "shared: a message was lost");
-    }
     println!(rt; "shared, unbounded")?;
-    report(rt, "a push and a pop", costs.0)?;
-    report(rt, "of SegQueue", costs.1)
+    let segments = SegQueue::new(alloc)?;
+    match ConcurrentQueue::unbounded(alloc) {
+        Ok(ours) => compare_unbounded(rt, &ours, &segments),
+        Err(_) => println!(rt; "shared: out of memory"),
+    }
 }
 
 /// Measures queues that threads share.
