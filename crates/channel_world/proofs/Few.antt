@@ -1,15 +1,14 @@
 -- How many names a call wakes at most.
-use Rattle.std.proofs.Common.{arith, ◌≡◌, ◌⊎◌, ◌≤◌, ◌+◌, ℕ, List, [], ◌∷◌, ◌++◌, length, take, drop, Bool, true, false, ◌&&◌, ◌||◌, ◌==◌, ◌^◌, ◌-◌, nat_lt, if◌then◌else◌, not, cond, Option, None, Some, is_none, Err, refl, sym, ap, subst, ◌∙◌, inl, inr, length-append}
+use Rattle.std.proofs.Common.{arith, ◌≡◌, ◌≤◌, ◌+◌, ℕ, List, [], ◌∷◌, ◌++◌, length, take, Bool, true, false, ◌&&◌, ◌||◌, ◌==◌, ◌^◌, ◌-◌, nat_lt, if◌then◌else◌, not, Option, None, Some, is_none, refl, sym, subst, inl, inr, length-append}
 use Rattle.std.specs.List.{list_any}
-use Rattle.async_channel.specs.declared.reply.Reply.{Reply}
 use Rattle.async_channel.specs.declared.reply.Reply.TheVariants as reply
 use Rattle.async_channel.specs.declared.stage.Line.{Line}
 use Rattle.async_channel.specs.declared.stage.Line.TheVariants.{Sends, Receives, Streams, Closings}
-use Rattle.channel_model.specs.Answer.{Answer, answer, replying, telling, leaving, pending, space_of, Found, first, none_yet, none_ever, found, displacing, next_answer, count, without_one, dropped, spent, one_more, upgrade_to, made, news_without_one, drop_one, drop_answer, poll_answer, poll_refused_answer, give_up_answer, send_poll_answer, recv_poll_answer, closed_poll_answer, try_send_answer, force_send_answer, try_recv_answer, clone_answer, downgrade_answer, upgrade_answer, close_answer, shut, weak_of, strong_of}
+use Rattle.channel_model.specs.Answer.{Answer, answer, replying, telling, space_of, Found, first, none_yet, none_ever, found, displacing, next_answer, count, dropped, one_more, news_without_one, drop_one, drop_answer, poll_answer, poll_refused_answer, give_up_answer, send_poll_answer, recv_poll_answer, try_send_answer, force_send_answer, try_recv_answer, clone_answer, downgrade_answer, upgrade_answer, close_answer, shut, strong_of}
 use Rattle.channel_model.specs.Channel.{Channel}
-use Rattle.channel_model.specs.Lines.{Waiting, untold, told_by, left_by, after_news, gone, passed_on, told_after, is_among, is_stream, without}
+use Rattle.channel_model.specs.Lines.{Waiting, untold, told_by, after_news, gone, passed_on, told_after, is_among, is_stream, without}
 use Rattle.channel_model.specs.Names.{Operation, send, recv, closing, at}
-use Rattle.channel_model.specs.Refused.{Answers, Lack, memory, serials, answer_without, not_standing, not_held, send_not_polled, recv_not_polled, not_polled, next_not_polled}
+use Rattle.channel_model.specs.Refused.{Answers, Lack, memory, serials, answer_without, not_held, send_not_polled, recv_not_polled, not_polled, next_not_polled}
 use Rattle.channel_model.specs.State.{State, with_channel, with_waiting}
 use Rattle.channel_model.specs.declared.call.Call.{Call}
 use Rattle.channel_model.specs.declared.call.Call.TheVariants as call
@@ -20,7 +19,6 @@ use Rattle.channel_model.specs.declared.name.HandleKind.TheVariants.{Sender, Rec
 use Rattle.channel_model.specs.declared.name.OpId.{OpId}
 use Rattle.channel_model.specs.declared.name.Waiter.{Waiter}
 use Rattle.channel_model.specs.declared.name.Waiter.TheVariants.{Op, Stream}
-use Rattle.channel_model.specs.declared.news.News.{News}
 use Rattle.channel_model.specs.declared.news.News.TheVariants.{Nothing, Message, Room, Closing, NextIn}
 use Rattle.channel_model.specs.declared.space.Space.{Space}
 use Rattle.channel_model.specs.declared.space.Space.TheVariants.{Open, Filled, Shut}

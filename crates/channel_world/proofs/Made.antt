@@ -1,5 +1,5 @@
 -- From what was asked of the channel, and what became of the names, to a call that was made.
-use Rattle.std.proofs.Common.{◌≡◌, ◌+◌, ℕ, List, [], Option, None, Some, refl, sym, ap, subst, ◌∙◌}
+use Rattle.std.proofs.Common.{◌≡◌, ◌+◌, ℕ, Option, None, Some, refl, sym, ap, subst, ◌∙◌}
 use Rattle.concurrent_queue.specs.Queue.{Queue}
 use Rattle.event_listener.specs.declared.key.Key.{Key}
 use Rattle.async_channel.specs.Moves.{channel}
@@ -16,7 +16,7 @@ use Rattle.channel_model.specs.declared.name.Handle.{Handle}
 use Rattle.channel_model.specs.declared.name.Waiter.{Waiter}
 use Rattle.channel_refinement.specs.Asked.{asked, keeper}
 use Rattle.channel_refinement.specs.Over.{names_after}
-use Rattle.channel_world.specs.Body.{IsSettled, Asks, AsksOnly, AsksFor, Makes, Follows, keys_in, state_of, names_of}
+use Rattle.channel_world.specs.Body.{IsSettled, AsksOnly, AsksFor, Makes, keys_in, state_of, names_of}
 use Rattle.channel_world.specs.Pending.{IsTold}
 use Rattle.channel_world.specs.declared.body.Body.{Body}
 use Rattle.channel_world.specs.declared.pending.Pending.{Pending}

@@ -5,7 +5,7 @@ use Rattle.async_channel.specs.declared.ask.ChannelAsk.{ChannelAsk}
 use Rattle.async_channel.specs.declared.reply.Reply.{Reply}
 use Rattle.async_channel.specs.declared.reply.Reply.TheVariants as reply
 use Rattle.channel_alone.specs.Alone.{Outcome}
-use Rattle.channel_model.specs.Names.{Names, Directory, at, with_new, with_spent, with_changed}
+use Rattle.channel_model.specs.Names.{Names, Directory, with_spent, with_changed}
 use Rattle.std.specs.Option.{option_map}
 use Rattle.channel_alone.specs.Run.{RunsAlone}
 use Rattle.channel_world.specs.Pending.{IsTold}

@@ -1,19 +1,16 @@
 -- A world that was just opened.
-use Rattle.std.proofs.Common.{arith, ◌≡◌, ◌≤◌, ℕ, List, [], Bool, false, Option, None, Some, refl, sym, ap, subst, ◌∙◌}
+use Rattle.std.proofs.Common.{arith, ◌≡◌, [], None, refl, sym, ap, subst, ◌∙◌}
 use Rattle.concurrent_queue.specs.Dispatch.{capacity_of}
 use Rattle.concurrent_queue.specs.Made.{IsNew}
 use Rattle.concurrent_queue.specs.Queue.{opened}
 use Rattle.concurrent_queue.specs.declared.cells.QueueForm.{QueueForm}
 use Rattle.concurrent_queue.proofs.Interface.{shows}
-use Rattle.async_channel.specs.Moves.{Channel, channel}
-use Rattle.async_channel.specs.Parts.{Roster, new_roster, listeners}
+use Rattle.async_channel.specs.Moves.{channel}
+use Rattle.async_channel.specs.Parts.{Roster, new_roster}
 use Rattle.async_channel.specs.Plain.{parts_of}
-use Rattle.async_channel.specs.declared.stage.Line.{Line}
-use Rattle.async_channel.specs.declared.stage.Line.TheVariants.{Sends, Receives, Streams, Closings}
-use Rattle.channel_model.specs.Awake.{AwakeIn, Kind}
+use Rattle.channel_model.specs.Awake.{AwakeIn}
 use Rattle.channel_model.specs.Channel.{Channel as PlainChannel}
-use Rattle.channel_model.specs.Laws.{line_of}
-use Rattle.channel_model.specs.Lines.{Waiting, nobody}
+use Rattle.channel_model.specs.Lines.{Waiting}
 use Rattle.channel_model.specs.Names.{Names, Directory, Operation}
 use Rattle.channel_model.specs.State.{State, start, first_handles}
 use Rattle.channel_model.specs.declared.name.Handle.{Handle}

@@ -1,5 +1,5 @@
 -- What becomes of the message that a poll borrowed.
-use Rattle.std.proofs.Common.{◌≡◌, ℕ, Option, None, Some, refl, sym, ap, ◌∙◌}
+use Rattle.std.proofs.Common.{◌≡◌, ℕ, Option, None, Some, refl, ap, ◌∙◌}
 use Rattle.async_channel.specs.Moves.{Channel}
 use Rattle.channel_alone.specs.Alone.{Outcome, Alone}
 use Rattle.channel_model.specs.Names.{Names, Directory, Operation, send, recv, closing, at, with_changed}
@@ -8,7 +8,8 @@ use Rattle.channel_model.specs.declared.name.Waiter.{Waiter}
 use Rattle.channel_model.specs.Asked.{poll_asked, Held}
 use Rattle.channel_refinement.specs.Over.{polled_names, refused_names}
 use Rattle.channel_world.specs.Kept.{with_message, with_message_at}
-use Rattle.channel_world.proofs.NameLemmas.{set_twice, at_changed, same_put_back}
+use Rattle.channel_model.proofs.DirectoryLemmas.{set_twice}
+use Rattle.channel_world.proofs.NameLemmas.{at_changed, same_put_back}
 
 module _ {T : Type 0} where
   -- the last of two messages stays

@@ -1,5 +1,5 @@
 -- How names that wait stand.
-use Rattle.std.proofs.Common.{◌≡◌, ◌⊎◌, List, [], ◌∷◌, ◌++◌, Bool, true, false, ◌||◌, cond, Option, None, Some, IsSome, is_some, refl, sym, ap, subst, ◌∙◌, inl, inr}
+use Rattle.std.proofs.Common.{◌≡◌, ◌⊎◌, List, [], ◌∷◌, ◌++◌, true, false, cond, Option, None, Some, IsSome, is_some, refl, sym, ap, subst, ◌∙◌, inl, inr}
 use Rattle.std.specs.List.{IsDistinct}
 use Rattle.std.specs.Option.{option_map_or}
 use Rattle.std.specs.Map.{keys_of, lookup, remove_entry, set_value}
@@ -7,7 +7,7 @@ use Rattle.std.proofs.lemmas.Map.{lookup-remove_entry, lookup-set_value}
 use Rattle.event_listener.specs.declared.key.Key.{Key}
 use Rattle.channel_model.specs.Lines.{same_waiter, is_among, without}
 use Rattle.channel_model.specs.declared.name.Waiter.{Waiter}
-use Rattle.channel_model.proofs.WaiterLemmas.{same_refl, same_symm, same_sound, same_equiv, decided, or_false, without_absent, first_apart, rest_apart, remove_absent}
+use Rattle.channel_model.proofs.WaiterLemmas.{same_refl, same_symm, same_sound, same_equiv, decided, or_false, without_absent, first_apart, rest_apart}
 use Rattle.channel_refinement.specs.Shows.{with_held}
 use Rattle.channel_world.specs.Standings.{held_of, woken_of, has_place}
 use Rattle.channel_world.specs.declared.standings.Standing.{Standing}

@@ -1,5 +1,7 @@
 -- How many tasks a list of listeners has.
-use Rattle.std.proofs.Common.{arith, ◌≡◌, refl, ◌≤◌, ◌+◌, ℕ, List, [], ◌∷◌, length, Option, None, Some}
+use Rattle.std.proofs.Common.{arith, ◌≡◌, refl, sym, subst, ◌≤◌, ◌+◌, ℕ, List, [], ◌∷◌, length, Option, None, Some}
+use Rattle.std.specs.Prelude.{IfSome}
+use Rattle.std.specs.Option.{SomeIff}
 use Rattle.channel_model.specs.Lines.{Waiting}
 use Rattle.channel_model.specs.declared.call.Call.{Call}
 use Rattle.channel_model.specs.declared.call.Call.TheVariants as call
@@ -41,3 +43,8 @@ closes_nothing (call.Len handle) l close drop = refl
 closes_nothing (call.Capacity handle) l close drop = refl
 closes_nothing (call.SenderCount handle) l close drop = refl
 closes_nothing (call.ReceiverCount handle) l close drop = refl
+
+-- a number that is there is no less than what it is said to be
+pub no_less : (P : Type 0) (r : Option ℕ) (least n : ℕ) → SomeIff r P n → least ≤ n → IfSome r (λ m. least ≤ m)
+no_less P None least n e le = tt
+no_less P (Some m) least n e le = subst (λ (k : ℕ). least ≤ k) (sym e.1) le

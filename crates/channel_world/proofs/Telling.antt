@@ -1,6 +1,5 @@
 -- What tellings leave of those who wait.
-use Rattle.std.proofs.Common.{arith, ◌≡◌, ◌⊎◌, ◌≤◌, ◌<◌, ◌+◌, ℕ, List, [], ◌∷◌, ◌++◌, length, Bool, true, false, not, cond, Option, None, Some, IsSome, is_some, refl, sym, ap, subst, ◌∙◌, inl, inr, append_assoc, append-nil, length-append, vec_len, vec_capacity}
-use Rattle.std.specs.List.{filter}
+use Rattle.std.proofs.Common.{arith, ◌≡◌, ◌≤◌, ◌<◌, ◌+◌, List, [], ◌∷◌, ◌++◌, length, Bool, true, false, not, Option, None, Some, is_some, refl, sym, ap, subst, ◌∙◌, inl, inr, append_assoc, append-nil, vec_len, vec_capacity}
 use Rattle.std.proofs.lemmas.List.Elements.{filter-append}
 use Rattle.event_listener.specs.Lists.{Notice, tasks_of}
 use Rattle.event_listener.specs.Notices.{Woken}
@@ -12,7 +11,7 @@ use Rattle.channel_model.specs.Laws.{is_line, same_line}
 use Rattle.channel_model.specs.Lines.{same_waiter, is_among, without}
 use Rattle.channel_model.specs.declared.name.Waiter.{Waiter}
 use Rattle.channel_model.proofs.Counting.{count_append, among_counts, among_self, or_right}
-use Rattle.channel_model.proofs.WaiterLemmas.{same_refl, same_symm, same_sound, decided, or_true, without_absent}
+use Rattle.channel_model.proofs.WaiterLemmas.{same_refl, same_sound, decided, or_true, without_absent}
 use Rattle.channel_model.specs.Asked.{Held}
 use Rattle.channel_refinement.specs.Shows.{AreUntold, AreTold, of_line}
 use Rattle.channel_world.specs.Pending.{IsTold}

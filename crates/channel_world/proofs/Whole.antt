@@ -1,20 +1,17 @@
 -- One whole call: what the channel did alone is the answer of the model, and a world is kept.
-use Rattle.std.proofs.Common.{arith, ◌≡◌, ◌⊎◌, ◌≤◌, ◌<◌, ◌+◌, ◌^◌, ℕ, List, [], ◌∷◌, ◌++◌, length, Bool, true, false, not, cond, Option, None, Some, IsSome, is_some, refl, sym, ap, subst, ◌∙◌, inl, inr, vec_len, vec_capacity}
+use Rattle.std.proofs.Common.{arith, ◌≡◌, ◌≤◌, ◌<◌, ◌+◌, ◌^◌, ℕ, List, [], ◌∷◌, ◌++◌, length, Bool, true, false, cond, Option, None, Some, IsSome, is_some, refl, sym, ap, subst, ◌∙◌, inr, vec_len, vec_capacity}
 use Rattle.std.specs.Map.{lookup}
 use Rattle.std.specs.Option.{option_map_or}
-use Rattle.concurrent_queue.specs.Queue.{Queue}
 use Rattle.concurrent_queue.specs.Step.{Fits}
 use Rattle.concurrent_queue.proofs.Interface.{shows}
 use Rattle.event_listener.specs.declared.key.Key.{Key}
 use Rattle.event_listener.specs.Lists.{Notice}
-use Rattle.event_listener.specs.Notices.{Woken}
 use Rattle.async_channel.specs.Moves.{Channel, channel}
 use Rattle.async_channel.specs.Parts.{Roster}
 use Rattle.async_channel.specs.Plain.{parts_of}
 use Rattle.async_channel.specs.declared.reply.Reply.{Reply}
 use Rattle.async_channel.specs.declared.stage.Line.{Line}
 use Rattle.async_channel.specs.declared.stage.Line.TheVariants.{Sends, Receives, Streams, Closings}
-use Rattle.channel_alone.specs.Alone.{Outcome, Alone}
 use Rattle.channel_alone.specs.Run.{HasPosition, Ran}
 use Rattle.channel_model.specs.Answer.{Answer}
 use Rattle.channel_model.specs.Awake.{AwakeIn, Kind, times, times_in}
@@ -28,11 +25,11 @@ use Rattle.channel_model.specs.State.{State}
 use Rattle.channel_model.specs.declared.call.Call.{Call}
 use Rattle.channel_model.specs.declared.name.Waiter.{Waiter}
 use Rattle.channel_model.proofs.LawSteps.{still_awake}
-use Rattle.channel_model.proofs.WaiterLemmas.{decided, left_among}
+use Rattle.channel_model.proofs.WaiterLemmas.{left_among}
 use Rattle.channel_refinement.specs.Asked.{asked, keeper}
-use Rattle.channel_refinement.specs.Over.{CallsAreOver, Matches, held_after, woken_after, names_after}
+use Rattle.channel_refinement.specs.Over.{CallsAreOver, Matches, held_after}
 use Rattle.channel_model.specs.Asked.{Held}
-use Rattle.channel_refinement.specs.Shows.{Shows, ShowsLines, ShowsLine, KeysFit, AreUntold, AreTold, with_held}
+use Rattle.channel_refinement.specs.Shows.{Shows, KeysFit, AreUntold, AreTold, with_held}
 use Rattle.channel_world.specs.Body.{channel_of, waiting_of, names_of, state_of, keys_in, IsKept, IsLike, IsSettled, Makes, Follows, HasRoom, most_woken}
 use Rattle.channel_world.specs.Pending.{IsTold}
 use Rattle.channel_world.specs.Standings.{held_of, woken_of, has_place}

@@ -1,5 +1,5 @@
 -- Operations, as the code keeps them.
-use Rattle.std.specs.Prelude.{ℕ, List, map, Option, None, Some, option_and_then}
+use Rattle.std.specs.Prelude.{ℕ, List, map, Option, None, option_and_then}
 use Rattle.std.specs.Option.{option_map, option_map_or}
 use Rattle.async_channel.specs.declared.stage.Line.{Line}
 use Rattle.async_channel.specs.declared.stage.Line.TheVariants.{Sends, Receives, Closings}

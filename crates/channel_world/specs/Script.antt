@@ -1,5 +1,5 @@
 -- What a script answers: a reply line for each line, up to the first one that ends it.
-use Rattle.std.specs.Prelude.{ℕ, ◌+◌, ◌*◌, ◌/◌, ◌^◌, ◌==◌, nat_lt, List, [], ◌∷◌, ◌++◌, length, false, not, Option, None, Some, Result, Ok, Err, codes, option_and_then, slice_get, if◌then◌else◌, zero, suc}
+use Rattle.std.specs.Prelude.{ℕ, ◌+◌, ◌*◌, ◌/◌, ◌^◌, ◌==◌, nat_lt, List, [], ◌∷◌, ◌++◌, length, false, not, Option, None, Some, Result, Ok, Err, codes, slice_get, if◌then◌else◌, zero, suc}
 use Rattle.std.specs.List.{list_all}
 use Rattle.std.specs.Option.{option_map_or, option_or}
 use Rattle.channel_model.specs.State.{State, start}

@@ -1,9 +1,8 @@
 -- How names that wait stand.
-use Rattle.std.specs.Prelude.{List, Bool, Option, None, is_some}
+use Rattle.std.specs.Prelude.{List, Bool, None, is_some}
 use Rattle.std.specs.List.{filter}
 use Rattle.std.specs.Map.{keys_of, lookup}
 use Rattle.std.specs.Option.{option_map_or}
-use Rattle.event_listener.specs.declared.key.Key.{Key}
 use Rattle.channel_model.specs.Lines.{same_waiter}
 use Rattle.channel_model.specs.declared.name.Waiter.{Waiter}
 use Rattle.channel_model.specs.Asked.{Held}

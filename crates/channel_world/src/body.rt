@@ -1,5 +1,4 @@
 //! The parts of a world, and the run of one call of its channel.
-use super::directory::Directory;
 use super::name::{Handle, HandleKind, Waiter};
 use super::operations::Operations;
 use super::pending::Pending;
@@ -7,6 +6,7 @@ use async_channel::ask::ChannelAsk;
 use async_channel::plain::PlainChannel;
 use async_channel::reply::Reply;
 use channel_alone::run::{Done, run_alone};
+use channel_model::directory::Directory;
 use concurrent_queue::cells::QueueForm;
 use std::alloc::{AllocError, Global};
 

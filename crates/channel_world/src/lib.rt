@@ -7,7 +7,6 @@ mod asking;
 mod body;
 pub mod call;
 mod calling;
-mod directory;
 mod handling;
 pub mod name;
 mod names;

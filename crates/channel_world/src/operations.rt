@@ -1,7 +1,7 @@
 //! The operations of a channel under their names.
-use super::directory::Directory;
 use super::names::Operation;
 use async_channel::stage::Line;
+use channel_model::directory::Directory;
 use std::alloc::{AllocError, Global};
 use std::marker::Model;
 

@@ -1,17 +1,17 @@
 //! Calls of operations.
 ghost use Rattle.std.specs.Prelude.{◌≡◌, ℕ, List, Option, false, OnOk, OnErr, IfErr};
-ghost use Rattle.channel_model.specs.Names.{is_taken, with_new, lent, borrowed_by};
+ghost use Rattle.channel_model.specs.Names.{is_taken, with_new, lent, given_back, borrowed_by};
 ghost use Rattle.channel_world.specs.Kept.{operation_of};
 
 use super::asking::giving_up_ask;
 use super::body::Body;
 use super::call::{Call, Reply};
-use super::directory::Directory;
 use super::name::{Handle, HandleId, OpId, Waiter};
 use super::names::Operation;
 use super::operations::Operations;
 use async_channel::ask::ChannelAsk;
 use channel_alone::run::Done;
+use channel_model::directory::Directory;
 
 /// A new operation, which borrows its handle; it comes back where its name found no room.
 fn begin<T>(
@@ -44,6 +44,17 @@ fn begin<T>(
         handles.set(name.0, handle);
     }
     Ok(())
+}
+
+/// One live operation less borrows the handle.
+fn give_back(handles: &mut Directory<Handle>, handle: HandleId)
+    ensures { handles.new ≡ given_back handle handles.old }
+{
+    if let Some(borrowed) = handles.get(handle.0) {
+        let Handle { kind, borrowers } = *borrowed;
+        let borrowers = borrowers.saturating_sub(1);
+        handles.set(handle.0, Handle { kind, borrowers });
+    }
 }
 
 impl<T: Drop> Body<T> {
@@ -156,7 +167,7 @@ impl<T: Drop> Body<T> {
         let key = self.pending.standings.key(w);
         let ask = match self.operations.take(op.0) {
             Some(operation) => {
-                self.handles.give_back(operation.borrowed());
+                give_back(&mut self.handles, operation.borrowed());
                 giving_up_ask(operation, key)
             }
             None => ChannelAsk::Make,

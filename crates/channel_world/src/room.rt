@@ -18,16 +18,9 @@ impl<T: Drop> Body<T> {
         let receives = self.channel.waiting(Line::Receives);
         let streams = self.channel.waiting(Line::Streams);
         let closings = self.channel.waiting(Line::Closings);
-        let Some(messengers) = sends.checked_add(receives) else {
-            return None;
-        };
-        let Some(listening) = streams.checked_add(closings) else {
-            return None;
-        };
-        let Some(untold) = messengers.checked_add(listening) else {
-            return None;
-        };
-        Some(untold)
+        let messengers = sends.checked_add(receives)?;
+        let listening = streams.checked_add(closings)?;
+        messengers.checked_add(listening)
     }
 
     /// How many names the call may wake, at most; None where there is no such number.
@@ -36,13 +29,7 @@ impl<T: Drop> Body<T> {
     {
         match call {
             Call::Close { .. } | Call::Drop { .. } => self.untold_count(),
-            _ => {
-                let streams = self.channel.waiting(Line::Streams);
-                let Some(room) = streams.checked_add(2) else {
-                    return None;
-                };
-                Some(room)
-            }
+            _ => self.channel.waiting(Line::Streams).checked_add(2),
         }
     }
 

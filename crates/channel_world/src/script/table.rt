@@ -81,9 +81,7 @@ impl<'a> Table<'a> {
     pub fn get(&self, name: &[u8]) -> Option<Named>
         ensures { result ≡ named_in self.now name.now }
     {
-        let Some(number) = self.numbers.get(name).copied() else {
-            return None;
-        };
+        let number = self.numbers.get(name).copied()?;
         match self.entries.get(number as usize) {
             Some(entry) => Some(numbered(entry.sort, number)),
             None => None,

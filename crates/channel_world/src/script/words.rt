@@ -64,10 +64,7 @@ fn is_name(bytes: &[u8]) -> bool
 pub fn next_name(rest: Option<&[u8]>) -> Option<(&[u8], Option<&[u8]>)>
     ensures { option_map (λ p. (p.0.now, words_after (option_copied p.1))) result ≡ first_name (words_after (option_copied rest.entry)) }
 {
-    let Some(text) = rest else {
-        return None;
-    };
-    let (word, after) = first_word(text);
+    let (word, after) = first_word(rest?);
     if is_name(word) {
         Some((word, after))
     } else {
@@ -99,13 +96,8 @@ pub fn number(digits: &[u8]) -> Option<u64>
     }
     let mut value: u64 = 0;
     for digit in digits {
-        let Some(tenfold) = value.checked_mul(10) else {
-            return None;
-        };
-        let Some(next) = tenfold.checked_add(u64::from(digit.saturating_sub(b'0'))) else {
-            return None;
-        };
-        value = next;
+        let tenfold = value.checked_mul(10)?;
+        value = tenfold.checked_add(u64::from(digit.saturating_sub(b'0')))?;
     }
     Some(value)
 }
@@ -114,12 +106,7 @@ pub fn number(digits: &[u8]) -> Option<u64>
 pub fn next_number(rest: Option<&[u8]>) -> Option<(u64, Option<&[u8]>)>
     ensures { option_map (λ p. (p.0, words_after (option_copied p.1))) result ≡ first_number (words_after (option_copied rest.entry)) }
 {
-    let Some(text) = rest else {
-        return None;
-    };
-    let (word, after) = first_word(text);
-    let Some(value) = number(word) else {
-        return None;
-    };
+    let (word, after) = first_word(rest?);
+    let value = number(word)?;
     Some((value, after))
 }

@@ -1,5 +1,4 @@
 -- From the place that the one has, which no telling takes.
-use Rattle.std.proofs.Common.{◌≡◌}
 use Rattle.channel_world.proofs.Places.{place_stays}
 use Rattle.channel_world.proofs.body.Body.ask_for.Goals as goal
 

@@ -1,8 +1,7 @@
 use Rattle.std.proofs.Common.{◌≡◌, refl, sym, ap, ◌∙◌, Some}
 use Rattle.std.specs.Option.{option_map}
-use Rattle.channel_model.specs.Answer.{weak_of, strong_of}
+use Rattle.channel_model.specs.Answer.{weak_of}
 use Rattle.channel_model.specs.Names.{at}
-use Rattle.channel_model.specs.Asked.{clone_asked, upgrade_asked}
 use Rattle.channel_refinement.specs.Over.{kind_at, made_names}
 use Rattle.async_channel.specs.declared.ask.ChannelAsk.TheVariants as ask
 use Rattle.channel_model.specs.declared.call.Call.TheVariants as call

@@ -4,7 +4,6 @@ use Rattle.async_channel.specs.Plain.{parts_of}
 use Rattle.channel_model.specs.Names.{at}
 use Rattle.channel_model.specs.declared.name.HandleKind.{HandleKind}
 use Rattle.channel_model.specs.declared.name.HandleKind.TheVariants.{Sender, Receiver, WeakSender, WeakReceiver}
-use Rattle.channel_model.specs.declared.name.Handle.{Handle}
 use Rattle.channel_model.specs.Asked.{drop_asked, stream_of}
 use Rattle.async_channel.specs.declared.ask.ChannelAsk.TheVariants as ask
 use Rattle.channel_model.specs.declared.call.Call.TheVariants as call

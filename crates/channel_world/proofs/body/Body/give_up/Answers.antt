@@ -6,13 +6,12 @@ use Rattle.channel_alone.specs.Alone.{Alone}
 use Rattle.channel_model.specs.Names.{at, given_back}
 use Rattle.channel_model.specs.Asked.{giving_up_asked}
 use Rattle.channel_refinement.specs.Over.{given_up_names}
-use Rattle.async_channel.specs.declared.ask.ChannelAsk.TheVariants as ask
 use Rattle.channel_model.specs.declared.call.Call.TheVariants as call
 use Rattle.channel_model.specs.declared.name.Waiter.TheVariants as waiter
 use Rattle.channel_world.specs.Body.{keys_in, names_of}
 use Rattle.channel_world.specs.Kept.{operation_of}
 use Rattle.channel_world.proofs.Made.{names_are, made_for}
-use Rattle.channel_world.proofs.NameLemmas.{nothing_to_end}
+use Rattle.channel_model.proofs.DirectoryLemmas.{nothing_to_end}
 use Rattle.channel_world.proofs.Ending.{given_up_keeps_none, GivesUp}
 use Rattle.channel_world.proofs.body.Body.give_up.Goals.{in-Some, in-None}
 use Rattle.channel_world.proofs.body.Body.give_up.Goals as goal

@@ -1,6 +1,6 @@
 -- From the number of tasks.
-use Rattle.std.proofs.Common.{arith, ◌≡◌, ◌≤◌, ◌+◌}
-use Rattle.channel_world.proofs.Tasks.{few_tasks}
+use Rattle.std.proofs.Common.{arith, ◌+◌}
+use Rattle.channel_world.proofs.Tasks.{few_tasks, no_less}
 use Rattle.channel_world.proofs.body.Body.untold_count.Goals as goal
 
 pub returns : goal.returns
@@ -14,7 +14,7 @@ returns g c =
     let cb = c.waiting-receives.ensures in
     let cd = c.waiting-streams.ensures in
     let ce = c.waiting-closings.ensures in
-    let ab = c.in-Some.ensures.1 in
-    let de = c.in-Some-checked_add.ensures.1 in
-    let all = c.in-Some-checked_add-2.ensures.1 in
-    omega (arith, a, b, d, e, ca, cb, cd, ce, ab, de, all)
+    let ab = c.in_ok-messengers.ensures.1 in
+    let de = c.in_ok-listening.ensures.1 in
+    no_less _ c.checked_add-3.result _ (c.in_ok-messengers.messengers + c.in_ok-listening.listening) c.checked_add-3.ensures
+    (omega (arith, a, b, d, e, ca, cb, cd, ce, ab, de))

@@ -1,10 +1,9 @@
 use Rattle.std.proofs.Common.{◌≡◌, refl, sym, ap, ◌∙◌, Some}
 use Rattle.std.specs.Option.{option_map}
-use Rattle.channel_model.specs.Answer.{weak_of, strong_of}
+use Rattle.channel_model.specs.Answer.{strong_of}
 use Rattle.channel_model.specs.Names.{at}
-use Rattle.channel_model.specs.Asked.{clone_asked, upgrade_asked}
+use Rattle.channel_model.specs.Asked.{upgrade_asked}
 use Rattle.channel_refinement.specs.Over.{kind_at, made_names}
-use Rattle.async_channel.specs.declared.ask.ChannelAsk.TheVariants as ask
 use Rattle.channel_model.specs.declared.call.Call.TheVariants as call
 use Rattle.channel_world.specs.Body.{Makes, MakesHandle, names_of}
 use Rattle.channel_world.proofs.NewHandles.{made_handle, of_kind, if_so}

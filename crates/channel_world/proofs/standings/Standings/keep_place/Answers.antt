@@ -1,5 +1,5 @@
 -- From the standings: a place is put in front.
-use Rattle.std.proofs.Common.{arith, ◌≡◌, ◌∙◌, ◌∷◌, ◌<◌, ◌^◌, ap, sym, subst, length, List, Option, None, Some, is_some, refl, true, false}
+use Rattle.std.proofs.Common.{arith, ◌≡◌, ◌∙◌, ◌∷◌, ◌<◌, ◌^◌, ap, sym, subst, length, List, None, is_some, refl, false}
 use Rattle.std.specs.Map.{lookup}
 use Rattle.channel_model.specs.Lines.{same_waiter}
 use Rattle.channel_model.specs.declared.name.Waiter.{Waiter}

@@ -1,13 +1,9 @@
 -- From the standings: an entry is removed, or changed.
-use Rattle.std.proofs.Common.{◌≡◌, ◌∙◌, ap, sym, subst, refl, List, Option, None, Some, is_some, IsSome, true, false}
-use Rattle.std.specs.List.{IsDistinct}
-use Rattle.std.specs.Map.{lookup, keys_of}
-use Rattle.event_listener.specs.declared.key.Key.{Key}
-use Rattle.channel_model.specs.Lines.{same_waiter, without}
+use Rattle.std.proofs.Common.{◌≡◌, ap, sym, subst, List, Option, None, is_some, true}
+use Rattle.std.specs.Map.{lookup}
+use Rattle.channel_model.specs.Lines.{same_waiter}
 use Rattle.channel_model.specs.declared.name.Waiter.{Waiter}
 use Rattle.channel_model.proofs.WaiterLemmas.{derived_is}
-use Rattle.channel_refinement.specs.Shows.{with_held}
-use Rattle.channel_world.specs.Standings.{held_of, woken_of}
 use Rattle.channel_world.specs.declared.standings.Standing.{Standing}
 use Rattle.channel_world.proofs.StandingLemmas.{SettledIn, removed_settled, changed_settled, none_is, some_is}
 use Rattle.channel_world.proofs.standings.Standings.settle.Goals.{in-Some, in_default}

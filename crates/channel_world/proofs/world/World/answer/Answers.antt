@@ -1,6 +1,5 @@
 -- From whole calls, and the law that they are over a channel.
-use Rattle.std.proofs.Common.{◌≡◌, ap, refl, sym}
-use Rattle.channel_world.specs.Body.{IsLike}
+use Rattle.std.proofs.Common.{refl}
 use Rattle.channel_world.proofs.Whole.{like_kept, world_kept, world_answers, names_taken}
 use Rattle.channel_world.proofs.world.World.answer.Goals as goal
 

@@ -1,5 +1,4 @@
 -- From a body that was just opened.
-use Rattle.std.proofs.Common.{◌≡◌}
 use Rattle.concurrent_queue.specs.declared.cells.QueueForm.TheVariants.{Bounded}
 use Rattle.channel_world.proofs.Opening.{opened_state, opened_is_kept}
 use Rattle.channel_world.proofs.world.World.bounded.Goals as goal
