@@ -36,6 +36,7 @@ use Rattle.channel_interleaving.proofs.CountFacts.{moved_by, accepts_one, messag
 use Rattle.channel_laws.proofs.Interface.{all_sound_new, all_sound_next}
 use Rattle.channel_laws.specs.Sound.{AllSound}
 use Rattle.channel_interleaving.proofs.OwnerRuns.{owned_next}
+use Rattle.channel_interleaving.proofs.OwnerWokenRuns.{woken_first, woken_next}
 use Rattle.channel_interleaving.proofs.OwnerSteps.{owned_first}
 use Rattle.channel_interleaving.proofs.WokenFacts.{all_heard, few_woken}
 
@@ -68,7 +69,7 @@ module _ {T : Type 0} where
   new_at_work f cap sh none = rw (none, no_parties (parts_in f) f.parties.items cap sh) refl
 
   pub new_owned : (f : Floor T) (cap : Option ℕ) → Shown f (new_scene cap) → book_of f ≡ record { roll = first_roll; agents = [] } → AreOwned f
-  new_owned f cap sh book = record { scene = new_scene cap; shown = sh; owned = rw book (owned_first T cap); sound = all_sound_new cap }
+  new_owned f cap sh book = record { scene = new_scene cap; shown = sh; owned = rw book (owned_first T cap); woken = rw book (woken_first T cap); sound = all_sound_new cap }
 
   -- ---- a call begins
 
@@ -203,7 +204,7 @@ module _ {T : Type 0} where
   sound_next s t b c x e made sound = all_sound_next s (channel_step b.roll x) _ e.woken.items t sound made.next
 
   pub ran_none : (steps : List (Step T)) (f : Floor T) → RanTo steps steps f [] f
-  ran_none steps f s sh = record { made = []; last = s; first = refl; run = (refl, refl, refl); shown = sh; accounts = no_accounts s; owned = λ o. o; sound = λ o. o }
+  ran_none steps f s sh = record { made = []; last = s; first = refl; run = (refl, refl, refl); shown = sh; accounts = no_accounts s; owned = λ o. o; woken = λ o w. w; sound = λ o. o }
 
   pub ran_more : (steps left : List (Step T)) (x : Step T) (f : Floor T) (trace : List (Entry T)) (g : Floor T) (e : Entry T) (h : Floor T)
       → RanTo steps (x ∷ left) f trace g → step_refusal g.roll g.agents.items x ≡ None → Steps x g e h → RanTo steps left f (trace ++ e ∷ []) h
@@ -217,6 +218,9 @@ module _ {T : Type 0} where
         run = run_more (parts_in f) s (book_of f) r.made trace (parts_in g) r.last (book_of g) x e (parts_in h) t.after (book_of h) r.run t.touches t.made;
         shown = t.shown;
         accounts = next_accounts s r.last t.after (book_of g) (book_of h) x e r.accounts t.made;
+        woken = λ o w.
+            woken_next (book_of g) (book_of h) r.last t.after x e (let sh = r.shown.shows in sh.known) fine t.made (r.owned o)
+            (r.woken o w);
         owned = λ o. owned_next (book_of g) (book_of h) r.last t.after x e (let sh = r.shown.shows in sh.known) fine t.made (r.owned o);
         sound = λ o. sound_next r.last t.after (book_of g) (book_of h) x e t.made (r.sound o);
       }
@@ -255,6 +259,7 @@ module _ {T : Type 0} where
         };
         accounts = r.accounts;
         owned = λ o. rw same.book (r.owned o);
+        woken = λ o w. rw same.book (r.woken o w);
         sound = r.sound;
       }
 

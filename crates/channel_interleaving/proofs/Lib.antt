@@ -13,6 +13,10 @@ pub mod OwnerTogether
 pub mod OwnerEnds
 pub mod OwnerSteps
 pub mod OwnerRuns
+pub mod OwnerWokenLists
+pub mod OwnerWokenMoves
+pub mod OwnerWoken
+pub mod OwnerWokenRuns
 pub mod OwedCounts
 pub mod OwedFacts
 pub mod FloorFacts

@@ -282,7 +282,7 @@ module _ {T : Type 0} where
   op_none r op change e =
       ap (λ (d : Directory (Operation T)). record r { operations = d }) (ap (λ (x : Option (Operation T)). option_map_or (λ (y : Operation T). with_changed op.0 (change y) r.operations) x r.operations) e)
 
-  one_woken : (w : Waiter) (r : Roll T) → Sets (post r) (post (woken w r)) w (told_post (post r w))
+  pub one_woken : (w : Waiter) (r : Roll T) → Sets (post r) (post (woken w r)) w (told_post (post r w))
   one_woken (Op op) r = by (at op.0 r.operations) refl
     where
       change : Operation T → Operation T

@@ -68,7 +68,7 @@ module _ {T : Type 0} where
   beyond_after d q h before now behind (inl j) = any_left (HasIt q h) (map (sees d) before) (now ++ map (sees d) behind) (has_seen d q h before j)
   beyond_after d q h before now behind (inr j) = any_right (HasIt q h) (map (sees d) before) (now ++ map (sees d) behind) (any_right (HasIt q h) now (map (sees d) behind) (has_seen d q h behind j))
 
-  now_after : (d : Channel T Waiter) (q : ℕ) (h : Held) (before now behind : List (Under T Waiter)) → AnyOf (HasIt q h) now → AnyOf (HasIt q h) (map (sees d) before ++ (now ++ map (sees d) behind))
+  pub now_after : (d : Channel T Waiter) (q : ℕ) (h : Held) (before now behind : List (Under T Waiter)) → AnyOf (HasIt q h) now → AnyOf (HasIt q h) (map (sees d) before ++ (now ++ map (sees d) behind))
   now_after d q h before now behind j = any_right (HasIt q h) (map (sees d) before) (now ++ map (sees d) behind) (any_left (HasIt q h) now (map (sees d) behind) j)
 
   -- ---- wakes
@@ -161,7 +161,7 @@ module _ {T : Type 0} where
         by (inl j) = any_left (HasIt q h) st.before (st.mine ∷ st.behind) j
         by (inr j) = any_right (HasIt q h) st.before (st.mine ∷ st.behind) (inr j)
 
-    was_mine : (h : Held) → holding st.mine.at ≡ Some h → HoldsIn P s.under_way (calling p) h
+    pub was_mine : (h : Held) → holding st.mine.at ≡ Some h → HoldsIn P s.under_way (calling p) h
     was_mine h e = subst (λ (us : List (Under T Waiter)). AnyOf (HasIt p h) us) (sym st.there) (any_right (HasIt p h) st.before (st.mine ∷ st.behind) (inl (st.whose, e)))
 
     abbrev Now : List (Under T Waiter)
@@ -170,7 +170,7 @@ module _ {T : Type 0} where
     abbrev After : List (Under T Waiter)
     After = map (sees t.now) st.before ++ (Now ++ map (sees t.now) st.behind)
 
-    forth_calling : (q : ℕ) (h : Held) → HoldsIn P s.under_way (calling q) h → AnyOf (HasIt q h) After ⊎ ((calling q ≡ calling p) × (holding st.mine.at ≡ Some h))
+    pub forth_calling : (q : ℕ) (h : Held) → HoldsIn P s.under_way (calling q) h → AnyOf (HasIt q h) After ⊎ ((calling q ≡ calling p) × (holding st.mine.at ≡ Some h))
     forth_calling q h i = by (split_before q h st.before st.mine st.behind (subst (λ (us : List (Under T Waiter)). AnyOf (HasIt q h) us) st.there i))
       where
         by : Beyond q h st.before st.behind ⊎ HasIt q h st.mine → AnyOf (HasIt q h) After ⊎ ((calling q ≡ calling p) × (holding st.mine.at ≡ Some h))
@@ -258,10 +258,10 @@ module _ {T : Type 0} where
         }
         )
 
-inner : {X : Type 0} (x y : X) → Some x ≡ Some y → x ≡ y
+pub inner : {X : Type 0} (x y : X) → Some x ≡ Some y → x ≡ y
 inner x y e = ap (λ (o : Option _). elim o [ None ↦ x | Some z ↦ z ]) e
 
-subject_or : (x : Option Waiter) (v : Waiter) → (x ≡ Some v) ⊎ (x ≡ Some v → ⊥)
+pub subject_or : (x : Option Waiter) (v : Waiter) → (x ≡ Some v) ⊎ (x ≡ Some v → ⊥)
 subject_or None v = inr (λ e. absurd (let no : None ≡ Some v = e in cc))
 subject_or (Some w) v = by (waiter_or w v)
   where
@@ -269,7 +269,7 @@ subject_or (Some w) v = by (waiter_or w v)
     by (inl e) = inl (ap (λ (x : Waiter). let o : Option Waiter = Some x in o) e)
     by (inr f) = inr (λ e. f (inner w v e))
 
-waits_is : (h k : Held) (b c : Bool) → waits h b ≡ waits k c → h ≡ k
+pub waits_is : (h k : Held) (b c : Bool) → waits h b ≡ waits k c → h ≡ k
 waits_is h k b c e = ap (λ (x : Post). elim x [ waits z d ↦ z | free ↦ h | vacant ↦ h | amiss ↦ h | rests l ↦ h | polled l ↦ h ]) e
 
 no_waits_amiss : (h : Held) (b : Bool) → waits h b ≡ amiss → ⊥
@@ -306,7 +306,7 @@ module _ {T : Type 0} where
     abbrev E2 : Waiter → Post
     E2 = post (settled pt.agent.errand y kept (all_woken names b.roll))
 
-    leaves : LeavesIt T Waiter st.mine.ask kept end_out.has t.now
+    pub leaves : LeavesIt T Waiter st.mine.ask kept end_out.has t.now
     leaves = let f = st.finishes in subst (λ (k : Kept T). LeavesIt T Waiter st.mine.ask k end_out.has t.now) (finished_is end_out.next.0 kept st.at_now end_out.next.1 f.at_end) end_out.next.2
 
     is_left : IsLeft kept wait
@@ -319,13 +319,13 @@ module _ {T : Type 0} where
     keep1 : (v : Waiter) → IsBusy (post b.roll v) → E1 v ≡ post b.roll v
     keep1 v i = mid_busy names b.roll v i
 
-    busy_own : (v : Waiter) → subject pt.agent.errand ≡ Some v → IsBusy (post b.roll v)
+    pub busy_own : (v : Waiter) → subject pt.agent.errand ≡ Some v → IsBusy (post b.roll v)
     busy_own v e = busy (post b.roll) pt.agent.errand wait v pt.own.suits e
 
     own_suits : Suits E1 pt.agent.errand wait
     own_suits = suits_on (post b.roll) E1 pt.agent.errand wait (λ v e. keep1 v (busy_own v e)) pt.own.suits
 
-    set : Settles E1 E2 pt.agent.errand kept wait
+    pub set : Settles E1 E2 pt.agent.errand kept wait
     set = settles (all_woken names b.roll) pt.agent.errand y kept wait is_left own_suits
 
     abbrev end_calls : List (Under T Waiter)
@@ -363,7 +363,7 @@ module _ {T : Type 0} where
         → (HoldsIn (post b.roll) s.under_way (named v) h × (named v ≡ calling p → ⊥)) ⊎ ((named v ≡ taker) × (end_out.has ≡ Some h))
     back_named taker v h w other e = inl (mid_back names b.roll v h w (sym (set.others v other) ∙ e), apart v p)
 
-    back_calling : (taker : Holder) (q : ℕ) (h : Held) → AnyOf (HasIt q h) end_calls
+    pub back_calling : (taker : Holder) (q : ℕ) (h : Held) → AnyOf (HasIt q h) end_calls
         → (HoldsIn (post b.roll) s.under_way (calling q) h × (calling q ≡ calling p → ⊥)) ⊎ ((calling q ≡ taker) × (end_out.has ≡ Some h))
     back_calling taker q h i = by (split_after t.now q h st.before [] st.behind i)
       where
@@ -467,7 +467,7 @@ module _ {T : Type 0} where
       after.4 ∙ (ap (λ (x : Roll T). record { roll = x; agents = remove b.agents after.0 }) roll ∙ ap (λ (l : List (Agent T)). record { roll = settled pt.agent.errand y f.kept (all_woken names b.roll); agents = l }) rest) in
       subst (λ (d : Book T). Owned d t) (sym same) (ends_owned b s t q.0 m y kp names o known st)
 
-  idle_and_free : (q : PartyId) (c : Call T) (b : Book T) → step_refusal b.roll b.agents (step.Begin q c) ≡ None → (is_at_work q.0 b.agents ≡ false) × (refusal b.roll c ≡ None)
+  pub idle_and_free : (q : PartyId) (c : Call T) (b : Book T) → step_refusal b.roll b.agents (step.Begin q c) ≡ None → (is_at_work q.0 b.agents ≡ false) × (refusal b.roll c ≡ None)
   idle_and_free q c b h = by (is_at_work q.0 b.agents) refl h
     where
       by : (x : Bool) → is_at_work q.0 b.agents ≡ x → (if x then Some Busy else refusal b.roll c) ≡ None → (is_at_work q.0 b.agents ≡ false) × (refusal b.roll c ≡ None)

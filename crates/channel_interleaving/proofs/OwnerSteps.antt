@@ -44,7 +44,7 @@ busy_waits x h b c e = subst IsBusy e c
 busy_amiss : (x : Post) → IsBusy x → x ≡ amiss → ⊥
 busy_amiss x c e = subst IsBusy e c
 
-busy_loose : (x : Post) → IsBusy x → IsLoose x → ⊥
+pub busy_loose : (x : Post) → IsBusy x → IsLoose x → ⊥
 busy_loose vacant b l = l
 busy_loose (polled line) b l = l
 busy_loose free b l = b
@@ -101,7 +101,7 @@ calling_is p q e = ap (λ (x : Holder). elim x [ named z ↦ p | calling r ↦ r
 pub apart : (w : Waiter) (p : ℕ) → named w ≡ calling p → ⊥
 apart w p e = absurd (cc e)
 
-first_calm : (T : Type 0) (w : Waiter) → IsCalm (post {T = T} first_roll w)
+pub first_calm : (T : Type 0) (w : Waiter) → IsCalm (post {T = T} first_roll w)
 first_calm T (Op op) = tt
 first_calm T (Stream handle) = by (nat_eq handle.0 1) (nat_eq handle.0 0)
   where

@@ -10,6 +10,7 @@ use Rattle.channel_steps.specs.Scene.{Scene, Shows, parties_in}
 use Rattle.channel_laws.specs.Sound.{AllSound}
 use Rattle.channel_interleaving.specs.Owed.{Owed}
 use Rattle.channel_interleaving.specs.Owners.{Owned}
+use Rattle.channel_interleaving.specs.OwnerWoken.{WokenSound}
 use Rattle.channel_interleaving.specs.Roll.{first_roll}
 use Rattle.channel_interleaving.specs.Run.{Book, Made, IsRun, channel_step}
 use Rattle.channel_interleaving.specs.declared.floor.Floor.{Floor}
@@ -50,11 +51,13 @@ module _ {T : Type 0} where
     pub messages : g.messages ≡ f.messages
     pub made : g.made ≡ f.made
 
-  -- each listener has its owner, and nobody who waits is forgotten, in a scene that is shown
+  -- each listener has its owner, who is told was woken under his own name, and nobody who waits is forgotten, in a scene that
+  -- is shown
   pub record AreOwned (f : Floor T) : Type 0 where
     pub scene : Scene T Waiter
     pub shown : Shown f scene
     pub owned : Owned (book_of f) scene
+    pub woken : WokenSound (book_of f) scene
     pub sound : AllSound scene
 
   -- each who is pending and was not woken is owed no more than is to come, in a scene that is shown
@@ -92,6 +95,7 @@ module _ {T : Type 0} where
     pub shown : Shown new last
     pub accounts : Accounts s last
     pub owned : Owned (book_of old) s → Owned (book_of new) last
+    pub woken : Owned (book_of old) s → WokenSound (book_of old) s → WokenSound (book_of new) last
     pub sound : AllSound s → AllSound last
 
   abbrev pub RanTo : List (Step T) → List (Step T) → Floor T → List (Entry T) → Floor T → Type 0

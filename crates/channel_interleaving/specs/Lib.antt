@@ -5,4 +5,5 @@ pub mod Woken
 pub mod Run
 pub mod Owners
 pub mod Owed
+pub mod OwnerWoken
 pub mod Floor

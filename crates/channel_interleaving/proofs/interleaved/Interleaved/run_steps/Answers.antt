@@ -7,7 +7,7 @@ pub invariant_of-self : goal.invariant_of-self
 invariant_of-self g c =
     let before = c.self.invariant.listeners in
     let ran = c.run_steps.ensures.ran before.scene before.shown in
-    record { listeners = record { scene = ran.last; shown = ran.shown; owned = ran.owned before.owned; sound = ran.sound before.sound }; at_work = c.run_steps.ensures.at_work }
+    record { listeners = record { scene = ran.last; shown = ran.shown; owned = ran.owned before.owned; woken = ran.woken before.owned before.woken; sound = ran.sound before.sound }; at_work = c.run_steps.ensures.at_work }
 
 pub returns-clause-ran : goal.returns-clause-ran
 returns-clause-ran g c =
@@ -17,7 +17,7 @@ pub returns-clause-owned : goal.returns-clause-owned
 returns-clause-owned g c =
     let before = c.self.invariant.listeners in
     let ran = c.run_steps.ensures.ran before.scene before.shown in
-    record { scene = ran.last; shown = ran.shown; owned = ran.owned before.owned; sound = ran.sound before.sound }
+    record { scene = ran.last; shown = ran.shown; owned = ran.owned before.owned; woken = ran.woken before.owned before.woken; sound = ran.sound before.sound }
 
 pub returns-clause-owed : goal.returns-clause-owed
 returns-clause-owed g c =

@@ -1,0 +1,473 @@
+-- A channel at rest shows a state of the model: on each list, those who hold its listeners.
+use Rattle.std.proofs.Common.{◌≡◌, ◌≤◌, ◌+◌, ℕ, Bool, true, false, List, [], ◌++◌, length, Option, None, Some, IsSome, ◌⊎◌, inl, inr, refl, sym, ap, ◌∙◌, subst, arith, append-nil}
+use Rattle.std.proofs.lemmas.List.Elements.{filter-append}
+use Rattle.std.specs.List.{filter}
+use Rattle.std.specs.Map.{keys_of}
+use Rattle.event_listener.specs.Lists.{Notice}
+use Rattle.event_listener.specs.declared.key.Key.{Key}
+use Rattle.async_channel.specs.Parts.{listeners}
+use Rattle.async_channel.specs.declared.stage.Line.{Line}
+use Rattle.async_channel.specs.declared.stage.Line.TheVariants.{Sends, Receives, Streams, Closings}
+use Rattle.channel_laws.specs.Amounts.{total, HoldsListener}
+use Rattle.channel_laws.specs.Closings.{AnswersClosed}
+use Rattle.channel_laws.specs.Notices.{told_of}
+use Rattle.channel_laws.specs.Receives.{counts_for_receives, MessagesAreFew}
+use Rattle.channel_laws.specs.Sends.{counts_for_sends, HasPlaces, PlacesAreFew}
+use Rattle.channel_laws.specs.Sound.{AllSound}
+use Rattle.channel_laws.specs.Streams.{AnswersFor}
+use Rattle.channel_laws.specs.Waits.{Waits, Any}
+use Rattle.channel_model.proofs.Counting.{count_append, among_append}
+use Rattle.channel_model.specs.Awake.{Kind, Enough, times, times_in, Placed, AwakeIn}
+use Rattle.channel_model.specs.Laws.{line_of, is_line, same_line, count_of, free_places}
+use Rattle.channel_model.specs.Lines.{Waiting, same_waiter, is_among, untold}
+use Rattle.channel_model.specs.State.{State}
+use Rattle.channel_model.specs.declared.name.Waiter.{Waiter}
+use Rattle.channel_refinement.proofs.Calls.{calls_over}
+use Rattle.channel_steps.specs.Moments.{Shut}
+use Rattle.channel_steps.specs.Scene.{Under, Scene}
+use Rattle.channel_interleaving.specs.Owners.{IsAmong, waits, post, holding, keys, IsListed, Holder, named, calling, AnyOf, HoldsIn, Owned}
+use Rattle.channel_interleaving.specs.OwnerWoken.{WokenAreTold}
+use Rattle.channel_interleaving.specs.Roll.{names_of, held_of}
+use Rattle.channel_interleaving.specs.Run.{Book}
+use Rattle.channel_interleaving.proofs.OwnerWokenLists.{key_of_entry}
+use Rattle.channel_interleaving.proofs.OwnerLists.{among_left, among_right, none_parts}
+use Rattle.channel_interleaving.proofs.OwnerSteps.{named_is}
+use Rattle.channel_rest.proofs.Lists.{same_entry, all_keys, Stand, named_all, stand_join, stand_length, stand_none, stand_once, stand_there, some_waits, stand_kind, stand_all, stand_other, are_untold, are_told}
+use Rattle.channel_rest.proofs.Names.{on, same_held, Pends, line_is, holds_it, pends}
+use Rattle.channel_rest.specs.Rest.{IsWorld, RestIsAWorld}
+use Rattle.channel_refinement.specs.Shows.{of_line, ShowsLine, ShowsLines, KeysFit, Shows, AreUntold, AreTold}
+
+-- ---- four lists of names, one after another
+
+four : (p : Waiter → Bool) (a b c d a' b' c' d' : List Waiter) → filter p a ≡ a' → filter p b ≡ b' → filter p c ≡ c'
+    → filter p d ≡ d' → filter p (a ++ (b ++ (c ++ d))) ≡ a' ++ (b' ++ (c' ++ d'))
+four p a b c d a' b' c' d' e f g h =
+    let last : filter p (c ++ d) ≡ c' ++ d' =
+    filter-append p c d ∙ (ap (λ (x : List Waiter). x ++ filter p d) g ∙ ap (λ (x : List Waiter). c' ++ x) h) in
+    let more : filter p (b ++ (c ++ d)) ≡ b' ++ (c' ++ d') =
+    filter-append p b (c ++ d) ∙ (ap (λ (x : List Waiter). x ++ filter p (c ++ d)) f ∙ ap (λ (x : List Waiter). b' ++ x) last)
+    in
+    filter-append p a (b ++ (c ++ d)) ∙ (ap (λ (x : List Waiter). x ++ filter p (b ++ (c ++ d))) e ∙ ap
+    (λ (x : List Waiter). a' ++ x) more)
+
+own_line : (line : Line) → same_line line line ≡ true
+own_line Sends = refl
+own_line Receives = refl
+own_line Streams = refl
+own_line Closings = refl
+
+fits : (capacity : Option ℕ) (m t : ℕ) → HasPlaces capacity (m + t + 0) → free_places capacity m ≤ t
+fits None m t h = absurd h
+fits (Some c) m t h = omega (arith, h)
+
+module _ {T : Type 0} (b : Book T) (s : Scene T Waiter) (owned : Owned b s) (sound : AllSound s) (woken : WokenAreTold b s)
+    (rest : s.under_way ≡ []) where
+  abbrev kind : Kind
+  kind = line_of (names_of b.roll)
+
+  abbrev told : Line → List (Key × Notice Unit)
+  told line = told_of line s.now
+
+  abbrev waiting : Line → List (Key × Option Waiter)
+  waiting line = (listeners line s.now.roster).waiting
+
+  -- ---- who holds what
+
+  abbrev Has : Line → Key → Waiter → Type 0
+  Has line key w = (is_woken : Bool) × (post b.roll w ≡ waits (on line key) is_woken)
+
+  holder : (line : Line) (key : Key) → IsListed (on line key) s.now → (w : Waiter) × Has line key w
+  holder line key i = let held = owned.held (on line key) i in by held.0 held.1
+    where
+      by : (x : Holder) → HoldsIn (post b.roll) s.under_way x (on line key) → (w : Waiter) × Has line key w
+      by (named w) h = (w, h)
+      by (calling party) h =
+          absurd (subst (λ (us : List (Under T Waiter)). AnyOf (λ u. (u.party ≡ party) × (holding u.at ≡ Some (on line key)))
+          us) rest h)
+
+  one_name : (line : Line) (key : Key) (v w : Waiter) → Has line key v → Has line key w → v ≡ w
+  one_name line key v w h g = named_is v w (owned.alone (named v) (named w) (on line key) h g)
+
+  one_key : (line : Line) (w : Waiter) (j k : Key) → Has line j w → Has line k w → j ≡ k
+  one_key line w j k h g = ap (λ x. x.key) (same_held (on line j) (on line k) h.0 g.0 (sym h.1 ∙ g.1))
+
+  of_its_line : (line : Line) (key : Key) (w : Waiter) → Has line key w → kind w ≡ Some line
+  of_its_line line key w h = line_is b.roll w (on line key) h.0 h.1
+
+  its_key : (line : Line) (key : Key) (w : Waiter) → Has line key w → held_of b.roll w ≡ Some key
+  its_key line key w h = holds_it b.roll w (on line key) h.0 h.1
+
+  told_names : (line : Line) → (ws : List Waiter) × Stand (Has line) (keys_of (told line)) ws
+  told_names line = named_all (Has line) (keys_of (told line))
+      (λ key i. holder line key (among_left key (keys_of (told line)) (keys_of (waiting line)) i))
+
+  waiting_names : (line : Line) → (ws : List Waiter) × Stand (Has line) (keys_of (waiting line)) ws
+  waiting_names line = named_all (Has line) (keys_of (waiting line))
+      (λ key i. holder line key (among_right key (keys_of (told line)) (keys_of (waiting line)) i))
+
+  abbrev D : Line → List Waiter
+  D line = (told_names line).0
+
+  abbrev U : Line → List Waiter
+  U line = (waiting_names line).0
+
+  all_names : (line : Line) → Stand (Has line) (keys (listeners line s.now.roster)) (D line ++ U line)
+  all_names line = stand_join (Has line) (keys_of (told line)) (keys_of (waiting line)) (D line) (U line) (told_names line).1
+      (waiting_names line).1
+
+  -- ---- the state
+
+  abbrev who : Waiting
+  who = record {
+    sends = U Sends;
+    receives = U Receives;
+    streams = U Streams;
+    closings = U Closings;
+    woken = D Sends ++
+        (D Receives ++ (D Streams ++ D Closings));
+  }
+
+  abbrev state : State T
+  state =
+      record {
+        channel = record {
+          messages = s.now.queue.items;
+          capacity = s.now.queue.capacity;
+          closed = s.now.queue.closed;
+          senders = s.now.roster.senders;
+          receivers = s.now.roster.receivers;
+        };
+        names = names_of b.roll;
+        waiting = who;
+      }
+
+  untold_are : (line : Line) → untold line who ≡ U line
+  untold_are Sends = refl
+  untold_are Receives = refl
+  untold_are Streams = refl
+  untold_are Closings = refl
+
+  mine : (line : Line) → of_line kind line (D line) ≡ D line
+  mine line =
+      stand_all (Has line) kind line (of_its_line line) (keys_of (told line)) (D line) (own_line line) (told_names line).1
+
+  theirs : (line other : Line) → same_line line other ≡ false → of_line kind line (D other) ≡ []
+  theirs line other apart =
+      stand_other (Has other) kind other (of_its_line other) line (keys_of (told other)) (D other) apart (told_names other).1
+
+  woken_are : (line : Line) → of_line kind line who.woken ≡ D line
+  woken_are Sends =
+      four (λ w. is_line Sends (kind w)) (D Sends) (D Receives) (D Streams) (D Closings) (D Sends) [] [] [] (mine Sends)
+      (theirs Sends Receives refl) (theirs Sends Streams refl) (theirs Sends Closings refl)
+      ∙ append-nil (D Sends)
+  woken_are Receives =
+      four (λ w. is_line Receives (kind w)) (D Sends) (D Receives) (D Streams) (D Closings) [] (D Receives) [] []
+      (theirs Receives Sends refl) (mine Receives) (theirs Receives Streams refl) (theirs Receives Closings refl)
+      ∙ append-nil (D Receives)
+  woken_are Streams =
+      four (λ w. is_line Streams (kind w)) (D Sends) (D Receives) (D Streams) (D Closings) [] [] (D Streams) []
+      (theirs Streams Sends refl) (theirs Streams Receives refl) (mine Streams) (theirs Streams Closings refl)
+      ∙ append-nil (D Streams)
+  woken_are Closings =
+      four (λ w. is_line Closings (kind w)) (D Sends) (D Receives) (D Streams) (D Closings) [] [] [] (D Closings)
+      (theirs Closings Sends refl) (theirs Closings Receives refl) (theirs Closings Streams refl) (mine Closings)
+
+  -- ---- the lines
+
+  -- whoever holds a waiting listener waits for his own name
+  his_task : (line : Line) (e : Key × Option Waiter) (w : Waiter) → IsAmong e (waiting line) → Has line e.0 w → e.1 ≡ Some w
+  his_task line e w i (false, p) =
+      let parts = none_parts (keys_of (told line)) (keys_of (waiting line)) (owned.once line) in
+      let same : e ≡ (e.0, Some w) =
+      same_entry e (e.0, Some w) (waiting line) parts.right refl i (owned.unwoken w (on line e.0) p) in
+      ap (λ (x : Key × Option Waiter). x.1) same
+  his_task line e w i (true, p) =
+      let parts = none_parts (keys_of (told line)) (keys_of (waiting line)) (owned.once line) in
+      absurd (parts.apart e.0 (woken w (on line e.0) p) (key_of_entry e (waiting line) i))
+
+  shows_line : (line : Line) → ShowsLine kind (held_of b.roll) s.now.queue.closed line (listeners line s.now.roster) who
+  shows_line line =
+      record {
+        untold = subst (λ (ws : List Waiter). AreUntold (held_of b.roll) (waiting line) ws) (sym (untold_are line))
+            (are_untold (Has line) (held_of b.roll) (its_key line) (waiting line) (U line) (his_task line)
+            (waiting_names line).1);
+        told = subst (λ (ws : List Waiter). AreTold (held_of b.roll) s.now.queue.closed line (told line) ws)
+            (sym (woken_are line))
+            (are_told (Has line) (held_of b.roll) (its_key line) s.now.queue.closed line (told line) (D line)
+            (sound.tellings.while_open line) (told_names line).1);
+      }
+
+  shows_lines : ShowsLines kind (held_of b.roll) s.now.queue.closed s.now.roster who
+  shows_lines Sends = shows_line Sends
+  shows_lines Receives = shows_line Receives
+  shows_lines Streams = shows_line Streams
+  shows_lines Closings = shows_line Closings
+
+  -- ---- how often a name stands
+
+  abbrev often : Waiter → Line → ℕ
+  often w line = times w (U line) + times w (D line)
+
+  both_lists : (w : Waiter) (line : Line) → times w (D line ++ U line) ≡ times w (D line) + times w (U line)
+  both_lists w line = count_append (same_waiter w) (D line) (U line)
+
+  once : (w : Waiter) (line : Line) → often w line ≤ 1
+  once w line =
+      let one : times w (D line ++ U line) ≤ 1 = stand_once (Has line) (keys (listeners line s.now.roster)) (D line ++ U line)
+      w (owned.once line) (one_key line w) (all_names line) in
+      let split = both_lists w line in
+      omega (arith, one, split)
+
+  never : (w : Waiter) (line : Line) → (kind w ≡ Some line → ⊥) → often w line ≡ 0
+  never w line other =
+      let first = stand_none (Has line) (keys_of (waiting line)) (U line) w (waiting_names line).1
+      (λ key i h. other (of_its_line line key w h)) in
+      let second = stand_none (Has line) (keys_of (told line)) (D line) w (told_names line).1
+      (λ key i h. other (of_its_line line key w h)) in
+      omega (arith, first, second)
+
+  there : (w : Waiter) (line : Line) (key : Key) → Has line key w → 1 ≤ often w line
+  there w line key h =
+      let one : 1 ≤ times w (D line ++ U line) = stand_there (Has line) (keys (listeners line s.now.roster))
+      (D line ++ U line) w key (λ v g. one_name line key v w g h) (all_names line)
+      (owned.listed (named w) (on line key) h) in
+      let split = both_lists w line in
+      omega (arith, one, split)
+
+  in_all : (w : Waiter) → times_in w who ≡ often w Sends + often w Receives + often w Streams + often w Closings
+  in_all w =
+      let first : times w (D Sends ++ (D Receives ++ (D Streams ++ D Closings))) ≡ times w (D Sends) + times w
+      (D Receives ++ (D Streams ++ D Closings)) = count_append (same_waiter w) (D Sends)
+      (D Receives ++ (D Streams ++ D Closings)) in
+      let second : times w (D Receives ++ (D Streams ++ D Closings)) ≡ times w (D Receives) + times w
+      (D Streams ++ D Closings) = count_append (same_waiter w) (D Receives) (D Streams ++ D Closings) in
+      let third : times w (D Streams ++ D Closings) ≡ times w (D Streams) + times w (D Closings) =
+      count_append (same_waiter w) (D Streams) (D Closings) in
+      omega (arith, first, second, third)
+
+  at_most_once : (w : Waiter) → times_in w who ≤ 1
+  at_most_once w = by (kind w) refl
+    where
+      other : (o : Option Line) (line : Line) → kind w ≡ o → (o ≡ Some line → ⊥) → often w line ≡ 0
+      other o line e f = never w line (λ g. f (sym e ∙ g))
+
+      by : (o : Option Line) → kind w ≡ o → times_in w who ≤ 1
+      by None e =
+          let all = in_all w in
+          let i = other None Sends e (λ g. let no : None ≡ Some Sends = g in cc) in
+          let j = other None Receives e (λ g. let no : None ≡ Some Receives = g in cc) in
+          let k = other None Streams e (λ g. let no : None ≡ Some Streams = g in cc) in
+          let l = other None Closings e (λ g. let no : None ≡ Some Closings = g in cc) in
+          omega (arith, all, i, j, k, l)
+      by (Some Sends) e =
+          let all = in_all w in
+          let i = once w Sends in
+          let j = other (Some Sends) Receives e (λ g. let no : Some Sends ≡ Some Receives = g in cc) in
+          let k = other (Some Sends) Streams e (λ g. let no : Some Sends ≡ Some Streams = g in cc) in
+          let l = other (Some Sends) Closings e (λ g. let no : Some Sends ≡ Some Closings = g in cc) in
+          omega (arith, all, i, j, k, l)
+      by (Some Receives) e =
+          let all = in_all w in
+          let i = other (Some Receives) Sends e (λ g. let no : Some Receives ≡ Some Sends = g in cc) in
+          let j = once w Receives in
+          let k = other (Some Receives) Streams e (λ g. let no : Some Receives ≡ Some Streams = g in cc) in
+          let l = other (Some Receives) Closings e (λ g. let no : Some Receives ≡ Some Closings = g in cc) in
+          omega (arith, all, i, j, k, l)
+      by (Some Streams) e =
+          let all = in_all w in
+          let i = other (Some Streams) Sends e (λ g. let no : Some Streams ≡ Some Sends = g in cc) in
+          let j = other (Some Streams) Receives e (λ g. let no : Some Streams ≡ Some Receives = g in cc) in
+          let k = once w Streams in
+          let l = other (Some Streams) Closings e (λ g. let no : Some Streams ≡ Some Closings = g in cc) in
+          omega (arith, all, i, j, k, l)
+      by (Some Closings) e =
+          let all = in_all w in
+          let i = other (Some Closings) Sends e (λ g. let no : Some Closings ≡ Some Sends = g in cc) in
+          let j = other (Some Closings) Receives e (λ g. let no : Some Closings ≡ Some Receives = g in cc) in
+          let k = other (Some Closings) Streams e (λ g. let no : Some Closings ≡ Some Streams = g in cc) in
+          let l = once w Closings in
+          omega (arith, all, i, j, k, l)
+
+  stands : (w : Waiter) (line : Line) → 1 ≤ often w line → 1 ≤ times_in w who
+  stands w Sends h = let all = in_all w in omega (arith, all, h)
+  stands w Receives h = let all = in_all w in omega (arith, all, h)
+  stands w Streams h = let all = in_all w in omega (arith, all, h)
+  stands w Closings h = let all = in_all w in omega (arith, all, h)
+
+  -- ---- the keys
+
+  has : (w : Waiter) (key : Key) → held_of b.roll w ≡ Some key → (line : Line) × Has line key w
+  has w key e = by (pends b.roll w key e)
+    where
+      by : Pends (post b.roll w) key → (line : Line) × Has line key w
+      by (inl bad) = absurd (owned.none_amiss w bad)
+      by (inr h) = (h.0, (h.1, h.2))
+
+  keys_fit : KeysFit kind (held_of b.roll) who
+  keys_fit = record { holds = holds; apart = apart }
+    where
+      holds : (w : Waiter) (key : Key) → held_of b.roll w ≡ Some key → 1 ≤ times_in w who
+      holds w key e = let h = has w key e in stands w h.0 (there w h.0 key h.1)
+
+      on_its_line : (line : Line) (w : Waiter) (key : Key) → kind w ≡ Some line → held_of b.roll w ≡ Some key → Has line key w
+      on_its_line line w key k e =
+          let h = has w key e in
+          let same : Some h.0 ≡ Some line = sym (of_its_line h.0 key w h.1) ∙ k in
+          let is : h.0 ≡ line = ap (λ (o : Option Line). elim o [ None ↦ line | Some l ↦ l ]) same in
+          subst (λ (l : Line). Has l key w) is h.1
+
+      apart : (line : Line) (v w : Waiter) (key : Key) → kind v ≡ Some line → kind w ≡ Some line → held_of b.roll v ≡ Some key
+          → held_of b.roll w ≡ Some key → v ≡ w
+      apart line v w key k l e f = one_name line key v w (on_its_line line v key k e) (on_its_line line w key l f)
+
+  shows : Shows (held_of b.roll) s.now state
+  shows = record {
+    messages = refl;
+    closed = refl;
+    capacity = refl;
+    senders = refl;
+    receivers = refl;
+    lines = shows_lines;
+    keys = keys_fit;
+  }
+
+  -- ---- nobody is asleep
+
+  abbrev many : ℕ
+  many = length s.now.queue.items
+
+  told_many : (line : Line) → count_of kind line who.woken ≡ length (told line)
+  told_many line = ap (λ (ws : List Waiter). length ws) (woken_are line) ∙
+      (stand_length (Has line) (keys_of (told line)) (D line) (told_names line).1 ∙ all_keys (told line))
+
+  nobody_or : (line : Line) → (U line ≡ []) ⊎ ((key : Key) × Waits line key s.now)
+  nobody_or line = some_waits (Has line) (waiting line) (U line) (waiting_names line).1
+
+  owed : {X : Type 0} (P : Under T Waiter → Type 0) → X ⊎ Any P [] → X
+  owed P (inl h) = h
+  owed P (inr h) = absurd h
+
+  receives_owed : (key : Key) → Waits Receives key s.now → MessagesAreFew s.now 0
+  receives_owed key i =
+      owed (λ u. HoldsListener Receives key u.at)
+      (subst (λ (us : List (Under T Waiter)). MessagesAreFew s.now (total counts_for_receives us) ⊎ Any
+      (λ u. HoldsListener Receives key u.at) us) rest (sound.receives.owed key i))
+
+  sends_owed : (key : Key) → Waits Sends key s.now → PlacesAreFew s.now 0
+  sends_owed key i =
+      owed (λ u. HoldsListener Sends key u.at)
+      (subst (λ (us : List (Under T Waiter)). PlacesAreFew s.now (total counts_for_sends us) ⊎ Any
+      (λ u. HoldsListener Sends key u.at) us) rest (sound.sends.owed key i))
+
+  streams_owed : (key : Key) → Waits Streams key s.now → s.now.queue.items ≡ []
+  streams_owed key i =
+      owed (AnswersFor key)
+      (subst (λ (us : List (Under T Waiter)). (s.now.queue.items ≡ []) ⊎ Any (AnswersFor key) us) rest
+      (sound.streams.owed key i))
+
+  closing_owed : (line : Line) (key : Key) → Shut s.now → Waits line key s.now → ⊥
+  closing_owed line key shut i =
+      subst (λ (us : List (Under T Waiter)). Any (AnswersClosed line key) us) rest (sound.closing.owed line key shut i)
+
+  receives_awake : Enough kind Receives many who
+  receives_awake = by (nobody_or Receives)
+    where
+      by : (U Receives ≡ []) ⊎ ((key : Key) × Waits Receives key s.now) → Enough kind Receives many who
+      by (inl none) = inl none
+      by (inr some) =
+          let few : many ≤ length (told Receives) + 0 = receives_owed some.0 some.1 in
+          let same = told_many Receives in
+          inr (omega (arith, few, same))
+
+  sends_awake : s.now.queue.closed ≡ false → Enough kind Sends (free_places s.now.queue.capacity many) who
+  sends_awake opened = by (nobody_or Sends)
+    where
+      enough : PlacesAreFew s.now 0 → free_places s.now.queue.capacity many ≤ length (told Sends)
+      enough (inl shut) = absurd (let never : true ≡ false = sym shut ∙ opened in cc)
+      enough (inr few) = fits s.now.queue.capacity many (length (told Sends)) few
+
+      by : (U Sends ≡ []) ⊎ ((key : Key) × Waits Sends key s.now)
+          → Enough kind Sends (free_places s.now.queue.capacity many) who
+      by (inl none) = inl none
+      by (inr some) = inr (subst (λ (n : ℕ). free_places s.now.queue.capacity many ≤ n) (sym (told_many Sends))
+          (enough (sends_owed some.0 some.1)))
+
+  unbounded : s.now.queue.capacity ≡ None → U Sends ≡ []
+  unbounded bare = by (nobody_or Sends)
+    where
+      never_owed : (key : Key) → Waits Sends key s.now → PlacesAreFew s.now 0 → ⊥
+      never_owed key i (inl shut) = closing_owed Sends key shut i
+      never_owed key i (inr few) = subst (λ (c : Option ℕ). HasPlaces c (many + length (told Sends) + 0)) bare few
+
+      by : (U Sends ≡ []) ⊎ ((key : Key) × Waits Sends key s.now) → U Sends ≡ []
+      by (inl none) = none
+      by (inr some) = absurd (never_owed some.0 some.1 (sends_owed some.0 some.1))
+
+  streams_awake : (U Streams ≡ []) ⊎ (many ≡ 0)
+  streams_awake = by (nobody_or Streams)
+    where
+      by : (U Streams ≡ []) ⊎ ((key : Key) × Waits Streams key s.now) → (U Streams ≡ []) ⊎ (many ≡ 0)
+      by (inl none) = inl none
+      by (inr some) = inr (ap (λ (ms : List T). length ms) (streams_owed some.0 some.1))
+
+  opened : s.now.queue.closed ≡ true → (line : Line) → untold line who ≡ []
+  opened shut line = untold_are line ∙ by (nobody_or line)
+    where
+      by : (U line ≡ []) ⊎ ((key : Key) × Waits line key s.now) → U line ≡ []
+      by (inl none) = none
+      by (inr some) = absurd (closing_owed line some.0 shut some.1)
+
+  placed : Placed kind who
+  placed = record { lines = lines; wakes = wakes; once = at_most_once }
+    where
+      lines : (line : Line) (w : Waiter) → is_among w (untold line who) ≡ true → kind w ≡ Some line
+      lines line w i =
+          stand_kind (Has line) kind line (of_its_line line) (keys_of (waiting line)) (U line) w (waiting_names line).1
+          (ap (λ (ws : List Waiter). is_among w ws) (sym (untold_are line)) ∙ i)
+
+      of : (line : Line) (w : Waiter) → is_among w (D line) ≡ true → IsSome (kind w)
+      of line w i =
+          subst (λ (o : Option Line). IsSome o)
+          (sym (stand_kind (Has line) kind line (of_its_line line) (keys_of (told line)) (D line) w (told_names line).1 i))
+          refl
+
+      last : (w : Waiter) → (is_among w (D Streams) ≡ true) ⊎ (is_among w (D Closings) ≡ true) → IsSome (kind w)
+      last w (inl i) = of Streams w i
+      last w (inr i) = of Closings w i
+
+      more : (w : Waiter) → (is_among w (D Receives) ≡ true) ⊎ (is_among w (D Streams ++ D Closings) ≡ true) → IsSome (kind w)
+      more w (inl i) = of Receives w i
+      more w (inr i) = last w (among_append w (D Streams) (D Closings) i)
+
+      all : (w : Waiter) → (is_among w (D Sends) ≡ true) ⊎ (is_among w (D Receives ++ (D Streams ++ D Closings)) ≡ true)
+          → IsSome (kind w)
+      all w (inl i) = of Sends w i
+      all w (inr i) = more w (among_append w (D Receives) (D Streams ++ D Closings) i)
+
+      wakes : (w : Waiter) → is_among w who.woken ≡ true → IsSome (kind w)
+      wakes w i = all w (among_append w (D Sends) (D Receives ++ (D Streams ++ D Closings)) i)
+
+  awake : AwakeIn state
+  awake = record {
+    placed = placed;
+    receives = receives_awake;
+    sends = sends_awake;
+    unbounded = unbounded;
+    streams =
+        streams_awake;
+    opened = opened;
+  }
+
+  pub at_rest : (state : State T) × IsWorld b s state
+  at_rest = (
+    state,
+    record {
+      names = refl;
+      shows = shows;
+      awake = awake;
+      calls = λ c o fine alone. calls_over T c (held_of b.roll) s.now state o fine shows awake alone;
+    },
+  )
+
+pub rest_is_a_world : (T : Type 0) → RestIsAWorld T
+rest_is_a_world T b s owned sound woken rest = at_rest b s owned sound woken rest
