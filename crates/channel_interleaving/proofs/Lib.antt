@@ -20,3 +20,4 @@ pub mod OwnerWokenRuns
 pub mod OwedCounts
 pub mod OwedFacts
 pub mod FloorFacts
+pub mod PendingFacts

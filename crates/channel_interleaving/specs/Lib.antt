@@ -1,4 +1,5 @@
 pub mod Roll
+pub mod Pending
 pub mod Refusal
 pub mod Bookkeeping
 pub mod Woken

@@ -31,11 +31,13 @@ impl<T> Model for Interleaved<T> {
 }
 
 impl<T: Drop> Interleaved<T> {
-    ghost use Rattle.std.specs.Prelude.{◌≡◌, ◌<◌, ◌+◌, ◌-◌, ◌^◌, None, Some, Err, OnOk, OnErr, IfOk, length, vec_len};
+    ghost use Rattle.std.specs.Prelude.{◌≡◌, ◌<◌, ◌+◌, ◌-◌, ◌^◌, None, Some, Err, OnOk, OnErr, IfOk, length, vec_len, min};
     ghost use Rattle.channel_model.specs.declared.name.Waiter.{Waiter};
     ghost use Rattle.channel_steps.specs.Scene.{Scene};
     ghost use Rattle.channel_steps.specs.Start.{CountsCalls, TellsQuiet};
     ghost use Rattle.channel_interleaving.specs.Run.{Stops};
+    ghost use Rattle.channel_interleaving.specs.Roll.{is_woken};
+    ghost use Rattle.channel_interleaving.specs.Pending.{is_pending, how_many};
     ghost use Rattle.channel_interleaving.specs.Floor.{book_of, Shown, AreOwned, AreOwed, IsOpen, RanTo};
 
     /// An open channel of this capacity, without a message, and nobody at work.
@@ -139,14 +141,19 @@ impl<T: Drop> Interleaved<T> {
         self.floor.messages
     }
 
-    /// How many operations and streams are pending: they live, their last poll ended so, and no poll of them is under way. A
-    /// walk over all names. Own to this project.
-    pub fn pending(&self) -> usize {
+    /// How many operations and streams are pending: they live, their last poll ended so, and no poll of them is under way; or
+    /// 2^64 - 1 where they are more. A walk over all names. Own to this project.
+    pub fn pending(&self) -> usize
+        ensures { result ≡ min (how_many is_pending self.now.roll) (2 ^ 64 - 1) }
+    {
         self.floor.roll.count_pending()
     }
 
-    /// How many of those that are pending were woken since their last poll. A walk over all names. Own to this project.
-    pub fn woken(&self) -> usize {
+    /// How many of those that are pending were woken since their last poll; or 2^64 - 1 where they are more. A walk over all
+    /// names. Own to this project.
+    pub fn woken(&self) -> usize
+        ensures { result ≡ min (how_many is_woken self.now.roll) (2 ^ 64 - 1) }
+    {
         self.floor.roll.count_woken()
     }
 }

@@ -1,8 +1,9 @@
 //! A channel with its handles and operations by name, and the calls of several parties under way, in any interleaving.
 //!
-//! What is said of it is in the contracts, and what they mean in `specs/`: `Roll` (what lives under which name), `Refusal`
-//! (which steps are refused), `Bookkeeping` (what a call asks as it begins, and what it writes back at its end), `Run`, `Owners`
-//! (who holds each listener), `Owed` (the wake-ups owed to those who are pending), `Floor`.
+//! What is said of it is in the contracts, and what they mean in `specs/`: `Roll` (what lives under which name), `Pending` (how
+//! many are pending or woken), `Refusal` (which steps are refused), `Bookkeeping` (what a call asks as it begins, and what it
+//! writes back at its end), `Run`, `Owners` (who holds each listener), `Owed` (the wake-ups owed to those who are pending),
+//! `Floor`.
 //!
 //! A call that goes through a receiver whose stream is being polled is refused as under way, its drop too. After 2^61 steps
 //! every step is refused for want of memory, before the positions of a queue end.
@@ -14,7 +15,8 @@
 //! holds, is what it held followed by what came; that at every moment each listener on a list is held by one alone, a pending
 //! operation or stream or a call under way, and nobody pending stays unwoken beside a message, free place or closing that no
 //! woken one or call under way answers for. The number of messages, the number of calls under way and whether there is
-//! any are the channel's. The numbers `pending` and `woken` have no contract; tests alone show them.
+//! any are the channel's. The numbers `pending` and `woken` are those of the operations and streams that stand so, up to
+//! 2^64 - 1.
 #![tactic(auto)]
 
 mod beginning;

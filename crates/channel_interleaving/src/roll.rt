@@ -153,8 +153,13 @@ impl<T> Roll<T> {
     }
 }
 
+ghost use Rattle.channel_interleaving.specs.Roll.{is_woken};
+ghost use Rattle.channel_interleaving.specs.Pending.{is_pending, operation_stands, stream_stands};
+
 /// Whether an operation is pending.
-fn is_pending<T>(operation: &Option<Operation<T>>) -> bool {
+fn is_pending<T>(operation: &Option<Operation<T>>) -> bool
+    ensures { result ≡ operation_stands is_pending operation.now }
+{
     match operation {
         Some(operation) => operation.standing.key().is_some(),
         None => false,
@@ -162,7 +167,9 @@ fn is_pending<T>(operation: &Option<Operation<T>>) -> bool {
 }
 
 /// Whether a stream is pending.
-fn is_stream_pending(hold: &Option<Hold>) -> bool {
+fn is_stream_pending(hold: &Option<Hold>) -> bool
+    ensures { result ≡ stream_stands is_pending hold.now }
+{
     match hold {
         Some(hold) => hold.standing.key().is_some(),
         None => false,
@@ -170,7 +177,9 @@ fn is_stream_pending(hold: &Option<Hold>) -> bool {
 }
 
 /// Whether an operation is pending and was woken.
-fn is_woken<T>(operation: &Option<Operation<T>>) -> bool {
+fn is_woken<T>(operation: &Option<Operation<T>>) -> bool
+    ensures { result ≡ operation_stands is_woken operation.now }
+{
     match operation {
         Some(operation) => operation.standing.is_woken(),
         None => false,
@@ -178,7 +187,9 @@ fn is_woken<T>(operation: &Option<Operation<T>>) -> bool {
 }
 
 /// Whether a stream is pending and was woken.
-fn is_stream_woken(hold: &Option<Hold>) -> bool {
+fn is_stream_woken(hold: &Option<Hold>) -> bool
+    ensures { result ≡ stream_stands is_woken hold.now }
+{
     match hold {
         Some(hold) => hold.standing.is_woken(),
         None => false,
@@ -186,8 +197,14 @@ fn is_stream_woken(hold: &Option<Hold>) -> bool {
 }
 
 impl<T> Roll<T> {
-    /// How many operations and streams are pending.
-    pub(crate) fn count_pending(&self) -> usize {
+    ghost use Rattle.std.specs.Prelude.{◌≡◌, ◌-◌, ◌^◌, min};
+    ghost use Rattle.channel_interleaving.specs.Roll.{is_woken};
+    ghost use Rattle.channel_interleaving.specs.Pending.{is_pending, how_many};
+
+    /// How many operations and streams are pending, or 2^64 - 1 where they are more.
+    pub(crate) fn count_pending(&self) -> usize
+        ensures { result ≡ min (how_many is_pending self.now) (2 ^ 64 - 1) }
+    {
         let operations = self.operations.iter();
         let operations = operations.filter(|(_, x)| is_pending(*x)).count();
         let streams = self.handles.iter();
@@ -195,8 +212,10 @@ impl<T> Roll<T> {
         operations.saturating_add(streams)
     }
 
-    /// How many of those that are pending were woken.
-    pub(crate) fn count_woken(&self) -> usize {
+    /// How many of those that are pending were woken, or 2^64 - 1 where they are more.
+    pub(crate) fn count_woken(&self) -> usize
+        ensures { result ≡ min (how_many is_woken self.now) (2 ^ 64 - 1) }
+    {
         let operations = self.operations.iter();
         let operations = operations.filter(|(_, x)| is_woken(*x)).count();
         let streams = self.handles.iter();
