@@ -63,6 +63,7 @@ fn count<T>(form: QueueForm, used: u64, reply: &QueueReply<T>) -> u64
 }
 
 /// Steps a call to its end, and counts the position of the message that it brings.
+#[inline(never)]
 pub(crate) fn finish<T: Drop, C: Cells<T>>(
     cells: &mut C,
     used: &mut u64,
@@ -87,7 +88,7 @@ pub(crate) fn finish<T: Drop, C: Cells<T>>(
 }
 
 /// Appends a message: at once where nothing stands against it, else step by step.
-#[inline]
+#[inline(always)]
 pub(crate) fn push_into<T: Drop, C: Cells<T>>(
     cells: &mut C,
     used: &mut u64,
@@ -113,7 +114,7 @@ pub(crate) fn push_into<T: Drop, C: Cells<T>>(
 }
 
 /// Takes the oldest message: at once where it lies there, else step by step.
-#[inline]
+#[inline(always)]
 pub(crate) fn pop_from<T: Drop, C: Cells<T>>(cells: &mut C, used: &mut u64) -> Result<T, PopError>
     requires known { C.known }
     requires sound { IsSound (C.contents cells.old) used.old }

@@ -8,7 +8,7 @@ use crate::bounded::Shape;
 use crate::cells::{Cells, QueueForm, Slot, Word};
 
 /// Pushes into a ring where the place at the tail is free. `Err` hands the message back, and nothing is changed.
-#[inline]
+#[inline(always)]
 pub(crate) fn push_at_once<T: Drop, C: Cells<T>>(value: T, cells: &mut C) -> Result<(), T>
     ensures { C.known → PushesAtOnce (C.contents cells.old).form (C.contents cells.old) value result (C.contents cells.new) }
 {
@@ -19,7 +19,7 @@ pub(crate) fn push_at_once<T: Drop, C: Cells<T>>(value: T, cells: &mut C) -> Res
     }
 }
 
-#[inline]
+#[inline(always)]
 fn push_free<T: Drop, C: Cells<T>>(shape: Shape, value: T, cells: &mut C) -> Result<(), T>
     ensures { C.known → PushesFree shape.cap shape.mark (C.contents cells.old) value result (C.contents cells.new) }
 {
@@ -37,7 +37,7 @@ fn push_free<T: Drop, C: Cells<T>>(shape: Shape, value: T, cells: &mut C) -> Res
 }
 
 /// Pops from a ring where the message at the head is in. At `None` nothing is changed.
-#[inline]
+#[inline(always)]
 pub(crate) fn pop_at_once<T: Drop, C: Cells<T>>(cells: &mut C) -> Option<T>
     ensures { C.known → PopsAtOnce (C.contents cells.old).form (C.contents cells.old) result (C.contents cells.new) }
 {
@@ -48,7 +48,7 @@ pub(crate) fn pop_at_once<T: Drop, C: Cells<T>>(cells: &mut C) -> Option<T>
     }
 }
 
-#[inline]
+#[inline(always)]
 fn pop_there<T: Drop, C: Cells<T>>(shape: Shape, cells: &mut C) -> Option<T>
     ensures { C.known → PopsThere shape.cap shape.mark (C.contents cells.old) result (C.contents cells.new) }
 {
