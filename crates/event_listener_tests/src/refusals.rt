@@ -1,4 +1,4 @@
-//! What is answered where a growth is refused. Run with `rt try event_listener_tests --test --fail-alloc N` for N from 1 on,
+//! What is answered where a growth is refused. Run with `rt try --test --fail-alloc N` for N from 1 on,
 //! each growth is refused in turn.
 
 ghost use Rattle.std.specs.Prelude.{◌≡◌};
