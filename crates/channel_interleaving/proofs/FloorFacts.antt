@@ -36,6 +36,7 @@ use Rattle.channel_interleaving.proofs.CountFacts.{moved_by, accepts_one, messag
 use Rattle.channel_laws.proofs.Interface.{all_sound_new, all_sound_next}
 use Rattle.channel_laws.specs.Sound.{AllSound}
 use Rattle.channel_interleaving.proofs.OwnerRuns.{owned_next}
+use Rattle.channel_interleaving.proofs.OwedFacts.{owed}
 use Rattle.channel_interleaving.proofs.OwnerWokenRuns.{woken_first, woken_next}
 use Rattle.channel_interleaving.proofs.OwnerSteps.{owned_first}
 use Rattle.channel_interleaving.proofs.WokenFacts.{all_heard, few_woken}
@@ -204,7 +205,7 @@ module _ {T : Type 0} where
   sound_next s t b c x e made sound = all_sound_next s (channel_step b.roll x) _ e.woken.items t sound made.next
 
   pub ran_none : (steps : List (Step T)) (f : Floor T) → RanTo steps steps f [] f
-  ran_none steps f s sh = record { made = []; last = s; first = refl; run = (refl, refl, refl); shown = sh; accounts = no_accounts s; owned = λ o. o; woken = λ o w. w; sound = λ o. o }
+  ran_none steps f s sh = record { made = []; last = s; first = refl; run = (refl, refl, refl); shown = sh; accounts = no_accounts s; owned = λ o. o; woken = λ o w. w; sound = λ o. o; owed = λ o h. owed (book_of f) s o h }
 
   pub ran_more : (steps left : List (Step T)) (x : Step T) (f : Floor T) (trace : List (Entry T)) (g : Floor T) (e : Entry T) (h : Floor T)
       → RanTo steps (x ∷ left) f trace g → step_refusal g.roll g.agents.items x ≡ None → Steps x g e h → RanTo steps left f (trace ++ e ∷ []) h
@@ -223,6 +224,10 @@ module _ {T : Type 0} where
             (r.woken o w);
         owned = λ o. owned_next (book_of g) (book_of h) r.last t.after x e (let sh = r.shown.shows in sh.known) fine t.made (r.owned o);
         sound = λ o. sound_next r.last t.after (book_of g) (book_of h) x e t.made (r.sound o);
+        owed = λ o k.
+            owed (book_of h) t.after
+            (owned_next (book_of g) (book_of h) r.last t.after x e (let sh = r.shown.shows in sh.known) fine t.made (r.owned o))
+            (sound_next r.last t.after (book_of g) (book_of h) x e t.made (r.sound k));
       }
 
   -- ---- why a run stops
@@ -260,6 +265,7 @@ module _ {T : Type 0} where
         accounts = r.accounts;
         owned = λ o. rw same.book (r.owned o);
         woken = λ o w. rw same.book (r.woken o w);
+        owed = λ o k. rw same.book (r.owed o k);
         sound = r.sound;
       }
 

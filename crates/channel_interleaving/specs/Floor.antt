@@ -97,6 +97,7 @@ module _ {T : Type 0} where
     pub owned : Owned (book_of old) s → Owned (book_of new) last
     pub woken : Owned (book_of old) s → WokenSound (book_of old) s → WokenSound (book_of new) last
     pub sound : AllSound s → AllSound last
+    pub owed : Owned (book_of old) s → AllSound s → Owed (book_of new) last
 
   abbrev pub RanTo : List (Step T) → List (Step T) → Floor T → List (Entry T) → Floor T → Type 0
   RanTo steps left old trace new = (s : Scene T Waiter) → Shown old s → Ran steps left old trace new s
