@@ -18,11 +18,35 @@ use Rattle.channel_alone.specs.Run.{HasPosition, IsAtRest, Ran, RunsAlone}
 use Rattle.channel_alone.proofs.TryFacts.{idle}
 use Rattle.channel_alone.proofs.Order.{measure}
 use Rattle.channel_alone.proofs.FirstFacts.{first_rest, first_goes_on, Begun, begun}
-use Rattle.channel_alone.proofs.AloneFacts.{IsAlone, Advances, Answered, woken_on, answered, finished_kept, goes_on, step_next, step_nearer}
+use Rattle.channel_alone.proofs.AloneFacts.{IsAlone, Advances, Answered, woken_on, answered, finished_kept, goes_on, goes_on_so, step_next, step_nearer}
+
+module _ {T W : Type 0} (a : ChannelAsk T W) (parts0 : Parts T W) where
+  -- where a call begins, it has reached its first stage, over the queue that the cells mean
+  pub starts_over : (q : Queue T) → HasPosition q → (stage : Stage (QueueCall T) T W) (t : Begun (first a) parts0.cells q stage)
+      → Fits parts0.cells q []
+      → (y : IsAlone a (channel q parts0) parts0 stage []) × (y.now ≡ q) × (y.at ≡ t.at)
+  starts_over q position stage t fits =
+      let x : Advances a (channel q parts0) parts0 stage [] None =
+      record {
+        queue = q;
+        at = t.at;
+        turn = first a;
+        turned = t.turned;
+        idle = idle parts0.cells q fits;
+        fits = t.fits;
+        place = position;
+        capacity = refl;
+        accepted = omega arith;
+        unspent = λ h. refl;
+        on = λ o k. first_rest a (channel q parts0) o k;
+      }
+      in
+      goes_on_so a (channel q parts0) parts0 stage [] x
 
 module _ {T W S : Type 0} (wakes : S → W → S → Type 0) where
   -- how far the call has come, over the queue that the cells meant where it began
-  pub record Reached (a : ChannelAsk T W) (c0 : Channel T W) (sink0 : S) (parts : Parts T W) (stage : Stage (QueueCall T) T W) (sink : S) : Type 0 where
+  pub record Reached (a : ChannelAsk T W) (c0 : Channel T W) (sink0 : S) (parts : Parts T W) (stage : Stage (QueueCall T) T W)
+      (sink : S) : Type 0 where
     pub so_far : List W
     pub woken : Woken wakes sink0 so_far sink
     pub alone : IsAlone a c0 parts stage so_far
@@ -35,32 +59,22 @@ module _ {T W S : Type 0} (wakes : S → W → S → Type 0) where
     pub way_starts : (call : ChannelCall T W) → IsNewCall call (first a) → IsOnItsWay a parts0 sink0 parts0 call.stage sink0
     way_starts call begins q position fits =
         let none : begins.0 ≡ None = first_goes_on a begins.0 call.stage begins.1 in
-        let t : Begun (first a) parts0.cells q call.stage = begun parts0.cells q fits (first a) begins.0 call.stage none begins.1 in
-        let x : Advances a (channel q parts0) parts0 call.stage [] None =
-        record {
-          queue = q;
-          at = t.at;
-          turn = first a;
-          turned = t.turned;
-          idle = idle parts0.cells q fits;
-          fits = t.fits;
-          place = position;
-          capacity = refl;
-          accepted = omega arith;
-          unspent = λ h. refl;
-          on = λ o k. first_rest a (channel q parts0) o k;
-        }
-        in
-        record { so_far = []; woken = refl; alone = goes_on a (channel q parts0) parts0 call.stage [] x }
+        let t : Begun (first a) parts0.cells q call.stage =
+        begun parts0.cells q fits (first a) begins.0 call.stage none begins.1 in
+        let y = starts_over a parts0 q position call.stage t fits in
+        record { so_far = []; woken = refl; alone = y.0 }
 
-    module _ (parts : Parts T W) (stage : Stage (QueueCall T) T W) (sink : S) (way : IsOnItsWay a parts0 sink0 parts stage sink) (parts' : Parts T W) (stage' : Stage (QueueCall T) T W) (m : Mark) (sink' : S) where
+    module _ (parts : Parts T W) (stage : Stage (QueueCall T) T W) (sink : S) (way : IsOnItsWay a parts0 sink0 parts stage sink)
+        (parts' : Parts T W) (stage' : Stage (QueueCall T) T W) (m : Mark) (sink' : S) where
       module _ (step : IsChannelStep wakes parts stage sink parts' stage' m None sink') where
         pub way_nearer : IsAtRest parts0 → measure parts'.cells parts'.roster stage' < measure parts.cells parts.roster stage
         way_nearer (q, position, fits) =
             let x = way q position fits in
             step_nearer a (channel q parts0) parts x.so_far step.0 parts' stage' m None stage x.alone step.2
 
-        stays : (q : Queue T) (woken : List W) → (IsAlone a (channel q parts0) parts' stage' woken × ((let r : Option (Reply T) = None in r) ≡ None)) ⊎ Advances a (channel q parts0) parts' stage' woken None
+        stays : (q : Queue T) (woken : List W)
+            → (IsAlone a (channel q parts0) parts' stage' woken × ((let r : Option (Reply T) = None in r) ≡ None))
+            ⊎ Advances a (channel q parts0) parts' stage' woken None
             → IsAlone a (channel q parts0) parts' stage' woken
         stays q woken (inl h) = h.0
         stays q woken (inr h) = goes_on a (channel q parts0) parts' stage' woken h
@@ -71,11 +85,15 @@ module _ {T W S : Type 0} (wakes : S → W → S → Type 0) where
             record {
               so_far = x.so_far ++ step.0;
               woken = woken_on wakes sink0 sink sink' x.so_far step.0 x.woken step.1;
-              alone = stays q (x.so_far ++ step.0) (step_next a (channel q parts0) parts x.so_far step.0 parts' stage' m None stage x.alone step.2);
+              alone = stays q (x.so_far ++ step.0)
+                  (step_next a (channel q parts0) parts x.so_far step.0 parts' stage' m None stage x.alone step.2);
             }
 
-      module _ (y : Reply T) (step : IsChannelStep wakes parts stage sink parts' stage' m (Some y) sink') (kept : Kept T) (left : kept ≡ kept_by stage') where
-        ran_by : (q : Queue T) (woken : List W) → Woken wakes sink0 woken sink' → Advances a (channel q parts0) parts' stage' woken (Some y) → Ran wakes a q parts0 sink0 (record { reply = y; kept = kept }) parts' sink'
+      module _ (y : Reply T) (step : IsChannelStep wakes parts stage sink parts' stage' m (Some y) sink') (kept : Kept T)
+          (left : kept ≡ kept_by stage') where
+        ran_by : (q : Queue T) (woken : List W) → Woken wakes sink0 woken sink'
+            → Advances a (channel q parts0) parts' stage' woken (Some y)
+            → Ran wakes a q parts0 sink0 (record { reply = y; kept = kept }) parts' sink'
         ran_by q woken w x =
             let e : Answered x.turn y (phase x.at stage') = answered x.turn y (phase x.at stage') x.turned in
             let f = finished_kept x.at stage' e.kept e.finished in
@@ -92,7 +110,9 @@ module _ {T W S : Type 0} (wakes : S → W → S → Type 0) where
               woken = subst (λ (ws : List W). Woken wakes sink0 ws sink') (sym (append-nil woken)) w;
             }
 
-        ends_so : (q : Queue T) (woken : List W) → Woken wakes sink0 woken sink' → (IsAlone a (channel q parts0) parts' stage' woken × (Some y ≡ None)) ⊎ Advances a (channel q parts0) parts' stage' woken (Some y)
+        ends_so : (q : Queue T) (woken : List W) → Woken wakes sink0 woken sink'
+            → (IsAlone a (channel q parts0) parts' stage' woken × (Some y ≡ None))
+            ⊎ Advances a (channel q parts0) parts' stage' woken (Some y)
             → Ran wakes a q parts0 sink0 (record { reply = y; kept = kept }) parts' sink'
         ends_so q woken w (inl h) = absurd (let no : Some y ≡ None = h.1 in cc)
         ends_so q woken w (inr h) = ran_by q woken w h
@@ -100,4 +120,5 @@ module _ {T W S : Type 0} (wakes : S → W → S → Type 0) where
         pub way_ends : RunsAlone wakes a parts0 sink0 (record { reply = y; kept = kept }) parts' sink'
         way_ends q position fits =
             let x = way q position fits in
-            ends_so q (x.so_far ++ step.0) (woken_on wakes sink0 sink sink' x.so_far step.0 x.woken step.1) (step_next a (channel q parts0) parts x.so_far step.0 parts' stage' m (Some y) stage x.alone step.2)
+            ends_so q (x.so_far ++ step.0) (woken_on wakes sink0 sink sink' x.so_far step.0 x.woken step.1)
+            (step_next a (channel q parts0) parts x.so_far step.0 parts' stage' m (Some y) stage x.alone step.2)

@@ -2,12 +2,14 @@
 
 ghost use Rattle.async_channel.specs.Plain.{parts_of};
 ghost use Rattle.channel_alone.specs.Run.{IsAtRest, RunsAlone};
+ghost use Rattle.channel_alone.specs.Scenes.{RunsInScenes};
 
 use async_channel::ask::ChannelAsk;
 use async_channel::call::ChannelCall;
 use async_channel::plain::PlainChannel;
 use async_channel::reply::Reply;
 use async_channel::stage::Kept;
+use channel_steps::count::counted;
 use event_listener::wakes::Wakes;
 
 /// What a call left at its end.
@@ -21,18 +23,25 @@ pub struct Done<T> {
 
 /// Makes a call of a channel of one owner from its beginning to its end, with no other call under way, and never waits.
 /// Tasks that it wakes go to the sink in order. Want of memory is answered as the call's own refusal, with the message kept
-/// or handed back. Own to this project.
+/// or handed back. Where it is told how many messages the channel holds, it says so of the channel after it.
+///
+/// Its steps lead from scene to scene, as those of one party where no other is at work. Own to this project.
 pub fn run_alone<T: Drop, W: Drop, S: Wakes<W>>(
     ask: ChannelAsk<T, W>,
     channel: &mut PlainChannel<T, W>,
+    messages: &mut u64,
     sink: &mut S,
 ) -> Done<T>
     requires at_rest { IsAtRest (parts_of channel.old) }
     ensures alone { RunsAlone S.wakes ask (parts_of channel.old) sink.old result (parts_of channel.new) sink.new }
+    ensures scenes { RunsInScenes S.wakes ask (parts_of channel.old) sink.old messages.old
+        result (parts_of channel.new) sink.new messages.new }
 {
     let mut call = ChannelCall::new(ask);
     loop {
-        match call.step(channel, sink) {
+        let reply = call.step(channel, sink);
+        *messages = counted(*messages, call.last_mark());
+        match reply {
             Some(reply) => {
                 let kept = call.into_kept();
                 return Done { reply, kept };

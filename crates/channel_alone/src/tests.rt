@@ -54,7 +54,8 @@ fn run(
     requires { IsOneSlot (parts_of channel.old) }
     ensures { IsOneSlot (parts_of channel.new) }
 {
-    run_alone(ask, channel, names)
+    let mut messages = 0;
+    run_alone(ask, channel, &mut messages, names)
 }
 
 #[test]
@@ -244,8 +245,15 @@ fn at_rest(form: QueueForm, alloc: Global) -> Result<PlainChannel<u64, u32>, All
 fn a_ring_takes_a_message(rt: HostRuntime) -> Result<(), Fail> {
     let mut channel = at_rest(QueueForm::Bounded(3), rt.alloc())?;
     let mut names = no_names(&rt);
-    let done = run_alone(ChannelAsk::TrySend(10), &mut channel, &mut names);
+    let mut messages = 0;
+    let done = run_alone(
+        ChannelAsk::TrySend(10),
+        &mut channel,
+        &mut messages,
+        &mut names,
+    );
     assert!(rt; matches!(done.reply, Reply::TrySend(Ok(()))));
+    assert_eq!(rt; messages, 1);
     Ok(())
 }
 
@@ -253,8 +261,9 @@ fn a_ring_takes_a_message(rt: HostRuntime) -> Result<(), Fail> {
 fn an_unbounded_channel_keeps_a_listener(rt: HostRuntime) -> Result<(), Fail> {
     let mut channel = at_rest(QueueForm::Unbounded, rt.alloc())?;
     let mut names = no_names(&rt);
+    let mut messages = 0;
     let ask = ChannelAsk::PollRecv(None, 1);
-    let done = run_alone(ask, &mut channel, &mut names);
+    let done = run_alone(ask, &mut channel, &mut messages, &mut names);
     assert!(rt; matches!(done.reply, Reply::RecvPoll(Poll::Pending)));
     assert!(rt; done.kept.key.is_some());
     Ok(())

@@ -1,21 +1,30 @@
--- What a layer above may use: what is known of the calls under way stays known over every entry of a run.
-use Rattle.std.proofs.Common.{List, [], ◌∷◌, ◌++◌, map, Option, None, Some, sym, subst}
+-- What a layer above may use: what is known of the calls under way stays known over every entry of a run; a step of the
+-- only call under way; and how a step changes the number of messages.
+use Rattle.std.proofs.Common.{◌≡◌, ℕ, ◌+◌, ◌^◌, ◌≤◌, ◌<◌, List, [], ◌∷◌, ◌++◌, map, length, Option, None, Some, sym, subst}
 use Rattle.concurrent_queue.specs.Queue.{Phase}
 use Rattle.async_channel.specs.Moves.{Channel, Effect, Moves}
 use Rattle.async_channel.specs.declared.mark.Mark.{Mark}
 use Rattle.async_channel.specs.declared.reply.Reply.{Reply}
+use Rattle.async_channel.specs.declared.stage.Kept.{Kept}
 use Rattle.async_channel.specs.declared.stage.Stage.{Stage}
-use Rattle.channel_steps.specs.Scene.{Under, Scene, sees, does, unless_ended, Known, AllKnown, IsBalanced}
+use Rattle.async_channel.specs.declared.stage.Stage.TheVariants.{Finished}
+use Rattle.channel_steps.specs.Count.{counted}
+use Rattle.channel_steps.specs.Scene.{Under, Scene, sees, does, unless_ended, Known, AllKnown, IsBalanced, Steps}
 use Rattle.channel_steps.specs.Run.{Next, begun}
 use Rattle.channel_steps.specs.declared.party.Entry.{Entry}
 use Rattle.channel_steps.specs.declared.run.Step.{Step}
 use Rattle.channel_steps.specs.declared.run.Step.TheVariants as step
 use Rattle.channel_steps.proofs.OwnFacts.{moves_on, all_see, own_known, begins_known}
 use Rattle.channel_steps.proofs.SceneFacts.{known_left, known_right, known_both}
+use Rattle.channel_steps.proofs.CountFacts as count_facts
+use Rattle.channel_steps.proofs.LoneFacts as lone_facts
+use Rattle.channel_steps.proofs.LoneFacts.{lone_after}
 
 module _ {T W : Type 0} where
-  own : (c : Channel T W) (u : Under T W) (m : Mark) (d : Channel T W) (names : List W) (at : Stage (Phase T) T W) → IsBalanced c.queue → Known c u
-      → (r : Option (Reply T)) → Moves c u.at (record { channel = d; mark = m; woken = names }) r at → AllKnown d (unless_ended (does u at m c d) r)
+  own : (c : Channel T W) (u : Under T W) (m : Mark) (d : Channel T W) (names : List W) (at : Stage (Phase T) T W)
+      → IsBalanced c.queue → Known c u
+      → (r : Option (Reply T)) → Moves c u.at (record { channel = d; mark = m; woken = names }) r at
+      → AllKnown d (unless_ended (does u at m c d) r)
   own c u m d names at bal k None g = (own_known c u bal k m d names at g, tt)
   own c u m d names at bal k (Some r) g = tt
 
@@ -26,8 +35,11 @@ module _ {T W : Type 0} where
       let b = n.0 in
       let mine : Under T W = begun p ask b.at s.now in
       let all = known_both s.now s.under_way (mine ∷ []) known (begins_known s.now p ask b.answer b.at b.turned, tt) in
-      let there = subst (λ (us : List (Under T W)). AllKnown s.now us) (sym b.under_way) all in
-      (subst (λ (c : Channel T W). AllKnown c t.under_way) (sym b.now) there, subst (λ (c : Channel T W). IsBalanced c.queue) (sym b.now) bal)
+      let there = subst (λ (us : List (Under T W)). AllKnown s.now us) (sym b.under_way) all in (
+        subst (λ (c : Channel T W). AllKnown c t.under_way) (sym b.now) there,
+        subst (λ (c : Channel T W). IsBalanced c.queue)
+            (sym b.now) bal,
+      )
   known_next s (step.Step p) e names t n known bal =
       let effect : Effect T W = record { channel = t.now; mark = e.mark; woken = names } in
       let on = moves_on s.now n.mine.at effect e.reply n.at_now n.moves in
@@ -39,3 +51,41 @@ module _ {T W : Type 0} where
       let before = all_see s.now t.now on n.before (known_left s.now n.before (n.mine ∷ n.behind) all) in
       let whole = known_both t.now (map (sees t.now) n.before) (now ++ map (sees t.now) n.behind) before behind in
       (subst (λ (us : List (Under T W)). AllKnown t.now us) (sym n.left) whole, on.balanced bal)
+
+  -- ---- the only call under way
+
+  -- the scene after a step of its own: the channel d, and the call with this step, or gone where it has answered
+  abbrev pub after_lone : Scene T W → Under T W → Stage (Phase T) T W → Mark → Option (Reply T) → Channel T W → Scene T W
+  after_lone s u at m r d = lone_after s u at m r d
+
+  module _ (s : Scene T W) (u : Under T W) (only : s.under_way ≡ u ∷ []) (known : Known s.now u) (bal : IsBalanced s.now.queue)
+      (m : Mark) (names : List W) (d : Channel T W) (at : Stage (Phase T) T W) where
+    -- a step that does not answer, which wakes these
+    pub lone_goes : Moves s.now u.at (record { channel = d; mark = m; woken = names }) None at
+        → Steps s u.party (record { mark = m; reply = None; kept = None }) names (after_lone s u at m None d)
+    lone_goes moves = lone_facts.lone_goes s u only known bal m names d at moves
+
+    -- one that answers, and leaves this to its operation
+    pub lone_ends : (y : Reply T) (left : Kept T) → ((kept : Kept T) → at ≡ Finished kept → left ≡ kept)
+        → Moves s.now u.at (record { channel = d; mark = m; woken = names }) (Some y) at
+        → Steps s u.party (record { mark = m; reply = Some y; kept = Some left }) names (after_lone s u at m (Some y) d)
+    lone_ends y left same moves = lone_facts.lone_ends s u only known bal m names d at y left same moves
+
+  -- ---- the number of messages
+
+  -- a step accepts one at most
+  pub accepts_one : (s : Scene T W) (p : ℕ) (e : Entry T) (names : List W) (t : Scene T W) → Steps s p e names t
+      → t.now.queue.accepted ≤ s.now.queue.accepted + 1
+  accepts_one s p e names t n =
+      count_facts.accepts_one s.now.queue e.mark t.now.queue
+      (count_facts.moved_by s.now n.mine.at (record { channel = t.now; mark = e.mark; woken = names }) e.reply
+      n.at_now n.moves)
+
+  -- those after a step are counted by its mark
+  pub messages_counted : (s : Scene T W) (p : ℕ) (e : Entry T) (names : List W) (t : Scene T W) → Steps s p e names t
+      → IsBalanced s.now.queue → IsBalanced t.now.queue → s.now.queue.accepted < 2 ^ 62
+      → counted (length s.now.queue.items) e.mark ≡ length t.now.queue.items
+  messages_counted s p e names t n a b low =
+      count_facts.messages_counted s.now.queue e.mark t.now.queue
+      (count_facts.moved_by s.now n.mine.at (record { channel = t.now; mark = e.mark; woken = names }) e.reply n.at_now
+      n.moves) a b low

@@ -8,4 +8,6 @@ pub mod OwnFacts
 pub mod SceneFacts
 pub mod RunFacts
 pub mod StartFacts
+pub mod LoneFacts
+pub mod CountFacts
 pub mod Interface

@@ -4,4 +4,5 @@ pub mod Answers
 pub mod Known
 pub mod Scene
 pub mod Run
+pub mod Count
 pub mod Start

@@ -1,0 +1,340 @@
+-- The steps of a call that is alone at work, one after another, from scene to scene.
+use Rattle.std.proofs.Common.{◌≡◌, ℕ, ◌+◌, ◌≤◌, ◌^◌, List, [], ◌∷◌, ◌++◌, map, length, append-nil, append_assoc, Option, None, Some, inl, inr, refl, sym, ap, ◌∙◌, subst, arith}
+use Rattle.concurrent_queue.specs.Queue.{Queue, Phase}
+use Rattle.concurrent_queue.specs.Step.{Seat, Fits}
+use Rattle.concurrent_queue.specs.declared.queue_call.QueueCall.{QueueCall}
+use Rattle.event_listener.specs.Notices.{Woken}
+use Rattle.async_channel.specs.declared.ask.ChannelAsk.{ChannelAsk}
+use Rattle.async_channel.specs.declared.call.ChannelCall.{ChannelCall}
+use Rattle.async_channel.specs.declared.mark.Mark.{Mark}
+use Rattle.async_channel.specs.declared.mark.Mark.TheVariants.{Nothing}
+use Rattle.async_channel.specs.declared.reply.Reply.{Reply}
+use Rattle.async_channel.specs.declared.stage.Kept.{Kept}
+use Rattle.async_channel.specs.declared.stage.Stage.{Stage}
+use Rattle.async_channel.specs.Parts.{Parts}
+use Rattle.async_channel.specs.Asks.{first, kept_by}
+use Rattle.async_channel.specs.Moves.{Channel, Effect, channel, phase, Moves, Made, IsNewCall, IsStepOver, IsChannelStep}
+use Rattle.channel_steps.specs.declared.party.Entry.{Entry}
+use Rattle.channel_steps.specs.declared.party.Party.{Party}
+use Rattle.channel_steps.specs.declared.run.Step.TheVariants as step
+use Rattle.channel_steps.specs.Count.{counted}
+use Rattle.channel_steps.specs.Run.{Begins}
+use Rattle.channel_steps.specs.Run as steps
+use Rattle.channel_steps.specs.Scene.{Under, Scene, Sitting, does, under_of, all_seats, Known, AllKnown, IsBalanced, Steps, Shows}
+use Rattle.channel_steps.proofs.Interface.{known_next, after_lone, lone_goes, lone_ends, messages_counted}
+use Rattle.channel_alone.specs.Alone.{Outcome, Alone, after_waking, answers}
+use Rattle.channel_alone.specs.Run.{HasPosition}
+use Rattle.channel_alone.specs.Scenes.{Goes, names_of_all, RanInScenes, RunsInScenes}
+use Rattle.channel_alone.specs.declared.run.Done.{Done}
+use Rattle.channel_alone.proofs.FirstFacts.{first_goes_on, Begun, begun}
+use Rattle.channel_alone.proofs.AloneFacts.{IsAlone, Advances, Answered, StepsTo, woken_on, answered, finished_kept, goes_on_so, accepts_one, made_by, next}
+use Rattle.channel_alone.proofs.LoopFacts.{starts_over}
+
+module _ {T W : Type 0} where
+  -- ---- steps, one after another
+
+  goes_more : (s : Scene T W) (p : ℕ) (xs : List (Entry T × List W)) (m : Scene T W) (e : Entry T) (names : List W)
+      (t : Scene T W)
+      → Goes s p xs m → e.reply ≡ None → e.kept ≡ None → Steps m p e names t → Goes s p (xs ++ (e, names) ∷ []) t
+  goes_more s p [] m e names t same reply kept x = (reply, kept, t, subst (λ (z : Scene T W). Steps z p e names t) same x, refl)
+  goes_more s p (y ∷ xs) m e names t g reply kept x = (g.0, g.1, g.2, g.3, goes_more g.2 p xs m e names t g.4 reply kept x)
+
+  names_more : (xs : List (Entry T × List W)) (e : Entry T) (names : List W)
+      → names_of_all (xs ++ (e, names) ∷ []) ≡ names_of_all xs ++ names
+  names_more [] e names = append-nil names
+  names_more (y ∷ xs) e names = ap (λ (ws : List W). y.1 ++ ws) (names_more xs e names)
+      ∙ sym (append_assoc y.1 (names_of_all xs) names)
+
+  -- ---- a scene with nobody at work
+
+  nobody : (xs : List (Sitting T W)) → [] ≡ map (λ (x : Sitting T W). x.party) xs → xs ≡ []
+  nobody [] e = refl
+  nobody (x ∷ xs) e =
+      absurd (let no : (let none : List (Party T W) = [] in none) ≡ x.party ∷ map (λ (y : Sitting T W). y.party) xs = e in cc)
+
+  module _ (parts : Parts T W) (s : Scene T W) (sh : Shows parts [] s) where
+    at_rest : Fits parts.cells sh.queue []
+    at_rest = subst (λ (xs : List (Sitting T W)). Fits parts.cells sh.queue (all_seats xs))
+        (nobody sh.sittings sh.parties_are) sh.fits
+
+    none_under_way : s.under_way ≡ []
+    none_under_way = sh.under_way ∙ ap (λ (xs : List (Sitting T W)). map under_of xs) (nobody sh.sittings sh.parties_are)
+
+  -- ---- how far a call has come
+
+  -- A call of the party p that began in the scene s, over the channel c0, with so many messages counted then: where it is in
+  -- the scene to which its steps have led, and that they say the same of it as its stage does.
+  pub record Between (a : ChannelAsk T W) (s : Scene T W) (p : ℕ) (c0 : Channel T W) (messages0 : ℕ) (parts : Parts T W)
+      (stage : Stage (QueueCall T) T W) (so_far : List W) (messages : ℕ) : Type 0 where
+    pub alone : IsAlone a c0 parts stage so_far
+    pub begun : Scene T W
+    pub begins : Begins s p a (record { mark = Nothing; reply = None; kept = None }) begun
+    pub silent : List (Entry T × List W)
+    pub mid : Scene T W
+    pub goes : Goes begun p silent mid
+    pub named : names_of_all silent ≡ so_far
+    pub mine : Under T W
+    pub only : mid.under_way ≡ mine ∷ []
+    pub whose : mine.party ≡ p
+    pub at : mine.at ≡ phase alone.at stage
+    pub now : mid.now ≡ channel alone.now parts
+    pub known : Known mid.now mine
+    pub balanced : IsBalanced mid.now.queue
+    pub counts : messages0 ≡ length c0.queue.items → c0.queue.accepted ≤ 2 ^ 61 → messages ≡ length mid.now.queue.items
+
+  module _ (a : ChannelAsk T W) (parts0 : Parts T W) (messages0 : ℕ) (s : Scene T W) (p : ℕ) (sh : Shows parts0 [] s) where
+    abbrev start : Channel T W
+    start = channel sh.queue parts0
+
+    -- ---- it begins
+
+    begins_between : (stage : Stage (QueueCall T) T W) (t : Begun (first a) parts0.cells sh.queue stage)
+        → (y : IsAlone a start parts0 stage []) × (y.now ≡ sh.queue) × (y.at ≡ t.at)
+        → Between a s p start messages0 parts0 stage [] messages0
+    begins_between stage t y =
+        let mine : Under T W = steps.begun p a (phase t.at stage) s.now in
+        let after : Scene T W = record { now = s.now; under_way = mine ∷ []; gone = s.gone; came = s.came } in
+        let entry : Entry T = record { mark = Nothing; reply = None; kept = None } in
+        let begins : Begins s p a entry after =
+        record {
+          entry = refl;
+          at = phase t.at stage;
+          answer = None;
+          turned = t.turned;
+          now = refl;
+          under_way = ap (λ (us : List (Under T W)). us ++ mine ∷ []) (sym (none_under_way parts0 s sh));
+          gone = refl;
+          came = refl;
+        }
+        in
+        let bal : IsBalanced s.now.queue = subst (λ (c : Channel T W). IsBalanced c.queue) (sym sh.now) sh.balanced in
+        let k : AllKnown s.now (mine ∷ []) × IsBalanced s.now.queue =
+        known_next s (step.Begin p a) entry [] after (begins, refl) sh.known bal in
+        record {
+          alone = y.0;
+          begun = after;
+          begins = begins;
+          silent = [];
+          mid = after;
+          goes = refl;
+          named = refl;
+          mine = mine;
+          only = refl;
+          whose = refl;
+          at = ap (λ (f : Phase T). phase f stage) (sym y.2);
+          now = sh.now ∙ ap (λ (q : Queue T). channel q parts0) (sym y.1);
+          known = k.0.0;
+          balanced = k.1;
+          counts = λ h low. h ∙ ap (λ (c : Channel T W). length c.queue.items) (sym sh.now);
+        }
+
+    begins_so : HasPosition s.now.queue → (call : ChannelCall T W) → IsNewCall call (first a)
+        → Between a s p start messages0 parts0 call.stage [] messages0
+    begins_so position call begins =
+        let fits = at_rest parts0 s sh in
+        let none : begins.0 ≡ None = first_goes_on a begins.0 call.stage begins.1 in
+        let t : Begun (first a) parts0.cells sh.queue call.stage =
+        begun parts0.cells sh.queue fits (first a) begins.0 call.stage none begins.1 in
+        let place : HasPosition sh.queue = subst (λ (c : Channel T W). HasPosition c.queue) sh.now position in
+        begins_between call.stage t (starts_over a parts0 sh.queue place call.stage t fits)
+
+    -- ---- it makes a step
+
+    module _ (parts : Parts T W) (stage : Stage (QueueCall T) T W) (so_far : List W) (messages : ℕ)
+        (x : Between a s p start messages0 parts stage so_far messages) (parts' : Parts T W) (stage' : Stage (QueueCall T) T W)
+        (m : Mark) (names : List W) where
+      abbrev MadeOne : Option (Reply T) → Type 0
+      MadeOne r = Made parts stage names parts' stage' m r x.alone.now x.alone.at [] []
+
+      moves_there : (r : Option (Reply T)) (made : MadeOne r)
+          → Moves x.mid.now x.mine.at (record { channel = channel made.queue parts'; mark = m; woken = names }) r
+          (phase made.phase_now stage')
+      moves_there r made =
+          let e : Effect T W = record { channel = channel made.queue parts'; mark = m; woken = names } in
+          subst (λ (c : Channel T W). Moves c x.mine.at e r (phase made.phase_now stage')) (sym x.now)
+          (subst (λ (at : Stage (Phase T) T W). Moves (channel x.alone.now parts) at e r (phase made.phase_now stage'))
+          (sym x.at) made.moves)
+
+      -- what is known and what is counted after a step of scenes
+      follows : (e : Entry T) (t : Scene T W) → Steps x.mid p e names t → AllKnown t.now t.under_way × IsBalanced t.now.queue
+      follows e t n = known_next x.mid (step.Step p) e names t n
+          (subst (λ (us : List (Under T W)). AllKnown x.mid.now us) (sym x.only) (x.known, tt)) x.balanced
+
+      counts_on : (e : Entry T) (t : Scene T W) → Steps x.mid p e names t → messages0 ≡ length start.queue.items
+          → start.queue.accepted ≤ 2 ^ 61 → counted messages e.mark ≡ length t.now.queue.items
+      counts_on e t n h low =
+          let most : x.alone.now.accepted ≤ start.queue.accepted + 1 =
+          accepts_one a start parts so_far names parts' stage' m None stage x.alone in
+          let same : x.mid.now.queue.accepted ≡ x.alone.now.accepted = ap (λ (c : Channel T W). c.queue.accepted) x.now in
+          ap (λ (k : ℕ). counted k e.mark) (x.counts h low)
+          ∙ messages_counted x.mid p e names t n x.balanced (let k = follows e t n in k.1) (omega (arith, most, same, low))
+
+      -- one that does not answer
+      goes_between : (made : MadeOne None) → (y : IsAlone a start parts' stage' (so_far ++ names)) × (y.now ≡ made.queue)
+          × (y.at ≡ made.phase_now)
+          → Between a s p start messages0 parts' stage' (so_far ++ names) (counted messages m)
+      goes_between made y =
+          let d : Channel T W = channel made.queue parts' in
+          let at_now : Stage (Phase T) T W = phase made.phase_now stage' in
+          let after : Scene T W = after_lone x.mid x.mine at_now m None d in
+          let e : Entry T = record { mark = m; reply = None; kept = None } in
+          let n : Steps x.mid p e names after =
+          subst (λ (i : ℕ). Steps x.mid i e names after) x.whose
+          (lone_goes x.mid x.mine x.only x.known x.balanced m names d at_now (moves_there None made)) in
+          let k : AllKnown after.now after.under_way × IsBalanced after.now.queue = follows e after n in
+          record {
+            alone = y.0;
+            begun = x.begun;
+            begins = x.begins;
+            silent = x.silent ++ (e, names) ∷ [];
+            mid = after;
+            goes = goes_more x.begun p x.silent x.mid e names after x.goes refl refl n;
+            named = names_more x.silent e names ∙ ap (λ (ws : List W). ws ++ names) x.named;
+            mine = does x.mine at_now m x.mid.now d;
+            only = refl;
+            whose = x.whose;
+            at = ap (λ (f : Phase T). phase f stage') (sym y.2);
+            now = ap (λ (q : Queue T). channel q parts') (sym y.1);
+            known = k.0.0;
+            balanced = k.1;
+            counts = counts_on e after n;
+          }
+
+      goes_so : IsStepOver parts stage names parts' stage' m None
+          → Between a s p start messages0 parts' stage' (so_far ++ names) (counted messages m)
+      goes_so over =
+          let made : MadeOne None = made_by a start parts so_far names parts' stage' m None stage x.alone over in
+          goes_between made
+          (settled made.queue made.phase_now (next a start parts so_far names parts' stage' m None stage x.alone made))
+        where
+          settled : (q : Queue T) (f : Phase T) → StepsTo a start parts so_far names parts' stage' m None q f
+              → (y : IsAlone a start parts' stage' (so_far ++ names)) × (y.now ≡ q) × (y.at ≡ f)
+          settled q f (inl h) = h.0
+          settled q f (inr h) = let y = goes_on_so a start parts' stage' (so_far ++ names) h.0 in (y.0, y.1 ∙ h.1, y.2 ∙ h.2)
+
+      -- one that answers
+      module _ {S : Type 0} (wakes : S → W → S → Type 0) (sink0 sink' : S) (woken : Woken wakes sink0 (so_far ++ names) sink')
+          (y : Reply T) (kept : Kept T) (left : kept ≡ kept_by stage') where
+        abbrev Over : Type 0
+        Over = RanInScenes wakes a sink0 messages0 (record { reply = y; kept = kept }) parts' sink' (counted messages m) s p
+
+        ends_between : (made : MadeOne (Some y)) → (z : Advances a start parts' stage' (so_far ++ names) (Some y))
+            × (z.queue ≡ made.queue) × (z.at ≡ made.phase_now) → Over
+        ends_between made z =
+            let e : Answered z.0.turn y (phase z.0.at stage') = answered z.0.turn y (phase z.0.at stage') z.0.turned in
+            let f = finished_kept z.0.at stage' e.kept e.finished in
+            let o : Outcome T W = after_waking (so_far ++ names) (answers y e.kept (channel z.0.queue parts')) in
+            let d : Channel T W = channel made.queue parts' in
+            let at_now : Stage (Phase T) T W = phase made.phase_now stage' in
+            let after : Scene T W = after_lone x.mid x.mine at_now m (Some y) d in
+            let last : Entry T = record { mark = m; reply = Some y; kept = Some kept } in
+            let n : Steps x.mid p last names after =
+            subst (λ (i : ℕ). Steps x.mid i last names after) x.whose
+            (lone_ends x.mid x.mine x.only x.known x.balanced m names d at_now y kept
+            (λ k there. left ∙ (let g = finished_kept made.phase_now stage' k there in g.0)) (moves_there (Some y) made)) in
+            let k : AllKnown after.now after.under_way × IsBalanced after.now.queue = follows last after n in
+            let empty : Fits parts'.cells z.0.queue [] =
+            subst (λ (ss : List (Seat T)). Fits parts'.cells z.0.queue (ss ++ [])) f.1 z.0.fits in
+            let from : s.now ≡ start = sh.now in
+            record {
+              outcome = o;
+              after = after;
+              does = subst (λ (c : Channel T W). Alone a c o) (sym from)
+                  (z.0.on (answers y e.kept (channel z.0.queue parts')) (e.rests (channel z.0.queue parts')));
+              reply = refl;
+              kept = left ∙ f.0;
+              woken = subst (λ (ws : List W). Woken wakes sink0 ws sink') (sym (append-nil (so_far ++ names))) woken;
+              run = record {
+                begun = x.begun;
+                begins = x.begins;
+                silent = x.silent;
+                mid = x.mid;
+                goes = x.goes;
+                last = last;
+                names = names;
+                ends = n;
+                reply = refl;
+                kept = ap (λ (h : Kept T). Some h) (left ∙ f.0);
+                woken = ap (λ (ws : List W). ws ++ names) x.named ∙ sym (append-nil (so_far ++ names));
+                over = refl;
+              };
+              shown = record {
+                sittings = [];
+                queue = made.queue;
+                parties_are = refl;
+                under_way = refl;
+                now = refl;
+                fits = subst (λ (q : Queue T). Fits parts'.cells q []) z.1 empty;
+                known = tt;
+                balanced = k.1;
+              };
+              now = ap (λ (q : Queue T). channel q parts') (sym z.1);
+              capacity = z.0.capacity ∙ ap (λ (c : Channel T W). c.queue.capacity) (sym from);
+              accepted = (let most = z.0.accepted in let same = ap (λ (c : Channel T W). c.queue.accepted) from in
+                  omega (arith, most, same));
+              counted = λ h low.
+                  counts_on last after n (h ∙ ap (λ (c : Channel T W). length c.queue.items) from)
+                  (let same = ap (λ (c : Channel T W). c.queue.accepted) from in omega (arith, same, low));
+            }
+
+        ends_so : IsStepOver parts stage names parts' stage' m (Some y) → Over
+        ends_so over =
+            let made : MadeOne (Some y) = made_by a start parts so_far names parts' stage' m (Some y) stage x.alone over in
+            answers_at made made.queue made.phase_now (λ z. ends_between made z)
+            (next a start parts so_far names parts' stage' m (Some y) stage x.alone made)
+          where
+            answers_at : (made : MadeOne (Some y)) (q : Queue T) (f : Phase T)
+                → ((z : Advances a start parts' stage' (so_far ++ names) (Some y)) × (z.queue ≡ q) × (z.at ≡ f) → Over)
+                → StepsTo a start parts so_far names parts' stage' m (Some y) q f → Over
+            answers_at made q f by (inl h) = absurd (let no : Some y ≡ None = h.1 in cc)
+            answers_at made q f by (inr h) = by h
+
+module _ {T W S : Type 0} (wakes : S → W → S → Type 0) where
+  -- how far a call has come, with the sink
+  pub record ReachedBetween (a : ChannelAsk T W) (s : Scene T W) (p : ℕ) (c0 : Channel T W) (sink0 : S) (messages0 : ℕ)
+      (parts : Parts T W) (stage : Stage (QueueCall T) T W) (sink : S) (messages : ℕ) : Type 0 where
+    pub so_far : List W
+    pub woken : Woken wakes sink0 so_far sink
+    pub between : Between a s p c0 messages0 parts stage so_far messages
+
+  -- in every scene with nobody at work that the cells showed where it began
+  abbrev pub IsBetween : ChannelAsk T W → Parts T W → S → ℕ → Parts T W → Stage (QueueCall T) T W → S → ℕ → Type 0
+  IsBetween a parts0 sink0 messages0 parts stage sink messages =
+      (s : Scene T W) (p : ℕ) → HasPosition s.now.queue → (sh : Shows parts0 [] s)
+      → ReachedBetween a s p (channel sh.queue parts0) sink0 messages0 parts stage sink messages
+
+  module _ (a : ChannelAsk T W) (parts0 : Parts T W) (sink0 : S) (messages0 : ℕ) where
+    pub scenes_start : (call : ChannelCall T W) → IsNewCall call (first a)
+        → IsBetween a parts0 sink0 messages0 parts0 call.stage sink0 messages0
+    scenes_start call begins s p position sh =
+        record { so_far = []; woken = refl; between = begins_so a parts0 messages0 s p sh position call begins }
+
+    module _ (parts : Parts T W) (stage : Stage (QueueCall T) T W) (sink : S) (messages : ℕ)
+        (way : IsBetween a parts0 sink0 messages0 parts stage sink messages)
+        (parts' : Parts T W) (stage' : Stage (QueueCall T) T W) (m : Mark) (sink' : S) (messages' : ℕ) (noted : Mark)
+        (same : noted ≡ m) (count : messages' ≡ counted messages noted) where
+      counts : messages' ≡ counted messages m
+      counts = count ∙ ap (λ (k : Mark). counted messages k) same
+
+      pub scenes_more : IsChannelStep wakes parts stage sink parts' stage' m None sink'
+          → IsBetween a parts0 sink0 messages0 parts' stage' sink' messages'
+      scenes_more step s p position sh =
+          let x = way s p position sh in
+          let so_far : List W = x.so_far ++ step.0 in
+          let y = goes_so a parts0 messages0 s p sh parts stage x.so_far messages x.between parts' stage' m step.0 step.2 in
+          record {
+            so_far = so_far;
+            woken = woken_on wakes sink0 sink sink' x.so_far step.0 x.woken step.1;
+            between = subst (λ (n : ℕ). Between a s p (channel sh.queue parts0) messages0 parts' stage' so_far n) (sym counts) y;
+          }
+
+      pub scenes_end : (y : Reply T) → IsChannelStep wakes parts stage sink parts' stage' m (Some y) sink' → (kept : Kept T)
+          → kept ≡ kept_by stage'
+          → RunsInScenes wakes a parts0 sink0 messages0 (record { reply = y; kept = kept }) parts' sink' messages'
+      scenes_end y step kept left s p position sh =
+          let x = way s p position sh in
+          let done : Done T = record { reply = y; kept = kept } in
+          let woken = woken_on wakes sink0 sink sink' x.so_far step.0 x.woken step.1 in
+          let over = ends_so a parts0 messages0 s p sh parts stage x.so_far messages x.between parts' stage' m step.0 wakes sink0
+          sink' woken y kept left step.2 in
+          subst (λ (n : ℕ). RanInScenes wakes a sink0 messages0 done parts' sink' n s p) (sym counts) over

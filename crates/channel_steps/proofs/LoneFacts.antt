@@ -1,0 +1,58 @@
+-- A step of the only call under way, from how its stage moves.
+use Rattle.std.proofs.Common.{◌≡◌, List, [], ◌∷◌, ◌++◌, Option, None, Some, refl, sym, append-nil}
+use Rattle.concurrent_queue.specs.Queue.{Phase}
+use Rattle.async_channel.specs.Moves.{Channel, Effect, Moves}
+use Rattle.async_channel.specs.declared.mark.Mark.{Mark}
+use Rattle.async_channel.specs.declared.reply.Reply.{Reply}
+use Rattle.async_channel.specs.declared.stage.Kept.{Kept}
+use Rattle.async_channel.specs.declared.stage.Stage.{Stage}
+use Rattle.async_channel.specs.declared.stage.Stage.TheVariants.{Finished}
+use Rattle.channel_steps.specs.Scene.{Under, Scene, does, gone_by, came_by, unless_ended, Known, IsBalanced, MayFinish, Steps}
+use Rattle.channel_steps.proofs.OwnFacts.{names_of, moves_held, own_finishes, own_in_time}
+
+module _ {T W : Type 0} where
+  -- the scene after a step of the call u, where no other is under way
+  abbrev pub lone_after : Scene T W → Under T W → Stage (Phase T) T W → Mark → Option (Reply T) → Channel T W → Scene T W
+  lone_after s u at m r d =
+      record {
+        now = d;
+        under_way = unless_ended (does u at m s.now d) r;
+        gone = s.gone ++ gone_by m s.now.queue.items;
+        came = s.came ++ came_by m u.ask;
+      }
+
+  module _ (s : Scene T W) (u : Under T W) (only : s.under_way ≡ u ∷ []) (known : Known s.now u) (bal : IsBalanced s.now.queue)
+      (m : Mark) (names : List W) (d : Channel T W) (at : Stage (Phase T) T W) where
+    abbrev effect : Effect T W
+    effect = record { channel = d; mark = m; woken = names }
+
+    lone : (r : Option (Reply T)) (left : Option (Kept T)) → MayFinish (does u at m s.now d) r left → Moves s.now u.at effect r at
+        → Steps s u.party (record { mark = m; reply = r; kept = left }) names (lone_after s u at m r d)
+    lone r left ends moves =
+        record {
+          before = [];
+          mine = u;
+          behind = [];
+          at_now = at;
+          there = only;
+          whose = refl;
+          moves = moves;
+          left = sym (append-nil (unless_ended (does u at m s.now d) r));
+          named = names_of s.now u.at effect r at moves;
+          finishes = ends;
+          quick = own_in_time s.now u bal known m d names at r moves;
+          gone = refl;
+          came = refl;
+          held = moves_held s.now u.ask u.at u.deeds u.seen effect r at known.stands moves;
+        }
+
+    -- one that does not answer
+    pub lone_goes : Moves s.now u.at effect None at
+        → Steps s u.party (record { mark = m; reply = None; kept = None }) names (lone_after s u at m None d)
+    lone_goes moves = lone None None refl moves
+
+    -- one that answers, and leaves this to its operation
+    pub lone_ends : (y : Reply T) (left : Kept T) → ((kept : Kept T) → at ≡ Finished kept → left ≡ kept)
+        → Moves s.now u.at effect (Some y) at
+        → Steps s u.party (record { mark = m; reply = Some y; kept = Some left }) names (lone_after s u at m (Some y) d)
+    lone_ends y left same moves = lone (Some y) (Some left) (own_finishes s.now u bal known m d names at y left same moves) moves
