@@ -11,13 +11,14 @@ use Rattle.async_channel.specs.declared.stage.Kept.{Kept}
 use Rattle.async_channel.specs.declared.stage.Line.{Line}
 use Rattle.channel_model.specs.declared.call.Call.{Call}
 use Rattle.channel_model.specs.declared.name.Waiter.{Waiter}
+use Rattle.channel_steps.specs.Count.{counted}
 use Rattle.channel_steps.specs.Run.{new_scene, HasBegun, Begins, Accounts, Touches}
 use Rattle.channel_steps.specs.Tellings.{telling, dropping}
 use Rattle.channel_steps.specs.Scene.{Scene, Sitting, under_of, IsBalanced, Shows, StepsAt, gone_by, came_by, parties_in, unless_answered}
 use Rattle.channel_steps.specs.declared.party.Entry.{Entry as ChannelEntry}
 use Rattle.channel_steps.specs.declared.party.Party.{Party}
 use Rattle.channel_interleaving.specs.Bookkeeping.{asks}
-use Rattle.channel_interleaving.specs.Floor.{counted, parts_in, book_of, Shown, AreAtWork, AreOwned, IsSame, Steps, RanTo}
+use Rattle.channel_interleaving.specs.Floor.{parts_in, book_of, Shown, AreAtWork, AreOwned, IsSame, Steps, RanTo}
 use Rattle.channel_model.specs.declared.refusal.WorldRefusal.{WorldRefusal}
 use Rattle.channel_model.specs.declared.run.Stopped.{Stopped}
 use Rattle.std.proofs.lemmas.Bool.Decides.{nat_tests}
@@ -32,13 +33,10 @@ use Rattle.channel_interleaving.specs.declared.step.Entry.{Entry}
 use Rattle.channel_interleaving.specs.declared.step.Step.{Step}
 use Rattle.channel_interleaving.specs.declared.step.Step.TheVariants as step
 use Rattle.channel_interleaving.specs.declared.woken.Woken.{Woken as Sink}
-use Rattle.channel_interleaving.proofs.CountFacts.{moved_by, accepts_one, messages_counted}
-use Rattle.channel_laws.proofs.Interface.{all_sound_new, all_sound_next}
-use Rattle.channel_laws.specs.Sound.{AllSound}
-use Rattle.channel_interleaving.proofs.OwnerRuns.{owned_next}
+use Rattle.channel_steps.proofs.Interface.{accepts_one, messages_counted}
+use Rattle.channel_interleaving.specs.Kept.{AllKept}
+use Rattle.channel_interleaving.proofs.AllKept.{kept_first, kept_next}
 use Rattle.channel_interleaving.proofs.OwedFacts.{owed}
-use Rattle.channel_interleaving.proofs.OwnerWokenRuns.{woken_first, woken_next}
-use Rattle.channel_interleaving.proofs.OwnerSteps.{owned_first}
 use Rattle.channel_interleaving.proofs.WokenFacts.{all_heard, few_woken}
 
 -- ---- lists
@@ -57,20 +55,29 @@ map-remove f (x ∷ xs) (suc k) = ap (λ ys. f x ∷ ys) (map-remove f xs k)
 module _ {T : Type 0} where
   -- ---- at the start
 
-  no_parties : (parts : Parts T Waiter) (parties : List (Party T Waiter)) (cap : Option ℕ) → Shows parts parties (new_scene cap) → parties ≡ []
-  no_parties parts parties cap sh = sh.parties_are ∙ none sh.sittings sh.under_way where
+  -- where no call is under way, there is no party
+  pub no_parties : (parts : Parts T Waiter) (parties : List (Party T Waiter)) (s : Scene T Waiter) → s.under_way ≡ []
+      → Shows parts parties s → parties ≡ []
+  no_parties parts parties s quiet sh = sh.parties_are ∙ none sh.sittings (sym quiet ∙ sh.under_way) where
     none : (xs : List (Sitting T Waiter)) → [] ≡ map under_of xs → map (λ (x : Sitting T Waiter). x.party) xs ≡ []
     none [] e = refl
     none (x ∷ xs) e = absurd cc
 
-  pub new_shown : (f : Floor T) (cap : Option ℕ) → Shows (parts_in f) f.parties.items (new_scene cap) → f.messages ≡ 0 → Shown f (new_scene cap)
+  pub new_shown : (f : Floor T) (cap : Option ℕ) → Shows (parts_in f) f.parties.items (new_scene cap) → f.messages ≡ 0
+      → Shown f (new_scene cap)
   new_shown f cap sh none = record { shows = sh; accepted = omega arith; messages = none }
 
-  pub new_at_work : (f : Floor T) (cap : Option ℕ) → Shows (parts_in f) f.parties.items (new_scene cap) → f.agents.items ≡ [] → AreAtWork f
-  new_at_work f cap sh none = rw (none, no_parties (parts_in f) f.parties.items cap sh) refl
+  pub new_at_work : (f : Floor T) (cap : Option ℕ) → Shows (parts_in f) f.parties.items (new_scene cap)
+      → f.agents.items ≡ [] → AreAtWork f
+  new_at_work f cap sh none = rw (none, no_parties (parts_in f) f.parties.items (new_scene cap) refl sh) refl
 
-  pub new_owned : (f : Floor T) (cap : Option ℕ) → Shown f (new_scene cap) → book_of f ≡ record { roll = first_roll; agents = [] } → AreOwned f
-  new_owned f cap sh book = record { scene = new_scene cap; shown = sh; owned = rw book (owned_first T cap); woken = rw book (woken_first T cap); sound = all_sound_new cap }
+  pub new_kept : (f : Floor T) (cap : Option ℕ) → book_of f ≡ record { roll = first_roll; order = []; agents = [] }
+      → AllKept (book_of f) (new_scene cap)
+  new_kept f cap book = subst (λ (b : Book T). AllKept b (new_scene cap)) (sym book) (kept_first cap)
+
+  pub new_owned : (f : Floor T) (cap : Option ℕ) → Shown f (new_scene cap)
+      → book_of f ≡ record { roll = first_roll; order = []; agents = [] } → AreOwned f
+  new_owned f cap sh book = record { scene = new_scene cap; shown = sh; kept = new_kept f cap book }
 
   -- ---- a call begins
 
@@ -87,12 +94,14 @@ module _ {T : Type 0} where
         touches = parts;
         made = record {
           kept = None;
-          next = rw (mark, reply) (subst (λ (x : ChannelEntry T). Begins s p.0 (asks old.roll c) x b.after) b.begins.entry b.begins, woken);
+          next = rw (mark, reply)
+              (subst (λ (x : ChannelEntry T). Begins s p.0 (asks old.roll c) x b.after) b.begins.entry b.begins, woken);
           book = book;
         };
         shown = record {
           shows = rw parts b.shown;
-          accepted = rw (made, ap (λ (x : Channel T Waiter). x.queue.accepted) b.begins.now) (let low = sh.accepted in omega (arith, low));
+          accepted = rw (made, ap (λ (x : Channel T Waiter). x.queue.accepted) b.begins.now)
+              (let low = sh.accepted in omega (arith, low));
           messages = messages ∙ (sh.messages ∙ sym (ap (λ (x : Channel T Waiter). length x.queue.items) b.begins.now));
         };
       }
@@ -100,7 +109,8 @@ module _ {T : Type 0} where
   -- ---- a call makes a step
 
   -- the party of the k-th agent is that of the k-th call under way
-  pub party_at : (p k : ℕ) (agents : List (Agent T)) (parties : List (Party T Waiter)) → map (λ (a : Agent T). a.party) agents ≡ parties_in parties → IsAgent p agents k
+  pub party_at : (p k : ℕ) (agents : List (Agent T)) (parties : List (Party T Waiter))
+      → map (λ (a : Agent T). a.party) agents ≡ parties_in parties → IsAgent p agents k
       → (x : Party T Waiter) × (slice_get parties k ≡ Some x) × (x.id ≡ p)
   party_at p k [] parties e (a, there, his) = absurd cc
   party_at p k (b ∷ bs) [] e h = absurd cc
@@ -113,40 +123,51 @@ module _ {T : Type 0} where
       party_at p k bs ys rest h
 
   -- who has answered is at work no more, and has no call under way
-  ended_at_work : (k : ℕ) (a : Agent T) (r : Option (Reply T)) (kept : Option (Kept T)) (b : Book T) → map (λ (x : Agent T). x.party) (ended k a r kept b).agents ≡ unless_answered k r (map (λ (x : Agent T). x.party) b.agents)
+  ended_at_work : (k : ℕ) (a : Agent T) (r : Option (Reply T)) (kept : Option (Kept T)) (b : Book T)
+      → map (λ (x : Agent T). x.party) (ended k a r kept b).agents ≡ unless_answered k r (map (λ (x : Agent T). x.party) b.agents)
   ended_at_work k a None kept b = refl
   ended_at_work k a (Some r) kept b = map-remove (λ (x : Agent T). x.party) b.agents k
 
-  pub stepped_at_work : (k : ℕ) (a : Agent T) (r : Option (Reply T)) (kept : Option (Kept T)) (names : List Waiter) (old : Floor T) (new : Book T) (parties : List (Party T Waiter)) → AreAtWork old
-      → new ≡ ended k a r kept (with_woken names (book_of old)) → parties_in parties ≡ unless_answered k r (parties_in old.parties.items) → map (λ (x : Agent T). x.party) new.agents ≡ parties_in parties
+  pub stepped_at_work : (k : ℕ) (a : Agent T) (r : Option (Reply T)) (kept : Option (Kept T)) (names : List Waiter)
+      (old : Floor T) (new : Book T) (parties : List (Party T Waiter)) → AreAtWork old
+      → new ≡ ended k a r kept (with_woken names (book_of old))
+      → parties_in parties ≡ unless_answered k r (parties_in old.parties.items)
+      → map (λ (x : Agent T). x.party) new.agents ≡ parties_in parties
   stepped_at_work k a r kept names old new parties at_work book after =
       ap (λ (b : Book T). map (λ (x : Agent T). x.party) b.agents) book
       ∙ (ended_at_work k a r kept (with_woken names (book_of old)) ∙ (ap (unless_answered k r) at_work ∙ sym after))
 
-  balanced_in : (parts : Parts T Waiter) (parties : List (Party T Waiter)) (s : Scene T Waiter) → Shows parts parties s → IsBalanced s.now.queue
-  balanced_in parts parties s sh = subst (λ (q : Queue T). IsBalanced q) (sym (ap (λ (c : Channel T Waiter). c.queue) sh.now)) sh.balanced
+  balanced_in : (parts : Parts T Waiter) (parties : List (Party T Waiter)) (s : Scene T Waiter) → Shows parts parties s
+      → IsBalanced s.now.queue
+  balanced_in parts parties s sh =
+      subst (λ (q : Queue T). IsBalanced q) (sym (ap (λ (c : Channel T Waiter). c.queue) sh.now)) sh.balanced
 
-  pub has_stepped : (p : PartyId) (k n : ℕ) (a : Agent T) (x : Party T Waiter) (old new : Floor T) (empty full : Sink) (e : Entry T) (entry : ChannelEntry T)
+  pub has_stepped : (p : PartyId) (k n : ℕ) (a : Agent T) (x : Party T Waiter) (old new : Floor T) (empty full : Sink)
+      (e : Entry T) (entry : ChannelEntry T)
       → slice_get old.parties.items k ≡ Some x → x.id ≡ p.0 → slice_get old.agents.items k ≡ Some a → a.party ≡ p.0
       → StepsAt Hears (parts_in old) old.parties.items k empty entry (parts_in new) new.parties.items full
-      → empty.names.items ≡ [] → ((line : Line) → length (listeners line (parts_in old).roster).waiting ≤ n) → n ≤ vec_capacity empty.names
+      → empty.names.items ≡ [] → ((line : Line) → length (listeners line (parts_in old).roster).waiting ≤ n)
+      → n ≤ vec_capacity empty.names
       → e.mark ≡ entry.mark → e.reply ≡ entry.reply → e.woken.items ≡ full.names.items
       → book_of new ≡ ended k a entry.reply entry.kept (with_woken full.names.items (book_of old))
       → new.messages ≡ counted old.messages entry.mark → new.made ≡ old.made + 1 → old.made < 2 ^ 61
       → Steps (step.Step p) old e new
-  has_stepped p k n a x old new empty full e entry there whose agent his steps none most room mark reply woken book messages made low s sh =
+  has_stepped p k n a x old new empty full e entry there whose agent his steps none most room mark reply woken book messages
+      made low s sh =
       let accepted = sh.accepted in
       let range : IsInRange s.now.queue = inr (omega (arith, accepted, low)) in
       let h = steps s x range sh.shows there in
       let roster : (parts_in old).roster ≡ s.now.roster = sym (ap (λ (c : Channel T Waiter). c.roster) sh.shows.now) in
-      let most_now : ((line : Line) → length (listeners line s.now.roster).waiting ≤ n) = subst (λ (r : Roster Waiter). (line : Line) → length (listeners line r).waiting ≤ n) roster most in
+      let most_now : ((line : Line) → length (listeners line s.now.roster).waiting ≤ n) =
+      subst (λ (r : Roster Waiter). (line : Line) → length (listeners line r).waiting ≤ n) roster most in
       let few = few_woken n s.now most_now (telling h.step.mine.at) (dropping h.step.mine.at) h.names h.step.named in
       let start : vec_len empty.names ≡ length empty.names.items = empty.names.ok.0 in
       let nobody : length empty.names.items ≡ 0 = ap length none in
-      let heard : full.names.items ≡ h.names = all_heard empty h.names full h.woken (omega (arith, few, room, start, nobody)) ∙ ap (λ (ws : List Waiter). ws ++ h.names) none in
-      let moved = moved_by s.now h.step.mine.at _ _ _ h.step.moves in
-      let one = accepts_one s.now.queue entry.mark h.after.now.queue moved in
-      let counts = messages_counted s.now.queue entry.mark h.after.now.queue moved (balanced_in _ _ s sh.shows) (balanced_in _ _ h.after h.shown) (omega (arith, accepted, low)) in
+      let heard : full.names.items ≡ h.names = all_heard empty h.names full h.woken (omega (arith, few, room, start, nobody))
+      ∙ ap (λ (ws : List Waiter). ws ++ h.names) none in
+      let one = accepts_one s x.id entry h.names h.after h.step in
+      let counts = messages_counted s x.id entry h.names h.after h.step (balanced_in _ _ s sh.shows)
+      (balanced_in _ _ h.after h.shown) (omega (arith, accepted, low)) in
       record {
         after = h.after;
         touches = h.one_place;
@@ -164,13 +185,17 @@ module _ {T : Type 0} where
 
   -- ---- runs
 
-  run_more : (p : Parts T Waiter) (s : Scene T Waiter) (b : Book T) (xs : List (Step T)) (es : List (Entry T)) (o : Parts T Waiter) (m : Scene T Waiter) (d : Book T) (x : Step T) (e : Entry T) (q : Parts T Waiter) (t : Scene T Waiter) (c : Book T)
-      → IsRun p s b xs es o m d → Touches (channel_step d.roll x) o q → Made d m x e c t → IsRun p s b (xs ++ x ∷ []) (es ++ e ∷ []) q t c
+  run_more : (p : Parts T Waiter) (s : Scene T Waiter) (b : Book T) (xs : List (Step T)) (es : List (Entry T))
+      (o : Parts T Waiter) (m : Scene T Waiter) (d : Book T) (x : Step T) (e : Entry T) (q : Parts T Waiter)
+      (t : Scene T Waiter) (c : Book T)
+      → IsRun p s b xs es o m d → Touches (channel_step d.roll x) o q → Made d m x e c t
+      → IsRun p s b (xs ++ x ∷ []) (es ++ e ∷ []) q t c
   run_more p s b [] [] o m d x e q t c run touches made = (
     q,
     t,
     c,
-    subst (λ (y : Parts T Waiter). Touches (channel_step b.roll x) y q) run.0 (subst (λ (y : Book T). Touches (channel_step y.roll x) o q) run.2 touches),
+    subst (λ (y : Parts T Waiter). Touches (channel_step b.roll x) y q) run.0
+        (subst (λ (y : Book T). Touches (channel_step y.roll x) o q) run.2 touches),
     subst (λ (y : Scene T Waiter). Made b y x e c t) run.1 (subst (λ (y : Book T). Made y m x e c t) run.2 made),
     (refl, refl, refl),
   )
@@ -180,35 +205,55 @@ module _ {T : Type 0} where
   run_more p s b (y ∷ xs) [] o m d x e q t c run touches made = absurd run
 
   no_accounts : (s : Scene T Waiter) → Accounts s s
-  no_accounts s = record { out = []; into = []; gone = sym (append-nil s.gone); came = sym (append-nil s.came); held = sym (append-nil s.now.queue.items) }
+  no_accounts s = record {
+    out = [];
+    into = [];
+    gone = sym (append-nil s.gone);
+    came = sym (append-nil s.came);
+    held = sym (append-nil s.now.queue.items);
+  }
 
   -- two accounts, one after the other
-  both : (s m t : Scene T Waiter) (out into : List T) → Accounts s m → t.gone ≡ m.gone ++ out → t.came ≡ m.came ++ into → out ++ t.now.queue.items ≡ m.now.queue.items ++ into → Accounts s t
+  both : (s m t : Scene T Waiter) (out into : List T) → Accounts s m → t.gone ≡ m.gone ++ out → t.came ≡ m.came ++ into
+      → out ++ t.now.queue.items ≡ m.now.queue.items ++ into → Accounts s t
   both s m t out into h e f k =
       record {
         out = h.out ++ out;
         into = h.into ++ into;
         gone = e ∙ (ap (λ (vs : List T). vs ++ out) h.gone ∙ append_assoc s.gone h.out out);
         came = f ∙ (ap (λ (vs : List T). vs ++ into) h.came ∙ append_assoc s.came h.into into);
-        held = append_assoc h.out out t.now.queue.items ∙ (ap (λ (vs : List T). h.out ++ vs) k ∙ (sym (append_assoc h.out m.now.queue.items into) ∙ (ap (λ (vs : List T). vs ++ into) h.held ∙ append_assoc s.now.queue.items h.into into)));
+        held = append_assoc h.out out t.now.queue.items
+            ∙ (ap (λ (vs : List T). h.out ++ vs) k
+            ∙ (sym (append_assoc h.out m.now.queue.items into)
+            ∙ (ap (λ (vs : List T). vs ++ into) h.held ∙ append_assoc s.now.queue.items h.into into)));
       }
 
-  next_accounts : (s m t : Scene T Waiter) (b c : Book T) (x : Step T) (e : Entry T) → Accounts s m → Made b m x e c t → Accounts s t
+  next_accounts : (s m t : Scene T Waiter) (b c : Book T) (x : Step T) (e : Entry T) → Accounts s m
+      → Made b m x e c t → Accounts s t
   next_accounts s m t b c (step.Begin p call) e h made =
       let n = made.next.0 in
-      both s m t [] [] h (n.gone ∙ sym (append-nil m.gone)) (n.came ∙ sym (append-nil m.came)) (ap (λ (d : Channel T Waiter). d.queue.items) n.now ∙ sym (append-nil m.now.queue.items))
+      both s m t [] [] h (n.gone ∙ sym (append-nil m.gone)) (n.came ∙ sym (append-nil m.came))
+      (ap (λ (d : Channel T Waiter). d.queue.items) n.now ∙ sym (append-nil m.now.queue.items))
   next_accounts s m t b c (step.Step p) e h made =
       let n = made.next in
       both s m t (gone_by e.mark m.now.queue.items) (came_by e.mark n.mine.ask) h n.gone n.came n.held
 
-  sound_next : (s t : Scene T Waiter) (b c : Book T) (x : Step T) (e : Entry T) → Made b s x e c t → AllSound s → AllSound t
-  sound_next s t b c x e made sound = all_sound_next s (channel_step b.roll x) _ e.woken.items t sound made.next
-
   pub ran_none : (steps : List (Step T)) (f : Floor T) → RanTo steps steps f [] f
-  ran_none steps f s sh = record { made = []; last = s; first = refl; run = (refl, refl, refl); shown = sh; accounts = no_accounts s; owned = λ o. o; woken = λ o w. w; sound = λ o. o; owed = λ o h. owed (book_of f) s o h }
+  ran_none steps f s sh = record {
+    made = [];
+    last = s;
+    first = refl;
+    run = (refl, refl, refl);
+    shown = sh;
+    accounts = no_accounts s;
+    kept = λ k. k;
+    owed = λ k. owed (book_of f) s k.owned k.sound;
+  }
 
-  pub ran_more : (steps left : List (Step T)) (x : Step T) (f : Floor T) (trace : List (Entry T)) (g : Floor T) (e : Entry T) (h : Floor T)
-      → RanTo steps (x ∷ left) f trace g → step_refusal g.roll g.agents.items x ≡ None → Steps x g e h → RanTo steps left f (trace ++ e ∷ []) h
+  pub ran_more : (steps left : List (Step T)) (x : Step T) (f : Floor T) (trace : List (Entry T)) (g : Floor T)
+      (e : Entry T) (h : Floor T)
+      → RanTo steps (x ∷ left) f trace g → step_refusal g.roll g.agents.items x ≡ None → Steps x g e h
+      → RanTo steps left f (trace ++ e ∷ []) h
   ran_more steps left x f trace g e h ran fine stepped s sh =
       let r = ran s sh in
       let t = stepped r.last r.shown in
@@ -216,27 +261,26 @@ module _ {T : Type 0} where
         made = r.made ++ x ∷ [];
         last = t.after;
         first = r.first ∙ sym (append_assoc r.made (x ∷ []) left);
-        run = run_more (parts_in f) s (book_of f) r.made trace (parts_in g) r.last (book_of g) x e (parts_in h) t.after (book_of h) r.run t.touches t.made;
+        run = run_more (parts_in f) s (book_of f) r.made trace (parts_in g) r.last (book_of g) x e (parts_in h) t.after
+            (book_of h) r.run t.touches t.made;
         shown = t.shown;
         accounts = next_accounts s r.last t.after (book_of g) (book_of h) x e r.accounts t.made;
-        woken = λ o w.
-            woken_next (book_of g) (book_of h) r.last t.after x e (let sh = r.shown.shows in sh.known) fine t.made (r.owned o)
-            (r.woken o w);
-        owned = λ o. owned_next (book_of g) (book_of h) r.last t.after x e (let sh = r.shown.shows in sh.known) fine t.made (r.owned o);
-        sound = λ o. sound_next r.last t.after (book_of g) (book_of h) x e t.made (r.sound o);
-        owed = λ o k.
-            owed (book_of h) t.after
-            (owned_next (book_of g) (book_of h) r.last t.after x e (let sh = r.shown.shows in sh.known) fine t.made (r.owned o))
-            (sound_next r.last t.after (book_of g) (book_of h) x e t.made (r.sound k));
+        kept = λ k. kept_next (book_of g) (book_of h) r.last t.after x e fine t.made (r.kept k);
+        owed = λ k.
+            let n = kept_next (book_of g) (book_of h) r.last t.after x e fine t.made (r.kept k) in
+            owed (book_of h) t.after n.owned n.sound;
       }
 
   -- ---- why a run stops
 
-  pub stops_here : (b : Book T) (left : List (Step T)) (x : Step T) (made n : ℕ) (why : WorldRefusal) (o : Option Stopped) → true ≡ nat_lt 0 (length left) → x ≡ slice_index_or left 0 x → n ≡ made → o ≡ Some (record { place = made; why = why }) → MayRefuse b x why → Stops b left n o
+  pub stops_here : (b : Book T) (left : List (Step T)) (x : Step T) (made n : ℕ) (why : WorldRefusal) (o : Option Stopped)
+      → true ≡ nat_lt 0 (length left) → x ≡ slice_index_or left 0 x → n ≡ made → o ≡ Some (record { place = made; why = why })
+      → MayRefuse b x why → Stops b left n o
   stops_here b [] x made n why o e p m f h = absurd (cc e)
   stops_here b (y ∷ ys) x made n why o e p m f h = rw f (sym m, subst (λ (z : Step T). MayRefuse b z why) p h)
 
-  pub stops_back : (b : Book T) (left rest : List (Step T)) (x : Step T) (made n : ℕ) (why : WorldRefusal) (o : Option Stopped) → left ≡ x ∷ rest → n ≡ made → o ≡ Some (record { place = made; why = why }) → MayRefuse b x why → Stops b left n o
+  pub stops_back : (b : Book T) (left rest : List (Step T)) (x : Step T) (made n : ℕ) (why : WorldRefusal) (o : Option Stopped)
+      → left ≡ x ∷ rest → n ≡ made → o ≡ Some (record { place = made; why = why }) → MayRefuse b x why → Stops b left n o
   stops_back b left rest x made n why o e m f h = rw (e, f) (sym m, h)
 
   pub stops_at_end : (b : Book T) (left : List (Step T)) (n : ℕ) → false ≡ nat_lt 0 (length left) → Stops b left n None
@@ -244,11 +288,13 @@ module _ {T : Type 0} where
   stops_at_end b (x ∷ xs) n e = absurd (grind (arith, nat_tests))
 
   -- the step in front
-  pub first_is : (left : List (Step T)) (x y : Step T) (rest : List (Step T)) → x ≡ slice_index_or left 0 x → left ≡ y ∷ rest → x ≡ y
+  pub first_is : (left : List (Step T)) (x y : Step T) (rest : List (Step T)) → x ≡ slice_index_or left 0 x
+      → left ≡ y ∷ rest → x ≡ y
   first_is left x y rest p e = p ∙ ap (λ (l : List (Step T)). slice_index_or l 0 x) e
 
   -- room that was taken changes nothing
-  pub ran_same : (steps left left' : List (Step T)) (f : Floor T) (trace : List (Entry T)) (g h : Floor T) → left' ≡ left → IsSame g h → RanTo steps left f trace g → RanTo steps left' f trace h
+  pub ran_same : (steps left left' : List (Step T)) (f : Floor T) (trace : List (Entry T)) (g h : Floor T) → left' ≡ left
+      → IsSame g h → RanTo steps left f trace g → RanTo steps left' f trace h
   ran_same steps left left' f trace g h more same ran s sh =
       let r = ran s sh in
       let parts : parts_in h ≡ parts_in g = ap (λ c. parts_of c) same.channel in
@@ -263,11 +309,23 @@ module _ {T : Type 0} where
           messages = rw same.messages r.shown.messages;
         };
         accounts = r.accounts;
-        owned = λ o. rw same.book (r.owned o);
-        woken = λ o w. rw same.book (r.woken o w);
-        owed = λ o k. rw same.book (r.owed o k);
-        sound = r.sound;
+        kept = λ k. rw same.book (r.kept k);
+        owed = λ k. rw same.book (r.owed k);
       }
 
   pub at_work_same : (g h : Floor T) → IsSame g h → AreAtWork g → AreAtWork h
-  at_work_same g h same at_work = rw same.parties (subst (λ (b : Book T). map (λ (a : Agent T). a.party) b.agents ≡ parties_in g.parties.items) (sym same.book) at_work)
+  at_work_same g h same at_work = rw same.parties
+      (subst (λ (b : Book T). map (λ (a : Agent T). a.party) b.agents ≡ parties_in g.parties.items) (sym same.book) at_work)
+
+  pub owned_same : (g h : Floor T) → IsSame g h → AreOwned g → AreOwned h
+  owned_same g h same o =
+      let parts : parts_in h ≡ parts_in g = ap (λ c. parts_of c) same.channel in
+      record {
+        scene = o.scene;
+        shown = record {
+          shows = rw (parts, same.parties) o.shown.shows;
+          accepted = rw same.made o.shown.accepted;
+          messages = rw same.messages o.shown.messages;
+        };
+        kept = rw same.book o.kept;
+      }

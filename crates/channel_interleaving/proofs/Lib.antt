@@ -1,6 +1,6 @@
+pub mod LruLemmas
 pub mod RefusalLemmas
 pub mod WokenFacts
-pub mod CountFacts
 pub mod OwnerLists
 pub mod OwnerKeys
 pub mod OwnerTurns
@@ -17,7 +17,19 @@ pub mod OwnerWokenLists
 pub mod OwnerWokenMoves
 pub mod OwnerWoken
 pub mod OwnerWokenRuns
+pub mod OwnerPolled
+pub mod AllKept
+pub mod LoneFacts
+pub mod Interface
 pub mod OwedCounts
 pub mod OwedFacts
+pub mod UserFacts
+pub mod OwnerOrderWithin
+pub mod OwnerOrderLists
+pub mod OwnerOrderMoves
+pub mod OwnerOrderNames
+pub mod OwnerOrderWakes
+pub mod OwnerOrder
+pub mod OwnerOrderRuns
 pub mod FloorFacts
 pub mod PendingFacts

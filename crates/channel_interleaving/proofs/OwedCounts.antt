@@ -1,6 +1,8 @@
 -- How many are told: no more than those whose names are pending and woken, and the calls that have a listener in hand.
-use Rattle.std.proofs.Common.{arith, ◌≡◌, ℕ, suc, nat_eq, ◌+◌, ◌≤◌, Bool, true, false, cond, if◌then◌else◌, ◌&&◌, List, [], ◌∷◌, ◌++◌, map, length, length-append, Option, None, Some, inl, inr, refl, sym, ap, ◌∙◌, subst}
+use Rattle.std.proofs.Common.{arith, ◌≡◌, ℕ, suc, nat_eq, ◌+◌, ◌≤◌, Bool, true, false, cond, if◌then◌else◌, List, [], ◌∷◌, ◌++◌, map, length, length-append, Option, None, Some, inl, inr, refl, sym, ap, ◌∙◌, subst}
 use Rattle.std.proofs.lemmas.Bool.Decides.{nat_tests}
+use Rattle.std.proofs.lemmas.List.Sums.{sum_by-cons}
+use Rattle.std.specs.List.{count_by}
 use Rattle.std.specs.Map.{lookup, keys_of}
 use Rattle.concurrent_queue.specs.Queue.{Phase, Stage, trying, displaced, appended, taken}
 use Rattle.event_listener.specs.declared.key.Key.{Key}
@@ -14,6 +16,8 @@ use Rattle.async_channel.specs.declared.stage.Line.TheVariants.{Sends, Receives,
 use Rattle.async_channel.specs.declared.stage.Stage as stage
 use Rattle.async_channel.specs.declared.stage.Stage.TheVariants.{Trying, Working}
 use Rattle.async_channel.specs.declared.stage.Work.TheVariants.{TellReceive, TellSend}
+use Rattle.channel_model.proofs.Awake.{line_sound, line_refl}
+use Rattle.channel_model.specs.Laws.{same_line}
 use Rattle.channel_model.specs.Names.{Directory}
 use Rattle.channel_model.specs.declared.name.Waiter.{Waiter}
 use Rattle.channel_model.specs.declared.name.Waiter.TheVariants.{Op, Stream}
@@ -21,8 +25,9 @@ use Rattle.channel_steps.specs.Scene.{Under, Scene}
 use Rattle.channel_laws.specs.Amounts.{is_trying, is_trying_anew, total}
 use Rattle.channel_laws.specs.Receives.{has_appended, is_to_tell_receive, counts_for_receives}
 use Rattle.channel_laws.specs.Sends.{has_taken, has_displaced, is_to_tell_send, is_on_its_way, counts_for_sends}
-use Rattle.channel_interleaving.specs.Owed.{one_if, counted, is_line, is_woken_on, all_names, woken_on, is_sending, is_receiving, at_it}
+use Rattle.channel_interleaving.specs.Owed.{is_woken_on, all_names, woken_on, is_sending, is_receiving, at_it}
 use Rattle.channel_interleaving.specs.Owners.{IsAmong, NoneTwice, AnyOf, Post, free, vacant, amiss, rests, waits, polled, posted, post, holding, line_asked, Together, HoldsIn, Holder, named, calling, Owned}
+use Rattle.channel_interleaving.specs.OwnerOrder.{woken_key, woken_keys}
 use Rattle.channel_interleaving.specs.Run.{Book}
 use Rattle.channel_interleaving.specs.declared.names.Agent.{Agent}
 use Rattle.channel_interleaving.specs.declared.roll.Roll.{Roll}
@@ -60,45 +65,32 @@ no_more (k ∷ ks) ls once f =
     let rest = no_more ks w.rest once.1 (λ j i. w.others j (λ e. once.0 (subst (λ (x : Key). IsAmong x ks) e i)) (f j (inr i))) in
     omega (arith, fewer, rest)
 
--- ---- lines
+-- ---- how many pass a test
 
-pub line_is : (a b : Line) → is_line a b ≡ true → a ≡ b
-line_is Sends Sends e = refl
-line_is Receives Receives e = refl
-line_is Streams Streams e = refl
-line_is Closings Closings e = refl
-line_is a b e = absurd (let no : false ≡ true = e in cc)
+abbrev one_if : Bool → ℕ
+one_if b = cond b 1 0
 
-own_line : (a : Line) → is_line a a ≡ true
-own_line Sends = refl
-own_line Receives = refl
-own_line Streams = refl
-own_line Closings = refl
+-- of a list with a first element: that one, if it passes, and those behind it
+count_first : {A : Type 0} (test : A → Bool) (x : A) (xs : List A) → count_by test (x ∷ xs) ≡ one_if (test x) + count_by test xs
+count_first test x xs = sum_by-cons (λ y. one_if (test y)) x xs
 
 -- ---- the keys of those who are woken, and of calls
 
-abbrev woken_key : Line → Post → List Key
-woken_key line (waits h w) = if w && is_line h.line line then h.key ∷ [] else []
-woken_key line free = []
-woken_key line vacant = []
-woken_key line amiss = []
-woken_key line (rests l) = []
-woken_key line (polled l) = []
-
 abbrev hand_key : Line → Option Held → List Key
 hand_key line None = []
-hand_key line (Some h) = if is_line h.line line then h.key ∷ [] else []
+hand_key line (Some h) = if same_line line h.line then h.key ∷ [] else []
 
 abbrev pub in_hand : Line → Option Held → ℕ
 in_hand line None = 0
-in_hand line (Some h) = one_if (is_line h.line line)
+in_hand line (Some h) = one_if (same_line line h.line)
 
 one_key : (b : Bool) (k : Key) → length (if b then k ∷ [] else []) ≡ one_if b
 one_key true k = refl
 one_key false k = refl
 
 woken_key_length : (line : Line) (x : Post) → length (woken_key line x) ≡ one_if (is_woken_on line x)
-woken_key_length line (waits h w) = one_key (w && is_line h.line line) h.key
+woken_key_length line (waits h true) = one_key (same_line line h.line) h.key
+woken_key_length line (waits h false) = refl
 woken_key_length line free = refl
 woken_key_length line vacant = refl
 woken_key_length line amiss = refl
@@ -107,7 +99,7 @@ woken_key_length line (polled l) = refl
 
 hand_key_length : (line : Line) (o : Option Held) → length (hand_key line o) ≡ in_hand line o
 hand_key_length line None = refl
-hand_key_length line (Some h) = one_key (is_line h.line line) h.key
+hand_key_length line (Some h) = one_key (same_line line h.line) h.key
 
 there_if : (b : Bool) (k : Key) → b ≡ true → IsAmong k (if b then k ∷ [] else [])
 there_if true k e = inl refl
@@ -132,31 +124,13 @@ among_map f x [] h = h
 among_map f x (y ∷ xs) (inl e) = inl (ap f e)
 among_map f x (y ∷ xs) (inr h) = inr (among_map f x xs h)
 
-abbrev woken_keys : Line → (Waiter → Post) → List Waiter → List Key
-woken_keys line p [] = []
-woken_keys line p (w ∷ ws) = woken_key line (p w) ++ woken_keys line p ws
-
-woken_length : (line : Line) (p : Waiter → Post) (ws : List Waiter) → length (woken_keys line p ws) ≡ counted (λ w. is_woken_on line (p w)) ws
-woken_length line p [] = refl
-woken_length line p (w ∷ ws) =
-    let both = length-append (woken_key line (p w)) (woken_keys line p ws) in
-    let one = woken_key_length line (p w) in
-    let rest = woken_length line p ws in
-    omega (arith, both, one, rest)
-
-in_woken : (line : Line) (k : Key) (p : Waiter → Post) (w : Waiter) (ws : List Waiter) → IsAmong w ws → p w ≡ waits (record { line = line; key = k }) true → IsAmong k (woken_keys line p ws)
-in_woken line k p w [] i e = absurd i
-in_woken line k p w (v ∷ ws) (inl same) e =
-    among_left k (woken_key line (p v)) (woken_keys line p ws) (subst (λ (x : Post). IsAmong k (woken_key line x)) (sym (ap p same ∙ e)) (there_if (is_line line line) k (own_line line)))
-in_woken line k p w (v ∷ ws) (inr i) e = among_right k (woken_key line (p v)) (woken_keys line p ws) (in_woken line k p w ws i e)
-
 one_most : (b : Bool) → one_if b ≤ 1
 one_most true = omega arith
 one_most false = omega arith
 
 hand_most : (line : Line) (o : Option Held) → in_hand line o ≤ 1
 hand_most line None = omega arith
-hand_most line (Some h) = one_most (is_line h.line line)
+hand_most line (Some h) = one_most (same_line line h.line)
 
 -- a call of another list has none of this one in hand
 abbrev Lined : Option Line → Option Held → Type 0
@@ -164,10 +138,10 @@ Lined l o = (h : Held) → o ≡ Some h → l ≡ Some h.line
 
 no_hand : (line : Line) (l : Option Line) (o : Option Held) → Lined l o → (l ≡ Some line → ⊥) → in_hand line o ≡ 0
 no_hand line l None f g = refl
-no_hand line l (Some h) f g = by (is_line h.line line) refl
+no_hand line l (Some h) f g = by (same_line line h.line) refl
   where
-    by : (t : Bool) → is_line h.line line ≡ t → one_if (is_line h.line line) ≡ 0
-    by true e = absurd (g (f h refl ∙ ap (λ (x : Line). let o : Option Line = Some x in o) (line_is h.line line e)))
+    by : (t : Bool) → same_line line h.line ≡ t → one_if (same_line line h.line) ≡ 0
+    by true e = absurd (g (f h refl ∙ ap (λ (x : Line). let o : Option Line = Some x in o) (sym (line_sound line h.line e))))
     by false e = ap one_if e
 
 module _ {T : Type 0} where
@@ -192,7 +166,7 @@ module _ {T : Type 0} where
 
   in_hands : (line : Line) (k : Key) (q : ℕ) (us : List (Under T Waiter)) → AnyOf (HasIt q (record { line = line; key = k })) us → IsAmong k (hand_keys line us)
   in_hands line k q [] i = i
-  in_hands line k q (u ∷ us) (inl i) = among_left k (hand_key line (holding u.at)) (hand_keys line us) (subst (λ (o : Option Held). IsAmong k (hand_key line o)) (sym i.1) (there_if (is_line line line) k (own_line line)))
+  in_hands line k q (u ∷ us) (inl i) = among_left k (hand_key line (holding u.at)) (hand_keys line us) (subst (λ (o : Option Held). IsAmong k (hand_key line o)) (sym i.1) (there_if (same_line line line) k (line_refl line)))
   in_hands line k q (u ∷ us) (inr i) = among_right k (hand_key line (holding u.at)) (hand_keys line us) (in_hands line k q us i)
 
   -- ---- names that are woken
@@ -203,14 +177,36 @@ module _ {T : Type 0} where
   named_there r (Stream handle) h b e =
       among_right (Stream handle) (map (λ n. Op (record { 0 = n })) (keys_of r.operations)) (map (λ n. Stream (record { 0 = n })) (keys_of r.handles)) (among_map (λ n. Stream (record { 0 = n })) handle.0 (keys_of r.handles) (is_named _ handle.0 r.handles h b e))
 
+  -- they are as many as those of these names who are pending on this line and were woken
+  woken_length : (line : Line) (r : Roll T) (ws : List Waiter)
+      → length (woken_keys line r ws) ≡ count_by (λ w. is_woken_on line (post r w)) ws
+  woken_length line r [] = refl
+  woken_length line r (w ∷ ws) =
+      let both = length-append (woken_key line (post r w)) (woken_keys line r ws) in
+      let one = woken_key_length line (post r w) in
+      let rest = woken_length line r ws in
+      let first = count_first (λ v. is_woken_on line (post r v)) w ws in
+      omega (arith, both, one, rest, first)
+
+  -- the listener of one who is pending and was woken is among those of its line
+  pub in_woken : (line : Line) (k : Key) (r : Roll T) (w : Waiter) (ws : List Waiter) → IsAmong w ws
+      → post r w ≡ waits (record { line = line; key = k }) true → IsAmong k (woken_keys line r ws)
+  in_woken line k r w [] i e = absurd i
+  in_woken line k r w (v ∷ ws) (inl same) e =
+      among_left k (woken_key line (post r v)) (woken_keys line r ws)
+      (subst (λ (x : Post). IsAmong k (woken_key line x)) (sym (ap (post r) same ∙ e))
+      (there_if (same_line line line) k (line_refl line)))
+  in_woken line k r w (v ∷ ws) (inr i) e =
+      among_right k (woken_key line (post r v)) (woken_keys line r ws) (in_woken line k r w ws i e)
+
   -- the told listeners of a list are no more than its woken pending names and the calls that have one of it in hand
   pub told_few : (b : Book T) (s : Scene T Waiter) (line : Line) → Owned b s → length (listeners line s.now.roster).told ≤ woken_on line b.roll + hands line s.under_way
   told_few b s line o =
       let l = listeners line s.now.roster in
       let parts = none_parts (keys_of l.told) (keys_of l.waiting) (o.once line) in
-      let most = no_more (keys_of l.told) (woken_keys line (post b.roll) (all_names b.roll) ++ hand_keys line s.under_way) parts.left (λ k i. held_so k i) in
-      let both = length-append (woken_keys line (post b.roll) (all_names b.roll)) (hand_keys line s.under_way) in
-      let woken = woken_length line (post b.roll) (all_names b.roll) in
+      let most = no_more (keys_of l.told) (woken_keys line b.roll (all_names b.roll) ++ hand_keys line s.under_way) parts.left (λ k i. held_so k i) in
+      let both = length-append (woken_keys line b.roll (all_names b.roll)) (hand_keys line s.under_way) in
+      let woken = woken_length line b.roll (all_names b.roll) in
       let hand = hands_length line s.under_way in
       let same = map_length l.told in
       omega (arith, most, both, woken, hand, same)
@@ -224,21 +220,21 @@ module _ {T : Type 0} where
       entry_key k x (e ∷ es) (inl f) = inl (ap (λ (y : Key × _). y.0) f)
       entry_key k x (e ∷ es) (inr i) = inr (entry_key k x es i)
 
-      held_so : (k : Key) → IsAmong k (keys_of (listeners line s.now.roster).told) → IsAmong k (woken_keys line (post b.roll) (all_names b.roll) ++ hand_keys line s.under_way)
+      held_so : (k : Key) → IsAmong k (keys_of (listeners line s.now.roster).told) → IsAmong k (woken_keys line b.roll (all_names b.roll) ++ hand_keys line s.under_way)
       held_so k i = by (o.held h (among_left k (keys_of (listeners line s.now.roster).told) (keys_of (listeners line s.now.roster).waiting) i))
         where
           h : Held
           h = record { line = line; key = k }
 
-          at_name : (w : Waiter) (x : Bool) → post b.roll w ≡ waits (record { line = line; key = k }) x → IsAmong k (woken_keys line (post b.roll) (all_names b.roll) ++ hand_keys line s.under_way)
-          at_name w true e = among_left k (woken_keys line (post b.roll) (all_names b.roll)) (hand_keys line s.under_way) (in_woken line k (post b.roll) w (all_names b.roll) (named_there b.roll w (record { line = line; key = k }) true e) e)
+          at_name : (w : Waiter) (x : Bool) → post b.roll w ≡ waits (record { line = line; key = k }) x → IsAmong k (woken_keys line b.roll (all_names b.roll) ++ hand_keys line s.under_way)
+          at_name w true e = among_left k (woken_keys line b.roll (all_names b.roll)) (hand_keys line s.under_way) (in_woken line k b.roll w (all_names b.roll) (named_there b.roll w (record { line = line; key = k }) true e) e)
           at_name w false e =
               let parts = none_parts (keys_of (listeners line s.now.roster).told) (keys_of (listeners line s.now.roster).waiting) (o.once line) in
               absurd (parts.apart k i (entry_key k (Some w) (listeners line s.now.roster).waiting (o.unwoken w (record { line = line; key = k }) e)))
 
-          by : (x : Holder) × HoldsIn (post b.roll) s.under_way x (record { line = line; key = k }) → IsAmong k (woken_keys line (post b.roll) (all_names b.roll) ++ hand_keys line s.under_way)
+          by : (x : Holder) × HoldsIn (post b.roll) s.under_way x (record { line = line; key = k }) → IsAmong k (woken_keys line b.roll (all_names b.roll) ++ hand_keys line s.under_way)
           by (named w, e) = at_name w e.0 e.1
-          by (calling q, e) = among_right k (woken_keys line (post b.roll) (all_names b.roll)) (hand_keys line s.under_way) (in_hands line k q s.under_way e)
+          by (calling q, e) = among_right k (woken_keys line b.roll (all_names b.roll)) (hand_keys line s.under_way) (in_hands line k q s.under_way e)
 
   -- ---- what a call counts for
 
@@ -325,13 +321,16 @@ module _ {T : Type 0} where
   Weighs line weigh = (a : ChannelAsk T Waiter) (at : stage.Stage (Phase T) T Waiter) → Lined (line_asked a) (holding at) → weigh a at + in_hand line (holding at) ≤ May a
 
   all_weigh : (line : Line) (weigh : ChannelAsk T Waiter → stage.Stage (Phase T) T Waiter → ℕ) → Weighs line weigh → (p : Waiter → Post) (agents : List (Agent T)) (us : List (Under T Waiter)) → Together p agents us
-      → total weigh us + hands line us ≤ counted (λ (u : Under T Waiter). is_sending u.ask) us + counted (λ (u : Under T Waiter). is_receiving u.ask) us
+      → total weigh us + hands line us
+      ≤ count_by (λ (u : Under T Waiter). is_sending u.ask) us + count_by (λ (u : Under T Waiter). is_receiving u.ask) us
   all_weigh line weigh f p [] [] t = omega arith
   all_weigh line weigh f p (a ∷ more) (u ∷ us) t =
       let own = let k = t.0 in k.lines in
       let one = f u.ask u.at own in
       let rest = all_weigh line weigh f p more us t.1 in
-      omega (arith, one, rest)
+      let sending = count_first (λ (v : Under T Waiter). is_sending v.ask) u us in
+      let receiving = count_first (λ (v : Under T Waiter). is_receiving v.ask) u us in
+      omega (arith, one, rest, sending, receiving)
   all_weigh line weigh f p [] (u ∷ us) t = absurd t
   all_weigh line weigh f p (a ∷ more) [] t = absurd t
 

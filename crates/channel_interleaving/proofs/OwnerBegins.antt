@@ -70,7 +70,8 @@ held_in amiss = None
 held_in (rests line) = None
 held_in (polled line) = None
 
-line_on : (line : Line) (key : Option Key) (h : Held) → held_on line key ≡ Some h → let o : Option Line = Some line in o ≡ Some h.line
+line_on : (line : Line) (key : Option Key) (h : Held) → held_on line key ≡ Some h → let o : Option Line = Some line in
+    o ≡ Some h.line
 line_on line None h e = absurd (let no : None ≡ Some h = e in cc)
 line_on line (Some key) h e = ap (λ (o : Option Held). option_map (λ (i : Held). i.line) o) e
 
@@ -111,7 +112,8 @@ module _ {T W : Type 0} where
   TurnStarts a (Works w) = Starts a (Working w)
   TurnStarts a (Ends x kept) = ⊥
 
-  taken : (a : ChannelAsk T W) (t : Turn T W) (r : Option (Reply T)) (s : Stage (Phase T) T W) → Turned t r s → TurnStarts a t → Starts a s
+  taken : (a : ChannelAsk T W) (t : Turn T W) (r : Option (Reply T)) (s : Stage (Phase T) T W) → Turned t r s
+      → TurnStarts a t → Starts a s
   taken a (Tries x aim) r s h k = subst (λ (z : Stage (Phase T) T W). Starts a z) (sym h.1) (k (asked x))
   taken a (Works w) r s h k = subst (λ (z : Stage (Phase T) T W). Starts a z) (sym h.1) k
   taken a (Ends x kept) r s h k = absurd k
@@ -167,7 +169,8 @@ untaken {X} p n d h = by (lookup (nat_eq n) d) h
     by None e = refl
     by (Some x) e = absurd (let no : true ≡ false = e in cc)
 
-pub on_line : (line : Line) (s : Standing) → is_polled s ≡ false → (held_on line (key_of s) ≡ held_in (post_on line s)) × IsLoose (post_on line s)
+pub on_line : (line : Line) (s : Standing) → is_polled s ≡ false
+    → (held_on line (key_of s) ≡ held_in (post_on line s)) × IsLoose (post_on line s)
 on_line line Rests e = (refl, tt)
 on_line line (Waits key is_woken) e = (refl, tt)
 on_line line (IsPolled b) e = absurd (let no : true ≡ false = e in cc)
@@ -197,6 +200,7 @@ module _ {T : Type 0} where
     pub takes : ask_holds a ≡ held_in (p name)
     pub suits : Suits p' e (wait_of a)
     pub whose : (subject e ≡ None) ⊎ (subject e ≡ Some name)
+    pub works : (line : Line) → now ≡ polled line → subject e ≡ Some name
 
   -- ---- what lives under a name
 
@@ -220,20 +224,27 @@ module _ {T : Type 0} where
       let f = if_none (names_taken r c) _ None e.1 in
       record { live = not_false _ a.0; fit = not_false _ b.0; free_of_polls = d.0; new = f.0 }
 
-  pub lives_as : (r : Roll T) (op : OpId) → (is_some (at op.0 (names_of r).operations) && true) ≡ true → (o : Operation T) × (at op.0 r.operations ≡ Some o)
+  pub lives_as : (r : Roll T) (op : OpId) → (is_some (at op.0 (names_of r).operations) && true) ≡ true
+      → (o : Operation T) × (at op.0 r.operations ≡ Some o)
   lives_as r op h =
-      there (at op.0 r.operations) (ap (λ o. is_some o) (sym (seen.operation_at r op.0)) ∙ (sym (seen.and_true (is_some (at op.0 (names_of r).operations))) ∙ h))
+      there (at op.0 r.operations)
+      (ap (λ o. is_some o) (sym (seen.operation_at r op.0))
+      ∙ (sym (seen.and_true (is_some (at op.0 (names_of r).operations))) ∙ h))
 
-  pub handle_as : (r : Roll T) (handle : HandleId) → (is_some (at handle.0 (names_of r).handles) && true) ≡ true → (h : Hold) × (at handle.0 r.handles ≡ Some h)
+  pub handle_as : (r : Roll T) (handle : HandleId) → (is_some (at handle.0 (names_of r).handles) && true) ≡ true
+      → (h : Hold) × (at handle.0 r.handles ≡ Some h)
   handle_as r handle h =
-      handle_there (at handle.0 r.handles) (ap (λ o. is_some o) (sym (seen.handle_at r handle.0)) ∙ (sym (seen.and_true (is_some (at handle.0 (names_of r).handles))) ∙ h))
+      handle_there (at handle.0 r.handles)
+      (ap (λ o. is_some o) (sym (seen.handle_at r handle.0))
+      ∙ (sym (seen.and_true (is_some (at handle.0 (names_of r).handles))) ∙ h))
 
   -- ---- an operation
 
   abbrev pub as_model : OperationKind → HandleId → Option T → model.Operation T
   as_model k h m = elim k [ kind.Send ↦ model.send h m | kind.Receive ↦ model.recv h | kind.Closing ↦ model.closing h ]
 
-  pub poll_is : (held : HeldBy) (op : OpId) (k : OperationKind) (h : HandleId) (m : Option T) (key : Option Key) → held (Op op) ≡ key → poll_asked held op (Some (as_model k h m)) ≡ polled_ask k m key op
+  pub poll_is : (held : HeldBy) (op : OpId) (k : OperationKind) (h : HandleId) (m : Option T) (key : Option Key)
+      → held (Op op) ≡ key → poll_asked held op (Some (as_model k h m)) ≡ polled_ask k m key op
   poll_is held op kind.Send h None key e = refl
   poll_is held op kind.Send h (Some m) key e = ap (λ x. ask.PollSend m x (Op op)) e
   poll_is held op kind.Receive h m key e = ap (λ x. ask.PollRecv x (Op op)) e
@@ -242,7 +253,8 @@ module _ {T : Type 0} where
   abbrev pub Free : OperationKind → Option T → Standing → Type 0
   Free k m s = (is_polled s ≡ false) × (operation_post k m s ≡ amiss → ⊥)
 
-  pub op_held : (k : OperationKind) (m : Option T) (s : Standing) → Free k m s → (held_on (line_of k) (key_of s) ≡ held_in (operation_post k m s)) × IsLoose (operation_post k m s)
+  pub op_held : (k : OperationKind) (m : Option T) (s : Standing) → Free k m s
+      → (held_on (line_of k) (key_of s) ≡ held_in (operation_post k m s)) × IsLoose (operation_post k m s)
   op_held kind.Send None Rests f = (refl, tt)
   op_held kind.Send None (Waits key is_woken) f = absurd (f.1 refl)
   op_held kind.Send None (IsPolled b) f = absurd (let no : true ≡ false = f.0 in cc)
@@ -250,7 +262,8 @@ module _ {T : Type 0} where
   op_held kind.Receive m s f = on_line Receives s f.0
   op_held kind.Closing m s f = on_line Closings s f.0
 
-  poll_holds : (op : OpId) (k : OperationKind) (m : Option T) (s : Standing) → Free k m s → ask_holds (polled_ask k m (key_of s) op) ≡ held_on (line_of k) (key_of s)
+  poll_holds : (op : OpId) (k : OperationKind) (m : Option T) (s : Standing) → Free k m s
+      → ask_holds (polled_ask k m (key_of s) op) ≡ held_on (line_of k) (key_of s)
   poll_holds op kind.Send None Rests f = refl
   poll_holds op kind.Send None (Waits key is_woken) f = absurd (f.1 refl)
   poll_holds op kind.Send None (IsPolled b) f = absurd (let no : true ≡ false = f.0 in cc)
@@ -258,7 +271,8 @@ module _ {T : Type 0} where
   poll_holds op kind.Receive m s f = refl
   poll_holds op kind.Closing m s f = refl
 
-  poll_waits : (op : OpId) (k : OperationKind) (m : Option T) (key : Option Key) → (wait_of (polled_ask k m key op) ≡ None) ⊎ (wait_of (polled_ask k m key op) ≡ Some (line_of k, Op op))
+  poll_waits : (op : OpId) (k : OperationKind) (m : Option T) (key : Option Key)
+      → (wait_of (polled_ask k m key op) ≡ None) ⊎ (wait_of (polled_ask k m key op) ≡ Some (line_of k, Op op))
   poll_waits op kind.Send None key = inl refl
   poll_waits op kind.Send (Some m) key = inr refl
   poll_waits op kind.Receive m key = inr refl
@@ -276,7 +290,8 @@ module _ {T : Type 0} where
   pub op_is : (r : Roll T) (op : OpId) (o : Operation T) → at op.0 r.operations ≡ Some o → post r (Op op) ≡ op_post o
   op_is r op o e = ap (λ x. posted op_post x) (found op.0 r.operations o e)
 
-  pub find : (r : Roll T) (op : OpId) → Sane r → (is_some (at op.0 (names_of r).operations) && true) ≡ true → option_map_or (λ (o : Operation T). is_polled o.standing) (at op.0 r.operations) false ≡ false → Found r op
+  pub find : (r : Roll T) (op : OpId) → Sane r → (is_some (at op.0 (names_of r).operations) && true) ≡ true
+      → option_map_or (λ (o : Operation T). is_polled o.standing) (at op.0 r.operations) false ≡ false → Found r op
   find r op sane live idle =
       let o = lives_as r op live in
       record {
@@ -291,21 +306,28 @@ module _ {T : Type 0} where
   pub key_is : (r : Roll T) (op : OpId) (o : Operation T) → at op.0 r.operations ≡ Some o → held_of r (Op op) ≡ key_of o.standing
   key_is r op o e = ap (λ x. option_map_or (λ (o : Operation T). key_of o.standing) x None) e
 
-  pub held_is : (r : Roll T) (op : OpId) (f : Found r op) → held_on (line_of f.operation.kind) (key_of f.operation.standing) ≡ held_in (post r (Op op))
-  held_is r op f = (op_held f.operation.kind f.operation.message f.operation.standing f.loose).0 ∙ ap held_in (sym (op_is r op f.operation f.is))
+  pub held_is : (r : Roll T) (op : OpId) (f : Found r op)
+      → held_on (line_of f.operation.kind) (key_of f.operation.standing) ≡ held_in (post r (Op op))
+  held_is r op f = (op_held f.operation.kind f.operation.message f.operation.standing f.loose).0
+      ∙ ap held_in (sym (op_is r op f.operation f.is))
 
   pub loose_is : (r : Roll T) (op : OpId) (f : Found r op) → IsLoose (post r (Op op))
-  loose_is r op f = subst IsLoose (sym (op_is r op f.operation f.is)) (op_held f.operation.kind f.operation.message f.operation.standing f.loose).1
+  loose_is r op f = subst IsLoose (sym (op_is r op f.operation f.is))
+      (op_held f.operation.kind f.operation.message f.operation.standing f.loose).1
 
-  pub now_polled : (r : Roll T) (op : OpId) (f : Found r op) → Sets (post r) (post (with_operation lent_to_poll op r)) (Op op) (polled (line_of f.operation.kind))
+  pub now_polled : (r : Roll T) (op : OpId) (f : Found r op)
+      → Sets (post r) (post (with_operation lent_to_poll op r)) (Op op) (polled (line_of f.operation.kind))
   now_polled r op f =
       let s = op_changed r op lent_to_poll f.operation f.is in
       record { there = s.there ∙ lent_polled T f.operation.kind (is_some f.operation.message); others = s.others }
 
-  pub polls : (r : Roll T) (op : OpId) → Found r op → Touches (post r) (post (names_begun r (call.Poll op))) (errand.Poll op) (asks r (call.Poll op))
+  pub polls : (r : Roll T) (op : OpId) → Found r op
+      → Touches (post r) (post (names_begun r (call.Poll op))) (errand.Poll op) (asks r (call.Poll op))
   polls r op f =
       let o = f.operation in
-      let same : asks r (call.Poll op) ≡ polled_ask o.kind o.message (key_of o.standing) op = ap (λ x. poll_asked (held_of r) op (option_map operation_of x)) f.is ∙ poll_is (held_of r) op o.kind o.handle o.message (key_of o.standing) (key_is r op o f.is) in
+      let same : asks r (call.Poll op) ≡ polled_ask o.kind o.message (key_of o.standing) op = ap (λ x. poll_asked (held_of r) op
+      (option_map operation_of x)) f.is ∙ poll_is (held_of r) op o.kind o.handle o.message (key_of o.standing)
+      (key_is r op o f.is) in
       let s = now_polled r op f in
       record {
         name = Op op;
@@ -314,6 +336,12 @@ module _ {T : Type 0} where
         busy = tt;
         loose = loose_is r op f;
         takes = ap ask_holds same ∙ (poll_holds op o.kind o.message o.standing f.loose ∙ held_is r op f);
-        suits = (line_of o.kind, s.there, subst (λ (a : ChannelAsk T Waiter). (wait_of a ≡ None) ⊎ (wait_of a ≡ Some (line_of o.kind, Op op))) (sym same) (poll_waits op o.kind o.message (key_of o.standing)));
+        suits = (
+          line_of o.kind,
+          s.there,
+          subst (λ (a : ChannelAsk T Waiter). (wait_of a ≡ None) ⊎ (wait_of a ≡ Some (line_of o.kind, Op op))) (sym same)
+              (poll_waits op o.kind o.message (key_of o.standing)),
+        );
         whose = inr refl;
+        works = λ line i. refl;
       }

@@ -42,7 +42,8 @@ use Rattle.channel_interleaving.proofs.RefusalLemmas as seen
 abbrev Idle : HandleKind → Standing → Type 0
 Idle k s = (is_polled s ≡ false) × (stream_post k s ≡ amiss → ⊥)
 
-no_stream_held : (s : Standing) → (no_stream_post s ≡ amiss → ⊥) → (let none : Option Held = None in none ≡ held_in (no_stream_post s)) × IsLoose (no_stream_post s)
+no_stream_held : (s : Standing) → (no_stream_post s ≡ amiss → ⊥)
+    → (let none : Option Held = None in none ≡ held_in (no_stream_post s)) × IsLoose (no_stream_post s)
 no_stream_held Rests f = (refl, tt)
 no_stream_held (Waits key is_woken) f = absurd (f refl)
 no_stream_held (IsPolled b) f = absurd (f refl)
@@ -55,9 +56,15 @@ is_receiver handle_kind.WeakReceiver e = absurd (let no : false ≡ true = e in 
 
 module _ (T : Type 0) where
   abbrev drop_is : HandleKind → Option Key → ChannelAsk T Waiter
-  drop_is k key = elim k [ handle_kind.Sender ↦ ask.DropSender | handle_kind.Receiver ↦ ask.DropReceiver key | handle_kind.WeakSender ↦ ask.DropWeak | handle_kind.WeakReceiver ↦ ask.DropWeak ]
+  drop_is k key = elim k [
+    | handle_kind.Sender ↦ ask.DropSender
+    | handle_kind.Receiver ↦ ask.DropReceiver key
+    | handle_kind.WeakSender ↦ ask.DropWeak
+    | handle_kind.WeakReceiver ↦ ask.DropWeak
+  ]
 
-  drop_held : (k : HandleKind) (s : Standing) → Idle k s → (ask_holds (drop_is k (key_of s)) ≡ held_in (stream_post k s)) × IsLoose (stream_post k s)
+  drop_held : (k : HandleKind) (s : Standing) → Idle k s → (ask_holds (drop_is k (key_of s)) ≡ held_in (stream_post k s))
+      × IsLoose (stream_post k s)
   drop_held handle_kind.Receiver s f = on_line Streams s f.0
   drop_held handle_kind.Sender s f = no_stream_held s f.1
   drop_held handle_kind.WeakSender s f = no_stream_held s f.1
@@ -69,42 +76,59 @@ module _ (T : Type 0) where
   drop_waits handle_kind.WeakSender key = refl
   drop_waits handle_kind.WeakReceiver key = refl
 
-  new_whose : (from new : HandleId) (k : HandleKind → HandleKind) (o : Option Handle) → (subject {T = T} (new_from from new k o) ≡ None) ⊎ (subject {T = T} (new_from from new k o) ≡ Some (Stream new))
+  new_whose : (from new : HandleId) (k : HandleKind → HandleKind) (o : Option Handle)
+      → (subject {T = T} (new_from from new k o) ≡ None) ⊎ (subject {T = T} (new_from from new k o) ≡ Some (Stream new))
   new_whose from new k None = inl refl
   new_whose from new k (Some h) = inr refl
 
-  new_suits : (p : Waiter → Post) (from new : HandleId) (k : HandleKind → HandleKind) (o : Option Handle) (wait : Option (Line × Waiter)) → p (Stream new) ≡ vacant → wait ≡ None → Suits {T = T} p (new_from from new k o) wait
+  new_suits : (p : Waiter → Post) (from new : HandleId) (k : HandleKind → HandleKind) (o : Option Handle)
+      (wait : Option (Line × Waiter)) → p (Stream new) ≡ vacant → wait ≡ None → Suits {T = T} p (new_from from new k o) wait
   new_suits p from new k None wait v e = e
   new_suits p from new k (Some h) wait v e = (v, e)
 
-  clone_plain : (o : Option Handle) → (wait_of {T = T} {W = Waiter} (clone_asked o) ≡ None) × (ask_holds {T = T} {W = Waiter} (clone_asked o) ≡ None)
+  clone_plain : (o : Option Handle)
+      → (wait_of {T = T} {W = Waiter} (clone_asked o) ≡ None) × (ask_holds {T = T} {W = Waiter} (clone_asked o) ≡ None)
   clone_plain None = (refl, refl)
   clone_plain (Some h) = by h.kind
     where
-      by : (k : HandleKind) → let a : ChannelAsk T Waiter = elim k [ handle_kind.Sender ↦ ask.CloneHandle Senders | handle_kind.Receiver ↦ ask.CloneHandle Receivers | handle_kind.WeakSender ↦ ask.Make | handle_kind.WeakReceiver ↦ ask.Make ] in (wait_of a ≡ None) × (ask_holds a ≡ None)
+      by : (k : HandleKind) → let a : ChannelAsk T Waiter = elim k [
+        | handle_kind.Sender ↦ ask.CloneHandle Senders
+        | handle_kind.Receiver ↦ ask.CloneHandle Receivers
+        | handle_kind.WeakSender ↦ ask.Make
+        | handle_kind.WeakReceiver ↦ ask.Make
+      ] in (wait_of a ≡ None) × (ask_holds a ≡ None)
       by handle_kind.Sender = (refl, refl)
       by handle_kind.Receiver = (refl, refl)
       by handle_kind.WeakSender = (refl, refl)
       by handle_kind.WeakReceiver = (refl, refl)
 
-  upgrade_plain : (o : Option Handle) → (wait_of {T = T} {W = Waiter} (upgrade_asked o) ≡ None) × (ask_holds {T = T} {W = Waiter} (upgrade_asked o) ≡ None)
+  upgrade_plain : (o : Option Handle) → (wait_of {T = T} {W = Waiter} (upgrade_asked o) ≡ None)
+      × (ask_holds {T = T} {W = Waiter} (upgrade_asked o) ≡ None)
   upgrade_plain None = (refl, refl)
   upgrade_plain (Some h) = by h.kind
     where
-      by : (k : HandleKind) → let a : ChannelAsk T Waiter = elim k [ handle_kind.Sender ↦ ask.Upgrade Senders | handle_kind.Receiver ↦ ask.Upgrade Receivers | handle_kind.WeakSender ↦ ask.Upgrade Senders | handle_kind.WeakReceiver ↦ ask.Upgrade Receivers ] in (wait_of a ≡ None) × (ask_holds a ≡ None)
+      by : (k : HandleKind) → let a : ChannelAsk T Waiter = elim k [
+        | handle_kind.Sender ↦ ask.Upgrade Senders
+        | handle_kind.Receiver ↦ ask.Upgrade Receivers
+        | handle_kind.WeakSender ↦ ask.Upgrade Senders
+        | handle_kind.WeakReceiver ↦ ask.Upgrade Receivers
+      ] in
+          (wait_of a ≡ None) × (ask_holds a ≡ None)
       by handle_kind.Sender = (refl, refl)
       by handle_kind.Receiver = (refl, refl)
       by handle_kind.WeakSender = (refl, refl)
       by handle_kind.WeakReceiver = (refl, refl)
 
 module _ {T : Type 0} where
-  refusal_is : (held : HeldBy) (op : OpId) (k : OperationKind) (h : HandleId) (m : Option T) (key : Option Key) → held (Op op) ≡ key
+  refusal_is : (held : HeldBy) (op : OpId) (k : OperationKind) (h : HandleId) (m : Option T) (key : Option Key)
+      → held (Op op) ≡ key
       → (n : Option T) × (refusal_asked held op (Some (as_model k h m)) ≡ ask.RefusePoll (line_of k) n key)
   refusal_is held op kind.Send h m key e = (m, ap (λ x. ask.RefusePoll Sends m x) e)
   refusal_is held op kind.Receive h m key e = (None, ap (λ x. ask.RefusePoll Receives None x) e)
   refusal_is held op kind.Closing h m key e = (None, ap (λ x. ask.RefusePoll Closings None x) e)
 
-  giving_up_is : (held : HeldBy) (op : OpId) (k : OperationKind) (h : HandleId) (m : Option T) (key : Option Key) → held (Op op) ≡ key
+  giving_up_is : (held : HeldBy) (op : OpId) (k : OperationKind) (h : HandleId) (m : Option T) (key : Option Key)
+      → held (Op op) ≡ key
       → (n : Option T) × (giving_up_asked held op (Some (as_model k h m)) ≡ ask.GiveUp (line_of k) n key)
   giving_up_is held op kind.Send h m key e = (m, ap (λ x. ask.GiveUp Sends m x) e)
   giving_up_is held op kind.Receive h m key e = (None, ap (λ x. ask.GiveUp Receives None x) e)
@@ -114,17 +138,20 @@ module _ {T : Type 0} where
   leaves_nobody None = refl
   leaves_nobody (Some o) = refl
 
-  leaves_suit : (p : Waiter → Post) (o : Option (Operation T)) (wait : Option (Line × Waiter)) → wait ≡ None → Suits p (leave_handle_of o) wait
+  leaves_suit : (p : Waiter → Post) (o : Option (Operation T)) (wait : Option (Line × Waiter)) → wait ≡ None
+      → Suits p (leave_handle_of o) wait
   leaves_suit p None wait e = e
   leaves_suit p (Some o) wait e = e
 
   -- ---- operations
 
-  refuses : (r : Roll T) (op : OpId) → Found r op → Touches (post r) (post (names_begun r (call.PollRefused op))) (errand.Poll op) (asks r (call.PollRefused op))
+  refuses : (r : Roll T) (op : OpId) → Found r op
+      → Touches (post r) (post (names_begun r (call.PollRefused op))) (errand.Poll op) (asks r (call.PollRefused op))
   refuses r op f =
       let o = f.operation in
       let is = refusal_is (held_of r) op o.kind o.handle o.message (key_of o.standing) (key_is r op o f.is) in
-      let same : asks r (call.PollRefused op) ≡ ask.RefusePoll (line_of o.kind) is.0 (key_of o.standing) = ap (λ x. refusal_asked (held_of r) op (option_map operation_of x)) f.is ∙ is.1 in
+      let same : asks r (call.PollRefused op) ≡ ask.RefusePoll (line_of o.kind) is.0 (key_of o.standing) =
+      ap (λ x. refusal_asked (held_of r) op (option_map operation_of x)) f.is ∙ is.1 in
       let s = now_polled r op f in
       record {
         name = Op op;
@@ -135,13 +162,16 @@ module _ {T : Type 0} where
         takes = ap ask_holds same ∙ held_is r op f;
         suits = (line_of o.kind, s.there, inl (ap wait_of same));
         whose = inr refl;
+        works = λ line i. refl;
       }
 
-  gives_up : (r : Roll T) (op : OpId) → Found r op → Touches (post r) (post (names_begun r (call.GiveUp op))) (errand_of r (call.GiveUp op)) (asks r (call.GiveUp op))
+  gives_up : (r : Roll T) (op : OpId) → Found r op
+      → Touches (post r) (post (names_begun r (call.GiveUp op))) (errand_of r (call.GiveUp op)) (asks r (call.GiveUp op))
   gives_up r op f =
       let o = f.operation in
       let is = giving_up_is (held_of r) op o.kind o.handle o.message (key_of o.standing) (key_is r op o f.is) in
-      let same : asks r (call.GiveUp op) ≡ ask.GiveUp (line_of o.kind) is.0 (key_of o.standing) = ap (λ x. giving_up_asked (held_of r) op (option_map operation_of x)) f.is ∙ is.1 in
+      let same : asks r (call.GiveUp op) ≡ ask.GiveUp (line_of o.kind) is.0 (key_of o.standing) =
+      ap (λ x. giving_up_asked (held_of r) op (option_map operation_of x)) f.is ∙ is.1 in
       let looked : is_some (lookup (nat_eq op.0) r.operations) ≡ true = ap (λ x. is_some x) (found op.0 r.operations o f.is) in
       record {
         name = Op op;
@@ -150,15 +180,19 @@ module _ {T : Type 0} where
         busy = tt;
         loose = loose_is r op f;
         takes = ap ask_holds same ∙ held_is r op f;
-        suits = leaves_suit (post (names_begun r (call.GiveUp op))) (at op.0 r.operations) (wait_of (asks r (call.GiveUp op))) (ap wait_of same);
+        suits = leaves_suit (post (names_begun r (call.GiveUp op))) (at op.0 r.operations) (wait_of (asks r (call.GiveUp op)))
+            (ap wait_of same);
         whose = inl (leaves_nobody (at op.0 r.operations));
+        works = λ line i. absurd (let no : vacant ≡ polled line = i in cc);
       }
 
   -- a new operation has a new name
-  names_operation : (r : Roll T) (op : OpId) (handle : HandleId) (o : Operation T) → o.standing ≡ Rests → is_taken op.0 r.operations ≡ false
+  names_operation : (r : Roll T) (op : OpId) (handle : HandleId) (o : Operation T) → o.standing ≡ Rests
+      → is_taken op.0 r.operations ≡ false
       → Touches (post r) (post (with_lent handle (operation_named op r))) (errand.Make op o) ask.Make
   names_operation r op handle o new untook =
-      let s = sets_same (post r) (post (operation_named op r)) (post (with_lent handle (operation_named op r))) (Op op) vacant (op_spent r op) (lent_same (operation_named op r) handle) in
+      let s = sets_same (post r) (post (operation_named op r)) (post (with_lent handle (operation_named op r))) (Op op) vacant
+      (op_spent r op) (lent_same (operation_named op r) handle) in
       let is_free : post r (Op op) ≡ free = untaken op_post op.0 r.operations untook in
       record {
         name = Op op;
@@ -169,6 +203,7 @@ module _ {T : Type 0} where
         takes = ap held_in (sym is_free);
         suits = (s.there, new, refl);
         whose = inr refl;
+        works = λ line i. refl;
       }
 
   lent_by_same : (r : Roll T) (o : Option (Operation T)) → Same (post r) (post (lent_by o r))
@@ -183,32 +218,39 @@ module _ {T : Type 0} where
     pub is : at handle.0 r.handles ≡ Some hold
     pub idle : Idle hold.handle.kind hold.standing
 
-  hold_is : (r : Roll T) (handle : HandleId) (h : Hold) → at handle.0 r.handles ≡ Some h → post r (Stream handle) ≡ hold_post h
+  pub hold_is : (r : Roll T) (handle : HandleId) (h : Hold) → at handle.0 r.handles ≡ Some h
+      → post r (Stream handle) ≡ hold_post h
   hold_is r handle h e = ap (λ x. posted hold_post x) (found handle.0 r.handles h e)
 
-  see : (r : Roll T) (handle : HandleId) → Sane r → (is_some (at handle.0 (names_of r).handles) && true) ≡ true → (is_stream_polled handle.0 r || false) ≡ false → Seen r handle
+  see : (r : Roll T) (handle : HandleId) → Sane r → (is_some (at handle.0 (names_of r).handles) && true) ≡ true
+      → (is_stream_polled handle.0 r || false) ≡ false → Seen r handle
   see r handle sane live idle =
       let h = handle_as r handle live in
       record {
         hold = h.0;
         is = h.1;
         idle = (
-          sym (ap (λ x. option_map_or (λ (h : Hold). is_polled h.standing) x false) h.1) ∙ (sym (seen.or_false (is_stream_polled handle.0 r)) ∙ idle),
+          sym (ap (λ x. option_map_or (λ (h : Hold). is_polled h.standing) x false) h.1)
+              ∙ (sym (seen.or_false (is_stream_polled handle.0 r)) ∙ idle),
           λ bad. sane (Stream handle) (hold_is r handle h.0 h.1 ∙ bad),
         );
       }
 
-  stream_key : (r : Roll T) (handle : HandleId) (h : Hold) → at handle.0 r.handles ≡ Some h → held_of r (Stream handle) ≡ key_of h.standing
+  stream_key : (r : Roll T) (handle : HandleId) (h : Hold) → at handle.0 r.handles ≡ Some h
+      → held_of r (Stream handle) ≡ key_of h.standing
   stream_key r handle h e = ap (λ x. option_map_or (λ (h : Hold). key_of h.standing) x None) e
 
-  drop_asks : (held : HeldBy) (handle : HandleId) (h : Handle) (key : Option Key) → held (Stream handle) ≡ key → drop_asked {T = T} held handle (Some h) ≡ drop_is T h.kind key
+  drop_asks : (held : HeldBy) (handle : HandleId) (h : Handle) (key : Option Key) → held (Stream handle) ≡ key
+      → drop_asked {T = T} held handle (Some h) ≡ drop_is T h.kind key
   drop_asks held handle h key e = ap (λ x. drop_is T h.kind x) e
 
-  drops : (r : Roll T) (handle : HandleId) → Seen r handle → Touches (post r) (post (names_begun r (call.Drop handle))) (errand.Nothing) (asks r (call.Drop handle))
+  drops : (r : Roll T) (handle : HandleId) → Seen r handle
+      → Touches (post r) (post (names_begun r (call.Drop handle))) (errand.Nothing) (asks r (call.Drop handle))
   drops r handle f =
       let h = f.hold in
       let same : asks r (call.Drop handle) ≡ drop_is T h.handle.kind (key_of h.standing) =
-      ap (λ x. drop_asked (held_of r) handle (option_map (λ (h : Hold). h.handle) x)) f.is ∙ drop_asks (held_of r) handle h.handle (key_of h.standing) (stream_key r handle h f.is) in
+      ap (λ x. drop_asked (held_of r) handle (option_map (λ (h : Hold). h.handle) x)) f.is
+      ∙ drop_asks (held_of r) handle h.handle (key_of h.standing) (stream_key r handle h f.is) in
       let held = drop_held T h.handle.kind h.standing f.idle in
       let looked : is_some (lookup (nat_eq handle.0) r.handles) ≡ true = ap (λ x. is_some x) (found handle.0 r.handles h f.is) in
       record {
@@ -220,24 +262,32 @@ module _ {T : Type 0} where
         takes = ap ask_holds same ∙ (held.0 ∙ ap held_in (sym (hold_is r handle h f.is)));
         suits = ap wait_of same ∙ drop_waits T h.handle.kind (key_of h.standing);
         whose = inl refl;
+        works = λ line i. absurd (let no : vacant ≡ polled line = i in cc);
       }
 
-  receives : (r : Roll T) (handle : HandleId) (h : Hold) → at handle.0 r.handles ≡ Some h → (option_map_or (λ (h : Handle). handle_fits a_receiver h.kind) (at handle.0 (names_of r).handles) false && true) ≡ true → h.handle.kind ≡ handle_kind.Receiver
+  receives : (r : Roll T) (handle : HandleId) (h : Hold) → at handle.0 r.handles ≡ Some h
+      → (option_map_or (λ (h : Handle). handle_fits a_receiver h.kind) (at handle.0 (names_of r).handles) false && true) ≡ true
+      → h.handle.kind ≡ handle_kind.Receiver
   receives r handle h e fit =
       is_receiver h.handle.kind (
-      ap (λ x. option_map_or (λ (h : Handle). handle_fits a_receiver h.kind) (option_map (λ (h : Hold). h.handle) x) false) (sym e)
+      ap (λ x. option_map_or (λ (h : Handle). handle_fits a_receiver h.kind) (option_map (λ (h : Hold). h.handle) x) false)
+      (sym e)
       ∙ (ap (λ x. option_map_or (λ (h : Handle). handle_fits a_receiver h.kind) x false) (sym (seen.handle_at r handle.0))
       ∙ (sym (seen.and_true _) ∙ fit))
       )
 
-  streams : (r : Roll T) (handle : HandleId) (f : Seen r handle) → f.hold.handle.kind ≡ handle_kind.Receiver → Touches (post r) (post (names_begun r (call.PollNext handle))) (errand.PollNext handle) (asks r (call.PollNext handle))
+  streams : (r : Roll T) (handle : HandleId) (f : Seen r handle) → f.hold.handle.kind ≡ handle_kind.Receiver
+      → Touches (post r) (post (names_begun r (call.PollNext handle))) (errand.PollNext handle) (asks r (call.PollNext handle))
   streams r handle f receiver =
       let h = f.hold in
       let lent = with_standing (IsPolled false) handle r in
       let s = handle_changed r handle (λ (x : Hold). record x { standing = IsPolled false }) h f.is in
-      let now_is : stream_post h.handle.kind (IsPolled false) ≡ polled Streams = ap (λ k. stream_post k (IsPolled false)) receiver in
-      let sets : Sets (post r) (post lent) (Stream handle) (polled Streams) = record { there = s.there ∙ now_is; others = s.others } in
-      let all = sets_same (post r) (post lent) (post (with_lent handle lent)) (Stream handle) (polled Streams) sets (lent_same lent handle) in
+      let now_is : stream_post h.handle.kind (IsPolled false) ≡ polled Streams =
+      ap (λ k. stream_post k (IsPolled false)) receiver in
+      let sets : Sets (post r) (post lent) (Stream handle) (polled Streams) =
+      record { there = s.there ∙ now_is; others = s.others } in
+      let all = sets_same (post r) (post lent) (post (with_lent handle lent)) (Stream handle) (polled Streams) sets
+      (lent_same lent handle) in
       let as_stream : hold_post h ≡ post_on Streams h.standing = ap (λ k. stream_post k h.standing) receiver in
       let held = on_line Streams h.standing f.idle.0 in
       let is = hold_is r handle h f.is ∙ as_stream in
@@ -250,13 +300,16 @@ module _ {T : Type 0} where
         takes = ap (λ key. held_on Streams key) (stream_key r handle h f.is) ∙ (held.0 ∙ ap held_in (sym is));
         suits = (Streams, all.there, inr refl);
         whose = inr refl;
+        works = λ line i. refl;
       }
 
   -- a new handle has a new name
-  names_handle : (r : Roll T) (from new : HandleId) (k : HandleKind → HandleKind) (o : Option Handle) (a : ChannelAsk T Waiter) → is_taken new.0 r.handles ≡ false → wait_of a ≡ None → ask_holds a ≡ None
+  names_handle : (r : Roll T) (from new : HandleId) (k : HandleKind → HandleKind) (o : Option Handle) (a : ChannelAsk T Waiter)
+      → is_taken new.0 r.handles ≡ false → wait_of a ≡ None → ask_holds a ≡ None
       → Touches (post r) (post (with_lent from (handle_named new r))) (new_from from new k o) a
   names_handle r from new k o a untook patient empty =
-      let s = sets_same (post r) (post (handle_named new r)) (post (with_lent from (handle_named new r))) (Stream new) vacant (handle_spent r new) (lent_same (handle_named new r) from) in
+      let s = sets_same (post r) (post (handle_named new r)) (post (with_lent from (handle_named new r))) (Stream new) vacant
+      (handle_spent r new) (lent_same (handle_named new r) from) in
       let is_free : post r (Stream new) ≡ free = untaken hold_post new.0 r.handles untook in
       record {
         name = Stream new;
@@ -267,14 +320,17 @@ module _ {T : Type 0} where
         takes = empty ∙ ap held_in (sym is_free);
         suits = new_suits T (post (with_lent from (handle_named new r))) from new k o (wait_of a) s.there patient;
         whose = new_whose T from new k o;
+        works = λ line i. absurd (let no : vacant ≡ polled line = i in cc);
       }
 
   -- ---- any call
 
   abbrev pub BeginsSo : Roll T → Call T → Type 0
-  BeginsSo r c = Quiet (post r) (post (names_begun r c)) (errand_of r c) (asks r c) ⊎ Touches (post r) (post (names_begun r c)) (errand_of r c) (asks r c)
+  BeginsSo r c = Quiet (post r) (post (names_begun r c)) (errand_of r c) (asks r c)
+      ⊎ Touches (post r) (post (names_begun r c)) (errand_of r c) (asks r c)
 
-  through : (r : Roll T) (handle : HandleId) (a : ChannelAsk T Waiter) → wait_of a ≡ None → ask_holds a ≡ None → Quiet (post r) (post (with_lent handle r)) (errand.Leave handle) a
+  through : (r : Roll T) (handle : HandleId) (a : ChannelAsk T Waiter) → wait_of a ≡ None → ask_holds a ≡ None
+      → Quiet (post r) (post (with_lent handle r)) (errand.Leave handle) a
   through r handle a patient empty = record { same = lent_same r handle; nobody = refl; patient = patient; empty = empty }
 
   pub begins_so : (r : Roll T) (c : Call T) → Sane r → Admitted r c → BeginsSo r c
@@ -284,15 +340,31 @@ module _ {T : Type 0} where
   begins_so r (call.Poll op) sane a = inr (polls r op (find r op sane a.live a.free_of_polls))
   begins_so r (call.PollRefused op) sane a = inr (refuses r op (find r op sane a.live a.free_of_polls))
   begins_so r (call.GiveUp op) sane a = inr (gives_up r op (find r op sane a.live a.free_of_polls))
-  begins_so r (call.SendIsTerminated op) sane a = inl (record { same = lent_by_same r (at op.0 r.operations); nobody = leaves_nobody (at op.0 r.operations); patient = refl; empty = refl })
+  begins_so r (call.SendIsTerminated op) sane a = inl
+      (record {
+        same = lent_by_same r (at op.0 r.operations);
+        nobody = leaves_nobody (at op.0 r.operations);
+        patient = refl;
+        empty = refl;
+      })
   begins_so r (call.PollNext receiver) sane a =
       let f = see r receiver sane a.live a.free_of_polls in
       inr (streams r receiver f (receives r receiver f.hold f.is a.fit))
   begins_so r (call.Drop handle) sane a = inr (drops r handle (see r handle sane a.live a.free_of_polls))
-  begins_so r (call.TryClone handle new) sane a = let p = clone_plain T (handle_at handle r) in inr (names_handle r handle new (λ k. k) (handle_at handle r) _ a.new p.0 p.1)
-  begins_so r (call.Downgrade handle new) sane a = inr (names_handle r handle new weak_of (handle_at handle r) ask.Make a.new refl refl)
-  begins_so r (call.Upgrade weak new) sane a = let p = upgrade_plain T (handle_at weak r) in inr (names_handle r weak new strong_of (handle_at weak r) _ a.new p.0 p.1)
-  begins_so r (call.SameChannel x y) sane a = inl (record { same = same_both (post r) (post (with_lent x r)) (post (with_lent y (with_lent x r))) (lent_same r x) (lent_same (with_lent x r) y); nobody = refl; patient = refl; empty = refl })
+  begins_so r (call.TryClone handle new) sane a = let p = clone_plain T (handle_at handle r) in
+      inr (names_handle r handle new (λ k. k) (handle_at handle r) _ a.new p.0 p.1)
+  begins_so r (call.Downgrade handle new) sane a =
+      inr (names_handle r handle new weak_of (handle_at handle r) ask.Make a.new refl refl)
+  begins_so r (call.Upgrade weak new) sane a = let p = upgrade_plain T (handle_at weak r) in
+      inr (names_handle r weak new strong_of (handle_at weak r) _ a.new p.0 p.1)
+  begins_so r (call.SameChannel x y) sane a = inl
+      (record {
+        same = same_both (post r) (post (with_lent x r)) (post (with_lent y (with_lent x r))) (lent_same r x)
+            (lent_same (with_lent x r) y);
+        nobody = refl;
+        patient = refl;
+        empty = refl;
+      })
   begins_so r (call.StreamIsTerminated receiver) sane a = inl (through r receiver _ refl refl)
   begins_so r (call.TrySend sender msg) sane a = inl (through r sender _ refl refl)
   begins_so r (call.ForceSend sender msg) sane a = inl (through r sender _ refl refl)

@@ -42,7 +42,7 @@ IsCalm vacant = Unit {0}
 IsCalm amiss = ⊥
 IsCalm (rests line) = Unit {0}
 IsCalm (waits h is_woken) = ⊥
-IsCalm (polled line) = Unit {0}
+IsCalm (polled line) = ⊥
 
 some_is : {X : Type 0} (x y : X) → Some x ≡ Some y → x ≡ y
 some_is x y e = ap (λ (o : Option _). elim o [ None ↦ x | Some z ↦ z ]) e
@@ -66,10 +66,12 @@ vacant_taken : {X : Type 0} (p : X → Post) (o : Option (Option X)) → posted 
 vacant_taken p None e = absurd (let no : free ≡ vacant = e in cc)
 vacant_taken p (Some x) e = refl
 
-polled_there : {X : Type 0} (p : X → Post) (n : ℕ) (d : Directory X) (line : Line) → posted p (lookup (nat_eq n) d) ≡ polled line → (x : X) × (at n d ≡ Some x) × (p x ≡ polled line)
+polled_there : {X : Type 0} (p : X → Post) (n : ℕ) (d : Directory X) (line : Line) → posted p (lookup (nat_eq n) d) ≡ polled line
+    → (x : X) × (at n d ≡ Some x) × (p x ≡ polled line)
 polled_there {X} p n d line e = by (lookup (nat_eq n) d) refl e
   where
-    by : (o : Option (Option X)) → lookup (nat_eq n) d ≡ o → posted p o ≡ polled line → (x : X) × (at n d ≡ Some x) × (p x ≡ polled line)
+    by : (o : Option (Option X)) → lookup (nat_eq n) d ≡ o → posted p o ≡ polled line
+        → (x : X) × (at n d ≡ Some x) × (p x ≡ polled line)
     by None f h = absurd (let no : free ≡ polled line = h in cc)
     by (Some None) f h = absurd (let no : vacant ≡ polled line = h in cc)
     by (Some (Some x)) f h = (x, ap (λ (o : Option (Option X)). option_map_or (λ (y : Option X). y) o None) f, h)
@@ -100,7 +102,8 @@ calm_stream handle_kind.WeakReceiver = tt
 abbrev IsFor : Option (Line × Waiter) → Line → Waiter → Type 0
 IsFor wait line w = (wait ≡ None) ⊎ (wait ≡ Some (line, w))
 
-own_wait : (wait : Option (Line × Waiter)) (line l : Line) (w task : Waiter) → IsFor wait line w → wait ≡ Some (l, task) → (l ≡ line) × (task ≡ w)
+own_wait : (wait : Option (Line × Waiter)) (line l : Line) (w task : Waiter) → IsFor wait line w → wait ≡ Some (l, task)
+    → (l ≡ line) × (task ≡ w)
 own_wait wait line l w task (inl none) e = absurd (let no : None ≡ Some (l, task) = sym none ∙ e in cc)
 own_wait wait line l w task (inr some) e =
     let same : (let x : Line × Waiter = (l, task) in x) ≡ (line, w) = some_is _ _ (sym e ∙ some) in
@@ -125,7 +128,8 @@ module _ {T : Type 0} where
   abbrev pub Carries : Line → Option T → Type 0
   Carries line m = line ≡ Sends → (v : T) × (m ≡ Some v)
 
-  waiting_op : (k : OperationKind) (m : Option T) (key : Key) → Carries (line_of k) m → operation_post k m (Waits key false) ≡ waits (record { line = line_of k; key = key }) false
+  waiting_op : (k : OperationKind) (m : Option T) (key : Key) → Carries (line_of k) m
+      → operation_post k m (Waits key false) ≡ waits (record { line = line_of k; key = key }) false
   waiting_op kind.Send None key c = absurd (let f = c refl in let no : None ≡ Some f.0 = f.1 in cc)
   waiting_op kind.Send (Some m) key c = refl
   waiting_op kind.Receive m key c = refl
@@ -135,24 +139,29 @@ module _ {T : Type 0} where
 
   -- the call leaves no listener, or one that waits on this list for this name
   abbrev pub IsLeft : Kept T → Option (Line × Waiter) → Type 0
-  IsLeft kept wait = (kept.key ≡ None) ⊎ ((line : Line) × (key : Key) × (task : Waiter) × (kept.key ≡ Some key) × (wait ≡ Some (line, task)) × Carries line kept.message)
+  IsLeft kept wait = (kept.key ≡ None)
+      ⊎ ((line : Line) × (key : Key) × (task : Waiter) × (kept.key ≡ Some key) × (wait ≡ Some (line, task))
+      × Carries line kept.message)
 
   -- the name at which it worked is pending with the listener that is left, or neither pending nor amiss
   abbrev pub Comes : (Waiter → Post) → Errand T → Kept T → Option (Line × Waiter) → Type 0
   Comes p e kept wait =
       ((kept.key ≡ None) × ((v : Waiter) → subject e ≡ Some v → IsCalm (p v)))
-      ⊎ ((line : Line) × (key : Key) × (task : Waiter) × (kept.key ≡ Some key) × (wait ≡ Some (line, task)) × (subject e ≡ Some task) × (p task ≡ waits (record { line = line; key = key }) false))
+      ⊎ ((line : Line) × (key : Key) × (task : Waiter) × (kept.key ≡ Some key) × (wait ≡ Some (line, task))
+      × (subject e ≡ Some task) × (p task ≡ waits (record { line = line; key = key }) false))
 
   pub record Settles (p p' : Waiter → Post) (e : Errand T) (kept : Kept T) (wait : Option (Line × Waiter)) : Type 0 where
     pub others : (v : Waiter) → (subject e ≡ Some v → ⊥) → p' v ≡ p v
     pub own : Comes p' e kept wait
 
-  no_wait : (p : Waiter → Post) (e : Errand T) (kept : Kept T) (wait : Option (Line × Waiter)) → IsLeft kept wait → wait ≡ None → ((v : Waiter) → subject e ≡ Some v → IsCalm (p v)) → Comes p e kept wait
+  no_wait : (p : Waiter → Post) (e : Errand T) (kept : Kept T) (wait : Option (Line × Waiter)) → IsLeft kept wait → wait ≡ None
+      → ((v : Waiter) → subject e ≡ Some v → IsCalm (p v)) → Comes p e kept wait
   no_wait p e kept wait (inl none) f h = inl (none, h)
   no_wait p e kept wait (inr (line, key, task, k, w, m)) f h = absurd (let no : Some (line, task) ≡ None = sym w ∙ f in cc)
 
   -- nothing is settled
-  plain : (p p' : Waiter → Post) (e : Errand T) (kept : Kept T) (wait : Option (Line × Waiter)) → IsLeft kept wait → wait ≡ None → subject e ≡ None → Same p p' → Settles p p' e kept wait
+  plain : (p p' : Waiter → Post) (e : Errand T) (kept : Kept T) (wait : Option (Line × Waiter)) → IsLeft kept wait → wait ≡ None
+      → subject e ≡ None → Same p p' → Settles p p' e kept wait
   plain p p' e kept wait l f none same =
       record {
         others = λ v other. same v;
@@ -160,21 +169,30 @@ module _ {T : Type 0} where
       }
 
   -- one name is set
-  set : (p p' : Waiter → Post) (e : Errand T) (kept : Kept T) (wait : Option (Line × Waiter)) (w : Waiter) (x : Post) → subject e ≡ Some w → Sets p p' w x → Comes p' e kept wait → Settles p p' e kept wait
-  set p p' e kept wait w x whose s own = record { others = λ v other. s.others v (λ same. other (whose ∙ ap (λ (y : Waiter). Some y) (sym same))); own = own }
+  set : (p p' : Waiter → Post) (e : Errand T) (kept : Kept T) (wait : Option (Line × Waiter)) (w : Waiter) (x : Post)
+      → subject e ≡ Some w → Sets p p' w x → Comes p' e kept wait → Settles p p' e kept wait
+  set p p' e kept wait w x whose s own =
+      record { others = λ v other. s.others v (λ same. other (whose ∙ ap (λ (y : Waiter). Some y) (sym same))); own = own }
 
-  calm_at : (p : Waiter → Post) (e : Errand T) (w : Waiter) (x : Post) → subject e ≡ Some w → p w ≡ x → IsCalm x → (v : Waiter) → subject e ≡ Some v → IsCalm (p v)
+  calm_at : (p : Waiter → Post) (e : Errand T) (w : Waiter) (x : Post) → subject e ≡ Some w → p w ≡ x → IsCalm x → (v : Waiter)
+      → subject e ≡ Some v → IsCalm (p v)
   calm_at p e w x whose is calm v s =
       subst (λ (y : Waiter). IsCalm (p y)) (some_is w v (sym whose ∙ s)) (subst IsCalm (sym is) calm)
 
-  makes : (r : Roll T) (op : OpId) (o : Operation T) (y : Reply T) (kept : Kept T) (wait : Option (Line × Waiter)) → IsLeft kept wait → Suits {T = T} (post r) (errand.Make op o) wait → Settles (post r) (post (settled (errand.Make op o) y kept r)) (errand.Make op o) kept wait
+  makes : (r : Roll T) (op : OpId) (o : Operation T) (y : Reply T) (kept : Kept T) (wait : Option (Line × Waiter))
+      → IsLeft kept wait → Suits {T = T} (post r) (errand.Make op o) wait
+      → Settles (post r) (post (settled (errand.Make op o) y kept r)) (errand.Make op o) kept wait
   makes r op o y kept wait l f =
       let s = op_set r op (Some o) (vacant_taken op_post (lookup (nat_eq op.0) r.operations) f.0) in
-      let calm : IsCalm (op_post o) = subst (λ (z : Standing). IsCalm (operation_post o.kind o.message z)) (sym f.1) (calm_op o.kind o.message) in
+      let calm : IsCalm (op_post o) =
+      subst (λ (z : Standing). IsCalm (operation_post o.kind o.message z)) (sym f.1) (calm_op o.kind o.message) in
       set (post r) (post (settled (errand.Make op o) y kept r)) (errand.Make op o) kept wait (Op op) (op_post o) refl s
-      (no_wait (post (settled (errand.Make op o) y kept r)) (errand.Make op o) kept wait l f.2 (calm_at (post (settled (errand.Make op o) y kept r)) (errand.Make op o) (Op op) (op_post o) refl s.there calm))
+      (no_wait (post (settled (errand.Make op o) y kept r)) (errand.Make op o) kept wait l f.2
+      (calm_at (post (settled (errand.Make op o) y kept r)) (errand.Make op o) (Op op) (op_post o) refl s.there calm))
 
-  polls : (r : Roll T) (op : OpId) (y : Reply T) (kept : Kept T) (wait : Option (Line × Waiter)) → IsLeft kept wait → Suits {T = T} (post r) (errand.Poll op) wait → Settles (post r) (post (settled (errand.Poll op) y kept r)) (errand.Poll op) kept wait
+  polls : (r : Roll T) (op : OpId) (y : Reply T) (kept : Kept T) (wait : Option (Line × Waiter)) → IsLeft kept wait
+      → Suits {T = T} (post r) (errand.Poll op) wait
+      → Settles (post r) (post (settled (errand.Poll op) y kept r)) (errand.Poll op) kept wait
   polls r op y kept wait l f =
       let there = polled_there op_post op.0 r.operations f.0 f.1 in
       let o = there.0 in
@@ -185,9 +203,14 @@ module _ {T : Type 0} where
       after : Waiter → Post
       after = post (settled (errand.Poll op) y kept r)
 
-      by : (o : Operation T) → after (Op op) ≡ operation_post o.kind kept.message (standing_with kept.key) → line_of o.kind ≡ f.0 → IsLeft kept wait → Comes after (errand.Poll op) kept wait
+      by : (o : Operation T) → after (Op op) ≡ operation_post o.kind kept.message (standing_with kept.key) → line_of o.kind ≡ f.0
+          → IsLeft kept wait → Comes after (errand.Poll op) kept wait
       by o e line (inl none) =
-          inl (none, calm_at after (errand.Poll op) (Op op) _ refl (e ∙ ap (λ k. operation_post o.kind kept.message (standing_with k)) none) (calm_op o.kind kept.message))
+          inl (
+            none,
+            calm_at after (errand.Poll op) (Op op) _ refl
+                (e ∙ ap (λ k. operation_post o.kind kept.message (standing_with k)) none) (calm_op o.kind kept.message),
+          )
       by o e line (inr (l, key, task, k, w, m)) =
           let own = own_wait wait f.0 l (Op op) task f.2 w in
           let same : line_of o.kind ≡ l = line ∙ sym own.0 in
@@ -199,10 +222,13 @@ module _ {T : Type 0} where
             k,
             w,
             ap (λ (v : Waiter). Some v) (sym own.1),
-            ap after own.1 ∙ (e ∙ (ap (λ x. operation_post o.kind kept.message (standing_with x)) k ∙ (waiting ∙ ap (λ (x : Line). waits (record { line = x; key = key }) false) same))),
+            ap after own.1
+                ∙ (e ∙ (ap (λ x. operation_post o.kind kept.message (standing_with x)) k
+                ∙ (waiting ∙ ap (λ (x : Line). waits (record { line = x; key = key }) false) same))),
           )
 
-  nexts : (r : Roll T) (receiver : HandleId) (y : Reply T) (kept : Kept T) (wait : Option (Line × Waiter)) → IsLeft kept wait → Suits {T = T} (post r) (errand.PollNext receiver) wait
+  nexts : (r : Roll T) (receiver : HandleId) (y : Reply T) (kept : Kept T) (wait : Option (Line × Waiter)) → IsLeft kept wait
+      → Suits {T = T} (post r) (errand.PollNext receiver) wait
       → Settles (post r) (post (settled (errand.PollNext receiver) y kept r)) (errand.PollNext receiver) kept wait
   nexts r receiver y kept wait l f =
       let there = polled_there hold_post receiver.0 r.handles f.0 f.1 in
@@ -210,15 +236,22 @@ module _ {T : Type 0} where
       let is = stream_is h.handle.kind f.0 h.standing there.2 in
       let put = with_standing (standing_with kept.key) receiver r in
       let s = handle_changed r receiver (λ (x : Hold). record x { standing = standing_with kept.key }) h there.1 in
-      let all = sets_same (post r) (post put) (post (with_given_back receiver put)) (Stream receiver) _ s (given_back_same put receiver) in
-      set (post r) (post (settled (errand.PollNext receiver) y kept r)) (errand.PollNext receiver) kept wait (Stream receiver) _ refl all (by (all.there ∙ ap (λ k. stream_post k (standing_with kept.key)) is.0) is.1 l)
+      let all = sets_same (post r) (post put) (post (with_given_back receiver put)) (Stream receiver) _ s
+      (given_back_same put receiver) in
+      set (post r) (post (settled (errand.PollNext receiver) y kept r)) (errand.PollNext receiver) kept wait (Stream receiver) _
+      refl all (by (all.there ∙ ap (λ k. stream_post k (standing_with kept.key)) is.0) is.1 l)
     where
       after : Waiter → Post
       after = post (settled (errand.PollNext receiver) y kept r)
 
-      by : after (Stream receiver) ≡ post_on Streams (standing_with kept.key) → Streams ≡ f.0 → IsLeft kept wait → Comes after (errand.PollNext receiver) kept wait
+      by : after (Stream receiver) ≡ post_on Streams (standing_with kept.key) → Streams ≡ f.0 → IsLeft kept wait
+          → Comes after (errand.PollNext receiver) kept wait
       by e line (inl none) =
-          inl (none, calm_at after (errand.PollNext receiver) (Stream receiver) (rests Streams) refl (e ∙ ap (λ k. post_on Streams (standing_with k)) none) tt)
+          inl (
+            none,
+            calm_at after (errand.PollNext receiver) (Stream receiver) (rests Streams) refl
+                (e ∙ ap (λ k. post_on Streams (standing_with k)) none) tt,
+          )
       by e line (inr (l, key, task, k, w, m)) =
           let own = own_wait wait f.0 l (Stream receiver) task f.2 w in
           let same : Streams ≡ l = line ∙ sym own.0 in
@@ -229,19 +262,24 @@ module _ {T : Type 0} where
             k,
             w,
             ap (λ (v : Waiter). Some v) (sym own.1),
-            ap after own.1 ∙ (e ∙ (ap (λ x. post_on Streams (standing_with x)) k ∙ ap (λ (x : Line). waits (record { line = x; key = key }) false) same)),
+            ap after own.1
+                ∙ (e ∙ (ap (λ x. post_on Streams (standing_with x)) k
+                ∙ ap (λ (x : Line). waits (record { line = x; key = key }) false) same)),
           )
 
   -- a new handle lives, or doesn't
-  installs : (r : Roll T) (new : HandleId) (k : HandleKind) (y : Reply T) → post r (Stream new) ≡ vacant → (x : Post) × IsCalm x × Sets (post r) (post (installed new k y r)) (Stream new) x
+  installs : (r : Roll T) (new : HandleId) (k : HandleKind) (y : Reply T) → post r (Stream new) ≡ vacant
+      → (x : Post) × IsCalm x × Sets (post r) (post (installed new k y r)) (Stream new) x
   installs r new k reply.Made v = (
     stream_post k Rests,
     calm_stream k,
-    handle_set r new (Some (record { handle = record { kind = k; borrowers = 0 }; standing = Rests })) (vacant_taken hold_post (lookup (nat_eq new.0) r.handles) v),
+    handle_set r new (Some (record { handle = record { kind = k; borrowers = 0 }; standing = Rests }))
+        (vacant_taken hold_post (lookup (nat_eq new.0) r.handles) v),
   )
   installs r new k y v = (vacant, tt, record { there = v; others = λ w other. refl })
 
-  news : (r : Roll T) (from new : HandleId) (k : HandleKind) (y : Reply T) (kept : Kept T) (wait : Option (Line × Waiter)) → IsLeft kept wait → Suits {T = T} (post r) (errand.New from new k) wait
+  news : (r : Roll T) (from new : HandleId) (k : HandleKind) (y : Reply T) (kept : Kept T) (wait : Option (Line × Waiter))
+      → IsLeft kept wait → Suits {T = T} (post r) (errand.New from new k) wait
       → Settles (post r) (post (settled (errand.New from new k) y kept r)) (errand.New from new k) kept wait
   news r from new k y kept wait l f =
       let back = with_given_back from r in
@@ -249,14 +287,18 @@ module _ {T : Type 0} where
       let i = installs back new k y (back_same (Stream new) ∙ f.0) in
       let all = same_sets (post r) (post back) (post (installed new k y back)) (Stream new) i.0 back_same i.2 in
       set (post r) (post (settled (errand.New from new k) y kept r)) (errand.New from new k) kept wait (Stream new) i.0 refl all
-      (no_wait (post (settled (errand.New from new k) y kept r)) (errand.New from new k) kept wait l f.1 (calm_at (post (settled (errand.New from new k) y kept r)) (errand.New from new k) (Stream new) i.0 refl all.there i.1))
+      (no_wait (post (settled (errand.New from new k) y kept r)) (errand.New from new k) kept wait l f.1
+      (calm_at (post (settled (errand.New from new k) y kept r)) (errand.New from new k) (Stream new) i.0 refl all.there i.1))
 
-  pub settles : (r : Roll T) (e : Errand T) (y : Reply T) (kept : Kept T) (wait : Option (Line × Waiter)) → IsLeft kept wait → Suits {T = T} (post r) e wait → Settles (post r) (post (settled e y kept r)) e kept wait
+  pub settles : (r : Roll T) (e : Errand T) (y : Reply T) (kept : Kept T) (wait : Option (Line × Waiter)) → IsLeft kept wait
+      → Suits {T = T} (post r) e wait → Settles (post r) (post (settled e y kept r)) e kept wait
   settles r errand.Nothing y kept wait l f = plain (post r) (post r) errand.Nothing kept wait l f refl (λ v. refl)
-  settles r (errand.Leave handle) y kept wait l f = plain (post r) (post (with_given_back handle r)) (errand.Leave handle) kept wait l f refl (given_back_same r handle)
+  settles r (errand.Leave handle) y kept wait l f =
+      plain (post r) (post (with_given_back handle r)) (errand.Leave handle) kept wait l f refl (given_back_same r handle)
   settles r (errand.LeaveBoth a b) y kept wait l f =
       plain (post r) (post (with_given_back b (with_given_back a r))) (errand.LeaveBoth a b) kept wait l f refl
-      (same_both (post r) (post (with_given_back a r)) (post (with_given_back b (with_given_back a r))) (given_back_same r a) (given_back_same (with_given_back a r) b))
+      (same_both (post r) (post (with_given_back a r)) (post (with_given_back b (with_given_back a r))) (given_back_same r a)
+      (given_back_same (with_given_back a r) b))
   settles r (errand.Make op o) y kept wait l f = makes r op o y kept wait l f
   settles r (errand.Poll op) y kept wait l f = polls r op y kept wait l f
   settles r (errand.PollNext receiver) y kept wait l f = nexts r receiver y kept wait l f
@@ -276,9 +318,13 @@ module _ {T : Type 0} where
   poll_carries m (reply.SendPoll (Ready (Err (refused.SerialsUsedUp u)))) k key h e = absurd (nothing_left k m key h e)
   poll_carries m y k key h e = absurd (nothing_left k None key h e)
 
-  pub carries : (a : ChannelAsk T Waiter) (y : Reply T) (k : Kept T) (key : Key) (line : Line) (task : Waiter) → Keeps a y k → k.key ≡ Some key → wait_of a ≡ Some (line, task) → Carries line k.message
+  pub carries : (a : ChannelAsk T Waiter) (y : Reply T) (k : Kept T) (key : Key) (line : Line) (task : Waiter) → Keeps a y k
+      → k.key ≡ Some key → wait_of a ≡ Some (line, task) → Carries line k.message
   carries (ask.PollSend m o t) y k key line task h e w sends = (m, poll_carries (Some m) y k key h e)
-  carries (ask.PollRecv o t) y k key line task h e w sends = absurd (let no : Receives ≡ Sends = ap (λ (x : Line × Waiter). x.0) (some_is _ _ w) ∙ sends in cc)
-  carries (ask.PollClosed o t) y k key line task h e w sends = absurd (let no : Closings ≡ Sends = ap (λ (x : Line × Waiter). x.0) (some_is _ _ w) ∙ sends in cc)
-  carries (ask.PollNext o t) y k key line task h e w sends = absurd (let no : Streams ≡ Sends = ap (λ (x : Line × Waiter). x.0) (some_is _ _ w) ∙ sends in cc)
+  carries (ask.PollRecv o t) y k key line task h e w sends =
+      absurd (let no : Receives ≡ Sends = ap (λ (x : Line × Waiter). x.0) (some_is _ _ w) ∙ sends in cc)
+  carries (ask.PollClosed o t) y k key line task h e w sends =
+      absurd (let no : Closings ≡ Sends = ap (λ (x : Line × Waiter). x.0) (some_is _ _ w) ∙ sends in cc)
+  carries (ask.PollNext o t) y k key line task h e w sends =
+      absurd (let no : Streams ≡ Sends = ap (λ (x : Line × Waiter). x.0) (some_is _ _ w) ∙ sends in cc)
   carries a y k key line task h e w sends = absurd (let no : None ≡ Some (line, task) = w in cc)

@@ -1,9 +1,8 @@
 -- Owners over steps.
-use Rattle.std.proofs.Common.{◌≡◌, ℕ, Bool, true, false, if◌then◌else◌, List, [], ◌∷◌, ◌++◌, map, slice_get, unwrap_or, Option, None, Some, ◌⊎◌, inl, inr, refl, sym, ap, ◌∙◌, subst}
+use Rattle.std.proofs.Common.{◌≡◌, ℕ, Bool, true, false, if◌then◌else◌, List, [], ◌∷◌, ◌++◌, map, slice_get, Option, None, Some, ◌⊎◌, inl, inr, refl, sym, ap, ◌∙◌, subst}
 use Rattle.std.specs.List.{remove}
 use Rattle.concurrent_queue.specs.Queue.{Phase}
 use Rattle.async_channel.specs.Moves.{Channel, Effect}
-use Rattle.async_channel.specs.Turns.{nothing_kept}
 use Rattle.async_channel.specs.declared.mark.Mark.{Mark}
 use Rattle.async_channel.specs.declared.reply.Reply.{Reply}
 use Rattle.async_channel.specs.declared.stage.Held.{Held}
@@ -17,6 +16,7 @@ use Rattle.channel_model.specs.declared.refusal.WorldRefusal.TheVariants.{Busy}
 use Rattle.event_listener.specs.declared.key.Key.{Key}
 use Rattle.channel_steps.specs.Scene.{Under, Scene, Steps, Known, AllKnown, sees, does, unless_ended}
 use Rattle.channel_interleaving.specs.Bookkeeping.{settled, all_woken}
+use Rattle.channel_interleaving.specs.Order.{all_moved_last, order_settled}
 use Rattle.channel_interleaving.specs.Owners.{IsAmong, All, AnyOf, Post, free, vacant, amiss, rests, waits, polled, post, holding, task_at, wait_of, line_asked, Bears, subject, Suits, Fits, Together, Differ, AllDiffer, WaitsFor, Holder, named, calling, HoldsIn, Owned}
 use Rattle.channel_interleaving.specs.Refusal.{refusal, step_refusal}
 use Rattle.channel_interleaving.specs.Roll.{is_at_work}
@@ -36,7 +36,8 @@ use Rattle.channel_interleaving.proofs.OwnerSteps.{calm_waits, calm_amiss, busy_
 use Rattle.channel_interleaving.proofs.OwnerTogether.{HasIt, any_left, any_right, any_of, has_seen, had_seen, busy, Keeps, together_on, together_sees, together_join, suits_on, Parted, parted, Beside, beside, is_agent, other_party}
 
 module _ {T : Type 0} where
-  known_of : (now : Channel T Waiter) (us : List (Under T Waiter)) (u : Under T Waiter) (vs : List (Under T Waiter)) → AllKnown now (us ++ u ∷ vs) → Known now u
+  known_of : (now : Channel T Waiter) (us : List (Under T Waiter)) (u : Under T Waiter) (vs : List (Under T Waiter))
+      → AllKnown now (us ++ u ∷ vs) → Known now u
   known_of now [] u vs h = h.0
   known_of now (x ∷ us) u vs h = known_of now us u vs h.1
 
@@ -45,7 +46,8 @@ module _ {T : Type 0} where
   abbrev Beyond : ℕ → Held → List (Under T Waiter) → List (Under T Waiter) → Type 0
   Beyond q h before behind = AnyOf (HasIt q h) before ⊎ AnyOf (HasIt q h) behind
 
-  split_before : (q : ℕ) (h : Held) (before : List (Under T Waiter)) (u : Under T Waiter) (behind : List (Under T Waiter)) → AnyOf (HasIt q h) (before ++ u ∷ behind) → Beyond q h before behind ⊎ HasIt q h u
+  split_before : (q : ℕ) (h : Held) (before : List (Under T Waiter)) (u : Under T Waiter) (behind : List (Under T Waiter))
+      → AnyOf (HasIt q h) (before ++ u ∷ behind) → Beyond q h before behind ⊎ HasIt q h u
   split_before q h before u behind i = by (any_of (HasIt q h) before (u ∷ behind) i)
     where
       by : AnyOf (HasIt q h) before ⊎ AnyOf (HasIt q h) (u ∷ behind) → Beyond q h before behind ⊎ HasIt q h u
@@ -53,23 +55,30 @@ module _ {T : Type 0} where
       by (inr (inl j)) = inr j
       by (inr (inr j)) = inl (inr j)
 
-  split_after : (d : Channel T Waiter) (q : ℕ) (h : Held) (before now behind : List (Under T Waiter)) → AnyOf (HasIt q h) (map (sees d) before ++ (now ++ map (sees d) behind)) → Beyond q h before behind ⊎ AnyOf (HasIt q h) now
+  split_after : (d : Channel T Waiter) (q : ℕ) (h : Held) (before now behind : List (Under T Waiter))
+      → AnyOf (HasIt q h) (map (sees d) before ++ (now ++ map (sees d) behind)) → Beyond q h before behind ⊎ AnyOf (HasIt q h) now
   split_after d q h before now behind i = by (any_of (HasIt q h) (map (sees d) before) (now ++ map (sees d) behind) i)
     where
       deeper : AnyOf (HasIt q h) now ⊎ AnyOf (HasIt q h) (map (sees d) behind) → Beyond q h before behind ⊎ AnyOf (HasIt q h) now
       deeper (inl j) = inr j
       deeper (inr j) = inl (inr (had_seen d q h behind j))
 
-      by : AnyOf (HasIt q h) (map (sees d) before) ⊎ AnyOf (HasIt q h) (now ++ map (sees d) behind) → Beyond q h before behind ⊎ AnyOf (HasIt q h) now
+      by : AnyOf (HasIt q h) (map (sees d) before) ⊎ AnyOf (HasIt q h) (now ++ map (sees d) behind)
+          → Beyond q h before behind ⊎ AnyOf (HasIt q h) now
       by (inl j) = inl (inl (had_seen d q h before j))
       by (inr j) = deeper (any_of (HasIt q h) now (map (sees d) behind) j)
 
-  beyond_after : (d : Channel T Waiter) (q : ℕ) (h : Held) (before now behind : List (Under T Waiter)) → Beyond q h before behind → AnyOf (HasIt q h) (map (sees d) before ++ (now ++ map (sees d) behind))
-  beyond_after d q h before now behind (inl j) = any_left (HasIt q h) (map (sees d) before) (now ++ map (sees d) behind) (has_seen d q h before j)
-  beyond_after d q h before now behind (inr j) = any_right (HasIt q h) (map (sees d) before) (now ++ map (sees d) behind) (any_right (HasIt q h) now (map (sees d) behind) (has_seen d q h behind j))
+  beyond_after : (d : Channel T Waiter) (q : ℕ) (h : Held) (before now behind : List (Under T Waiter)) → Beyond q h before behind
+      → AnyOf (HasIt q h) (map (sees d) before ++ (now ++ map (sees d) behind))
+  beyond_after d q h before now behind (inl j) =
+      any_left (HasIt q h) (map (sees d) before) (now ++ map (sees d) behind) (has_seen d q h before j)
+  beyond_after d q h before now behind (inr j) = any_right (HasIt q h) (map (sees d) before) (now ++ map (sees d) behind)
+      (any_right (HasIt q h) now (map (sees d) behind) (has_seen d q h behind j))
 
-  pub now_after : (d : Channel T Waiter) (q : ℕ) (h : Held) (before now behind : List (Under T Waiter)) → AnyOf (HasIt q h) now → AnyOf (HasIt q h) (map (sees d) before ++ (now ++ map (sees d) behind))
-  now_after d q h before now behind j = any_right (HasIt q h) (map (sees d) before) (now ++ map (sees d) behind) (any_left (HasIt q h) now (map (sees d) behind) j)
+  pub now_after : (d : Channel T Waiter) (q : ℕ) (h : Held) (before now behind : List (Under T Waiter)) → AnyOf (HasIt q h) now
+      → AnyOf (HasIt q h) (map (sees d) before ++ (now ++ map (sees d) behind))
+  now_after d q h before now behind j =
+      any_right (HasIt q h) (map (sees d) before) (now ++ map (sees d) behind) (any_left (HasIt q h) now (map (sees d) behind) j)
 
   -- ---- wakes
 
@@ -117,7 +126,8 @@ module _ {T : Type 0} where
 
   -- ---- a call makes a step
 
-  module _ (b : Book T) (s t : Scene T Waiter) (p : ℕ) (m : Mark) (r : Option (Reply T)) (kp : Option (Kept T)) (names : List Waiter) (o : Owned b s) (known : AllKnown s.now s.under_way)
+  module _ (b : Book T) (s t : Scene T Waiter) (p : ℕ) (m : Mark) (r : Option (Reply T)) (kp : Option (Kept T))
+      (names : List Waiter) (o : Owned b s) (known : AllKnown s.now s.under_way)
       (st : Steps s p (record { mark = m; reply = r; kept = kp }) names t) where
     abbrev P : Waiter → Post
     P = post b.roll
@@ -132,16 +142,20 @@ module _ {T : Type 0} where
     mine_now = does st.mine st.at_now m s.now t.now
 
     pub parts : Parted P b.agents st.before st.mine st.behind
-    parts = parted P b.agents st.before st.mine st.behind (subst (λ (us : List (Under T Waiter)). Together P b.agents us) st.there o.together)
+    parts = parted P b.agents st.before st.mine st.behind
+        (subst (λ (us : List (Under T Waiter)). Together P b.agents us) st.there o.together)
 
     pub sides : Beside parts.front parts.agent parts.back
     sides = beside parts.front parts.agent parts.back (subst (λ (l : List (Agent T)). AllDiffer l) parts.are o.differ)
 
     mine_known : Known s.now st.mine
-    mine_known = known_of s.now st.before st.mine st.behind (subst (λ (us : List (Under T Waiter)). AllKnown s.now us) st.there known)
+    mine_known =
+        known_of s.now st.before st.mine st.behind (subst (λ (us : List (Under T Waiter)). AllKnown s.now us) st.there known)
 
     pub out : Turnout T Waiter st.mine.ask s.now st.mine.at effect r st.at_now
-    out = let k = mine_known in turnout T Waiter st.mine.ask s.now st.mine.at effect r st.at_now st.mine.deeds st.mine.seen k.stands parts.own.bears st.moves
+    out = let k = mine_known in
+        turnout T Waiter st.mine.ask s.now st.mine.at effect r st.at_now st.mine.deeds st.mine.seen k.stands
+        parts.own.bears st.moves
 
     accounts : Accounted (HoldsIn P s.under_way) s.now
     accounts = record { once = o.once; listed = o.listed; held = o.held; alone = o.alone }
@@ -162,7 +176,8 @@ module _ {T : Type 0} where
         by (inr j) = any_right (HasIt q h) st.before (st.mine ∷ st.behind) (inr j)
 
     pub was_mine : (h : Held) → holding st.mine.at ≡ Some h → HoldsIn P s.under_way (calling p) h
-    was_mine h e = subst (λ (us : List (Under T Waiter)). AnyOf (HasIt p h) us) (sym st.there) (any_right (HasIt p h) st.before (st.mine ∷ st.behind) (inl (st.whose, e)))
+    was_mine h e = subst (λ (us : List (Under T Waiter)). AnyOf (HasIt p h) us) (sym st.there)
+        (any_right (HasIt p h) st.before (st.mine ∷ st.behind) (inl (st.whose, e)))
 
     abbrev Now : List (Under T Waiter)
     Now = unless_ended mine_now r
@@ -170,10 +185,13 @@ module _ {T : Type 0} where
     abbrev After : List (Under T Waiter)
     After = map (sees t.now) st.before ++ (Now ++ map (sees t.now) st.behind)
 
-    pub forth_calling : (q : ℕ) (h : Held) → HoldsIn P s.under_way (calling q) h → AnyOf (HasIt q h) After ⊎ ((calling q ≡ calling p) × (holding st.mine.at ≡ Some h))
-    forth_calling q h i = by (split_before q h st.before st.mine st.behind (subst (λ (us : List (Under T Waiter)). AnyOf (HasIt q h) us) st.there i))
+    pub forth_calling : (q : ℕ) (h : Held) → HoldsIn P s.under_way (calling q) h
+        → AnyOf (HasIt q h) After ⊎ ((calling q ≡ calling p) × (holding st.mine.at ≡ Some h))
+    forth_calling q h i = by
+        (split_before q h st.before st.mine st.behind (subst (λ (us : List (Under T Waiter)). AnyOf (HasIt q h) us) st.there i))
       where
-        by : Beyond q h st.before st.behind ⊎ HasIt q h st.mine → AnyOf (HasIt q h) After ⊎ ((calling q ≡ calling p) × (holding st.mine.at ≡ Some h))
+        by : Beyond q h st.before st.behind ⊎ HasIt q h st.mine
+            → AnyOf (HasIt q h) After ⊎ ((calling q ≡ calling p) × (holding st.mine.at ≡ Some h))
         by (inl j) = inl (beyond_after t.now q h st.before Now st.behind j)
         by (inr j) = inr (ap calling (sym j.0 ∙ st.whose), j.1)
 
@@ -181,16 +199,19 @@ module _ {T : Type 0} where
     waits_still : (v : Waiter) (h : Held) → P1 v ≡ waits h false → WaitsFor h v t.now
     waits_still v h e =
         let before = mid_unwoken names b.roll v h e in
-        by before.1 ((out.lists h.line).waiting h.key v (λ had. apart v p (o.alone (named v) (calling p) h (false, before.0) (was_mine h had))) (o.unwoken v h before.0))
+        by before.1 ((out.lists h.line).waiting h.key v
+        (λ had. apart v p (o.alone (named v) (calling p) h (false, before.0) (was_mine h had))) (o.unwoken v h before.0))
       where
         by : (IsAmong v names → ⊥) → WaitsFor h v t.now ⊎ IsAmong v names → WaitsFor h v t.now
         by f (inl i) = i
         by f (inr i) = absurd (f i)
 
   -- it goes on
-  module _ (b : Book T) (s t : Scene T Waiter) (p : ℕ) (m : Mark) (kp : Option (Kept T)) (names : List Waiter) (o : Owned b s) (known : AllKnown s.now s.under_way)
+  module _ (b : Book T) (s t : Scene T Waiter) (p : ℕ) (m : Mark) (kp : Option (Kept T)) (names : List Waiter) (o : Owned b s)
+      (known : AllKnown s.now s.under_way)
       (st : Steps s p (record { mark = m; reply = None; kept = kp }) names t) where
-    abbrev on_out : Turnout T Waiter st.mine.ask s.now st.mine.at (record { channel = t.now; mark = m; woken = names }) None st.at_now
+    abbrev on_out : Turnout T Waiter st.mine.ask s.now st.mine.at (record { channel = t.now; mark = m; woken = names }) None
+        st.at_now
     on_out = out b s t p m None kp names o known st
 
     abbrev on_after : List (Under T Waiter)
@@ -199,26 +220,35 @@ module _ {T : Type 0} where
     abbrev on_posts : Waiter → Post
     on_posts = post (all_woken names b.roll)
 
-    goes_pass : Passes (HoldsIn (post b.roll) s.under_way) (HoldsIn on_posts on_after) (holding st.mine.at) on_out.has (calling p) (calling p)
+    goes_pass : Passes (HoldsIn (post b.roll) s.under_way) (HoldsIn on_posts on_after) (holding st.mine.at) on_out.has
+        (calling p) (calling p)
     goes_pass =
         record {
           back = back;
           forth = forth;
           old = λ h e. was_mine b s t p m None kp names o known st h e;
-          new = λ h e. now_after t.now p h st.before (does st.mine st.at_now m s.now t.now ∷ []) st.behind (inl (st.whose, on_out.next.0 ∙ e));
+          new = λ h e. now_after t.now p h st.before (does st.mine st.at_now m s.now t.now ∷ []) st.behind
+              (inl (st.whose, on_out.next.0 ∙ e));
         }
       where
-        back : (x : Holder) (h : Held) → HoldsIn on_posts on_after x h → (HoldsIn (post b.roll) s.under_way x h × (x ≡ calling p → ⊥)) ⊎ ((x ≡ calling p) × (on_out.has ≡ Some h))
+        back : (x : Holder) (h : Held) → HoldsIn on_posts on_after x h
+            → (HoldsIn (post b.roll) s.under_way x h × (x ≡ calling p → ⊥)) ⊎ ((x ≡ calling p) × (on_out.has ≡ Some h))
         back (named v) h (w, e) = inl (mid_back names b.roll v h w e, apart v p)
         back (calling q) h i = by (split_after t.now q h st.before (does st.mine st.at_now m s.now t.now ∷ []) st.behind i)
           where
             by : Beyond q h st.before st.behind ⊎ AnyOf (HasIt q h) (does st.mine st.at_now m s.now t.now ∷ [])
-                → (HoldsIn (post b.roll) s.under_way (calling q) h × (calling q ≡ calling p → ⊥)) ⊎ ((calling q ≡ calling p) × (on_out.has ≡ Some h))
-            by (inl j) = inl (was_there b s t p m None kp names o known st q h j, λ e. others b s t p m None kp names o known st q h j (calling_is q p e))
+                → (HoldsIn (post b.roll) s.under_way (calling q) h × (calling q ≡ calling p → ⊥))
+                ⊎ ((calling q ≡ calling p) × (on_out.has ≡ Some h))
+            by (inl j) = inl (
+              was_there b s t p m None kp names o known st q h j,
+              λ e. others b s t p m None kp names o known st q h j
+                  (calling_is q p e),
+            )
             by (inr (inl j)) = inr (ap calling (sym j.0 ∙ st.whose), sym on_out.next.0 ∙ j.1)
             by (inr (inr j)) = absurd j
 
-        forth : (x : Holder) (h : Held) → HoldsIn (post b.roll) s.under_way x h → HoldsIn on_posts on_after x h ⊎ ((x ≡ calling p) × (holding st.mine.at ≡ Some h))
+        forth : (x : Holder) (h : Held) → HoldsIn (post b.roll) s.under_way x h
+            → HoldsIn on_posts on_after x h ⊎ ((x ≡ calling p) × (holding st.mine.at ≡ Some h))
         forth (named v) h (w, e) = inl (mid_forth names b.roll v h w e)
         forth (calling q) h i = forth_calling b s t p m None kp names o known st q h i
 
@@ -226,7 +256,8 @@ module _ {T : Type 0} where
     bears_on a c wait (inl e) h = subst (λ (x : Option Waiter). Bears x wait) (sym e) tt
     bears_on a c wait (inr e) h = subst (λ (x : Option Waiter). Bears x wait) (sym e) h
 
-    own_line : (q : Parted (post b.roll) b.agents st.before st.mine st.behind) (h : Held) → (holding st.mine.at ≡ Some h) ⊎ ((task : Waiter) × (wait_of st.mine.ask ≡ Some (h.line, task))) → line_asked st.mine.ask ≡ Some h.line
+    own_line : (q : Parted (post b.roll) b.agents st.before st.mine st.behind) (h : Held) → (holding st.mine.at ≡ Some h)
+        ⊎ ((task : Waiter) × (wait_of st.mine.ask ≡ Some (h.line, task))) → line_asked st.mine.ask ≡ Some h.line
     own_line q h (inl e) = let f = q.own in f.lines h e
     own_line q h (inr (task, e)) = line_waits st.mine.ask h.line task e
 
@@ -234,18 +265,28 @@ module _ {T : Type 0} where
     goes_owned =
         let pt = parts b s t p m None kp names o known st in
         let keep : (v : Waiter) → IsBusy (post b.roll v) → on_posts v ≡ post b.roll v = mid_busy names b.roll in
-        let a = accounted s.now t.now names (holding st.mine.at) on_out.has (HoldsIn (post b.roll) s.under_way) (HoldsIn on_posts on_after) (calling p) (calling p) on_out.lists on_out.how goes_pass (accounts b s t p m None kp names o known st) in
+        let a = accounted s.now t.now names (holding st.mine.at) on_out.has (HoldsIn (post b.roll) s.under_way)
+        (HoldsIn on_posts on_after) (calling p) (calling p) on_out.lists on_out.how goes_pass
+        (accounts b s t p m None kp names o known st) in
         let own : Fits on_posts pt.agent (does st.mine st.at_now m s.now t.now) =
         record {
           party = pt.own.party;
-          suits = suits_on (post b.roll) on_posts pt.agent.errand _ (λ v e. keep v (busy (post b.roll) pt.agent.errand _ v pt.own.suits e)) pt.own.suits;
+          suits = suits_on (post b.roll) on_posts pt.agent.errand _
+              (λ v e. keep v (busy (post b.roll) pt.agent.errand _ v pt.own.suits e)) pt.own.suits;
           bears = bears_on (task_at st.at_now) (task_at st.mine.at) (wait_of st.mine.ask) on_out.next.1 pt.own.bears;
           lines = λ h i. own_line pt h (on_out.own h (sym on_out.next.0 ∙ i));
         } in
-        let front = together_sees t.now on_posts pt.front st.before (together_on (post b.roll) on_posts pt.front st.before (all_keep (post b.roll) on_posts pt.front st.before pt.first keep) pt.first) in
-        let back = together_sees t.now on_posts pt.back st.behind (together_on (post b.roll) on_posts pt.back st.behind (all_keep (post b.roll) on_posts pt.back st.behind pt.last keep) pt.last) in
-        let all : Together on_posts (pt.front ++ pt.agent ∷ pt.back) on_after = together_join on_posts pt.front (pt.agent ∷ pt.back) (map (sees t.now) st.before) (does st.mine st.at_now m s.now t.now ∷ map (sees t.now) st.behind) front (own, back) in
-        subst (λ (us : List (Under T Waiter)). Owned (with_woken names b) (record { now = t.now; under_way = us; gone = t.gone; came = t.came })) (sym st.left) (
+        let front = together_sees t.now on_posts pt.front st.before
+        (together_on (post b.roll) on_posts pt.front st.before
+        (all_keep (post b.roll) on_posts pt.front st.before pt.first keep) pt.first) in
+        let back = together_sees t.now on_posts pt.back st.behind
+        (together_on (post b.roll) on_posts pt.back st.behind (all_keep (post b.roll) on_posts pt.back st.behind pt.last keep)
+        pt.last) in
+        let all : Together on_posts (pt.front ++ pt.agent ∷ pt.back) on_after = together_join on_posts pt.front
+        (pt.agent ∷ pt.back) (map (sees t.now) st.before) (does st.mine st.at_now m s.now t.now ∷ map (sees t.now) st.behind)
+        front (own, back) in
+        subst (λ (us : List (Under T Waiter)). Owned (with_woken names b)
+        (record { now = t.now; under_way = us; gone = t.gone; came = t.came })) (sym st.left) (
         record {
           together = subst (λ (l : List (Agent T)). Together on_posts l on_after) (sym pt.are) all;
           differ = o.differ;
@@ -270,22 +311,26 @@ subject_or (Some w) v = by (waiter_or w v)
     by (inr f) = inr (λ e. f (inner w v e))
 
 pub waits_is : (h k : Held) (b c : Bool) → waits h b ≡ waits k c → h ≡ k
-waits_is h k b c e = ap (λ (x : Post). elim x [ waits z d ↦ z | free ↦ h | vacant ↦ h | amiss ↦ h | rests l ↦ h | polled l ↦ h ]) e
+waits_is h k b c e =
+    ap (λ (x : Post). elim x [ waits z d ↦ z | free ↦ h | vacant ↦ h | amiss ↦ h | rests l ↦ h | polled l ↦ h ]) e
 
 no_waits_amiss : (h : Held) (b : Bool) → waits h b ≡ amiss → ⊥
 no_waits_amiss h b e = absurd (cc e)
 
 module _ {T : Type 0} where
   finished_is : (x y : Kept T) (at : Stage (Phase T) T Waiter) → at ≡ Finished x → at ≡ Finished y → x ≡ y
-  finished_is x y at e f = ap (λ (z : Stage (Phase T) T Waiter). elim z [ Finished k ↦ k | Trying c a ↦ x | Working w ↦ x ]) (sym e ∙ f)
+  finished_is x y at e f =
+      ap (λ (z : Stage (Phase T) T Waiter). elim z [ Finished k ↦ k | Trying c a ↦ x | Working w ↦ x ]) (sym e ∙ f)
 
   -- where the names of others stand as before
-  differ_keep : (p p' : Waiter → Post) (a : Agent T) (others : List (Agent T)) → All (Differ a) others → ((v : Waiter) → (subject a.errand ≡ Some v → ⊥) → p' v ≡ p v) → All (Keeps p p') others
+  differ_keep : (p p' : Waiter → Post) (a : Agent T) (others : List (Agent T)) → All (Differ a) others
+      → ((v : Waiter) → (subject a.errand ≡ Some v → ⊥) → p' v ≡ p v) → All (Keeps p p') others
   differ_keep p p' a [] d f = tt
   differ_keep p p' a (x ∷ more) d f = (λ v e. f v (λ own. d.0.name v own e), differ_keep p p' a more d.1 f)
 
   -- it ends
-  module _ (b : Book T) (s t : Scene T Waiter) (p : ℕ) (m : Mark) (y : Reply T) (kp : Option (Kept T)) (names : List Waiter) (o : Owned b s) (known : AllKnown s.now s.under_way)
+  module _ (b : Book T) (s t : Scene T Waiter) (p : ℕ) (m : Mark) (y : Reply T) (kp : Option (Kept T)) (names : List Waiter)
+      (o : Owned b s) (known : AllKnown s.now s.under_way)
       (st : Steps s p (record { mark = m; reply = Some y; kept = kp }) names t) where
     abbrev E1 : Waiter → Post
     E1 = post (all_woken names b.roll)
@@ -293,7 +338,8 @@ module _ {T : Type 0} where
     abbrev pt : Parted (post b.roll) b.agents st.before st.mine st.behind
     pt = parts b s t p m (Some y) kp names o known st
 
-    abbrev end_out : Turnout T Waiter st.mine.ask s.now st.mine.at (record { channel = t.now; mark = m; woken = names }) (Some y) st.at_now
+    abbrev end_out : Turnout T Waiter st.mine.ask s.now st.mine.at (record { channel = t.now; mark = m; woken = names })
+        (Some y) st.at_now
     end_out = out b s t p m (Some y) kp names o known st
 
     abbrev wait : Option (Line × Waiter)
@@ -307,14 +353,17 @@ module _ {T : Type 0} where
     E2 = post (settled pt.agent.errand y kept (all_woken names b.roll))
 
     pub leaves : LeavesIt T Waiter st.mine.ask kept end_out.has t.now
-    leaves = let f = st.finishes in subst (λ (k : Kept T). LeavesIt T Waiter st.mine.ask k end_out.has t.now) (finished_is end_out.next.0 kept st.at_now end_out.next.1 f.at_end) end_out.next.2
+    leaves = let f = st.finishes in
+        subst (λ (k : Kept T). LeavesIt T Waiter st.mine.ask k end_out.has t.now)
+        (finished_is end_out.next.0 kept st.at_now end_out.next.1 f.at_end) end_out.next.2
 
     is_left : IsLeft kept wait
     is_left = by leaves
       where
         by : LeavesIt T Waiter st.mine.ask kept end_out.has t.now → IsLeft kept wait
         by (inl l) = inl l.1
-        by (inr (line, key, task, h, k, w, there)) = let f = st.finishes in inr (line, key, task, k, w, carries st.mine.ask y kept key line task f.keeps k w)
+        by (inr (line, key, task, h, k, w, there)) = let f = st.finishes in
+            inr (line, key, task, k, w, carries st.mine.ask y kept key line task f.keeps k w)
 
     keep1 : (v : Waiter) → IsBusy (post b.roll v) → E1 v ≡ post b.roll v
     keep1 v i = mid_busy names b.roll v i
@@ -332,20 +381,33 @@ module _ {T : Type 0} where
     end_calls = map (sees t.now) st.before ++ map (sees t.now) st.behind
 
     abbrev end_book : Book T
-    end_book = record { roll = settled pt.agent.errand y kept (all_woken names b.roll); agents = pt.front ++ pt.back }
+    end_book = record {
+      roll = settled pt.agent.errand y kept (all_woken names b.roll);
+      order = order_settled pt.agent.errand kept.key (all_moved_last names b.order);
+      agents = pt.front ++ pt.back;
+    }
 
     abbrev Pass : Holder → Type 0
-    Pass taker = Passes (HoldsIn (post b.roll) s.under_way) (HoldsIn E2 end_calls) (holding st.mine.at) end_out.has (calling p) taker
+    Pass taker = Passes (HoldsIn (post b.roll) s.under_way) (HoldsIn E2 end_calls) (holding st.mine.at) end_out.has
+        (calling p) taker
 
-    end_owned : (taker : Holder) → Pass taker → ((v : Waiter) → E2 v ≡ amiss → ⊥) → ((v : Waiter) (h : Held) → E2 v ≡ waits h false → WaitsFor h v t.now) → Owned end_book t
+    end_owned : (taker : Holder) → Pass taker → ((v : Waiter) → E2 v ≡ amiss → ⊥)
+        → ((v : Waiter) (h : Held) → E2 v ≡ waits h false → WaitsFor h v t.now) → Owned end_book t
     end_owned taker pass sane unwoken =
-        let a = accounted s.now t.now names (holding st.mine.at) end_out.has (HoldsIn (post b.roll) s.under_way) (HoldsIn E2 end_calls) (calling p) taker end_out.lists end_out.how pass (accounts b s t p m (Some y) kp names o known st) in
+        let a = accounted s.now t.now names (holding st.mine.at) end_out.has (HoldsIn (post b.roll) s.under_way)
+        (HoldsIn E2 end_calls) (calling p) taker end_out.lists end_out.how pass
+        (accounts b s t p m (Some y) kp names o known st) in
         let sd = sides b s t p m (Some y) kp names o known st in
-        let front1 = together_on (post b.roll) E1 pt.front st.before (all_keep (post b.roll) E1 pt.front st.before pt.first keep1) pt.first in
-        let back1 = together_on (post b.roll) E1 pt.back st.behind (all_keep (post b.roll) E1 pt.back st.behind pt.last keep1) pt.last in
-        let front = together_sees t.now E2 pt.front st.before (together_on E1 E2 pt.front st.before (differ_keep E1 E2 pt.agent pt.front sd.first set.others) front1) in
-        let back = together_sees t.now E2 pt.back st.behind (together_on E1 E2 pt.back st.behind (differ_keep E1 E2 pt.agent pt.back sd.last set.others) back1) in
-        subst (λ (us : List (Under T Waiter)). Owned end_book (record { now = t.now; under_way = us; gone = t.gone; came = t.came })) (sym st.left) (
+        let front1 = together_on (post b.roll) E1 pt.front st.before (all_keep (post b.roll) E1 pt.front st.before pt.first keep1)
+        pt.first in
+        let back1 = together_on (post b.roll) E1 pt.back st.behind (all_keep (post b.roll) E1 pt.back st.behind pt.last keep1)
+        pt.last in
+        let front = together_sees t.now E2 pt.front st.before
+        (together_on E1 E2 pt.front st.before (differ_keep E1 E2 pt.agent pt.front sd.first set.others) front1) in
+        let back = together_sees t.now E2 pt.back st.behind
+        (together_on E1 E2 pt.back st.behind (differ_keep E1 E2 pt.agent pt.back sd.last set.others) back1) in
+        subst (λ (us : List (Under T Waiter)). Owned end_book
+        (record { now = t.now; under_way = us; gone = t.gone; came = t.came })) (sym st.left) (
         record {
           together = together_join E2 pt.front pt.back (map (sees t.now) st.before) (map (sees t.now) st.behind) front back;
           differ = sd.rest;
@@ -360,18 +422,27 @@ module _ {T : Type 0} where
 
     -- a name at which it didn't work
     back_named : (taker : Holder) (v : Waiter) (h : Held) (w : Bool) → (subject pt.agent.errand ≡ Some v → ⊥) → E2 v ≡ waits h w
-        → (HoldsIn (post b.roll) s.under_way (named v) h × (named v ≡ calling p → ⊥)) ⊎ ((named v ≡ taker) × (end_out.has ≡ Some h))
+        → (HoldsIn (post b.roll) s.under_way (named v) h × (named v ≡ calling p → ⊥))
+        ⊎ ((named v ≡ taker) × (end_out.has ≡ Some h))
     back_named taker v h w other e = inl (mid_back names b.roll v h w (sym (set.others v other) ∙ e), apart v p)
 
     pub back_calling : (taker : Holder) (q : ℕ) (h : Held) → AnyOf (HasIt q h) end_calls
-        → (HoldsIn (post b.roll) s.under_way (calling q) h × (calling q ≡ calling p → ⊥)) ⊎ ((calling q ≡ taker) × (end_out.has ≡ Some h))
+        → (HoldsIn (post b.roll) s.under_way (calling q) h × (calling q ≡ calling p → ⊥))
+        ⊎ ((calling q ≡ taker) × (end_out.has ≡ Some h))
     back_calling taker q h i = by (split_after t.now q h st.before [] st.behind i)
       where
-        by : Beyond q h st.before st.behind ⊎ (let none : List (Under T Waiter) = [] in AnyOf (HasIt q h) none) → (HoldsIn (post b.roll) s.under_way (calling q) h × (calling q ≡ calling p → ⊥)) ⊎ ((calling q ≡ taker) × (end_out.has ≡ Some h))
-        by (inl j) = inl (was_there b s t p m (Some y) kp names o known st q h j, λ e. others b s t p m (Some y) kp names o known st q h j (calling_is q p e))
+        by : Beyond q h st.before st.behind ⊎ (let none : List (Under T Waiter) = [] in AnyOf (HasIt q h) none)
+            → (HoldsIn (post b.roll) s.under_way (calling q) h × (calling q ≡ calling p → ⊥))
+            ⊎ ((calling q ≡ taker) × (end_out.has ≡ Some h))
+        by (inl j) = inl (
+          was_there b s t p m (Some y) kp names o known st q h j,
+          λ e. others b s t p m (Some y) kp names o known st q h j
+              (calling_is q p e),
+        )
         by (inr j) = absurd j
 
-    forth : (x : Holder) (h : Held) → HoldsIn (post b.roll) s.under_way x h → HoldsIn E2 end_calls x h ⊎ ((x ≡ calling p) × (holding st.mine.at ≡ Some h))
+    forth : (x : Holder) (h : Held) → HoldsIn (post b.roll) s.under_way x h
+        → HoldsIn E2 end_calls x h ⊎ ((x ≡ calling p) × (holding st.mine.at ≡ Some h))
     forth (named v) h (w, e) =
         let mid = mid_forth names b.roll v h w e in
         inl (mid.0, set.others v (λ own. busy_waits (post b.roll v) h w (busy_own v own) e) ∙ mid.1)
@@ -379,9 +450,16 @@ module _ {T : Type 0} where
 
     -- it leaves no listener
     leaves_none : end_out.has ≡ None → ((v : Waiter) → subject pt.agent.errand ≡ Some v → IsCalm (E2 v)) → Owned end_book t
-    leaves_none none calm = end_owned (calling p) (record { back = back; forth = forth; old = λ h e. was_mine b s t p m (Some y) kp names o known st h e; new = λ h e. absurd (let no : None ≡ Some h = sym none ∙ e in cc) }) sane unwoken
+    leaves_none none calm = end_owned (calling p)
+        (record {
+          back = back;
+          forth = forth;
+          old = λ h e. was_mine b s t p m (Some y) kp names o known st h e;
+          new = λ h e. absurd (let no : None ≡ Some h = sym none ∙ e in cc);
+        }) sane unwoken
       where
-        back : (x : Holder) (h : Held) → HoldsIn E2 end_calls x h → (HoldsIn (post b.roll) s.under_way x h × (x ≡ calling p → ⊥)) ⊎ ((x ≡ calling p) × (end_out.has ≡ Some h))
+        back : (x : Holder) (h : Held) → HoldsIn E2 end_calls x h → (HoldsIn (post b.roll) s.under_way x h × (x ≡ calling p → ⊥))
+            ⊎ ((x ≡ calling p) × (end_out.has ≡ Some h))
         back (named v) h (w, e) = back_named (calling p) v h w (λ own. calm_waits (E2 v) h w (calm v own) e) e
         back (calling q) h i = back_calling (calling p) q h i
 
@@ -393,11 +471,15 @@ module _ {T : Type 0} where
             by (inr other) = o.none_amiss v (mid_amiss names b.roll v (sym (set.others v other) ∙ e))
 
         unwoken : (v : Waiter) (h : Held) → E2 v ≡ waits h false → WaitsFor h v t.now
-        unwoken v h e = waits_still b s t p m (Some y) kp names o known st v h (sym (set.others v (λ own. calm_waits (E2 v) h false (calm v own) e)) ∙ e)
+        unwoken v h e = waits_still b s t p m (Some y) kp names o known st v h
+            (sym (set.others v (λ own. calm_waits (E2 v) h false (calm v own) e)) ∙ e)
 
     -- it leaves one, and its name is pending
-    leaves_one : (h : Held) (task : Waiter) → end_out.has ≡ Some h → WaitsFor h task t.now → subject pt.agent.errand ≡ Some task → E2 task ≡ waits h false → Owned end_book t
-    leaves_one h task has there whose is = end_owned (named task) (record { back = back; forth = forth; old = λ k e. was_mine b s t p m (Some y) kp names o known st k e; new = new }) sane unwoken
+    leaves_one : (h : Held) (task : Waiter) → end_out.has ≡ Some h → WaitsFor h task t.now → subject pt.agent.errand ≡ Some task
+        → E2 task ≡ waits h false → Owned end_book t
+    leaves_one h task has there whose is = end_owned (named task)
+        (record { back = back; forth = forth; old = λ k e. was_mine b s t p m (Some y) kp names o known st k e; new = new }) sane
+        unwoken
       where
         -- the name is this one
         same_name : (v : Waiter) → subject pt.agent.errand ≡ Some v → v ≡ task
@@ -409,11 +491,18 @@ module _ {T : Type 0} where
         new : (k : Held) → end_out.has ≡ Some k → HoldsIn E2 end_calls (named task) k
         new k e = (false, is ∙ ap (λ (x : Held). waits x false) (inner h k (sym has ∙ e)))
 
-        back : (x : Holder) (k : Held) → HoldsIn E2 end_calls x k → (HoldsIn (post b.roll) s.under_way x k × (x ≡ calling p → ⊥)) ⊎ ((x ≡ named task) × (end_out.has ≡ Some k))
+        back : (x : Holder) (k : Held) → HoldsIn E2 end_calls x k → (HoldsIn (post b.roll) s.under_way x k × (x ≡ calling p → ⊥))
+            ⊎ ((x ≡ named task) × (end_out.has ≡ Some k))
         back (named v) k (w, e) = by (subject_or (subject pt.agent.errand) v)
           where
-            by : (subject pt.agent.errand ≡ Some v) ⊎ (subject pt.agent.errand ≡ Some v → ⊥) → (HoldsIn (post b.roll) s.under_way (named v) k × (named v ≡ calling p → ⊥)) ⊎ ((named v ≡ named task) × (end_out.has ≡ Some k))
-            by (inl own) = inr (ap named (same_name v own), has ∙ ap (λ (x : Held). let z : Option Held = Some x in z) (sym (same_held v k w own e)))
+            by : (subject pt.agent.errand ≡ Some v) ⊎ (subject pt.agent.errand ≡ Some v → ⊥)
+                → (HoldsIn (post b.roll) s.under_way (named v) k × (named v ≡ calling p → ⊥))
+                ⊎ ((named v ≡ named task) × (end_out.has ≡ Some k))
+            by (inl own) = inr (
+              ap named (same_name v own),
+              has ∙ ap (λ (x : Held). let z : Option Held = Some x in z)
+                  (sym (same_held v k w own e)),
+            )
             by (inr other) = back_named (named task) v k w other e
         back (calling q) k i = back_calling (named task) q k i
 
@@ -428,7 +517,8 @@ module _ {T : Type 0} where
         unwoken v k e = by (subject_or (subject pt.agent.errand) v)
           where
             by : (subject pt.agent.errand ≡ Some v) ⊎ (subject pt.agent.errand ≡ Some v → ⊥) → WaitsFor k v t.now
-            by (inl own) = subst (λ (x : Held). WaitsFor x v t.now) (sym (same_held v k false own e)) (subst (λ (x : Waiter). WaitsFor h x t.now) (sym (same_name v own)) there)
+            by (inl own) = subst (λ (x : Held). WaitsFor x v t.now) (sym (same_held v k false own e))
+                (subst (λ (x : Waiter). WaitsFor h x t.now) (sym (same_name v own)) there)
             by (inr other) = waits_still b s t p m (Some y) kp names o known st v k (sym (set.others v other) ∙ e)
 
     ends_owned : Owned end_book t
@@ -444,40 +534,59 @@ module _ {T : Type 0} where
             let task_is : task' ≡ task = ap (λ (x : Line × Waiter). x.1) same in
             let line_is : line' ≡ line = ap (λ (x : Line × Waiter). x.0) same in
             leaves_one (record { line = line; key = key }) task h there (whose ∙ ap (λ (x : Waiter). Some x) task_is)
-            (ap E2 (sym task_is) ∙ (is ∙ (ap (λ (x : Line). waits (record { line = x; key = key' }) false) line_is ∙ ap (λ (x : Key). waits (record { line = line; key = x }) false) same_key)))
+            (ap E2 (sym task_is)
+            ∙ (is ∙ (ap (λ (x : Line). waits (record { line = x; key = key' }) false) line_is
+            ∙ ap (λ (x : Key). waits (record { line = line; key = x }) false) same_key)))
 
   -- ---- any step
 
-  abbrev IsAfter : Book T → PartyId → Option (Reply T) → Option (Kept T) → List Waiter → Book T → Type 0
-  IsAfter b q r kp names c = (k : ℕ) × (a : Agent T) × (slice_get b.agents k ≡ Some a) × (a.party ≡ q.0) × (c ≡ ended k a r kp (with_woken names b))
+  -- the book after an end, given who ended and what it left
+  pub ended_is : (k : ℕ) (a a' : Agent T) (y : Reply T) (kp : Option (Kept T)) (kept : Kept T) (b : Book T)
+      (rest : List (Agent T)) → a ≡ a' → kp ≡ Some kept → remove b.agents k ≡ rest
+      → ended k a (Some y) kp b
+      ≡ record { roll = settled a'.errand y kept b.roll; order = order_settled a'.errand kept.key b.order; agents = rest }
+  ended_is k a a' y kp kept b rest same given left =
+      ap (λ (x : Agent T). ended k x (Some y) kp b) same
+      ∙ (ap (λ (x : Option (Kept T)). ended k a' (Some y) x b) given
+      ∙ ap (λ (l : List (Agent T)).
+      record { roll = settled a'.errand y kept b.roll; order = order_settled a'.errand kept.key b.order; agents = l }) left)
 
-  stepped : (b c : Book T) (s t : Scene T Waiter) (q : PartyId) (m : Mark) (r : Option (Reply T)) (kp : Option (Kept T)) (names : List Waiter) → Owned b s → AllKnown s.now s.under_way
+  abbrev IsAfter : Book T → PartyId → Option (Reply T) → Option (Kept T) → List Waiter → Book T → Type 0
+  IsAfter b q r kp names c = (k : ℕ) × (a : Agent T) × (slice_get b.agents k ≡ Some a) × (a.party ≡ q.0)
+      × (c ≡ ended k a r kp (with_woken names b))
+
+  pub stepped : (b c : Book T) (s t : Scene T Waiter) (q : PartyId) (m : Mark) (r : Option (Reply T)) (kp : Option (Kept T))
+      (names : List Waiter) → Owned b s → AllKnown s.now s.under_way
       → Steps s q.0 (record { mark = m; reply = r; kept = kp }) names t → IsAfter b q r kp names c → Owned c t
-  stepped b c s t q m None kp names o known st after = subst (λ (d : Book T). Owned d t) (sym after.4) (goes_owned b s t q.0 m kp names o known st)
+  stepped b c s t q m None kp names o known st after =
+      subst (λ (d : Book T). Owned d t) (sym after.4) (goes_owned b s t q.0 m kp names o known st)
   stepped b c s t q m (Some y) kp names o known st after =
       let pt = parts b s t q.0 m (Some y) kp names o known st in
       let f = st.finishes in
       let his : pt.agent.party ≡ q.0 = pt.own.party ∙ st.whose in
-      let is = is_agent pt.front pt.agent pt.back after.0 after.1 (subst (λ (l : List (Agent T)). AllDiffer l) pt.are o.differ) (ap (λ (l : List (Agent T)). slice_get l after.0) (sym pt.are) ∙ after.2) (after.3 ∙ sym his) in
-      let rest : remove b.agents after.0 ≡ pt.front ++ pt.back = ap (λ (l : List (Agent T)). remove l after.0) pt.are ∙ is.without in
-      let roll : settled after.1.errand y (unwrap_or kp nothing_kept) (all_woken names b.roll) ≡ settled pt.agent.errand y f.kept (all_woken names b.roll) =
-      ap (λ (a : Agent T). settled a.errand y (unwrap_or kp nothing_kept) (all_woken names b.roll)) is.same
-      ∙ ap (λ (x : Option (Kept T)). settled pt.agent.errand y (unwrap_or x nothing_kept) (all_woken names b.roll)) f.given in
-      let same : c ≡ record { roll = settled pt.agent.errand y f.kept (all_woken names b.roll); agents = pt.front ++ pt.back } =
-      after.4 ∙ (ap (λ (x : Roll T). record { roll = x; agents = remove b.agents after.0 }) roll ∙ ap (λ (l : List (Agent T)). record { roll = settled pt.agent.errand y f.kept (all_woken names b.roll); agents = l }) rest) in
+      let is = is_agent pt.front pt.agent pt.back after.0 after.1 (subst (λ (l : List (Agent T)). AllDiffer l) pt.are o.differ)
+      (ap (λ (l : List (Agent T)). slice_get l after.0) (sym pt.are) ∙ after.2) (after.3 ∙ sym his) in
+      let rest : remove b.agents after.0 ≡ pt.front ++ pt.back = ap (λ (l : List (Agent T)). remove l after.0) pt.are
+      ∙ is.without in
+      let same = after.4 ∙ ended_is after.0 after.1 pt.agent y kp f.kept (with_woken names b) (pt.front ++ pt.back) is.same
+      f.given rest in
       subst (λ (d : Book T). Owned d t) (sym same) (ends_owned b s t q.0 m y kp names o known st)
 
-  pub idle_and_free : (q : PartyId) (c : Call T) (b : Book T) → step_refusal b.roll b.agents (step.Begin q c) ≡ None → (is_at_work q.0 b.agents ≡ false) × (refusal b.roll c ≡ None)
+  pub idle_and_free : (q : PartyId) (c : Call T) (b : Book T) → step_refusal b.roll b.agents (step.Begin q c) ≡ None
+      → (is_at_work q.0 b.agents ≡ false) × (refusal b.roll c ≡ None)
   idle_and_free q c b h = by (is_at_work q.0 b.agents) refl h
     where
-      by : (x : Bool) → is_at_work q.0 b.agents ≡ x → (if x then Some Busy else refusal b.roll c) ≡ None → (is_at_work q.0 b.agents ≡ false) × (refusal b.roll c ≡ None)
+      by : (x : Bool) → is_at_work q.0 b.agents ≡ x → (if x then Some Busy else refusal b.roll c) ≡ None
+          → (is_at_work q.0 b.agents ≡ false) × (refusal b.roll c ≡ None)
       by true e g = absurd (let no : Some Busy ≡ None = g in cc)
       by false e g = (e, g)
 
   -- a step that was made, and that nothing refused
-  pub owned_next : (b c : Book T) (s t : Scene T Waiter) (x : Step T) (e : Entry T) → AllKnown s.now s.under_way → step_refusal b.roll b.agents x ≡ None → Made b s x e c t → Owned b s → Owned c t
+  pub owned_next : (b c : Book T) (s t : Scene T Waiter) (x : Step T) (e : Entry T) → AllKnown s.now s.under_way
+      → step_refusal b.roll b.agents x ≡ None → Made b s x e c t → Owned b s → Owned c t
   owned_next b c s t (step.Begin q call) e known fine made o =
       let ok = idle_and_free q call b fine in
       let n = made.next.0 in
       subst (λ (d : Book T). Owned d t) (sym made.book) (begins_owned q call b s t _ n o ok.0 ok.1)
-  owned_next b c s t (step.Step q) e known fine made o = stepped b c s t q e.mark e.reply made.kept e.woken.items o known made.next made.book
+  owned_next b c s t (step.Step q) e known fine made o =
+      stepped b c s t q e.mark e.reply made.kept e.woken.items o known made.next made.book

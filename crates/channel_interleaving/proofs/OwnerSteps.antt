@@ -61,7 +61,11 @@ held_is (rests line) h e = absurd (let no : None ≡ Some h = e in cc)
 held_is (polled line) h e = absurd (let no : None ≡ Some h = e in cc)
 
 pub told_was : (x : Post) (h : Held) (b : Bool) → told_post x ≡ waits h b → (c : Bool) × (x ≡ waits h c)
-told_was (waits k c) h b e = (c, ap (λ (z : Held). waits z c) (ap (λ (y : Post). elim y [ waits z d ↦ z | free ↦ k | vacant ↦ k | amiss ↦ k | rests l ↦ k | polled l ↦ k ]) e))
+told_was (waits k c) h b e = (
+  c,
+  ap (λ (z : Held). waits z c)
+      (ap (λ (y : Post). elim y [ waits z d ↦ z | free ↦ k | vacant ↦ k | amiss ↦ k | rests l ↦ k | polled l ↦ k ]) e),
+)
 told_was free h b e = (b, e)
 told_was vacant h b e = (b, e)
 told_was amiss h b e = (b, e)
@@ -85,7 +89,10 @@ told_busy (rests line) b = absurd b
 told_busy (waits h w) b = absurd b
 
 pub never_unwoken : (x : Post) (h : Held) → told_post x ≡ waits h false → ⊥
-never_unwoken (waits k c) h e = absurd (let no : true ≡ false = ap (λ (y : Post). elim y [ waits z d ↦ d | free ↦ false | vacant ↦ false | amiss ↦ false | rests l ↦ false | polled l ↦ false ]) e in cc)
+never_unwoken (waits k c) h e =
+    absurd (let no : true
+    ≡ false = ap (λ (y : Post). elim y
+    [ waits z d ↦ d | free ↦ false | vacant ↦ false | amiss ↦ false | rests l ↦ false | polled l ↦ false ]) e in cc)
 never_unwoken free h e = absurd (let no : free ≡ waits h false = e in cc)
 never_unwoken vacant h e = absurd (let no : vacant ≡ waits h false = e in cc)
 never_unwoken amiss h e = absurd (let no : amiss ≡ waits h false = e in cc)
@@ -105,7 +112,9 @@ pub first_calm : (T : Type 0) (w : Waiter) → IsCalm (post {T = T} first_roll w
 first_calm T (Op op) = tt
 first_calm T (Stream handle) = by (nat_eq handle.0 1) (nat_eq handle.0 0)
   where
-    by : (a b : Bool) → IsCalm (posted hold_post (cond a (Some (Some (unused handle_kind.Receiver))) (cond b (Some (Some (unused handle_kind.Sender))) None)))
+    by : (a b : Bool)
+        → IsCalm (posted hold_post
+        (cond a (Some (Some (unused handle_kind.Receiver))) (cond b (Some (Some (unused handle_kind.Sender))) None)))
     by true b = tt
     by false true = tt
     by false false = tt
@@ -143,7 +152,7 @@ module _ (T : Type 0) where
   nobody_holds (calling p) h i = i
 
   -- a channel that was just opened
-  pub owned_first : (cap : Option ℕ) → Owned {T = T} (record { roll = first_roll; agents = [] }) (new_scene cap)
+  pub owned_first : (cap : Option ℕ) → Owned {T = T} (record { roll = first_roll; order = []; agents = [] }) (new_scene cap)
   owned_first cap =
       record {
         together = tt;
@@ -159,7 +168,8 @@ module _ (T : Type 0) where
 module _ {T : Type 0} where
   -- ---- a call begins
 
-  pub all_keep : (p p' : Waiter → Post) (agents : List (Agent T)) (us : List (Under T Waiter)) → Together p agents us → ((v : Waiter) → IsBusy (p v) → p' v ≡ p v) → All (Keeps p p') agents
+  pub all_keep : (p p' : Waiter → Post) (agents : List (Agent T)) (us : List (Under T Waiter)) → Together p agents us
+      → ((v : Waiter) → IsBusy (p v) → p' v ≡ p v) → All (Keeps p p') agents
   all_keep p p' [] [] t f = tt
   all_keep p p' (a ∷ more) (u ∷ us) t f = (λ v e. f v (busy p a.errand _ v t.0.suits e), all_keep p p' more us t.1 f)
   all_keep p p' [] (u ∷ us) t f = absurd t
@@ -169,24 +179,31 @@ module _ {T : Type 0} where
   Free q agents = is_at_work q agents ≡ false
 
   -- a new agent differs from all
-  all_differ : (p : Waiter → Post) (a : Agent T) (agents : List (Agent T)) (us : List (Under T Waiter)) → Together p agents us → Free a.party agents → ((v : Waiter) → IsBusy (p v) → subject a.errand ≡ Some v → ⊥) → AllDiffer agents → AllDiffer (agents ++ a ∷ [])
+  all_differ : (p : Waiter → Post) (a : Agent T) (agents : List (Agent T)) (us : List (Under T Waiter)) → Together p agents us
+      → Free a.party agents → ((v : Waiter) → IsBusy (p v) → subject a.errand ≡ Some v → ⊥) → AllDiffer agents
+      → AllDiffer (agents ++ a ∷ [])
   all_differ p a [] [] t f g d = (tt, tt)
   all_differ p a (b ∷ more) (u ∷ us) t f g d =
       let n = not_this (nat_eq b.party a.party) (is_at_work a.party more) f in (
-        all_join (Differ b) more (a ∷ []) d.0 (record { party = other_number b.party a.party n.0; name = λ v e h. g v (busy p b.errand _ v t.0.suits e) h }, tt),
+        all_join (Differ b) more (a ∷ []) d.0
+            (record { party = other_number b.party a.party n.0; name = λ v e h. g v (busy p b.errand _ v t.0.suits e) h }, tt),
         all_differ p a more us t.1 n.1 g d.1,
       )
   all_differ p a [] (u ∷ us) t f g d = absurd t
   all_differ p a (b ∷ more) [] t f g d = absurd t
 
-  not_his : (p : Waiter → Post) (party : ℕ) (agents : List (Agent T)) (us : List (Under T Waiter)) (q : ℕ) (h : Held) → Together p agents us → Free party agents → AnyOf (HasIt q h) us → q ≡ party → ⊥
+  not_his : (p : Waiter → Post) (party : ℕ) (agents : List (Agent T)) (us : List (Under T Waiter)) (q : ℕ) (h : Held)
+      → Together p agents us → Free party agents → AnyOf (HasIt q h) us → q ≡ party → ⊥
   not_his p party [] [] q h t f i e = i
-  not_his p party (b ∷ more) (u ∷ us) q h t f (inl i) e = other_number b.party party (not_this (nat_eq b.party party) (is_at_work party more) f).0 (t.0.party ∙ (i.0 ∙ e))
-  not_his p party (b ∷ more) (u ∷ us) q h t f (inr i) e = not_his p party more us q h t.1 (not_this (nat_eq b.party party) (is_at_work party more) f).1 i e
+  not_his p party (b ∷ more) (u ∷ us) q h t f (inl i) e =
+      other_number b.party party (not_this (nat_eq b.party party) (is_at_work party more) f).0 (t.0.party ∙ (i.0 ∙ e))
+  not_his p party (b ∷ more) (u ∷ us) q h t f (inr i) e =
+      not_his p party more us q h t.1 (not_this (nat_eq b.party party) (is_at_work party more) f).1 i e
   not_his p party [] (u ∷ us) q h t f i e = absurd t
   not_his p party (b ∷ more) [] q h t f i e = i
 
-  module _ (q : PartyId) (c : Call T) (b : Book T) (s t : Scene T Waiter) (e : ChannelEntry T) (n : Begins s q.0 (asks b.roll c) e t) (o : Owned b s) (idle : Free q.0 b.agents) where
+  module _ (q : PartyId) (c : Call T) (b : Book T) (s t : Scene T Waiter) (e : ChannelEntry T)
+      (n : Begins s q.0 (asks b.roll c) e t) (o : Owned b s) (idle : Free q.0 b.agents) where
     abbrev P : Waiter → Post
     P = post b.roll
 
@@ -208,16 +225,31 @@ module _ {T : Type 0} where
     before : Accounted (HoldsIn P s.under_way) s.now
     before = record { once = o.once; listed = o.listed; held = o.held; alone = o.alone }
 
-    begun_owned : (had : Option Held) (giver taker : Holder) → Passes (HoldsIn P s.under_way) (HoldsIn P' calls) had had giver taker
-        → ((v : Waiter) → IsBusy (P v) → P' v ≡ P v) → ((v : Waiter) → IsBusy (P v) → subject (errand_of b.roll c) ≡ Some v → ⊥) → ((v : Waiter) → P' v ≡ amiss → ⊥)
-        → ((v : Waiter) (h : Held) → P' v ≡ waits h false → P v ≡ waits h false) → Suits P' (errand_of b.roll c) (wait_of (asks b.roll c)) → Owned (begun q c b) t
+    begun_owned : (had : Option Held) (giver taker : Holder)
+        → Passes (HoldsIn P s.under_way) (HoldsIn P' calls) had had giver taker
+        → ((v : Waiter) → IsBusy (P v) → P' v ≡ P v) → ((v : Waiter) → IsBusy (P v) → subject (errand_of b.roll c) ≡ Some v → ⊥)
+        → ((v : Waiter) → P' v ≡ amiss → ⊥)
+        → ((v : Waiter) (h : Held) → P' v ≡ waits h false → P v ≡ waits h false)
+        → Suits P' (errand_of b.roll c) (wait_of (asks b.roll c)) → Owned (begun q c b) t
     begun_owned had giver taker pass keep own sane unwoken suits =
-        let a = accounted s.now s.now [] had had (HoldsIn P s.under_way) (HoldsIn P' calls) giver taker (still s.now.roster [] had) (inl refl) pass before in
-        subst (λ (us : List (Under T Waiter)). Owned (begun q c b) (record { now = t.now; under_way = us; gone = t.gone; came = t.came })) (sym n.under_way) (
-        subst (λ (d : Channel T Waiter). Owned (begun q c b) (record { now = d; under_way = calls; gone = t.gone; came = t.came })) (sym n.now) (
+        let a = accounted s.now s.now [] had had (HoldsIn P s.under_way) (HoldsIn P' calls) giver taker
+        (still s.now.roster [] had) (inl refl) pass before in
+        subst (λ (us : List (Under T Waiter)). Owned (begun q c b)
+        (record { now = t.now; under_way = us; gone = t.gone; came = t.came })) (sym n.under_way) (
+        subst (λ (d : Channel T Waiter). Owned (begun q c b)
+        (record { now = d; under_way = calls; gone = t.gone; came = t.came })) (sym n.now) (
         record {
-          together = together_join P' b.agents (new_agent ∷ []) s.under_way (new_call ∷ []) (together_on P P' b.agents s.under_way (all_keep P P' b.agents s.under_way o.together keep) o.together)
-              (record { party = refl; suits = suits; bears = first_stage.1; lines = λ h i. line_held (asks b.roll c) h (sym first_stage.0 ∙ i) }, tt);
+          together = together_join P' b.agents (new_agent ∷ []) s.under_way (new_call ∷ [])
+              (together_on P P' b.agents s.under_way (all_keep P P' b.agents s.under_way o.together keep) o.together) (
+                record {
+                  party = refl;
+                  suits = suits;
+                  bears = first_stage.1;
+                  lines = λ h i. line_held (asks b.roll c) h
+                      (sym first_stage.0 ∙ i);
+                },
+                tt,
+              );
           differ = all_differ P new_agent b.agents s.under_way o.together idle own o.differ;
           none_amiss = sane;
           once = a.once;
@@ -230,9 +262,12 @@ module _ {T : Type 0} where
         )
 
     quietly : Quiet P P' (errand_of b.roll c) (asks b.roll c) → Owned (begun q c b) t
-    quietly k = begun_owned None (calling q.0) (calling q.0) pass (λ v i. k.same v) (λ v i e. absurd (let no : None ≡ Some v = sym k.nobody ∙ e in cc)) (λ v e. o.none_amiss v (sym (k.same v) ∙ e)) (λ v h e. sym (k.same v) ∙ e) (plain_suits P' (errand_of b.roll c) (wait_of (asks b.roll c)) k.nobody k.patient)
+    quietly k = begun_owned None (calling q.0) (calling q.0) pass (λ v i. k.same v)
+        (λ v i e. absurd (let no : None ≡ Some v = sym k.nobody ∙ e in cc)) (λ v e. o.none_amiss v (sym (k.same v) ∙ e))
+        (λ v h e. sym (k.same v) ∙ e) (plain_suits P' (errand_of b.roll c) (wait_of (asks b.roll c)) k.nobody k.patient)
       where
-        plain_suits : (p : Waiter → Post) (e : Errand T) (wait : Option (Line × Waiter)) → subject e ≡ None → wait ≡ None → Suits p e wait
+        plain_suits : (p : Waiter → Post) (e : Errand T) (wait : Option (Line × Waiter)) → subject e ≡ None → wait ≡ None
+            → Suits p e wait
         plain_suits p (errand.Poll op) wait f g = absurd (let no : Some (Op op) ≡ None = f in cc)
         plain_suits p (errand.PollNext receiver) wait f g = absurd (let no : Some (Stream receiver) ≡ None = f in cc)
         plain_suits p (errand.Make op operation) wait f g = absurd (let no : Some (Op op) ≡ None = f in cc)
@@ -244,11 +279,14 @@ module _ {T : Type 0} where
         nothing : (h : Held) → holding n.at ≡ Some h → ⊥
         nothing h e = absurd (let no : None ≡ Some h = sym (first_stage.0 ∙ k.empty) ∙ e in cc)
 
-        back : (x : Holder) (h : Held) → HoldsIn P' calls x h → (HoldsIn P s.under_way x h × (x ≡ calling q.0 → ⊥)) ⊎ ((x ≡ calling q.0) × (None ≡ Some h))
+        back : (x : Holder) (h : Held) → HoldsIn P' calls x h
+            → (HoldsIn P s.under_way x h × (x ≡ calling q.0 → ⊥)) ⊎ ((x ≡ calling q.0) × (None ≡ Some h))
         back (named v) h (w, e) = inl ((w, sym (k.same v) ∙ e), apart v q.0)
         back (calling r) h i = by (any_of (HasIt r h) s.under_way (new_call ∷ []) i)
           where
-            by : AnyOf (HasIt r h) s.under_way ⊎ AnyOf (HasIt r h) (new_call ∷ []) → (HoldsIn P s.under_way (calling r) h × (calling r ≡ calling q.0 → ⊥)) ⊎ ((calling r ≡ calling q.0) × (None ≡ Some h))
+            by : AnyOf (HasIt r h) s.under_way ⊎ AnyOf (HasIt r h) (new_call ∷ [])
+                → (HoldsIn P s.under_way (calling r) h × (calling r ≡ calling q.0 → ⊥))
+                ⊎ ((calling r ≡ calling q.0) × (None ≡ Some h))
             by (inl j) = inl (j, λ e. not_his P q.0 b.agents s.under_way r h o.together idle j (calling_is r q.0 e))
             by (inr (inl j)) = absurd (nothing h j.1)
             by (inr (inr j)) = absurd j
@@ -258,10 +296,16 @@ module _ {T : Type 0} where
         forth (calling r) h i = inl (any_left (HasIt r h) s.under_way (new_call ∷ []) i)
 
         pass : Passes (HoldsIn P s.under_way) (HoldsIn P' calls) None None (calling q.0) (calling q.0)
-        pass = record { back = back; forth = forth; old = λ h e. absurd (let no : None ≡ Some h = e in cc); new = λ h e. absurd (let no : None ≡ Some h = e in cc) }
+        pass = record {
+          back = back;
+          forth = forth;
+          old = λ h e. absurd (let no : None ≡ Some h = e in cc);
+          new = λ h e. absurd (let no : None ≡ Some h = e in cc);
+        }
 
     touching : Touches P P' (errand_of b.roll c) (asks b.roll c) → Owned (begun q c b) t
-    touching k = begun_owned (held_in (P k.name)) (named k.name) (calling q.0) pass (λ v i. k.sets.others v (idle_name v i)) own sane unwoken k.suits
+    touching k = begun_owned (held_in (P k.name)) (named k.name) (calling q.0) pass (λ v i. k.sets.others v (idle_name v i)) own
+        sane unwoken k.suits
       where
         idle_name : (v : Waiter) → IsBusy (P v) → v ≡ k.name → ⊥
         idle_name v i e = busy_loose (P k.name) (subst (λ (w : Waiter). IsBusy (P w)) e i) k.loose
@@ -289,24 +333,31 @@ module _ {T : Type 0} where
         unwoken : (v : Waiter) (h : Held) → P' v ≡ waits h false → P v ≡ waits h false
         unwoken v h e = sym (k.sets.others v (not_now v h false e)) ∙ e
 
-        back : (x : Holder) (h : Held) → HoldsIn P' calls x h → (HoldsIn P s.under_way x h × (x ≡ named k.name → ⊥)) ⊎ ((x ≡ calling q.0) × (held_in (P k.name) ≡ Some h))
-        back (named v) h (w, e) = inl ((w, sym (k.sets.others v (not_now v h w e)) ∙ e), λ same. not_now v h w e (named_is v k.name same))
+        back : (x : Holder) (h : Held) → HoldsIn P' calls x h → (HoldsIn P s.under_way x h × (x ≡ named k.name → ⊥))
+            ⊎ ((x ≡ calling q.0) × (held_in (P k.name) ≡ Some h))
+        back (named v) h (w, e) =
+            inl ((w, sym (k.sets.others v (not_now v h w e)) ∙ e), λ same. not_now v h w e (named_is v k.name same))
         back (calling r) h i = by (any_of (HasIt r h) s.under_way (new_call ∷ []) i)
           where
-            by : AnyOf (HasIt r h) s.under_way ⊎ AnyOf (HasIt r h) (new_call ∷ []) → (HoldsIn P s.under_way (calling r) h × (calling r ≡ named k.name → ⊥)) ⊎ ((calling r ≡ calling q.0) × (held_in (P k.name) ≡ Some h))
+            by : AnyOf (HasIt r h) s.under_way ⊎ AnyOf (HasIt r h) (new_call ∷ [])
+                → (HoldsIn P s.under_way (calling r) h × (calling r ≡ named k.name → ⊥))
+                ⊎ ((calling r ≡ calling q.0) × (held_in (P k.name) ≡ Some h))
             by (inl j) = inl (j, λ e. apart k.name r (sym e))
             by (inr (inl j)) = inr (ap calling (sym j.0), sym (first_stage.0 ∙ k.takes) ∙ j.1)
             by (inr (inr j)) = absurd j
 
-        forth : (x : Holder) (h : Held) → HoldsIn P s.under_way x h → HoldsIn P' calls x h ⊎ ((x ≡ named k.name) × (held_in (P k.name) ≡ Some h))
+        forth : (x : Holder) (h : Held) → HoldsIn P s.under_way x h
+            → HoldsIn P' calls x h ⊎ ((x ≡ named k.name) × (held_in (P k.name) ≡ Some h))
         forth (named v) h (w, e) = by (waiter_or v k.name)
           where
-            by : (v ≡ k.name) ⊎ (v ≡ k.name → ⊥) → HoldsIn P' calls (named v) h ⊎ ((named v ≡ named k.name) × (held_in (P k.name) ≡ Some h))
+            by : (v ≡ k.name) ⊎ (v ≡ k.name → ⊥)
+                → HoldsIn P' calls (named v) h ⊎ ((named v ≡ named k.name) × (held_in (P k.name) ≡ Some h))
             by (inl same) = inr (ap named same, ap held_in (ap P (sym same) ∙ e))
             by (inr other) = inl (w, k.sets.others v other ∙ e)
         forth (calling r) h i = inl (any_left (HasIt r h) s.under_way (new_call ∷ []) i)
 
-        pass : Passes (HoldsIn P s.under_way) (HoldsIn P' calls) (held_in (P k.name)) (held_in (P k.name)) (named k.name) (calling q.0)
+        pass : Passes (HoldsIn P s.under_way) (HoldsIn P' calls) (held_in (P k.name)) (held_in (P k.name))
+            (named k.name) (calling q.0)
         pass =
             record {
               back = back;
@@ -318,6 +369,7 @@ module _ {T : Type 0} where
     pub begins_owned : refusal b.roll c ≡ None → Owned (begun q c b) t
     begins_owned no_refusal = by (begins_so b.roll c o.none_amiss (admitted b.roll c no_refusal))
       where
-        by : Quiet P P' (errand_of b.roll c) (asks b.roll c) ⊎ Touches P P' (errand_of b.roll c) (asks b.roll c) → Owned (begun q c b) t
+        by : Quiet P P' (errand_of b.roll c) (asks b.roll c) ⊎ Touches P P' (errand_of b.roll c) (asks b.roll c)
+            → Owned (begun q c b) t
         by (inl k) = quietly k
         by (inr k) = touching k

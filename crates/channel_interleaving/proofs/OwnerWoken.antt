@@ -1,11 +1,10 @@
 -- Whoever is pending and was woken is told, over steps of calls.
-use Rattle.std.proofs.Common.{◌≡◌, ℕ, Bool, true, false, List, [], ◌∷◌, ◌++◌, map, slice_get, unwrap_or, Option, None, Some, ◌⊎◌, inl, inr, refl, sym, ap, ◌∙◌, subst}
+use Rattle.std.proofs.Common.{◌≡◌, ℕ, Bool, true, false, List, [], ◌∷◌, ◌++◌, map, slice_get, Option, None, Some, ◌⊎◌, inl, inr, refl, sym, ap, ◌∙◌, subst}
 use Rattle.std.specs.List.{remove}
 use Rattle.std.specs.Map.{keys_of}
 use Rattle.event_listener.specs.declared.key.Key.{Key}
 use Rattle.async_channel.specs.Moves.{Channel}
 use Rattle.async_channel.specs.Parts.{listeners}
-use Rattle.async_channel.specs.Turns.{nothing_kept}
 use Rattle.async_channel.specs.declared.mark.Mark.{Mark}
 use Rattle.async_channel.specs.declared.reply.Reply.{Reply}
 use Rattle.async_channel.specs.declared.stage.Held.{Held}
@@ -15,6 +14,7 @@ use Rattle.channel_model.specs.declared.name.Waiter.{Waiter}
 use Rattle.channel_model.specs.declared.name.Waiter.TheVariants.{Op, Stream}
 use Rattle.channel_steps.specs.Scene.{Under, Scene, Steps, AllKnown, sees, does}
 use Rattle.channel_interleaving.specs.Bookkeeping.{settled, woken, all_woken}
+use Rattle.channel_interleaving.specs.Order.{all_moved_last, order_settled}
 use Rattle.channel_interleaving.specs.Owners.{IsAmong, All, AnyOf, Post, free, vacant, amiss, rests, waits, polled, post, holding, task_at, wait_of, Bears, subject, Suits, Together, Differ, AllDiffer, IsListed, WaitsFor, named, calling, HoldsIn, Owned}
 use Rattle.channel_interleaving.specs.OwnerWoken.{IsAway, IsTold, NoneWorks, IsOwn, WokenSound}
 use Rattle.channel_interleaving.specs.Run.{Book, ended, with_woken}
@@ -29,7 +29,7 @@ use Rattle.channel_interleaving.proofs.OwnerKeys.{IsGone}
 use Rattle.channel_interleaving.proofs.OwnerLists.{among_left, among_right, among_of}
 use Rattle.channel_interleaving.proofs.OwnerMoves.{LeavesIt, Turnout}
 use Rattle.channel_interleaving.proofs.OwnerNames.{waiter_or, one_woken, named_told}
-use Rattle.channel_interleaving.proofs.OwnerRuns.{mid_forth, mid_busy, parts, sides, out, was_mine, now_after, forth_calling, inner, subject_or, waits_is, busy_own, set, leaves, back_calling}
+use Rattle.channel_interleaving.proofs.OwnerRuns.{mid_forth, mid_busy, parts, sides, out, was_mine, now_after, forth_calling, inner, subject_or, waits_is, busy_own, set, leaves, back_calling, ended_is}
 use Rattle.channel_interleaving.proofs.OwnerSteps.{calm_waits, busy_waits, told_was, calling_is, apart}
 use Rattle.channel_interleaving.proofs.OwnerTogether.{HasIt, all_join, all_left, all_right, busy, Parted, is_agent}
 use Rattle.channel_interleaving.proofs.OwnerWokenLists.{key_of_entry}
@@ -253,7 +253,11 @@ module _ {T : Type 0} where
     Left = map (sees t.now) st.before ++ map (sees t.now) st.behind
 
     abbrev end_book : Book T
-    end_book = record { roll = settled pt.agent.errand y kept (all_woken names b.roll); agents = pt.front ++ pt.back }
+    end_book = record {
+      roll = settled pt.agent.errand y kept (all_woken names b.roll);
+      order = order_settled pt.agent.errand kept.key (all_moved_last names b.order);
+      agents = pt.front ++ pt.back;
+    }
 
     others_stand : (v : Waiter) → (subject pt.agent.errand ≡ Some v → ⊥) → E2 v ≡ E1 v
     others_stand v other = (set b s t p m y kp names o known st).others v other
@@ -393,13 +397,6 @@ module _ {T : Type 0} where
       (ap (λ (l : List (Agent T)). slice_get l after.0) (sym pt.are) ∙ after.2) (after.3 ∙ sym his) in
       let rest : remove b.agents after.0 ≡ pt.front ++ pt.back =
       ap (λ (l : List (Agent T)). remove l after.0) pt.are ∙ is.without in
-      let roll : settled after.1.errand y (unwrap_or kp nothing_kept) (all_woken names b.roll) ≡ settled pt.agent.errand y
-      f.kept (all_woken names b.roll) =
-      ap (λ (a : Agent T). settled a.errand y (unwrap_or kp nothing_kept) (all_woken names b.roll)) is.same
-      ∙ ap (λ (x : Option (Kept T)). settled pt.agent.errand y (unwrap_or x nothing_kept) (all_woken names b.roll)) f.given in
-      let same : c ≡ record { roll = settled pt.agent.errand y f.kept (all_woken names b.roll); agents = pt.front ++ pt.back }
-      =
-      after.4 ∙ (ap (λ (x : Roll T). record { roll = x; agents = remove b.agents after.0 }) roll ∙ ap
-      (λ (l : List (Agent T)). record { roll = settled pt.agent.errand y f.kept (all_woken names b.roll); agents = l })
-      rest) in
+      let same = after.4 ∙ ended_is after.0 after.1 pt.agent y kp f.kept (with_woken names b) (pt.front ++ pt.back) is.same
+      f.given rest in
       subst (λ (d : Book T). WokenSound d t) (sym same) (ends_woken b s t q.0 m y kp names o known st w)

@@ -11,7 +11,7 @@ use Rattle.channel_interleaving.proofs.OwnerKeys.{on}
 use Rattle.channel_interleaving.proofs.OwnerLists.{same_is, key_stays, among_of}
 
 module _ {A : Type 0} where
-  among_take : (n : ℕ) (x : A) (xs : List A) → IsAmong x (take n xs) → IsAmong x xs
+  pub among_take : (n : ℕ) (x : A) (xs : List A) → IsAmong x (take n xs) → IsAmong x xs
   among_take zero x xs h = absurd h
   among_take (suc n) x [] h = h
   among_take (suc n) x (y ∷ xs) (inl h) = inl h
@@ -52,7 +52,7 @@ module _ {X : Type 0} where
   cut_back false e f es fs on (inl h) = inl h
   cut_back false e f es fs on (inr h) = inr (on h)
 
-  entry_back : (key : Key) (e : Key × X) (es : List (Key × X)) → IsAmong e (remove_entry (same_key key) es) → IsAmong e es
+  pub entry_back : (key : Key) (e : Key × X) (es : List (Key × X)) → IsAmong e (remove_entry (same_key key) es) → IsAmong e es
   entry_back key e [] h = h
   entry_back key e (f ∷ es) h = cut_back (same_key key f.0) e f es (remove_entry (same_key key) es) (entry_back key e es) h
 
@@ -78,7 +78,7 @@ module _ {X : Type 0} where
 
 module _ {W : Type 0} where
   -- whoever is woken waited
-  waited : (w : W) (ws : List (Key × Option W)) → IsAmong w (tasks_of ws) → (key : Key) × IsAmong (key, Some w) ws
+  pub waited : (w : W) (ws : List (Key × Option W)) → IsAmong w (tasks_of ws) → (key : Key) × IsAmong (key, Some w) ws
   waited w [] h = absurd h
   waited w ((k, None) ∷ ws) h = let more = waited w ws h in (more.0, inr more.1)
   waited w ((k, Some v) ∷ ws) (inl h) = (k, inl (ap (λ (x : W). let e : Key × Option W = (k, Some x) in e) h))

@@ -47,7 +47,7 @@ module _ (T : Type 0) where
   nobody_waits cap Closings key v i = i
 
   -- a channel that was just opened
-  pub woken_first : (cap : Option ℕ) → WokenSound {T = T} (record { roll = first_roll; agents = [] }) (new_scene cap)
+  pub woken_first : (cap : Option ℕ) → WokenSound {T = T} (record { roll = first_roll; order = []; agents = [] }) (new_scene cap)
   woken_first cap =
       record {
         told = λ v h e. absurd (calm_waits (post {T = T} first_roll v) h true (first_calm T v) e);

@@ -1,33 +1,25 @@
 -- What the parts of an interleaved channel stand for.
-use Rattle.std.specs.Prelude.{◌≡◌, ℕ, ◌+◌, ◌-◌, ◌^◌, ◌≤◌, min, List, [], ◌++◌, map, length, Option}
+use Rattle.std.specs.Prelude.{◌≡◌, ℕ, Bool, true, ◌+◌, ◌≤◌, List, [], ◌++◌, map, length, Option, Some}
 use Rattle.async_channel.specs.Parts.{Parts}
 use Rattle.async_channel.specs.Plain.{parts_of}
-use Rattle.async_channel.specs.declared.mark.Mark.{Mark}
-use Rattle.async_channel.specs.declared.mark.Mark.TheVariants.{Append, Take, TakeDisplaced}
+use Rattle.channel_model.specs.Names.{at}
 use Rattle.channel_model.specs.declared.name.Waiter.{Waiter}
 use Rattle.channel_steps.specs.Run.{new_scene, Accounts, Touches}
 use Rattle.channel_steps.specs.Scene.{Scene, Shows, parties_in}
-use Rattle.channel_laws.specs.Sound.{AllSound}
+use Rattle.channel_steps.specs.Start.{TellsQuiet as Tells}
 use Rattle.channel_interleaving.specs.Owed.{Owed}
-use Rattle.channel_interleaving.specs.Owners.{Owned}
-use Rattle.channel_interleaving.specs.OwnerWoken.{WokenSound}
+use Rattle.channel_interleaving.specs.Kept.{AllKept}
 use Rattle.channel_interleaving.specs.Roll.{first_roll}
 use Rattle.channel_interleaving.specs.Run.{Book, Made, IsRun, channel_step}
 use Rattle.channel_interleaving.specs.declared.floor.Floor.{Floor}
 use Rattle.channel_interleaving.specs.declared.names.Agent.{Agent}
+use Rattle.channel_interleaving.specs.declared.names.Hold.{Hold}
 use Rattle.channel_interleaving.specs.declared.step.Entry.{Entry}
 use Rattle.channel_interleaving.specs.declared.step.Step.{Step}
 
--- how many messages there are after a step with this mark
-abbrev pub counted : ℕ → Mark → ℕ
-counted n Append = min (n + 1) (2 ^ 64 - 1)
-counted n Take = n - 1
-counted n TakeDisplaced = n - 1
-counted n mark = n
-
 module _ {T : Type 0} where
   abbrev pub book_of : Floor T → Book T
-  book_of f = record { roll = f.roll; agents = f.agents.items }
+  book_of f = record { roll = f.roll; order = f.order; agents = f.agents.items }
 
   abbrev pub parts_in : Floor T → Parts T Waiter
   parts_in f = parts_of f.channel
@@ -43,6 +35,15 @@ module _ {T : Type 0} where
   abbrev pub AreAtWork : Floor T → Type 0
   AreAtWork f = map (λ (a : Agent T). a.party) f.agents.items ≡ parties_in f.parties.items
 
+  -- no call is under way
+  abbrev pub IsQuiet : Floor T → Type 0
+  IsQuiet f = f.parties.items ≡ []
+
+  -- whether no call is under way, in every scene that is shown
+  pub record TellsQuiet (f : Floor T) (quiet : Bool) : Type 0 where
+    pub told : quiet ≡ true → IsQuiet f
+    pub scenes : Tells f.parties.items quiet
+
   -- nothing is changed but the room that was taken
   pub record IsSame (f g : Floor T) : Type 0 where
     pub channel : g.channel ≡ f.channel
@@ -51,14 +52,12 @@ module _ {T : Type 0} where
     pub messages : g.messages ≡ f.messages
     pub made : g.made ≡ f.made
 
-  -- each listener has its owner, who is told was woken under his own name, and nobody who waits is forgotten, in a scene that
-  -- is shown
+  -- each listener has its owner, those who were woken are told, in the order of their waking, and nobody who waits is forgotten,
+  -- in a scene that is shown
   pub record AreOwned (f : Floor T) : Type 0 where
     pub scene : Scene T Waiter
     pub shown : Shown f scene
-    pub owned : Owned (book_of f) scene
-    pub woken : WokenSound (book_of f) scene
-    pub sound : AllSound scene
+    pub kept : AllKept (book_of f) scene
 
   -- each who is pending and was not woken is owed no more than is to come, in a scene that is shown
   pub record AreOwed (f : Floor T) : Type 0 where
@@ -66,15 +65,21 @@ module _ {T : Type 0} where
     pub shown : Shown f scene
     pub owed : Owed (book_of f) scene
 
+  -- no handle is used by more than twice as many as steps were made
+  abbrev pub AreFewUsers : Floor T → Type 0
+  AreFewUsers f = (handle : ℕ) (h : Hold) → at handle f.roll.handles ≡ Some h → h.handle.borrowers ≤ f.made + f.made
+
   -- what is always so
   pub record IsKept (f : Floor T) : Type 0 where
     pub listeners : AreOwned f
     pub at_work : AreAtWork f
+    pub users : AreFewUsers f
 
   -- a channel that was just opened: its first sender and its first receiver live, and nobody is at work
   pub record IsOpen (capacity : Option ℕ) (f : Floor T) : Type 0 where
     pub shown : Shown f (new_scene capacity)
-    pub book : book_of f ≡ record { roll = first_roll; agents = [] }
+    pub kept : AllKept (book_of f) (new_scene capacity)
+    pub book : book_of f ≡ record { roll = first_roll; order = []; agents = [] }
 
   -- a step that was made, from any scene that was shown
   pub record Stepped (x : Step T) (old : Floor T) (e : Entry T) (new : Floor T) (s : Scene T Waiter) : Type 0 where
@@ -87,17 +92,16 @@ module _ {T : Type 0} where
   Steps x old e new = (s : Scene T Waiter) → Shown old s → Stepped x old e new s
 
   -- a run of the first steps of a list, from any scene that was shown
-  pub record Ran (steps left : List (Step T)) (old : Floor T) (trace : List (Entry T)) (new : Floor T) (s : Scene T Waiter) : Type 0 where
+  pub record Ran (steps left : List (Step T)) (old : Floor T) (trace : List (Entry T)) (new : Floor T)
+      (s : Scene T Waiter) : Type 0 where
     pub made : List (Step T)
     pub last : Scene T Waiter
     pub first : steps ≡ made ++ left
     pub run : IsRun (parts_in old) s (book_of old) made trace (parts_in new) last (book_of new)
     pub shown : Shown new last
     pub accounts : Accounts s last
-    pub owned : Owned (book_of old) s → Owned (book_of new) last
-    pub woken : Owned (book_of old) s → WokenSound (book_of old) s → WokenSound (book_of new) last
-    pub sound : AllSound s → AllSound last
-    pub owed : Owned (book_of old) s → AllSound s → Owed (book_of new) last
+    pub kept : AllKept (book_of old) s → AllKept (book_of new) last
+    pub owed : AllKept (book_of old) s → Owed (book_of new) last
 
   abbrev pub RanTo : List (Step T) → List (Step T) → Floor T → List (Entry T) → Floor T → Type 0
   RanTo steps left old trace new = (s : Scene T Waiter) → Shown old s → Ran steps left old trace new s

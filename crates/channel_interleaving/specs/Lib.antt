@@ -3,8 +3,13 @@ pub mod Pending
 pub mod Refusal
 pub mod Bookkeeping
 pub mod Woken
+pub mod Order
 pub mod Run
 pub mod Owners
 pub mod Owed
 pub mod OwnerWoken
+pub mod OwnerOrder
+pub mod OwnerPolled
+pub mod Kept
 pub mod Floor
+pub mod Lone

@@ -1,12 +1,14 @@
 -- The wake-ups owed to those who are pending and were not woken since their last poll, by names.
-use Rattle.std.specs.Prelude.{◌≡◌, ℕ, ◌+◌, ◌≤◌, Bool, true, false, ◌&&◌, List, [], ◌∷◌, ◌++◌, map, length, ◌⊎◌}
+use Rattle.std.specs.Prelude.{◌≡◌, ℕ, ◌+◌, ◌≤◌, Bool, true, false, ◌&&◌, List, [], ◌++◌, map, length, ◌⊎◌}
+use Rattle.std.specs.List.{count_by}
 use Rattle.std.specs.Map.{keys_of}
 use Rattle.event_listener.specs.declared.key.Key.{Key}
 use Rattle.async_channel.specs.declared.ask.ChannelAsk.{ChannelAsk}
 use Rattle.async_channel.specs.declared.ask.ChannelAsk.TheVariants as ask
 use Rattle.async_channel.specs.declared.stage.Held.{Held}
 use Rattle.async_channel.specs.declared.stage.Line.{Line}
-use Rattle.async_channel.specs.declared.stage.Line.TheVariants.{Sends, Receives, Streams, Closings}
+use Rattle.async_channel.specs.declared.stage.Line.TheVariants.{Sends, Receives, Streams}
+use Rattle.channel_model.specs.Laws.{same_line}
 use Rattle.channel_model.specs.declared.name.Waiter.{Waiter}
 use Rattle.channel_model.specs.declared.name.Waiter.TheVariants.{Op, Stream}
 use Rattle.channel_steps.specs.Moments.{Open, Shut}
@@ -17,25 +19,9 @@ use Rattle.channel_interleaving.specs.Owners.{Post, free, vacant, amiss, rests, 
 use Rattle.channel_interleaving.specs.Run.{Book}
 use Rattle.channel_interleaving.specs.declared.roll.Roll.{Roll}
 
-abbrev pub one_if : Bool → ℕ
-one_if true = 1
-one_if false = 0
-
--- how many of these pass
-abbrev pub counted : {A : Type 0} → (A → Bool) → List A → ℕ
-counted test [] = 0
-counted test (x ∷ xs) = one_if (test x) + counted test xs
-
-abbrev pub is_line : Line → Line → Bool
-is_line Sends Sends = true
-is_line Receives Receives = true
-is_line Streams Streams = true
-is_line Closings Closings = true
-is_line a b = false
-
 -- whether one that stands so is pending on this line, and was woken
 abbrev pub is_woken_on : Line → Post → Bool
-is_woken_on line (waits h is_woken) = is_woken && is_line h.line line
+is_woken_on line (waits h is_woken) = is_woken && same_line line h.line
 is_woken_on line free = false
 is_woken_on line vacant = false
 is_woken_on line amiss = false
@@ -49,7 +35,7 @@ module _ {T : Type 0} where
 
   -- how many are pending on this line and were woken
   abbrev pub woken_on : Line → Roll T → ℕ
-  woken_on line r = counted (λ w. is_woken_on line (post r w)) (all_names r)
+  woken_on line r = count_by (λ w. is_woken_on line (post r w)) (all_names r)
 
   -- a send, a displacing send, and a poll or the giving up of a send
   abbrev pub is_sending : ChannelAsk T Waiter → Bool
@@ -72,7 +58,9 @@ module _ {T : Type 0} where
 
   -- the sending and the receiving calls under way
   abbrev pub at_it : Scene T Waiter → ℕ
-  at_it s = counted (λ (u : Under T Waiter). is_sending u.ask) s.under_way + counted (λ (u : Under T Waiter). is_receiving u.ask) s.under_way
+  at_it s =
+      count_by (λ (u : Under T Waiter). is_sending u.ask) s.under_way
+      + count_by (λ (u : Under T Waiter). is_receiving u.ask) s.under_way
 
   -- Where one is pending that was not woken since its last poll: of a receive, there are no more messages than woken pending
   -- receives and sending and receiving calls under way; of a send, where the channel is open, it has a bound, and no more

@@ -15,6 +15,7 @@ use Rattle.channel_steps.specs.Scene.{Scene}
 use Rattle.channel_steps.specs.declared.run.Step.{Step as ChannelStep}
 use Rattle.channel_steps.specs.declared.run.Step.TheVariants as channel
 use Rattle.channel_interleaving.specs.Bookkeeping.{asks, errand_of, names_begun, settled, all_woken}
+use Rattle.channel_interleaving.specs.Order.{order_begun, all_moved_last, order_settled}
 use Rattle.channel_interleaving.specs.Refusal.{step_refusal}
 use Rattle.channel_interleaving.specs.declared.names.Agent.{Agent}
 use Rattle.channel_interleaving.specs.declared.roll.Roll.{Roll}
@@ -23,9 +24,11 @@ use Rattle.channel_interleaving.specs.declared.step.Entry.{Entry}
 use Rattle.channel_interleaving.specs.declared.step.Step.{Step}
 use Rattle.channel_interleaving.specs.declared.step.Step.TheVariants as step
 
--- the names, and the parties at work in the order in which their calls began
+-- the names, those who may be woken in the order of their waking, and the parties at work in the order in which their calls
+-- began
 pub record Book (T : Type 0) : Type 0 where
   pub roll : Roll T
+  pub order : List Waiter
   pub agents : List (Agent T)
 
 module _ {T : Type 0} where
@@ -38,21 +41,32 @@ module _ {T : Type 0} where
 
   -- a call has begun
   abbrev pub begun : PartyId → Call T → Book T → Book T
-  begun p c b = record { roll = names_begun b.roll c; agents = b.agents ++ record { party = p.0; errand = errand_of b.roll c } ∷ [] }
+  begun p c b = record {
+    roll = names_begun b.roll c;
+    order = order_begun c b.order;
+    agents = b.agents ++ record { party = p.0; errand = errand_of b.roll c } ∷ [];
+  }
 
   abbrev pub with_woken : List Waiter → Book T → Book T
-  with_woken names b = record b { roll = all_woken names b.roll }
+  with_woken names b = record b { roll = all_woken names b.roll; order = all_moved_last names b.order }
 
   -- the k-th call has ended, with this reply, and left this: it writes back what it has to, and its party is at work no more
   abbrev pub ended : ℕ → Agent T → Option (Reply T) → Option (Kept T) → Book T → Book T
   ended k a None kept b = b
-  ended k a (Some r) kept b = record { roll = settled a.errand r (unwrap_or kept nothing_kept) b.roll; agents = remove b.agents k }
+  ended k a (Some r) kept b =
+      let left : Kept T = unwrap_or kept nothing_kept in
+      record {
+        roll = settled a.errand r left b.roll;
+        order = order_settled a.errand left.key b.order;
+        agents = remove b.agents k;
+      }
 
   -- the book after a step
   abbrev pub IsBookAfter : Step T → Entry T → Option (Kept T) → Book T → Book T → Type 0
   IsBookAfter (step.Begin p c) e kept old new = new ≡ begun p c old
   IsBookAfter (step.Step p) e kept old new =
-      (k : ℕ) × (a : Agent T) × (slice_get old.agents k ≡ Some a) × (a.party ≡ p.0) × (new ≡ ended k a e.reply kept (with_woken e.woken.items old))
+      (k : ℕ) × (a : Agent T) × (slice_get old.agents k ≡ Some a) × (a.party ≡ p.0)
+      × (new ≡ ended k a e.reply kept (with_woken e.woken.items old))
 
   -- a step that was made: the channel's step of it has this entry's mark, woken names and reply, and the book is as it is to be
   pub record Made (b : Book T) (s : Scene T Waiter) (x : Step T) (e : Entry T) (c : Book T) (t : Scene T Waiter) : Type 0 where
@@ -63,10 +77,12 @@ module _ {T : Type 0} where
   -- ---- runs
 
   -- these steps, one after another, with these entries; at most one cell, list or count differs after each
-  abbrev pub IsRun : Parts T Waiter → Scene T Waiter → Book T → List (Step T) → List (Entry T) → Parts T Waiter → Scene T Waiter → Book T → Type 0
+  abbrev pub IsRun : Parts T Waiter → Scene T Waiter → Book T → List (Step T) → List (Entry T) → Parts T Waiter → Scene T Waiter
+      → Book T → Type 0
   IsRun p s b [] [] q t c = (q ≡ p) × (t ≡ s) × (c ≡ b)
   IsRun p s b (x ∷ xs) (e ∷ es) q t c =
-      (o : Parts T Waiter) × (m : Scene T Waiter) × (d : Book T) × Touches (channel_step b.roll x) p o × Made b s x e d m × IsRun o m d xs es q t c
+      (o : Parts T Waiter) × (m : Scene T Waiter) × (d : Book T) × Touches (channel_step b.roll x) p o × Made b s x e d m
+      × IsRun o m d xs es q t c
   IsRun p s b _ _ q t c = ⊥
 
   -- ---- the end of a run

@@ -102,9 +102,11 @@ fn own_message<T: Drop>(kind: OperationKind, message: Option<T>) -> Option<T>
 }
 
 impl<T: Drop> Roll<T> {
-    ghost use Rattle.std.specs.Prelude.{◌≡◌, None, Some, false, is_some, IfOk, OnErr, IfErr, IfSome, IfNone};
+    ghost use Rattle.std.specs.Prelude.{◌≡◌, None, Some, List, false, is_some, IfOk, OnErr, IfErr, IfSome, IfNone};
     ghost use Rattle.std.specs.Option.{option_map};
     ghost use Rattle.channel_model.specs.Names.{at, is_taken};
+    ghost use Rattle.channel_model.specs.declared.name.Waiter.{Waiter};
+    ghost use Rattle.channel_interleaving.specs.Order.{order_begun};
     ghost use Rattle.channel_interleaving.specs.Refusal.{names_taken};
     ghost use Rattle.channel_interleaving.specs.Roll.{key_of, with_lent};
     ghost use Rattle.channel_interleaving.specs.Bookkeeping.{Begins, Starts, IsLent, unpolled, operation_named, handle_named};
@@ -129,7 +131,9 @@ impl<T: Drop> Roll<T> {
         message: Option<T>,
     ) -> Result<Begun<T>, Option<T>>
         requires { is_taken op.0 self.old.operations ≡ false }
-        ensures ok { IfOk result (λ b. Starts ChannelAsk.Make (Errand.Make op (unpolled kind handle message)) (with_lent handle (operation_named op self.old)) b self.new) }
+        ensures ok { IfOk result
+            (λ b. Starts ChannelAsk.Make (Errand.Make op (unpolled kind handle message))
+            (with_lent handle (operation_named op self.old)) b self.new) }
         ensures err { OnErr result (self.new ≡ self.old) }
         ensures back { IfErr result (λ m. m ≡ message) }
     {
@@ -271,7 +275,8 @@ impl<T: Drop> Roll<T> {
         ask: ChannelAsk<T, Waiter>,
     ) -> Option<Begun<T>>
         requires { is_taken new.0 self.old.handles ≡ false }
-        ensures some { IfSome result (λ b. Starts ask (Errand.New from new kind) (with_lent from (handle_named new self.old)) b self.new) }
+        ensures some { IfSome result
+            (λ b. Starts ask (Errand.New from new kind) (with_lent from (handle_named new self.old)) b self.new) }
         ensures none { IfNone result (self.new ≡ self.old) }
     {
         if !self.handles.spend(new.0) {
@@ -322,12 +327,14 @@ impl<T: Drop> Roll<T> {
         }
     }
 
-    /// A call that is not refused begins; or it comes back where its new name found no room, with nothing changed.
+    /// A call that is not refused begins; or it comes back where its new name found no room, with nothing changed. One that
+    /// comes back gives and takes no place.
     pub(crate) fn begin(&mut self, call: Call<T>) -> Result<Begun<T>, Call<T>>
         requires { names_taken self.old call ≡ false }
         ensures ok { IfOk result (λ b. Begins self.old call b self.new) }
         ensures err { OnErr result (self.new ≡ self.old) }
         ensures back { IfErr result (λ c. c ≡ call) }
+        ensures places { OnErr result ((ws : List Waiter) → order_begun call ws ≡ ws) }
     {
         match call {
             Call::NewSend { op, sender, msg } => {

@@ -1,6 +1,7 @@
 //! What calls write back as they end, and whom they wake.
 
 use crate::names::{Agent, Errand, Hold, Operation, Standing};
+use crate::order::Order;
 use crate::roll::Roll;
 use async_channel::reply::Reply;
 use async_channel::stage::Kept;
@@ -116,13 +117,16 @@ ghost use Rattle.channel_interleaving.specs.declared.names.Agent.{Agent};
 /// The k-th call writes back what it has to, if it has answered, and its party is at work no more then.
 pub(crate) fn write_back<T: Drop>(
     roll: &mut Roll<T>,
+    order: &mut Order,
     agents: &mut Vec<Agent<T>>,
     k: usize,
     reply: &Option<Reply<T>>,
     kept: Option<Kept<T>>,
 )
     requires { k < vec_len agents.old }
-    ensures { (a : Agent T) → slice_get agents.old.items k ≡ Some a → record { roll = roll.new; agents = agents.new.items } ≡ ended k a reply.now kept (record { roll = roll.old; agents = agents.old.items }) }
+    ensures { (a : Agent T) → slice_get agents.old.items k ≡ Some a
+        → record { roll = roll.new; order = order.new; agents = agents.new.items }
+        ≡ ended k a reply.now kept (record { roll = roll.old; order = order.old; agents = agents.old.items }) }
 {
     if let Some(reply) = reply {
         let Agent { party: _, errand } = agents.remove(k);
@@ -130,6 +134,7 @@ pub(crate) fn write_back<T: Drop>(
             key: None,
             message: None,
         });
+        order.settle(&errand, kept.key);
         roll.settle(errand, reply, kept);
     }
 }

@@ -3,6 +3,7 @@
 use crate::beginning::Begun;
 use crate::ending::write_back;
 use crate::names::{Agent, find_agent, is_at_work};
+use crate::order::Order;
 use crate::roll::Roll;
 use crate::step::{Entry, PartyId, Step};
 use crate::woken::Woken;
@@ -11,6 +12,7 @@ use async_channel::plain::PlainChannel;
 use channel_model::call::Call;
 use channel_model::name::Waiter;
 use channel_model::refusal::WorldRefusal;
+use channel_steps::count::counted;
 use channel_steps::party::{Entry as ChannelEntry, Party, step_at};
 use channel_steps::run::begin;
 use channel_steps::start::open_channel;
@@ -26,6 +28,8 @@ pub struct Floor<T> {
     pub parties: Vec<Party<T, Waiter>>,
     /// The names.
     pub roll: Roll<T>,
+    /// Those who may be woken, in the order of their waking.
+    pub order: Order,
     /// The parties with a call under way, in the same order.
     pub agents: Vec<Agent<T>>,
     /// How many messages the channel holds.
@@ -40,18 +44,6 @@ pub struct Floor<T> {
 pub(crate) const MOST_STEPS: u64 = 1 << 61;
 
 ghost use Rattle.std.specs.Prelude.{◌≡◌, ◌<◌, ◌++◌, ◌∷◌, [], IsTrue, vec_len, vec_capacity};
-ghost use Rattle.channel_interleaving.specs.Floor.{counted};
-
-/// How many messages there are after a step with this mark.
-fn counted(messages: u64, mark: Mark) -> u64
-    ensures { result ≡ counted messages mark }
-{
-    match mark {
-        Mark::Append => messages.saturating_add(1),
-        Mark::Take | Mark::TakeDisplaced => messages.saturating_sub(1),
-        _ => messages,
-    }
-}
 
 /// Room for one more.
 fn has_room<X: Drop>(items: &mut Vec<X>) -> bool
@@ -79,22 +71,25 @@ impl<T: Drop> Floor<T> {
     ghost use Rattle.channel_steps.specs.Run.{new_scene};
     ghost use Rattle.channel_interleaving.specs.Roll.{first_roll, IsAgent};
     ghost use Rattle.channel_interleaving.specs.Refusal.{step_refusal};
-    ghost use Rattle.channel_interleaving.specs.Floor.{book_of, Shown, AreAtWork, AreOwned, IsSame, Steps};
+    ghost use Rattle.channel_interleaving.specs.Floor.{book_of, Shown, AreAtWork, AreOwned, AreFewUsers, IsSame, Steps};
 
     /// An open channel over a queue of this form, with its first two handles and nobody at work.
     pub(crate) fn open(alloc: Global, form: QueueForm) -> Result<Floor<T>, AllocError>
         requires form { CanBeMade form }
         ensures shown { IfOk result (λ f. Shown f (new_scene (capacity_of form))) }
-        ensures book { IfOk result (λ f. book_of f ≡ record { roll = first_roll; agents = [] }) }
+        ensures book { IfOk result (λ f. book_of f ≡ record { roll = first_roll; order = []; agents = [] }) }
         ensures at_work { IfOk result (λ f. AreAtWork f) }
+        ensures users { IfOk result (λ f. AreFewUsers f) }
         ensures owned { IfOk result (λ f. AreOwned f) }
     {
         let opened = open_channel(form, alloc)?;
         let roll = Roll::new(alloc)?;
+        let order = Order::new(alloc)?;
         Ok(Floor {
             channel: opened.cells,
             parties: opened.parties,
             roll,
+            order,
             agents: Vec::new(alloc),
             messages: 0,
             made: 0,
@@ -127,12 +122,16 @@ impl<T: Drop> Floor<T> {
         requires accepted { step_refusal self.old.roll self.old.agents.items (Step.Begin party call) ≡ None }
         ensures ok { IfOk result (λ e. Steps (Step.Begin party call) self.old e self.new) }
         ensures at_work { AreAtWork self.old → AreAtWork self.new }
+        ensures users { AreFewUsers self.old → AreFewUsers self.new }
         ensures err { OnErr result (IsSame self.old self.new) }
         ensures back { IfErr result (λ c. c ≡ call) }
     {
         if self.made >= MOST_STEPS || !has_room(&mut self.parties) || !has_room(&mut self.agents) {
             return Err(call);
         }
+        let Ok(()) = self.order.begin(&call) else {
+            return Err(call);
+        };
         let Begun { ask, errand } = self.roll.begin(call)?;
         append(
             &mut self.agents,
@@ -156,6 +155,7 @@ impl<T: Drop> Floor<T> {
         requires at_work { AreAtWork self.old }
         ensures some { IfSome result (λ e. Steps (Step.Step party) self.old e self.new) }
         ensures at_work { AreAtWork self.new }
+        ensures users { AreFewUsers self.old → AreFewUsers self.new }
         ensures none { IfNone result (IsSame self.old self.new) }
     {
         if self.made >= MOST_STEPS {
@@ -175,7 +175,15 @@ impl<T: Drop> Floor<T> {
         self.messages = counted(self.messages, mark);
         let Woken { names } = sink;
         self.roll.wake_all(&names);
-        write_back(&mut self.roll, &mut self.agents, k, &reply, kept);
+        self.order.wake_all(&names);
+        write_back(
+            &mut self.roll,
+            &mut self.order,
+            &mut self.agents,
+            k,
+            &reply,
+            kept,
+        );
         Some(Entry {
             mark,
             woken: names,
@@ -189,6 +197,7 @@ impl<T: Drop> Floor<T> {
         requires at_work { AreAtWork self.old }
         ensures ok { IfOk result (λ e. Steps step self.old e self.new) }
         ensures at_work { AreAtWork self.new }
+        ensures users { AreFewUsers self.old → AreFewUsers self.new }
         ensures err { OnErr result (IsSame self.old self.new) }
         ensures back { IfErr result (λ x. x ≡ step) }
     {

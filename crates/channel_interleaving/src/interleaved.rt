@@ -3,6 +3,10 @@
 use crate::floor::Floor;
 use crate::step::{Run, Step};
 use async_channel::error::OpenError;
+use async_channel::stage::Line;
+use channel_model::call::Call;
+use channel_model::refusal::WorldRefusal;
+use channel_model::run::Done;
 use channel_steps::start::{is_quiet, under_way};
 use concurrent_queue::cells::QueueForm;
 use event_listener::id::EventIds;
@@ -31,14 +35,14 @@ impl<T> Model for Interleaved<T> {
 }
 
 impl<T: Drop> Interleaved<T> {
-    ghost use Rattle.std.specs.Prelude.{◌≡◌, ◌<◌, ◌+◌, ◌-◌, ◌^◌, None, Some, Err, OnOk, OnErr, IfOk, length, vec_len, min};
+    ghost use Rattle.std.specs.Prelude.{◌≡◌, ◌<◌, ◌+◌, ◌-◌, ◌^◌, None, Some, Err, OnOk, OnErr, IfOk, length, vec_len};
     ghost use Rattle.channel_model.specs.declared.name.Waiter.{Waiter};
     ghost use Rattle.channel_steps.specs.Scene.{Scene};
-    ghost use Rattle.channel_steps.specs.Start.{CountsCalls, TellsQuiet};
+    ghost use Rattle.channel_steps.specs.Start.{CountsCalls};
     ghost use Rattle.channel_interleaving.specs.Run.{Stops};
     ghost use Rattle.channel_interleaving.specs.Roll.{is_woken};
     ghost use Rattle.channel_interleaving.specs.Pending.{is_pending, how_many};
-    ghost use Rattle.channel_interleaving.specs.Floor.{book_of, Shown, AreOwned, AreOwed, IsOpen, RanTo};
+    ghost use Rattle.channel_interleaving.specs.Floor.{book_of, Shown, AreOwned, AreOwed, IsOpen, IsQuiet, RanTo, TellsQuiet};
 
     /// An open channel of this capacity, without a message, and nobody at work.
     ///
@@ -51,6 +55,7 @@ impl<T: Drop> Interleaved<T> {
     ) -> Result<Interleaved<T>, OpenError>
         requires { 0 < capacity }
         ensures open { IfOk result (λ world. IsOpen (Some capacity) world) }
+        ensures quiet { IfOk result (λ world. IsQuiet world) }
         ensures ids { OnOk result (ids.new ≡ ids.old + 4) }
         ensures unchanged { OnErr result (ids.new ≡ ids.old) }
         ensures limit { 2 ^ 58 < capacity → result ≡ Err OpenError.NoMemory }
@@ -73,7 +78,8 @@ impl<T: Drop> Interleaved<T> {
     /// Memory is taken first, and then four identities together or none. As `async_channel::unbounded`, which takes no
     /// source of identities.
     pub fn unbounded(alloc: Global, ids: &mut EventIds) -> Result<Interleaved<T>, OpenError>
-        ensures open { IfOk result (λ world. IsOpen (None) world) }
+        ensures open { IfOk result (λ world. IsOpen None world) }
+        ensures quiet { IfOk result (λ world. IsQuiet world) }
         ensures ids { OnOk result (ids.new ≡ ids.old + 4) }
         ensures unchanged { OnErr result (ids.new ≡ ids.old) }
         ensures used_up { result ≡ Err OpenError.IdsUsedUp → 2 ^ 64 - 1 < ids.old + 4 }
@@ -97,15 +103,9 @@ impl<T: Drop> Interleaved<T> {
     /// reply names and found what its reply says at a moment of its own, and what left the channel, followed by what it holds,
     /// is what it held followed by what came, in order.
     ///
-    /// At the moment at which the run ends, each listener on the channel's lists is held by one alone: by an operation or a
-    /// stream that is pending, or by a call under way that has it in hand. What is pending has its listener on its list, where
-    /// it waits to wake that name, unless the name was woken since its last poll.
-    ///
-    /// So nobody who is pending and wasn't woken since its last poll is forgotten there. Beside such a receive there are no
-    /// more messages than woken pending receives and sending and receiving calls under way. Beside such a send, while the
-    /// channel is open, it has a bound, and there are no more free places than woken pending sends and those calls. Beside
-    /// such a stream there is no message, or a sending call is under way. Beside any such one, where the channel is closed,
-    /// the call that closed it is under way.
+    /// At the moment at which the run ends, each listener on the channel's lists is held by one alone, and nobody who is pending
+    /// and wasn't woken since its last poll is forgotten beside a message, a free place or a closing: see `specs/Owners` and
+    /// `specs/Owed`.
     ///
     /// A step is refused for the first of these reasons that there is: the party that begins is at work; the one that steps
     /// isn't; a used name doesn't live; what lives there is of another kind; its operation or its receiver's stream is being
@@ -122,7 +122,7 @@ impl<T: Drop> Interleaved<T> {
 
     /// Whether no call is under way. Own to this project.
     pub fn is_quiet(&self) -> bool
-        ensures { TellsQuiet self.now.parties.items result }
+        ensures { TellsQuiet self.now result }
     {
         is_quiet(&self.floor.parties)
     }
@@ -141,19 +141,71 @@ impl<T: Drop> Interleaved<T> {
         self.floor.messages
     }
 
-    /// How many operations and streams are pending: they live, their last poll ended so, and no poll of them is under way; or
-    /// 2^64 - 1 where they are more. A walk over all names. Own to this project.
+    /// How many operations and streams are pending: they live, their last poll ended so, and no poll of them is under way.
+    /// A walk over all names. Own to this project.
     pub fn pending(&self) -> usize
-        ensures { result ≡ min (how_many is_pending self.now.roll) (2 ^ 64 - 1) }
+        ensures { result ≡ how_many is_pending self.now.roll }
     {
         self.floor.roll.count_pending()
     }
 
-    /// How many of those that are pending were woken since their last poll; or 2^64 - 1 where they are more. A walk over all
-    /// names. Own to this project.
+    /// How many of those that are pending were woken since their last poll. A walk over all names. Own to this project.
     pub fn woken(&self) -> usize
-        ensures { result ≡ min (how_many is_woken self.now.roll) (2 ^ 64 - 1) }
+        ensures { result ≡ how_many is_woken self.now.roll }
     {
         self.floor.roll.count_woken()
+    }
+}
+
+impl<T: Drop> Interleaved<T> {
+    ghost use Rattle.std.specs.Prelude.{◌≡◌, None, length, IfOk, IfErr, OnErr};
+    ghost use Rattle.async_channel.specs.Parts.{listeners};
+    ghost use Rattle.channel_interleaving.specs.Refusal.{refusal};
+    ghost use Rattle.channel_interleaving.specs.Floor.{parts_in, AreOwned, IsKept, IsQuiet, IsSame};
+    ghost use Rattle.channel_interleaving.specs.Lone.{CallsAlone, WakesAtMost};
+
+    /// Makes a call that is not refused, where no call is under way, from its beginning to its end; or hands it back where
+    /// there was no room, with nothing changed.
+    ///
+    /// Its steps are those of a party that nobody stands beside, and what it answers, whom it wakes, in order, and the channel
+    /// after it are what a call does that is made alone. `room` is no less than the number of names that it may wake; room for
+    /// these, and for the listener of a poll, is taken before it begins. Nothing waits. Own to this project.
+    pub fn call_alone(&mut self, call: Call<T>, room: usize) -> Result<Done<T>, Call<T>>
+        requires quiet { IsQuiet self.old }
+        requires accepted { refusal self.old.roll call ≡ None }
+        requires room { WakesAtMost room call self.old }
+        ensures ok { IfOk result (λ d. CallsAlone call self.old d.reply d.woken.items self.new) }
+        ensures owned { AreOwned self.new }
+        ensures quiet { IsQuiet self.new }
+        ensures err { OnErr result (IsSame self.old self.new) }
+        ensures back { IfErr result (λ c. c ≡ call) }
+    {
+        self.floor.call_alone(call, room)
+    }
+
+    /// Says what is always so of a channel by names, and does nothing. Own to this project.
+    pub fn keeps(&self)
+        ensures { IsKept self.now }
+    {
+        let _ = &self.floor;
+    }
+
+    /// Why a call is not begun, room and parties aside. Own to this project.
+    pub fn refusal(&self, call: &Call<T>) -> Option<WorldRefusal>
+        ensures { result ≡ refusal self.now.roll call.now }
+    {
+        self.floor.roll.refusal(call)
+    }
+
+    /// How many listeners of this list wait untold. Own to this project.
+    pub fn waiting(&self, line: Line) -> usize
+        ensures { result ≡ length (listeners line (parts_in self.now).roster).waiting }
+    {
+        self.floor.channel.waiting(line)
+    }
+
+    /// Where memory comes from.
+    pub fn alloc(&self) -> Global {
+        self.floor.alloc
     }
 }

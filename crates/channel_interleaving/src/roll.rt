@@ -197,29 +197,29 @@ fn is_stream_woken(hold: &Option<Hold>) -> bool
 }
 
 impl<T> Roll<T> {
-    ghost use Rattle.std.specs.Prelude.{◌≡◌, ◌-◌, ◌^◌, min};
+    ghost use Rattle.std.specs.Prelude.{◌≡◌};
     ghost use Rattle.channel_interleaving.specs.Roll.{is_woken};
     ghost use Rattle.channel_interleaving.specs.Pending.{is_pending, how_many};
 
-    /// How many operations and streams are pending, or 2^64 - 1 where they are more.
+    /// How many operations and streams are pending.
     pub(crate) fn count_pending(&self) -> usize
-        ensures { result ≡ min (how_many is_pending self.now) (2 ^ 64 - 1) }
+        ensures { result ≡ how_many is_pending self.now }
     {
         let operations = self.operations.iter();
         let operations = operations.filter(|(_, x)| is_pending(*x)).count();
         let streams = self.handles.iter();
         let streams = streams.filter(|(_, x)| is_stream_pending(*x)).count();
-        operations.saturating_add(streams)
+        operations + streams
     }
 
-    /// How many of those that are pending were woken, or 2^64 - 1 where they are more.
+    /// How many of those that are pending were woken.
     pub(crate) fn count_woken(&self) -> usize
-        ensures { result ≡ min (how_many is_woken self.now) (2 ^ 64 - 1) }
+        ensures { result ≡ how_many is_woken self.now }
     {
         let operations = self.operations.iter();
         let operations = operations.filter(|(_, x)| is_woken(*x)).count();
         let streams = self.handles.iter();
         let streams = streams.filter(|(_, x)| is_stream_woken(*x)).count();
-        operations.saturating_add(streams)
+        operations + streams
     }
 }

@@ -23,10 +23,6 @@ start capacity = record {
   waiting = nobody;
 }
 
--- The state of a world with no call under way. While calls are made one at a time this is all that a world is.
-abbrev pub at_rest : {T : Type 0} → State T → State T
-at_rest world = world
-
 abbrev pub with_channel : {T : Type 0} → Channel T → State T → State T
 with_channel c s = record s { channel = c }
 

@@ -23,7 +23,7 @@ impl<X> Model for Directory<X> {
 }
 
 impl<X> Directory<X> {
-    ghost use Rattle.std.specs.Prelude.{◌≡◌, ◌∷◌, [], false, option_copied, IfNone, IfOk, IfErr, OnOk, OnErr};
+    ghost use Rattle.std.specs.Prelude.{◌≡◌, ◌<◌, ◌^◌, ◌∷◌, [], length, false, option_copied, IfNone, IfOk, IfErr, OnOk, OnErr};
     ghost use Rattle.channel_model.specs.Names.{at, is_taken, with_new, with_changed, without};
 
     /// No name was taken.
@@ -54,7 +54,9 @@ impl<X> Directory<X> {
     /// All names with what lives under them.
     pub fn iter(&self) -> Iter<'_, u32, Option<X>>
         ensures entries { result ≡ self.now }
+        ensures few { length self.now < 2 ^ 63 }
     {
+        let _length = self.entries.len();
         self.entries.iter()
     }
 

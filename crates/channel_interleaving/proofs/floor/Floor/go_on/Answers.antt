@@ -1,10 +1,13 @@
 use Rattle.std.proofs.Common.{arith, ◌≡◌, length, vec_len, refl, sym}
+use Rattle.channel_interleaving.specs.Floor.{book_of}
 use Rattle.channel_interleaving.proofs.FloorFacts.{party_at, within, has_stepped, stepped_at_work}
+use Rattle.channel_interleaving.proofs.UserFacts.{stepped_users}
 use Rattle.channel_interleaving.proofs.floor.Floor.go_on.Goals as goal
 
 pub step_at-mark-requires : goal.step_at-mark-requires
 step_at-mark-requires g c =
-    let at = party_at c.args.party.0 c.args.k c.args.self.now.agents.items c.args.self.now.parties.items c.requires.at_work c.requires.party in
+    let at = party_at c.args.party.0 c.args.k c.args.self.now.agents.items c.args.self.now.parties.items c.requires.at_work
+    c.requires.party in
     let few = within c.args.self.now.parties.items c.args.k at.0 at.1 in
     let size : vec_len c.args.self.now.parties ≡ length c.args.self.now.parties.items = c.args.self.now.parties.ok.0 in
     omega (arith, few, size)
@@ -17,21 +20,35 @@ write_back-requires g c =
 
 pub returns-clause-some : goal.returns-clause-some
 returns-clause-some g c =
-    let at = party_at c.args.party.0 c.args.k c.args.self.now.agents.items c.args.self.now.parties.items c.requires.at_work c.requires.party in
+    let at = party_at c.args.party.0 c.args.k c.args.self.now.agents.items c.args.self.now.parties.items c.requires.at_work
+    c.requires.party in
     let a = c.requires.party.0 in
     let there = c.requires.party.1 in
-    has_stepped c.args.party c.args.k c.most_listeners-room.result a at.0 c.args.self.now _ c.in-Ok.sink c.step_at-mark.new.sink _ c.step_at-mark.result
+    has_stepped c.args.party c.args.k c.most_listeners-room.result a at.0 c.args.self.now _ c.in-Ok.sink c.step_at-mark.new.sink _
+    c.step_at-mark.result
     at.1 at.2 there c.requires.party.2
     (c.step_at-mark.ensures.steps tt)
     c.in-Ok.ensures.none c.most_listeners-room.ensures c.in-Ok.ensures.room
     refl refl refl
-    (rw (sym c.wake_all.ensures) (c.write_back.ensures a there))
+    (rw (sym c.wake_all.ensures, sym c.wake_all-2.ensures) (c.write_back.ensures a there))
     c.counted-self.ensures refl (omega (arith, c.if-self-ge-MOST_STEPS.false))
 
 pub returns-clause-at_work : goal.returns-clause-at_work
 returns-clause-at_work g c =
     let a = c.requires.party.0 in
-    stepped_at_work c.args.k a c.step_at-mark.result.reply c.step_at-mark.result.kept c.step_at-mark.new.sink.names.items c.args.self.now
-    (record { roll = c.write_back.new.roll; agents = c.write_back.new.agents.items }) c.step_at-mark.new.parties.items c.requires.at_work
-    (rw (sym c.wake_all.ensures) (c.write_back.ensures a c.requires.party.1))
+    stepped_at_work c.args.k a c.step_at-mark.result.reply c.step_at-mark.result.kept c.step_at-mark.new.sink.names.items
+    c.args.self.now
+    (record { roll = c.write_back.new.roll; order = c.write_back.new.order; agents = c.write_back.new.agents.items })
+    c.step_at-mark.new.parties.items c.requires.at_work
+    (rw (sym c.wake_all.ensures, sym c.wake_all-2.ensures) (c.write_back.ensures a c.requires.party.1))
     c.step_at-mark.ensures.parties
+
+pub returns-clause-users : goal.returns-clause-users
+returns-clause-users g c few =
+    let a = c.requires.party.0 in
+    stepped_users c.args.k a c.step_at-mark.result.reply c.step_at-mark.result.kept c.step_at-mark.new.sink.names.items
+    (book_of c.args.self.now)
+    (record { roll = c.write_back.new.roll; order = c.write_back.new.order; agents = c.write_back.new.agents.items })
+    c.args.self.now.made
+    (rw (sym c.wake_all.ensures, sym c.wake_all-2.ensures) (c.write_back.ensures a c.requires.party.1))
+    few

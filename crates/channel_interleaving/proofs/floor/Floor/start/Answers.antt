@@ -1,12 +1,18 @@
-use Rattle.std.proofs.Common.{refl, sym}
+use Rattle.std.proofs.Common.{refl}
 use Rattle.channel_interleaving.proofs.FloorFacts.{has_begun}
+use Rattle.channel_interleaving.proofs.UserFacts.{begun_users}
 use Rattle.channel_interleaving.proofs.floor.Floor.start.Goals as goal
 
 pub returns-clause-ok : goal.returns-clause-ok
 returns-clause-ok g c =
     let b = c.in_ok-ask.ensures.ok in
-    has_begun c.args.party c.args.call c.args.self.now _ _ c.begin-2.result
-    (rw (sym c.has_room.ensures.items, sym b.ask) c.begin-2.ensures.begins)
+    has_begun c.args.party c.args.call c.args.self.now _ _ c.begin-3.result
+    (rw (← c.has_room.ensures.items, ← b.ask) c.begin-3.ensures.begins)
     refl refl c.new.ensures.items refl
-    (rw (c.append.ensures, c.has_room-else-not-has_room.ensures.items, ← b.errand, b.names) refl)
+    (rw (c.append.ensures, c.has_room-else-not-has_room.ensures.items, ← b.errand, b.names, c.in-Ok.ensures.ok) refl)
     refl refl
+
+pub returns-clause-users : goal.returns-clause-users
+returns-clause-users g c few =
+    let b = c.in_ok-ask.ensures.ok in
+    begun_users c.args.call c.args.self.now.roll c.begin-2.new.self c.args.self.now.made b.names few

@@ -1,7 +1,10 @@
 use Rattle.std.proofs.Common.{subst}
-use Rattle.channel_steps.specs.Start.{TellsQuiet}
+use Rattle.channel_interleaving.specs.Floor.{TellsQuiet}
 use Rattle.channel_interleaving.specs.declared.floor.Floor.{Floor}
+use Rattle.channel_interleaving.proofs.LoneFacts.{tells_quiet}
 use Rattle.channel_interleaving.proofs.interleaved.Interleaved.is_quiet.Goals as goal
 
 pub returns : goal.returns
-returns g c = subst (λ (f : Floor g.row.T.Denot). TellsQuiet f.parties.items c.is_quiet.result) c.self.view_is c.is_quiet.ensures
+returns g c =
+    subst (λ (f : Floor g.row.T.Denot). TellsQuiet f c.is_quiet.result) c.self.view_is
+    (tells_quiet c.self.inside.floor c.is_quiet.result c.self.invariant.listeners c.is_quiet.ensures)

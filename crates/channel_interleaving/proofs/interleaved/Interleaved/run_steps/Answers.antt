@@ -1,26 +1,30 @@
 use Rattle.std.proofs.Common.{subst}
-use Rattle.channel_interleaving.specs.Floor.{book_of, RanTo}
-use Rattle.channel_interleaving.proofs.OwedFacts.{owed}
+use Rattle.channel_interleaving.specs.Floor.{RanTo}
 use Rattle.channel_interleaving.proofs.interleaved.Interleaved.run_steps.Goals as goal
 
 pub invariant_of-self : goal.invariant_of-self
 invariant_of-self g c =
     let before = c.self.invariant.listeners in
     let ran = c.run_steps.ensures.ran before.scene before.shown in
-    record { listeners = record { scene = ran.last; shown = ran.shown; owned = ran.owned before.owned; woken = ran.woken before.owned before.woken; sound = ran.sound before.sound }; at_work = c.run_steps.ensures.at_work }
+    record {
+      listeners = record { scene = ran.last; shown = ran.shown; kept = ran.kept before.kept };
+      at_work = c.run_steps.ensures.at_work;
+      users = c.run_steps.ensures.users c.self.invariant.users;
+    }
 
 pub returns-clause-ran : goal.returns-clause-ran
 returns-clause-ran g c =
-    subst (λ f. RanTo c.args.steps.now.items c.run_steps.new.steps.items f c.run_steps.result.trace.items c.run_steps.new.self) c.self.view_is c.run_steps.ensures.ran
+    subst (λ f. RanTo c.args.steps.now.items c.run_steps.new.steps.items f c.run_steps.result.trace.items c.run_steps.new.self)
+    c.self.view_is c.run_steps.ensures.ran
 
 pub returns-clause-owned : goal.returns-clause-owned
 returns-clause-owned g c =
     let before = c.self.invariant.listeners in
     let ran = c.run_steps.ensures.ran before.scene before.shown in
-    record { scene = ran.last; shown = ran.shown; owned = ran.owned before.owned; woken = ran.woken before.owned before.woken; sound = ran.sound before.sound }
+    record { scene = ran.last; shown = ran.shown; kept = ran.kept before.kept }
 
 pub returns-clause-owed : goal.returns-clause-owed
 returns-clause-owed g c =
     let before = c.self.invariant.listeners in
     let ran = c.run_steps.ensures.ran before.scene before.shown in
-    record { scene = ran.last; shown = ran.shown; owed = owed (book_of c.run_steps.new.self) ran.last (ran.owned before.owned) (ran.sound before.sound) }
+    record { scene = ran.last; shown = ran.shown; owed = ran.owed before.kept }

@@ -1,0 +1,139 @@
+-- What every step keeps of those who wait, and what a call made alone keeps.
+use Rattle.std.proofs.Common.{◌≡◌, ℕ, false, List, [], ◌∷◌, ◌++◌, slice_get, Option, None, Some, refl, sym, ap, ◌∙◌, subst}
+use Rattle.async_channel.specs.declared.reply.Reply.{Reply}
+use Rattle.async_channel.specs.declared.stage.Kept.{Kept}
+use Rattle.channel_alone.specs.Alone.{Outcome}
+use Rattle.channel_alone.specs.Scenes.{Goes, names_of_all, LoneRun}
+use Rattle.channel_laws.proofs.Interface.{all_sound_new, all_sound_next}
+use Rattle.channel_model.specs.declared.call.Call.{Call}
+use Rattle.channel_model.specs.declared.name.Waiter.{Waiter}
+use Rattle.channel_steps.specs.Run.{new_scene, Begins}
+use Rattle.channel_steps.specs.Scene.{Scene, Steps}
+use Rattle.channel_steps.specs.declared.party.Entry.{Entry as ChannelEntry}
+use Rattle.channel_steps.specs.declared.run.Step.TheVariants as channel
+use Rattle.channel_interleaving.specs.Bookkeeping.{asks, errand_of, all_woken}
+use Rattle.channel_interleaving.specs.Kept.{AllKept}
+use Rattle.channel_interleaving.specs.Lone.{book_alone}
+use Rattle.channel_interleaving.specs.Order.{all_moved_last}
+use Rattle.channel_interleaving.specs.Refusal.{refusal, step_refusal}
+use Rattle.channel_interleaving.specs.Roll.{first_roll, is_at_work}
+use Rattle.channel_interleaving.specs.Run.{Book, Made, begun, ended, with_woken}
+use Rattle.channel_interleaving.specs.declared.names.Agent.{Agent}
+use Rattle.channel_interleaving.specs.declared.roll.Roll.{Roll}
+use Rattle.channel_interleaving.specs.declared.step.Entry.{Entry}
+use Rattle.channel_interleaving.specs.declared.step.PartyId.{PartyId}
+use Rattle.channel_interleaving.specs.declared.step.Step.{Step}
+use Rattle.channel_interleaving.specs.declared.step.Step.TheVariants as step
+use Rattle.channel_interleaving.proofs.OwnerOrder.{stepped_order}
+use Rattle.channel_interleaving.proofs.OwnerOrderRuns.{order_first, begins_order}
+use Rattle.channel_interleaving.proofs.OwnerPolled.{polled_first, polled_begun, polled_step}
+use Rattle.channel_interleaving.proofs.OwnerRuns.{stepped, idle_and_free}
+use Rattle.channel_interleaving.proofs.OwnerSteps.{owned_first, begins_owned}
+use Rattle.channel_interleaving.proofs.OwnerWoken.{stepped_woken}
+use Rattle.channel_interleaving.proofs.OwnerWokenRuns.{woken_first, begins_woken}
+
+all_moved_append : (xs ys ws : List Waiter) → all_moved_last (xs ++ ys) ws ≡ all_moved_last ys (all_moved_last xs ws)
+all_moved_append [] ys ws = refl
+all_moved_append (x ∷ xs) ys ws = all_moved_append xs ys _
+
+module _ {T : Type 0} where
+  -- a channel that was just opened
+  pub kept_first : (cap : Option ℕ) → AllKept {T = T} (record { roll = first_roll; order = []; agents = [] }) (new_scene cap)
+  kept_first cap =
+      record {
+        owned = owned_first T cap;
+        woken = woken_first T cap;
+        order = order_first T cap;
+        sound = all_sound_new cap;
+        polled = polled_first (record { roll = first_roll; order = []; agents = [] }) refl;
+      }
+
+  -- a call begins
+  pub kept_begun : (q : PartyId) (c : Call T) (b : Book T) (s t : Scene T Waiter) (e : ChannelEntry T)
+      → Begins s q.0 (asks b.roll c) e t → is_at_work q.0 b.agents ≡ false → refusal b.roll c ≡ None → AllKept b s
+      → AllKept (begun q c b) t
+  kept_begun q c b s t e n idle fine k =
+      record {
+        owned = begins_owned q c b s t e n k.owned idle fine;
+        woken = begins_woken q c b s t e n k.owned k.woken fine;
+        order = begins_order q c b s t e n k.owned k.order fine;
+        sound = all_sound_next s (channel.Begin q.0 (asks b.roll c)) e [] t k.sound (n, refl);
+        polled = polled_begun q c b s k.owned fine k.polled;
+      }
+
+  -- the book after a step of a party
+  abbrev IsAfter : Book T → PartyId → Option (Reply T) → Option (Kept T) → List Waiter → Book T → Type 0
+  IsAfter b q r kp names c =
+      (k : ℕ) × (a : Agent T) × (slice_get b.agents k ≡ Some a) × (a.party ≡ q.0) × (c ≡ ended k a r kp (with_woken names b))
+
+  -- a call makes a step
+  pub kept_step : (b c : Book T) (s t : Scene T Waiter) (q : PartyId) (e : ChannelEntry T) (names : List Waiter)
+      → Steps s q.0 e names t → IsAfter b q e.reply e.kept names c → AllKept b s → AllKept c t
+  kept_step b c s t q e names st after k =
+      let streams = k.sound.streams in
+      let known = streams.known in
+      record {
+        owned = stepped b c s t q e.mark e.reply e.kept names k.owned known st after;
+        woken = stepped_woken b c s t q e.mark e.reply e.kept names k.owned known st after k.woken;
+        order = stepped_order b c s t q e.mark e.reply e.kept names k.owned known st after k.woken k.order;
+        sound = all_sound_next s (channel.Step q.0) e names t k.sound st;
+        polled = polled_step b c s t q e.mark e.reply e.kept names k.owned known st after.0 after.1 after.2 after.3
+            after.4 k.polled;
+      }
+
+  -- a step that was made, and that nothing refused
+  pub kept_next : (b c : Book T) (s t : Scene T Waiter) (x : Step T) (e : Entry T) → step_refusal b.roll b.agents x ≡ None
+      → Made b s x e c t → AllKept b s → AllKept c t
+  kept_next b c s t (step.Begin q call) e fine made k =
+      let ok = idle_and_free q call b fine in
+      subst (λ (d : Book T). AllKept d t) (sym made.book) (kept_begun q call b s t _ made.next.0 ok.0 ok.1 k)
+  kept_next b c s t (step.Step q) e fine made k = kept_step b c s t q _ e.woken.items made.next made.book k
+
+  -- ---- a call made alone
+
+  all_woken_append : (xs ys : List Waiter) (r : Roll T) → all_woken (xs ++ ys) r ≡ all_woken ys (all_woken xs r)
+  all_woken_append [] ys r = refl
+  all_woken_append (x ∷ xs) ys r = all_woken_append xs ys _
+
+  woken_append : (xs ys : List Waiter) (b : Book T) → with_woken (xs ++ ys) b ≡ with_woken ys (with_woken xs b)
+  woken_append xs ys b =
+      ap (λ (r : Roll T). record b { roll = r; order = all_moved_last (xs ++ ys) b.order }) (all_woken_append xs ys b.roll)
+      ∙ ap (λ (ws : List Waiter). record b { roll = all_woken ys (all_woken xs b.roll); order = ws })
+      (all_moved_append xs ys b.order)
+
+  first_agent : (agents : List (Agent T)) (a : Agent T) → agents ≡ a ∷ [] → slice_get agents 0 ≡ Some a
+  first_agent agents a e = ap (λ (l : List (Agent T)). slice_get l 0) e
+
+  -- steps of the only one at work that do not answer
+  kept_goes : (q : PartyId) (a : Agent T) (xs : List (ChannelEntry T × List Waiter)) (b : Book T) (s t : Scene T Waiter)
+      → b.agents ≡ a ∷ [] → a.party ≡ q.0 → Goes s q.0 xs t → AllKept b s → AllKept (with_woken (names_of_all xs) b) t
+  kept_goes q a [] b s t only his same k = subst (λ (u : Scene T Waiter). AllKept b u) (sym same) k
+  kept_goes q a (x ∷ xs) b s t only his (silent, left, m, st, more) k =
+      let after : with_woken x.1 b ≡ ended 0 a x.0.reply x.0.kept (with_woken x.1 b) =
+      ap (λ (r : Option (Reply T)). ended 0 a r x.0.kept (with_woken x.1 b)) (sym silent) in
+      let next = kept_step b (with_woken x.1 b) s m q x.0 x.1 st (0, a, first_agent b.agents a only, his, after) k in
+      subst (λ (d : Book T). AllKept d t) (sym (woken_append x.1 (names_of_all xs) b))
+      (kept_goes q a xs (with_woken x.1 b) m t only his more next)
+
+  -- the whole call
+  pub kept_alone : (b : Book T) (c : Call T) (s t : Scene T Waiter) (o : Outcome T Waiter) → b.agents ≡ []
+      → refusal b.roll c ≡ None → LoneRun s 0 (asks b.roll c) o t → AllKept b s → AllKept (book_alone b c o) t
+  kept_alone b c s t o none fine run k =
+      let q : PartyId = record { 0 = 0 } in
+      let a : Agent T = record { party = 0; errand = errand_of b.roll c } in
+      let idle : is_at_work 0 b.agents ≡ false = ap (λ (l : List (Agent T)). is_at_work 0 l) none in
+      let began = kept_begun q c b s run.begun _ run.begins idle fine k in
+      let only : (begun q c b).agents ≡ a ∷ [] = ap (λ (l : List (Agent T)). l ++ (a ∷ [])) none in
+      let middle : Book T = with_woken (names_of_all run.silent) (begun q c b) in
+      let mid = kept_goes q a run.silent (begun q c b) run.begun run.mid only refl run.goes began in
+      let left : with_woken run.names middle ≡ with_woken o.woken (begun q c b) =
+      sym (woken_append (names_of_all run.silent) run.names (begun q c b))
+      ∙ ap (λ (ws : List Waiter). with_woken ws (begun q c b)) run.woken in
+      let whole : Book T = with_woken o.woken (begun q c b) in
+      let last : ended 0 a run.last.reply run.last.kept (with_woken run.names middle) ≡ book_alone b c o =
+      ap (λ (r : Option (Reply T)). ended 0 a r run.last.kept (with_woken run.names middle)) run.reply
+      ∙ (ap (λ (l : Option (Kept T)). ended 0 a (Some o.reply) l (with_woken run.names middle)) run.kept
+      ∙ (ap (λ (d : Book T). ended 0 a (Some o.reply) (Some o.kept) d) left
+      ∙ ap (λ (l : List (Agent T)). ended 0 a (Some o.reply) (Some o.kept) (record whole { agents = l })) only)) in
+      kept_step middle (book_alone b c o) run.mid t q run.last run.names run.ends
+      (0, a, first_agent (begun q c b).agents a only, refl, sym last) mid

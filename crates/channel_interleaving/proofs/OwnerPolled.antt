@@ -1,0 +1,145 @@
+-- Where a poll of a name is under way, a party at work works there. So where nobody is at work, nobody is polled.
+use Rattle.std.specs.List.{remove}
+use Rattle.std.proofs.Common.{◌≡◌, ℕ, List, [], ◌∷◌, ◌++◌, slice_get, unwrap_or, Option, None, Some, ◌⊎◌, inl, inr, refl, sym, ap, ◌∙◌, subst}
+use Rattle.async_channel.specs.Turns.{nothing_kept}
+use Rattle.async_channel.specs.declared.mark.Mark.{Mark}
+use Rattle.async_channel.specs.declared.reply.Reply.{Reply}
+use Rattle.async_channel.specs.declared.stage.Kept.{Kept}
+use Rattle.async_channel.specs.declared.stage.Line.{Line}
+use Rattle.channel_model.specs.declared.call.Call.{Call}
+use Rattle.channel_model.specs.declared.name.Waiter.{Waiter}
+use Rattle.channel_steps.specs.Scene.{Scene, Steps, AllKnown}
+use Rattle.channel_interleaving.specs.Bookkeeping.{names_begun, errand_of, asks, settled, all_woken}
+use Rattle.channel_interleaving.specs.OwnerPolled.{IsWorkedAt, PolledAtWork}
+use Rattle.channel_interleaving.specs.Owners.{IsAmong, Post, free, vacant, amiss, rests, waits, polled, post, subject, AllDiffer, Owned}
+use Rattle.channel_interleaving.specs.Refusal.{refusal, step_refusal}
+use Rattle.channel_interleaving.specs.Roll.{first_roll}
+use Rattle.channel_interleaving.specs.Run.{Book, Made, begun, ended, with_woken}
+use Rattle.channel_interleaving.specs.declared.names.Agent.{Agent}
+use Rattle.channel_interleaving.specs.declared.step.Entry.{Entry}
+use Rattle.channel_interleaving.specs.declared.step.PartyId.{PartyId}
+use Rattle.channel_interleaving.specs.declared.step.Step.{Step}
+use Rattle.channel_interleaving.specs.declared.step.Step.TheVariants as step
+use Rattle.channel_interleaving.proofs.OwnerBegins.{Quiet, Touches, admitted}
+use Rattle.channel_interleaving.proofs.OwnerCalls.{begins_so}
+use Rattle.channel_interleaving.proofs.OwnerEnds.{IsCalm, Comes}
+use Rattle.channel_interleaving.proofs.OwnerLists.{among_left, among_right, among_of}
+use Rattle.channel_interleaving.proofs.OwnerNames.{waiter_or, told_post, MayBeTold, all_told}
+use Rattle.channel_interleaving.proofs.OwnerRuns.{parts, set, inner, idle_and_free}
+use Rattle.channel_interleaving.proofs.OwnerSteps.{first_calm}
+use Rattle.channel_interleaving.proofs.OwnerTogether.{is_agent}
+
+calm_polled : (x : Post) (line : Line) → IsCalm x → x ≡ polled line → ⊥
+calm_polled x line h e = subst (λ (p : Post). IsCalm p) e h
+
+waits_polled : (x y : Post) (line : Line) → x ≡ y → y ≡ polled line → x ≡ polled line
+waits_polled x y line e f = e ∙ f
+
+-- a waking makes nobody polled
+told_polled : (x : Post) (line : Line) → told_post x ≡ polled line → x ≡ polled line
+told_polled (waits h b) line e = absurd (let no : waits h _ ≡ polled line = e in cc)
+told_polled free line e = e
+told_polled vacant line e = e
+told_polled amiss line e = e
+told_polled (rests l) line e = e
+told_polled (polled l) line e = e
+
+module _ {T : Type 0} where
+  pub polled_first : (b : Book T) → b.roll ≡ first_roll → PolledAtWork b
+  polled_first b new w line e =
+      absurd (calm_polled (post {T = T} first_roll w) line (first_calm T w) (sym (ap (λ r. post r w) new) ∙ e))
+
+  -- ---- a call begins
+
+  pub polled_begun : (q : PartyId) (c : Call T) (b : Book T) (s : Scene T Waiter) → Owned b s → refusal b.roll c ≡ None
+      → PolledAtWork b
+      → PolledAtWork (begun q c b)
+  polled_begun q c b s o fine at w line e = by (begins_so b.roll c o.none_amiss (admitted b.roll c fine))
+    where
+      mine : Agent T
+      mine = record { party = q.0; errand = errand_of b.roll c }
+
+      was : post b.roll w ≡ polled line → IsWorkedAt w (begun q c b)
+      was f = let h = at w line f in (h.0, among_left h.0 b.agents (mine ∷ []) h.1, h.2)
+
+      by : Quiet (post b.roll) (post (names_begun b.roll c)) (errand_of b.roll c) (asks b.roll c)
+          ⊎ Touches (post b.roll) (post (names_begun b.roll c)) (errand_of b.roll c) (asks b.roll c) → IsWorkedAt w (begun q c b)
+      by (inl k) = was (sym (k.same w) ∙ e)
+      by (inr k) = now (waiter_or w k.name)
+        where
+          now : (w ≡ k.name) ⊎ (w ≡ k.name → ⊥) → IsWorkedAt w (begun q c b)
+          now (inr other) = was (sym (k.sets.others w other) ∙ e)
+          now (inl same) =
+              let p : k.now ≡ polled line =
+              sym k.sets.there ∙ (ap (λ (v : Waiter). post (names_begun b.roll c) v) (sym same) ∙ e) in
+              (mine, among_right mine b.agents (mine ∷ []) (inl refl), k.works line p ∙ ap (λ (v : Waiter). Some v) (sym same))
+
+  -- ---- a call makes a step
+
+  mid_polled : (names : List Waiter) (b : Book T) (w : Waiter) (line : Line) → post (all_woken names b.roll) w ≡ polled line
+      → post b.roll w ≡ polled line
+  mid_polled names b w line e = by (all_told names b.roll w)
+    where
+      by : MayBeTold (post b.roll) (post (all_woken names b.roll)) w → post b.roll w ≡ polled line
+      by (inl same) = sym same ∙ e
+      by (inr told) = told_polled (post b.roll w) line (sym told ∙ e)
+
+  -- an agent other than the one that leaves
+  still : (front : List (Agent T)) (a : Agent T) (back : List (Agent T)) (x : Agent T) (w : Waiter) → subject x.errand ≡ Some w
+      → (subject a.errand ≡ Some w → ⊥) → IsAmong x (front ++ (a ∷ back)) → IsAmong x (front ++ back)
+  still front a back x w his other i = by (among_of x front (a ∷ back) i)
+    where
+      by : IsAmong x front ⊎ IsAmong x (a ∷ back) → IsAmong x (front ++ back)
+      by (inl j) = among_left x front back j
+      by (inr (inl same)) = absurd (other (ap (λ (y : Agent T). subject y.errand) same ∙ his))
+      by (inr (inr j)) = among_right x front back j
+
+  pub polled_step : (b c : Book T) (s t : Scene T Waiter) (q : PartyId) (m : Mark) (r : Option (Reply T)) (kp : Option (Kept T))
+      (names : List Waiter) → Owned b s → AllKnown s.now s.under_way
+      → Steps s q.0 (record { mark = m; reply = r; kept = kp }) names t
+      → (k : ℕ) → (a : Agent T) → slice_get b.agents k ≡ Some a → a.party ≡ q.0 → c ≡ ended k a r kp (with_woken names b)
+      → PolledAtWork b → PolledAtWork c
+  polled_step b c s t q m None kp names o known st k a there his after at w line e =
+      let f : post (all_woken names b.roll) w ≡ polled line = ap (λ (d : Book T). post d.roll w) (sym after) ∙ e in
+      let h = at w line (mid_polled names b w line f) in
+      subst (λ (d : Book T). IsWorkedAt w d) (sym after) (h.0, h.1, h.2)
+  polled_step b c s t q m (Some y) kp names o known st k a there his after at w line e =
+      let pt = parts b s t q.0 m (Some y) kp names o known st in
+      let f = st.finishes in
+      let whose : pt.agent.party ≡ q.0 = pt.own.party ∙ st.whose in
+      let is = is_agent pt.front pt.agent pt.back k a (subst (λ (l : List (Agent T)). AllDiffer l) pt.are o.differ)
+      (ap (λ (l : List (Agent T)). slice_get l k) (sym pt.are) ∙ there) (his ∙ sym whose) in
+      let rest : remove b.agents k ≡ pt.front ++ pt.back = ap (λ (l : List (Agent T)). remove l k) pt.are ∙ is.without in
+      let roll : c.roll ≡ settled pt.agent.errand y f.kept (all_woken names b.roll) =
+      ap (λ (d : Book T). d.roll) after
+      ∙ (ap (λ (x : Agent T). settled x.errand y (unwrap_or kp nothing_kept) (all_woken names b.roll)) is.same
+      ∙ ap (λ (x : Option (Kept T)). settled pt.agent.errand y (unwrap_or x nothing_kept) (all_woken names b.roll)) f.given) in
+      let agents : c.agents ≡ pt.front ++ pt.back = ap (λ (d : Book T). d.agents) after ∙ rest in
+      let settle = set b s t q.0 m y kp names o known st in
+      let now : post (settled pt.agent.errand y f.kept (all_woken names b.roll)) w ≡ polled line =
+      ap (λ x. post x w) (sym roll) ∙ e in
+      let other : (subject pt.agent.errand ≡ Some w → ⊥) =
+      own_not pt.agent (post (settled pt.agent.errand y f.kept (all_woken names b.roll))) f.kept _ settle.own now in
+      let h = at w line (mid_polled names b w line (sym (settle.others w other) ∙ now)) in (
+        h.0,
+        subst (λ (l : List (Agent T)). IsAmong h.0 l) (sym agents)
+            (still pt.front pt.agent pt.back h.0 w h.2 other (subst (λ (l : List (Agent T)). IsAmong h.0 l) pt.are h.1)),
+        h.2,
+      )
+    where
+      own_not : (x : Agent T) (p : Waiter → Post) (kept : Kept T) (wait : Option (Line × Waiter)) → Comes p x.errand kept wait
+          → p w ≡ polled line → subject x.errand ≡ Some w → ⊥
+      own_not x p kept wait (inl calm) g his = calm_polled (p w) line (calm.1 w his) g
+      own_not x p kept wait (inr (l, key, task, i, j, his', is)) g own =
+          let same : task ≡ w = inner task w (sym his' ∙ own) in
+          let no : waits (record { line = l; key = key }) _ ≡ polled line = sym is ∙ (ap p same ∙ g) in
+          cc
+
+  -- a step that was made, and that nothing refused
+  pub polled_next : (b c : Book T) (s t : Scene T Waiter) (x : Step T) (e : Entry T) → AllKnown s.now s.under_way
+      → step_refusal b.roll b.agents x ≡ None → Made b s x e c t → Owned b s → PolledAtWork b → PolledAtWork c
+  polled_next b c s t (step.Begin q call) e known fine made o at =
+      subst (λ (d : Book T). PolledAtWork d) (sym made.book) (polled_begun q call b s o (idle_and_free q call b fine).1 at)
+  polled_next b c s t (step.Step q) e known fine made o at =
+      polled_step b c s t q e.mark e.reply made.kept e.woken.items o known made.next made.book.0 made.book.1 made.book.2
+      made.book.3 made.book.4 at

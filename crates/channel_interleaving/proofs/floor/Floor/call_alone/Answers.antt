@@ -1,0 +1,55 @@
+use Rattle.std.proofs.Common.{arith, ◌+◌, ◌<◌, ◌^◌, refl}
+use Rattle.channel_interleaving.proofs.LoneFacts.{no_agents, is_at_rest, is_called}
+use Rattle.channel_interleaving.proofs.OwnerBegins.{admitted}
+use Rattle.channel_interleaving.proofs.UserFacts.{alone_users}
+use Rattle.channel_interleaving.proofs.floor.Floor.call_alone.Goals as goal
+
+pub begin-requires-2 : goal.begin-requires-2
+begin-requires-2 g c = let a = admitted c.args.self.now.roll c.args.call c.requires.accepted in a.new
+
+pub run_alone-reply-requires : goal.run_alone-reply-requires
+run_alone-reply-requires g c =
+    let o = c.requires.owned in
+    let low : c.args.self.now.made < 2 ^ 61 = omega (arith, c.if-self-ge-MOST_STEPS.false) in
+    record { at_rest = is_at_rest c.args.self.now o.scene o.shown c.requires.quiet low }
+
+pub returns-clause-ok : goal.returns-clause-ok
+returns-clause-ok g c =
+    let b = c.in_ok-ask.ensures.ok in
+    let low : c.args.self.now.made < 2 ^ 61 = omega (arith, c.if-self-ge-MOST_STEPS.false) in
+    let none = no_agents c.args.self.now c.requires.at_work c.requires.quiet in
+    is_called c.args.call c.args.self.now
+    (record {
+      channel = c.run_alone-reply.new.channel;
+      parties = c.args.self.now.parties;
+      roll = c.settle-2.new.self;
+      order = c.settle.new.self;
+      agents = c.args.self.now.agents;
+      messages = c.run_alone-reply.new.messages;
+      made = c.args.self.now.made + 1;
+      alloc = c.args.self.now.alloc;
+    })
+    c.in_ok-ask.field-0.ask c.run_alone-reply.result c.in-Ok.sink c.run_alone-reply.new.sink c.args.room
+    c.run_alone-reply.ensures.scenes b.ask c.requires.quiet c.requires.quiet low refl c.in-Ok.ensures.none c.in-Ok.ensures.room
+    c.requires.room
+    (rw (
+      c.settle-2.ensures,
+      c.settle.ensures,
+      c.wake_all.ensures,
+      c.wake_all-2.ensures,
+      b.errand,
+      b.names,
+      c.in-Ok-begin.ensures.ok,
+      none,
+    ) refl)
+
+pub returns-clause-users : goal.returns-clause-users
+returns-clause-users g c few =
+    let b = c.in_ok-ask.ensures.ok in
+    let done = c.run_alone-reply.result in
+    alone_users c.args.call done.reply done.kept c.run_alone-reply.new.sink.names.items c.args.self.now.roll c.settle-2.new.self
+    c.args.self.now.made
+    (rw (c.settle-2.ensures, c.wake_all.ensures, b.errand, b.names) refl) few
+
+pub returns-in_err-ask-clause-users : goal.returns-in_err-ask-clause-users
+returns-in_err-ask-clause-users g c few = rw c.in_err-ask.ensures.err few

@@ -1,0 +1,16 @@
+use Rattle.std.proofs.Common.{subst, sym}
+use Rattle.channel_interleaving.specs.Floor.{IsKept}
+use Rattle.channel_interleaving.specs.declared.floor.Floor.{Floor}
+use Rattle.channel_interleaving.proofs.LoneFacts.{kept_whatever}
+use Rattle.channel_interleaving.proofs.interleaved.Interleaved.call_alone.Goals as goal
+
+pub invariant_of-self : goal.invariant_of-self
+invariant_of-self g c =
+    let a = c.call_alone.ensures in
+    let kept : IsKept c.args.self.now = subst (λ (f : Floor g.row.T.Denot). IsKept f) c.self.view_is c.self.invariant in
+    kept_whatever c.args.call c.args.self.now c.call_alone.new.self c.call_alone.result kept c.requires.quiet a.at_work
+    (let k = c.self.invariant in a.users k.users)
+    c.requires.accepted (rw (sym c.self.view_is) a.ok) (rw (sym c.self.view_is) a.err)
+
+pub returns-clause-owned : goal.returns-clause-owned
+returns-clause-owned g c = let k = invariant_of-self g c in k.listeners

@@ -1,0 +1,16 @@
+-- Who is polled, by whom.
+use Rattle.std.specs.Prelude.{◌≡◌, Some}
+use Rattle.async_channel.specs.declared.stage.Line.{Line}
+use Rattle.channel_model.specs.declared.name.Waiter.{Waiter}
+use Rattle.channel_interleaving.specs.Owners.{IsAmong, polled, post, subject}
+use Rattle.channel_interleaving.specs.Run.{Book}
+use Rattle.channel_interleaving.specs.declared.names.Agent.{Agent}
+
+module _ {T : Type 0} where
+  -- a party at work works at this name
+  abbrev pub IsWorkedAt : Waiter → Book T → Type 0
+  IsWorkedAt w b = (a : Agent T) × IsAmong a b.agents × (subject a.errand ≡ Some w)
+
+  -- where a poll of a name is under way, a party at work works there
+  abbrev pub PolledAtWork : Book T → Type 0
+  PolledAtWork b = (w : Waiter) (line : Line) → post b.roll w ≡ polled line → IsWorkedAt w b

@@ -1,0 +1,58 @@
+//! Calls made alone, from their beginning to their end.
+
+use crate::beginning::Begun;
+use crate::floor::{Floor, MOST_STEPS};
+use crate::woken::Woken;
+use channel_alone::run::{Done as Ended, run_alone};
+use channel_model::call::Call;
+use channel_model::run::Done;
+
+impl<T: Drop> Floor<T> {
+    ghost use Rattle.std.specs.Prelude.{◌≡◌, None, IfOk, IfErr, OnErr};
+    ghost use Rattle.channel_interleaving.specs.Refusal.{refusal};
+    ghost use Rattle.channel_interleaving.specs.Floor.{AreAtWork, AreOwned, AreFewUsers, IsQuiet, IsSame};
+    ghost use Rattle.channel_interleaving.specs.Lone.{CallsAlone, WakesAtMost};
+
+    /// Makes a call that is not refused, where no call is under way, from its beginning to its end; or hands it back where
+    /// there was no room, with nothing changed. It wakes no more names than there is to be `room` for.
+    pub(crate) fn call_alone(&mut self, call: Call<T>, room: usize) -> Result<Done<T>, Call<T>>
+        requires owned { AreOwned self.old }
+        requires at_work { AreAtWork self.old }
+        requires quiet { IsQuiet self.old }
+        requires accepted { refusal self.old.roll call ≡ None }
+        requires room { WakesAtMost room call self.old }
+        ensures ok { IfOk result (λ d. CallsAlone call self.old d.reply d.woken.items self.new) }
+        ensures at_work { AreAtWork self.new }
+        ensures quiet { IsQuiet self.new }
+        ensures users { AreFewUsers self.old → AreFewUsers self.new }
+        ensures err { OnErr result (IsSame self.old self.new) }
+        ensures back { IfErr result (λ c. c ≡ call) }
+    {
+        if self.made >= MOST_STEPS {
+            return Err(call);
+        }
+        let Ok(mut sink) = Woken::with_room(room, self.alloc) else {
+            return Err(call);
+        };
+        let Ok(()) = self.order.begin(&call) else {
+            return Err(call);
+        };
+        let Begun { ask, errand } = self.roll.begin(call)?;
+        let Ended { reply, kept } = run_alone(
+            ask,
+            &mut self.channel,
+            &mut self.messages,
+            &mut sink,
+        );
+        self.made += 1;
+        let Woken { names } = sink;
+        self.roll.wake_all(&names);
+        self.order.wake_all(&names);
+        self.order.settle(&errand, kept.key);
+        self.roll.settle(errand, &reply, kept);
+        Ok(Done {
+            reply,
+            woken: names,
+        })
+    }
+}
