@@ -1,3 +1,13 @@
 pub mod Names
 pub mod Lists
+pub mod Woken
 pub mod World
+pub mod LoneDirectory
+pub mod LoneSeen
+pub mod LoneNames
+pub mod LoneWakes
+pub mod LonePosts
+pub mod LoneEnds
+pub mod LoneWoken
+pub mod LoneAsks
+pub mod LoneAnswers

@@ -1,7 +1,5 @@
--- A channel at rest shows a state of the model: on each list, those who hold its listeners.
-use Rattle.std.proofs.Common.{◌≡◌, ◌≤◌, ◌+◌, ℕ, Bool, true, false, List, [], ◌++◌, length, Option, None, Some, IsSome, ◌⊎◌, inl, inr, refl, sym, ap, ◌∙◌, subst, arith, append-nil}
-use Rattle.std.proofs.lemmas.List.Elements.{filter-append}
-use Rattle.std.specs.List.{filter}
+-- A channel at rest shows a state of the model: on each list, those who hold its listeners, and the woken in their order.
+use Rattle.std.proofs.Common.{◌≡◌, ◌≤◌, ◌+◌, ℕ, Bool, true, false, List, [], ◌++◌, length, Option, None, Some, IsSome, ◌⊎◌, inl, inr, refl, sym, ap, ◌∙◌, subst, arith}
 use Rattle.std.specs.Map.{keys_of}
 use Rattle.event_listener.specs.Lists.{Notice}
 use Rattle.event_listener.specs.declared.key.Key.{Key}
@@ -16,9 +14,9 @@ use Rattle.channel_laws.specs.Sends.{counts_for_sends, HasPlaces, PlacesAreFew}
 use Rattle.channel_laws.specs.Sound.{AllSound}
 use Rattle.channel_laws.specs.Streams.{AnswersFor}
 use Rattle.channel_laws.specs.Waits.{Waits, Any}
-use Rattle.channel_model.proofs.Counting.{count_append, among_append}
+use Rattle.channel_model.proofs.Counting.{count_append}
 use Rattle.channel_model.specs.Awake.{Kind, Enough, times, times_in, Placed, AwakeIn}
-use Rattle.channel_model.specs.Laws.{line_of, is_line, same_line, count_of, free_places}
+use Rattle.channel_model.specs.Laws.{line_of, count_of, free_places}
 use Rattle.channel_model.specs.Lines.{Waiting, same_waiter, is_among, untold}
 use Rattle.channel_model.specs.State.{State}
 use Rattle.channel_model.specs.declared.name.Waiter.{Waiter}
@@ -26,42 +24,44 @@ use Rattle.channel_refinement.proofs.Calls.{calls_over}
 use Rattle.channel_steps.specs.Moments.{Shut}
 use Rattle.channel_steps.specs.Scene.{Under, Scene}
 use Rattle.channel_interleaving.specs.Owners.{IsAmong, waits, post, holding, keys, IsListed, Holder, named, calling, AnyOf, HoldsIn, Owned}
+use Rattle.channel_interleaving.specs.Kept.{AllKept}
 use Rattle.channel_interleaving.specs.OwnerWoken.{WokenAreTold}
 use Rattle.channel_interleaving.specs.Roll.{names_of, held_of}
 use Rattle.channel_interleaving.specs.Run.{Book}
+use Rattle.channel_interleaving.proofs.OwedCounts.{in_woken}
 use Rattle.channel_interleaving.proofs.OwnerWokenLists.{key_of_entry}
 use Rattle.channel_interleaving.proofs.OwnerLists.{among_left, among_right, none_parts}
 use Rattle.channel_interleaving.proofs.OwnerSteps.{named_is}
-use Rattle.channel_rest.proofs.Lists.{same_entry, all_keys, Stand, named_all, stand_join, stand_length, stand_none, stand_once, stand_there, some_waits, stand_kind, stand_all, stand_other, are_untold, are_told}
+use Rattle.channel_rest.proofs.Lists.{same_entry, all_keys, Stand, named_all, stand_join, stand_length, stand_none, stand_once, stand_there, some_waits, stand_kind, are_untold, are_told}
 use Rattle.channel_rest.proofs.Names.{on, same_held, Pends, line_is, holds_it, pends}
-use Rattle.channel_rest.specs.Rest.{IsWorld, RestIsAWorld}
+use Rattle.channel_rest.specs.Rest.{state_at, IsWorld, RestIsAWorld}
+use Rattle.channel_rest.proofs.Woken.{within_all, stand_same, untold_tasks, among_filter, by_lines, woken_waits, woken_stand}
+use Rattle.channel_interleaving.specs.OwnerOrder.{NeedsPlace, was_woken, Within, woken_keys}
 use Rattle.channel_refinement.specs.Shows.{of_line, ShowsLine, ShowsLines, KeysFit, Shows, AreUntold, AreTold}
-
--- ---- four lists of names, one after another
-
-four : (p : Waiter → Bool) (a b c d a' b' c' d' : List Waiter) → filter p a ≡ a' → filter p b ≡ b' → filter p c ≡ c'
-    → filter p d ≡ d' → filter p (a ++ (b ++ (c ++ d))) ≡ a' ++ (b' ++ (c' ++ d'))
-four p a b c d a' b' c' d' e f g h =
-    let last : filter p (c ++ d) ≡ c' ++ d' =
-    filter-append p c d ∙ (ap (λ (x : List Waiter). x ++ filter p d) g ∙ ap (λ (x : List Waiter). c' ++ x) h) in
-    let more : filter p (b ++ (c ++ d)) ≡ b' ++ (c' ++ d') =
-    filter-append p b (c ++ d) ∙ (ap (λ (x : List Waiter). x ++ filter p (c ++ d)) f ∙ ap (λ (x : List Waiter). b' ++ x) last)
-    in
-    filter-append p a (b ++ (c ++ d)) ∙ (ap (λ (x : List Waiter). x ++ filter p (b ++ (c ++ d))) e ∙ ap
-    (λ (x : List Waiter). a' ++ x) more)
-
-own_line : (line : Line) → same_line line line ≡ true
-own_line Sends = refl
-own_line Receives = refl
-own_line Streams = refl
-own_line Closings = refl
 
 fits : (capacity : Option ℕ) (m t : ℕ) → HasPlaces capacity (m + t + 0) → free_places capacity m ≤ t
 fits None m t h = absurd h
 fits (Some c) m t h = omega (arith, h)
 
-module _ {T : Type 0} (b : Book T) (s : Scene T Waiter) (owned : Owned b s) (sound : AllSound s) (woken : WokenAreTold b s)
-    (rest : s.under_way ≡ []) where
+module _ {T : Type 0} (b : Book T) (s : Scene T Waiter) (kept : AllKept b s) (rest : s.under_way ≡ []) where
+  abbrev owned : Owned b s
+  owned = kept.owned
+
+  abbrev order : List Waiter
+  order = b.order
+
+  woken : WokenAreTold b s
+  woken = let w = kept.woken in w.told
+
+  in_order : (line : Line) → Within (woken_keys line b.roll order) (keys_of (told_of line s.now))
+  in_order = let o = kept.order in o.lines
+
+  has_place : (w : Waiter) → NeedsPlace (post b.roll w) → IsAmong w order
+  has_place = let o = kept.order in o.placed
+
+  abbrev sound : AllSound s
+  sound = kept.sound
+
   abbrev kind : Kind
   kind = line_of (names_of b.roll)
 
@@ -117,62 +117,11 @@ module _ {T : Type 0} (b : Book T) (s : Scene T Waiter) (owned : Owned b s) (sou
 
   -- ---- the state
 
-  abbrev who : Waiting
-  who = record {
-    sends = U Sends;
-    receives = U Receives;
-    streams = U Streams;
-    closings = U Closings;
-    woken = D Sends ++
-        (D Receives ++ (D Streams ++ D Closings));
-  }
-
   abbrev state : State T
-  state =
-      record {
-        channel = record {
-          messages = s.now.queue.items;
-          capacity = s.now.queue.capacity;
-          closed = s.now.queue.closed;
-          senders = s.now.roster.senders;
-          receivers = s.now.roster.receivers;
-        };
-        names = names_of b.roll;
-        waiting = who;
-      }
+  state = state_at b s
 
-  untold_are : (line : Line) → untold line who ≡ U line
-  untold_are Sends = refl
-  untold_are Receives = refl
-  untold_are Streams = refl
-  untold_are Closings = refl
-
-  mine : (line : Line) → of_line kind line (D line) ≡ D line
-  mine line =
-      stand_all (Has line) kind line (of_its_line line) (keys_of (told line)) (D line) (own_line line) (told_names line).1
-
-  theirs : (line other : Line) → same_line line other ≡ false → of_line kind line (D other) ≡ []
-  theirs line other apart =
-      stand_other (Has other) kind other (of_its_line other) line (keys_of (told other)) (D other) apart (told_names other).1
-
-  woken_are : (line : Line) → of_line kind line who.woken ≡ D line
-  woken_are Sends =
-      four (λ w. is_line Sends (kind w)) (D Sends) (D Receives) (D Streams) (D Closings) (D Sends) [] [] [] (mine Sends)
-      (theirs Sends Receives refl) (theirs Sends Streams refl) (theirs Sends Closings refl)
-      ∙ append-nil (D Sends)
-  woken_are Receives =
-      four (λ w. is_line Receives (kind w)) (D Sends) (D Receives) (D Streams) (D Closings) [] (D Receives) [] []
-      (theirs Receives Sends refl) (mine Receives) (theirs Receives Streams refl) (theirs Receives Closings refl)
-      ∙ append-nil (D Receives)
-  woken_are Streams =
-      four (λ w. is_line Streams (kind w)) (D Sends) (D Receives) (D Streams) (D Closings) [] [] (D Streams) []
-      (theirs Streams Sends refl) (theirs Streams Receives refl) (mine Streams) (theirs Streams Closings refl)
-      ∙ append-nil (D Streams)
-  woken_are Closings =
-      four (λ w. is_line Closings (kind w)) (D Sends) (D Receives) (D Streams) (D Closings) [] [] [] (D Closings)
-      (theirs Closings Sends refl) (theirs Closings Receives refl) (theirs Closings Streams refl) (mine Closings)
-
-  -- ---- the lines
+  abbrev who : Waiting
+  who = state.waiting
 
   -- whoever holds a waiting listener waits for his own name
   his_task : (line : Line) (e : Key × Option Waiter) (w : Waiter) → IsAmong e (waiting line) → Has line e.0 w → e.1 ≡ Some w
@@ -185,12 +134,43 @@ module _ {T : Type 0} (b : Book T) (s : Scene T Waiter) (owned : Owned b s) (sou
       let parts = none_parts (keys_of (told line)) (keys_of (waiting line)) (owned.once line) in
       absurd (parts.apart e.0 (woken w (on line e.0) p) (key_of_entry e (waiting line) i))
 
+  are_waiting : (line : Line) → AreUntold (held_of b.roll) (waiting line) (U line)
+  are_waiting line =
+      are_untold (Has line) (held_of b.roll) (its_key line) (waiting line) (U line) (his_task line) (waiting_names line).1
+
+  untold_are : (line : Line) → untold line who ≡ U line
+  untold_are Sends = untold_tasks (held_of b.roll) (waiting Sends) (U Sends) (are_waiting Sends)
+  untold_are Receives = untold_tasks (held_of b.roll) (waiting Receives) (U Receives) (are_waiting Receives)
+  untold_are Streams = untold_tasks (held_of b.roll) (waiting Streams) (U Streams) (are_waiting Streams)
+  untold_are Closings = untold_tasks (held_of b.roll) (waiting Closings) (U Closings) (are_waiting Closings)
+
+  -- the listener of whoever was told is one of those of the woken
+  told_woken : (line : Line) (key : Key) → IsAmong key (keys_of (told line)) → IsAmong key (woken_keys line b.roll order)
+  told_woken line key i = by (holder line key (among_left key (keys_of (told line)) (keys_of (waiting line)) i))
+    where
+      by : (w : Waiter) × Has line key w → IsAmong key (woken_keys line b.roll order)
+      by (w, (true, p)) = in_woken line key b.roll w order (has_place w (inl (on line key, true, p))) p
+      by (w, (false, p)) =
+          let parts = none_parts (keys_of (told line)) (keys_of (waiting line)) (owned.once line) in
+          absurd (parts.apart key i (key_of_entry (key, Some w) (waiting line) (owned.unwoken w (on line key) p)))
+
+  -- on each list those who were woken are just those who were told
+  woken_are : (line : Line) → of_line kind line who.woken ≡ D line
+  woken_are line =
+      let parts = none_parts (keys_of (told line)) (keys_of (waiting line)) (owned.once line) in
+      let same : woken_keys line b.roll order ≡ keys_of (told line) =
+      within_all (woken_keys line b.roll order) (keys_of (told line)) (in_order line) parts.left (told_woken line) in
+      let stand = woken_stand b.roll kind line (λ w h g p. line_is b.roll w h g p) order in
+      stand_same (Has line) (keys_of (told line)) (of_line kind line who.woken) (D line) (one_name line)
+      (subst (λ (ks : List Key). Stand (Has line) ks (of_line kind line who.woken)) same stand) (told_names line).1
+
+  -- ---- the lines
+
   shows_line : (line : Line) → ShowsLine kind (held_of b.roll) s.now.queue.closed line (listeners line s.now.roster) who
   shows_line line =
       record {
         untold = subst (λ (ws : List Waiter). AreUntold (held_of b.roll) (waiting line) ws) (sym (untold_are line))
-            (are_untold (Has line) (held_of b.roll) (its_key line) (waiting line) (U line) (his_task line)
-            (waiting_names line).1);
+            (are_waiting line);
         told = subst (λ (ws : List Waiter). AreTold (held_of b.roll) s.now.queue.closed line (told line) ws)
             (sym (woken_are line))
             (are_told (Has line) (held_of b.roll) (its_key line) s.now.queue.closed line (told line) (D line)
@@ -234,16 +214,28 @@ module _ {T : Type 0} (b : Book T) (s : Scene T Waiter) (owned : Owned b s) (sou
       let split = both_lists w line in
       omega (arith, one, split)
 
+  -- who was woken belongs to a line
+  wakes : (w : Waiter) → is_among w who.woken ≡ true → IsSome (kind w)
+  wakes w i =
+      let h = woken_waits b.roll w (among_filter (λ v. was_woken (post b.roll v)) w order i) in
+      subst (λ (o : Option Line). IsSome o) (sym (line_is b.roll w h.0 true h.1)) refl
+
   in_all : (w : Waiter) → times_in w who ≡ often w Sends + often w Receives + often w Streams + often w Closings
   in_all w =
-      let first : times w (D Sends ++ (D Receives ++ (D Streams ++ D Closings))) ≡ times w (D Sends) + times w
-      (D Receives ++ (D Streams ++ D Closings)) = count_append (same_waiter w) (D Sends)
-      (D Receives ++ (D Streams ++ D Closings)) in
-      let second : times w (D Receives ++ (D Streams ++ D Closings)) ≡ times w (D Receives) + times w
-      (D Streams ++ D Closings) = count_append (same_waiter w) (D Receives) (D Streams ++ D Closings) in
-      let third : times w (D Streams ++ D Closings) ≡ times w (D Streams) + times w (D Closings) =
-      count_append (same_waiter w) (D Streams) (D Closings) in
-      omega (arith, first, second, third)
+      let all = by_lines kind w who.woken wakes in
+      let i : times w (of_line kind Sends who.woken) ≡ times w (D Sends) =
+      ap (λ (ws : List Waiter). times w ws) (woken_are Sends) in
+      let j : times w (of_line kind Receives who.woken) ≡ times w (D Receives) =
+      ap (λ (ws : List Waiter). times w ws) (woken_are Receives) in
+      let k : times w (of_line kind Streams who.woken) ≡ times w (D Streams) =
+      ap (λ (ws : List Waiter). times w ws) (woken_are Streams) in
+      let l : times w (of_line kind Closings who.woken) ≡ times w (D Closings) =
+      ap (λ (ws : List Waiter). times w ws) (woken_are Closings) in
+      let m : times w who.sends ≡ times w (U Sends) = ap (λ (ws : List Waiter). times w ws) (untold_are Sends) in
+      let n : times w who.receives ≡ times w (U Receives) = ap (λ (ws : List Waiter). times w ws) (untold_are Receives) in
+      let o : times w who.streams ≡ times w (U Streams) = ap (λ (ws : List Waiter). times w ws) (untold_are Streams) in
+      let p : times w who.closings ≡ times w (U Closings) = ap (λ (ws : List Waiter). times w ws) (untold_are Closings) in
+      omega (arith, all, i, j, k, l, m, n, o, p)
 
   at_most_once : (w : Waiter) → times_in w who ≤ 1
   at_most_once w = by (kind w) refl
@@ -373,7 +365,7 @@ module _ {T : Type 0} (b : Book T) (s : Scene T Waiter) (owned : Owned b s) (sou
   receives_awake = by (nobody_or Receives)
     where
       by : (U Receives ≡ []) ⊎ ((key : Key) × Waits Receives key s.now) → Enough kind Receives many who
-      by (inl none) = inl none
+      by (inl none) = inl (untold_are Receives ∙ none)
       by (inr some) =
           let few : many ≤ length (told Receives) + 0 = receives_owed some.0 some.1 in
           let same = told_many Receives in
@@ -388,12 +380,12 @@ module _ {T : Type 0} (b : Book T) (s : Scene T Waiter) (owned : Owned b s) (sou
 
       by : (U Sends ≡ []) ⊎ ((key : Key) × Waits Sends key s.now)
           → Enough kind Sends (free_places s.now.queue.capacity many) who
-      by (inl none) = inl none
+      by (inl none) = inl (untold_are Sends ∙ none)
       by (inr some) = inr (subst (λ (n : ℕ). free_places s.now.queue.capacity many ≤ n) (sym (told_many Sends))
           (enough (sends_owed some.0 some.1)))
 
-  unbounded : s.now.queue.capacity ≡ None → U Sends ≡ []
-  unbounded bare = by (nobody_or Sends)
+  unbounded : s.now.queue.capacity ≡ None → who.sends ≡ []
+  unbounded bare = untold_are Sends ∙ by (nobody_or Sends)
     where
       never_owed : (key : Key) → Waits Sends key s.now → PlacesAreFew s.now 0 → ⊥
       never_owed key i (inl shut) = closing_owed Sends key shut i
@@ -403,11 +395,11 @@ module _ {T : Type 0} (b : Book T) (s : Scene T Waiter) (owned : Owned b s) (sou
       by (inl none) = none
       by (inr some) = absurd (never_owed some.0 some.1 (sends_owed some.0 some.1))
 
-  streams_awake : (U Streams ≡ []) ⊎ (many ≡ 0)
+  streams_awake : (who.streams ≡ []) ⊎ (many ≡ 0)
   streams_awake = by (nobody_or Streams)
     where
-      by : (U Streams ≡ []) ⊎ ((key : Key) × Waits Streams key s.now) → (U Streams ≡ []) ⊎ (many ≡ 0)
-      by (inl none) = inl none
+      by : (U Streams ≡ []) ⊎ ((key : Key) × Waits Streams key s.now) → (who.streams ≡ []) ⊎ (many ≡ 0)
+      by (inl none) = inl (untold_are Streams ∙ none)
       by (inr some) = inr (ap (λ (ms : List T). length ms) (streams_owed some.0 some.1))
 
   opened : s.now.queue.closed ≡ true → (line : Line) → untold line who ≡ []
@@ -425,28 +417,6 @@ module _ {T : Type 0} (b : Book T) (s : Scene T Waiter) (owned : Owned b s) (sou
           stand_kind (Has line) kind line (of_its_line line) (keys_of (waiting line)) (U line) w (waiting_names line).1
           (ap (λ (ws : List Waiter). is_among w ws) (sym (untold_are line)) ∙ i)
 
-      of : (line : Line) (w : Waiter) → is_among w (D line) ≡ true → IsSome (kind w)
-      of line w i =
-          subst (λ (o : Option Line). IsSome o)
-          (sym (stand_kind (Has line) kind line (of_its_line line) (keys_of (told line)) (D line) w (told_names line).1 i))
-          refl
-
-      last : (w : Waiter) → (is_among w (D Streams) ≡ true) ⊎ (is_among w (D Closings) ≡ true) → IsSome (kind w)
-      last w (inl i) = of Streams w i
-      last w (inr i) = of Closings w i
-
-      more : (w : Waiter) → (is_among w (D Receives) ≡ true) ⊎ (is_among w (D Streams ++ D Closings) ≡ true) → IsSome (kind w)
-      more w (inl i) = of Receives w i
-      more w (inr i) = last w (among_append w (D Streams) (D Closings) i)
-
-      all : (w : Waiter) → (is_among w (D Sends) ≡ true) ⊎ (is_among w (D Receives ++ (D Streams ++ D Closings)) ≡ true)
-          → IsSome (kind w)
-      all w (inl i) = of Sends w i
-      all w (inr i) = more w (among_append w (D Receives) (D Streams ++ D Closings) i)
-
-      wakes : (w : Waiter) → is_among w who.woken ≡ true → IsSome (kind w)
-      wakes w i = all w (among_append w (D Sends) (D Receives ++ (D Streams ++ D Closings)) i)
-
   awake : AwakeIn state
   awake = record {
     placed = placed;
@@ -458,16 +428,12 @@ module _ {T : Type 0} (b : Book T) (s : Scene T Waiter) (owned : Owned b s) (sou
     opened = opened;
   }
 
-  pub at_rest : (state : State T) × IsWorld b s state
-  at_rest = (
-    state,
-    record {
-      names = refl;
-      shows = shows;
-      awake = awake;
-      calls = λ c o fine alone. calls_over T c (held_of b.roll) s.now state o fine shows awake alone;
-    },
-  )
+  pub at_rest : IsWorld b s
+  at_rest = record {
+    shows = shows;
+    awake = awake;
+    calls = λ c o fine alone. calls_over T c (held_of b.roll) s.now state o fine shows awake alone;
+  }
 
 pub rest_is_a_world : (T : Type 0) → RestIsAWorld T
-rest_is_a_world T b s owned sound woken rest = at_rest b s owned sound woken rest
+rest_is_a_world T b s kept rest = at_rest b s kept rest

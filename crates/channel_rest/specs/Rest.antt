@@ -1,11 +1,11 @@
 -- What a channel shows that has come to rest.
 use Rattle.std.specs.Prelude.{◌≡◌, [], None}
+use Rattle.event_listener.specs.Lists.{tasks_of}
 use Rattle.channel_alone.specs.Alone.{Outcome, Alone}
-use Rattle.channel_interleaving.specs.Owners.{Owned}
-use Rattle.channel_interleaving.specs.OwnerWoken.{WokenAreTold}
+use Rattle.channel_interleaving.specs.Kept.{AllKept}
+use Rattle.channel_interleaving.specs.OwnerOrder.{woken_in}
 use Rattle.channel_interleaving.specs.Roll.{names_of, held_of}
 use Rattle.channel_interleaving.specs.Run.{Book}
-use Rattle.channel_laws.specs.Sound.{AllSound}
 use Rattle.channel_model.specs.Awake.{AwakeIn}
 use Rattle.channel_model.specs.Refusal.{refusal}
 use Rattle.channel_model.specs.State.{State}
@@ -17,19 +17,38 @@ use Rattle.channel_refinement.specs.Shows.{Shows}
 use Rattle.channel_steps.specs.Scene.{Scene}
 
 module _ {T : Type 0} where
-  -- A state of the model with these names, which the channel shows with the listeners that they hold, and in which nobody is
-  -- left asleep. Each call made alone from there, which the model doesn't refuse, does what the model allows of it.
-  pub record IsWorld (b : Book T) (s : Scene T Waiter) (state : State T) : Type 0 where
-    pub names : state.names ≡ names_of b.roll
-    pub shows : Shows (held_of b.roll) s.now state
-    pub awake : AwakeIn state
+  -- the state of the model: the names as they live, those who wait in the order of each list, and the woken in the order of
+  -- their waking
+  abbrev pub state_at : Book T → Scene T Waiter → State T
+  state_at b s = record {
+    channel = record {
+      messages = s.now.queue.items;
+      capacity = s.now.queue.capacity;
+      closed = s.now.queue.closed;
+      senders = s.now.roster.senders;
+      receivers = s.now.roster.receivers;
+    };
+    names = names_of b.roll;
+    waiting = record {
+      sends = tasks_of s.now.roster.sends.waiting;
+      receives = tasks_of s.now.roster.receives.waiting;
+      streams = tasks_of s.now.roster.streams.waiting;
+      closings = tasks_of s.now.roster.closings.waiting;
+      woken = woken_in b.roll b.order;
+    };
+  }
+
+  -- The channel shows this state with the listeners that its names hold, and nobody is left asleep there. Each call made alone
+  -- from there, which the model doesn't refuse, does what the model allows of it.
+  pub record IsWorld (b : Book T) (s : Scene T Waiter) : Type 0 where
+    pub shows : Shows (held_of b.roll) s.now (state_at b s)
+    pub awake : AwakeIn (state_at b s)
     pub calls :
         (c : Call T) (o : Outcome T Waiter)
-        → refusal state c ≡ None → Alone (asked (held_of b.roll) state c) s.now o → Matches (held_of b.roll) state c o
+        → refusal (state_at b s) c ≡ None → Alone (asked (held_of b.roll) (state_at b s) c) s.now o
+        → Matches (held_of b.roll) (state_at b s) c o
 
--- A channel with no call under way shows such a state, however it came about: wherever each listener has its owner, no listener
--- that waits is forgotten, and the listeners of all who were woken are told.
+-- A channel with no call under way shows such a state, however it came about, wherever what every step keeps of those who wait
+-- is kept.
 abbrev pub RestIsAWorld : Type 0 → Type 0
-RestIsAWorld T =
-    (b : Book T) (s : Scene T Waiter) → Owned b s → AllSound s → WokenAreTold b s → s.under_way ≡ []
-    → (state : State T) × IsWorld b s state
+RestIsAWorld T = (b : Book T) (s : Scene T Waiter) → AllKept b s → s.under_way ≡ [] → IsWorld b s

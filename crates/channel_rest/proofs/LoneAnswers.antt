@@ -1,0 +1,237 @@
+-- A call that is made alone on a channel at rest answers as the model may, and leaves the model's state.
+use Rattle.std.proofs.Common.{arith, ◌≡◌, ◌≤◌, ◌+◌, List, [], ◌∷◌, ◌++◌, Bool, true, false, Option, None, Some, IsSome, is_some, inl, inr, refl, sym, ap, subst, ◌∙◌}
+use Rattle.std.proofs.lemmas.List.Elements.{filter-append}
+use Rattle.std.specs.Option.{option_map_or}
+use Rattle.event_listener.specs.Lists.{Notice}
+use Rattle.event_listener.specs.declared.key.Key.{Key}
+use Rattle.async_channel.specs.Moves.{Channel}
+use Rattle.async_channel.specs.declared.reply.Reply.{Reply}
+use Rattle.async_channel.specs.declared.stage.Held.{Held}
+use Rattle.async_channel.specs.declared.stage.Line.{Line}
+use Rattle.async_channel.specs.declared.stage.Line.TheVariants.{Sends, Receives, Streams, Closings}
+use Rattle.channel_alone.specs.Alone.{Outcome, Alone}
+use Rattle.channel_model.proofs.Awake.{line_refl}
+use Rattle.channel_model.proofs.Interface.{awake_after}
+use Rattle.channel_model.proofs.WaiterLemmas.{same_sound, decided, or_true, left_among}
+use Rattle.channel_model.proofs.Counting.{or_right}
+use Rattle.channel_model.specs.Answer.{Answer}
+use Rattle.channel_model.specs.Asked.{Held as Holding}
+use Rattle.channel_model.specs.Awake.{AwakeIn, Kind, times, times_in}
+use Rattle.channel_model.specs.Channel.{Channel as PlainChannel}
+use Rattle.channel_model.specs.Laws.{line_of, is_line}
+use Rattle.channel_model.specs.Lines.{Waiting, same_waiter, is_among, without}
+use Rattle.channel_model.specs.Names.{Names}
+use Rattle.channel_model.specs.Refusal as model
+use Rattle.channel_model.specs.Refused.{Answers}
+use Rattle.channel_model.specs.State.{State}
+use Rattle.channel_model.specs.declared.call.Call.{Call}
+use Rattle.channel_model.specs.declared.name.Waiter.{Waiter}
+use Rattle.channel_refinement.specs.Asked.{keeper}
+use Rattle.channel_refinement.specs.Over.{Matches, held_after}
+use Rattle.channel_refinement.specs.Shows.{AreTold, of_line, with_held}
+use Rattle.channel_steps.specs.Scene.{Scene}
+use Rattle.channel_interleaving.specs.Bookkeeping.{asks}
+use Rattle.channel_interleaving.specs.Kept.{AllKept}
+use Rattle.channel_interleaving.specs.Lone.{names_alone, order_alone, book_alone}
+use Rattle.channel_interleaving.specs.OwnerOrder.{woken_in}
+use Rattle.channel_interleaving.specs.Owners.{IsAmong, amiss, waits, post}
+use Rattle.channel_interleaving.specs.Refusal.{refusal}
+use Rattle.channel_interleaving.specs.Roll.{names_of, held_of}
+use Rattle.channel_interleaving.specs.Run.{Book}
+use Rattle.channel_interleaving.specs.declared.names.Agent.{Agent}
+use Rattle.channel_rest.specs.Lone.{but_for, CanBeLent, NonePolled, RefusalsAgree, LoneCallsAnswer}
+use Rattle.channel_rest.specs.Rest.{state_at, IsWorld}
+use Rattle.channel_rest.proofs.LoneAsks.{asks_same, refusal_same}
+use Rattle.channel_rest.proofs.LoneNames.{names_follow}
+use Rattle.channel_rest.proofs.LoneWoken.{woken_follows}
+use Rattle.channel_rest.proofs.Names.{on, Pends, pends}
+use Rattle.channel_rest.proofs.Woken.{untold_tasks}
+use Rattle.channel_rest.proofs.World.{rest_is_a_world}
+
+-- ---- names
+
+told_but : (k : Option Waiter) (xs : List Waiter) → option_map_or (λ (w : Waiter). without w xs) k xs ≡ but_for k xs
+told_but None xs = refl
+told_but (Some w) xs = refl
+
+stood_once : (w : Waiter) (l : Waiting) → times_in w l ≤ 1 → times w l.woken ≤ 1
+stood_once w l h =
+    let once : times w l.sends + times w l.receives + times w l.streams + times w l.closings + times w l.woken ≤ 1 = h in
+    omega (arith, once)
+
+behind : (v : Waiter) (xs ys : List Waiter) → is_among v ys ≡ true → is_among v (xs ++ ys) ≡ true
+behind v [] ys h = h
+behind v (x ∷ xs) ys h = or_right (same_waiter v x) (is_among v (xs ++ ys)) (behind v xs ys h)
+
+-- one of the last is among all
+among_last : (k : Option Waiter) (v : Waiter) (xs ys : List Waiter) → is_among v (but_for k ys) ≡ true
+    → is_among v (but_for k (xs ++ ys)) ≡ true
+among_last None v xs ys e = behind v xs ys e
+among_last (Some w) v xs ys e =
+    ap (λ (l : List Waiter). is_among v l) (filter-append _ xs ys) ∙ behind v (without w xs) (without w ys) e
+
+-- one of a line is among those of the line
+among_line : (kind : Kind) (line : Line) (v : Waiter) (ws : List Waiter) → kind v ≡ Some line → is_among v ws ≡ true
+    → is_among v (of_line kind line ws) ≡ true
+among_line kind line v [] k e = cc e
+among_line kind line v (w ∷ ws) k e = elim (or_true (same_waiter v w) (is_among v ws) e) [
+  | inl t ↦
+      let own : is_line line (kind w) ≡ true = ap (λ (x : Waiter). is_line line (kind x)) (sym (same_sound v w t))
+      ∙ (ap (is_line line) k ∙ line_refl line) in
+      rw own (rw t refl)
+  | inr t ↦ elim (decided (is_line line (kind w))) [
+    | inl u ↦ rw u (or_right (same_waiter v w) (is_among v (of_line kind line ws)) (among_line kind line v ws k t))
+    | inr u ↦ rw u (among_line kind line v ws k t)
+  ]
+]
+
+-- a told one holds a key
+told_holds : (held : Holding) (closed : Bool) (line : Line) (es : List (Key × Notice Unit)) (ws : List Waiter)
+    → AreTold held closed line es ws → (v : Waiter) → is_among v ws ≡ true → is_some (held v) ≡ true
+told_holds held closed line [] [] h v e = cc e
+told_holds held closed line [] (w ∷ ws) h v e = absurd h
+told_holds held closed line (f ∷ es) [] h v e = absurd h
+told_holds held closed line (f ∷ es) (w ∷ ws) h v e = elim (or_true (same_waiter v w) (is_among v ws) e) [
+  | inl t ↦ rw (same_sound v w t) (ap (λ (o : Option Key). is_some o) h.0)
+  | inr t ↦ told_holds held closed line es ws h.2 v t
+]
+
+-- a key that is left is held before, unless it is that of the call itself
+held_before : (k : Option Waiter) (key : Option Key) (h : Holding) (v : Waiter) (ws : List Waiter)
+    → is_among v (but_for k ws) ≡ true → is_some (option_map_or (λ (w : Waiter). with_held w key h) k h v) ≡ true
+    → is_some (h v) ≡ true
+held_before None key h v ws among e = e
+held_before (Some w) key h v ws among e =
+    let apart : same_waiter w v ≡ false = (left_among w v ws among).1 in
+    rw apart at e
+
+abbrev lines : List Waiter → List Waiter → List Waiter → List Waiter → List Waiter → Waiting
+lines a b c d e = record { sends = a; receives = b; streams = c; closings = d; woken = e }
+
+same_waiting : (a b c d e f g h i j : List Waiter) → a ≡ f → b ≡ g → c ≡ h → d ≡ i → e ≡ j → lines a b c d e ≡ lines f g h i j
+same_waiting a b c d e f g h i j ea eb ec ed ee =
+    ap (λ (x : List Waiter). lines x b c d e) ea ∙ (ap (λ (x : List Waiter). lines f x c d e) eb
+    ∙ (ap (λ (x : List Waiter). lines f g x d e) ec ∙ (ap (λ (x : List Waiter). lines f g h x e) ed
+    ∙ ap (λ (x : List Waiter). lines f g h i x) ee)))
+
+module _ {T : Type 0} where
+  -- where nobody is at work, nobody is polled
+  none_polled : (b : Book T) (s : Scene T Waiter) → AllKept b s → b.agents ≡ [] → NonePolled b.roll
+  none_polled b s kept none w line e =
+      let h = kept.polled w line e in subst (λ (l : List (Agent T)). IsAmong h.0 l) none h.1
+
+  pub refusals_agree : (b : Book T) (s : Scene T Waiter) (c : Call T) → AllKept b s → b.agents ≡ []
+      → refusal b.roll c ≡ model.refusal (state_at b s) c
+  refusals_agree b s c kept none =
+      let o = kept.owned in
+      refusal_same b.roll (none_polled b s kept none) o.none_amiss (state_at b s) c refl
+
+  module _ (b : Book T) (s t : Scene T Waiter) (c : Call T) (o : Outcome T Waiter) (kept : AllKept b s) (none : b.agents ≡ [])
+      (rest : s.under_way ≡ []) (few : CanBeLent b.roll) (fine : refusal b.roll c ≡ None) (alone : Alone (asks b.roll c) s.now o)
+      (now : t.now ≡ o.channel) where
+    abbrev before : State T
+    before = state_at b s
+
+    world : IsWorld b s
+    world = rest_is_a_world T b s kept rest
+
+    accepted : model.refusal before c ≡ None
+    accepted = sym (refusals_agree b s c kept none) ∙ fine
+
+    matches : Matches (held_of b.roll) before c o
+    matches = world.calls c o accepted (subst (λ a. Alone a s.now o) (asks_same b.roll (none_polled b s kept none) c) alone)
+
+    abbrev answer : Answer T
+    answer = matches.answer
+
+    awake : AwakeIn answer.after
+    awake = awake_after before c answer accepted world.awake matches.allowed
+
+    abbrev own : Option Waiter
+    own = keeper before c
+
+    told_are : answer.after.waiting.woken ≡ but_for own (before.waiting.woken ++ o.woken)
+    told_are = matches.told ∙ told_but own (before.waiting.woken ++ o.woken)
+
+    once : (v : Waiter) → times v (but_for own (woken_in b.roll b.order ++ o.woken)) ≤ 1
+    once v = subst (λ (xs : List Waiter). times v xs ≤ 1) told_are (stood_once v answer.after.waiting (awake.placed.once v))
+
+    -- whoever was woken held a listener before, but for the call's own
+    holds : (v : Waiter) → is_among v (but_for own o.woken) ≡ true → is_some (held_of b.roll v) ≡ true
+    holds v e =
+        let among : is_among v answer.after.waiting.woken ≡ true =
+        ap (λ (l : List Waiter). is_among v l) told_are ∙ among_last own v before.waiting.woken o.woken e in
+        held_before own o.kept.key (held_of b.roll) v o.woken e
+        (of_kind (line_of answer.after.names v) refl (awake.placed.wakes v among) among)
+      where
+        of_kind : (k : Option Line) → line_of answer.after.names v ≡ k → IsSome k → is_among v answer.after.waiting.woken ≡ true
+            → is_some (held_after before c o.kept.key (held_of b.roll) v) ≡ true
+        of_kind None k some among = cc some
+        of_kind (Some line) k some among =
+            told_holds (held_after before c o.kept.key (held_of b.roll)) answer.after.channel.closed line _ _
+            (matches.shows.lines line).told v (among_line (line_of answer.after.names) line v answer.after.waiting.woken k among)
+
+    named : (v : Waiter) → is_among v (but_for own o.woken) ≡ true → (h : Held) × (w : Bool) × (post b.roll v ≡ waits h w)
+    named v e = by (held_of b.roll v) refl (holds v e)
+      where
+        owned : (w : Waiter) → post b.roll w ≡ amiss → ⊥
+        owned = let x = kept.owned in x.none_amiss
+
+        pending : (key : Key) → Pends (post b.roll v) key → (h : Held) × (w : Bool) × (post b.roll v ≡ waits h w)
+        pending key (inl bad) = absurd (owned v bad)
+        pending key (inr p) = (on p.0 key, p.1, p.2)
+
+        by : (k : Option Key) → held_of b.roll v ≡ k → is_some k ≡ true → (h : Held) × (w : Bool) × (post b.roll v ≡ waits h w)
+        by None f g = absurd (let no : false ≡ true = g in cc)
+        by (Some key) f g = pending key (pends b.roll v key f)
+
+    woken_same : woken_in (names_alone b.roll c o.reply o.kept o.woken) (order_alone b.roll c o.kept o.woken b.order)
+        ≡ answer.after.waiting.woken
+    woken_same =
+        woken_follows b.roll c before o b.order refl refl fine
+        (λ w h x e. let i = kept.order in i.placed w (inl (h, x, e))) named once ∙ sym matches.told
+
+    waiting_same : (state_at (book_alone b c o) t).waiting ≡ answer.after.waiting
+    waiting_same =
+        ap (λ (x : Channel T Waiter). (state_at (book_alone b c o) (record t { now = x })).waiting) now
+        ∙ same_waiting _ _ _ _ _ _ _ _ _ _ (untold_tasks _ _ _ (matches.shows.lines Sends).untold)
+        (untold_tasks _ _ _ (matches.shows.lines Receives).untold) (untold_tasks _ _ _ (matches.shows.lines Streams).untold)
+        (untold_tasks _ _ _ (matches.shows.lines Closings).untold) woken_same
+
+    channel_same : (state_at (book_alone b c o) t).channel ≡ answer.after.channel
+    channel_same =
+        ap (λ (x : Channel T Waiter). (state_at (book_alone b c o) (record t { now = x })).channel) now
+        ∙ (λ i. record {
+          messages = matches.shows.messages i;
+          capacity = matches.shows.capacity i;
+          closed = matches.shows.closed i;
+          senders = matches.shows.senders i;
+          receivers = matches.shows.receivers i;
+        })
+
+    names_same : names_of (names_alone b.roll c o.reply o.kept o.woken) ≡ answer.after.names
+    names_same = names_follow b.roll c before s.now o refl few alone ∙ sym matches.names
+
+    after : State T
+    after = state_at (book_alone b c o) t
+
+    state_same : state_at (book_alone b c o) t ≡ answer.after
+    state_same =
+        ap (λ (x : PlainChannel T). record (state_at (book_alone b c o) t) { channel = x }) channel_same
+        ∙ (ap (λ (x : Names T). record (state_at (book_alone b c o) t) { channel = answer.after.channel; names = x }) names_same
+        ∙ ap (λ (x : Waiting). record { channel = answer.after.channel; names = answer.after.names; waiting = x }) waiting_same)
+
+    pub lone_answers : Answers before c (record { after = state_at (book_alone b c o) t; reply = o.reply; woken = o.woken })
+    lone_answers =
+        let a = subst (λ (x : State T). Answers before c (record { after = x; reply = answer.reply; woken = answer.woken }))
+        (sym state_same) matches.allowed in
+        let d = subst (λ (x : Reply T). Answers before c
+        (record { after = state_at (book_alone b c o) t; reply = x; woken = answer.woken })) (sym matches.reply) a in
+        subst (λ (x : List Waiter). Answers before c
+        (record { after = state_at (book_alone b c o) t; reply = o.reply; woken = x })) (sym matches.woken) d
+
+pub they_agree : (T : Type 0) → RefusalsAgree T
+they_agree T b s c kept none = refusals_agree b s c kept none
+
+pub they_answer : (T : Type 0) → LoneCallsAnswer T
+they_answer T b s t c o kept none rest few fine alone now = lone_answers b s t c o kept none rest few fine alone now

@@ -1,0 +1,239 @@
+-- Where no poll is under way a call asks what it asks in the model, and is refused where and why it is refused there.
+use Rattle.std.proofs.Common.{◌≡◌, ℕ, Bool, true, false, not, if◌then◌else◌, List, [], ◌∷◌, ◌||◌, Option, None, Some, ◌⊎◌, inl, inr, refl, sym, ap, ◌∙◌}
+use Rattle.std.specs.List.{list_all, list_any}
+use Rattle.std.specs.Option.{option_map, option_map_or}
+use Rattle.async_channel.specs.declared.ask.ChannelAsk.{ChannelAsk}
+use Rattle.async_channel.specs.declared.ask.ChannelAsk.TheVariants as ask
+use Rattle.async_channel.specs.declared.stage.Line.{Line}
+use Rattle.async_channel.specs.declared.stage.Line.TheVariants.{Sends, Receives, Streams, Closings}
+use Rattle.channel_model.proofs.DirectoryLemmas.{taken_seen}
+use Rattle.channel_model.specs.Answer as model
+use Rattle.channel_model.specs.Asked.{asked, poll_asked, refusal_asked, giving_up_asked, drop_asked, clone_asked, upgrade_asked}
+use Rattle.channel_model.specs.Names.{at}
+use Rattle.channel_model.specs.Names as names
+use Rattle.channel_model.specs.Refusal as wants
+use Rattle.channel_model.specs.Refusal.{uses, is_live, are_fit, takes_borrowed}
+use Rattle.channel_model.specs.State.{State}
+use Rattle.channel_model.specs.declared.call.Call.{Call}
+use Rattle.channel_model.specs.declared.call.Call.TheVariants as call
+use Rattle.channel_model.specs.declared.name.Handle.{Handle}
+use Rattle.channel_model.specs.declared.name.HandleId.{HandleId}
+use Rattle.channel_model.specs.declared.name.HandleKind.{HandleKind}
+use Rattle.channel_model.specs.declared.name.HandleKind.TheVariants as handle_kind
+use Rattle.channel_model.specs.declared.name.OpId.{OpId}
+use Rattle.channel_model.specs.declared.name.Waiter.{Waiter}
+use Rattle.channel_model.specs.declared.name.Waiter.TheVariants.{Op, Stream}
+use Rattle.channel_model.specs.declared.refusal.WorldRefusal.{WorldRefusal}
+use Rattle.channel_model.specs.declared.refusal.WorldRefusal.TheVariants.{UnknownName, WrongKind, OpUnderWay, Borrowed, NameTaken}
+use Rattle.channel_interleaving.specs.Bookkeeping.{asks}
+use Rattle.channel_interleaving.specs.Owners.{amiss, polled, stream_post, operation_post, post}
+use Rattle.channel_interleaving.specs.Refusal.{is_operation_polled, is_stream_polled, meets_poll, names_taken, refusal}
+use Rattle.channel_interleaving.specs.Roll.{is_polled, has_finished, is_finished, operation_of, names_of, held_of}
+use Rattle.channel_interleaving.specs.declared.names.Hold.{Hold}
+use Rattle.channel_interleaving.specs.declared.names.Operation.{Operation}
+use Rattle.channel_interleaving.specs.declared.names.OperationKind.{OperationKind}
+use Rattle.channel_interleaving.specs.declared.names.OperationKind.TheVariants.{Send, Receive, Closing}
+use Rattle.channel_interleaving.specs.declared.names.Standing.{Standing}
+use Rattle.channel_interleaving.specs.declared.names.Standing.TheVariants.{Rests, Waits, IsPolled}
+use Rattle.channel_interleaving.specs.declared.roll.Roll.{Roll}
+use Rattle.channel_interleaving.proofs.OwnerBegins.{op_is}
+use Rattle.channel_interleaving.proofs.OwnerCalls.{hold_is}
+use Rattle.channel_interleaving.proofs.RefusalLemmas.{operation_at, handle_there}
+use Rattle.channel_rest.specs.Lone.{NonePolled}
+
+none_any : {A : Type 0} (test : A → Bool) (xs : List A) → ((x : A) → test x ≡ false) → list_any test xs ≡ false
+none_any test [] h = refl
+none_any test (x ∷ xs) h = ap (λ (b : Bool). b || list_any test xs) (h x) ∙ none_any test xs h
+
+-- a stream that is being polled is one of a receiver, or amiss
+polled_stream : (k : HandleKind) (s : Standing) → is_polled s ≡ true
+    → ((line : Line) × (stream_post k s ≡ polled line)) ⊎ (stream_post k s ≡ amiss)
+polled_stream handle_kind.Receiver (IsPolled b) e = inl (Streams, refl)
+polled_stream handle_kind.Sender (IsPolled b) e = inr refl
+polled_stream handle_kind.WeakSender (IsPolled b) e = inr refl
+polled_stream handle_kind.WeakReceiver (IsPolled b) e = inr refl
+polled_stream k Rests e = absurd (let no : false ≡ true = e in cc)
+polled_stream k (Waits key w) e = absurd (let no : false ≡ true = e in cc)
+
+module _ {T : Type 0} where
+  polled_operation : (k : OperationKind) (m : Option T) (s : Standing) → is_polled s ≡ true
+      → (line : Line) × (operation_post k m s ≡ polled line)
+  polled_operation Send None (IsPolled b) e = (Sends, refl)
+  polled_operation Send (Some m) (IsPolled b) e = (Sends, refl)
+  polled_operation Receive m (IsPolled b) e = (Receives, refl)
+  polled_operation Closing m (IsPolled b) e = (Closings, refl)
+  polled_operation k m Rests e = absurd (let no : false ≡ true = e in cc)
+  polled_operation k m (Waits key w) e = absurd (let no : false ≡ true = e in cc)
+
+  abbrev seen_as : OperationKind → HandleId → Option T → names.Operation T
+  seen_as k handle m = elim k [ Send ↦ names.send handle m | Receive ↦ names.recv handle | Closing ↦ names.closing handle ]
+
+  finished_as : (k : OperationKind) (handle : HandleId) (m : Option T) (s : Standing) → is_polled s ≡ false
+      → has_finished k m s ≡ model.is_finished (Some (seen_as k handle m))
+  finished_as Send handle None Rests e = refl
+  finished_as Send handle None (Waits key w) e = refl
+  finished_as Send handle None (IsPolled b) e = absurd (let no : true ≡ false = e in cc)
+  finished_as Send handle (Some m) s e = refl
+  finished_as Receive handle m s e = refl
+  finished_as Closing handle m s e = refl
+
+  module _ (r : Roll T) (none : NonePolled r) where
+    unpolled : (op : OpId) (o : Operation T) → at op.0 r.operations ≡ Some o → is_polled o.standing ≡ false
+    unpolled op o e = by (is_polled o.standing) refl
+      where
+        by : (b : Bool) → is_polled o.standing ≡ b → is_polled o.standing ≡ false
+        by false f = f
+        by true f =
+            let p = polled_operation o.kind o.message o.standing f in
+            absurd (none (Op op) p.0 (op_is r op o e ∙ p.1))
+
+    -- ---- what is asked
+
+    finished_same : (op : OpId)
+        → option_map_or is_finished (at op.0 r.operations) false ≡ model.is_finished (at op.0 (names_of r).operations)
+    finished_same op = by (at op.0 r.operations) refl ∙ sym (ap model.is_finished (operation_at r op.0))
+      where
+        by : (x : Option (Operation T)) → at op.0 r.operations ≡ x
+            → option_map_or is_finished (at op.0 r.operations) false ≡ model.is_finished
+            (option_map operation_of (at op.0 r.operations))
+        by None e = rw e refl
+        by (Some o) e = rw e (finished_as o.kind o.handle o.message o.standing (unpolled op o e))
+
+    pub asks_same : (c : Call T) → asks r c ≡ asked (held_of r) (names_of r) c
+    asks_same (call.Poll op) = ap (λ (o : Option (names.Operation T)). poll_asked (held_of r) op o) (sym (operation_at r op.0))
+    asks_same (call.PollRefused op) =
+        ap (λ (o : Option (names.Operation T)). refusal_asked (held_of r) op o) (sym (operation_at r op.0))
+    asks_same (call.GiveUp op) =
+        ap (λ (o : Option (names.Operation T)). giving_up_asked (held_of r) op o) (sym (operation_at r op.0))
+    asks_same (call.SendIsTerminated op) =
+        ap (λ (b : Bool). let x : ChannelAsk T Waiter = ask.SendIsTerminated b in x) (finished_same op)
+    asks_same (call.Drop handle) = ap (λ (h : Option Handle). drop_asked (held_of r) handle h) (handle_there r handle.0)
+    asks_same (call.TryClone handle new) = ap (λ (h : Option Handle). clone_asked h) (handle_there r handle.0)
+    asks_same (call.Upgrade weak new) = ap (λ (h : Option Handle). upgrade_asked h) (handle_there r weak.0)
+    asks_same (call.NewSend op sender msg) = refl
+    asks_same (call.NewRecv op receiver) = refl
+    asks_same (call.NewClosed op sender) = refl
+    asks_same (call.PollNext receiver) = refl
+    asks_same (call.StreamIsTerminated receiver) = refl
+    asks_same (call.TrySend sender msg) = refl
+    asks_same (call.ForceSend sender msg) = refl
+    asks_same (call.TryRecv receiver) = refl
+    asks_same (call.Close handle) = refl
+    asks_same (call.Downgrade handle new) = refl
+    asks_same (call.SameChannel a b) = refl
+    asks_same (call.IsClosed handle) = refl
+    asks_same (call.IsEmpty handle) = refl
+    asks_same (call.IsFull handle) = refl
+    asks_same (call.Len handle) = refl
+    asks_same (call.Capacity handle) = refl
+    asks_same (call.SenderCount handle) = refl
+    asks_same (call.ReceiverCount handle) = refl
+
+    -- ---- what is refused
+
+    module _ (sane : (w : Waiter) → post r w ≡ amiss → ⊥) where
+      no_operation : (op : OpId) → is_operation_polled op.0 r ≡ false
+      no_operation op = by (at op.0 r.operations) refl
+        where
+          by : (x : Option (Operation T)) → at op.0 r.operations ≡ x → is_operation_polled op.0 r ≡ false
+          by None e = rw e refl
+          by (Some o) e = rw e (unpolled op o e)
+
+      no_stream : (handle : ℕ) → is_stream_polled handle r ≡ false
+      no_stream handle = by (at handle r.handles) refl
+        where
+          id : HandleId
+          id = record { 0 = handle }
+
+          not_polled : (h : Hold) → at handle r.handles ≡ Some h → (b : Bool) → is_polled h.standing ≡ b
+              → is_polled h.standing ≡ false
+          not_polled h e false f = f
+          not_polled h e true f = elim (polled_stream h.handle.kind h.standing f) [
+            | inl p ↦ absurd (none (Stream id) p.0 (hold_is r id h e ∙ p.1))
+            | inr p ↦ absurd (sane (Stream id) (hold_is r id h e ∙ p))
+          ]
+
+          by : (x : Option Hold) → at handle r.handles ≡ x → is_stream_polled handle r ≡ false
+          by None e = rw e refl
+          by (Some h) e = rw e (not_polled h e (is_polled h.standing) refl)
+
+      streams_idle : (c : Call T) → list_any (λ u. is_stream_polled u.0 r) (uses c) ≡ false
+      streams_idle c = none_any (λ u. is_stream_polled u.0 r) (uses c) (λ u. no_stream u.0)
+
+      meets_none : (c : Call T) → meets_poll r c ≡ false
+      meets_none (call.Poll op) = no_operation op
+      meets_none (call.PollRefused op) = no_operation op
+      meets_none (call.GiveUp op) = no_operation op
+      meets_none (call.SendIsTerminated op) = refl
+      meets_none (call.Drop handle) = streams_idle (call.Drop handle)
+      meets_none (call.TryClone handle new) = streams_idle (call.TryClone handle new)
+      meets_none (call.Upgrade weak new) = streams_idle (call.Upgrade weak new)
+      meets_none (call.NewSend op sender msg) = streams_idle (call.NewSend op sender msg)
+      meets_none (call.NewRecv op receiver) = streams_idle (call.NewRecv op receiver)
+      meets_none (call.NewClosed op sender) = streams_idle (call.NewClosed op sender)
+      meets_none (call.PollNext receiver) = streams_idle (call.PollNext receiver)
+      meets_none (call.StreamIsTerminated receiver) = streams_idle (call.StreamIsTerminated receiver)
+      meets_none (call.TrySend sender msg) = streams_idle (call.TrySend sender msg)
+      meets_none (call.ForceSend sender msg) = streams_idle (call.ForceSend sender msg)
+      meets_none (call.TryRecv receiver) = streams_idle (call.TryRecv receiver)
+      meets_none (call.Close handle) = streams_idle (call.Close handle)
+      meets_none (call.Downgrade handle new) = streams_idle (call.Downgrade handle new)
+      meets_none (call.SameChannel a b) = streams_idle (call.SameChannel a b)
+      meets_none (call.IsClosed handle) = streams_idle (call.IsClosed handle)
+      meets_none (call.IsEmpty handle) = streams_idle (call.IsEmpty handle)
+      meets_none (call.IsFull handle) = streams_idle (call.IsFull handle)
+      meets_none (call.Len handle) = streams_idle (call.Len handle)
+      meets_none (call.Capacity handle) = streams_idle (call.Capacity handle)
+      meets_none (call.SenderCount handle) = streams_idle (call.SenderCount handle)
+      meets_none (call.ReceiverCount handle) = streams_idle (call.ReceiverCount handle)
+
+      operation_taken : (op : OpId) → names.is_taken op.0 r.operations ≡ names.is_taken op.0 (names_of r).operations
+      operation_taken op = sym (taken_seen operation_of op.0 r.operations)
+
+      handle_taken : (new : HandleId) → names.is_taken new.0 r.handles ≡ names.is_taken new.0 (names_of r).handles
+      handle_taken new = sym (taken_seen (λ (h : Hold). h.handle) new.0 r.handles)
+
+      taken_same : (c : Call T) → names_taken r c ≡ wants.names_taken (names_of r) c
+      taken_same (call.NewSend op sender msg) = operation_taken op
+      taken_same (call.NewRecv op receiver) = operation_taken op
+      taken_same (call.NewClosed op sender) = operation_taken op
+      taken_same (call.TryClone handle new) = handle_taken new
+      taken_same (call.Downgrade handle new) = handle_taken new
+      taken_same (call.Upgrade weak new) = handle_taken new
+      taken_same (call.Poll op) = refl
+      taken_same (call.PollRefused op) = refl
+      taken_same (call.GiveUp op) = refl
+      taken_same (call.SendIsTerminated op) = refl
+      taken_same (call.Drop handle) = refl
+      taken_same (call.PollNext receiver) = refl
+      taken_same (call.StreamIsTerminated receiver) = refl
+      taken_same (call.TrySend sender msg) = refl
+      taken_same (call.ForceSend sender msg) = refl
+      taken_same (call.TryRecv receiver) = refl
+      taken_same (call.Close handle) = refl
+      taken_same (call.SameChannel a b) = refl
+      taken_same (call.IsClosed handle) = refl
+      taken_same (call.IsEmpty handle) = refl
+      taken_same (call.IsFull handle) = refl
+      taken_same (call.Len handle) = refl
+      taken_same (call.Capacity handle) = refl
+      taken_same (call.SenderCount handle) = refl
+      taken_same (call.ReceiverCount handle) = refl
+
+      -- the first of these reasons that there is
+      abbrev first_of : Bool → Bool → Bool → Bool → Bool → Option WorldRefusal
+      first_of live fit meets borrowed taken =
+          if not live then Some UnknownName
+          else (if not fit then Some WrongKind
+          else (if meets then Some OpUnderWay
+          else (if borrowed then Some Borrowed
+          else (if taken then Some NameTaken else None))))
+
+      pub refusal_same : (s : State T) (c : Call T) → s.names ≡ names_of r → refusal r c ≡ wants.refusal s c
+      refusal_same s c e =
+          let live = list_all (is_live (names_of r)) (uses c) in
+          let fit = are_fit (names_of r) c in
+          let borrowed = takes_borrowed (names_of r) c in
+          let idle : refusal r c ≡ first_of live fit false borrowed (names_taken r c) =
+          ap (λ (b : Bool). first_of live fit b borrowed (names_taken r c)) (meets_none c) in
+          idle ∙ (ap (λ (b : Bool). first_of live fit false borrowed b) (taken_same c) ∙ rw e refl)

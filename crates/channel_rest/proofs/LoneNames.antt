@@ -1,0 +1,372 @@
+-- A call that was made alone leaves the names that the model leaves.
+use Rattle.std.proofs.Common.{◌≡◌, ℕ, ◌+◌, ◌-◌, ◌^◌, ◌<◌, arith, nat_eq, Bool, true, false, List, Option, None, Some, refl, sym, ap, ◌∙◌}
+use Rattle.std.proofs.lemmas.Cmp.{nat_eq_equiv}
+use Rattle.std.specs.Option.{option_map, option_map_or}
+use Rattle.async_channel.specs.Moves.{Channel}
+use Rattle.async_channel.specs.declared.reply.Reply.{Reply}
+use Rattle.async_channel.specs.declared.reply.Reply.TheVariants as reply
+use Rattle.async_channel.specs.declared.stage.Kept.{Kept}
+use Rattle.channel_alone.specs.Alone.{Outcome, Alone}
+use Rattle.channel_model.proofs.DirectoryLemmas.{at_seen, nothing_to_end}
+use Rattle.channel_model.specs.Answer.{weak_of, strong_of}
+use Rattle.channel_model.specs.Asked.{poll_asked}
+use Rattle.channel_model.specs.Names.{Directory, Names, at, with_spent, with_new, with_changed}
+use Rattle.channel_model.specs.Names as model
+use Rattle.channel_model.specs.State.{State}
+use Rattle.channel_model.specs.declared.call.Call.{Call}
+use Rattle.channel_model.specs.declared.call.Call.TheVariants as call
+use Rattle.channel_model.specs.declared.name.Handle.{Handle}
+use Rattle.channel_model.specs.declared.name.HandleId.{HandleId}
+use Rattle.channel_model.specs.declared.name.HandleKind.{HandleKind}
+use Rattle.channel_model.specs.declared.name.OpId.{OpId}
+use Rattle.channel_model.specs.declared.name.Waiter.{Waiter}
+use Rattle.channel_refinement.specs.Over.{polled_names, refused_names, given_up_names, made_names, kind_at, names_after}
+use Rattle.channel_interleaving.specs.Bookkeeping.{asks, unpolled, leave_handle_of, new_from, lent_by, operation_named, handle_named, lent_to_poll, installed, settled, with_operation, all_woken}
+use Rattle.channel_interleaving.specs.Roll.{names_of, operation_of, operation_at, handle_at, held_of, with_lent, with_standing, with_given_back, standing_with}
+use Rattle.channel_interleaving.specs.declared.names.Errand.{Errand}
+use Rattle.channel_interleaving.specs.declared.names.Errand.TheVariants as errand
+use Rattle.channel_interleaving.specs.declared.names.Hold.{Hold}
+use Rattle.channel_interleaving.specs.declared.names.Operation.{Operation}
+use Rattle.channel_interleaving.specs.declared.names.OperationKind.TheVariants as kind
+use Rattle.channel_interleaving.specs.declared.names.Standing.TheVariants.{IsPolled}
+use Rattle.channel_interleaving.specs.declared.roll.Roll.{Roll}
+use Rattle.channel_rest.proofs.LoneDirectory.{views_set, changed_at, changed_none, changed_some, changed_twice, same_put_back}
+use Rattle.channel_rest.proofs.LoneSeen.{handle_of, more_of, Lendable, back_lent, back_both, lent_is, with_message, put_twice, borrowed_is, lent_names, back_names, left_names, with_operations, seen_lent, seen_back, seen_standing, seen_to_poll, seen_restored, all_seen}
+use Rattle.channel_interleaving.specs.Lone.{names_alone}
+use Rattle.channel_rest.specs.Lone.{CanBeLent}
+
+own : (n : ℕ) → nat_eq n n ≡ true
+own n = nat_eq_equiv.refl n
+
+set_first : {X : Type 0} (n : ℕ) (x : X) (d : Directory X) → with_changed n x (with_spent n d) ≡ with_new n x d
+set_first n x d = rw (own n) refl
+
+kinds : (to : HandleKind → HandleKind) (o : Option Handle)
+    → option_map to (option_map (λ (h : Handle). h.kind) o) ≡ option_map (λ (h : Handle). to h.kind) o
+kinds to None = refl
+kinds to (Some h) = refl
+
+module _ {T : Type 0} where
+  -- ---- what a call writes back, as one call at a time sees it
+
+  abbrev installed_names : HandleId → HandleKind → Reply T → Names T → Names T
+  installed_names new k reply.Made n =
+      model.with_handles (with_changed new.0 (record { kind = k; borrowers = 0 }) n.handles) n
+  installed_names new k x n = n
+
+  abbrev settled_names : Errand T → Reply T → Kept T → Names T → Names T
+  settled_names errand.Nothing x kept n = n
+  settled_names (errand.Leave handle) x kept n = back_names handle n
+  settled_names (errand.LeaveBoth a b) x kept n = back_names b (back_names a n)
+  settled_names (errand.Make op operation) x kept n =
+      with_operations (with_changed op.0 (operation_of operation) n.operations) n
+  settled_names (errand.Poll op) x kept n = left_names kept.message op n
+  settled_names (errand.PollNext receiver) x kept n = back_names receiver n
+  settled_names (errand.New from new k) x kept n = installed_names new k x (back_names from n)
+
+  seen_installed : (new : HandleId) (k : HandleKind) (x : Reply T) (r : Roll T)
+      → names_of (installed new k x r) ≡ installed_names new k x (names_of r)
+  seen_installed new k reply.Made r =
+      ap (λ (d : Directory Handle). model.with_handles d (names_of r))
+      (views_set handle_of new.0 r.handles (Some (record { handle = record { kind = k; borrowers = 0 }; standing = _ })))
+  seen_installed new k x r = refl
+
+  seen_settled : (e : Errand T) (x : Reply T) (kept : Kept T) (r : Roll T)
+      → names_of (settled e x kept r) ≡ settled_names e x kept (names_of r)
+  seen_settled errand.Nothing x kept r = refl
+  seen_settled (errand.Leave handle) x kept r = seen_back r handle
+  seen_settled (errand.LeaveBoth a b) x kept r =
+      seen_back (with_given_back a r) b ∙ ap (back_names b) (seen_back r a)
+  seen_settled (errand.Make op operation) x kept r =
+      ap (λ (d : Directory (model.Operation T)). with_operations d (names_of r))
+      (views_set operation_of op.0 r.operations (Some operation))
+  seen_settled (errand.Poll op) x kept r = seen_restored r kept op
+  seen_settled (errand.PollNext receiver) x kept r =
+      seen_back (with_standing (standing_with kept.key) receiver r) receiver
+      ∙ ap (back_names receiver) (seen_standing r (λ h. standing_with kept.key) receiver)
+  seen_settled (errand.New from new k) x kept r =
+      seen_installed new k x (with_given_back from r) ∙ ap (installed_names new k x) (seen_back r from)
+
+  -- and it is so whoever was woken
+  ends_so : (e : Errand T) (x : Reply T) (kept : Kept T) (ws : List Waiter) (r : Roll T) (n : Names T) → names_of r ≡ n
+      → names_of (settled e x kept (all_woken ws r)) ≡ settled_names e x kept n
+  ends_so e x kept ws r n same =
+      seen_settled e x kept (all_woken ws r) ∙ ap (settled_names e x kept) (all_seen ws r ∙ same)
+
+  module _ (r : Roll T) where
+    abbrev handles : Directory Handle
+    handles = (names_of r).handles
+
+    abbrev operations : Directory (model.Operation T)
+    operations = (names_of r).operations
+
+    seen_at : (handle : HandleId) → at handle.0 handles ≡ handle_at handle r
+    seen_at handle = at_seen handle_of handle.0 r.handles
+
+    operation_seen : (op : OpId) → at op.0 operations ≡ operation_at op r
+    operation_seen op = at_seen operation_of op.0 r.operations
+
+    -- a new handle is as one call at a time makes it, or doesn't
+    installed_is : (new : HandleId) (k : HandleKind) (x : Reply T)
+        → installed_names new k x (model.with_handles (with_spent new.0 handles) (names_of r))
+        ≡ made_names new (Some k) x (names_of r)
+    installed_is new k reply.Made =
+        ap (λ (d : Directory Handle). model.with_handles d (names_of r))
+        (set_first new.0 (record { kind = k; borrowers = 0 }) handles)
+    installed_is new k x = refl
+
+    -- ---- polls
+
+    -- an operation has what its poll left to it
+    polls : (op : OpId) (x : Reply T) (kept : Kept T) (ws : List Waiter)
+        → names_of (settled (errand.Poll op) x kept (all_woken ws (with_operation lent_to_poll op r)))
+        ≡ left_names kept.message op (names_of r)
+    polls op x kept ws =
+        ends_so (errand.Poll op) x kept ws (with_operation lent_to_poll op r) (left_names None op (names_of r))
+        (seen_to_poll r op)
+        ∙ ap (λ (d : Directory (model.Operation T)). with_operations d (names_of r))
+        (changed_twice (with_message None) (with_message kept.message) (with_message kept.message)
+        (put_twice None kept.message) op.0 operations)
+
+    changed : (op : OpId) (left : Option T) (y : model.Operation T) → at op.0 operations ≡ Some y
+        → left_names left op (names_of r) ≡ model.with_operation_changed op (with_message left y) (names_of r)
+    changed op left y e =
+        ap (λ (d : Directory (model.Operation T)). with_operations d (names_of r))
+        (changed_some (with_message left) op.0 operations y e)
+
+    unchanged : (op : OpId) (left : Option T) (y : model.Operation T) → at op.0 operations ≡ Some y → with_message left y ≡ y
+        → left_names left op (names_of r) ≡ names_of r
+    unchanged op left y e same =
+        changed op left y e ∙ ap (λ (d : Directory (model.Operation T)). with_operations d (names_of r))
+        (ap (λ (z : model.Operation T). with_changed op.0 z operations) same ∙ same_put_back op.0 operations y e)
+
+    nothing : (op : OpId) (left : Option T) → at op.0 operations ≡ None → left_names left op (names_of r) ≡ names_of r
+    nothing op left e =
+        ap (λ (d : Directory (model.Operation T)). with_operations d (names_of r))
+        (changed_none (with_message left) op.0 operations e)
+
+    -- only an unfinished send is changed by it
+    polled_is : (op : OpId) (y : Option (model.Operation T)) (channel : Channel T Waiter) (o : Outcome T Waiter)
+        → at op.0 operations ≡ y → Alone (poll_asked (held_of r) op y) channel o
+        → left_names o.kept.message op (names_of r) ≡ polled_names op y o.kept.message (names_of r)
+    polled_is op (Some (model.send handle (Some m))) channel o e alone = changed op o.kept.message _ e
+    polled_is op (Some (model.send handle None)) channel o e alone =
+        unchanged op o.kept.message _ e (ap (λ (p : Outcome T Waiter). model.send handle p.kept.message) alone)
+    polled_is op (Some (model.recv handle)) channel o e alone = unchanged op o.kept.message _ e refl
+    polled_is op (Some (model.closing handle)) channel o e alone = unchanged op o.kept.message _ e refl
+    polled_is op None channel o e alone = nothing op o.kept.message e
+
+    refused_is : (op : OpId) (y : Option (model.Operation T)) (left : Option T) → at op.0 operations ≡ y
+        → left_names left op (names_of r) ≡ refused_names op y left (names_of r)
+    refused_is op (Some (model.send handle msg)) left e = changed op left _ e
+    refused_is op (Some (model.recv handle)) left e = unchanged op left _ e refl
+    refused_is op (Some (model.closing handle)) left e = unchanged op left _ e refl
+    refused_is op None left e = nothing op left e
+
+    -- ---- what lives no more
+
+    gives_up : (op : OpId) (y : Option (Operation T)) (x : Reply T) (kept : Kept T) (ws : List Waiter) → at op.0 r.operations ≡ y
+        → names_of (settled (leave_handle_of y) x kept (all_woken ws (record r { operations = model.without op.0 r.operations })))
+        ≡ given_up_names op (option_map operation_of y) (names_of r)
+    gives_up op None x kept ws e =
+        ends_so errand.Nothing x kept ws (record r { operations = model.without op.0 r.operations }) (names_of r)
+        (ap (λ (d : Directory (model.Operation T)). with_operations d (names_of r))
+        (views_set operation_of op.0 r.operations None
+        ∙ nothing_to_end op.0 operations (at_seen operation_of op.0 r.operations ∙ ap (option_map operation_of) e)))
+    gives_up op (Some y) x kept ws e =
+        ends_so (errand.Leave y.handle) x kept ws (record r { operations = model.without op.0 r.operations }) _
+        (ap (λ (d : Directory (model.Operation T)). with_operations d (names_of r))
+        (views_set operation_of op.0 r.operations None))
+        ∙ ap (λ (h : HandleId). let n : Names T =
+        record { handles = model.given_back h handles; operations = model.without op.0 operations } in n)
+        (sym (borrowed_is y))
+
+    drops : (handle : HandleId) (x : Reply T) (kept : Kept T) (ws : List Waiter)
+        → names_of (settled errand.Nothing x kept (all_woken ws (record r { handles = model.without handle.0 r.handles })))
+        ≡ model.with_handles (model.without handle.0 handles) (names_of r)
+    drops handle x kept ws =
+        ends_so errand.Nothing x kept ws (record r { handles = model.without handle.0 r.handles }) _
+        (ap (λ (d : Directory Handle). model.with_handles d (names_of r)) (views_set handle_of handle.0 r.handles None))
+
+  -- ---- calls through handles
+
+  module _ (r : Roll T) (few : CanBeLent r) where
+    lendable : (name : ℕ) → Lendable 2 name (handles r)
+    lendable name h e = by (at name r.handles) refl (sym (at_seen handle_of name r.handles) ∙ e)
+      where
+        by : (o : Option Hold) → at name r.handles ≡ o → option_map handle_of o ≡ Some h → h.borrowers + 2 < 2 ^ 64 - 1
+        by None f g = absurd (let no : None ≡ Some h = g in cc)
+        by (Some x) f g =
+            let same : x.handle.borrowers ≡ h.borrowers =
+            ap (λ (o : Option Handle). option_map_or (λ (y : Handle). y.borrowers) o 0) g in
+            let small : x.handle.borrowers + 2 < 2 ^ 64 - 1 = few name x f in
+            omega (arith, same, small)
+
+    lendable_once : (name : ℕ) → Lendable 1 name (handles r)
+    lendable_once name h e = let small : h.borrowers + 2 < 2 ^ 64 - 1 = lendable name h e in omega (arith, small)
+
+    -- a new name is no reason to lend less
+    spent_lendable : (name new : ℕ) → Lendable 1 name (with_spent new (handles r))
+    spent_lendable name new h e = by (nat_eq name new) refl e
+      where
+        by : (t : Bool) → nat_eq name new ≡ t → at name (with_spent new (handles r)) ≡ Some h → h.borrowers + 1 < 2 ^ 64 - 1
+        by true u g = absurd (let no : None ≡ Some h = sym (gone u) ∙ g in cc)
+          where
+            gone : nat_eq name new ≡ true → at name (with_spent new (handles r)) ≡ None
+            gone v = rw v refl
+        by false u g = lendable_once name h (sym (there u) ∙ g)
+          where
+            there : nat_eq name new ≡ false → at name (with_spent new (handles r)) ≡ at name (handles r)
+            there v = rw v refl
+
+    back_is : (handle : HandleId) → back_names handle (lent_names handle (names_of r)) ≡ names_of r
+    back_is handle =
+        ap (λ (d : Directory Handle). model.with_handles d (names_of r)) (back_lent handle.0 (handles r) (lendable_once handle.0))
+
+    through : (handle : HandleId) (x : Reply T) (kept : Kept T) (ws : List Waiter)
+        → names_of (settled (errand.Leave handle) x kept (all_woken ws (with_lent handle r))) ≡ names_of r
+    through handle x kept ws =
+        ends_so (errand.Leave handle) x kept ws (with_lent handle r) (lent_names handle (names_of r)) (seen_lent r handle)
+        ∙ back_is handle
+
+    through_both : (a b : HandleId) (x : Reply T) (kept : Kept T) (ws : List Waiter)
+        → names_of (settled (errand.LeaveBoth a b) x kept (all_woken ws (with_lent b (with_lent a r)))) ≡ names_of r
+    through_both a b x kept ws =
+        ends_so (errand.LeaveBoth a b) x kept ws (with_lent b (with_lent a r)) (lent_names b (lent_names a (names_of r)))
+        (seen_lent (with_lent a r) b ∙ ap (lent_names b) (seen_lent r a))
+        ∙ ap (λ (d : Directory Handle). model.with_handles d (names_of r))
+        (back_both a.0 b.0 (handles r) (lendable a.0) (lendable b.0))
+
+    streamed : (receiver : HandleId) (x : Reply T) (kept : Kept T) (ws : List Waiter)
+        → names_of (settled (errand.PollNext receiver) x kept
+        (all_woken ws (with_lent receiver (with_standing (IsPolled false) receiver r)))) ≡ names_of r
+    streamed receiver x kept ws =
+        ends_so (errand.PollNext receiver) x kept ws (with_lent receiver (with_standing (IsPolled false) receiver r))
+        (lent_names receiver (names_of r))
+        (seen_lent (with_standing (IsPolled false) receiver r) receiver
+        ∙ ap (lent_names receiver) (seen_standing r (λ h. IsPolled false) receiver))
+        ∙ back_is receiver
+
+    -- a call through the handle of an operation
+    through_of : (o : Option (Operation T)) (x : Reply T) (kept : Kept T) (ws : List Waiter)
+        → names_of (settled (leave_handle_of o) x kept (all_woken ws (lent_by o r))) ≡ names_of r
+    through_of None x kept ws = ends_so errand.Nothing x kept ws r (names_of r) refl
+    through_of (Some o) x kept ws = through o.handle x kept ws
+
+    -- ---- new operations
+
+    made : (op : OpId) (handle : HandleId) (operation : Operation T) (x : Reply T) (kept : Kept T) (ws : List Waiter)
+        → operation.handle ≡ handle
+        → names_of (settled (errand.Make op operation) x kept (all_woken ws (with_lent handle (operation_named op r))))
+        ≡ model.with_operation op (operation_of operation) (names_of r)
+    made op handle operation x kept ws same =
+        ends_so (errand.Make op operation) x kept ws (with_lent handle (operation_named op r)) _
+        (seen_lent (operation_named op r) handle)
+        ∙ (ap (λ (d : Directory (model.Operation T)). let n : Names T =
+        record { handles = changed_at more_of handle.0 (handles r); operations = d } in n)
+        (set_first op.0 (operation_of operation) (operations r))
+        ∙ ap (λ (d : Directory Handle). let n : Names T =
+        record { handles = d; operations = with_new op.0 (operation_of operation) (operations r) } in n)
+        (lent_is handle (handles r) (lendable_once handle.0)
+        ∙ ap (λ (h : HandleId). model.lent h (handles r)) (sym (borrowed_is operation ∙ same))))
+
+    -- ---- new handles
+
+    newly : (from new : HandleId) (to : HandleKind → HandleKind) (o : Option Handle) (x : Reply T) (kept : Kept T)
+        (ws : List Waiter) → at from.0 (handles r) ≡ o
+        → names_of (settled (new_from from new to o) x kept (all_woken ws (with_lent from (handle_named new r))))
+        ≡ made_names new (option_map (λ (h : Handle). to h.kind) o) x (names_of r)
+    newly from new to None x kept ws e =
+        ends_so errand.Nothing x kept ws (with_lent from (handle_named new r)) _ (seen_lent (handle_named new r) from)
+        ∙ ap (λ (d : Directory Handle). model.with_handles d (names_of r))
+        (changed_none more_of from.0 (with_spent new.0 (handles r)) (by (nat_eq from.0 new.0) refl))
+      where
+        by : (t : Bool) → nat_eq from.0 new.0 ≡ t → at from.0 (with_spent new.0 (handles r)) ≡ None
+        by true u = rw u refl
+        by false u = rw u e
+    newly from new to (Some h) x kept ws e =
+        ends_so (errand.New from new (to h.kind)) x kept ws (with_lent from (handle_named new r)) _
+        (seen_lent (handle_named new r) from)
+        ∙ (ap (λ (d : Directory Handle). installed_names new (to h.kind) x (model.with_handles d (names_of r)))
+        (back_lent from.0 (with_spent new.0 (handles r)) (spent_lendable from.0 new.0))
+        ∙ installed_is r new (to h.kind) x)
+
+  -- what holds of these names
+  follow : (r : Roll T) (s : State T) (n : Names T) (f : Names T → Names T) → s.names ≡ names_of r → n ≡ f (names_of r)
+      → n ≡ f s.names
+  follow r s n f same h = h ∙ sym (ap f same)
+
+  -- a call made alone leaves just the names that the model leaves
+  pub names_follow : (r : Roll T) (c : Call T) (s : State T) (channel : Channel T Waiter) (o : Outcome T Waiter)
+      → s.names ≡ names_of r → CanBeLent r → Alone (asks r c) channel o
+      → names_of (names_alone r c o.reply o.kept o.woken) ≡ names_after s c o
+  names_follow r (call.NewSend op sender msg) s channel o same few alone =
+      follow r s _ (λ n. model.with_operation op (model.send sender (Some msg)) n) same
+      (made r few op sender (unpolled kind.Send sender (Some msg)) o.reply o.kept o.woken refl)
+  names_follow r (call.NewRecv op receiver) s channel o same few alone =
+      follow r s _ (λ n. model.with_operation op (model.recv receiver) n) same
+      (made r few op receiver (unpolled kind.Receive receiver None) o.reply o.kept o.woken refl)
+  names_follow r (call.NewClosed op sender) s channel o same few alone =
+      follow r s _ (λ n. model.with_operation op (model.closing sender) n) same
+      (made r few op sender (unpolled kind.Closing sender None) o.reply o.kept o.woken refl)
+  names_follow r (call.Poll op) s channel o same few alone =
+      follow r s _ (λ n. polled_names op (at op.0 n.operations) o.kept.message n) same
+      (polls r op o.reply o.kept o.woken
+      ∙ (polled_is r op (operation_at op r) channel o (operation_seen r op) alone
+      ∙ ap (λ y. polled_names op y o.kept.message (names_of r)) (sym (operation_seen r op))))
+  names_follow r (call.PollRefused op) s channel o same few alone =
+      follow r s _ (λ n. refused_names op (at op.0 n.operations) o.kept.message n) same
+      (polls r op o.reply o.kept o.woken
+      ∙ (refused_is r op (operation_at op r) o.kept.message (operation_seen r op)
+      ∙ ap (λ y. refused_names op y o.kept.message (names_of r)) (sym (operation_seen r op))))
+  names_follow r (call.GiveUp op) s channel o same few alone =
+      follow r s _ (λ n. given_up_names op (at op.0 n.operations) n) same
+      (gives_up r op (at op.0 r.operations) o.reply o.kept o.woken refl
+      ∙ ap (λ y. given_up_names op y (names_of r)) (sym (operation_seen r op)))
+  names_follow r (call.SendIsTerminated op) s channel o same few alone =
+      follow r s _ (λ n. n) same (through_of r few (at op.0 r.operations) o.reply o.kept o.woken)
+  names_follow r (call.PollNext receiver) s channel o same few alone =
+      follow r s _ (λ n. n) same (streamed r few receiver o.reply o.kept o.woken)
+  names_follow r (call.Drop handle) s channel o same few alone =
+      follow r s _ (λ n. model.with_handles (model.without handle.0 n.handles) n) same
+      (drops r handle o.reply o.kept o.woken)
+  names_follow r (call.TryClone handle new) s channel o same few alone =
+      follow r s _ (λ n. made_names new (kind_at handle n) o.reply n) same
+      (newly r few handle new (λ k. k) (handle_at handle r) o.reply o.kept o.woken (seen_at r handle)
+      ∙ ap (λ y. made_names new (option_map (λ (h : Handle). h.kind) y) o.reply (names_of r)) (sym (seen_at r handle)))
+  names_follow r (call.Downgrade handle new) s channel o same few alone =
+      follow r s _ (λ n. made_names new (option_map weak_of (kind_at handle n)) o.reply n) same
+      (newly r few handle new weak_of (handle_at handle r) o.reply o.kept o.woken (seen_at r handle)
+      ∙ ap (λ k. made_names new k o.reply (names_of r)) (sym (kinds weak_of (handle_at handle r))
+      ∙ ap (λ y. option_map weak_of (option_map (λ (h : Handle). h.kind) y)) (sym (seen_at r handle))))
+  names_follow r (call.Upgrade weak new) s channel o same few alone =
+      follow r s _ (λ n. made_names new (option_map strong_of (kind_at weak n)) o.reply n) same
+      (newly r few weak new strong_of (handle_at weak r) o.reply o.kept o.woken (seen_at r weak)
+      ∙ ap (λ k. made_names new k o.reply (names_of r)) (sym (kinds strong_of (handle_at weak r))
+      ∙ ap (λ y. option_map strong_of (option_map (λ (h : Handle). h.kind) y)) (sym (seen_at r weak))))
+  names_follow r (call.SameChannel a b) s channel o same few alone =
+      follow r s _ (λ n. n) same (through_both r few a b o.reply o.kept o.woken)
+  names_follow r (call.StreamIsTerminated receiver) s channel o same few alone =
+      follow r s _ (λ n. n) same (through r few receiver o.reply o.kept o.woken)
+  names_follow r (call.TrySend sender msg) s channel o same few alone =
+      follow r s _ (λ n. n) same (through r few sender o.reply o.kept o.woken)
+  names_follow r (call.ForceSend sender msg) s channel o same few alone =
+      follow r s _ (λ n. n) same (through r few sender o.reply o.kept o.woken)
+  names_follow r (call.TryRecv receiver) s channel o same few alone =
+      follow r s _ (λ n. n) same (through r few receiver o.reply o.kept o.woken)
+  names_follow r (call.Close handle) s channel o same few alone =
+      follow r s _ (λ n. n) same (through r few handle o.reply o.kept o.woken)
+  names_follow r (call.IsClosed handle) s channel o same few alone =
+      follow r s _ (λ n. n) same (through r few handle o.reply o.kept o.woken)
+  names_follow r (call.IsEmpty handle) s channel o same few alone =
+      follow r s _ (λ n. n) same (through r few handle o.reply o.kept o.woken)
+  names_follow r (call.IsFull handle) s channel o same few alone =
+      follow r s _ (λ n. n) same (through r few handle o.reply o.kept o.woken)
+  names_follow r (call.Len handle) s channel o same few alone =
+      follow r s _ (λ n. n) same (through r few handle o.reply o.kept o.woken)
+  names_follow r (call.Capacity handle) s channel o same few alone =
+      follow r s _ (λ n. n) same (through r few handle o.reply o.kept o.woken)
+  names_follow r (call.SenderCount handle) s channel o same few alone =
+      follow r s _ (λ n. n) same (through r few handle o.reply o.kept o.woken)
+  names_follow r (call.ReceiverCount handle) s channel o same few alone =
+      follow r s _ (λ n. n) same (through r few handle o.reply o.kept o.woken)
