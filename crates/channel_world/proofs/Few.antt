@@ -22,7 +22,7 @@ use Rattle.channel_model.specs.declared.name.Waiter.TheVariants.{Op, Stream}
 use Rattle.channel_model.specs.declared.news.News.TheVariants.{Nothing, Message, Room, Closing, NextIn}
 use Rattle.channel_model.specs.declared.space.Space.{Space}
 use Rattle.channel_model.specs.declared.space.Space.TheVariants.{Open, Filled, Shut}
-use Rattle.channel_world.specs.Body.{untold_count, most_woken}
+use Rattle.channel_world.specs.World.{untold_count, most_woken}
 
 -- ---- lists
 

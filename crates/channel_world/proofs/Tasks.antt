@@ -6,7 +6,7 @@ use Rattle.channel_model.specs.Lines.{Waiting}
 use Rattle.channel_model.specs.declared.call.Call.{Call}
 use Rattle.channel_model.specs.declared.call.Call.TheVariants as call
 use Rattle.channel_model.specs.declared.name.HandleId.{HandleId}
-use Rattle.channel_world.specs.Body.{most_woken}
+use Rattle.channel_world.specs.World.{most_woken}
 use Rattle.event_listener.specs.Lists.{tasks_of}
 use Rattle.event_listener.specs.declared.key.Key.{Key}
 

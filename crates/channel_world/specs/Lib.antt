@@ -1,7 +1,4 @@
-pub mod Standings
-pub mod Pending
-pub mod Kept
-pub mod Body
+pub mod World
 pub mod Words
 pub mod Command
 pub mod Said

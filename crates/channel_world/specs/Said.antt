@@ -11,7 +11,7 @@ use Rattle.channel_model.specs.declared.name.HandleId.{HandleId}
 use Rattle.channel_model.specs.declared.name.OpId.{OpId}
 use Rattle.channel_world.specs.declared.script.table.Sort.{Sort}
 use Rattle.channel_world.specs.declared.script.table.Sort.TheVariants as sort
-use Rattle.channel_model.specs.State.{at_rest}
+use Rattle.channel_world.specs.World.{at_rest}
 use Rattle.channel_world.specs.declared.script.scene.Scene.{Scene as Staged}
 use Rattle.channel_world.specs.declared.script.command.Command.{Command as Parsed}
 use Rattle.channel_world.specs.declared.script.command.Command.TheVariants as parsed

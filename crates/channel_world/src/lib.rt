@@ -1,21 +1,13 @@
-//! A channel whose calls are made one at a time, by names, with every reply and every waking said exactly.
+//! A channel whose handles and operations are called by names: one call at a time, with every reply and every waking said
+//! exactly, or any interleaving of the steps of several parties.
 //!
-//! What is said stands in `channel_model`; the channel is that of `async_channel`, each call of it run to its end.
+//! What is said of calls made one at a time stands in `channel_model`, what is said of steps in `channel_interleaving`.
 #![tactic(auto)]
 
-mod asking;
-mod body;
 pub mod call;
-mod calling;
-mod handling;
 pub mod name;
-mod names;
-mod operations;
-mod pending;
-mod polling;
-mod refusal;
 mod room;
 mod run;
 pub mod script;
-mod standings;
+pub mod step;
 pub mod world;

@@ -6,12 +6,14 @@ use std::collections::VecDeque;
 impl<T: Drop> World<T> {
     ghost use Rattle.std.specs.Prelude.{◌≡◌, ◌<◌, IfSome, IfNone, vec_len, vec_capacity};
     ghost use Rattle.std.specs.Option.{option_map};
-    ghost use Rattle.channel_model.specs.State.{at_rest};
     ghost use Rattle.channel_model.specs.Run.{Runs, MayStop};
+    ghost use Rattle.channel_interleaving.specs.Floor.{IsQuiet};
+    ghost use Rattle.channel_world.specs.World.{at_rest};
 
     /// Why the list of calls stops at this one, if it does; where it doesn't, there is room for what it answers.
     fn stop(&self, call: &Call<T>, done: &mut Vec<Done<T>>) -> Option<WorldRefusal>
-        ensures why { MayStop self.now call.now result }
+        requires quiet { IsQuiet self.now }
+        ensures why { MayStop (at_rest self.now) call.now result }
         ensures items { done.new.items ≡ done.old.items }
         ensures room { IfNone result (vec_len done.new < vec_capacity done.new) }
     {
@@ -26,10 +28,13 @@ impl<T: Drop> World<T> {
     ///
     /// A refused call stays in front, with nothing of it done; `stopped` says at which place of the list, counted from
     /// 0, and why. The room for a call's answer is taken before it begins, and where that is refused the call is too.
-    /// Nothing here waits. Own to this project.
+    /// No call is under way when this begins, and none when it ends; however the world came about, by calls or by steps of
+    /// any parties. Nothing here waits. Own to this project.
     pub fn run_calls(&mut self, calls: &mut VecDeque<Call<T>>) -> CallRun<T>
+        requires quiet { IsQuiet self.old }
         ensures run { Runs (at_rest self.old) calls.old.items result.done.items (option_map (λ s. s.why) result.stopped) calls.new.items (at_rest self.new) }
         ensures place { IfSome result.stopped (λ s. s.place ≡ vec_len result.done) }
+        ensures quiet { IsQuiet self.new }
     {
         let mut done = Vec::new(self.alloc());
         while let Some(call) = calls.front() {

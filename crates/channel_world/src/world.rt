@@ -1,42 +1,39 @@
-//! A channel, its handles and its operations, called one at a time by their names.
-use super::body::Body;
+//! A channel, its handles and operations by their names: calls made one at a time, and steps of any interleaving.
 use super::call::{Call, Done, WorldRefusal};
+use super::step::{Run, Step};
 use async_channel::error::OpenError;
-use channel_refinement::laws::calls_are_over;
-use concurrent_queue::cells::QueueForm;
+use channel_interleaving::interleaved::Interleaved;
+use channel_rest::laws::a_call_made_alone_is_the_models;
 use event_listener::id::EventIds;
 use std::alloc::Global;
+use std::collections::VecDeque;
 use std::marker::Model;
 
-/// A channel, its handles and operations by their names, and who waits.
+/// A channel, its handles and operations by their names, who waits, and the calls that several parties have under way.
 ///
-/// Between its calls each name that waits is a live operation, a send among them unfinished, or a stream; it stands
-/// once, in its own line or among the woken, and nobody is left asleep beside what lets them go on. Its calls are made
-/// one at a time, each from its begin to its end, over the channel of `async_channel`. Own to this project; what the calls
-/// answer is as in `async-channel` 2.5.0.
+/// Handle 0 is the first sender, handle 1 the first receiver. Calls are made one at a time by `run_calls`, each from its begin
+/// to its end, or by steps of several parties in any order by `run_steps`; the one may follow the other wherever no call is
+/// under way. Own to this project; what the calls answer is as in `async-channel` 2.5.0.
 #[derive(Drop)]
 pub struct World<T> {
-    body: Body<T>,
+    pub(crate) steps: Interleaved<T>,
 }
 
 impl<T> Model for World<T> {
-    ghost use Rattle.channel_model.specs.State.{State};
-    ghost use Rattle.channel_world.specs.Body.{IsKept, state_of};
+    ghost use Rattle.channel_interleaving.specs.declared.floor.Floor.{Floor};
 
-    ghost Value = { State T };
+    ghost Value = { Floor T };
 
-    ghost view = { λ w. state_of w.body };
-
-    ghost invariant = { λ w. IsKept w.body };
+    ghost view = { λ w. w.steps };
 }
 
 impl<T: Drop> World<T> {
-    ghost use Rattle.std.specs.Prelude.{◌≡◌, ◌<◌, ◌+◌, ◌-◌, ◌^◌, None, Some, Err, OnOk, OnErr, IfOk, IfErr};
-    ghost use Rattle.channel_model.specs.State.{start, at_rest};
-    ghost use Rattle.channel_model.specs.Refusal.{refusal};
-    ghost use Rattle.channel_model.specs.Refused.{Answers};
+    ghost use Rattle.std.specs.Prelude.{◌≡◌, ◌<◌, ◌+◌, ◌-◌, ◌^◌, None, Some, Err, OnOk, OnErr, IfOk};
+    ghost use Rattle.channel_model.specs.State.{start};
+    ghost use Rattle.channel_interleaving.specs.Floor.{IsOpen, IsQuiet};
+    ghost use Rattle.channel_world.specs.World.{at_rest};
 
-    /// An open channel of this capacity, without a message.
+    /// An open channel of this capacity, without a message, and nobody at work.
     ///
     /// Memory is taken first, and then four identities together or none. A capacity above 2^58 is want of memory,
     /// without asking for any. As `async_channel::bounded`, which takes no source of identities.
@@ -46,73 +43,155 @@ impl<T: Drop> World<T> {
         ids: &mut EventIds,
     ) -> Result<World<T>, OpenError>
         requires { 0 < capacity }
-        ensures open { IfOk result (λ world. world ≡ start (Some capacity)) }
+        ensures open { IfOk result (λ world. at_rest world ≡ start (Some capacity)) }
+        ensures shown { IfOk result (λ world. IsOpen (Some capacity) world) }
+        ensures quiet { IfOk result (λ world. IsQuiet world) }
         ensures ids { OnOk result (ids.new ≡ ids.old + 4) }
         ensures unchanged { OnErr result (ids.new ≡ ids.old) }
         ensures limit { 2 ^ 58 < capacity → result ≡ Err OpenError.NoMemory }
         ensures used_up { result ≡ Err OpenError.IdsUsedUp → 2 ^ 64 - 1 < ids.old + 4 }
     {
-        if capacity > 1 << 58 {
-            return Err(OpenError::NoMemory);
+        match Interleaved::bounded(alloc, capacity, ids) {
+            Ok(steps) => Ok(World { steps }),
+            Err(why) => Err(why),
         }
-        let Ok(body) = Body::open(alloc, QueueForm::Bounded(capacity)) else {
-            return Err(OpenError::NoMemory);
-        };
-        let Ok(_ids) = ids.next_four() else {
-            return Err(OpenError::IdsUsedUp);
-        };
-        Ok(World { body })
     }
 
-    /// An open channel for any number of messages, without a message.
+    /// An open channel for any number of messages, without a message, and nobody at work.
     ///
     /// Memory is taken first, and then four identities together or none. As `async_channel::unbounded`, which takes no
     /// source of identities.
     pub fn unbounded(alloc: Global, ids: &mut EventIds) -> Result<World<T>, OpenError>
-        ensures open { IfOk result (λ world. world ≡ start None) }
+        ensures open { IfOk result (λ world. at_rest world ≡ start None) }
+        ensures shown { IfOk result (λ world. IsOpen None world) }
+        ensures quiet { IfOk result (λ world. IsQuiet world) }
         ensures ids { OnOk result (ids.new ≡ ids.old + 4) }
         ensures unchanged { OnErr result (ids.new ≡ ids.old) }
         ensures used_up { result ≡ Err OpenError.IdsUsedUp → 2 ^ 64 - 1 < ids.old + 4 }
     {
-        let Ok(body) = Body::open(alloc, QueueForm::Unbounded) else {
-            return Err(OpenError::NoMemory);
-        };
-        let Ok(_ids) = ids.next_four() else {
-            return Err(OpenError::IdsUsedUp);
-        };
-        Ok(World { body })
-    }
-
-    /// Makes a call that is not refused; or hands it back where its answer got no room, with nothing changed.
-    pub(crate) fn answer(&mut self, call: Call<T>) -> Result<Done<T>, Call<T>>
-        requires { refusal self.old call ≡ None }
-        ensures ok { IfOk result (λ d. Answers self.old call (record { after = self.new; reply = d.reply; woken = d.woken.items })) }
-        ensures err { OnErr result (self.new ≡ self.old) }
-        ensures back { IfErr result (λ c. c ≡ call) }
-    {
-        calls_are_over::<T>();
-        if !self.body.make_room(&call) {
-            return Err(call);
+        match Interleaved::unbounded(alloc, ids) {
+            Ok(steps) => Ok(World { steps }),
+            Err(why) => Err(why),
         }
-        let reply = self.body.make(call)?;
-        let woken = self.body.pending.take_names(self.body.alloc);
-        Ok(Done { reply, woken })
     }
 }
 
-impl<T> World<T> {
-    ghost use Rattle.std.specs.Prelude.{◌≡◌};
+impl<T: Drop> World<T> {
+    ghost use Rattle.std.specs.Prelude.{◌≡◌, length, vec_len};
+    ghost use Rattle.channel_model.specs.declared.name.Waiter.{Waiter};
+    ghost use Rattle.channel_steps.specs.Scene.{Scene};
+    ghost use Rattle.channel_steps.specs.Start.{CountsCalls};
+    ghost use Rattle.channel_interleaving.specs.Run.{Stops};
+    ghost use Rattle.channel_interleaving.specs.Roll.{is_woken};
+    ghost use Rattle.channel_interleaving.specs.Pending.{is_pending, how_many};
+    ghost use Rattle.channel_interleaving.specs.Floor.{book_of, Shown, AreOwned, AreOwed, RanTo, TellsQuiet};
+
+    /// Runs steps of any parties, from the front. The first one that is refused stays in front, with nothing of it done;
+    /// `stopped` says at which place of the list, counted from 0, and why.
+    ///
+    /// A step is one step of one call; a call that begins touches nothing. Whatever the order of the parties' steps is, and
+    /// wherever the list ends, the steps that were made are a run of the channel's steps, in which each call asked what it
+    /// asks given the names and the listeners held at that moment; each entry's mark, woken names and reply are that run's;
+    /// and the names are what the bookkeeping of these steps makes of them. So each call that answers has the marks that its
+    /// reply names and found what its reply says at a moment of its own, and what left the channel, followed by what it holds,
+    /// is what it held followed by what came, in order.
+    ///
+    /// At the moment at which the run ends, each listener on the channel's lists is held by one alone: by an operation or a
+    /// stream that is pending, or by a call under way that has it in hand. What is pending has its listener on its list, where
+    /// it waits to wake that name, unless the name was woken since its last poll.
+    ///
+    /// So nobody who is pending and wasn't woken since its last poll is forgotten there. Beside such a receive there are no
+    /// more messages than woken pending receives and sending and receiving calls under way. Beside such a send, while the
+    /// channel is open, it has a bound, and there are no more free places than woken pending sends and those calls. Beside
+    /// such a stream there is no message, or a sending call is under way. Beside any such one, where the channel is closed,
+    /// the call that closed it is under way.
+    ///
+    /// A step is refused for the first of these reasons that there is: the party that begins is at work; the one that steps
+    /// isn't; a used name doesn't live; what lives there is of another kind; its operation or its receiver's stream is being
+    /// polled; it drops, or polls as a stream, a handle in use; a new name was taken. Else it may be refused for want of
+    /// memory; after 2^61 steps and calls it is. Nothing waits. Own to this project.
+    pub fn run_steps(&mut self, steps: &mut VecDeque<Step<T>>) -> Run<T>
+        ensures ran { RanTo steps.old.items steps.new.items self.old result.trace.items self.new }
+        ensures stopped { Stops (book_of self.new) steps.new.items (vec_len result.trace) result.stopped }
+        ensures owned { AreOwned self.new }
+        ensures owed { AreOwed self.new }
+    {
+        self.steps.run_steps(steps)
+    }
+
+    /// Whether no call is under way. Own to this project.
+    pub fn is_quiet(&self) -> bool
+        ensures { TellsQuiet self.now result }
+    {
+        self.steps.is_quiet()
+    }
+
+    /// How many calls are under way. Own to this project.
+    pub fn under_way(&self) -> usize
+        ensures { CountsCalls self.now.parties.items result }
+    {
+        self.steps.under_way()
+    }
+
+    /// How many messages the channel holds. Own to this project.
+    pub fn messages(&self) -> u64
+        ensures { (s : Scene T Waiter) → Shown self.now s → result ≡ length s.now.queue.items }
+    {
+        self.steps.messages()
+    }
+
+    /// How many operations and streams are pending: they live, their last poll ended so, and no poll of them is under way.
+    /// A walk over all names. Own to this project.
+    pub fn pending(&self) -> usize
+        ensures { result ≡ how_many is_pending self.now.roll }
+    {
+        self.steps.pending()
+    }
+
+    /// How many of those that are pending were woken since their last poll. A walk over all names. Own to this project.
+    pub fn woken(&self) -> usize
+        ensures { result ≡ how_many is_woken self.now.roll }
+    {
+        self.steps.woken()
+    }
+}
+
+impl<T: Drop> World<T> {
+    ghost use Rattle.std.specs.Prelude.{◌≡◌, None, IfOk, IfErr, OnErr};
     ghost use Rattle.channel_model.specs.Refusal.{refusal};
+    ghost use Rattle.channel_model.specs.Refused.{Answers};
+    ghost use Rattle.channel_interleaving.specs.Floor.{IsQuiet};
+    ghost use Rattle.channel_world.specs.World.{at_rest};
+
+    /// Makes a call that is not refused, alone; or hands it back where its answer got no room, with nothing changed.
+    pub(crate) fn answer(&mut self, call: Call<T>) -> Result<Done<T>, Call<T>>
+        requires quiet { IsQuiet self.old }
+        requires accepted { refusal (at_rest self.old) call ≡ None }
+        ensures ok { IfOk result (λ d. Answers (at_rest self.old) call (record { after = at_rest self.new; reply = d.reply; woken = d.woken.items })) }
+        ensures quiet { IsQuiet self.new }
+        ensures err { OnErr result (at_rest self.new ≡ at_rest self.old) }
+        ensures back { IfErr result (λ c. c ≡ call) }
+    {
+        a_call_made_alone_is_the_models::<T>();
+        self.steps.keeps();
+        let Some(room) = self.room_for(&call) else {
+            return Err(call);
+        };
+        self.steps.call_alone(call, room)
+    }
 
     /// Why the call is refused, room for its answer aside.
     pub(crate) fn refusal(&self, call: &Call<T>) -> Option<WorldRefusal>
-        ensures { result ≡ refusal self.now call.now }
+        requires quiet { IsQuiet self.now }
+        ensures { result ≡ refusal (at_rest self.now) call.now }
     {
-        self.body.refusal(call)
+        a_call_made_alone_is_the_models::<T>();
+        self.steps.keeps();
+        self.steps.refusal(call)
     }
 
     /// Where the memory of its answers comes from.
     pub(crate) fn alloc(&self) -> Global {
-        self.body.alloc
+        self.steps.alloc()
     }
 }

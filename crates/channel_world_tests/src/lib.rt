@@ -5,6 +5,8 @@
 #[cfg(test)]
 mod ask;
 #[cfg(test)]
+mod both;
+#[cfg(test)]
 mod memory;
 #[cfg(test)]
 mod openings;

@@ -1,4 +1,6 @@
 //! Refused growths.
+ghost use Rattle.channel_interleaving.specs.Floor.{IsQuiet};
+
 use super::ask::{Ask, call};
 use super::said::{Said, says};
 use channel_world::call::{CallRun, WorldRefusal};
@@ -29,7 +31,10 @@ fn show(
     ask: Ask,
     said: Said,
     woken: &[Waiter],
-) -> Result<(), Fail> {
+) -> Result<(), Fail>
+    requires quiet { IsQuiet world.old }
+    ensures quiet { IsQuiet world.new }
+{
     let mut calls = VecDeque::new(rt.alloc());
     calls.push_back(call(ask))?;
     let mut run = world.run_calls(&mut calls);
@@ -49,7 +54,10 @@ fn show(
 }
 
 /// Receives wait, one after the other.
-fn wait_all(rt: &(impl AllocGlobal + Abort), world: &mut World<u64>) -> Result<(), Fail> {
+fn wait_all(rt: &(impl AllocGlobal + Abort), world: &mut World<u64>) -> Result<(), Fail>
+    requires quiet { IsQuiet world.old }
+    ensures quiet { IsQuiet world.new }
+{
     for number in 0..COUNT {
         let op = OpId(number);
         show(rt, world, Ask::Recv(op), Said::Made, &[])?;
@@ -59,7 +67,10 @@ fn wait_all(rt: &(impl AllocGlobal + Abort), world: &mut World<u64>) -> Result<(
 }
 
 /// Each message wakes the next receive.
-fn send_all(rt: &(impl AllocGlobal + Abort), world: &mut World<u64>) -> Result<(), Fail> {
+fn send_all(rt: &(impl AllocGlobal + Abort), world: &mut World<u64>) -> Result<(), Fail>
+    requires quiet { IsQuiet world.old }
+    ensures quiet { IsQuiet world.new }
+{
     for number in 0..COUNT {
         let next = [Waiter::Op(OpId(number))];
         let ask = Ask::TrySend(u64::from(number));
@@ -69,7 +80,10 @@ fn send_all(rt: &(impl AllocGlobal + Abort), world: &mut World<u64>) -> Result<(
 }
 
 /// Each receive gets its message.
-fn receive_all(rt: &(impl AllocGlobal + Abort), world: &mut World<u64>) -> Result<(), Fail> {
+fn receive_all(rt: &(impl AllocGlobal + Abort), world: &mut World<u64>) -> Result<(), Fail>
+    requires quiet { IsQuiet world.old }
+    ensures quiet { IsQuiet world.new }
+{
     for number in 0..COUNT {
         let received = Said::Received(u64::from(number));
         show(rt, world, Ask::Poll(OpId(number)), received, &[])?;
@@ -78,7 +92,10 @@ fn receive_all(rt: &(impl AllocGlobal + Abort), world: &mut World<u64>) -> Resul
 }
 
 /// Sends are made, finished and given up.
-fn finish_all(rt: &(impl AllocGlobal + Abort), world: &mut World<u64>) -> Result<(), Fail> {
+fn finish_all(rt: &(impl AllocGlobal + Abort), world: &mut World<u64>) -> Result<(), Fail>
+    requires quiet { IsQuiet world.old }
+    ensures quiet { IsQuiet world.new }
+{
     for number in COUNT..2 * COUNT {
         let op = OpId(number);
         let ask = Ask::Send(op, u64::from(number));
@@ -90,12 +107,26 @@ fn finish_all(rt: &(impl AllocGlobal + Abort), world: &mut World<u64>) -> Result
 }
 
 /// All messages are taken, in order.
-fn take_all(rt: &(impl AllocGlobal + Abort), world: &mut World<u64>) -> Result<(), Fail> {
+fn take_all(rt: &(impl AllocGlobal + Abort), world: &mut World<u64>) -> Result<(), Fail>
+    requires quiet { IsQuiet world.old }
+    ensures quiet { IsQuiet world.new }
+{
     for number in COUNT..2 * COUNT {
         let received = Said::Received(u64::from(number));
         show(rt, world, Ask::TryRecv, received, &[])?;
     }
     Ok(())
+}
+
+/// Receives wait, are told and get their messages; then sends are finished, and their messages are taken.
+fn show_all(rt: &(impl AllocGlobal + Abort), world: &mut World<u64>) -> Result<(), Fail>
+    requires quiet { IsQuiet world.old }
+{
+    wait_all(rt, world)?;
+    send_all(rt, world)?;
+    receive_all(rt, world)?;
+    finish_all(rt, world)?;
+    take_all(rt, world)
 }
 
 /// With one growth refused, wherever that is, and the call made once more, all answers are those of ample memory: a
@@ -104,9 +135,5 @@ fn take_all(rt: &(impl AllocGlobal + Abort), world: &mut World<u64>) -> Result<(
 fn a_refused_growth_loses_nothing(rt: HostRuntime) -> Result<(), Fail> {
     let mut ids = EventIds::new();
     let mut world: World<u64> = World::unbounded(rt.alloc(), &mut ids)?;
-    wait_all(&rt, &mut world)?;
-    send_all(&rt, &mut world)?;
-    receive_all(&rt, &mut world)?;
-    finish_all(&rt, &mut world)?;
-    take_all(&rt, &mut world)
+    show_all(&rt, &mut world)
 }

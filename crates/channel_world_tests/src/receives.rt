@@ -1,4 +1,6 @@
 //! Rows of receives.
+ghost use Rattle.channel_interleaving.specs.Floor.{IsQuiet};
+
 use super::ask::{Ask, R, S};
 use super::row::{quiet, run_refused, run_rows, waking};
 use super::said::Said;
@@ -16,10 +18,13 @@ const B: OpId = OpId(2);
 /// How many messages are held at once: more than one block of an unbounded queue has places for.
 const COUNT: u32 = 32;
 
-#[test]
-fn a_told_receive_that_is_given_up_passes_its_notice_on(rt: HostRuntime) -> Result<(), Fail> {
-    let mut ids = EventIds::new();
-    let mut world: World<u64> = World::bounded(rt.alloc(), 1, &mut ids)?;
+/// A receive is told of a message and given up.
+fn show_told_and_given_up(
+    rt: &(impl AllocGlobal + Abort),
+    world: &mut World<u64>,
+) -> Result<(), Fail>
+    requires quiet { IsQuiet world.old }
+{
     let rows = [
         quiet(Ask::Recv(A), Said::Made),
         quiet(Ask::Recv(B), Said::Made),
@@ -30,8 +35,15 @@ fn a_told_receive_that_is_given_up_passes_its_notice_on(rt: HostRuntime) -> Resu
         waking(Ask::GiveUp(A), Said::GivenUp(None), &[Waiter::Op(B)]),
         quiet(Ask::Poll(B), Said::Received(10)),
     ];
-    run_rows(&rt, &mut world, &rows)?;
-    run_refused(&rt, &mut world, Ask::Drop(R), WorldRefusal::Borrowed)
+    run_rows(rt, world, &rows)?;
+    run_refused(rt, world, Ask::Drop(R), WorldRefusal::Borrowed)
+}
+
+#[test]
+fn a_told_receive_that_is_given_up_passes_its_notice_on(rt: HostRuntime) -> Result<(), Fail> {
+    let mut ids = EventIds::new();
+    let mut world: World<u64> = World::bounded(rt.alloc(), 1, &mut ids)?;
+    show_told_and_given_up(&rt, &mut world)
 }
 
 #[test]
@@ -53,7 +65,10 @@ fn a_refused_poll_passes_its_notice_on(rt: HostRuntime) -> Result<(), Fail> {
 }
 
 /// The messages 1 to COUNT are sent.
-fn send_all(rt: &(impl AllocGlobal + Abort), world: &mut World<u64>) -> Result<(), Fail> {
+fn send_all(rt: &(impl AllocGlobal + Abort), world: &mut World<u64>) -> Result<(), Fail>
+    requires quiet { IsQuiet world.old }
+    ensures quiet { IsQuiet world.new }
+{
     for number in 1..COUNT + 1 {
         let rows = [quiet(Ask::TrySend(u64::from(number)), Said::Sent)];
         run_rows(rt, world, &rows)?;
@@ -62,7 +77,10 @@ fn send_all(rt: &(impl AllocGlobal + Abort), world: &mut World<u64>) -> Result<(
 }
 
 /// They are received in order.
-fn receive_all(rt: &(impl AllocGlobal + Abort), world: &mut World<u64>) -> Result<(), Fail> {
+fn receive_all(rt: &(impl AllocGlobal + Abort), world: &mut World<u64>) -> Result<(), Fail>
+    requires quiet { IsQuiet world.old }
+    ensures quiet { IsQuiet world.new }
+{
     for number in 1..COUNT + 1 {
         let op = OpId(number);
         let rows = [
@@ -75,16 +93,26 @@ fn receive_all(rt: &(impl AllocGlobal + Abort), world: &mut World<u64>) -> Resul
     Ok(())
 }
 
-#[test]
-fn messages_beyond_one_block_come_in_order(rt: HostRuntime) -> Result<(), Fail> {
-    let mut ids = EventIds::new();
-    let mut world: World<u64> = World::unbounded(rt.alloc(), &mut ids)?;
-    send_all(&rt, &mut world)?;
-    run_rows(&rt, &mut world, &[quiet(Ask::Len, Said::Count(32))])?;
-    receive_all(&rt, &mut world)?;
+/// More messages than one block has places for are sent and received.
+fn show_messages_beyond_one_block(
+    rt: &(impl AllocGlobal + Abort),
+    world: &mut World<u64>,
+) -> Result<(), Fail>
+    requires quiet { IsQuiet world.old }
+{
+    send_all(rt, world)?;
+    run_rows(rt, world, &[quiet(Ask::Len, Said::Count(32))])?;
+    receive_all(rt, world)?;
     let rows = [
         quiet(Ask::IsEmpty, Said::Flag(true)),
         quiet(Ask::TryRecv, Said::Empty),
     ];
-    run_rows(&rt, &mut world, &rows)
+    run_rows(rt, world, &rows)
+}
+
+#[test]
+fn messages_beyond_one_block_come_in_order(rt: HostRuntime) -> Result<(), Fail> {
+    let mut ids = EventIds::new();
+    let mut world: World<u64> = World::unbounded(rt.alloc(), &mut ids)?;
+    show_messages_beyond_one_block(&rt, &mut world)
 }

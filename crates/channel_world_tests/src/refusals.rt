@@ -1,11 +1,14 @@
 //! Refused calls, and the texts of refusals.
+ghost use Rattle.channel_interleaving.specs.Floor.{IsQuiet};
+
 use super::ask::{Ask, R, S};
-use super::row::{quiet, run_refused, run_rows};
+use super::row::{quiet, run_all_refused, run_refused, run_rows};
 use super::said::Said;
 use channel_world::call::WorldRefusal;
 use channel_world::name::{HandleId, OpId};
 use channel_world::world::World;
 use event_listener::id::EventIds;
+use std::process::Abort;
 use std::test::Fail;
 
 const A: OpId = OpId(1);
@@ -22,16 +25,19 @@ const NEW: HandleId = HandleId(8);
 
 const NOBODY: HandleId = HandleId(9);
 
-#[test]
-fn calls_of_unknown_names_or_wrong_kinds_are_refused(rt: HostRuntime) -> Result<(), Fail> {
-    let mut ids = EventIds::new();
-    let mut world: World<u64> = World::unbounded(rt.alloc(), &mut ids)?;
+/// Calls of names that nothing has, and of names of something else.
+fn show_unknown_names_or_wrong_kinds(
+    rt: &(impl AllocGlobal + Abort),
+    world: &mut World<u64>,
+) -> Result<(), Fail>
+    requires quiet { IsQuiet world.old }
+{
     let rows = [
         quiet(Ask::Downgrade(S, W), Said::Made),
         quiet(Ask::Recv(A), Said::Made),
     ];
-    run_rows(&rt, &mut world, &rows)?;
-    for (ask, why) in [
+    run_rows(rt, world, &rows)?;
+    let refused = [
         (Ask::Clone(NOBODY, NEW), WorldRefusal::UnknownName),
         (Ask::Downgrade(NOBODY, NEW), WorldRefusal::UnknownName),
         (Ask::Upgrade(NOBODY, NEW), WorldRefusal::UnknownName),
@@ -45,24 +51,32 @@ fn calls_of_unknown_names_or_wrong_kinds_are_refused(rt: HostRuntime) -> Result<
         (Ask::Close(W), WorldRefusal::WrongKind),
         (Ask::SameChannel(S, R), WorldRefusal::WrongKind),
         (Ask::SendIsTerminated(A), WorldRefusal::WrongKind),
-    ] {
-        run_refused(&rt, &mut world, ask, why)?;
-    }
-    Ok(())
+    ];
+    run_all_refused(rt, world, &refused)
 }
 
 #[test]
-fn calls_of_borrowed_handles_or_taken_names_are_refused(rt: HostRuntime) -> Result<(), Fail> {
+fn calls_of_unknown_names_or_wrong_kinds_are_refused(rt: HostRuntime) -> Result<(), Fail> {
     let mut ids = EventIds::new();
     let mut world: World<u64> = World::unbounded(rt.alloc(), &mut ids)?;
+    show_unknown_names_or_wrong_kinds(&rt, &mut world)
+}
+
+/// Calls of handles that a live operation borrows, and with new names that were taken before.
+fn show_borrowed_handles_or_taken_names(
+    rt: &(impl AllocGlobal + Abort),
+    world: &mut World<u64>,
+) -> Result<(), Fail>
+    requires quiet { IsQuiet world.old }
+{
     let rows = [
         quiet(Ask::Downgrade(S, W), Said::Made),
         quiet(Ask::Recv(A), Said::Made),
         quiet(Ask::Close(S), Said::Closes(true)),
         quiet(Ask::Upgrade(W, X), Said::NotMade),
     ];
-    run_rows(&rt, &mut world, &rows)?;
-    for (ask, why) in [
+    run_rows(rt, world, &rows)?;
+    let refused = [
         (Ask::Next(R), WorldRefusal::Borrowed),
         (Ask::Drop(R), WorldRefusal::Borrowed),
         (Ask::Clone(S, R), WorldRefusal::NameTaken),
@@ -70,15 +84,21 @@ fn calls_of_borrowed_handles_or_taken_names_are_refused(rt: HostRuntime) -> Resu
         (Ask::Upgrade(W, X), WorldRefusal::NameTaken),
         (Ask::Clone(S, X), WorldRefusal::NameTaken),
         (Ask::AwaitClosing(A, S), WorldRefusal::NameTaken),
-    ] {
-        run_refused(&rt, &mut world, ask, why)?;
-    }
+    ];
+    run_all_refused(rt, world, &refused)?;
     let rows = [
         quiet(Ask::GiveUp(A), Said::GivenUp(None)),
         quiet(Ask::Drop(R), Said::Done),
     ];
-    run_rows(&rt, &mut world, &rows)?;
-    run_refused(&rt, &mut world, Ask::Poll(A), WorldRefusal::UnknownName)
+    run_rows(rt, world, &rows)?;
+    run_refused(rt, world, Ask::Poll(A), WorldRefusal::UnknownName)
+}
+
+#[test]
+fn calls_of_borrowed_handles_or_taken_names_are_refused(rt: HostRuntime) -> Result<(), Fail> {
+    let mut ids = EventIds::new();
+    let mut world: World<u64> = World::unbounded(rt.alloc(), &mut ids)?;
+    show_borrowed_handles_or_taken_names(&rt, &mut world)
 }
 
 #[test]

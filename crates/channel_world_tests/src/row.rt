@@ -1,4 +1,6 @@
 //! Calls, and what they are to answer.
+ghost use Rattle.channel_interleaving.specs.Floor.{IsQuiet};
+
 use super::ask::{Ask, call};
 use super::said::{Said, says};
 use channel_world::call::{CallRun, WorldRefusal};
@@ -53,7 +55,10 @@ pub fn run_rows(
     rt: &(impl AllocGlobal + Abort),
     world: &mut World<u64>,
     rows: &[Row<'_>],
-) -> Result<(), Fail> {
+) -> Result<(), Fail>
+    requires quiet { IsQuiet world.old }
+    ensures quiet { IsQuiet world.new }
+{
     let mut calls = VecDeque::new(rt.alloc());
     for row in rows {
         calls.push_back(call(row.ask))?;
@@ -76,7 +81,10 @@ pub fn run_refused(
     world: &mut World<u64>,
     ask: Ask,
     why: WorldRefusal,
-) -> Result<(), Fail> {
+) -> Result<(), Fail>
+    requires quiet { IsQuiet world.old }
+    ensures quiet { IsQuiet world.new }
+{
     let mut calls = VecDeque::new(rt.alloc());
     calls.push_back(call(ask))?;
     let run = world.run_calls(&mut calls);
@@ -86,5 +94,20 @@ pub fn run_refused(
     );
     assert_eq!(rt; run.done.len(), 0);
     assert_eq!(rt; calls.len(), 1);
+    Ok(())
+}
+
+/// Makes calls that are each to be refused, and to stay in the list.
+pub fn run_all_refused(
+    rt: &(impl AllocGlobal + Abort),
+    world: &mut World<u64>,
+    rows: &[(Ask, WorldRefusal)],
+) -> Result<(), Fail>
+    requires quiet { IsQuiet world.old }
+    ensures quiet { IsQuiet world.new }
+{
+    for row in rows {
+        run_refused(rt, world, row.0, row.1)?;
+    }
     Ok(())
 }

@@ -1,4 +1,6 @@
 //! Rows of sends.
+ghost use Rattle.channel_interleaving.specs.Floor.{IsQuiet};
+
 use super::ask::{Ask, R, S};
 use super::row::{quiet, run_refused, run_rows, waking};
 use super::said::Said;
@@ -6,6 +8,7 @@ use channel_world::call::WorldRefusal;
 use channel_world::name::{OpId, Waiter};
 use channel_world::world::World;
 use event_listener::id::EventIds;
+use std::process::Abort;
 use std::test::Fail;
 
 const A: OpId = OpId(1);
@@ -66,10 +69,13 @@ fn the_last_sender_closes(rt: HostRuntime) -> Result<(), Fail> {
     run_rows(&rt, &mut world, &rows)
 }
 
-#[test]
-fn sends_after_the_last_receiver_find_it_closed(rt: HostRuntime) -> Result<(), Fail> {
-    let mut ids = EventIds::new();
-    let mut world: World<u64> = World::bounded(rt.alloc(), 100, &mut ids)?;
+/// Messages are sent before the last receiver is dropped, and after.
+fn show_sends_after_the_last_receiver(
+    rt: &(impl AllocGlobal + Abort),
+    world: &mut World<u64>,
+) -> Result<(), Fail>
+    requires quiet { IsQuiet world.old }
+{
     let rows = [
         quiet(Ask::Send(A, 1), Said::Made),
         quiet(Ask::Poll(A), Said::Sent),
@@ -83,8 +89,15 @@ fn sends_after_the_last_receiver_find_it_closed(rt: HostRuntime) -> Result<(), F
         quiet(Ask::TrySend(5), Said::Closed(5)),
         quiet(Ask::Close(S), Said::Closes(false)),
     ];
-    run_rows(&rt, &mut world, &rows)?;
-    run_refused(&rt, &mut world, Ask::TryRecv, WorldRefusal::UnknownName)
+    run_rows(rt, world, &rows)?;
+    run_refused(rt, world, Ask::TryRecv, WorldRefusal::UnknownName)
+}
+
+#[test]
+fn sends_after_the_last_receiver_find_it_closed(rt: HostRuntime) -> Result<(), Fail> {
+    let mut ids = EventIds::new();
+    let mut world: World<u64> = World::bounded(rt.alloc(), 100, &mut ids)?;
+    show_sends_after_the_last_receiver(&rt, &mut world)
 }
 
 #[test]

@@ -1,4 +1,6 @@
 //! Rows of streams, of closings and of handles.
+ghost use Rattle.channel_interleaving.specs.Floor.{IsQuiet};
+
 use super::ask::{Ask, R, S};
 use super::row::{quiet, run_rows, waking};
 use super::said::Said;
@@ -116,7 +118,10 @@ fn for_twenty(
     rt: &(impl AllocGlobal + Abort),
     world: &mut World<u64>,
     is_made: bool,
-) -> Result<(), Fail> {
+) -> Result<(), Fail>
+    requires quiet { IsQuiet world.old }
+    ensures quiet { IsQuiet world.new }
+{
     for number in 2..22 {
         let handle = HandleId(number);
         let row = if is_made {
@@ -129,12 +134,22 @@ fn for_twenty(
     Ok(())
 }
 
+/// The receivers are counted with twenty clones, and without.
+fn show_counts_of_clones(
+    rt: &(impl AllocGlobal + Abort),
+    world: &mut World<u64>,
+) -> Result<(), Fail>
+    requires quiet { IsQuiet world.old }
+{
+    for_twenty(rt, world, true)?;
+    run_rows(rt, world, &[quiet(Ask::Receivers, Said::Count(21))])?;
+    for_twenty(rt, world, false)?;
+    run_rows(rt, world, &[quiet(Ask::Receivers, Said::Count(1))])
+}
+
 #[test]
 fn clones_are_counted(rt: HostRuntime) -> Result<(), Fail> {
     let mut ids = EventIds::new();
     let mut world: World<u64> = World::bounded(rt.alloc(), 5, &mut ids)?;
-    for_twenty(&rt, &mut world, true)?;
-    run_rows(&rt, &mut world, &[quiet(Ask::Receivers, Said::Count(21))])?;
-    for_twenty(&rt, &mut world, false)?;
-    run_rows(&rt, &mut world, &[quiet(Ask::Receivers, Said::Count(1))])
+    show_counts_of_clones(&rt, &mut world)
 }

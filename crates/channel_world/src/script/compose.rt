@@ -1,7 +1,9 @@
 //! Scripts, from bytes to bytes.
 ghost use Rattle.std.specs.Prelude.{◌≡◌, ◌≤◌, ◌<◌, ◌^◌, ◌++◌, ◌∷◌, [], length, Some, None, IfOk, OnOk, OnErr, OnSome, IfSome};
 ghost use Rattle.std.specs.Option.{option_map};
-ghost use Rattle.channel_model.specs.State.{start, at_rest};
+ghost use Rattle.channel_model.specs.State.{start};
+ghost use Rattle.channel_interleaving.specs.Floor.{IsQuiet};
+ghost use Rattle.channel_world.specs.World.{at_rest};
 ghost use Rattle.channel_world.specs.Words.{lines_of};
 ghost use Rattle.channel_world.specs.Language.{today};
 ghost use Rattle.channel_world.specs.Said.{said, scene_of};
@@ -67,7 +69,8 @@ fn end_without_capacity(out: &mut Vec<u8>) -> ScriptEnd
 
 /// Runs the lines of a script after the first, and adds its text.
 fn follow<'a>(alloc: Global, scene: &mut Scene<'a>, text: &'a [u8], out: &mut Vec<u8>) -> ScriptEnd
-    requires { length scene.old.table ≤ 2 }
+    requires few { length scene.old.table ≤ 2 }
+    requires quiet { IsQuiet scene.old.world }
     ensures { Extends (followed today (scene_of scene.old) 2 (lines_of text.now)) result out.old.items out.new.items }
 {
     let mut rest = text;
@@ -102,6 +105,7 @@ fn first_names<'a>(alloc: Global) -> Result<Table<'a>, AllocError>
 fn open(alloc: Global, capacity: Option<usize>) -> Result<World<u64>, AllocError>
     requires { IfSome capacity (λ c. 0 < c) }
     ensures world { IfOk result (λ world. at_rest world ≡ start capacity) }
+    ensures quiet { IfOk result (λ world. IsQuiet world) }
     ensures fits { OnOk result (IfSome capacity (λ c. c ≤ 2 ^ 58)) }
 {
     let mut ids = EventIds::new();

@@ -2,7 +2,8 @@
 ghost use Rattle.std.specs.Prelude.{◌≡◌, ◌<◌, ◌≤◌, ◌+◌, ◌^◌, ◌∷◌, [], ℕ, length, false, Ok, Err, IfOk, IfErr, OnOk, option_and_then, option_copied};
 ghost use Rattle.std.specs.Option.{option_map, option_to_list};
 ghost use Rattle.std.specs.List.{list_all};
-ghost use Rattle.channel_model.specs.State.{at_rest};
+ghost use Rattle.channel_interleaving.specs.Floor.{IsQuiet};
+ghost use Rattle.channel_world.specs.World.{at_rest};
 ghost use Rattle.channel_model.specs.Refusal.{refusal};
 ghost use Rattle.channel_world.specs.Table.{named_in};
 ghost use Rattle.channel_world.specs.Asked.{used, given, lives, is_known, is_given_before, with_given, handle_of, question_call, call_of};
@@ -61,6 +62,7 @@ fn given<'a>(command: &Command<'a>) -> Option<(&'a [u8], Sort)>
 /// Whether something lives under what was named. The call is not made: a world refuses it as one of an unknown name
 /// exactly where nothing lives there.
 fn lives(world: &World<u64>, named: Named) -> bool
+    requires { IsQuiet world.now }
     ensures { result ≡ lives (at_rest world.now).names named }
 {
     let why = match named {
@@ -196,6 +198,7 @@ fn call_of(table: &Table<'_>, command: &Command<'_>) -> Option<Call<u64>>
 impl<'a> Scene<'a> {
     /// Whether the name was given to something that lives.
     fn is_known(&self, name: &[u8]) -> bool
+        requires { IsQuiet self.now.world }
         ensures { result ≡ is_known (at_rest self.now.world).names self.now.table name.now }
     {
         match self.table.get(name) {
@@ -206,6 +209,7 @@ impl<'a> Scene<'a> {
 
     /// Whether all names that a command uses were given to something that lives.
     fn are_known(&self, command: &Command<'_>) -> bool
+        requires { IsQuiet self.now.world }
         ensures { result ≡ list_all (is_known (at_rest self.now.world).names self.now.table) (used (said command.now)) }
     {
         let (first, second) = used(command);
@@ -227,7 +231,8 @@ impl<'a> Scene<'a> {
 
     /// The call of a command that is not refused; or the first reason why it is.
     fn check(&self, command: &Command<'_>) -> Result<Call<u64>, WorldRefusal>
-        requires { length self.now.table < 2 ^ 32 }
+        requires quiet { IsQuiet self.now.world }
+        requires few { length self.now.table < 2 ^ 32 }
         ensures call { IfOk result (λ c. checked (scene_of self.now) (said command.now) ≡ Ok c) }
         ensures why { IfErr result (λ w. checked (scene_of self.now) (said command.now) ≡ Err w) }
         ensures accepted { IfOk result (λ c. refusal (at_rest self.now.world) c ≡ None) }
@@ -268,10 +273,12 @@ impl<'a> Scene<'a> {
         command: &Command<'a>,
         call: Call<u64>,
     ) -> Result<Vec<u8>, AllocError>
+        requires quiet { IsQuiet self.old.world }
         requires accepted { refusal (at_rest self.old.world) call ≡ None }
         requires new { is_given_before self.old.table (said command.now) ≡ false }
         requires few { length self.old.table < 2 ^ 32 }
-        ensures { IfOk result (λ line. record { after = scene_of self.new; line = line.items } ≡ answered (scene_of self.old) (said command.now) call) }
+        ensures line { IfOk result (λ line. record { after = scene_of self.new; line = line.items } ≡ answered (scene_of self.old) (said command.now) call) }
+        ensures quiet { IsQuiet self.new.world }
     {
         let Ok(done) = self.world.answer(call) else {
             return Err(AllocError);
@@ -284,9 +291,11 @@ impl<'a> Scene<'a> {
     /// Does what a command says, and gives its reply line. Where memory or serials are refused nothing is known of the
     /// scene.
     pub fn obey(&mut self, alloc: Global, command: &Command<'a>) -> Result<Vec<u8>, AllocError>
+        requires quiet { IsQuiet self.old.world }
         requires few { length self.old.table < 2 ^ 32 }
         ensures line { IfOk result (λ line. record { after = scene_of self.new; line = line.items } ≡ obeyed (scene_of self.old) (said command.now)) }
         ensures names { OnOk result (length self.new.table ≤ length self.old.table + 1) }
+        ensures quiet { IsQuiet self.new.world }
     {
         match self.check(command) {
             Ok(call) => self.make(alloc, command, call),

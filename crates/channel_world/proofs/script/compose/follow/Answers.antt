@@ -30,6 +30,7 @@ loop-line-preserved c =
           (subst (λ (r : Script). GoesOn whole c.args.out.now.items r c.loop-line.out.items) more c.loop-line.invariant.said)
           (search rules);
       few = omega (arith, c.in-Ok.ensures.names, c.loop-line.invariant.few);
+      quiet = c.obey.ensures.quiet;
     }
 
 pub returns : goal.returns

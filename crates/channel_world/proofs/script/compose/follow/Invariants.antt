@@ -1,4 +1,5 @@
 use Rattle.std.proofs.Common.{◌≤◌, length}
+use Rattle.channel_interleaving.specs.Floor.{IsQuiet}
 use Rattle.channel_world.specs.Words.{lines_of}
 use Rattle.channel_world.specs.Language.{today}
 use Rattle.channel_world.specs.Said.{scene_of}
@@ -10,6 +11,7 @@ abbrev pub invariant-loop-line : goal.invariant-loop-line
 invariant-loop-line l = record {
   said : GoesOn (followed today (scene_of l.fn.scene) 2 (lines_of l.fn.text)) l.fn.out.items (followed today (scene_of l.scene) l.number (lines_of l.rest)) l.out.items;
   few : length l.scene.table ≤ l.number;
+  quiet : IsQuiet l.scene.world;
 }
 
 abbrev pub decreases-loop-line : goal.decreases-loop-line

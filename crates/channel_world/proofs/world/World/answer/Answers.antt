@@ -1,27 +1,37 @@
--- From whole calls, and the law that they are over a channel.
-use Rattle.std.proofs.Common.{refl}
-use Rattle.channel_world.proofs.Whole.{like_kept, world_kept, world_answers, names_taken}
+-- From the law that a call made alone is the model's.
+use Rattle.std.proofs.Common.{◌≡◌, ◌≤◌, None, ◌∙◌, ap, subst, sym}
+use Rattle.channel_interleaving.specs.Floor.{IsQuiet}
+use Rattle.channel_interleaving.specs.declared.floor.Floor.{Floor}
+use Rattle.channel_model.specs.Refusal.{refusal}
+use Rattle.channel_world.specs.World.{at_rest, most_woken}
+use Rattle.channel_world.proofs.Whole.{refused_alike, wakes_few, answers_whatever}
 use Rattle.channel_world.proofs.world.World.answer.Goals as goal
 
-pub invariant_of-self : goal.invariant_of-self
-invariant_of-self g c = like_kept c.self.inside.body c.make_room.new.self c.if-not-make_room.ensures.same c.self.invariant
+pub call_alone-requires-clause-accepted : goal.call_alone-requires-clause-accepted
+call_alone-requires-clause-accepted g c =
+    let f = c.self.inside.steps in
+    let quiet : IsQuiet f = subst (λ (x : Floor g.row.T.Denot). IsQuiet x) (sym c.self.view_is) c.requires.quiet in
+    refused_alike c.a_call_made_alone_is_the_models.ensures.refused f c.keeps.ensures quiet c.args.call
+    ∙ (ap (λ (x : Floor g.row.T.Denot). refusal (at_rest x) c.args.call) c.self.view_is ∙ c.requires.accepted)
 
-pub invariant_of-self-in_err-reply : goal.invariant_of-self-in_err-reply
-invariant_of-self-in_err-reply g c =
-    like_kept c.make_room.new.self c.make.new.self c.in_err-reply.ensures.err (like_kept c.self.inside.body c.make_room.new.self c.if-not-make_room.ensures.room.like c.self.invariant)
-
-pub invariant_of-self-2 : goal.invariant_of-self-2
-invariant_of-self-2 g c =
-    let new = c.make.new.self in
-    world_kept c.calls_are_over.ensures.as_in_the_world c.self.inside.body c.make_room.new.self new
-    (record { channel = new.channel; handles = new.handles; operations = new.operations; pending = c.take_names-woken.new.self; calls = new.calls; alloc = new.alloc })
-    c.args.call c.in_ok-reply.reply c.args.self.now c.take_names-woken.result.items c.self.invariant c.self.view_is c.requires c.if-not-make_room.ensures.room c.in_ok-reply.ensures.ok
-    (names_taken new _ refl refl refl refl c.take_names-woken.ensures.standings) c.take_names-woken.ensures.names
+pub call_alone-requires-clause-room : goal.call_alone-requires-clause-room
+call_alone-requires-clause-room g c =
+    let f = c.self.inside.steps in
+    let laws = c.a_call_made_alone_is_the_models.ensures in
+    let quiet : IsQuiet f = subst (λ (x : Floor g.row.T.Denot). IsQuiet x) (sym c.self.view_is) c.requires.quiet in
+    let fine : refusal (at_rest f) c.args.call ≡ None =
+    ap (λ (x : Floor g.row.T.Denot). refusal (at_rest x) c.args.call) c.self.view_is ∙ c.requires.accepted in
+    let most : most_woken c.args.call (at_rest f).waiting ≤ c.in-Some.room =
+    subst (λ (x : Floor g.row.T.Denot). most_woken c.args.call (at_rest x).waiting ≤ c.in-Some.room) (sym c.self.view_is) c.in-Some.ensures in
+    wakes_few laws.refused f c.keeps.ensures quiet c.args.call laws.answered fine c.in-Some.room most
 
 pub returns-clause-ok : goal.returns-clause-ok
 returns-clause-ok g c =
-    let new = c.make.new.self in
-    world_answers c.calls_are_over.ensures.as_in_the_world c.self.inside.body c.make_room.new.self new
-    (record { channel = new.channel; handles = new.handles; operations = new.operations; pending = c.take_names-woken.new.self; calls = new.calls; alloc = new.alloc })
-    c.args.call c.in_ok-reply.reply c.args.self.now c.take_names-woken.result.items c.self.invariant c.self.view_is c.requires c.if-not-make_room.ensures.room c.in_ok-reply.ensures.ok
-    (names_taken new _ refl refl refl refl c.take_names-woken.ensures.standings) c.take_names-woken.ensures.names
+    let f = c.self.inside.steps in
+    let laws = c.a_call_made_alone_is_the_models.ensures in
+    let quiet : IsQuiet f = subst (λ (x : Floor g.row.T.Denot). IsQuiet x) (sym c.self.view_is) c.requires.quiet in
+    let fine : refusal (at_rest f) c.args.call ≡ None =
+    ap (λ (x : Floor g.row.T.Denot). refusal (at_rest x) c.args.call) c.self.view_is ∙ c.requires.accepted in
+    rw (sym c.self.view_is)
+    (answers_whatever laws.refused f c.keeps.ensures quiet c.args.call laws.answered fine c.call_alone.new.self c.call_alone.result
+    c.call_alone.ensures.quiet c.call_alone.ensures.ok)

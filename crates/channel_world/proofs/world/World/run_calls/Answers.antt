@@ -2,30 +2,37 @@ use Rattle.std.proofs.Common.{◌≡◌, Some, None, ◌∷◌, ◌++◌, [], ru
 use Rattle.std.specs.Option.{option_to_list}
 use Rattle.channel_model.specs.Refusal.{refusal}
 use Rattle.channel_model.proofs.RunLemmas.{goes_on_empty, stop_in_front, stop_at_end, run_ends, run_ends_full, goes_on_by}
+use Rattle.channel_world.specs.World.{at_rest}
 use Rattle.channel_world.proofs.world.World.run_calls.Goals as goal
 
 pub loop-call-init : goal.loop-call-init
-loop-call-init g c = goes_on_empty c.args.self.now c.args.calls.now.items c.new-done.result.items c.new-done.ensures.items
+loop-call-init g c = record {
+  run = goes_on_empty (at_rest c.args.self.now) c.args.calls.now.items c.new-done.result.items c.new-done.ensures.items;
+  quiet = c.requires.quiet;
+}
 
 pub returns-in-Some-stop-clause-run : goal.returns-in-Some-stop-clause-run
 returns-in-Some-stop-clause-run g c =
-    run_ends (Some c.in-Some-stop.why) c.loop-call.invariant
-    (stop_in_front c.loop-call.self c.loop-call.calls.items c.in-Some.call.now c.in-Some-stop.why c.in-Some.ensures.item.0 c.in-Some.ensures.lookup c.in-Some-stop.ensures.why)
+    run_ends (Some c.in-Some-stop.why) c.loop-call.invariant.run
+    (stop_in_front (at_rest c.loop-call.self) c.loop-call.calls.items c.in-Some.call.now c.in-Some-stop.why c.in-Some.ensures.item.0 c.in-Some.ensures.lookup c.in-Some-stop.ensures.why)
     c.in-Some-stop.ensures.items
 
 pub loop-call-preserved : goal.loop-call-preserved
 loop-call-preserved g c =
     let in_front : c.loop-call.calls.items ≡ c.unwrap-call.result ∷ c.pop_front.new.self.items = c.pop_front.ensures.items ∙ ap (λ o. option_to_list o ++ c.pop_front.new.self.items) c.unwrap-call.ensures in
-    let accepted : refusal c.loop-call.self c.unwrap-call.result ≡ None = search rules in
-    goes_on_by c.unwrap-call.result c.in-Ok.answer c.loop-call.invariant in_front accepted c.in-Ok.ensures.ok
-    (c.push_reserved.ensures.items ∙ ap (λ ds. ds ++ c.in-Ok.answer ∷ []) c.stop.ensures.items)
+    let accepted : refusal (at_rest c.loop-call.self) c.unwrap-call.result ≡ None = search rules in
+    record {
+      run = goes_on_by c.unwrap-call.result c.in-Ok.answer c.loop-call.invariant.run in_front accepted c.in-Ok.ensures.ok
+          (c.push_reserved.ensures.items ∙ ap (λ ds. ds ++ c.in-Ok.answer ∷ []) c.stop.ensures.items);
+      quiet = c.answer.ensures.quiet;
+    }
 
 pub returns-in-Err-clause-run : goal.returns-in-Err-clause-run
 returns-in-Err-clause-run g c =
     let in_front : c.loop-call.calls.items ≡ c.unwrap-call.result ∷ c.pop_front.new.self.items = c.pop_front.ensures.items ∙ ap (λ o. option_to_list o ++ c.pop_front.new.self.items) c.unwrap-call.ensures in
-    let accepted : refusal c.loop-call.self c.unwrap-call.result ≡ None = search rules in
+    let accepted : refusal (at_rest c.loop-call.self) c.unwrap-call.result ≡ None = search rules in
     let back : c.push_front_reserved.new.self.items ≡ c.unwrap-call.result ∷ c.pop_front.new.self.items = c.push_front_reserved.ensures.items ∙ ap (λ x. x ∷ c.pop_front.new.self.items) c.in-Err.ensures.back in
-    run_ends_full c.unwrap-call.result c.loop-call.invariant in_front accepted c.stop.ensures.items back c.in-Err.ensures.err
+    run_ends_full c.unwrap-call.result c.loop-call.invariant.run in_front accepted c.stop.ensures.items back c.in-Err.ensures.err
 
 pub returns-clause-run : goal.returns-clause-run
-returns-clause-run g c = run_ends None c.loop-call.invariant (stop_at_end c.loop-call.self c.loop-call.calls.items c.in_default.ensures.item.0) refl
+returns-clause-run g c = run_ends None c.loop-call.invariant.run (stop_at_end (at_rest c.loop-call.self) c.loop-call.calls.items c.in_default.ensures.item.0) refl

@@ -1,14 +1,7 @@
--- From a body that was just opened.
-use Rattle.concurrent_queue.specs.declared.cells.QueueForm.TheVariants.{Unbounded}
-use Rattle.channel_world.proofs.Opening.{opened_state, opened_is_kept}
+-- From a channel by names that was just opened.
+use Rattle.std.proofs.Common.{None}
+use Rattle.channel_world.proofs.Opening.{opened_is}
 use Rattle.channel_world.proofs.world.World.unbounded.Goals as goal
 
-pub invariant_of-result : goal.invariant_of-result
-invariant_of-result g c =
-    let o = c.in-Ok.ensures in
-    opened_is_kept Unbounded c.in-Ok.body o.queue o.roster o.handles o.operations o.nobody
-
-pub returns-clause-open : goal.returns-clause-open
-returns-clause-open g c =
-    let o = c.in-Ok.ensures in
-    opened_state Unbounded c.in-Ok.body o.queue o.roster o.handles o.operations o.nobody
+pub returns-in-Ok-clause-open : goal.returns-in-Ok-clause-open
+returns-in-Ok-clause-open g c = opened_is c.in-Ok.steps None c.in-Ok.ensures.open c.in-Ok.ensures.quiet

@@ -1,0 +1,24 @@
+-- From the number of tasks.
+use Rattle.std.proofs.Common.{arith, ◌+◌, ◌≤◌, IfSome, subst}
+use Rattle.channel_interleaving.specs.Floor.{parts_in}
+use Rattle.channel_interleaving.specs.declared.floor.Floor.{Floor}
+use Rattle.channel_world.specs.World.{at_rest, untold_count}
+use Rattle.channel_world.proofs.Tasks.{few_tasks, no_less}
+use Rattle.channel_world.proofs.world.World.untold_count.Goals as goal
+
+pub returns : goal.returns
+returns g c =
+    let r = (parts_in c.self.inside.steps).roster in
+    let a = few_tasks r.sends.waiting in
+    let b = few_tasks r.receives.waiting in
+    let d = few_tasks r.streams.waiting in
+    let e = few_tasks r.closings.waiting in
+    let ca = c.waiting-sends.ensures in
+    let cb = c.waiting-receives.ensures in
+    let cd = c.waiting-streams.ensures in
+    let ce = c.waiting-closings.ensures in
+    let ab = c.in_ok-messengers.ensures.1 in
+    let de = c.in_ok-listening.ensures.1 in
+    subst (λ (x : Floor g.row.T.Denot). IfSome c.checked_add-3.result (λ n. untold_count (at_rest x).waiting ≤ n)) c.self.view_is
+    (no_less _ c.checked_add-3.result _ (c.in_ok-messengers.messengers + c.in_ok-listening.listening) c.checked_add-3.ensures
+    (omega (arith, a, b, d, e, ca, cb, cd, ce, ab, de)))

@@ -1,0 +1,55 @@
+-- What a world is while no call is under way: a state of the model.
+use Rattle.std.specs.Prelude.{ℕ, ◌+◌, List, length}
+use Rattle.concurrent_queue.specs.Dispatch.{capacity_of}
+use Rattle.concurrent_queue.specs.Step.{items_in, closed_in}
+use Rattle.event_listener.specs.Lists.{tasks_of}
+use Rattle.async_channel.specs.Parts.{Parts, Roster}
+use Rattle.channel_model.specs.Channel.{Channel}
+use Rattle.channel_model.specs.Lines.{Waiting}
+use Rattle.channel_model.specs.State.{State}
+use Rattle.channel_model.specs.declared.call.Call.{Call}
+use Rattle.channel_model.specs.declared.call.Call.TheVariants as call
+use Rattle.channel_model.specs.declared.name.Waiter.{Waiter}
+use Rattle.channel_interleaving.specs.Floor.{parts_in}
+use Rattle.channel_interleaving.specs.OwnerOrder.{woken_in}
+use Rattle.channel_interleaving.specs.Roll.{names_of}
+use Rattle.channel_interleaving.specs.declared.floor.Floor.{Floor}
+
+-- those who wait in each list, and the woken
+abbrev pub waiting_of : Roster Waiter → List Waiter → Waiting
+waiting_of r woken = record {
+  sends = tasks_of r.sends.waiting;
+  receives = tasks_of r.receives.waiting;
+  streams = tasks_of r.streams.waiting;
+  closings = tasks_of r.closings.waiting;
+  woken = woken;
+}
+
+-- how many wait untold
+abbrev pub untold_count : Waiting → ℕ
+untold_count l = length l.sends + length l.receives + length l.streams + length l.closings
+
+module _ {T : Type 0} where
+  -- what the cells, the lists and the counts of a channel say
+  abbrev pub channel_of : Parts T Waiter → Channel T
+  channel_of p = record {
+    messages = items_in p.cells;
+    capacity = capacity_of p.cells.form;
+    closed = closed_in p.cells;
+    senders = p.roster.senders;
+    receivers = p.roster.receivers;
+  }
+
+  -- The state of a world with no call under way. While calls are made one at a time this is all that a world is.
+  abbrev pub at_rest : Floor T → State T
+  at_rest f = record {
+    channel = channel_of (parts_in f);
+    names = names_of f.roll;
+    waiting = waiting_of (parts_in f).roster (woken_in f.roll f.order);
+  }
+
+  -- how many a call may wake at most
+  abbrev pub most_woken : Call T → Waiting → ℕ
+  most_woken (call.Close handle) l = untold_count l
+  most_woken (call.Drop handle) l = untold_count l
+  most_woken c l = 2 + length l.streams
