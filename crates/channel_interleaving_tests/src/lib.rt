@@ -1,5 +1,5 @@
-//! Tests of `channel_interleaving`: worked interleavings, with the steps that each call takes. A crate of their own, so that
-//! what they prove is proved once.
+//! Tests of `channel_interleaving` and of the world over it: worked interleavings, with the steps that each call takes. A
+//! crate of their own, so that what they prove is proved once.
 #![tactic(auto)]
 
 #[cfg(test)]

@@ -4,12 +4,10 @@ ghost use Rattle.std.specs.Prelude.{◌<◌};
 
 use async_channel::error::{Refused, TryRecvError, TrySendError};
 use async_channel::reply::Reply;
-use channel_interleaving::interleaved::Interleaved;
-use channel_interleaving::step::{Entry, PartyId, Run, Step};
-use channel_model::call::Call;
-use channel_model::name::{HandleId, OpId, Waiter};
-use channel_model::refusal::WorldRefusal;
-use channel_model::run::Stopped;
+use channel_world::call::{Call, Stopped, WorldRefusal};
+use channel_world::name::{HandleId, OpId, Waiter};
+use channel_world::step::{Entry, PartyId, Run, Step};
+use channel_world::world::World;
 use event_listener::id::EventIds;
 use futures::task::Poll;
 use std::alloc::Global;
@@ -119,12 +117,12 @@ struct Numbers {
 /// A channel under test, and those who were woken.
 #[derive(Drop)]
 struct Fixture {
-    channel: Interleaved<u64>,
+    channel: World<u64>,
     woken: Vec<Waiter>,
     alloc: Global,
 }
 
-fn make_fixture(channel: Interleaved<u64>, alloc: Global) -> Fixture {
+fn make_fixture(channel: World<u64>, alloc: Global) -> Fixture {
     Fixture {
         channel,
         woken: Vec::new(alloc),
@@ -136,13 +134,13 @@ fn bounded(capacity: usize, alloc: Global) -> Result<Fixture, Fail>
     requires { 0 < capacity }
 {
     let mut ids = EventIds::new();
-    let channel = Interleaved::bounded(alloc, capacity, &mut ids)?;
+    let channel = World::bounded(alloc, capacity, &mut ids)?;
     Ok(make_fixture(channel, alloc))
 }
 
 fn unbounded(alloc: Global) -> Result<Fixture, Fail> {
     let mut ids = EventIds::new();
-    let channel = Interleaved::unbounded(alloc, &mut ids)?;
+    let channel = World::unbounded(alloc, &mut ids)?;
     Ok(make_fixture(channel, alloc))
 }
 
@@ -365,7 +363,7 @@ fn a_refused_step_stays_in_front(rt: HostRuntime) -> Result<(), Fail> {
 /// What a call says that begins while another is under way, or after it: the first one has made so many steps.
 fn second_says(first: Call<u64>, steps: usize, second: Call<u64>, alloc: Global) -> Said {
     let mut ids = EventIds::new();
-    match Interleaved::bounded(alloc, 1, &mut ids) {
+    match World::bounded(alloc, 1, &mut ids) {
         Ok(channel) => {
             let mut all = make_fixture(channel, alloc);
             let _ = all.begin(0, new_recv(0), 1);

@@ -2,8 +2,8 @@
 
 use crate::plan::Kind;
 use async_channel::error::{RecvError, Refused, SendError, TryRecvError, TrySendError};
-use async_channel::reply::Reply;
 use async_channel::stage::Line;
+use channel_world::call::Reply;
 use event_listener::error::ListenError;
 use futures::task::Poll;
 

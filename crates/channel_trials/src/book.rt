@@ -1,5 +1,6 @@
 //! The plain count of a trial: what is held, what lives, who waits and who is at work.
 
+use crate::alone::marks;
 use crate::answer::{Answer, form_of, read};
 use crate::count::Count;
 use crate::differs::Differs;
@@ -7,12 +8,11 @@ use crate::due::is_due;
 use crate::names::{Names, is_fit};
 use crate::plan::{Kind, Plan, Target};
 use crate::under_way::UnderWay;
-use crate::waiting::Waiting;
+use crate::waiting::{Came, Waiting};
 use async_channel::mark::Mark;
-use async_channel::reply::Reply;
 use async_channel::stage::Line;
-use channel_model::name::{HandleKind, Waiter};
-use channel_model::refusal::WorldRefusal;
+use channel_world::call::{Done, Reply, WorldRefusal};
+use channel_world::name::{HandleKind, Waiter};
 use std::alloc::Global;
 
 /// The numbers that a channel tells of itself.
@@ -35,6 +35,8 @@ pub struct Book {
     pub calls: Vec<UnderWay>,
     /// How many messages were handed out.
     handed: usize,
+    /// How many moments there were.
+    moment: u64,
 }
 
 impl Book {
@@ -46,6 +48,7 @@ impl Book {
             waiting: Waiting::nobody(alloc),
             calls: Vec::new(alloc),
             handed: 0,
+            moment: 0,
         })
     }
 
@@ -143,7 +146,9 @@ impl Book {
             self.waiting.take_in_hand(name);
         }
         self.names.begin(plan);
-        match self.calls.push(UnderWay::new(party, plan, subject)) {
+        let mut call = UnderWay::new(party, plan, subject);
+        call.begun = self.moment;
+        match self.calls.push(call) {
             Ok(()) => Ok(()),
             Err(_) => Err(Differs::NoMemory),
         }
@@ -186,22 +191,43 @@ impl Book {
         self.leave(&call, answer)
     }
 
+    /// A call that isn't refused was made alone, from its begin to its end: it woke these, and answered so. It did what its
+    /// answer says, and what held at its begin is all that it saw.
+    pub fn make(&mut self, party: u32, plan: Plan, done: &Done<u64>) -> Result<(), Differs> {
+        self.begin(party, plan)?;
+        self.see();
+        let Some(call) = self.call_of(party) else {
+            return Err(Differs::Refusal);
+        };
+        let (_, answer) = read(&done.reply);
+        let (first, second) = marks(&call, answer, &self.count);
+        self.wake(&done.woken)?;
+        self.step(party, first)?;
+        self.step(party, second)?;
+        self.end(party, &done.reply)
+    }
+
     /// Whom the call had in hand waits no more, or again where its poll ended pending. A finished send doesn't wait.
     fn leave(&mut self, call: &UnderWay, answer: Answer) -> Result<(), Differs> {
         let Some(name) = call.subject.waiter else {
             return Ok(());
         };
-        self.waiting.remove(name);
+        let kept = self.waiting.remove(name);
         let line = call.subject.line;
         let is_finished = line == Line::Sends && call.subject.message.is_none();
         if answer == Answer::Pending && !is_finished {
-            return self.waiting.add(name, line);
+            let came = kept.unwrap_or(Came {
+                from: call.begun,
+                to: self.moment,
+            });
+            return self.waiting.add(name, line, came);
         }
         Ok(())
     }
 
-    /// One more moment of each call under way.
+    /// One more moment, and so one more of each call under way.
     pub fn see(&mut self) {
+        self.moment = self.moment.wrapping_add(1);
         for call in &mut self.calls {
             call.saw = call.saw.with(&self.count);
         }

@@ -11,7 +11,7 @@ pub enum Differs {
     Reply,
     /// A beginning that did something.
     Begin,
-    /// One was woken who didn't wait, or was woken before.
+    /// One was woken who didn't wait, was woken before, or came to its line after one who waits there unwoken.
     Woken,
     /// A message, a free place or a closing for which nobody answers, beside one who waits unwoken.
     Owed,

@@ -73,21 +73,31 @@ fn quietly_due(call: &UnderWay, answer: Answer, count: &Count) -> bool {
     }
 }
 
-/// A strong handle of this kind was made, by an upgrade at an open channel.
-fn raised(call: &UnderWay, side: Side) -> bool {
-    let up = match side {
+/// The mark of one strong handle of this kind more.
+pub fn raising(side: Side) -> Mark {
+    match side {
         Side::Senders => Mark::SenderUp,
         Side::Receivers => Mark::ReceiverUp,
-    };
+    }
+}
+
+/// The mark of one strong handle of this kind fewer.
+pub fn lowering(side: Side) -> Mark {
+    match side {
+        Side::Senders => Mark::SenderDown,
+        Side::Receivers => Mark::ReceiverDown,
+    }
+}
+
+/// A strong handle of this kind was made, by an upgrade at an open channel.
+fn raised(call: &UnderWay, side: Side) -> bool {
+    let up = raising(side);
     call.has_made(up, Mark::Nothing) && (call.plan.kind != Kind::Upgrade || call.saw.open)
 }
 
 /// A strong handle of this kind was dropped: the last one closes, or finds the channel closed.
 fn lowered(call: &UnderWay, side: Side) -> bool {
-    let down = match side {
-        Side::Senders => Mark::SenderDown,
-        Side::Receivers => Mark::ReceiverDown,
-    };
+    let down = lowering(side);
     let alone = call.has_made(down, Mark::Nothing) && (!call.was_last || call.saw.shut);
     alone || (call.was_last && call.has_made(down, Mark::Close))
 }

@@ -1,13 +1,17 @@
-//! Random interleavings of the calls of up to four parties over a channel of each form, each compared, after each step,
-//! with a plain count of it. One line for each form, or one that says which interleaving differs, at which step.
+//! Random interleavings of the calls of up to four parties in a world of each form. Where no call is under way, every other
+//! call is made alone, and later ones go on by steps. After each step, and after each call made alone, the world is compared
+//! with a plain count of it. One line for each form, or one that says which interleaving differs, at which step and after how
+//! many calls made alone.
 #![tactic(auto)]
 
+mod alone;
 mod answer;
 mod book;
 mod count;
 mod differs;
 mod draw;
 mod due;
+mod made;
 mod names;
 mod owed;
 mod plan;
@@ -20,9 +24,10 @@ mod under_way;
 mod waiting;
 
 use crate::differs::Differs;
+use crate::made::Made;
 use crate::trial::Trial;
 use async_channel::error::OpenError;
-use channel_interleaving::interleaved::Interleaved;
+use channel_world::world::World;
 use event_listener::id::EventIds;
 use std::alloc::Global;
 use std::io;
@@ -59,27 +64,27 @@ impl Form {
         }
     }
 
-    fn open(self, alloc: Global) -> Result<Interleaved<u64>, OpenError> {
+    fn open(self, alloc: Global) -> Result<World<u64>, OpenError> {
         let mut ids = EventIds::new();
         match self {
-            Form::OneSlot => Interleaved::bounded(alloc, 1, &mut ids),
-            Form::RingOfThree => Interleaved::bounded(alloc, 3, &mut ids),
-            Form::Unbounded => Interleaved::unbounded(alloc, &mut ids),
+            Form::OneSlot => World::bounded(alloc, 1, &mut ids),
+            Form::RingOfThree => World::bounded(alloc, 3, &mut ids),
+            Form::Unbounded => World::unbounded(alloc, &mut ids),
         }
     }
 
     fn trial(self, seed: u64, alloc: Global) -> Result<Trial, Differs> {
         match self.open(alloc) {
-            Ok(channel) => Trial::new(channel, self.capacity(), seed, alloc),
+            Ok(world) => Trial::new(world, self.capacity(), seed, alloc),
             Err(_) => Err(Differs::NoMemory),
         }
     }
 }
 
-/// What one interleaving shows: how many steps it made, and what differs.
+/// What one interleaving shows: how much it made, and what differs.
 #[derive(Clone, Copy)]
 struct Shown {
-    steps: u64,
+    made: Made,
     differs: Option<Differs>,
 }
 
@@ -89,12 +94,12 @@ fn interleave(form: Form, seed: u64, alloc: Global) -> Shown {
         Ok(mut trial) => {
             let differs = trial.interleave().err();
             Shown {
-                steps: trial.steps_made(),
+                made: trial.made(),
                 differs,
             }
         }
         Err(differs) => Shown {
-            steps: 0,
+            made: Made::nothing(),
             differs: Some(differs),
         },
     }
@@ -103,19 +108,27 @@ fn interleave(form: Form, seed: u64, alloc: Global) -> Shown {
 /// All interleavings over a channel of this form. Whether they agree.
 fn compare<R: Print>(rt: &R, form: Form, alloc: Global) -> io::Result<bool> {
     let name = form.name();
-    let mut steps = 0u64;
+    let mut all = Made::nothing();
     let mut done = 0u64;
     for number in 0..INTERLEAVINGS {
         let seed = SEED + number;
         let shown = interleave(form, seed, alloc);
+        let Made { steps, alone, .. } = shown.made;
         if let Some(differs) = shown.differs {
-            println!(rt; "{name}: seed {seed}, step {}: {differs}", shown.steps)?;
+            println!(rt; "{name}: seed {seed}, step {steps}, {alone} calls alone: {differs}")?;
             return Ok(false);
         }
-        steps = steps.wrapping_add(shown.steps);
+        all = all.with(shown.made);
         done = done.wrapping_add(1);
     }
-    println!(rt; "{name}: {done} interleavings, {steps} steps, agree")?;
+    let Made {
+        steps,
+        begun,
+        alone,
+    } = all;
+    println!(rt;
+        "{name}: {done} interleavings, {steps} steps of {begun} calls, {alone} calls alone, agree"
+    )?;
     Ok(true)
 }
 

@@ -5,7 +5,7 @@ use crate::differs::Differs;
 use crate::plan::{Kind, Plan, Target, made_kind};
 use crate::under_way::Subject;
 use async_channel::stage::{Line, Side};
-use channel_model::name::{HandleId, HandleKind, OpId, Waiter};
+use channel_world::name::{HandleId, HandleKind, OpId, Waiter};
 use std::alloc::Global;
 
 /// A live handle.

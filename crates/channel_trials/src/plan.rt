@@ -1,7 +1,7 @@
 //! What a party may begin.
 
-use channel_model::call::Call;
-use channel_model::name::{HandleId, HandleKind, OpId};
+use channel_world::call::Call;
+use channel_world::name::{HandleId, HandleKind, OpId};
 
 /// What is called, names aside.
 #[derive(Clone, Copy, PartialEq, Eq)]

@@ -8,9 +8,10 @@ use crate::due::is_due;
 use crate::owed::is_nothing_owed;
 use crate::plan::{Kind, Plan};
 use crate::under_way::{Subject, UnderWay};
+use crate::waiting::{Came, Waiting};
 use async_channel::mark::Mark;
 use async_channel::stage::Line;
-use channel_model::name::{OpId, Waiter};
+use channel_world::name::{OpId, Waiter};
 use std::alloc::Global;
 
 /// A call through the first sender or the first receiver that brings this message.
@@ -86,7 +87,7 @@ fn an_answer_needs_its_mark_or_its_moment(rt: HostRuntime) {
 fn owes(line: Line, kind: Kind, alloc: Global) -> Option<(bool, bool, bool)> {
     let mut book = Book::new(Some(2), alloc).ok()?;
     let name = Waiter::Op(OpId(0));
-    book.waiting.add(name, line).ok()?;
+    book.waiting.add(name, line, Came { from: 0, to: 0 }).ok()?;
     book.count.apply(Mark::Append, Some(1), false).ok()?;
     let alone = is_nothing_owed(&book);
     book.calls.push(call_of(kind, 0, None)).ok()?;
@@ -108,5 +109,24 @@ fn one_who_sleeps_is_owed(rt: HostRuntime) {
     ];
     for (line, kind, want) in rows {
         assert_eq!(rt; owes(line, kind, rt.alloc()), want);
+    }
+}
+
+/// Two who come to a line, the second one between these moments: whether it may be woken before the first one.
+fn wakes_second(from: u64, to: u64, alloc: Global) -> Option<Result<(), Differs>> {
+    let mut waiting = Waiting::nobody(alloc);
+    let first = Waiter::Op(OpId(0));
+    let second = Waiter::Op(OpId(1));
+    let came = Came { from: 2, to: 4 };
+    waiting.add(first, Line::Sends, came).ok()?;
+    waiting.add(second, Line::Sends, Came { from, to }).ok()?;
+    Some(waiting.wake(second))
+}
+
+#[test]
+fn who_came_first_is_woken_first(rt: HostRuntime) {
+    let rows = [(0, 1, Ok(())), (4, 6, Ok(())), (5, 6, Err(Differs::Woken))];
+    for (from, to, want) in rows {
+        assert_eq!(rt; wakes_second(from, to, rt.alloc()), Some(want));
     }
 }

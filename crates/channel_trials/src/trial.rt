@@ -1,16 +1,16 @@
-//! One random interleaving, beside a plain count.
+//! One random interleaving, with calls made alone where none is under way, beside a plain count.
 
 use crate::book::{Book, Numbers};
 use crate::differs::Differs;
 use crate::draw::draw;
+use crate::made::Made;
 use crate::owed::is_nothing_owed;
 use crate::plan::{Kind, Plan};
 use crate::random::Random;
 use async_channel::mark::Mark;
-use channel_interleaving::interleaved::Interleaved;
-use channel_interleaving::step::{Entry, PartyId, Run, Step};
-use channel_model::refusal::WorldRefusal;
-use channel_model::run::Stopped;
+use channel_world::call::{Call, CallRun, Stopped, WorldRefusal};
+use channel_world::step::{Entry, PartyId, Run, Step};
+use channel_world::world::World;
 use std::alloc::Global;
 use std::collections::VecDeque;
 
@@ -24,6 +24,9 @@ const MORE: usize = 80;
 
 const ROUNDS: usize = 400;
 
+/// One time in so many turns all calls under way are first let end.
+const PAUSE: usize = 30;
+
 /// How a run stops where memory was refused.
 const NO_MEMORY: Stopped = Stopped {
     place: 0,
@@ -33,52 +36,54 @@ const NO_MEMORY: Stopped = Stopped {
 /// The parties that there may be.
 static PARTIES: [u32; 4] = [11, 7, 23, 5];
 
-/// A channel with its parties, and the plain count of it.
+/// A world with its parties, and the plain count of it.
 #[derive(Drop)]
 pub struct Trial {
-    channel: Interleaved<u64>,
+    world: World<u64>,
     steps: VecDeque<Step<u64>>,
+    calls: VecDeque<Call<u64>>,
     book: Book,
     random: Random,
     /// How many parties there are.
     parties: usize,
     /// The last new message.
     message: u64,
-    made: u64,
+    made: Made,
 }
 
 impl Trial {
-    /// An open channel with nobody at work, which has room for so many messages.
+    /// An open world with nobody at work, which has room for so many messages.
     pub fn new(
-        channel: Interleaved<u64>,
+        world: World<u64>,
         capacity: Option<usize>,
         seed: u64,
         alloc: Global,
     ) -> Result<Self, Differs> {
         Ok(Trial {
-            channel,
+            world,
             steps: VecDeque::new(alloc),
+            calls: VecDeque::new(alloc),
             book: Book::new(capacity, alloc)?,
             random: Random::new(seed),
             parties: 1,
             message: 0,
-            made: 0,
+            made: Made::nothing(),
         })
     }
 
-    /// How many steps were made.
-    pub fn steps_made(&self) -> u64 {
+    /// How much was made.
+    pub fn made(&self) -> Made {
         self.made
     }
 
-    /// What the channel tells of itself.
+    /// What the world tells of itself.
     fn numbers(&self) -> Numbers {
         Numbers {
-            messages: self.channel.messages(),
-            pending: self.channel.pending(),
-            woken: self.channel.woken(),
-            under_way: self.channel.under_way(),
-            is_quiet: self.channel.is_quiet(),
+            messages: self.world.messages(),
+            pending: self.world.pending(),
+            woken: self.world.woken(),
+            under_way: self.world.under_way(),
+            is_quiet: self.world.is_quiet(),
         }
     }
 
@@ -103,20 +108,41 @@ impl Trial {
         if self.steps.push_back(step).is_err() {
             return Err(Differs::NoMemory);
         }
-        let Run { mut trace, stopped } = self.channel.run_steps(&mut self.steps);
-        let want = refusal.map(|why| Stopped { place: 0, why });
-        if stopped == Some(NO_MEMORY) {
-            return Err(Differs::NoMemory);
-        }
-        let is_left = self.steps.len() == 1;
-        if stopped != want || is_left != want.is_some() {
-            return Err(Differs::Refusal);
-        }
+        let Run { mut trace, stopped } = self.world.run_steps(&mut self.steps);
+        is_stopped_as_due(stopped, refusal, self.steps.len())?;
         self.steps.clear();
-        if want.is_none() {
-            self.made = self.made.wrapping_add(1);
+        if refusal.is_none() {
+            self.made = self.made.with_step();
         }
         Ok(trace.pop())
+    }
+
+    /// Makes a call alone, from its begin to its end, where no call is under way.
+    fn run_alone(&mut self, plan: Plan) -> Result<Option<CallRun<u64>>, Differs> {
+        if !self.world.is_quiet() {
+            return Ok(None);
+        }
+        if self.calls.push_back(plan.call()).is_err() {
+            return Err(Differs::NoMemory);
+        }
+        Ok(Some(self.world.run_calls(&mut self.calls)))
+    }
+
+    /// Counts a party's call that was made alone, or refused.
+    fn count_alone(&mut self, party: u32, plan: Plan, run: CallRun<u64>) -> Result<(), Differs> {
+        let CallRun { mut done, stopped } = run;
+        let refusal = self.book.refusal(party, plan);
+        is_stopped_as_due(stopped, refusal, self.calls.len())?;
+        self.calls.clear();
+        match done.pop() {
+            None if refusal.is_some() => {}
+            Some(answer) if refusal.is_none() => {
+                self.made = self.made.with_alone();
+                self.book.make(party, plan, &answer)?;
+            }
+            _ => return Err(Differs::Refusal),
+        }
+        self.observe()
     }
 
     /// A party begins a call, or is refused it.
@@ -128,10 +154,23 @@ impl Trial {
         };
         match self.run(step, refusal)? {
             None if refusal.is_some() => {}
-            Some(entry) if is_empty(&entry) => self.book.begin(party, plan)?,
+            Some(entry) if is_empty(&entry) => {
+                self.made = self.made.with_begun();
+                self.book.begin(party, plan)?;
+            }
             _ => return Err(Differs::Begin),
         }
         self.observe()
+    }
+
+    /// A party makes a call alone, every other time that none is under way; else it begins it.
+    fn call(&mut self, party: u32, plan: Plan) -> Result<(), Differs> {
+        if self.random.once_in(2) {
+            if let Some(run) = self.run_alone(plan)? {
+                return self.count_alone(party, plan, run);
+            }
+        }
+        self.begin(party, plan)
     }
 
     /// The call of a party makes a step, or is refused it where there is none.
@@ -162,7 +201,7 @@ impl Trial {
         }
         self.message = self.message.wrapping_add(1);
         let plan = draw(&mut self.random, &self.book, *party, self.message);
-        self.begin(*party, plan)
+        self.call(*party, plan)
     }
 
     /// One step of each call under way.
@@ -178,7 +217,7 @@ impl Trial {
     /// Lets all calls end.
     fn settle(&mut self) -> Result<(), Differs> {
         for _ in 0..ROUNDS {
-            if self.channel.is_quiet() {
+            if self.world.is_quiet() {
                 return Ok(());
             }
             self.round()?;
@@ -186,15 +225,15 @@ impl Trial {
         Err(Differs::Endless)
     }
 
-    /// A call through a handle, begun where none is under way, to its end.
-    fn alone(&mut self, kind: Kind, handle: u32) -> Result<(), Differs> {
+    /// A call through a handle, made where none is under way, to its end.
+    fn make(&mut self, kind: Kind, handle: u32) -> Result<(), Differs> {
         let plan = Plan {
             kind,
             handle,
             name: self.book.names.next_handle,
             message: 0,
         };
-        self.begin(11, plan)?;
+        self.call(11, plan)?;
         self.settle()
     }
 
@@ -202,8 +241,8 @@ impl Trial {
     fn gather(&mut self) -> Result<(), Differs> {
         self.parties = self.random.below(4).saturating_add(1);
         for _ in 1..self.parties {
-            self.alone(Kind::TryClone, 0)?;
-            self.alone(Kind::TryClone, 1)?;
+            self.make(Kind::TryClone, 0)?;
+            self.make(Kind::TryClone, 1)?;
         }
         Ok(())
     }
@@ -214,7 +253,7 @@ impl Trial {
             return Ok(());
         };
         for _ in 0..=self.book.count.messages() {
-            self.alone(Kind::TryRecv, receiver)?;
+            self.make(Kind::TryRecv, receiver)?;
         }
         if self.book.is_drained() {
             Ok(())
@@ -223,15 +262,36 @@ impl Trial {
         }
     }
 
-    /// Runs it, and compares after each step.
+    /// Runs it, and compares after each step and after each call made alone.
     pub fn interleave(&mut self) -> Result<(), Differs> {
         self.gather()?;
         let turns = TURNS.saturating_add(self.random.below(MORE));
         for _ in 0..turns {
+            if self.random.once_in(PAUSE) {
+                self.settle()?;
+            }
             self.turn()?;
         }
         self.settle()?;
         self.drain()
+    }
+}
+
+/// A list of one step or one call was to be stopped for this reason, or not at all; so many of it are left.
+fn is_stopped_as_due(
+    stopped: Option<Stopped>,
+    refusal: Option<WorldRefusal>,
+    left: usize,
+) -> Result<(), Differs> {
+    if stopped == Some(NO_MEMORY) {
+        return Err(Differs::NoMemory);
+    }
+    let want = refusal.map(|why| Stopped { place: 0, why });
+    let is_left = left == 1;
+    if stopped == want && is_left == want.is_some() {
+        Ok(())
+    } else {
+        Err(Differs::Refusal)
     }
 }
 

@@ -6,7 +6,7 @@ use crate::plan::{Kind, Plan};
 use crate::saw::Saw;
 use async_channel::mark::Mark;
 use async_channel::stage::{Line, Side};
-use channel_model::name::Waiter;
+use channel_world::name::Waiter;
 
 /// What a call has to do with, as it begins.
 #[derive(Clone, Copy)]
@@ -45,6 +45,8 @@ pub struct UnderWay {
     pub place: usize,
     pub was_last: bool,
     pub saw: Saw,
+    /// The moment at which it began.
+    pub begun: u64,
     steps: u32,
 }
 
@@ -60,6 +62,7 @@ impl UnderWay {
             place: 0,
             was_last: false,
             saw: Saw::nothing(),
+            begun: 0,
             steps: 0,
         }
     }

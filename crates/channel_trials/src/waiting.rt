@@ -2,14 +2,22 @@
 
 use crate::differs::Differs;
 use async_channel::stage::Line;
-use channel_model::name::Waiter;
+use channel_world::name::Waiter;
 use std::alloc::Global;
+
+/// Between which moments one came to the end of its line.
+#[derive(Clone, Copy)]
+pub struct Came {
+    pub from: u64,
+    pub to: u64,
+}
 
 /// An operation or a stream whose last poll ended pending.
 #[derive(Clone, Copy)]
 struct Sleeper {
     name: Waiter,
     line: Line,
+    came: Came,
     /// Whether it was named by a step since.
     is_woken: bool,
     /// Whether a poll or a giving up of it is under way, or the drop of its receiver.
@@ -20,6 +28,11 @@ impl Sleeper {
     /// Whether it is pending on this line, woken or not.
     fn is_on(&self, line: Line, is_woken: bool) -> bool {
         !self.is_in_hand && self.line == line && self.is_woken == is_woken
+    }
+
+    /// Whether it waits unwoken, and came to this one's line before it.
+    fn is_before(&self, other: Sleeper) -> bool {
+        self.is_on(other.line, false) && self.came.to < other.came.from
     }
 }
 
@@ -37,11 +50,12 @@ impl Waiting {
         }
     }
 
-    /// A poll of it ended pending.
-    pub fn add(&mut self, name: Waiter, line: Line) -> Result<(), Differs> {
+    /// A poll of it ended pending. It came to the line then.
+    pub fn add(&mut self, name: Waiter, line: Line, came: Came) -> Result<(), Differs> {
         let sleeper = Sleeper {
             name,
             line,
+            came,
             is_woken: false,
             is_in_hand: false,
         };
@@ -60,20 +74,40 @@ impl Waiting {
         }
     }
 
-    /// The call that had it in hand has answered.
-    pub fn remove(&mut self, name: Waiter) {
-        self.sleepers.retain(|sleeper| sleeper.name != name);
-    }
-
-    /// It was woken, as nobody is who doesn't wait or was woken before.
-    pub fn wake(&mut self, name: Waiter) -> Result<(), Differs> {
-        for sleeper in &mut self.sleepers {
+    /// The one of this name, if it waits and was not woken.
+    fn unwoken(&self, name: Waiter) -> Option<Sleeper> {
+        for sleeper in &self.sleepers {
             if sleeper.name == name && !sleeper.is_woken {
-                sleeper.is_woken = true;
-                return Ok(());
+                return Some(*sleeper);
             }
         }
-        Err(Differs::Woken)
+        None
+    }
+
+    /// The call that had it in hand has answered. When it came, if it waited and was not woken: it has its place still where it
+    /// goes on to wait.
+    pub fn remove(&mut self, name: Waiter) -> Option<Came> {
+        let unwoken = self.unwoken(name);
+        self.sleepers.retain(|sleeper| sleeper.name != name);
+        unwoken.map(|sleeper| sleeper.came)
+    }
+
+    /// It was woken, as nobody is who doesn't wait, was woken before, or came to its line after one who waits there unwoken.
+    pub fn wake(&mut self, name: Waiter) -> Result<(), Differs> {
+        let Some(woken) = self.unwoken(name) else {
+            return Err(Differs::Woken);
+        };
+        let sleepers = self.sleepers.iter();
+        let is_free = !woken.is_in_hand;
+        if is_free && sleepers.filter(|sleeper| sleeper.is_before(woken)).count() > 0 {
+            return Err(Differs::Woken);
+        }
+        for sleeper in &mut self.sleepers {
+            if sleeper.name == name {
+                sleeper.is_woken = true;
+            }
+        }
+        Ok(())
     }
 
     /// How many are pending on this line that were woken, or that were not.

@@ -2,8 +2,9 @@
 
 use super::*;
 use crate::answer::Answer;
+use crate::waiting::Came;
 use async_channel::stage::Line;
-use channel_model::name::{OpId, Waiter};
+use channel_world::name::{OpId, Waiter};
 use event_listener::id::EventIds;
 
 /// What is wrong in a plain count.
@@ -31,7 +32,10 @@ fn spoil(book: &mut Book, wrong: Wrong) {
     let _ = match wrong {
         Wrong::Nothing => Ok(()),
         Wrong::MessageMore => book.count.apply(Mark::Append, Some(5), false),
-        Wrong::SleeperMore => book.waiting.add(Waiter::Op(OpId(0)), Line::Closings),
+        Wrong::SleeperMore => {
+            let came = Came { from: 0, to: 0 };
+            book.waiting.add(Waiter::Op(OpId(0)), Line::Closings, came)
+        }
         Wrong::CallMore => book.begin(7, plan(Kind::Len, 0)),
         Wrong::HandleFewer => {
             book.names.begin(plan(Kind::Drop, 0));
@@ -51,8 +55,8 @@ fn spoil(book: &mut Book, wrong: Wrong) {
 /// What differs where a call begins over a count that is spoilt before it or at once after it, and is made to its end.
 fn differs(before: Wrong, kind: Kind, after: Wrong, alloc: Global) -> Option<Differs> {
     let mut ids = EventIds::new();
-    let channel = Interleaved::bounded(alloc, 1, &mut ids).ok()?;
-    let mut trial = Trial::new(channel, Some(1), 0, alloc).ok()?;
+    let world = World::bounded(alloc, 1, &mut ids).ok()?;
+    let mut trial = Trial::new(world, Some(1), 0, alloc).ok()?;
     spoil(&mut trial.book, before);
     if let Err(differs) = trial.begin(11, plan(kind, 0)) {
         return Some(differs);
@@ -89,5 +93,42 @@ fn a_wrong_count_is_refused(rt: HostRuntime) {
     for (before, kind, after, want) in rows {
         let found = differs(before, kind, after, rt.alloc());
         assert!(rt; found == want, "{before:?}, {after:?}");
+    }
+}
+
+/// What differs where a call is made alone over a count that is spoilt, in a world with one message.
+fn differs_alone(wrong: Wrong, kind: Kind, alloc: Global) -> Option<Result<(), Differs>> {
+    let mut ids = EventIds::new();
+    let world = World::bounded(alloc, 2, &mut ids).ok()?;
+    let mut trial = Trial::new(world, Some(2), 0, alloc).ok()?;
+    let first = trial.run_alone(plan(Kind::TrySend, 0)).ok()?;
+    trial.count_alone(11, plan(Kind::TrySend, 0), first?).ok()?;
+    spoil(&mut trial.book, wrong);
+    let handle = match kind {
+        Kind::TryRecv => 1,
+        _ => 0,
+    };
+    let run = trial.run_alone(plan(kind, handle)).ok()?;
+    Some(trial.count_alone(11, plan(kind, handle), run?))
+}
+
+#[test]
+fn a_wrong_count_is_refused_of_a_call_made_alone(rt: HostRuntime) {
+    let numbers = Some(Err(Differs::Numbers));
+    let refusal = Some(Err(Differs::Refusal));
+    let rows = [
+        (Wrong::Nothing, Kind::TryRecv, Some(Ok(()))),
+        (Wrong::Nothing, Kind::Drop, Some(Ok(()))),
+        (Wrong::MessageMore, Kind::TrySend, Some(Err(Differs::Mark))),
+        (Wrong::MessageMore, Kind::Len, Some(Err(Differs::Reply))),
+        (Wrong::MessageMore, Kind::TryRecv, numbers),
+        (Wrong::SleeperMore, Kind::TryRecv, numbers),
+        (Wrong::CallMore, Kind::Capacity, numbers),
+        (Wrong::HandleFewer, Kind::TrySend, refusal),
+        (Wrong::NameMore, Kind::TryClone, refusal),
+    ];
+    for (wrong, kind, want) in rows {
+        let found = differs_alone(wrong, kind, rt.alloc());
+        assert!(rt; found == want, "{wrong:?}");
     }
 }

@@ -1,0 +1,56 @@
+//! How much was made.
+
+/// What interleavings made, in numbers.
+#[derive(Clone, Copy)]
+pub struct Made {
+    /// How many steps, of which each call's first one is its begin.
+    pub steps: u64,
+    /// How many calls began by a step.
+    pub begun: u64,
+    /// How many calls were made alone, each from its begin to its end.
+    pub alone: u64,
+}
+
+impl Made {
+    /// Nothing yet.
+    pub fn nothing() -> Self {
+        Made {
+            steps: 0,
+            begun: 0,
+            alone: 0,
+        }
+    }
+
+    /// One more step.
+    pub fn with_step(self) -> Self {
+        Made {
+            steps: self.steps.wrapping_add(1),
+            ..self
+        }
+    }
+
+    /// One more call that began by a step.
+    pub fn with_begun(self) -> Self {
+        Made {
+            begun: self.begun.wrapping_add(1),
+            ..self
+        }
+    }
+
+    /// One more call made alone.
+    pub fn with_alone(self) -> Self {
+        Made {
+            alone: self.alone.wrapping_add(1),
+            ..self
+        }
+    }
+
+    /// These and those.
+    pub fn with(self, more: Self) -> Self {
+        Made {
+            steps: self.steps.wrapping_add(more.steps),
+            begun: self.begun.wrapping_add(more.begun),
+            alone: self.alone.wrapping_add(more.alone),
+        }
+    }
+}
