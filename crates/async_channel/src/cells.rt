@@ -1,74 +1,85 @@
-//! What a channel's steps work on.
+//! The cells of a channel that threads share.
 
-ghost use Rattle.std.specs.Prelude.{◌≡◌, ◌-◌, true, None, MatchResult};
-ghost use Rattle.std.specs.Prelude.{◌+◌, if◌then◌else◌};
-ghost use Rattle.event_listener.specs.Lists.{kind_of, listened, registration, removed, removed_wakes};
-ghost use Rattle.event_listener.specs.Notices.{Woken};
-ghost use Rattle.concurrent_queue.specs.Step.{IsQueueStep};
-ghost use Rattle.async_channel.specs.Parts.{Parts, Roster, with_roster, listeners, with_listeners, count, with_count, is_raised, told_one, told_one_wakes, told_all, told_all_wakes, Registers};
-
-use crate::stage::{Line, Side};
+use crate::shared::Shared;
+use channel_calls::cells::ChannelCells;
+use channel_calls::stage::{Line, Side};
 use concurrent_queue::call::QueueReply;
 use concurrent_queue::queue_call::QueueCall;
 use event_listener::error::ListenError;
 use event_listener::key::Key;
 use event_listener::wakes::Wakes;
+use event_listener::waking::Task;
+use std::sync::Wait;
+use std::sync::atomic::Ordering;
+use std::thread;
 
-/// The cells of a channel: each method is one step of a call of its queue, one section on one of its four lists, or one
-/// operation on one of its two counts.
-///
-/// The methods of one that a single owner has say exactly what they do; of one that threads share only that much is known
-/// as every other party keeps to, which is nothing here. `known` tells the two apart. Own to this project.
-pub trait ChannelCells<T, W> {
-    /// Whether what the cells hold is known.
-    ghost known: { Type 0 };
+/// A shared queue's cells, four locked lists and two shared counts. Nothing is known of what they hold, since any thread
+/// may step on them at any time.
+#[derive(Drop)]
+pub(crate) struct SharedCells<'a, T: Drop, R: Wait> {
+    pub(crate) shared: &'a Shared<T>,
+    pub(crate) rt: &'a R,
+}
 
-    /// The queue's cells, the lists and the counts.
-    ghost parts: { Self → Parts T W };
+impl<'a, T: Drop, R: Wait> ChannelCells<T, Task> for SharedCells<'a, T, R> {
+    ghost use Rattle.std.specs.Prelude.{◌≡◌};
+    ghost use Rattle.async_channel.specs.Handles.{no_parts, form_of};
 
-    /// One step of a call of the queue.
-    fn step_queue(&mut self, call: &mut QueueCall<T>) -> Option<QueueReply<T>>
-        ensures queue { known → IsQueueStep (parts self.old).cells call.old (parts self.new).cells call.new result }
-        ensures roster { known → (parts self.new).roster ≡ (parts self.old).roster };
+    ghost known = { ⊥ };
 
-    /// Adds a listener without a task, or is refused for memory or for serials with nothing changed.
-    fn insert(&mut self, line: Line) -> Result<Key, ListenError>
-        ensures new { known → MatchResult result (λ key. kind_of (listeners line (parts self.old).roster) key ≡ None) (λ e. Unit {0}) }
-        ensures lists { known → MatchResult result (λ key. parts self.new ≡ with_roster (with_listeners line (listened key (listeners line (parts self.old).roster)) (parts self.old).roster) (parts self.old)) (λ e. parts self.new ≡ parts self.old) };
+    ghost parts = { λ c. no_parts (form_of c.shared.now) };
 
-    /// Gives a waiting listener its task. One that was told is gone after it, and the task comes back.
-    fn register(&mut self, line: Line, key: Key, task: W) -> Option<W>
-        ensures answer { known → Registers (listeners line (parts self.old).roster) key task result }
-        ensures lists { known → parts self.new ≡ with_roster (with_listeners line (registration key task (listeners line (parts self.old).roster)) (parts self.old).roster) (parts self.old) };
+    ghost has_form = { λ c f. f ≡ form_of c.shared.now };
 
-    /// Takes a listener off. One that was told passes its notice on.
-    fn remove<S: Wakes<W>>(&mut self, line: Line, key: Key, sink: &mut S)
-        ensures lists { known → parts self.new ≡ with_roster (with_listeners line (removed key true (listeners line (parts self.old).roster)) (parts self.old).roster) (parts self.old) }
-        ensures woken { known → Woken S.wakes sink.old (removed_wakes key true (listeners line (parts self.old).roster)) sink.new };
+    // The steps of the queue's call up to its answer, one after another: nothing else of the channel's call comes between
+    // them, while the steps of other threads may.
+    fn step_queue(&mut self, call: &mut QueueCall<T>) -> Option<QueueReply<T>> {
+        for _ in self.rt.forever() {
+            if let Some(reply) = self.shared.queue.step(self.rt, call) {
+                return Some(reply);
+            }
+        }
+        unreachable!()
+    }
 
-    /// Tells one more of those who wait.
-    fn tell_one<S: Wakes<W>>(&mut self, line: Line, sink: &mut S)
-        ensures lists { known → parts self.new ≡ with_roster (with_listeners line (told_one (listeners line (parts self.old).roster)) (parts self.old).roster) (parts self.old) }
-        ensures woken { known → Woken S.wakes sink.old (told_one_wakes (listeners line (parts self.old).roster)) sink.new };
+    fn insert(&mut self, line: Line) -> Result<Key, ListenError> {
+        self.shared.waiters(line).insert(self.rt)
+    }
 
-    /// Tells all who wait.
-    fn tell_all<S: Wakes<W>>(&mut self, line: Line, sink: &mut S)
-        ensures lists { known → parts self.new ≡ with_roster (with_listeners line (told_all (listeners line (parts self.old).roster)) (parts self.old).roster) (parts self.old) }
-        ensures woken { known → Woken S.wakes sink.old (told_all_wakes (listeners line (parts self.old).roster)) sink.new };
+    fn register(&mut self, line: Line, key: Key, task: Task) -> Option<Task> {
+        self.shared.waiters(line).register(self.rt, key, task)
+    }
 
-    /// The number of handles of this kind.
-    fn count(&mut self, side: Side) -> usize
-        ensures number { known → result ≡ count side (parts self.old).roster }
-        ensures unchanged { known → parts self.new ≡ parts self.old };
+    fn remove<S: Wakes<Task>>(&mut self, line: Line, key: Key, sink: &mut S) {
+        self.shared.waiters(line).remove(self.rt, key, sink);
+    }
 
-    /// Lowers the number of handles of this kind by one, unless it is 0, and gives the number before.
-    fn lower(&mut self, side: Side) -> usize
-        ensures before { known → result ≡ count side (parts self.old).roster }
-        ensures lowered { known → parts self.new ≡ with_roster (with_count side (count side (parts self.old).roster - 1) (parts self.old).roster) (parts self.old) };
+    fn tell_one<S: Wakes<Task>>(&mut self, line: Line, sink: &mut S) {
+        self.shared.waiters(line).tell_one(self.rt, sink);
+    }
 
-    /// Raises the number of handles of this kind by one where it is `from` and one more fits a `usize`, and tells whether
-    /// it did.
-    fn raise(&mut self, side: Side, from: usize) -> bool
-        ensures answer { known → result ≡ is_raised side from (parts self.old).roster }
-        ensures raised { known → parts self.new ≡ (if is_raised side from (parts self.old).roster then with_roster (with_count side (from + 1) (parts self.old).roster) (parts self.old) else parts self.old) };
+    fn tell_all<S: Wakes<Task>>(&mut self, line: Line, sink: &mut S) {
+        self.shared.waiters(line).tell_all(self.rt, sink);
+    }
+
+    fn count(&mut self, side: Side) -> usize {
+        self.shared.count(side)
+    }
+
+    fn lower(&mut self, side: Side) -> usize {
+        self.shared.counter(side).fetch_sub(1, Ordering::SeqCst)
+    }
+
+    // Where another handle came between, the call reads the count again, and lets others run first.
+    fn raise(&mut self, side: Side, from: usize) -> bool {
+        let Some(next) = from.checked_add(1) else {
+            return false;
+        };
+        let counter = self.shared.counter(side);
+        let raised = counter.compare_exchange(from, next, Ordering::SeqCst, Ordering::SeqCst);
+        if raised.is_err() {
+            thread::yield_now();
+        }
+        raised.is_ok()
+    }
 }

@@ -1,17 +1,53 @@
-//! An asynchronous channel as steps: what one step of each of its calls does, whatever other calls are under way.
+//! Channels between threads and tasks, as `async-channel` 2.5.0 has them.
+//!
+//! [`bounded`] and [`unbounded`] open a channel: a [`Sender`] and a [`Receiver`], of which there may be any number. A message
+//! is received once, in the order of sending. A send that finds the channel full waits until a message is received, and a
+//! receive that finds it empty until one is sent. Who waits is a task that polls ([`Send`], [`Recv`], [`Closed`], a receiver as
+//! a stream) or a thread (`send_blocking`, `recv_blocking`); the `try_` calls don't wait for that.
+//!
+//! The channel is closed by [`close`](Sender::close), by the drop of the last sender and by that of the last receiver. What
+//! was sent before can still be received. [`WeakSender`] and [`WeakReceiver`] don't keep it open.
+//!
+//! Every call of a handle is a [`ChannelCall`] of `channel_calls`, stepped on cells that threads share: a queue, four lists of
+//! listeners behind a lock each, two counts. So threads run the very steps whose every interleaving `channel_world` is proved
+//! for; a blocking call makes its tries so, and listens and leaves by the same sections of the lists.
+//! Since other threads may step in between, a handle's contract says what holds whatever they do: a refused message is
+//! the one that was handed in, a pending poll has armed its context and kept its message, the capacity is as given.
+//!
+//! Calls that may wait (for a lock, for a place, for a message) take the runtime, which each handle has with it; the other
+//! ones are made of functions that don't take it.
 #![tactic(auto)]
 
-mod answered;
-pub mod ask;
-pub mod call;
-pub mod cells;
-pub mod error;
-pub mod mark;
-mod notices;
-pub mod plain;
-pub mod reply;
-pub mod stage;
-mod step;
-#[cfg(test)]
-mod tests;
-mod turn;
+mod blocking;
+mod cells;
+mod closed;
+mod link;
+mod open;
+mod polls;
+mod receiver;
+mod recv;
+mod send;
+mod sender;
+mod shared;
+mod stream;
+mod tries;
+mod waiters;
+mod waits;
+mod weak;
+
+pub use channel_calls::ask::ChannelAsk;
+pub use channel_calls::call::ChannelCall;
+pub use channel_calls::cells::ChannelCells;
+pub use channel_calls::error::{
+    HandleError, OpenError, RecvError, Refused, SendError, TryRecvError, TrySendError,
+};
+pub use channel_calls::mark::Mark;
+pub use channel_calls::plain::PlainChannel;
+pub use channel_calls::reply::Reply;
+pub use closed::Closed;
+pub use open::{bounded, unbounded};
+pub use receiver::Receiver;
+pub use recv::Recv;
+pub use send::Send;
+pub use sender::Sender;
+pub use weak::{WeakReceiver, WeakSender};

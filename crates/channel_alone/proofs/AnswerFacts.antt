@@ -13,24 +13,24 @@ use Rattle.concurrent_queue.proofs.Interface.{Finds}
 use Rattle.event_listener.specs.declared.key.Key.{Key}
 use Rattle.event_listener.specs.Lists.{kind_of, listened}
 use Rattle.futures.specs.declared.task.Poll.TheVariants as poll
-use Rattle.async_channel.specs.declared.error.Refused.TheVariants as refused
-use Rattle.async_channel.specs.declared.error.TryRecvError.{TryRecvError}
-use Rattle.async_channel.specs.declared.error.TryRecvError.TheVariants as try_recv_error
-use Rattle.async_channel.specs.declared.reply.Reply.{Reply}
-use Rattle.async_channel.specs.declared.reply.Reply.TheVariants as reply
-use Rattle.async_channel.specs.declared.stage.Aim.{Aim}
-use Rattle.async_channel.specs.declared.stage.Aim.TheVariants as aim
-use Rattle.async_channel.specs.declared.stage.Closer.{Closer}
-use Rattle.async_channel.specs.declared.stage.Line.{Line}
-use Rattle.async_channel.specs.declared.stage.Line.TheVariants.{Sends, Receives, Streams, Closings}
-use Rattle.async_channel.specs.declared.stage.Side.{Side}
-use Rattle.async_channel.specs.declared.stage.Work.TheVariants.{Insert}
-use Rattle.async_channel.specs.declared.stage.Waiting.{Waiting}
-use Rattle.async_channel.specs.declared.stage.Waiting.TheVariants as waiting
-use Rattle.async_channel.specs.Parts.{Roster, Listeners, listeners, with_listeners, waits}
-use Rattle.async_channel.specs.Turns.{says, line_of, ask_of, refused_next}
-use Rattle.async_channel.specs.Answered.{over, sent_next, forced_next, received_next, send_next, receive_next, stream_next, closing_next, closed_next, asked_next, terminated_next, upgraded_next, answered_next}
-use Rattle.async_channel.specs.Moves.{Channel, listens, registers}
+use Rattle.channel_calls.specs.declared.error.Refused.TheVariants as refused
+use Rattle.channel_calls.specs.declared.error.TryRecvError.{TryRecvError}
+use Rattle.channel_calls.specs.declared.error.TryRecvError.TheVariants as try_recv_error
+use Rattle.channel_calls.specs.declared.reply.Reply.{Reply}
+use Rattle.channel_calls.specs.declared.reply.Reply.TheVariants as reply
+use Rattle.channel_calls.specs.declared.stage.Aim.{Aim}
+use Rattle.channel_calls.specs.declared.stage.Aim.TheVariants as aim
+use Rattle.channel_calls.specs.declared.stage.Closer.{Closer}
+use Rattle.channel_calls.specs.declared.stage.Line.{Line}
+use Rattle.channel_calls.specs.declared.stage.Line.TheVariants.{Sends, Receives, Streams, Closings}
+use Rattle.channel_calls.specs.declared.stage.Side.{Side}
+use Rattle.channel_calls.specs.declared.stage.Work.TheVariants.{Insert}
+use Rattle.channel_calls.specs.declared.stage.Waiting.{Waiting}
+use Rattle.channel_calls.specs.declared.stage.Waiting.TheVariants as waiting
+use Rattle.channel_calls.specs.Parts.{Roster, Listeners, listeners, with_listeners, waits}
+use Rattle.channel_calls.specs.Turns.{says, line_of, ask_of, refused_next}
+use Rattle.channel_calls.specs.Answered.{over, sent_next, forced_next, received_next, send_next, receive_next, stream_next, closing_next, closed_next, asked_next, terminated_next, upgraded_next, answered_next}
+use Rattle.channel_calls.specs.Moves.{Channel, listens, registers}
 use Rattle.channel_alone.specs.Alone as alone
 use Rattle.channel_alone.specs.Alone.{Outcome, Where, ends, receives_by, says_only, Waits, Listens, PollsFor}
 use Rattle.channel_alone.proofs.TryFacts.{left_by}

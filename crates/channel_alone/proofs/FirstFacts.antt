@@ -5,14 +5,14 @@ use Rattle.concurrent_queue.specs.Queue.{Queue, Phase, asked}
 use Rattle.concurrent_queue.specs.Step.{Fits}
 use Rattle.concurrent_queue.specs.declared.call.QueueAsk.TheVariants as ask
 use Rattle.concurrent_queue.specs.declared.queue_call.QueueCall.{QueueCall}
-use Rattle.async_channel.specs.declared.ask.ChannelAsk.{ChannelAsk}
-use Rattle.async_channel.specs.declared.ask.ChannelAsk.TheVariants.{TrySend, ForceSend, TryRecv, Close, PollSend, PollFinishedSend, PollRecv, PollClosed, PollNext, RefusePoll, GiveUp, DropSender, DropReceiver, CloneHandle, Upgrade, HandleCount, IsClosed, IsEmpty, IsFull, Len, Capacity, IsTerminated, SendIsTerminated, SameChannel, Make, DropWeak}
-use Rattle.async_channel.specs.declared.reply.Reply.{Reply}
-use Rattle.async_channel.specs.declared.stage.Stage.{Stage}
-use Rattle.async_channel.specs.declared.stage.Turn.{Turn}
-use Rattle.async_channel.specs.declared.stage.Turn.TheVariants.{Tries, Works, Ends}
-use Rattle.async_channel.specs.Asks.{first}
-use Rattle.async_channel.specs.Moves.{Channel, Turned, seats, phase, IsTaken}
+use Rattle.channel_calls.specs.declared.ask.ChannelAsk.{ChannelAsk}
+use Rattle.channel_calls.specs.declared.ask.ChannelAsk.TheVariants.{TrySend, ForceSend, TryRecv, Close, PollSend, PollFinishedSend, PollRecv, PollClosed, PollNext, RefusePoll, GiveUp, DropSender, DropReceiver, CloneHandle, Upgrade, HandleCount, IsClosed, IsEmpty, IsFull, Len, Capacity, IsTerminated, SendIsTerminated, SameChannel, Make, DropWeak}
+use Rattle.channel_calls.specs.declared.reply.Reply.{Reply}
+use Rattle.channel_calls.specs.declared.stage.Stage.{Stage}
+use Rattle.channel_calls.specs.declared.stage.Turn.{Turn}
+use Rattle.channel_calls.specs.declared.stage.Turn.TheVariants.{Tries, Works, Ends}
+use Rattle.channel_calls.specs.Asks.{first}
+use Rattle.channel_calls.specs.Moves.{Channel, Turned, seats, phase, IsTaken}
 use Rattle.channel_alone.specs.Alone.{Outcome, Alone}
 use Rattle.channel_alone.proofs.Rest.{RestTurn}
 
@@ -88,7 +88,7 @@ module _ {T W : Type 0} where
       record {
         at = asked x;
         turned = (refl, ap (λ (z : Stage (QueueCall T) T W). phase (asked x) z) e);
-        fits = subst (λ (z : Stage (QueueCall T) T W). Fits cells q (seats (asked x) z ++ [])) (sym e) (starts cells q [] [] h);
+        fits = subst (λ (z : Stage (QueueCall T) T W). Fits cells q (seats (asked x) z ++ [])) (sym e) (h.0, starts h.0 cells q [] [] h.1);
       }
   begun cells q h (Works w) r s none (here, e) =
       record {

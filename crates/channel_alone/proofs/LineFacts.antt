@@ -4,7 +4,7 @@ use Rattle.std.proofs.lemmas.Bool.Decides.{nat_tests}
 use Rattle.std.specs.Map.{lookup}
 use Rattle.event_listener.specs.declared.key.Key.{Key}
 use Rattle.event_listener.specs.Lists.{kind_of, told_as, waits_as, same_key, listened}
-use Rattle.async_channel.specs.Parts.{Listeners, waits}
+use Rattle.channel_calls.specs.Parts.{Listeners, waits}
 
 same_as_itself : (key : Key) → same_key key key ≡ true
 same_as_itself key = grind (arith, nat_tests)

@@ -1,9 +1,9 @@
 -- A call that is made alone, as a run of scenes: it begins in a scene with nobody at work, makes its steps, and ends.
 use Rattle.std.specs.Prelude.{◌≡◌, ℕ, ◌+◌, ◌^◌, ◌≤◌, List, [], ◌∷◌, ◌++◌, length, None, Some}
 use Rattle.event_listener.specs.Notices.{Woken}
-use Rattle.async_channel.specs.Parts.{Parts}
-use Rattle.async_channel.specs.declared.ask.ChannelAsk.{ChannelAsk}
-use Rattle.async_channel.specs.declared.mark.Mark.TheVariants.{Nothing}
+use Rattle.channel_calls.specs.Parts.{Parts}
+use Rattle.channel_calls.specs.declared.ask.ChannelAsk.{ChannelAsk}
+use Rattle.channel_calls.specs.declared.mark.Mark.TheVariants.{Nothing}
 use Rattle.channel_steps.specs.declared.party.Entry.{Entry}
 use Rattle.channel_steps.specs.Run.{Begins}
 use Rattle.channel_steps.specs.Scene.{Scene, Steps, Shows}

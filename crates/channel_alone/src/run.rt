@@ -1,14 +1,14 @@
 //! A call of a channel that is stepped to its end.
 
-ghost use Rattle.async_channel.specs.Plain.{parts_of};
+ghost use Rattle.channel_calls.specs.Plain.{parts_of};
 ghost use Rattle.channel_alone.specs.Run.{IsAtRest, RunsAlone};
 ghost use Rattle.channel_alone.specs.Scenes.{RunsInScenes};
 
-use async_channel::ask::ChannelAsk;
-use async_channel::call::ChannelCall;
-use async_channel::plain::PlainChannel;
-use async_channel::reply::Reply;
-use async_channel::stage::Kept;
+use channel_calls::ask::ChannelAsk;
+use channel_calls::call::ChannelCall;
+use channel_calls::plain::PlainChannel;
+use channel_calls::reply::Reply;
+use channel_calls::stage::Kept;
 use channel_steps::count::counted;
 use event_listener::wakes::Wakes;
 

@@ -2,15 +2,15 @@
 
 ghost use Rattle.std.specs.Prelude.{IfOk};
 ghost use Rattle.concurrent_queue.specs.Made.{CanBeMade};
-ghost use Rattle.async_channel.specs.Plain.{parts_of};
+ghost use Rattle.channel_calls.specs.Plain.{parts_of};
 ghost use Rattle.channel_alone.specs.Run.{IsAtRest, IsOneSlot};
 
 use crate::run::{Done, run_alone};
-use async_channel::ask::ChannelAsk;
-use async_channel::error::{RecvError, Refused, SendError, TryRecvError, TrySendError};
-use async_channel::plain::PlainChannel;
-use async_channel::reply::Reply;
-use async_channel::stage::{Line, Side};
+use channel_calls::ask::ChannelAsk;
+use channel_calls::error::{RecvError, Refused, SendError, TryRecvError, TrySendError};
+use channel_calls::plain::PlainChannel;
+use channel_calls::reply::Reply;
+use channel_calls::stage::{Line, Side};
 use concurrent_queue::cells::QueueForm;
 use event_listener::wakes::Wakes;
 use futures::task::Poll;

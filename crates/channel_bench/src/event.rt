@@ -98,20 +98,18 @@ fn report<R: Print>(rt: &R, call: &str, nanos: u128, lock: u128) -> io::Result<(
     println!(rt; "event, {call}: {each} ns, {ratio} times a lock alone")
 }
 
-/// Measures a lock alone, notices for nobody and listenings in turns, and prints a line for each, of its best rounds.
+/// Prints a line for each kind of call, of its best rounds.
 ///
 /// A call that was refused, or that told somebody, would not be the one that is measured, so those are counted.
-pub fn measure_events<R: Clock + Print + Wait + Copy>(rt: R, alloc: Global) -> io::Result<()> {
-    let mut ids = EventIds::new();
-    let (Ok(first), Ok(second)) = (ids.next(), ids.next()) else {
-        return println!(&rt; "event: no identities left");
-    };
-    let new = Event::new(alloc, first);
-    let used = Event::new(alloc, second);
-    let count = Mutex::new(0u64);
-    let (mut best, mut odd) = round(rt, &count, &new, &used)?;
+fn compare_calls<R: Clock + Print + Wait + Copy>(
+    rt: R,
+    count: &Mutex<u64>,
+    new: &Event<()>,
+    used: &Event<()>,
+) -> io::Result<()> {
+    let (mut best, mut odd) = round(rt, count, new, used)?;
     for _ in 1..ROUNDS {
-        let (costs, more) = round(rt, &count, &new, &used)?;
+        let (costs, more) = round(rt, count, new, used)?;
         best = best.least(costs);
         odd = odd.wrapping_add(more);
     }
@@ -132,4 +130,19 @@ pub fn measure_events<R: Clock + Print + Wait + Copy>(rt: R, alloc: Global) -> i
         best.lock,
     )?;
     report(&rt, "listen and drop", best.listen_drop, best.lock)
+}
+
+/// Measures a lock alone, notices for nobody and listenings in turns, and prints a line for each.
+pub fn measure_events<R: Clock + Print + Wait + Copy>(rt: R, alloc: Global) -> io::Result<()> {
+    let mut ids = EventIds::new();
+    let Ok(first) = ids.next() else {
+        return println!(&rt; "event: no identities left");
+    };
+    let Ok(second) = ids.next() else {
+        return println!(&rt; "event: no identities left");
+    };
+    let new = Event::new(alloc, first);
+    let used = Event::new(alloc, second);
+    let count = Mutex::new(0u64);
+    compare_calls(rt, &count, &new, &used)
 }

@@ -171,11 +171,9 @@ fn report<R: Print>(rt: &R, call: &str, short: u128, long: u128) -> io::Result<(
 /// Measures a short list and a long one in turns, and prints a line for each kind of call, of its best rounds.
 ///
 /// A call that was refused would be cheap, so the lists are counted at the end.
-pub fn measure_lists<R: Clock + Print>(rt: &R, alloc: Global) -> io::Result<()> {
-    let mut short = Bench::new(alloc);
-    let mut long = Bench::new(alloc);
+fn compare_lists<R: Clock + Print>(rt: &R, short: &mut Bench, long: &mut Bench) -> io::Result<()> {
     if short.fill(SHORT).is_err() || long.fill(LONG).is_err() {
-        return println!(rt; "list: out of memory");
+        return println!(rt; "list: want of memory");
     }
     for _ in 0..ROUNDS {
         short.round(rt)?;
@@ -187,4 +185,11 @@ pub fn measure_lists<R: Clock + Print>(rt: &R, alloc: Global) -> io::Result<()> 
     report(rt, "insert", short.best.insert, long.best.insert)?;
     report(rt, "notify(1)", short.best.notify, long.best.notify)?;
     report(rt, "remove", short.best.remove, long.best.remove)
+}
+
+/// Measures lists of listeners.
+pub fn measure_lists<R: Clock + Print>(rt: &R, alloc: Global) -> io::Result<()> {
+    let mut short = Bench::new(alloc);
+    let mut long = Bench::new(alloc);
+    compare_lists(rt, &mut short, &mut long)
 }

@@ -98,16 +98,7 @@ impl Plain {
 }
 
 /// A ring beside a deque, both of which hold as much.
-fn measure_ring<R: Clock + Print>(rt: &R, alloc: Global) -> io::Result<()> {
-    let Ok(queue) = Exclusive::bounded(alloc, ROOM) else {
-        return println!(rt; "queue: out of memory");
-    };
-    let mut ring = Bench::of(queue);
-    let mut plain = Plain {
-        deque: VecDeque::new(alloc),
-        sum: 0,
-        best: u128::MAX,
-    };
+fn compare_ring<R: Clock + Print>(rt: &R, ring: &mut Bench, plain: &mut Plain) -> io::Result<()> {
     ring.fill(HELD);
     plain.fill(HELD);
     for _ in 0..ROUNDS {
@@ -125,10 +116,20 @@ fn measure_ring<R: Clock + Print>(rt: &R, alloc: Global) -> io::Result<()> {
     )
 }
 
+fn measure_ring<R: Clock + Print>(rt: &R, alloc: Global) -> io::Result<()> {
+    let mut plain = Plain {
+        deque: VecDeque::new(alloc),
+        sum: 0,
+        best: u128::MAX,
+    };
+    match Exclusive::bounded(alloc, ROOM) {
+        Ok(queue) => compare_ring(rt, &mut Bench::of(queue), &mut plain),
+        Err(_) => println!(rt; "queue: want of memory"),
+    }
+}
+
 /// An unbounded queue that holds few messages beside one that holds many.
-fn measure_blocks<R: Clock + Print>(rt: &R, alloc: Global) -> io::Result<()> {
-    let mut short = Bench::of(Exclusive::unbounded(alloc));
-    let mut long = Bench::of(Exclusive::unbounded(alloc));
+fn compare_blocks<R: Clock + Print>(rt: &R, short: &mut Bench, long: &mut Bench) -> io::Result<()> {
     short.fill(SHORT);
     long.fill(LONG);
     for _ in 0..ROUNDS {
@@ -144,6 +145,12 @@ fn measure_blocks<R: Clock + Print>(rt: &R, alloc: Global) -> io::Result<()> {
     println!(rt;
         "queue, unbounded: a push and a pop take {few} ns with {SHORT} messages, {many} ns with {LONG}, {ratio} times as long"
     )
+}
+
+fn measure_blocks<R: Clock + Print>(rt: &R, alloc: Global) -> io::Result<()> {
+    let mut short = Bench::of(Exclusive::unbounded(alloc));
+    let mut long = Bench::of(Exclusive::unbounded(alloc));
+    compare_blocks(rt, &mut short, &mut long)
 }
 
 /// Measures queues of one owner.

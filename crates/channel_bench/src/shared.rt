@@ -197,7 +197,7 @@ fn measure_bounded<R: Threads + Wait + Clock + Print + Sync>(
     let (to, from) = crossbeam_channel::bounded(alloc, capacity)?;
     match ConcurrentQueue::bounded(alloc, capacity) {
         Ok(ours) => compare_bounded(rt, &ours, &array, &Ends { to, from }),
-        Err(_) => println!(rt; "shared: out of memory"),
+        Err(_) => println!(rt; "shared: want of memory"),
     }
 }
 
@@ -228,7 +228,7 @@ fn measure_unbounded<R: Threads + Wait + Clock + Print + Sync>(
     let segments = SegQueue::new(alloc)?;
     match ConcurrentQueue::unbounded(alloc) {
         Ok(ours) => compare_unbounded(rt, &ours, &segments),
-        Err(_) => println!(rt; "shared: out of memory"),
+        Err(_) => println!(rt; "shared: want of memory"),
     }
 }
 

@@ -4,8 +4,8 @@
 ghost use Rattle.std.specs.Prelude.{◌<◌};
 
 use crate::decimal::Decimal;
-use async_channel::ask::ChannelAsk;
-use async_channel::reply::Reply;
+use channel_calls::ask::ChannelAsk;
+use channel_calls::reply::Reply;
 use channel_steps::party::Entry;
 use channel_steps::run::{Refusal, Step, run_steps};
 use channel_steps::start::{Opened, open_channel};
@@ -330,11 +330,11 @@ impl Bench {
     }
 }
 
-/// Two parties over a channel with a bound, of which half is held.
+/// Two parties over a channel that holds so many messages.
 fn measure_pair<R: Clock + Print>(
     rt: &R,
     name: &str,
-    mut bench: Bench,
+    bench: &mut Bench,
     messages: usize,
 ) -> io::Result<()> {
     bench.fill(messages);
@@ -351,8 +351,23 @@ fn measure_pair<R: Clock + Print>(
     )
 }
 
+/// Two parties over a channel with a bound, of which half is held.
+fn measure_bounded<R: Clock + Print>(
+    rt: &R,
+    name: &str,
+    capacity: usize,
+    alloc: Global,
+) -> io::Result<()>
+    requires { 0 < capacity }
+{
+    match open_channel(QueueForm::Bounded(capacity), alloc) {
+        Ok(opened) => measure_pair(rt, name, &mut Bench::of(opened, alloc), capacity / 2),
+        Err(_) => println!(rt; "steps: want of memory"),
+    }
+}
+
 /// Two unbounded channels, one of which holds few messages and the other many.
-fn measure_held<R: Clock + Print>(rt: &R, mut short: Bench, mut long: Bench) -> io::Result<()> {
+fn measure_held<R: Clock + Print>(rt: &R, short: &mut Bench, long: &mut Bench) -> io::Result<()> {
     short.fill(SHORT);
     long.fill(LONG);
     for _ in 0..ROUNDS {
@@ -374,11 +389,26 @@ fn measure_held<R: Clock + Print>(rt: &R, mut short: Bench, mut long: Bench) -> 
     )
 }
 
+/// The long channel beside the short one.
+fn measure_beside<R: Clock + Print>(rt: &R, short: &mut Bench, alloc: Global) -> io::Result<()> {
+    match open_channel(QueueForm::Unbounded, alloc) {
+        Ok(opened) => measure_held(rt, short, &mut Bench::of(opened, alloc)),
+        Err(_) => println!(rt; "steps: want of memory"),
+    }
+}
+
+fn measure_unbounded<R: Clock + Print>(rt: &R, alloc: Global) -> io::Result<()> {
+    match open_channel(QueueForm::Unbounded, alloc) {
+        Ok(opened) => measure_beside(rt, &mut Bench::of(opened, alloc), alloc),
+        Err(_) => println!(rt; "steps: want of memory"),
+    }
+}
+
 /// An operation that waits and is woken, over a channel that holds so many messages.
 fn measure_waits<R: Clock + Print>(
     rt: &R,
     name: &str,
-    mut bench: Bench,
+    bench: &mut Bench,
     waits: Waits,
     messages: usize,
 ) -> io::Result<()> {
@@ -403,36 +433,33 @@ fn measure_waits<R: Clock + Print>(
     )
 }
 
-/// A receive that waits beside an empty channel of this capacity, and a send that waits beside a full one.
+/// An operation that waits over a channel of this capacity: a receive beside an empty one, or a send beside a full one.
 fn measure_waiting<R: Clock + Print>(
     rt: &R,
     name: &str,
     capacity: usize,
+    waits: Waits,
     alloc: Global,
 ) -> io::Result<()>
     requires { 0 < capacity }
 {
-    let empty = open_channel(QueueForm::Bounded(capacity), alloc);
-    let full = open_channel(QueueForm::Bounded(capacity), alloc);
-    let (Ok(empty), Ok(full)) = (empty, full) else {
-        return println!(rt; "steps: out of memory");
+    let messages = match waits {
+        Waits::Send => capacity,
+        Waits::Receive => 0,
     };
-    measure_waits(rt, name, Bench::of(empty, alloc), Waits::Receive, 0)?;
-    measure_waits(rt, name, Bench::of(full, alloc), Waits::Send, capacity)
+    match open_channel(QueueForm::Bounded(capacity), alloc) {
+        Ok(opened) => measure_waits(rt, name, &mut Bench::of(opened, alloc), waits, messages),
+        Err(_) => println!(rt; "steps: want of memory"),
+    }
 }
 
 /// Measures runs of steps.
 pub fn measure_steps<R: Clock + Print>(rt: &R, alloc: Global) -> io::Result<()> {
-    let slot = open_channel(QueueForm::Bounded(1), alloc);
-    let ring = open_channel(QueueForm::Bounded(100), alloc);
-    let short = open_channel(QueueForm::Unbounded, alloc);
-    let long = open_channel(QueueForm::Unbounded, alloc);
-    let (Ok(slot), Ok(ring), Ok(short), Ok(long)) = (slot, ring, short, long) else {
-        return println!(rt; "steps: out of memory");
-    };
-    measure_pair(rt, "one slot", Bench::of(slot, alloc), 0)?;
-    measure_pair(rt, "bounded(100)", Bench::of(ring, alloc), 50)?;
-    measure_held(rt, Bench::of(short, alloc), Bench::of(long, alloc))?;
-    measure_waiting(rt, "one slot", 1, alloc)?;
-    measure_waiting(rt, "bounded(100)", 100, alloc)
+    measure_bounded(rt, "one slot", 1, alloc)?;
+    measure_bounded(rt, "bounded(100)", 100, alloc)?;
+    measure_unbounded(rt, alloc)?;
+    measure_waiting(rt, "one slot", 1, Waits::Receive, alloc)?;
+    measure_waiting(rt, "one slot", 1, Waits::Send, alloc)?;
+    measure_waiting(rt, "bounded(100)", 100, Waits::Receive, alloc)?;
+    measure_waiting(rt, "bounded(100)", 100, Waits::Send, alloc)
 }

@@ -1,7 +1,7 @@
 -- What every step keeps of those who wait, and what a call made alone keeps.
 use Rattle.std.proofs.Common.{◌≡◌, ℕ, false, List, [], ◌∷◌, ◌++◌, slice_get, Option, None, Some, refl, sym, ap, ◌∙◌, subst}
-use Rattle.async_channel.specs.declared.reply.Reply.{Reply}
-use Rattle.async_channel.specs.declared.stage.Kept.{Kept}
+use Rattle.channel_calls.specs.declared.reply.Reply.{Reply}
+use Rattle.channel_calls.specs.declared.stage.Kept.{Kept}
 use Rattle.channel_alone.specs.Alone.{Outcome}
 use Rattle.channel_alone.specs.Scenes.{Goes, names_of_all, LoneRun}
 use Rattle.channel_laws.proofs.Interface.{all_sound_new, all_sound_next}
@@ -15,7 +15,7 @@ use Rattle.channel_interleaving.specs.Bookkeeping.{asks, errand_of, all_woken}
 use Rattle.channel_interleaving.specs.Kept.{AllKept}
 use Rattle.channel_interleaving.specs.Lone.{book_alone}
 use Rattle.channel_interleaving.specs.Order.{all_moved_last}
-use Rattle.channel_interleaving.specs.Refusal.{refusal, step_refusal}
+use Rattle.channel_interleaving.specs.Refusal.{refusal}
 use Rattle.channel_interleaving.specs.Roll.{first_roll, is_at_work}
 use Rattle.channel_interleaving.specs.Run.{Book, Made, begun, ended, with_woken}
 use Rattle.channel_interleaving.specs.declared.names.Agent.{Agent}
@@ -27,6 +27,7 @@ use Rattle.channel_interleaving.specs.declared.step.Step.TheVariants as step
 use Rattle.channel_interleaving.proofs.OwnerOrder.{stepped_order}
 use Rattle.channel_interleaving.proofs.OwnerOrderRuns.{order_first, begins_order}
 use Rattle.channel_interleaving.proofs.OwnerPolled.{polled_first, polled_begun, polled_step}
+use Rattle.channel_interleaving.proofs.OwnerBegins.{Admitted, admitted}
 use Rattle.channel_interleaving.proofs.OwnerRuns.{stepped, idle_and_free}
 use Rattle.channel_interleaving.proofs.OwnerSteps.{owned_first, begins_owned}
 use Rattle.channel_interleaving.proofs.OwnerWoken.{stepped_woken}
@@ -50,7 +51,7 @@ module _ {T : Type 0} where
 
   -- a call begins
   pub kept_begun : (q : PartyId) (c : Call T) (b : Book T) (s t : Scene T Waiter) (e : ChannelEntry T)
-      → Begins s q.0 (asks b.roll c) e t → is_at_work q.0 b.agents ≡ false → refusal b.roll c ≡ None → AllKept b s
+      → Begins s q.0 (asks b.roll c) e t → is_at_work q.0 b.agents ≡ false → Admitted b.roll c → AllKept b s
       → AllKept (begun q c b) t
   kept_begun q c b s t e n idle fine k =
       record {
@@ -81,13 +82,12 @@ module _ {T : Type 0} where
             after.4 k.polled;
       }
 
-  -- a step that was made, and that nothing refused
-  pub kept_next : (b c : Book T) (s t : Scene T Waiter) (x : Step T) (e : Entry T) → step_refusal b.roll b.agents x ≡ None
-      → Made b s x e c t → AllKept b s → AllKept c t
-  kept_next b c s t (step.Begin q call) e fine made k =
-      let ok = idle_and_free q call b fine in
-      subst (λ (d : Book T). AllKept d t) (sym made.book) (kept_begun q call b s t _ made.next.0 ok.0 ok.1 k)
-  kept_next b c s t (step.Step q) e fine made k = kept_step b c s t q _ e.woken.items made.next made.book k
+  -- a step that was made
+  pub kept_next : (b c : Book T) (s t : Scene T Waiter) (x : Step T) (e : Entry T) → Made b s x e c t → AllKept b s → AllKept c t
+  kept_next b c s t (step.Begin q call) e made k =
+      let ok = idle_and_free q call b made.not_refused in
+      subst (λ (d : Book T). AllKept d t) (sym made.book) (kept_begun q call b s t _ made.next.0 ok.0 (admitted b.roll call ok.1) k)
+  kept_next b c s t (step.Step q) e made k = kept_step b c s t q _ e.woken.items made.next made.book k
 
   -- ---- a call made alone
 
@@ -117,7 +117,7 @@ module _ {T : Type 0} where
 
   -- the whole call
   pub kept_alone : (b : Book T) (c : Call T) (s t : Scene T Waiter) (o : Outcome T Waiter) → b.agents ≡ []
-      → refusal b.roll c ≡ None → LoneRun s 0 (asks b.roll c) o t → AllKept b s → AllKept (book_alone b c o) t
+      → Admitted b.roll c → LoneRun s 0 (asks b.roll c) o t → AllKept b s → AllKept (book_alone b c o) t
   kept_alone b c s t o none fine run k =
       let q : PartyId = record { 0 = 0 } in
       let a : Agent T = record { party = 0; errand = errand_of b.roll c } in

@@ -1,30 +1,32 @@
 -- Steps of an interleaved channel, and runs of them.
 use Rattle.std.specs.List.{remove}
-use Rattle.std.proofs.Common.{arith, ◌≡◌, ℕ, zero, suc, ◌+◌, ◌^◌, ◌≤◌, ◌<◌, true, false, nat_lt, slice_index_or, List, [], ◌∷◌, ◌++◌, map, length, slice_get, vec_len, vec_capacity, Option, None, Some, inr, refl, sym, ap, ◌∙◌, subst, append-nil, append_assoc}
+use Rattle.std.proofs.Common.{arith, ◌≡◌, ℕ, zero, suc, ◌+◌, ◌^◌, ◌≤◌, ◌<◌, true, false, nat_lt, slice_index_or, List, [], ◌∷◌, ◌++◌, map, length, slice_get, vec_len, vec_capacity, Option, None, Some, inr, refl, sym, ap, ◌∙◌, subst, append_assoc}
 use Rattle.concurrent_queue.specs.Queue.{Queue, IsInRange}
-use Rattle.async_channel.specs.Parts.{Parts, Roster, listeners}
-use Rattle.async_channel.specs.Moves.{Channel}
-use Rattle.async_channel.specs.Plain.{parts_of}
-use Rattle.async_channel.specs.declared.mark.Mark.TheVariants.{Nothing}
-use Rattle.async_channel.specs.declared.reply.Reply.{Reply}
-use Rattle.async_channel.specs.declared.stage.Kept.{Kept}
-use Rattle.async_channel.specs.declared.stage.Line.{Line}
+use Rattle.channel_calls.specs.Parts.{Parts, Roster, listeners}
+use Rattle.channel_calls.specs.Moves.{Channel}
+use Rattle.channel_calls.specs.Plain.{parts_of}
+use Rattle.channel_calls.specs.declared.plain.PlainChannel.{PlainChannel}
+use Rattle.channel_calls.specs.declared.mark.Mark.TheVariants.{Nothing}
+use Rattle.channel_calls.specs.declared.reply.Reply.{Reply}
+use Rattle.channel_calls.specs.declared.stage.Kept.{Kept}
+use Rattle.channel_calls.specs.declared.stage.Line.{Line}
 use Rattle.channel_model.specs.declared.call.Call.{Call}
 use Rattle.channel_model.specs.declared.name.Waiter.{Waiter}
-use Rattle.channel_steps.specs.Count.{counted}
-use Rattle.channel_steps.specs.Run.{new_scene, HasBegun, Begins, Accounts, Touches}
+use Rattle.channel_steps.specs.Count.{counted, brought_in, taken_out}
+use Rattle.channel_steps.specs.Run.{new_scene, HasBegun, Begins}
 use Rattle.channel_steps.specs.Tellings.{telling, dropping}
-use Rattle.channel_steps.specs.Scene.{Scene, Sitting, under_of, IsBalanced, Shows, StepsAt, gone_by, came_by, parties_in, unless_answered}
+use Rattle.channel_steps.specs.Scene.{Scene, Sitting, under_of, IsBalanced, Shows, StepsAt, parties_in, unless_answered}
 use Rattle.channel_steps.specs.declared.party.Entry.{Entry as ChannelEntry}
 use Rattle.channel_steps.specs.declared.party.Party.{Party}
 use Rattle.channel_interleaving.specs.Bookkeeping.{asks}
-use Rattle.channel_interleaving.specs.Floor.{parts_in, book_of, Shown, AreAtWork, AreOwned, IsSame, Steps, RanTo}
+use Rattle.channel_interleaving.specs.Floor.{parts_in, book_of, moment_of, Shown, StandsIn, Stands, AreAtWork, AreOwned, IsSame, Stepped, Steps, RanTo}
 use Rattle.channel_model.specs.declared.refusal.WorldRefusal.{WorldRefusal}
 use Rattle.channel_model.specs.declared.run.Stopped.{Stopped}
 use Rattle.std.proofs.lemmas.Bool.Decides.{nat_tests}
 use Rattle.channel_interleaving.specs.Refusal.{step_refusal}
 use Rattle.channel_interleaving.specs.Roll.{first_roll, IsAgent}
-use Rattle.channel_interleaving.specs.Run.{Book, Made, IsRun, MayRefuse, Stops, begun, ended, with_woken, channel_step}
+use Rattle.channel_interleaving.specs.Run.{Book, Made, MayRefuse, Stops, begun, ended, with_woken}
+use Rattle.channel_interleaving.specs.Runs.{Moment, LeadsBy, IsRun, end_of, accepted_in, left_in}
 use Rattle.channel_interleaving.specs.Woken.{Hears}
 use Rattle.channel_interleaving.specs.declared.floor.Floor.{Floor}
 use Rattle.channel_interleaving.specs.declared.names.Agent.{Agent}
@@ -33,8 +35,9 @@ use Rattle.channel_interleaving.specs.declared.step.Entry.{Entry}
 use Rattle.channel_interleaving.specs.declared.step.Step.{Step}
 use Rattle.channel_interleaving.specs.declared.step.Step.TheVariants as step
 use Rattle.channel_interleaving.specs.declared.woken.Woken.{Woken as Sink}
-use Rattle.channel_steps.proofs.Interface.{accepts_one, messages_counted}
+use Rattle.channel_steps.proofs.Interface.{accepts_one, messages_counted, messages_moved}
 use Rattle.channel_interleaving.specs.Kept.{AllKept}
+use Rattle.channel_interleaving.proofs.AccountFacts.{no_accounts, next_accounts}
 use Rattle.channel_interleaving.proofs.AllKept.{kept_first, kept_next}
 use Rattle.channel_interleaving.proofs.OwedFacts.{owed}
 use Rattle.channel_interleaving.proofs.WokenFacts.{all_heard, few_woken}
@@ -53,6 +56,9 @@ map-remove f (x ∷ xs) zero = refl
 map-remove f (x ∷ xs) (suc k) = ap (λ ys. f x ∷ ys) (map-remove f xs k)
 
 module _ {T : Type 0} where
+  abbrev moment_with : Parts T Waiter → Scene T Waiter → Book T → Moment T
+  moment_with parts s b = record { parts = parts; scene = s; book = b }
+
   -- ---- at the start
 
   -- where no call is under way, there is no party
@@ -85,14 +91,16 @@ module _ {T : Type 0} where
       → HasBegun p.0 (asks old.roll c) old.parties.items entry new.parties.items
       → e.mark ≡ Nothing → e.reply ≡ None → e.woken.items ≡ []
       → new.channel ≡ old.channel → book_of new ≡ begun p c (book_of old) → new.messages ≡ old.messages → new.made ≡ old.made + 1
+      → step_refusal old.roll old.agents.items (step.Begin p c) ≡ None
       → Steps (step.Begin p c) old e new
-  has_begun p c old new e entry h mark reply woken same book messages made s sh =
+  has_begun p c old new e entry h mark reply woken same book messages made fine s sh =
       let b = h (parts_in old) s sh.shows in
       let parts : parts_in new ≡ parts_in old = ap parts_of same in
       record {
         after = b.after;
         touches = parts;
         made = record {
+          not_refused = fine;
           kept = None;
           next = rw (mark, reply)
               (subst (λ (x : ChannelEntry T). Begins s p.0 (asks old.roll c) x b.after) b.begins.entry b.begins, woken);
@@ -137,7 +145,7 @@ module _ {T : Type 0} where
       ap (λ (b : Book T). map (λ (x : Agent T). x.party) b.agents) book
       ∙ (ended_at_work k a r kept (with_woken names (book_of old)) ∙ (ap (unless_answered k r) at_work ∙ sym after))
 
-  balanced_in : (parts : Parts T Waiter) (parties : List (Party T Waiter)) (s : Scene T Waiter) → Shows parts parties s
+  pub balanced_in : (parts : Parts T Waiter) (parties : List (Party T Waiter)) (s : Scene T Waiter) → Shows parts parties s
       → IsBalanced s.now.queue
   balanced_in parts parties s sh =
       subst (λ (q : Queue T). IsBalanced q) (sym (ap (λ (c : Channel T Waiter). c.queue) sh.now)) sh.balanced
@@ -151,9 +159,10 @@ module _ {T : Type 0} where
       → e.mark ≡ entry.mark → e.reply ≡ entry.reply → e.woken.items ≡ full.names.items
       → book_of new ≡ ended k a entry.reply entry.kept (with_woken full.names.items (book_of old))
       → new.messages ≡ counted old.messages entry.mark → new.made ≡ old.made + 1 → old.made < 2 ^ 61
+      → step_refusal old.roll old.agents.items (step.Step p) ≡ None
       → Steps (step.Step p) old e new
   has_stepped p k n a x old new empty full e entry there whose agent his steps none most room mark reply woken book messages
-      made low s sh =
+      made low fine s sh =
       let accepted = sh.accepted in
       let range : IsInRange s.now.queue = inr (omega (arith, accepted, low)) in
       let h = steps s x range sh.shows there in
@@ -172,6 +181,7 @@ module _ {T : Type 0} where
         after = h.after;
         touches = h.one_place;
         made = record {
+          not_refused = fine;
           kept = entry.kept;
           next = rw (mark, reply, woken, heard, sym whose) h.step;
           book = (k, a, agent, his, rw (reply, woken) book);
@@ -185,90 +195,107 @@ module _ {T : Type 0} where
 
   -- ---- runs
 
-  run_more : (p : Parts T Waiter) (s : Scene T Waiter) (b : Book T) (xs : List (Step T)) (es : List (Entry T))
-      (o : Parts T Waiter) (m : Scene T Waiter) (d : Book T) (x : Step T) (e : Entry T) (q : Parts T Waiter)
-      (t : Scene T Waiter) (c : Book T)
-      → IsRun p s b xs es o m d → Touches (channel_step d.roll x) o q → Made d m x e c t
-      → IsRun p s b (xs ++ x ∷ []) (es ++ e ∷ []) q t c
-  run_more p s b [] [] o m d x e q t c run touches made = (
-    q,
-    t,
-    c,
-    subst (λ (y : Parts T Waiter). Touches (channel_step b.roll x) y q) run.0
-        (subst (λ (y : Book T). Touches (channel_step y.roll x) o q) run.2 touches),
-    subst (λ (y : Scene T Waiter). Made b y x e c t) run.1 (subst (λ (y : Book T). Made y m x e c t) run.2 made),
-    (refl, refl, refl),
-  )
-  run_more p s b (y ∷ xs) (f ∷ es) o m d x e q t c run touches made =
-      (run.0, run.1, run.2, run.3, run.4, run_more run.0 run.1 run.2 xs es o m d x e q t c run.5 touches made)
-  run_more p s b [] (f ∷ es) o m d x e q t c run touches made = absurd run
-  run_more p s b (y ∷ xs) [] o m d x e q t c run touches made = absurd run
+  -- one step more, from the moment at which they end
+  run_more : (m : Moment T) (xs : List (Step T)) (es : List (Entry T)) (ns : List (Moment T)) (x : Step T) (e : Entry T)
+      (n : Moment T)
+      → IsRun m xs es ns → LeadsBy (end_of m ns) x e n → IsRun m (xs ++ x ∷ []) (es ++ e ∷ []) (ns ++ n ∷ [])
+  run_more m [] [] [] x e n run leads = (leads, tt)
+  run_more m (y ∷ xs) (f ∷ es) (o ∷ ns) x e n run leads = (run.0, run_more o xs es ns x e n run.1 leads)
+  run_more m [] [] (o ∷ ns) x e n run leads = absurd run
+  run_more m [] (f ∷ es) ns x e n run leads = absurd run
+  run_more m (y ∷ xs) [] ns x e n run leads = absurd run
+  run_more m (y ∷ xs) (f ∷ es) [] x e n run leads = absurd run
 
-  no_accounts : (s : Scene T Waiter) → Accounts s s
-  no_accounts s = record {
-    out = [];
-    into = [];
-    gone = sym (append-nil s.gone);
-    came = sym (append-nil s.came);
-    held = sym (append-nil s.now.queue.items);
-  }
+  end_more : (m : Moment T) (ns : List (Moment T)) (n : Moment T) → end_of m (ns ++ n ∷ []) ≡ n
+  end_more m [] n = refl
+  end_more m (o ∷ ns) n = end_more o ns n
 
-  -- two accounts, one after the other
-  both : (s m t : Scene T Waiter) (out into : List T) → Accounts s m → t.gone ≡ m.gone ++ out → t.came ≡ m.came ++ into
-      → out ++ t.now.queue.items ≡ m.now.queue.items ++ into → Accounts s t
-  both s m t out into h e f k =
-      record {
-        out = h.out ++ out;
-        into = h.into ++ into;
-        gone = e ∙ (ap (λ (vs : List T). vs ++ out) h.gone ∙ append_assoc s.gone h.out out);
-        came = f ∙ (ap (λ (vs : List T). vs ++ into) h.came ∙ append_assoc s.came h.into into);
-        held = append_assoc h.out out t.now.queue.items
-            ∙ (ap (λ (vs : List T). h.out ++ vs) k
-            ∙ (sym (append_assoc h.out m.now.queue.items into)
-            ∙ (ap (λ (vs : List T). vs ++ into) h.held ∙ append_assoc s.now.queue.items h.into into)));
-      }
+  -- all that holds where all is kept
+  pub stands_in : (f : Floor T) (s : Scene T Waiter) → Shown f s → AllKept (book_of f) s → StandsIn f s
+  stands_in f s sh k = record { shown = sh; kept = k; owed = owed (book_of f) s k.owned k.sound }
 
-  next_accounts : (s m t : Scene T Waiter) (b c : Book T) (x : Step T) (e : Entry T) → Accounts s m
-      → Made b m x e c t → Accounts s t
-  next_accounts s m t b c (step.Begin p call) e h made =
+  pub stands : (f : Floor T) → AreOwned f → Stands f
+  stands f o = record { scene = o.scene; stands = stands_in f o.scene o.shown o.kept }
+
+  pub owned_where : (f : Floor T) (s : Scene T Waiter) → StandsIn f s → AreOwned f
+  owned_where f s h = record { scene = s; shown = h.shown; kept = h.kept }
+
+  -- a step that was made leads from a scene in which it stood to one in which it stands
+  pub step_stands : (x : Step T) (f g : Floor T) (e : Entry T) (s : Scene T Waiter) (k : StandsIn f s) (t : Stepped x f e g s)
+      → StandsIn g t.after
+  step_stands x f g e s k t =
+      stands_in g t.after t.shown (kept_next (book_of f) (book_of g) s t.after x e t.made k.kept)
+
+  leads_by : (x : Step T) (f g : Floor T) (e : Entry T) (s : Scene T Waiter) (k : StandsIn f s) (t : Stepped x f e g s)
+      → LeadsBy (moment_of f s) x e (moment_of g t.after)
+  leads_by x f g e s k t =
+      let after = step_stands x f g e s k t in
+      record { touches = t.touches; made = t.made; holds = record { kept = after.kept; owed = after.owed } }
+
+  -- ---- numbers
+
+  accepted_more : (es : List (Entry T)) (e : Entry T) → accepted_in (es ++ e ∷ []) ≡ accepted_in es + brought_in e.mark
+  accepted_more [] e = omega arith
+  accepted_more (f ∷ es) e = let h = accepted_more es e in omega (arith, h)
+
+  left_more : (es : List (Entry T)) (e : Entry T) → left_in (es ++ e ∷ []) ≡ left_in es + taken_out e.mark
+  left_more [] e = omega arith
+  left_more (f ∷ es) e = let h = left_more es e in omega (arith, h)
+
+  -- those that are there after a step, and went out, are those that were there, and came in
+  next_numbers : (x : Step T) (b c : Book T) (s t : Scene T Waiter) (e : Entry T) → Made b s x e c t → IsBalanced s.now.queue
+      → IsBalanced t.now.queue
+      → length t.now.queue.items + taken_out e.mark ≡ length s.now.queue.items + brought_in e.mark
+  next_numbers (step.Begin p call) b c s t e made before after =
       let n = made.next.0 in
-      both s m t [] [] h (n.gone ∙ sym (append-nil m.gone)) (n.came ∙ sym (append-nil m.came))
-      (ap (λ (d : Channel T Waiter). d.queue.items) n.now ∙ sym (append-nil m.now.queue.items))
-  next_accounts s m t b c (step.Step p) e h made =
-      let n = made.next in
-      both s m t (gone_by e.mark m.now.queue.items) (came_by e.mark n.mine.ask) h n.gone n.came n.held
+      let mark : e.mark ≡ Nothing = ap (λ (y : ChannelEntry T). y.mark) n.entry in
+      let same : length t.now.queue.items ≡ length s.now.queue.items =
+      ap (λ (d : Channel T Waiter). length d.queue.items) n.now in
+      let none : taken_out e.mark ≡ 0 = ap taken_out mark in
+      let nothing : brought_in e.mark ≡ 0 = ap brought_in mark in
+      omega (arith, same, none, nothing)
+  next_numbers (step.Step p) b c s t e made before after = messages_moved s p.0 _ e.woken.items t made.next before after
+
+  -- ---- runs
 
   pub ran_none : (steps : List (Step T)) (f : Floor T) → RanTo steps steps f [] f
-  ran_none steps f s sh = record {
+  ran_none steps f s k = record {
     made = [];
+    moments = [];
     last = s;
     first = refl;
-    run = (refl, refl, refl);
-    shown = sh;
+    run = tt;
+    ends = refl;
+    stands = k;
     accounts = no_accounts s;
-    kept = λ k. k;
-    owed = λ k. owed (book_of f) s k.owned k.sound;
+    numbers = refl;
   }
 
   pub ran_more : (steps left : List (Step T)) (x : Step T) (f : Floor T) (trace : List (Entry T)) (g : Floor T)
       (e : Entry T) (h : Floor T)
-      → RanTo steps (x ∷ left) f trace g → step_refusal g.roll g.agents.items x ≡ None → Steps x g e h
-      → RanTo steps left f (trace ++ e ∷ []) h
-  ran_more steps left x f trace g e h ran fine stepped s sh =
-      let r = ran s sh in
-      let t = stepped r.last r.shown in
+      → RanTo steps (x ∷ left) f trace g → Steps x g e h → RanTo steps left f (trace ++ e ∷ []) h
+  ran_more steps left x f trace g e h ran stepped s k =
+      let r = ran s k in
+      let t = stepped r.last r.stands.shown in
+      let m : Moment T = moment_of f s in
+      let n : Moment T = moment_of h t.after in
+      let one : LeadsBy (end_of m r.moments) x e n =
+      subst (λ (o : Moment T). LeadsBy o x e n) (sym r.ends) (leads_by x g h e r.last r.stands t) in
       record {
         made = r.made ++ x ∷ [];
+        moments = r.moments ++ n ∷ [];
         last = t.after;
         first = r.first ∙ sym (append_assoc r.made (x ∷ []) left);
-        run = run_more (parts_in f) s (book_of f) r.made trace (parts_in g) r.last (book_of g) x e (parts_in h) t.after
-            (book_of h) r.run t.touches t.made;
-        shown = t.shown;
+        run = run_more m r.made trace r.moments x e n r.run one;
+        ends = end_more m r.moments n;
+        stands = step_stands x g h e r.last r.stands t;
         accounts = next_accounts s r.last t.after (book_of g) (book_of h) x e r.accounts t.made;
-        kept = λ k. kept_next (book_of g) (book_of h) r.last t.after x e fine t.made (r.kept k);
-        owed = λ k.
-            let n = kept_next (book_of g) (book_of h) r.last t.after x e fine t.made (r.kept k) in
-            owed (book_of h) t.after n.owned n.sound;
+        numbers = (
+            let one = next_numbers x (book_of g) (book_of h) r.last t.after e t.made (balanced_in _ _ r.last r.stands.shown.shows)
+            (balanced_in _ _ t.after t.shown.shows) in
+            let so_far = r.numbers in
+            omega (arith, so_far, one, accepted_more trace e, left_more trace e)
+            );
       }
 
   -- ---- why a run stops
@@ -292,25 +319,43 @@ module _ {T : Type 0} where
       → left ≡ y ∷ rest → x ≡ y
   first_is left x y rest p e = p ∙ ap (λ (l : List (Step T)). slice_index_or l 0 x) e
 
-  -- room that was taken changes nothing
-  pub ran_same : (steps left left' : List (Step T)) (f : Floor T) (trace : List (Entry T)) (g h : Floor T) → left' ≡ left
-      → IsSame g h → RanTo steps left f trace g → RanTo steps left' f trace h
-  ran_same steps left left' f trace g h more same ran s sh =
-      let r = ran s sh in
+  -- ---- room that was taken changes nothing
+
+  pub shown_same : (g h : Floor T) (s : Scene T Waiter) → IsSame g h → Shown g s → Shown h s
+  shown_same g h s same sh =
       let parts : parts_in h ≡ parts_in g = ap (λ c. parts_of c) same.channel in
       record {
+        shows = rw (parts, same.parties) sh.shows;
+        accepted = rw same.made sh.accepted;
+        messages = rw same.messages sh.messages;
+      }
+
+  pub stands_same : (g h : Floor T) (s : Scene T Waiter) → IsSame g h → StandsIn g s → StandsIn h s
+  stands_same g h s same k = record {
+    shown = shown_same g h s same k.shown;
+    kept = rw same.book k.kept;
+    owed = rw same.book k.owed;
+  }
+
+  moment_same : (g h : Floor T) (s : Scene T Waiter) → IsSame g h → moment_of h s ≡ moment_of g s
+  moment_same g h s same =
+      ap (λ (c : PlainChannel T Waiter). moment_with (parts_of c) s (book_of h)) same.channel
+      ∙ ap (λ (b : Book T). moment_with (parts_in g) s b) same.book
+
+  pub ran_same : (steps left left' : List (Step T)) (f : Floor T) (trace : List (Entry T)) (g h : Floor T) → left' ≡ left
+      → IsSame g h → RanTo steps left f trace g → RanTo steps left' f trace h
+  ran_same steps left left' f trace g h more same ran s k =
+      let r = ran s k in
+      record {
         made = r.made;
+        moments = r.moments;
         last = r.last;
         first = rw more r.first;
-        run = rw (parts, same.book) r.run;
-        shown = record {
-          shows = rw (parts, same.parties) r.shown.shows;
-          accepted = rw same.made r.shown.accepted;
-          messages = rw same.messages r.shown.messages;
-        };
+        run = r.run;
+        ends = r.ends ∙ sym (moment_same g h r.last same);
+        stands = stands_same g h r.last same r.stands;
         accounts = r.accounts;
-        kept = λ k. rw same.book (r.kept k);
-        owed = λ k. rw same.book (r.owed k);
+        numbers = r.numbers;
       }
 
   pub at_work_same : (g h : Floor T) → IsSame g h → AreAtWork g → AreAtWork h
@@ -318,14 +363,8 @@ module _ {T : Type 0} where
       (subst (λ (b : Book T). map (λ (a : Agent T). a.party) b.agents ≡ parties_in g.parties.items) (sym same.book) at_work)
 
   pub owned_same : (g h : Floor T) → IsSame g h → AreOwned g → AreOwned h
-  owned_same g h same o =
-      let parts : parts_in h ≡ parts_in g = ap (λ c. parts_of c) same.channel in
-      record {
-        scene = o.scene;
-        shown = record {
-          shows = rw (parts, same.parties) o.shown.shows;
-          accepted = rw same.made o.shown.accepted;
-          messages = rw same.messages o.shown.messages;
-        };
-        kept = rw same.book o.kept;
-      }
+  owned_same g h same o = record {
+    scene = o.scene;
+    shown = shown_same g h o.scene same o.shown;
+    kept = rw same.book o.kept;
+  }

@@ -8,6 +8,7 @@ pub mod OwnerMoves
 pub mod OwnerHolders
 pub mod OwnerNames
 pub mod OwnerBegins
+pub mod WokenPolls
 pub mod OwnerCalls
 pub mod OwnerTogether
 pub mod OwnerEnds
@@ -18,6 +19,7 @@ pub mod OwnerWokenMoves
 pub mod OwnerWoken
 pub mod OwnerWokenRuns
 pub mod OwnerPolled
+pub mod AccountFacts
 pub mod AllKept
 pub mod LoneFacts
 pub mod Interface
@@ -33,3 +35,4 @@ pub mod OwnerOrder
 pub mod OwnerOrderRuns
 pub mod FloorFacts
 pub mod PendingFacts
+pub mod PollFacts

@@ -1,8 +1,8 @@
 -- A call made alone, by names: what its code does, and what is kept.
-use Rattle.std.proofs.Common.{arith, ◌≡◌, ◌+◌, ◌≤◌, ◌<◌, ◌^◌, ℕ, Bool, true, false, List, [], ◌∷◌, ◌++◌, map, length, None, Result, Ok, Err, IfOk, OnErr, inr, refl, sym, ap, ◌∙◌, subst, vec_len, vec_capacity}
-use Rattle.async_channel.specs.Moves.{Channel}
-use Rattle.async_channel.specs.declared.ask.ChannelAsk.{ChannelAsk}
-use Rattle.async_channel.specs.declared.reply.Reply.{Reply}
+use Rattle.std.proofs.Common.{arith, ◌≡◌, ◌+◌, ◌≤◌, ◌<◌, ◌^◌, ℕ, Bool, true, false, List, [], ◌∷◌, ◌++◌, map, length, drop, None, Result, Ok, Err, IfOk, OnErr, inr, refl, sym, ap, ◌∙◌, subst, vec_len, vec_capacity}
+use Rattle.channel_calls.specs.Moves.{Channel}
+use Rattle.channel_calls.specs.declared.ask.ChannelAsk.{ChannelAsk}
+use Rattle.channel_calls.specs.declared.reply.Reply.{Reply}
 use Rattle.channel_alone.specs.Alone.{Alone}
 use Rattle.channel_alone.specs.Run.{HasPosition, IsAtRest}
 use Rattle.channel_alone.specs.Scenes.{LoneRun, RunsInScenes}
@@ -14,7 +14,7 @@ use Rattle.concurrent_queue.specs.Step.{Fits}
 use Rattle.channel_steps.specs.Scene.{Scene, Sitting, under_of, all_seats, Shows, parties_in}
 use Rattle.channel_steps.specs.Start.{TellsQuiet as Tells}
 use Rattle.channel_interleaving.specs.Bookkeeping.{asks}
-use Rattle.channel_interleaving.specs.Floor.{parts_in, book_of, Shown, AreAtWork, AreFewUsers, AreOwned, IsKept, IsQuiet, IsSame, TellsQuiet}
+use Rattle.channel_interleaving.specs.Floor.{parts_in, book_of, Shown, AreAtWork, AreFewUsers, AreOwned, IsKept, IsQuiet, IsSame, LeadsOn, TellsQuiet}
 use Rattle.channel_interleaving.specs.Kept.{AllKept}
 use Rattle.channel_interleaving.specs.Lone.{names_alone, order_alone, CallsAlone, WakesAtMost}
 use Rattle.channel_interleaving.specs.Refusal.{refusal}
@@ -24,17 +24,12 @@ use Rattle.channel_interleaving.specs.declared.floor.Floor.{Floor}
 use Rattle.channel_interleaving.specs.declared.names.Agent.{Agent}
 use Rattle.channel_interleaving.specs.declared.woken.Woken.{Woken as Sink}
 use Rattle.channel_interleaving.proofs.AllKept.{kept_alone}
-use Rattle.channel_interleaving.proofs.FloorFacts.{no_parties, owned_same}
-use Rattle.channel_interleaving.proofs.WokenFacts.{all_heard}
+use Rattle.channel_interleaving.proofs.AccountFacts.{no_accounts, lone_accounts}
+use Rattle.channel_interleaving.proofs.OwnerBegins.{Admitted, admitted}
+use Rattle.channel_interleaving.proofs.FloorFacts.{no_parties, owned_same, owned_where, stands_in, stands_same}
+use Rattle.channel_interleaving.proofs.WokenFacts.{all_heard, drop_front}
 
 module _ {T : Type 0} where
-  pub tells_quiet : (f : Floor T) (quiet : Bool) → AreOwned f → Tells f.parties.items quiet → TellsQuiet f quiet
-  tells_quiet f quiet o tells = record { told = told quiet tells; scenes = tells }
-    where
-      told : (b : Bool) → Tells f.parties.items b → b ≡ true → IsQuiet f
-      told true h e = no_parties (parts_in f) f.parties.items o.scene (h (parts_in f) o.scene o.shown.shows) o.shown.shows
-      told false h e = absurd (let no : false ≡ true = e in cc)
-
   -- where there is no party, no call is under way
   pub none_under_way : (f : Floor T) (s : Scene T Waiter) → IsQuiet f → Shown f s → s.under_way ≡ []
   none_under_way f s quiet sh = sh.shows.under_way ∙ nobody sh.shows.sittings (sym sh.shows.parties_are ∙ quiet)
@@ -42,6 +37,17 @@ module _ {T : Type 0} where
       nobody : (xs : List (Sitting T Waiter)) → map (λ (x : Sitting T Waiter). x.party) xs ≡ [] → map under_of xs ≡ []
       nobody [] e = refl
       nobody (x ∷ xs) e = absurd cc
+
+  pub tells_quiet : (f : Floor T) (quiet : Bool) → AreOwned f → Tells f.parties.items quiet → TellsQuiet f quiet
+  tells_quiet f quiet o tells = record { told = told quiet tells; busy = busy quiet tells }
+    where
+      told : (b : Bool) → Tells f.parties.items b → b ≡ true → IsQuiet f
+      told true h e = no_parties (parts_in f) f.parties.items o.scene (h (parts_in f) o.scene o.shown.shows) o.shown.shows
+      told false h e = absurd (let no : false ≡ true = e in cc)
+
+      busy : (b : Bool) → Tells f.parties.items b → b ≡ false → IsQuiet f → ⊥
+      busy true h e quiet = absurd (let no : true ≡ false = e in cc)
+      busy false h e quiet = h (parts_in f) o.scene o.shown.shows (none_under_way f o.scene quiet o.shown)
 
   pub no_agents : (f : Floor T) → AreAtWork f → IsQuiet f → f.agents.items ≡ []
   no_agents f at_work quiet = none f.agents.items (at_work ∙ ap (λ ps. parties_in ps) quiet)
@@ -70,26 +76,27 @@ module _ {T : Type 0} where
       nobody [] e = refl
       nobody (x ∷ xs) e = absurd cc
 
-  pub is_called : (c : Call T) (old new : Floor T) (a : ChannelAsk T Waiter) (d : Done T) (empty full : Sink) (room : ℕ)
+  pub is_called : (c : Call T) (old new : Floor T) (a : ChannelAsk T Waiter) (d : Done T) (empty full : Sink) (fresh : List Waiter) (room : ℕ)
       → RunsInScenes Hears a (parts_in old) empty old.messages d (parts_in new) full new.messages
       → a ≡ asks old.roll c → IsQuiet old → IsQuiet new → old.made < 2 ^ 61 → new.made ≡ old.made + 1
-      → empty.names.items ≡ [] → room ≤ vec_capacity empty.names → WakesAtMost room c old
+      → drop (length empty.names.items) full.names.items ≡ fresh → length empty.names.items + room ≤ vec_capacity empty.names
+      → WakesAtMost room c old
       → book_of new ≡ record {
-        roll = names_alone old.roll c d.reply d.kept full.names.items;
-        order = order_alone old.roll c d.kept full.names.items old.order;
+        roll = names_alone old.roll c d.reply d.kept fresh;
+        order = order_alone old.roll c d.kept fresh old.order;
         agents = [];
       }
-      → CallsAlone c old d.reply full.names.items new
-  is_called c old new a d empty full room ran asked quiet still low made none enough few book s sh all =
+      → CallsAlone c old d.reply fresh new
+  is_called c old new a d empty full fresh room ran asked quiet still low made behind enough few book s sh all =
       let r = ran s 0 (has_position old s sh low) (subst (λ ps. Shows (parts_in old) ps s) quiet sh.shows) in
       let alone : Alone (asks old.roll c) s.now r.outcome =
       subst (λ (x : ChannelAsk T Waiter). Alone x s.now r.outcome) asked r.does in
       let most = few s r.outcome low sh all alone in
       let start : vec_len empty.names ≡ length empty.names.items = empty.names.ok.0 in
-      let nobody : length empty.names.items ≡ 0 = ap length none in
-      let heard : full.names.items ≡ r.outcome.woken =
-      all_heard empty r.outcome.woken full r.woken (omega (arith, most, enough, start, nobody))
-      ∙ ap (λ (ws : List Waiter). ws ++ r.outcome.woken) none in
+      let heard : fresh ≡ r.outcome.woken =
+      sym behind
+      ∙ (ap (λ (ws : List Waiter). drop (length empty.names.items) ws) (all_heard empty r.outcome.woken full r.woken (omega (arith, most, enough, start)))
+      ∙ drop_front empty.names.items r.outcome.woken) in
       let least = sh.accepted in
       let more = r.accepted in
       record {
@@ -109,20 +116,40 @@ module _ {T : Type 0} where
         limit = low;
       }
 
+  -- a call made alone leads from a scene in which the channel stood to one in which it stands
+  pub call_leads : (c : Call T) (old new : Floor T) (x : Reply T) (names : List Waiter) → AreAtWork old → IsQuiet old
+      → Admitted old.roll c → CallsAlone c old x names new → LeadsOn old new
+  call_leads c old new x names at_work quiet fine called s k =
+      let d = called s k.shown k.kept in
+      let kept : AllKept (book_of new) d.after =
+      subst (λ (b : Book T). AllKept b d.after) (sym d.book)
+      (kept_alone (book_of old) c s d.after d.outcome (no_agents old at_work quiet) fine d.run k.kept) in
+      record {
+        last = d.after;
+        stands = stands_in new d.after d.shown kept;
+        accounts = lone_accounts s d.after 0 (asks old.roll c) d.outcome d.run;
+      }
+
+  pub same_leads : (old new : Floor T) → IsSame old new → LeadsOn old new
+  same_leads old new same s k = record { last = s; stands = stands_same old new s same k; accounts = no_accounts s }
+
+  pub leads_whatever : (c : Call T) (old new : Floor T) (result : Result (Answered T) (Call T)) → AreAtWork old → IsQuiet old
+      → refusal old.roll c ≡ None
+      → IfOk result (λ (d : Answered T). CallsAlone c old d.reply d.woken.items new)
+      → OnErr result (IsSame old new) → LeadsOn old new
+  leads_whatever c old new (Ok d) at_work quiet fine called same =
+      call_leads c old new d.reply d.woken.items at_work quiet (admitted old.roll c fine) called
+  leads_whatever c old new (Err x) at_work quiet fine called same = same_leads old new same
+
   -- what is kept, a call made alone keeps
   pub call_kept : (c : Call T) (old new : Floor T) (x : Reply T) (names : List Waiter) → IsKept old → IsQuiet old → AreAtWork new
       → AreFewUsers new
-      → refusal old.roll c ≡ None → CallsAlone c old x names new → IsKept new
+      → Admitted old.roll c → CallsAlone c old x names new → IsKept new
   call_kept c old new x names k quiet at_work users fine called =
       let o = k.listeners in
-      let d = called o.scene o.shown o.kept in
+      let l = call_leads c old new x names k.at_work quiet fine called o.scene (stands_in old o.scene o.shown o.kept) in
       record {
-        listeners = record {
-          scene = d.after;
-          shown = d.shown;
-          kept = subst (λ (b : Book T). AllKept b d.after) (sym d.book)
-              (kept_alone (book_of old) c o.scene d.after d.outcome (no_agents old k.at_work quiet) fine d.run o.kept);
-        };
+        listeners = owned_where new l.last l.stands;
         at_work = at_work;
         users = users;
       }
@@ -133,6 +160,6 @@ module _ {T : Type 0} where
       → IfOk result (λ (d : Answered T). CallsAlone c old d.reply d.woken.items new)
       → OnErr result (IsSame old new) → IsKept new
   kept_whatever c old new (Ok d) k quiet at_work users fine called same =
-      call_kept c old new d.reply d.woken.items k quiet at_work users fine called
+      call_kept c old new d.reply d.woken.items k quiet at_work users (admitted old.roll c fine) called
   kept_whatever c old new (Err x) k quiet at_work users fine called same =
       record { listeners = owned_same old new same k.listeners; at_work = at_work; users = users }

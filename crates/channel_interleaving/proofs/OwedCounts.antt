@@ -6,16 +6,16 @@ use Rattle.std.specs.List.{count_by}
 use Rattle.std.specs.Map.{lookup, keys_of}
 use Rattle.concurrent_queue.specs.Queue.{Phase, Stage, trying, displaced, appended, taken}
 use Rattle.event_listener.specs.declared.key.Key.{Key}
-use Rattle.async_channel.specs.Parts.{listeners}
-use Rattle.async_channel.specs.declared.ask.ChannelAsk.{ChannelAsk}
-use Rattle.async_channel.specs.declared.ask.ChannelAsk.TheVariants as ask
-use Rattle.async_channel.specs.declared.stage.Aim.TheVariants as aim
-use Rattle.async_channel.specs.declared.stage.Held.{Held}
-use Rattle.async_channel.specs.declared.stage.Line.{Line}
-use Rattle.async_channel.specs.declared.stage.Line.TheVariants.{Sends, Receives, Streams, Closings}
-use Rattle.async_channel.specs.declared.stage.Stage as stage
-use Rattle.async_channel.specs.declared.stage.Stage.TheVariants.{Trying, Working}
-use Rattle.async_channel.specs.declared.stage.Work.TheVariants.{TellReceive, TellSend}
+use Rattle.channel_calls.specs.Parts.{listeners}
+use Rattle.channel_calls.specs.declared.ask.ChannelAsk.{ChannelAsk}
+use Rattle.channel_calls.specs.declared.ask.ChannelAsk.TheVariants as ask
+use Rattle.channel_calls.specs.declared.stage.Aim.TheVariants as aim
+use Rattle.channel_calls.specs.declared.stage.Held.{Held}
+use Rattle.channel_calls.specs.declared.stage.Line.{Line}
+use Rattle.channel_calls.specs.declared.stage.Line.TheVariants.{Sends, Receives, Streams, Closings}
+use Rattle.channel_calls.specs.declared.stage.Stage as stage
+use Rattle.channel_calls.specs.declared.stage.Stage.TheVariants.{Trying, Working}
+use Rattle.channel_calls.specs.declared.stage.Work.TheVariants.{TellReceive, TellSend}
 use Rattle.channel_model.proofs.Awake.{line_sound, line_refl}
 use Rattle.channel_model.specs.Laws.{same_line}
 use Rattle.channel_model.specs.Names.{Directory}

@@ -1,7 +1,7 @@
 -- Listeners on lists, and who holds them, after one of these passed from one to another, came or went.
 use Rattle.std.proofs.Common.{◌≡◌, List, Option, None, Some, ◌⊎◌, inl, inr, sym, ◌∙◌}
-use Rattle.async_channel.specs.Moves.{Channel}
-use Rattle.async_channel.specs.declared.stage.Held.{Held}
+use Rattle.channel_calls.specs.Moves.{Channel}
+use Rattle.channel_calls.specs.declared.stage.Held.{Held}
 use Rattle.channel_interleaving.specs.Owners.{Holder, IsListed, NoneListedTwice}
 use Rattle.channel_interleaving.proofs.OwnerKeys.{IsGone}
 use Rattle.channel_interleaving.proofs.OwnerMoves.{Lists}

@@ -4,9 +4,9 @@ use Rattle.std.specs.Map.{lookup, keys_of}
 use Rattle.std.proofs.lemmas.Map.{keys-set_value}
 use Rattle.event_listener.specs.Lists.{Notice, same_key, told_as, waits_as, kind_of, without, with_task, told_with, moved, notified, listened, passed, passed_wakes, registration, removed, removed_wakes}
 use Rattle.event_listener.specs.declared.key.Key.{Key}
-use Rattle.async_channel.specs.Parts.{Listeners, told_one, told_one_wakes, told_all, told_all_wakes, waits}
-use Rattle.async_channel.specs.declared.stage.Held.{Held}
-use Rattle.async_channel.specs.declared.stage.Line.{Line}
+use Rattle.channel_calls.specs.Parts.{Listeners, told_one, told_one_wakes, told_all, told_all_wakes, waits}
+use Rattle.channel_calls.specs.declared.stage.Held.{Held}
+use Rattle.channel_calls.specs.declared.stage.Line.{Line}
 use Rattle.channel_interleaving.specs.Owners.{IsAmong, NoneTwice, keys}
 use Rattle.channel_interleaving.proofs.OwnerLists.{among_left, among_right, among_of, Joined, none_parts, none_more, among_cut, Fewer, fewer_both, same_is, told_apart, same_or_not, entry_stays, key_stays, fewer_keys, key_gone, entry_set, value_now, among_tasks}
 

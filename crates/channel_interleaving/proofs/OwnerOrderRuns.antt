@@ -2,9 +2,9 @@
 use Rattle.std.proofs.Common.{◌≡◌, ℕ, nat_eq, Bool, true, false, if◌then◌else◌, List, [], ◌∷◌, ◌++◌, Option, None, Some, is_some, ◌⊎◌, inl, inr, refl, sym, ap, ◌∙◌, subst}
 use Rattle.std.specs.Map.{lookup, keys_of}
 use Rattle.event_listener.specs.declared.key.Key.{Key}
-use Rattle.async_channel.specs.Moves.{Channel}
-use Rattle.async_channel.specs.Parts.{listeners}
-use Rattle.async_channel.specs.declared.stage.Line.{Line}
+use Rattle.channel_calls.specs.Moves.{Channel}
+use Rattle.channel_calls.specs.Parts.{listeners}
+use Rattle.channel_calls.specs.declared.stage.Line.{Line}
 use Rattle.channel_model.specs.Lines.{is_among, without}
 use Rattle.channel_model.specs.Names.{at}
 use Rattle.channel_model.specs.declared.call.Call.{Call}
@@ -254,9 +254,9 @@ module _ {T : Type 0} where
 
   -- a call begins
   pub begins_order : (q : PartyId) (c : Call T) (b : Book T) (s t : Scene T Waiter) (e : ChannelEntry T)
-      → Begins s q.0 (asks b.roll c) e t → Owned b s → InOrder b s → refusal b.roll c ≡ None → InOrder (begun q c b) t
+      → Begins s q.0 (asks b.roll c) e t → Owned b s → InOrder b s → Admitted b.roll c → InOrder (begun q c b) t
   begins_order q c b s t e n o i fine =
-      let h = begins_sorted b.roll b.order s.now o.none_amiss (sorted_of b s i) c (admitted b.roll c fine) in
+      let h = begins_sorted b.roll b.order s.now o.none_amiss (sorted_of b s i) c fine in
       of_sorted (begun q c b) t
       (subst (λ (d : Channel T Waiter). Sorted (names_begun b.roll c) (order_begun c b.order) d) (sym n.now) h)
 
@@ -268,6 +268,6 @@ module _ {T : Type 0} where
   order_next b c s t (step.Begin q call) e known fine made o w i =
       let ok = idle_and_free q call b fine in
       let n = made.next.0 in
-      subst (λ (d : Book T). InOrder d t) (sym made.book) (begins_order q call b s t _ n o i ok.1)
+      subst (λ (d : Book T). InOrder d t) (sym made.book) (begins_order q call b s t _ n o i (admitted b.roll call ok.1))
   order_next b c s t (step.Step q) e known fine made o w i =
       stepped_order b c s t q e.mark e.reply made.kept e.woken.items o known made.next made.book w i

@@ -3,8 +3,8 @@ use Rattle.std.proofs.Common.{◌≡◌, Bool, true, false, if◌then◌else◌,
 use Rattle.std.specs.Map.{keys_of}
 use Rattle.event_listener.specs.Lists.{tasks_of}
 use Rattle.event_listener.specs.declared.key.Key.{Key}
-use Rattle.async_channel.specs.declared.stage.Held.{Held}
-use Rattle.async_channel.specs.declared.stage.Line.{Line}
+use Rattle.channel_calls.specs.declared.stage.Held.{Held}
+use Rattle.channel_calls.specs.declared.stage.Line.{Line}
 use Rattle.channel_model.proofs.Awake.{line_sound, line_refl}
 use Rattle.channel_model.specs.Laws.{same_line}
 use Rattle.channel_model.specs.Lines.{is_among, without}

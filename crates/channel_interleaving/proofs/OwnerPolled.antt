@@ -1,11 +1,11 @@
 -- Where a poll of a name is under way, a party at work works there. So where nobody is at work, nobody is polled.
 use Rattle.std.specs.List.{remove}
 use Rattle.std.proofs.Common.{◌≡◌, ℕ, List, [], ◌∷◌, ◌++◌, slice_get, unwrap_or, Option, None, Some, ◌⊎◌, inl, inr, refl, sym, ap, ◌∙◌, subst}
-use Rattle.async_channel.specs.Turns.{nothing_kept}
-use Rattle.async_channel.specs.declared.mark.Mark.{Mark}
-use Rattle.async_channel.specs.declared.reply.Reply.{Reply}
-use Rattle.async_channel.specs.declared.stage.Kept.{Kept}
-use Rattle.async_channel.specs.declared.stage.Line.{Line}
+use Rattle.channel_calls.specs.Turns.{nothing_kept}
+use Rattle.channel_calls.specs.declared.mark.Mark.{Mark}
+use Rattle.channel_calls.specs.declared.reply.Reply.{Reply}
+use Rattle.channel_calls.specs.declared.stage.Kept.{Kept}
+use Rattle.channel_calls.specs.declared.stage.Line.{Line}
 use Rattle.channel_model.specs.declared.call.Call.{Call}
 use Rattle.channel_model.specs.declared.name.Waiter.{Waiter}
 use Rattle.channel_steps.specs.Scene.{Scene, Steps, AllKnown}
@@ -20,7 +20,7 @@ use Rattle.channel_interleaving.specs.declared.step.Entry.{Entry}
 use Rattle.channel_interleaving.specs.declared.step.PartyId.{PartyId}
 use Rattle.channel_interleaving.specs.declared.step.Step.{Step}
 use Rattle.channel_interleaving.specs.declared.step.Step.TheVariants as step
-use Rattle.channel_interleaving.proofs.OwnerBegins.{Quiet, Touches, admitted}
+use Rattle.channel_interleaving.proofs.OwnerBegins.{Quiet, Touches, Admitted, admitted}
 use Rattle.channel_interleaving.proofs.OwnerCalls.{begins_so}
 use Rattle.channel_interleaving.proofs.OwnerEnds.{IsCalm, Comes}
 use Rattle.channel_interleaving.proofs.OwnerLists.{among_left, among_right, among_of}
@@ -51,10 +51,10 @@ module _ {T : Type 0} where
 
   -- ---- a call begins
 
-  pub polled_begun : (q : PartyId) (c : Call T) (b : Book T) (s : Scene T Waiter) → Owned b s → refusal b.roll c ≡ None
+  pub polled_begun : (q : PartyId) (c : Call T) (b : Book T) (s : Scene T Waiter) → Owned b s → Admitted b.roll c
       → PolledAtWork b
       → PolledAtWork (begun q c b)
-  polled_begun q c b s o fine at w line e = by (begins_so b.roll c o.none_amiss (admitted b.roll c fine))
+  polled_begun q c b s o fine at w line e = by (begins_so b.roll c o.none_amiss fine)
     where
       mine : Agent T
       mine = record { party = q.0; errand = errand_of b.roll c }
@@ -139,7 +139,7 @@ module _ {T : Type 0} where
   pub polled_next : (b c : Book T) (s t : Scene T Waiter) (x : Step T) (e : Entry T) → AllKnown s.now s.under_way
       → step_refusal b.roll b.agents x ≡ None → Made b s x e c t → Owned b s → PolledAtWork b → PolledAtWork c
   polled_next b c s t (step.Begin q call) e known fine made o at =
-      subst (λ (d : Book T). PolledAtWork d) (sym made.book) (polled_begun q call b s o (idle_and_free q call b fine).1 at)
+      subst (λ (d : Book T). PolledAtWork d) (sym made.book) (polled_begun q call b s o (admitted b.roll call (idle_and_free q call b fine).1) at)
   polled_next b c s t (step.Step q) e known fine made o at =
       polled_step b c s t q e.mark e.reply made.kept e.woken.items o known made.next made.book.0 made.book.1 made.book.2
       made.book.3 made.book.4 at

@@ -2,14 +2,14 @@
 use Rattle.std.proofs.Common.{◌≡◌, ℕ, Bool, true, false, if◌then◌else◌, List, [], ◌∷◌, ◌++◌, map, slice_get, Option, None, Some, ◌⊎◌, inl, inr, refl, sym, ap, ◌∙◌, subst}
 use Rattle.std.specs.List.{remove}
 use Rattle.concurrent_queue.specs.Queue.{Phase}
-use Rattle.async_channel.specs.Moves.{Channel, Effect}
-use Rattle.async_channel.specs.declared.mark.Mark.{Mark}
-use Rattle.async_channel.specs.declared.reply.Reply.{Reply}
-use Rattle.async_channel.specs.declared.stage.Held.{Held}
-use Rattle.async_channel.specs.declared.stage.Kept.{Kept}
-use Rattle.async_channel.specs.declared.stage.Line.{Line}
-use Rattle.async_channel.specs.declared.stage.Stage.{Stage}
-use Rattle.async_channel.specs.declared.stage.Stage.TheVariants.{Trying, Working, Finished}
+use Rattle.channel_calls.specs.Moves.{Channel, Effect}
+use Rattle.channel_calls.specs.declared.mark.Mark.{Mark}
+use Rattle.channel_calls.specs.declared.reply.Reply.{Reply}
+use Rattle.channel_calls.specs.declared.stage.Held.{Held}
+use Rattle.channel_calls.specs.declared.stage.Kept.{Kept}
+use Rattle.channel_calls.specs.declared.stage.Line.{Line}
+use Rattle.channel_calls.specs.declared.stage.Stage.{Stage}
+use Rattle.channel_calls.specs.declared.stage.Stage.TheVariants.{Trying, Working, Finished}
 use Rattle.channel_model.specs.declared.call.Call.{Call}
 use Rattle.channel_model.specs.declared.name.Waiter.{Waiter}
 use Rattle.channel_model.specs.declared.refusal.WorldRefusal.TheVariants.{Busy}
@@ -27,7 +27,7 @@ use Rattle.channel_interleaving.specs.declared.step.Entry.{Entry}
 use Rattle.channel_interleaving.specs.declared.step.PartyId.{PartyId}
 use Rattle.channel_interleaving.specs.declared.step.Step.{Step}
 use Rattle.channel_interleaving.specs.declared.step.Step.TheVariants as step
-use Rattle.channel_interleaving.proofs.OwnerBegins.{line_waits, IsBusy}
+use Rattle.channel_interleaving.proofs.OwnerBegins.{line_waits, IsBusy, admitted}
 use Rattle.channel_interleaving.proofs.OwnerEnds.{IsCalm, IsLeft, Comes, Settles, settles, carries}
 use Rattle.channel_interleaving.proofs.OwnerHolders.{Accounted, Passes, accounted}
 use Rattle.channel_interleaving.proofs.OwnerMoves.{LeavesIt, Turnout, turnout}
@@ -587,6 +587,6 @@ module _ {T : Type 0} where
   owned_next b c s t (step.Begin q call) e known fine made o =
       let ok = idle_and_free q call b fine in
       let n = made.next.0 in
-      subst (λ (d : Book T). Owned d t) (sym made.book) (begins_owned q call b s t _ n o ok.0 ok.1)
+      subst (λ (d : Book T). Owned d t) (sym made.book) (begins_owned q call b s t _ n o ok.0 (admitted b.roll call ok.1))
   owned_next b c s t (step.Step q) e known fine made o =
       stepped b c s t q e.mark e.reply made.kept e.woken.items o known made.next made.book

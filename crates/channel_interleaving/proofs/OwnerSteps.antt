@@ -2,10 +2,10 @@
 use Rattle.std.proofs.Common.{◌≡◌, ℕ, nat_eq, Bool, true, false, cond, ◌||◌, List, [], ◌∷◌, ◌++◌, Option, None, Some, ◌⊎◌, inl, inr, refl, sym, ap, ◌∙◌, subst}
 use Rattle.std.proofs.lemmas.Bool.Decides.{nat_tests}
 use Rattle.std.proofs.Common.{arith}
-use Rattle.async_channel.specs.Moves.{Channel}
-use Rattle.async_channel.specs.declared.stage.Held.{Held}
-use Rattle.async_channel.specs.declared.stage.Line.{Line}
-use Rattle.async_channel.specs.declared.stage.Line.TheVariants.{Sends, Receives, Streams, Closings}
+use Rattle.channel_calls.specs.Moves.{Channel}
+use Rattle.channel_calls.specs.declared.stage.Held.{Held}
+use Rattle.channel_calls.specs.declared.stage.Line.{Line}
+use Rattle.channel_calls.specs.declared.stage.Line.TheVariants.{Sends, Receives, Streams, Closings}
 use Rattle.channel_model.specs.declared.call.Call.{Call}
 use Rattle.channel_model.specs.declared.name.Waiter.{Waiter}
 use Rattle.channel_model.specs.declared.name.Waiter.TheVariants.{Op, Stream}
@@ -22,7 +22,7 @@ use Rattle.channel_interleaving.specs.declared.names.Errand.{Errand}
 use Rattle.channel_interleaving.specs.declared.names.Errand.TheVariants as errand
 use Rattle.channel_model.specs.declared.name.HandleKind.TheVariants as handle_kind
 use Rattle.channel_interleaving.specs.declared.step.PartyId.{PartyId}
-use Rattle.channel_interleaving.proofs.OwnerBegins.{line_held, IsBusy, IsLoose, held_in, ask_holds, starts, Quiet, Touches, admitted}
+use Rattle.channel_interleaving.proofs.OwnerBegins.{line_held, IsBusy, IsLoose, held_in, ask_holds, starts, Quiet, Touches, Admitted}
 use Rattle.channel_interleaving.proofs.OwnerCalls.{begins_so}
 use Rattle.channel_interleaving.proofs.OwnerEnds.{IsCalm}
 use Rattle.channel_interleaving.proofs.OwnerHolders.{Accounted, Passes, accounted}
@@ -366,8 +366,8 @@ module _ {T : Type 0} where
               new = λ h e. any_right (HasIt q.0 h) s.under_way (new_call ∷ []) (inl (refl, first_stage.0 ∙ (k.takes ∙ e)));
             }
 
-    pub begins_owned : refusal b.roll c ≡ None → Owned (begun q c b) t
-    begins_owned no_refusal = by (begins_so b.roll c o.none_amiss (admitted b.roll c no_refusal))
+    pub begins_owned : Admitted b.roll c → Owned (begun q c b) t
+    begins_owned no_refusal = by (begins_so b.roll c o.none_amiss no_refusal)
       where
         by : Quiet P P' (errand_of b.roll c) (asks b.roll c) ⊎ Touches P P' (errand_of b.roll c) (asks b.roll c)
             → Owned (begun q c b) t

@@ -11,29 +11,29 @@ use Rattle.concurrent_queue.specs.declared.error.PushError.TheVariants as push_e
 use Rattle.concurrent_queue.specs.declared.error.ForcePushError.TheVariants as force_error
 use Rattle.concurrent_queue.specs.declared.error.PopError.TheVariants as pop_error
 use Rattle.event_listener.specs.declared.key.Key.{Key}
-use Rattle.async_channel.specs.Answered.{over, answered_next, send_next, receive_next, stream_next, closing_next, closed_next, asked_next, terminated_next, upgraded_next, sent_next, forced_next, received_next}
-use Rattle.async_channel.specs.Turns.{held_on, line_of, dropper, leaving, closer_ending, ends_by, again, refused_next, told_all_next, lowered_next, counted_next, loaded_next, raised_next, most}
-use Rattle.async_channel.specs.declared.ask.ChannelAsk.{ChannelAsk}
-use Rattle.async_channel.specs.declared.ask.ChannelAsk.TheVariants as ask
-use Rattle.async_channel.specs.declared.reply.Reply.{Reply}
-use Rattle.async_channel.specs.declared.reply.Reply.TheVariants as reply
-use Rattle.async_channel.specs.declared.stage.Aim.{Aim}
-use Rattle.async_channel.specs.declared.stage.Aim.TheVariants as aim
-use Rattle.async_channel.specs.declared.stage.Closer.{Closer}
-use Rattle.async_channel.specs.declared.stage.Closer.TheVariants as closer
-use Rattle.async_channel.specs.declared.stage.Ending.{Ending}
-use Rattle.async_channel.specs.declared.stage.Held.{Held}
-use Rattle.async_channel.specs.declared.stage.Line.{Line}
-use Rattle.async_channel.specs.declared.stage.Line.TheVariants.{Sends, Receives, Streams, Closings}
-use Rattle.async_channel.specs.declared.stage.Making.{Making}
-use Rattle.async_channel.specs.declared.stage.Making.TheVariants as making
-use Rattle.async_channel.specs.declared.stage.Side.{Side}
-use Rattle.async_channel.specs.declared.stage.Turn.{Turn}
-use Rattle.async_channel.specs.declared.stage.Turn.TheVariants.{Tries, Works, Ends}
-use Rattle.async_channel.specs.declared.stage.Waiting.{Waiting}
-use Rattle.async_channel.specs.declared.stage.Waiting.TheVariants as waiting
-use Rattle.async_channel.specs.declared.stage.Work.TheVariants.{Leave}
-use Rattle.async_channel.specs.declared.stage.Work.TheVariants as work
+use Rattle.channel_calls.specs.Answered.{over, answered_next, send_next, receive_next, stream_next, closing_next, closed_next, asked_next, terminated_next, upgraded_next, sent_next, forced_next, received_next}
+use Rattle.channel_calls.specs.Turns.{held_on, line_of, dropper, leaving, closer_ending, ends_by, again, refused_next, told_all_next, lowered_next, counted_next, loaded_next, raised_next, most}
+use Rattle.channel_calls.specs.declared.ask.ChannelAsk.{ChannelAsk}
+use Rattle.channel_calls.specs.declared.ask.ChannelAsk.TheVariants as ask
+use Rattle.channel_calls.specs.declared.reply.Reply.{Reply}
+use Rattle.channel_calls.specs.declared.reply.Reply.TheVariants as reply
+use Rattle.channel_calls.specs.declared.stage.Aim.{Aim}
+use Rattle.channel_calls.specs.declared.stage.Aim.TheVariants as aim
+use Rattle.channel_calls.specs.declared.stage.Closer.{Closer}
+use Rattle.channel_calls.specs.declared.stage.Closer.TheVariants as closer
+use Rattle.channel_calls.specs.declared.stage.Ending.{Ending}
+use Rattle.channel_calls.specs.declared.stage.Held.{Held}
+use Rattle.channel_calls.specs.declared.stage.Line.{Line}
+use Rattle.channel_calls.specs.declared.stage.Line.TheVariants.{Sends, Receives, Streams, Closings}
+use Rattle.channel_calls.specs.declared.stage.Making.{Making}
+use Rattle.channel_calls.specs.declared.stage.Making.TheVariants as making
+use Rattle.channel_calls.specs.declared.stage.Side.{Side}
+use Rattle.channel_calls.specs.declared.stage.Turn.{Turn}
+use Rattle.channel_calls.specs.declared.stage.Turn.TheVariants.{Tries, Works, Ends}
+use Rattle.channel_calls.specs.declared.stage.Waiting.{Waiting}
+use Rattle.channel_calls.specs.declared.stage.Waiting.TheVariants as waiting
+use Rattle.channel_calls.specs.declared.stage.Work.TheVariants.{Leave}
+use Rattle.channel_calls.specs.declared.stage.Work.TheVariants as work
 use Rattle.channel_steps.specs.Known.{TriesFor}
 use Rattle.channel_interleaving.specs.Owners.{closer_holds, aim_holds, aim_task, work_holds, work_task}
 

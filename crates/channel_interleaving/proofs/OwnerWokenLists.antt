@@ -3,9 +3,9 @@ use Rattle.std.proofs.Common.{◌≡◌, ◌≤◌, ℕ, zero, suc, Bool, true, 
 use Rattle.std.specs.Map.{remove_entry, set_value, keys_of}
 use Rattle.event_listener.specs.Lists.{Notice, same_key, tasks_of, told_as, waits_as, told_with, without, with_task, moved, passed, passed_wakes, listened, registration, removed, removed_wakes}
 use Rattle.event_listener.specs.declared.key.Key.{Key}
-use Rattle.async_channel.specs.Parts.{Listeners, told_all, told_all_wakes}
-use Rattle.async_channel.specs.declared.stage.Held.{Held}
-use Rattle.async_channel.specs.declared.stage.Line.{Line}
+use Rattle.channel_calls.specs.Parts.{Listeners, told_all, told_all_wakes}
+use Rattle.channel_calls.specs.declared.stage.Held.{Held}
+use Rattle.channel_calls.specs.declared.stage.Line.{Line}
 use Rattle.channel_interleaving.specs.Owners.{IsAmong}
 use Rattle.channel_interleaving.proofs.OwnerKeys.{on}
 use Rattle.channel_interleaving.proofs.OwnerLists.{same_is, key_stays, among_of}

@@ -1,10 +1,10 @@
 -- Whoever is pending and was woken is told: in a channel that was just opened, and after every step.
 use Rattle.std.proofs.Common.{◌≡◌, ℕ, Bool, true, List, [], ◌∷◌, ◌++◌, Option, None, Some, ◌⊎◌, inl, inr, refl, sym, ap, ◌∙◌, subst}
 use Rattle.event_listener.specs.declared.key.Key.{Key}
-use Rattle.async_channel.specs.Moves.{Channel}
-use Rattle.async_channel.specs.declared.stage.Held.{Held}
-use Rattle.async_channel.specs.declared.stage.Line.{Line}
-use Rattle.async_channel.specs.declared.stage.Line.TheVariants.{Sends, Receives, Streams, Closings}
+use Rattle.channel_calls.specs.Moves.{Channel}
+use Rattle.channel_calls.specs.declared.stage.Held.{Held}
+use Rattle.channel_calls.specs.declared.stage.Line.{Line}
+use Rattle.channel_calls.specs.declared.stage.Line.TheVariants.{Sends, Receives, Streams, Closings}
 use Rattle.channel_model.specs.declared.call.Call.{Call}
 use Rattle.channel_model.specs.declared.name.Waiter.{Waiter}
 use Rattle.channel_steps.specs.Run.{Begins, new_scene, begun as begun_under}
@@ -21,7 +21,7 @@ use Rattle.channel_interleaving.specs.declared.step.Entry.{Entry}
 use Rattle.channel_interleaving.specs.declared.step.PartyId.{PartyId}
 use Rattle.channel_interleaving.specs.declared.step.Step.{Step}
 use Rattle.channel_interleaving.specs.declared.step.Step.TheVariants as step
-use Rattle.channel_interleaving.proofs.OwnerBegins.{IsBusy, held_in, starts, Quiet, Touches, admitted}
+use Rattle.channel_interleaving.proofs.OwnerBegins.{IsBusy, held_in, starts, Quiet, Touches, Admitted, admitted}
 use Rattle.channel_interleaving.proofs.OwnerCalls.{begins_so}
 use Rattle.channel_interleaving.proofs.OwnerLists.{among_left, among_right}
 use Rattle.channel_interleaving.proofs.OwnerNames.{waiter_or}
@@ -156,8 +156,8 @@ module _ {T : Type 0} where
             in
             inr (inr (subst IsAway (sym (k.sets.others v other)) x.0, none_more v x.1 (idle_new v other k.whose)))
 
-    pub begins_woken : refusal b.roll c ≡ None → WokenSound (begun q c b) t
-    begins_woken no_refusal = by (begins_so b.roll c o.none_amiss (admitted b.roll c no_refusal))
+    pub begins_woken : Admitted b.roll c → WokenSound (begun q c b) t
+    begins_woken no_refusal = by (begins_so b.roll c o.none_amiss no_refusal)
       where
         by : Quiet P P' (errand_of b.roll c) (asks b.roll c) ⊎ Touches P P' (errand_of b.roll c) (asks b.roll c)
             → WokenSound (begun q c b) t
@@ -172,6 +172,6 @@ module _ {T : Type 0} where
   woken_next b c s t (step.Begin q call) e known fine made o w =
       let ok = idle_and_free q call b fine in
       let n = made.next.0 in
-      subst (λ (d : Book T). WokenSound d t) (sym made.book) (begins_woken q call b s t _ n o w ok.1)
+      subst (λ (d : Book T). WokenSound d t) (sym made.book) (begins_woken q call b s t _ n o w (admitted b.roll call ok.1))
   woken_next b c s t (step.Step q) e known fine made o w =
       stepped_woken b c s t q e.mark e.reply made.kept e.woken.items o known made.next made.book w

@@ -1,13 +1,13 @@
 -- Whom a step wakes: how many, and that the sink has their names in order.
-use Rattle.std.proofs.Common.{arith, ◌≡◌, ℕ, zero, suc, ◌+◌, ◌≤◌, Bool, true, false, if◌then◌else◌, List, [], ◌∷◌, ◌++◌, length, take, drop, slice_get, vec_len, vec_capacity, Option, None, Some, sym, ap, ◌∙◌, append_assoc, append-nil}
+use Rattle.std.proofs.Common.{arith, ◌≡◌, ℕ, zero, suc, ◌+◌, ◌≤◌, Bool, true, false, if◌then◌else◌, List, [], ◌∷◌, ◌++◌, length, take, drop, slice_get, vec_len, vec_capacity, Option, None, Some, refl, sym, ap, ◌∙◌, subst, append_assoc, append-nil, length-append}
 use Rattle.std.specs.Map.{remove_entry}
 use Rattle.event_listener.specs.Lists.{Notice, same_key, tasks_of, told_as, moved, passed_wakes, removed_wakes, without}
 use Rattle.event_listener.specs.Notices.{Woken}
 use Rattle.event_listener.specs.declared.key.Key.{Key}
-use Rattle.async_channel.specs.Moves.{Channel}
-use Rattle.async_channel.specs.Parts.{Listeners, listeners}
-use Rattle.async_channel.specs.declared.stage.Held.{Held}
-use Rattle.async_channel.specs.declared.stage.Line.{Line}
+use Rattle.channel_calls.specs.Moves.{Channel}
+use Rattle.channel_calls.specs.Parts.{Listeners, listeners}
+use Rattle.channel_calls.specs.declared.stage.Held.{Held}
+use Rattle.channel_calls.specs.declared.stage.Line.{Line}
 use Rattle.channel_model.specs.declared.name.Waiter.{Waiter}
 use Rattle.channel_steps.specs.Tellings.{Telling, one_of, all_of, Names}
 use Rattle.channel_interleaving.specs.Woken.{Hears}
@@ -29,6 +29,26 @@ all_heard a (w ∷ ws) b h room =
       one_more : (xs : List Waiter) (w : Waiter) → length (xs ++ (w ∷ [])) ≡ length xs + 1
       one_more [] w = omega arith
       one_more (x ∷ xs) w = let more = one_more xs w in omega (arith, more)
+
+-- and the room stays
+pub room_stays : (a : Sink) (names : List Waiter) (b : Sink) → Woken Hears a names b → vec_len a.names + length names ≤ vec_capacity a.names
+    → vec_capacity a.names ≤ vec_capacity b.names
+room_stays a [] b h room = subst (λ (s : Sink). vec_capacity a.names ≤ vec_capacity s.names) (sym h) (omega arith)
+room_stays a (w ∷ ws) b h room =
+    let m = h.0 in
+    let first = h.1 (omega (arith, room)) in
+    let kept = first.1 in
+    let more : length m.names.items ≡ length (a.names.items ++ (w ∷ [])) = ap length first.0 in
+    let one = length-append a.names.items (w ∷ []) in
+    let old : vec_len a.names ≡ length a.names.items = a.names.ok.0 in
+    let new : vec_len m.names ≡ length m.names.items = m.names.ok.0 in
+    let on = room_stays m ws b h.2 (omega (arith, room, more, one, old, new, kept)) in
+    omega (arith, kept, on)
+
+-- what stands behind a list
+pub drop_front : {A : Type 0} (xs ys : List A) → drop (length xs) (xs ++ ys) ≡ ys
+drop_front [] ys = refl
+drop_front (x ∷ xs) ys = drop_front xs ys
 
 -- the k-th is the first of those from there on
 pub drop_from : {A : Type 0} (xs : List A) (k : ℕ) (x : A) → slice_get xs k ≡ Some x → drop k xs ≡ x ∷ drop (suc k) xs

@@ -1,16 +1,16 @@
 -- What the parts of an interleaved channel stand for.
-use Rattle.std.specs.Prelude.{◌≡◌, ℕ, Bool, true, ◌+◌, ◌≤◌, List, [], ◌++◌, map, length, Option, Some}
-use Rattle.async_channel.specs.Parts.{Parts}
-use Rattle.async_channel.specs.Plain.{parts_of}
+use Rattle.std.specs.Prelude.{◌≡◌, ℕ, Bool, true, false, ◌+◌, ◌≤◌, List, [], ◌++◌, map, length, Option, Some}
+use Rattle.channel_calls.specs.Parts.{Parts}
+use Rattle.channel_calls.specs.Plain.{parts_of}
 use Rattle.channel_model.specs.Names.{at}
 use Rattle.channel_model.specs.declared.name.Waiter.{Waiter}
 use Rattle.channel_steps.specs.Run.{new_scene, Accounts, Touches}
 use Rattle.channel_steps.specs.Scene.{Scene, Shows, parties_in}
-use Rattle.channel_steps.specs.Start.{TellsQuiet as Tells}
 use Rattle.channel_interleaving.specs.Owed.{Owed}
 use Rattle.channel_interleaving.specs.Kept.{AllKept}
 use Rattle.channel_interleaving.specs.Roll.{first_roll}
-use Rattle.channel_interleaving.specs.Run.{Book, Made, IsRun, channel_step}
+use Rattle.channel_interleaving.specs.Run.{Book, Made, channel_step}
+use Rattle.channel_interleaving.specs.Runs.{Moment, IsRun, end_of, accepted_in, left_in}
 use Rattle.channel_interleaving.specs.declared.floor.Floor.{Floor}
 use Rattle.channel_interleaving.specs.declared.names.Agent.{Agent}
 use Rattle.channel_interleaving.specs.declared.names.Hold.{Hold}
@@ -39,10 +39,18 @@ module _ {T : Type 0} where
   abbrev pub IsQuiet : Floor T → Type 0
   IsQuiet f = f.parties.items ≡ []
 
-  -- whether no call is under way, in every scene that is shown
+  -- whether no call is under way
   pub record TellsQuiet (f : Floor T) (quiet : Bool) : Type 0 where
     pub told : quiet ≡ true → IsQuiet f
-    pub scenes : Tells f.parties.items quiet
+    pub busy : quiet ≡ false → IsQuiet f → ⊥
+
+  -- how many messages it holds
+  abbrev pub messages_in : Floor T → ℕ
+  messages_in f = f.messages
+
+  -- how many calls are under way
+  abbrev pub calls_in : Floor T → ℕ
+  calls_in f = length f.agents.items
 
   -- nothing is changed but the room that was taken
   pub record IsSame (f g : Floor T) : Type 0 where
@@ -59,11 +67,20 @@ module _ {T : Type 0} where
     pub shown : Shown f scene
     pub kept : AllKept (book_of f) scene
 
-  -- each who is pending and was not woken is owed no more than is to come, in a scene that is shown
-  pub record AreOwed (f : Floor T) : Type 0 where
+  -- The channel by names stands in this scene: its cells and calls under way stand for it, all that every step keeps holds in it,
+  -- and each who is pending and was not woken is owed no more than is to come.
+  pub record StandsIn (f : Floor T) (s : Scene T Waiter) : Type 0 where
+    pub shown : Shown f s
+    pub kept : AllKept (book_of f) s
+    pub owed : Owed (book_of f) s
+
+  -- it stands in some scene
+  pub record Stands (f : Floor T) : Type 0 where
     pub scene : Scene T Waiter
-    pub shown : Shown f scene
-    pub owed : Owed (book_of f) scene
+    pub stands : StandsIn f scene
+
+  abbrev pub moment_of : Floor T → Scene T Waiter → Moment T
+  moment_of f s = record { parts = parts_in f; scene = s; book = book_of f }
 
   -- no handle is used by more than twice as many as steps were made
   abbrev pub AreFewUsers : Floor T → Type 0
@@ -77,8 +94,7 @@ module _ {T : Type 0} where
 
   -- a channel that was just opened: its first sender and its first receiver live, and nobody is at work
   pub record IsOpen (capacity : Option ℕ) (f : Floor T) : Type 0 where
-    pub shown : Shown f (new_scene capacity)
-    pub kept : AllKept (book_of f) (new_scene capacity)
+    pub stands : StandsIn f (new_scene capacity)
     pub book : book_of f ≡ record { roll = first_roll; order = []; agents = [] }
 
   -- a step that was made, from any scene that was shown
@@ -91,17 +107,30 @@ module _ {T : Type 0} where
   abbrev pub Steps : Step T → Floor T → Entry T → Floor T → Type 0
   Steps x old e new = (s : Scene T Waiter) → Shown old s → Stepped x old e new s
 
-  -- a run of the first steps of a list, from any scene that was shown
+  -- a run of the first steps of a list, from a scene in which it stood, to one in which it stands
   pub record Ran (steps left : List (Step T)) (old : Floor T) (trace : List (Entry T)) (new : Floor T)
       (s : Scene T Waiter) : Type 0 where
     pub made : List (Step T)
+    pub moments : List (Moment T)
     pub last : Scene T Waiter
     pub first : steps ≡ made ++ left
-    pub run : IsRun (parts_in old) s (book_of old) made trace (parts_in new) last (book_of new)
-    pub shown : Shown new last
+    pub run : IsRun (moment_of old s) made trace moments
+    pub ends : end_of (moment_of old s) moments ≡ moment_of new last
+    pub stands : StandsIn new last
     pub accounts : Accounts s last
-    pub kept : AllKept (book_of old) s → AllKept (book_of new) last
-    pub owed : AllKept (book_of old) s → Owed (book_of new) last
+    pub numbers : length last.now.queue.items + left_in trace ≡ length s.now.queue.items + accepted_in trace
 
+  -- so it is from each scene in which it stood
   abbrev pub RanTo : List (Step T) → List (Step T) → Floor T → List (Entry T) → Floor T → Type 0
-  RanTo steps left old trace new = (s : Scene T Waiter) → Shown old s → Ran steps left old trace new s
+  RanTo steps left old trace new = (s : Scene T Waiter) → StandsIn old s → Ran steps left old trace new s
+
+  -- From a scene in which it stood it came to one in which it stands; what left it, followed by what it holds, is what it held
+  -- followed by what came, in order.
+  pub record Led (new : Floor T) (s : Scene T Waiter) : Type 0 where
+    pub last : Scene T Waiter
+    pub stands : StandsIn new last
+    pub accounts : Accounts s last
+
+  -- so it is from each scene in which it stood
+  abbrev pub LeadsOn : Floor T → Floor T → Type 0
+  LeadsOn old new = (s : Scene T Waiter) → StandsIn old s → Led new s

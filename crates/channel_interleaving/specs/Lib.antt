@@ -11,5 +11,7 @@ pub mod OwnerWoken
 pub mod OwnerOrder
 pub mod OwnerPolled
 pub mod Kept
+pub mod Runs
 pub mod Floor
 pub mod Lone
+pub mod Settle

@@ -1,6 +1,6 @@
 -- Who is polled, by whom.
 use Rattle.std.specs.Prelude.{◌≡◌, Some}
-use Rattle.async_channel.specs.declared.stage.Line.{Line}
+use Rattle.channel_calls.specs.declared.stage.Line.{Line}
 use Rattle.channel_model.specs.declared.name.Waiter.{Waiter}
 use Rattle.channel_interleaving.specs.Owners.{IsAmong, polled, post, subject}
 use Rattle.channel_interleaving.specs.Run.{Book}

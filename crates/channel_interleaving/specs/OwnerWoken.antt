@@ -1,10 +1,10 @@
 -- What is pending and was woken is told, and whoever is told is woken under his own name.
 use Rattle.std.specs.Prelude.{◌≡◌, Bool, true, List, Some, ◌⊎◌}
 use Rattle.std.specs.Map.{keys_of}
-use Rattle.async_channel.specs.Moves.{Channel}
-use Rattle.async_channel.specs.Parts.{listeners}
-use Rattle.async_channel.specs.declared.stage.Held.{Held}
-use Rattle.async_channel.specs.declared.stage.Line.{Line}
+use Rattle.channel_calls.specs.Moves.{Channel}
+use Rattle.channel_calls.specs.Parts.{listeners}
+use Rattle.channel_calls.specs.declared.stage.Held.{Held}
+use Rattle.channel_calls.specs.declared.stage.Line.{Line}
 use Rattle.channel_model.specs.declared.name.Waiter.{Waiter}
 use Rattle.channel_steps.specs.Scene.{Under, Scene}
 use Rattle.channel_interleaving.specs.Owners.{IsAmong, All, Post, vacant, polled, waits, post, holding, subject, WaitsFor, AnyOf}

@@ -1,16 +1,15 @@
--- Runs: what may follow from steps of many parties in any order, by names.
+-- One step of many parties' by names: what it is to the channel, what becomes of the book, and why a run ends before it.
 use Rattle.std.specs.Prelude.{◌≡◌, ℕ, List, [], ◌∷◌, ◌++◌, slice_get, unwrap_or, Option, None, Some, ◌⊎◌}
 use Rattle.std.specs.List.{remove}
-use Rattle.async_channel.specs.Parts.{Parts}
-use Rattle.async_channel.specs.Turns.{nothing_kept}
-use Rattle.async_channel.specs.declared.reply.Reply.{Reply}
-use Rattle.async_channel.specs.declared.stage.Kept.{Kept}
+use Rattle.channel_calls.specs.Turns.{nothing_kept}
+use Rattle.channel_calls.specs.declared.reply.Reply.{Reply}
+use Rattle.channel_calls.specs.declared.stage.Kept.{Kept}
 use Rattle.channel_model.specs.declared.call.Call.{Call}
 use Rattle.channel_model.specs.declared.name.Waiter.{Waiter}
 use Rattle.channel_model.specs.declared.refusal.WorldRefusal.{WorldRefusal}
 use Rattle.channel_model.specs.declared.refusal.WorldRefusal.TheVariants.{NoMemory}
 use Rattle.channel_model.specs.declared.run.Stopped.{Stopped}
-use Rattle.channel_steps.specs.Run.{Next, Touches}
+use Rattle.channel_steps.specs.Run.{Next}
 use Rattle.channel_steps.specs.Scene.{Scene}
 use Rattle.channel_steps.specs.declared.run.Step.{Step as ChannelStep}
 use Rattle.channel_steps.specs.declared.run.Step.TheVariants as channel
@@ -68,22 +67,13 @@ module _ {T : Type 0} where
       (k : ℕ) × (a : Agent T) × (slice_get old.agents k ≡ Some a) × (a.party ≡ p.0)
       × (new ≡ ended k a e.reply kept (with_woken e.woken.items old))
 
-  -- a step that was made: the channel's step of it has this entry's mark, woken names and reply, and the book is as it is to be
+  -- a step that was made: nothing refuses it, the channel's step of it has this entry's mark, woken names and reply, and the
+  -- book is as it is to be
   pub record Made (b : Book T) (s : Scene T Waiter) (x : Step T) (e : Entry T) (c : Book T) (t : Scene T Waiter) : Type 0 where
+    pub not_refused : step_refusal b.roll b.agents x ≡ None
     pub kept : Option (Kept T)
     pub next : Next s (channel_step b.roll x) (record { mark = e.mark; reply = e.reply; kept = kept }) e.woken.items t
     pub book : IsBookAfter x e kept b c
-
-  -- ---- runs
-
-  -- these steps, one after another, with these entries; at most one cell, list or count differs after each
-  abbrev pub IsRun : Parts T Waiter → Scene T Waiter → Book T → List (Step T) → List (Entry T) → Parts T Waiter → Scene T Waiter
-      → Book T → Type 0
-  IsRun p s b [] [] q t c = (q ≡ p) × (t ≡ s) × (c ≡ b)
-  IsRun p s b (x ∷ xs) (e ∷ es) q t c =
-      (o : Parts T Waiter) × (m : Scene T Waiter) × (d : Book T) × Touches (channel_step b.roll x) p o × Made b s x e d m
-      × IsRun o m d xs es q t c
-  IsRun p s b _ _ q t c = ⊥
 
   -- ---- the end of a run
 

@@ -7,8 +7,8 @@ ghost use Rattle.channel_interleaving.specs.Bookkeeping.{polled_ask, own_message
 
 use crate::names::{Errand, Operation, OperationKind, Standing};
 use crate::roll::Roll;
-use async_channel::ask::ChannelAsk;
-use async_channel::stage::{Line, Side};
+use channel_calls::ask::ChannelAsk;
+use channel_calls::stage::{Line, Side};
 use channel_model::call::Call;
 use channel_model::name::{Handle, HandleId, HandleKind, OpId, Waiter};
 use event_listener::key::Key;
@@ -178,7 +178,7 @@ impl<T: Drop> Roll<T> {
         Some((kind, message, standing.key()))
     }
 
-    fn poll(&mut self, op: OpId) -> Begun<T>
+    pub(crate) fn poll(&mut self, op: OpId) -> Begun<T>
         ensures { Begins self.old (Call.Poll op) result self.new }
     {
         let ask = match self.lend_operation(op) {
@@ -242,7 +242,7 @@ impl<T: Drop> Roll<T> {
         self.through(handle, ChannelAsk::SendIsTerminated(is_finished))
     }
 
-    fn poll_next(&mut self, receiver: HandleId) -> Begun<T>
+    pub(crate) fn poll_next(&mut self, receiver: HandleId) -> Begun<T>
         ensures { Begins self.old (Call.PollNext receiver) result self.new }
     {
         let key = self.lend_stream(receiver);

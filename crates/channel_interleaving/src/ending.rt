@@ -3,8 +3,8 @@
 use crate::names::{Agent, Errand, Hold, Operation, Standing};
 use crate::order::Order;
 use crate::roll::Roll;
-use async_channel::reply::Reply;
-use async_channel::stage::Kept;
+use channel_calls::reply::Reply;
+use channel_calls::stage::Kept;
 use channel_model::name::{Handle, HandleId, HandleKind, OpId, Waiter};
 
 impl<T: Drop> Roll<T> {
@@ -71,7 +71,7 @@ impl<T: Drop> Roll<T> {
     }
 
     /// One that is pending is woken.
-    fn wake(&mut self, name: Waiter)
+    pub(crate) fn wake(&mut self, name: Waiter)
         ensures { self.new ≡ woken name self.old }
     {
         match name {

@@ -7,8 +7,8 @@ use crate::order::Order;
 use crate::roll::Roll;
 use crate::step::{Entry, PartyId, Step};
 use crate::woken::Woken;
-use async_channel::mark::Mark;
-use async_channel::plain::PlainChannel;
+use channel_calls::mark::Mark;
+use channel_calls::plain::PlainChannel;
 use channel_model::call::Call;
 use channel_model::name::Waiter;
 use channel_model::refusal::WorldRefusal;
@@ -82,9 +82,9 @@ impl<T: Drop> Floor<T> {
         ensures users { IfOk result (λ f. AreFewUsers f) }
         ensures owned { IfOk result (λ f. AreOwned f) }
     {
-        let opened = open_channel(form, alloc)?;
-        let roll = Roll::new(alloc)?;
         let order = Order::new(alloc)?;
+        let roll = Roll::new(alloc)?;
+        let opened = open_channel(form, alloc)?;
         Ok(Floor {
             channel: opened.cells,
             parties: opened.parties,
@@ -152,6 +152,7 @@ impl<T: Drop> Floor<T> {
     /// One step of the k-th call under way. None where there was no room for those whom it might wake.
     fn go_on(&mut self, party: PartyId, k: usize) -> Option<Entry<T>>
         requires party { IsAgent party.0 self.old.agents.items k }
+        requires accepted { step_refusal self.old.roll self.old.agents.items (Step.Step party) ≡ None }
         requires at_work { AreAtWork self.old }
         ensures some { IfSome result (λ e. Steps (Step.Step party) self.old e self.new) }
         ensures at_work { AreAtWork self.new }

@@ -1,16 +1,18 @@
 //! A channel whose handles and operations are called by name, with the calls of several parties under way.
 
-use crate::floor::Floor;
+use crate::floor::{Floor, MOST_STEPS};
+use crate::settle::Polled;
 use crate::step::{Run, Step};
-use async_channel::error::OpenError;
-use async_channel::stage::Line;
+use channel_calls::error::OpenError;
+use channel_calls::stage::Line;
 use channel_model::call::Call;
+use channel_model::name::Waiter;
 use channel_model::refusal::WorldRefusal;
 use channel_model::run::Done;
-use channel_steps::start::{is_quiet, under_way};
+use channel_steps::start::is_quiet;
 use concurrent_queue::cells::QueueForm;
 use event_listener::id::EventIds;
-use std::alloc::Global;
+use std::alloc::{AllocError, Global};
 use std::collections::VecDeque;
 use std::marker::Model;
 
@@ -35,19 +37,16 @@ impl<T> Model for Interleaved<T> {
 }
 
 impl<T: Drop> Interleaved<T> {
-    ghost use Rattle.std.specs.Prelude.{◌≡◌, ◌<◌, ◌+◌, ◌-◌, ◌^◌, None, Some, Err, OnOk, OnErr, IfOk, length, vec_len};
-    ghost use Rattle.channel_model.specs.declared.name.Waiter.{Waiter};
-    ghost use Rattle.channel_steps.specs.Scene.{Scene};
-    ghost use Rattle.channel_steps.specs.Start.{CountsCalls};
+    ghost use Rattle.std.specs.Prelude.{◌≡◌, ◌<◌, ◌+◌, ◌-◌, ◌^◌, None, Some, Err, OnOk, OnErr, IfOk, vec_len};
     ghost use Rattle.channel_interleaving.specs.Run.{Stops};
     ghost use Rattle.channel_interleaving.specs.Roll.{is_woken};
     ghost use Rattle.channel_interleaving.specs.Pending.{is_pending, how_many};
-    ghost use Rattle.channel_interleaving.specs.Floor.{book_of, Shown, AreOwned, AreOwed, IsOpen, IsQuiet, RanTo, TellsQuiet};
+    ghost use Rattle.channel_interleaving.specs.Floor.{book_of, calls_in, messages_in, Stands, IsOpen, IsQuiet, RanTo, TellsQuiet};
 
     /// An open channel of this capacity, without a message, and nobody at work.
     ///
     /// Memory is taken first, and then four identities together or none. A capacity above 2^58 is want of memory,
-    /// without asking for any. As `async_channel::bounded`, which takes no source of identities.
+    /// without asking for any. As `channel_calls::bounded`, which takes no source of identities.
     pub fn bounded(
         alloc: Global,
         capacity: usize,
@@ -68,6 +67,7 @@ impl<T: Drop> Interleaved<T> {
             return Err(OpenError::NoMemory);
         };
         let Ok(_ids) = ids.next_four() else {
+            drop(floor);
             return Err(OpenError::IdsUsedUp);
         };
         Ok(Interleaved { floor })
@@ -75,7 +75,7 @@ impl<T: Drop> Interleaved<T> {
 
     /// An open channel for any number of messages, without a message, and nobody at work.
     ///
-    /// Memory is taken first, and then four identities together or none. As `async_channel::unbounded`, which takes no
+    /// Memory is taken first, and then four identities together or none. As `channel_calls::unbounded`, which takes no
     /// source of identities.
     pub fn unbounded(alloc: Global, ids: &mut EventIds) -> Result<Interleaved<T>, OpenError>
         ensures open { IfOk result (λ world. IsOpen None world) }
@@ -88,6 +88,7 @@ impl<T: Drop> Interleaved<T> {
             return Err(OpenError::NoMemory);
         };
         let Ok(_ids) = ids.next_four() else {
+            drop(floor);
             return Err(OpenError::IdsUsedUp);
         };
         Ok(Interleaved { floor })
@@ -103,9 +104,9 @@ impl<T: Drop> Interleaved<T> {
     /// reply names and found what its reply says at a moment of its own, and what left the channel, followed by what it holds,
     /// is what it held followed by what came, in order.
     ///
-    /// At the moment at which the run ends, each listener on the channel's lists is held by one alone, and nobody who is pending
-    /// and wasn't woken since its last poll is forgotten beside a message, a free place or a closing: see `specs/Owners` and
-    /// `specs/Owed`.
+    /// At each moment of the run, and at its end, each listener on the channel's lists is held by one alone, and nobody who is
+    /// pending and wasn't woken since its last poll is forgotten beside a message, a free place or a closing: see `specs/Owners`
+    /// and `specs/Owed`. No step was made that is to be refused.
     ///
     /// A step is refused for the first of these reasons that there is: the party that begins is at work; the one that steps
     /// isn't; a used name doesn't live; what lives there is of another kind; its operation or its receiver's stream is being
@@ -114,8 +115,7 @@ impl<T: Drop> Interleaved<T> {
     pub fn run_steps(&mut self, steps: &mut VecDeque<Step<T>>) -> Run<T>
         ensures ran { RanTo steps.old.items steps.new.items self.old result.trace.items self.new }
         ensures stopped { Stops (book_of self.new) steps.new.items (vec_len result.trace) result.stopped }
-        ensures owned { AreOwned self.new }
-        ensures owed { AreOwed self.new }
+        ensures stands { Stands self.new }
     {
         self.floor.run_steps(steps)
     }
@@ -129,14 +129,14 @@ impl<T: Drop> Interleaved<T> {
 
     /// How many calls are under way. Own to this project.
     pub fn under_way(&self) -> usize
-        ensures { CountsCalls self.now.parties.items result }
+        ensures { result ≡ calls_in self.now }
     {
-        under_way(&self.floor.parties)
+        self.floor.agents.len()
     }
 
     /// How many messages the channel holds. Own to this project.
     pub fn messages(&self) -> u64
-        ensures { (s : Scene T Waiter) → Shown self.now s → result ≡ length s.now.queue.items }
+        ensures { result ≡ messages_in self.now }
     {
         self.floor.messages
     }
@@ -158,11 +158,14 @@ impl<T: Drop> Interleaved<T> {
 }
 
 impl<T: Drop> Interleaved<T> {
-    ghost use Rattle.std.specs.Prelude.{◌≡◌, None, length, IfOk, IfErr, OnErr};
-    ghost use Rattle.async_channel.specs.Parts.{listeners};
+    ghost use Rattle.std.specs.Prelude.{◌≡◌, ◌≤◌, ◌<◌, ◌+◌, ◌-◌, ◌^◌, None, length, IfOk, IfErr, OnErr, IsTrue, vec_len, vec_capacity};
+    ghost use Rattle.channel_model.specs.Settling.{poll_of};
+    ghost use Rattle.channel_calls.specs.Parts.{listeners};
     ghost use Rattle.channel_interleaving.specs.Refusal.{refusal};
-    ghost use Rattle.channel_interleaving.specs.Floor.{parts_in, AreOwned, IsKept, IsQuiet, IsSame};
+    ghost use Rattle.channel_interleaving.specs.Floor.{parts_in, IsKept, IsQuiet, IsSame, LeadsOn, Stands};
     ghost use Rattle.channel_interleaving.specs.Lone.{CallsAlone, WakesAtMost};
+    ghost use Rattle.channel_interleaving.specs.OwnerOrder.{woken_in};
+    ghost use Rattle.channel_interleaving.specs.Settle.{IsWoken, PollsAlone};
 
     /// Makes a call that is not refused, where no call is under way, from its beginning to its end; or hands it back where
     /// there was no room, with nothing changed.
@@ -175,7 +178,8 @@ impl<T: Drop> Interleaved<T> {
         requires accepted { refusal self.old.roll call ≡ None }
         requires room { WakesAtMost room call self.old }
         ensures ok { IfOk result (λ d. CallsAlone call self.old d.reply d.woken.items self.new) }
-        ensures owned { AreOwned self.new }
+        ensures stands { Stands self.new }
+        ensures leads { LeadsOn self.old self.new }
         ensures quiet { IsQuiet self.new }
         ensures err { OnErr result (IsSame self.old self.new) }
         ensures back { IfErr result (λ c. c ≡ call) }
@@ -183,9 +187,47 @@ impl<T: Drop> Interleaved<T> {
         self.floor.call_alone(call, room)
     }
 
+    /// Polls one that is pending and was woken, where no call is under way, from the poll's beginning to its end.
+    ///
+    /// A stream is polled even while a live operation borrows its receiver. The poll takes nothing: its name has its place in the
+    /// order of waking, and those whom it wakes go after the given names, where there is room for them. Where the listener of a
+    /// poll that goes on waiting, or a block of the queue, is refused memory or serials, the reply says so. Nothing waits. Own to
+    /// this project.
+    pub fn poll_alone(&mut self, name: Waiter, names: Vec<Waiter>) -> Polled<T>
+        requires quiet { IsQuiet self.old }
+        requires woken { IsWoken name self.old }
+        requires limit { self.old.made < 2 ^ 61 }
+        requires room { WakesAtMost (vec_capacity names - vec_len names) (poll_of name) self.old }
+        ensures polled { PollsAlone name self.old names.items result.reply result.names.items self.new }
+        ensures quiet { IsQuiet self.new }
+        ensures made { self.new.made ≡ self.old.made + 1 }
+        ensures capacity { vec_capacity names ≤ vec_capacity result.names }
+    {
+        self.floor.poll_alone(name, names)
+    }
+
+    /// Those who are pending and were woken, in the order of their waking. A walk over all names that are polled or pending. Own
+    /// to this project.
+    pub fn woken_names(&self) -> Result<Vec<Waiter>, AllocError>
+        ensures { IfOk result (λ names. names.items ≡ woken_in self.now.roll self.now.order) }
+    {
+        self.floor.order.woken(&self.floor.roll, self.floor.alloc)
+    }
+
+    /// Whether so many more calls may be made alone, by the limit of steps. Own to this project.
+    pub fn has_calls(&self, count: usize) -> bool
+        ensures { IsTrue result → self.now.made + count ≤ 2 ^ 61 }
+    {
+        match self.floor.made.checked_add(count as u64) {
+            Some(made) => made <= MOST_STEPS,
+            None => false,
+        }
+    }
+
     /// Says what is always so of a channel by names, and does nothing. Own to this project.
     pub fn keeps(&self)
-        ensures { IsKept self.now }
+        ensures kept { IsKept self.now }
+        ensures stands { Stands self.now }
     {
         let _ = &self.floor;
     }

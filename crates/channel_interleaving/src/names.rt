@@ -1,6 +1,6 @@
 //! What lives under which name, and what a call under way has to write back.
 
-use async_channel::stage::Line;
+use channel_calls::stage::Line;
 use channel_model::name::{Handle, HandleId, HandleKind, OpId};
 use event_listener::key::Key;
 

@@ -1,6 +1,7 @@
 //! The order in which names were woken.
 
 use crate::names::Errand;
+use crate::roll::Roll;
 use channel_model::call::Call;
 use channel_model::name::Waiter;
 use event_listener::key::Key;
@@ -33,6 +34,7 @@ impl Order {
     ghost use Rattle.std.specs.Prelude.{◌≡◌, [], IfOk, OnOk, OnErr};
     ghost use Rattle.channel_model.specs.Lines.{without};
     ghost use Rattle.channel_interleaving.specs.Order.{placed, moved_last, all_moved_last, kept_place};
+    ghost use Rattle.channel_interleaving.specs.OwnerOrder.{woken_in};
 
     /// Nobody has a place.
     pub(crate) fn new(alloc: Global) -> Result<Order, AllocError>
@@ -80,6 +82,24 @@ impl Order {
         for k in 0..names.len() {
             self.wake(names[k]);
         }
+    }
+
+    /// Those who are pending and were woken, in the order of their waking.
+    pub(crate) fn woken<T: Drop>(
+        &self,
+        roll: &Roll<T>,
+        alloc: Global,
+    ) -> Result<Vec<Waiter>, AllocError>
+        ensures { IfOk result (λ names. names.items ≡ woken_in roll.now self.now) }
+    {
+        let mut names = Vec::new(alloc);
+        let mut places = self.places.iter();
+        while let Some((name, _)) = places.next() {
+            if roll.was_woken(*name) && names.push(*name).is_err() {
+                return Err(AllocError);
+            }
+        }
+        Ok(names)
     }
 
     /// A poll of w has left this listener; or none, and w may not be woken any more.

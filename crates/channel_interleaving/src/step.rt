@@ -1,7 +1,7 @@
 //! Steps of parties, and what runs of them did.
 
-use async_channel::mark::Mark;
-use async_channel::reply::Reply;
+use channel_calls::mark::Mark;
+use channel_calls::reply::Reply;
 use channel_model::call::Call;
 use channel_model::name::Waiter;
 use channel_model::run::Stopped;

@@ -2,8 +2,8 @@
 
 ghost use Rattle.std.specs.Prelude.{◌<◌};
 
-use async_channel::error::{Refused, TryRecvError, TrySendError};
-use async_channel::reply::Reply;
+use channel_calls::error::{Refused, TryRecvError, TrySendError};
+use channel_calls::reply::Reply;
 use channel_world::call::{Call, Stopped, WorldRefusal};
 use channel_world::name::{HandleId, OpId, Waiter};
 use channel_world::step::{Entry, PartyId, Run, Step};

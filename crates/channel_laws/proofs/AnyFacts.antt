@@ -1,7 +1,7 @@
 -- One of the calls under way, before and after a step.
 use Rattle.std.proofs.Common.{◌≡◌, ℕ, List, [], ◌∷◌, ◌++◌, map, Option, None, Some, ◌⊎◌, inl, inr, sym, subst}
-use Rattle.async_channel.specs.declared.ask.ChannelAsk.{ChannelAsk}
-use Rattle.async_channel.specs.declared.reply.Reply.{Reply}
+use Rattle.channel_calls.specs.declared.ask.ChannelAsk.{ChannelAsk}
+use Rattle.channel_calls.specs.declared.reply.Reply.{Reply}
 use Rattle.channel_steps.specs.Scene.{Under, Scene, Steps, sees, does, unless_ended}
 use Rattle.channel_steps.specs.Run.{Begins, begun}
 use Rattle.channel_steps.specs.declared.party.Entry.{Entry}

@@ -5,14 +5,14 @@ use Rattle.concurrent_queue.specs.declared.call.QueueAsk.{QueueAsk}
 use Rattle.concurrent_queue.specs.declared.call.QueueAsk.TheVariants as ask
 use Rattle.concurrent_queue.specs.declared.call.QueueMark.{QueueMark}
 use Rattle.concurrent_queue.specs.declared.call.QueueMark.TheVariants as queue
-use Rattle.async_channel.specs.Moves.{Channel, Effect, queued, Moves}
-use Rattle.async_channel.specs.Parts.{Parts}
-use Rattle.async_channel.specs.declared.mark.Mark.{Mark}
-use Rattle.async_channel.specs.declared.mark.Mark.TheVariants.{Append, Take, TakeDisplaced, Replace, Close}
-use Rattle.async_channel.specs.declared.reply.Reply.{Reply}
-use Rattle.async_channel.specs.declared.stage.Aim.{Aim}
-use Rattle.async_channel.specs.declared.stage.Stage.{Stage}
-use Rattle.async_channel.specs.declared.stage.Stage.TheVariants.{Trying, Working, Finished}
+use Rattle.channel_calls.specs.Moves.{Channel, Effect, queued, Moves}
+use Rattle.channel_calls.specs.Parts.{Parts}
+use Rattle.channel_calls.specs.declared.mark.Mark.{Mark}
+use Rattle.channel_calls.specs.declared.mark.Mark.TheVariants.{Append, Take, TakeDisplaced, Replace, Close}
+use Rattle.channel_calls.specs.declared.reply.Reply.{Reply}
+use Rattle.channel_calls.specs.declared.stage.Aim.{Aim}
+use Rattle.channel_calls.specs.declared.stage.Stage.{Stage}
+use Rattle.channel_calls.specs.declared.stage.Stage.TheVariants.{Trying, Working, Finished}
 use Rattle.channel_steps.specs.Moments.{Shut}
 use Rattle.channel_steps.specs.Scene.{Scene, Steps}
 use Rattle.channel_steps.specs.Run.{Next, IsRun}
@@ -94,7 +94,7 @@ module _ {T W : Type 0} where
       let h = shut_does s.now st.mine.at (record { channel = t.now; mark = e.mark; woken = names }) e.reply st.at_now shut st.moves in
       (h.0, h.1)
 
-  next_keeps : (s : Scene T W) (x : Step T W) (e : Entry T) (names : List W) (t : Scene T W) → Next s x e names t → Shut s.now → Keeps s.now.queue t.now.queue
+  pub next_keeps : (s : Scene T W) (x : Step T W) (e : Entry T) (names : List W) (t : Scene T W) → Next s x e names t → Shut s.now → Keeps s.now.queue t.now.queue
   next_keeps s (step.Begin p ask) e names t n shut = keeps_same s.now.queue t.now.queue (ap (λ (c : Channel T W). c.queue) n.0.now) shut
   next_keeps s (step.Step p) e names t n shut = let h = steps_does s p e names t n shut in h.0
 

@@ -1,9 +1,9 @@
 -- Those who wait on a closed channel, over runs.
 use Rattle.std.proofs.Common.{ℕ, List, Option, ◌⊎◌, inl, inr, refl, sym, subst}
 use Rattle.event_listener.specs.declared.key.Key.{Key}
-use Rattle.async_channel.specs.Moves.{Channel, Effect}
-use Rattle.async_channel.specs.declared.stage.Line.{Line}
-use Rattle.async_channel.specs.declared.stage.Line.TheVariants.{Sends, Receives, Streams, Closings}
+use Rattle.channel_calls.specs.Moves.{Channel, Effect}
+use Rattle.channel_calls.specs.declared.stage.Line.{Line}
+use Rattle.channel_calls.specs.declared.stage.Line.TheVariants.{Sends, Receives, Streams, Closings}
 use Rattle.channel_steps.specs.Moments.{Deed, with_deed, Shut}
 use Rattle.channel_steps.specs.Scene.{Under, Scene, Steps, Known, sees}
 use Rattle.channel_steps.specs.Run.{Next, new_scene}

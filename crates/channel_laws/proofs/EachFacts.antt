@@ -1,8 +1,8 @@
 -- What holds of each call under way, after a call begins or makes a step.
 use Rattle.std.proofs.Common.{ℕ, List, [], ◌∷◌, ◌++◌, map, Option, None, Some, sym, subst}
-use Rattle.async_channel.specs.Moves.{Channel}
-use Rattle.async_channel.specs.declared.ask.ChannelAsk.{ChannelAsk}
-use Rattle.async_channel.specs.declared.reply.Reply.{Reply}
+use Rattle.channel_calls.specs.Moves.{Channel}
+use Rattle.channel_calls.specs.declared.ask.ChannelAsk.{ChannelAsk}
+use Rattle.channel_calls.specs.declared.reply.Reply.{Reply}
 use Rattle.channel_steps.specs.Scene.{Under, Scene, Steps, Known, AllKnown, sees, does, unless_ended}
 use Rattle.channel_steps.specs.Run.{Begins, begun}
 use Rattle.channel_steps.specs.declared.party.Entry.{Entry}

@@ -1,11 +1,11 @@
 -- What is over stays over, over runs.
 use Rattle.std.proofs.Common.{◌≡◌, ℕ, List, [], ◌∷◌, ◌++◌, ◌⊎◌, inl, inr, refl, sym, ap, ◌∙◌, subst, append-nil}
 use Rattle.concurrent_queue.specs.Queue.{Queue, IsShut, IsDrained}
-use Rattle.async_channel.specs.Moves.{Channel}
-use Rattle.async_channel.specs.Parts.{Parts}
-use Rattle.async_channel.specs.declared.ask.ChannelAsk.{ChannelAsk}
-use Rattle.async_channel.specs.declared.mark.Mark.{Mark}
-use Rattle.async_channel.specs.declared.mark.Mark.TheVariants.{Append, Take, TakeDisplaced, Replace, Close}
+use Rattle.channel_calls.specs.Moves.{Channel}
+use Rattle.channel_calls.specs.Parts.{Parts}
+use Rattle.channel_calls.specs.declared.ask.ChannelAsk.{ChannelAsk}
+use Rattle.channel_calls.specs.declared.mark.Mark.{Mark}
+use Rattle.channel_calls.specs.declared.mark.Mark.TheVariants.{Append, Take, TakeDisplaced, Replace, Close}
 use Rattle.channel_steps.specs.Moments.{Spent, Once}
 use Rattle.channel_steps.specs.Scene.{Under, Scene, Steps, does, gone_by, came_by}
 use Rattle.channel_steps.specs.Run.{Next, IsRun}
@@ -13,9 +13,10 @@ use Rattle.channel_steps.specs.declared.party.Entry.{Entry}
 use Rattle.channel_steps.specs.declared.run.Step.{Step}
 use Rattle.channel_steps.specs.declared.run.Step.TheVariants as step
 use Rattle.channel_laws.specs.Ends.{IsStill, GivesMessage, Replies, Each, KnowsTheEnd, GetsNothing, StaysOver, EndIsForGood, EndIsKnown, NothingComesAfterTheEnd}
+use Rattle.channel_laws.specs.Over.{StillDeeds}
 use Rattle.channel_laws.proofs.EachFacts.{of_mine, each_steps, each_begins}
 use Rattle.channel_laws.proofs.ClosedMoves.{over_spares}
-use Rattle.channel_laws.proofs.ReplyFacts.{StillDeeds, with_still, finish_gives, finish_ends}
+use Rattle.channel_laws.proofs.ReplyFacts.{with_still, finish_gives, finish_ends}
 
 module _ {T : Type 0} where
   nothing_gone : (m : Mark) (items : List T) → IsStill m → gone_by m items ≡ []
@@ -46,7 +47,7 @@ module _ {T W : Type 0} where
     pub gone : t.gone ≡ s.gone
     pub came : t.came ≡ s.came
 
-  rests : (s : Scene T W) (x : Step T W) (e : Entry T) (names : List W) (t : Scene T W) → Spent s.now → Next s x e names t → Rests s e t
+  pub rests : (s : Scene T W) (x : Step T W) (e : Entry T) (names : List W) (t : Scene T W) → Spent s.now → Next s x e names t → Rests s e t
   rests s (step.Begin p ask) e names t over n =
       record {
         over = subst (λ (c : Channel T W). Spent c) (sym n.0.now) over;
@@ -65,17 +66,17 @@ module _ {T W : Type 0} where
 
   -- ---- what calls know of the end
 
-  abbrev Knows : Channel T W → Under T W → Type 0
+  abbrev pub Knows : Channel T W → Under T W → Type 0
   Knows now u = Once Spent u.seen → Spent now
 
-  now_or_before : (now : Channel T W) (seen : List (Channel T W)) → (Once Spent seen → Spent now) → Spent now ⊎ Once Spent seen → Spent now
+  pub now_or_before : (now : Channel T W) (seen : List (Channel T W)) → (Once Spent seen → Spent now) → Spent now ⊎ Once Spent seen → Spent now
   now_or_before now seen f (inl h) = h
   now_or_before now seen f (inr h) = f h
 
-  over_after : (s : Scene T W) (x : Step T W) (e : Entry T) (names : List W) (t : Scene T W) → Next s x e names t → Spent s.now → Spent t.now
+  pub over_after : (s : Scene T W) (x : Step T W) (e : Entry T) (names : List W) (t : Scene T W) → Next s x e names t → Spent s.now → Spent t.now
   over_after s x e names t n over = let h = rests s x e names t over n in h.over
 
-  true_next : (s : Scene T W) (x : Step T W) (e : Entry T) (names : List W) (t : Scene T W) → Next s x e names t → KnowsTheEnd s → KnowsTheEnd t
+  pub true_next : (s : Scene T W) (x : Step T W) (e : Entry T) (names : List W) (t : Scene T W) → Next s x e names t → KnowsTheEnd s → KnowsTheEnd t
   true_next s (step.Begin p ask) e names t n h =
       let b = n.0 in
       each_begins (Knows s.now) (Knows t.now) s t p ask e b

@@ -1,15 +1,20 @@
 -- What a layer above may use: whoever waits in a channel that was just opened is answered for, and stays so over every entry
--- of a run.
+-- of a run; and what is over stays over.
 use Rattle.std.proofs.Common.{ℕ, List, Option}
 use Rattle.channel_steps.specs.Run.{Next, new_scene}
-use Rattle.channel_steps.specs.Scene.{Scene}
+use Rattle.channel_steps.specs.Moments.{Shut, Spent}
+use Rattle.channel_steps.specs.Scene.{Scene, Steps}
 use Rattle.channel_steps.specs.declared.party.Entry.{Entry}
 use Rattle.channel_steps.specs.declared.run.Step.{Step}
+use Rattle.channel_laws.specs.Ends.{IsStill, GivesMessage, SaysTheEnd, Replies}
+use Rattle.channel_laws.specs.Over.{AllSpent}
 use Rattle.channel_laws.specs.Sound.{AllSound}
+use Rattle.channel_laws.proofs.Closed.{next_keeps}
 use Rattle.channel_laws.proofs.Closings as closings
 use Rattle.channel_laws.proofs.Notices.{tellings_new}
 use Rattle.channel_laws.proofs.Receives.{receives_next, receives_new}
 use Rattle.channel_laws.proofs.Sends.{sends_next, sends_new}
+use Rattle.channel_laws.proofs.Over as over
 use Rattle.channel_laws.proofs.Streams as streams
 
 module _ {T W : Type 0} where
@@ -21,6 +26,7 @@ module _ {T W : Type 0} where
         receives = receives_new cap;
         sends = sends_new cap;
         tellings = (let h = tellings_new {T = T} {W = W} cap in h.fit);
+        ends = over.end_new cap;
       }
 
   pub all_sound_next : (s : Scene T W) (x : Step T W) (e : Entry T) (names : List W) (t : Scene T W) → AllSound s
@@ -33,4 +39,25 @@ module _ {T W : Type 0} where
         receives = receives;
         sends = sends_next s x e names t n sound.sends;
         tellings = receives.tellings.fit;
+        ends = over.end_next s x e names t n sound.streams.known sound.ends;
       }
+
+  -- what is over stays so, and nothing comes or leaves
+  pub stays_over : (s : Scene T W) (x : Step T W) (e : Entry T) (names : List W) (t : Scene T W) → Next s x e names t → Spent s.now
+      → Spent t.now × IsStill e.mark
+  stays_over s x e names t n h = over.stays_over s x e names t n h
+
+  -- what is closed stays closed
+  pub stays_closed : (s : Scene T W) (x : Step T W) (e : Entry T) (names : List W) (t : Scene T W) → Next s x e names t → Shut s.now
+      → Shut t.now
+  stays_closed s x e names t n shut = let h = next_keeps s x e names t n shut in h.0
+
+  -- a reply that says the end found the channel over
+  pub says_over : (s : Scene T W) (p : ℕ) (e : Entry T) (names : List W) (t : Scene T W) (st : Steps s p e names t) → AllSound s
+      → Replies SaysTheEnd e.reply → Spent t.now
+  says_over s p e names t st sound end = over.says_over s p e names t st sound.ends end
+
+  -- a call that saw nothing else gives no message
+  pub late_gives : (s : Scene T W) (p : ℕ) (e : Entry T) (names : List W) (t : Scene T W) (st : Steps s p e names t) → AllSound s
+      → AllSpent st.mine.seen → Replies GivesMessage e.reply → ⊥
+  late_gives s p e names t st sound all g = over.late_gives s p e names t st sound.streams.known sound.ends all g

@@ -3,6 +3,7 @@ pub mod AnyFacts
 pub mod ClosedMoves
 pub mod ReplyFacts
 pub mod Ends
+pub mod Over
 pub mod Closed
 pub mod ListFacts
 pub mod ListMoves

@@ -4,7 +4,7 @@ use Rattle.std.proofs.lemmas.Bool.Decides.{nat_tests}
 use Rattle.std.specs.Map.{lookup, remove_entry, set_value}
 use Rattle.event_listener.specs.Lists.{Notice, same_key, told_as, waits_as, kind_of, without, with_task, moved, passed, registration, removed}
 use Rattle.event_listener.specs.declared.key.Key.{Key}
-use Rattle.async_channel.specs.Parts.{Listeners, told_one, told_all}
+use Rattle.channel_calls.specs.Parts.{Listeners, told_one, told_all}
 use Rattle.channel_laws.specs.Waits.{IsIn, Apart}
 use mathlib.Core.Bool.{cond}
 

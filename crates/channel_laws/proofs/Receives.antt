@@ -1,6 +1,6 @@
 -- Waiting receives over runs.
 use Rattle.std.proofs.Common.{ℕ, List, Option}
-use Rattle.async_channel.specs.declared.stage.Line.TheVariants.{Receives}
+use Rattle.channel_calls.specs.declared.stage.Line.TheVariants.{Receives}
 use Rattle.channel_steps.specs.Run.{Next, new_scene}
 use Rattle.channel_steps.specs.Scene.{Scene}
 use Rattle.channel_steps.specs.declared.party.Entry.{Entry}

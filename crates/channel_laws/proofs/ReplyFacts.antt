@@ -2,25 +2,26 @@
 use Rattle.std.proofs.Common.{◌≡◌, List, [], ◌∷◌, ◌++◌, Option, None, Some, Ok, Err, ◌⊎◌, inl, inr, sym, subst}
 use Rattle.event_listener.specs.declared.error.ListenError.TheVariants as listen_error
 use Rattle.futures.specs.declared.task.Poll.TheVariants.{Ready}
-use Rattle.async_channel.specs.Moves.{Channel}
-use Rattle.async_channel.specs.Parts.{count}
-use Rattle.async_channel.specs.Turns.{refused_reply}
-use Rattle.async_channel.specs.declared.ask.ChannelAsk.{ChannelAsk}
-use Rattle.async_channel.specs.declared.ask.ChannelAsk.TheVariants.{TrySend, ForceSend, TryRecv, Close, PollSend, PollFinishedSend, PollRecv, PollClosed, PollNext, RefusePoll, GiveUp, DropSender, DropReceiver, CloneHandle, Upgrade, HandleCount, IsClosed, IsEmpty, IsFull, Len, Capacity, IsTerminated, SendIsTerminated, SameChannel, Make, DropWeak}
-use Rattle.async_channel.specs.declared.error.Refused.TheVariants as refused
-use Rattle.async_channel.specs.declared.error.TryRecvError.TheVariants as try_recv_error
-use Rattle.async_channel.specs.declared.error.RecvError.{RecvError}
-use Rattle.async_channel.specs.declared.mark.Mark.{Mark}
-use Rattle.async_channel.specs.declared.mark.Mark.TheVariants.{Nothing, Append, Take, Replace, SenderUp, SenderDown, ReceiverUp, ReceiverDown}
-use Rattle.async_channel.specs.declared.reply.Reply.{Reply}
-use Rattle.async_channel.specs.declared.reply.Reply.TheVariants as reply
-use Rattle.async_channel.specs.declared.stage.Kept.{Kept}
-use Rattle.async_channel.specs.declared.stage.Line.{Line}
-use Rattle.async_channel.specs.declared.stage.Line.TheVariants.{Sends, Receives, Streams, Closings}
+use Rattle.channel_calls.specs.Moves.{Channel}
+use Rattle.channel_calls.specs.Parts.{count}
+use Rattle.channel_calls.specs.Turns.{refused_reply}
+use Rattle.channel_calls.specs.declared.ask.ChannelAsk.{ChannelAsk}
+use Rattle.channel_calls.specs.declared.ask.ChannelAsk.TheVariants.{TrySend, ForceSend, TryRecv, Close, PollSend, PollFinishedSend, PollRecv, PollClosed, PollNext, RefusePoll, GiveUp, DropSender, DropReceiver, CloneHandle, Upgrade, HandleCount, IsClosed, IsEmpty, IsFull, Len, Capacity, IsTerminated, SendIsTerminated, SameChannel, Make, DropWeak}
+use Rattle.channel_calls.specs.declared.error.Refused.TheVariants as refused
+use Rattle.channel_calls.specs.declared.error.TryRecvError.TheVariants as try_recv_error
+use Rattle.channel_calls.specs.declared.error.RecvError.{RecvError}
+use Rattle.channel_calls.specs.declared.mark.Mark.{Mark}
+use Rattle.channel_calls.specs.declared.mark.Mark.TheVariants.{Nothing, Append, Take, Replace, SenderUp, SenderDown, ReceiverUp, ReceiverDown}
+use Rattle.channel_calls.specs.declared.reply.Reply.{Reply}
+use Rattle.channel_calls.specs.declared.reply.Reply.TheVariants as reply
+use Rattle.channel_calls.specs.declared.stage.Kept.{Kept}
+use Rattle.channel_calls.specs.declared.stage.Line.{Line}
+use Rattle.channel_calls.specs.declared.stage.Line.TheVariants.{Sends, Receives, Streams, Closings}
 use Rattle.channel_steps.specs.Moments.{Deed, with_deed, Spent, Once, Took, Replaced, Displaced}
 use Rattle.channel_steps.specs.Answers.{TrySendRow, ForceSendRow, TryRecvRow, SendPollRow, RecvPollRow, ClosedPollRow, NextRow, CloseRow, CloneRow, UpgradeRow, FlagRow, CountRow, CapacityRow, TerminatedRow, is_closed, is_full, held, Row}
 use Rattle.channel_steps.specs.Moments.{is_empty}
 use Rattle.channel_steps.specs.Scene.{Under, MayFinish}
+use Rattle.channel_laws.specs.Over.{StillDeeds}
 use Rattle.channel_laws.specs.Ends.{IsStill, SaysTheEnd, GivesMessage, Replies}
 
 moved : (m n : Mark) → m ≡ n → IsStill m → IsStill n
@@ -48,10 +49,6 @@ module _ {T : Type 0} where
 
 module _ {T W : Type 0} where
   -- ---- the marks of a call to which nothing moved
-
-  abbrev pub StillDeeds : List (Deed T W) → Type 0
-  StillDeeds [] = Unit {0}
-  StillDeeds (d ∷ ds) = IsStill d.mark × StillDeeds ds
 
   one_more : (ds : List (Deed T W)) (d : Deed T W) → StillDeeds ds → IsStill d.mark → StillDeeds (ds ++ d ∷ [])
   one_more [] d h k = (k, tt)

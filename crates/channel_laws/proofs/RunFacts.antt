@@ -1,6 +1,6 @@
 -- What every entry of a run keeps, a run keeps.
 use Rattle.std.proofs.Common.{List, [], ◌∷◌, sym, subst}
-use Rattle.async_channel.specs.Parts.{Parts}
+use Rattle.channel_calls.specs.Parts.{Parts}
 use Rattle.channel_steps.specs.Run.{Next, IsRun}
 use Rattle.channel_steps.specs.Scene.{Scene}
 use Rattle.channel_steps.specs.declared.party.Entry.{Entry}

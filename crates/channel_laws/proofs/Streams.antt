@@ -1,8 +1,8 @@
 -- Waiting streams over runs.
 use Rattle.std.proofs.Common.{◌≡◌, ℕ, List, [], Option, ◌⊎◌, inl, inr, refl, sym, ap, ◌∙◌, subst}
 use Rattle.event_listener.specs.declared.key.Key.{Key}
-use Rattle.async_channel.specs.Moves.{Channel, Effect}
-use Rattle.async_channel.specs.declared.stage.Line.TheVariants.{Streams}
+use Rattle.channel_calls.specs.Moves.{Channel, Effect}
+use Rattle.channel_calls.specs.declared.stage.Line.TheVariants.{Streams}
 use Rattle.channel_steps.specs.Scene.{Under, Scene, Steps, Known, sees}
 use Rattle.channel_steps.specs.Run.{Next, Begins, new_scene}
 use Rattle.channel_steps.specs.declared.party.Entry.{Entry}

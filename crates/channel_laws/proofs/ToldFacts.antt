@@ -3,7 +3,7 @@ use Rattle.std.proofs.Common.{◌≡◌, ℕ, ◌+◌, ◌-◌, ◌≤◌, Bool,
 use Rattle.std.specs.Map.{lookup, remove_entry}
 use Rattle.event_listener.specs.Lists.{Notice, same_key, told_as, waits_as, told_with, without, with_task, moved, passed, registration, removed}
 use Rattle.event_listener.specs.declared.key.Key.{Key}
-use Rattle.async_channel.specs.Parts.{Listeners, told_one, told_all, waits}
+use Rattle.channel_calls.specs.Parts.{Listeners, told_one, told_all, waits}
 use Rattle.channel_laws.specs.Notices.{AnyTold, EachTold}
 use Rattle.channel_laws.specs.Waits.{IsIn}
 use Rattle.channel_laws.proofs.ListFacts.{removed_as, thin_drop}

@@ -1,10 +1,10 @@
 -- What the calls under way count for together, before and after one begins or makes a step.
 use Rattle.std.proofs.Common.{◌≡◌, ℕ, ◌+◌, ◌≤◌, List, [], ◌∷◌, ◌++◌, map, Option, None, Some, refl, ap, arith}
 use Rattle.concurrent_queue.specs.Queue.{Phase}
-use Rattle.async_channel.specs.Moves.{Channel}
-use Rattle.async_channel.specs.declared.ask.ChannelAsk.{ChannelAsk}
-use Rattle.async_channel.specs.declared.reply.Reply.{Reply}
-use Rattle.async_channel.specs.declared.stage.Stage.{Stage}
+use Rattle.channel_calls.specs.Moves.{Channel}
+use Rattle.channel_calls.specs.declared.ask.ChannelAsk.{ChannelAsk}
+use Rattle.channel_calls.specs.declared.reply.Reply.{Reply}
+use Rattle.channel_calls.specs.declared.stage.Stage.{Stage}
 use Rattle.channel_steps.specs.Scene.{Under, Scene, Steps, sees, does, unless_ended}
 use Rattle.channel_steps.specs.Run.{Begins, begun}
 use Rattle.channel_steps.specs.declared.party.Entry.{Entry}

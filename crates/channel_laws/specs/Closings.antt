@@ -2,13 +2,13 @@
 use Rattle.std.specs.Prelude.{◌≡◌, ℕ, false, List, ◌∷◌, [], Option, Some, ◌⊎◌}
 use Rattle.concurrent_queue.specs.Queue.{Phase, Stage, trying, taken}
 use Rattle.event_listener.specs.declared.key.Key.{Key}
-use Rattle.async_channel.specs.declared.mark.Mark.TheVariants.{Close}
-use Rattle.async_channel.specs.declared.stage.Aim.TheVariants as aim
-use Rattle.async_channel.specs.declared.stage.Line.{Line}
-use Rattle.async_channel.specs.declared.stage.Line.TheVariants.{Sends, Receives, Streams, Closings}
-use Rattle.async_channel.specs.declared.stage.Stage as stage
-use Rattle.async_channel.specs.declared.stage.Stage.TheVariants.{Trying, Working}
-use Rattle.async_channel.specs.declared.stage.Work.TheVariants.{TellSend, TellAll, Leave}
+use Rattle.channel_calls.specs.declared.mark.Mark.TheVariants.{Close}
+use Rattle.channel_calls.specs.declared.stage.Aim.TheVariants as aim
+use Rattle.channel_calls.specs.declared.stage.Line.{Line}
+use Rattle.channel_calls.specs.declared.stage.Line.TheVariants.{Sends, Receives, Streams, Closings}
+use Rattle.channel_calls.specs.declared.stage.Stage as stage
+use Rattle.channel_calls.specs.declared.stage.Stage.TheVariants.{Trying, Working}
+use Rattle.channel_calls.specs.declared.stage.Work.TheVariants.{TellSend, TellAll, Leave}
 use Rattle.channel_steps.specs.Moments.{Deed, Shut}
 use Rattle.channel_steps.specs.Scene.{Under, Scene, AllKnown, IsBalanced}
 use Rattle.channel_steps.specs.Run.{new_scene}

@@ -1,12 +1,12 @@
 -- What is over stays over: a channel that is closed, with nothing there and nothing on its way.
 use Rattle.std.specs.Prelude.{◌≡◌, ℕ, List, [], ◌∷◌, Option, None, Some, Ok, Err}
-use Rattle.async_channel.specs.Parts.{Parts}
-use Rattle.async_channel.specs.declared.error.Refused.TheVariants as refused
-use Rattle.async_channel.specs.declared.error.TryRecvError.TheVariants as try_recv_error
-use Rattle.async_channel.specs.declared.mark.Mark.{Mark}
-use Rattle.async_channel.specs.declared.mark.Mark.TheVariants.{Append, Take, TakeDisplaced, Replace, Close}
-use Rattle.async_channel.specs.declared.reply.Reply.{Reply}
-use Rattle.async_channel.specs.declared.reply.Reply.TheVariants as reply
+use Rattle.channel_calls.specs.Parts.{Parts}
+use Rattle.channel_calls.specs.declared.error.Refused.TheVariants as refused
+use Rattle.channel_calls.specs.declared.error.TryRecvError.TheVariants as try_recv_error
+use Rattle.channel_calls.specs.declared.mark.Mark.{Mark}
+use Rattle.channel_calls.specs.declared.mark.Mark.TheVariants.{Append, Take, TakeDisplaced, Replace, Close}
+use Rattle.channel_calls.specs.declared.reply.Reply.{Reply}
+use Rattle.channel_calls.specs.declared.reply.Reply.TheVariants as reply
 use Rattle.futures.specs.declared.task.Poll.TheVariants.{Ready}
 use Rattle.channel_steps.specs.Moments.{Spent, Once}
 use Rattle.channel_steps.specs.Scene.{Under, Scene, Steps}

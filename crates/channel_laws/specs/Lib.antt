@@ -1,4 +1,5 @@
 pub mod Ends
+pub mod Over
 pub mod Closed
 pub mod Waits
 pub mod Streams

@@ -1,13 +1,13 @@
 -- A receive waits beside messages only while as many receives are told, are about to be told, or try.
 use Rattle.std.specs.Prelude.{ℕ, ◌+◌, ◌≤◌, List, length, Option}
 use Rattle.concurrent_queue.specs.Queue.{Phase, Stage, appended}
-use Rattle.async_channel.specs.Moves.{Channel}
-use Rattle.async_channel.specs.declared.ask.ChannelAsk.{ChannelAsk}
-use Rattle.async_channel.specs.declared.ask.ChannelAsk.TheVariants.{TrySend, ForceSend, PollSend, PollRecv}
-use Rattle.async_channel.specs.declared.stage.Line.TheVariants.{Receives}
-use Rattle.async_channel.specs.declared.stage.Stage as stage
-use Rattle.async_channel.specs.declared.stage.Stage.TheVariants.{Trying, Working}
-use Rattle.async_channel.specs.declared.stage.Work.TheVariants.{TellReceive}
+use Rattle.channel_calls.specs.Moves.{Channel}
+use Rattle.channel_calls.specs.declared.ask.ChannelAsk.{ChannelAsk}
+use Rattle.channel_calls.specs.declared.ask.ChannelAsk.TheVariants.{TrySend, ForceSend, PollSend, PollRecv}
+use Rattle.channel_calls.specs.declared.stage.Line.TheVariants.{Receives}
+use Rattle.channel_calls.specs.declared.stage.Stage as stage
+use Rattle.channel_calls.specs.declared.stage.Stage.TheVariants.{Trying, Working}
+use Rattle.channel_calls.specs.declared.stage.Work.TheVariants.{TellReceive}
 use Rattle.channel_steps.specs.Scene.{Scene}
 use Rattle.channel_steps.specs.Run.{new_scene}
 use Rattle.channel_steps.specs.declared.party.Entry.{Entry}

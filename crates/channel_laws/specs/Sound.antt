@@ -2,15 +2,17 @@
 use Rattle.channel_steps.specs.Scene.{Scene}
 use Rattle.channel_laws.specs.Closings.{ClosingSound}
 use Rattle.channel_laws.specs.Notices.{TellingsFit}
+use Rattle.channel_laws.specs.Over.{EndSound}
 use Rattle.channel_laws.specs.Receives.{ReceivesSound}
 use Rattle.channel_laws.specs.Sends.{SendsSound}
 use Rattle.channel_laws.specs.Streams.{StreamsSound}
 
 module _ {T W : Type 0} where
-  -- nobody who waits is forgotten, for whatever he waits, and those who are told were told as they may be
+  -- nobody who waits is forgotten, for whatever he waits, those who are told were told as they may be, and what is over stays so
   pub record AllSound (s : Scene T W) : Type 0 where
     pub streams : StreamsSound s
     pub closing : ClosingSound s
     pub receives : ReceivesSound s
     pub sends : SendsSound s
     pub tellings : TellingsFit s
+    pub ends : EndSound s

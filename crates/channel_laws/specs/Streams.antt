@@ -2,13 +2,13 @@
 use Rattle.std.specs.Prelude.{◌≡◌, ℕ, List, [], Option, Some, ◌⊎◌}
 use Rattle.concurrent_queue.specs.Queue.{Phase, Stage, appended}
 use Rattle.event_listener.specs.declared.key.Key.{Key}
-use Rattle.async_channel.specs.declared.ask.ChannelAsk.{ChannelAsk}
-use Rattle.async_channel.specs.declared.ask.ChannelAsk.TheVariants.{TrySend, ForceSend, PollSend}
-use Rattle.async_channel.specs.declared.stage.Aim.TheVariants as aim
-use Rattle.async_channel.specs.declared.stage.Line.TheVariants.{Streams}
-use Rattle.async_channel.specs.declared.stage.Stage as stage
-use Rattle.async_channel.specs.declared.stage.Stage.TheVariants.{Trying, Working}
-use Rattle.async_channel.specs.declared.stage.Work.TheVariants.{TellReceive, TellStreams, TellSend, Leave}
+use Rattle.channel_calls.specs.declared.ask.ChannelAsk.{ChannelAsk}
+use Rattle.channel_calls.specs.declared.ask.ChannelAsk.TheVariants.{TrySend, ForceSend, PollSend}
+use Rattle.channel_calls.specs.declared.stage.Aim.TheVariants as aim
+use Rattle.channel_calls.specs.declared.stage.Line.TheVariants.{Streams}
+use Rattle.channel_calls.specs.declared.stage.Stage as stage
+use Rattle.channel_calls.specs.declared.stage.Stage.TheVariants.{Trying, Working}
+use Rattle.channel_calls.specs.declared.stage.Work.TheVariants.{TellReceive, TellStreams, TellSend, Leave}
 use Rattle.channel_steps.specs.Scene.{Under, Scene, AllKnown, IsBalanced}
 use Rattle.channel_steps.specs.Run.{new_scene}
 use Rattle.channel_steps.specs.declared.party.Entry.{Entry}

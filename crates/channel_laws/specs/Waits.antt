@@ -1,9 +1,9 @@
 -- Who waits on a list of a channel.
 use Rattle.std.specs.Prelude.{◌≡◌, List, [], ◌∷◌, Option, ◌⊎◌}
 use Rattle.event_listener.specs.declared.key.Key.{Key}
-use Rattle.async_channel.specs.Moves.{Channel}
-use Rattle.async_channel.specs.Parts.{listeners}
-use Rattle.async_channel.specs.declared.stage.Line.{Line}
+use Rattle.channel_calls.specs.Moves.{Channel}
+use Rattle.channel_calls.specs.Parts.{listeners}
+use Rattle.channel_calls.specs.declared.stage.Line.{Line}
 use Rattle.channel_steps.specs.Scene.{Under}
 
 module _ {W : Type 0} where

@@ -5,8 +5,8 @@ use Rattle.channel_model.specs.Lines.{Waiting, same_waiter, is_among, untold, to
 use Rattle.channel_model.specs.Awake.{Kind, Enough, times, times_in, Placed, Awake}
 use Rattle.channel_model.specs.Laws.{same_line, is_line, count_of, free_places}
 use Rattle.channel_model.specs.declared.name.Waiter.{Waiter}
-use Rattle.async_channel.specs.declared.stage.Line.{Line}
-use Rattle.async_channel.specs.declared.stage.Line.TheVariants.{Sends, Receives, Streams, Closings}
+use Rattle.channel_calls.specs.declared.stage.Line.{Line}
+use Rattle.channel_calls.specs.declared.stage.Line.TheVariants.{Sends, Receives, Streams, Closings}
 use Rattle.channel_model.specs.declared.news.News.{News}
 use Rattle.channel_model.specs.declared.news.News.TheVariants.{Nothing, Message, Room, Closing, NextIn}
 use Rattle.channel_model.proofs.WaiterLemmas.{same_sound, decided, or_true}
@@ -100,7 +100,7 @@ pub empty_news : (news : News) (line : Line) (l : Waiting) → untold line l ≡
 empty_news news line l e = empty_shrunk (untold line l) (untold line (after_news news l)) (shrinks news line l) e
 
 -- those told stood untold
-told_stood : (news : News) (w : Waiter) (l : Waiting) → is_among w (told_by news l) ≡ true → (line : Line) × (is_among w (untold line l) ≡ true)
+pub told_stood : (news : News) (w : Waiter) (l : Waiting) → is_among w (told_by news l) ≡ true → (line : Line) × (is_among w (untold line l) ≡ true)
 told_stood Nothing w l e = cc e
 told_stood Message w l e = elim (among_append w (take 1 l.receives) l.streams e) [
   | inl t ↦ (Receives, among_take w l.receives t)

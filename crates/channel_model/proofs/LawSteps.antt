@@ -11,18 +11,19 @@ use Rattle.channel_model.specs.Lines.{Waiting, nobody, is_among, untold, after_n
 use Rattle.channel_model.specs.State.{State, start, with_channel, with_names, with_waiting}
 use Rattle.channel_model.specs.declared.call.Call.{Call}
 use Rattle.channel_model.specs.declared.call.Call.TheVariants as call
-use Rattle.async_channel.specs.declared.reply.Reply.{Reply}
-use Rattle.async_channel.specs.declared.reply.Reply.TheVariants as reply
+use Rattle.channel_calls.specs.declared.reply.Reply.{Reply}
+use Rattle.channel_calls.specs.declared.reply.Reply.TheVariants as reply
 use Rattle.channel_model.specs.Answer.{Answer, replying, telling, leaving, pending, space_of, Found, first, none_yet, none_ever, found_in, found, try_send_answer, force_send_answer, displacing, send_poll_answer, try_recv_answer, recv_poll_answer, next_answer, poll_next_answer, close_answer, shut, closed_poll_answer, poll_answer, poll_refused_answer, give_up_answer, given_up, new_answer, drop_one, dropped, drop_answer, made, spent, weak_of, clone_answer, downgrade_answer, upgrade_answer, one_more, strong_of, count, with_count, news_without_one, answer}
 use Rattle.channel_model.specs.Refused.{Lack, memory, serials, refused, not_listening, not_standing, not_held, send_not_polled, recv_not_polled, not_polled, next_not_polled, answer_without, Answers}
 use Rattle.channel_model.specs.Refusal.{refusal, is_live, uses, are_fit, takes_borrowed, names_taken}
 use Rattle.channel_model.specs.Laws.{removed_by, accepted_by, sends_after, removed, accepted, line_of_operation, line_of, free_places, NobodyIsLeft}
 use Rattle.channel_model.specs.Awake.{Awake, AwakeIn, times_in}
 use Rattle.channel_model.specs.Run.{Runs}
+use Rattle.channel_model.specs.Settling.{poll_of}
 use Rattle.channel_model.specs.declared.run.Done.{Done}
 use Rattle.channel_model.specs.declared.refusal.WorldRefusal.{WorldRefusal}
-use Rattle.async_channel.specs.declared.stage.Line.{Line}
-use Rattle.async_channel.specs.declared.stage.Line.TheVariants.{Sends, Receives, Streams, Closings}
+use Rattle.channel_calls.specs.declared.stage.Line.{Line}
+use Rattle.channel_calls.specs.declared.stage.Line.TheVariants.{Sends, Receives, Streams, Closings}
 use Rattle.channel_model.specs.declared.news.News.TheVariants.{Nothing, Message, Room, Closing}
 use Rattle.channel_model.specs.declared.space.Space.{Space}
 use Rattle.channel_model.specs.declared.space.Space.TheVariants.{Open, Filled, Shut}
@@ -34,7 +35,7 @@ use Rattle.channel_model.specs.declared.name.HandleKind.{HandleKind}
 use Rattle.channel_model.specs.declared.name.HandleKind.TheVariants.{Sender, Receiver, WeakSender, WeakReceiver}
 use Rattle.channel_model.specs.declared.name.Handle.{Handle}
 use Rattle.channel_model.specs.declared.refusal.WorldRefusal.TheVariants.{UnknownName, WrongKind, Borrowed, NameTaken}
-use Rattle.async_channel.specs.declared.error.Refused.TheVariants.{NoMemory}
+use Rattle.channel_calls.specs.declared.error.Refused.TheVariants.{NoMemory}
 use Rattle.event_listener.specs.declared.error.ListenError.TheVariants as listen
 use Rattle.futures.specs.declared.task.Poll.TheVariants.{Ready, Pending}
 use Rattle.channel_model.proofs.WaiterLemmas.{decided, same_number}
@@ -645,6 +646,14 @@ module _ {T : Type 0} where
     step_good c a ok (inl e) = subst (λ (x : Answer T). Good sends s c x) (sym e) (answered c ok)
     step_good c a ok (inr (lack, e)) = unanswered lack c a e
 
+    -- a poll of settling, which nothing refuses, however it is answered
+    pub poll_good : (w : Waiter) (a : Answer T) → Answers s (poll_of w) a → Good sends s (poll_of w) a
+    unfolding AllGood
+    poll_good (Op op) a (inl e) = subst (λ (x : Answer T). Good sends s (call.Poll op) x) (sym e) (poll op (at op.0 s.names.operations) refl)
+    poll_good (Op op) a (inr (lack, e)) = unanswered lack (call.Poll op) a e
+    poll_good (Stream receiver) a (inl e) = subst (λ (x : Answer T). Good sends s (call.PollNext receiver) x) (sym e) (poll_next receiver)
+    poll_good (Stream receiver) a (inr (lack, e)) = unanswered lack (call.PollNext receiver) a e
+
   -- ---- whole runs
 
   pub record Kept (sends : List (ℕ × T)) (s : State T) : Type 0 where
@@ -742,6 +751,10 @@ module _ {T : Type 0} where
   -- an accepted call leaves nobody asleep, whatever was called before
   pub still_awake : (s : State T) (c : Call T) (a : Answer T) → AwakeIn s → refusal s c ≡ None → Answers s c a → AwakeIn a.after
   still_awake s c a awake ok e = (step_good (sends_of s.names.operations) s awake (sends_found s.names.operations) c a ok e).awake
+
+  -- and so does a poll of settling
+  pub poll_awake : (s : State T) (w : Waiter) (a : Answer T) → AwakeIn s → Answers s (poll_of w) a → AwakeIn a.after
+  poll_awake s w a awake e = (poll_good (sends_of s.names.operations) s awake (sends_found s.names.operations) w a e).awake
 
   -- a call that is run, or handed back with nothing changed
   pub awake_kept : (s t : State T) (c : Call T) (r : Result (Done T) (Call T)) → AwakeIn s → refusal s c ≡ None

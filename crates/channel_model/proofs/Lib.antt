@@ -3,5 +3,6 @@ pub mod RunLemmas
 pub mod Counting
 pub mod Awake
 pub mod LawSteps
+pub mod Settle
 pub mod Interface
 pub mod DirectoryLemmas

@@ -6,10 +6,10 @@ use Rattle.channel_model.specs.Lines.{is_among, told_by, after_news, gone, left_
 use Rattle.channel_model.specs.State.{State, with_channel, with_names, with_waiting}
 use Rattle.channel_model.specs.declared.call.Call.{Call}
 use Rattle.channel_model.specs.declared.call.Call.TheVariants as call
-use Rattle.async_channel.specs.declared.reply.Reply.{Reply}
-use Rattle.async_channel.specs.declared.reply.Reply.TheVariants as reply
-use Rattle.async_channel.specs.declared.stage.Line.{Line}
-use Rattle.async_channel.specs.declared.stage.Line.TheVariants.{Sends, Receives, Streams, Closings}
+use Rattle.channel_calls.specs.declared.reply.Reply.{Reply}
+use Rattle.channel_calls.specs.declared.reply.Reply.TheVariants as reply
+use Rattle.channel_calls.specs.declared.stage.Line.{Line}
+use Rattle.channel_calls.specs.declared.stage.Line.TheVariants.{Sends, Receives, Streams, Closings}
 use Rattle.channel_model.specs.declared.news.News.{News}
 use Rattle.channel_model.specs.declared.news.News.TheVariants.{Nothing, Message, Room, Closing}
 use Rattle.channel_model.specs.declared.space.Space.{Space}
@@ -21,10 +21,10 @@ use Rattle.channel_model.specs.declared.name.HandleId.{HandleId}
 use Rattle.channel_model.specs.declared.name.HandleKind.{HandleKind}
 use Rattle.channel_model.specs.declared.name.HandleKind.TheVariants.{Sender, Receiver, WeakSender, WeakReceiver}
 use Rattle.channel_model.specs.declared.name.Handle.{Handle}
-use Rattle.async_channel.specs.declared.error.Refused.TheVariants.{Plain, NoMemory}
+use Rattle.channel_calls.specs.declared.error.Refused.TheVariants.{Plain, NoMemory}
 use Rattle.event_listener.specs.declared.error.ListenError.TheVariants as listen
-use Rattle.async_channel.specs.declared.error.TrySendError.TheVariants as try_send
-use Rattle.async_channel.specs.declared.error.TryRecvError.TheVariants as try_recv
+use Rattle.channel_calls.specs.declared.error.TrySendError.TheVariants as try_send
+use Rattle.channel_calls.specs.declared.error.TryRecvError.TheVariants as try_recv
 use Rattle.futures.specs.declared.task.Poll.TheVariants.{Ready, Pending}
 
 -- the state that a call leaves, its reply, and whom it woke, in order

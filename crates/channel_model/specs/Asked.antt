@@ -1,9 +1,9 @@
 -- What a call by names asks of its channel.
 use Rattle.std.specs.Prelude.{true, Option, None, Some}
-use Rattle.async_channel.specs.declared.ask.ChannelAsk.{ChannelAsk}
-use Rattle.async_channel.specs.declared.ask.ChannelAsk.TheVariants as ask
-use Rattle.async_channel.specs.declared.stage.Line.TheVariants as list
-use Rattle.async_channel.specs.declared.stage.Side.TheVariants.{Senders, Receivers}
+use Rattle.channel_calls.specs.declared.ask.ChannelAsk.{ChannelAsk}
+use Rattle.channel_calls.specs.declared.ask.ChannelAsk.TheVariants as ask
+use Rattle.channel_calls.specs.declared.stage.Line.TheVariants as list
+use Rattle.channel_calls.specs.declared.stage.Side.TheVariants.{Senders, Receivers}
 use Rattle.channel_model.specs.Names.{Names, Operation, send, recv, closing, at}
 use Rattle.channel_model.specs.Answer.{is_finished}
 use Rattle.channel_model.specs.declared.call.Call.{Call}

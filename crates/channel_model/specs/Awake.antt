@@ -5,8 +5,8 @@ use Rattle.channel_model.specs.Lines.{Waiting, same_waiter, is_among, untold}
 use Rattle.channel_model.specs.Laws.{count_of, free_places, line_of}
 use Rattle.channel_model.specs.State.{State}
 use Rattle.channel_model.specs.declared.name.Waiter.{Waiter}
-use Rattle.async_channel.specs.declared.stage.Line.{Line}
-use Rattle.async_channel.specs.declared.stage.Line.TheVariants.{Sends, Receives}
+use Rattle.channel_calls.specs.declared.stage.Line.{Line}
+use Rattle.channel_calls.specs.declared.stage.Line.TheVariants.{Sends, Receives}
 
 -- the line that a pending name belongs to
 abbrev pub Kind : Type 0

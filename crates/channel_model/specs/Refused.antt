@@ -7,18 +7,18 @@ use Rattle.channel_model.specs.State.{State, with_waiting}
 use Rattle.channel_model.specs.Answer.{Answer, replying, leaving, space_of, Found, first, none_yet, none_ever, found, answer}
 use Rattle.channel_model.specs.declared.call.Call.{Call}
 use Rattle.channel_model.specs.declared.call.Call.TheVariants as call
-use Rattle.async_channel.specs.declared.reply.Reply.{Reply}
-use Rattle.async_channel.specs.declared.reply.Reply.TheVariants as reply
-use Rattle.async_channel.specs.declared.stage.Line.{Line}
-use Rattle.async_channel.specs.declared.stage.Line.TheVariants.{Sends, Receives, Streams, Closings}
+use Rattle.channel_calls.specs.declared.reply.Reply.{Reply}
+use Rattle.channel_calls.specs.declared.reply.Reply.TheVariants as reply
+use Rattle.channel_calls.specs.declared.stage.Line.{Line}
+use Rattle.channel_calls.specs.declared.stage.Line.TheVariants.{Sends, Receives, Streams, Closings}
 use Rattle.channel_model.specs.declared.news.News.TheVariants.{Nothing}
 use Rattle.channel_model.specs.declared.space.Space.{Space}
 use Rattle.channel_model.specs.declared.space.Space.TheVariants.{Open, Filled, Shut}
 use Rattle.channel_model.specs.declared.name.Waiter.{Waiter}
 use Rattle.channel_model.specs.declared.name.Waiter.TheVariants.{Op, Stream}
 use Rattle.channel_model.specs.declared.name.OpId.{OpId}
-use Rattle.async_channel.specs.declared.error.Refused.{Refused}
-use Rattle.async_channel.specs.declared.error.Refused.TheVariants.{NoMemory, SerialsUsedUp}
+use Rattle.channel_calls.specs.declared.error.Refused.{Refused}
+use Rattle.channel_calls.specs.declared.error.Refused.TheVariants.{NoMemory, SerialsUsedUp}
 use Rattle.event_listener.specs.declared.error.ListenError.{ListenError}
 use Rattle.event_listener.specs.declared.error.ListenError.TheVariants as listen
 use Rattle.futures.specs.declared.task.Poll.TheVariants.{Ready}

@@ -5,15 +5,15 @@ use Rattle.channel_model.specs.Refusal.{refusal}
 use Rattle.channel_model.specs.Settling.{replies, state_after, settled}
 use Rattle.channel_model.specs.declared.call.Call.{Call}
 use Rattle.channel_model.specs.declared.call.Call.TheVariants as call
-use Rattle.async_channel.specs.declared.reply.Reply.{Reply}
-use Rattle.async_channel.specs.declared.reply.Reply.TheVariants as reply
+use Rattle.channel_calls.specs.declared.reply.Reply.{Reply}
+use Rattle.channel_calls.specs.declared.reply.Reply.TheVariants as reply
 use Rattle.channel_model.specs.declared.name.Waiter.{Waiter}
 use Rattle.channel_model.specs.declared.name.Waiter.TheVariants.{Op, Stream}
 use Rattle.channel_model.specs.declared.name.OpId.{OpId}
 use Rattle.channel_model.specs.declared.name.HandleId.{HandleId}
-use Rattle.async_channel.specs.declared.error.Refused.TheVariants.{Plain, NoMemory}
-use Rattle.async_channel.specs.declared.error.TrySendError.TheVariants as try_send
-use Rattle.async_channel.specs.declared.error.TryRecvError.TheVariants as try_recv
+use Rattle.channel_calls.specs.declared.error.Refused.TheVariants.{Plain, NoMemory}
+use Rattle.channel_calls.specs.declared.error.TrySendError.TheVariants as try_send
+use Rattle.channel_calls.specs.declared.error.TryRecvError.TheVariants as try_recv
 use Rattle.channel_model.specs.declared.refusal.WorldRefusal.TheVariants as world
 use Rattle.futures.specs.declared.task.Poll.TheVariants.{Ready, Pending}
 

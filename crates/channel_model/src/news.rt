@@ -1,6 +1,6 @@
 //! What those who wait are told.
 
-use async_channel::stage::Line;
+use channel_calls::stage::Line;
 
 /// What is told. Own to this project.
 #[derive(Clone, Copy, Debug, PartialEq, Eq)]

@@ -2,7 +2,7 @@
 
 use super::name::Waiter;
 use super::refusal::WorldRefusal;
-use async_channel::reply::Reply;
+use channel_calls::reply::Reply;
 
 /// What a call answered, and whom it woke, in order.
 #[derive(Debug, Drop, PartialEq, Eq)]

@@ -4,14 +4,14 @@ use Rattle.std.specs.List.{list_all}
 use Rattle.std.specs.Option.{option_map}
 use Rattle.concurrent_queue.specs.Queue.{is_filled}
 use Rattle.event_listener.specs.declared.error.ListenError.TheVariants as listening
-use Rattle.async_channel.specs.Asks.{is_refused}
-use Rattle.async_channel.specs.Moves.{Channel}
-use Rattle.async_channel.specs.Turns.{says, refused_reply}
-use Rattle.async_channel.specs.declared.error.Refused.TheVariants as unmade
-use Rattle.async_channel.specs.declared.reply.Reply.TheVariants as reply
-use Rattle.async_channel.specs.declared.stage.Line.{Line}
-use Rattle.async_channel.specs.declared.stage.Line.TheVariants.{Sends, Receives, Closings}
-use Rattle.async_channel.specs.declared.stage.Side.TheVariants.{Senders, Receivers}
+use Rattle.channel_calls.specs.Asks.{is_refused}
+use Rattle.channel_calls.specs.Moves.{Channel}
+use Rattle.channel_calls.specs.Turns.{says, refused_reply}
+use Rattle.channel_calls.specs.declared.error.Refused.TheVariants as unmade
+use Rattle.channel_calls.specs.declared.reply.Reply.TheVariants as reply
+use Rattle.channel_calls.specs.declared.stage.Line.{Line}
+use Rattle.channel_calls.specs.declared.stage.Line.TheVariants.{Sends, Receives, Closings}
+use Rattle.channel_calls.specs.declared.stage.Side.TheVariants.{Senders, Receivers}
 use Rattle.channel_alone.specs.Alone.{Outcome, Alone, MayLackRoom, ends, sends, force_sends, says_only}
 use Rattle.channel_model.specs.Answer.{replying, leaving, is_finished, poll_refused_answer, made, dropped, clone_answer, downgrade_answer, upgrade_answer, drop_answer, weak_of, strong_of}
 use Rattle.channel_model.specs.Awake.{AwakeIn}

@@ -4,11 +4,11 @@ use Rattle.event_listener.specs.declared.error.ListenError.{ListenError}
 use Rattle.event_listener.specs.declared.error.ListenError.TheVariants as listening
 use Rattle.event_listener.specs.declared.key.Key.{Key}
 use Rattle.futures.specs.declared.task.Poll.TheVariants as poll
-use Rattle.async_channel.specs.Moves.{Channel}
-use Rattle.async_channel.specs.Turns.{refused_reply}
-use Rattle.async_channel.specs.declared.reply.Reply.TheVariants as reply
-use Rattle.async_channel.specs.declared.stage.Line.TheVariants as list
-use Rattle.async_channel.specs.declared.stage.Waiting.TheVariants as waiting
+use Rattle.channel_calls.specs.Moves.{Channel}
+use Rattle.channel_calls.specs.Turns.{refused_reply}
+use Rattle.channel_calls.specs.declared.reply.Reply.TheVariants as reply
+use Rattle.channel_calls.specs.declared.stage.Line.TheVariants as list
+use Rattle.channel_calls.specs.declared.stage.Waiting.TheVariants as waiting
 use Rattle.channel_alone.specs.Alone.{Outcome, Waits, PollsClosing}
 use Rattle.channel_model.specs.Answer.{replying, leaving, pending, closed_poll_answer, poll_answer}
 use Rattle.channel_model.specs.Awake.{AwakeIn}
@@ -23,7 +23,7 @@ use Rattle.channel_model.specs.declared.name.OpId.{OpId}
 use Rattle.channel_model.specs.declared.name.Waiter.{Waiter}
 use Rattle.channel_model.specs.declared.name.Waiter.TheVariants.{Op}
 use Rattle.channel_model.specs.declared.news.News.TheVariants.{Nothing}
-use Rattle.async_channel.specs.declared.stage.Line.TheVariants.{Closings}
+use Rattle.channel_calls.specs.declared.stage.Line.TheVariants.{Closings}
 use Rattle.channel_model.proofs.LawSteps.{chosen_no}
 use Rattle.channel_model.proofs.WaiterLemmas.{decided}
 use Rattle.channel_refinement.specs.Over.{Matches, polled_names}

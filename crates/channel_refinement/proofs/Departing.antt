@@ -1,9 +1,9 @@
 -- A call that is over lets go of the listener that its operation held.
 use Rattle.std.proofs.Common.{arith, ◌≡◌, ◌⊎◌, List, [], Bool, true, false, Option, None, Some, refl, sym, subst, ◌∙◌, inl, inr}
 use Rattle.event_listener.specs.declared.key.Key.{Key}
-use Rattle.async_channel.specs.Moves.{Channel, leaves}
-use Rattle.async_channel.specs.Parts.{Listeners, Roster, with_listeners}
-use Rattle.async_channel.specs.Turns.{held_on}
+use Rattle.channel_calls.specs.Moves.{Channel, leaves}
+use Rattle.channel_calls.specs.Parts.{Listeners, Roster, with_listeners}
+use Rattle.channel_calls.specs.Turns.{held_on}
 use Rattle.channel_model.specs.Lines.{Waiting, is_among, is_stream, untold, told_by, after_news, gone, passed_on}
 use Rattle.channel_model.specs.Awake.{Kind, Placed, times_in}
 use Rattle.channel_model.specs.Names.{Operation, send, recv, closing, Names, at}
@@ -12,8 +12,8 @@ use Rattle.channel_model.specs.declared.name.Waiter.{Waiter}
 use Rattle.channel_model.specs.declared.name.Waiter.TheVariants.{Op, Stream}
 use Rattle.channel_model.specs.declared.news.News.{News}
 use Rattle.channel_model.specs.declared.news.News.TheVariants.{Nothing}
-use Rattle.async_channel.specs.declared.stage.Line.{Line}
-use Rattle.async_channel.specs.declared.stage.Line.TheVariants.{Sends, Receives, Streams, Closings}
+use Rattle.channel_calls.specs.declared.stage.Line.{Line}
+use Rattle.channel_calls.specs.declared.stage.Line.TheVariants.{Sends, Receives, Streams, Closings}
 use Rattle.channel_model.proofs.WaiterLemmas.{decided}
 use Rattle.channel_model.proofs.Counting.{among_counts}
 use Rattle.channel_model.proofs.Awake.{times_news, times_gone_self}

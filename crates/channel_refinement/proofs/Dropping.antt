@@ -1,14 +1,14 @@
 -- Drops of handles: the last strong one of its side closes, and then a receiver's own stream leaves.
 use Rattle.std.proofs.Common.{◌≡◌, ℕ, ◌-◌, ◌==◌, ◌&&◌, List, [], ◌++◌, length, Bool, true, false, not, if◌then◌else◌, Option, None, Some, refl, sym, ap, subst, ◌∙◌, inl, append-nil}
-use Rattle.async_channel.specs.Moves.{Channel, leaves, lowers, tells_all}
-use Rattle.async_channel.specs.Parts.{count}
-use Rattle.async_channel.specs.Turns.{held_on, closer_ending, dropper}
+use Rattle.channel_calls.specs.Moves.{Channel, leaves, lowers, tells_all}
+use Rattle.channel_calls.specs.Parts.{count}
+use Rattle.channel_calls.specs.Turns.{held_on, closer_ending, dropper}
 use Rattle.concurrent_queue.specs.Queue.{Queue}
 use Rattle.event_listener.specs.declared.key.Key.{Key}
-use Rattle.async_channel.specs.declared.reply.Reply.TheVariants as reply
-use Rattle.async_channel.specs.declared.stage.Line.TheVariants as list
-use Rattle.async_channel.specs.declared.stage.Side.{Side}
-use Rattle.async_channel.specs.declared.stage.Side.TheVariants.{Senders, Receivers}
+use Rattle.channel_calls.specs.declared.reply.Reply.TheVariants as reply
+use Rattle.channel_calls.specs.declared.stage.Line.TheVariants as list
+use Rattle.channel_calls.specs.declared.stage.Side.{Side}
+use Rattle.channel_calls.specs.declared.stage.Side.TheVariants.{Senders, Receivers}
 use Rattle.channel_alone.specs.Alone as alone
 use Rattle.channel_alone.specs.Alone.{Outcome, ends, of_closing, over_queue, drops}
 use Rattle.channel_model.specs.Answer as model
@@ -27,8 +27,8 @@ use Rattle.channel_model.specs.declared.name.Waiter.{Waiter}
 use Rattle.channel_model.specs.declared.name.Waiter.TheVariants.{Stream}
 use Rattle.channel_model.specs.declared.news.News.{News}
 use Rattle.channel_model.specs.declared.news.News.TheVariants.{Nothing, Closing}
-use Rattle.async_channel.specs.declared.stage.Line.{Line}
-use Rattle.async_channel.specs.declared.stage.Line.TheVariants.{Sends, Receives, Streams, Closings}
+use Rattle.channel_calls.specs.declared.stage.Line.{Line}
+use Rattle.channel_calls.specs.declared.stage.Line.TheVariants.{Sends, Receives, Streams, Closings}
 use Rattle.channel_model.proofs.Awake.{placed_news}
 use Rattle.channel_model.specs.Asked.{stream_of, Held}
 use Rattle.channel_refinement.specs.Over.{Matches}

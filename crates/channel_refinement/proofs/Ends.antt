@@ -1,11 +1,11 @@
 -- A call that ends with nothing told: its operation or stream lets go of its listener, and passes on what it was told.
 use Rattle.std.proofs.Common.{◌≡◌, ◌⊎◌, List, [], Option, None, Some, refl, sym, ap, subst, ◌∙◌, append-nil}
 use Rattle.concurrent_queue.specs.Queue.{Queue}
-use Rattle.async_channel.specs.Moves.{Channel, leaves}
-use Rattle.async_channel.specs.Turns.{held_on}
-use Rattle.async_channel.specs.Answered.{over}
-use Rattle.async_channel.specs.declared.reply.Reply.{Reply}
-use Rattle.async_channel.specs.declared.stage.Line.{Line}
+use Rattle.channel_calls.specs.Moves.{Channel, leaves}
+use Rattle.channel_calls.specs.Turns.{held_on}
+use Rattle.channel_calls.specs.Answered.{over}
+use Rattle.channel_calls.specs.declared.reply.Reply.{Reply}
+use Rattle.channel_calls.specs.declared.stage.Line.{Line}
 use Rattle.channel_alone.specs.Alone.{Outcome, ends}
 use Rattle.channel_model.specs.Answer.{leaving}
 use Rattle.channel_model.specs.Awake.{AwakeIn}

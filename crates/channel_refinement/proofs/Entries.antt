@@ -7,7 +7,7 @@ use Rattle.event_listener.specs.declared.key.Key.{Key}
 use Rattle.channel_model.specs.Lines.{same_waiter, is_among, without}
 use Rattle.channel_model.specs.Awake.{times}
 use Rattle.channel_model.specs.declared.name.Waiter.{Waiter}
-use Rattle.async_channel.specs.declared.stage.Line.{Line}
+use Rattle.channel_calls.specs.declared.stage.Line.{Line}
 use Rattle.channel_model.proofs.WaiterLemmas.{same_refl, same_sound, decided, or_false, or_true, without_absent}
 use Rattle.channel_model.proofs.Counting.{among_self, or_right, among_counts}
 use Rattle.channel_model.specs.Asked.{Held}

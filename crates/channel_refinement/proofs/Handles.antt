@@ -1,14 +1,14 @@
 -- Handles: what their names and their counts are to a channel that shows a state, which is nothing; and new handles.
 use Rattle.std.proofs.Common.{◌≡◌, ℕ, ◌+◌, ◌-◌, ◌^◌, ◌==◌, ◌&&◌, ◌||◌, nat_lt, Bool, true, false, if◌then◌else◌, None, Some, refl, sym, ap, subst, ◌∙◌, append-nil, arith}
 use Rattle.std.proofs.lemmas.Bool.Decides.{nat_tests}
-use Rattle.async_channel.specs.Moves.{Channel, on_count, raises, untouched}
-use Rattle.async_channel.specs.Marks.{up}
-use Rattle.async_channel.specs.Parts.{Roster, with_count, count, is_raised}
-use Rattle.async_channel.specs.Turns.{most, nothing_kept}
-use Rattle.async_channel.specs.declared.reply.Reply.{Reply}
-use Rattle.async_channel.specs.declared.reply.Reply.TheVariants as reply
-use Rattle.async_channel.specs.declared.stage.Side.{Side}
-use Rattle.async_channel.specs.declared.stage.Side.TheVariants.{Senders, Receivers}
+use Rattle.channel_calls.specs.Moves.{Channel, on_count, raises, untouched}
+use Rattle.channel_calls.specs.Marks.{up}
+use Rattle.channel_calls.specs.Parts.{Roster, with_count, count, is_raised}
+use Rattle.channel_calls.specs.Turns.{most, nothing_kept}
+use Rattle.channel_calls.specs.declared.reply.Reply.{Reply}
+use Rattle.channel_calls.specs.declared.reply.Reply.TheVariants as reply
+use Rattle.channel_calls.specs.declared.stage.Side.{Side}
+use Rattle.channel_calls.specs.declared.stage.Side.TheVariants.{Senders, Receivers}
 use Rattle.channel_alone.specs.Alone.{Outcome, answers, says_only, clones, upgrades}
 use Rattle.channel_model.specs.Answer as model
 use Rattle.channel_model.specs.Answer.{Answer, replying, made, spent, one_more, upgrade_to}
@@ -25,7 +25,7 @@ use Rattle.channel_model.specs.declared.name.HandleKind.{HandleKind}
 use Rattle.channel_model.specs.declared.name.HandleKind.TheVariants.{Sender, Receiver}
 use Rattle.channel_model.specs.declared.name.Waiter.{Waiter}
 use Rattle.channel_model.specs.declared.name.Waiter.TheVariants.{Op, Stream}
-use Rattle.async_channel.specs.declared.stage.Line.TheVariants.{Sends, Receives, Streams, Closings}
+use Rattle.channel_calls.specs.declared.stage.Line.TheVariants.{Sends, Receives, Streams, Closings}
 use Rattle.channel_model.proofs.LawSteps.{chosen_no}
 use Rattle.channel_refinement.specs.Asked.{keeper}
 use Rattle.channel_refinement.specs.Over.{Matches, names_after, made_names}

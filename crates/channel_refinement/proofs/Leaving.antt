@@ -3,15 +3,15 @@ use Rattle.std.proofs.Common.{arith, ◌≡◌, ◌⊎◌, ◌≤◌, ◌-◌, �
 use Rattle.std.specs.List.{list_any}
 use Rattle.event_listener.specs.Lists.{Notice, notified, moved, passed, passed_wakes, told_as, waits_as, removed, removed_wakes, without as unlisted}
 use Rattle.event_listener.specs.declared.key.Key.{Key}
-use Rattle.async_channel.specs.Parts.{Listeners, Roster, listeners, with_listeners}
+use Rattle.channel_calls.specs.Parts.{Listeners, Roster, listeners, with_listeners}
 use Rattle.channel_model.specs.Lines.{Waiting, is_among, is_stream, untold, told_by, after_news, gone, passed_on}
 use Rattle.channel_model.specs.Awake.{Kind, Placed, times}
 use Rattle.channel_model.specs.Laws.{same_line}
 use Rattle.channel_model.specs.declared.name.Waiter.{Waiter}
 use Rattle.channel_model.specs.declared.news.News.{News}
 use Rattle.channel_model.specs.declared.news.News.TheVariants.{Nothing, NextIn}
-use Rattle.async_channel.specs.declared.stage.Line.{Line}
-use Rattle.async_channel.specs.declared.stage.Line.TheVariants.{Sends, Receives, Streams, Closings}
+use Rattle.channel_calls.specs.declared.stage.Line.{Line}
+use Rattle.channel_calls.specs.declared.stage.Line.TheVariants.{Sends, Receives, Streams, Closings}
 use Rattle.channel_model.proofs.WaiterLemmas.{decided, or_false, without_absent}
 use Rattle.channel_model.proofs.WaiterLemmas.{untold_gone}
 use Rattle.channel_model.proofs.Awake.{line_refl, placed_gone, empty_gone}

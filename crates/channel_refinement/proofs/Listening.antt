@@ -3,13 +3,13 @@ use Rattle.std.proofs.Common.{arith, ◌≡◌, ◌≤◌, ◌+◌, List, [], �
 use Rattle.std.specs.Map.{lookup, set_value}
 use Rattle.event_listener.specs.Lists.{kind_of, told_as, waits_as, same_key, listened, registration}
 use Rattle.event_listener.specs.declared.key.Key.{Key}
-use Rattle.async_channel.specs.Parts.{Listeners, Roster, listeners, with_listeners}
+use Rattle.channel_calls.specs.Parts.{Listeners, Roster, listeners, with_listeners}
 use Rattle.channel_model.specs.Lines.{Waiting, same_waiter, is_among, untold, with_untold}
 use Rattle.channel_model.specs.Awake.{Kind, Placed, times, times_in}
 use Rattle.channel_model.specs.Laws.{same_line}
 use Rattle.channel_model.specs.declared.name.Waiter.{Waiter}
-use Rattle.async_channel.specs.declared.stage.Line.{Line}
-use Rattle.async_channel.specs.declared.stage.Line.TheVariants.{Sends, Receives, Streams, Closings}
+use Rattle.channel_calls.specs.declared.stage.Line.{Line}
+use Rattle.channel_calls.specs.declared.stage.Line.TheVariants.{Sends, Receives, Streams, Closings}
 use Rattle.channel_model.proofs.WaiterLemmas.{same_refl, same_sound, decided}
 use Rattle.channel_model.proofs.Counting.{count_append}
 use Rattle.channel_model.specs.Asked.{Held}

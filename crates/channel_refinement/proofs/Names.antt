@@ -5,7 +5,7 @@ use Rattle.channel_model.specs.Lines.{same_waiter, is_among, without}
 use Rattle.channel_model.specs.Awake.{Kind}
 use Rattle.channel_model.specs.Laws.{same_line, is_line}
 use Rattle.channel_model.specs.declared.name.Waiter.{Waiter}
-use Rattle.async_channel.specs.declared.stage.Line.{Line}
+use Rattle.channel_calls.specs.declared.stage.Line.{Line}
 use Rattle.channel_model.proofs.WaiterLemmas.{same_sound, decided, or_true}
 use Rattle.channel_model.proofs.Counting.{among_self, or_right}
 use Rattle.channel_model.proofs.Awake.{line_refl, line_sound}

@@ -1,8 +1,8 @@
 -- A new operation stands nowhere and holds nothing; a finished send, too.
 use Rattle.std.proofs.Common.{◌≡◌, nat_eq, false, Option, None, Some, refl, sym, ap, subst, ◌∙◌, inl, append-nil}
 use Rattle.futures.specs.declared.task.Poll.TheVariants as poll
-use Rattle.async_channel.specs.Moves.{Channel}
-use Rattle.async_channel.specs.declared.reply.Reply.TheVariants as reply
+use Rattle.channel_calls.specs.Moves.{Channel}
+use Rattle.channel_calls.specs.declared.reply.Reply.TheVariants as reply
 use Rattle.channel_alone.specs.Alone.{Outcome, says_only}
 use Rattle.channel_model.specs.Answer.{replying, new_answer, poll_answer}
 use Rattle.channel_model.specs.Awake.{AwakeIn}

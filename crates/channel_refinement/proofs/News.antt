@@ -1,15 +1,15 @@
 -- News are told over the four lists as over the four lines, and those who are woken are the same, in order.
 use Rattle.std.proofs.Common.{arith, ◌≡◌, ◌≤◌, List, ◌++◌, take, Bool, true, refl, sym, ap, subst, ◌∙◌, append_assoc, append-nil}
-use Rattle.async_channel.specs.Parts.{Roster, listeners, with_listeners, told_one, told_one_wakes, told_all, told_all_wakes}
-use Rattle.async_channel.specs.declared.stage.Line.TheVariants as list
+use Rattle.channel_calls.specs.Parts.{Roster, listeners, with_listeners, told_one, told_one_wakes, told_all, told_all_wakes}
+use Rattle.channel_calls.specs.declared.stage.Line.TheVariants as list
 use Rattle.channel_model.specs.Lines.{Waiting, told_by, after_news}
 use Rattle.channel_model.specs.Lines.{all_told}
 use Rattle.channel_model.specs.Awake.{Kind}
 use Rattle.channel_model.specs.declared.name.Waiter.{Waiter}
 use Rattle.channel_model.specs.declared.news.News.{News}
 use Rattle.channel_model.specs.declared.news.News.TheVariants.{Nothing, Message, Room, Closing, NextIn}
-use Rattle.async_channel.specs.declared.stage.Line.{Line}
-use Rattle.async_channel.specs.declared.stage.Line.TheVariants.{Sends, Receives, Streams, Closings}
+use Rattle.channel_calls.specs.declared.stage.Line.{Line}
+use Rattle.channel_calls.specs.declared.stage.Line.TheVariants.{Sends, Receives, Streams, Closings}
 use Rattle.channel_model.proofs.Awake.{times_news}
 use Rattle.channel_model.specs.Asked.{Held}
 use Rattle.channel_refinement.specs.Shows.{ShowsLines, KeysFit, list_of}

@@ -1,10 +1,10 @@
 -- A channel that was just opened shows the start.
 use Rattle.std.proofs.Common.{ℕ, Option, refl}
-use Rattle.async_channel.specs.Moves.{Channel, new_channel}
+use Rattle.channel_calls.specs.Moves.{Channel, new_channel}
 use Rattle.channel_model.specs.Laws.{line_of}
 use Rattle.channel_model.specs.State.{State, start}
 use Rattle.channel_model.specs.declared.name.Waiter.{Waiter}
-use Rattle.async_channel.specs.declared.stage.Line.TheVariants.{Sends, Receives, Streams, Closings}
+use Rattle.channel_calls.specs.declared.stage.Line.TheVariants.{Sends, Receives, Streams, Closings}
 use Rattle.channel_model.proofs.Interface.{start_awake}
 use Rattle.channel_refinement.specs.Opening.{nothing_held, OpeningIsOver}
 use Rattle.channel_refinement.specs.Shows.{Shows, ShowsLines}

@@ -4,11 +4,11 @@ use Rattle.std.specs.Map.{set_value}
 use Rattle.concurrent_queue.specs.Queue.{Queue}
 use Rattle.event_listener.specs.declared.error.ListenError.{ListenError}
 use Rattle.event_listener.specs.declared.error.ListenError.TheVariants as listening
-use Rattle.async_channel.specs.Moves.{Channel}
-use Rattle.async_channel.specs.Asks.{gives_up}
-use Rattle.async_channel.specs.declared.reply.Reply.{Reply}
-use Rattle.async_channel.specs.declared.reply.Reply.TheVariants as reply
-use Rattle.async_channel.specs.declared.stage.Line.{Line}
+use Rattle.channel_calls.specs.Moves.{Channel}
+use Rattle.channel_calls.specs.Asks.{gives_up}
+use Rattle.channel_calls.specs.declared.reply.Reply.{Reply}
+use Rattle.channel_calls.specs.declared.reply.Reply.TheVariants as reply
+use Rattle.channel_calls.specs.declared.stage.Line.{Line}
 use Rattle.channel_alone.specs.Alone.{Outcome, ends}
 use Rattle.channel_model.specs.Answer.{replying, leaving, pending, poll_answer, give_up_answer, given_up}
 use Rattle.channel_model.specs.Awake.{AwakeIn}

@@ -3,12 +3,12 @@ use Rattle.std.proofs.Common.{◌≡◌, List, [], Bool, true, false, not, Optio
 use Rattle.std.proofs.lemmas.Map.Steps.{set_value_same}
 use Rattle.event_listener.specs.Lists.{kind_of, told_as, waits_as, same_key, listened, registration, with_task, Notice, without as unlisted}
 use Rattle.event_listener.specs.declared.key.Key.{Key}
-use Rattle.async_channel.specs.Parts.{Listeners, Roster, listeners, with_listeners, waits}
+use Rattle.channel_calls.specs.Parts.{Listeners, Roster, listeners, with_listeners, waits}
 use Rattle.channel_model.specs.Lines.{Waiting, same_waiter, is_among, untold, gone, standing}
 use Rattle.channel_model.specs.Awake.{Kind, Placed}
 use Rattle.channel_model.specs.declared.name.Waiter.{Waiter}
-use Rattle.async_channel.specs.declared.stage.Line.{Line}
-use Rattle.async_channel.specs.declared.stage.Line.TheVariants.{Sends, Receives, Streams, Closings}
+use Rattle.channel_calls.specs.declared.stage.Line.{Line}
+use Rattle.channel_calls.specs.declared.stage.Line.TheVariants.{Sends, Receives, Streams, Closings}
 use Rattle.channel_model.proofs.WaiterLemmas.{same_sound}
 use Rattle.channel_model.proofs.Awake.{placed_gone}
 use Rattle.channel_model.specs.Asked.{Held}

@@ -4,17 +4,17 @@ use Rattle.concurrent_queue.specs.Queue.{Queue}
 use Rattle.event_listener.specs.Lists.{kind_of}
 use Rattle.event_listener.specs.declared.key.Key.{Key}
 use Rattle.event_listener.specs.declared.error.ListenError.{ListenError}
-use Rattle.async_channel.specs.Moves.{Channel, listens, registers}
-use Rattle.async_channel.specs.Parts.{listeners, waits}
-use Rattle.async_channel.specs.Turns.{leaving as keeping}
-use Rattle.async_channel.specs.declared.reply.Reply.{Reply}
+use Rattle.channel_calls.specs.Moves.{Channel, listens, registers}
+use Rattle.channel_calls.specs.Parts.{listeners, waits}
+use Rattle.channel_calls.specs.Turns.{leaving as keeping}
+use Rattle.channel_calls.specs.declared.reply.Reply.{Reply}
 use Rattle.channel_alone.specs.Alone.{Outcome, Where, answers}
 use Rattle.channel_model.specs.Laws.{line_of}
 use Rattle.channel_model.specs.Lines.{Waiting, is_among, untold, gone, standing}
 use Rattle.channel_model.specs.Awake.{AwakeIn}
 use Rattle.channel_model.specs.State.{State, with_waiting}
 use Rattle.channel_model.specs.declared.name.Waiter.{Waiter}
-use Rattle.async_channel.specs.declared.stage.Line.{Line}
+use Rattle.channel_calls.specs.declared.stage.Line.{Line}
 use Rattle.channel_model.proofs.WaiterLemmas.{decided}
 use Rattle.channel_model.specs.Asked.{Held}
 use Rattle.channel_refinement.specs.Shows.{with_held, Shows, list_of}

@@ -5,13 +5,13 @@ use Rattle.event_listener.specs.declared.error.ListenError.{ListenError}
 use Rattle.event_listener.specs.declared.error.ListenError.TheVariants as listening
 use Rattle.event_listener.specs.declared.key.Key.{Key}
 use Rattle.futures.specs.declared.task.Poll.TheVariants as poll
-use Rattle.async_channel.specs.Moves.{Channel, leaves, tells_one}
-use Rattle.async_channel.specs.Turns.{held_on, refused_reply}
-use Rattle.async_channel.specs.Answered.{over}
-use Rattle.async_channel.specs.declared.error.Refused.TheVariants as unmade
-use Rattle.async_channel.specs.declared.reply.Reply.TheVariants as reply
-use Rattle.async_channel.specs.declared.stage.Line.TheVariants as list
-use Rattle.async_channel.specs.declared.stage.Waiting.TheVariants as waiting
+use Rattle.channel_calls.specs.Moves.{Channel, leaves, tells_one}
+use Rattle.channel_calls.specs.Turns.{held_on, refused_reply}
+use Rattle.channel_calls.specs.Answered.{over}
+use Rattle.channel_calls.specs.declared.error.Refused.TheVariants as unmade
+use Rattle.channel_calls.specs.declared.reply.Reply.TheVariants as reply
+use Rattle.channel_calls.specs.declared.stage.Line.TheVariants as list
+use Rattle.channel_calls.specs.declared.stage.Waiting.TheVariants as waiting
 use Rattle.channel_alone.specs.Alone as alone
 use Rattle.channel_alone.specs.Alone.{Outcome, ends, of_room, over_queue, Waits, PollsFor, PollsReceive}
 use Rattle.channel_model.specs.Answer.{Found, first, none_yet, none_ever, found, replying, recv_poll_answer, poll_answer}
@@ -27,7 +27,7 @@ use Rattle.channel_model.specs.declared.name.OpId.{OpId}
 use Rattle.channel_model.specs.declared.name.Waiter.{Waiter}
 use Rattle.channel_model.specs.declared.name.Waiter.TheVariants.{Op}
 use Rattle.channel_model.specs.declared.news.News.TheVariants.{Room}
-use Rattle.async_channel.specs.declared.stage.Line.TheVariants.{Receives}
+use Rattle.channel_calls.specs.declared.stage.Line.TheVariants.{Receives}
 use Rattle.channel_model.proofs.Awake.{placed_news, empty_news}
 use Rattle.channel_model.proofs.WaiterLemmas.{decided}
 use Rattle.channel_refinement.specs.Over.{Matches, polled_names}

@@ -5,13 +5,13 @@ use Rattle.event_listener.specs.declared.key.Key.{Key}
 use Rattle.event_listener.specs.declared.error.ListenError.{ListenError}
 use Rattle.event_listener.specs.declared.error.ListenError.TheVariants as listening
 use Rattle.futures.specs.declared.task.Poll.TheVariants as poll
-use Rattle.async_channel.specs.Moves.{Channel, leaves, tells_one, tells_all}
-use Rattle.async_channel.specs.Turns.{held_on, refused_reply}
-use Rattle.async_channel.specs.Answered.{over}
-use Rattle.async_channel.specs.declared.error.Refused.TheVariants as unmade
-use Rattle.async_channel.specs.declared.reply.Reply.TheVariants as reply
-use Rattle.async_channel.specs.declared.stage.Line.TheVariants as list
-use Rattle.async_channel.specs.declared.stage.Waiting.TheVariants as waiting
+use Rattle.channel_calls.specs.Moves.{Channel, leaves, tells_one, tells_all}
+use Rattle.channel_calls.specs.Turns.{held_on, refused_reply}
+use Rattle.channel_calls.specs.Answered.{over}
+use Rattle.channel_calls.specs.declared.error.Refused.TheVariants as unmade
+use Rattle.channel_calls.specs.declared.reply.Reply.TheVariants as reply
+use Rattle.channel_calls.specs.declared.stage.Line.TheVariants as list
+use Rattle.channel_calls.specs.declared.stage.Waiting.TheVariants as waiting
 use Rattle.channel_alone.specs.Alone as alone
 use Rattle.channel_alone.specs.Alone.{Outcome, Where, ends, of_message, over_queue, Waits, PollsFor, PollsReceive, PollsSend, MayLackRoom}
 use Rattle.channel_model.specs.Answer.{replying, leaving, send_poll_answer, poll_answer, finished, space_of}
@@ -20,7 +20,7 @@ use Rattle.channel_model.specs.Refused.{memory, refused, not_polled, send_not_po
 use Rattle.channel_model.specs.Laws.{line_of, line_of_operation}
 use Rattle.channel_model.specs.Lines.{is_among, untold, after_news, told_by, gone}
 use Rattle.channel_model.specs.Names.{Operation, send, at}
-use Rattle.async_channel.specs.declared.reply.Reply.{Reply}
+use Rattle.channel_calls.specs.declared.reply.Reply.{Reply}
 use Rattle.channel_model.specs.Awake.{AwakeIn}
 use Rattle.channel_model.specs.State.{State, with_waiting}
 use Rattle.channel_model.specs.declared.name.HandleId.{HandleId}
@@ -30,7 +30,7 @@ use Rattle.channel_model.specs.declared.name.Waiter.TheVariants.{Op}
 use Rattle.channel_model.specs.declared.news.News.TheVariants.{Nothing, Message}
 use Rattle.channel_model.specs.declared.space.Space.{Space}
 use Rattle.channel_model.specs.declared.space.Space.TheVariants.{Open, Filled, Shut}
-use Rattle.async_channel.specs.declared.stage.Line.TheVariants.{Sends}
+use Rattle.channel_calls.specs.declared.stage.Line.TheVariants.{Sends}
 use Rattle.channel_model.proofs.WaiterLemmas.{decided}
 use Rattle.channel_model.proofs.Awake.{placed_news, empty_news}
 use Rattle.channel_model.specs.Asked.{Held}

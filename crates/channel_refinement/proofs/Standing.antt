@@ -2,13 +2,13 @@
 use Rattle.std.proofs.Common.{arith, ◌≡◌, ◌≤◌, ℕ, List, [], ◌∷◌, length, Bool, true, false, cond, Option, None, Some, IsSome, refl, sym, ap, subst, ◌∙◌, inl, inr}
 use Rattle.std.specs.List.{filter}
 use Rattle.event_listener.specs.declared.key.Key.{Key}
-use Rattle.async_channel.specs.Parts.{Roster, listeners}
+use Rattle.channel_calls.specs.Parts.{Roster, listeners}
 use Rattle.channel_model.specs.Lines.{Waiting, same_waiter, is_among, without, untold, gone}
 use Rattle.channel_model.specs.Awake.{Kind, times, times_in, Placed}
 use Rattle.channel_model.specs.Laws.{is_line}
 use Rattle.channel_model.specs.declared.name.Waiter.{Waiter}
-use Rattle.async_channel.specs.declared.stage.Line.{Line}
-use Rattle.async_channel.specs.declared.stage.Line.TheVariants.{Sends, Receives, Streams, Closings}
+use Rattle.channel_calls.specs.declared.stage.Line.{Line}
+use Rattle.channel_calls.specs.declared.stage.Line.TheVariants.{Sends, Receives, Streams, Closings}
 use Rattle.channel_model.proofs.WaiterLemmas.{same_sound, same_symm, decided, without_absent}
 use Rattle.channel_model.proofs.Counting.{among_self, or_right, absent_counts}
 use Rattle.channel_model.proofs.WaiterLemmas.{none_left, untold_gone}

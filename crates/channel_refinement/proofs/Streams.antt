@@ -5,14 +5,14 @@ use Rattle.event_listener.specs.declared.error.ListenError.{ListenError}
 use Rattle.event_listener.specs.declared.error.ListenError.TheVariants as listening
 use Rattle.event_listener.specs.declared.key.Key.{Key}
 use Rattle.futures.specs.declared.task.Poll.TheVariants as poll
-use Rattle.async_channel.specs.Moves.{Channel, registers}
-use Rattle.async_channel.specs.Parts.{listeners, waits}
-use Rattle.async_channel.specs.Turns.{refused_reply}
-use Rattle.async_channel.specs.Answered.{over}
-use Rattle.async_channel.specs.declared.ask.ChannelAsk.TheVariants as ask
-use Rattle.async_channel.specs.declared.reply.Reply.TheVariants as reply
-use Rattle.async_channel.specs.declared.stage.Line.TheVariants as list
-use Rattle.async_channel.specs.declared.stage.Waiting.TheVariants as waiting
+use Rattle.channel_calls.specs.Moves.{Channel, registers}
+use Rattle.channel_calls.specs.Parts.{listeners, waits}
+use Rattle.channel_calls.specs.Turns.{refused_reply}
+use Rattle.channel_calls.specs.Answered.{over}
+use Rattle.channel_calls.specs.declared.ask.ChannelAsk.TheVariants as ask
+use Rattle.channel_calls.specs.declared.reply.Reply.TheVariants as reply
+use Rattle.channel_calls.specs.declared.stage.Line.TheVariants as list
+use Rattle.channel_calls.specs.declared.stage.Waiting.TheVariants as waiting
 use Rattle.channel_alone.specs.Alone as alone
 use Rattle.channel_alone.specs.Alone.{Outcome, Alone, ends, of_room, over_queue, answers, PollsFor, PollsStream}
 use Rattle.channel_model.specs.Answer.{Found, first, none_yet, none_ever, found, replying, next_answer, poll_next_answer}
@@ -26,7 +26,7 @@ use Rattle.channel_model.specs.declared.name.HandleId.{HandleId}
 use Rattle.channel_model.specs.declared.name.Waiter.{Waiter}
 use Rattle.channel_model.specs.declared.name.Waiter.TheVariants.{Stream}
 use Rattle.channel_model.specs.declared.news.News.TheVariants.{Room}
-use Rattle.async_channel.specs.declared.stage.Line.TheVariants.{Sends, Streams}
+use Rattle.channel_calls.specs.declared.stage.Line.TheVariants.{Sends, Streams}
 use Rattle.channel_model.proofs.Awake.{awake_without_stream}
 use Rattle.channel_model.proofs.WaiterLemmas.{decided, same_refl, without_absent, none_left}
 use Rattle.channel_refinement.specs.Over.{Matches}

@@ -2,15 +2,15 @@
 use Rattle.std.proofs.Common.{arith, ◌≡◌, ℕ, min, List, [], ◌∷◌, ◌++◌, length, take, drop, map, Bool, true, false, Option, Some, refl, sym, ap, subst, ◌∙◌, inl, inr, append_assoc, append-nil}
 use Rattle.event_listener.specs.Lists.{Notice, told_with, tasks_of, notified}
 use Rattle.event_listener.specs.declared.key.Key.{Key}
-use Rattle.async_channel.specs.Parts.{Listeners, Roster, listeners, with_listeners, told_one, told_one_wakes, told_all, told_all_wakes}
+use Rattle.channel_calls.specs.Parts.{Listeners, Roster, listeners, with_listeners, told_one, told_one_wakes, told_all, told_all_wakes}
 use Rattle.channel_model.specs.Lines.{Waiting, is_among, untold, after_news}
 use Rattle.channel_model.specs.Lines.{all_told}
 use Rattle.channel_model.specs.Awake.{Kind}
 use Rattle.channel_model.specs.Laws.{same_line}
 use Rattle.channel_model.specs.declared.name.Waiter.{Waiter}
 use Rattle.channel_model.specs.declared.news.News.TheVariants.{Message, Closing, NextIn}
-use Rattle.async_channel.specs.declared.stage.Line.{Line}
-use Rattle.async_channel.specs.declared.stage.Line.TheVariants.{Sends, Receives, Streams, Closings}
+use Rattle.channel_calls.specs.declared.stage.Line.{Line}
+use Rattle.channel_calls.specs.declared.stage.Line.TheVariants.{Sends, Receives, Streams, Closings}
 use Rattle.channel_model.proofs.WaiterLemmas.{decided}
 use Rattle.channel_model.proofs.Counting.{among_take, among_drop}
 use Rattle.channel_model.proofs.Awake.{line_sound}

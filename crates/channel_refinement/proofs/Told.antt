@@ -10,8 +10,8 @@ use Rattle.channel_model.specs.Names.{Names, Directory, Operation, at, with_oper
 use Rattle.channel_model.specs.declared.name.OpId.{OpId}
 use Rattle.channel_model.specs.declared.name.Waiter.{Waiter}
 use Rattle.channel_model.specs.declared.news.News.{News}
-use Rattle.async_channel.specs.declared.stage.Line.{Line}
-use Rattle.async_channel.specs.declared.stage.Line.TheVariants.{Sends, Receives, Streams, Closings}
+use Rattle.channel_calls.specs.declared.stage.Line.{Line}
+use Rattle.channel_calls.specs.declared.stage.Line.TheVariants.{Sends, Receives, Streams, Closings}
 use Rattle.channel_model.proofs.WaiterLemmas.{decided, without_absent, none_left}
 use Rattle.channel_model.proofs.Counting.{among_counts}
 use Rattle.channel_model.proofs.Awake.{left_nowhere}

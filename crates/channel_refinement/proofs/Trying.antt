@@ -2,14 +2,14 @@
 use Rattle.std.proofs.Common.{◌≡◌, ℕ, List, [], ◌∷◌, ◌++◌, length, drop, slice_get, ◌==◌, Bool, true, false, Option, None, Some, Ok, Err, if◌then◌else◌, refl, sym, ap, subst, ◌∙◌, inl, inr, append-nil}
 use Rattle.std.specs.Option.{option_map_or}
 use Rattle.concurrent_queue.specs.Queue.{Queue, is_full_at, is_filled}
-use Rattle.async_channel.specs.Moves.{Channel}
-use Rattle.async_channel.specs.Turns.{says, closer_ending}
-use Rattle.async_channel.specs.declared.error.Refused.TheVariants as unmade
-use Rattle.async_channel.specs.declared.error.TryRecvError.TheVariants as unreceived
-use Rattle.async_channel.specs.declared.error.TrySendError.TheVariants as unsent
-use Rattle.async_channel.specs.declared.reply.Reply.{Reply}
-use Rattle.async_channel.specs.declared.reply.Reply.TheVariants as reply
-use Rattle.async_channel.specs.declared.stage.Closer.TheVariants as closer
+use Rattle.channel_calls.specs.Moves.{Channel}
+use Rattle.channel_calls.specs.Turns.{says, closer_ending}
+use Rattle.channel_calls.specs.declared.error.Refused.TheVariants as unmade
+use Rattle.channel_calls.specs.declared.error.TryRecvError.TheVariants as unreceived
+use Rattle.channel_calls.specs.declared.error.TrySendError.TheVariants as unsent
+use Rattle.channel_calls.specs.declared.reply.Reply.{Reply}
+use Rattle.channel_calls.specs.declared.reply.Reply.TheVariants as reply
+use Rattle.channel_calls.specs.declared.stage.Closer.TheVariants as closer
 use Rattle.channel_alone.specs.Alone as alone
 use Rattle.channel_alone.specs.Alone.{Outcome, ends, of_message, of_room, of_closing, over_queue, receives_by, receives, sends, force_sends, closes, MayLackRoom}
 use Rattle.channel_model.specs.Answer.{Found, first, none_yet, none_ever, found, try_recv_answer, try_send_answer, force_send_answer, displacing, space_of, replying, telling, shut}

@@ -1,6 +1,6 @@
 -- What a call asks of the channel in a state of the model, and who keeps the listener that it leaves.
 use Rattle.std.specs.Prelude.{Option}
-use Rattle.async_channel.specs.declared.ask.ChannelAsk.{ChannelAsk}
+use Rattle.channel_calls.specs.declared.ask.ChannelAsk.{ChannelAsk}
 use Rattle.channel_model.specs.Asked.{Held}
 use Rattle.channel_model.specs.Asked as names
 use Rattle.channel_model.specs.State.{State}

@@ -1,6 +1,6 @@
 -- What a channel that was just opened shows.
 use Rattle.std.specs.Prelude.{ℕ, Option, None}
-use Rattle.async_channel.specs.Moves.{Channel, new_channel}
+use Rattle.channel_calls.specs.Moves.{Channel, new_channel}
 use Rattle.channel_model.specs.Awake.{AwakeIn}
 use Rattle.channel_model.specs.State.{State, start}
 use Rattle.channel_model.specs.declared.name.Waiter.{Waiter}

@@ -2,9 +2,9 @@
 use Rattle.std.specs.Prelude.{◌≡◌, ◌++◌, List, Option, None, Some}
 use Rattle.std.specs.Option.{option_map, option_map_or}
 use Rattle.event_listener.specs.declared.key.Key.{Key}
-use Rattle.async_channel.specs.Moves.{Channel}
-use Rattle.async_channel.specs.declared.reply.Reply.{Reply}
-use Rattle.async_channel.specs.declared.reply.Reply.TheVariants as reply
+use Rattle.channel_calls.specs.Moves.{Channel}
+use Rattle.channel_calls.specs.declared.reply.Reply.{Reply}
+use Rattle.channel_calls.specs.declared.reply.Reply.TheVariants as reply
 use Rattle.channel_alone.specs.Alone.{Outcome, Alone}
 use Rattle.channel_model.specs.Answer.{Answer, weak_of, strong_of}
 use Rattle.channel_model.specs.Awake.{AwakeIn}

@@ -3,18 +3,18 @@ use Rattle.std.specs.Prelude.{◌≡◌, ◌≤◌, Bool, true, false, if◌then
 use Rattle.std.specs.List.{filter}
 use Rattle.event_listener.specs.Lists.{Notice}
 use Rattle.event_listener.specs.declared.key.Key.{Key}
-use Rattle.async_channel.specs.Moves.{Channel}
-use Rattle.async_channel.specs.Parts.{Listeners, Roster, listeners}
-use Rattle.async_channel.specs.declared.stage.Line.{Line as ListName}
-use Rattle.async_channel.specs.declared.stage.Line.TheVariants as list
+use Rattle.channel_calls.specs.Moves.{Channel}
+use Rattle.channel_calls.specs.Parts.{Listeners, Roster, listeners}
+use Rattle.channel_calls.specs.declared.stage.Line.{Line as ListName}
+use Rattle.channel_calls.specs.declared.stage.Line.TheVariants as list
 use Rattle.channel_model.specs.Asked.{Held}
 use Rattle.channel_model.specs.Lines.{Waiting, same_waiter, untold}
 use Rattle.channel_model.specs.Laws.{is_line, line_of}
 use Rattle.channel_model.specs.Awake.{Kind, times_in}
 use Rattle.channel_model.specs.State.{State}
 use Rattle.channel_model.specs.declared.name.Waiter.{Waiter}
-use Rattle.async_channel.specs.declared.stage.Line.{Line}
-use Rattle.async_channel.specs.declared.stage.Line.TheVariants.{Sends, Receives, Streams, Closings}
+use Rattle.channel_calls.specs.declared.stage.Line.{Line}
+use Rattle.channel_calls.specs.declared.stage.Line.TheVariants.{Sends, Receives, Streams, Closings}
 
 -- w holds this, and any other what it held
 abbrev pub with_held : Waiter → Option Key → Held → Held

@@ -4,11 +4,11 @@ use Rattle.std.proofs.lemmas.List.Elements.{filter-append}
 use Rattle.std.specs.Option.{option_map_or}
 use Rattle.event_listener.specs.Lists.{Notice}
 use Rattle.event_listener.specs.declared.key.Key.{Key}
-use Rattle.async_channel.specs.Moves.{Channel}
-use Rattle.async_channel.specs.declared.reply.Reply.{Reply}
-use Rattle.async_channel.specs.declared.stage.Held.{Held}
-use Rattle.async_channel.specs.declared.stage.Line.{Line}
-use Rattle.async_channel.specs.declared.stage.Line.TheVariants.{Sends, Receives, Streams, Closings}
+use Rattle.channel_calls.specs.Moves.{Channel}
+use Rattle.channel_calls.specs.declared.reply.Reply.{Reply}
+use Rattle.channel_calls.specs.declared.stage.Held.{Held}
+use Rattle.channel_calls.specs.declared.stage.Line.{Line}
+use Rattle.channel_calls.specs.declared.stage.Line.TheVariants.{Sends, Receives, Streams, Closings}
 use Rattle.channel_alone.specs.Alone.{Outcome, Alone}
 use Rattle.channel_model.proofs.Awake.{line_refl}
 use Rattle.channel_model.proofs.Interface.{awake_after}
@@ -26,6 +26,14 @@ use Rattle.channel_model.specs.Refused.{Answers}
 use Rattle.channel_model.specs.State.{State}
 use Rattle.channel_model.specs.declared.call.Call.{Call}
 use Rattle.channel_model.specs.declared.name.Waiter.{Waiter}
+use Rattle.channel_model.specs.declared.name.Waiter.TheVariants.{Op, Stream}
+use Rattle.channel_model.specs.declared.name.HandleId.{HandleId}
+use Rattle.channel_model.specs.Settling.{poll_of}
+use Rattle.channel_model.specs.declared.call.Call.TheVariants as call
+use Rattle.channel_model.proofs.LawSteps.{poll_awake}
+use Rattle.channel_refinement.proofs.Streams.{poll_next}
+use Rattle.channel_interleaving.proofs.OwnerBegins.{Admitted, admitted}
+use Rattle.channel_interleaving.proofs.WokenPolls.{woken_admitted, poll_accepted}
 use Rattle.channel_refinement.specs.Asked.{keeper}
 use Rattle.channel_refinement.specs.Over.{Matches, held_after}
 use Rattle.channel_refinement.specs.Shows.{AreTold, of_line, with_held}
@@ -39,7 +47,7 @@ use Rattle.channel_interleaving.specs.Refusal.{refusal}
 use Rattle.channel_interleaving.specs.Roll.{names_of, held_of}
 use Rattle.channel_interleaving.specs.Run.{Book}
 use Rattle.channel_interleaving.specs.declared.names.Agent.{Agent}
-use Rattle.channel_rest.specs.Lone.{but_for, CanBeLent, NonePolled, RefusalsAgree, LoneCallsAnswer}
+use Rattle.channel_rest.specs.Lone.{but_for, CanBeLent, NonePolled, RefusalsAgree, LoneCallsAnswer, PollsAnswer}
 use Rattle.channel_rest.specs.Rest.{state_at, IsWorld}
 use Rattle.channel_rest.proofs.LoneAsks.{asks_same, refusal_same}
 use Rattle.channel_rest.proofs.LoneNames.{names_follow}
@@ -126,26 +134,16 @@ module _ {T : Type 0} where
       let o = kept.owned in
       refusal_same b.roll (none_polled b s kept none) o.none_amiss (state_at b s) c refl
 
-  module _ (b : Book T) (s t : Scene T Waiter) (c : Call T) (o : Outcome T Waiter) (kept : AllKept b s) (none : b.agents ≡ [])
-      (rest : s.under_way ≡ []) (few : CanBeLent b.roll) (fine : refusal b.roll c ≡ None) (alone : Alone (asks b.roll c) s.now o)
-      (now : t.now ≡ o.channel) where
+  -- a call whose operation, receiver or handle lives, is of its kind and is not being polled, and that matches what the model may
+  -- answer; also where its receiver is borrowed
+  module _ (b : Book T) (s t : Scene T Waiter) (c : Call T) (o : Outcome T Waiter) (kept : AllKept b s) (few : CanBeLent b.roll)
+      (ok : Admitted b.roll c) (alone : Alone (asks b.roll c) s.now o) (now : t.now ≡ o.channel)
+      (matches : Matches (held_of b.roll) (state_at b s) c o) (awake : AwakeIn matches.answer.after) where
     abbrev before : State T
     before = state_at b s
 
-    world : IsWorld b s
-    world = rest_is_a_world T b s kept rest
-
-    accepted : model.refusal before c ≡ None
-    accepted = sym (refusals_agree b s c kept none) ∙ fine
-
-    matches : Matches (held_of b.roll) before c o
-    matches = world.calls c o accepted (subst (λ a. Alone a s.now o) (asks_same b.roll (none_polled b s kept none) c) alone)
-
     abbrev answer : Answer T
     answer = matches.answer
-
-    awake : AwakeIn answer.after
-    awake = awake_after before c answer accepted world.awake matches.allowed
 
     abbrev own : Option Waiter
     own = keeper before c
@@ -188,7 +186,7 @@ module _ {T : Type 0} where
     woken_same : woken_in (names_alone b.roll c o.reply o.kept o.woken) (order_alone b.roll c o.kept o.woken b.order)
         ≡ answer.after.waiting.woken
     woken_same =
-        woken_follows b.roll c before o b.order refl refl fine
+        woken_follows b.roll c before o b.order refl refl ok
         (λ w h x e. let i = kept.order in i.placed w (inl (h, x, e))) named once ∙ sym matches.told
 
     waiting_same : (state_at (book_alone b c o) t).waiting ≡ answer.after.waiting
@@ -234,4 +232,37 @@ pub they_agree : (T : Type 0) → RefusalsAgree T
 they_agree T b s c kept none = refusals_agree b s c kept none
 
 pub they_answer : (T : Type 0) → LoneCallsAnswer T
-they_answer T b s t c o kept none rest few fine alone now = lone_answers b s t c o kept none rest few fine alone now
+they_answer T b s t c o kept none rest few fine alone now =
+    let world : IsWorld b s = rest_is_a_world T b s kept rest in
+    let accepted : model.refusal (state_at b s) c ≡ None = sym (refusals_agree b s c kept none) ∙ fine in
+    let matches : Matches (held_of b.roll) (state_at b s) c o =
+    world.calls c o accepted (subst (λ a. Alone a s.now o) (asks_same b.roll (none_polled b s kept none) c) alone) in
+    let awake : AwakeIn matches.answer.after = awake_after (state_at b s) c matches.answer accepted world.awake matches.allowed in
+    lone_answers b s t c o kept few (admitted b.roll c fine) alone now matches awake
+
+-- ---- a poll of settling: of a stream whether or not a live operation borrows its receiver
+
+module _ {T : Type 0} (b : Book T) (s t : Scene T Waiter) (o : Outcome T Waiter) (kept : AllKept b s) (none : b.agents ≡ [])
+    (rest : s.under_way ≡ []) (few : CanBeLent b.roll) (now : t.now ≡ o.channel) where
+  -- a stream that is pending is polled, and answers as the model may
+  stream_polls_answer : (receiver : HandleId) → is_among (Stream receiver) (woken_in b.roll b.order) ≡ true
+      → Alone (asks b.roll (call.PollNext receiver)) s.now o
+      → Answers (state_at b s) (call.PollNext receiver)
+      (record { after = state_at (book_alone b (call.PollNext receiver) o) t; reply = o.reply; woken = o.woken })
+  stream_polls_answer receiver e alone =
+      let c : Call T = call.PollNext receiver in
+      let world : IsWorld b s = rest_is_a_world T b s kept rest in
+      let matches : Matches (held_of b.roll) (state_at b s) c o =
+      poll_next (held_of b.roll) s.now (state_at b s) world.shows world.awake receiver o
+      (subst (λ a. Alone a s.now o) (asks_same b.roll (none_polled b s kept none) c) alone) in
+      let awake : AwakeIn matches.answer.after = poll_awake (state_at b s) (Stream receiver) matches.answer world.awake matches.allowed in
+      lone_answers b s t c o kept few (woken_admitted b.roll b.order (Stream receiver) e) alone now matches awake
+
+  polls_answer : (w : Waiter) → is_among w (woken_in b.roll b.order) ≡ true → Alone (asks b.roll (poll_of w)) s.now o
+      → Answers (state_at b s) (poll_of w) (record { after = state_at (book_alone b (poll_of w) o) t; reply = o.reply; woken = o.woken })
+  polls_answer (Stream receiver) e alone = stream_polls_answer receiver e alone
+  polls_answer (Op op) e alone =
+      they_answer T b s t (call.Poll op) o kept none rest few (poll_accepted b.roll op (woken_admitted b.roll b.order (Op op) e)) alone now
+
+pub they_poll : (T : Type 0) → PollsAnswer T
+they_poll T b s t w o kept none rest few e alone now = polls_answer b s t o kept none rest few now w e alone

@@ -2,8 +2,8 @@
 use Rattle.std.proofs.Common.{◌≡◌, List, ◌∷◌, Bool, true, false, cond, Option, None, Some, ◌⊎◌, inl, inr, refl, sym, ap, subst, ◌∙◌}
 use Rattle.std.specs.List.{filter}
 use Rattle.event_listener.specs.declared.key.Key.{Key}
-use Rattle.async_channel.specs.declared.reply.Reply.{Reply}
-use Rattle.async_channel.specs.declared.stage.Kept.{Kept}
+use Rattle.channel_calls.specs.declared.reply.Reply.{Reply}
+use Rattle.channel_calls.specs.declared.stage.Kept.{Kept}
 use Rattle.channel_model.proofs.Counting.{or_right}
 use Rattle.channel_model.proofs.WaiterLemmas.{same_refl, same_sound, decided}
 use Rattle.channel_model.specs.Lines.{same_waiter, is_among, without}

@@ -10,7 +10,7 @@ use Rattle.channel_model.specs.declared.name.HandleId.{HandleId}
 use Rattle.channel_model.specs.declared.name.OpId.{OpId}
 use Rattle.channel_model.specs.declared.name.Waiter.{Waiter}
 use Rattle.channel_model.specs.declared.name.Waiter.TheVariants.{Op, Stream}
-use Rattle.async_channel.specs.declared.stage.Kept.{Kept}
+use Rattle.channel_calls.specs.declared.stage.Kept.{Kept}
 use Rattle.channel_interleaving.specs.Bookkeeping.{lent_to_poll, restored, with_operation, woken, all_woken}
 use Rattle.channel_interleaving.specs.Roll.{operation_of, used_more, used_less, names_of, told, with_handle, with_lent, with_given_back}
 use Rattle.channel_interleaving.specs.declared.names.Hold.{Hold}

@@ -2,9 +2,9 @@
 use Rattle.std.proofs.Common.{◌≡◌, ◌≤◌, nat_eq, List, [], ◌∷◌, ◌++◌, Bool, true, false, Option, None, Some, inl, inr, refl, sym, ap, subst, ◌∙◌}
 use Rattle.std.specs.Map.{lookup}
 use Rattle.std.specs.Option.{option_map, option_map_or}
-use Rattle.async_channel.specs.declared.reply.Reply.{Reply}
-use Rattle.async_channel.specs.declared.reply.Reply.TheVariants as reply
-use Rattle.async_channel.specs.declared.stage.Held.{Held}
+use Rattle.channel_calls.specs.declared.reply.Reply.{Reply}
+use Rattle.channel_calls.specs.declared.reply.Reply.TheVariants as reply
+use Rattle.channel_calls.specs.declared.stage.Held.{Held}
 use Rattle.channel_alone.specs.Alone.{Outcome}
 use Rattle.channel_model.proofs.Counting.{among_self, or_right}
 use Rattle.channel_model.proofs.DirectoryLemmas.{at_seen}
@@ -317,7 +317,7 @@ module _ {T : Type 0} where
 
   -- whoever was woken when the call began is woken after it, and then those whom it woke, in order, but for its own name
   pub woken_follows : (r : Roll T) (c : Call T) (s : State T) (o : Outcome T Waiter) (order : List Waiter)
-      → s.names ≡ names_of r → s.waiting.woken ≡ woken_in r order → refusal r c ≡ None
+      → s.names ≡ names_of r → s.waiting.woken ≡ woken_in r order → Admitted r c
       → ((w : Waiter) (h : Held) (b : Bool) → post r w ≡ waits h b → IsAmong w order)
       → ((v : Waiter) → is_among v (but_for (keeper s c) o.woken) ≡ true → (h : Held) × (b : Bool) × (post r v ≡ waits h b))
       → ((v : Waiter) → times v (but_for (keeper s c) (woken_in r order ++ o.woken)) ≤ 1)
@@ -331,7 +331,7 @@ module _ {T : Type 0} where
       ∙ ap (λ (ws : List Waiter). option_map_or (λ (w : Waiter). without w (ws ++ o.woken)) k (ws ++ o.woken)) (sym woken))))
     where
       g : Goes r c order (keeper s c)
-      g = goes r s order same c (admitted r c fine)
+      g = goes r s order same c fine
 
       have : HavePlaces (names_begun r c) (order_begun c order)
       have v on =

@@ -1,19 +1,21 @@
 -- A call that is made alone on a channel at rest: what it leaves is what the model says.
-use Rattle.std.specs.Prelude.{◌≡◌, ℕ, ◌+◌, ◌-◌, ◌^◌, ◌<◌, List, [], Option, None, Some}
-use Rattle.async_channel.specs.declared.stage.Line.{Line}
+use Rattle.std.specs.Prelude.{◌≡◌, ℕ, ◌+◌, ◌-◌, ◌^◌, ◌<◌, true, List, [], Option, None, Some}
+use Rattle.channel_calls.specs.declared.stage.Line.{Line}
 use Rattle.channel_alone.specs.Alone.{Outcome, Alone}
 use Rattle.channel_interleaving.specs.Bookkeeping.{asks}
 use Rattle.channel_interleaving.specs.Kept.{AllKept}
 use Rattle.channel_interleaving.specs.Lone.{book_alone}
+use Rattle.channel_interleaving.specs.OwnerOrder.{woken_in}
 use Rattle.channel_interleaving.specs.Owners.{polled, post}
 use Rattle.channel_interleaving.specs.Refusal.{refusal}
 use Rattle.channel_interleaving.specs.Run.{Book}
 use Rattle.channel_interleaving.specs.declared.names.Hold.{Hold}
 use Rattle.channel_interleaving.specs.declared.roll.Roll.{Roll}
-use Rattle.channel_model.specs.Lines.{without}
+use Rattle.channel_model.specs.Lines.{is_among, without}
 use Rattle.channel_model.specs.Names.{at}
 use Rattle.channel_model.specs.Refusal as model
 use Rattle.channel_model.specs.Refused.{Answers}
+use Rattle.channel_model.specs.Settling.{poll_of}
 use Rattle.channel_model.specs.declared.call.Call.{Call}
 use Rattle.channel_model.specs.declared.name.Waiter.{Waiter}
 use Rattle.channel_rest.specs.Rest.{state_at}
@@ -47,3 +49,14 @@ LoneCallsAnswer T =
     → AllKept b s → b.agents ≡ [] → s.under_way ≡ [] → CanBeLent b.roll → refusal b.roll c ≡ None
     → Alone (asks b.roll c) s.now o → t.now ≡ o.channel
     → Answers (state_at b s) c (record { after = state_at (book_alone b c o) t; reply = o.reply; woken = o.woken })
+
+-- Where nobody is at work, whoever is pending and was woken may be polled alone, a stream also while a live operation borrows its
+-- receiver: the poll answers as the model may, and the names, the order of waking and the channel after it are the model's state
+-- after it.
+abbrev pub PollsAnswer : Type 0 → Type 0
+PollsAnswer T =
+    (b : Book T) (s t : Scene T Waiter) (w : Waiter) (o : Outcome T Waiter)
+    → AllKept b s → b.agents ≡ [] → s.under_way ≡ [] → CanBeLent b.roll → is_among w (woken_in b.roll b.order) ≡ true
+    → Alone (asks b.roll (poll_of w)) s.now o → t.now ≡ o.channel
+    → Answers (state_at b s) (poll_of w)
+    (record { woken = o.woken; after = state_at (book_alone b (poll_of w) o) t; reply = o.reply })

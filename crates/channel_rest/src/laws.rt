@@ -1,6 +1,6 @@
 //! What a channel shows that has come to rest, and what a call does there that is made alone. Each is the contract of a function
 //! that does nothing.
-ghost use Rattle.channel_rest.specs.Lone.{LoneCallsAnswer, RefusalsAgree};
+ghost use Rattle.channel_rest.specs.Lone.{LoneCallsAnswer, PollsAnswer, RefusalsAgree};
 ghost use Rattle.channel_rest.specs.Rest.{RestIsAWorld};
 
 /// A channel run by names that has no call under way shows a state of the model in which nobody is left asleep, with the same
@@ -25,4 +25,13 @@ pub fn a_channel_at_rest_is_a_world<T>()
 pub fn a_call_made_alone_is_the_models<T>()
     ensures refused { RefusalsAgree T }
     ensures answered { LoneCallsAnswer T }
+{}
+
+/// One by name that is pending and was woken, on a channel with no call under way, may be polled alone, as settling polls it:
+/// a stream also while a live operation borrows its receiver, where the model refuses such a call. Its poll answers as the model
+/// may, and the names, the order of waking and the channel after it are the model's state after it. Of every message type.
+///
+/// Own to this project.
+pub fn a_poll_of_settling_is_the_models<T>()
+    ensures { PollsAnswer T }
 {}

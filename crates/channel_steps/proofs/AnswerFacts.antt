@@ -13,23 +13,23 @@ use Rattle.concurrent_queue.specs.declared.error.PushError.TheVariants as push_e
 use Rattle.concurrent_queue.specs.declared.error.ForcePushError.TheVariants as force_error
 use Rattle.concurrent_queue.specs.declared.error.PopError.TheVariants as pop_error
 use Rattle.event_listener.specs.declared.key.Key.{Key}
-use Rattle.async_channel.specs.Answered.{over, sent_next, forced_next, received_next, send_next, receive_next, stream_next, closing_next, closed_next, asked_next, terminated_next, upgraded_next, answered_next}
-use Rattle.async_channel.specs.Marks.{mark_of_queue, down}
-use Rattle.async_channel.specs.Moves.{Channel}
-use Rattle.async_channel.specs.Turns.{leaving, closer_ending}
-use Rattle.async_channel.specs.declared.ask.ChannelAsk.{ChannelAsk}
-use Rattle.async_channel.specs.declared.ask.ChannelAsk.TheVariants as channel
-use Rattle.async_channel.specs.declared.mark.Mark.{Mark}
-use Rattle.async_channel.specs.declared.error.Refused.TheVariants as refused
-use Rattle.async_channel.specs.declared.reply.Reply.TheVariants as reply
-use Rattle.async_channel.specs.declared.stage.Aim.{Aim}
-use Rattle.async_channel.specs.declared.stage.Aim.TheVariants as aim
-use Rattle.async_channel.specs.declared.stage.Closer.TheVariants as closer
-use Rattle.async_channel.specs.declared.stage.Kept.{Kept}
-use Rattle.async_channel.specs.declared.stage.Line.TheVariants.{Sends, Receives, Streams, Closings}
-use Rattle.async_channel.specs.declared.stage.Side.{Side}
-use Rattle.async_channel.specs.declared.stage.Side.TheVariants.{Senders, Receivers}
-use Rattle.async_channel.specs.declared.stage.Turn.{Turn}
+use Rattle.channel_calls.specs.Answered.{over, sent_next, forced_next, received_next, send_next, receive_next, stream_next, closing_next, closed_next, asked_next, terminated_next, upgraded_next, answered_next}
+use Rattle.channel_calls.specs.Marks.{mark_of_queue, down}
+use Rattle.channel_calls.specs.Moves.{Channel}
+use Rattle.channel_calls.specs.Turns.{leaving, closer_ending}
+use Rattle.channel_calls.specs.declared.ask.ChannelAsk.{ChannelAsk}
+use Rattle.channel_calls.specs.declared.ask.ChannelAsk.TheVariants as channel
+use Rattle.channel_calls.specs.declared.mark.Mark.{Mark}
+use Rattle.channel_calls.specs.declared.error.Refused.TheVariants as refused
+use Rattle.channel_calls.specs.declared.reply.Reply.TheVariants as reply
+use Rattle.channel_calls.specs.declared.stage.Aim.{Aim}
+use Rattle.channel_calls.specs.declared.stage.Aim.TheVariants as aim
+use Rattle.channel_calls.specs.declared.stage.Closer.TheVariants as closer
+use Rattle.channel_calls.specs.declared.stage.Kept.{Kept}
+use Rattle.channel_calls.specs.declared.stage.Line.TheVariants.{Sends, Receives, Streams, Closings}
+use Rattle.channel_calls.specs.declared.stage.Side.{Side}
+use Rattle.channel_calls.specs.declared.stage.Side.TheVariants.{Senders, Receivers}
+use Rattle.channel_calls.specs.declared.stage.Turn.{Turn}
 use Rattle.futures.specs.declared.task.Poll.TheVariants.{Ready}
 use Rattle.channel_steps.specs.Moments.{Deed, with_deed, Open, Shut, HasRoom, HasMessage, is_empty, Once, Appended, Took, Replaced, Displaced, LeftLast}
 use Rattle.channel_steps.specs.Known.{TriesFor, TryAt, all_from}

@@ -3,33 +3,21 @@ use Rattle.std.proofs.Common.{arith, ◌≡◌, ℕ, ◌+◌, ◌-◌, ◌^◌, 
 use Rattle.concurrent_queue.specs.Queue.{Queue, Phase, after}
 use Rattle.concurrent_queue.specs.declared.call.QueueMark.{QueueMark}
 use Rattle.concurrent_queue.specs.declared.call.QueueMark.TheVariants as queue
-use Rattle.async_channel.specs.Marks.{mark_of_queue, up, down}
-use Rattle.async_channel.specs.Moves.{Channel, Effect, untouched, on_count, leaves, Worked, Moves}
-use Rattle.async_channel.specs.Parts.{is_raised, count}
-use Rattle.async_channel.specs.declared.mark.Mark.{Mark}
-use Rattle.async_channel.specs.declared.mark.Mark.TheVariants as mark
-use Rattle.async_channel.specs.declared.reply.Reply.{Reply}
-use Rattle.async_channel.specs.declared.stage.Side.{Side}
-use Rattle.async_channel.specs.declared.stage.Side.TheVariants.{Senders, Receivers}
-use Rattle.async_channel.specs.declared.stage.Held.{Held}
-use Rattle.async_channel.specs.declared.stage.Stage.{Stage}
-use Rattle.async_channel.specs.declared.stage.Stage.TheVariants.{Trying, Working, Finished}
-use Rattle.async_channel.specs.declared.stage.Work.{Work}
-use Rattle.async_channel.specs.declared.stage.Work.TheVariants.{TellReceive, TellStreams, TellSend, TellAll, Insert, Register, Leave, Lower, Count, Load, Raise}
+use Rattle.channel_calls.specs.Marks.{mark_of_queue, up, down}
+use Rattle.channel_calls.specs.Moves.{Channel, Effect, untouched, on_count, leaves, Worked, Moves}
+use Rattle.channel_calls.specs.Parts.{is_raised, count}
+use Rattle.channel_calls.specs.declared.mark.Mark.{Mark}
+use Rattle.channel_calls.specs.declared.mark.Mark.TheVariants as mark
+use Rattle.channel_calls.specs.declared.reply.Reply.{Reply}
+use Rattle.channel_calls.specs.declared.stage.Side.{Side}
+use Rattle.channel_calls.specs.declared.stage.Side.TheVariants.{Senders, Receivers}
+use Rattle.channel_calls.specs.declared.stage.Held.{Held}
+use Rattle.channel_calls.specs.declared.stage.Stage.{Stage}
+use Rattle.channel_calls.specs.declared.stage.Stage.TheVariants.{Trying, Working, Finished}
+use Rattle.channel_calls.specs.declared.stage.Work.{Work}
+use Rattle.channel_calls.specs.declared.stage.Work.TheVariants.{TellReceive, TellStreams, TellSend, TellAll, Insert, Register, Leave, Lower, Count, Load, Raise}
 use Rattle.channel_steps.specs.Scene.{IsBalanced}
-use Rattle.channel_steps.specs.Count.{counted}
-
--- how many messages a mark brings in, and how many it takes out
-abbrev pub brought_in : Mark → ℕ
-brought_in mark.Append = 1
-brought_in mark.Replace = 1
-brought_in m = 0
-
-abbrev pub taken_out : Mark → ℕ
-taken_out mark.Take = 1
-taken_out mark.TakeDisplaced = 1
-taken_out mark.Replace = 1
-taken_out m = 0
+use Rattle.channel_steps.specs.Count.{counted, brought_in, taken_out}
 
 -- a mark of no message
 abbrev IsPlain : Mark → Type 0
@@ -107,6 +95,11 @@ module _ {T : Type 0} where
     most mark.SenderDown = omega arith
     most mark.ReceiverUp = omega arith
     most mark.ReceiverDown = omega arith
+
+  -- those that were there and came in are those that are there and went out
+  pub balance_moved : (q : Queue T) (m : Mark) (q' : Queue T) → Moved q m q' → IsBalanced q → IsBalanced q'
+      → length q'.items + taken_out m ≡ length q.items + brought_in m
+  balance_moved q m q' h a b = omega (arith, a, b, h.accepted, h.removed)
 
   -- the messages after a step are counted by its mark
   pub messages_counted : (q : Queue T) (m : Mark) (q' : Queue T) → Moved q m q' → IsBalanced q → IsBalanced q'

@@ -2,13 +2,13 @@
 -- only call under way; and how a step changes the number of messages.
 use Rattle.std.proofs.Common.{◌≡◌, ℕ, ◌+◌, ◌^◌, ◌≤◌, ◌<◌, List, [], ◌∷◌, ◌++◌, map, length, Option, None, Some, sym, subst}
 use Rattle.concurrent_queue.specs.Queue.{Phase}
-use Rattle.async_channel.specs.Moves.{Channel, Effect, Moves}
-use Rattle.async_channel.specs.declared.mark.Mark.{Mark}
-use Rattle.async_channel.specs.declared.reply.Reply.{Reply}
-use Rattle.async_channel.specs.declared.stage.Kept.{Kept}
-use Rattle.async_channel.specs.declared.stage.Stage.{Stage}
-use Rattle.async_channel.specs.declared.stage.Stage.TheVariants.{Finished}
-use Rattle.channel_steps.specs.Count.{counted}
+use Rattle.channel_calls.specs.Moves.{Channel, Effect, Moves}
+use Rattle.channel_calls.specs.declared.mark.Mark.{Mark}
+use Rattle.channel_calls.specs.declared.reply.Reply.{Reply}
+use Rattle.channel_calls.specs.declared.stage.Kept.{Kept}
+use Rattle.channel_calls.specs.declared.stage.Stage.{Stage}
+use Rattle.channel_calls.specs.declared.stage.Stage.TheVariants.{Finished}
+use Rattle.channel_steps.specs.Count.{counted, brought_in, taken_out}
 use Rattle.channel_steps.specs.Scene.{Under, Scene, sees, does, unless_ended, Known, AllKnown, IsBalanced, Steps}
 use Rattle.channel_steps.specs.Run.{Next, begun}
 use Rattle.channel_steps.specs.declared.party.Entry.{Entry}
@@ -89,3 +89,12 @@ module _ {T W : Type 0} where
       count_facts.messages_counted s.now.queue e.mark t.now.queue
       (count_facts.moved_by s.now n.mine.at (record { channel = t.now; mark = e.mark; woken = names }) e.reply n.at_now
       n.moves) a b low
+
+  -- and those that were there and came in are those that are there and went out
+  pub messages_moved : (s : Scene T W) (p : ℕ) (e : Entry T) (names : List W) (t : Scene T W) → Steps s p e names t
+      → IsBalanced s.now.queue → IsBalanced t.now.queue
+      → length t.now.queue.items + taken_out e.mark ≡ length s.now.queue.items + brought_in e.mark
+  messages_moved s p e names t n a b =
+      count_facts.balance_moved s.now.queue e.mark t.now.queue
+      (count_facts.moved_by s.now n.mine.at (record { channel = t.now; mark = e.mark; woken = names }) e.reply n.at_now
+      n.moves) a b

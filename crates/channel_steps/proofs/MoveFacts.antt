@@ -4,22 +4,22 @@ use Rattle.concurrent_queue.specs.Queue.{Queue, Phase, after, IsInRange}
 use Rattle.concurrent_queue.specs.declared.call.QueueMark.{QueueMark}
 use Rattle.concurrent_queue.specs.declared.call.QueueMark.TheVariants.{Nothing, Append, Take, TakeDisplaced, Replace, Close}
 use Rattle.concurrent_queue.specs.declared.queue_call.QueueCall.{QueueCall}
-use Rattle.async_channel.specs.declared.reply.Reply.{Reply}
-use Rattle.async_channel.specs.declared.stage.Held.{Held}
-use Rattle.async_channel.specs.declared.stage.Kept.{Kept}
-use Rattle.async_channel.specs.declared.stage.Side.{Side}
-use Rattle.async_channel.specs.declared.stage.Stage.{Stage}
-use Rattle.async_channel.specs.declared.stage.Stage.TheVariants.{Trying, Working, Finished}
-use Rattle.async_channel.specs.declared.stage.Turn.{Turn}
-use Rattle.async_channel.specs.declared.stage.Turn.TheVariants.{Tries, Works, Ends}
-use Rattle.async_channel.specs.declared.stage.Work.{Work}
-use Rattle.async_channel.specs.declared.stage.Work.TheVariants.{TellReceive, TellStreams, TellSend, TellAll, Insert, Register, Leave, Lower, Count, Load, Raise}
-use Rattle.async_channel.specs.Asks.{kept_by}
-use Rattle.async_channel.specs.Marks.{up}
-use Rattle.async_channel.specs.Parts.{listeners, count, is_raised, waits}
-use Rattle.async_channel.specs.Turns.{line_of, leaving, nothing_kept, ends_by, again, pends_by, unlistened, told_all_next, lowered_next, loaded_next, raised_next}
-use Rattle.async_channel.specs.declared.reply.Reply.TheVariants as reply
-use Rattle.async_channel.specs.Moves.{Channel, Effect, untouched, on_count, leaves, Turned, Worked, Moves, seats, phase}
+use Rattle.channel_calls.specs.declared.reply.Reply.{Reply}
+use Rattle.channel_calls.specs.declared.stage.Held.{Held}
+use Rattle.channel_calls.specs.declared.stage.Kept.{Kept}
+use Rattle.channel_calls.specs.declared.stage.Side.{Side}
+use Rattle.channel_calls.specs.declared.stage.Stage.{Stage}
+use Rattle.channel_calls.specs.declared.stage.Stage.TheVariants.{Trying, Working, Finished}
+use Rattle.channel_calls.specs.declared.stage.Turn.{Turn}
+use Rattle.channel_calls.specs.declared.stage.Turn.TheVariants.{Tries, Works, Ends}
+use Rattle.channel_calls.specs.declared.stage.Work.{Work}
+use Rattle.channel_calls.specs.declared.stage.Work.TheVariants.{TellReceive, TellStreams, TellSend, TellAll, Insert, Register, Leave, Lower, Count, Load, Raise}
+use Rattle.channel_calls.specs.Asks.{kept_by}
+use Rattle.channel_calls.specs.Marks.{up}
+use Rattle.channel_calls.specs.Parts.{listeners, count, is_raised, waits}
+use Rattle.channel_calls.specs.Turns.{line_of, leaving, nothing_kept, ends_by, again, pends_by, unlistened, told_all_next, lowered_next, loaded_next, raised_next}
+use Rattle.channel_calls.specs.declared.reply.Reply.TheVariants as reply
+use Rattle.channel_calls.specs.Moves.{Channel, Effect, untouched, on_count, leaves, Turned, Worked, Moves, seats, phase}
 use Rattle.channel_steps.specs.Run.{HasRange}
 
 module _ {T : Type 0} where

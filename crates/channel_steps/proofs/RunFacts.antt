@@ -4,16 +4,16 @@ use Rattle.concurrent_queue.specs.Queue.{Queue, Phase, asked}
 use Rattle.concurrent_queue.specs.Step.{Seat, Fits}
 use Rattle.concurrent_queue.specs.declared.queue_call.QueueCall.{QueueCall}
 use Rattle.event_listener.specs.Notices.{Woken}
-use Rattle.async_channel.specs.Parts.{Parts}
-use Rattle.async_channel.specs.Asks.{first}
-use Rattle.async_channel.specs.Moves.{Channel, seats, phase, Turned, IsTaken, IsNewCall}
-use Rattle.async_channel.specs.declared.ask.ChannelAsk.{ChannelAsk}
-use Rattle.async_channel.specs.declared.call.ChannelCall.{ChannelCall}
-use Rattle.async_channel.specs.declared.mark.Mark.TheVariants.{Nothing}
-use Rattle.async_channel.specs.declared.reply.Reply.{Reply}
-use Rattle.async_channel.specs.declared.stage.Stage.{Stage}
-use Rattle.async_channel.specs.declared.stage.Turn.{Turn}
-use Rattle.async_channel.specs.declared.stage.Turn.TheVariants.{Tries, Works, Ends}
+use Rattle.channel_calls.specs.Parts.{Parts}
+use Rattle.channel_calls.specs.Asks.{first}
+use Rattle.channel_calls.specs.Moves.{Channel, seats, phase, Turned, IsTaken, IsNewCall}
+use Rattle.channel_calls.specs.declared.ask.ChannelAsk.{ChannelAsk}
+use Rattle.channel_calls.specs.declared.call.ChannelCall.{ChannelCall}
+use Rattle.channel_calls.specs.declared.mark.Mark.TheVariants.{Nothing}
+use Rattle.channel_calls.specs.declared.reply.Reply.{Reply}
+use Rattle.channel_calls.specs.declared.stage.Stage.{Stage}
+use Rattle.channel_calls.specs.declared.stage.Turn.{Turn}
+use Rattle.channel_calls.specs.declared.stage.Turn.TheVariants.{Tries, Works, Ends}
 use Rattle.channel_steps.specs.declared.party.Party.{Party}
 use Rattle.channel_steps.specs.declared.party.Entry.{Entry}
 use Rattle.channel_steps.specs.declared.run.Step.{Step}
@@ -40,7 +40,7 @@ module _ {T W : Type 0} where
         record {
           inner = asked x;
           turned = (none, ap (λ (z : Stage (QueueCall T) T W). phase (asked x) z) e);
-          fits = subst (λ (z : Stage (QueueCall T) T W). Fits parts.cells q (others ++ (seats (asked x) z ++ []))) (sym e) (starts parts.cells q others [] round);
+          fits = subst (λ (z : Stage (QueueCall T) T W). Fits parts.cells q (others ++ (seats (asked x) z ++ []))) (sym e) (round.0, starts round.0 parts.cells q others [] round.1);
         }
     came (Works w) s r (none, e) =
         record {

@@ -3,14 +3,14 @@ use Rattle.std.proofs.Common.{◌≡◌, ℕ, zero, suc, ◌+◌, List, [], ◌�
 use Rattle.std.specs.List.{remove}
 use Rattle.concurrent_queue.specs.Queue.{Queue, Phase, IsInRange}
 use Rattle.concurrent_queue.specs.Step.{Seat, Fits}
-use Rattle.async_channel.specs.Parts.{Parts}
-use Rattle.async_channel.specs.Moves.{Channel, Effect, channel, seats, phase, IsStepOver, IsChannelStep, OnePlace}
-use Rattle.async_channel.specs.declared.call.ChannelCall.{ChannelCall}
-use Rattle.async_channel.specs.declared.mark.Mark.{Mark}
-use Rattle.async_channel.specs.declared.reply.Reply.{Reply}
-use Rattle.async_channel.specs.Asks.{kept_by}
-use Rattle.async_channel.specs.declared.stage.Kept.{Kept}
-use Rattle.async_channel.specs.declared.stage.Stage.{Stage}
+use Rattle.channel_calls.specs.Parts.{Parts}
+use Rattle.channel_calls.specs.Moves.{Channel, Effect, channel, seats, phase, IsStepOver, IsChannelStep, OnePlace}
+use Rattle.channel_calls.specs.declared.call.ChannelCall.{ChannelCall}
+use Rattle.channel_calls.specs.declared.mark.Mark.{Mark}
+use Rattle.channel_calls.specs.declared.reply.Reply.{Reply}
+use Rattle.channel_calls.specs.Asks.{kept_by}
+use Rattle.channel_calls.specs.declared.stage.Kept.{Kept}
+use Rattle.channel_calls.specs.declared.stage.Stage.{Stage}
 use Rattle.channel_steps.specs.declared.party.Party.{Party}
 use Rattle.channel_steps.specs.declared.party.Entry.{Entry}
 use Rattle.channel_steps.specs.Moments.{with_deed}

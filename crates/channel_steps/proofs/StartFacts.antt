@@ -5,8 +5,8 @@ use Rattle.concurrent_queue.specs.Dispatch.{capacity_of}
 use Rattle.concurrent_queue.specs.Made.{IsNew}
 use Rattle.concurrent_queue.specs.Queue.{opened}
 use Rattle.concurrent_queue.specs.declared.cells.QueueForm.{QueueForm}
-use Rattle.async_channel.specs.Moves.{channel}
-use Rattle.async_channel.specs.Parts.{Parts, Roster, new_roster}
+use Rattle.channel_calls.specs.Moves.{channel}
+use Rattle.channel_calls.specs.Parts.{Parts, Roster, new_roster}
 use Rattle.channel_steps.specs.declared.party.Party.{Party}
 use Rattle.channel_steps.specs.Run.{new_scene}
 use Rattle.channel_steps.specs.Scene.{Scene, Sitting, under_of, Shows}
@@ -29,7 +29,7 @@ module _ {T W : Type 0} where
         parties_are = none;
         under_way = refl;
         now = sym (ap (λ (a : Roster W). channel (opened (capacity_of form)) (record { cells = parts.cells; roster = a })) roster);
-        fits = new.1;
+        fits = ([], new.1);
         known = tt;
         balanced = refl;
       }

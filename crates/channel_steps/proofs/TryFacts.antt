@@ -8,16 +8,16 @@ use Rattle.concurrent_queue.specs.declared.call.QueueAsk.TheVariants as ask
 use Rattle.concurrent_queue.specs.declared.call.QueueMark.{QueueMark}
 use Rattle.concurrent_queue.specs.declared.call.QueueMark.TheVariants.{Nothing, Append, Take, TakeDisplaced, Replace, Close}
 use Rattle.concurrent_queue.specs.declared.call.QueueReply.{QueueReply}
-use Rattle.async_channel.specs.Marks.{mark_of_queue}
-use Rattle.async_channel.specs.Moves.{Channel}
-use Rattle.async_channel.specs.declared.ask.ChannelAsk.{ChannelAsk}
-use Rattle.async_channel.specs.declared.ask.ChannelAsk.TheVariants as channel
-use Rattle.async_channel.specs.declared.stage.Aim.{Aim}
-use Rattle.async_channel.specs.declared.stage.Aim.TheVariants as aim
-use Rattle.async_channel.specs.declared.stage.Closer.TheVariants as closer
-use Rattle.async_channel.specs.declared.stage.Line.TheVariants.{Sends, Receives, Streams, Closings}
-use Rattle.async_channel.specs.declared.stage.Side.{Side}
-use Rattle.async_channel.specs.declared.stage.Side.TheVariants.{Senders, Receivers}
+use Rattle.channel_calls.specs.Marks.{mark_of_queue}
+use Rattle.channel_calls.specs.Moves.{Channel}
+use Rattle.channel_calls.specs.declared.ask.ChannelAsk.{ChannelAsk}
+use Rattle.channel_calls.specs.declared.ask.ChannelAsk.TheVariants as channel
+use Rattle.channel_calls.specs.declared.stage.Aim.{Aim}
+use Rattle.channel_calls.specs.declared.stage.Aim.TheVariants as aim
+use Rattle.channel_calls.specs.declared.stage.Closer.TheVariants as closer
+use Rattle.channel_calls.specs.declared.stage.Line.TheVariants.{Sends, Receives, Streams, Closings}
+use Rattle.channel_calls.specs.declared.stage.Side.{Side}
+use Rattle.channel_calls.specs.declared.stage.Side.TheVariants.{Senders, Receivers}
 use Rattle.channel_steps.specs.Moments.{Deed, with_deed, Open, HasRoom, Crowded, Unbounded, Refuses, HasMessage, Once, MadeRoom, Displaced, LeftLast}
 use Rattle.channel_steps.specs.Known.{TriesFor, TryAt}
 use Rattle.channel_steps.specs.Scene.{IsBalanced}
@@ -155,10 +155,10 @@ module _ {T W : Type 0} where
   open_once cap (c ∷ cs) (inl h) = inl (was_open cap c h)
   open_once cap (c ∷ cs) (inr h) = inr (open_once cap cs h)
 
-  displaced_now : (ds : List (Deed T W)) (d : T) (e : Deed T W) → MadeRoom ds d → e.mark ≡ mark_of_queue Append → Displaced (ds ++ e ∷ []) d
-  displaced_now [] d e h m = absurd h
-  displaced_now (x ∷ []) d e h m = (h, m)
-  displaced_now (x ∷ y ∷ ds) d e h m = absurd h
+  displaced_now : (ds : List (Deed T W)) (d : T) (e : Deed T W) → MadeRoom ds d → e.mark ≡ mark_of_queue Append → HasRoom e.before → Displaced (ds ++ e ∷ []) d
+  displaced_now [] d e h m f = absurd h
+  displaced_now (x ∷ []) d e h m f = (h, m, f)
+  displaced_now (x ∷ y ∷ ds) d e h m f = absurd h
 
   -- ---- a step of the queue's call that goes on
 
@@ -190,10 +190,10 @@ module _ {T W : Type 0} where
     goes_force v Nothing (appended None) t ds g ev = at_stage (ask.ForcePush v) Nothing (appended None) t (appended None) ds g ev
     goes_force v Nothing (appended (Some d)) t ds g ev = at_stage (ask.ForcePush v) Nothing (appended (Some d)) t (appended (Some d)) ds g ev
     goes_force v Append (trying b) t ds g ev = at_stage (ask.ForcePush v) Append (trying b) t (appended None) ds g.2 (at_deeds (ask.ForcePush v) Append (trying b) (appended None) ds ev.0 (refl, g.0, g.1))
-    goes_force v Append (displaced d) t ds g ev = at_stage (ask.ForcePush v) Append (displaced d) t (appended (Some d)) ds g.2 (inr (displaced_now ds d _ ev refl))
-    goes_force v Replace (trying b) t ds g ev = at_stage (ask.ForcePush v) Replace (trying b) t (appended (Some g.0)) ds g.5 (at_deeds (ask.ForcePush v) Replace (trying b) (appended (Some g.0)) ds ev.0 (inl (refl, (g.2, g.3), g.1)))
+    goes_force v Append (displaced d) t ds g ev = at_stage (ask.ForcePush v) Append (displaced d) t (appended (Some d)) ds g.2 (inr (displaced_now ds d _ ev refl g.1))
+    goes_force v Replace (trying b) t ds g ev = at_stage (ask.ForcePush v) Replace (trying b) t (appended (Some g.0)) ds g.5 (at_deeds (ask.ForcePush v) Replace (trying b) (appended (Some g.0)) ds ev.0 (inl (refl, (g.2, g.3), g.1, g.4)))
     goes_force v TakeDisplaced (trying b) t ds g ev =
-        at_stage (ask.ForcePush v) TakeDisplaced (trying b) t (displaced g.0) ds g.5 (at_deeds (ask.ForcePush v) TakeDisplaced (trying b) (displaced g.0) ds ev.0 (refl, g.3, g.4, g.1, open_once c.queue.capacity (c ∷ seen) (refusal_seen b c seen ev.1 g.2)))
+        at_stage (ask.ForcePush v) TakeDisplaced (trying b) t (displaced g.0) ds g.5 (at_deeds (ask.ForcePush v) TakeDisplaced (trying b) (displaced g.0) ds ev.0 (refl, g.3, g.4, g.1, open_once c.queue.capacity (c ∷ seen) (refusal_seen b c seen ev.1 g.2), g.6))
     goes_force v m s t ds g ev = absurd g
 
     goes_pop : (m : QueueMark) (s t : queue.Stage T) (ds : List (Deed T W)) → GoesPop c.queue m s t → TryAt c ask.Pop s ds seen → Went ask.Pop m s t ds

@@ -6,35 +6,35 @@ use Rattle.concurrent_queue.specs.declared.call.QueueAsk.TheVariants as ask
 use Rattle.event_listener.specs.declared.key.Key.{Key}
 use Rattle.event_listener.specs.declared.error.ListenError.{ListenError}
 use Rattle.event_listener.specs.declared.error.ListenError.TheVariants as listen_error
-use Rattle.async_channel.specs.Marks.{up, down}
-use Rattle.async_channel.specs.Moves.{Channel, Effect, untouched, on_count, leaves, Turned, Worked}
-use Rattle.async_channel.specs.Parts.{Roster, listeners, count, is_raised, waits}
-use Rattle.async_channel.specs.Turns.{most, line_of, leaving, nothing_kept, closer_ending, dropper, ends_by, again, pends_by, unlistened, told_all_next, lowered_next, counted_next, loaded_next, raised_next}
-use Rattle.async_channel.specs.declared.ask.ChannelAsk.{ChannelAsk}
-use Rattle.async_channel.specs.declared.ask.ChannelAsk.TheVariants as channel
-use Rattle.async_channel.specs.declared.mark.Mark.{Mark}
-use Rattle.async_channel.specs.declared.mark.Mark.TheVariants.{Nothing}
-use Rattle.async_channel.specs.declared.reply.Reply.{Reply}
-use Rattle.async_channel.specs.declared.reply.Reply.TheVariants as reply
-use Rattle.async_channel.specs.declared.stage.Closer.{Closer}
-use Rattle.async_channel.specs.declared.stage.Ending.{Ending}
-use Rattle.async_channel.specs.declared.stage.Aim.TheVariants as aim
-use Rattle.async_channel.specs.declared.stage.Held.{Held}
-use Rattle.async_channel.specs.declared.stage.Kept.{Kept}
-use Rattle.async_channel.specs.declared.stage.Line.{Line}
-use Rattle.async_channel.specs.declared.stage.Line.TheVariants.{Sends, Receives, Streams, Closings}
-use Rattle.async_channel.specs.declared.stage.Making.{Making}
-use Rattle.async_channel.specs.declared.stage.Making.TheVariants as making
-use Rattle.async_channel.specs.declared.stage.Side.{Side}
-use Rattle.async_channel.specs.declared.stage.Side.TheVariants.{Senders, Receivers}
-use Rattle.async_channel.specs.declared.stage.Stage.{Stage}
-use Rattle.async_channel.specs.declared.stage.Stage.TheVariants.{Working}
-use Rattle.async_channel.specs.declared.stage.Turn.{Turn}
-use Rattle.async_channel.specs.declared.stage.Turn.TheVariants.{Tries, Works, Ends}
-use Rattle.async_channel.specs.declared.stage.Waiting.{Waiting}
-use Rattle.async_channel.specs.declared.stage.Waiting.TheVariants as waiting
-use Rattle.async_channel.specs.declared.stage.Work.{Work}
-use Rattle.async_channel.specs.declared.stage.Work.TheVariants.{TellReceive, TellStreams, TellSend, TellAll, Insert, Register, Leave, Lower, Count, Load, Raise}
+use Rattle.channel_calls.specs.Marks.{up, down}
+use Rattle.channel_calls.specs.Moves.{Channel, Effect, untouched, on_count, leaves, Turned, Worked}
+use Rattle.channel_calls.specs.Parts.{Roster, listeners, count, is_raised, waits}
+use Rattle.channel_calls.specs.Turns.{most, line_of, leaving, nothing_kept, closer_ending, dropper, ends_by, again, pends_by, unlistened, told_all_next, lowered_next, counted_next, loaded_next, raised_next}
+use Rattle.channel_calls.specs.declared.ask.ChannelAsk.{ChannelAsk}
+use Rattle.channel_calls.specs.declared.ask.ChannelAsk.TheVariants as channel
+use Rattle.channel_calls.specs.declared.mark.Mark.{Mark}
+use Rattle.channel_calls.specs.declared.mark.Mark.TheVariants.{Nothing}
+use Rattle.channel_calls.specs.declared.reply.Reply.{Reply}
+use Rattle.channel_calls.specs.declared.reply.Reply.TheVariants as reply
+use Rattle.channel_calls.specs.declared.stage.Closer.{Closer}
+use Rattle.channel_calls.specs.declared.stage.Ending.{Ending}
+use Rattle.channel_calls.specs.declared.stage.Aim.TheVariants as aim
+use Rattle.channel_calls.specs.declared.stage.Held.{Held}
+use Rattle.channel_calls.specs.declared.stage.Kept.{Kept}
+use Rattle.channel_calls.specs.declared.stage.Line.{Line}
+use Rattle.channel_calls.specs.declared.stage.Line.TheVariants.{Sends, Receives, Streams, Closings}
+use Rattle.channel_calls.specs.declared.stage.Making.{Making}
+use Rattle.channel_calls.specs.declared.stage.Making.TheVariants as making
+use Rattle.channel_calls.specs.declared.stage.Side.{Side}
+use Rattle.channel_calls.specs.declared.stage.Side.TheVariants.{Senders, Receivers}
+use Rattle.channel_calls.specs.declared.stage.Stage.{Stage}
+use Rattle.channel_calls.specs.declared.stage.Stage.TheVariants.{Working}
+use Rattle.channel_calls.specs.declared.stage.Turn.{Turn}
+use Rattle.channel_calls.specs.declared.stage.Turn.TheVariants.{Tries, Works, Ends}
+use Rattle.channel_calls.specs.declared.stage.Waiting.{Waiting}
+use Rattle.channel_calls.specs.declared.stage.Waiting.TheVariants as waiting
+use Rattle.channel_calls.specs.declared.stage.Work.{Work}
+use Rattle.channel_calls.specs.declared.stage.Work.TheVariants.{TellReceive, TellStreams, TellSend, TellAll, Insert, Register, Leave, Lower, Count, Load, Raise}
 use Rattle.channel_steps.specs.Moments.{Deed, with_deed, Open, Once}
 use Rattle.channel_steps.specs.Answers.{WaitsFor}
 use Rattle.channel_steps.specs.Known.{IsFor, Makes, Drops, MayRaise, Answered, WorkAt, to_tell}

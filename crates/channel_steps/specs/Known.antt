@@ -4,26 +4,26 @@ use Rattle.concurrent_queue.specs.Queue.{Phase, trying, displaced, appended, tak
 use Rattle.concurrent_queue.specs.Queue as queue
 use Rattle.concurrent_queue.specs.declared.call.QueueAsk.{QueueAsk}
 use Rattle.concurrent_queue.specs.declared.call.QueueAsk.TheVariants as ask
-use Rattle.async_channel.specs.Moves.{Channel}
-use Rattle.async_channel.specs.Turns.{most, line_of, leaving, closer_ending}
-use Rattle.async_channel.specs.declared.ask.ChannelAsk.{ChannelAsk}
-use Rattle.async_channel.specs.declared.ask.ChannelAsk.TheVariants.{TrySend, ForceSend, TryRecv, Close, PollSend, PollFinishedSend, PollRecv, PollClosed, PollNext, RefusePoll, GiveUp, DropSender, DropReceiver, CloneHandle, Upgrade, HandleCount, IsClosed, IsEmpty, IsFull, Len, Capacity, IsTerminated, SendIsTerminated, SameChannel, Make, DropWeak}
-use Rattle.async_channel.specs.declared.stage.Aim.{Aim}
-use Rattle.async_channel.specs.declared.stage.Aim.TheVariants as aim
-use Rattle.async_channel.specs.declared.stage.Closer.TheVariants as closer
-use Rattle.async_channel.specs.declared.stage.Ending.{Ending}
-use Rattle.async_channel.specs.declared.stage.Line.{Line}
-use Rattle.async_channel.specs.declared.stage.Line.TheVariants.{Sends, Receives, Streams, Closings}
-use Rattle.async_channel.specs.declared.stage.Making.{Making}
-use Rattle.async_channel.specs.declared.stage.Making.TheVariants as making
-use Rattle.async_channel.specs.declared.stage.Side.{Side}
-use Rattle.async_channel.specs.declared.stage.Side.TheVariants.{Senders, Receivers}
-use Rattle.async_channel.specs.declared.stage.Stage.{Stage}
-use Rattle.async_channel.specs.declared.stage.Stage.TheVariants.{Trying, Working, Finished}
-use Rattle.async_channel.specs.declared.stage.Waiting.{Waiting}
-use Rattle.async_channel.specs.declared.stage.Waiting.TheVariants as waiting
-use Rattle.async_channel.specs.declared.stage.Work.{Work}
-use Rattle.async_channel.specs.declared.stage.Work.TheVariants.{TellReceive, TellStreams, TellSend, TellAll, Insert, Register, Leave, Lower, Count, Load, Raise}
+use Rattle.channel_calls.specs.Moves.{Channel}
+use Rattle.channel_calls.specs.Turns.{most, line_of, leaving, closer_ending}
+use Rattle.channel_calls.specs.declared.ask.ChannelAsk.{ChannelAsk}
+use Rattle.channel_calls.specs.declared.ask.ChannelAsk.TheVariants.{TrySend, ForceSend, TryRecv, Close, PollSend, PollFinishedSend, PollRecv, PollClosed, PollNext, RefusePoll, GiveUp, DropSender, DropReceiver, CloneHandle, Upgrade, HandleCount, IsClosed, IsEmpty, IsFull, Len, Capacity, IsTerminated, SendIsTerminated, SameChannel, Make, DropWeak}
+use Rattle.channel_calls.specs.declared.stage.Aim.{Aim}
+use Rattle.channel_calls.specs.declared.stage.Aim.TheVariants as aim
+use Rattle.channel_calls.specs.declared.stage.Closer.TheVariants as closer
+use Rattle.channel_calls.specs.declared.stage.Ending.{Ending}
+use Rattle.channel_calls.specs.declared.stage.Line.{Line}
+use Rattle.channel_calls.specs.declared.stage.Line.TheVariants.{Sends, Receives, Streams, Closings}
+use Rattle.channel_calls.specs.declared.stage.Making.{Making}
+use Rattle.channel_calls.specs.declared.stage.Making.TheVariants as making
+use Rattle.channel_calls.specs.declared.stage.Side.{Side}
+use Rattle.channel_calls.specs.declared.stage.Side.TheVariants.{Senders, Receivers}
+use Rattle.channel_calls.specs.declared.stage.Stage.{Stage}
+use Rattle.channel_calls.specs.declared.stage.Stage.TheVariants.{Trying, Working, Finished}
+use Rattle.channel_calls.specs.declared.stage.Waiting.{Waiting}
+use Rattle.channel_calls.specs.declared.stage.Waiting.TheVariants as waiting
+use Rattle.channel_calls.specs.declared.stage.Work.{Work}
+use Rattle.channel_calls.specs.declared.stage.Work.TheVariants.{TellReceive, TellStreams, TellSend, TellAll, Insert, Register, Leave, Lower, Count, Load, Raise}
 use Rattle.channel_steps.specs.Moments.{Deed, Open, Shut, HasRoom, Refuses, HasMessage, Once, Appended, Took, Replaced, MadeRoom, Displaced, LeftLast}
 use Rattle.channel_steps.specs.Answers.{WaitsFor, Keeps, Met}
 use Rattle.channel_steps.specs.Tellings.{Telling, one_of, all_of, owed}

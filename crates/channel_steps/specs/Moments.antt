@@ -1,13 +1,13 @@
 -- The moments and the marks of one call.
 use Rattle.std.specs.Prelude.{◌≡◌, ℕ, ◌<◌, ◌≤◌, ◌==◌, Bool, true, false, List, [], ◌∷◌, ◌++◌, length, Option, None, Some, ◌⊎◌}
 use Rattle.concurrent_queue.specs.Queue.{is_filled, IsOpen, IsShut, IsDrained, IsOldest}
-use Rattle.async_channel.specs.Marks.{up, down}
-use Rattle.async_channel.specs.Moves.{Channel}
-use Rattle.async_channel.specs.Parts.{count}
-use Rattle.async_channel.specs.Turns.{most}
-use Rattle.async_channel.specs.declared.mark.Mark.{Mark}
-use Rattle.async_channel.specs.declared.mark.Mark.TheVariants.{Nothing, Append, Take, TakeDisplaced, Replace, Close}
-use Rattle.async_channel.specs.declared.stage.Side.{Side}
+use Rattle.channel_calls.specs.Marks.{up, down}
+use Rattle.channel_calls.specs.Moves.{Channel}
+use Rattle.channel_calls.specs.Parts.{count}
+use Rattle.channel_calls.specs.Turns.{most}
+use Rattle.channel_calls.specs.declared.mark.Mark.{Mark}
+use Rattle.channel_calls.specs.declared.mark.Mark.TheVariants.{Nothing, Append, Take, TakeDisplaced, Replace, Close}
+use Rattle.channel_calls.specs.declared.stage.Side.{Side}
 
 -- one mark of a call, with the moment just before it, and the call's moments up to that one, newest first
 pub record Deed (T W : Type 0) : Type 0 where
@@ -91,20 +91,21 @@ module _ {T W : Type 0} where
   Took (d ∷ []) v = (d.mark ≡ Take) × IsOldest v d.before.queue
   Took _ v = ⊥
 
-  -- the oldest message of a full open channel was replaced
+  -- the message of a full open channel of capacity one was replaced
   abbrev pub Replaced : List (Deed T W) → T → Type 0
-  Replaced (d ∷ []) v = (d.mark ≡ Replace) × Crowded d.before × IsOldest v d.before.queue
+  Replaced (d ∷ []) v = (d.mark ≡ Replace) × Crowded d.before × IsOldest v d.before.queue × (d.before.queue.capacity ≡ Some 1)
   Replaced _ v = ⊥
 
-  -- the oldest message of a full channel was taken to make room, when no other was on its way; it was open not later
+  -- the oldest message of a full channel of a capacity above one was taken to make room, when no other was on its way; it was
+  -- open not later
   abbrev pub MadeRoom : List (Deed T W) → T → Type 0
   MadeRoom (d ∷ []) v =
-      (d.mark ≡ TakeDisplaced) × (is_filled d.before.queue ≡ true) × (d.before.queue.coming ≡ false) × IsOldest v d.before.queue × Once Open (d.before ∷ d.seen)
+      (d.mark ≡ TakeDisplaced) × (is_filled d.before.queue ≡ true) × (d.before.queue.coming ≡ false) × IsOldest v d.before.queue × Once Open (d.before ∷ d.seen) × (d.before.queue.capacity ≡ Some 1 → ⊥)
   MadeRoom _ v = ⊥
 
-  -- and at a later step the message was appended
+  -- and at a later step the message was appended: the place that was made was still free, so no other send took it
   abbrev pub Displaced : List (Deed T W) → T → Type 0
-  Displaced (d ∷ e ∷ []) v = MadeRoom (d ∷ []) v × (e.mark ≡ Append)
+  Displaced (d ∷ e ∷ []) v = MadeRoom (d ∷ []) v × (e.mark ≡ Append) × HasRoom e.before
   Displaced _ v = ⊥
 
   -- an open channel was closed

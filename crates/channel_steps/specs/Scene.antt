@@ -4,18 +4,18 @@ use Rattle.std.specs.List.{remove}
 use Rattle.concurrent_queue.specs.Queue.{Queue, Phase, IsInRange}
 use Rattle.concurrent_queue.specs.Step.{Seat, Fits}
 use Rattle.event_listener.specs.Notices.{Woken}
-use Rattle.async_channel.specs.Asks.{kept_by}
-use Rattle.async_channel.specs.Parts.{Parts}
-use Rattle.async_channel.specs.Moves.{Channel, channel, Moves, seats, phase, OnePlace, IsChannelStep}
-use Rattle.async_channel.specs.declared.ask.ChannelAsk.{ChannelAsk}
-use Rattle.async_channel.specs.declared.ask.ChannelAsk.TheVariants.{TrySend, ForceSend, PollSend}
-use Rattle.async_channel.specs.declared.call.ChannelCall.{ChannelCall}
-use Rattle.async_channel.specs.declared.mark.Mark.{Mark}
-use Rattle.async_channel.specs.declared.mark.Mark.TheVariants.{Append, Take, TakeDisplaced, Replace}
-use Rattle.async_channel.specs.declared.reply.Reply.{Reply}
-use Rattle.async_channel.specs.declared.stage.Kept.{Kept}
-use Rattle.async_channel.specs.declared.stage.Stage.{Stage}
-use Rattle.async_channel.specs.declared.stage.Stage.TheVariants.{Finished}
+use Rattle.channel_calls.specs.Asks.{kept_by}
+use Rattle.channel_calls.specs.Parts.{Parts}
+use Rattle.channel_calls.specs.Moves.{Channel, channel, Moves, seats, phase, OnePlace, IsChannelStep}
+use Rattle.channel_calls.specs.declared.ask.ChannelAsk.{ChannelAsk}
+use Rattle.channel_calls.specs.declared.ask.ChannelAsk.TheVariants.{TrySend, ForceSend, PollSend}
+use Rattle.channel_calls.specs.declared.call.ChannelCall.{ChannelCall}
+use Rattle.channel_calls.specs.declared.mark.Mark.{Mark}
+use Rattle.channel_calls.specs.declared.mark.Mark.TheVariants.{Append, Take, TakeDisplaced, Replace}
+use Rattle.channel_calls.specs.declared.reply.Reply.{Reply}
+use Rattle.channel_calls.specs.declared.stage.Kept.{Kept}
+use Rattle.channel_calls.specs.declared.stage.Stage.{Stage}
+use Rattle.channel_calls.specs.declared.stage.Stage.TheVariants.{Finished}
 use Rattle.channel_steps.specs.Answers.{Met, Keeps}
 use Rattle.channel_steps.specs.Known.{StageAt, ToldAt, IsQuick, steps_left}
 use Rattle.channel_steps.specs.Moments.{Deed, with_deed}

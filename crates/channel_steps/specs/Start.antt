@@ -1,6 +1,6 @@
 -- What is asked of a channel between two steps.
 use Rattle.std.specs.Prelude.{◌≡◌, ℕ, Bool, true, false, List, [], length}
-use Rattle.async_channel.specs.Parts.{Parts}
+use Rattle.channel_calls.specs.Parts.{Parts}
 use Rattle.channel_steps.specs.declared.party.Party.{Party}
 use Rattle.channel_steps.specs.Scene.{Scene, Shows}
 

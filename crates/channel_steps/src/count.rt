@@ -3,7 +3,7 @@
 ghost use Rattle.std.specs.Prelude.{◌≡◌};
 ghost use Rattle.channel_steps.specs.Count.{counted};
 
-use async_channel::mark::Mark;
+use channel_calls::mark::Mark;
 
 /// How many messages there are after a step with this mark. Own to this project.
 pub fn counted(messages: u64, mark: Mark) -> u64

@@ -4,11 +4,11 @@ ghost use Rattle.std.specs.Prelude.{◌≡◌, ◌<◌, vec_len, MatchOption};
 ghost use Rattle.std.specs.List.{remove};
 ghost use Rattle.channel_steps.specs.Scene.{parties_in, unless_answered, StepsAt, HasParty, NoneHas, IsLeftBy};
 
-use async_channel::call::ChannelCall;
-use async_channel::cells::ChannelCells;
-use async_channel::mark::Mark;
-use async_channel::reply::Reply;
-use async_channel::stage::Kept;
+use channel_calls::call::ChannelCall;
+use channel_calls::cells::ChannelCells;
+use channel_calls::mark::Mark;
+use channel_calls::reply::Reply;
+use channel_calls::stage::Kept;
 use event_listener::wakes::Wakes;
 
 /// A party with its call under way. Own to this project.

@@ -6,10 +6,10 @@ ghost use Rattle.channel_steps.specs.Scene.{parties_in};
 ghost use Rattle.channel_steps.specs.Run.{HasBegun, Turns, MayRefuse, IsStoppedBy, RanTo};
 
 use crate::party::{Entry, Party, find, step_at};
-use async_channel::ask::ChannelAsk;
-use async_channel::call::ChannelCall;
-use async_channel::cells::ChannelCells;
-use async_channel::mark::Mark;
+use channel_calls::ask::ChannelAsk;
+use channel_calls::call::ChannelCall;
+use channel_calls::cells::ChannelCells;
+use channel_calls::mark::Mark;
 use event_listener::wakes::Wakes;
 use std::alloc::Global;
 use std::collections::VecDeque;

@@ -3,13 +3,13 @@
 ghost use Rattle.std.specs.Prelude.{◌≡◌, IfOk};
 ghost use Rattle.concurrent_queue.specs.Dispatch.{capacity_of};
 ghost use Rattle.concurrent_queue.specs.Made.{CanBeMade};
-ghost use Rattle.async_channel.specs.Plain.{parts_of};
+ghost use Rattle.channel_calls.specs.Plain.{parts_of};
 ghost use Rattle.channel_steps.specs.Scene.{Shows};
 ghost use Rattle.channel_steps.specs.Run.{new_scene};
 ghost use Rattle.channel_steps.specs.Start.{CountsCalls, TellsQuiet};
 
 use crate::party::Party;
-use async_channel::plain::PlainChannel;
+use channel_calls::plain::PlainChannel;
 use concurrent_queue::cells::QueueForm;
 use std::alloc::{AllocError, Global};
 

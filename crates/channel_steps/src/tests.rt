@@ -1,16 +1,16 @@
 //! Interleavings of parties' steps over one slot, step by step.
 
-ghost use Rattle.async_channel.specs.Plain.{parts_of};
+ghost use Rattle.channel_calls.specs.Plain.{parts_of};
 
 use crate::party::{Entry, Party};
 use crate::run::{Refusal, Run, Step, run_steps};
 use crate::start::{is_quiet, open_channel, under_way};
-use async_channel::ask::ChannelAsk;
-use async_channel::cells::ChannelCells;
-use async_channel::error::Refused;
-use async_channel::plain::PlainChannel;
-use async_channel::reply::Reply;
-use async_channel::stage::{Line, Side};
+use channel_calls::ask::ChannelAsk;
+use channel_calls::cells::ChannelCells;
+use channel_calls::error::Refused;
+use channel_calls::plain::PlainChannel;
+use channel_calls::reply::Reply;
+use channel_calls::stage::{Line, Side};
 use concurrent_queue::call::QueueReply;
 use concurrent_queue::cells::QueueForm;
 use concurrent_queue::queue_call::QueueCall;

@@ -4,8 +4,8 @@ use crate::answer::Answer;
 use crate::count::Count;
 use crate::due::{lowering, raising};
 use crate::under_way::UnderWay;
-use async_channel::mark::Mark;
-use async_channel::stage::Side;
+use channel_calls::mark::Mark;
+use channel_calls::stage::Side;
 
 /// A handle of this kind was dropped: the last one closes an open channel.
 fn drop_marks(side: Side, count: &Count) -> (Mark, Mark) {

@@ -1,8 +1,8 @@
 //! Replies, in short.
 
 use crate::plan::Kind;
-use async_channel::error::{RecvError, Refused, SendError, TryRecvError, TrySendError};
-use async_channel::stage::Line;
+use channel_calls::error::{RecvError, Refused, SendError, TryRecvError, TrySendError};
+use channel_calls::stage::Line;
 use channel_world::call::Reply;
 use event_listener::error::ListenError;
 use futures::task::Poll;

@@ -1,8 +1,8 @@
 //! A plain count of a channel: what it holds, as the marks of its calls say.
 
 use crate::differs::Differs;
-use async_channel::mark::Mark;
-use async_channel::stage::Side;
+use channel_calls::mark::Mark;
+use channel_calls::stage::Side;
 use std::alloc::Global;
 
 /// The messages that came, how many of them have left, whether it is closed, and how many strong handles live.

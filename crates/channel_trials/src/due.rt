@@ -4,8 +4,8 @@ use crate::answer::Answer;
 use crate::count::Count;
 use crate::plan::Kind;
 use crate::under_way::UnderWay;
-use async_channel::mark::Mark;
-use async_channel::stage::{Line, Side};
+use channel_calls::mark::Mark;
+use channel_calls::stage::{Line, Side};
 
 /// A poll ends pending: a send's beside no free place, a receive's beside no message, a wait's while the channel is open. A
 /// finished send's and a stream's need nothing.

@@ -26,7 +26,7 @@ mod waiting;
 use crate::differs::Differs;
 use crate::made::Made;
 use crate::trial::Trial;
-use async_channel::error::OpenError;
+use channel_calls::error::OpenError;
 use channel_world::world::World;
 use event_listener::id::EventIds;
 use std::alloc::Global;

@@ -4,7 +4,7 @@ use crate::answer::Answer;
 use crate::differs::Differs;
 use crate::plan::{Kind, Plan, Target, made_kind};
 use crate::under_way::Subject;
-use async_channel::stage::{Line, Side};
+use channel_calls::stage::{Line, Side};
 use channel_world::name::{HandleId, HandleKind, OpId, Waiter};
 use std::alloc::Global;
 

@@ -2,7 +2,7 @@
 
 use crate::book::Book;
 use crate::under_way::Part;
-use async_channel::stage::Line;
+use channel_calls::stage::Line;
 
 /// How many calls under way have this part.
 fn at_work(book: &Book, part: Part) -> usize {

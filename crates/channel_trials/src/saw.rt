@@ -1,7 +1,7 @@
 //! What held at the moments of a call.
 
 use crate::count::Count;
-use async_channel::stage::Side;
+use channel_calls::stage::Side;
 
 /// The least and the greatest that a number was. It moves by one at a time, so that it was each between them too.
 #[derive(Clone, Copy)]

@@ -9,8 +9,8 @@ use crate::owed::is_nothing_owed;
 use crate::plan::{Kind, Plan};
 use crate::under_way::{Subject, UnderWay};
 use crate::waiting::{Came, Waiting};
-use async_channel::mark::Mark;
-use async_channel::stage::Line;
+use channel_calls::mark::Mark;
+use channel_calls::stage::Line;
 use channel_world::name::{OpId, Waiter};
 use std::alloc::Global;
 

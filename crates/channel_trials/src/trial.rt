@@ -7,7 +7,7 @@ use crate::made::Made;
 use crate::owed::is_nothing_owed;
 use crate::plan::{Kind, Plan};
 use crate::random::Random;
-use async_channel::mark::Mark;
+use channel_calls::mark::Mark;
 use channel_world::call::{Call, CallRun, Stopped, WorldRefusal};
 use channel_world::step::{Entry, PartyId, Run, Step};
 use channel_world::world::World;

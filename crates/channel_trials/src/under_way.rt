@@ -4,8 +4,8 @@ use crate::count::Count;
 use crate::differs::Differs;
 use crate::plan::{Kind, Plan};
 use crate::saw::Saw;
-use async_channel::mark::Mark;
-use async_channel::stage::{Line, Side};
+use channel_calls::mark::Mark;
+use channel_calls::stage::{Line, Side};
 use channel_world::name::Waiter;
 
 /// What a call has to do with, as it begins.

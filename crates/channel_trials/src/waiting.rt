@@ -1,7 +1,7 @@
 //! Who waits: a plain list of the names that are pending.
 
 use crate::differs::Differs;
-use async_channel::stage::Line;
+use channel_calls::stage::Line;
 use channel_world::name::Waiter;
 use std::alloc::Global;
 

@@ -1,9 +1,9 @@
 -- How many names a call wakes at most.
 use Rattle.std.proofs.Common.{arith, ◌≡◌, ◌≤◌, ◌+◌, ℕ, List, [], ◌∷◌, ◌++◌, length, take, Bool, true, false, ◌&&◌, ◌||◌, ◌==◌, ◌^◌, ◌-◌, nat_lt, if◌then◌else◌, not, Option, None, Some, is_none, refl, sym, subst, inl, inr, length-append}
 use Rattle.std.specs.List.{list_any}
-use Rattle.async_channel.specs.declared.reply.Reply.TheVariants as reply
-use Rattle.async_channel.specs.declared.stage.Line.{Line}
-use Rattle.async_channel.specs.declared.stage.Line.TheVariants.{Sends, Receives, Streams, Closings}
+use Rattle.channel_calls.specs.declared.reply.Reply.TheVariants as reply
+use Rattle.channel_calls.specs.declared.stage.Line.{Line}
+use Rattle.channel_calls.specs.declared.stage.Line.TheVariants.{Sends, Receives, Streams, Closings}
 use Rattle.channel_model.specs.Answer.{Answer, answer, replying, telling, space_of, Found, first, none_yet, none_ever, found, displacing, next_answer, count, dropped, one_more, news_without_one, drop_one, drop_answer, poll_answer, poll_refused_answer, give_up_answer, send_poll_answer, recv_poll_answer, try_send_answer, force_send_answer, try_recv_answer, clone_answer, downgrade_answer, upgrade_answer, close_answer, shut, strong_of}
 use Rattle.channel_model.specs.Channel.{Channel}
 use Rattle.channel_model.specs.Lines.{Waiting, untold, told_by, after_news, gone, passed_on, told_after, is_among, is_stream, without}

@@ -1,5 +1,6 @@
 pub mod Few
 pub mod Opening
+pub mod HeadlineFacts
 pub mod Whole
 pub mod Tasks
 pub mod WordLemmas

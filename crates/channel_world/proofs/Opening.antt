@@ -3,7 +3,7 @@ use Rattle.std.proofs.Common.{◌≡◌, ℕ, List, [], ◌∷◌, map, Option, 
 use Rattle.concurrent_queue.specs.Queue.{Queue}
 use Rattle.concurrent_queue.specs.Step.{Fits}
 use Rattle.concurrent_queue.proofs.Interface.{shows}
-use Rattle.async_channel.specs.Moves.{Channel}
+use Rattle.channel_calls.specs.Moves.{Channel}
 use Rattle.channel_interleaving.specs.Floor.{parts_in, book_of, Shown, IsOpen, IsQuiet}
 use Rattle.channel_interleaving.specs.Run.{Book}
 use Rattle.channel_interleaving.specs.declared.floor.Floor.{Floor}
@@ -35,5 +35,5 @@ module _ {T : Type 0} where
 
   pub opened_is : (f : Floor T) (capacity : Option ℕ) → IsOpen capacity f → IsQuiet f → at_rest f ≡ start capacity
   opened_is f capacity o quiet =
-      at_rest_is f (new_scene capacity) o.shown quiet
+      at_rest_is f (new_scene capacity) o.stands.shown quiet
       ∙ ap (λ (b : Book T). state_at b (new_scene capacity)) o.book

@@ -1,4 +1,6 @@
 pub mod World
+pub mod Sentences
+pub mod Headline
 pub mod Words
 pub mod Command
 pub mod Said

@@ -7,7 +7,7 @@ use Rattle.channel_model.specs.Refusal.{refusal}
 use Rattle.channel_model.specs.Answer.{answer}
 use Rattle.channel_model.specs.Settling.{poll_of}
 use Rattle.channel_model.specs.declared.call.Call.{Call}
-use Rattle.async_channel.specs.declared.reply.Reply.{Reply}
+use Rattle.channel_calls.specs.declared.reply.Reply.{Reply}
 use Rattle.channel_world.specs.Words.{lines_of}
 use Rattle.channel_world.specs.Command.{Command, settle, Opening, bounded, unbounded, parse, openings}
 use Rattle.channel_world.specs.Language.{Language, today}

@@ -2,13 +2,13 @@
 use Rattle.std.specs.Prelude.{ℕ, List, [], ◌∷◌, ◌++◌, length, Bool, true, false, None, Some, Ok, Err, codes}
 use Rattle.std.specs.List.{flat_map, join_by}
 use Rattle.std.specs.Fmt.{decimal}
-use Rattle.async_channel.specs.declared.reply.Reply.{Reply}
-use Rattle.async_channel.specs.declared.reply.Reply.TheVariants as reply
+use Rattle.channel_calls.specs.declared.reply.Reply.{Reply}
+use Rattle.channel_calls.specs.declared.reply.Reply.TheVariants as reply
 use Rattle.channel_world.specs.Table.{Table, waiter_name}
 use Rattle.channel_model.specs.declared.name.Waiter.{Waiter}
-use Rattle.async_channel.specs.declared.error.Refused.TheVariants.{Plain, NoMemory, SerialsUsedUp}
-use Rattle.async_channel.specs.declared.error.TrySendError.TheVariants as send_error
-use Rattle.async_channel.specs.declared.error.TryRecvError.TheVariants as recv_error
+use Rattle.channel_calls.specs.declared.error.Refused.TheVariants.{Plain, NoMemory, SerialsUsedUp}
+use Rattle.channel_calls.specs.declared.error.TrySendError.TheVariants as send_error
+use Rattle.channel_calls.specs.declared.error.TryRecvError.TheVariants as recv_error
 use Rattle.channel_model.specs.declared.refusal.WorldRefusal.{WorldRefusal}
 use Rattle.channel_model.specs.declared.refusal.WorldRefusal.TheVariants as why
 use Rattle.futures.specs.declared.task.Poll.TheVariants.{Ready, Pending}

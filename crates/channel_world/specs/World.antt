@@ -3,7 +3,7 @@ use Rattle.std.specs.Prelude.{ℕ, ◌+◌, List, length}
 use Rattle.concurrent_queue.specs.Dispatch.{capacity_of}
 use Rattle.concurrent_queue.specs.Step.{items_in, closed_in}
 use Rattle.event_listener.specs.Lists.{tasks_of}
-use Rattle.async_channel.specs.Parts.{Parts, Roster}
+use Rattle.channel_calls.specs.Parts.{Parts, Roster}
 use Rattle.channel_model.specs.Channel.{Channel}
 use Rattle.channel_model.specs.Lines.{Waiting}
 use Rattle.channel_model.specs.State.{State}

@@ -1,7 +1,13 @@
 //! A channel whose handles and operations are called by names: one call at a time, with every reply and every waking said
 //! exactly, or any interleaving of the steps of several parties.
 //!
-//! What is said of calls made one at a time stands in `channel_model`, what is said of steps in `channel_interleaving`.
+//! A [`World`] is such a channel. [`World::run_calls`] takes a list of [`Call`]s and gives the [`Reply`] of each with the names
+//! that it woke; [`World::run_steps`] takes a list of [`Step`]s of parties. A call or a step that is refused stays in front of
+//! its list, for a reason that [`WorldRefusal`] names. [`script::run_script`] runs a script over a world, from bytes to bytes.
+//!
+//! What is said of calls made one at a time stands in `channel_model`. What is said of runs of steps is one record, in
+//! `specs/Headline`; each of its sentences is written out in `specs/Sentences`, in the words of `channel_steps` and
+//! `channel_interleaving`.
 #![tactic(auto)]
 
 pub mod call;
@@ -11,3 +17,12 @@ mod run;
 pub mod script;
 pub mod step;
 pub mod world;
+
+pub use call::{Call, CallRun, Done, Reply, Stopped, WorldRefusal};
+pub use channel_calls::error::{
+    OpenError, RecvError, Refused, SendError, TryRecvError, TrySendError,
+};
+pub use channel_calls::mark::Mark;
+pub use name::{Handle, HandleId, HandleKind, OpId, Waiter};
+pub use step::{Entry, PartyId, Run, Step};
+pub use world::World;

@@ -1,7 +1,7 @@
 //! Room for a call, reckoned before it begins.
 use super::call::Call;
 use super::world::World;
-use async_channel::stage::Line;
+use channel_calls::stage::Line;
 
 impl<T: Drop> World<T> {
     ghost use Rattle.std.specs.Prelude.{◌≤◌, IfSome};

@@ -7,7 +7,7 @@ impl<T: Drop> World<T> {
     ghost use Rattle.std.specs.Prelude.{◌≡◌, ◌<◌, IfSome, IfNone, vec_len, vec_capacity};
     ghost use Rattle.std.specs.Option.{option_map};
     ghost use Rattle.channel_model.specs.Run.{Runs, MayStop};
-    ghost use Rattle.channel_interleaving.specs.Floor.{IsQuiet};
+    ghost use Rattle.channel_interleaving.specs.Floor.{IsQuiet, LeadsOn, Stands};
     ghost use Rattle.channel_world.specs.World.{at_rest};
 
     /// Why the list of calls stops at this one, if it does; where it doesn't, there is room for what it answers.
@@ -29,13 +29,17 @@ impl<T: Drop> World<T> {
     /// A refused call stays in front, with nothing of it done; `stopped` says at which place of the list, counted from
     /// 0, and why. The room for a call's answer is taken before it begins, and where that is refused the call is too.
     /// No call is under way when this begins, and none when it ends; however the world came about, by calls or by steps of
-    /// any parties. Nothing here waits. Own to this project.
+    /// any parties. What left the channel, followed by what it holds, is what it held followed by what came, in order, from each
+    /// scene in which the world stood. Nothing here waits. Own to this project.
     pub fn run_calls(&mut self, calls: &mut VecDeque<Call<T>>) -> CallRun<T>
         requires quiet { IsQuiet self.old }
         ensures run { Runs (at_rest self.old) calls.old.items result.done.items (option_map (λ s. s.why) result.stopped) calls.new.items (at_rest self.new) }
         ensures place { IfSome result.stopped (λ s. s.place ≡ vec_len result.done) }
         ensures quiet { IsQuiet self.new }
+        ensures leads { LeadsOn self.old self.new }
+        ensures stands { Stands self.new }
     {
+        self.keeps();
         let mut done = Vec::new(self.alloc());
         while let Some(call) = calls.front() {
             if let Some(why) = self.stop(call, &mut done) {

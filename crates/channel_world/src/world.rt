@@ -1,7 +1,7 @@
 //! A channel, its handles and operations by their names: calls made one at a time, and steps of any interleaving.
 use super::call::{Call, Done, WorldRefusal};
 use super::step::{Run, Step};
-use async_channel::error::OpenError;
+use channel_calls::error::OpenError;
 use channel_interleaving::interleaved::Interleaved;
 use channel_rest::laws::a_call_made_alone_is_the_models;
 use event_listener::id::EventIds;
@@ -36,7 +36,7 @@ impl<T: Drop> World<T> {
     /// An open channel of this capacity, without a message, and nobody at work.
     ///
     /// Memory is taken first, and then four identities together or none. A capacity above 2^58 is want of memory,
-    /// without asking for any. As `async_channel::bounded`, which takes no source of identities.
+    /// without asking for any. As `channel_calls::bounded`, which takes no source of identities.
     pub fn bounded(
         alloc: Global,
         capacity: usize,
@@ -59,7 +59,7 @@ impl<T: Drop> World<T> {
 
     /// An open channel for any number of messages, without a message, and nobody at work.
     ///
-    /// Memory is taken first, and then four identities together or none. As `async_channel::unbounded`, which takes no
+    /// Memory is taken first, and then four identities together or none. As `channel_calls::unbounded`, which takes no
     /// source of identities.
     pub fn unbounded(alloc: Global, ids: &mut EventIds) -> Result<World<T>, OpenError>
         ensures open { IfOk result (λ world. at_rest world ≡ start None) }
@@ -77,46 +77,48 @@ impl<T: Drop> World<T> {
 }
 
 impl<T: Drop> World<T> {
-    ghost use Rattle.std.specs.Prelude.{◌≡◌, length, vec_len};
+    ghost use Rattle.std.specs.Prelude.{◌≡◌, ◌+◌};
     ghost use Rattle.channel_model.specs.declared.name.Waiter.{Waiter};
     ghost use Rattle.channel_steps.specs.Scene.{Scene};
-    ghost use Rattle.channel_steps.specs.Start.{CountsCalls};
-    ghost use Rattle.channel_interleaving.specs.Run.{Stops};
     ghost use Rattle.channel_interleaving.specs.Roll.{is_woken};
     ghost use Rattle.channel_interleaving.specs.Pending.{is_pending, how_many};
-    ghost use Rattle.channel_interleaving.specs.Floor.{book_of, Shown, AreOwned, AreOwed, RanTo, TellsQuiet};
+    ghost use Rattle.channel_interleaving.specs.Runs.{accepted_in, left_in};
+    ghost use Rattle.channel_interleaving.specs.Floor.{calls_in, messages_in, LeadsOn, Stands, StandsIn, TellsQuiet};
+    ghost use Rattle.channel_world.specs.Headline.{Headline};
 
     /// Runs steps of any parties, from the front. The first one that is refused stays in front, with nothing of it done;
     /// `stopped` says at which place of the list, counted from 0, and why.
     ///
-    /// A step is one step of one call; a call that begins touches nothing. Whatever the order of the parties' steps is, and
-    /// wherever the list ends, the steps that were made are a run of the channel's steps, in which each call asked what it
-    /// asks given the names and the listeners held at that moment; each entry's mark, woken names and reply are that run's;
-    /// and the names are what the bookkeeping of these steps makes of them. So each call that answers has the marks that its
-    /// reply names and found what its reply says at a moment of its own, and what left the channel, followed by what it holds,
-    /// is what it held followed by what came, in order.
+    /// A step is one step of one call; a call that begins touches nothing. For every list of steps, from any world, calls under
+    /// way or not, and wherever the list ends: what left the channel, followed by what it holds, is what it held followed by
+    /// what it accepted, in order; each reply is a plain closable list's at moments of its call; and at no moment does a
+    /// pending operation stay unwoken beside a message, free place or closing that no woken operation or call under way answers
+    /// for. `specs/Headline` has this sentence by sentence, each of which `specs/Sentences` writes out.
     ///
-    /// At the moment at which the run ends, each listener on the channel's lists is held by one alone: by an operation or a
-    /// stream that is pending, or by a call under way that has it in hand. What is pending has its listener on its list, where
-    /// it waits to wake that name, unless the name was woken since its last poll.
-    ///
-    /// So nobody who is pending and wasn't woken since its last poll is forgotten there. Beside such a receive there are no
-    /// more messages than woken pending receives and sending and receiving calls under way. Beside such a send, while the
-    /// channel is open, it has a bound, and there are no more free places than woken pending sends and those calls. Beside
-    /// such a stream there is no message, or a sending call is under way. Beside any such one, where the channel is closed,
-    /// the call that closed it is under way.
+    /// The promise is of every scene in which the world stood: a plain channel with the calls under way on it, each with its
+    /// moments and marks so far. Some such scene there always is, and a run or a list of calls that comes after leads on from
+    /// the one to which this one came. The numbers of messages before and after it need none.
     ///
     /// A step is refused for the first of these reasons that there is: the party that begins is at work; the one that steps
     /// isn't; a used name doesn't live; what lives there is of another kind; its operation or its receiver's stream is being
     /// polled; it drops, or polls as a stream, a handle in use; a new name was taken. Else it may be refused for want of
     /// memory; after 2^61 steps and calls it is. Nothing waits. Own to this project.
     pub fn run_steps(&mut self, steps: &mut VecDeque<Step<T>>) -> Run<T>
-        ensures ran { RanTo steps.old.items steps.new.items self.old result.trace.items self.new }
-        ensures stopped { Stops (book_of self.new) steps.new.items (vec_len result.trace) result.stopped }
-        ensures owned { AreOwned self.new }
-        ensures owed { AreOwed self.new }
+        ensures headline { (s : Scene T Waiter) → StandsIn self.old s
+            → Headline steps.old.items steps.new.items self.old result.trace.items result.stopped self.new s }
+        ensures leads { LeadsOn self.old self.new }
+        ensures stands { Stands self.new }
+        ensures messages { messages_in self.new + left_in result.trace.items ≡ messages_in self.old + accepted_in result.trace.items }
     {
+        self.steps.keeps();
         self.steps.run_steps(steps)
+    }
+
+    /// Says that every world stands in a scene, and does nothing. Own to this project.
+    pub fn keeps(&self)
+        ensures { Stands self.now }
+    {
+        self.steps.keeps();
     }
 
     /// Whether no call is under way. Own to this project.
@@ -128,14 +130,14 @@ impl<T: Drop> World<T> {
 
     /// How many calls are under way. Own to this project.
     pub fn under_way(&self) -> usize
-        ensures { CountsCalls self.now.parties.items result }
+        ensures { result ≡ calls_in self.now }
     {
         self.steps.under_way()
     }
 
     /// How many messages the channel holds. Own to this project.
     pub fn messages(&self) -> u64
-        ensures { (s : Scene T Waiter) → Shown self.now s → result ≡ length s.now.queue.items }
+        ensures { result ≡ messages_in self.now }
     {
         self.steps.messages()
     }
@@ -160,7 +162,7 @@ impl<T: Drop> World<T> {
     ghost use Rattle.std.specs.Prelude.{◌≡◌, None, IfOk, IfErr, OnErr};
     ghost use Rattle.channel_model.specs.Refusal.{refusal};
     ghost use Rattle.channel_model.specs.Refused.{Answers};
-    ghost use Rattle.channel_interleaving.specs.Floor.{IsQuiet};
+    ghost use Rattle.channel_interleaving.specs.Floor.{IsQuiet, LeadsOn, Stands};
     ghost use Rattle.channel_world.specs.World.{at_rest};
 
     /// Makes a call that is not refused, alone; or hands it back where its answer got no room, with nothing changed.
@@ -169,6 +171,7 @@ impl<T: Drop> World<T> {
         requires accepted { refusal (at_rest self.old) call ≡ None }
         ensures ok { IfOk result (λ d. Answers (at_rest self.old) call (record { after = at_rest self.new; reply = d.reply; woken = d.woken.items })) }
         ensures quiet { IsQuiet self.new }
+        ensures leads { LeadsOn self.old self.new }
         ensures err { OnErr result (at_rest self.new ≡ at_rest self.old) }
         ensures back { IfErr result (λ c. c ≡ call) }
     {

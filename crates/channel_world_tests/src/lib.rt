@@ -6,6 +6,7 @@
 mod ask;
 #[cfg(test)]
 mod both;
+pub mod clients;
 #[cfg(test)]
 mod memory;
 #[cfg(test)]

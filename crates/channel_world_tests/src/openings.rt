@@ -1,5 +1,5 @@
 //! Channels that are opened from one source of identities.
-use async_channel::error::OpenError;
+use channel_calls::error::OpenError;
 use channel_world::world::World;
 use event_listener::id::EventIds;
 use std::test::Fail;

@@ -1,5 +1,5 @@
 //! Replies, in short.
-use async_channel::error::{Refused, SendError, TryRecvError, TrySendError};
+use channel_calls::error::{Refused, SendError, TryRecvError, TrySendError};
 use channel_world::call::Reply;
 use event_listener::error::ListenError;
 use futures::task::Poll;

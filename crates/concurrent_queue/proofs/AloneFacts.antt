@@ -461,15 +461,15 @@ module _ {T : Type 0} where
         phase = asked a;
         asks = refl;
         room = room;
-        fits = starts c q [] [] fits;
+        fits = (fits.0, starts fits.0 c q [] [] fits.1);
         range = within_by q a used (is_one_slot q.capacity) refl e (room_due a used small room);
         limit = refl;
         so = (refl, λ e. absurd cc);
       }
 
   module _ (m : Held T) (a : QueueAsk T) (c : Contents T) (call : QueueCall T) (x : IsAlone m a c call) (d : Contents T) (next : QueueCall T) where
-    step_of : (r : Option (QueueReply T)) → IsQueueStep c call d next r → Steps c call x.phase d next r x.now [] []
-    step_of r step = step x.now x.phase [] [] (in_range x.now x.phase.ask x.phase.stage x.range) x.fits
+    step_of : (r : Option (QueueReply T)) → IsQueueStep c call d next r → Steps x.fits.0 c call x.phase d next r x.now [] []
+    step_of r step = step x.fits.0 x.now x.phase [] [] (in_range x.now x.phase.ask x.phase.stage x.range) x.fits.1
 
     same_limit : (after x.phase next.mark x.now).capacity ≡ x.start.capacity
     same_limit = same_capacity x.now x.phase next.mark ∙ x.limit
@@ -487,7 +487,7 @@ module _ {T : Type 0} where
           phase = p;
           asks = goes.0 ∙ x.asks;
           room = x.room;
-          fits = h.does.2;
+          fits = (_, h.does.2);
           range = ⊎_elim (λ l. inl (same_capacity x.now x.phase next.mark ∙ l))
               (λ l. inr (let e = due_goes x.now x.phase.ask next.mark x.phase.stage p.stage goes.1 in
               let o : due p.ask p.stage ≡ due x.phase.ask p.stage = ap (λ (b : QueueAsk T). due b p.stage) goes.0 in omega arith)) x.range;
@@ -499,10 +499,10 @@ module _ {T : Type 0} where
     alone_nearer step = (step_of None step).ends (tt, λ e. inr refl)
 
     -- the positions that the last step leaves used up
-    used_then_is : (r : QueueReply T) (h : Steps c call x.phase d next (Some r) x.now [] []) → used_after (capacity_of d.form) m.used r ≡ used_of (after x.phase next.mark x.now).capacity (after x.phase next.mark x.now).accepted
+    used_then_is : (r : QueueReply T) (h : Steps x.fits.0 c call x.phase d next (Some r) x.now [] []) → used_after (capacity_of d.form) m.used r ≡ used_of (after x.phase next.mark x.now).capacity (after x.phase next.mark x.now).accepted
     used_then_is r h =
         let q' : Queue T = after x.phase next.mark x.now in
-        let limit : capacity_of d.form ≡ x.start.capacity = sym (shows d q' [] h.does.1).limit ∙ same_limit in
+        let limit : capacity_of d.form ≡ x.start.capacity = sym (shows d q' [] (_, h.does.1)).limit ∙ same_limit in
         let was : m.used ≡ used_of x.start.capacity x.start.accepted = ap (λ (y : Held T). y.used) x.was in
         let accepted : q'.accepted ≡ (if is_accepted r then x.start.accepted + 1 else x.start.accepted) =
         none_more x.now x.phase.ask next.mark r x.phase.stage h.does.0 ∙ counts x.start x.now x.phase.ask next.mark r x.phase.stage h.does.0 x.so in
@@ -516,7 +516,7 @@ module _ {T : Type 0} where
         let same : used ≡ used_of q'.capacity q'.accepted = e ∙ used_then_is r h in
         let more = none_more x.now x.phase.ask next.mark r x.phase.stage h.does.0 in
         let range : IsInRange q' = ⊎_elim (λ l. inl (same_capacity x.now x.phase next.mark ∙ l)) (λ l. inr (omega arith)) x.range in
-        (q', h.does.1, same, small_by q' used (is_one_slot q'.capacity) refl same range)
+        (q', (_, h.does.1), same, small_by q' used (is_one_slot q'.capacity) refl same range)
 
     pub alone_end : (r : QueueReply T) (used : ℕ) → used ≡ used_after (capacity_of d.form) m.used r → IsQueueStep c call d next (Some r) → Gives a m (held d used) r
     alone_end r used e step =
@@ -529,7 +529,7 @@ module _ {T : Type 0} where
         let g : Gives x.phase.ask (view x.start) (view q') r = ends x.start x.now x.phase.ask next.mark r x.phase.stage room balance h.does.0 x.so in
         let g1 : Gives a (view x.start) (view q') r = subst (λ (b : QueueAsk T). Gives b (view x.start) (view q') r) x.asks g in
         let g2 : Gives a m (view q') r = subst (λ (n : Held T). Gives a n (view q') r) (sym x.was) g1 in
-        subst (λ (n : Held T). Gives a m n r) (sym (held_is d q' used h.does.1 same)) g2
+        subst (λ (n : Held T). Gives a m n r) (sym (held_is d q' used (_, h.does.1) same)) g2
 
   -- a queue that no call is under way on holds no more than its capacity
   pub long_within : (c : Contents T) (used : ℕ) → IsSound c used → (cap : ℕ) → capacity_of c.form ≡ Some cap → length (items_in c) ≤ cap
@@ -541,7 +541,7 @@ module _ {T : Type 0} where
 opened_held : {T : Type 0} (form : QueueForm) (c : Contents T) → IsNew form c → held c 0 ≡ record { items = []; closed = false; capacity = capacity_of form; used = 0 }
 opened_held {T} form c new =
     let by_used : ℕ → Held T = λ n. record { items = []; closed = false; capacity = capacity_of form; used = n } in
-    held_is c (opened (capacity_of form)) 0 new.1 (sym (none_used (capacity_of form))) ∙ ap by_used (none_used (capacity_of form))
+    held_is c (opened (capacity_of form)) 0 ([], new.1) (sym (none_used (capacity_of form))) ∙ ap by_used (none_used (capacity_of form))
 
 pub new_held : {T : Type 0} (c : Contents T) (cap : ℕ) → IsNew (Bounded cap) c → held c 0 ≡ record { items = []; closed = false; capacity = Some cap; used = 0 }
 new_held c cap new = opened_held (Bounded cap) c new
@@ -551,8 +551,8 @@ new_unbounded c new = opened_held Unbounded c new
 
 -- cells that were just made have used up nothing
 pub new_sound : {T : Type 0} (form : QueueForm) (c : Contents T) → IsNew form c → IsSound c 0
-new_sound form c new = (opened (capacity_of form), new.1, sym (none_used (capacity_of form)), omega arith)
+new_sound form c new = (opened (capacity_of form), ([], new.1), sym (none_used (capacity_of form)), omega arith)
 
 -- a bounded queue has 2^58 slots at most
 pub new_most : {T : Type 0} (c : Contents T) (cap : ℕ) → IsNew (Bounded cap) c → cap ≤ 2 ^ 58
-new_most c cap new = most_fits c (opened (Some cap)) [] cap new.0 new.1
+new_most c cap new = most_fits c (opened (Some cap)) [] cap new.0 ([], new.1)

@@ -1,5 +1,5 @@
 -- Every step of an unbounded queue's call keeps what the queue means.
-use Rattle.std.proofs.Common.{◌≡◌, ℕ, ◌-◌, ◌/◌, ◌<◌, ◌≤◌, ⊎_elim, Bool, true, Option, None, Some, refl, sym, ap, ◌∙◌, subst, arith}
+use Rattle.std.proofs.Common.{◌≡◌, ℕ, ◌-◌, ◌/◌, ◌<◌, ◌≤◌, ⊎_elim, true, Option, None, Some, refl, sym, ap, ◌∙◌, subst, arith}
 use Rattle.std.proofs.lemmas.Bool.{cases_lt}
 use Rattle.concurrent_queue.specs.BlocksState.{Blocks, Sound, held, Duty, fill, take, count, retire, link, turn_tail, turn_head, start, keep, owed, with_spot}
 use Rattle.concurrent_queue.specs.BlocksCalls.{Act, push, push_return, push_look, push_make, push_first, push_more, push_swap, push_give, pop, pop_look, pop_tail, pop_swap, pop_next, pop_wait, pop_take, finished, AtTail, TailBlock, AtHead, HeadBlock, Knows, holding, owes}

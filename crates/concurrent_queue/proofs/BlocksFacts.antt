@@ -1,17 +1,17 @@
 -- What the unbounded form delivers: its steps, its new calls, its bound on steps, its start.
-use Rattle.std.proofs.Common.{◌≡◌, ◌^◌, ◌<◌, ◌≤◌, ⊎_elim, Bool, false, List, [], ◌∷◌, ◌++◌, map, Option, None, Some, MatchOption, refl, sym, ap, ◌∙◌, subst, inl, inr, arith}
+use Rattle.std.proofs.Common.{◌≡◌, ℕ, ◌^◌, ◌<◌, ◌≤◌, ⊎_elim, Bool, false, List, [], ◌∷◌, ◌++◌, map, Option, None, Some, MatchOption, refl, sym, ap, ◌∙◌, subst, inl, inr, arith}
 use Rattle.std.proofs.lemmas.List.{map-append}
 use Rattle.concurrent_queue.specs.Contents.{Contents, empty_blocks}
 use Rattle.concurrent_queue.specs.Queue.{Queue, Phase, asked, after, Goes, Answers, IsInRange, opened}
 use Rattle.concurrent_queue.specs.Places.{Place, Each}
-use Rattle.concurrent_queue.specs.Step.{HoldsNobodyUp, AllQuiet, IsQuiet}
+use Rattle.concurrent_queue.specs.Step.{chain_after, HoldsNobodyUp, AllQuiet, IsQuiet}
 use Rattle.concurrent_queue.specs.Forms.{place, place_phases, FormStep, FormSteps, FormStarts, FormRanks}
 use Rattle.concurrent_queue.specs.BlocksState.{Blocks, Sound, Duty, fill, take, count, retire, link, turn_tail, turn_head, start, keep, owed}
 use Rattle.concurrent_queue.specs.BlocksCalls.{Knows, owes}
 use Rattle.concurrent_queue.specs.BlocksMoves.{Stands, BlocksSeat, BlocksMeans, is_force, answer_as}
 use Rattle.concurrent_queue.specs.BlocksLeft as left
 use Rattle.concurrent_queue.specs.BlocksDenotes.{Denotes, act_of, IsProper}
-use Rattle.concurrent_queue.specs.BlocksForm.{seat_of, IsFit, UnboundedMeans}
+use Rattle.concurrent_queue.specs.BlocksForm.{seat_of, IsFit, IsChain, UnboundedMeans}
 use Rattle.concurrent_queue.specs.BlocksWords.{IsUnboundedStep, IsBlocksStep, reply_of, begin, unbounded_rank, blocks_rank}
 use Rattle.concurrent_queue.specs.declared.call.QueueAsk.{QueueAsk}
 use Rattle.concurrent_queue.specs.declared.call.QueueAsk.TheVariants as ask
@@ -26,6 +26,7 @@ use Rattle.concurrent_queue.proofs.BlocksQuiet.{blocks_ends, left_small}
 use Rattle.concurrent_queue.proofs.BlocksStart.{first_blocks, starts_well}
 use Rattle.concurrent_queue.proofs.BlocksStep.{small_step, yields, rank_is}
 use Rattle.concurrent_queue.proofs.BlocksYields.{Yields}
+use Rattle.concurrent_queue.proofs.BlocksChain.{grows, chained_on}
 
 some_none : {A : Type 0} {x : A} → None ≡ Some x → ⊥
 some_none e = absurd cc
@@ -53,19 +54,23 @@ module _ {T : Type 0} where
   in_range : (r : Blocks T) (q : Queue T) → Stands r q → IsInRange q → r.tail ≤ 2 ^ 61
   in_range r q st range = ⊎_elim (λ g. absurd (some_none (sym st.capacity ∙ g))) (λ g. let e = st.accepted in omega arith) range
 
-  module _ (c : Contents T) (a : UnboundedCall T) (d : Contents T) (x : Progress T) (q : Queue T) (p : Phase T) (l r : List (Place (UnboundedCall T) T)) (n : Blocks T) (den : Denotes c n)
+  module _ (chain : List ℕ) (c : Contents T) (a : UnboundedCall T) (d : Contents T) (x : Progress T) (q : Queue T) (p : Phase T) (l r : List (Place (UnboundedCall T) T)) (n : Blocks T) (den : Denotes c n)
       (means : BlocksMeans n q (map seat_of l ++ seat_at (act_of a.action) p ∷ map seat_of r)) (fits : Each IsFit (l ++ r)) (proper : IsProper a.action) (kind : a.displacing ≡ is_force p.ask)
-      (step : IsUnboundedStep c a.action (d, x)) (range : IsInRange q) where
+      (step : IsUnboundedStep c a.action (d, x)) (range : IsInRange q) (of : IsChain chain n) where
     owed_its : (e : Duty) → owes (act_of a.action) e ≤ owed n e
     owed_its e = let i = its_owners n q (map seat_of l) (map seat_of r) (act_of a.action) p means e in omega arith
 
     moved : Yields n a.action (d, x)
     moved = yields c n q.items means.stands.sound den p (in_range n q means.stands range) a.action (d, x) proper (knows n q (map seat_of l) (map seat_of r) (act_of a.action) p means) owed_its step
 
+    -- the chain goes on as the tail's block word says
+    chain_goes_on : IsChain (chain_after chain c d) moved.0
+    chain_goes_on = chained_on chain n c d moved.0 den moved.1 (grows n q.items p means.stands.sound moved.2 (knows n q (map seat_of l) (map seat_of r) (act_of a.action) p means)) of
+
     abbrev Goes-on : Option (Ending T) → Type 0
     Goes-on e = MatchOption (reply_of a.displacing e)
-        ((p' : Phase T) × Goes q p x.mark p' × UnboundedMeans d (after p x.mark q) (l ++ place (record { displacing = a.displacing; action = x.action }) p' ∷ r))
-        (λ y. Answers q p x.mark y × UnboundedMeans d (after p x.mark q) (l ++ r))
+        ((p' : Phase T) × Goes q p x.mark p' × UnboundedMeans (chain_after chain c d) d (after p x.mark q) (l ++ place (record { displacing = a.displacing; action = x.action }) p' ∷ r))
+        (λ y. Answers q p x.mark y × UnboundedMeans (chain_after chain c d) d (after p x.mark q) (l ++ r))
 
     does_it : (e : Option (Ending T)) → Advances moved.0 q p (map seat_of l) (map seat_of r) (act_of x.action) x.mark e → Goes-on e
     does_it None h =
@@ -77,10 +82,11 @@ module _ {T : Type 0} where
             moved.1,
             subst (λ (ps : List (BlocksSeat T)). BlocksMeans moved.0 (after p x.mark q) ps) (sym (seats_with l r new)) h.2,
             each_with IsFit l r new fits (moved.3, kind ∙ sym (ap is_force h.1.0)),
+            chain_goes_on,
           ),
         )
     does_it (Some y) h =
-        (subst (λ (b : Bool). Answers q p x.mark (answer_as b y)) (sym kind) h.0, (moved.0, moved.1, subst (λ (ps : List (BlocksSeat T)). BlocksMeans moved.0 (after p x.mark q) ps) (sym (seats_without l r)) h.1, fits))
+        (subst (λ (b : Bool). Answers q p x.mark (answer_as b y)) (sym kind) h.0, (moved.0, moved.1, subst (λ (ps : List (BlocksSeat T)). BlocksMeans moved.0 (after p x.mark q) ps) (sym (seats_without l r)) h.1, fits, chain_goes_on))
 
     does_all : Goes-on x.ending
     does_all = does_it x.ending (blocks_advances n q (map seat_of l) (map seat_of r) (act_of a.action) p means moved.2)
@@ -105,23 +111,23 @@ module _ {T : Type 0} where
         (⊎_elim (λ g. inl (let e = means.stands.removed in omega arith)) (λ g. inr (sym (seats_without l r) ∙ none_left (l ++ r) g)) (quiet.1 means.stands.capacity))
         moved.2))
 
-  mine_of : (c : Contents T) (q : Queue T) (l r : List (Place (UnboundedCall T) T)) (a : UnboundedCall T) (p : Phase T) (m : UnboundedMeans c q (l ++ place a p ∷ r))
+  mine_of : (chain : List ℕ) (c : Contents T) (q : Queue T) (l r : List (Place (UnboundedCall T) T)) (a : UnboundedCall T) (p : Phase T) (m : UnboundedMeans chain c q (l ++ place a p ∷ r))
       → BlocksMeans m.0 q (map seat_of l ++ seat_at (act_of a.action) p ∷ map seat_of r)
-  mine_of c q l r a p m = subst (λ (ps : List (BlocksSeat T)). BlocksMeans m.0 q ps) (seats_with l r (place a p)) m.2
+  mine_of chain c q l r a p m = subst (λ (ps : List (BlocksSeat T)). BlocksMeans m.0 q ps) (seats_with l r (place a p)) m.2
 
   -- each step of the machine is one of the contract
   pub blocks_steps : FormSteps {A = UnboundedCall T} {T = T} UnboundedMeans blocks_rank IsBlocksStep
-  blocks_steps c a d s q p l r made range m =
+  blocks_steps chain c a d s q p l r made range m =
       let fit = each_at IsFit l r (place a p) m.3 in
       let others = each_others IsFit l r (place a p) m.3 in
       let x = made.0 in
-      let means = mine_of c q l r a p m in
+      let means = mine_of chain c q l r a p m in
       let small = small_step c a.action (d, x) made.1 in
-      subst (λ (z : Stepped (UnboundedCall T) T). FormStep UnboundedMeans blocks_rank c a p d z q l r) (sym made.2) (record {
+      subst (λ (z : Stepped (UnboundedCall T) T). FormStep (UnboundedMeans (chain_after chain c d)) blocks_rank c a p d z q l r) (sym made.2) (record {
         same_form = small.1;
         one_cell = small.0;
-        does = does_all c a d x q p l r m.0 m.1 means others fit.0 fit.1 made.1 range;
-        ends = ends_all c a d x q p l r m.0 m.1 means others fit.0 fit.1 made.1 range;
+        does = does_all chain c a d x q p l r m.0 m.1 means others fit.0 fit.1 made.1 range m.4;
+        ends = ends_all chain c a d x q p l r m.0 m.1 means others fit.0 fit.1 made.1 range m.4;
       })
 
   holding_none : (v : T) (e : Duty) → owes (act_of (act.Push v None)) e ≡ 0
@@ -169,8 +175,8 @@ module _ {T : Type 0} where
   new_fits ask.Len = (tt, refl)
   new_fits ask.Capacity = (tt, refl)
 
-  pub blocks_starts : FormStarts {A = UnboundedCall T} {T = T} UnboundedMeans blocks_rank begin
-  blocks_starts c q a l r m =
+  pub blocks_starts : (chain : List ℕ) → FormStarts {A = UnboundedCall T} {T = T} (UnboundedMeans chain) blocks_rank begin
+  blocks_starts chain c q a l r m =
       let new : Place (UnboundedCall T) T = place (begin a) (asked a) in
       let old : BlocksMeans m.0 q (map seat_of l ++ map seat_of r) = subst (λ (ps : List (BlocksSeat T)). BlocksMeans m.0 q ps) (seats_without l r) m.2 in (
         m.0,
@@ -181,16 +187,17 @@ module _ {T : Type 0} where
           seats = Each-with (λ (s : BlocksSeat T). Knows m.0 s.act s.phase) (map seat_of l) (map seat_of r) (seat_of new) (new_knows m.0 a) old.seats;
         }),
         each_with IsFit l r new m.3 (new_fits a),
+        m.4,
       )
 
-  pub blocks_ranks : FormRanks {A = UnboundedCall T} {T = T} UnboundedMeans blocks_rank
-  blocks_ranks c q a p l r m =
+  pub blocks_ranks : (chain : List ℕ) → FormRanks {A = UnboundedCall T} {T = T} (UnboundedMeans chain) blocks_rank
+  blocks_ranks chain c q a p l r m =
       let fit = each_at IsFit l r (place a p) m.3 in
       let w = rank_is c m.0 q.items m.2.stands.sound m.1 a.action fit.0 in
       let z = left_small m.0 (act_of a.action) in omega arith
 
 -- a queue that was just made
-pub blocks_opened : (T : Type 0) → UnboundedMeans {T = T} empty_blocks (opened None) []
+pub blocks_opened : (T : Type 0) → UnboundedMeans {T = T} [] empty_blocks (opened None) []
 blocks_opened T = (
   first_blocks,
   record {
@@ -207,4 +214,5 @@ blocks_opened T = (
   },
   starts_well,
   tt,
+  (refl, λ k h. absurd (omega arith)),
 )

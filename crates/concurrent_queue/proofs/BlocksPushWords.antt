@@ -67,12 +67,12 @@ module _ {T : Type 0} (c : Contents T) (r : Blocks T) (queue : List T) (s : Soun
   pub at-push_make : (v : T) (t : ℕ) (x : Step T) → IsTailAt t → Obtains c v (λ h. act.PushFirst v t h) x → Yields r (act.PushMake v t) x
   at-push_make v t x w o = ⊎_elim
       (λ g. (let y = retire.spare_words c r queue s d g.1 in subst (λ (z : Step T). Yields r (act.PushMake v t) z) (sym g.0) (with_spot r (spare_of c) held, y.0, makes refl y.1, w)))
-      (λ g. subst (λ (z : Step T). Yields r (act.PushMake v t) z) (sym g) (r, d, refused refl, tt)) o
+      (λ g. subst (λ (z : Step T). Yields r (act.PushMake v t) z) (sym g.1) (r, d, refused refl, tt)) o
 
   pub at-push_more : (v : T) (t b : ℕ) (x : Step T) → IsTailAt t → Obtains c v (λ h. act.PushSwap v t b (Some h)) x → Yields r (act.PushMore v t b) x
   at-push_more v t b x w o = ⊎_elim
       (λ g. (let y = retire.spare_words c r queue s d g.1 in subst (λ (z : Step T). Yields r (act.PushMore v t b) z) (sym g.0) (with_spot r (spare_of c) held, y.0, makes_more refl y.1, (w, λ e q. some_none q))))
-      (λ g. subst (λ (z : Step T). Yields r (act.PushMore v t b) z) (sym g) (r, d, refused_more refl, tt)) o
+      (λ g. subst (λ (z : Step T). Yields r (act.PushMore v t b) z) (sym g.1) (r, d, refused_more refl, tt)) o
 
   none_yet : r.last ≡ 0 → r.tail ≡ 0
   none_yet z = by_bool r.tail_turns (λ o. ⊎_elim (λ g. absurd (omega (arith, g))) (λ g. g.1) (s.last o)) (λ o. absurd (let p = (s.paged o).0 in omega arith))

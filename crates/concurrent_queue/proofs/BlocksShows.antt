@@ -1,20 +1,20 @@
 -- What the cells and the calls of an unbounded queue show of it: its length and its flag by the words, and each message
 -- in a slot of its own or still with the call that brought it.
-use Rattle.std.proofs.Common.{◌≡◌, ℕ, zero, suc, ◌+◌, ◌-◌, ◌*◌, ◌/◌, ◌%◌, ◌<◌, ◌≤◌, ⊎_elim, Bool, true, false, if◌then◌else◌, ◌==◌, ◌&&◌, not, nat_lt, List, [], ◌∷◌, ◌++◌, length, drop, map, Option, None, Some, option_to_list, slice_get, refl, sym, ap, ◌∙◌, subst, inl, inr, arith}
+use Rattle.std.proofs.Common.{◌≡◌, ℕ, zero, suc, ◌+◌, ◌-◌, ◌*◌, ◌/◌, ◌%◌, ◌<◌, ◌≤◌, ⊎_elim, Bool, true, false, if◌then◌else◌, ◌==◌, ◌&&◌, not, nat_lt, List, [], ◌∷◌, ◌++◌, length, drop, map, Option, None, Some, option_to_list, slice_get, slice_index_or, refl, sym, ap, ◌∙◌, subst, inl, inr, arith}
 use Rattle.std.proofs.lemmas.Bool.{cases_lt, false≢true}
 use Rattle.std.proofs.lemmas.Bool.Decides.{nat_tests}
 use Rattle.concurrent_queue.specs.Contents.{Contents, block_at, slot_at}
 use Rattle.concurrent_queue.specs.Queue.{Queue, Phase, appended, message}
 use Rattle.concurrent_queue.specs.Places.{Place, Each}
-use Rattle.concurrent_queue.specs.Step.{ShowsBy, Lies, IsBrought, HasBrought}
+use Rattle.concurrent_queue.specs.Step.{ShowsBy, LiesBy, IsBrought, HasBrought}
 use Rattle.concurrent_queue.specs.Forms.{place_phases}
 use Rattle.concurrent_queue.specs.BlocksState.{Blocks, one_if, Duty, fill, link, turn_head, start, owed, position}
 use Rattle.concurrent_queue.specs.BlocksCalls as call
 use Rattle.concurrent_queue.specs.BlocksCalls.{Act, Knows, IsSend, Fills, same, owes}
 use Rattle.concurrent_queue.specs.BlocksMoves.{Stands, BlocksSeat, BlocksMeans, owners}
 use Rattle.concurrent_queue.specs.BlocksDenotes.{Denotes, act_of}
-use Rattle.concurrent_queue.specs.BlocksForm.{seat_of, UnboundedMeans}
-use Rattle.concurrent_queue.specs.BlocksWords.{blocks_closed, blocks_length, blocks_counted, blocks_items, chain_items}
+use Rattle.concurrent_queue.specs.BlocksForm.{seat_of, IsChain, UnboundedMeans}
+use Rattle.concurrent_queue.specs.BlocksWords.{blocks_closed, blocks_length, blocks_counted, blocks_slot, blocks_items, chain_items}
 use Rattle.concurrent_queue.specs.declared.call.QueueAsk.TheVariants as ask
 use Rattle.concurrent_queue.specs.declared.cells.Slot.{Slot}
 use Rattle.concurrent_queue.specs.declared.cells.Slot.TheVariants as slot
@@ -173,29 +173,35 @@ module _ {T : Type 0} (c : Contents T) (q : Queue T) (ps : List (Place (Unbounde
   below (x ∷ xs) zero v e = omega arith
   below (x ∷ xs) (suc i) v e = omega (arith, below xs i v e)
 
-  abbrev lies_at : ℕ → Slot
-  lies_at i = slot.In (r.num ((r.head + i) / 31)) ((r.head + i) % 31)
+  module _ (chain : List ℕ) (of : IsChain chain r) where
+    -- the words name the slot of an item that is still in the list
+    slot_is : (i : ℕ) → r.head + i < r.tail → blocks_slot chain c i ≡ slot.In (r.num ((r.head + i) / 31)) ((r.head + i) % 31)
+    slot_is i h =
+        let n : ℕ = r.head + i in
+        let head = words_of.head_number_is c r q.items st.sound d in
+        let b : slice_index_or chain (n / 31) 0 ≡ r.num (n / 31) = index_or_get chain (n / 31) (r.num (n / 31)) 0 (of.1 (n / 31) (in_chain n h)) in
+        ap (λ (m : ℕ). slot.In (slice_index_or chain ((m + i) / 31) 0) ((m + i) % 31)) head ∙ ap (λ (m : ℕ). slot.In m (n % 31)) b
 
-  pub lies : Lies c q.items (IsBrought (place_phases ps))
-  lies = record {
-    place = lies_at;
-    apart = λ i j h g e.
-        (let n = counts in
-        let b : r.num ((r.head + i) / 31) ≡ r.num ((r.head + j) / 31) = ap slot_block e in
-        let o : (r.head + i) % 31 ≡ (r.head + j) % 31 = ap slot_offset e in
-        let x = st.sound.live ((r.head + i) / 31) (in_chain (r.head + i) (omega arith)) (alive (r.head + i) (omega arith)) in
-        let y = st.sound.live ((r.head + j) / 31) (in_chain (r.head + j) (omega arith)) (alive (r.head + j) (omega arith)) in
-        let k : (r.head + i) / 31 ≡ (r.head + j) / 31 = used_same ((r.head + i) / 31) ((r.head + j) / 31) (sym x ∙ (ap r.spot b ∙ y)) in
-        omega arith);
-    there = λ i v e.
-        (let n = counts in
-        let l = below q.items i v e in
-        let is = item_there i v e in
-        by_bool (r.cell (r.head + i)).written
-        (λ f. inr (brought r (r.head + i) v is ps (let o = means.owners (fill (r.head + i)) in
-        let one : owed r (fill (r.head + i)) ≡ 1 = one_of (nat_lt (r.head + i) r.tail) (r.cell (r.head + i)).written (lt_is (r.head + i) r.tail (omega arith)) f in omega arith) means.seats))
-        (λ f. inl (written_slot (r.head + i) v (omega arith) (omega arith) is f)));
-  }
+    pub lies : LiesBy (blocks_slot chain c) c q.items (IsBrought (place_phases ps))
+    lies = record {
+      apart = λ i j h g f.
+          (let n = counts in
+          let e : slot.In (r.num ((r.head + i) / 31)) ((r.head + i) % 31) ≡ slot.In (r.num ((r.head + j) / 31)) ((r.head + j) % 31) = sym (slot_is i (omega arith)) ∙ (f ∙ slot_is j (omega arith)) in
+          let b : r.num ((r.head + i) / 31) ≡ r.num ((r.head + j) / 31) = ap slot_block e in
+          let o : (r.head + i) % 31 ≡ (r.head + j) % 31 = ap slot_offset e in
+          let x = st.sound.live ((r.head + i) / 31) (in_chain (r.head + i) (omega arith)) (alive (r.head + i) (omega arith)) in
+          let y = st.sound.live ((r.head + j) / 31) (in_chain (r.head + j) (omega arith)) (alive (r.head + j) (omega arith)) in
+          let k : (r.head + i) / 31 ≡ (r.head + j) / 31 = used_same ((r.head + i) / 31) ((r.head + j) / 31) (sym x ∙ (ap r.spot b ∙ y)) in
+          omega arith);
+      there = λ i v e.
+          (let n = counts in
+          let l = below q.items i v e in
+          let is = item_there i v e in
+          by_bool (r.cell (r.head + i)).written
+          (λ f. inr (brought r (r.head + i) v is ps (let o = means.owners (fill (r.head + i)) in
+          let one : owed r (fill (r.head + i)) ≡ 1 = one_of (nat_lt (r.head + i) r.tail) (r.cell (r.head + i)).written (lt_is (r.head + i) r.tail (omega arith)) f in omega arith) means.seats))
+          (λ f. inl (ap (slot_at c) (slot_is i (omega arith)) ∙ written_slot (r.head + i) v (omega arith) (omega arith) is f)));
+    }
 
   -- ---- at rest
 
@@ -278,10 +284,13 @@ module _ {T : Type 0} (c : Contents T) (q : Queue T) (ps : List (Place (Unbounde
         within = λ cap e. absurd (none_some (sym st.capacity ∙ e));
         balance = let a = st.accepted in let b = st.removed in omega arith;
         numbered = inr ((λ e. none_some (sym st.capacity ∙ e)), n ∙ sym st.accepted);
-        lies = lies;
         at_rest = λ e. (rests (none_left ps e), st.coming);
       }
 
-pub unbounded_shows : {T : Type 0} (c : Contents T) (q : Queue T) (ps : List (Place (UnboundedCall T) T)) → UnboundedMeans c q ps
+pub unbounded_shows : {T : Type 0} (chain : List ℕ) (c : Contents T) (q : Queue T) (ps : List (Place (UnboundedCall T) T)) → UnboundedMeans chain c q ps
     → ShowsBy None (blocks_closed c) (blocks_length c) (blocks_counted c) (blocks_items c) c q (place_phases ps)
-unbounded_shows c q ps m = blocks_show c q ps m.0 m.1 m.2
+unbounded_shows chain c q ps m = blocks_show c q ps m.0 m.1 m.2
+
+pub unbounded_lies : {T : Type 0} (chain : List ℕ) (c : Contents T) (q : Queue T) (ps : List (Place (UnboundedCall T) T)) → UnboundedMeans chain c q ps
+    → LiesBy (blocks_slot chain c) c q.items (IsBrought (place_phases ps))
+unbounded_lies chain c q ps m = lies c q ps m.0 m.1 m.2 chain m.4

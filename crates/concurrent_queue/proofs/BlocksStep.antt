@@ -63,7 +63,7 @@ module _ {T : Type 0} where
   Small c x = IsSmall c x.0
 
   obtains_small : (c : Contents T) (v : T) (next : ℕ → UnboundedAction T) (x : Step T) → Obtains c v next x → Small c x
-  obtains_small c v next x o = ⊎_elim (λ g. subst (Small c) (sym g.0) (one_spare c)) (λ g. subst (Small c) (sym g) (same_cells c)) o
+  obtains_small c v next x o = ⊎_elim (λ g. subst (Small c) (sym g.0) (one_spare c)) (λ g. subst (Small c) (sym g.1) (same_cells c)) o
 
   pub small_step : (c : Contents T) (a : UnboundedAction T) (x : Step T) → IsUnboundedStep c a x → Small c x
   small_step c (act.Push v h) x e = subst (Small c) (sym e) (same_cells c)

@@ -134,10 +134,10 @@ module _ {T : Type 0} where
   room_made (x ∷ []) d h = rw h.0 refl
   room_made (x ∷ y ∷ ds) d h = absurd h
 
-  displaced_now : (ds : List (Deed T)) (d : T) (e : Deed T) → MadeRoom ds d → e.mark ≡ Append → Displaced (ds ++ e ∷ []) d
-  displaced_now [] d e h m = absurd h
-  displaced_now (x ∷ []) d e h m = (h, m)
-  displaced_now (x ∷ y ∷ ds) d e h m = absurd h
+  displaced_now : (ds : List (Deed T)) (d : T) (e : Deed T) → MadeRoom ds d → e.mark ≡ Append → is_filled e.before ≡ false → Displaced (ds ++ e ∷ []) d
+  displaced_now [] d e h m f = absurd h
+  displaced_now (x ∷ []) d e h m f = (h, m, f)
+  displaced_now (x ∷ y ∷ ds) d e h m f = absurd h
 
   module _ (q : Queue T) (seen : List (Queue T)) where
     goes_push : (v : T) (m : QueueMark) (s t : Stage T) (ds : List (Deed T)) → GoesPush q m s t → Evidence q (ask.Push v) s ds seen → Gone q (ask.Push v) m s t ds seen
@@ -164,16 +164,16 @@ module _ {T : Type 0} where
         at_stage q _ _ _ t _ ds seen g.2
         (record {
           same = ap (λ (b : Bool). marked (ask.ForcePush v) b Append q) (sym (room_made ds d ev));
-          begun = inr (inr (inr (inr (d, displaced_now ds d _ ev refl))));
-          evidence = inr (displaced_now ds d _ ev refl);
+          begun = inr (inr (inr (inr (d, displaced_now ds d _ ev refl g.1))));
+          evidence = inr (displaced_now ds d _ ev refl g.1);
         })
     goes_force v Replace (trying b) t ds g ev =
         at_stage q _ _ _ t _ ds seen g.5 (at_deeds q _ _ _ _ ds seen ev.0
-        (record { same = refl; begun = inr (inr (inl (g.0, (refl, g.2, g.3, g.1)))); evidence = inl (refl, g.2, g.3, g.1) }))
+        (record { same = refl; begun = inr (inr (inl (g.0, (refl, g.2, g.3, g.1, g.4)))); evidence = inl (refl, g.2, g.3, g.1, g.4) }))
     goes_force v TakeDisplaced (trying b) t ds g ev =
         let once = open_once q.capacity (q ∷ seen) (refusal_seen b q seen ev.1 g.2) in
         at_stage q _ _ _ t _ ds seen g.5 (at_deeds q _ _ _ _ ds seen ev.0
-        (record { same = refl; begun = inr (inr (inr (inl (g.0, (refl, g.3, g.4, g.1, once))))); evidence = (refl, g.3, g.4, g.1, once) }))
+        (record { same = refl; begun = inr (inr (inr (inl (g.0, (refl, g.3, g.4, g.1, once, g.6))))); evidence = (refl, g.3, g.4, g.1, once, g.6) }))
     goes_force v m s t ds g ev = absurd g
 
     goes_pop : (m : QueueMark) (s t : Stage T) (ds : List (Deed T)) → GoesPop q m s t → Evidence q ask.Pop s ds seen → Gone q ask.Pop m s t ds seen

@@ -39,6 +39,7 @@ pub mod RingTheorem
 pub mod RingOneCell
 pub mod RingShows
 mod BlocksStep
+mod BlocksChain
 mod BlocksFacts
 mod BlocksShows
 pub mod Slots
@@ -46,6 +47,8 @@ pub mod Evidence
 pub mod Runs
 mod Accounts
 mod Lone
+mod Bounds
+mod Whole
 pub mod PartyFacts
 pub mod RingMade
 pub mod AloneFacts

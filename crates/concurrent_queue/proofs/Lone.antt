@@ -173,7 +173,7 @@ module _ {T : Type 0} where
   more_removed a b Replace q h = omega arith
   more_removed a b Close q h = h
 
-  same_limit : (a : QueueAsk T) (b : Bool) (k : QueueMark) (q : Queue T) → (marked a b k q).capacity ≡ q.capacity
+  pub same_limit : (a : QueueAsk T) (b : Bool) (k : QueueMark) (q : Queue T) → (marked a b k q).capacity ≡ q.capacity
   same_limit a b Nothing q = refl
   same_limit a b Append q = refl
   same_limit a b Take q = refl

@@ -147,6 +147,9 @@ module _ {T : Type 0} (cap : ℕ) (two : 2 ≤ cap) (r : Ring T) (q : Queue T) (
 
   -- ---- a displacing push
 
+  more_than_one : q.capacity ≡ Some 1 → ⊥
+  more_than_one e = let f : Some cap ≡ Some 1 = sym w.capacity ∙ e in let g : cap ≡ 1 = cc in omega arith
+
   pub force_wins : (v : T) (seen : Bool) (c : ℕ) → r.head ≡ c → Saw cap r (c + cap) seen → Reached cap r c
       → Kept cap r q (act.ForceHead v c) (at_stage (ask.ForcePush v) (trying seen)) (record r { head = r.head + 1; coming = true }) (act.ForceAdd v c) mark.TakeDisplaced None
   force_wins v seen c t saw reached =
@@ -156,7 +159,7 @@ module _ {T : Type 0} (cap : ℕ) (two : 2 ≤ cap) (r : Ring T) (q : Queue T) (
       (rw calm refl)
       (λ d won old. (
         at_stage (ask.ForcePush v) (displaced d),
-        (refl, (d, old, kind.seen_stays cap some r q s w seen (saw_true c seen saw t), kind.filled cap some r q s w (omega arith), w.coming ∙ calm, refl)),
+        (refl, (d, old, kind.seen_stays cap some r q s w seen (saw_true c seen saw t), kind.filled cap some r q s w (omega arith), w.coming ∙ calm, refl, more_than_one)),
         (d, refl, (won.0, won.1, won.3), omega arith, full, refl),
       ))
 

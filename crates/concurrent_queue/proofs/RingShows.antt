@@ -7,14 +7,14 @@ use Rattle.concurrent_queue.specs.Contents.{Contents, slot_at}
 use Rattle.concurrent_queue.specs.Positions.{pos}
 use Rattle.concurrent_queue.specs.Queue.{appended, Phase, message}
 use Rattle.concurrent_queue.specs.Places.{Place, Each, sum}
-use Rattle.concurrent_queue.specs.Step.{HasBrought, IsBrought}
-use Rattle.concurrent_queue.specs.Forms.{place_phases, FormShows}
+use Rattle.concurrent_queue.specs.Step.{HasBrought, IsBrought, LiesBy}
+use Rattle.concurrent_queue.specs.Forms.{place_phases, FormShows, FormLies}
 use Rattle.concurrent_queue.specs.RingState.{SlotState, Ring, Sound, busy, reach}
 use Rattle.concurrent_queue.specs.RingCalls.{Duty, hold, bring, IsDuty, ask_of, at_stage, owes, owed, Knows}
 use Rattle.concurrent_queue.specs.RingMeans.{Denotes, RingMeans}
 use Rattle.concurrent_queue.specs.RingRank.{ring_rank}
 use Rattle.concurrent_queue.specs.RingWords.{is_marked, unmarked}
-use Rattle.concurrent_queue.specs.RingReadings.{number_of, ring_closed, ring_counted, ring_length, held_from, ring_held}
+use Rattle.concurrent_queue.specs.RingReadings.{number_of, ring_closed, ring_counted, ring_length, ring_slot, held_from, ring_held}
 use Rattle.concurrent_queue.proofs.RingShape.{IsMark}
 use Rattle.concurrent_queue.proofs.RingPlaces.{near_same, turn-index, pos-div}
 use Rattle.concurrent_queue.proofs.RingSound.{by_bool}
@@ -222,20 +222,6 @@ ring_shows {T} cap m two k c q places means =
       within = λ y e. (let f : Some cap ≡ Some y = sym w.capacity ∙ e in let g : cap ≡ y = cc in omega arith);
       balance = (let a = w.accepted in let b = w.removed in omega arith);
       numbered = inr ((λ e. absurd (let f : Some cap ≡ Some 1 = sym w.capacity ∙ e in let g : cap ≡ 1 = cc in omega arith)), tail ∙ sym w.accepted);
-      lies = record {
-        place = λ i. At ((r.head + i) % cap);
-        apart = λ i j h g e. (
-            let f : (r.head + i) % cap ≡ (r.head + j) % cap = cc in
-            ⊎_elim
-            (λ (x : i < j). absurd (let z = near_same cap (r.head + j) (r.head + i) (sym f) (omega arith) (omega arith) in omega arith))
-            (λ (x : j ≤ i). let z = near_same cap (r.head + i) (r.head + j) f (omega arith) (omega arith) in omega arith) (cases_lt i j));
-        there = λ i v e. (
-            let below = get_inside q.items i v e in
-            let it : slice_get r.all (r.head + i) ≡ Some v = sym (get_drop r.all r.head i) ∙ ap (λ (xs : List T). slice_get xs i) (sym w.items) ∙ e in
-            let n : ℕ = r.head + i in
-            let h = lies_there cap some r s n v (omega arith) (omega arith) it means.calls (means.owners (hold (n % cap)) (mod_below n cap some)) means.knows in
-            ⊎_elim (λ g. inl (slot_is cap m some k c r d s n ∙ g)) (λ g. inr (subst (λ (ps : List (Phase T)). IsBrought ps v) (sym phases) g)) h);
-      };
       at_rest = λ e. (
           let none : means.calls ≡ [] = no_calls means.calls (sym phases ∙ e) in
           let idle : (y : Duty) → IsDuty cap y → owed r y ≡ 0 = λ y i. sym (means.owners y i) ∙ ap (λ (xs : List (Place (RingAction T) T)). sum (λ a. owes cap a y) xs) none in
@@ -248,3 +234,29 @@ ring_shows {T} cap m two k c q places means =
     not_owed : (b : Bool) → ◌≡◌ {A = ℕ} (if b then 1 else 0) 0 → b ≡ false
     not_owed false e = refl
     not_owed true e = absurd (omega arith)
+
+pub ring_lies : {T : Type 0} (cap m : ℕ) → 2 ≤ cap → IsMark cap m → FormLies {A = RingAction T} {T = T} (RingMeans cap m) (ring_rank m) (ring_slot cap m)
+ring_lies {T} cap m two k c q places means =
+    let some : 0 < cap = omega arith in
+    let r = means.ring in
+    let s = means.sound in
+    let w = means.shown in
+    let d = means.denotes in
+    let l = length_is cap some r q s w in
+    let o = s.order in
+    let room = s.room in
+    let head = head_is cap m some k c r d s in
+    let phases : place_phases places ≡ place_phases means.calls = ap place_phases means.positions ∙ same_phases (pos cap (2 * m)) means.calls in
+    subst (λ (h : ℕ). LiesBy (λ i. At ((h + i) % cap)) c q.items (IsBrought (place_phases places))) (sym head) (record {
+      apart = λ i j h g e. (
+          let f : (r.head + i) % cap ≡ (r.head + j) % cap = cc in
+          ⊎_elim
+          (λ (x : i < j). absurd (let z = near_same cap (r.head + j) (r.head + i) (sym f) (omega arith) (omega arith) in omega arith))
+          (λ (x : j ≤ i). let z = near_same cap (r.head + i) (r.head + j) f (omega arith) (omega arith) in omega arith) (cases_lt i j));
+      there = λ i v e. (
+          let below = get_inside q.items i v e in
+          let it : slice_get r.all (r.head + i) ≡ Some v = sym (get_drop r.all r.head i) ∙ ap (λ (xs : List T). slice_get xs i) (sym w.items) ∙ e in
+          let n : ℕ = r.head + i in
+          let h = lies_there cap some r s n v (omega arith) (omega arith) it means.calls (means.owners (hold (n % cap)) (mod_below n cap some)) means.knows in
+          ⊎_elim (λ g. inl (slot_is cap m some k c r d s n ∙ g)) (λ g. inr (subst (λ (ps : List (Phase T)). IsBrought ps v) (sym phases) g)) h);
+    })

@@ -276,8 +276,8 @@ module _ {T : Type 0} (cap m : ℕ) (two : 2 ≤ cap) (limit : cap ≤ 2 ^ 58) (
       (λ e. absurd (let f : Some cap ≡ Some 1 = sym w.capacity ∙ e in let g : cap ≡ 1 = cc in omega arith))
       (λ h. let a = w.accepted in omega arith) range
 
-  pub ring_form_steps : FormSteps Means (ring_rank m) IsMachineStep
-  ring_form_steps c a d s q p l r made range means =
+  pub ring_form_steps : FormSteps (λ chain c q xs. Means c q xs) (ring_rank m) IsMachineStep
+  ring_form_steps chain c a d s q p l r made range means =
       let g = cut_at (place_at (pos cap (2 * m))) l r (place a p) means.calls means.positions in
       let b = g.mine.action in
       let o = g.mine.phase in

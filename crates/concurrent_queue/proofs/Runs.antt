@@ -7,10 +7,10 @@ use Rattle.concurrent_queue.specs.Queue.{Queue, Phase, asked, after, marked, is_
 use Rattle.concurrent_queue.specs.Places.{Each}
 use Rattle.concurrent_queue.specs.Rows.{Deed}
 use Rattle.concurrent_queue.specs.Scene.{Under, sees, does, with_deed, makes_room, AllIdle, HoldNobodyUp, GoesOnAs, unless_ended, NotUnderWay, IsUnderWay, IsBroughtBy, Reads, new_scene}
-use Rattle.concurrent_queue.specs.Step.{Seat, seat, Fits, Steps, IsQueueStep, phases, AllQuiet, HoldsNobodyUp, IsBrought, OneCell, rank, mark_of}
+use Rattle.concurrent_queue.specs.Step.{Seat, seat, chain_after, Fits, FitsAt, Steps, IsQueueStep, phases, AllQuiet, HoldsNobodyUp, IsBrought, OneCell, rank, mark_of}
 use Rattle.concurrent_queue.specs.Parties.{party, HasParty, NoneHas, Turns, parties_after, TurnedOver, IsRefused}
 use Rattle.concurrent_queue.specs.Run.{Config, Next, IsRun, accepted_in, one_if_accepted, IsCounted, MayRefuse, opened_config, RanTo}
-use Rattle.concurrent_queue.specs.Made.{IsNew}
+use Rattle.concurrent_queue.specs.Made.{IsNew, new_cells}
 use Rattle.concurrent_queue.specs.declared.call.QueueAsk.{QueueAsk}
 use Rattle.concurrent_queue.specs.declared.call.QueueAsk.TheVariants as ask
 use Rattle.concurrent_queue.specs.declared.call.QueueEntry.{QueueEntry}
@@ -26,7 +26,7 @@ use Rattle.concurrent_queue.specs.declared.run.QueueRefusal.{QueueRefusal}
 use Rattle.concurrent_queue.specs.declared.run.QueueRefusal.TheVariants.{Busy, Idle, NoMemory}
 use Rattle.concurrent_queue.proofs.Balance.{IsBalanced, IsFair, fair_goes, fair_answers, same_capacity}
 use Rattle.concurrent_queue.proofs.Evidence.{Evidence, goes_known, answers_known, answers_same, evidence_keeps, quiet_of, brought_of}
-use Rattle.concurrent_queue.proofs.FitsFacts.{shows, ranks}
+use Rattle.concurrent_queue.proofs.FitsFacts.{shows, lies, ranks}
 
 -- a party with its call, and what is known of the call beside its cells
 pub record Sitting (T : Type 0) : Type 0 where
@@ -96,8 +96,8 @@ module _ {T : Type 0} where
   abbrev pub IsWithin : Contents T → Sitting T → Type 0
   IsWithin c x = rank c x.party.call ≤ x.left
 
-  abbrev pub at : Contents T → Queue T → List (Sitting T) → Config T
-  at c now xs = record { cells = c; scene = record { now = now; under_way = map under_of xs } }
+  abbrev pub at : List ℕ → Contents T → Queue T → List (Sitting T) → Config T
+  at chain c now xs = record { cells = c; chain = chain; scene = record { now = now; under_way = map under_of xs } }
 
   -- ---- what the cells show of the scene
 
@@ -106,17 +106,17 @@ module _ {T : Type 0} where
   brought_by q (x ∷ xs) v all (inl h) = inl (h.0, brought_of q x.phase.ask x.phase.stage x.deeds x.seen all.0 h.1)
   brought_by q (x ∷ xs) v all (inr h) = inr (brought_by q xs v all.1 h)
 
-  pub reads_of : (c : Contents T) (q : Queue T) (xs : List (Sitting T)) → Fits c q (map seat_of xs) → Each (λ (x : Sitting T). IsKnown q x) xs
-      → Reads c (record { now = q; under_way = map under_of xs })
-  reads_of c q xs fits all =
-      let sh = shows c q (map seat_of xs) fits in
+  pub reads_of : (chain : List ℕ) (c : Contents T) (q : Queue T) (xs : List (Sitting T)) → FitsAt chain c q (map seat_of xs) → Each (λ (x : Sitting T). IsKnown q x) xs
+      → Reads chain c (record { now = q; under_way = map under_of xs })
+  reads_of chain c q xs fits all =
+      let sh = shows c q (map seat_of xs) (chain, fits) in
+      let lie = lies chain c q (map seat_of xs) fits in
       record {
         flag = sh.flag;
         long = sh.long;
         lies = record {
-          place = sh.lies.place;
-          apart = sh.lies.apart;
-          there = λ i v e. ⊎_elim (λ h. inl h) (λ h. inr (brought_by q xs v all h)) (sh.lies.there i v e);
+          apart = lie.apart;
+          there = λ i v e. ⊎_elim (λ h. inl h) (λ h. inr (brought_by q xs v all h)) (lie.there i v e);
         };
       }
 
@@ -183,7 +183,7 @@ module _ {T : Type 0} where
   -- ---- runs
 
   pub more : (f : Config T) (ss : List (QueueStep T)) (es : List (QueueEntry T)) (g : Config T) (s : QueueStep T) (e : QueueEntry T) (h : Config T)
-      → IsRun f ss es g → Next g s e h → Reads h.cells h.scene → IsRun f (ss ++ s ∷ []) (es ++ e ∷ []) h
+      → IsRun f ss es g → Next g s e h → Reads h.chain h.cells h.scene → IsRun f (ss ++ s ∷ []) (es ++ e ∷ []) h
   more f [] [] g s e h r n w = (h, subst (λ (x : Config T). Next x s e h) r n, w, refl)
   more f [] (e' ∷ es) g s e h r n w = absurd r
   more f (s' ∷ ss) [] g s e h r n w = absurd r
@@ -203,12 +203,12 @@ module _ {T : Type 0} where
 
   -- what the code has after a run of these steps
   pub record HasRun (form : QueueForm) (made : List (QueueStep T)) (c : Contents T) (parties : List (Party T)) (trace : List (QueueEntry T)) : Type 0 where
-    pub start : Contents T
+    pub chain : List ℕ
     pub now : Queue T
     pub sittings : List (Sitting T)
-    pub opened : Reads start (new_scene (capacity_of form))
-    pub run : IsRun (opened_config start form) made trace (at c now sittings)
-    pub fits : Fits c now (map seat_of sittings)
+    pub opened : Reads [] (new_cells {T = T} form) (new_scene (capacity_of form))
+    pub run : IsRun (opened_config (new_cells form) form) made trace (at chain c now sittings)
+    pub fits : FitsAt chain c now (map seat_of sittings)
     pub parties_are : parties ≡ map party_of sittings
     pub known : Each (λ (x : Sitting T). IsKnown now x) sittings
     pub within : Each (λ (x : Sitting T). IsWithin c x) sittings
@@ -228,23 +228,23 @@ module _ {T : Type 0} (form : QueueForm) (made : List (QueueStep T)) (c : Conten
       let none : NoneHas p (map party_of r.sittings) = subst (λ (ps : List (Party T)). NoneHas p ps) r.parties_are t.2 in
       let mine : Sitting T = record { party = party p call; phase = asked a; deeds = []; seen = r.now ∷ []; left = 63 } in
       let all : List (Sitting T) = r.sittings ++ mine ∷ [] in
-      let fits_c : Fits c r.now (map seat_of all) =
-      subst (λ (ss : List (Seat T)). Fits c r.now ss) (sym (map_join seat_of r.sittings (mine ∷ [])))
-      (t.1 c r.now (map seat_of r.sittings) [] (subst (λ (ss : List (Seat T)). Fits c r.now ss) (sym (append-nil (map seat_of r.sittings))) r.fits)) in
-      let fits : Fits d r.now (map seat_of all) = subst (λ (x : Contents T). Fits x r.now (map seat_of all)) (sym t.4) fits_c in
+      let fits_c : FitsAt r.chain c r.now (map seat_of all) =
+      subst (λ (ss : List (Seat T)). FitsAt r.chain c r.now ss) (sym (map_join seat_of r.sittings (mine ∷ [])))
+      (t.1 r.chain c r.now (map seat_of r.sittings) [] (subst (λ (ss : List (Seat T)). FitsAt r.chain c r.now ss) (sym (append-nil (map seat_of r.sittings))) r.fits)) in
+      let fits : FitsAt r.chain d r.now (map seat_of all) = subst (λ (x : Contents T). FitsAt r.chain x r.now (map seat_of all)) (sym t.4) fits_c in
       let known = each_join (λ (x : Sitting T). IsKnown r.now x) r.sittings (mine ∷ []) r.known ((refl, λ h. absurd cc), tt) in
       let old : Each (λ (x : Sitting T). IsWithin d x) r.sittings = subst (λ (x : Contents T). Each (λ (y : Sitting T). IsWithin x y) r.sittings) (sym t.4) r.within in
-      let ranked : rank d call < 64 = ranks d r.now (asked a) call (map seat_of r.sittings) [] (subst (λ (ss : List (Seat T)). Fits d r.now ss) (map_join seat_of r.sittings (mine ∷ [])) fits) in
+      let ranked : rank d call < 64 = ranks d r.now (asked a) call (map seat_of r.sittings) [] (r.chain, subst (λ (ss : List (Seat T)). FitsAt r.chain d r.now ss) (map_join seat_of r.sittings (mine ∷ [])) fits) in
       let within = each_join (λ (x : Sitting T). IsWithin d x) r.sittings (mine ∷ []) old (omega arith, tt) in
       let e' : one_if_accepted e.mark ≡ 0 = ap (λ (x : QueueEntry T). one_if_accepted x.mark) t.3 in
       record {
-        start = r.start;
+        chain = r.chain;
         now = r.now;
         sittings = all;
         opened = r.opened;
-        run = more (opened_config r.start form) made trace (at c r.now r.sittings) (Begin p a) e (at d r.now all) r.run
-            (record { entry = t.3; free = free_of p r.sittings none; now = refl; under_way = map_join under_of r.sittings (mine ∷ []) }, t.4)
-            (reads_of d r.now all fits known);
+        run = more (opened_config (new_cells form) form) made trace (at r.chain c r.now r.sittings) (Begin p a) e (at r.chain d r.now all) r.run
+            (record { entry = t.3; free = free_of p r.sittings none; now = refl; under_way = map_join under_of r.sittings (mine ∷ []) }, t.4, refl)
+            (reads_of r.chain d r.now all fits known);
         fits = fits;
         parties_are = t.5 ∙ ap (λ (ps : List (Party T)). ps ++ party p call ∷ []) r.parties_are ∙ sym (map_join party_of r.sittings (mine ∷ []));
         known = known;
@@ -277,14 +277,14 @@ module _ {T : Type 0} (form : QueueForm) (made : List (QueueStep T)) (c : Conten
     my_bound : rank c mine.party.call ≤ mine.left
     my_bound = (each_last (λ (x : Sitting T). IsWithin c x) left (mine ∷ right) within_all).0
 
-    fits_now : Fits c r.now (map seat_of left ++ seat_of mine ∷ map seat_of right)
-    fits_now = subst (λ (ss : List (Seat T)). Fits c r.now ss) (ap (λ (xs : List (Sitting T)). map seat_of xs) there ∙ map_join seat_of left (mine ∷ right)) r.fits
+    fits_now : FitsAt r.chain c r.now (map seat_of left ++ seat_of mine ∷ map seat_of right)
+    fits_now = subst (λ (ss : List (Seat T)). FitsAt r.chain c r.now ss) (ap (λ (xs : List (Sitting T)). map seat_of xs) there ∙ map_join seat_of left (mine ∷ right)) r.fits
 
     my_balance : IsBalanced r.now
-    my_balance = (shows c r.now (map seat_of left ++ seat_of mine ∷ map seat_of right) fits_now).balance
+    my_balance = (shows c r.now (map seat_of left ++ seat_of mine ∷ map seat_of right) (r.chain, fits_now)).balance
 
     my_limit : (cap : ℕ) → r.now.capacity ≡ Some cap → length r.now.items ≤ cap
-    my_limit = (shows c r.now (map seat_of left ++ seat_of mine ∷ map seat_of right) fits_now).within
+    my_limit = (shows c r.now (map seat_of left ++ seat_of mine ∷ map seat_of right) (r.chain, fits_now)).within
 
     -- the sittings after the step, with what is left of the one that made it
     abbrev with_mine : List (Sitting T) → List (Sitting T)
@@ -310,7 +310,7 @@ module _ {T : Type 0} (form : QueueForm) (made : List (QueueStep T)) (c : Conten
 
     -- a step that went, with the sittings that it leaves
     finish : (ms : List (Sitting T)) (n : ℕ) → IsFair r.now mine.phase.ask e.mark → q' ≡ marked mine.phase.ask (makes_room mine.deeds) e.mark r.now → OneCell c d
-        → Fits d q' (map seat_of left ++ (map seat_of ms ++ map seat_of right))
+        → FitsAt (chain_after r.chain c d) d q' (map seat_of left ++ (map seat_of ms ++ map seat_of right))
         → Each (λ (x : Sitting T). IsKnown q' x) ms → Each (λ (x : Sitting T). IsSet d x) ms
         → map under_of ms ≡ unless_ended (does (under_of mine) e.mark r.now q' n) e.reply
         → GoesOnAs (under_of mine) (does (under_of mine) e.mark r.now q' n) r.now (map under_of left ++ map under_of right) e.reply
@@ -319,7 +319,8 @@ module _ {T : Type 0} (form : QueueForm) (made : List (QueueStep T)) (c : Conten
     unfolding q'
     finish ms n fair effect cell fit known set mine_is goes parties' are =
         let all : List (Sitting T) = with_mine ms in
-        let fits : Fits d q' (map seat_of all) = subst (λ (ss : List (Seat T)). Fits d q' ss) (sym (same_seats ms)) fit in
+        let chain : List ℕ = chain_after r.chain c d in
+        let fits : FitsAt chain d q' (map seat_of all) = subst (λ (ss : List (Seat T)). FitsAt chain d q' ss) (sym (same_seats ms)) fit in
         let knowns : Each (λ (x : Sitting T). IsKnown q' x) all =
         each_join (λ (x : Sitting T). IsKnown q' x) (map (sees_too q') left) (ms ++ map (sees_too q') right) (known_seen r.now mine.phase.ask (is_displaced mine.phase.stage) e.mark fair my_limit left known_left)
         (each_join (λ (x : Sitting T). IsKnown q' x) ms (map (sees_too q') right) known (known_seen r.now mine.phase.ask (is_displaced mine.phase.stage) e.mark fair my_limit right known_rest.1)) in
@@ -327,11 +328,11 @@ module _ {T : Type 0} (form : QueueForm) (made : List (QueueStep T)) (c : Conten
         each_join (λ (x : Sitting T). IsSet d x) (map (sees_too q') left) (ms ++ map (sees_too q') right) (all_set d q' left)
         (each_join (λ (x : Sitting T). IsSet d x) ms (map (sees_too q') right) set (all_set d q' right)) in
         record {
-          start = r.start;
+          chain = chain;
           now = q';
           sittings = all;
           opened = r.opened;
-          run = more (opened_config r.start form) made trace (at c r.now r.sittings) (Step p) e (at d q' all) r.run (
+          run = more (opened_config (new_cells form) form) made trace (at r.chain c r.now r.sittings) (Step p) e (at chain d q' all) r.run (
             record {
               before = map under_of left;
               mine = under_of mine;
@@ -344,12 +345,13 @@ module _ {T : Type 0} (form : QueueForm) (made : List (QueueStep T)) (c : Conten
               under_way = same_unders ms ∙ ap (λ (us : List (Under T)). map (sees q') (map under_of left) ++ (us ++ map (sees q') (map under_of right))) mine_is;
             },
             cell,
+            refl,
           )
-              (reads_of d q' all fits knowns);
+              (reads_of chain d q' all fits knowns);
           fits = fits;
           parties_are = are ∙ sym (same_parties ms);
           known = knowns;
-          within = within_now d q' all fits sets;
+          within = within_now d q' all (chain, fits) sets;
           count = accepted_now r.now mine.phase.ask (is_displaced mine.phase.stage) e.mark ∙ ap (λ (n : ℕ). n + one_if_accepted e.mark) r.count ∙ sym (accepted_more trace e);
           limit = same_capacity r.now mine.phase e.mark ∙ r.limit;
         }
@@ -383,7 +385,7 @@ module _ {T : Type 0} (form : QueueForm) (made : List (QueueStep T)) (c : Conten
     q'' : Queue T
     q'' = after mine.phase (mark_of call) r.now
 
-    step_with : (reply : Option (QueueReply T)) → Steps c mine.party.call mine.phase d call reply r.now (map seat_of left) (map seat_of right)
+    step_with : (reply : Option (QueueReply T)) → Steps r.chain c mine.party.call mine.phase d call reply r.now (map seat_of left) (map seat_of right)
         → (parties' : List (Party T)) → parties' ≡ among left (party mine.party.id call) reply right
         → HasRun form (made ++ Step p ∷ []) d parties' (trace ++ entry reply ∷ [])
     unfolding q'
@@ -402,7 +404,7 @@ module _ {T : Type 0} (form : QueueForm) (made : List (QueueStep T)) (c : Conten
         finish form made c parties trace r p 0 left right mine there whose call (entry None) d refl (mine' ∷ []) (rank d call)
         (fair_goes r.now mine.phase m p' goes) gone.same h.one_cell h.does.2 (known', tt) (inr (omega arith), tt)
         (ap (λ (a : QueueAsk T). (let u : Under T = record { party = mine.party.id; ask = a; deeds = deeds; seen = next ∷ mine.seen; left = rank d call } in u ∷ [])) goes.0)
-        (gone.begun, ranks d next p' call (map seat_of left) (map seat_of right) h.does.2, λ free. (let n : rank d call < rank c mine.party.call = h.ends (nobody r.now left right lefts known.1 free) in omega arith))
+        (gone.begun, ranks d next p' call (map seat_of left) (map seat_of right) (_, h.does.2), λ free. (let n : rank d call < rank c mine.party.call = h.ends (nobody r.now left right lefts known.1 free) in omega arith))
         parties' are
     step_with (Some x) h parties' are =
         let m = mark_of call in
@@ -428,7 +430,7 @@ module _ {T : Type 0} (form : QueueForm) (made : List (QueueStep T)) (c : Conten
       let is_id : s.mine.party.id ≡ p = ap (λ (x : Party T). x.id) s.is in
       let step : IsQueueStep c s.mine.party.call d call e.reply = subst (λ (x : QueueCall T). IsQueueStep c x d call e.reply) (sym is_call) st.1 in
       let fits = fits_now form made c parties trace r p k s.left s.right s.mine s.there is_id call e d st.2 in
-      let h = step r.now s.mine.phase (map seat_of s.left) (map seat_of s.right) (in_range form made c parties trace r e counted) fits in
+      let h = step r.chain r.now s.mine.phase (map seat_of s.left) (map seat_of s.right) (in_range form made c parties trace r e counted) fits in
       let are : parties' ≡ among s.left (party s.mine.party.id call) e.reply s.right =
       st.3 ∙ ap (λ (ps : List (Party T)). parties_after ps k (party p call) e.reply) r.parties_are ∙ among_after r.sittings k (party p old) s (party p call) e.reply
       ∙ ap (λ (n : ℕ). among s.left (party n call) e.reply s.right) (sym is_id) in
@@ -453,17 +455,17 @@ module _ {T : Type 0} where
     pub run : IsCounted form trace → HasRun form made c parties trace
 
   pub running_start : (form : QueueForm) (steps : List (QueueStep T)) (c : Contents T) → IsNew form c → IsRunning form steps steps [] c []
-  running_start form steps c (same, fits) =
+  running_start form steps c (same, fits, new) =
       record {
         made = [];
         first = refl;
         entries = refl;
         run = λ h. record {
-          start = c;
+          chain = [];
           now = opened (capacity_of form);
           sittings = [];
-          opened = reads_of c (opened (capacity_of form)) [] fits tt;
-          run = refl;
+          opened = subst (λ (x : Contents T). Reads [] x (new_scene (capacity_of form))) new (reads_of [] c (opened (capacity_of form)) [] fits tt);
+          run = ap (λ (x : Contents T). opened_config x form) new;
           fits = fits;
           parties_are = refl;
           known = tt;
@@ -503,9 +505,9 @@ module _ {T : Type 0} where
 
   refused_of : (left : List (QueueStep T)) (parties : List (Party T)) (xs : List (Sitting T)) (why : QueueRefusal) → parties ≡ map party_of xs → IsRefused left parties why → MayRefuse (map under_of xs) left why
   refused_of (Begin p a ∷ ss) parties xs Busy e h = under_way_of p xs h.0 (subst (λ (ps : List (Party T)). HasParty p ps h.0) e h.1)
-  refused_of (Begin p a ∷ ss) parties xs NoMemory e h = tt
+  refused_of (Begin p a ∷ ss) parties xs NoMemory e h = idle_of p xs (subst (λ (ps : List (Party T)). NoneHas p ps) e h)
   refused_of (Step p ∷ ss) parties xs Idle e h = idle_of p xs (subst (λ (ps : List (Party T)). NoneHas p ps) e h)
-  refused_of (Step p ∷ ss) parties xs NoMemory e h = tt
+  refused_of (Step p ∷ ss) parties xs NoMemory e h = under_way_of p xs h.0 (subst (λ (ps : List (Party T)). HasParty p ps h.0) e h.1)
   refused_of left parties xs why e h = absurd h
 
   pub running_stop : (form : QueueForm) (steps left : List (QueueStep T)) (trace : List (QueueEntry T)) (c : Contents T) (parties : List (Party T)) (place : ℕ) (why : QueueRefusal)
@@ -516,7 +518,7 @@ module _ {T : Type 0} where
         first = r.first;
         entries = r.entries;
         ended = e ∙ r.entries;
-        run = λ counted. (let x = r.run counted in record { start = x.start; last = at c x.now x.sittings; opened = x.opened; run = x.run; refused = refused_of left parties x.sittings why x.parties_are h });
+        run = λ counted. (let x = r.run counted in record { last = at x.chain c x.now x.sittings; opened = x.opened; run = x.run; refused = refused_of left parties x.sittings why x.parties_are h });
       }
 
   pub running_end : (form : QueueForm) (steps left : List (QueueStep T)) (trace : List (QueueEntry T)) (c : Contents T) (parties : List (Party T))
@@ -527,7 +529,7 @@ module _ {T : Type 0} where
         first = r.first;
         entries = r.entries;
         ended = e;
-        run = λ counted. (let x = r.run counted in record { start = x.start; last = at c x.now x.sittings; opened = x.opened; run = x.run; refused = tt });
+        run = λ counted. (let x = r.run counted in record { last = at x.chain c x.now x.sittings; opened = x.opened; run = x.run; refused = tt });
       }
 
 pub no_items : {A : Type 0} (xs : List A) → length xs ≡ 0 → xs ≡ []

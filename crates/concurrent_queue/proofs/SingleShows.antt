@@ -6,7 +6,7 @@ use Rattle.concurrent_queue.specs.Places.{Place, Each}
 use Rattle.concurrent_queue.specs.Single.{clear}
 use Rattle.concurrent_queue.specs.SingleState.{word_of, holds, holders, Knows, Means, SingleMeans, single_rank}
 use Rattle.concurrent_queue.specs.Step.{HasBrought, IsBrought, single_closed, single_length}
-use Rattle.concurrent_queue.specs.Forms.{place_phases, FormShows}
+use Rattle.concurrent_queue.specs.Forms.{place_phases, FormShows, FormLies}
 use Rattle.concurrent_queue.specs.declared.call.QueueAsk.{QueueAsk}
 use Rattle.concurrent_queue.specs.declared.cells.Slot.TheVariants.{At}
 use Rattle.concurrent_queue.specs.declared.single.SingleAction.{SingleAction}
@@ -111,12 +111,14 @@ single_shows {T} c q ps (locked, item, slot, m) =
       within = λ cap e. (let same : Some cap ≡ Some 1 = sym e ∙ m.limit in let k : cap ≡ 1 = cc in rw (m.items, k) (at_most_one item));
       balance = m.counts;
       numbered = inl (m.limit, refl);
-      lies = record {
-        place = λ i. At 0;
-        apart = λ i j h g e. only_one item i j (rw (← m.items) h) (rw (← m.items) g);
-        there = λ i v e. in_slot c q ps slot v m.slots (lies_of c q ps locked item slot m v (item_of item i v (rw (← m.items) e)));
-      };
       at_rest = λ e.
           (let l = unlocked_at_rest c q ps locked m.one_holder e in
           (m.items ∙ ap (λ (o : Option T). option_to_list o) (m.at_rest l) ∙ rw m.slots refl, m.coming));
+    }
+
+pub single_lies : {T : Type 0} → FormLies {A = SingleAction T} {T = T} SingleMeans single_rank (λ c i. At 0)
+single_lies {T} c q ps (locked, item, slot, m) =
+    record {
+      apart = λ i j h g e. only_one item i j (rw (← m.items) h) (rw (← m.items) g);
+      there = λ i v e. in_slot c q ps slot v m.slots (lies_of c q ps locked item slot m v (item_of item i v (rw (← m.items) e)));
     }

@@ -201,8 +201,8 @@ module _ {T : Type 0} where
           ends = nearer_now;
         }
 
-  pub single_steps : FormSteps {A = SingleAction T} {T = T} SingleMeans single_rank IsSingleStep
-  single_steps c a d s q p l r made range (locked, item, slot, m) =
+  pub single_steps : FormSteps {A = SingleAction T} {T = T} (λ chain c q xs. SingleMeans c q xs) single_rank IsSingleStep
+  single_steps chain c a d s q p l r made range (locked, item, slot, m) =
       subst (λ (x : Contents T × Stepped (SingleAction T) T). FormStep SingleMeans single_rank c a p x.0 x.1 q l r) (sym made) (step_now c q a p l r locked item slot m)
 
   -- ---- a new call

@@ -3,7 +3,7 @@ use Rattle.std.proofs.Common.{◌≡◌, ℕ, ◌<◌, List, [], ◌∷◌, ◌+
 use Rattle.concurrent_queue.specs.Contents.{Contents}
 use Rattle.concurrent_queue.specs.Queue.{Queue, Phase, asked, after, Goes, Answers, IsInRange}
 use Rattle.concurrent_queue.specs.Places.{Place}
-use Rattle.concurrent_queue.specs.Step.{Seat, seat, AreAt, FitsBy, phases, OneCell, HoldsNobodyUp}
+use Rattle.concurrent_queue.specs.Step.{Seat, seat, AreAt, FitsBy, phases, OneCell, HoldsNobodyUp, chain_after}
 use Rattle.concurrent_queue.specs.Forms.{place, place_phases, FormStep, FormSteps, FormStarts, FormRanks}
 use Rattle.concurrent_queue.specs.declared.call.QueueAsk.{QueueAsk}
 use Rattle.concurrent_queue.specs.declared.call.QueueReply.{QueueReply}
@@ -85,16 +85,6 @@ module _ {A T : Type 0} (at : CallState T → A → Type 0) where
             ends = λ (quiet : HoldsNobodyUp q (phases (l ++ r))). h.ends (subst (λ (ps : List (Phase T)). HoldsNobodyUp q ps) same quiet);
           }
 
-    -- one step of a call whose action is a, among seats
-    pub seat_step : ((b : A) → at (wrap b) b) → (step : Contents T → A → Contents T → Stepped A T → Type 0) → FormSteps means left step → (c : Contents T) (a : A) (d : Contents T) (s : Stepped A T) (q : Queue T) (p : Phase T) (l r : List (Seat T)) (before : QueueCall T)
-        → ((x : A) → at before.state x → x ≡ a) → step c a d s → IsInRange q → FitsBy at (means c q) (l ++ seat before p ∷ r) → SeatStep c a p d s q l r
-    seat_step wraps step facts c a d s q p l r before is made range fits =
-        let parts = part l r (seat before p) fits.0 fits.1 in
-        let mine : parts.mine ≡ place a p = ap (λ (x : A). place x parts.mine.phase) (is parts.mine.action parts.stands) ∙ ap (λ (x : Phase T). place a x) (sym parts.phase) in
-        let stood : means c q (parts.left ++ place a p ∷ parts.right) =
-        subst (λ (x : Place A T). means c q (parts.left ++ x ∷ parts.right)) mine (subst (λ (xs : List (Place A T)). means c q xs) parts.there fits.2) in
-        lifted wraps c a d s q p l r before fits.0 parts (facts c a d s q p parts.left parts.right made range stood)
-
     -- a new call comes in
     pub seat_start : (start : QueueAsk T → A) → FormStarts means left start → (c : Contents T) (q : Queue T) (a : QueueAsk T) (l r : List (Seat T)) (call : QueueCall T) → at call.state (start a)
         → FitsBy at (means c q) (l ++ r) → FitsBy at (means c q) (l ++ seat call (asked a) ∷ r)
@@ -109,3 +99,14 @@ module _ {A T : Type 0} (at : CallState T → A → Type 0) where
         let parts = part l r (seat call p) fits.0 fits.1 in
         let stood : means c q (parts.left ++ parts.mine ∷ parts.right) = subst (λ (xs : List (Place A T)). means c q xs) parts.there fits.2 in
         subst (λ (x : A). left c x < 64) (is parts.mine.action parts.stands) (facts c q parts.mine.action parts.mine.phase parts.left parts.right stood)
+
+  -- one step of a call whose action is a, among seats
+  pub seat_step : (means : List ℕ → Contents T → Queue T → List (Place A T) → Type 0) (left : Contents T → A → ℕ) (wrap : A → CallState T) → ((b : A) → at (wrap b) b) → (step : Contents T → A → Contents T → Stepped A T → Type 0) → FormSteps means left step
+      → (chain : List ℕ) (c : Contents T) (a : A) (d : Contents T) (s : Stepped A T) (q : Queue T) (p : Phase T) (l r : List (Seat T)) (before : QueueCall T)
+      → ((x : A) → at before.state x → x ≡ a) → step c a d s → IsInRange q → FitsBy at (means chain c q) (l ++ seat before p ∷ r) → SeatStep (means (chain_after chain c d)) left wrap c a p d s q l r
+  seat_step means left wrap wraps step facts chain c a d s q p l r before is made range fits =
+      let parts = part l r (seat before p) fits.0 fits.1 in
+      let mine : parts.mine ≡ place a p = ap (λ (x : A). place x parts.mine.phase) (is parts.mine.action parts.stands) ∙ ap (λ (x : Phase T). place a x) (sym parts.phase) in
+      let stood : means chain c q (parts.left ++ place a p ∷ parts.right) =
+      subst (λ (x : Place A T). means chain c q (parts.left ++ x ∷ parts.right)) mine (subst (λ (xs : List (Place A T)). means chain c q xs) parts.there fits.2) in
+      lifted (means (chain_after chain c d)) left wrap wraps c a d s q p l r before fits.0 parts (facts chain c a d s q p parts.left parts.right made range stood)

@@ -1,5 +1,5 @@
 -- What the cells and the calls of an unbounded queue mean.
-use Rattle.std.specs.Prelude.{◌≡◌, List, map}
+use Rattle.std.specs.Prelude.{◌≡◌, ℕ, ◌<◌, List, length, map, Some, slice_get}
 use Rattle.concurrent_queue.specs.Contents.{Contents}
 use Rattle.concurrent_queue.specs.Queue.{Queue}
 use Rattle.concurrent_queue.specs.Places.{Place, Each}
@@ -16,6 +16,10 @@ module _ {T : Type 0} where
   abbrev pub IsFit : Place (UnboundedCall T) T → Type 0
   IsFit p = IsProper p.action.action × (p.action.displacing ≡ is_force p.phase.ask)
 
+  -- these are the blocks of the chain, in order, those too that were given back
+  abbrev pub IsChain : List ℕ → Blocks T → Type 0
+  IsChain chain r = (length chain ≡ r.last) × ((k : ℕ) → k < r.last → slice_get chain k ≡ Some (r.num k))
+
   -- the cells stand for numbers of items and blocks, which mean the queue with the calls under way
-  abbrev pub UnboundedMeans : Contents T → Queue T → List (Place (UnboundedCall T) T) → Type 0
-  UnboundedMeans c q ps = (r : Blocks T) × Denotes c r × BlocksMeans r q (map seat_of ps) × Each IsFit ps
+  abbrev pub UnboundedMeans : List ℕ → Contents T → Queue T → List (Place (UnboundedCall T) T) → Type 0
+  UnboundedMeans chain c q ps = (r : Blocks T) × Denotes c r × BlocksMeans r q (map seat_of ps) × Each IsFit ps × IsChain chain r

@@ -1,5 +1,5 @@
 -- The steps of an unbounded queue, as functions of what its words and slots hold. t is a tail word, p a head position.
-use Rattle.std.specs.Prelude.{◌≡◌, ℕ, zero, suc, ◌++◌, [], List, ◌||◌, not, option_to_list, ◌+◌, ◌-◌, ◌/◌, ◌%◌, ◌^◌, ◌<◌, ◌&&◌, ◌⊎◌, nat_le, Bool, true, false, Option, None, Some, Ok, Err, length, slice_index, if◌then◌else◌, ◌==◌, bit_or}
+use Rattle.std.specs.Prelude.{◌≡◌, ℕ, zero, suc, ◌++◌, [], List, ◌||◌, not, option_to_list, ◌+◌, ◌-◌, ◌/◌, ◌%◌, ◌^◌, ◌<◌, ◌&&◌, ◌⊎◌, nat_le, Bool, true, false, Option, None, Some, Ok, Err, length, slice_index, slice_index_or, if◌then◌else◌, ◌==◌, bit_or}
 use Rattle.concurrent_queue.specs.Contents.{Contents, write, block_at, slot_at, write_slot, can_put, spare_of, without_spare, with_retired}
 use Rattle.concurrent_queue.specs.BlocksState.{number}
 use Rattle.concurrent_queue.specs.BlocksMoves.{answer_as}
@@ -8,6 +8,7 @@ use Rattle.concurrent_queue.specs.declared.call.QueueAsk.TheVariants as ask
 use Rattle.concurrent_queue.specs.declared.call.Stepped.{Stepped}
 use Rattle.concurrent_queue.specs.declared.unbounded.action.UnboundedCall.{UnboundedCall}
 use Rattle.concurrent_queue.specs.declared.cells.Word.TheVariants as word
+use Rattle.concurrent_queue.specs.declared.cells.Slot.{Slot}
 use Rattle.concurrent_queue.specs.declared.cells.Slot.TheVariants as slot
 use Rattle.concurrent_queue.specs.declared.call.QueueMark.TheVariants as mark
 use Rattle.concurrent_queue.specs.declared.call.QueueReply.{QueueReply}
@@ -57,9 +58,9 @@ look_first v t None = stays (act.PushMake v t)
 abbrev pub look_tail_block : {T : Type 0} → Contents T → T → ℕ → Option ℕ → Step T
 look_tail_block c v t h = (c, if c.tail_block == 0 then look_first v t h else look_with v t (c.tail_block - 1) h)
 
--- a spare section gives a block, or refuses and changes nothing
+-- a spare section gives a block, or finds no spare one and no memory for a new one, and changes nothing
 abbrev pub Obtains : {T : Type 0} → Contents T → T → (ℕ → UnboundedAction T) → Step T → Type 0
-Obtains c v next x = ((x ≡ (without_spare c, stays (next (spare_of c)))) × (length (without_spare c).blocks < 2 ^ 64)) ⊎ (x ≡ (c, finishes (ending.NoMemory v)))
+Obtains c v next x = ((x ≡ (without_spare c, stays (next (spare_of c)))) × (length (without_spare c).blocks < 2 ^ 64)) ⊎ ((c.spares ≡ []) × (x ≡ (c, finishes (ending.NoMemory v))))
 
 abbrev pub swap_first : {T : Type 0} → Contents T → T → ℕ → ℕ → Step T
 swap_first c v t h =
@@ -249,6 +250,10 @@ blocks_length c = number (c.tail / 2) - number c.head
 
 abbrev pub blocks_counted : {T : Type 0} → Contents T → ℕ
 blocks_counted c = number (c.tail / 2)
+
+-- the slot of the i-th message: each block has thirty-one, and these are the blocks in the order in which they were used
+abbrev pub blocks_slot : {T : Type 0} → List ℕ → Contents T → ℕ → Slot
+blocks_slot chain c i = slot.In (slice_index_or chain ((number c.head + i) / 31) 0) ((number c.head + i) % 31)
 
 -- so many messages from this offset of a block on, block after block
 unfoldable pub chain_items : {T : Type 0} → Contents T → ℕ → ℕ → ℕ → List T

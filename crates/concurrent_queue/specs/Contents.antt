@@ -2,7 +2,7 @@
 use Rattle.std.specs.Prelude.{◌≡◌, ℕ, List, [], ◌∷◌, ◌++◌, length, Option, None, Some, Result, Ok, Err, slice_index, slice_set, slice_index_or, slice_get, Bool, true, false, nat_lt, ◌<◌, ◌^◌, if◌then◌else◌}
 use Rattle.concurrent_queue.specs.declared.cells.QueueForm.{QueueForm}
 use Rattle.concurrent_queue.specs.declared.cells.QueueForm.TheVariants.{Bounded, Unbounded}
-use Rattle.concurrent_queue.specs.declared.cells.NoMemory.{NoMemory}
+use Rattle.concurrent_queue.specs.declared.error.NoMemory.{NoMemory}
 use Rattle.concurrent_queue.specs.declared.cells.Word.{Word}
 use Rattle.concurrent_queue.specs.declared.cells.Word.TheVariants.{State, Head, Tail, Stamp, HeadBlock, TailBlock, Next, Reads, Written}
 use Rattle.concurrent_queue.specs.declared.cells.Slot.{Slot}
@@ -147,10 +147,11 @@ module _ {T : Type 0} where
   abbrev pub without_spare : Contents T → Contents T
   without_spare c = record c { blocks = blocks_with c.spares c.blocks; spares = others_of c.spares }
 
-  -- a spare section gives a block, or refuses and changes nothing; there are fewer than 2^64 blocks
+  -- a spare section gives a block, or finds no spare one and no memory for a new one, and changes nothing; there are fewer
+  -- than 2^64 blocks
   abbrev pub SpareGives : Contents T → Result ℕ NoMemory → Contents T → Type 0
   SpareGives c (Ok b) d = (b ≡ spare_of c) × (d ≡ without_spare c) × (length d.blocks < 2 ^ 64)
-  SpareGives c (Err e) d = d ≡ c
+  SpareGives c (Err e) d = (c.spares ≡ []) × (d ≡ c)
 
   -- the contents after a block was given back
   abbrev pub with_retired : Contents T → ℕ → Contents T

@@ -4,9 +4,10 @@ use Rattle.std.specs.Prelude.{◌≡◌, ℕ, ◌<◌, Bool, List, ◌∷◌, �
 use Rattle.concurrent_queue.specs.Contents.{Contents}
 use Rattle.concurrent_queue.specs.Queue.{Queue, Phase, asked, after, Goes, Answers, IsInRange}
 use Rattle.concurrent_queue.specs.Places.{Place}
-use Rattle.concurrent_queue.specs.Step.{OneCell, HoldsNobodyUp, ShowsBy}
+use Rattle.concurrent_queue.specs.Step.{OneCell, HoldsNobodyUp, ShowsBy, LiesBy, IsBrought, chain_after}
 use Rattle.concurrent_queue.specs.declared.call.QueueAsk.{QueueAsk}
 use Rattle.concurrent_queue.specs.declared.call.Stepped.{Stepped}
+use Rattle.concurrent_queue.specs.declared.cells.Slot.{Slot}
 
 module _ {A T : Type 0} where
   abbrev pub place : A → Phase T → Place A T
@@ -29,12 +30,6 @@ module _ {A T : Type 0} where
           (λ x. Answers q p s.mark x × means d (after p s.mark q) (l ++ r))
       pub ends : HoldsNobodyUp q (place_phases (l ++ r)) → MatchOption s.reply (left d s.action < left c a) (λ x. Unit {0})
 
-    -- each step of the machine is one of the contract
-    abbrev pub FormSteps : (Contents T → A → Contents T → Stepped A T → Type 0) → Type 0
-    FormSteps step =
-        (c : Contents T) (a : A) (d : Contents T) (s : Stepped A T) (q : Queue T) (p : Phase T) (l r : List (Place A T))
-        → step c a d s → IsInRange q → means c q (l ++ place a p ∷ r) → FormStep c a p d s q l r
-
     -- a new call may come in anywhere
     abbrev pub FormStarts : (QueueAsk T → A) → Type 0
     FormStarts start =
@@ -48,3 +43,13 @@ module _ {A T : Type 0} where
     abbrev pub FormShows : Option ℕ → (Contents T → Bool) → (Contents T → ℕ) → (Contents T → ℕ) → (Contents T → List T) → Type 0
     FormShows capacity closed count counted held =
         (c : Contents T) (q : Queue T) (places : List (Place A T)) → means c q places → ShowsBy capacity (closed c) (count c) (counted c) (held c) c q (place_phases places)
+
+    -- each message lies in the slot that the words name, or is with its call
+    abbrev pub FormLies : (Contents T → ℕ → Slot) → Type 0
+    FormLies slot = (c : Contents T) (q : Queue T) (places : List (Place A T)) → means c q places → LiesBy (slot c) c q.items (IsBrought (place_phases places))
+
+  -- each step of the machine is one of the contract, over the blocks that were used before it
+  abbrev pub FormSteps : (List ℕ → Contents T → Queue T → List (Place A T) → Type 0) → (Contents T → A → ℕ) → (Contents T → A → Contents T → Stepped A T → Type 0) → Type 0
+  FormSteps means left step =
+      (chain : List ℕ) (c : Contents T) (a : A) (d : Contents T) (s : Stepped A T) (q : Queue T) (p : Phase T) (l r : List (Place A T))
+      → step c a d s → IsInRange q → means chain c q (l ++ place a p ∷ r) → FormStep (means (chain_after chain c d)) left c a p d s q l r

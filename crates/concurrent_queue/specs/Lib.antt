@@ -29,9 +29,12 @@ pub mod Parties
 pub mod Run
 pub mod Accounts
 pub mod Lone
+pub mod Bounds
+pub mod Whole
 pub mod Made
 pub mod Errors
 pub mod Alone
+pub mod Room
 pub mod Walk
 pub mod Guarded
 pub mod Turns

@@ -31,11 +31,11 @@ module _ {T : Type 0} where
   IsAdmitted (Begin p a ∷ steps) parties = NoneHas p parties
   IsAdmitted (Step p ∷ steps) parties = (k : ℕ) × HasParty p parties k
 
-  -- why the first step may not be made
+  -- why the first step may not be made: want of memory refuses only a step that the parties admit
   abbrev pub IsRefused : List (QueueStep T) → List (Party T) → QueueRefusal → Type 0
   IsRefused (Begin p a ∷ steps) parties Busy = (k : ℕ) × HasParty p parties k
   IsRefused (Step p ∷ steps) parties Idle = NoneHas p parties
-  IsRefused (s ∷ steps) parties NoMemory = Unit {0}
+  IsRefused (s ∷ steps) parties NoMemory = IsAdmitted (s ∷ steps) parties
   IsRefused _ parties why = ⊥
 
   abbrev pub parties_after : List (Party T) → ℕ → Party T → Option (QueueReply T) → List (Party T)

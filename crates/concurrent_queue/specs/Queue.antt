@@ -121,7 +121,8 @@ module _ {T : Type 0} where
   GoesPush q Append (trying seen) s = IsOpen q × (is_filled q ≡ false) × (s ≡ appended None)
   GoesPush q _ _ s = ⊥
 
-  -- the oldest of a full queue leaves at one step, and the message comes at a later one; on one slot both are one step
+  -- the oldest of a full queue leaves at one step, and the message comes at a later one; on one slot, and there alone, both
+  -- are one step
   abbrev pub GoesForce : Queue T → QueueMark → Stage T → Stage T → Type 0
   GoesForce q Nothing (trying seen) s = s ≡ trying (seen_after seen q)
   GoesForce q Nothing (displaced d) s = s ≡ displaced d
@@ -131,7 +132,7 @@ module _ {T : Type 0} where
   GoesForce q Replace (trying seen) s =
       (d : T) × IsOldest d q × IsOpen q × (is_filled q ≡ true) × (q.capacity ≡ Some 1) × (s ≡ appended (Some d))
   GoesForce q TakeDisplaced (trying seen) s =
-      (d : T) × IsOldest d q × (seen_after seen q ≡ true) × (is_filled q ≡ true) × (q.coming ≡ false) × (s ≡ displaced d)
+      (d : T) × IsOldest d q × (seen_after seen q ≡ true) × (is_filled q ≡ true) × (q.coming ≡ false) × (s ≡ displaced d) × (q.capacity ≡ Some 1 → ⊥)
   GoesForce q _ _ s = ⊥
 
   abbrev pub GoesPop : Queue T → QueueMark → Stage T → Stage T → Type 0

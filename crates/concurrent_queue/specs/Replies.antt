@@ -1,7 +1,9 @@
 -- What a call may answer, whatever its cells hold: a reply of its own kind, and a refused message is its own. Over cells that
 -- threads share this is all that is known of a step.
-use Rattle.std.specs.Prelude.{◌≡◌, Bool, true, false, Option, None, IfErr, MatchOption, MatchResult}
+use Rattle.std.specs.Prelude.{◌≡◌, ℕ, Bool, true, false, Option, None, Some, IfErr, MatchOption, MatchResult}
 use Rattle.concurrent_queue.specs.BlocksMoves.{answer_as}
+use Rattle.concurrent_queue.specs.Dispatch.{ring_cap}
+use Rattle.concurrent_queue.specs.RingWords.{cap_of}
 use Rattle.concurrent_queue.specs.declared.call.QueueAsk.{QueueAsk}
 use Rattle.concurrent_queue.specs.declared.call.QueueAsk.TheVariants as ask
 use Rattle.concurrent_queue.specs.declared.call.QueueReply.{QueueReply}
@@ -33,12 +35,22 @@ abbrev pub is_bounded : QueueForm → Bool
 is_bounded (Bounded cap) = true
 is_bounded Unbounded = false
 
+-- how many messages fit into a queue of this form, if there is a bound: no ring has more than 2^58 slots
+abbrev pub room_of : QueueForm → Option ℕ
+room_of (Bounded cap) = Some (cap_of cap)
+room_of Unbounded = None
+
 -- what may still be answered after a step might have been answered before it, and so might what it answers; and so long as
 -- closing and questions are not answered, they come nearer to it
 module _ {A R : Type 0} where
   abbrev pub FollowsBy : (A → R → Type 0) → (A → Type 0) → (A → Type 0) → A → A → Option R → Type 0
   FollowsBy may last soon a a' answer =
       MatchOption answer (((r : R) → may a' r → may a r) × (last a → ⊥) × (soon a → last a')) (λ r. may a r)
+
+  -- the same where the cells say what may be answered; after a step it no longer matters of which form they are
+  abbrev pub FollowsIn : {F : Type 0} → (F → A → R → Type 0) → (A → Type 0) → (A → Type 0) → F → A → A → Option R → Type 0
+  FollowsIn {F} may last soon form a a' answer =
+      MatchOption answer (((f : F) (r : R) → may f a' r → may form a r) × (last a → ⊥) × (soon a → last a')) (λ r. may form a r)
 
 module _ {T : Type 0} where
   -- a refused push hands its message back; only a bounded queue is full, and only an unbounded one is out of memory
@@ -51,74 +63,108 @@ module _ {T : Type 0} where
   HandsForceBack bounded v (force_error.Closed w) = w ≡ v
   HandsForceBack bounded v (force_error.NoMemory w) = (w ≡ v) × (bounded ≡ false)
 
-  -- the replies that may be given to what was asked; an unbounded queue displaces nothing and is never full
-  abbrev pub MayAnswer : Bool → QueueAsk T → QueueReply T → Type 0
-  MayAnswer bounded (ask.Push v) (reply.Push r) = IfErr r (λ e. HandsBack bounded v e)
-  MayAnswer bounded (ask.ForcePush v) (reply.Force r) = MatchResult r (λ o. bounded ≡ false → o ≡ None) (λ e. HandsForceBack bounded v e)
-  MayAnswer bounded ask.Pop (reply.Pop r) = Unit {0}
-  MayAnswer bounded ask.Close (reply.Close b) = Unit {0}
-  MayAnswer bounded ask.IsClosed (reply.Flag b) = Unit {0}
-  MayAnswer bounded ask.IsEmpty (reply.Flag b) = Unit {0}
-  MayAnswer bounded ask.IsFull (reply.Flag b) = bounded ≡ false → b ≡ false
-  MayAnswer bounded ask.Len (reply.Count n) = Unit {0}
-  MayAnswer bounded ask.Capacity (reply.Cap c) = bounded ≡ false → c ≡ None
-  MayAnswer bounded _ _ = ⊥
+  -- ---- the replies that may be given to each question; an unbounded queue displaces nothing and is never full
+
+  abbrev pub MayPush : Bool → T → QueueReply T → Type 0
+  MayPush bounded v (reply.Push r) = IfErr r (λ e. HandsBack bounded v e)
+  MayPush bounded v _ = ⊥
+
+  abbrev pub MayForce : Bool → T → QueueReply T → Type 0
+  MayForce bounded v (reply.Force r) = MatchResult r (λ o. bounded ≡ false → o ≡ None) (λ e. HandsForceBack bounded v e)
+  MayForce bounded v _ = ⊥
+
+  abbrev pub MayPop : QueueReply T → Type 0
+  MayPop (reply.Pop r) = Unit {0}
+  MayPop _ = ⊥
+
+  abbrev pub MayClose : QueueReply T → Type 0
+  MayClose (reply.Close b) = Unit {0}
+  MayClose _ = ⊥
+
+  abbrev pub MayFlag : QueueReply T → Type 0
+  MayFlag (reply.Flag b) = Unit {0}
+  MayFlag _ = ⊥
+
+  abbrev pub MayFull : Bool → QueueReply T → Type 0
+  MayFull bounded (reply.Flag b) = bounded ≡ false → b ≡ false
+  MayFull bounded _ = ⊥
+
+  abbrev pub MayCount : QueueReply T → Type 0
+  MayCount (reply.Count n) = Unit {0}
+  MayCount _ = ⊥
+
+  abbrev pub MayCap : Option ℕ → QueueReply T → Type 0
+  MayCap room (reply.Cap c) = c ≡ room
+  MayCap room _ = ⊥
+
+  -- by what was asked of a queue of this form
+  abbrev pub MayAnswer : QueueForm → QueueAsk T → QueueReply T → Type 0
+  MayAnswer form (ask.Push v) r = MayPush (is_bounded form) v r
+  MayAnswer form (ask.ForcePush v) r = MayForce (is_bounded form) v r
+  MayAnswer form ask.Pop r = MayPop r
+  MayAnswer form ask.Close r = MayClose r
+  MayAnswer form ask.IsClosed r = MayFlag r
+  MayAnswer form ask.IsEmpty r = MayFlag r
+  MayAnswer form ask.IsFull r = MayFull (is_bounded form) r
+  MayAnswer form ask.Len r = MayCount r
+  MayAnswer form ask.Capacity r = MayCap (room_of form) r
 
   -- ---- by how far a call has come; one that has put its message down can't hand it back
 
   abbrev pub MaySingle : SingleAction T → QueueReply T → Type 0
-  MaySingle (single.Push v) r = MayAnswer true (ask.Push v) r
-  MaySingle (single.PushPut v) r = MayAnswer true (ask.Push v) r
-  MaySingle single.PushUnlock r = (v : T) → MayAnswer true (ask.Push v) r
-  MaySingle (single.Force v x) r = MayAnswer true (ask.ForcePush v) r
-  MaySingle (single.ForceTake v) r = MayAnswer true (ask.ForcePush v) r
-  MaySingle (single.ForcePut v o) r = MayAnswer true (ask.ForcePush v) r
-  MaySingle (single.ForceUnlock o) r = (v : T) → MayAnswer true (ask.ForcePush v) r
-  MaySingle (single.Pop x) r = MayAnswer true ask.Pop r
-  MaySingle single.PopTake r = MayAnswer true ask.Pop r
-  MaySingle (single.PopUnlock v) r = MayAnswer true ask.Pop r
-  MaySingle single.Close r = MayAnswer true ask.Close r
-  MaySingle single.IsClosed r = MayAnswer true ask.IsClosed r
-  MaySingle single.IsEmpty r = MayAnswer true ask.IsEmpty r
-  MaySingle single.IsFull r = MayAnswer true ask.IsFull r
-  MaySingle single.Len r = MayAnswer true ask.Len r
-  MaySingle single.Capacity r = MayAnswer true ask.Capacity r
+  MaySingle (single.Push v) r = MayPush true v r
+  MaySingle (single.PushPut v) r = MayPush true v r
+  MaySingle single.PushUnlock r = (v : T) → MayPush true v r
+  MaySingle (single.Force v x) r = MayForce true v r
+  MaySingle (single.ForceTake v) r = MayForce true v r
+  MaySingle (single.ForcePut v o) r = MayForce true v r
+  MaySingle (single.ForceUnlock o) r = (v : T) → MayForce true v r
+  MaySingle (single.Pop x) r = MayPop r
+  MaySingle single.PopTake r = MayPop r
+  MaySingle (single.PopUnlock v) r = MayPop r
+  MaySingle single.Close r = MayClose r
+  MaySingle single.IsClosed r = MayFlag r
+  MaySingle single.IsEmpty r = MayFlag r
+  MaySingle single.IsFull r = MayFull true r
+  MaySingle single.Len r = MayCount r
+  MaySingle single.Capacity r = MayCap (Some 1) r
   MaySingle single.Finished r = ⊥
 
   abbrev pub MaySend : WhenFull → T → QueueReply T → Type 0
-  MaySend Refuse v r = MayAnswer true (ask.Push v) r
-  MaySend Displace v r = MayAnswer true (ask.ForcePush v) r
+  MaySend Refuse v r = MayPush true v r
+  MaySend Displace v r = MayForce true v r
 
-  abbrev pub MayRing : RingAction T → QueueReply T → Type 0
-  MayRing (ring.Push w v) r = MaySend w v r
-  MayRing (ring.PushShut w v) r = MaySend w v r
-  MayRing (ring.PushStamp w v t) r = MaySend w v r
-  MayRing (ring.PushSwap w v t) r = MaySend w v r
-  MayRing (ring.PushPut w v t) r = MaySend w v r
-  MayRing (ring.PushStore w t) r = (v : T) → MaySend w v r
-  MayRing (ring.PushHead v h) r = MaySend Refuse v r
-  MayRing (ring.ForceHead v h) r = MaySend Displace v r
-  MayRing (ring.ForceAdd v h) r = MaySend Displace v r
-  MayRing (ring.ForceTake v h) r = MaySend Displace v r
-  MayRing (ring.ForcePut v h o) r = MaySend Displace v r
-  MayRing (ring.ForceStore h o) r = (v : T) → MaySend Displace v r
-  MayRing ring.Pop r = MayAnswer true ask.Pop r
-  MayRing (ring.PopStamp h) r = MayAnswer true ask.Pop r
-  MayRing (ring.PopSwap h) r = MayAnswer true ask.Pop r
-  MayRing (ring.PopTail h) r = MayAnswer true ask.Pop r
-  MayRing (ring.PopTake h) r = MayAnswer true ask.Pop r
-  MayRing (ring.PopStore h v) r = MayAnswer true ask.Pop r
-  MayRing ring.Close r = MayAnswer true ask.Close r
-  MayRing ring.IsClosed r = MayAnswer true ask.IsClosed r
-  MayRing ring.IsEmpty r = MayAnswer true ask.IsEmpty r
-  MayRing (ring.IsEmptyTail h) r = MayAnswer true ask.IsEmpty r
-  MayRing ring.IsFull r = MayAnswer true ask.IsFull r
-  MayRing (ring.IsFullHead t) r = MayAnswer true ask.IsFull r
-  MayRing ring.Len r = MayAnswer true ask.Len r
-  MayRing (ring.LenHead t m) r = MayAnswer true ask.Len r
-  MayRing (ring.LenTail t m h) r = MayAnswer true ask.Len r
-  MayRing ring.Capacity r = MayAnswer true ask.Capacity r
-  MayRing ring.Finished r = ⊥
+  -- of a ring of so many slots
+  abbrev pub MayRing : ℕ → RingAction T → QueueReply T → Type 0
+  MayRing cap (ring.Push w v) r = MaySend w v r
+  MayRing cap (ring.PushShut w v) r = MaySend w v r
+  MayRing cap (ring.PushStamp w v t) r = MaySend w v r
+  MayRing cap (ring.PushSwap w v t) r = MaySend w v r
+  MayRing cap (ring.PushPut w v t) r = MaySend w v r
+  MayRing cap (ring.PushStore w t) r = (v : T) → MaySend w v r
+  MayRing cap (ring.PushHead v h) r = MaySend Refuse v r
+  MayRing cap (ring.ForceHead v h) r = MaySend Displace v r
+  MayRing cap (ring.ForceAdd v h) r = MaySend Displace v r
+  MayRing cap (ring.ForceTake v h) r = MaySend Displace v r
+  MayRing cap (ring.ForcePut v h o) r = MaySend Displace v r
+  MayRing cap (ring.ForceStore h o) r = (v : T) → MaySend Displace v r
+  MayRing cap ring.Pop r = MayPop r
+  MayRing cap (ring.PopStamp h) r = MayPop r
+  MayRing cap (ring.PopSwap h) r = MayPop r
+  MayRing cap (ring.PopTail h) r = MayPop r
+  MayRing cap (ring.PopTake h) r = MayPop r
+  MayRing cap (ring.PopStore h v) r = MayPop r
+  MayRing cap ring.Close r = MayClose r
+  MayRing cap ring.IsClosed r = MayFlag r
+  MayRing cap ring.IsEmpty r = MayFlag r
+  MayRing cap (ring.IsEmptyTail h) r = MayFlag r
+  MayRing cap ring.IsFull r = MayFull true r
+  MayRing cap (ring.IsFullHead t) r = MayFull true r
+  MayRing cap ring.Len r = MayCount r
+  MayRing cap (ring.LenHead t m) r = MayCount r
+  MayRing cap (ring.LenTail t m h) r = MayCount r
+  MayRing cap ring.Capacity r = MayCap (Some cap) r
+  MayRing cap ring.Finished r = ⊥
 
   -- how a push into an unbounded queue may end, and how a call that answers there
   abbrev pub Sends : T → Ending T → Type 0
@@ -128,7 +174,7 @@ module _ {T : Type 0} where
   Sends v (Replied r) = ⊥
 
   abbrev pub Tells : QueueAsk T → Ending T → Type 0
-  Tells a (Replied r) = MayAnswer false a r
+  Tells a (Replied r) = MayAnswer Unbounded a r
   Tells a _ = ⊥
 
   abbrev pub MayEnd : UnboundedAction T → Ending T → Type 0
@@ -176,12 +222,12 @@ module _ {T : Type 0} where
   abbrev pub IsAsking : QueueCall T → QueueAsk T → Type 0
   IsAsking call a = call.state ≡ state.Asked a
 
-  abbrev pub MayCall : Bool → CallState T → QueueReply T → Type 0
-  MayCall bounded (state.Asked a) r = MayAnswer bounded a r
-  MayCall bounded (state.Single a) r = MaySingle a r
-  MayCall bounded (state.Ring a) r = MayRing a r
-  MayCall bounded (state.Blocks c) r = MayBlocks c r
-  MayCall bounded state.Finished r = ⊥
+  abbrev pub MayCall : QueueForm → CallState T → QueueReply T → Type 0
+  MayCall form (state.Asked a) r = MayAnswer form a r
+  MayCall form (state.Single a) r = MaySingle a r
+  MayCall form (state.Ring a) r = MayRing (ring_cap form) a r
+  MayCall form (state.Blocks c) r = MayBlocks c r
+  MayCall form state.Finished r = ⊥
 
   -- ---- closing and the questions but for the length, which are answered at their second step at the latest
 
@@ -249,8 +295,8 @@ module _ {T : Type 0} where
   abbrev pub SingleFollows : SingleAction T → Stepped (SingleAction T) T → Type 0
   SingleFollows a s = FollowsBy MaySingle IsLastSingle IsSoonSingle a s.action s.reply
 
-  abbrev pub RingFollows : RingAction T → Stepped (RingAction T) T → Type 0
-  RingFollows a s = FollowsBy MayRing IsLastRing IsSoonRing a s.action s.reply
+  abbrev pub RingFollows : ℕ → RingAction T → Stepped (RingAction T) T → Type 0
+  RingFollows cap a s = FollowsIn MayRing IsLastRing IsSoonRing cap a s.action s.reply
 
   abbrev pub EndFollows : UnboundedAction T → Progress T → Type 0
   EndFollows a p = FollowsBy MayEnd IsLastBlocks IsSoonBlocks a p.action p.ending
@@ -258,10 +304,8 @@ module _ {T : Type 0} where
   abbrev pub BlocksFollows : UnboundedCall T → Stepped (UnboundedCall T) T → Type 0
   BlocksFollows c s = FollowsBy MayBlocks (λ x. IsLastBlocks x.action) (λ x. IsSoonBlocks x.action) c s.action s.reply
 
-  -- after a step it no longer matters of which form the cells are
-  abbrev pub StateFollows : Bool → CallState T → CallState T → Option (QueueReply T) → Type 0
-  StateFollows bounded a a' answer =
-      MatchOption answer (((b : Bool) (r : QueueReply T) → MayCall b a' r → MayCall bounded a r) × (IsLast a → ⊥) × (IsSoon a → IsLast a')) (λ r. MayCall bounded a r)
+  abbrev pub StateFollows : QueueForm → CallState T → CallState T → Option (QueueReply T) → Type 0
+  StateFollows form a a' answer = FollowsIn MayCall IsLast IsSoon form a a' answer
 
   abbrev pub Follows : QueueForm → QueueCall T → QueueCall T → Option (QueueReply T) → Type 0
-  Follows form call call' answer = StateFollows (is_bounded form) call.state call'.state answer
+  Follows form call call' answer = StateFollows form call.state call'.state answer

@@ -3,6 +3,7 @@ use Rattle.std.specs.Prelude.{ℕ, ◌+◌, ◌-◌, ◌*◌, ◌/◌, ◌%◌, 
 use Rattle.std.proofs.Common.{zero, suc}
 use Rattle.concurrent_queue.specs.Contents.{Contents, slot_at}
 use Rattle.concurrent_queue.specs.RingWords.{is_marked, unmarked}
+use Rattle.concurrent_queue.specs.declared.cells.Slot.{Slot}
 use Rattle.concurrent_queue.specs.declared.cells.Slot.TheVariants.{At}
 
 -- how many positions there are below p
@@ -20,6 +21,10 @@ module _ {T : Type 0} where
   -- how many positions lie from the head up to the tail
   abbrev pub ring_length : ℕ → ℕ → Contents T → ℕ
   ring_length cap m c = ring_counted cap m c - number_of cap m c.head
+
+  -- the slot of the i-th message: that of the head's position plus i
+  abbrev pub ring_slot : ℕ → ℕ → Contents T → ℕ → Slot
+  ring_slot cap m c i = At ((number_of cap m c.head + i) % cap)
 
   -- the messages in the slots of k positions, from the n-th on
   abbrev pub held_from : ℕ → Contents T → ℕ → ℕ → List T

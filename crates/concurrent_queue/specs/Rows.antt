@@ -33,20 +33,21 @@ module _ {T : Type 0} where
   Took (d ∷ []) v = (d.mark ≡ Take) × IsOldest v d.before
   Took _ v = ⊥
 
-  -- the oldest message of a full open queue was replaced
+  -- the message of a full open queue of one slot was replaced
   abbrev pub Replaced : List (Deed T) → T → Type 0
-  Replaced (d ∷ []) v = (d.mark ≡ Replace) × IsOpen d.before × (is_filled d.before ≡ true) × IsOldest v d.before
+  Replaced (d ∷ []) v = (d.mark ≡ Replace) × IsOpen d.before × (is_filled d.before ≡ true) × IsOldest v d.before × (d.before.capacity ≡ Some 1)
   Replaced _ v = ⊥
 
-  -- the oldest message of a full queue was taken to make room, when no other was on its way; the queue was open not later
+  -- the oldest message of a full queue of more than one slot was taken to make room, when no other was on its way; the queue
+  -- was open not later
   abbrev pub MadeRoom : List (Deed T) → T → Type 0
   MadeRoom (d ∷ []) v =
-      (d.mark ≡ TakeDisplaced) × (is_filled d.before ≡ true) × (d.before.coming ≡ false) × IsOldest v d.before × Once IsOpen (d.before ∷ d.seen)
+      (d.mark ≡ TakeDisplaced) × (is_filled d.before ≡ true) × (d.before.coming ≡ false) × IsOldest v d.before × Once IsOpen (d.before ∷ d.seen) × (d.before.capacity ≡ Some 1 → ⊥)
   MadeRoom _ v = ⊥
 
-  -- and at a later step the message was appended
+  -- and at a later step the message was appended: the place that was made was still free, so no other push took it
   abbrev pub Displaced : List (Deed T) → T → Type 0
-  Displaced (d ∷ e ∷ []) v = MadeRoom (d ∷ []) v × (e.mark ≡ Append)
+  Displaced (d ∷ e ∷ []) v = MadeRoom (d ∷ []) v × (e.mark ≡ Append) × (is_filled e.before ≡ false)
   Displaced _ v = ⊥
 
   -- ---- what a reply needs: the marks of its call, and a moment since the call began

@@ -3,7 +3,8 @@ use Rattle.std.specs.Prelude.{◌≡◌, ℕ, ◌+◌, ◌≤◌, ◌^◌, List,
 use Rattle.concurrent_queue.specs.Contents.{Contents}
 use Rattle.concurrent_queue.specs.Dispatch.{capacity_of}
 use Rattle.concurrent_queue.specs.Scene.{Scene, Under, Begins, Steps, NotUnderWay, IsUnderWay, Reads, new_scene}
-use Rattle.concurrent_queue.specs.Step.{OneCell}
+use Rattle.concurrent_queue.specs.Step.{OneCell, chain_after}
+use Rattle.concurrent_queue.specs.Made.{new_cells}
 use Rattle.concurrent_queue.specs.declared.call.QueueEntry.{QueueEntry}
 use Rattle.concurrent_queue.specs.declared.call.QueueMark.{QueueMark}
 use Rattle.concurrent_queue.specs.declared.call.QueueMark.TheVariants.{Append, Replace}
@@ -14,9 +15,10 @@ use Rattle.concurrent_queue.specs.declared.run.QueueRefusal.{QueueRefusal}
 use Rattle.concurrent_queue.specs.declared.run.QueueRefusal.TheVariants.{Busy, Idle, NoMemory}
 use Rattle.concurrent_queue.specs.declared.run.Stopped.{Stopped}
 
--- a queue at one moment, with its cells
+-- a queue at one moment, with its cells and, where it is unbounded, with the blocks that it has used, in order
 pub record Config (T : Type 0) : Type 0 where
   pub cells : Contents T
+  pub chain : List ℕ
   pub scene : Scene T
 
 abbrev pub one_if_accepted : QueueMark → ℕ
@@ -27,13 +29,13 @@ one_if_accepted _ = 0
 module _ {T : Type 0} where
   -- one entry of a run. A call begins without touching a cell, and a step touches at most one
   abbrev pub Next : Config T → QueueStep T → QueueEntry T → Config T → Type 0
-  Next f (Begin p a) e g = Begins f.scene p a e g.scene × (g.cells ≡ f.cells)
-  Next f (Step p) e g = Steps f.scene p e g.scene × OneCell f.cells g.cells
+  Next f (Begin p a) e g = Begins f.scene p a e g.scene × (g.cells ≡ f.cells) × (g.chain ≡ f.chain)
+  Next f (Step p) e g = Steps f.scene p e g.scene × OneCell f.cells g.cells × (g.chain ≡ chain_after f.chain f.cells g.cells)
 
   -- these steps, one after another, with these entries; at each moment the cells show the scene
   abbrev pub IsRun : Config T → List (QueueStep T) → List (QueueEntry T) → Config T → Type 0
   IsRun f [] [] g = g ≡ f
-  IsRun f (s ∷ ss) (e ∷ es) g = (m : Config T) × Next f s e m × Reads m.cells m.scene × IsRun m ss es g
+  IsRun f (s ∷ ss) (e ∷ es) g = (m : Config T) × Next f s e m × Reads m.chain m.cells m.scene × IsRun m ss es g
   IsRun f _ _ g = ⊥
 
   -- how many messages were accepted
@@ -45,22 +47,22 @@ module _ {T : Type 0} where
   abbrev pub IsCounted : QueueForm → List (QueueEntry T) → Type 0
   IsCounted form trace = (capacity_of form ≡ Some 1) ⊎ (accepted_in trace ≤ 2 ^ 61)
 
-  -- why the next step may be refused
+  -- why the next step may be refused: want of memory refuses only a step that is neither busy nor idle
   abbrev pub MayRefuse : List (Under T) → List (QueueStep T) → QueueRefusal → Type 0
   MayRefuse us (Begin p a ∷ steps) Busy = IsUnderWay p us
   MayRefuse us (Step p ∷ steps) Idle = NotUnderWay p us
-  MayRefuse us (s ∷ steps) NoMemory = Unit {0}
+  MayRefuse us (Begin p a ∷ steps) NoMemory = NotUnderWay p us
+  MayRefuse us (Step p ∷ steps) NoMemory = IsUnderWay p us
   MayRefuse us _ why = ⊥
 
   abbrev pub opened_config : Contents T → QueueForm → Config T
-  opened_config cells form = record { cells = cells; scene = new_scene (capacity_of form) }
+  opened_config cells form = record { cells = cells; chain = []; scene = new_scene (capacity_of form) }
 
-  -- what was done is a run of the queue from its opening
+  -- what was done is a run of the queue from its opening: the first cells are those of a new queue of this form
   pub record Ran (form : QueueForm) (made left : List (QueueStep T)) (trace : List (QueueEntry T)) (stopped : Option Stopped) : Type 0 where
-    pub start : Contents T
     pub last : Config T
-    pub opened : Reads start (new_scene (capacity_of form))
-    pub run : IsRun (opened_config start form) made trace last
+    pub opened : Reads [] (new_cells {T = T} form) (new_scene (capacity_of form))
+    pub run : IsRun (opened_config (new_cells form) form) made trace last
     pub refused : MatchOption stopped (Unit {0}) (λ s. MayRefuse last.scene.under_way left s.why)
 
   -- a run of the first steps of a list, up to the end or to one that is refused and stays in front

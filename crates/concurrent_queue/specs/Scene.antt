@@ -104,11 +104,12 @@ module _ {T : Type 0} where
   IsBroughtBy [] v = ⊥
   IsBroughtBy (u ∷ us) v = ((message u.ask ≡ v ∷ []) × (has_brought u.deeds ≡ true)) ⊎ IsBroughtBy us v
 
-  -- what the cells show of a scene: the flag and the length by the words, and each message in its slot or with its call
-  pub record Reads (c : Contents T) (s : Scene T) : Type 0 where
+  -- what the cells of a queue that has used these blocks show of a scene: the flag and the length by the words, and each
+  -- message in the slot that the words name or with its call
+  pub record Reads (chain : List ℕ) (c : Contents T) (s : Scene T) : Type 0 where
     pub flag : closed_in c ≡ s.now.closed
     pub long : length_in c ≡ length s.now.items
-    pub lies : Lies c s.now.items (IsBroughtBy s.under_way)
+    pub lies : Lies chain c s.now.items (IsBroughtBy s.under_way)
 
   abbrev pub new_scene : Option ℕ → Scene T
   new_scene capacity = record { now = opened capacity; under_way = [] }

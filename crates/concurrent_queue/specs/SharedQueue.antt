@@ -1,7 +1,6 @@
 -- What is known of a queue that threads share, and of its calls.
 use Rattle.std.specs.Prelude.{◌≡◌, ◌≢◌, ◌⊎◌, ℕ, Option, None}
-use Rattle.concurrent_queue.specs.Dispatch.{capacity_of}
-use Rattle.concurrent_queue.specs.Replies.{is_bounded, MayCall, IsSoon, IsLast, Follows}
+use Rattle.concurrent_queue.specs.Replies.{room_of, MayCall, IsSoon, IsLast, Follows}
 use Rattle.concurrent_queue.specs.declared.call.QueueReply.{QueueReply}
 use Rattle.concurrent_queue.specs.declared.cells.QueueForm.{QueueForm}
 use Rattle.concurrent_queue.specs.declared.error.PushError.{PushError}
@@ -14,7 +13,7 @@ use Rattle.concurrent_queue.specs.declared.shared.queue.ConcurrentQueue.{Concurr
 module _ {T : Type 0} where
   -- how many messages it can hold, if there is a bound; this never changes
   abbrev pub limit : ConcurrentQueue T → Option ℕ
-  limit q = capacity_of q.form
+  limit q = room_of q.form
 
   -- a push is refused as full by a bounded queue alone, and for memory by an unbounded one alone
   abbrev pub CanRefuse : Option ℕ → PushError T → Type 0
@@ -36,4 +35,4 @@ module _ {T : Type 0} where
 
   -- over cells of these forms the one call may only answer what the other may
   abbrev pub IsStillOf : QueueForm → QueueForm → QueueCall T → QueueCall T → Type 0
-  IsStillOf form cells first call = (r : QueueReply T) → MayCall (is_bounded cells) call.state r → MayCall (is_bounded form) first.state r
+  IsStillOf form cells first call = (r : QueueReply T) → MayCall cells call.state r → MayCall form first.state r

@@ -1,5 +1,5 @@
 -- A step of one call of a queue among all that are under way.
-use Rattle.std.specs.Prelude.{◌≡◌, ℕ, ◌+◌, ◌^◌, ◌<◌, ◌≤◌, ◌⊎◌, ◌==◌, not, Bool, true, false, List, [], ◌∷◌, ◌++◌, length, map, Option, None, Some, slice_get, MatchOption, option_to_list, if◌then◌else◌}
+use Rattle.std.specs.Prelude.{◌≡◌, ℕ, ◌+◌, ◌-◌, ◌^◌, ◌<◌, ◌≤◌, ◌⊎◌, ◌==◌, not, Bool, true, false, List, [], ◌∷◌, ◌++◌, length, map, Option, None, Some, slice_get, MatchOption, option_to_list, if◌then◌else◌}
 use Rattle.concurrent_queue.specs.Contents.{Contents, write, write_slot, slot_at, without_spare, with_retired}
 use Rattle.concurrent_queue.specs.Queue.{Queue, Stage, trying, appended, read, measured, Phase, asked, message, after, Goes, Answers, IsInRange}
 use Rattle.concurrent_queue.specs.Places.{Place}
@@ -8,9 +8,9 @@ use Rattle.concurrent_queue.specs.SingleState.{SingleMeans, single_rank}
 use Rattle.concurrent_queue.specs.RingWords.{ring_mark, ring_start}
 use Rattle.concurrent_queue.specs.RingMeans.{RingMeans}
 use Rattle.concurrent_queue.specs.RingRank.{ring_rank}
-use Rattle.concurrent_queue.specs.RingReadings.{ring_closed, ring_counted, ring_length, ring_held}
+use Rattle.concurrent_queue.specs.RingReadings.{ring_closed, ring_counted, ring_length, ring_slot, ring_held}
 use Rattle.concurrent_queue.specs.BlocksForm.{UnboundedMeans}
-use Rattle.concurrent_queue.specs.BlocksWords.{begin, blocks_closed, blocks_length, blocks_counted, blocks_items, blocks_rank}
+use Rattle.concurrent_queue.specs.BlocksWords.{begin, blocks_closed, blocks_length, blocks_counted, blocks_slot, blocks_items, blocks_rank}
 use Rattle.concurrent_queue.specs.Dispatch.{capacity_of}
 use Rattle.concurrent_queue.specs.declared.call.QueueAsk.{QueueAsk}
 use Rattle.concurrent_queue.specs.declared.call.QueueMark.{QueueMark}
@@ -78,13 +78,22 @@ module _ {T : Type 0} where
   IsAtBlocks (Blocks y) x = x ≡ y
   IsAtBlocks _ x = ⊥
 
-  abbrev pub FitsForm : QueueForm → Contents T → Queue T → List (Seat T) → Type 0
-  FitsForm (Bounded cap) c q seats = FitsSlot cap c q seats ⊎ FitsRing cap c q seats
-  FitsForm Unbounded c q seats = FitsBy IsAtBlocks (UnboundedMeans c q) seats
+  -- the blocks that an unbounded queue has used, in order, are those that the tail's block word has named: so they are after
+  -- a step that leaves d. A bounded queue has none
+  abbrev pub chain_after : List ℕ → Contents T → Contents T → List ℕ
+  chain_after chain c d = if c.tail_block == d.tail_block then chain else chain ++ (d.tail_block - 1) ∷ []
 
-  -- the cells and the calls under way mean this queue. Callers do not open it
-  unfoldable pub Fits : Contents T → Queue T → List (Seat T) → Type 0
-  Fits c q seats = FitsForm c.form c q seats
+  abbrev pub FitsForm : QueueForm → List ℕ → Contents T → Queue T → List (Seat T) → Type 0
+  FitsForm (Bounded cap) chain c q seats = FitsSlot cap c q seats ⊎ FitsRing cap c q seats
+  FitsForm Unbounded chain c q seats = FitsBy IsAtBlocks (UnboundedMeans chain c q) seats
+
+  -- the cells and the calls under way mean this queue, which has used these blocks. Callers do not open it
+  unfoldable pub FitsAt : List ℕ → Contents T → Queue T → List (Seat T) → Type 0
+  FitsAt chain c q seats = FitsForm c.form chain c q seats
+
+  -- whichever blocks it has used
+  abbrev pub Fits : Contents T → Queue T → List (Seat T) → Type 0
+  Fits c q seats = (chain : List ℕ) × FitsAt chain c q seats
 
   -- ---- what the words give
 
@@ -118,6 +127,14 @@ module _ {T : Type 0} where
   unfoldable pub counted_in : Contents T → ℕ
   counted_in c = counted_by c.form c
 
+  -- the slot that the words name for the i-th message, oldest first
+  abbrev pub slot_by : QueueForm → List ℕ → Contents T → ℕ → Slot
+  slot_by (Bounded cap) chain c i = if cap == 1 then At 0 else ring_slot cap (ring_mark cap) c i
+  slot_by Unbounded chain c i = blocks_slot chain c i
+
+  unfoldable pub slot_in : List ℕ → Contents T → ℕ → Slot
+  slot_in chain c i = slot_by c.form chain c i
+
   -- the messages that the slots hold, where no call is under way
   abbrev pub items_by : QueueForm → Contents T → List T
   items_by (Bounded cap) c = if cap == 1 then option_to_list (slot_at c (At 0)) else ring_held cap (ring_mark cap) c
@@ -136,11 +153,13 @@ module _ {T : Type 0} where
   IsBrought [] v = ⊥
   IsBrought (p ∷ ps) v = ((message p.ask ≡ v ∷ []) × HasBrought p.stage) ⊎ IsBrought ps v
 
-  -- each message has a slot of its own; it lies there or is still with the call that brought it
-  pub record Lies (c : Contents T) (items : List T) (brought : T → Type 0) : Type 0 where
-    pub place : ℕ → Slot
-    pub apart : (i j : ℕ) → i < length items → j < length items → place i ≡ place j → i ≡ j
-    pub there : (i : ℕ) (v : T) → slice_get items i ≡ Some v → (slot_at c (place i) ≡ Some v) ⊎ brought v
+  -- no two messages have one slot, and each lies in its own or is still with the call that brought it
+  pub record LiesBy (slot : ℕ → Slot) (c : Contents T) (items : List T) (brought : T → Type 0) : Type 0 where
+    pub apart : (i j : ℕ) → i < length items → j < length items → slot i ≡ slot j → i ≡ j
+    pub there : (i : ℕ) (v : T) → slice_get items i ≡ Some v → (slot_at c (slot i) ≡ Some v) ⊎ brought v
+
+  abbrev pub Lies : List ℕ → Contents T → List T → (T → Type 0) → Type 0
+  Lies chain c items brought = LiesBy (slot_in chain c) c items brought
 
   -- what cells and calls that mean a queue show of it: by its words it is closed or not, holds so many messages, has used so
   -- many positions, and holds these messages where no call is under way
@@ -151,7 +170,6 @@ module _ {T : Type 0} where
     pub within : (cap : ℕ) → q.capacity ≡ Some cap → length q.items ≤ cap
     pub balance : length q.items + q.removed ≡ q.accepted
     pub numbered : ((q.capacity ≡ Some 1) × (counted ≡ 0)) ⊎ ((q.capacity ≡ Some 1 → ⊥) × (counted ≡ q.accepted))
-    pub lies : Lies c q.items (IsBrought calls)
     pub at_rest : calls ≡ [] → (q.items ≡ held) × (q.coming ≡ false)
 
   abbrev pub Shows : Contents T → Queue T → List (Phase T) → Type 0
@@ -216,16 +234,16 @@ module _ {T : Type 0} where
   -- a new call may come in among any others, at any place in their list
   abbrev pub Starts : QueueCall T → QueueAsk T → Type 0
   Starts call a =
-      (c : Contents T) (q : Queue T) (l r : List (Seat T)) → Fits c q (l ++ r) → Fits c q (l ++ seat call (asked a) ∷ r)
+      (chain : List ℕ) (c : Contents T) (q : Queue T) (l r : List (Seat T)) → FitsAt chain c q (l ++ r) → FitsAt chain c q (l ++ seat call (asked a) ∷ r)
 
   -- what a step of the call p leaves, whatever the other calls are: it does what its mark says, and goes on or answers
-  pub record Steps (c : Contents T) (before : QueueCall T) (p : Phase T) (d : Contents T) (call : QueueCall T) (reply : Option (QueueReply T)) (q : Queue T) (l r : List (Seat T)) : Type 0 where
+  pub record Steps (chain : List ℕ) (c : Contents T) (before : QueueCall T) (p : Phase T) (d : Contents T) (call : QueueCall T) (reply : Option (QueueReply T)) (q : Queue T) (l r : List (Seat T)) : Type 0 where
     pub one_cell : OneCell c d
     pub does : MatchOption reply
-        ((p' : Phase T) × Goes q p call.mark p' × Fits d (after p call.mark q) (l ++ seat call p' ∷ r))
-        (λ x. Answers q p call.mark x × Fits d (after p call.mark q) (l ++ r))
+        ((p' : Phase T) × Goes q p call.mark p' × FitsAt (chain_after chain c d) d (after p call.mark q) (l ++ seat call p' ∷ r))
+        (λ x. Answers q p call.mark x × FitsAt (chain_after chain c d) d (after p call.mark q) (l ++ r))
     pub ends : HoldsNobodyUp q (phases (l ++ r)) → MatchOption reply (rank d call < rank c before) (λ x. Unit {0})
 
   abbrev pub IsQueueStep : Contents T → QueueCall T → Contents T → QueueCall T → Option (QueueReply T) → Type 0
   IsQueueStep c before d call reply =
-      (q : Queue T) (p : Phase T) (l r : List (Seat T)) → IsInRange q → Fits c q (l ++ seat before p ∷ r) → Steps c before p d call reply q l r
+      (chain : List ℕ) (q : Queue T) (p : Phase T) (l r : List (Seat T)) → IsInRange q → FitsAt chain c q (l ++ seat before p ∷ r) → Steps chain c before p d call reply q l r

@@ -10,7 +10,7 @@
 //! The places where the machine meets others' steps are those of `concurrent-queue` 2.5.0; the displacing push in two
 //! steps keeps the mark, since it adds to the tail and never stores it.
 
-ghost use Rattle.std.specs.Prelude.{◌≡◌, ◌<◌, ◌^◌, ◌*◌, ◌+◌, ◌-◌, ◌%◌, None, Some, if◌then◌else◌};
+ghost use Rattle.std.specs.Prelude.{◌≡◌, ℕ, ◌<◌, ◌^◌, ◌*◌, ◌+◌, ◌-◌, ◌%◌, None, Some, if◌then◌else◌};
 ghost use Rattle.concurrent_queue.specs.RingWords.{cap_of, ring_mark, index, is_marked, unmarked, stride, next_word, count_of, between, shut_reply, pushed_reply, behind, stays, marks, finishes, push_load, push_shut, push_look, push_swap, push_put, push_store, push_head, force_head, force_add, force_take, force_put, force_store, pop_load, pop_look, pop_swap, pop_tail, pop_take, pop_store, close_step, ring_start, ask_is_closed, empty_load, empty_look, full_load, full_look, len_load, len_look, len_again, ring_step};
 ghost use Rattle.concurrent_queue.specs.Dispatch.{IsRingStep, ring_cap};
 ghost use Rattle.concurrent_queue.specs.Replies.{RingFollows, MaySend};
@@ -106,7 +106,8 @@ pub(crate) struct Shape {
     ghost some: { 0 < mark },
 }
 
-fn at_most_greatest(capacity: usize) -> u64
+/// The capacity of a ring; one above 2^58, which no queue has, counts as 2^58.
+pub(crate) fn at_most_greatest(capacity: usize) -> u64
     ensures { result ≡ cap_of capacity }
 {
     if capacity < GREATEST {
@@ -261,7 +262,7 @@ fn push_load<T: Drop, C: Cells<T>>(
     cells: &mut C,
 ) -> Stepped<RingAction<T>, T>
     ensures steps { C.known → (C.contents cells.new, result) ≡ push_load shape.cap shape.mark (C.contents cells.old) when_full value }
-    ensures answers { RingFollows (RingAction.Push when_full value) result }
+    ensures answers { RingFollows shape.cap (RingAction.Push when_full value) result }
 {
     let tail = cells.load(Word::Tail);
     if shape.is_marked(tail) {
@@ -282,7 +283,7 @@ fn push_shut<T: Drop, C: Cells<T>>(
     cells: &mut C,
 ) -> Stepped<RingAction<T>, T>
     ensures steps { C.known → (C.contents cells.new, result) ≡ push_shut shape.cap shape.mark (C.contents cells.old) when_full value }
-    ensures answers { RingFollows (RingAction.PushShut when_full value) result }
+    ensures answers { RingFollows shape.cap (RingAction.PushShut when_full value) result }
 {
     let tail = cells.fetch_or(Word::Tail, shape.mark);
     let reply = refused(when_full, value);
@@ -302,7 +303,7 @@ fn push_look<T: Drop, C: Cells<T>>(
     cells: &mut C,
 ) -> Stepped<RingAction<T>, T>
     ensures steps { C.known → (C.contents cells.new, result) ≡ push_look shape.cap shape.mark (C.contents cells.old) when_full value tail }
-    ensures answers { RingFollows (RingAction.PushStamp when_full value tail) result }
+    ensures answers { RingFollows shape.cap (RingAction.PushStamp when_full value tail) result }
 {
     let stamp = cells.load(shape.stamp(tail));
     if stamp == tail {
@@ -328,7 +329,7 @@ fn push_swap<T: Drop, C: Cells<T>>(
     cells: &mut C,
 ) -> Stepped<RingAction<T>, T>
     ensures steps { C.known → (C.contents cells.new, result) ≡ push_swap shape.cap shape.mark (C.contents cells.old) when_full value tail }
-    ensures answers { RingFollows (RingAction.PushSwap when_full value tail) result }
+    ensures answers { RingFollows shape.cap (RingAction.PushSwap when_full value tail) result }
 {
     match cells.compare_exchange(Word::Tail, tail, shape.next(tail)) {
         Ok(_) => did(
@@ -347,7 +348,7 @@ fn push_put<T: Drop, C: Cells<T>>(
     cells: &mut C,
 ) -> Stepped<RingAction<T>, T>
     ensures steps { C.known → (C.contents cells.new, result) ≡ push_put shape.cap shape.mark (C.contents cells.old) when_full value tail }
-    ensures answers { RingFollows (RingAction.PushPut when_full value tail) result }
+    ensures answers { RingFollows shape.cap (RingAction.PushPut when_full value tail) result }
 {
     match cells.put(Slot::At(shape.index(tail)), value) {
         Ok(()) => stay(RingAction::PushStore(when_full, tail)),
@@ -362,7 +363,7 @@ fn push_store<T: Drop, C: Cells<T>>(
     cells: &mut C,
 ) -> Stepped<RingAction<T>, T>
     ensures steps { C.known → (C.contents cells.new, result) ≡ push_store shape.cap shape.mark (C.contents cells.old) when_full tail }
-    ensures answers { RingFollows (RingAction.PushStore when_full tail) result }
+    ensures answers { RingFollows shape.cap (RingAction.PushStore when_full tail) result }
 {
     cells.store(shape.stamp(tail), tail.wrapping_add(1));
     finish(accepted(when_full))
@@ -371,7 +372,7 @@ fn push_store<T: Drop, C: Cells<T>>(
 /// The queue is full where the message of the lap before is the oldest.
 fn push_head<T: Drop, C: Cells<T>>(value: T, head: u64, cells: &mut C) -> Stepped<RingAction<T>, T>
     ensures steps { C.known → (C.contents cells.new, result) ≡ push_head (C.contents cells.old) value head }
-    ensures answers { RingFollows (RingAction.PushHead value head) result }
+    ensures answers { (cap : ℕ) → RingFollows cap (RingAction.PushHead value head) result }
 {
     if cells.load(Word::Head) == head {
         finish(QueueReply::Push(Err(PushError::Full(value))))
@@ -389,7 +390,7 @@ fn force_head<T: Drop, C: Cells<T>>(
     cells: &mut C,
 ) -> Stepped<RingAction<T>, T>
     ensures steps { C.known → (C.contents cells.new, result) ≡ force_head shape.cap shape.mark (C.contents cells.old) value head }
-    ensures answers { RingFollows (RingAction.ForceHead value head) result }
+    ensures answers { RingFollows shape.cap (RingAction.ForceHead value head) result }
 {
     match cells.compare_exchange(Word::Head, head, shape.next(head)) {
         Ok(_) => did(RingAction::ForceAdd(value, head), QueueMark::TakeDisplaced),
@@ -405,7 +406,7 @@ fn force_add<T: Drop, C: Cells<T>>(
     cells: &mut C,
 ) -> Stepped<RingAction<T>, T>
     ensures steps { C.known → (C.contents cells.new, result) ≡ force_add shape.cap shape.mark (C.contents cells.old) value head }
-    ensures answers { RingFollows (RingAction.ForceAdd value head) result }
+    ensures answers { RingFollows shape.cap (RingAction.ForceAdd value head) result }
 {
     cells.fetch_add(Word::Tail, shape.stride(head));
     did(RingAction::ForceTake(value, head), QueueMark::Append)
@@ -418,7 +419,7 @@ fn force_take<T: Drop, C: Cells<T>>(
     cells: &mut C,
 ) -> Stepped<RingAction<T>, T>
     ensures steps { C.known → (C.contents cells.new, result) ≡ force_take shape.cap shape.mark (C.contents cells.old) value head }
-    ensures answers { RingFollows (RingAction.ForceTake value head) result }
+    ensures answers { RingFollows shape.cap (RingAction.ForceTake value head) result }
 {
     match cells.take(Slot::At(shape.index(head))) {
         Some(old) => stay(RingAction::ForcePut(value, head, old)),
@@ -434,7 +435,7 @@ fn force_put<T: Drop, C: Cells<T>>(
     cells: &mut C,
 ) -> Stepped<RingAction<T>, T>
     ensures steps { C.known → (C.contents cells.new, result) ≡ force_put shape.cap shape.mark (C.contents cells.old) value head old }
-    ensures answers { RingFollows (RingAction.ForcePut value head old) result }
+    ensures answers { RingFollows shape.cap (RingAction.ForcePut value head old) result }
 {
     match cells.put(Slot::At(shape.index(head)), value) {
         Ok(()) => stay(RingAction::ForceStore(head, old)),
@@ -449,7 +450,7 @@ fn force_store<T: Drop, C: Cells<T>>(
     cells: &mut C,
 ) -> Stepped<RingAction<T>, T>
     ensures steps { C.known → (C.contents cells.new, result) ≡ force_store shape.cap shape.mark (C.contents cells.old) head old }
-    ensures answers { RingFollows (RingAction.ForceStore head old) result }
+    ensures answers { RingFollows shape.cap (RingAction.ForceStore head old) result }
 {
     cells.store(shape.stamp(head), head.wrapping_add(shape.lap() + 1));
     finish(QueueReply::Force(Ok(Some(old))))
@@ -462,7 +463,7 @@ fn pop_look<T: Drop, C: Cells<T>>(
     cells: &mut C,
 ) -> Stepped<RingAction<T>, T>
     ensures steps { C.known → (C.contents cells.new, result) ≡ pop_look shape.cap shape.mark (C.contents cells.old) head }
-    ensures answers { RingFollows (RingAction.PopStamp head) result }
+    ensures answers { RingFollows shape.cap (RingAction.PopStamp head) result }
 {
     let stamp = cells.load(shape.stamp(head));
     if stamp == head.wrapping_add(1) {
@@ -480,7 +481,7 @@ fn pop_swap<T: Drop, C: Cells<T>>(
     cells: &mut C,
 ) -> Stepped<RingAction<T>, T>
     ensures steps { C.known → (C.contents cells.new, result) ≡ pop_swap shape.cap shape.mark (C.contents cells.old) head }
-    ensures answers { RingFollows (RingAction.PopSwap head) result }
+    ensures answers { RingFollows shape.cap (RingAction.PopSwap head) result }
 {
     match cells.compare_exchange(Word::Head, head, shape.next(head)) {
         Ok(_) => did(RingAction::PopTake(head), QueueMark::Take),
@@ -496,7 +497,7 @@ fn pop_tail<T: Drop, C: Cells<T>>(
     cells: &mut C,
 ) -> Stepped<RingAction<T>, T>
     ensures steps { C.known → (C.contents cells.new, result) ≡ pop_tail shape.cap shape.mark (C.contents cells.old) head }
-    ensures answers { RingFollows (RingAction.PopTail head) result }
+    ensures answers { RingFollows shape.cap (RingAction.PopTail head) result }
 {
     let tail = cells.load(Word::Tail);
     if shape.unmarked(tail) != head {
@@ -515,7 +516,7 @@ fn pop_take<T: Drop, C: Cells<T>>(
     cells: &mut C,
 ) -> Stepped<RingAction<T>, T>
     ensures steps { C.known → (C.contents cells.new, result) ≡ pop_take shape.cap shape.mark (C.contents cells.old) head }
-    ensures answers { RingFollows (RingAction.PopTake head) result }
+    ensures answers { RingFollows shape.cap (RingAction.PopTake head) result }
 {
     match cells.take(Slot::At(shape.index(head))) {
         Some(value) => stay(RingAction::PopStore(head, value)),
@@ -530,7 +531,7 @@ fn pop_store<T: Drop, C: Cells<T>>(
     cells: &mut C,
 ) -> Stepped<RingAction<T>, T>
     ensures steps { C.known → (C.contents cells.new, result) ≡ pop_store shape.cap shape.mark (C.contents cells.old) head value }
-    ensures answers { RingFollows (RingAction.PopStore head value) result }
+    ensures answers { RingFollows shape.cap (RingAction.PopStore head value) result }
 {
     cells.store(shape.stamp(head), head.wrapping_add(shape.lap()));
     finish(QueueReply::Pop(Ok(value)))
@@ -538,7 +539,7 @@ fn pop_store<T: Drop, C: Cells<T>>(
 
 fn close<T: Drop, C: Cells<T>>(shape: Shape, cells: &mut C) -> Stepped<RingAction<T>, T>
     ensures steps { C.known → (C.contents cells.new, result) ≡ close_step shape.cap shape.mark (C.contents cells.old) }
-    ensures answers { RingFollows RingAction.Close result }
+    ensures answers { RingFollows shape.cap RingAction.Close result }
 {
     let tail = cells.fetch_or(Word::Tail, shape.mark);
     if shape.is_marked(tail) {
@@ -550,7 +551,7 @@ fn close<T: Drop, C: Cells<T>>(shape: Shape, cells: &mut C) -> Stepped<RingActio
 
 fn is_closed<T: Drop, C: Cells<T>>(shape: Shape, cells: &mut C) -> Stepped<RingAction<T>, T>
     ensures steps { C.known → (C.contents cells.new, result) ≡ ask_is_closed shape.cap shape.mark (C.contents cells.old) }
-    ensures answers { RingFollows RingAction.IsClosed result }
+    ensures answers { RingFollows shape.cap RingAction.IsClosed result }
 {
     let tail = cells.load(Word::Tail);
     finish(QueueReply::Flag(shape.is_marked(tail)))
@@ -562,7 +563,7 @@ fn empty_look<T: Drop, C: Cells<T>>(
     cells: &mut C,
 ) -> Stepped<RingAction<T>, T>
     ensures steps { C.known → (C.contents cells.new, result) ≡ empty_look shape.cap shape.mark (C.contents cells.old) head }
-    ensures answers { RingFollows (RingAction.IsEmptyTail head) result }
+    ensures answers { RingFollows shape.cap (RingAction.IsEmptyTail head) result }
 {
     let tail = cells.load(Word::Tail);
     finish(QueueReply::Flag(shape.unmarked(tail) == head))
@@ -570,7 +571,7 @@ fn empty_look<T: Drop, C: Cells<T>>(
 
 fn full_load<T: Drop, C: Cells<T>>(shape: Shape, cells: &mut C) -> Stepped<RingAction<T>, T>
     ensures steps { C.known → (C.contents cells.new, result) ≡ full_load shape.cap shape.mark (C.contents cells.old) }
-    ensures answers { RingFollows RingAction.IsFull result }
+    ensures answers { RingFollows shape.cap RingAction.IsFull result }
 {
     let tail = cells.load(Word::Tail);
     stay(RingAction::IsFullHead(shape.unmarked(tail)))
@@ -582,7 +583,7 @@ fn full_look<T: Drop, C: Cells<T>>(
     cells: &mut C,
 ) -> Stepped<RingAction<T>, T>
     ensures steps { C.known → (C.contents cells.new, result) ≡ full_look shape.cap shape.mark (C.contents cells.old) tail }
-    ensures answers { RingFollows (RingAction.IsFullHead tail) result }
+    ensures answers { RingFollows shape.cap (RingAction.IsFullHead tail) result }
 {
     let head = cells.load(Word::Head);
     let lap = shape.lap();
@@ -591,7 +592,7 @@ fn full_look<T: Drop, C: Cells<T>>(
 
 fn len_load<T: Drop, C: Cells<T>>(shape: Shape, cells: &mut C) -> Stepped<RingAction<T>, T>
     ensures steps { C.known → (C.contents cells.new, result) ≡ len_load shape.cap shape.mark (C.contents cells.old) }
-    ensures answers { RingFollows RingAction.Len result }
+    ensures answers { RingFollows shape.cap RingAction.Len result }
 {
     let tail = cells.load(Word::Tail);
     stay(RingAction::LenHead(shape.unmarked(tail), shape.is_marked(tail)))
@@ -606,7 +607,7 @@ fn len_again<T: Drop, C: Cells<T>>(
     cells: &mut C,
 ) -> Stepped<RingAction<T>, T>
     ensures steps { C.known → (C.contents cells.new, result) ≡ len_again shape.cap shape.mark (C.contents cells.old) tail marked head }
-    ensures answers { RingFollows (RingAction.LenTail tail marked head) result }
+    ensures answers { RingFollows shape.cap (RingAction.LenTail tail marked head) result }
 {
     let word = if marked {
         tail.wrapping_add(shape.mark)
@@ -644,7 +645,7 @@ pub(crate) fn step<T: Drop, C: Cells<T>>(
     cells: &mut C,
 ) -> Stepped<RingAction<T>, T>
     ensures steps { C.known → IsRingStep (ring_cap (C.contents cells.old).form) (C.contents cells.old) action (C.contents cells.new) result }
-    ensures answers { RingFollows action result }
+    ensures answers { RingFollows (ring_cap (C.form_of cells.old)) action result }
 {
     let capacity = match cells.form() {
         QueueForm::Bounded(capacity) => capacity,
@@ -659,7 +660,7 @@ fn step_ring<T: Drop, C: Cells<T>>(
     cells: &mut C,
 ) -> Stepped<RingAction<T>, T>
     ensures steps { C.known → (C.contents cells.new, result) ≡ ring_step shape.cap shape.mark (C.contents cells.old) action }
-    ensures answers { RingFollows action result }
+    ensures answers { RingFollows shape.cap action result }
 {
     match action {
         RingAction::Push(when_full, value) => push_load(shape, when_full, value, cells),
@@ -703,6 +704,3 @@ fn step_ring<T: Drop, C: Cells<T>>(
         RingAction::Finished => stay(RingAction::Finished),
     }
 }
-
-#[cfg(test)]
-mod tests;

@@ -4,8 +4,7 @@ ghost use Rattle.std.specs.Prelude.{◌≡◌, ℕ, ◌+◌, ◌%◌, ◌^◌, O
 ghost use Rattle.std.specs.Prelude.{bit_or, bit_and, MatchResult, IfErr};
 ghost use Rattle.concurrent_queue.specs.Contents.{Contents, read, write, slot_at, write_slot, PutGives, SpareGives, with_retired};
 
-use std::error::Error;
-use std::fmt;
+use crate::error::NoMemory;
 
 /// Which kind of queue the cells are of.
 #[derive(Clone, Copy)]
@@ -47,18 +46,6 @@ pub enum Slot {
     /// The slot of this block at this offset.
     In(u64, u64),
 }
-
-/// There was no memory for another block, or for the words and slots of a new queue.
-#[derive(Clone, Copy, PartialEq, Eq, Debug)]
-pub struct NoMemory;
-
-impl fmt::Display for NoMemory {
-    fn fmt<W: fmt::Write>(&self, f: &mut fmt::Formatter<W>) -> fmt::Result {
-        write!(f, "out of memory")
-    }
-}
-
-impl Error for NoMemory {}
 
 /// The cells of one queue. Each call is one atomic operation on one word or slot, or one section of the spare list with
 /// the block that enters or leaves it. A word that does not exist reads 0 and stays so; a slot that does not exist holds
@@ -127,7 +114,7 @@ pub trait Cells<T> {
         ensures form { form_of self.new ≡ form_of self.old };
 
     /// The number of a blank block: the spare one that was given back last, or a new one, which is made together with its
-    /// place in the spare list. `Err`, and nothing is changed, where there is no memory for a new one.
+    /// place in the spare list. `Err`, and nothing is changed, where no block is spare and there is no memory for a new one.
     fn spare(&mut self) -> Result<u64, NoMemory>
         ensures gives { known → SpareGives (contents self.old) result (contents self.new) }
         ensures form { form_of self.new ≡ form_of self.old };

@@ -36,6 +36,10 @@ pub enum PopError {
     Closed,
 }
 
+/// There was no memory for another block, or for the words and slots of a new queue.
+#[derive(Clone, Copy, PartialEq, Eq, Debug)]
+pub struct NoMemory;
+
 impl<T> PushError<T> {
     /// The message that was not pushed.
     pub fn into_inner(self) -> T
@@ -101,6 +105,8 @@ impl<T: Drop> Error for ForcePushError<T> {}
 
 impl Error for PopError {}
 
+impl Error for NoMemory {}
+
 impl<T> Display for PushError<T> {
     fn fmt<W: Write>(&self, f: &mut Formatter<W>) -> Result {
         f.pad(match self {
@@ -157,5 +163,8 @@ impl Debug for PopError {
     }
 }
 
-#[cfg(test)]
-mod tests;
+impl Display for NoMemory {
+    fn fmt<W: Write>(&self, f: &mut Formatter<W>) -> Result {
+        f.pad("want of memory")
+    }
+}

@@ -8,10 +8,10 @@ ghost use Rattle.concurrent_queue.specs.Dispatch.{capacity_of};
 use crate::bounded::at_once::{pop_at_once, push_at_once};
 use crate::call::{QueueAsk, QueueReply};
 use crate::cells::{Cells, QueueForm};
-use crate::error::{ForcePushError, PopError, PushError};
+use crate::error::{ForcePushError, NoMemory, PopError, PushError};
 use crate::plain::PlainCells;
 use crate::queue_call::QueueCall;
-use std::alloc::{AllocError, Global};
+use std::alloc::Global;
 use std::marker::Model;
 
 /// A queue of one owner, which can be closed. Its calls run the same steps as those of a shared queue, each to its end, and
@@ -37,7 +37,7 @@ impl<T> Model for Exclusive<T> {
 }
 
 /// How many positions a queue has.
-pub(crate) const POSITIONS: u64 = 0x2000_0000_0000_0000;
+const POSITIONS: u64 = 0x2000_0000_0000_0000;
 
 /// How many positions are used up with one more message.
 fn with_one_more(form: QueueForm, used: u64) -> u64
@@ -64,11 +64,7 @@ fn count<T>(form: QueueForm, used: u64, reply: &QueueReply<T>) -> u64
 
 /// Steps a call to its end, and counts the position of the message that it brings.
 #[inline(never)]
-pub(crate) fn finish<T: Drop, C: Cells<T>>(
-    cells: &mut C,
-    used: &mut u64,
-    ask: QueueAsk<T>,
-) -> QueueReply<T>
+fn finish<T: Drop, C: Cells<T>>(cells: &mut C, used: &mut u64, ask: QueueAsk<T>) -> QueueReply<T>
     requires known { C.known }
     requires sound { IsSound (C.contents cells.old) used.old }
     requires room { HasRoom ask used.old }
@@ -79,6 +75,7 @@ pub(crate) fn finish<T: Drop, C: Cells<T>>(
     loop {
         match call.step(cells) {
             Some(reply) => {
+                drop(call);
                 *used = count(cells.form(), *used, &reply);
                 return reply;
             }
@@ -89,7 +86,7 @@ pub(crate) fn finish<T: Drop, C: Cells<T>>(
 
 /// Appends a message: at once where nothing stands against it, else step by step.
 #[inline(always)]
-pub(crate) fn push_into<T: Drop, C: Cells<T>>(
+fn push_into<T: Drop, C: Cells<T>>(
     cells: &mut C,
     used: &mut u64,
     value: T,
@@ -115,7 +112,7 @@ pub(crate) fn push_into<T: Drop, C: Cells<T>>(
 
 /// Takes the oldest message: at once where it lies there, else step by step.
 #[inline(always)]
-pub(crate) fn pop_from<T: Drop, C: Cells<T>>(cells: &mut C, used: &mut u64) -> Result<T, PopError>
+fn pop_from<T: Drop, C: Cells<T>>(cells: &mut C, used: &mut u64) -> Result<T, PopError>
     requires known { C.known }
     requires sound { IsSound (C.contents cells.old) used.old }
     ensures sound { IsSound (C.contents cells.new) used.new }
@@ -136,13 +133,15 @@ impl<T: Drop> Exclusive<T> {
 
     /// An open empty queue that holds at most `capacity` messages. `Err` where there is no memory for its slots, which for
     /// a capacity above 2^58 nobody is asked for.
-    pub fn bounded(alloc: Global, capacity: usize) -> Result<Exclusive<T>, AllocError>
+    pub fn bounded(alloc: Global, capacity: usize) -> Result<Exclusive<T>, NoMemory>
         requires { 0 < capacity }
         ensures opened { IfOk result (λ q. q ≡ record { items = []; closed = false; capacity = Some capacity; used = 0 }) }
         ensures most { IfOk result (λ q. capacity ≤ 2 ^ 58) }
     {
-        let cells = PlainCells::new(alloc, QueueForm::Bounded(capacity))?;
-        Ok(Exclusive { cells, used: 0 })
+        match PlainCells::new(alloc, QueueForm::Bounded(capacity)) {
+            Ok(cells) => Ok(Exclusive { cells, used: 0 }),
+            Err(_) => Err(NoMemory),
+        }
     }
 
     /// An open empty queue with no bound. It takes no memory: that comes with the messages, a block for 31 of them, and
@@ -275,11 +274,11 @@ impl<'a, T: Drop> Iterator for ExclusiveIter<'a, T> {
 
     ghost use Rattle.std.specs.Prelude.{length};
     ghost use Rattle.std.specs.Iterator.{at_most};
-    ghost use Rattle.concurrent_queue.specs.Walk.{NextGives};
+    ghost use Rattle.concurrent_queue.specs.Walk.{walked, WalksOn};
 
-    ghost next_gives = { λ s r t. NextGives s.queue.now r t.queue.now };
+    ghost next_gives = { WalksOn };
 
-    ghost remaining = { λ s. at_most (length s.queue.now.items) };
+    ghost remaining = { λ s. at_most (length (walked s).now.items) };
 
     fn next(&mut self) -> Option<T> {
         self.queue.pop().ok()
@@ -288,14 +287,14 @@ impl<'a, T: Drop> Iterator for ExclusiveIter<'a, T> {
 
 impl<T: Drop> Exclusive<T> {
     ghost use Rattle.std.specs.Prelude.{◌≡◌};
+    ghost use Rattle.concurrent_queue.specs.Walk.{walked};
 
-    /// The messages, oldest first, each of which leaves the queue as it is given.
+    /// The messages, oldest first, each of which leaves the queue as it is given. It walks this very queue, which is what it
+    /// was until a message is asked for.
     pub fn try_iter(&mut self) -> ExclusiveIter<'_, T>
-        ensures { result.queue.now ≡ self.old }
+        ensures same_queue { (walked result).ghost_name ≡ self.entry.ghost_name }
+        ensures unchanged { (walked result).now ≡ self.old }
     {
         ExclusiveIter { queue: self }
     }
 }
-
-#[cfg(test)]
-mod tests;

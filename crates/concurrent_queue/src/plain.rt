@@ -4,7 +4,8 @@ ghost use Rattle.std.specs.Prelude.{◌≡◌, IfOk};
 ghost use Rattle.concurrent_queue.specs.RingMade.{numbers_below, vacant_slots};
 
 use crate::bounded::GREATEST;
-use crate::cells::{Cells, NoMemory, QueueForm, Slot, Word};
+use crate::cells::{Cells, QueueForm, Slot, Word};
+use crate::error::NoMemory;
 use crate::pool::Pool;
 use std::alloc::{AllocError, Global};
 

@@ -4,7 +4,7 @@ ghost use Rattle.std.specs.Prelude.{◌≡◌, length, ◌≤◌, ◌++◌, map,
 ghost use Rattle.concurrent_queue.specs.Contents.{nones};
 ghost use Rattle.std.specs.VecDeque.{deque_capacity};
 
-use crate::cells::NoMemory;
+use crate::error::NoMemory;
 use std::alloc::{AllocError, Global};
 use std::collections::VecDeque;
 
@@ -155,11 +155,11 @@ impl<T: Drop> Pool<T> {
         }
     }
 
-    /// A spare block, or a new one with its place in the spare list.
+    /// A spare block, or a new one with its place in the spare list. It is refused only where no block is spare.
     pub(crate) fn spare(&mut self) -> Result<u64, NoMemory>
         ensures gives { MatchResult result
             (λ b. (b ≡ spare_in self.old.spares.items (length self.old.blocks.items)) × (blocks_of self.new ≡ blocks_with self.old.spares.items (blocks_of self.old)) × (self.new.spares.items ≡ others_of self.old.spares.items) × (length self.new.blocks.items < 2 ^ 64))
-            (λ _. (self.new.blocks.items ≡ self.old.blocks.items) × (self.new.spares.items ≡ self.old.spares.items)) }
+            (λ _. (self.old.spares.items ≡ []) × (self.new.blocks.items ≡ self.old.blocks.items) × (self.new.spares.items ≡ self.old.spares.items)) }
     {
         match self.spares.pop_front() {
             Some(block) => Ok(block),

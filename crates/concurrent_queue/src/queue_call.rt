@@ -2,7 +2,7 @@
 
 ghost use Rattle.std.specs.Prelude.{◌≡◌};
 ghost use Rattle.concurrent_queue.specs.Dispatch.{IsStateStep, in_single, in_ring, in_blocks, ended};
-ghost use Rattle.concurrent_queue.specs.Replies.{StateFollows, is_bounded};
+ghost use Rattle.concurrent_queue.specs.Replies.{StateFollows};
 
 pub(crate) mod ahead;
 mod place;
@@ -70,7 +70,7 @@ fn wrap_blocks<T: Drop>(stepped: Stepped<UnboundedCall<T>, T>) -> Stepped<CallSt
 /// The first step of a call, in the form of its queue.
 fn first_step<T: Drop, C: Cells<T>>(ask: QueueAsk<T>, cells: &mut C) -> Stepped<CallState<T>, T>
     ensures steps { C.known → IsStateStep (C.contents cells.old) (CallState.Asked ask) (C.contents cells.new) result }
-    ensures answers { StateFollows (is_bounded (C.form_of cells.old)) (CallState.Asked ask) result.action result.reply }
+    ensures answers { StateFollows (C.form_of cells.old) (CallState.Asked ask) result.action result.reply }
 {
     match cells.form() {
         QueueForm::Bounded(1) => wrap_single(single::step(single::first(ask), cells)),
@@ -81,7 +81,7 @@ fn first_step<T: Drop, C: Cells<T>>(ask: QueueAsk<T>, cells: &mut C) -> Stepped<
 
 fn step_state<T: Drop, C: Cells<T>>(state: CallState<T>, cells: &mut C) -> Stepped<CallState<T>, T>
     ensures steps { C.known → IsStateStep (C.contents cells.old) state (C.contents cells.new) result }
-    ensures answers { StateFollows (is_bounded (C.form_of cells.old)) state result.action result.reply }
+    ensures answers { StateFollows (C.form_of cells.old) state result.action result.reply }
 {
     match state {
         CallState::Asked(ask) => first_step(ask, cells),
@@ -127,7 +127,7 @@ impl<T: Drop> QueueCall<T> {
     {
         let state = mem::replace(&mut self.state, CallState::Finished);
         let stepped = step_state(state, cells);
-        self.state = stepped.action;
+        drop(mem::replace(&mut self.state, stepped.action));
         self.mark = stepped.mark;
         stepped.reply
     }

@@ -7,5 +7,3 @@ pub(crate) mod guard;
 pub mod iter;
 pub mod queue;
 pub(crate) mod table;
-#[cfg(test)]
-mod tests;

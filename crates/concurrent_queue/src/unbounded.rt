@@ -12,8 +12,6 @@ mod ask;
 pub(crate) mod ending;
 mod pop;
 mod push;
-#[cfg(test)]
-mod tests;
 
 use crate::call::{QueueAsk, QueueReply, Stepped};
 use crate::cells::Cells;

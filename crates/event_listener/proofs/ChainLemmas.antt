@@ -113,12 +113,12 @@ AllApart-one k (x ∷ ks) a = ((λ e. a.0 (sym e), tt), AllApart-one k ks a.1)
 pub Distinct-more : (k : ℕ) (ks : List ℕ) → Apart (Some k) ks → Distinct ks → Distinct (ks ++ k ∷ [])
 Distinct-more k ks a d = Distinct-joined ks (k ∷ []) d (tt, tt) (AllApart-one k ks a)
 
-first_or-away : (front back : List ℕ) → AllApart front back → Apart (first_or back None) front
+pub first_or-away : (front back : List ℕ) → AllApart front back → Apart (first_or back None) front
 first_or-away front [] a = Apart-none front
 first_or-away [] (b ∷ back) a = tt
 first_or-away (k ∷ front) (b ∷ back) a = (λ e. a.0.0 (sym e), first_or-away front (b ∷ back) a.1)
 
-last_or-away : (p : Option ℕ) (front back : List ℕ) → Apart p back → AllApart front back → Apart (last_or p front) back
+pub last_or-away : (p : Option ℕ) (front back : List ℕ) → Apart p back → AllApart front back → Apart (last_or p front) back
 last_or-away p [] back h a = h
 last_or-away p (k ∷ front) back h a = last_or-away (Some k) front back a.0 a.1
 

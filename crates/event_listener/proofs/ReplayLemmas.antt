@@ -1,5 +1,5 @@
 -- A record grows by a call, and keeps room for the end of each listener.
-use Rattle.std.proofs.Common.{◌≡◌, ℕ, zero, suc, ◌+◌, ◌≤◌, ◌<◌, nat_lt, ◌==◌, Bool, true, false, cond, List, [], ◌∷◌, ◌++◌, length, take, drop, Option, Some, None, is_some, Result, Ok, Err, IfOk, if◌then◌else◌, refl, sym, ap, arith, length-append}
+use Rattle.std.proofs.Common.{◌≡◌, ℕ, zero, suc, ◌+◌, ◌≤◌, ◌<◌, nat_lt, ◌==◌, Bool, true, false, cond, List, [], ◌∷◌, ◌++◌, length, take, drop, Option, Some, None, is_some, Result, Ok, Err, IfOk, if◌then◌else◌, refl, sym, ap, subst, ◌∙◌, arith, length-append}
 use Rattle.std.proofs.lemmas.Map.{length-set_value}
 use Rattle.std.proofs.lemmas.Bool.Decides.{nat_tests}
 use Rattle.std.specs.Map.{lookup, remove_entry}
@@ -8,7 +8,7 @@ use Rattle.event_listener.specs.declared.error.UnknownListener.{UnknownListener}
 use Rattle.event_listener.specs.declared.error.NotifyError.{NotifyError}
 use Rattle.event_listener.specs.declared.recorded.RecordedCall.{RecordedCall}
 use Rattle.event_listener.specs.Lists.{Lists, Notice, same_key, told_as, waits_as, kind_of, listened, without, with_task, told_with, notified, moved, told_by, registration, register_answer, polled, poll_answer, removed, remove_answer}
-use Rattle.event_listener.specs.Replay.{total_of, after, IsAnswered, Replays, IsKept, RecordView, nobody, found, recorded}
+use Rattle.event_listener.specs.Replay.{total_of, after, added, IsAnswered, Replays, IsKept, RecordView, nobody, found, recorded}
 
 module _ {K X : Type 0} (test : K → Bool) where
   remove_entry-length : (es : List (K × X)) → length (remove_entry test es) ≤ length es
@@ -92,21 +92,23 @@ none-of None h = refl
 none-of (Some x) h = absurd (cc)
 
 module _ {T W : Type 0} where
-  pub Replays-more : (first last new : Lists T W) (calls : List (RecordedCall T W)) (call : RecordedCall T W) → Replays first calls last → IsAnswered call last → new ≡ after call last → Replays first (calls ++ call ∷ []) new
-  Replays-more first last new [] call r answered made = (rw r at answered, rw r at made)
-  Replays-more first last new (c ∷ calls) call r answered made = (r.0, Replays-more (after c first) last new calls call r.1 answered made)
+  pub Replays-more : (first last new : Lists T W) (serials end next : ℕ) (calls : List (RecordedCall T W)) (call : RecordedCall T W) → Replays first serials calls last end → IsAnswered call end last → new ≡ after call last → next ≡ added call end → Replays first serials (calls ++ call ∷ []) new next
+  Replays-more first last new serials end next [] call r answered made grown =
+      (subst (λ (x : Lists T W × ℕ). IsAnswered call x.1 x.0) (λ i. (r.0 i, r.1 i)) answered, (made ∙ ap (after call) r.0, grown ∙ ap (added call) r.1))
+  Replays-more first last new serials end next (c ∷ calls) call r answered made grown =
+      (r.0, Replays-more (after c first) last new (added c serials) end next calls call r.1 answered made grown)
 
   -- the record with this call at its end
-  pub kept : (calls : List (RecordedCall T W)) (count capacity : ℕ) (lists : Lists T W) → IsKept calls count capacity lists
-      → (call : RecordedCall T W) (calls' : List (RecordedCall T W)) (count' capacity' : ℕ) (new : Lists T W)
-      → IsAnswered call lists → new ≡ after call lists → calls' ≡ calls ++ call ∷ [] → count' + total_of new ≤ capacity'
-      → IsKept calls' count' capacity' new
-  kept calls count capacity lists h call calls' count' capacity' new answered made grown room =
-      record { replays = rw grown (Replays-more nobody lists new calls call h.replays answered made); room = room }
+  pub kept : (calls : List (RecordedCall T W)) (count capacity : ℕ) (lists : Lists T W) (serials : ℕ) → IsKept calls count capacity lists serials
+      → (call : RecordedCall T W) (calls' : List (RecordedCall T W)) (count' capacity' : ℕ) (new : Lists T W) (next : ℕ)
+      → IsAnswered call serials lists → new ≡ after call lists → next ≡ added call serials → calls' ≡ calls ++ call ∷ [] → count' + total_of new ≤ capacity'
+      → IsKept calls' count' capacity' new next
+  kept calls count capacity lists serials h call calls' count' capacity' new next answered made more grown room =
+      record { replays = rw grown (Replays-more nobody lists new 0 serials next calls call h.replays answered made more); room = room }
 
   -- a record and lists that have both gone on by this call
-  pub is-recorded : (call : RecordedCall T W) (old : RecordView T W) (calls : List (RecordedCall T W)) (lists : Lists T W) → lists ≡ after call old.lists → calls ≡ old.calls ++ call ∷ [] → (let new : RecordView T W = record { calls = calls; lists = lists } in new) ≡ recorded call old
-  is-recorded call old calls lists made grown = rw (made, grown) refl
+  pub is-recorded : (call : RecordedCall T W) (old : RecordView T W) (calls : List (RecordedCall T W)) (lists : Lists T W) (serials : ℕ) → lists ≡ after call old.lists → serials ≡ added call old.serials → calls ≡ old.calls ++ call ∷ [] → (let new : RecordView T W = record { calls = calls; lists = lists; serials = serials } in new) ≡ recorded call old
+  is-recorded call old calls lists serials made more grown = rw (made, more, grown) refl
 
   pub total-listened : (key : Key) (lists : Lists T W) → total_of (listened key lists) ≡ total_of lists + 1
   total-listened key lists = rw (length-append lists.waiting ((key, None) ∷ [])) (omega arith)

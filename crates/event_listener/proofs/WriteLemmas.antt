@@ -5,7 +5,7 @@ use Rattle.slab.specs.Slab.{Slab, get, ContainsKey, with_value, Updates}
 use Rattle.slab.proofs.SlabLemmas.{Updates-with_value}
 use Rattle.event_listener.specs.declared.node.Ends.{Ends}
 use Rattle.event_listener.specs.declared.node.Node.{Node}
-use Rattle.event_listener.specs.Chain.{after_of, before_of, node_after, node_before, Links_last}
+use Rattle.event_listener.specs.Chain.{Link, after_of, before_of, node_after, node_before, Unlinks, Links_last}
 
 module _ {T W : Type 0} where
   -- what a function of nodes gives at each key, where a write keeps it
@@ -35,26 +35,46 @@ module _ {T W : Type 0} where
   after-same_first e e' slab None h = h
   after-same_first e e' slab (Some x) h = refl
 
-  after-updated : (e : Ends) (slab slab' : Slab (Node T W)) (at : ℕ) (o : Option (Node T W)) → Updates slab slab' at o → (x : Option ℕ) → x ≢ Some at → after_of e slab' x ≡ after_of e slab x
-  after-updated e slab slab' at o u None ne = refl
-  after-updated e slab slab' at o u (Some x) ne = ap node_after (u.others x (λ q. ne (ap Some q)))
+  -- what stands after and before all other nodes, where one node was changed
+  after-others : (e : Ends) (slab slab' : Slab (Node T W)) (k : ℕ) → ((x : ℕ) → x ≢ k → get slab' x ≡ get slab x) → (x : Option ℕ) → x ≢ Some k → after_of e slab' x ≡ after_of e slab x
+  after-others e slab slab' k o None ne = refl
+  after-others e slab slab' k o (Some x) ne = ap node_after (o x (λ q. ne (ap Some q)))
 
-  -- a node that was made behind the last one, which then leads to it
-  pub Links_last-made : (e e2 e3 : Ends) (slab slab1 slab2 : Slab (Node T W)) (at serial : ℕ) (node : Node T W) → node.before ≡ e.last → node.after ≡ None → Updates slab slab1 at (Some node) → get slab at ≡ None → IfSome e.last (λ k. ContainsKey slab k) → e3.first ≡ e2.first → e3.last ≡ Some at → after_of e2 slab2 e.last ≡ Some at → ((x : Option ℕ) → x ≢ e.last → after_of e2 slab2 x ≡ after_of e slab1 x) → ((x : Option ℕ) → before_of e2 slab2 x ≡ before_of e slab1 x) → Links_last (after_of e slab) (before_of e slab) (after_of e3 slab2) (before_of e3 slab2) at
-  Links_last-made e e2 e3 slab slab1 slab2 at serial node nb na u absent live h3 l3 fa fo bk =
+  before-others : (e : Ends) (slab slab' : Slab (Node T W)) (k : ℕ) → ((x : ℕ) → x ≢ k → get slab' x ≡ get slab x) → (x : Option ℕ) → x ≢ Some k → before_of e slab' x ≡ before_of e slab x
+  before-others e slab slab' k o None ne = refl
+  before-others e slab slab' k o (Some x) ne = ap node_before (o x (λ q. ne (ap Some q)))
+
+  -- a node that is out of its chain leaves no other link behind
+  pub Unlinks-taken : (A B : Link) (e : Ends) (slab slab' : Slab (Node T W)) (k : ℕ) → ((x : ℕ) → x ≢ k → get slab' x ≡ get slab x) → Unlinks A B (after_of e slab) (before_of e slab) k → B (Some k) ≢ Some k → A (Some k) ≢ Some k → Unlinks A B (after_of e slab') (before_of e slab') k
+  Unlinks-taken A B e slab slab' k o u b a =
+      record {
+        forward = after-others e slab slab' k o (B (Some k)) b ∙ u.forward;
+        forward_rest = λ x ne nk. after-others e slab slab' k o x nk ∙ u.forward_rest x ne nk;
+        backward = before-others e slab slab' k o (A (Some k)) a ∙ u.backward;
+        backward_rest = λ x ne nk. before-others e slab slab' k o x nk ∙ u.backward_rest x ne nk;
+      }
+
+  -- a node that was moved behind the last one, which then leads to it
+  pub Links_last-moved : (e e2 e3 : Ends) (slab slab1 slab2 : Slab (Node T W)) (at : ℕ) → node_before (get slab1 at) ≡ e.last → node_after (get slab1 at) ≡ None → ((x : ℕ) → x ≢ at → get slab1 x ≡ get slab x) → e.last ≢ Some at → e3.first ≡ e2.first → e3.last ≡ Some at → after_of e2 slab2 e.last ≡ Some at → ((x : Option ℕ) → x ≢ e.last → after_of e2 slab2 x ≡ after_of e slab1 x) → ((x : Option ℕ) → before_of e2 slab2 x ≡ before_of e slab1 x) → Links_last (after_of e slab) (before_of e slab) (after_of e3 slab2) (before_of e3 slab2) at
+  Links_last-moved e e2 e3 slab slab1 slab2 at nb na u other h3 l3 fa fo bk =
       record {
         forward = after-same_first e2 e3 slab2 e.last h3 ∙ fa;
-        forward_new = fo (Some at) (not_last e.last refl live) ∙ ap node_after u.changed ∙ na;
-        forward_rest = λ x ne nk. after-same_first e2 e3 slab2 x h3 ∙ fo x ne ∙ after-updated e slab slab1 at (Some node) u x nk;
+        forward_new = fo (Some at) (λ q. other (sym q)) ∙ na;
+        forward_rest = λ x ne nk. after-same_first e2 e3 slab2 x h3 ∙ fo x ne ∙ after-others e slab slab1 at u x nk;
         backward = l3;
-        backward_new = bk (Some at) ∙ ap node_before u.changed ∙ nb;
+        backward_new = bk (Some at) ∙ nb;
         backward_rest = rest;
       }
     where
-      not_last : (o : Option ℕ) → o ≡ e.last → IfSome o (λ k. ContainsKey slab k) → Some at ≢ o
-      not_last None q h eq = cc
-      not_last (Some k) q h eq = let f : k ≡ at = cc in let g : get slab k ≡ None = ap (get slab) f ∙ absent in let i : IsSome (get slab k) = h in absurd (cc)
-
       rest : (x : Option ℕ) → x ≢ None → x ≢ Some at → before_of e3 slab2 x ≡ before_of e slab x
       rest None ne nk = absurd (ne refl)
-      rest (Some x) ne nk = bk (Some x) ∙ ap node_before (u.others x (λ q. nk (ap Some q)))
+      rest (Some x) ne nk = bk (Some x) ∙ ap node_before (u x (λ q. nk (ap Some q)))
+
+  -- a node that was made behind the last one, which then leads to it
+  pub Links_last-made : (e e2 e3 : Ends) (slab slab1 slab2 : Slab (Node T W)) (at : ℕ) (node : Node T W) → node.before ≡ e.last → node.after ≡ None → Updates slab slab1 at (Some node) → get slab at ≡ None → IfSome e.last (λ k. ContainsKey slab k) → e3.first ≡ e2.first → e3.last ≡ Some at → after_of e2 slab2 e.last ≡ Some at → ((x : Option ℕ) → x ≢ e.last → after_of e2 slab2 x ≡ after_of e slab1 x) → ((x : Option ℕ) → before_of e2 slab2 x ≡ before_of e slab1 x) → Links_last (after_of e slab) (before_of e slab) (after_of e3 slab2) (before_of e3 slab2) at
+  Links_last-made e e2 e3 slab slab1 slab2 at node nb na u absent live =
+      Links_last-moved e e2 e3 slab slab1 slab2 at (ap node_before u.changed ∙ nb) (ap node_after u.changed ∙ na) u.others (not_last e.last live)
+    where
+      not_last : (o : Option ℕ) → IfSome o (λ k. ContainsKey slab k) → o ≢ Some at
+      not_last None h eq = cc
+      not_last (Some k) h eq = let f : k ≡ at = cc in let g : get slab k ≡ None = ap (get slab) f ∙ absent in let i : IsSome (get slab k) = h in absurd (cc)

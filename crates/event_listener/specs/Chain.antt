@@ -1,4 +1,4 @@
--- A chain of nodes through their links, seen as the list of their slots.
+-- Chains of nodes through their links, seen as lists of their slots.
 use Rattle.std.specs.Prelude.{◌≡◌, ◌≢◌, ℕ, zero, suc, ◌<◌, List, [], ◌∷◌, ◌++◌, length, Option, Some, None, IsSome, IfSome}
 use Rattle.slab.specs.Slab.{Slab, get}
 use Rattle.event_listener.specs.declared.key.Key.{Key}
@@ -8,7 +8,7 @@ use Rattle.event_listener.specs.declared.node.State.{State}
 use Rattle.event_listener.specs.declared.node.State.TheVariants.{Waiting, Told}
 use Rattle.event_listener.specs.Lists.{Notice, Lists}
 
--- Links are two functions, where None stands for the two ends: what follows None is the first, and
+-- The links of a chain are two functions, where None stands for the two ends: what follows None is the first, and
 -- what stands before None is the last.
 abbrev pub Link : Type 0
 Link = Option ℕ → Option ℕ
@@ -153,18 +153,15 @@ module _ {T W : Type 0} where
     pub before_other : before (Some k) ≢ Some k
     pub after_other : after (Some k) ≢ Some k
 
-  -- the links lead through these slots and no other node stands
-  pub record Chained (after before : Link) (entries : ℕ → Option (Entry T W)) (ks : List ℕ) : Type 0 where
-    pub linked : Linked after before None ks None
-    pub distinct : Distinct ks
-    pub covered : (k : ℕ) → IsSome (entries k) → Among k ks
-
-  -- the chain: first the told, then the waiting, of which the cursor is the first
-  pub record Sound (after before : Link) (entries : ℕ → Option (Entry T W)) (count : ℕ) (cursor : Option ℕ) (told serials : ℕ) (ks ws : List ℕ) : Type 0 where
-    pub chained : Chained after before entries (ks ++ ws)
+  -- The told nodes stand along the links of one chain from its first to its last, and the waiting ones along those of
+  -- another; no node is in both, and no other node stands.
+  pub record Sound (told_after told_before after before : Link) (entries : ℕ → Option (Entry T W)) (count : ℕ) (told serials : ℕ) (ks ws : List ℕ) : Type 0 where
+    pub told_linked : Linked told_after told_before None ks None
+    pub waiting_linked : Linked after before None ws None
+    pub distinct : Distinct (ks ++ ws)
+    pub covered : (k : ℕ) → IsSome (entries k) → Among k (ks ++ ws)
     pub tolds : AtEach (λ k. IsTold (entries k)) ks
     pub waits : AtEach (λ k. IsWaiting (entries k)) ws
     pub count_is : length (ks ++ ws) ≡ count
-    pub cursor_is : cursor ≡ first_or ws None
     pub told_is : told ≡ length ks
     pub fresh : (k : ℕ) (e : Entry T W) → entries k ≡ Some e → e.serial < serials

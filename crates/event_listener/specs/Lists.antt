@@ -98,6 +98,10 @@ module _ {T W : Type 0} where
   abbrev pub poll_answer : Key → Lists T W → Result (Option T) UnknownListener
   poll_answer key lists = elim (told_as lists key) [ Some notice ↦ Ok (Some notice.tag) | None ↦ (if is_some (waits_as lists key) then Ok None else Err (record {})) ]
 
+  -- the tag of a told listener
+  abbrev pub tag_told : Key → Lists T W → Option T
+  tag_told key lists = elim (told_as lists key) [ Some notice ↦ Some notice.tag | None ↦ None ]
+
   abbrev pub polled : Key → Lists T W → Lists T W
   polled key lists = if is_some (told_as lists key) then without key lists else lists
 

@@ -1,16 +1,18 @@
 -- What the private nodes hold.
-use Rattle.std.specs.Prelude.{ℕ, Bool, true, false, ◌==◌, if◌then◌else◌, Option, Some, None}
+use Rattle.std.specs.Prelude.{ℕ, ◌+◌, ◌-◌, ◌^◌, min, Bool, true, false, ◌==◌, if◌then◌else◌, Option, Some, None}
+use Rattle.event_listener.specs.declared.key.Key.{Key}
 use Rattle.event_listener.specs.declared.node.State.{State}
 use Rattle.event_listener.specs.declared.node.State.TheVariants.{Waiting, Told}
 use Rattle.event_listener.specs.declared.node.Change.{Change}
 use Rattle.event_listener.specs.declared.node.Change.TheVariants as change
 use Rattle.event_listener.specs.declared.node.Node.{Node}
 use Rattle.event_listener.specs.declared.node.Place.{Place}
+use Rattle.event_listener.specs.Lists.{same_key}
 
--- a visit counts where the node is not the call's own
-abbrev pub counted : Option ℕ → ℕ → ℕ
-counted None at = 1
-counted (Some own) at = if own == at then 0 else 1
+-- the visits after one more, which counts where it is not to the call's own listener
+abbrev pub visited : Option Key → Key → ℕ → ℕ
+visited None key visits = min (visits + 1) (2 ^ 128 - 1)
+visited (Some own) key visits = if same_key own key then visits else min (visits + 1) (2 ^ 128 - 1)
 
 module _ {T W : Type 0} where
   abbrev pub is_told : State T W → Bool
@@ -20,16 +22,27 @@ module _ {T W : Type 0} where
   abbrev pub place_of : Node T W → Place
   place_of node = record { serial = node.serial; before = node.before; after = node.after; told = is_told node.state }
 
+  abbrev pub place_at : Option (Node T W) → Option Place
+  place_at None = None
+  place_at (Some node) = Some (place_of node)
+
+  -- the visits after one to what stands in a slot, where a free one counts for nothing
+  abbrev pub visited_at : Option Key → ℕ → Option (Node T W) → ℕ → ℕ
+  visited_at own slot None visits = visits
+  visited_at own slot (Some node) visits = visited own (record { slot = slot; serial = node.serial }) visits
+
   abbrev pub changed : Change T W → Node T W → Node T W
   changed (change.Before before) node = record node { before = before }
   changed (change.After after) node = record node { after = after }
   changed (change.State state) node = record node { state = state }
+  changed (change.Last before state) node = record node { before = before; after = None; state = state }
 
   -- what a change of the state displaces
   abbrev pub given : Change T W → Node T W → Option (State T W)
   given (change.Before before) node = None
   given (change.After after) node = None
   given (change.State state) node = Some node.state
+  given (change.Last before state) node = Some node.state
 
   -- whether the node has this serial, and then whether it is told
   abbrev pub found : Option (Node T W) → ℕ → Option Bool

@@ -4,7 +4,7 @@ use Rattle.event_listener.specs.declared.calls.Registered.{Registered}
 use Rattle.event_listener.specs.declared.calls.Registered.TheVariants as registered
 use Rattle.event_listener.specs.declared.recorded.RecordedCall.{RecordedCall}
 use Rattle.event_listener.specs.declared.recorded.RecordedCall.TheVariants.{Listened, Registered as Registering, Polled, Removed, Notified}
-use Rattle.event_listener.specs.Lists.{Lists, kind_of, listened, registration, register_answer, polled, poll_answer, removed, remove_answer, notified}
+use Rattle.event_listener.specs.Lists.{Lists, serial_of, kind_of, listened, registration, register_answer, polled, poll_answer, removed, remove_answer, notified}
 use Rattle.event_listener.specs.Runs.{tags_given, tags_answer}
 
 -- what a registration found: the tag of a told listener, or one that waits
@@ -34,29 +34,39 @@ module _ {T W : Type 0} where
   after (Removed key pass_on told) lists = removed key pass_on lists
   after (Notified count additional tags answer) lists = notified additional (tags_given additional count tags.items lists) lists
 
-  -- its answer is what the call answers at these lists; a new listener's key is none of a listed one
-  abbrev pub IsAnswered : RecordedCall T W → Lists T W → Type 0
-  IsAnswered (Listened key) lists = kind_of lists key ≡ None
-  IsAnswered (Registering key task tag) lists = register_answer key lists ≡ Ok (found tag)
-  IsAnswered (Polled key tag) lists = poll_answer key lists ≡ Ok (Some tag)
-  IsAnswered (Removed key pass_on told) lists = remove_answer key lists ≡ Ok told
-  IsAnswered (Notified count additional tags answer) lists = tags_answer additional count tags.items lists ≡ answer
+  -- how many listeners were added, with a recorded call
+  abbrev pub added : RecordedCall T W → ℕ → ℕ
+  added (Listened key) serials = serials + 1
+  added (Registering key task tag) serials = serials
+  added (Polled key tag) serials = serials
+  added (Removed key pass_on told) serials = serials
+  added (Notified count additional tags answer) serials = serials
 
-  -- these calls, one after another, lead from the first lists to the last, each with its own answer
-  abbrev pub Replays : Lists T W → List (RecordedCall T W) → Lists T W → Type 0
-  Replays first [] last = last ≡ first
-  Replays first (call ∷ calls) last = IsAnswered call first × Replays (after call first) calls last
+  -- Its answer is what the call answers at these lists. A new listener's key has the serial that comes after all that
+  -- were given: so no key comes back, neither of a listed one nor of one that left.
+  abbrev pub IsAnswered : RecordedCall T W → ℕ → Lists T W → Type 0
+  IsAnswered (Listened key) serials lists = (kind_of lists key ≡ None) × (serial_of key ≡ serials)
+  IsAnswered (Registering key task tag) serials lists = register_answer key lists ≡ Ok (found tag)
+  IsAnswered (Polled key tag) serials lists = poll_answer key lists ≡ Ok (Some tag)
+  IsAnswered (Removed key pass_on told) serials lists = remove_answer key lists ≡ Ok told
+  IsAnswered (Notified count additional tags answer) serials lists = tags_answer additional count tags.items lists ≡ answer
+
+  -- these calls, one after another, lead from the first lists and serials to the last, each with its own answer
+  abbrev pub Replays : Lists T W → ℕ → List (RecordedCall T W) → Lists T W → ℕ → Type 0
+  Replays first serials [] last end = (last ≡ first) × (end ≡ serials)
+  Replays first serials (call ∷ calls) last end = IsAnswered call serials first × Replays (after call first) (added call serials) calls last end
 
   -- the record replays, and has room for the end of each listener
-  pub record IsKept (calls : List (RecordedCall T W)) (count capacity : ℕ) (lists : Lists T W) : Type 0 where
-    pub replays : Replays nobody calls lists
+  pub record IsKept (calls : List (RecordedCall T W)) (count capacity : ℕ) (lists : Lists T W) (serials : ℕ) : Type 0 where
+    pub replays : Replays nobody 0 calls lists serials
     pub room : count + total_of lists ≤ capacity
 
--- a list with its record
+-- a list with its record, and how many listeners were ever added
 pub record RecordView (T W : Type 0) : Type 0 where
   pub calls : List (RecordedCall T W)
   pub lists : Lists T W
+  pub serials : ℕ
 
 -- the call was made, and recorded last
 abbrev pub recorded : {T W : Type 0} → RecordedCall T W → RecordView T W → RecordView T W
-recorded call view = record { calls = view.calls ++ call ∷ []; lists = after call view.lists }
+recorded call view = record { calls = view.calls ++ call ∷ []; lists = after call view.lists; serials = added call view.serials }

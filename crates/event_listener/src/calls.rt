@@ -2,7 +2,7 @@
 //!
 //! They are written over the two lists alone, and know nothing of how these are kept.
 ghost use Rattle.std.specs.Prelude.{◌≡◌, ◌+◌, ◌*◌, ◌≤◌, if◌then◌else◌, is_some, IsSome, OnOk, false};
-ghost use Rattle.event_listener.specs.Lists.{moved, kind_of, told_as, registration, register_answer, polled, poll_answer, removed, remove_answer, removed_wakes, told_by};
+ghost use Rattle.event_listener.specs.Lists.{moved, kind_of, told_as, registration, register_answer, polled, poll_answer, tag_told, removed, remove_answer, removed_wakes, told_by};
 ghost use Rattle.event_listener.specs.Order.{HasLeft};
 ghost use Rattle.event_listener.specs.Notices.{Notifies, Woken};
 
@@ -37,16 +37,13 @@ impl<T: Drop, W: Drop> List<T, W> {
         ensures room { self.new.room ≡ (if is_some (told_as self.old.lists key) then self.old.room + 1 else self.old.room) }
         ensures visits { self.new.visits ≤ 5 }
     {
-        match self.kind(key) {
-            None => {
-                self.start();
-                Err(UnknownListener)
-            }
+        match self.begin(key) {
+            None => Err(UnknownListener),
             Some(false) => {
                 self.store(key, task);
                 Ok(Registered::Waiting)
             }
-            Some(true) => match self.leave(key) {
+            Some(true) => match self.leave_told(key, true) {
                 State::Told { tag, .. } => Ok(Registered::Told(tag)),
                 State::Waiting(_) => unreachable!(),
             },
@@ -66,17 +63,32 @@ impl<T: Drop, W: Drop> List<T, W> {
         ensures room { self.new.room ≡ (if is_some (told_as self.old.lists key) then self.old.room + 1 else self.old.room) }
         ensures visits { self.new.visits ≡ self.old.visits }
     {
-        let visits = self.last_visits();
         match self.kind(key) {
             None => Err(UnknownListener),
             Some(false) => Ok(None),
-            Some(true) => match self.leave(key) {
-                State::Told { tag, .. } => {
-                    self.restore(visits);
-                    Ok(Some(tag))
-                }
+            Some(true) => match self.leave_told(key, false) {
+                State::Told { tag, .. } => Ok(Some(tag)),
                 State::Waiting(_) => unreachable!(),
             },
+        }
+    }
+
+    /// Takes a listener off, told or not, and gives the tag of a told one. It passes nothing on.
+    ///
+    /// One whose time is up so leaves in the call that finds it untold: a told listener never gives `None`.
+    pub(crate) fn take_off(&mut self, key: Key) -> Option<T>
+        ensures tag { result ≡ tag_told key self.old.lists }
+        ensures lists { self.new.lists ≡ removed key false self.old.lists }
+        ensures once { IsSome (kind_of self.old.lists key) → HasLeft self.new key }
+        ensures left { (key : Key) → HasLeft self.old key → HasLeft self.new key }
+    {
+        match self.poll(key) {
+            Ok(Some(tag)) => Some(tag),
+            Ok(None) => {
+                self.leave_waiting(key);
+                None
+            }
+            Err(UnknownListener) => None,
         }
     }
 
@@ -137,20 +149,23 @@ impl<T: Drop, W: Drop> List<T, W> {
         ensures room { self.new.room ≡ (if is_some (kind_of self.old.lists key) then self.old.room + 1 else self.old.room) }
         ensures visits { pass_on ≡ false → self.new.visits ≤ 5 }
     {
-        if self.kind(key).is_none() {
-            self.start();
-            return Err(UnknownListener);
-        }
-        match self.leave(key) {
-            State::Waiting(_) => Ok(false),
-            State::Told { additional, tag } => {
-                if pass_on && self.to_move(additional, 1) > 0 {
-                    if let Some(next) = self.tell_first(additional, tag) {
-                        sink.wake(next);
-                    }
-                }
-                Ok(true)
+        match self.begin(key) {
+            None => Err(UnknownListener),
+            Some(false) => {
+                self.leave_waiting(key);
+                Ok(false)
             }
+            Some(true) => match self.leave_told(key, true) {
+                State::Told { additional, tag } => {
+                    if pass_on && self.to_move(additional, 1) > 0 {
+                        if let Some(next) = self.tell_first(additional, tag) {
+                            sink.wake(next);
+                        }
+                    }
+                    Ok(true)
+                }
+                State::Waiting(_) => unreachable!(),
+            },
         }
     }
 }

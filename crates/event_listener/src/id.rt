@@ -8,8 +8,8 @@ use std::marker::Model;
 /// The identity of one event.
 ///
 /// [`EventIds`] alone makes one, no two that come from one source are equal, and there is no copy of it: the event
-/// that it is moved into is the only one of its name. Own to this project: `event-listener` tells events apart by
-/// their addresses.
+/// that it is moved into is the only one of its name. Equality of identities waits for nobody. Own to this project:
+/// `event-listener` tells events apart by their addresses.
 #[derive(Drop)]
 pub struct EventId {
     number: u64,
@@ -23,9 +23,31 @@ impl Model for EventId {
     ghost view = { λ id. id.number };
 }
 
+// Two identities are equal exactly where their numbers are: the model above is the number.
+impl PartialEq for EventId {
+    ghost use Rattle.std.specs.Prelude.{nat_eq};
+    ghost use Rattle.std.specs.Cmp.Rules.{comparing};
+    ghost use Rattle.std.proofs.Common.{rules};
+
+    ghost eq = { nat_eq };
+
+    ghost laws = { Prim.search (comparing, rules) };
+
+    fn eq(&self, other: &EventId) -> bool {
+        self.number == other.number
+    }
+}
+
+impl Eq for EventId {
+    ghost use Rattle.std.specs.Cmp.Rules.{comparing};
+    ghost use Rattle.std.proofs.Common.{rules};
+
+    ghost laws = { Prim.search (comparing, rules) };
+}
+
 impl EventId {
-    // Who listens keeps the number, so that the identity itself stays with its event.
-    pub(crate) fn number(&self) -> u64
+    /// Its number, by which a name of the event tells it from others while the identity itself stays with the event.
+    pub fn number(&self) -> u64
         ensures { result ≡ self.now }
     {
         self.number

@@ -1,12 +1,13 @@
 //! Events and their listeners, and the lists of listeners inside them, as `event-listener` 5.4.2 has them.
 //!
-//! A [`List`](list::List) has its listeners in the order of listening. Each is told or waits, and the told ones come
-//! first. A notice tells the first ones that wait, hands each a tag, and gives their tasks to a sink. Every call is one
-//! operation on two lists, told and waiting, and its contract names that operation.
+//! An [`Event`] is a list of listeners behind a lock, with an identity from [`EventIds`]. An [`EventListener`] is a place in
+//! it that is given up when it is dropped; it is polled, or a thread waits on it. A [`StackSlot`] and its [`StackListener`],
+//! which [`listener!`](crate::listener) writes, do the same. A notice is a number, perhaps with a tag for each one told
+//! ([`IntoNotification`]). A [`RecordedEvent`] keeps a record of its calls beside the list.
 //!
-//! An [`Event`](event::Event) is such a list behind a lock, with an identity. An
-//! [`EventListener`](listener::EventListener) is a place in it that is given up when it is dropped; it is polled, or a
-//! thread waits on it. A [`RecordedEvent`](recorded::RecordedEvent) keeps a record of its calls beside the list.
+//! A [`List`] is such a list by itself: its listeners in the order of listening, of which each is told or waits, the told ones
+//! first. A notice tells the first ones that wait, hands each a tag, and gives their tasks to a sink ([`Wakes`]). Every call is
+//! one operation on two lists, told and waiting, and its contract names that operation.
 #![tactic(auto)]
 
 pub mod calls;
@@ -21,7 +22,7 @@ pub mod list;
 pub mod listener;
 mod node;
 pub mod notify;
-mod parker;
+pub mod parker;
 mod place;
 pub mod recorded;
 mod recording;
@@ -31,4 +32,23 @@ pub mod stack;
 pub mod tagged;
 pub mod tagged_with;
 pub mod wakes;
-mod waking;
+pub mod waking;
+
+pub use calls::Registered;
+pub use error::{ListenError, NoMemory, NotifyError, UnknownListener};
+pub use event::Event;
+pub use id::{EventId, EventIds, IdsUsedUp};
+pub use into_notification::IntoNotification;
+pub use key::Key;
+pub use list::List;
+pub use listener::{EventListener, Listener, PollFault, WaitError};
+pub use notify::{Additional, Notification, Notify};
+pub use parker::Parker;
+pub use recorded::{RecordedCall, RecordedEvent, RegisterError};
+pub use relaxed::Relaxed;
+pub use run::{ListCall, ListReply, ListRun, Target};
+pub use stack::{StackListener, StackSlot};
+pub use tagged::Tag;
+pub use tagged_with::TagWith;
+pub use wakes::Wakes;
+pub use waking::{Task, WakeNow, WakerCell};

@@ -1,11 +1,34 @@
-//! The links between nodes. What comes after nobody is the first, and what stands before nobody is the last.
-ghost use Rattle.std.specs.Prelude.{◌≡◌, ◌≢◌, ℕ, ◌+◌, ◌^◌, ◌<◌, ◌≤◌, Option, IsSome, IfSome, Some, None, IsOk, IfOk, OnOk, OnErr};
+//! The links between nodes. What comes after nobody is the first of a chain, and what stands before nobody its last.
+ghost use Rattle.std.specs.Prelude.{◌≡◌, ◌≢◌, ℕ, ◌+◌, ◌^◌, ◌<◌, ◌≤◌, false, Option, IsSome, IfSome, Some, None, IsOk, IfOk, OnOk, OnErr};
 ghost use Rattle.slab.specs.Slab.{get, slab_len, ContainsKey, HasRoomFor};
-ghost use Rattle.event_listener.specs.Chain.{after_of, before_of, entry_at, fresh_entry, Unlinks, Links_last, Beside};
-ghost use Rattle.event_listener.specs.Nodes.{is_told, counted};
+ghost use Rattle.event_listener.specs.Chain.{after_of, before_of, entry_at, fresh_entry, node_after, node_before, Unlinks, Links_last, Beside};
+ghost use Rattle.event_listener.specs.Nodes.{found};
 
 use crate::error::NoMemory;
+use crate::key::Key;
 use crate::node::{Change, Ends, Node, Nodes, State};
+
+/// Looks whether the key's node is there, and then whether it is told. The look belongs to its listener's call, or to a
+/// call without a number.
+pub(crate) fn find<T: Drop, W: Drop>(
+    nodes: &mut Nodes<T, W>,
+    key: Key,
+    counted: bool,
+) -> Option<bool>
+    ensures answer { result ≡ found (get nodes.old.slab key.slot) key.serial }
+    ensures slab { nodes.new.slab ≡ nodes.old.slab }
+    ensures settled { nodes.new.visits ≡ 0 }
+    ensures number { nodes.new.last ≤ nodes.old.last + (nodes.old.visits + 1) }
+    ensures uncounted { counted ≡ false → nodes.new.last ≡ nodes.old.last }
+{
+    nodes.begin(key);
+    let found = match nodes.read(key.slot) {
+        Some(place) if place.serial == key.serial => Some(place.told),
+        _ => None,
+    };
+    nodes.settle(counted);
+    found
+}
 
 /// Lets this node, or the end, be followed by another.
 pub(crate) fn set_after<T: Drop, W: Drop>(
@@ -15,7 +38,6 @@ pub(crate) fn set_after<T: Drop, W: Drop>(
     to: Option<usize>,
 )
     requires present { IfSome at (λ k. ContainsKey nodes.old.slab k) }
-    requires room { nodes.old.visits + 1 < 2 ^ 128 }
     ensures after { after_of ends.new nodes.new.slab at ≡ to }
     ensures others { (x : Option ℕ) → x ≢ at → after_of ends.new nodes.new.slab x ≡ after_of ends.old nodes.old.slab x }
     ensures before { (x : Option ℕ) → before_of ends.new nodes.new.slab x ≡ before_of ends.old nodes.old.slab x }
@@ -24,6 +46,7 @@ pub(crate) fn set_after<T: Drop, W: Drop>(
     ensures capacity { nodes.new.slab.capacity ≡ nodes.old.slab.capacity }
     ensures own { nodes.new.own ≡ nodes.old.own }
     ensures visits { nodes.new.visits ≤ nodes.old.visits + 1 }
+    ensures last { nodes.new.last ≡ nodes.old.last }
 {
     match at {
         Some(k) => {
@@ -41,7 +64,6 @@ pub(crate) fn set_before<T: Drop, W: Drop>(
     to: Option<usize>,
 )
     requires present { IfSome at (λ k. ContainsKey nodes.old.slab k) }
-    requires room { nodes.old.visits + 1 < 2 ^ 128 }
     ensures before { before_of ends.new nodes.new.slab at ≡ to }
     ensures others { (x : Option ℕ) → x ≢ at → before_of ends.new nodes.new.slab x ≡ before_of ends.old nodes.old.slab x }
     ensures after { (x : Option ℕ) → after_of ends.new nodes.new.slab x ≡ after_of ends.old nodes.old.slab x }
@@ -50,6 +72,7 @@ pub(crate) fn set_before<T: Drop, W: Drop>(
     ensures capacity { nodes.new.slab.capacity ≡ nodes.old.slab.capacity }
     ensures own { nodes.new.own ≡ nodes.old.own }
     ensures visits { nodes.new.visits ≤ nodes.old.visits + 1 }
+    ensures last { nodes.new.last ≡ nodes.old.last }
 {
     match at {
         Some(k) => {
@@ -59,36 +82,7 @@ pub(crate) fn set_before<T: Drop, W: Drop>(
     }
 }
 
-/// Links these neighbours of a node to each other, and takes the node out.
-fn relink<T: Drop, W: Drop>(
-    nodes: &mut Nodes<T, W>,
-    ends: &mut Ends,
-    at: usize,
-    before: Option<usize>,
-    after: Option<usize>,
-) -> State<T, W>
-    requires present { ContainsKey nodes.old.slab at }
-    requires before { before_of ends.old nodes.old.slab (Some at) ≡ before }
-    requires after { after_of ends.old nodes.old.slab (Some at) ≡ after }
-    requires before_live { IfSome before (λ k. ContainsKey nodes.old.slab k) }
-    requires after_live { IfSome after (λ k. ContainsKey nodes.old.slab k) }
-    requires before_other { before ≢ Some at }
-    requires after_other { after ≢ Some at }
-    requires room { nodes.old.visits + 2 < 2 ^ 128 }
-    ensures links { Unlinks (after_of ends.old nodes.old.slab) (before_of ends.old nodes.old.slab) (after_of ends.new nodes.new.slab) (before_of ends.new nodes.new.slab) at }
-    ensures gone { entry_at nodes.new.slab at ≡ None }
-    ensures others { (k : ℕ) → k ≢ at → entry_at nodes.new.slab k ≡ entry_at nodes.old.slab k }
-    ensures state { IfSome (entry_at nodes.old.slab at) (λ e. result ≡ e.state) }
-    ensures len { slab_len nodes.new.slab + 1 ≡ slab_len nodes.old.slab }
-    ensures capacity { nodes.new.slab.capacity ≡ nodes.old.slab.capacity }
-    ensures visits { nodes.new.visits ≤ nodes.old.visits + 2 }
-{
-    set_after(nodes, ends, before, after);
-    set_before(nodes, ends, after, before);
-    nodes.take(at)
-}
-
-/// Makes a node behind the last one.
+/// Begins a call that has a node made, behind the last one of the chain.
 pub(crate) fn link_last<T: Drop, W: Drop>(
     nodes: &mut Nodes<T, W>,
     ends: &mut Ends,
@@ -100,7 +94,6 @@ pub(crate) fn link_last<T: Drop, W: Drop>(
     ensures made { IfOk result (λ at. entry_at nodes.new.slab at ≡ Some (fresh_entry serial)) }
     ensures others { IfOk result (λ at. (k : ℕ) → k ≢ at → entry_at nodes.new.slab k ≡ entry_at nodes.old.slab k) }
     ensures len { OnOk result (slab_len nodes.new.slab ≡ slab_len nodes.old.slab + 1) }
-    ensures visits { nodes.new.visits ≤ 1 }
     ensures succeeds { HasRoomFor nodes.old.slab 1 → IsOk result }
     ensures room { HasRoomFor nodes.old.slab 1 → nodes.new.slab.capacity ≡ nodes.old.slab.capacity }
     ensures err { OnErr result (nodes.new.slab ≡ record nodes.old.slab { capacity = nodes.new.slab.capacity }) }
@@ -108,6 +101,8 @@ pub(crate) fn link_last<T: Drop, W: Drop>(
     ensures within { slab_len nodes.new.slab ≤ nodes.new.slab.capacity }
     ensures fits { nodes.new.slab.capacity < 2 ^ 64 }
     ensures err_ends { OnErr result (ends.new ≡ ends.old) }
+    ensures settled { nodes.new.visits ≡ 0 }
+    ensures number { nodes.new.last ≤ nodes.old.visits + 1 }
 {
     let node = Node {
         serial,
@@ -119,107 +114,124 @@ pub(crate) fn link_last<T: Drop, W: Drop>(
     let last = ends.last;
     set_after(nodes, ends, last, Some(at));
     ends.last = Some(at);
+    nodes.settle(true);
     Ok(at)
 }
 
-/// A node that was taken out, and what came after it.
-#[derive(Drop)]
-pub(crate) struct Gone<T, W> {
-    pub(crate) after: Option<usize>,
-    pub(crate) told: bool,
-    pub(crate) state: State<T, W>,
-}
-
-/// Begins a call whose own node this is, and takes it out of its chain.
-pub(crate) fn unlink<T: Drop, W: Drop>(
-    nodes: &mut Nodes<T, W>,
-    ends: &mut Ends,
-    at: usize,
-) -> Gone<T, W>
+/// Links the neighbours of a node to each other. The node itself keeps its links.
+pub(crate) fn bridge<T: Drop, W: Drop>(nodes: &mut Nodes<T, W>, ends: &mut Ends, at: usize)
     requires present { ContainsKey nodes.old.slab at }
     requires beside { Beside (after_of ends.old nodes.old.slab) (before_of ends.old nodes.old.slab) (entry_at nodes.old.slab) at }
     ensures links { Unlinks (after_of ends.old nodes.old.slab) (before_of ends.old nodes.old.slab) (after_of ends.new nodes.new.slab) (before_of ends.new nodes.new.slab) at }
-    ensures gone { entry_at nodes.new.slab at ≡ None }
-    ensures others { (k : ℕ) → k ≢ at → entry_at nodes.new.slab k ≡ entry_at nodes.old.slab k }
-    ensures after { result.after ≡ after_of ends.old nodes.old.slab (Some at) }
-    ensures told { IfSome (entry_at nodes.old.slab at) (λ e. result.told ≡ is_told e.state) }
-    ensures state { IfSome (entry_at nodes.old.slab at) (λ e. result.state ≡ e.state) }
-    ensures len { slab_len nodes.new.slab + 1 ≡ slab_len nodes.old.slab }
+    ensures entries { (k : ℕ) → entry_at nodes.new.slab k ≡ entry_at nodes.old.slab k }
+    ensures len { slab_len nodes.new.slab ≡ slab_len nodes.old.slab }
     ensures capacity { nodes.new.slab.capacity ≡ nodes.old.slab.capacity }
-    ensures visits { nodes.new.visits ≤ 2 }
+    ensures own { nodes.new.own ≡ nodes.old.own }
+    ensures visits { nodes.new.visits ≤ nodes.old.visits + 3 }
+    ensures last { nodes.new.last ≡ nodes.old.last }
 {
-    nodes.begin(Some(at));
-    let place = nodes.read(at);
-    let state = relink(nodes, ends, at, place.before, place.after);
-    Gone {
-        after: place.after,
-        told: place.told,
-        state,
+    match nodes.read(at) {
+        Some(place) => {
+            set_after(nodes, ends, place.before, place.after);
+            set_before(nodes, ends, place.after, place.before);
+        }
+        None => unreachable!(),
     }
 }
 
-/// Gives a node another state, and gives back the one it had. No link changes.
-fn set_state<T: Drop, W: Drop>(
+/// Takes the node of a call's listener out of its chain. Its visits are those of the call, or of a poll, which has no
+/// number.
+pub(crate) fn unlink<T: Drop, W: Drop>(
     nodes: &mut Nodes<T, W>,
+    ends: &mut Ends,
+    own: Key,
+    counted: bool,
+) -> State<T, W>
+    requires present { ContainsKey nodes.old.slab own.slot }
+    requires serial { IfSome (entry_at nodes.old.slab own.slot) (λ e. e.serial ≡ own.serial) }
+    requires beside { Beside (after_of ends.old nodes.old.slab) (before_of ends.old nodes.old.slab) (entry_at nodes.old.slab) own.slot }
+    ensures links { Unlinks (after_of ends.old nodes.old.slab) (before_of ends.old nodes.old.slab) (after_of ends.new nodes.new.slab) (before_of ends.new nodes.new.slab) own.slot }
+    ensures gone { entry_at nodes.new.slab own.slot ≡ None }
+    ensures others { (k : ℕ) → k ≢ own.slot → entry_at nodes.new.slab k ≡ entry_at nodes.old.slab k }
+    ensures state { IfSome (entry_at nodes.old.slab own.slot) (λ e. result ≡ e.state) }
+    ensures len { slab_len nodes.new.slab + 1 ≡ slab_len nodes.old.slab }
+    ensures capacity { nodes.new.slab.capacity ≡ nodes.old.slab.capacity }
+    ensures settled { nodes.new.visits ≡ 0 }
+    ensures number { nodes.new.last ≤ nodes.old.last + (nodes.old.visits + 3) }
+    ensures uncounted { counted ≡ false → nodes.new.last ≡ nodes.old.last }
+{
+    nodes.begin(own);
+    bridge(nodes, ends, own.slot);
+    let state = nodes.take(own);
+    nodes.settle(counted);
+    state
+}
+
+/// Gives a node of a call's listener another task. No link changes.
+pub(crate) fn store_task<T: Drop, W: Drop>(nodes: &mut Nodes<T, W>, own: Key, task: W)
+    requires present { ContainsKey nodes.old.slab own.slot }
+    ensures after { (ends : Ends) (x : Option ℕ) → after_of ends nodes.new.slab x ≡ after_of ends nodes.old.slab x }
+    ensures before { (ends : Ends) (x : Option ℕ) → before_of ends nodes.new.slab x ≡ before_of ends nodes.old.slab x }
+    ensures entry { IfSome (entry_at nodes.old.slab own.slot) (λ e. entry_at nodes.new.slab own.slot ≡ Some (record e { state = State.Waiting (Some task) })) }
+    ensures others { (k : ℕ) → k ≢ own.slot → entry_at nodes.new.slab k ≡ entry_at nodes.old.slab k }
+    ensures len { slab_len nodes.new.slab ≡ slab_len nodes.old.slab }
+    ensures capacity { nodes.new.slab.capacity ≡ nodes.old.slab.capacity }
+    ensures settled { nodes.new.visits ≡ 0 }
+    ensures number { nodes.new.last ≤ nodes.old.last + (nodes.old.visits + 1) }
+{
+    nodes.begin(own);
+    let _ = nodes.write(own.slot, Change::State(State::Waiting(Some(task))));
+    nodes.settle(true);
+}
+
+/// Links a node behind the last of a chain with another state, gives the one it had, and settles the visits.
+pub(crate) fn attach_last<T: Drop, W: Drop>(
+    nodes: &mut Nodes<T, W>,
+    ends: &mut Ends,
     at: usize,
     state: State<T, W>,
 ) -> State<T, W>
     requires present { ContainsKey nodes.old.slab at }
-    requires room { nodes.old.visits + 1 < 2 ^ 128 }
-    ensures after { (ends : Ends) (x : Option ℕ) → after_of ends nodes.new.slab x ≡ after_of ends nodes.old.slab x }
-    ensures before { (ends : Ends) (x : Option ℕ) → before_of ends nodes.new.slab x ≡ before_of ends nodes.old.slab x }
+    requires live { IfSome ends.old.last (λ k. ContainsKey nodes.old.slab k) }
+    requires other { ends.old.last ≢ Some at }
+    ensures links { Links_last (after_of ends.old nodes.old.slab) (before_of ends.old nodes.old.slab) (after_of ends.new nodes.new.slab) (before_of ends.new nodes.new.slab) at }
     ensures entry { IfSome (entry_at nodes.old.slab at) (λ e. entry_at nodes.new.slab at ≡ Some (record e { state = state })) }
     ensures others { (k : ℕ) → k ≢ at → entry_at nodes.new.slab k ≡ entry_at nodes.old.slab k }
     ensures was { IfSome (entry_at nodes.old.slab at) (λ e. result ≡ e.state) }
     ensures len { slab_len nodes.new.slab ≡ slab_len nodes.old.slab }
     ensures capacity { nodes.new.slab.capacity ≡ nodes.old.slab.capacity }
-    ensures visits { nodes.new.visits ≡ nodes.old.visits + counted nodes.old.own at }
+    ensures settled { nodes.new.visits ≡ 0 }
+    ensures number { nodes.new.last ≤ nodes.old.last + (nodes.old.visits + 2) }
 {
-    match nodes.write(at, Change::State(state)) {
-        Some(was) => was,
-        None => unreachable!(),
-    }
+    let last = ends.last;
+    let was = write_last(nodes, at, last, state);
+    set_after(nodes, ends, last, Some(at));
+    ends.last = Some(at);
+    nodes.settle(true);
+    was
 }
 
-/// Begins a call whose own node this is, and gives it a task.
-pub(crate) fn store_task<T: Drop, W: Drop>(nodes: &mut Nodes<T, W>, at: usize, task: W)
-    requires present { ContainsKey nodes.old.slab at }
-    ensures after { (ends : Ends) (x : Option ℕ) → after_of ends nodes.new.slab x ≡ after_of ends nodes.old.slab x }
-    ensures before { (ends : Ends) (x : Option ℕ) → before_of ends nodes.new.slab x ≡ before_of ends nodes.old.slab x }
-    ensures entry { IfSome (entry_at nodes.old.slab at) (λ e. entry_at nodes.new.slab at ≡ Some (record e { state = State.Waiting (Some task) })) }
-    ensures others { (k : ℕ) → k ≢ at → entry_at nodes.new.slab k ≡ entry_at nodes.old.slab k }
-    ensures len { slab_len nodes.new.slab ≡ slab_len nodes.old.slab }
-    ensures capacity { nodes.new.slab.capacity ≡ nodes.old.slab.capacity }
-    ensures visits { nodes.new.visits ≡ 0 }
-{
-    nodes.begin(Some(at));
-    let _ = set_state(nodes, at, State::Waiting(Some(task)));
-}
-
-/// Tells a node, and gives the state that it had and what comes after it.
-pub(crate) fn tell_node<T: Drop, W: Drop>(
+/// Gives a node this neighbour before it, none after it, and a state.
+fn write_last<T: Drop, W: Drop>(
     nodes: &mut Nodes<T, W>,
     at: usize,
-    additional: bool,
-    tag: T,
-) -> Gone<T, W>
+    before: Option<usize>,
+    state: State<T, W>,
+) -> State<T, W>
     requires present { ContainsKey nodes.old.slab at }
-    requires room { nodes.old.visits + 2 < 2 ^ 128 }
-    ensures after { (ends : Ends) (x : Option ℕ) → after_of ends nodes.new.slab x ≡ after_of ends nodes.old.slab x }
-    ensures before { (ends : Ends) (x : Option ℕ) → before_of ends nodes.new.slab x ≡ before_of ends nodes.old.slab x }
-    ensures entry { IfSome (entry_at nodes.old.slab at) (λ e. entry_at nodes.new.slab at ≡ Some (record e { state = State.Told additional tag })) }
-    ensures others { (k : ℕ) → k ≢ at → entry_at nodes.new.slab k ≡ entry_at nodes.old.slab k }
-    ensures next { (ends : Ends) → result.after ≡ after_of ends nodes.old.slab (Some at) }
-    ensures was { IfSome (entry_at nodes.old.slab at) (λ e. result.state ≡ e.state) }
+    ensures after { node_after (get nodes.new.slab at) ≡ None }
+    ensures before { node_before (get nodes.new.slab at) ≡ before }
+    ensures node { IsSome (get nodes.new.slab at) }
+    ensures rest { (k : ℕ) → k ≢ at → get nodes.new.slab k ≡ get nodes.old.slab k }
+    ensures entry { IfSome (entry_at nodes.old.slab at) (λ e. entry_at nodes.new.slab at ≡ Some (record e { state = state })) }
+    ensures was { IfSome (entry_at nodes.old.slab at) (λ e. result ≡ e.state) }
     ensures len { slab_len nodes.new.slab ≡ slab_len nodes.old.slab }
     ensures capacity { nodes.new.slab.capacity ≡ nodes.old.slab.capacity }
-    ensures visits { nodes.new.visits ≤ nodes.old.visits + 2 }
+    ensures visits { nodes.new.visits ≤ nodes.old.visits + 1 }
+    ensures last { nodes.new.last ≡ nodes.old.last }
 {
-    let place = nodes.read(at);
-    let state = set_state(nodes, at, State::Told { additional, tag });
-    Gone {
-        after: place.after,
-        told: place.told,
-        state,
+    match nodes.write(at, Change::Last(before, state)) {
+        Some(was) => was,
+        None => unreachable!(),
     }
 }

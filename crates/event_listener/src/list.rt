@@ -1,17 +1,17 @@
 //! The type of lists, with the calls that touch its fields.
 //!
-//! The listeners stand in one chain in the order of listening. The told ones come first, so the list keeps which node
-//! is the first that waits, and how many are told.
-ghost use Rattle.std.specs.Prelude.{◌≡◌, ◌+◌, ◌-◌, ◌^◌, ◌<◌, ◌≤◌, ◌==◌, [], ◌++◌, length, is_some, IsSome, IsOk, IfOk, OnOk, OnErr, IfErr, MatchResult, Err};
-ghost use Rattle.std.specs.Prelude.{ℕ, ◌≢◌, if◌then◌else◌, ◌∷◌, take, Some, None, false};
+//! The told listeners stand in one chain and the waiting ones in another, each in the order of listening; one that is
+//! told moves from the front of the second to the end of the first. The list keeps how many are told.
+ghost use Rattle.std.specs.Prelude.{◌≡◌, ◌+◌, ◌-◌, ◌^◌, ◌<◌, ◌≤◌, [], ◌++◌, length, is_some, IsOk, IfOk, OnOk, OnErr, IfErr, MatchResult, Err};
+ghost use Rattle.std.specs.Prelude.{ℕ, if◌then◌else◌, ◌∷◌, take, Some, None, true, false};
 ghost use Rattle.std.specs.Option.{option_to_list};
 ghost use Rattle.event_listener.specs.Lists.{serial_of, kind_of, told_as, waits_as, listened, without, with_task, notified, tasks_of, moved, IsListenRefusal};
 ghost use Rattle.event_listener.specs.Order.{IsInOrder, HasLeft};
-ghost use Rattle.event_listener.specs.Chain.{IsStateOf, first_or};
+ghost use Rattle.event_listener.specs.Chain.{IsStateOf};
 
 use crate::error::{ListenError, NoMemory};
 use crate::key::Key;
-use crate::links::{link_last, store_task, tell_node, unlink};
+use crate::links::{attach_last, bridge, find, link_last, store_task, unlink};
 use crate::node::{Ends, Nodes, State};
 use std::alloc::Global;
 use std::marker::Model;
@@ -25,37 +25,10 @@ use std::marker::Model;
 #[derive(Drop)]
 pub struct List<T, W> {
     nodes: Nodes<T, W>,
-    ends: Ends,
-    cursor: Option<usize>,
-    told: usize,
+    told: Ends,
+    waiting: Ends,
+    told_count: usize,
     serials: u64,
-}
-
-/// The first waiting node once the node at `at` is none, with what came after it.
-fn cursor_past(cursor: Option<usize>, at: usize, after: Option<usize>) -> Option<usize>
-    ensures moved { cursor ≡ Some at → result ≡ after }
-    ensures stays { cursor ≢ Some at → result ≡ cursor }
-{
-    match cursor {
-        Some(first) if first == at => after,
-        _ => cursor,
-    }
-}
-
-/// The first waiting node, where this one waits last.
-fn first_of(cursor: Option<usize>, at: usize) -> usize
-    ensures { Some result ≡ first_or (option_to_list cursor) (Some at) }
-{
-    match cursor {
-        Some(first) => first,
-        None => at,
-    }
-}
-
-fn one_if(told: bool) -> usize
-    ensures { result ≡ (if told then 1 else 0) }
-{
-    if told { 1 } else { 0 }
 }
 
 impl<T, W> Model for List<T, W> {
@@ -81,38 +54,68 @@ impl<T: Drop, W: Drop> List<T, W> {
     {
         List {
             nodes: Nodes::new(alloc),
-            ends: Ends {
+            told: Ends {
                 first: None,
                 last: None,
             },
-            cursor: None,
-            told: 0,
+            waiting: Ends {
+                first: None,
+                last: None,
+            },
+            told_count: 0,
             serials: 0,
         }
     }
 
     /// Whether the key is listed, and then whether it is told.
-    pub(crate) fn kind(&self, key: Key) -> Option<bool>
-        ensures { result ≡ kind_of self.now.lists key }
+    pub(crate) fn kind(&mut self, key: Key) -> Option<bool>
+        ensures answer { result ≡ kind_of self.old.lists key }
+        ensures same { self.new ≡ self.old }
     {
-        self.nodes.find(key)
+        find(&mut self.nodes, key, false)
     }
 
-    /// Takes a listed listener off.
-    pub(crate) fn leave(&mut self, key: Key) -> State<T, W>
-        requires { IsSome (kind_of self.old.lists key) }
+    /// Begins a call whose visits are counted with the same look.
+    pub(crate) fn begin(&mut self, key: Key) -> Option<bool>
+        ensures answer { result ≡ kind_of self.old.lists key }
+        ensures lists { self.new.lists ≡ self.old.lists }
+        ensures left { (k : Key) → HasLeft self.old k → HasLeft self.new k }
+        ensures serials { self.new.serials ≡ self.old.serials }
+        ensures room { self.new.room ≡ self.old.room }
+        ensures visits { self.new.visits ≤ 1 }
+    {
+        self.nodes.start();
+        find(&mut self.nodes, key, true)
+    }
+
+    /// Takes a told listener off. A poll's visits aren't counted.
+    pub(crate) fn leave_told(&mut self, key: Key, counted: bool) -> State<T, W>
+        requires { kind_of self.old.lists key ≡ Some true }
         ensures lists { self.new.lists ≡ without key self.old.lists }
         ensures off { HasLeft self.new key }
         ensures left { (k : Key) → HasLeft self.old k → HasLeft self.new k }
         ensures state { IsStateOf result (told_as self.old.lists key) (waits_as self.old.lists key) }
         ensures serials { self.new.serials ≡ self.old.serials }
         ensures room { self.new.room ≡ self.old.room + 1 }
-        ensures visits { self.new.visits ≤ 2 }
+        ensures visits { self.new.visits ≤ self.old.visits + 3 }
+        ensures uncounted { counted ≡ false → self.new.visits ≡ self.old.visits }
     {
-        let gone = unlink(&mut self.nodes, &mut self.ends, key.slot);
-        self.cursor = cursor_past(self.cursor, key.slot, gone.after);
-        self.told -= one_if(gone.told);
-        gone.state
+        let state = unlink(&mut self.nodes, &mut self.told, key, counted);
+        self.told_count -= 1;
+        state
+    }
+
+    /// Takes a waiting listener off, and drops its task.
+    pub(crate) fn leave_waiting(&mut self, key: Key)
+        requires { kind_of self.old.lists key ≡ Some false }
+        ensures lists { self.new.lists ≡ without key self.old.lists }
+        ensures off { HasLeft self.new key }
+        ensures left { (k : Key) → HasLeft self.old k → HasLeft self.new k }
+        ensures serials { self.new.serials ≡ self.old.serials }
+        ensures room { self.new.room ≡ self.old.room + 1 }
+        ensures visits { self.new.visits ≤ self.old.visits + 3 }
+    {
+        let _ = unlink(&mut self.nodes, &mut self.waiting, key, true);
     }
 
     /// Stores the task of a waiting listener.
@@ -122,9 +125,9 @@ impl<T: Drop, W: Drop> List<T, W> {
         ensures left { (k : Key) → HasLeft self.old k → HasLeft self.new k }
         ensures serials { self.new.serials ≡ self.old.serials }
         ensures room { self.new.room ≡ self.old.room }
-        ensures visits { self.new.visits ≡ 0 }
+        ensures visits { self.new.visits ≤ self.old.visits + 1 }
     {
-        store_task(&mut self.nodes, key.slot, task);
+        store_task(&mut self.nodes, key, task);
     }
 
     /// Adds a listener, which waits behind all others and without a task.
@@ -147,12 +150,11 @@ impl<T: Drop, W: Drop> List<T, W> {
         ensures left { (key : Key) → HasLeft self.old key → HasLeft self.new key }
     {
         if self.serials == u64::MAX {
-            self.nodes.begin(None);
+            self.nodes.start();
             return Err(ListenError::SerialsUsedUp);
         }
-        match link_last(&mut self.nodes, &mut self.ends, self.serials) {
+        match link_last(&mut self.nodes, &mut self.waiting, self.serials) {
             Ok(at) => {
-                self.cursor = Some(first_of(self.cursor, at));
                 let key = Key {
                     slot: at,
                     serial: self.serials,
@@ -167,20 +169,20 @@ impl<T: Drop, W: Drop> List<T, W> {
     /// Tells the first waiting listener, and gives its task.
     pub(crate) fn tell_first(&mut self, additional: bool, tag: T) -> Option<W>
         requires waiting { 0 < length self.old.lists.waiting }
-        requires room { self.old.visits + 2 < 2 ^ 128 }
         ensures lists { self.new.lists ≡ notified additional (tag ∷ []) self.old.lists }
         ensures left { (k : Key) → HasLeft self.old k → HasLeft self.new k }
         ensures task { option_to_list result ≡ tasks_of (take 1 self.old.lists.waiting) }
         ensures serials { self.new.serials ≡ self.old.serials }
         ensures room { self.new.room ≡ self.old.room }
-        ensures visits { self.new.visits ≤ self.old.visits + 2 }
+        ensures visits { self.new.visits ≤ self.old.visits + 5 }
     {
-        match self.cursor {
+        match self.waiting.first {
             Some(at) => {
-                let gone = tell_node(&mut self.nodes, at, additional, tag);
-                self.cursor = gone.after;
-                self.told += 1;
-                match gone.state {
+                bridge(&mut self.nodes, &mut self.waiting, at);
+                let told = State::Told { additional, tag };
+                let was = attach_last(&mut self.nodes, &mut self.told, at, told);
+                self.told_count += 1;
+                match was {
                     State::Waiting(task) => task,
                     State::Told { .. } => unreachable!(),
                 }
@@ -197,7 +199,7 @@ impl<T: Drop, W: Drop> List<T, W> {
         ensures count { result ≡ length self.now.lists.told }
         ensures in_order { IsInOrder self.now.lists self.now.serials }
     {
-        self.told
+        self.told_count
     }
 
     /// How many are listed, told and waiting together.
@@ -213,7 +215,7 @@ impl<T: Drop, W: Drop> List<T, W> {
     pub fn last_visits(&self) -> u128
         ensures { result ≡ self.now.visits }
     {
-        self.nodes.visits()
+        self.nodes.last()
     }
 
     /// Makes room for this many more listeners, in all; where there is so much already it isn't refused.
@@ -235,14 +237,7 @@ impl<T: Drop, W: Drop> List<T, W> {
     pub(crate) fn start(&mut self)
         ensures { self.new ≡ record self.old { visits = 0 } }
     {
-        self.nodes.begin(None);
-    }
-
-    /// Goes back to the count of an earlier call.
-    pub(crate) fn restore(&mut self, visits: u128)
-        ensures { self.new ≡ record self.old { visits = visits } }
-    {
-        self.nodes.restore(visits);
+        self.nodes.start();
     }
 
     /// How many a notice for so many moves.

@@ -85,6 +85,9 @@ pub trait Listener<T>: Sized {
 
     /// Blocks the thread until the listener is told or the time is up: its tag, or `None` after the listener has left.
     ///
+    /// A listener that was told never gives `None`: when the time is up it leaves the list in the very section that finds
+    /// it untold, and passes nothing on. So each listener that a notice counts as told by it takes its tag.
+    ///
     /// The time counts from the call; a timeout of zero doesn't sleep. A clock that can't be read ends the wait as a
     /// timeout. It may wait for the list's lock besides.
     fn wait_timeout<K: Clock>(

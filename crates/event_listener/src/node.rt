@@ -1,7 +1,7 @@
-//! The nodes of a list. Each read and each write of a node is counted.
-ghost use Rattle.std.specs.Prelude.{◌≡◌, ◌+◌, ◌^◌, ◌<◌, ◌≤◌, IsSome, IfSome, [], IsOk, IfOk, OnOk, OnErr, slice_set};
+//! The nodes of a list. Each look at a node, and each change of one, is counted, the call's own node left out.
+ghost use Rattle.std.specs.Prelude.{◌≡◌, ◌+◌, ◌-◌, ◌^◌, ◌<◌, ◌≤◌, min, if◌then◌else◌, IsSome, IfSome, Some, None, [], IsOk, IfOk, OnOk, OnErr, ◌≢◌, ℕ};
 ghost use Rattle.slab.specs.Slab.{get, slab_len, Updates, HasRoomFor, ContainsKey, with_value};
-ghost use Rattle.event_listener.specs.Nodes.{counted, changed, given, found, place_of};
+ghost use Rattle.event_listener.specs.Nodes.{visited, visited_at, changed, given, place_at};
 
 use crate::error::NoMemory;
 use crate::key::Key;
@@ -16,7 +16,7 @@ pub(crate) enum State<T, W> {
     Told { additional: bool, tag: T },
 }
 
-/// One listener, between its neighbours in the order of listening.
+/// One listener, between its neighbours in its chain.
 #[derive(Drop)]
 pub(crate) struct Node<T, W> {
     pub(crate) serial: u64,
@@ -47,14 +47,20 @@ pub(crate) enum Change<T, W> {
     Before(Option<usize>),
     After(Option<usize>),
     State(State<T, W>),
+    /// The node becomes the last of a chain, behind this one, with this state.
+    Last(Option<usize>, State<T, W>),
 }
 
-/// The nodes, and how often nodes other than the call's own were read or written.
+/// The nodes, and how often nodes other than those of the call's own listener were read or written.
+///
+/// [`Nodes::read`] and [`Nodes::write`] are the only ways to a node that is not the call's own. What they count is in
+/// `visits` until [`Nodes::settle`] adds it to the number of the call under way; a poll's belongs to no number.
 #[derive(Drop)]
 pub(crate) struct Nodes<T, W> {
     slab: Slab<Node<T, W>>,
-    own: Option<usize>,
+    own: Option<Key>,
     visits: u128,
+    last: u128,
 }
 
 impl<T: Drop, W: Drop> Nodes<T, W> {
@@ -62,54 +68,66 @@ impl<T: Drop, W: Drop> Nodes<T, W> {
         ensures slots { result.slab.slots ≡ [] }
         ensures capacity { result.slab.capacity ≡ 0 }
         ensures visits { result.visits ≡ 0 }
+        ensures last { result.last ≡ 0 }
     {
         Nodes {
             slab: Slab::new(alloc),
             own: None,
             visits: 0,
+            last: 0,
         }
     }
 
-    /// Begins the count of a call whose own node is this one.
-    pub(crate) fn begin(&mut self, own: Option<usize>)
-        ensures { self.new ≡ record self.old { own = own; visits = 0 } }
+    /// Begins the number of a call. Visits that were not settled stay, and are part of it.
+    pub(crate) fn start(&mut self)
+        ensures { self.new ≡ record self.old { own = None; last = 0 } }
     {
-        self.own = own;
+        self.own = None;
+        self.last = 0;
+    }
+
+    /// The listener whose call this is.
+    pub(crate) fn begin(&mut self, own: Key)
+        ensures { self.new ≡ record self.old { own = Some own } }
+    {
+        self.own = Some(own);
+    }
+
+    /// Adds the visits to the number of the call under way, or lets a poll's go.
+    pub(crate) fn settle(&mut self, counted: bool)
+        ensures { self.new ≡ record self.old { own = None; visits = 0; last = (if counted then min (self.old.last + self.old.visits) (2 ^ 128 - 1) else self.old.last) } }
+    {
+        if counted {
+            self.last = self.last.saturating_add(self.visits);
+        }
+        self.own = None;
         self.visits = 0;
     }
 
-    pub(crate) fn visits(&self) -> u128
-        ensures { result ≡ self.now.visits }
+    /// The number of the last call.
+    pub(crate) fn last(&self) -> u128
+        ensures { result ≡ self.now.last }
     {
-        self.visits
+        self.last
     }
 
-    /// Goes back to the count of an earlier call.
-    pub(crate) fn restore(&mut self, visits: u128)
-        ensures { self.new ≡ record self.old { visits = visits } }
-    {
-        self.visits = visits;
-    }
-
-    fn count(&mut self, at: usize)
-        requires { self.old.visits + 1 < 2 ^ 128 }
-        ensures { self.new ≡ record self.old { visits = self.old.visits + counted self.old.own at } }
+    fn count(&mut self, at: usize, serial: u64)
+        ensures rest { self.new ≡ record self.old { visits = visited self.old.own (record { slot = at; serial = serial }) self.old.visits } }
+        ensures most { self.new.visits ≤ self.old.visits + 1 }
     {
         match self.own {
-            Some(own) if own == at => {}
-            _ => self.visits += 1,
+            Some(own) if own.slot == at && own.serial == serial => {}
+            _ => self.visits = self.visits.saturating_add(1),
         }
     }
 
-    /// Reads a node.
-    pub(crate) fn read(&mut self, at: usize) -> Place
-        requires present { ContainsKey self.old.slab at }
-        requires room { self.old.visits + 1 < 2 ^ 128 }
-        ensures place { IfSome (get self.old.slab at) (λ node. result ≡ place_of node) }
-        ensures rest { self.new ≡ record self.old { visits = self.old.visits + counted self.old.own at } }
+    /// Looks at the node in a slot, if there is one.
+    pub(crate) fn read(&mut self, at: usize) -> Option<Place>
+        ensures place { result ≡ place_at (get self.old.slab at) }
+        ensures rest { self.new ≡ record self.old { visits = visited_at self.old.own at (get self.old.slab at) self.old.visits } }
+        ensures most { self.new.visits ≤ self.old.visits + 1 }
     {
-        self.count(at);
-        match self.slab.get(at) {
+        let place = match self.slab.get(at) {
             Some(node) => Place {
                 serial: node.serial,
                 before: node.before,
@@ -119,20 +137,27 @@ impl<T: Drop, W: Drop> Nodes<T, W> {
                     State::Waiting(_) => false,
                 },
             },
-            None => unreachable!(),
-        }
+            None => return None,
+        };
+        self.count(at, place.serial);
+        Some(place)
     }
 
     /// Writes a part of a node, and gives back what stood in a state's place.
     pub(crate) fn write(&mut self, at: usize, change: Change<T, W>) -> Option<State<T, W>>
         requires present { ContainsKey self.old.slab at }
-        requires room { self.old.visits + 1 < 2 ^ 128 }
         ensures node { IfSome (get self.old.slab at) (λ node. self.new.slab ≡ with_value self.old.slab at (changed change node)) }
         ensures state { IfSome (get self.old.slab at) (λ node. result ≡ given change node) }
         ensures own { self.new.own ≡ self.old.own }
-        ensures visits { self.new.visits ≡ self.old.visits + counted self.old.own at }
+        ensures visits { self.new.visits ≡ visited_at self.old.own at (get self.old.slab at) self.old.visits }
+        ensures most { self.new.visits ≤ self.old.visits + 1 }
+        ensures last { self.new.last ≡ self.old.last }
     {
-        self.count(at);
+        let serial = match self.slab.get(at) {
+            Some(node) => node.serial,
+            None => unreachable!(),
+        };
+        self.count(at, serial);
         match self.slab.get_mut(at) {
             Some(node) => match change {
                 Change::Before(before) => {
@@ -144,18 +169,28 @@ impl<T: Drop, W: Drop> Nodes<T, W> {
                     None
                 }
                 Change::State(state) => Some(mem::replace(&mut node.state, state)),
+                Change::Last(before, state) => {
+                    node.before = before;
+                    node.after = None;
+                    Some(mem::replace(&mut node.state, state))
+                }
             },
             None => unreachable!(),
         }
     }
 
-    /// Makes a node, which is the call's own.
+    /// Begins the number of a call that has a node made, and makes the node, which is the call's own.
+    ///
+    /// A call that is refused ends here, so its visits are settled.
     pub(crate) fn insert(&mut self, node: Node<T, W>) -> Result<usize, NoMemory>
         ensures absent { IfOk result (λ at. get self.old.slab at ≡ None) }
         ensures updates { IfOk result (λ at. Updates self.old.slab self.new.slab at (Some node)) }
         ensures len { OnOk result (slab_len self.new.slab ≡ slab_len self.old.slab + 1) }
-        ensures own { IfOk result (λ at. self.new.own ≡ Some at) }
-        ensures visits { self.new.visits ≡ 0 }
+        ensures own { IfOk result (λ at. self.new.own ≡ Some (record { slot = at; serial = node.serial })) }
+        ensures visits { OnOk result (self.new.visits ≡ self.old.visits) }
+        ensures last { OnOk result (self.new.last ≡ 0) }
+        ensures settled { OnErr result (self.new.visits ≡ 0) }
+        ensures number { OnErr result (self.new.last ≤ self.old.visits) }
         ensures succeeds { HasRoomFor self.old.slab 1 → IsOk result }
         ensures room { HasRoomFor self.old.slab 1 → self.new.slab.capacity ≡ self.old.slab.capacity }
         ensures err { OnErr result (self.new.slab ≡ record self.old.slab { capacity = self.new.slab.capacity }) }
@@ -163,46 +198,37 @@ impl<T: Drop, W: Drop> Nodes<T, W> {
         ensures within { slab_len self.new.slab ≤ self.new.slab.capacity }
         ensures fits { self.new.slab.capacity < 2 ^ 64 }
     {
+        let serial = node.serial;
         let made = self.slab.insert(node);
         let _capacity = self.slab.capacity();
+        self.start();
         match made {
             Ok(at) => {
-                self.begin(Some(at));
+                self.own = Some(Key { slot: at, serial });
                 Ok(at)
             }
             Err(_) => {
-                self.begin(None);
+                self.settle(true);
                 Err(NoMemory)
             }
         }
     }
 
-    /// Takes a node out.
-    pub(crate) fn take(&mut self, at: usize) -> State<T, W>
-        requires present { ContainsKey self.old.slab at }
-        ensures state { IfSome (get self.old.slab at) (λ node. result ≡ node.state) }
-        ensures slots { self.new.slab.slots ≡ slice_set self.old.slab.slots at None }
+    /// Takes the call's own node out.
+    pub(crate) fn take(&mut self, own: Key) -> State<T, W>
+        requires own { self.old.own ≡ Some own }
+        requires present { IfSome (get self.old.slab own.slot) (λ node. node.serial ≡ own.serial) × ContainsKey self.old.slab own.slot }
+        ensures state { IfSome (get self.old.slab own.slot) (λ node. result ≡ node.state) }
+        ensures gone { get self.new.slab own.slot ≡ None }
+        ensures others { (k : ℕ) → k ≢ own.slot → get self.new.slab k ≡ get self.old.slab k }
         ensures len { slab_len self.new.slab + 1 ≡ slab_len self.old.slab }
         ensures capacity { self.new.slab.capacity ≡ self.old.slab.capacity }
-        ensures own { self.new.own ≡ self.old.own }
         ensures visits { self.new.visits ≡ self.old.visits }
+        ensures last { self.new.last ≡ self.old.last }
     {
-        match self.slab.try_remove(at) {
+        match self.slab.try_remove(own.slot) {
             Some(node) => node.state,
             None => unreachable!(),
-        }
-    }
-
-    /// What stands under the call's own key, if the key is not stale.
-    pub(crate) fn find(&self, key: Key) -> Option<bool>
-        ensures { result ≡ found (get self.now.slab key.slot) key.serial }
-    {
-        match self.slab.get(key.slot) {
-            Some(node) if node.serial == key.serial => match node.state {
-                State::Told { .. } => Some(true),
-                State::Waiting(_) => Some(false),
-            },
-            _ => None,
         }
     }
 

@@ -1,12 +1,18 @@
 //! What a thread sleeps on until its listener is told.
 
-use std::io;
+use std::sync::atomic::{AtomicBool, Ordering};
 use std::sync::{Condvar, Mutex, Wait};
 use std::time::{Clock, Duration};
+use std::{io, thread};
 
-/// A bell that stays rung until the one thread that sleeps on it has heard it.
+/// How often a thread looks, and lets others run, before it sleeps: most tellings come sooner than a sleep would begin.
+const LOOKS: usize = 16;
+
+/// A bell that stays rung until the one thread that sleeps on it has heard it. As the parker of the crate `parking`, over
+/// std's lock and condition variable. Own to this project.
 #[derive(Drop)]
-pub(crate) struct Parker {
+pub struct Parker {
+    has_rung: AtomicBool,
     is_rung: Mutex<bool>,
     rung: Condvar,
 }
@@ -35,15 +41,23 @@ impl<'a, R: Wait, K: Clock> Clock for Timed<'a, R, K> {
 }
 
 impl Parker {
-    pub(crate) fn new() -> Parker {
+    /// A bell that hasn't rung. It takes no memory.
+    pub fn new() -> Parker {
         Parker {
+            has_rung: AtomicBool::new(false),
             is_rung: Mutex::new(false),
             rung: Condvar::new(),
         }
     }
 
     /// Sleeps until the bell is rung. It may wait for ever.
-    pub(crate) fn sleep<R: Wait>(&self, rt: &R) {
+    pub fn sleep<R: Wait>(&self, rt: &R) {
+        for _ in 0..LOOKS {
+            if self.has_rung.load(Ordering::SeqCst) {
+                break;
+            }
+            thread::yield_now();
+        }
         let mut is_rung = self
             .rung
             .wait_while(rt, self.is_rung.lock(rt), |is_rung| !*is_rung);
@@ -51,7 +65,7 @@ impl Parker {
     }
 
     /// Sleeps until the bell is rung or the time is up. A clock that can't be read ends the sleep.
-    pub(crate) fn sleep_for<R: Wait, K: Clock>(&self, rt: &R, clock: &K, limit: Duration) {
+    pub fn sleep_for<R: Wait, K: Clock>(&self, rt: &R, clock: &K, limit: Duration) {
         let timed = Timed { _rt: rt, clock };
         let guard = self.is_rung.lock(rt);
         let (mut is_rung, _) = self
@@ -60,8 +74,9 @@ impl Parker {
         *is_rung = false;
     }
 
-    /// Rings the bell, which ends the sleep of the thread, or its next one.
-    pub(crate) fn ring<R: Wait>(&self, rt: &R) {
+    /// Rings the bell, which ends the sleep of the thread, or its next one. It may wait for the bell's lock.
+    pub fn ring<R: Wait>(&self, rt: &R) {
+        self.has_rung.store(true, Ordering::SeqCst);
         *self.is_rung.lock(rt) = true;
         self.rung.notify_one();
     }

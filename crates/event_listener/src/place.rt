@@ -1,5 +1,5 @@
 //! A listener's place in the list of its event.
-ghost use Rattle.std.specs.Prelude.{◌≡◌, ◌↔◌, IsTrue, IfOk, OnSome, Err, Some, None, is_none, true, false};
+ghost use Rattle.std.specs.Prelude.{◌≡◌, ◌↔◌, IsTrue, IfOk, IsSome, Err, Some, None, is_none, true, false};
 ghost use Rattle.futures.specs.Poll.{OnPending, IfReady};
 ghost use Rattle.futures.specs.Task.{IsArmed, Keeps};
 
@@ -123,7 +123,7 @@ impl<T: Drop> Place<T> {
         unreachable!()
     }
 
-    /// Sleeps until the listener is told or the time is up, and takes the tag of a told one.
+    /// Sleeps until the listener is told or the time is up, and leaves the list: with its tag if it was told.
     pub(crate) fn wait_for<R: Wait, K: Clock>(
         &mut self,
         rt: &R,
@@ -131,14 +131,16 @@ impl<T: Drop> Place<T> {
         parker: &Parker,
         clock: &K,
         timeout: Duration,
-    ) -> Option<T> {
+    ) -> Option<T>
+        ensures left { is_none self.new.key ≡ true }
+    {
         if let Some(tag) = self.park(rt, task) {
             return Some(tag);
         }
         if !timeout.is_zero() {
             parker.sleep_for(rt, clock, timeout);
         }
-        self.take(rt)
+        self.take_or_leave(rt)
     }
 
     /// Leaves the list, where it is on it: whether it was told. A told one may pass its notice on.
@@ -184,8 +186,21 @@ impl<T: Drop> Place<T> {
         }
     }
 
+    // Leaves the list, with the tag where the listener was told. The look and the leaving are one section: a notice that
+    // reaches the listener before it leaves is in the answer, and none reaches it afterwards.
+    fn take_or_leave<R: Wait>(&mut self, rt: &R) -> Option<T>
+        ensures left { is_none self.new.key ≡ true }
+    {
+        match self.key.take() {
+            Some(key) => self.home.lock(rt).take_off(key),
+            None => None,
+        }
+    }
+
     // Takes the tag where the listener was told, and has the thread woken by its telling where it waits.
-    fn park<R: Wait>(&mut self, rt: &R, task: Arc<Parker>) -> Option<T> {
+    fn park<R: Wait>(&mut self, rt: &R, task: Arc<Parker>) -> Option<T>
+        ensures finished { IsSome result → is_none self.new.key ≡ true }
+    {
         let key = self.key?;
         let found = self.home.lock(rt).register(key, Task::Parked(task));
         match found {
@@ -242,7 +257,7 @@ fn tag_or_arm<T: Drop, R: Wait>(
     match found {
         Ok(Some(tag)) => Some(tag),
         Ok(None) | Err(_) => {
-            cell.arm(rt, cx);
+            let _armed = cell.arm(rt, cx);
             None
         }
     }

@@ -167,9 +167,10 @@ impl<T: Copy, W: Copy> RecordedEvent<T, W> {
         self.inner.lock(rt).told()
     }
 
-    /// The list as it stands at the event's end, and the record that leads there from an empty one.
+    /// The list as it stands at the event's end, and the record that leads there from an empty one, in which each new
+    /// listener's key is one that was never given before.
     pub fn into_parts(self) -> (List<T, W>, Vec<RecordedCall<T, W>>)
-        ensures { Replays nobody result.1.items result.0.lists }
+        ensures { Replays nobody 0 result.1.items result.0.lists result.0.serials }
     {
         let RecordedEvent { alloc: _, inner } = self;
         inner.into_inner().into_parts()

@@ -32,14 +32,14 @@ impl<T: Copy, W: Copy> Model for Recording<T, W> {
     ghost use Rattle.std.specs.Prelude.{vec_len};
     ghost use Rattle.std.specs.Vec.{vec_capacity};
 
-    ghost view = { λ r. record { calls = r.calls.items; lists = r.list.lists } };
+    ghost view = { λ r. record { calls = r.calls.items; lists = r.list.lists; serials = r.list.serials } };
 
-    ghost invariant = { λ r. IsKept r.calls.items (vec_len r.calls) (vec_capacity r.calls) r.list.lists };
+    ghost invariant = { λ r. IsKept r.calls.items (vec_len r.calls) (vec_capacity r.calls) r.list.lists r.list.serials };
 }
 
 impl<T: Copy, W: Copy> Recording<T, W> {
     pub(crate) fn new(alloc: Global) -> Self
-        ensures { result ≡ record { calls = []; lists = nobody } }
+        ensures { result ≡ record { calls = []; lists = nobody; serials = 0 } }
     {
         Recording {
             list: List::new(alloc),
@@ -229,7 +229,7 @@ impl<T: Copy, W: Copy> Recording<T, W> {
     pub(crate) fn into_parts(self) -> (List<T, W>, Vec<RecordedCall<T, W>>)
         ensures lists { result.0.lists ≡ self.lists }
         ensures calls { result.1.items ≡ self.calls }
-        ensures replays { Replays nobody result.1.items result.0.lists }
+        ensures replays { Replays nobody 0 result.1.items result.0.lists result.0.serials }
     {
         let Recording { list, calls } = self;
         (list, calls)

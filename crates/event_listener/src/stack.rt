@@ -15,15 +15,17 @@ use std::time::{Clock, Duration, Instant};
 
 /// The place of a listener that lives no longer than its event.
 ///
-/// As `event-listener` 5.4.2, but that the node itself is in the list's memory, so that nothing is pinned.
+/// It has the runtime with it, for its listeners. As `event-listener` 5.4.2, but that the node itself is in the list's
+/// memory, so that nothing is pinned.
 #[derive(Drop)]
-pub struct StackSlot<'ev, T> {
-    event: &'ev Event<T>,
+pub struct StackSlot<'ev, T, R: Wait + Copy> {
+    rt: R,
     alloc: Global,
+    event: &'ev Event<T>,
     cell: Option<Arc<WakerCell>>,
 }
 
-impl<'ev, T> Model for StackSlot<'ev, T> {
+impl<'ev, T, R: Wait + Copy> Model for StackSlot<'ev, T, R> {
     ghost use Rattle.std.specs.Prelude.{ℕ};
 
     ghost Value = { ℕ };
@@ -31,17 +33,18 @@ impl<'ev, T> Model for StackSlot<'ev, T> {
     ghost view = { λ slot. slot.event.now };
 }
 
-impl<'ev, T: Drop> StackSlot<'ev, T> {
+impl<'ev, T: Drop, R: Wait + Copy> StackSlot<'ev, T, R> {
     /// A slot for listeners of this event, with what the first of them needs to be woken.
     ///
     /// Refused where that was refused for memory.
-    pub fn new(alloc: Global, event: &'ev Event<T>) -> Result<Self, NoMemory>
+    pub fn new(rt: R, alloc: Global, event: &'ev Event<T>) -> Result<Self, NoMemory>
         ensures { IfOk result (λ slot. slot ≡ event.now) }
     {
         match Arc::new(alloc, WakerCell::new()) {
             Ok(cell) => Ok(StackSlot {
-                event,
+                rt,
                 alloc,
+                event,
                 cell: Some(cell),
             }),
             Err(_) => Err(NoMemory),
@@ -49,7 +52,7 @@ impl<'ev, T: Drop> StackSlot<'ev, T> {
     }
 
     /// Adds a listener, as [`Event::listen`] does, and refused as there. It may wait for the list's lock.
-    pub fn listen<R: Wait + Copy>(&mut self, rt: R) -> Result<StackListener<'ev, T, R>, ListenError>
+    pub fn listen(&mut self) -> Result<StackListener<'ev, T, R>, ListenError>
         ensures event { IfOk result (λ listener. listener.event ≡ self.old) }
         ensures listens { IfOk result (λ listener. listener.is_finished ≡ false) }
         ensures slot { self.new ≡ self.old }
@@ -61,7 +64,7 @@ impl<'ev, T: Drop> StackSlot<'ev, T> {
                 Err(_) => return Err(ListenError::NoMemory),
             },
         };
-        match EventListener::new(rt, self.event, cell) {
+        match EventListener::new(self.rt, self.event, cell) {
             Ok(inner) => Ok(StackListener {
                 _event: self.event,
                 inner,
@@ -177,7 +180,7 @@ fn in_slot<'ev, T: Drop, R: Wait + Copy>(
 #[macro_export]
 macro_rules! listener {
     ($rt:expr, $alloc:expr, $event:expr => $name:ident) => {
-        let mut slot = $crate::stack::StackSlot::new($alloc, $event)?;
-        let $name = slot.listen($rt)?;
+        let mut slot = $crate::stack::StackSlot::new($rt, $alloc, $event)?;
+        let $name = slot.listen()?;
     };
 }

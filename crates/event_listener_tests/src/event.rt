@@ -146,6 +146,45 @@ fn made_tags<R: Wait + Copy>(
     ))
 }
 
+/// A notice for nobody: before anybody listened, after the only listener left, and of the default kind where so many are
+/// told already; then one for four where one is told and two wait. How many each told, and how many tags had been made
+/// by then.
+fn made_for_whom<R: Wait + Copy>(rt: R, alloc: Global) -> Result<[(usize, u32); 4], Stuck> {
+    let event: Event<u32> = event(alloc)?;
+    let mut made = 0u32;
+    let before = makes_tags(rt, &event, 3, &mut made);
+    drop(event.listen(rt)?);
+    let left = makes_tags(rt, &event, 3, &mut made);
+    let _told = event.listen(rt)?;
+    let _ = event.notify(&rt, 1u8.tag(7u32));
+    let told = makes_tags(rt, &event, 1, &mut made);
+    let _second = event.listen(rt)?;
+    let _third = event.listen(rt)?;
+    let two = makes_tags(rt, &event, 4, &mut made);
+    Ok([before, left, told, two])
+}
+
+fn makes_tags<R: Wait + Copy>(
+    rt: R,
+    event: &Event<u32>,
+    count: usize,
+    made: &mut u32,
+) -> (usize, u32) {
+    let notice = count.tag_with(|| {
+        *made = made.wrapping_add(1);
+        *made
+    });
+    let told = event.notify(&rt, notice).unwrap_or(9);
+    (told, *made)
+}
+
+#[test]
+fn a_notice_for_nobody_makes_no_tag(rt: HostRuntime) -> Result<(), Fail> {
+    let made = made_for_whom(&rt, rt.alloc()).expect(&rt, "memory");
+    assert_eq!(rt; made, [(0, 0), (0, 0), (0, 0), (2, 2)]);
+    Ok(())
+}
+
 fn a_tag_is_passed_on<R: Wait + Copy>(
     rt: R,
     alloc: Global,

@@ -20,3 +20,5 @@ mod refusals;
 mod stack;
 #[cfg(test)]
 mod texts;
+#[cfg(test)]
+mod timed;

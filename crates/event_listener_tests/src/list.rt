@@ -363,6 +363,42 @@ fn no_call_visits_more_than_five_others(rt: HostRuntime) -> Result<(), Fail> {
     Ok(())
 }
 
+#[test]
+fn no_call_visits_more_than_five_others_where_half_are_told(rt: HostRuntime) -> Result<(), Fail> {
+    let mut list: List<u32, u32> = List::new(rt.alloc());
+    let mut sink = Names {
+        woken: Vec::new(rt.alloc()),
+    };
+    let mut keys: Vec<Key> = Vec::new(rt.alloc());
+    for _ in 0..10_000 {
+        keys.push(list.insert()?)?;
+    }
+    for _ in 0..5_000 {
+        assert_eq!(rt; list.notify(more(1, 7), &mut sink), Ok(1));
+        assert!(rt; list.last_visits() <= 5);
+    }
+    // A key of one that left stands for nobody, though another listener may have its place.
+    for (place, key) in keys.iter().enumerate() {
+        if place % 2 == 0 {
+            assert_eq!(rt; list.remove(*key, false, &mut sink), Ok(place < 5_000));
+            assert!(rt; list.last_visits() <= 5);
+            assert!(rt; list.insert().is_ok());
+            assert!(rt; list.last_visits() <= 5);
+            assert!(rt; list.register(*key, 0).is_err());
+            assert_eq!(rt; list.last_visits(), 1);
+        }
+    }
+    assert_eq!(rt; (list.told(), list.total()), (2_500, 10_000));
+    for (place, key) in keys.iter().enumerate() {
+        if place % 2 == 1 {
+            assert!(rt; list.register(*key, 0).is_ok());
+            assert!(rt; list.last_visits() <= 5);
+        }
+    }
+    assert_eq!(rt; (list.told(), list.total()), (0, 7_500));
+    Ok(())
+}
+
 /// With `rt try --test --fail-alloc N` each growth is refused in turn; the list is then as it was before the call.
 #[test]
 fn a_refused_growth_leaves_the_list_as_it_was(rt: HostRuntime) -> Result<(), Fail> {

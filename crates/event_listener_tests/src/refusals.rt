@@ -104,11 +104,11 @@ fn waits<R: Wait + Clock + Copy>(rt: R, event: &Event<()>) -> Seen {
 
 /// A slot is made, and listens twice.
 fn slots<R: Wait + Copy>(rt: R, alloc: Global, event: &Event<()>) -> Seen {
-    let Ok(mut slot) = StackSlot::new(alloc, event) else {
+    let Ok(mut slot) = StackSlot::new(rt, alloc, event) else {
         return tally([true, false, false, false], true);
     };
-    let first = slot.listen(rt);
-    let second = slot.listen(rt);
+    let first = slot.listen();
+    let second = slot.listen();
     let listed = usize::from(first.is_ok()) + usize::from(second.is_ok());
     let right = event.total_listeners(&rt) == listed;
     tally([first.is_err(), second.is_err(), false, false], right)

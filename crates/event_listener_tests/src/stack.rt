@@ -42,10 +42,10 @@ fn one_slot<R: Wait + Clock + Copy>(
     task: &MockTask,
 ) -> Result<(Option<u32>, bool, [bool; 3], usize), Stuck> {
     let event: Event<u32> = event(alloc)?;
-    let mut slot = StackSlot::new(alloc, &event)?;
-    let first = slot.listen(rt)?;
-    let mut second = slot.listen(rt)?;
-    let third = slot.listen(rt)?;
+    let mut slot = StackSlot::new(rt, alloc, &event)?;
+    let first = slot.listen()?;
+    let mut second = slot.listen()?;
+    let third = slot.listen()?;
     let same = third.same_event(&second) && third.listens_to(&event);
     let _ = event.notify(&rt, 1u8.tag(4u32));
     let tag = first.wait().ok();

@@ -3,7 +3,7 @@
 use super::*;
 use crate::answer::Answer;
 use crate::waiting::Came;
-use async_channel::stage::Line;
+use channel_calls::stage::Line;
 use channel_world::name::{OpId, Waiter};
 use event_listener::id::EventIds;
 

@@ -3,8 +3,8 @@ ghost use Rattle.std.specs.Prelude.{◌≡◌, ◌++◌, false, IfOk, OnOk, stri
 ghost use Rattle.channel_world.specs.Text.{reply_text, wakes_text, refused_text, refusal_number, wants_growth, IsTry, IsPoll};
 
 use super::table::Table;
-use async_channel::error::{Refused, SendError, TryRecvError, TrySendError};
-use async_channel::reply::Reply;
+use channel_calls::error::{Refused, SendError, TryRecvError, TrySendError};
+use channel_calls::reply::Reply;
 use channel_model::name::Waiter;
 use channel_model::refusal::WorldRefusal;
 use channel_model::run::Done;

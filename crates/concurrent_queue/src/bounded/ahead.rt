@@ -1,11 +1,10 @@
 //! The steps of a push and of a pop of a ring made on end. They are the steps of the machine, each of them atomic; what is
 //! saved is the choice of the next action at each of them, so this is a matter of speed alone.
 
-ghost use Rattle.std.specs.Prelude.{true, Ok, MatchResult};
+ghost use Rattle.std.specs.Prelude.{ℕ, true, Ok, MatchResult};
 ghost use Rattle.concurrent_queue.specs.Ahead.{GoesAhead, PopsOnEnd, PushesRing, PopsRing};
 ghost use Rattle.concurrent_queue.specs.RingWords.{ring_step};
-ghost use Rattle.concurrent_queue.specs.Replies.{MayRing, MayAnswer};
-ghost use Rattle.concurrent_queue.specs.declared.call.QueueAsk.TheVariants as ask;
+ghost use Rattle.concurrent_queue.specs.Replies.{MayRing, MayPush, MayPop};
 ghost use Rattle.concurrent_queue.specs.declared.call.QueueReply.{QueueReply};
 ghost use Rattle.concurrent_queue.specs.declared.call.QueueReply.TheVariants as reply;
 
@@ -23,7 +22,7 @@ pub(crate) fn push_ahead<T: Drop, C: Cells<T>>(
     ensures steps { C.known → GoesAhead (ring_step shape.cap shape.mark) (C.contents cells.old)
         (RingAction.Push WhenFull.Refuse value) (reply.Push (Ok tt)) result (C.contents cells.new) }
     ensures answers { MatchResult result (λ _. Unit {0})
-        (λ a. (r : QueueReply T) → MayRing a r → MayAnswer true (ask.Push value) r) }
+        (λ a. (cap : ℕ) (r : QueueReply T) → MayRing cap a r → MayPush true value r) }
 {
     make_push(shape, value, cells)
 }
@@ -38,7 +37,7 @@ pub(crate) fn pop_ahead<T: Drop, C: Cells<T>>(
     ensures steps { C.known → PopsOnEnd (ring_step shape.cap shape.mark) (C.contents cells.old)
         RingAction.Pop result (C.contents cells.new) }
     ensures answers { MatchResult result (λ _. Unit {0})
-        (λ a. (r : QueueReply T) → MayRing a r → MayAnswer true ask.Pop r) }
+        (λ a. (cap : ℕ) (r : QueueReply T) → MayRing cap a r → MayPop r) }
 {
     make_pop(shape, cells)
 }
@@ -52,7 +51,7 @@ fn make_push<T: Drop, C: Cells<T>>(
 ) -> Result<(), RingAction<T>>
     ensures cells { C.known → PushesRing shape.cap shape.mark (C.contents cells.old) value result (C.contents cells.new) }
     ensures answers { MatchResult result (λ _. Unit {0})
-        (λ a. (r : QueueReply T) → MayRing a r → MayAnswer true (ask.Push value) r) }
+        (λ a. (cap : ℕ) (r : QueueReply T) → MayRing cap a r → MayPush true value r) }
 {
     let tail = cells.load(Word::Tail);
     if shape.is_marked(tail) || u64::MAX - shape.lap() < tail {
@@ -79,7 +78,7 @@ fn make_push<T: Drop, C: Cells<T>>(
 fn make_pop<T: Drop, C: Cells<T>>(shape: Shape, cells: &mut C) -> Result<T, RingAction<T>>
     ensures cells { C.known → PopsRing shape.cap shape.mark (C.contents cells.old) result (C.contents cells.new) }
     ensures answers { MatchResult result (λ _. Unit {0})
-        (λ a. (r : QueueReply T) → MayRing a r → MayAnswer true ask.Pop r) }
+        (λ a. (cap : ℕ) (r : QueueReply T) → MayRing cap a r → MayPop r) }
 {
     let head = cells.load(Word::Head);
     if cells.load(shape.stamp(head)) != head.wrapping_add(1) {

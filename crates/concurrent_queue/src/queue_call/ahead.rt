@@ -1,10 +1,11 @@
 //! The steps of a push and of a pop made on end, in the form of their queue.
 
-ghost use Rattle.std.specs.Prelude.{◌≡◌, Bool, MatchResult};
+ghost use Rattle.std.specs.Prelude.{◌≡◌, MatchResult};
 ghost use Rattle.concurrent_queue.specs.Ahead.{PushesAhead, PopsAhead};
-ghost use Rattle.concurrent_queue.specs.Replies.{MayCall, MayAnswer, is_bounded};
+ghost use Rattle.concurrent_queue.specs.Replies.{MayCall, MayAnswer};
 ghost use Rattle.concurrent_queue.specs.declared.call.QueueAsk.TheVariants as ask;
 ghost use Rattle.concurrent_queue.specs.declared.call.QueueReply.{QueueReply};
+ghost use Rattle.concurrent_queue.specs.declared.cells.QueueForm.{QueueForm};
 
 use crate::bounded::Shape;
 use crate::call::QueueMark;
@@ -26,8 +27,8 @@ fn going_on<T: Drop>(state: CallState<T>) -> QueueCall<T>
 #[inline(always)]
 pub(crate) fn push_ahead<T: Drop, C: Cells<T>>(value: T, cells: &mut C) -> Result<(), QueueCall<T>>
     ensures steps { C.known → PushesAhead (C.contents cells.old).form (C.contents cells.old) value result (C.contents cells.new) }
-    ensures answers { MatchResult result (λ _. Unit {0}) (λ call. (b : Bool) (r : QueueReply T) → MayCall b call.state r →
-        MayAnswer (is_bounded (C.form_of cells.old)) (ask.Push value) r) }
+    ensures answers { MatchResult result (λ _. Unit {0}) (λ call. (f : QueueForm) (r : QueueReply T) → MayCall f call.state r →
+        MayAnswer (C.form_of cells.old) (ask.Push value) r) }
 {
     match cells.form() {
         QueueForm::Bounded(1) => match single::ahead::push_ahead(value, cells) {
@@ -54,8 +55,8 @@ pub(crate) fn push_ahead<T: Drop, C: Cells<T>>(value: T, cells: &mut C) -> Resul
 #[inline(always)]
 pub(crate) fn pop_ahead<T: Drop, C: Cells<T>>(cells: &mut C) -> Result<T, QueueCall<T>>
     ensures steps { C.known → PopsAhead (C.contents cells.old).form (C.contents cells.old) result (C.contents cells.new) }
-    ensures answers { MatchResult result (λ _. Unit {0}) (λ call. (b : Bool) (r : QueueReply T) → MayCall b call.state r →
-        MayAnswer (is_bounded (C.form_of cells.old)) ask.Pop r) }
+    ensures answers { MatchResult result (λ _. Unit {0}) (λ call. (f : QueueForm) (r : QueueReply T) → MayCall f call.state r →
+        MayAnswer (C.form_of cells.old) ask.Pop r) }
 {
     match cells.form() {
         QueueForm::Bounded(1) => match single::ahead::pop_ahead(cells) {

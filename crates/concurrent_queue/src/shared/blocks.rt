@@ -1,6 +1,6 @@
 //! The blocks of a shared unbounded queue.
 
-use crate::cells::NoMemory;
+use crate::error::NoMemory;
 use crate::pool::SLOTS;
 use crate::shared::table::{APART, SeatedTable, SharedTable};
 use std::alloc::{AllocError, Global};

@@ -1,7 +1,8 @@
 //! The cells of a shared queue, on which a call steps: one form with the runtime value, and one of words alone for the calls
 //! that wait for nobody. Nothing is known of what they hold, since any thread may step on them at any time.
 
-use crate::cells::{Cells, NoMemory, QueueForm, Slot, Word};
+use crate::cells::{Cells, QueueForm, Slot, Word};
+use crate::error::NoMemory;
 use crate::pool::SLOTS;
 use crate::shared::blocks::{Blocks, NEXT, READS, WRITTEN};
 use crate::shared::table::{APART, SeatedTable};

@@ -1,11 +1,12 @@
 //! A queue that threads share.
 
 ghost use Rattle.std.specs.Prelude.{◌≡◌, ◌<◌, ◌≤◌, ◌^◌, IfOk, length};
+ghost use Rattle.concurrent_queue.specs.Replies.{MayAnswer, MayCall, AsksWords};
 
-use crate::bounded::GREATEST;
+use crate::bounded::{GREATEST, at_most_greatest};
 use crate::call::{QueueAsk, QueueReply};
-use crate::cells::{NoMemory, QueueForm};
-use crate::error::{ForcePushError, PopError, PushError};
+use crate::cells::{Cells, QueueForm};
+use crate::error::{ForcePushError, NoMemory, PopError, PushError};
 use crate::queue_call::QueueCall;
 use crate::queue_call::ahead::{pop_ahead, push_ahead};
 use crate::shared::blocks::Blocks;
@@ -92,9 +93,48 @@ impl<T: Drop> ConcurrentQueue<T> {
     }
 }
 
+/// Steps a call to its end. It yields before an action is made again.
+fn finish_on<T: Drop, R: Wait, C: Cells<T>>(
+    rt: &R,
+    mut call: QueueCall<T>,
+    cells: &mut C,
+) -> QueueReply<T>
+    ensures { MayCall (C.form_of cells.old) call.state result }
+{
+    for _ in rt.forever() {
+        let place = call.place();
+        if let Some(reply) = call.step(cells) {
+            drop(call);
+            return reply;
+        }
+        if call.place() <= place {
+            thread::yield_now();
+        }
+    }
+    unreachable!()
+}
+
+/// Steps a call that waits for nobody to its end: its second step answers at the latest.
+fn tell_on<T: Drop, C: Cells<T>>(ask: QueueAsk<T>, cells: &mut C) -> QueueReply<T>
+    requires { AsksWords ask }
+    ensures { MayAnswer (C.form_of cells.old) ask result }
+{
+    let mut call = QueueCall::new(ask);
+    if let Some(reply) = call.step(cells) {
+        drop(call);
+        return reply;
+    }
+    match call.step(cells) {
+        Some(reply) => {
+            drop(call);
+            reply
+        }
+        None => unreachable!(),
+    }
+}
+
 impl<T: Drop> ConcurrentQueue<T> {
     ghost use Rattle.std.specs.Prelude.{◌≡◌};
-    ghost use Rattle.concurrent_queue.specs.Replies.{is_bounded, MayAnswer, MayCall, AsksWords};
     ghost use Rattle.concurrent_queue.specs.SharedQueue.{IsSharedStep, IsWordsAlone};
 
     /// The cells of words and slots, from a new seat.
@@ -117,7 +157,7 @@ impl<T: Drop> ConcurrentQueue<T> {
     }
 
     /// One step of a call. It yields where the call has to make its action again, and may wait for the lock of the spare
-    /// list. Own to this project.
+    /// list. What it answers is what this queue may answer: a capacity is this queue's own. Own to this project.
     pub fn step<R: Wait>(&self, rt: &R, call: &mut QueueCall<T>) -> Option<QueueReply<T>>
         ensures { IsSharedStep self.now call.old call.new result }
     {
@@ -139,36 +179,18 @@ impl<T: Drop> ConcurrentQueue<T> {
     }
 
     /// Steps a call to its end.
-    fn finish<R: Wait>(&self, rt: &R, mut call: QueueCall<T>) -> QueueReply<T>
-        ensures { MayCall (is_bounded self.now.form) call.state result }
+    fn finish<R: Wait>(&self, rt: &R, call: QueueCall<T>) -> QueueReply<T>
+        ensures { MayCall self.now.form call.state result }
     {
-        let mut cells = self.cells(rt);
-        for _ in rt.forever() {
-            let place = call.place();
-            if let Some(reply) = call.step(&mut cells) {
-                return reply;
-            }
-            if call.place() <= place {
-                thread::yield_now();
-            }
-        }
-        unreachable!()
+        finish_on(rt, call, &mut self.cells(rt))
     }
 
     /// The same for one that waits for nobody: its second step answers at the latest.
     fn tell(&self, ask: QueueAsk<T>) -> QueueReply<T>
         requires { AsksWords ask }
-        ensures { MayAnswer (is_bounded self.now.form) ask result }
+        ensures { MayAnswer self.now.form ask result }
     {
-        let mut cells = self.words();
-        let mut call = QueueCall::new(ask);
-        if let Some(reply) = call.step(&mut cells) {
-            return reply;
-        }
-        match call.step(&mut cells) {
-            Some(reply) => reply,
-            None => unreachable!(),
-        }
+        tell_on(ask, &mut self.words())
     }
 }
 
@@ -265,7 +287,7 @@ impl<T: Drop> ConcurrentQueue<T> {
         ensures { result ≡ limit self.now }
     {
         match self.form {
-            QueueForm::Bounded(capacity) => Some(capacity),
+            QueueForm::Bounded(capacity) => Some(at_most_greatest(capacity) as usize),
             QueueForm::Unbounded => None,
         }
     }

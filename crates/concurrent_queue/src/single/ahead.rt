@@ -3,8 +3,7 @@
 ghost use Rattle.std.specs.Prelude.{true, Ok, MatchResult};
 ghost use Rattle.concurrent_queue.specs.Ahead.{GoesAhead, PopsOnEnd, PushesSingle, PopsSingle};
 ghost use Rattle.concurrent_queue.specs.Single.{single_step};
-ghost use Rattle.concurrent_queue.specs.Replies.{MaySingle, MayAnswer};
-ghost use Rattle.concurrent_queue.specs.declared.call.QueueAsk.TheVariants as ask;
+ghost use Rattle.concurrent_queue.specs.Replies.{MaySingle, MayPush, MayPop};
 ghost use Rattle.concurrent_queue.specs.declared.call.QueueReply.{QueueReply};
 ghost use Rattle.concurrent_queue.specs.declared.call.QueueReply.TheVariants as reply;
 
@@ -20,7 +19,7 @@ pub(crate) fn push_ahead<T: Drop, C: Cells<T>>(
     ensures steps { C.known → GoesAhead single_step (C.contents cells.old)
         (SingleAction.Push value) (reply.Push (Ok tt)) result (C.contents cells.new) }
     ensures answers { MatchResult result (λ _. Unit {0})
-        (λ a. (r : QueueReply T) → MaySingle a r → MayAnswer true (ask.Push value) r) }
+        (λ a. (r : QueueReply T) → MaySingle a r → MayPush true value r) }
 {
     make_push(value, cells)
 }
@@ -30,7 +29,7 @@ pub(crate) fn push_ahead<T: Drop, C: Cells<T>>(
 pub(crate) fn pop_ahead<T: Drop, C: Cells<T>>(cells: &mut C) -> Result<T, SingleAction<T>>
     ensures steps { C.known → PopsOnEnd single_step (C.contents cells.old) (SingleAction.Pop 2) result (C.contents cells.new) }
     ensures answers { MatchResult result (λ _. Unit {0})
-        (λ a. (r : QueueReply T) → MaySingle a r → MayAnswer true ask.Pop r) }
+        (λ a. (r : QueueReply T) → MaySingle a r → MayPop r) }
 {
     make_pop(cells)
 }
@@ -40,7 +39,7 @@ pub(crate) fn pop_ahead<T: Drop, C: Cells<T>>(cells: &mut C) -> Result<T, Single
 fn make_push<T: Drop, C: Cells<T>>(value: T, cells: &mut C) -> Result<(), SingleAction<T>>
     ensures cells { C.known → PushesSingle (C.contents cells.old) value result (C.contents cells.new) }
     ensures answers { MatchResult result (λ _. Unit {0})
-        (λ a. (r : QueueReply T) → MaySingle a r → MayAnswer true (ask.Push value) r) }
+        (λ a. (r : QueueReply T) → MaySingle a r → MayPush true value r) }
 {
     if cells.compare_exchange(Word::State, 0, FILLING).is_err() {
         return Err(SingleAction::Push(value));
@@ -57,7 +56,7 @@ fn make_push<T: Drop, C: Cells<T>>(value: T, cells: &mut C) -> Result<(), Single
 fn make_pop<T: Drop, C: Cells<T>>(cells: &mut C) -> Result<T, SingleAction<T>>
     ensures cells { C.known → PopsSingle (C.contents cells.old) result (C.contents cells.new) }
     ensures answers { MatchResult result (λ _. Unit {0})
-        (λ a. (r : QueueReply T) → MaySingle a r → MayAnswer true ask.Pop r) }
+        (λ a. (r : QueueReply T) → MaySingle a r → MayPop r) }
 {
     if cells.compare_exchange(Word::State, PUSHED, LOCKED).is_err() {
         return Err(SingleAction::Pop(PUSHED));

@@ -5,7 +5,8 @@ ghost use Rattle.concurrent_queue.specs.BlocksWords.{load_tail, shut_tail, give_
 ghost use Rattle.concurrent_queue.specs.Replies.{EndFollows, MayEnd, Sends};
 
 use crate::call::QueueMark;
-use crate::cells::{Cells, NoMemory, Slot, Word};
+use crate::cells::{Cells, Slot, Word};
+use crate::error::NoMemory;
 use crate::unbounded::action::{Progress, UnboundedAction, finish, marked, stay};
 use crate::unbounded::ending::Ending;
 

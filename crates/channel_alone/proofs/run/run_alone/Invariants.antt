@@ -1,4 +1,4 @@
-use Rattle.async_channel.specs.Plain.{parts_of}
+use Rattle.channel_calls.specs.Plain.{parts_of}
 use Rattle.channel_alone.proofs.Order.{measure}
 use Rattle.channel_alone.proofs.LoopFacts.{IsOnItsWay}
 use Rattle.channel_alone.proofs.SceneLoop.{IsBetween}

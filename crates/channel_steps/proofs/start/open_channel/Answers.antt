@@ -1,4 +1,4 @@
-use Rattle.async_channel.specs.Plain.{parts_of}
+use Rattle.channel_calls.specs.Plain.{parts_of}
 use Rattle.channel_steps.proofs.StartFacts.{new_shown}
 use Rattle.channel_steps.proofs.start.open_channel.Goals as goal
 

@@ -1,4 +1,5 @@
-use Rattle.std.proofs.Common.{arith, ◌+◌, ◌<◌, ◌^◌, refl}
+use Rattle.std.proofs.Common.{arith, ◌+◌, ◌<◌, ◌^◌, List, length, drop, refl, ap}
+use Rattle.channel_model.specs.declared.name.Waiter.{Waiter}
 use Rattle.channel_interleaving.proofs.LoneFacts.{no_agents, is_at_rest, is_called}
 use Rattle.channel_interleaving.proofs.OwnerBegins.{admitted}
 use Rattle.channel_interleaving.proofs.UserFacts.{alone_users}
@@ -18,6 +19,7 @@ returns-clause-ok g c =
     let b = c.in_ok-ask.ensures.ok in
     let low : c.args.self.now.made < 2 ^ 61 = omega (arith, c.if-self-ge-MOST_STEPS.false) in
     let none = no_agents c.args.self.now c.requires.at_work c.requires.quiet in
+    let full = c.run_alone-reply.new.sink.names.items in
     is_called c.args.call c.args.self.now
     (record {
       channel = c.run_alone-reply.new.channel;
@@ -29,8 +31,10 @@ returns-clause-ok g c =
       made = c.args.self.now.made + 1;
       alloc = c.args.self.now.alloc;
     })
-    c.in_ok-ask.field-0.ask c.run_alone-reply.result c.in-Ok.sink c.run_alone-reply.new.sink c.args.room
-    c.run_alone-reply.ensures.scenes b.ask c.requires.quiet c.requires.quiet low refl c.in-Ok.ensures.none c.in-Ok.ensures.room
+    c.in_ok-ask.field-0.ask c.run_alone-reply.result c.in-Ok.sink c.run_alone-reply.new.sink full c.args.room
+    c.run_alone-reply.ensures.scenes b.ask c.requires.quiet c.requires.quiet low refl
+    (ap (λ (ws : List Waiter). drop (length ws) full) c.in-Ok.ensures.none)
+    (let start = ap (λ (ws : List Waiter). length ws) c.in-Ok.ensures.none in omega (arith, start, c.in-Ok.ensures.room))
     c.requires.room
     (rw (
       c.settle-2.ensures,

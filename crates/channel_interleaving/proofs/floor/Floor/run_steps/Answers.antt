@@ -28,16 +28,10 @@ turn-requires-clause-at_work g c = c.loop-step.invariant.1
 pub loop-step-preserved : goal.loop-step-preserved
 loop-step-preserved g c =
     let in_front : c.loop-step.steps.items ≡ c.unwrap-step.result ∷ c.pop_front.new.self.items =
-    c.pop_front.ensures.items ∙ ap (λ o. option_to_list o ++ c.pop_front.new.self.items) c.unwrap-step.ensures in
-    let why : MayStop (book_of c.loop-step.self) c.in-Some.step.now None =
-    subst (λ o. MayStop (book_of c.loop-step.self) c.in-Some.step.now o) c.in_default-stop.is c.stop.ensures.why in
-    let fine : step_refusal c.loop-step.self.roll c.loop-step.self.agents.items c.unwrap-step.result ≡ None =
-    subst (λ x. step_refusal c.loop-step.self.roll c.loop-step.self.agents.items x ≡ None)
-    (first_is c.loop-step.steps.items c.in-Some.step.now c.unwrap-step.result c.pop_front.new.self.items
-    c.in-Some.ensures.lookup in_front) why in (
+    c.pop_front.ensures.items ∙ ap (λ o. option_to_list o ++ c.pop_front.new.self.items) c.unwrap-step.ensures in (
       rw (c.push_reserved.ensures.items, c.stop.ensures.items)
           (ran_more c.args.steps.now.items c.pop_front.new.self.items c.unwrap-step.result c.args.self.now c.loop-step.trace.items
-          c.loop-step.self c.in-Ok.entry c.turn.new.self (rw (sym in_front) c.loop-step.invariant.0) fine c.in-Ok.ensures.ok),
+          c.loop-step.self c.in-Ok.entry c.turn.new.self (rw (sym in_front) c.loop-step.invariant.0) c.in-Ok.ensures.ok),
       c.in-Ok.ensures.at_work,
       λ few. c.in-Ok.ensures.users (c.loop-step.invariant.2 few),
     )

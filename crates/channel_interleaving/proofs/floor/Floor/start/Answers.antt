@@ -10,7 +10,7 @@ returns-clause-ok g c =
     (rw (← c.has_room.ensures.items, ← b.ask) c.begin-3.ensures.begins)
     refl refl c.new.ensures.items refl
     (rw (c.append.ensures, c.has_room-else-not-has_room.ensures.items, ← b.errand, b.names, c.in-Ok.ensures.ok) refl)
-    refl refl
+    refl refl c.requires.accepted
 
 pub returns-clause-users : goal.returns-clause-users
 returns-clause-users g c few =

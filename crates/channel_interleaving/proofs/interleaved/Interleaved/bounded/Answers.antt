@@ -1,8 +1,10 @@
 use Rattle.std.proofs.Common.{Some}
-use Rattle.channel_interleaving.proofs.FloorFacts.{new_kept}
+use Rattle.channel_steps.specs.Run.{new_scene}
+use Rattle.channel_interleaving.proofs.FloorFacts.{new_kept, stands_in}
 use Rattle.channel_interleaving.proofs.interleaved.Interleaved.bounded.Goals as goal
 
 pub returns-clause-open : goal.returns-clause-open
 returns-clause-open g c =
     let o = c.in-Ok.ensures in
-    record { shown = o.shown; kept = new_kept c.in-Ok.floor (Some c.args.capacity) o.book; book = o.book }
+    let kept = new_kept c.in-Ok.floor (Some c.args.capacity) o.book in
+    record { stands = stands_in c.in-Ok.floor (new_scene (Some c.args.capacity)) o.shown kept; book = o.book }

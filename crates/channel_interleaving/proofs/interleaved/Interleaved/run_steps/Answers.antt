@@ -1,13 +1,14 @@
 use Rattle.std.proofs.Common.{subst}
 use Rattle.channel_interleaving.specs.Floor.{RanTo}
+use Rattle.channel_interleaving.proofs.FloorFacts.{stands, owned_where}
 use Rattle.channel_interleaving.proofs.interleaved.Interleaved.run_steps.Goals as goal
 
 pub invariant_of-self : goal.invariant_of-self
 invariant_of-self g c =
-    let before = c.self.invariant.listeners in
-    let ran = c.run_steps.ensures.ran before.scene before.shown in
+    let before = stands c.self.inside.floor c.self.invariant.listeners in
+    let ran = c.run_steps.ensures.ran before.scene before.stands in
     record {
-      listeners = record { scene = ran.last; shown = ran.shown; kept = ran.kept before.kept };
+      listeners = owned_where c.run_steps.new.self ran.last ran.stands;
       at_work = c.run_steps.ensures.at_work;
       users = c.run_steps.ensures.users c.self.invariant.users;
     }
@@ -17,14 +18,8 @@ returns-clause-ran g c =
     subst (λ f. RanTo c.args.steps.now.items c.run_steps.new.steps.items f c.run_steps.result.trace.items c.run_steps.new.self)
     c.self.view_is c.run_steps.ensures.ran
 
-pub returns-clause-owned : goal.returns-clause-owned
-returns-clause-owned g c =
-    let before = c.self.invariant.listeners in
-    let ran = c.run_steps.ensures.ran before.scene before.shown in
-    record { scene = ran.last; shown = ran.shown; kept = ran.kept before.kept }
-
-pub returns-clause-owed : goal.returns-clause-owed
-returns-clause-owed g c =
-    let before = c.self.invariant.listeners in
-    let ran = c.run_steps.ensures.ran before.scene before.shown in
-    record { scene = ran.last; shown = ran.shown; owed = ran.owed before.kept }
+pub returns-clause-stands : goal.returns-clause-stands
+returns-clause-stands g c =
+    let before = stands c.self.inside.floor c.self.invariant.listeners in
+    let ran = c.run_steps.ensures.ran before.scene before.stands in
+    record { scene = ran.last; stands = ran.stands }

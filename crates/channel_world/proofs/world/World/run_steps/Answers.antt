@@ -1,9 +1,28 @@
 use Rattle.std.proofs.Common.{subst}
-use Rattle.channel_interleaving.specs.Floor.{RanTo}
+use Rattle.channel_interleaving.specs.Floor.{RanTo, Stands, book_of}
+use Rattle.channel_interleaving.specs.Run.{Stops}
 use Rattle.channel_interleaving.specs.declared.floor.Floor.{Floor}
+use Rattle.channel_world.proofs.HeadlineFacts.{headline, leads, counted}
 use Rattle.channel_world.proofs.world.World.run_steps.Goals as goal
 
-pub returns-clause-ran : goal.returns-clause-ran
-returns-clause-ran g c =
-    subst (λ (f : Floor g.row.T.Denot). RanTo c.args.steps.now.items c.run_steps.new.steps.items f c.run_steps.result.trace.items c.run_steps.new.self)
-    c.self.view_is c.run_steps.ensures.ran
+pub returns-clause-headline : goal.returns-clause-headline
+returns-clause-headline g c =
+    let ran = subst (λ (f : Floor g.row.T.Denot). RanTo c.args.steps.now.items c.run_steps.new.steps.items f c.run_steps.result.trace.items c.run_steps.new.self)
+    c.self.view_is c.run_steps.ensures.ran in
+    headline c.args.steps.now.items c.run_steps.new.steps.items c.args.self.now c.run_steps.result.trace.items c.run_steps.result.stopped
+    c.run_steps.new.self ran
+    (subst (λ n. Stops (book_of c.run_steps.new.self) c.run_steps.new.steps.items n c.run_steps.result.stopped)
+    c.run_steps.result.trace.ok.0 c.run_steps.ensures.stopped)
+
+pub returns-clause-leads : goal.returns-clause-leads
+returns-clause-leads g c =
+    let ran = subst (λ (f : Floor g.row.T.Denot). RanTo c.args.steps.now.items c.run_steps.new.steps.items f c.run_steps.result.trace.items c.run_steps.new.self)
+    c.self.view_is c.run_steps.ensures.ran in
+    leads c.args.steps.now.items c.run_steps.new.steps.items c.args.self.now c.run_steps.result.trace.items c.run_steps.new.self ran
+
+pub returns-clause-messages : goal.returns-clause-messages
+returns-clause-messages g c =
+    let ran = subst (λ (f : Floor g.row.T.Denot). RanTo c.args.steps.now.items c.run_steps.new.steps.items f c.run_steps.result.trace.items c.run_steps.new.self)
+    c.self.view_is c.run_steps.ensures.ran in
+    counted c.args.steps.now.items c.run_steps.new.steps.items c.args.self.now c.run_steps.result.trace.items c.run_steps.new.self ran
+    (subst (λ (f : Floor g.row.T.Denot). Stands f) c.self.view_is c.keeps.ensures.stands)

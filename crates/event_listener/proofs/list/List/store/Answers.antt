@@ -1,4 +1,4 @@
-use Rattle.std.proofs.Common.{refl, ap}
+use Rattle.std.proofs.Common.{refl, ap, arith}
 use Rattle.std.specs.Prelude.{is_some}
 use Rattle.event_listener.proofs.InsideLemmas.{stored, present}
 use Rattle.event_listener.specs.Lists.{ListView}
@@ -12,7 +12,7 @@ store_task-requires g c =
 pub invariant_of-self : goal.invariant_of-self
 invariant_of-self g c =
     (stored c.self.inside
-    (record { nodes = c.store_task.new.nodes; ends = c.self.inside.ends; cursor = c.self.inside.cursor; told = c.self.inside.told; serials = c.self.inside.serials })
+    (record { nodes = c.store_task.new.nodes; told = c.self.inside.told; waiting = c.self.inside.waiting; told_count = c.self.inside.told_count; serials = c.self.inside.serials })
     c.self.invariant c.args.self.now c.self.view_is c.args.key c.args.task c.requires
     (record {
       after = c.store_task.ensures.after;
@@ -21,14 +21,16 @@ invariant_of-self g c =
       others = c.store_task.ensures.others;
       len = c.store_task.ensures.len;
       capacity = c.store_task.ensures.capacity;
-      ends = refl;
+      settled = c.store_task.ensures.settled;
+      told = refl;
+      waiting = refl;
       serials = refl;
-    }) refl refl).sound
+    }) refl).sound
 
 pub returns-clause-lists : goal.returns-clause-lists
 returns-clause-lists g c =
     (stored c.self.inside
-    (record { nodes = c.store_task.new.nodes; ends = c.self.inside.ends; cursor = c.self.inside.cursor; told = c.self.inside.told; serials = c.self.inside.serials })
+    (record { nodes = c.store_task.new.nodes; told = c.self.inside.told; waiting = c.self.inside.waiting; told_count = c.self.inside.told_count; serials = c.self.inside.serials })
     c.self.invariant c.args.self.now c.self.view_is c.args.key c.args.task c.requires
     (record {
       after = c.store_task.ensures.after;
@@ -37,9 +39,15 @@ returns-clause-lists g c =
       others = c.store_task.ensures.others;
       len = c.store_task.ensures.len;
       capacity = c.store_task.ensures.capacity;
-      ends = refl;
+      settled = c.store_task.ensures.settled;
+      told = refl;
+      waiting = refl;
       serials = refl;
-    }) refl refl).lists
+    }) refl).lists
 
 pub returns-clause-left : goal.returns-clause-left
 returns-clause-left g c = left-with_task c.args.key c.args.task (returns-clause-lists g c) (ap (λ (v : ListView _ _). v.serials) c.self.view_is)
+
+pub returns-clause-visits : goal.returns-clause-visits
+returns-clause-visits g c =
+    let v = ap (λ (v : ListView _ _). v.visits) c.self.view_is in omega (arith, c.store_task.ensures.number, c.self.invariant.2.settled, v)

@@ -19,7 +19,7 @@ invariant_of-self-2 g c =
     let answered = sym (c.notify_with-answer.ensures.answer ∙ ap (λ ts. tags_answer additional count ts lists) same) in
     let total = ap total_of made ∙ total-notified additional (tags_given additional count tags.items lists) lists in
     let grown = c.push_reserved.ensures.items ∙ ap (λ calls. calls ++ call ∷ []) c.in-Ok.ensures.items in
-    kept _ _ _ lists c.self.invariant call _ _ _ c.notify_with-answer.new.self.lists answered made grown
+    kept _ _ _ lists _ c.self.invariant call _ _ _ c.notify_with-answer.new.self.lists c.notify_with-answer.new.self.serials answered made c.notify_with-answer.ensures.serials grown
     (omega (arith, total, c.in-Ok.ensures.room, c.total-total.ensures, c.push_reserved.ensures.len, c.push_reserved.ensures.capacity))
 
 pub returns-clause-at_most : goal.returns-clause-at_most
@@ -45,7 +45,7 @@ returns-clause-recorded g c =
     let call = Notified count additional tags c.notify_with-answer.result in
     let made = c.notify_with-answer.ensures.lists ∙ ap (λ ts. notified additional (tags_given additional count ts lists) lists) same in
     let grown = c.push_reserved.ensures.items ∙ ap (λ calls. calls ++ call ∷ []) c.in-Ok.ensures.items in
-    λ told. (tags, rw (sym c.self.view_is) (rw (sym c.is_additional-additional.ensures) (rw (sym c.count-count.ensures) (is-recorded call _ _ _ made grown))))
+    λ told. (tags, rw (sym c.self.view_is) (rw (sym c.is_additional-additional.ensures) (rw (sym c.count-count.ensures) (is-recorded call _ _ _ _ made c.notify_with-answer.ensures.serials grown))))
 
 pub returns-clause-unchanged : goal.returns-clause-unchanged
 returns-clause-unchanged g c =

@@ -13,5 +13,5 @@ invariant_of-self-2 g c =
     let made = c.register.ensures.lists in
     let total = ap total_of made in
     let grown = c.push_reserved.ensures.items ∙ ap (λ calls. calls ++ Registered c.args.key c.args.task None ∷ []) c.in-Ok.ensures.items in
-    kept _ _ _ lists c.self.invariant (Registered c.args.key c.args.task None) _ _ _ c.register.new.self.lists (waits-answer c.args.key lists waits) made grown
+    kept _ _ _ lists _ c.self.invariant (Registered c.args.key c.args.task None) _ _ _ c.register.new.self.lists c.register.new.self.serials (waits-answer c.args.key lists waits) made c.register.ensures.serials grown
     (omega (arith, same, total, c.in-Ok.ensures.room, c.total-total.ensures, c.push_reserved.ensures.len, c.push_reserved.ensures.capacity))

@@ -10,5 +10,5 @@ invariant_of-self g c =
     let gone = gone-removed c.args.key c.args.pass_on lists c.in-Ok.told (sym c.in-Ok.ensures.answer) in
     let made = c.in-Ok.ensures.lists in
     let total = ap total_of made in
-    kept _ _ _ lists c.self.invariant (Removed c.args.key c.args.pass_on c.in-Ok.told) _ _ _ c.remove.new.self.lists (sym c.in-Ok.ensures.answer) made c.push_reserved.ensures.items
+    kept _ _ _ lists _ c.self.invariant (Removed c.args.key c.args.pass_on c.in-Ok.told) _ _ _ c.remove.new.self.lists c.remove.new.self.serials (sym c.in-Ok.ensures.answer) made c.in-Ok.ensures.serials c.push_reserved.ensures.items
     (omega (arith, gone, total, c.self.invariant.room, c.push_reserved.ensures.len, c.push_reserved.ensures.capacity))

@@ -1,0 +1,36 @@
+//! What ties a handle to its channel.
+
+ghost use Rattle.std.specs.Prelude.{◌≡◌, ◌↔◌, IsTrue, IfSome};
+ghost use Rattle.async_channel.specs.Handles.{handle_of};
+
+use crate::shared::Shared;
+use std::sync::Arc;
+
+/// The shared part of a channel, and the number of the first of its four identities, which tells channels apart.
+#[derive(Drop)]
+pub(crate) struct Link<T: Drop> {
+    pub(crate) shared: Arc<Shared<T>>,
+    pub(crate) id: u64,
+}
+
+impl<T: Drop> Link<T> {
+    /// One more tie to this channel. It waits for nobody and touches neither count; `None` where it was refused.
+    pub(crate) fn try_clone(&self) -> Option<Link<T>>
+        ensures { IfSome result (λ l. handle_of l ≡ handle_of self.now) }
+    {
+        match Arc::try_clone(&self.shared) {
+            Ok(shared) => Some(Link {
+                shared,
+                id: self.id,
+            }),
+            Err(_) => None,
+        }
+    }
+
+    /// Whether both are tied to one channel.
+    pub(crate) fn is_same(&self, other: &Link<T>) -> bool
+        ensures { IsTrue result ↔ ((handle_of self.now).id ≡ (handle_of other.now).id) }
+    {
+        self.id == other.id
+    }
+}

@@ -1,0 +1,94 @@
+//! The opening of a channel.
+
+ghost use Rattle.std.specs.Prelude.{◌≡◌, ◌+◌, ◌-◌, ◌^◌, ◌<◌, ◌≤◌, Some, None, IfOk, OnOk, OnErr, Err};
+ghost use Rattle.concurrent_queue.specs.Replies.{room_of};
+ghost use Rattle.concurrent_queue.specs.SharedQueue.{limit};
+ghost use Rattle.async_channel.specs.Handles.{handle_of};
+
+use crate::link::Link;
+use crate::receiver::Receiver;
+use crate::sender::Sender;
+use crate::shared::Shared;
+use channel_calls::error::OpenError;
+use concurrent_queue::shared::queue::ConcurrentQueue;
+use event_listener::id::EventIds;
+use std::alloc::Global;
+use std::sync::{Arc, Wait};
+
+/// The two handles of a channel over this queue. The memory is taken first, then the four identities.
+fn open<T: Drop, R: Wait + Copy>(
+    rt: R,
+    alloc: Global,
+    queue: ConcurrentQueue<T>,
+    ids: &mut EventIds,
+) -> Result<(Sender<T, R>, Receiver<T, R>), OpenError>
+    ensures sender { IfOk result (λ ends. room_of ends.0.form ≡ limit queue) }
+    ensures receiver { IfOk result (λ ends. ends.1 ≡ ends.0) }
+    ensures named { IfOk result (λ ends. ends.0.id ≡ ids.old) }
+    ensures given { OnOk result (ids.new ≡ ids.old + 4) }
+    ensures unchanged { OnErr result (ids.new ≡ ids.old) }
+    ensures used_up { result ≡ Err OpenError.IdsUsedUp → 2 ^ 64 - 1 < ids.old + 4 }
+{
+    let Ok(shared) = Arc::new(alloc, Shared::new(alloc, queue)) else {
+        return Err(OpenError::NoMemory);
+    };
+    let Ok(other) = Arc::try_clone(&shared) else {
+        return Err(OpenError::NoMemory);
+    };
+    let id = match ids.next_four() {
+        Ok(four) => four[0].number(),
+        Err(_) => return Err(OpenError::IdsUsedUp),
+    };
+    Ok((
+        Sender::new(rt, Link { shared, id }),
+        Receiver::new(rt, Link { shared: other, id }),
+    ))
+}
+
+/// Opens a channel that holds at most `capacity` messages: its first sender and its first receiver.
+///
+/// Its four identities come from `ids`, which channels that are compared have in common. Refused where there is no memory
+/// for its places (for a capacity above 2^58 nobody is asked) or, after that, where fewer than four identities are left;
+/// nothing is taken from `ids` then. It waits for nobody. As `async-channel` 2.5.0, but for the refusals, and that a capacity
+/// of 0 is no panic but can't be asked for.
+pub fn bounded<T: Drop, R: Wait + Copy>(
+    rt: R,
+    alloc: Global,
+    capacity: usize,
+    ids: &mut EventIds,
+) -> Result<(Sender<T, R>, Receiver<T, R>), OpenError>
+    requires { 0 < capacity }
+    ensures capacity { IfOk result (λ ends. room_of ends.0.form ≡ Some capacity) }
+    ensures receiver { IfOk result (λ ends. ends.1 ≡ ends.0) }
+    ensures most { OnOk result (capacity ≤ 2 ^ 58) }
+    ensures named { IfOk result (λ ends. ends.0.id ≡ ids.old) }
+    ensures given { OnOk result (ids.new ≡ ids.old + 4) }
+    ensures unchanged { OnErr result (ids.new ≡ ids.old) }
+    ensures used_up { result ≡ Err OpenError.IdsUsedUp → 2 ^ 64 - 1 < ids.old + 4 }
+{
+    match ConcurrentQueue::bounded(alloc, capacity) {
+        Ok(queue) => open(rt, alloc, queue, ids),
+        Err(_) => Err(OpenError::NoMemory),
+    }
+}
+
+/// Opens a channel that holds any number of messages: its first sender and its first receiver.
+///
+/// Refused as [`bounded`] is. It waits for nobody. As `async-channel` 2.5.0, but for the refusals.
+pub fn unbounded<T: Drop, R: Wait + Copy>(
+    rt: R,
+    alloc: Global,
+    ids: &mut EventIds,
+) -> Result<(Sender<T, R>, Receiver<T, R>), OpenError>
+    ensures capacity { IfOk result (λ ends. room_of ends.0.form ≡ None) }
+    ensures receiver { IfOk result (λ ends. ends.1 ≡ ends.0) }
+    ensures named { IfOk result (λ ends. ends.0.id ≡ ids.old) }
+    ensures given { OnOk result (ids.new ≡ ids.old + 4) }
+    ensures unchanged { OnErr result (ids.new ≡ ids.old) }
+    ensures used_up { result ≡ Err OpenError.IdsUsedUp → 2 ^ 64 - 1 < ids.old + 4 }
+{
+    match ConcurrentQueue::unbounded(alloc) {
+        Ok(queue) => open(rt, alloc, queue, ids),
+        Err(_) => Err(OpenError::NoMemory),
+    }
+}

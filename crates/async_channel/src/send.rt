@@ -1,0 +1,112 @@
+//! The polled send.
+
+ghost use Rattle.std.specs.Prelude.{◌≡◌, Some, is_none};
+ghost use Rattle.futures.specs.Poll.{OnPending};
+ghost use Rattle.futures.specs.Task.{IsArmed, Keeps};
+ghost use Rattle.async_channel.specs.Handles.{SendsOn};
+
+use crate::sender::Sender;
+use crate::waits::Waits;
+use channel_calls::error::{Refused, SendError};
+use futures::Future;
+use futures::task::{Context, Poll};
+use std::marker::Model;
+use std::sync::Wait;
+
+/// A send of one message, which waits for a place. It has finished once it has no message.
+///
+/// Dropping it gives it up. Contracts see it as its message. As `async-channel` 2.5.0.
+pub struct Send<'a, T: Drop, R: Wait + Copy> {
+    sender: &'a Sender<T, R>,
+    message: Option<T>,
+    waits: Waits,
+}
+
+impl<'a, T: Drop, R: Wait + Copy> Model for Send<'a, T, R> {
+    ghost use Rattle.std.specs.Prelude.{Option};
+
+    ghost Value = { Option T };
+
+    ghost view = { λ s. s.message };
+}
+
+impl<'a, T: Drop, R: Wait + Copy> Send<'a, T, R> {
+    pub(crate) fn new(sender: &'a Sender<T, R>, message: T) -> Send<'a, T, R>
+        ensures { result ≡ Some message }
+    {
+        Send {
+            sender,
+            message: Some(message),
+            waits: Waits::new(),
+        }
+    }
+
+    /// One poll. An unfinished send keeps its message while it is pending and where memory or a serial was refused; a closed
+    /// channel hands it back. A finished one is pending, and nothing is changed.
+    ///
+    /// A copy of the waker is taken first. Where none is got nothing is tried, and the answer is want of memory. It may wait for
+    /// another call's end and for the locks of those who wait.
+    pub fn poll(&mut self, cx: &mut Context<'_>) -> Poll<Result<(), Refused<SendError<T>>>>
+        ensures message { SendsOn self.old result self.new }
+        ensures armed { OnPending result (IsArmed cx.new) }
+        ensures kept { Keeps cx.old cx.new }
+    {
+        let sender = self.sender;
+        let shared = &sender.link.shared;
+        let task = self.waits.arm(&sender.rt, shared.alloc, cx);
+        let message = self.message.take();
+        let key = self.waits.key.take();
+        let (polled, kept) = shared.poll_send(&sender.rt, message, key, task);
+        self.message = kept.message;
+        self.waits.key = kept.key;
+        polled
+    }
+
+    /// Whether it has finished. It waits for nobody. Own to this project.
+    pub fn is_terminated(&self) -> bool
+        ensures { result ≡ is_none self.now }
+    {
+        self.message.is_none()
+    }
+
+    /// Gives it up, as its drop does, and hands back the message of one that hasn't finished. It may wait for the lock of those
+    /// who wait. Own to this project.
+    pub fn give_up(mut self) -> Option<T>
+        ensures { result ≡ self.entry }
+    {
+        self.leave()
+    }
+
+    fn leave(&mut self) -> Option<T>
+        ensures { result ≡ self.old }
+    {
+        let sender = self.sender;
+        let message = self.message.take();
+        let key = self.waits.key.take();
+        sender.link.shared.give_up_send(&sender.rt, message, key)
+    }
+}
+
+impl<T: Drop, R: Wait + Copy> Future for Send<'_, T, R> {
+    type Output = Result<(), Refused<SendError<T>>>;
+
+    ghost use Rattle.async_channel.specs.Handles.{Gives};
+
+    // What a closed channel hands back is its message.
+    ghost gives = { λ s r. Gives s r };
+
+    fn poll(&mut self, cx: &mut Context<'_>) -> Poll<Result<(), Refused<SendError<T>>>> {
+        Send::poll(self, cx)
+    }
+}
+
+impl<T: Drop, R: Wait + Copy> Drop for Send<'_, T, R> {
+    fn drop(mut self) {
+        drop(self.leave());
+        let Send {
+            sender: _,
+            message: _,
+            waits: _,
+        } = self;
+    }
+}

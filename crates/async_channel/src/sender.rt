@@ -1,0 +1,191 @@
+//! The sending side of a channel.
+
+use crate::closed::Closed;
+use crate::link::Link;
+use crate::send::Send;
+use crate::weak::WeakSender;
+use channel_calls::ask::ChannelAsk;
+use channel_calls::error::{HandleError, Refused, SendError, TrySendError};
+use channel_calls::stage::Side;
+use std::fmt;
+use std::marker::Model;
+use std::sync::Wait;
+
+/// The sending side of a channel, which any number of threads may share and clone.
+///
+/// The channel is closed once its last sender is dropped. The drop may wait for the locks of those who wait. Contracts see a
+/// sender as its channel: how many messages it holds at most, and its identity. As `async-channel` 2.5.0, but that it has the
+/// runtime with it.
+pub struct Sender<T: Drop, R: Wait + Copy> {
+    pub(crate) link: Link<T>,
+    pub(crate) rt: R,
+}
+
+impl<T: Drop, R: Wait + Copy> Model for Sender<T, R> {
+    ghost use Rattle.async_channel.specs.Handles.{Handle, handle_of};
+
+    ghost Value = { Handle };
+
+    ghost view = { λ h. handle_of h.link };
+}
+
+impl<T: Drop, R: Wait + Copy> Sender<T, R> {
+    ghost use Rattle.std.specs.Prelude.{◌≡◌, Some, None, IfOk, IfErr};
+    ghost use Rattle.concurrent_queue.specs.Replies.{room_of};
+    ghost use Rattle.concurrent_queue.specs.Replies.{is_bounded};
+    ghost use Rattle.channel_calls.specs.Replies.{RefusesTrySend, RefusesForceSend};
+    ghost use Rattle.async_channel.specs.Handles.{handle_of, Unsent};
+
+    pub(crate) fn new(rt: R, link: Link<T>) -> Sender<T, R>
+        ensures { result ≡ handle_of link }
+    {
+        Sender { link, rt }
+    }
+
+    /// Sends the message where there is a place for it.
+    ///
+    /// A refusal hands it back: the channel was closed; a bounded one was full; for one without a bound memory was refused. It
+    /// doesn't wait for a place, but may wait for another call's end and for the locks of those who wait. As `async-channel`
+    /// 2.5.0, but for the want of memory.
+    pub fn try_send(&self, message: T) -> Result<(), Refused<TrySendError<T>, T>>
+        ensures { IfErr result (λ e. RefusesTrySend (is_bounded self.now.form) message e) }
+    {
+        self.link.shared.try_send(&self.rt, message)
+    }
+
+    /// Sends the message; where the channel is full, its oldest message leaves for it and is answered.
+    ///
+    /// A refusal hands the message back: the channel was closed, or for one without a bound memory was refused. It may wait as
+    /// [`try_send`](Sender::try_send) does. As `async-channel` 2.5.0, but for the want of memory.
+    pub fn force_send(&self, message: T) -> Result<Option<T>, Refused<SendError<T>, T>>
+        ensures refused { IfErr result (λ e. RefusesForceSend (is_bounded self.now.form) message e) }
+        ensures displaced { room_of self.now.form ≡ None → IfOk result (λ oldest. oldest ≡ None) }
+    {
+        self.link.shared.force_send(&self.rt, message)
+    }
+
+    /// A send of this message that waits for a place: nothing is done until it is polled. As `async-channel` 2.5.0.
+    pub fn send(&self, message: T) -> Send<'_, T, R>
+        ensures { result ≡ Some message }
+    {
+        Send::new(self, message)
+    }
+
+    /// A wait for the channel's closing: nothing is done until it is polled. As `async-channel` 2.5.0.
+    pub fn closed(&self) -> Closed<'_, T, R> {
+        Closed::new(self)
+    }
+
+    /// Sends the message, and blocks the thread while there is no place for it. It may wait for ever.
+    ///
+    /// A refusal hands the message back: the channel was closed, or what a send or a wait needs was refused: memory, or a serial
+    /// of a listener. As `async-channel` 2.5.0, but for the wants.
+    pub fn send_blocking(&self, message: T) -> Result<(), Refused<SendError<T>, T>>
+        ensures { IfErr result (λ e. Unsent e ≡ message) }
+    {
+        self.link.shared.send_blocking(&self.rt, message)
+    }
+
+    /// Closes the channel: nothing more is sent, and what was sent can still be received. True in the one call that closed it;
+    /// all who wait are woken then. It may wait for the locks of those who wait.
+    pub fn close(&self) -> bool {
+        self.link.shared.close(&self.rt)
+    }
+
+    /// How many messages the channel held at a moment of the call. It may wait, since it asks again where others came between.
+    pub fn len(&self) -> usize {
+        self.link.shared.len(&self.rt)
+    }
+}
+
+// Questions that wait for nobody.
+impl<T: Drop, R: Wait + Copy> Sender<T, R> {
+    ghost use Rattle.std.specs.Prelude.{◌≡◌, ◌↔◌, IsTrue, None, false};
+    ghost use Rattle.concurrent_queue.specs.Replies.{room_of};
+
+    /// Whether the channel is closed. It waits for nobody.
+    pub fn is_closed(&self) -> bool {
+        self.link.shared.is_closed()
+    }
+
+    /// Whether the channel holds no message. It waits for nobody.
+    pub fn is_empty(&self) -> bool {
+        self.link.shared.is_empty()
+    }
+
+    /// Whether the channel holds as many messages as it can; one without a bound never does. It waits for nobody.
+    pub fn is_full(&self) -> bool
+        ensures { room_of self.now.form ≡ None → result ≡ false }
+    {
+        self.link.shared.is_full()
+    }
+
+    /// How many messages the channel can hold, if there is a bound. It waits for nobody.
+    pub fn capacity(&self) -> Option<usize>
+        ensures { result ≡ room_of self.now.form }
+    {
+        self.link.shared.capacity()
+    }
+
+    /// How many senders live. It waits for nobody.
+    pub fn sender_count(&self) -> usize {
+        self.link.shared.count(Side::Senders)
+    }
+
+    /// How many receivers live. It waits for nobody.
+    pub fn receiver_count(&self) -> usize {
+        self.link.shared.count(Side::Receivers)
+    }
+
+    /// Whether both are handles of one channel: whether the identities are equal. It waits for nobody.
+    pub fn same_channel(&self, other: &Sender<T, R>) -> bool
+        ensures { IsTrue result ↔ (self.now.id ≡ other.now.id) }
+    {
+        self.link.is_same(&other.link)
+    }
+}
+
+// More handles.
+impl<T: Drop, R: Wait + Copy> Sender<T, R> {
+    ghost use Rattle.std.specs.Prelude.{◌≡◌, IfOk, IfErr};
+
+    /// One more sender of this channel. `Clone` of `async-channel` 2.5.0, which ends the program where this is refused.
+    ///
+    /// Refused where more than half of `usize::MAX` senders live; nothing is changed then. It may wait for other clonings to end.
+    pub fn try_clone(&self) -> Result<Sender<T, R>, HandleError>
+        ensures { IfOk result (λ more. more ≡ self.now) }
+    {
+        let Some(link) = self.link.try_clone() else {
+            return Err(HandleError::NoMemory);
+        };
+        match self.link.shared.clone_handle(&self.rt, Side::Senders) {
+            Ok(()) => Ok(Sender::new(self.rt, link)),
+            Err(error) => Err(error),
+        }
+    }
+
+    /// A handle that doesn't keep the channel open. It waits for nobody, and is never refused for too many handles. As
+    /// `async-channel` 2.5.0.
+    pub fn downgrade(&self) -> Result<WeakSender<T, R>, HandleError>
+        ensures channel { IfOk result (λ weak. weak ≡ self.now) }
+        ensures reason { IfErr result (λ e. e ≡ HandleError.NoMemory) }
+    {
+        match self.link.try_clone() {
+            Some(link) => Ok(WeakSender::new(self.rt, link)),
+            None => Err(HandleError::NoMemory),
+        }
+    }
+}
+
+impl<T: Drop, R: Wait + Copy> fmt::Debug for Sender<T, R> {
+    fn fmt<W: fmt::Write>(&self, f: &mut fmt::Formatter<W>) -> fmt::Result {
+        write!(f, "Sender {{ .. }}")
+    }
+}
+
+impl<T: Drop, R: Wait + Copy> Drop for Sender<T, R> {
+    fn drop(self) {
+        let Self { link, rt } = self;
+        drop(link.shared.run(&rt, ChannelAsk::DropSender));
+    }
+}

@@ -1,0 +1,21 @@
+//! A receiver as a stream of messages.
+
+use crate::receiver::Receiver;
+use event_listener::error::ListenError;
+use futures::Stream;
+use futures::task::{Context, Poll};
+use std::sync::Wait;
+
+/// It ends once the channel is closed and empty. Where memory or a serial of a listener is refused that is its next item.
+impl<T: Drop, R: Wait + Copy> Stream for Receiver<T, R> {
+    type Item = Result<T, ListenError>;
+
+    fn poll_next(&mut self, cx: &mut Context<'_>) -> Poll<Option<Result<T, ListenError>>> {
+        let rt = self.rt;
+        let task = self.waits.arm(&rt, self.link.shared.alloc, cx);
+        let key = self.waits.key.take();
+        let (polled, key) = self.link.shared.poll_next(&rt, key, task);
+        self.waits.key = key;
+        polled
+    }
+}

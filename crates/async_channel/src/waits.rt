@@ -1,0 +1,56 @@
+//! What an operation keeps from poll to poll.
+
+ghost use Rattle.std.specs.Prelude.{◌≡◌, None};
+ghost use Rattle.futures.specs.Task.{IsArmed, Keeps};
+
+use event_listener::key::Key;
+use event_listener::waking::{Task, WakerCell};
+use futures::task::{Context, Poll};
+use std::alloc::Global;
+use std::sync::{Arc, Wait};
+
+/// The listener of a pending operation, and the cell of its task's waker, which is made at the first poll.
+#[derive(Drop)]
+pub(crate) struct Waits {
+    pub(crate) key: Option<Key>,
+    cell: Option<Arc<WakerCell>>,
+}
+
+impl Waits {
+    /// Without a listener. It takes no memory.
+    pub(crate) fn new() -> Waits {
+        Waits {
+            key: None,
+            cell: None,
+        }
+    }
+
+    /// A copy of the task's waker, in the place where a telling finds it; `None` where no copy was got. It arms the context for
+    /// a pending answer either way.
+    pub(crate) fn arm<R: Wait>(
+        &mut self,
+        rt: &R,
+        alloc: Global,
+        cx: &mut Context<'_>,
+    ) -> Option<Task>
+        ensures armed { IsArmed cx.new }
+        ensures kept { Keeps cx.old cx.new }
+        ensures key { self.new.key ≡ self.old.key }
+    {
+        if self.cell.is_none() {
+            self.cell = Arc::new(alloc, WakerCell::new()).ok();
+        }
+        match &self.cell {
+            Some(cell) => {
+                if !cell.arm(rt, cx) {
+                    return None;
+                }
+                Some(Task::Polled(Arc::try_clone(cell).ok()?))
+            }
+            None => {
+                let _pending: Poll<()> = cx.yield_now();
+                None
+            }
+        }
+    }
+}

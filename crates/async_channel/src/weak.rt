@@ -1,0 +1,130 @@
+//! The weak handles of a channel, which don't keep it open.
+
+use crate::link::Link;
+use crate::receiver::Receiver;
+use crate::sender::Sender;
+use channel_calls::error::HandleError;
+use channel_calls::stage::Side;
+use std::fmt;
+use std::marker::Model;
+use std::sync::Wait;
+
+/// A sender that doesn't keep the channel open. Contracts see it as they see a sender. As `async-channel` 2.5.0.
+#[derive(Drop)]
+pub struct WeakSender<T: Drop, R: Wait + Copy> {
+    link: Link<T>,
+    rt: R,
+}
+
+impl<T: Drop, R: Wait + Copy> Model for WeakSender<T, R> {
+    ghost use Rattle.async_channel.specs.Handles.{Handle, handle_of};
+
+    ghost Value = { Handle };
+
+    ghost view = { λ h. handle_of h.link };
+}
+
+impl<T: Drop, R: Wait + Copy> WeakSender<T, R> {
+    ghost use Rattle.std.specs.Prelude.{◌≡◌, IfOk, IfErr, IfSome};
+    ghost use Rattle.async_channel.specs.Handles.{handle_of};
+
+    pub(crate) fn new(rt: R, link: Link<T>) -> WeakSender<T, R>
+        ensures { result ≡ handle_of link }
+    {
+        WeakSender { link, rt }
+    }
+
+    /// A sender of this channel; `None` where the channel is closed or no sender lives.
+    ///
+    /// Refused where more than half of `usize::MAX` senders live; nothing is changed then. It may wait for other clonings to
+    /// end. As `async-channel` 2.5.0, which ends the program where this is refused.
+    pub fn upgrade(&self) -> Result<Option<Sender<T, R>>, HandleError>
+        ensures { IfOk result (λ made. IfSome made (λ sender. sender ≡ self.now)) }
+    {
+        let Some(link) = self.link.try_clone() else {
+            return Err(HandleError::NoMemory);
+        };
+        match self.link.shared.upgrade(&self.rt, Side::Senders) {
+            Ok(true) => Ok(Some(Sender::new(self.rt, link))),
+            Ok(false) => Ok(None),
+            Err(error) => Err(error),
+        }
+    }
+
+    /// One more weak sender. It waits for nobody, and is never refused for too many handles. `Clone` of `async-channel` 2.5.0.
+    pub fn try_clone(&self) -> Result<WeakSender<T, R>, HandleError>
+        ensures channel { IfOk result (λ more. more ≡ self.now) }
+        ensures reason { IfErr result (λ e. e ≡ HandleError.NoMemory) }
+    {
+        match self.link.try_clone() {
+            Some(link) => Ok(WeakSender::new(self.rt, link)),
+            None => Err(HandleError::NoMemory),
+        }
+    }
+}
+
+impl<T: Drop, R: Wait + Copy> fmt::Debug for WeakSender<T, R> {
+    fn fmt<W: fmt::Write>(&self, f: &mut fmt::Formatter<W>) -> fmt::Result {
+        write!(f, "WeakSender {{ .. }}")
+    }
+}
+
+/// A receiver that doesn't keep the channel open. Contracts see it as they see a receiver. As `async-channel` 2.5.0.
+#[derive(Drop)]
+pub struct WeakReceiver<T: Drop, R: Wait + Copy> {
+    link: Link<T>,
+    rt: R,
+}
+
+impl<T: Drop, R: Wait + Copy> Model for WeakReceiver<T, R> {
+    ghost use Rattle.async_channel.specs.Handles.{Handle, handle_of};
+
+    ghost Value = { Handle };
+
+    ghost view = { λ h. handle_of h.link };
+}
+
+impl<T: Drop, R: Wait + Copy> WeakReceiver<T, R> {
+    ghost use Rattle.std.specs.Prelude.{◌≡◌, IfOk, IfErr, IfSome};
+    ghost use Rattle.async_channel.specs.Handles.{handle_of};
+
+    pub(crate) fn new(rt: R, link: Link<T>) -> WeakReceiver<T, R>
+        ensures { result ≡ handle_of link }
+    {
+        WeakReceiver { link, rt }
+    }
+
+    /// A receiver of this channel; `None` where the channel is closed or no receiver lives.
+    ///
+    /// Refused where more than half of `usize::MAX` receivers live; nothing is changed then. It may wait for other clonings to
+    /// end. As `async-channel` 2.5.0, which ends the program where this is refused.
+    pub fn upgrade(&self) -> Result<Option<Receiver<T, R>>, HandleError>
+        ensures { IfOk result (λ made. IfSome made (λ receiver. receiver ≡ self.now)) }
+    {
+        let Some(link) = self.link.try_clone() else {
+            return Err(HandleError::NoMemory);
+        };
+        match self.link.shared.upgrade(&self.rt, Side::Receivers) {
+            Ok(true) => Ok(Some(Receiver::new(self.rt, link))),
+            Ok(false) => Ok(None),
+            Err(error) => Err(error),
+        }
+    }
+
+    /// One more weak receiver. It waits for nobody, and is never refused for too many handles. `Clone` of `async-channel` 2.5.0.
+    pub fn try_clone(&self) -> Result<WeakReceiver<T, R>, HandleError>
+        ensures channel { IfOk result (λ more. more ≡ self.now) }
+        ensures reason { IfErr result (λ e. e ≡ HandleError.NoMemory) }
+    {
+        match self.link.try_clone() {
+            Some(link) => Ok(WeakReceiver::new(self.rt, link)),
+            None => Err(HandleError::NoMemory),
+        }
+    }
+}
+
+impl<T: Drop, R: Wait + Copy> fmt::Debug for WeakReceiver<T, R> {
+    fn fmt<W: fmt::Write>(&self, f: &mut fmt::Formatter<W>) -> fmt::Result {
+        write!(f, "WeakReceiver {{ .. }}")
+    }
+}

@@ -1,0 +1,49 @@
+//! Weak handles: they upgrade while the channel is open and a handle of their kind lives, and don't keep it open.
+
+use crate::said::{Ends, opened};
+use std::sync::Wait;
+use std::test::Fail;
+
+/// Both ends' weak handles upgrade, and so do their clones; a message goes through what they gave.
+fn upgrades<R: Wait + Copy>(ends: &Ends<R>) -> bool {
+    let (Ok(ws), Ok(wr)) = (ends.0.downgrade(), ends.1.downgrade()) else {
+        return false;
+    };
+    let (Ok(ws), Ok(wr)) = (ws.try_clone(), wr.try_clone()) else {
+        return false;
+    };
+    let (Ok(Some(s)), Ok(Some(r))) = (ws.upgrade(), wr.upgrade()) else {
+        return false;
+    };
+    let two = s.sender_count() == 2 && r.receiver_count() == 2;
+    two && s.send_blocking(3).is_ok() && r.recv_blocking() == Ok(3)
+}
+
+fn weak_ones_stay<R: Wait + Copy>(ends: Ends<R>) -> bool {
+    let (Ok(ws), Ok(wr)) = (ends.0.downgrade(), ends.1.downgrade()) else {
+        return false;
+    };
+    drop(ends);
+    matches!(ws.upgrade(), Ok(None)) && matches!(wr.upgrade(), Ok(None))
+}
+
+#[test]
+fn weak_handles(rt: HostRuntime) -> Result<(), Fail> {
+    for capacity in [3, 0] {
+        let ends = opened(rt, rt.alloc(), capacity).expect(&rt, "memory");
+        assert!(rt; upgrades(&ends));
+        assert_eq!(rt; (ends.0.sender_count(), ends.1.receiver_count()), (1, 1));
+        assert!(rt; weak_ones_stay(ends));
+    }
+    Ok(())
+}
+
+#[test]
+fn none_is_made_once_closed(rt: HostRuntime) -> Result<(), Fail> {
+    let (s, r) = opened(rt, rt.alloc(), 0).expect(&rt, "memory");
+    let weak = s.downgrade().expect(&rt, "handles");
+    assert!(rt; s.close());
+    assert!(rt; matches!(weak.upgrade(), Ok(None)));
+    assert_eq!(rt; (r.sender_count(), s.receiver_count()), (1, 1));
+    Ok(())
+}

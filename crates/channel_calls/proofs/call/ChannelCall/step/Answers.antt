@@ -1,0 +1,15 @@
+use Rattle.std.proofs.Common.{◌≡◌, rules, sym}
+use Rattle.channel_calls.proofs.Steps.{at_stage}
+use Rattle.concurrent_queue.specs.Replies.{is_bounded}
+use Rattle.channel_calls.proofs.Replying as replying
+use Rattle.channel_calls.proofs.call.ChannelCall.step.Goals as goal
+
+pub returns-clause-steps : goal.returns-clause-steps
+returns-clause-steps g c known =
+    let e : c.replace-stage.result ≡ c.args.self.now.stage = search rules in
+    rw c.replace.ensures.after (at_stage _ _ _ _ _ _ _ _ _ _ (sym e) (c.stage_step-stepped.ensures.steps known))
+
+pub returns-clause-answers : goal.returns-clause-answers
+returns-clause-answers g c f has =
+    let e : c.replace-stage.result ≡ c.args.self.now.stage = search rules in
+    rw c.replace.ensures.after (replying.at_stage _ f _ _ (sym e) _ _ (c.stage_step-stepped.ensures.answers f has))

@@ -1,0 +1,68 @@
+-- What a call of a channel is asked for, and how it begins.
+use Rattle.std.specs.Prelude.{Option, None, Some}
+use Rattle.concurrent_queue.specs.declared.call.QueueAsk.TheVariants as ask
+use Rattle.event_listener.specs.declared.key.Key.{Key}
+use Rattle.event_listener.specs.declared.error.ListenError.TheVariants as listen_error
+use Rattle.futures.specs.declared.task.Poll.TheVariants as poll
+use Rattle.channel_calls.specs.declared.ask.ChannelAsk.{ChannelAsk}
+use Rattle.channel_calls.specs.declared.ask.ChannelAsk.TheVariants.{TrySend, ForceSend, TryRecv, Close, PollSend, PollFinishedSend, PollRecv, PollClosed, PollNext, RefusePoll, GiveUp, DropSender, DropReceiver, CloneHandle, Upgrade, HandleCount, IsClosed, IsEmpty, IsFull, Len, Capacity, IsTerminated, SendIsTerminated, SameChannel, Make, DropWeak}
+use Rattle.channel_calls.specs.declared.reply.Reply.TheVariants as reply
+use Rattle.channel_calls.specs.declared.stage.Aim.TheVariants as aim
+use Rattle.channel_calls.specs.declared.stage.Closer.TheVariants as closer
+use Rattle.channel_calls.specs.declared.stage.Ending.{Ending}
+use Rattle.channel_calls.specs.declared.stage.Kept.{Kept}
+use Rattle.channel_calls.specs.declared.stage.Line.{Line}
+use Rattle.channel_calls.specs.declared.stage.Making.TheVariants as making
+use Rattle.channel_calls.specs.declared.stage.Side.TheVariants.{Senders, Receivers}
+use Rattle.channel_calls.specs.declared.stage.Stage.{Stage}
+use Rattle.channel_calls.specs.declared.stage.Stage.TheVariants as stage
+use Rattle.channel_calls.specs.declared.stage.Turn.{Turn}
+use Rattle.channel_calls.specs.declared.stage.Turn.TheVariants.{Tries, Works}
+use Rattle.channel_calls.specs.declared.stage.Waiting.TheVariants as waiting
+use Rattle.channel_calls.specs.declared.stage.Work.TheVariants as work
+use Rattle.channel_calls.specs.Turns.{says, held_on, refused_reply, again, nothing_kept}
+
+module _ {T : Type 0} where
+  -- a poll for which there was no copy of the waker, and the giving up of an operation
+  abbrev pub is_refused : Line → Option T → Option Key → Ending T
+  is_refused line message key = record { reply = refused_reply line listen_error.NoMemory; message = message; held = held_on line key }
+
+  abbrev pub gives_up : Line → Option T → Option Key → Ending T
+  gives_up line message key = record { reply = reply.GivenUp message; message = None; held = held_on line key }
+
+  -- what a call that has answered leaves
+  abbrev pub kept_by : {Q W : Type 0} → Stage Q T W → Kept T
+  kept_by (stage.Finished kept) = kept
+  kept_by (stage.Trying call aim) = nothing_kept
+  kept_by (stage.Working w) = nothing_kept
+
+module _ {T W : Type 0} where
+  -- the first turn of a call
+  abbrev pub first : ChannelAsk T W → Turn T W
+  first (TrySend m) = Tries (ask.Push m) aim.TrySend
+  first (ForceSend m) = Tries (ask.ForcePush m) aim.ForceSend
+  first TryRecv = Tries ask.Pop aim.TryRecv
+  first Close = Tries ask.Close (aim.Close closer.Call)
+  first (PollSend m key task) = again (waiting.Send m) key task
+  first PollFinishedSend = Works (work.Leave (says (reply.SendPoll poll.Pending)))
+  first (PollRecv key task) = again waiting.Receive key task
+  first (PollClosed key task) = again waiting.Closing key task
+  first (PollNext None task) = again waiting.Stream None task
+  first (PollNext (Some key) task) = Works (work.Register waiting.Stream key task)
+  first (RefusePoll line message key) = Works (work.Leave (is_refused line message key))
+  first (GiveUp line message key) = Works (work.Leave (gives_up line message key))
+  first DropSender = Works (work.Lower Senders None)
+  first (DropReceiver key) = Works (work.Lower Receivers key)
+  first (CloneHandle side) = Works (work.Load side making.Clone)
+  first (Upgrade side) = Tries ask.IsClosed (aim.Upgrade side)
+  first (HandleCount side) = Works (work.Count side)
+  first IsClosed = Tries ask.IsClosed aim.Ask
+  first IsEmpty = Tries ask.IsEmpty aim.Ask
+  first IsFull = Tries ask.IsFull aim.Ask
+  first Len = Tries ask.Len aim.Ask
+  first Capacity = Tries ask.Capacity aim.Ask
+  first IsTerminated = Tries ask.IsClosed aim.IsTerminated
+  first (SendIsTerminated b) = Works (work.Leave (says (reply.Flag b)))
+  first (SameChannel b) = Works (work.Leave (says (reply.Flag b)))
+  first Make = Works (work.Leave (says reply.Made))
+  first DropWeak = Works (work.Leave (says reply.Unit))

@@ -1,0 +1,90 @@
+-- What a channel has beside its queue: four lists of listeners and two counts of handles.
+use Rattle.std.specs.Prelude.{◌≡◌, ℕ, ◌-◌, ◌^◌, ◌==◌, ◌&&◌, nat_lt, Bool, true, false, List, [], ◌++◌, map, not, Option, None, Some}
+use Rattle.concurrent_queue.specs.Contents.{Contents}
+use Rattle.event_listener.specs.Lists.{Lists, kind_of, told_with, tasks_of, passed, passed_wakes}
+use Rattle.event_listener.specs.declared.key.Key.{Key}
+use Rattle.channel_calls.specs.declared.stage.Line.{Line}
+use Rattle.channel_calls.specs.declared.stage.Line.TheVariants.{Sends, Receives, Streams, Closings}
+use Rattle.channel_calls.specs.declared.stage.Side.{Side}
+use Rattle.channel_calls.specs.declared.stage.Side.TheVariants.{Senders, Receivers}
+
+-- the told and the waiting listeners of one list, which get no tags
+abbrev pub Listeners : Type 0 → Type 0
+Listeners W = Lists Unit W
+
+-- the lists and the counts
+pub record Roster (W : Type 0) : Type 0 where
+  pub sends : Listeners W
+  pub receives : Listeners W
+  pub streams : Listeners W
+  pub closings : Listeners W
+  pub senders : ℕ
+  pub receivers : ℕ
+
+-- what a queue's cells hold, with the lists and the counts
+pub record Parts (T W : Type 0) : Type 0 where
+  pub cells : Contents T
+  pub roster : Roster W
+
+module _ {T W : Type 0} where
+  abbrev pub with_cells : Contents T → Parts T W → Parts T W
+  with_cells cells p = record p { cells = cells }
+
+  abbrev pub with_roster : Roster W → Parts T W → Parts T W
+  with_roster roster p = record p { roster = roster }
+
+module _ {W : Type 0} where
+  abbrev pub nobody_listens : Listeners W
+  nobody_listens = record { told = []; waiting = [] }
+
+  -- one handle of each kind, and no listeners
+  abbrev pub new_roster : Roster W
+  new_roster =
+      record { sends = nobody_listens; receives = nobody_listens; streams = nobody_listens; closings = nobody_listens; senders = 1; receivers = 1 }
+
+  abbrev pub listeners : Line → Roster W → Listeners W
+  listeners Sends a = a.sends
+  listeners Receives a = a.receives
+  listeners Streams a = a.streams
+  listeners Closings a = a.closings
+
+  abbrev pub with_listeners : Line → Listeners W → Roster W → Roster W
+  with_listeners Sends l a = record a { sends = l }
+  with_listeners Receives l a = record a { receives = l }
+  with_listeners Streams l a = record a { streams = l }
+  with_listeners Closings l a = record a { closings = l }
+
+  abbrev pub count : Side → Roster W → ℕ
+  count Senders a = a.senders
+  count Receivers a = a.receivers
+
+  abbrev pub with_count : Side → ℕ → Roster W → Roster W
+  with_count Senders n a = record a { senders = n }
+  with_count Receivers n a = record a { receivers = n }
+
+  -- whether a count is this, and can be raised by one
+  abbrev pub is_raised : Side → ℕ → Roster W → Bool
+  is_raised side n a = (count side a == n) && nat_lt n (2 ^ 64 - 1)
+
+  -- one more waiting listener is told, whoever is told already
+  abbrev pub told_one : Listeners W → Listeners W
+  told_one l = passed (record { additional = true; tag = tt }) l
+
+  abbrev pub told_one_wakes : Listeners W → List W
+  told_one_wakes l = passed_wakes (record { additional = true; tag = tt }) l
+
+  -- all who wait are told
+  abbrev pub told_all : Listeners W → Listeners W
+  told_all l = record { told = l.told ++ told_with false l.waiting (map (λ w. tt) l.waiting); waiting = [] }
+
+  abbrev pub told_all_wakes : Listeners W → List W
+  told_all_wakes l = tasks_of l.waiting
+
+  -- whether this listener waits
+  abbrev pub waits : Key → Listeners W → Bool
+  waits key l = elim (kind_of l key) [ Some told ↦ not told | None ↦ false ]
+
+  -- a waiting listener keeps the task; the task of any other comes back
+  abbrev pub Registers : Listeners W → Key → W → Option W → Type 0
+  Registers l key task None = waits key l ≡ true
+  Registers l key task (Some w) = (w ≡ task) × (waits key l ≡ false)

@@ -1,0 +1,243 @@
+//! What comes after each answer of a channel's queue.
+
+ghost use Rattle.std.specs.Prelude.{◌≡◌};
+ghost use Rattle.channel_calls.specs.Answered.{lost, sent_next, forced_next, received_next, send_next, receive_next, stream_next, closing_next, polled_next, closed_next, asked_next, terminated_next, upgraded_next, answered_next};
+
+use crate::error::{RecvError, Refused, SendError, TryRecvError, TrySendError};
+use crate::reply::Reply;
+use crate::stage::{Aim, Closer, Ending, Kept, Line, Making, Side, Turn, Waiting, Work};
+use crate::turn::{closer_ending, ends_by, held_on, refused_next, says};
+use concurrent_queue::call::{QueueAsk, QueueReply};
+use concurrent_queue::error::{ForcePushError, PopError, PushError};
+use event_listener::key::Key;
+use futures::task::Poll;
+
+/// The queue answers each call in its own kind, so this is never reached where its contents are known.
+fn lost<T, W>() -> Turn<T, W>
+    ensures { result ≡ lost }
+{
+    Turn::Ends(Reply::Unit, Kept::nothing())
+}
+
+/// A send that doesn't wait.
+fn sent_next<T: Drop, W>(answer: QueueReply<T>) -> Turn<T, W>
+    ensures { result ≡ sent_next answer }
+{
+    match answer {
+        QueueReply::Push(Ok(())) => Turn::Works(Work::TellReceive(says(Reply::TrySend(Ok(()))))),
+        QueueReply::Push(Err(PushError::Full(message))) => {
+            let error = Refused::Plain(TrySendError::Full(message));
+            ends_by(says(Reply::TrySend(Err(error))))
+        }
+        QueueReply::Push(Err(PushError::Closed(message))) => {
+            let error = Refused::Plain(TrySendError::Closed(message));
+            ends_by(says(Reply::TrySend(Err(error))))
+        }
+        QueueReply::Push(Err(PushError::NoMemory(message))) => {
+            ends_by(says(Reply::TrySend(Err(Refused::NoMemory(message)))))
+        }
+        _ => lost(),
+    }
+}
+
+/// A send that displaces. It tells no send, since it makes no room.
+fn forced_next<T: Drop, W>(answer: QueueReply<T>) -> Turn<T, W>
+    ensures { result ≡ forced_next answer }
+{
+    match answer {
+        QueueReply::Force(Ok(displaced)) => {
+            Turn::Works(Work::TellReceive(says(Reply::ForceSend(Ok(displaced)))))
+        }
+        QueueReply::Force(Err(ForcePushError::Closed(message))) => {
+            let error = Refused::Plain(SendError(message));
+            ends_by(says(Reply::ForceSend(Err(error))))
+        }
+        QueueReply::Force(Err(ForcePushError::NoMemory(message))) => {
+            ends_by(says(Reply::ForceSend(Err(Refused::NoMemory(message)))))
+        }
+        _ => lost(),
+    }
+}
+
+/// A receive that doesn't wait.
+fn received_next<T: Drop, W>(answer: QueueReply<T>) -> Turn<T, W>
+    ensures { result ≡ received_next answer }
+{
+    match answer {
+        QueueReply::Pop(Ok(message)) => {
+            Turn::Works(Work::TellSend(says(Reply::TryRecv(Ok(message)))))
+        }
+        QueueReply::Pop(Err(PopError::Empty)) => {
+            ends_by(says(Reply::TryRecv(Err(TryRecvError::Empty))))
+        }
+        QueueReply::Pop(Err(PopError::Closed)) => {
+            ends_by(says(Reply::TryRecv(Err(TryRecvError::Closed))))
+        }
+        _ => lost(),
+    }
+}
+
+/// A try of a polled send. A message that wasn't sent into a closed channel is in the error; one for which there was no
+/// memory stays with the send.
+fn send_next<T: Drop, W: Drop>(answer: QueueReply<T>, key: Option<Key>, task: W) -> Turn<T, W>
+    ensures { result ≡ send_next answer key task }
+{
+    let held = held_on(Line::Sends, key);
+    match answer {
+        QueueReply::Push(Ok(())) => Turn::Works(Work::TellReceive(Ending {
+            reply: Reply::SendPoll(Poll::Ready(Ok(()))),
+            message: None,
+            held,
+        })),
+        QueueReply::Push(Err(PushError::Full(message))) => {
+            refused_next(Waiting::Send(message), key, task)
+        }
+        QueueReply::Push(Err(PushError::Closed(message))) => ends_by(Ending {
+            reply: Reply::SendPoll(Poll::Ready(Err(Refused::Plain(SendError(message))))),
+            message: None,
+            held,
+        }),
+        QueueReply::Push(Err(PushError::NoMemory(message))) => ends_by(Ending {
+            reply: Reply::SendPoll(Poll::Ready(Err(Refused::NoMemory(())))),
+            message: Some(message),
+            held,
+        }),
+        _ => lost(),
+    }
+}
+
+/// A try of a polled receive.
+fn receive_next<T: Drop, W: Drop>(answer: QueueReply<T>, key: Option<Key>, task: W) -> Turn<T, W>
+    ensures { result ≡ receive_next answer key task }
+{
+    let held = held_on(Line::Receives, key);
+    match answer {
+        QueueReply::Pop(Ok(message)) => Turn::Works(Work::TellSend(Ending {
+            reply: Reply::RecvPoll(Poll::Ready(Ok(message))),
+            message: None,
+            held,
+        })),
+        QueueReply::Pop(Err(PopError::Empty)) => refused_next(Waiting::Receive, key, task),
+        QueueReply::Pop(Err(PopError::Closed)) => ends_by(Ending {
+            reply: Reply::RecvPoll(Poll::Ready(Err(Refused::Plain(RecvError)))),
+            message: None,
+            held,
+        }),
+        _ => lost(),
+    }
+}
+
+/// A try of a polled stream.
+fn stream_next<T: Drop, W: Drop>(answer: QueueReply<T>, key: Option<Key>, task: W) -> Turn<T, W>
+    ensures { result ≡ stream_next answer key task }
+{
+    let held = held_on(Line::Streams, key);
+    match answer {
+        QueueReply::Pop(Ok(message)) => Turn::Works(Work::TellSend(Ending {
+            reply: Reply::Next(Poll::Ready(Some(Ok(message)))),
+            message: None,
+            held,
+        })),
+        QueueReply::Pop(Err(PopError::Empty)) => refused_next(Waiting::Stream, key, task),
+        QueueReply::Pop(Err(PopError::Closed)) => ends_by(Ending {
+            reply: Reply::Next(Poll::Ready(None)),
+            message: None,
+            held,
+        }),
+        _ => lost(),
+    }
+}
+
+/// A try of a polled wait for the closing.
+fn closing_next<T: Drop, W: Drop>(answer: QueueReply<T>, key: Option<Key>, task: W) -> Turn<T, W>
+    ensures { result ≡ closing_next answer key task }
+{
+    match answer {
+        QueueReply::Flag(true) => ends_by(Ending {
+            reply: Reply::ClosedPoll(Poll::Ready(Ok(()))),
+            message: None,
+            held: held_on(Line::Closings, key),
+        }),
+        QueueReply::Flag(false) => refused_next(Waiting::Closing, key, task),
+        _ => lost(),
+    }
+}
+
+/// A try of a polled operation of this kind.
+fn polled_next<T: Drop, W: Drop>(
+    line: Line,
+    answer: QueueReply<T>,
+    key: Option<Key>,
+    task: W,
+) -> Turn<T, W>
+    ensures { result ≡ polled_next line answer key task }
+{
+    match line {
+        Line::Sends => send_next(answer, key, task),
+        Line::Receives => receive_next(answer, key, task),
+        Line::Streams => stream_next(answer, key, task),
+        Line::Closings => closing_next(answer, key, task),
+    }
+}
+
+/// A closing: it tells all only where this call closed the channel.
+fn closed_next<T: Drop, W>(answer: QueueReply<T>, closer: Closer) -> Turn<T, W>
+    ensures { result ≡ closed_next answer closer }
+{
+    match answer {
+        QueueReply::Close(true) => Turn::Works(Work::TellAll(Line::Sends, closer)),
+        QueueReply::Close(false) => ends_by(closer_ending(closer, false)),
+        _ => lost(),
+    }
+}
+
+/// A question.
+fn asked_next<T: Drop, W>(answer: QueueReply<T>) -> Turn<T, W>
+    ensures { result ≡ asked_next answer }
+{
+    match answer {
+        QueueReply::Flag(flag) => ends_by(says(Reply::Flag(flag))),
+        QueueReply::Count(count) => ends_by(says(Reply::Count(count))),
+        QueueReply::Cap(capacity) => ends_by(says(Reply::Cap(capacity))),
+        _ => lost(),
+    }
+}
+
+/// Whether a receiver has got its last message: an open channel has more to come, a closed one is asked whether it is
+/// empty.
+fn terminated_next<T: Drop, W>(answer: QueueReply<T>) -> Turn<T, W>
+    ensures { result ≡ terminated_next answer }
+{
+    match answer {
+        QueueReply::Flag(true) => Turn::Tries(QueueAsk::IsEmpty, Aim::Ask),
+        QueueReply::Flag(false) => ends_by(says(Reply::Flag(false))),
+        _ => lost(),
+    }
+}
+
+/// An upgrade: none on a closed channel.
+fn upgraded_next<T: Drop, W>(answer: QueueReply<T>, side: Side) -> Turn<T, W>
+    ensures { result ≡ upgraded_next answer side }
+{
+    match answer {
+        QueueReply::Flag(true) => ends_by(says(Reply::NotMade)),
+        QueueReply::Flag(false) => Turn::Works(Work::Load(side, Making::Upgrade)),
+        _ => lost(),
+    }
+}
+
+/// What comes after the queue's answer to a call with this aim.
+pub(crate) fn answered_next<T: Drop, W: Drop>(aim: Aim<W>, answer: QueueReply<T>) -> Turn<T, W>
+    ensures { result ≡ answered_next aim answer }
+{
+    match aim {
+        Aim::TrySend => sent_next(answer),
+        Aim::ForceSend => forced_next(answer),
+        Aim::TryRecv => received_next(answer),
+        Aim::Poll(line, key, task) => polled_next(line, answer, key, task),
+        Aim::Close(closer) => closed_next(answer, closer),
+        Aim::Ask => asked_next(answer),
+        Aim::IsTerminated => terminated_next(answer),
+        Aim::Upgrade(side) => upgraded_next(answer, side),
+    }
+}

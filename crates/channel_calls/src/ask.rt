@@ -1,0 +1,143 @@
+//! What a call of a channel is asked for, and how it begins.
+
+ghost use Rattle.std.specs.Prelude.{◌≡◌};
+ghost use Rattle.channel_calls.specs.Asks.{first, gives_up, is_refused};
+ghost use Rattle.channel_calls.specs.Turns.{says};
+
+use crate::reply::Reply;
+use crate::stage::{Aim, Closer, Ending, Line, Making, Side, Turn, Waiting, Work};
+use crate::turn::{again, held_on, refused_reply, says};
+use concurrent_queue::call::QueueAsk;
+use event_listener::error::ListenError;
+use event_listener::key::Key;
+use futures::task::Poll;
+
+/// A call of a channel. A polled operation lends its call what it has: the key of the listener that it holds, a task that
+/// is to be woken once it may go on, the message of a send. Own to this project.
+#[derive(Drop)]
+pub enum ChannelAsk<T, W> {
+    /// A send that doesn't wait.
+    TrySend(T),
+    /// A send that displaces the oldest message of a full channel.
+    ForceSend(T),
+    /// A receive that doesn't wait.
+    TryRecv,
+    /// A closing by hand.
+    Close,
+    /// A poll of an unfinished send.
+    PollSend(T, Option<Key>, W),
+    /// A poll of a send that has finished. It is pending, and nothing is changed.
+    PollFinishedSend,
+    /// A poll of a receive.
+    PollRecv(Option<Key>, W),
+    /// A poll for the closing.
+    PollClosed(Option<Key>, W),
+    /// A poll of a receiver as a stream. A listener that it holds is asked before the queue is looked at.
+    PollNext(Option<Key>, W),
+    /// A poll of an operation of this kind for which there was no copy of the waker: it drops the listener that it holds
+    /// and is refused for memory. A send keeps its message.
+    RefusePoll(Line, Option<T>, Option<Key>),
+    /// The giving up of an operation of this kind, which drops the listener that it holds and hands back the message of an
+    /// unfinished send.
+    GiveUp(Line, Option<T>, Option<Key>),
+    /// The drop of a sender. The last one closes.
+    DropSender,
+    /// The drop of a receiver, which may hold a listener as a stream. The last one closes, before that listener leaves.
+    DropReceiver(Option<Key>),
+    /// One more handle of this kind.
+    CloneHandle(Side),
+    /// A strong handle of this kind from a weak one.
+    Upgrade(Side),
+    /// How many strong handles of this kind live.
+    HandleCount(Side),
+    /// Whether the channel is closed.
+    IsClosed,
+    /// Whether it holds no message.
+    IsEmpty,
+    /// Whether it holds as many messages as its capacity.
+    IsFull,
+    /// How many messages it holds.
+    Len,
+    /// How many it can hold at most.
+    Capacity,
+    /// Whether a receiver got its last message: whether the channel is closed, and then whether it is empty.
+    IsTerminated,
+    /// Whether a send has finished, as its operation says. Nothing is touched.
+    SendIsTerminated(bool),
+    /// Whether two handles are of one channel, as their identities say. Nothing is touched.
+    SameChannel(bool),
+    /// The making of an operation or of a weak handle. Nothing is touched.
+    Make,
+    /// The drop of a weak handle. Nothing is touched.
+    DropWeak,
+}
+
+/// A call that only answers: nothing is touched.
+fn only_says<T, W>(reply: Reply<T>) -> Turn<T, W>
+    ensures { result ≡ Turn.Works (Work.Leave (says reply)) }
+{
+    Turn::Works(Work::Leave(says(reply)))
+}
+
+/// An operation is given up.
+fn gives_up<T, W>(line: Line, message: Option<T>, key: Option<Key>) -> Turn<T, W>
+    ensures { result ≡ Turn.Works (Work.Leave (gives_up line message key)) }
+{
+    Turn::Works(Work::Leave(Ending {
+        reply: Reply::GivenUp(message),
+        message: None,
+        held: held_on(line, key),
+    }))
+}
+
+/// A poll is refused the copy of its waker.
+fn is_refused<T, W>(line: Line, message: Option<T>, key: Option<Key>) -> Turn<T, W>
+    ensures { result ≡ Turn.Works (Work.Leave (is_refused line message key)) }
+{
+    Turn::Works(Work::Leave(Ending {
+        reply: refused_reply(line, ListenError::NoMemory),
+        message,
+        held: held_on(line, key),
+    }))
+}
+
+impl<T, W> ChannelAsk<T, W> {
+    /// The call's first turn.
+    pub(crate) fn first(self) -> Turn<T, W>
+        ensures { result ≡ first self }
+    {
+        match self {
+            ChannelAsk::TrySend(message) => Turn::Tries(QueueAsk::Push(message), Aim::TrySend),
+            ChannelAsk::ForceSend(message) => {
+                Turn::Tries(QueueAsk::ForcePush(message), Aim::ForceSend)
+            }
+            ChannelAsk::TryRecv => Turn::Tries(QueueAsk::Pop, Aim::TryRecv),
+            ChannelAsk::Close => Turn::Tries(QueueAsk::Close, Aim::Close(Closer::Call)),
+            ChannelAsk::PollSend(message, key, task) => again(Waiting::Send(message), key, task),
+            ChannelAsk::PollFinishedSend => only_says(Reply::SendPoll(Poll::Pending)),
+            ChannelAsk::PollRecv(key, task) => again(Waiting::Receive, key, task),
+            ChannelAsk::PollClosed(key, task) => again(Waiting::Closing, key, task),
+            ChannelAsk::PollNext(None, task) => again(Waiting::Stream, None, task),
+            ChannelAsk::PollNext(Some(key), task) => {
+                Turn::Works(Work::Register(Waiting::Stream, key, task))
+            }
+            ChannelAsk::RefusePoll(line, message, key) => is_refused(line, message, key),
+            ChannelAsk::GiveUp(line, message, key) => gives_up(line, message, key),
+            ChannelAsk::DropSender => Turn::Works(Work::Lower(Side::Senders, None)),
+            ChannelAsk::DropReceiver(key) => Turn::Works(Work::Lower(Side::Receivers, key)),
+            ChannelAsk::CloneHandle(side) => Turn::Works(Work::Load(side, Making::Clone)),
+            ChannelAsk::Upgrade(side) => Turn::Tries(QueueAsk::IsClosed, Aim::Upgrade(side)),
+            ChannelAsk::HandleCount(side) => Turn::Works(Work::Count(side)),
+            ChannelAsk::IsClosed => Turn::Tries(QueueAsk::IsClosed, Aim::Ask),
+            ChannelAsk::IsEmpty => Turn::Tries(QueueAsk::IsEmpty, Aim::Ask),
+            ChannelAsk::IsFull => Turn::Tries(QueueAsk::IsFull, Aim::Ask),
+            ChannelAsk::Len => Turn::Tries(QueueAsk::Len, Aim::Ask),
+            ChannelAsk::Capacity => Turn::Tries(QueueAsk::Capacity, Aim::Ask),
+            ChannelAsk::IsTerminated => Turn::Tries(QueueAsk::IsClosed, Aim::IsTerminated),
+            ChannelAsk::SendIsTerminated(finished) => only_says(Reply::Flag(finished)),
+            ChannelAsk::SameChannel(same) => only_says(Reply::Flag(same)),
+            ChannelAsk::Make => only_says(Reply::Made),
+            ChannelAsk::DropWeak => only_says(Reply::Unit),
+        }
+    }
+}

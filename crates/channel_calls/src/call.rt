@@ -1,0 +1,91 @@
+//! A call of a channel, which is made one step at a time.
+
+ghost use Rattle.std.specs.Prelude.{◌≡◌};
+ghost use Rattle.channel_calls.specs.Moves.{IsChannelStep, IsNewCall};
+ghost use Rattle.channel_calls.specs.Replies.{FollowsStage};
+ghost use Rattle.concurrent_queue.specs.Replies.{is_bounded};
+ghost use Rattle.concurrent_queue.specs.declared.cells.QueueForm.{QueueForm};
+
+use crate::ask::ChannelAsk;
+use crate::cells::ChannelCells;
+use crate::mark::Mark;
+use crate::reply::Reply;
+use crate::stage::{Kept, Stage};
+use crate::step::{stage_step, takes};
+use concurrent_queue::queue_call::QueueCall;
+use event_listener::wakes::Wakes;
+use std::mem;
+
+/// A call of a channel under way, with what its operation lent it: a listener's key, a task, a message.
+///
+/// Each [`step`](ChannelCall::step) does one thing to the channel's cells: one step of a call of the queue, one section on
+/// one list of listeners, one operation on one count, or nothing. Own to this project.
+#[derive(Drop)]
+pub struct ChannelCall<T, W> {
+    stage: Stage<QueueCall<T>, T, W>,
+    mark: Mark,
+}
+
+impl<T: Drop, W: Drop> ChannelCall<T, W> {
+    /// What the last step did to the channel; before the first step nothing.
+    pub fn last_mark(&self) -> Mark
+        ensures { result ≡ self.now.mark }
+    {
+        self.mark
+    }
+
+    /// Makes the next step. Tasks that it wakes go to the sink in order. It gives the reply with the call's last step,
+    /// and does nothing after that.
+    ///
+    /// Over cells whose contents are unknown, what may be answered after the step, and what it answers, might have been
+    /// answered before it.
+    pub fn step<C: ChannelCells<T, W>, S: Wakes<W>>(
+        &mut self,
+        cells: &mut C,
+        sink: &mut S,
+    ) -> Option<Reply<T>>
+        ensures steps { C.known → IsChannelStep S.wakes (C.parts cells.old) self.old.stage sink.old (C.parts cells.new) self.new.stage self.new.mark result sink.new }
+        ensures answers { (f : QueueForm) → C.has_form cells.old f → FollowsStage f self.old.stage self.new.stage result }
+        ensures form { (f : QueueForm) → C.has_form cells.old f → C.has_form cells.new f }
+    {
+        let stage = mem::replace(&mut self.stage, Stage::Finished(Kept::nothing()));
+        let stepped = stage_step(stage, cells, sink);
+        drop(mem::replace(&mut self.stage, stepped.stage));
+        self.mark = stepped.mark;
+        stepped.reply
+    }
+}
+
+impl<T: Drop, W: Drop> ChannelCall<T, W> {
+    ghost use Rattle.channel_calls.specs.Asks.{first, kept_by};
+    ghost use Rattle.std.specs.Prelude.{Bool, Option};
+    ghost use Rattle.channel_calls.specs.Replies.{MayEnd, MayGive};
+    ghost use Rattle.channel_calls.specs.declared.reply.Reply.{Reply};
+
+    /// The call that is asked for. It has made no step.
+    pub fn new(ask: ChannelAsk<T, W>) -> ChannelCall<T, W>
+        ensures begins { IsNewCall result (first ask) }
+        ensures answers { (b : QueueForm) (r : Reply T) (m : Option T) → MayEnd b result.stage r m → MayGive b ask r m }
+        ensures unmarked { result.mark ≡ Mark.Nothing }
+    {
+        let begun = takes(ask.first(), Mark::Nothing);
+        ChannelCall {
+            stage: begun.stage,
+            mark: begun.mark,
+        }
+    }
+
+    /// What a call that has answered leaves to its operation: the listener of a pending one, the message of an unfinished
+    /// send. A call that has not answered is let go, with what it holds.
+    pub fn into_kept(self) -> Kept<T>
+        ensures { result ≡ kept_by self.stage }
+    {
+        match self.stage {
+            Stage::Finished(kept) => kept,
+            stage => {
+                drop(stage);
+                Kept::nothing()
+            }
+        }
+    }
+}

@@ -1,0 +1,212 @@
+//! What a call of a channel is refused by.
+
+use std::error::Error;
+use std::fmt;
+
+/// A send into a closed channel, with its message. As in `async-channel` 2.5.0.
+#[derive(Clone, Copy, Drop, PartialEq, Eq)]
+pub struct SendError<T>(pub T);
+
+/// A send that doesn't wait was refused, with its message. As in `async-channel` 2.5.0.
+#[derive(Clone, Copy, Drop, PartialEq, Eq)]
+pub enum TrySendError<T> {
+    /// The channel was open and full.
+    Full(T),
+    /// The channel was closed.
+    Closed(T),
+}
+
+/// A receive from a channel that is closed and empty. As in `async-channel` 2.5.0.
+#[derive(Clone, Copy, Debug, PartialEq, Eq)]
+pub struct RecvError;
+
+/// A receive that doesn't wait was refused. As in `async-channel` 2.5.0.
+#[derive(Clone, Copy, Debug, PartialEq, Eq)]
+pub enum TryRecvError {
+    /// The channel was open and empty.
+    Empty,
+    /// The channel was closed and empty.
+    Closed,
+}
+
+/// A refusal: by the channel, or for want of memory or of serials, with what is handed back. Own to this project.
+#[derive(Clone, Debug, Drop, PartialEq, Eq)]
+pub enum Refused<E, K = ()> {
+    /// The channel's own refusal.
+    Plain(E),
+    /// Memory was refused.
+    NoMemory(K),
+    /// All serials of a list of listeners were given out.
+    SerialsUsedUp(K),
+}
+
+/// No channel was opened. Own to this project.
+#[derive(Clone, Copy, Debug, PartialEq, Eq)]
+pub enum OpenError {
+    /// Memory was refused, or the capacity is above 2^58.
+    NoMemory,
+    /// The source of identities has fewer than four left.
+    IdsUsedUp,
+}
+
+/// No handle was made. Own to this project.
+#[derive(Clone, Copy, Debug, PartialEq, Eq)]
+pub enum HandleError {
+    /// More than half of `usize::MAX` handles of this kind live.
+    TooMany,
+    /// Memory was refused.
+    NoMemory,
+}
+
+impl<T> SendError<T> {
+    ghost use Rattle.std.specs.Prelude.{◌≡◌};
+    ghost use Rattle.channel_calls.specs.Errors.{unsent};
+
+    /// The message that wasn't sent.
+    pub fn into_inner(self) -> T
+        ensures { result ≡ unsent self }
+    {
+        self.0
+    }
+}
+
+impl<T> TrySendError<T> {
+    ghost use Rattle.std.specs.Prelude.{◌≡◌, not};
+    ghost use Rattle.channel_calls.specs.Errors.{try_unsent, found_full};
+
+    /// The message that wasn't sent.
+    pub fn into_inner(self) -> T
+        ensures { result ≡ try_unsent self }
+    {
+        match self {
+            TrySendError::Full(message) => message,
+            TrySendError::Closed(message) => message,
+        }
+    }
+
+    /// Whether the channel was open and full.
+    pub fn is_full(&self) -> bool
+        ensures { result ≡ found_full self.now }
+    {
+        match self {
+            TrySendError::Full(_) => true,
+            TrySendError::Closed(_) => false,
+        }
+    }
+
+    /// Whether the channel was closed.
+    pub fn is_closed(&self) -> bool
+        ensures { result ≡ not (found_full self.now) }
+    {
+        !self.is_full()
+    }
+}
+
+impl TryRecvError {
+    ghost use Rattle.std.specs.Prelude.{◌≡◌, not};
+    ghost use Rattle.channel_calls.specs.Errors.{found_empty};
+
+    /// Whether the channel was open and empty.
+    pub fn is_empty(&self) -> bool
+        ensures { result ≡ found_empty self.now }
+    {
+        match self {
+            TryRecvError::Empty => true,
+            TryRecvError::Closed => false,
+        }
+    }
+
+    /// Whether the channel was closed and empty.
+    pub fn is_closed(&self) -> bool
+        ensures { result ≡ not (found_empty self.now) }
+    {
+        !self.is_empty()
+    }
+}
+
+impl<T> fmt::Debug for SendError<T> {
+    fn fmt<W: fmt::Write>(&self, f: &mut fmt::Formatter<W>) -> fmt::Result {
+        write!(f, "SendError(..)")
+    }
+}
+
+impl<T> fmt::Display for SendError<T> {
+    fn fmt<W: fmt::Write>(&self, f: &mut fmt::Formatter<W>) -> fmt::Result {
+        write!(f, "sending into a closed channel")
+    }
+}
+
+impl<T: Drop> Error for SendError<T> {}
+
+impl<T> fmt::Debug for TrySendError<T> {
+    fn fmt<W: fmt::Write>(&self, f: &mut fmt::Formatter<W>) -> fmt::Result {
+        match self {
+            TrySendError::Full(_) => write!(f, "Full(..)"),
+            TrySendError::Closed(_) => write!(f, "Closed(..)"),
+        }
+    }
+}
+
+impl<T> fmt::Display for TrySendError<T> {
+    fn fmt<W: fmt::Write>(&self, f: &mut fmt::Formatter<W>) -> fmt::Result {
+        match self {
+            TrySendError::Full(_) => write!(f, "sending into a full channel"),
+            TrySendError::Closed(_) => write!(f, "sending into a closed channel"),
+        }
+    }
+}
+
+impl<T: Drop> Error for TrySendError<T> {}
+
+impl fmt::Display for RecvError {
+    fn fmt<W: fmt::Write>(&self, f: &mut fmt::Formatter<W>) -> fmt::Result {
+        write!(f, "receiving from an empty and closed channel")
+    }
+}
+
+impl Error for RecvError {}
+
+impl fmt::Display for TryRecvError {
+    fn fmt<W: fmt::Write>(&self, f: &mut fmt::Formatter<W>) -> fmt::Result {
+        match self {
+            TryRecvError::Empty => write!(f, "receiving from an empty channel"),
+            TryRecvError::Closed => write!(f, "receiving from an empty and closed channel"),
+        }
+    }
+}
+
+impl Error for TryRecvError {}
+
+impl<E: fmt::Display, K> fmt::Display for Refused<E, K> {
+    fn fmt<W: fmt::Write>(&self, f: &mut fmt::Formatter<W>) -> fmt::Result {
+        match self {
+            Refused::Plain(error) => error.fmt(f),
+            Refused::NoMemory(_) => write!(f, "want of memory"),
+            Refused::SerialsUsedUp(_) => write!(f, "serials used up"),
+        }
+    }
+}
+
+impl<E: Error + Drop, K: fmt::Debug + Drop> Error for Refused<E, K> {}
+
+impl fmt::Display for OpenError {
+    fn fmt<W: fmt::Write>(&self, f: &mut fmt::Formatter<W>) -> fmt::Result {
+        match self {
+            OpenError::NoMemory => write!(f, "want of memory"),
+            OpenError::IdsUsedUp => write!(f, "identities used up"),
+        }
+    }
+}
+
+impl Error for OpenError {}
+
+impl fmt::Display for HandleError {
+    fn fmt<W: fmt::Write>(&self, f: &mut fmt::Formatter<W>) -> fmt::Result {
+        match self {
+            HandleError::TooMany => write!(f, "too many handles"),
+            HandleError::NoMemory => write!(f, "want of memory"),
+        }
+    }
+}
+
+impl Error for HandleError {}

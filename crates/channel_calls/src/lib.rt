@@ -1,0 +1,18 @@
+//! A part of `async_channel`: the calls of a channel, cut into atomic steps, and what one step of each does, whatever other calls
+//! are under way.
+#![tactic(auto)]
+
+mod answered;
+pub mod ask;
+pub mod call;
+pub mod cells;
+pub mod error;
+pub mod mark;
+pub mod notices;
+pub mod plain;
+pub mod reply;
+pub mod stage;
+mod step;
+#[cfg(test)]
+mod tests;
+mod turn;

@@ -1,0 +1,48 @@
+//! The sections on one list that a channel's steps are made of. Own to this project.
+
+ghost use Rattle.std.specs.Prelude.{◌≡◌};
+ghost use Rattle.event_listener.specs.Notices.{Woken};
+ghost use Rattle.event_listener.specs.Lists.{registration};
+ghost use Rattle.channel_calls.specs.Parts.{told_one, told_one_wakes, told_all, told_all_wakes, Registers};
+
+use event_listener::key::Key;
+use event_listener::list::List;
+use event_listener::notify::{Additional, Notify};
+use event_listener::wakes::Wakes;
+
+/// Tells one more of those who wait, whoever is told already.
+pub fn tell_one<W: Drop, S: Wakes<W>>(list: &mut List<(), W>, sink: &mut S)
+    ensures lists { list.new.lists ≡ told_one list.old.lists }
+    ensures woken { Woken S.wakes sink.old (told_one_wakes list.old.lists) sink.new }
+{
+    let notice = Additional {
+        inner: Notify { count: 1 },
+    };
+    let _ = list.notify(notice, sink);
+}
+
+/// Tells all who wait: a list never has as many listeners as this notice is for.
+pub fn tell_all<W: Drop, S: Wakes<W>>(list: &mut List<(), W>, sink: &mut S)
+    ensures lists { list.new.lists ≡ told_all list.old.lists }
+    ensures woken { Woken S.wakes sink.old (told_all_wakes list.old.lists) sink.new }
+{
+    let _total = list.total();
+    let notice = Notify { count: usize::MAX };
+    let _ = list.notify(notice, sink);
+}
+
+/// Gives a waiting listener its task. One that was told is taken off, and the task comes back: the list would drop it,
+/// and the poll that goes on needs it for its next listener.
+pub fn register<W: Drop>(list: &mut List<(), W>, key: Key, task: W) -> Option<W>
+    ensures answer { Registers list.old.lists key task result }
+    ensures lists { list.new.lists ≡ registration key task list.old.lists }
+{
+    match list.poll(key) {
+        Ok(None) => {
+            let _ = list.register(key, task);
+            None
+        }
+        Ok(Some(())) => Some(task),
+        Err(_) => Some(task),
+    }
+}

@@ -1,0 +1,177 @@
+//! The cells of a channel with one owner.
+
+use crate::cells::ChannelCells;
+use crate::notices::{register, tell_all, tell_one};
+use crate::stage::{Line, Side};
+use concurrent_queue::call::QueueReply;
+use concurrent_queue::cells::QueueForm;
+use concurrent_queue::plain::PlainCells;
+use concurrent_queue::queue_call::QueueCall;
+use event_listener::error::ListenError;
+use event_listener::key::Key;
+use event_listener::list::List;
+use event_listener::wakes::Wakes;
+use std::alloc::{AllocError, Global};
+
+/// A queue's cells, four lists of listeners and two counts of handles, with one owner. Own to this project.
+#[derive(Drop)]
+pub struct PlainChannel<T, W> {
+    cells: PlainCells<T>,
+    sends: List<(), W>,
+    receives: List<(), W>,
+    streams: List<(), W>,
+    closings: List<(), W>,
+    senders: usize,
+    receivers: usize,
+}
+
+impl<T: Drop, W: Drop> PlainChannel<T, W> {
+    ghost use Rattle.std.specs.Prelude.{◌≡◌, length, IfOk};
+    ghost use Rattle.concurrent_queue.specs.Made.{CanBeMade, IsNew};
+    ghost use Rattle.concurrent_queue.specs.Plain.{contents_of};
+    ghost use Rattle.channel_calls.specs.Parts.{new_roster, listeners};
+    ghost use Rattle.channel_calls.specs.Plain.{parts_of};
+
+    /// An open and empty channel over a queue of this form, with one sender, one receiver and no listeners. `Err` where
+    /// there is no memory for the queue.
+    pub fn new(form: QueueForm, alloc: Global) -> Result<PlainChannel<T, W>, AllocError>
+        requires form { CanBeMade form }
+        ensures queue { IfOk result (λ channel. IsNew form (parts_of channel).cells) }
+        ensures roster { IfOk result (λ channel. (parts_of channel).roster ≡ new_roster) }
+    {
+        let cells = PlainCells::new(alloc, form)?;
+        Ok(PlainChannel::over(cells, alloc))
+    }
+
+    /// How many listeners of this list wait untold.
+    pub fn waiting(&self, line: Line) -> usize
+        ensures { result ≡ length (listeners line (parts_of self.now).roster).waiting }
+    {
+        match line {
+            Line::Sends => self.sends.total() - self.sends.told(),
+            Line::Receives => self.receives.total() - self.receives.told(),
+            Line::Streams => self.streams.total() - self.streams.told(),
+            Line::Closings => self.closings.total() - self.closings.told(),
+        }
+    }
+
+    /// A channel over the cells of this queue, with one sender, one receiver and no listeners.
+    fn over(cells: PlainCells<T>, alloc: Global) -> PlainChannel<T, W>
+        ensures cells { (parts_of result).cells ≡ contents_of cells }
+        ensures roster { (parts_of result).roster ≡ new_roster }
+    {
+        PlainChannel {
+            cells,
+            sends: List::new(alloc),
+            receives: List::new(alloc),
+            streams: List::new(alloc),
+            closings: List::new(alloc),
+            senders: 1,
+            receivers: 1,
+        }
+    }
+}
+
+impl<T: Drop, W: Drop> PlainChannel<T, W> {
+    ghost use Rattle.std.specs.Prelude.{◌≤◌, length};
+    ghost use Rattle.channel_calls.specs.Parts.{listeners};
+    ghost use Rattle.channel_calls.specs.Plain.{parts_of};
+    ghost use Rattle.channel_calls.specs.declared.stage.Line.{Line};
+
+    /// A number that none of the four lists of listeners is longer than: how many listen on the longest. So no step wakes
+    /// more. Own to this project.
+    pub fn most_listeners(&self) -> usize
+        ensures { (line : Line) → length (listeners line (parts_of self.now).roster).waiting ≤ result }
+    {
+        self.sends
+            .total()
+            .max(self.receives.total())
+            .max(self.streams.total())
+            .max(self.closings.total())
+    }
+}
+
+impl<T: Drop, W: Drop> ChannelCells<T, W> for PlainChannel<T, W> {
+    ghost use Rattle.channel_calls.specs.Plain.{parts_of};
+
+    ghost known = { Unit {0} };
+
+    ghost parts = { parts_of };
+
+    fn step_queue(&mut self, call: &mut QueueCall<T>) -> Option<QueueReply<T>> {
+        call.step(&mut self.cells)
+    }
+
+    fn insert(&mut self, line: Line) -> Result<Key, ListenError> {
+        match line {
+            Line::Sends => self.sends.insert(),
+            Line::Receives => self.receives.insert(),
+            Line::Streams => self.streams.insert(),
+            Line::Closings => self.closings.insert(),
+        }
+    }
+
+    fn register(&mut self, line: Line, key: Key, task: W) -> Option<W> {
+        match line {
+            Line::Sends => register(&mut self.sends, key, task),
+            Line::Receives => register(&mut self.receives, key, task),
+            Line::Streams => register(&mut self.streams, key, task),
+            Line::Closings => register(&mut self.closings, key, task),
+        }
+    }
+
+    fn remove<S: Wakes<W>>(&mut self, line: Line, key: Key, sink: &mut S) {
+        let _ = match line {
+            Line::Sends => self.sends.remove(key, true, sink),
+            Line::Receives => self.receives.remove(key, true, sink),
+            Line::Streams => self.streams.remove(key, true, sink),
+            Line::Closings => self.closings.remove(key, true, sink),
+        };
+    }
+
+    fn tell_one<S: Wakes<W>>(&mut self, line: Line, sink: &mut S) {
+        match line {
+            Line::Sends => tell_one(&mut self.sends, sink),
+            Line::Receives => tell_one(&mut self.receives, sink),
+            Line::Streams => tell_one(&mut self.streams, sink),
+            Line::Closings => tell_one(&mut self.closings, sink),
+        }
+    }
+
+    fn tell_all<S: Wakes<W>>(&mut self, line: Line, sink: &mut S) {
+        match line {
+            Line::Sends => tell_all(&mut self.sends, sink),
+            Line::Receives => tell_all(&mut self.receives, sink),
+            Line::Streams => tell_all(&mut self.streams, sink),
+            Line::Closings => tell_all(&mut self.closings, sink),
+        }
+    }
+
+    fn count(&mut self, side: Side) -> usize {
+        match side {
+            Side::Senders => self.senders,
+            Side::Receivers => self.receivers,
+        }
+    }
+
+    fn lower(&mut self, side: Side) -> usize {
+        let before = self.count(side);
+        let after = before.saturating_sub(1);
+        match side {
+            Side::Senders => self.senders = after,
+            Side::Receivers => self.receivers = after,
+        }
+        before
+    }
+
+    fn raise(&mut self, side: Side, from: usize) -> bool {
+        if self.count(side) != from || from == usize::MAX {
+            return false;
+        }
+        match side {
+            Side::Senders => self.senders = from + 1,
+            Side::Receivers => self.receivers = from + 1,
+        }
+        true
+    }
+}

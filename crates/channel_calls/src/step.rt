@@ -1,0 +1,241 @@
+//! One step of a channel's call.
+
+ghost use Rattle.std.specs.Prelude.{◌≡◌, [], None};
+ghost use Rattle.event_listener.specs.Notices.{Woken};
+ghost use Rattle.channel_calls.specs.Moves.{IsTaken, IsStepOver, IsChannelStep};
+ghost use Rattle.channel_calls.specs.Turns.{leaving};
+ghost use Rattle.channel_calls.specs.Replies.{FollowsTurn, FollowsStage};
+ghost use Rattle.concurrent_queue.specs.Replies.{is_bounded};
+ghost use Rattle.concurrent_queue.specs.declared.cells.QueueForm.{QueueForm};
+ghost use Rattle.std.specs.Prelude.{Bool};
+
+use crate::answered::answered_next;
+use crate::cells::ChannelCells;
+use crate::mark::Mark;
+use crate::reply::Reply;
+use crate::stage::{Aim, Ending, Kept, Line, Making, Side, Stage, Turn, Waiting, Work};
+use crate::turn::{
+    again, ends_by, loaded_next, lowered_next, pends_by, raised_next, told_all_next, unlistened,
+};
+use concurrent_queue::queue_call::QueueCall;
+use event_listener::key::Key;
+use event_listener::wakes::Wakes;
+
+/// What one step leaves.
+#[derive(Drop)]
+pub(crate) struct Stepped<T, W> {
+    pub(crate) stage: Stage<QueueCall<T>, T, W>,
+    pub(crate) mark: Mark,
+    pub(crate) reply: Option<Reply<T>>,
+}
+
+/// Takes the turn after a step with this mark.
+pub(crate) fn takes<T: Drop, W: Drop>(turn: Turn<T, W>, mark: Mark) -> Stepped<T, W>
+    ensures taken { IsTaken turn result.reply result.stage }
+    ensures mark { result.mark ≡ mark }
+    ensures follows { (b : QueueForm) → FollowsTurn b turn result.stage result.reply }
+{
+    match turn {
+        Turn::Tries(ask, aim) => Stepped {
+            stage: Stage::Trying(QueueCall::new(ask), aim),
+            mark,
+            reply: None,
+        },
+        Turn::Works(work) => Stepped {
+            stage: Stage::Working(work),
+            mark,
+            reply: None,
+        },
+        Turn::Ends(reply, kept) => Stepped {
+            stage: Stage::Finished(kept),
+            mark,
+            reply: Some(reply),
+        },
+    }
+}
+
+/// One step of the queue's call.
+fn try_step<T: Drop, W: Drop, C: ChannelCells<T, W>>(
+    mut call: QueueCall<T>,
+    aim: Aim<W>,
+    cells: &mut C,
+) -> Stepped<T, W>
+    ensures steps { C.known → IsStepOver (C.parts cells.old) (Stage.Trying call aim) [] (C.parts cells.new) result.stage result.mark result.reply }
+    ensures answers { (f : QueueForm) → C.has_form cells.old f → FollowsStage f (Stage.Trying call aim) result.stage result.reply }
+    ensures form { (f : QueueForm) → C.has_form cells.old f → C.has_form cells.new f }
+{
+    let answer = cells.step_queue(&mut call);
+    let mark = Mark::of_queue(call.last_mark());
+    match answer {
+        None => Stepped {
+            stage: Stage::Trying(call, aim),
+            mark,
+            reply: None,
+        },
+        Some(answer) => takes(answered_next(aim, answer), mark),
+    }
+}
+
+/// A refused poll listens: it adds its listener and tries again, or that is refused.
+fn insert<T: Drop, W: Drop, C: ChannelCells<T, W>>(
+    waiting: Waiting<T>,
+    task: W,
+    cells: &mut C,
+) -> Stepped<T, W>
+    ensures steps { C.known → IsStepOver (C.parts cells.old) (Stage.Working (Work.Insert waiting task)) [] (C.parts cells.new) result.stage result.mark result.reply }
+    ensures answers { (b : QueueForm) → FollowsStage b (Stage.Working (Work.Insert waiting task)) result.stage result.reply }
+    ensures form { (f : QueueForm) → C.has_form cells.old f → C.has_form cells.new f }
+{
+    match cells.insert(waiting.line()) {
+        Ok(key) => takes(again(waiting, Some(key), task), Mark::Nothing),
+        Err(error) => takes(unlistened(waiting, error), Mark::Nothing),
+    }
+}
+
+/// A refused poll asks its listener: one that was told is used up and the poll tries again, else it ends pending.
+fn register<T: Drop, W: Drop, C: ChannelCells<T, W>>(
+    waiting: Waiting<T>,
+    key: Key,
+    task: W,
+    cells: &mut C,
+) -> Stepped<T, W>
+    ensures steps { C.known → IsStepOver (C.parts cells.old) (Stage.Working (Work.Register waiting key task)) [] (C.parts cells.new) result.stage result.mark result.reply }
+    ensures answers { (b : QueueForm) → FollowsStage b (Stage.Working (Work.Register waiting key task)) result.stage result.reply }
+    ensures form { (f : QueueForm) → C.has_form cells.old f → C.has_form cells.new f }
+{
+    match cells.register(waiting.line(), key, task) {
+        Some(task) => takes(again(waiting, None, task), Mark::Nothing),
+        None => takes(pends_by(waiting, key), Mark::Nothing),
+    }
+}
+
+/// A call answers, with nothing more to do.
+fn answers<T: Drop, W: Drop>(ending: Ending<T>) -> Stepped<T, W>
+    ensures taken { IsTaken (Turn.Ends ending.reply (leaving None ending.message)) result.reply result.stage }
+    ensures mark { result.mark ≡ Mark.Nothing }
+    ensures follows { (b : QueueForm) → FollowsTurn b (Turn.Ends ending.reply (leaving None ending.message)) result.stage result.reply }
+{
+    let kept = Kept {
+        key: None,
+        message: ending.message,
+    };
+    takes(Turn::Ends(ending.reply, kept), Mark::Nothing)
+}
+
+/// A call drops the listener that it holds, and answers.
+fn leave<T: Drop, W: Drop, C: ChannelCells<T, W>, S: Wakes<W>>(
+    ending: Ending<T>,
+    cells: &mut C,
+    sink: &mut S,
+) -> Stepped<T, W>
+    ensures steps { C.known → IsChannelStep S.wakes (C.parts cells.old) (Stage.Working (Work.Leave ending)) sink.old (C.parts cells.new) result.stage result.mark result.reply sink.new }
+    ensures answers { (b : QueueForm) → FollowsStage b (Stage.Working (Work.Leave ending)) result.stage result.reply }
+    ensures form { (f : QueueForm) → C.has_form cells.old f → C.has_form cells.new f }
+{
+    match ending.held {
+        None => answers(ending),
+        Some(held) => {
+            cells.remove(held.line, held.key, sink);
+            answers(ending)
+        }
+    }
+}
+
+/// A strong handle is dropped.
+fn lower<T: Drop, W: Drop, C: ChannelCells<T, W>>(
+    side: Side,
+    key: Option<Key>,
+    cells: &mut C,
+) -> Stepped<T, W>
+    ensures steps { C.known → IsStepOver (C.parts cells.old) (Stage.Working (Work.Lower side key)) [] (C.parts cells.new) result.stage result.mark result.reply }
+    ensures answers { (b : QueueForm) → FollowsStage b (Stage.Working (Work.Lower side key)) result.stage result.reply }
+    ensures form { (f : QueueForm) → C.has_form cells.old f → C.has_form cells.new f }
+{
+    let before = cells.lower(side);
+    takes(lowered_next(side, key, before), Mark::down(side))
+}
+
+/// A count is raised, unless it has changed.
+fn raise<T: Drop, W: Drop, C: ChannelCells<T, W>>(
+    side: Side,
+    from: usize,
+    making: Making,
+    cells: &mut C,
+) -> Stepped<T, W>
+    ensures steps { C.known → IsStepOver (C.parts cells.old) (Stage.Working (Work.Raise side from making)) [] (C.parts cells.new) result.stage result.mark result.reply }
+    ensures answers { (b : QueueForm) → FollowsStage b (Stage.Working (Work.Raise side from making)) result.stage result.reply }
+    ensures form { (f : QueueForm) → C.has_form cells.old f → C.has_form cells.new f }
+{
+    if cells.raise(side, from) {
+        takes(raised_next(side, making, true), Mark::up(side))
+    } else {
+        takes(raised_next(side, making, false), Mark::Nothing)
+    }
+}
+
+/// One step on a list or a count.
+fn work_step<T: Drop, W: Drop, C: ChannelCells<T, W>, S: Wakes<W>>(
+    work: Work<T, W>,
+    cells: &mut C,
+    sink: &mut S,
+) -> Stepped<T, W>
+    ensures steps { C.known → IsChannelStep S.wakes (C.parts cells.old) (Stage.Working work) sink.old (C.parts cells.new) result.stage result.mark result.reply sink.new }
+    ensures answers { (b : QueueForm) → FollowsStage b (Stage.Working work) result.stage result.reply }
+    ensures form { (f : QueueForm) → C.has_form cells.old f → C.has_form cells.new f }
+{
+    match work {
+        Work::TellReceive(ending) => {
+            cells.tell_one(Line::Receives, sink);
+            takes(Turn::Works(Work::TellStreams(ending)), Mark::Nothing)
+        }
+        Work::TellStreams(ending) => {
+            cells.tell_all(Line::Streams, sink);
+            takes(ends_by(ending), Mark::Nothing)
+        }
+        Work::TellSend(ending) => {
+            cells.tell_one(Line::Sends, sink);
+            takes(ends_by(ending), Mark::Nothing)
+        }
+        Work::TellAll(line, closer) => {
+            cells.tell_all(line, sink);
+            takes(told_all_next(line, closer), Mark::Nothing)
+        }
+        Work::Insert(waiting, task) => insert(waiting, task, cells),
+        Work::Register(waiting, key, task) => register(waiting, key, task, cells),
+        Work::Leave(ending) => leave(ending, cells, sink),
+        Work::Lower(side, key) => lower(side, key, cells),
+        Work::Count(side) => {
+            let count = cells.count(side);
+            takes(
+                Turn::Ends(Reply::Count(count), Kept::nothing()),
+                Mark::Nothing,
+            )
+        }
+        Work::Load(side, making) => {
+            let count = cells.count(side);
+            takes(loaded_next(side, making, count), Mark::Nothing)
+        }
+        Work::Raise(side, from, making) => raise(side, from, making, cells),
+    }
+}
+
+/// One step of a call at this stage.
+pub(crate) fn stage_step<T: Drop, W: Drop, C: ChannelCells<T, W>, S: Wakes<W>>(
+    stage: Stage<QueueCall<T>, T, W>,
+    cells: &mut C,
+    sink: &mut S,
+) -> Stepped<T, W>
+    ensures steps { C.known → IsChannelStep S.wakes (C.parts cells.old) stage sink.old (C.parts cells.new) result.stage result.mark result.reply sink.new }
+    ensures answers { (f : QueueForm) → C.has_form cells.old f → FollowsStage f stage result.stage result.reply }
+    ensures form { (f : QueueForm) → C.has_form cells.old f → C.has_form cells.new f }
+{
+    match stage {
+        Stage::Trying(call, aim) => try_step(call, aim, cells),
+        Stage::Working(work) => work_step(work, cells, sink),
+        Stage::Finished(kept) => Stepped {
+            stage: Stage::Finished(kept),
+            mark: Mark::Nothing,
+            reply: None,
+        },
+    }
+}

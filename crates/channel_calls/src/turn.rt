@@ -1,0 +1,255 @@
+//! What comes after each step of a call on a list or on a count.
+
+ghost use Rattle.std.specs.Prelude.{◌≡◌};
+ghost use Rattle.channel_calls.specs.Turns.{line_of, message_of, ask_of, nothing_kept, says, held_on, ends_by, again, refused_next, pending_reply, pends_by, want, refused_reply, unlistened, closer_ending, dropper, told_all_next, lowered_next, loaded_next, raised_next};
+
+use crate::error::Refused;
+use crate::reply::Reply;
+use crate::stage::{Aim, Closer, Ending, Held, Kept, Line, Making, Side, Turn, Waiting, Work};
+use concurrent_queue::call::QueueAsk;
+use event_listener::error::ListenError;
+use event_listener::key::Key;
+use futures::task::Poll;
+
+/// A count that is greater than this isn't raised.
+const MOST: usize = usize::MAX / 2;
+
+impl<T> Waiting<T> {
+    /// The list on which the operation waits.
+    pub(crate) fn line(&self) -> Line
+        ensures { result ≡ line_of self.now }
+    {
+        match self {
+            Waiting::Send(_) => Line::Sends,
+            Waiting::Receive => Line::Receives,
+            Waiting::Stream => Line::Streams,
+            Waiting::Closing => Line::Closings,
+        }
+    }
+
+    /// The message of a send.
+    pub(crate) fn message(self) -> Option<T>
+        ensures { result ≡ message_of self }
+    {
+        match self {
+            Waiting::Send(message) => Some(message),
+            Waiting::Receive => None,
+            Waiting::Stream => None,
+            Waiting::Closing => None,
+        }
+    }
+
+    /// What a try asks of the queue.
+    pub(crate) fn ask(self) -> QueueAsk<T>
+        ensures { result ≡ ask_of self }
+    {
+        match self {
+            Waiting::Send(message) => QueueAsk::Push(message),
+            Waiting::Receive => QueueAsk::Pop,
+            Waiting::Stream => QueueAsk::Pop,
+            Waiting::Closing => QueueAsk::IsClosed,
+        }
+    }
+}
+
+impl<T> Kept<T> {
+    /// A call that leaves nothing.
+    pub(crate) fn nothing() -> Kept<T>
+        ensures { result ≡ nothing_kept }
+    {
+        Kept {
+            key: None,
+            message: None,
+        }
+    }
+}
+
+/// The end of a call that holds no listener and keeps no message.
+pub(crate) fn says<T>(reply: Reply<T>) -> Ending<T>
+    ensures { result ≡ says reply }
+{
+    Ending {
+        reply,
+        message: None,
+        held: None,
+    }
+}
+
+/// The listener under this key on this list, where there is one.
+pub(crate) fn held_on(line: Line, key: Option<Key>) -> Option<Held>
+    ensures { result ≡ held_on line key }
+{
+    match key {
+        None => None,
+        Some(key) => Some(Held { line, key }),
+    }
+}
+
+/// The call answers, or drops the listener that it holds and answers then.
+pub(crate) fn ends_by<T, W>(ending: Ending<T>) -> Turn<T, W>
+    ensures { result ≡ ends_by ending }
+{
+    match ending.held {
+        None => Turn::Ends(
+            ending.reply,
+            Kept {
+                key: None,
+                message: ending.message,
+            },
+        ),
+        Some(_) => Turn::Works(Work::Leave(ending)),
+    }
+}
+
+/// A poll tries once more.
+pub(crate) fn again<T, W>(waiting: Waiting<T>, key: Option<Key>, task: W) -> Turn<T, W>
+    ensures { result ≡ again waiting key task }
+{
+    let line = waiting.line();
+    Turn::Tries(waiting.ask(), Aim::Poll(line, key, task))
+}
+
+/// A poll was refused by the channel: it listens, or asks the listener that it holds.
+pub(crate) fn refused_next<T, W>(waiting: Waiting<T>, key: Option<Key>, task: W) -> Turn<T, W>
+    ensures { result ≡ refused_next waiting key task }
+{
+    match key {
+        None => Turn::Works(Work::Insert(waiting, task)),
+        Some(key) => Turn::Works(Work::Register(waiting, key, task)),
+    }
+}
+
+/// What a poll of this kind answers while it waits.
+fn pending_reply<T>(line: Line) -> Reply<T>
+    ensures { result ≡ pending_reply line }
+{
+    match line {
+        Line::Sends => Reply::SendPoll(Poll::Pending),
+        Line::Receives => Reply::RecvPoll(Poll::Pending),
+        Line::Streams => Reply::Next(Poll::Pending),
+        Line::Closings => Reply::ClosedPoll(Poll::Pending),
+    }
+}
+
+/// A poll ends pending: its operation keeps its listener, and its message.
+pub(crate) fn pends_by<T, W>(waiting: Waiting<T>, key: Key) -> Turn<T, W>
+    ensures { result ≡ pends_by waiting key }
+{
+    let reply = pending_reply(waiting.line());
+    Turn::Ends(
+        reply,
+        Kept {
+            key: Some(key),
+            message: waiting.message(),
+        },
+    )
+}
+
+/// A refusal for want of memory or of serials, which hands nothing back.
+fn want<E>(error: ListenError) -> Refused<E>
+    ensures { result ≡ want error }
+{
+    match error {
+        ListenError::NoMemory => Refused::NoMemory(()),
+        ListenError::SerialsUsedUp => Refused::SerialsUsedUp(()),
+    }
+}
+
+/// What a poll of this kind answers where memory or a serial was refused.
+pub(crate) fn refused_reply<T>(line: Line, error: ListenError) -> Reply<T>
+    ensures { result ≡ refused_reply line error }
+{
+    match line {
+        Line::Sends => Reply::SendPoll(Poll::Ready(Err(want(error)))),
+        Line::Receives => Reply::RecvPoll(Poll::Ready(Err(want(error)))),
+        Line::Streams => Reply::Next(Poll::Ready(Some(Err(error)))),
+        Line::Closings => Reply::ClosedPoll(Poll::Ready(Err(error))),
+    }
+}
+
+/// A poll that wasn't let listen ends: its operation is not pending, and keeps its message.
+pub(crate) fn unlistened<T, W>(waiting: Waiting<T>, error: ListenError) -> Turn<T, W>
+    ensures { result ≡ unlistened waiting error }
+{
+    let reply = refused_reply(waiting.line(), error);
+    Turn::Ends(
+        reply,
+        Kept {
+            key: None,
+            message: waiting.message(),
+        },
+    )
+}
+
+/// How a closing ends, where the queue answered whether this call closed it.
+pub(crate) fn closer_ending<T>(closer: Closer, closed: bool) -> Ending<T>
+    ensures { result ≡ closer_ending closer closed }
+{
+    match closer {
+        Closer::Call => says(Reply::Closed(closed)),
+        Closer::Sender => says(Reply::Unit),
+        Closer::Receiver(key) => Ending {
+            reply: Reply::Unit,
+            message: None,
+            held: held_on(Line::Streams, key),
+        },
+    }
+}
+
+/// A closing tells sends, receives, streams and those who wait for it, in this order.
+pub(crate) fn told_all_next<T, W>(line: Line, closer: Closer) -> Turn<T, W>
+    ensures { result ≡ told_all_next line closer }
+{
+    match line {
+        Line::Sends => Turn::Works(Work::TellAll(Line::Receives, closer)),
+        Line::Receives => Turn::Works(Work::TellAll(Line::Streams, closer)),
+        Line::Streams => Turn::Works(Work::TellAll(Line::Closings, closer)),
+        Line::Closings => ends_by(closer_ending(closer, true)),
+    }
+}
+
+/// Who closes where the last handle of this kind is dropped.
+pub(crate) fn dropper(side: Side, key: Option<Key>) -> Closer
+    ensures { result ≡ dropper side key }
+{
+    match side {
+        Side::Senders => Closer::Sender,
+        Side::Receivers => Closer::Receiver(key),
+    }
+}
+
+/// A handle was dropped where so many lived: the last one closes.
+pub(crate) fn lowered_next<T, W>(side: Side, key: Option<Key>, before: usize) -> Turn<T, W>
+    ensures { result ≡ lowered_next side key before }
+{
+    let closer = dropper(side, key);
+    if before == 1 {
+        Turn::Tries(QueueAsk::Close, Aim::Close(closer))
+    } else {
+        ends_by(closer_ending(closer, false))
+    }
+}
+
+/// A count was read that is to be raised.
+pub(crate) fn loaded_next<T, W>(side: Side, making: Making, count: usize) -> Turn<T, W>
+    ensures { result ≡ loaded_next side making count }
+{
+    if making == Making::Upgrade && count == 0 {
+        return Turn::Ends(Reply::NotMade, Kept::nothing());
+    }
+    if count > MOST {
+        return Turn::Ends(Reply::TooMany, Kept::nothing());
+    }
+    Turn::Works(Work::Raise(side, count, making))
+}
+
+/// A count was raised, or another call came between and it is read again.
+pub(crate) fn raised_next<T, W>(side: Side, making: Making, raised: bool) -> Turn<T, W>
+    ensures { result ≡ raised_next side making raised }
+{
+    if raised {
+        Turn::Ends(Reply::Made, Kept::nothing())
+    } else {
+        Turn::Works(Work::Load(side, making))
+    }
+}

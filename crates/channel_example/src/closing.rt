@@ -1,0 +1,47 @@
+//! Everybody is told of the closing: who waits for it, and who waits for a message that won't come.
+
+use async_channel::{Receiver, Sender, unbounded};
+use event_listener::id::EventIds;
+use futures::executor::block_on;
+use std::alloc::{AllocGlobal, Global};
+use std::random::RandomSource;
+use std::sync::Wait;
+use std::thread;
+use std::thread::Threads;
+
+fn waits_for_closing<R>(rt: R, sender: &Sender<u64, R>) -> u64
+where
+    R: Wait + Copy + RandomSource + AllocGlobal,
+{
+    match block_on(&rt, sender.closed()) {
+        Ok(Ok(())) => 1,
+        _ => 0,
+    }
+}
+
+fn waits_for_message<R: Wait + Copy>(receiver: &Receiver<u64, R>) -> u64 {
+    match receiver.recv_blocking() {
+        Ok(_) => 0,
+        Err(_) => 1,
+    }
+}
+
+/// How many were told.
+pub(crate) fn told<R>(rt: R, alloc: Global) -> Option<u64>
+where
+    R: Wait + Threads + Copy + RandomSource + AllocGlobal + Send + Sync,
+{
+    let (sender, receiver) = unbounded(rt, alloc, &mut EventIds::new()).ok()?;
+    let (closed, (a, b)) = thread::join(
+        &rt,
+        || receiver.close(),
+        || {
+            thread::join(
+                &rt,
+                || waits_for_closing(rt, &sender),
+                || waits_for_message(&receiver),
+            )
+        },
+    );
+    Some(u64::from(closed).wrapping_add(a).wrapping_add(b))
+}

@@ -1,0 +1,101 @@
+use Rattle.std.proofs.Common.{arith, ◌≡◌, ◌+◌, ◌-◌, ◌≤◌, List, drop, length, vec_len, vec_capacity, refl, sym, ap, ◌∙◌}
+use Rattle.channel_model.specs.Settling.{poll_of}
+use Rattle.channel_model.specs.declared.name.Waiter.{Waiter}
+use Rattle.channel_interleaving.proofs.LoneFacts.{no_agents, is_at_rest, is_called}
+use Rattle.channel_interleaving.proofs.PollFacts.{Heard, names_heard}
+use Rattle.channel_interleaving.proofs.UserFacts.{alone_users}
+use Rattle.channel_interleaving.proofs.WokenPolls.{poll_keeps_order}
+use Rattle.channel_interleaving.specs.declared.woken.Woken.{Woken as Sink}
+use Rattle.channel_calls.specs.Plain.{parts_of}
+use Rattle.channel_interleaving.proofs.floor.Floor.poll_alone.Goals as goal
+
+pub run_alone-reply-requires : goal.run_alone-reply-requires
+run_alone-reply-requires g c =
+    let o = c.requires.owned in record { at_rest = is_at_rest c.args.self.now o.scene o.shown c.requires.quiet c.requires.limit }
+
+pub wake_from-requires : goal.wake_from-requires
+wake_from-requires g c =
+    let empty : Sink = record { names = c.args.names } in
+    let start : vec_len c.args.names ≡ length c.args.names.items = c.args.names.ok.0 in
+    let h : Heard empty c.run_alone-reply.new.sink =
+    names_heard (poll_of c.args.name) c.args.self.now c.begin_poll-ask.result.ask c.run_alone-reply.result empty
+    c.run_alone-reply.new.sink (parts_of c.run_alone-reply.new.channel) c.run_alone-reply.new.messages
+    (vec_capacity c.args.names - vec_len c.args.names) c.run_alone-reply.ensures.scenes c.begin_poll-ask.ensures.ask
+    c.requires.owned c.requires.quiet c.requires.limit (omega (arith, start)) c.requires.room in
+    let fits = h.fits in omega (arith, fits, c.len-from.ensures)
+
+pub wake_from-requires-2 : goal.wake_from-requires-2
+wake_from-requires-2 g c =
+    let empty : Sink = record { names = c.args.names } in
+    let start : vec_len c.args.names ≡ length c.args.names.items = c.args.names.ok.0 in
+    let h : Heard empty c.run_alone-reply.new.sink =
+    names_heard (poll_of c.args.name) c.args.self.now c.begin_poll-ask.result.ask c.run_alone-reply.result empty
+    c.run_alone-reply.new.sink (parts_of c.run_alone-reply.new.channel) c.run_alone-reply.new.messages
+    (vec_capacity c.args.names - vec_len c.args.names) c.run_alone-reply.ensures.scenes c.begin_poll-ask.ensures.ask
+    c.requires.owned c.requires.quiet c.requires.limit (omega (arith, start)) c.requires.room in
+    let fits = h.fits in omega (arith, fits, c.len-from.ensures)
+
+pub returns-clause-capacity : goal.returns-clause-capacity
+returns-clause-capacity g c =
+    let empty : Sink = record { names = c.args.names } in
+    let start : vec_len c.args.names ≡ length c.args.names.items = c.args.names.ok.0 in
+    let h : Heard empty c.run_alone-reply.new.sink =
+    names_heard (poll_of c.args.name) c.args.self.now c.begin_poll-ask.result.ask c.run_alone-reply.result empty
+    c.run_alone-reply.new.sink (parts_of c.run_alone-reply.new.channel) c.run_alone-reply.new.messages
+    (vec_capacity c.args.names - vec_len c.args.names) c.run_alone-reply.ensures.scenes c.begin_poll-ask.ensures.ask
+    c.requires.owned c.requires.quiet c.requires.limit (omega (arith, start)) c.requires.room in
+    h.capacity
+
+pub returns-clause-polled : goal.returns-clause-polled
+returns-clause-polled g c =
+    let empty : Sink = record { names = c.args.names } in
+    let start : vec_len c.args.names ≡ length c.args.names.items = c.args.names.ok.0 in
+    let h : Heard empty c.run_alone-reply.new.sink =
+    names_heard (poll_of c.args.name) c.args.self.now c.begin_poll-ask.result.ask c.run_alone-reply.result empty
+    c.run_alone-reply.new.sink (parts_of c.run_alone-reply.new.channel) c.run_alone-reply.new.messages
+    (vec_capacity c.args.names - vec_len c.args.names) c.run_alone-reply.ensures.scenes c.begin_poll-ask.ensures.ask
+    c.requires.owned c.requires.quiet c.requires.limit (omega (arith, start)) c.requires.room in
+    let old = c.args.self.now in
+    let b = c.begin_poll-ask.ensures in
+    let full = c.run_alone-reply.new.sink.names.items in
+    let fresh = drop (length c.args.names.items) full in
+    let none = no_agents old c.requires.at_work c.requires.quiet in
+    let from_is : c.len-from.result ≡ length c.args.names.items = c.len-from.ensures ∙ start in
+    let stays = poll_keeps_order old.roll old.order c.args.name c.requires.woken in
+    record {
+      woken = fresh;
+      names = h.names;
+      called = is_called (poll_of c.args.name) old
+          (record {
+            channel = c.run_alone-reply.new.channel;
+            parties = old.parties;
+            roll = c.settle-2.new.self;
+            order = c.settle.new.self;
+            agents = old.agents;
+            messages = c.run_alone-reply.new.messages;
+            made = old.made + 1;
+            alloc = old.alloc;
+          })
+          c.begin_poll-ask.result.ask c.run_alone-reply.result empty c.run_alone-reply.new.sink fresh
+          (vec_capacity c.args.names - vec_len c.args.names) c.run_alone-reply.ensures.scenes b.ask c.requires.quiet
+          c.requires.quiet c.requires.limit refl refl (omega (arith, start)) c.requires.room
+          (rw (
+            c.settle-2.ensures,
+            c.settle.ensures,
+            c.wake_from.ensures,
+            c.wake_from-2.ensures,
+            from_is,
+            b.errand,
+            b.names,
+            stays,
+            none,
+          ) refl);
+    }
+
+pub returns-clause-users : goal.returns-clause-users
+returns-clause-users g c few =
+    let b = c.begin_poll-ask.ensures in
+    let done = c.run_alone-reply.result in
+    let fresh = drop c.len-from.result c.run_alone-reply.new.sink.names.items in
+    alone_users (poll_of c.args.name) done.reply done.kept fresh c.args.self.now.roll c.settle-2.new.self c.args.self.now.made
+    (rw (c.settle-2.ensures, c.wake_from.ensures, b.errand, b.names) refl) few

@@ -1,0 +1,57 @@
+-- Runs: what may follow from steps of many parties in any order, by names, and what holds at each moment of them.
+use Rattle.std.specs.Prelude.{ℕ, ◌+◌, List, [], ◌∷◌}
+use Rattle.channel_calls.specs.Parts.{Parts}
+use Rattle.channel_model.specs.declared.name.Waiter.{Waiter}
+use Rattle.channel_steps.specs.Count.{brought_in, taken_out}
+use Rattle.channel_steps.specs.Run.{Touches}
+use Rattle.channel_steps.specs.Scene.{Scene}
+use Rattle.channel_interleaving.specs.Kept.{AllKept}
+use Rattle.channel_interleaving.specs.Owed.{Owed}
+use Rattle.channel_interleaving.specs.Run.{Book, Made, channel_step}
+use Rattle.channel_interleaving.specs.declared.step.Entry.{Entry}
+use Rattle.channel_interleaving.specs.declared.step.Step.{Step}
+
+-- a moment: what the cells hold, the channel with its calls under way, and the book
+pub record Moment (T : Type 0) : Type 0 where
+  pub parts : Parts T Waiter
+  pub scene : Scene T Waiter
+  pub book : Book T
+
+module _ {T : Type 0} where
+  -- what holds at every moment: all that is kept, and the wake-ups that are owed
+  pub record Holds (m : Moment T) : Type 0 where
+    pub kept : AllKept m.book m.scene
+    pub owed : Owed m.book m.scene
+
+  -- a step leads from one moment to the next: nothing refused it, and at most one cell, list or count differs after it
+  pub record LeadsBy (m : Moment T) (x : Step T) (e : Entry T) (n : Moment T) : Type 0 where
+    pub touches : Touches (channel_step m.book.roll x) m.parts n.parts
+    pub made : Made m.book m.scene x e n.book n.scene
+    pub holds : Holds n
+
+  -- so it is of each of these steps, with its entry, from the moment before it to the one after it
+  abbrev pub EachStep : (Moment T → Step T → Entry T → Moment T → Type 0) → Moment T → List (Step T) → List (Entry T)
+      → List (Moment T) → Type 0
+  EachStep P m [] [] [] = Unit {0}
+  EachStep P m (x ∷ xs) (e ∷ es) (n ∷ ns) = P m x e n × EachStep P n xs es ns
+  EachStep P m _ _ _ = ⊥
+
+  -- these steps, one after another, with these entries, lead from a moment to these
+  abbrev pub IsRun : Moment T → List (Step T) → List (Entry T) → List (Moment T) → Type 0
+  IsRun m xs es ns = EachStep LeadsBy m xs es ns
+
+  -- the moment at which they end
+  abbrev pub end_of : Moment T → List (Moment T) → Moment T
+  end_of m [] = m
+  end_of m (n ∷ ns) = end_of n ns
+
+  -- ---- numbers
+
+  -- how many messages came in by the steps with these entries, and how many went out
+  abbrev pub accepted_in : List (Entry T) → ℕ
+  accepted_in [] = 0
+  accepted_in (e ∷ es) = brought_in e.mark + accepted_in es
+
+  abbrev pub left_in : List (Entry T) → ℕ
+  left_in [] = 0
+  left_in (e ∷ es) = taken_out e.mark + left_in es

@@ -1,0 +1,126 @@
+//! Polls of those who are pending and were woken, made alone, one after another, as settling makes them.
+
+use crate::beginning::Begun;
+use crate::floor::Floor;
+use crate::order::Order;
+use crate::roll::Roll;
+use crate::woken::Woken;
+use channel_alone::run::{Done as Ended, run_alone};
+use channel_calls::reply::Reply;
+use channel_model::name::{HandleKind, Waiter};
+
+/// What a poll left.
+#[derive(Drop)]
+pub struct Polled<T> {
+    /// What it answers.
+    pub reply: Reply<T>,
+    /// The names that it was given, and after them those whom it woke, in order.
+    pub names: Vec<Waiter>,
+}
+
+impl<T: Drop> Roll<T> {
+    ghost use Rattle.std.specs.Prelude.{◌≡◌, ◌≤◌, drop, vec_len};
+    ghost use Rattle.channel_model.specs.Settling.{poll_of};
+    ghost use Rattle.channel_interleaving.specs.Bookkeeping.{Begins, all_woken};
+    ghost use Rattle.channel_interleaving.specs.OwnerOrder.{was_woken};
+    ghost use Rattle.channel_interleaving.specs.Owners.{post};
+
+    /// Whether something pending has this name, and was woken.
+    pub(crate) fn was_woken(&self, name: Waiter) -> bool
+        ensures { result ≡ was_woken (post self.now name) }
+    {
+        match name {
+            Waiter::Op(op) => match self.operations.get(op.0) {
+                Some(operation) => operation.standing.is_woken() && !operation.is_finished(),
+                None => false,
+            },
+            Waiter::Stream(receiver) => match self.handles.get(receiver.0) {
+                Some(hold) => match hold.handle.kind {
+                    HandleKind::Receiver => hold.standing.is_woken(),
+                    HandleKind::Sender | HandleKind::WeakSender | HandleKind::WeakReceiver => {
+                        false
+                    }
+                },
+                None => false,
+            },
+        }
+    }
+
+    /// A poll of this name begins.
+    fn begin_poll(&mut self, name: Waiter) -> Begun<T>
+        ensures { Begins self.old (poll_of name) result self.new }
+    {
+        match name {
+            Waiter::Op(op) => self.poll(op),
+            Waiter::Stream(receiver) => self.poll_next(receiver),
+        }
+    }
+
+    /// The names from this place on are woken, in order.
+    fn wake_from(&mut self, names: &Vec<Waiter>, from: usize)
+        requires { from ≤ vec_len names.now }
+        ensures { self.new ≡ all_woken (drop from names.now.items) self.old }
+    {
+        for k in from..names.len() {
+            self.wake(names[k]);
+        }
+    }
+}
+
+impl Order {
+    ghost use Rattle.std.specs.Prelude.{◌≡◌, ◌≤◌, drop, vec_len};
+    ghost use Rattle.channel_interleaving.specs.Order.{all_moved_last};
+
+    /// The names from this place on are woken, in order.
+    fn wake_from(&mut self, names: &Vec<Waiter>, from: usize)
+        requires { from ≤ vec_len names.now }
+        ensures { self.new ≡ all_moved_last (drop from names.now.items) self.old }
+    {
+        for k in from..names.len() {
+            self.wake(names[k]);
+        }
+    }
+}
+
+impl<T: Drop> Floor<T> {
+    ghost use Rattle.std.specs.Prelude.{◌≡◌, ◌≤◌, ◌<◌, ◌+◌, ◌-◌, ◌^◌, vec_len, vec_capacity};
+    ghost use Rattle.channel_model.specs.Settling.{poll_of};
+    ghost use Rattle.channel_interleaving.specs.Floor.{AreAtWork, AreOwned, AreFewUsers, IsQuiet};
+    ghost use Rattle.channel_interleaving.specs.Lone.{WakesAtMost};
+    ghost use Rattle.channel_interleaving.specs.Settle.{IsWoken, PollsAlone};
+
+    /// Polls one that is pending and was woken, from the poll's beginning to its end, where no call is under way. Nothing is
+    /// taken for it: it has its place in the order of waking, and those whom it wakes go where there is room for them, after
+    /// the names that are given.
+    pub(crate) fn poll_alone(&mut self, name: Waiter, names: Vec<Waiter>) -> Polled<T>
+        requires owned { AreOwned self.old }
+        requires at_work { AreAtWork self.old }
+        requires quiet { IsQuiet self.old }
+        requires woken { IsWoken name self.old }
+        requires limit { self.old.made < 2 ^ 61 }
+        requires room { WakesAtMost (vec_capacity names - vec_len names) (poll_of name) self.old }
+        ensures polled { PollsAlone name self.old names.items result.reply result.names.items self.new }
+        ensures at_work { AreAtWork self.new }
+        ensures quiet { IsQuiet self.new }
+        ensures users { AreFewUsers self.old → AreFewUsers self.new }
+        ensures made { self.new.made ≡ self.old.made + 1 }
+        ensures capacity { vec_capacity names ≤ vec_capacity result.names }
+    {
+        let from = names.len();
+        let mut sink = Woken { names };
+        let Begun { ask, errand } = self.roll.begin_poll(name);
+        let Ended { reply, kept } = run_alone(
+            ask,
+            &mut self.channel,
+            &mut self.messages,
+            &mut sink,
+        );
+        self.made += 1;
+        let Woken { names } = sink;
+        self.roll.wake_from(&names, from);
+        self.order.wake_from(&names, from);
+        self.order.settle(&errand, kept.key);
+        self.roll.settle(errand, &reply, kept);
+        Polled { reply, names }
+    }
+}

@@ -1,0 +1,89 @@
+//! What errors say and hand back.
+
+use concurrent_queue::error::{ForcePushError, PopError, PushError};
+use std::test::Fail;
+
+#[test]
+fn refusals_hand_the_message_back(rt: HostRuntime) -> std::result::Result<(), Fail> {
+    assert_eq!(rt; PushError::Full(1u64).into_inner(), 1);
+    assert_eq!(rt; PushError::Closed(2u64).into_inner(), 2);
+    assert_eq!(rt; PushError::NoMemory(3u64).into_inner(), 3);
+    assert_eq!(rt; ForcePushError::Closed(4u64).into_inner(), 4);
+    assert_eq!(rt; ForcePushError::NoMemory(5u64).into_inner(), 5);
+    Ok(())
+}
+
+#[test]
+fn refusals_say_why(rt: HostRuntime) -> std::result::Result<(), Fail> {
+    let full = PushError::Full(1u64);
+    let closed = PushError::Closed(1u64);
+    let no_memory = PushError::NoMemory(1u64);
+    assert!(rt; full.is_full() && !full.is_closed());
+    assert!(rt; closed.is_closed() && !closed.is_full());
+    assert!(rt; !no_memory.is_full() && !no_memory.is_closed());
+    assert!(rt; PopError::Empty.is_empty() && !PopError::Empty.is_closed());
+    assert!(rt; PopError::Closed.is_closed() && !PopError::Closed.is_empty());
+    Ok(())
+}
+
+#[test]
+fn refusals_are_compared_and_copied(rt: HostRuntime) -> std::result::Result<(), Fail> {
+    let full = PushError::Full(1u64);
+    let copy = full;
+    assert!(rt; full == copy && full != PushError::Full(2) && full != PushError::Closed(1));
+    assert!(rt; full.clone()? == full);
+    let closed = ForcePushError::Closed(1u64);
+    let copy = closed;
+    assert!(rt; closed == copy && closed != ForcePushError::NoMemory(1));
+    assert!(rt; closed.clone()? == closed);
+    let empty = PopError::Empty;
+    let copy = empty;
+    assert!(rt; empty == copy && empty != PopError::Closed);
+    assert!(rt; empty.clone()? == empty);
+    Ok(())
+}
+
+#[test]
+fn texts_of_a_push(rt: HostRuntime) -> std::result::Result<(), Fail> {
+    let full = PushError::Full(1u64);
+    let closed = PushError::Closed(1u64);
+    let no_memory = PushError::NoMemory(1u64);
+    assert_eq!(rt;
+        format!(in rt.alloc(); "{full} {full:?}")?.as_str(),
+        "Full Full(..)"
+    );
+    assert_eq!(rt;
+        format!(in rt.alloc(); "{closed} {closed:?}")?.as_str(),
+        "Closed Closed(..)"
+    );
+    assert_eq!(rt;
+        format!(in rt.alloc(); "{no_memory} {no_memory:?}")?.as_str(),
+        "NoMemory NoMemory(..)"
+    );
+    Ok(())
+}
+
+#[test]
+fn texts_of_a_displacing_push_and_of_a_pop(rt: HostRuntime) -> std::result::Result<(), Fail> {
+    let closed = ForcePushError::Closed(1u64);
+    let no_memory = ForcePushError::NoMemory(1u64);
+    assert_eq!(rt;
+        format!(in rt.alloc(); "{closed} {closed:?}")?.as_str(),
+        "Closed Closed(..)"
+    );
+    assert_eq!(rt;
+        format!(in rt.alloc(); "{no_memory} {no_memory:?}")?.as_str(),
+        "NoMemory NoMemory(..)"
+    );
+    let empty = PopError::Empty;
+    let shut = PopError::Closed;
+    assert_eq!(rt;
+        format!(in rt.alloc(); "{empty} {empty:?}")?.as_str(),
+        "Empty Empty"
+    );
+    assert_eq!(rt;
+        format!(in rt.alloc(); "{shut} {shut:?}")?.as_str(),
+        "Closed Closed"
+    );
+    Ok(())
+}

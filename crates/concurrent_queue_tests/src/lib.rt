@@ -1,0 +1,22 @@
+//! Tests of `concurrent_queue`: of what no contract says, and of what it says in concrete values. A crate of their own, so that
+//! what they prove is proved once. `walks` and `by_steps` are callers that prove what they say by its contracts alone.
+#![tactic(auto)]
+
+#[cfg(test)]
+mod blocks;
+pub mod by_steps;
+#[cfg(test)]
+mod errors;
+#[cfg(test)]
+mod exclusive;
+#[cfg(test)]
+mod one_slot;
+#[cfg(test)]
+mod ring;
+#[cfg(test)]
+mod scarce;
+#[cfg(test)]
+mod shared;
+#[cfg(test)]
+mod turns;
+pub mod walks;
