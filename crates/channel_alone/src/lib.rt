@@ -2,5 +2,3 @@
 #![tactic(auto)]
 
 pub mod run;
-#[cfg(test)]
-mod tests;

@@ -11,7 +11,7 @@ use channel_model::run::Stopped;
 pub struct PartyId(pub u32);
 
 /// A step of a run: a party begins a call, or makes one step of the call that it has under way. Own to this project.
-#[derive(Debug, Drop, PartialEq, Eq)]
+#[derive(Drop, PartialEq, Eq)]
 pub enum Step<T> {
     /// Begins a call. The channel isn't touched.
     Begin {

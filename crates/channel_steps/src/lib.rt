@@ -5,5 +5,3 @@ pub mod count;
 pub mod party;
 pub mod run;
 pub mod start;
-#[cfg(test)]
-mod tests;

@@ -2,39 +2,24 @@
 
 ghost use Rattle.channel_calls.specs.Plain.{parts_of};
 
-use crate::party::{Entry, Party};
-use crate::run::{Refusal, Run, Step, run_steps};
-use crate::start::{is_quiet, open_channel, under_way};
+use crate::names::Names;
+use crate::said::{Said, answer_of};
 use channel_calls::ask::ChannelAsk;
 use channel_calls::cells::ChannelCells;
-use channel_calls::error::Refused;
 use channel_calls::plain::PlainChannel;
-use channel_calls::reply::Reply;
 use channel_calls::stage::{Line, Side};
+use channel_steps::party::{Entry, Party};
+use channel_steps::run::{Refusal, Run, Step, run_steps};
+use channel_steps::start::{is_quiet, open_channel, under_way};
 use concurrent_queue::call::QueueReply;
 use concurrent_queue::cells::QueueForm;
 use concurrent_queue::queue_call::QueueCall;
 use event_listener::error::ListenError;
 use event_listener::key::Key;
 use event_listener::wakes::Wakes;
-use futures::task::Poll;
 use std::alloc::Global;
 use std::collections::VecDeque;
 use std::test::Fail;
-
-/// A sink that keeps the names of those who were woken.
-#[derive(Drop)]
-struct Names {
-    woken: Vec<u32>,
-}
-
-impl Wakes<u32> for Names {
-    ghost wakes = { λ s t u. Unit {0} };
-
-    fn wake(&mut self, task: u32) {
-        let _ = self.woken.push(task);
-    }
-}
 
 /// A channel whose lists have no room for a listener.
 #[derive(Drop)]
@@ -155,41 +140,6 @@ fn last_entry(run: Run<u64>) -> Option<Entry<u64>> {
     }
 }
 
-/// What an entry says, in short.
-#[derive(Clone, Copy, PartialEq, Eq, Debug)]
-enum Said {
-    /// There is none.
-    Missing,
-    /// The call goes on.
-    GoesOn,
-    /// The message was sent.
-    Sent,
-    /// This message was received.
-    Received(u64),
-    /// The poll is pending.
-    Pending,
-    /// The operation was given up, and handed this back.
-    GivenUp(Option<u64>),
-    /// Memory was refused.
-    Refused,
-    /// Something else.
-    Else,
-}
-
-fn reply_says(reply: Reply<u64>) -> Said {
-    match reply {
-        Reply::TrySend(Ok(())) => Said::Sent,
-        Reply::TryRecv(Ok(message)) => Said::Received(message),
-        Reply::SendPoll(Poll::Ready(Ok(()))) => Said::Sent,
-        Reply::SendPoll(Poll::Pending) => Said::Pending,
-        Reply::RecvPoll(Poll::Ready(Ok(message))) => Said::Received(message),
-        Reply::RecvPoll(Poll::Ready(Err(Refused::NoMemory(())))) => Said::Refused,
-        Reply::RecvPoll(Poll::Pending) => Said::Pending,
-        Reply::GivenUp(message) => Said::GivenUp(message),
-        _ => Said::Else,
-    }
-}
-
 /// What an entry says, and the listener that its call leaves to its operation.
 fn in_short(entry: Option<Entry<u64>>) -> (Said, Option<Key>) {
     match entry {
@@ -198,7 +148,7 @@ fn in_short(entry: Option<Entry<u64>>) -> (Said, Option<Key>) {
             let key = entry.kept.and_then(|kept| kept.key);
             match entry.reply {
                 None => (Said::GoesOn, key),
-                Some(reply) => (reply_says(reply), key),
+                Some(reply) => (answer_of(reply), key),
             }
         }
     }
@@ -207,57 +157,77 @@ fn in_short(entry: Option<Entry<u64>>) -> (Said, Option<Key>) {
 #[test]
 fn a_message_between_two_tries_is_taken(rt: HostRuntime) -> Result<(), Fail> {
     let mut all = make_fixture(one_slot(rt.alloc())?, rt.alloc());
-    assert_eq!(rt;
+    let answers = [
         all.begin(0, ChannelAsk::PollRecv(None, 7), 2).0,
-        Said::GoesOn
+        all.begin(1, ChannelAsk::TrySend(5), 3).0,
+        all.go_on(0, 5).0,
+        all.go_on(1, 2).0,
+    ];
+    let woken = all.names.woken.len();
+    let quiet = is_quiet(&all.parties);
+    drop(all);
+    assert_eq!(rt;
+        answers,
+        [
+            Said::GoesOn,
+            Said::GoesOn,
+            Said::Received(5),
+            Said::Sent(None)
+        ]
     );
-    assert_eq!(rt; all.begin(1, ChannelAsk::TrySend(5), 3).0, Said::GoesOn);
-    assert_eq!(rt; all.go_on(0, 5).0, Said::Received(5));
-    assert_eq!(rt; all.go_on(1, 2).0, Said::Sent);
-    assert_eq!(rt; all.names.woken.len(), 0);
-    assert!(rt; is_quiet(&all.parties));
+    assert_eq!(rt; woken, 0);
+    assert!(rt; quiet);
     Ok(())
 }
 
 #[test]
 fn a_pending_receive_is_woken_after_the_push(rt: HostRuntime) -> Result<(), Fail> {
     let mut all = make_fixture(one_slot(rt.alloc())?, rt.alloc());
+    let pending = all.begin(0, ChannelAsk::PollRecv(None, 7), 4).0;
+    let pushed = all.begin(1, ChannelAsk::TrySend(5), 3).0;
+    let before = (all.names.woken.len(), under_way(&all.parties));
+    let told = all.go_on(1, 1).0;
+    let woken = (all.names.woken.len(), all.names.woken.first().copied());
+    let sent = all.go_on(1, 1).0;
+    let quiet = is_quiet(&all.parties);
+    drop(all);
     assert_eq!(rt;
-        all.begin(0, ChannelAsk::PollRecv(None, 7), 4).0,
-        Said::Pending
+        [pending, pushed, told, sent],
+        [Said::Pending, Said::GoesOn, Said::GoesOn, Said::Sent(None)]
     );
-    assert_eq!(rt; all.begin(1, ChannelAsk::TrySend(5), 3).0, Said::GoesOn);
-    assert_eq!(rt; all.names.woken.len(), 0);
-    assert_eq!(rt; under_way(&all.parties), 1);
-    assert_eq!(rt; all.go_on(1, 1).0, Said::GoesOn);
-    assert_eq!(rt; all.names.woken.as_slice(), [7].as_slice());
-    assert_eq!(rt; all.go_on(1, 1).0, Said::Sent);
-    assert!(rt; is_quiet(&all.parties));
+    assert_eq!(rt; before, (0, 1));
+    assert_eq!(rt; woken, (1, Some(7)));
+    assert!(rt; quiet);
     Ok(())
 }
 
 #[test]
 fn a_taking_wakes_the_send_that_still_waits(rt: HostRuntime) -> Result<(), Fail> {
     let mut all = make_fixture(one_slot(rt.alloc())?, rt.alloc());
-    assert_eq!(rt; all.begin(0, ChannelAsk::TrySend(1), 5).0, Said::Sent);
+    let sent = all.begin(0, ChannelAsk::TrySend(1), 5).0;
     let (first, first_key) = all.begin(1, ChannelAsk::PollSend(2, None, 2), 4);
     let (second, second_key) = all.begin(2, ChannelAsk::PollSend(3, None, 3), 4);
-    assert_eq!(rt; first, Said::Pending);
-    assert_eq!(rt; second, Said::Pending);
-    assert_eq!(rt; all.begin(3, ChannelAsk::TryRecv, 3).0, Said::GoesOn);
+    let taking = all.begin(3, ChannelAsk::TryRecv, 3).0;
+    let give_up = ChannelAsk::GiveUp(Line::Sends, Some(2), first_key);
+    let given_up = all.begin(1, give_up, 1).0;
+    let before = all.names.woken.len();
+    let received = all.go_on(3, 1).0;
+    let woken = (all.names.woken.len(), all.names.woken.first().copied());
+    let last = all.begin(2, ChannelAsk::PollSend(3, second_key, 3), 6).0;
+    let quiet = is_quiet(&all.parties);
+    drop(all);
     assert_eq!(rt;
-        all.begin(1, ChannelAsk::GiveUp(Line::Sends, Some(2), first_key), 1)
-            .0,
-        Said::GivenUp(Some(2))
+        [sent, first, second],
+        [Said::Sent(None), Said::Pending, Said::Pending]
     );
-    assert_eq!(rt; all.names.woken.len(), 0);
-    assert_eq!(rt; all.go_on(3, 1).0, Said::Received(1));
-    assert_eq!(rt; all.names.woken.as_slice(), [3].as_slice());
     assert_eq!(rt;
-        all.begin(2, ChannelAsk::PollSend(3, second_key, 3), 6).0,
-        Said::Sent
+        [taking, given_up, received],
+        [Said::GoesOn, Said::GivenUp(Some(2)), Said::Received(1)]
     );
-    assert!(rt; is_quiet(&all.parties));
+    assert_eq!(rt; last, Said::Sent(None));
+    assert_eq!(rt; before, 0);
+    assert_eq!(rt; woken, (1, Some(3)));
+    assert!(rt; quiet);
     Ok(())
 }
 
@@ -268,36 +238,46 @@ fn a_poll_that_may_not_listen_is_not_pending(rt: HostRuntime) -> Result<(), Fail
     };
     let mut all = make_fixture(cells, rt.alloc());
     let (refused, key) = all.begin(0, ChannelAsk::PollRecv(None, 7), 2);
-    assert_eq!(rt; refused, Said::Refused);
+    let sent = all.begin(1, ChannelAsk::TrySend(5), 5).0;
+    let woken = all.names.woken.len();
+    let received = all.begin(2, ChannelAsk::TryRecv, 4).0;
+    drop(all);
+    assert_eq!(rt;
+        [refused, sent, received],
+        [Said::Refused, Said::Sent(None), Said::Received(5)]
+    );
     assert!(rt; key.is_none());
-    assert_eq!(rt; all.begin(1, ChannelAsk::TrySend(5), 5).0, Said::Sent);
-    assert_eq!(rt; all.names.woken.len(), 0);
-    assert_eq!(rt; all.begin(2, ChannelAsk::TryRecv, 4).0, Said::Received(5));
+    assert_eq!(rt; woken, 0);
     Ok(())
+}
+
+/// A run of these steps: how many were made, why it stopped, and how many stand in front.
+fn run_to(
+    all: &mut Fixture<PlainChannel<u64, u32>>,
+    mut list: VecDeque<Step<u64, u32>>,
+) -> (usize, Option<Refusal>, usize) {
+    let run = all.run(&mut list);
+    (run.trace.len(), run.stopped, list.len())
 }
 
 #[test]
 fn a_party_with_a_call_under_way_begins_no_other(rt: HostRuntime) -> Result<(), Fail> {
     let mut all = make_fixture(one_slot(rt.alloc())?, rt.alloc());
     let mut list = VecDeque::new(rt.alloc());
-    list.push_back(Step::Begin {
-        party: 0,
-        ask: ChannelAsk::TrySend(1),
-    })?;
-    list.push_back(Step::Begin {
-        party: 0,
-        ask: ChannelAsk::TrySend(2),
-    })?;
-    let run = all.run(&mut list);
-    assert_eq!(rt; run.trace.len(), 1);
-    assert_eq!(rt; run.stopped, Some(Refusal::Busy));
-    assert_eq!(rt; list.len(), 1);
-    assert_eq!(rt; under_way(&all.parties), 1);
-    assert_eq!(rt; all.go_on(0, 5).0, Said::Sent);
-    list.clear();
-    list.push_back(Step::Step { party: 0 })?;
-    let run = all.run(&mut list);
-    assert_eq!(rt; run.stopped, Some(Refusal::Idle));
-    assert_eq!(rt; list.len(), 1);
+    for message in 1..3 {
+        let ask = ChannelAsk::TrySend(message);
+        let _ = list.push_back(Step::Begin { party: 0, ask });
+    }
+    let busy = run_to(&mut all, list);
+    let going = under_way(&all.parties);
+    let sent = all.go_on(0, 5).0;
+    let mut list = VecDeque::new(rt.alloc());
+    let _ = list.push_back(Step::Step { party: 0 });
+    let idle = run_to(&mut all, list);
+    drop(all);
+    assert_eq!(rt; busy, (1, Some(Refusal::Busy), 1));
+    assert_eq!(rt; going, 1);
+    assert_eq!(rt; sent, Said::Sent(None));
+    assert_eq!(rt; idle, (0, Some(Refusal::Idle), 1));
     Ok(())
 }

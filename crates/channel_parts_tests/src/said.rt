@@ -1,0 +1,91 @@
+//! What a call answered, as a value that can be copied, so that a test notes all answers and compares them at its end.
+
+use channel_calls::error::{Refused, TryRecvError, TrySendError};
+use channel_calls::reply::Reply;
+use futures::task::Poll;
+
+/// What a call answered, in short.
+#[derive(Clone, Copy, PartialEq, Eq, Debug)]
+pub(crate) enum Said {
+    /// There is no entry.
+    Missing,
+    /// The call goes on.
+    GoesOn,
+    /// The message was sent, and this one displaced.
+    Sent(Option<u64>),
+    /// The channel is full, and the message comes back.
+    Full(u64),
+    /// The channel is closed, and the message of a send comes back.
+    Closed(Option<u64>),
+    /// This message was received.
+    Received(u64),
+    /// The channel is empty.
+    Empty,
+    /// The poll is pending.
+    Pending,
+    /// The closing was told.
+    Ended,
+    /// The operation was given up, and handed this back.
+    GivenUp(Option<u64>),
+    /// Memory was refused.
+    Refused,
+    /// Whether a closing closed, or what a question answered.
+    Flag(bool),
+    /// A number of messages or handles.
+    Count(usize),
+    /// The capacity.
+    Cap(Option<usize>),
+    /// A handle was made, or not.
+    Made(bool),
+    /// A drop has ended.
+    Dropped,
+    /// Something else.
+    Else,
+}
+
+fn sent(reply: Result<(), Refused<TrySendError<u64>, u64>>) -> Said {
+    match reply {
+        Ok(()) => Said::Sent(None),
+        Err(Refused::Plain(TrySendError::Full(message))) => Said::Full(message),
+        Err(Refused::Plain(TrySendError::Closed(message))) => Said::Closed(Some(message)),
+        Err(_) => Said::Refused,
+    }
+}
+
+fn received(reply: Result<u64, TryRecvError>) -> Said {
+    match reply {
+        Ok(message) => Said::Received(message),
+        Err(TryRecvError::Empty) => Said::Empty,
+        Err(TryRecvError::Closed) => Said::Closed(None),
+    }
+}
+
+/// What this reply is in short.
+pub(crate) fn answer_of(reply: Reply<u64>) -> Said {
+    match reply {
+        Reply::TrySend(reply) => sent(reply),
+        Reply::ForceSend(Ok(displaced)) => Said::Sent(displaced),
+        Reply::TryRecv(reply) => received(reply),
+        Reply::SendPoll(Poll::Ready(Ok(()))) => Said::Sent(None),
+        Reply::SendPoll(Poll::Ready(Err(Refused::Plain(refused)))) => {
+            Said::Closed(Some(refused.0))
+        }
+        Reply::RecvPoll(Poll::Ready(Ok(message))) => Said::Received(message),
+        Reply::RecvPoll(Poll::Ready(Err(Refused::Plain(_)))) => Said::Closed(None),
+        Reply::RecvPoll(Poll::Ready(Err(Refused::NoMemory(())))) => Said::Refused,
+        Reply::Next(Poll::Ready(Some(Ok(message)))) => Said::Received(message),
+        Reply::ClosedPoll(Poll::Ready(Ok(()))) => Said::Ended,
+        Reply::SendPoll(Poll::Pending)
+        | Reply::RecvPoll(Poll::Pending)
+        | Reply::Next(Poll::Pending)
+        | Reply::ClosedPoll(Poll::Pending) => Said::Pending,
+        Reply::Closed(answer) | Reply::Flag(answer) => Said::Flag(answer),
+        Reply::Count(number) => Said::Count(number),
+        Reply::Cap(capacity) => Said::Cap(capacity),
+        Reply::Made => Said::Made(true),
+        Reply::NotMade => Said::Made(false),
+        Reply::GivenUp(message) => Said::GivenUp(message),
+        Reply::Unit => Said::Dropped,
+        _ => Said::Else,
+    }
+}
