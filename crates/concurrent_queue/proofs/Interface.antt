@@ -206,7 +206,7 @@ module _ {T : Type 0} where
         subst (λ (x : Queue T). Stands x f.ask f.stage) (sym e) (goes_so p g m f goes (leads_so n a p g before))
 
   -- a lone call over a queue with no call under way does just this
-  pub effect : (q0 q : Queue T) (f : Phase T) → IsIdle q0 → Comes q0 q f → Does q0 q f
+  pub does : (q0 q : Queue T) (f : Phase T) → IsIdle q0 → Comes q0 q f → Does q0 q f
   does q0 q f idle (a, n, leads) =
       let h = leads_so q0 idle n a q f leads in
       let c = counts q0 idle f.ask f.stage q h.0 in
