@@ -1,6 +1,6 @@
 -- A call that is stepped to its end with nobody else at work, from the contract of a step alone.
 use Rattle.std.proofs.Common.{◌≡◌, ℕ, ◌+◌, ◌*◌, ◌<◌, ◌≤◌, List, [], ◌∷◌, ◌++◌, append_assoc, Option, None, Some, ◌⊎◌, inl, inr, refl, sym, ap, ◌∙◌, subst, arith}
-use Rattle.concurrent_queue.specs.Queue.{Queue, Phase, asked, after, Goes, Answers, IsInRange}
+use Rattle.concurrent_queue.specs.Queue.{Queue, Phase, asked, after, Continues, Answers, IsInRange}
 use Rattle.concurrent_queue.specs.Step.{Fits, rank}
 use Rattle.concurrent_queue.specs.declared.queue_call.QueueCall.{QueueCall}
 use Rattle.concurrent_queue.specs.declared.call.QueueAsk.{QueueAsk}
@@ -240,7 +240,7 @@ module _ {T W : Type 0} where
       unspent_yet = x.unspent (try_is_late parts.roster y)
 
       -- it goes on
-      on_try : (f' : Phase T) → Goes x.now x.at tried.mark f' → (call' : QueueCall T) → stage' ≡ Trying call' y
+      on_try : (f' : Phase T) → Continues x.now x.at tried.mark f' → (call' : QueueCall T) → stage' ≡ Trying call' y
           → made.phase_now ≡ f' → StaysAt made.queue made.phase_now
       on_try f' goes call' e same =
           let stays : IsAlone a c0 parts' stage' (so_far ++ names) =
@@ -331,12 +331,12 @@ module _ {T W : Type 0} where
     by_how : (call : QueueCall T) (y : Aim W) (x : IsAlone a c0 parts (Trying call y) so_far)
         (made : Made parts (Trying call y) names parts' stage' m r x.now x.at [] []) (mark : QueueMark)
         → mark ≡ (tried call y x made).mark
-        → ((f' : Phase T) × Goes x.now x.at mark f' × (r ≡ None) × (phase made.phase_now stage' ≡ Trying f' y))
+        → ((f' : Phase T) × Continues x.now x.at mark f' × (r ≡ None) × (phase made.phase_now stage' ≡ Trying f' y))
         ⊎ ((z : QueueReply T) × Answers x.now x.at mark z × Turned (answered_next y z) r (phase made.phase_now stage'))
         → StepsTo made.queue made.phase_now
     by_how call y x made mark e (inl (f', goes, none, on)) =
         let t = same_try made.phase_now f' y stage' on in
-        inl (on_try call y x made f' (subst (λ (k : QueueMark). Goes x.now x.at k f') e goes) t.0 t.1 t.2, none)
+        inl (on_try call y x made f' (subst (λ (k : QueueMark). Continues x.now x.at k f') e goes) t.0 t.1 t.2, none)
     by_how call y x made mark e (inr (z, ans, turned)) =
         inr (at_answer call y x made z (subst (λ (k : QueueMark). Answers x.now x.at k z) e ans) turned)
 

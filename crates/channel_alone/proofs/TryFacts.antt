@@ -1,7 +1,7 @@
 -- What one call of the queue gives where nobody else is at work.
 use Rattle.std.proofs.Common.{◌≡◌, ℕ, ◌+◌, true, false, [], None, Some, Ok, ◌⊎◌, inl, inr, refl, ap, ◌∙◌, zero, suc, arith}
 use Rattle.concurrent_queue.specs.Contents.{Contents}
-use Rattle.concurrent_queue.specs.Queue.{Queue, Phase, asked, marked, after, Goes, Answers}
+use Rattle.concurrent_queue.specs.Queue.{Queue, Phase, asked, marked, after, Continues, Answers}
 use Rattle.concurrent_queue.specs.Step.{Fits}
 use Rattle.concurrent_queue.specs.declared.call.QueueAsk.{QueueAsk}
 use Rattle.concurrent_queue.specs.declared.call.QueueMark.{QueueMark}
@@ -16,7 +16,7 @@ module _ {T : Type 0} where
   pub tries_start : (q : Queue T) (a : QueueAsk T) → Comes q q (asked a)
   tries_start q a = (a, zero, (refl, refl))
 
-  pub tries_on : (q0 q : Queue T) (f g : Phase T) (m : QueueMark) → Goes q f m g → Comes q0 q f → Comes q0 (after f m q) g
+  pub tries_on : (q0 q : Queue T) (f g : Phase T) (m : QueueMark) → Continues q f m g → Comes q0 q f → Comes q0 (after f m q) g
   tries_on q0 q f g m goes (a, n, leads) = (a, suc n, (q, f, m, leads, goes, refl))
 
   -- ---- the answer

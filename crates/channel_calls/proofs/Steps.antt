@@ -76,7 +76,7 @@ module _ {T W : Type 0} where
       pub queue_goes : IsQueueStep parts.cells call parts'.cells call' None → IsStepOver parts (Trying call aim) [] parts' (Trying call' aim) (mark_of_queue (mark_of call')) None
       queue_goes step q f left right range fits =
           let s = step fits.0 q f left right range fits.1 in
-          let d = s.does in
+          let d = s.effect in
           record {
             queue = after f (mark_of call') q;
             phase_now = d.0;
@@ -90,7 +90,7 @@ module _ {T W : Type 0} where
           → IsStepOver parts (Trying call aim) [] parts' stage' (mark_of_queue (mark_of call')) r
       queue_answers x r stage' step taken q f left right range fits =
           let s = step fits.0 q f left right range fits.1 in
-          let d = s.does in
+          let d = s.effect in
           let t = entered parts'.cells (after f (mark_of call') q) f left right (_, d.1) (answered_next aim x) r stage' taken in
           record {
             queue = after f (mark_of call') q;

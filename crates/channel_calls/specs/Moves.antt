@@ -1,7 +1,7 @@
 -- What one step of a channel's call does, whatever other calls are under way.
 use Rattle.std.specs.Prelude.{◌≡◌, ℕ, ◌+◌, ◌-◌, ◌<◌, true, if◌then◌else◌, List, [], ◌∷◌, ◌++◌, Option, None, Some, ◌⊎◌}
 use Rattle.concurrent_queue.specs.Contents.{Contents}
-use Rattle.concurrent_queue.specs.Queue.{Queue, Phase, opened, after, asked, Goes, Answers, IsInRange}
+use Rattle.concurrent_queue.specs.Queue.{Queue, Phase, opened, after, asked, Continues, Answers, IsInRange}
 use Rattle.concurrent_queue.specs.Step.{Seat, seat, Fits, Starts, OneCell, HoldsNobodyUp, phases, rank}
 use Rattle.concurrent_queue.specs.declared.queue_call.QueueCall.{QueueCall}
 use Rattle.concurrent_queue.specs.declared.call.QueueMark.{QueueMark}
@@ -108,7 +108,7 @@ module _ {T W : Type 0} where
     pub mark : QueueMark
     pub effect : e ≡ queued f mark c
     pub how :
-        ((f' : Phase T) × Goes c.queue f mark f' × (r ≡ None) × (s ≡ Trying f' aim))
+        ((f' : Phase T) × Continues c.queue f mark f' × (r ≡ None) × (s ≡ Trying f' aim))
         ⊎ ((x : QueueReply T) × Answers c.queue f mark x × Turned (answered_next aim x) r s)
 
   -- a listener comes in, under a key that is not listed, and the poll tries again; or it is refused

@@ -1,6 +1,6 @@
 -- What a step of a call does to the listeners, and what it has in hand then.
 use Rattle.std.proofs.Common.{◌≡◌, ℕ, ◌+◌, ◌-◌, Bool, true, false, if◌then◌else◌, List, [], Option, None, Some, ◌⊎◌, inl, inr, refl, sym, ap, ◌∙◌, subst}
-use Rattle.concurrent_queue.specs.Queue.{Phase, Goes, Answers}
+use Rattle.concurrent_queue.specs.Queue.{Phase, Continues, Answers}
 use Rattle.concurrent_queue.specs.declared.call.QueueReply.{QueueReply}
 use Rattle.channel_calls.specs.Answered.{answered_next}
 use Rattle.channel_calls.specs.declared.stage.Aim.{Aim}
@@ -367,7 +367,7 @@ module _ (T W : Type 0) where
         → Moves c at e r s → Out at r s e
     turnout (Trying f aim) e r s ds seen k b h = tried h.how
       where
-        tried : ((f' : Phase T) × Goes c.queue f h.mark f' × (r ≡ None) × (s ≡ Trying f' aim))
+        tried : ((f' : Phase T) × Continues c.queue f h.mark f' × (r ≡ None) × (s ≡ Trying f' aim))
             ⊎ ((y : QueueReply T) × Answers c.queue f h.mark y × Turned (answered_next aim y) r s) → Out (Trying f aim) r s e
         tried (inl g) =
             as_it (Trying f aim) r s e (queued f h.mark c) h.effect

@@ -66,7 +66,7 @@ fn append<X: Drop>(items: &mut Vec<X>, item: X)
 
 impl<T: Drop> Floor<T> {
     ghost use Rattle.std.specs.Prelude.{◌≡◌, ◌<◌, [], None, IfOk, IfErr, OnErr, IfSome, IfNone, vec_len};
-    ghost use Rattle.concurrent_queue.specs.Dispatch.{capacity_of};
+    ghost use Rattle.concurrent_queue.specs.Capacity.{capacity_of};
     ghost use Rattle.concurrent_queue.specs.Made.{CanBeMade};
     ghost use Rattle.channel_steps.specs.Run.{new_scene};
     ghost use Rattle.channel_interleaving.specs.Roll.{first_roll, IsAgent};

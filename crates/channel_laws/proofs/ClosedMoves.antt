@@ -1,6 +1,6 @@
 -- What a step may do to a closed channel.
 use Rattle.std.proofs.Common.{◌≡◌, ℕ, ◌+◌, Bool, true, false, if◌then◌else◌, List, [], ◌∷◌, Option, None, Some, ◌⊎◌, inl, inr, refl, sym, ap, ◌∙◌, subst}
-use Rattle.concurrent_queue.specs.Queue.{Queue, Phase, trying, displaced, IsOpen, IsShut, IsDrained, IsOldest, after, is_displaced, GoesPush, GoesForce, GoesPop, GoesOn, Goes, AnswersTo, Answers}
+use Rattle.concurrent_queue.specs.Queue.{Queue, Phase, trying, displaced, IsOpen, IsShut, IsDrained, IsOldest, after, is_displaced, ContinuesPush, ContinuesForce, ContinuesPop, ContinuesBy, Continues, AnswersTo, Answers}
 use Rattle.concurrent_queue.specs.Queue as queue
 use Rattle.concurrent_queue.specs.declared.call.QueueAsk.{QueueAsk}
 use Rattle.concurrent_queue.specs.declared.call.QueueAsk.TheVariants as ask
@@ -46,12 +46,12 @@ module _ {T : Type 0} where
     not_open : IsOpen q → ⊥
     not_open e = absurd (let no : true ≡ false = sym shut ∙ e in cc)
 
-    push_may : (m : QueueMark) (s t : queue.Stage T) → GoesPush q m s t → MayMark m s q
+    push_may : (m : QueueMark) (s t : queue.Stage T) → ContinuesPush q m s t → MayMark m s q
     push_may Nothing s t g = tt
     push_may Append (trying b) t g = absurd (not_open g.0)
     push_may m s t g = absurd g
 
-    force_may : (m : QueueMark) (s t : queue.Stage T) → GoesForce q m s t → MayMark m s q
+    force_may : (m : QueueMark) (s t : queue.Stage T) → ContinuesForce q m s t → MayMark m s q
     force_may Nothing s t g = tt
     force_may Append (trying b) t g = absurd (not_open g.0)
     force_may Append (displaced d) t g = (g.0, refl)
@@ -59,12 +59,12 @@ module _ {T : Type 0} where
     force_may TakeDisplaced (trying b) t g = (g.0, g.1, g.4)
     force_may m s t g = absurd g
 
-    pop_may : (m : QueueMark) (s t : queue.Stage T) → GoesPop q m s t → MayMark m s q
+    pop_may : (m : QueueMark) (s t : queue.Stage T) → ContinuesPop q m s t → MayMark m s q
     pop_may Nothing s t g = tt
     pop_may Take (trying b) t g = (g.0, g.1)
     pop_may m s t g = absurd g
 
-    goes_may : (a : QueueAsk T) (m : QueueMark) (s t : queue.Stage T) → GoesOn q a m s t → MayMark m s q
+    goes_may : (a : QueueAsk T) (m : QueueMark) (s t : queue.Stage T) → ContinuesBy q a m s t → MayMark m s q
     goes_may (ask.Push v) m s t g = push_may m s t g
     goes_may (ask.ForcePush v) m s t g = force_may m s t g
     goes_may ask.Pop m s t g = pop_may m s t g
@@ -130,7 +130,7 @@ module _ {T W : Type 0} where
 
   -- what a step of the queue's call may do to a closed channel
   pub tried_may : (c : Channel T W) (f : Phase T) (m : QueueMark) (a b : Type 0) → IsShut c.queue
-      → (a → (f' : Phase T) × Goes c.queue f m f') → (b → (x : QueueReply T) × Answers c.queue f m x) → a ⊎ b → MayMark m f.stage c.queue
+      → (a → (f' : Phase T) × Continues c.queue f m f') → (b → (x : QueueReply T) × Answers c.queue f m x) → a ⊎ b → MayMark m f.stage c.queue
   tried_may c f m a b shut g h (inl k) = let x = g k in goes_may c.queue shut f.ask m f.stage x.0.stage x.1.1
   tried_may c f m a b shut g h (inr k) = let x = h k in answers_may c.queue shut f.ask m x.0 f.stage x.1
 

@@ -1,6 +1,6 @@
 -- What a step leaves owed to those who wait on a closed channel.
 use Rattle.std.proofs.Common.{◌≡◌, Bool, true, false, if◌then◌else◌, List, Option, None, Some, Ok, Err, ◌⊎◌, inl, inr, refl, sym, ap, ◌∙◌, subst, [], ◌∷◌, ◌++◌}
-use Rattle.concurrent_queue.specs.Queue.{Queue, Phase, trying, displaced, appended, taken, read, measured, marked, is_displaced, IsOpen, IsShut, may_refuse_at, seen_after, GoesPush, GoesPop, GoesOn, AnswersPush, AnswersPop, AnswersShut, AnswersTo, Goes, Answers}
+use Rattle.concurrent_queue.specs.Queue.{Queue, Phase, trying, displaced, appended, taken, read, measured, marked, is_displaced, IsOpen, IsShut, may_refuse_at, seen_after, ContinuesPush, ContinuesPop, ContinuesBy, AnswersPush, AnswersPop, AnswersShut, AnswersTo, Continues, Answers}
 use Rattle.concurrent_queue.specs.Queue as queue
 use Rattle.concurrent_queue.specs.declared.call.QueueAsk.{QueueAsk}
 use Rattle.concurrent_queue.specs.declared.call.QueueAsk.TheVariants as ask
@@ -44,7 +44,7 @@ use Rattle.channel_laws.proofs.StreamMoves.{How, stream_pops, leaves_next}
 module _ {T : Type 0} where
   -- ---- the queue's call
 
-  no_goes_closes : (q : Queue T) (a : QueueAsk T) (s t : queue.Stage T) → GoesOn q a Close s t → ⊥
+  no_goes_closes : (q : Queue T) (a : QueueAsk T) (s t : queue.Stage T) → ContinuesBy q a Close s t → ⊥
   no_goes_closes q (ask.Push v) s t g = g
   no_goes_closes q (ask.ForcePush v) s t g = g
   no_goes_closes q ask.Pop s t g = g
@@ -56,7 +56,7 @@ module _ {T : Type 0} where
   no_goes_closes q ask.Capacity s t g = g
 
   -- a step that goes on closes nothing
-  goes_same : (q : Queue T) (a : QueueAsk T) (b : Bool) (m : QueueMark) (s t : queue.Stage T) → GoesOn q a m s t → IsShut (marked a b m q) → IsShut q
+  goes_same : (q : Queue T) (a : QueueAsk T) (b : Bool) (m : QueueMark) (s t : queue.Stage T) → ContinuesBy q a m s t → IsShut (marked a b m q) → IsShut q
   goes_same q a b Close s t g h = absurd (no_goes_closes q a s t g)
   goes_same q a b Nothing s t g h = h
   goes_same q a b Append s t g h = h
@@ -100,7 +100,7 @@ module _ {T : Type 0} where
     found_as : (s t : queue.Stage T) → t ≡ s → HasNoCauseToWait s → HasNoCauseToWait t
     found_as s t e h = subst (λ (x : queue.Stage T). HasNoCauseToWait x) (sym e) h
 
-    push_looks : (m : QueueMark) (s t : queue.Stage T) → GoesPush q m s t → HasNoCauseToWait s → HasNoCauseToWait t
+    push_looks : (m : QueueMark) (s t : queue.Stage T) → ContinuesPush q m s t → HasNoCauseToWait s → HasNoCauseToWait t
     push_looks Nothing (trying b) t g h = found_as (trying (seen_after b q)) t g (never_seen b h)
     push_looks Append (trying b) t g h = absurd (not_open g.0)
     push_looks Nothing (taken v) t g h = absurd g
@@ -109,7 +109,7 @@ module _ {T : Type 0} where
     push_looks m (taken v) t g h = absurd g
     push_looks m s t g h = absurd h
 
-    pop_looks : (m : QueueMark) (s t : queue.Stage T) → GoesPop q m s t → HasNoCauseToWait s → HasNoCauseToWait t
+    pop_looks : (m : QueueMark) (s t : queue.Stage T) → ContinuesPop q m s t → HasNoCauseToWait s → HasNoCauseToWait t
     pop_looks Nothing (trying b) t g h = found_as (trying (seen_after b q)) t g (never_seen b h)
     pop_looks Nothing (taken v) t g h = found_as (taken v) t g tt
     pop_looks Take (trying b) t g h = found_as (taken g.0) t g.2 tt
@@ -166,11 +166,11 @@ module _ {T W : Type 0} where
 
   -- on a closed queue it goes on so, or drops its listener
   module _ (q : Queue T) (shut : IsShut q) (x : ChannelAsk T W) (k : Key) (task : W) (a : QueueAsk T) (ds : List (Deed T W)) (seen : List (Channel T W)) where
-    looks_on : (line : Line) (m : QueueMark) (s t : queue.Stage T) → TriesFor x (aim.Poll line (Some k) task) a ds seen → GoesOn q a m s t → HasNoCauseToWait s → HasNoCauseToWait t
-    looks_on Sends m s t h g n = let p = sends_push x (Some k) task a ds seen h in push_looks q shut m s t (subst (λ (z : QueueAsk T). GoesOn q z m s t) p.1 g) n
-    looks_on Receives m s t h g n = pop_looks q shut m s t (subst (λ (z : QueueAsk T). GoesOn q z m s t) (receives_pop x (Some k) task a ds seen h) g) n
-    looks_on Streams m s t h g n = pop_looks q shut m s t (subst (λ (z : QueueAsk T). GoesOn q z m s t) (stream_pops x (Some k) task a ds seen h) g) n
-    looks_on Closings m s t h g n = absurd (subst (λ (z : QueueAsk T). GoesOn q z m s t) (closings_ask x (Some k) task a ds seen h) g)
+    looks_on : (line : Line) (m : QueueMark) (s t : queue.Stage T) → TriesFor x (aim.Poll line (Some k) task) a ds seen → ContinuesBy q a m s t → HasNoCauseToWait s → HasNoCauseToWait t
+    looks_on Sends m s t h g n = let p = sends_push x (Some k) task a ds seen h in push_looks q shut m s t (subst (λ (z : QueueAsk T). ContinuesBy q z m s t) p.1 g) n
+    looks_on Receives m s t h g n = pop_looks q shut m s t (subst (λ (z : QueueAsk T). ContinuesBy q z m s t) (receives_pop x (Some k) task a ds seen h) g) n
+    looks_on Streams m s t h g n = pop_looks q shut m s t (subst (λ (z : QueueAsk T). ContinuesBy q z m s t) (stream_pops x (Some k) task a ds seen h) g) n
+    looks_on Closings m s t h g n = absurd (subst (λ (z : QueueAsk T). ContinuesBy q z m s t) (closings_ask x (Some k) task a ds seen h) g)
 
     drops : (line : Line) (m : QueueMark) (reply : QueueReply T) (s : queue.Stage T) → TriesFor x (aim.Poll line (Some k) task) a ds seen → AnswersTo q a m reply s → HasNoCauseToWait s → Drops line k (polled_next line reply (Some k) task)
     drops Sends m reply s h g n =

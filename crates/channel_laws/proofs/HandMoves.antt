@@ -1,6 +1,6 @@
 -- A poll that has a listener in hand keeps it, leaves the list, or finds cause to wait.
 use Rattle.std.proofs.Common.{◌≡◌, true, List, [], Option, None, Some, Ok, Err, ◌⊎◌, inl, inr, refl, sym, ap, ◌∙◌, subst}
-use Rattle.concurrent_queue.specs.Queue.{Queue, Phase, trying, appended, taken, is_filled, AnswersPush, AnswersPop, AnswersTo, Goes}
+use Rattle.concurrent_queue.specs.Queue.{Queue, Phase, trying, appended, taken, is_filled, AnswersPush, AnswersPop, AnswersTo, Continues}
 use Rattle.concurrent_queue.specs.Queue as queue
 use Rattle.concurrent_queue.specs.declared.call.QueueAsk.{QueueAsk}
 use Rattle.concurrent_queue.specs.declared.call.QueueMark.{QueueMark}

@@ -1,6 +1,6 @@
 -- How many messages there are after a step of the queue's call, and what the call counts for by its turn.
 use Rattle.std.proofs.Common.{◌≡◌, ℕ, ◌+◌, ◌≤◌, Bool, [], ◌∷◌, ◌++◌, length, drop, Option, None, Some, refl, ap, ◌∙◌, arith, length-append}
-use Rattle.concurrent_queue.specs.Queue.{Queue, Phase, trying, displaced, appended, taken, asked, marked, is_displaced, GoesPush, GoesForce, GoesPop, GoesOn, AnswersTo}
+use Rattle.concurrent_queue.specs.Queue.{Queue, Phase, trying, displaced, appended, taken, asked, marked, is_displaced, ContinuesPush, ContinuesForce, ContinuesPop, ContinuesBy, AnswersTo}
 use Rattle.concurrent_queue.specs.Queue as queue
 use Rattle.concurrent_queue.specs.declared.call.QueueAsk.{QueueAsk}
 use Rattle.concurrent_queue.specs.declared.call.QueueAsk.TheVariants as ask
@@ -38,14 +38,14 @@ module _ {T : Type 0} where
   one_replaced q v = length-append (drop 1 q.items) (v ∷ [])
 
   module _ (q : Queue T) (v : T) where
-    pub push_brings : (m : QueueMark) (s t : queue.Stage T) → GoesPush q m s t
+    pub push_brings : (m : QueueMark) (s t : queue.Stage T) → ContinuesPush q m s t
         → number (ask.Push v) s m q + has_appended s ≤ length q.items + has_appended t
     push_brings Nothing (trying b) t g = let k = ap has_appended g in omega (arith, k)
     push_brings Nothing (appended None) t g = let k = ap has_appended g in omega (arith, k)
     push_brings Append (trying b) t g = let k = ap has_appended g.2 in let n = one_appended q v in omega (arith, k, n)
     push_brings m s t g = absurd g
 
-    pub push_fills : (m : QueueMark) (s t : queue.Stage T) → GoesPush q m s t
+    pub push_fills : (m : QueueMark) (s t : queue.Stage T) → ContinuesPush q m s t
         → (length q.items + is_trying s ≤ number (ask.Push v) s m q + is_trying t)
         × (length q.items ≤ number (ask.Push v) s m q)
     push_fills Nothing (trying b) t g = let k = ap is_trying g in (omega (arith, k), omega arith)
@@ -53,7 +53,7 @@ module _ {T : Type 0} where
     push_fills Append (trying b) t g = let n = one_appended q v in (omega (arith, n), omega (arith, n))
     push_fills m s t g = absurd g
 
-    pub force_brings : (m : QueueMark) (s t : queue.Stage T) → GoesForce q m s t
+    pub force_brings : (m : QueueMark) (s t : queue.Stage T) → ContinuesForce q m s t
         → number (ask.ForcePush v) s m q + has_appended s ≤ length q.items + has_appended t
     force_brings Nothing (trying b) t g = let k = ap has_appended g in omega (arith, k)
     force_brings Nothing (displaced d) t g = let k = ap has_appended g in omega (arith, k)
@@ -68,7 +68,7 @@ module _ {T : Type 0} where
     force_brings TakeDisplaced (trying b) t g = let f = one_fewer q g.0 g.1 in omega (arith, f)
     force_brings m s t g = absurd g
 
-    pub force_fills : (m : QueueMark) (s t : queue.Stage T) → GoesForce q m s t
+    pub force_fills : (m : QueueMark) (s t : queue.Stage T) → ContinuesForce q m s t
         → length q.items + has_displaced s ≤ number (ask.ForcePush v) s m q + has_displaced t
     force_fills Nothing (trying b) t g = let k = ap has_displaced g in omega (arith, k)
     force_fills Nothing (displaced d) t g = let k = ap has_displaced g in omega (arith, k)
@@ -91,14 +91,14 @@ module _ {T : Type 0} where
   -- ---- pops
 
   module _ (q : Queue T) where
-    pub pop_takes : (m : QueueMark) (s t : queue.Stage T) → GoesPop q m s t
+    pub pop_takes : (m : QueueMark) (s t : queue.Stage T) → ContinuesPop q m s t
         → (number ask.Pop s m q + is_trying s ≤ length q.items + is_trying t) × (number ask.Pop s m q ≤ length q.items)
     pop_takes Nothing (trying b) t g = let k = ap is_trying g in (omega (arith, k), omega arith)
     pop_takes Nothing (taken v) t g = let k = ap is_trying g in (omega (arith, k), omega arith)
     pop_takes Take (trying b) t g = let f = one_fewer q g.0 g.1 in (omega (arith, f), omega (arith, f))
     pop_takes m s t g = absurd g
 
-    pub pop_frees : (m : QueueMark) (s t : queue.Stage T) → GoesPop q m s t
+    pub pop_frees : (m : QueueMark) (s t : queue.Stage T) → ContinuesPop q m s t
         → length q.items + has_taken s ≤ number ask.Pop s m q + has_taken t
     pop_frees Nothing (trying b) t g = let k = ap has_taken g in omega (arith, k)
     pop_frees Nothing (taken v) t g = let k = ap has_taken g in omega (arith, k)
@@ -108,7 +108,7 @@ module _ {T : Type 0} where
     -- ---- any call
 
     -- who pushes nothing brings nothing
-    pub goes_no_more : (a : QueueAsk T) (m : QueueMark) (s t : queue.Stage T) → (IsPush a → ⊥) → GoesOn q a m s t
+    pub goes_no_more : (a : QueueAsk T) (m : QueueMark) (s t : queue.Stage T) → (IsPush a → ⊥) → ContinuesBy q a m s t
         → number a s m q ≤ length q.items
     goes_no_more (ask.Push v) m s t never g = absurd (never tt)
     goes_no_more (ask.ForcePush v) m s t never g = absurd (never tt)
@@ -119,7 +119,7 @@ module _ {T : Type 0} where
     goes_no_more a m s t never g = absurd g
 
     -- who may take none takes none
-    pub goes_no_fewer : (a : QueueAsk T) (m : QueueMark) (s t : queue.Stage T) → (MayTake a → ⊥) → GoesOn q a m s t
+    pub goes_no_fewer : (a : QueueAsk T) (m : QueueMark) (s t : queue.Stage T) → (MayTake a → ⊥) → ContinuesBy q a m s t
         → length q.items ≤ number a s m q
     goes_no_fewer (ask.Push v) m s t never g = let k = push_fills q v m s t g in k.1
     goes_no_fewer (ask.ForcePush v) m s t never g = absurd (never tt)

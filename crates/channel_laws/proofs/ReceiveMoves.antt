@@ -1,6 +1,6 @@
 -- Each step pays for what it brings or uses up, as those count it who wait for a message.
 use Rattle.std.proofs.Common.{◌≡◌, ℕ, ◌+◌, ◌≤◌, false, List, [], length, Option, None, Some, Ok, Err, ◌⊎◌, inl, inr, refl, sym, ap, subst, arith}
-use Rattle.concurrent_queue.specs.Queue.{Queue, Phase, trying, appended, taken, marked, is_displaced, asked, AnswersPush, AnswersForce, AnswersPop, AnswersTo, GoesOn}
+use Rattle.concurrent_queue.specs.Queue.{Queue, Phase, trying, appended, taken, marked, is_displaced, asked, AnswersPush, AnswersForce, AnswersPop, AnswersTo, ContinuesBy}
 use Rattle.concurrent_queue.specs.Queue as queue
 use Rattle.concurrent_queue.specs.declared.call.QueueAsk.{QueueAsk}
 use Rattle.concurrent_queue.specs.declared.call.QueueAsk.TheVariants as ask
@@ -46,7 +46,7 @@ module _ {T W : Type 0} where
   counted x y a s = counts_for_receives x (Trying (record { ask = a; stage = s }) y)
 
   module _ (q : Queue T) (ds : List (Deed T W)) (seen : List (Channel T W)) where
-    popping : (k key : Option Key) (t' task : W) (m : QueueMark) (s t : queue.Stage T) → queue.GoesPop q m s t
+    popping : (k key : Option Key) (t' task : W) (m : QueueMark) (s t : queue.Stage T) → queue.ContinuesPop q m s t
         → number ask.Pop s m q + counted (channel.PollRecv k t') (aim.Poll Receives key task) ask.Pop s ≤ length q.items
         + counted (channel.PollRecv k t') (aim.Poll Receives key task) ask.Pop t
     popping k None t' task m s t g = let n = pop_takes q m s t g in n.0
@@ -54,7 +54,7 @@ module _ {T W : Type 0} where
 
     -- as it goes on
     goes_pays : (x : ChannelAsk T W) (y : Aim W) (a : QueueAsk T) (m : QueueMark) (s t : queue.Stage T) → TriesFor x y a ds seen
-        → GoesOn q a m s t
+        → ContinuesBy q a m s t
         → number a s m q + counted x y a s ≤ length q.items + counted x y a t
     goes_pays (channel.TrySend v) aim.TrySend (ask.Push w) m s t h g = push_brings q w m s t g
     goes_pays (channel.TrySend v) y a m s t h g = absurd h

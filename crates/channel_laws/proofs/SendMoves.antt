@@ -1,7 +1,7 @@
 -- Each step pays for what it takes or uses up, as those count it who wait for a free place.
 use Rattle.std.proofs.Common.{◌≡◌, ℕ, ◌+◌, ◌≤◌, true, false, List, length, Option, None, Some, Ok, Err, ◌⊎◌, inl, inr, refl, sym, ap, subst, arith}
 use Rattle.std.proofs.lemmas.Bool.Decides.{nat_tests}
-use Rattle.concurrent_queue.specs.Queue.{Queue, Phase, IsShut, trying, appended, taken, marked, is_displaced, is_full_at, is_filled, AnswersPush, AnswersForce, AnswersPop, AnswersTo, GoesOn}
+use Rattle.concurrent_queue.specs.Queue.{Queue, Phase, IsShut, trying, appended, taken, marked, is_displaced, is_full_at, is_filled, AnswersPush, AnswersForce, AnswersPop, AnswersTo, ContinuesBy}
 use Rattle.concurrent_queue.specs.Queue as queue
 use Rattle.concurrent_queue.specs.declared.call.QueueAsk.{QueueAsk}
 use Rattle.concurrent_queue.specs.declared.call.QueueAsk.TheVariants as ask
@@ -92,7 +92,7 @@ module _ {T W : Type 0} where
   counted x y a s = counts_for_sends x (Trying (record { ask = a; stage = s }) y)
 
   module _ (q : Queue T) (ds : List (Deed T W)) (seen : List (Channel T W)) where
-    pushing : (v w : T) (k key : Option Key) (t' task : W) (m : QueueMark) (s t : queue.Stage T) → queue.GoesPush q m s t
+    pushing : (v w : T) (k key : Option Key) (t' task : W) (m : QueueMark) (s t : queue.Stage T) → queue.ContinuesPush q m s t
         → length q.items + counted (channel.PollSend v k t') (aim.Poll Sends key task) (ask.Push w) s ≤ number (ask.Push w) s m
         q + counted (channel.PollSend v k t') (aim.Poll Sends key task) (ask.Push w) t
     pushing v w k None t' task m s t g = let n = push_fills q w m s t g in n.0
@@ -100,7 +100,7 @@ module _ {T W : Type 0} where
 
     -- as it goes on
     goes_pays : (x : ChannelAsk T W) (y : Aim W) (a : QueueAsk T) (m : QueueMark) (s t : queue.Stage T) → TriesFor x y a ds seen
-        → GoesOn q a m s t
+        → ContinuesBy q a m s t
         → length q.items + counted x y a s ≤ number a s m q + counted x y a t
     goes_pays channel.TryRecv aim.TryRecv ask.Pop m s t h g = pop_frees q m s t g
     goes_pays channel.TryRecv y a m s t h g = absurd h

@@ -1,6 +1,6 @@
 -- What a step leaves owed to a waiting stream.
 use Rattle.std.proofs.Common.{◌≡◌, true, false, List, [], drop, Option, None, Some, Ok, Err, ◌⊎◌, inl, inr, refl, sym, ap, ◌∙◌, subst}
-use Rattle.concurrent_queue.specs.Queue.{Queue, Phase, trying, displaced, appended, taken, read, measured, asked, marked, is_displaced, IsOldest, IsDrained, GoesPush, GoesForce, GoesPop, GoesOn, AnswersPush, AnswersForce, AnswersPop, AnswersTo, Goes, Answers}
+use Rattle.concurrent_queue.specs.Queue.{Queue, Phase, trying, displaced, appended, taken, read, measured, asked, marked, is_displaced, IsOldest, IsDrained, ContinuesPush, ContinuesForce, ContinuesPop, ContinuesBy, AnswersPush, AnswersForce, AnswersPop, AnswersTo, Continues, Answers}
 use Rattle.concurrent_queue.specs.Queue as queue
 use Rattle.concurrent_queue.specs.declared.call.QueueAsk.{QueueAsk}
 use Rattle.concurrent_queue.specs.declared.call.QueueAsk.TheVariants as ask
@@ -53,12 +53,12 @@ module _ {T : Type 0} where
   abbrev Empties : QueueAsk T → queue.Stage T → QueueMark → Queue T → Type 0
   Empties a s m q = (marked a (is_displaced s) m q).items ≡ []
 
-  push_fills : (q : Queue T) (v : T) (m : QueueMark) (s t : queue.Stage T) → GoesPush q m s t → q.items ≡ [] → Empties (ask.Push v) s m q ⊎ HasAppended t
+  push_fills : (q : Queue T) (v : T) (m : QueueMark) (s t : queue.Stage T) → ContinuesPush q m s t → q.items ≡ [] → Empties (ask.Push v) s m q ⊎ HasAppended t
   push_fills q v Nothing s t g h = inl h
   push_fills q v Append (trying b) t g h = inr (subst (λ (x : queue.Stage T). HasAppended x) (sym g.2) tt)
   push_fills q v m s t g h = absurd g
 
-  force_fills : (q : Queue T) (v : T) (m : QueueMark) (s t : queue.Stage T) → GoesForce q m s t → q.items ≡ [] → Empties (ask.ForcePush v) s m q ⊎ HasAppended t
+  force_fills : (q : Queue T) (v : T) (m : QueueMark) (s t : queue.Stage T) → ContinuesForce q m s t → q.items ≡ [] → Empties (ask.ForcePush v) s m q ⊎ HasAppended t
   force_fills q v Nothing s t g h = inl h
   force_fills q v Append (trying b) t g h = inr (subst (λ (x : queue.Stage T). HasAppended x) (sym g.2) tt)
   force_fills q v Append (displaced d) t g h = inr (subst (λ (x : queue.Stage T). HasAppended x) (sym g.2) tt)
@@ -66,7 +66,7 @@ module _ {T : Type 0} where
   force_fills q v TakeDisplaced (trying b) t g h = inl (ap (λ (xs : List T). drop 1 xs) h)
   force_fills q v m s t g h = absurd g
 
-  pop_fills : (q : Queue T) (m : QueueMark) (s t : queue.Stage T) → GoesPop q m s t → q.items ≡ [] → Empties ask.Pop s m q
+  pop_fills : (q : Queue T) (m : QueueMark) (s t : queue.Stage T) → ContinuesPop q m s t → q.items ≡ [] → Empties ask.Pop s m q
   pop_fills q Nothing s t g h = h
   pop_fills q Take (trying b) t g h = ap (λ (xs : List T). drop 1 xs) h
   pop_fills q m s t g h = absurd g
@@ -78,7 +78,7 @@ module _ {T : Type 0} where
   IsPush a = ⊥
 
   -- what fills an empty queue is a message that was just appended
-  goes_fills : (q : Queue T) (a : QueueAsk T) (m : QueueMark) (s t : queue.Stage T) → GoesOn q a m s t → q.items ≡ [] → Empties a s m q ⊎ (IsPush a × HasAppended t)
+  goes_fills : (q : Queue T) (a : QueueAsk T) (m : QueueMark) (s t : queue.Stage T) → ContinuesBy q a m s t → q.items ≡ [] → Empties a s m q ⊎ (IsPush a × HasAppended t)
   goes_fills q (ask.Push v) m s t g h = pushing (push_fills q v m s t g h)
   goes_fills q (ask.ForcePush v) m s t g h = pushing (force_fills q v m s t g h)
   goes_fills q ask.Pop m s t g h = inl (pop_fills q m s t g h)
@@ -101,14 +101,14 @@ module _ {T : Type 0} where
   answers_fill q ask.Capacity m r s h e = absurd h
 
   -- a call that has appended its message has so until it answers
-  push_stays : (q : Queue T) (m : QueueMark) (s t : queue.Stage T) → GoesPush q m s t → HasAppended s → HasAppended t
+  push_stays : (q : Queue T) (m : QueueMark) (s t : queue.Stage T) → ContinuesPush q m s t → HasAppended s → HasAppended t
   push_stays q Nothing (appended None) t g h = subst (λ (x : queue.Stage T). HasAppended x) (sym g) tt
   push_stays q Nothing (appended (Some d)) t g h = absurd g
   push_stays q Append (appended o) t g h = absurd g
   push_stays q m (appended o) t g h = absurd g
   push_stays q m s t g h = absurd h
 
-  force_stays : (q : Queue T) (m : QueueMark) (s t : queue.Stage T) → GoesForce q m s t → HasAppended s → HasAppended t
+  force_stays : (q : Queue T) (m : QueueMark) (s t : queue.Stage T) → ContinuesForce q m s t → HasAppended s → HasAppended t
   force_stays q Nothing (appended o) t g h = subst (λ (x : queue.Stage T). HasAppended x) (sym g) tt
   force_stays q Append (appended o) t g h = absurd g
   force_stays q Replace (appended o) t g h = absurd g
@@ -116,28 +116,28 @@ module _ {T : Type 0} where
   force_stays q m (appended o) t g h = absurd g
   force_stays q m s t g h = absurd h
 
-  pop_stays : (q : Queue T) (m : QueueMark) (s t : queue.Stage T) → GoesPop q m s t → HasAppended s → HasAppended t
+  pop_stays : (q : Queue T) (m : QueueMark) (s t : queue.Stage T) → ContinuesPop q m s t → HasAppended s → HasAppended t
   pop_stays q Nothing (appended o) t g h = absurd g
   pop_stays q Take (appended o) t g h = absurd g
   pop_stays q m (appended o) t g h = absurd g
   pop_stays q m s t g h = absurd h
 
-  empty_stays : (q : Queue T) (m : QueueMark) (s t : queue.Stage T) → queue.GoesEmpty q m s t → HasAppended s → HasAppended t
+  empty_stays : (q : Queue T) (m : QueueMark) (s t : queue.Stage T) → queue.ContinuesEmpty q m s t → HasAppended s → HasAppended t
   empty_stays q Nothing (appended o) t g h = absurd g
   empty_stays q m (appended o) t g h = absurd g
   empty_stays q m s t g h = absurd h
 
-  full_stays : (q : Queue T) (m : QueueMark) (s t : queue.Stage T) → queue.GoesFull q m s t → HasAppended s → HasAppended t
+  full_stays : (q : Queue T) (m : QueueMark) (s t : queue.Stage T) → queue.ContinuesFull q m s t → HasAppended s → HasAppended t
   full_stays q Nothing (appended o) t g h = absurd g
   full_stays q m (appended o) t g h = absurd g
   full_stays q m s t g h = absurd h
 
-  len_stays : (q : Queue T) (m : QueueMark) (s t : queue.Stage T) → queue.GoesLen q m s t → HasAppended s → HasAppended t
+  len_stays : (q : Queue T) (m : QueueMark) (s t : queue.Stage T) → queue.ContinuesLen q m s t → HasAppended s → HasAppended t
   len_stays q Nothing (appended o) t g h = absurd g
   len_stays q m (appended o) t g h = absurd g
   len_stays q m s t g h = absurd h
 
-  goes_stays : (q : Queue T) (a : QueueAsk T) (m : QueueMark) (s t : queue.Stage T) → GoesOn q a m s t → HasAppended s → HasAppended t
+  goes_stays : (q : Queue T) (a : QueueAsk T) (m : QueueMark) (s t : queue.Stage T) → ContinuesBy q a m s t → HasAppended s → HasAppended t
   goes_stays q (ask.Push v) m s t g h = push_stays q m s t g h
   goes_stays q (ask.ForcePush v) m s t g h = force_stays q m s t g h
   goes_stays q ask.Pop m s t g h = pop_stays q m s t g h
@@ -288,7 +288,7 @@ module _ {T W : Type 0} where
   -- the two ways of a step of the queue's call
   abbrev pub How : Channel T W → Phase T → Aim W → QueueMark → Option (Reply T) → Stage (Phase T) T W → Type 0
   How c f y m r s =
-      ((f' : Phase T) × Goes c.queue f m f' × (r ≡ None) × (s ≡ Trying f' y)) ⊎ ((x : QueueReply T) × Answers c.queue f m x × Turned (answered_next y x) r s)
+      ((f' : Phase T) × Continues c.queue f m f' × (r ≡ None) × (s ≡ Trying f' y)) ⊎ ((x : QueueReply T) × Answers c.queue f m x × Turned (answered_next y x) r s)
 
   no_items : (c : Channel T W) (f : Phase T) (m : QueueMark) (e : Effect T W) → e ≡ queued f m c → Empties f.ask f.stage m c.queue → e.channel.queue.items ≡ []
   no_items c f m e same h = ap (λ (z : Effect T W). z.channel.queue.items) same ∙ h

@@ -1,6 +1,6 @@
 -- A step of a call: what is known of it after, whom it wakes, and what it takes and brings.
 use Rattle.std.proofs.Common.{◌≡◌, map, ℕ, ◌+◌, ◌<◌, ◌≤◌, Bool, true, false, if◌then◌else◌, List, [], ◌∷◌, ◌++◌, take, drop, Option, None, Some, ◌⊎◌, inl, inr, refl, sym, ap, ◌∙◌, subst, arith, append-nil, append_assoc}
-use Rattle.concurrent_queue.specs.Queue.{Queue, Phase, trying, displaced, appended, taken, read, measured, after, message, Goes, GoesOn, Answers}
+use Rattle.concurrent_queue.specs.Queue.{Queue, Phase, trying, displaced, appended, taken, read, measured, after, message, Continues, ContinuesBy, Answers}
 use Rattle.concurrent_queue.specs.Queue as queue
 use Rattle.concurrent_queue.specs.declared.call.QueueAsk.{QueueAsk}
 use Rattle.concurrent_queue.specs.declared.call.QueueAsk.TheVariants as ask
@@ -61,7 +61,7 @@ other_down Senders = tt
 other_down Receivers = tt
 
 module _ {T : Type 0} where
-  never_closes : (q : Queue T) (a : QueueAsk T) (m : QueueMark) (s t : queue.Stage T) → GoesOn q a m s t → IsClosing a → ⊥
+  never_closes : (q : Queue T) (a : QueueAsk T) (m : QueueMark) (s t : queue.Stage T) → ContinuesBy q a m s t → IsClosing a → ⊥
   never_closes q ask.Close m s t g h = g
   never_closes q a m s t g h = h
 
@@ -73,7 +73,7 @@ module _ {T W : Type 0} where
   -- ---- what is known of the call after its step
 
   module _ (c : Channel T W) (x : ChannelAsk T W) (told : List Telling) (ds : List (Deed T W)) (seen : List (Channel T W)) (bal : IsBalanced c.queue) where
-    went : (f f' : Phase T) (y : Aim W) (m : QueueMark) → TriesFor x y f.ask ds seen → TryAt c f.ask f.stage ds seen → Goes c.queue f m f'
+    went : (f f' : Phase T) (y : Aim W) (m : QueueMark) → TriesFor x y f.ask ds seen → TryAt c f.ask f.stage ds seen → Continues c.queue f m f'
         → After (next_channel f.ask f.stage m c) x [] (with_deed ds (mark_of_queue m) c seen) (next_channel f.ask f.stage m c ∷ seen) None (Trying f' y)
     went f f' y m tf ta g =
         let d : Channel T W = next_channel f.ask f.stage m c in
@@ -84,7 +84,7 @@ module _ {T W : Type 0} where
         )
 
     tried_by : (f : Phase T) (y : Aim W) (m : QueueMark) (r : Option (Reply T)) (s : Stage (Phase T) T W) → TriesFor x y f.ask ds seen → TryAt c f.ask f.stage ds seen
-        → ((f' : Phase T) × Goes c.queue f m f' × (r ≡ None) × (s ≡ Trying f' y)) ⊎ ((z : QueueReply T) × Answers c.queue f m z × Turned (answered_next y z) r s)
+        → ((f' : Phase T) × Continues c.queue f m f' × (r ≡ None) × (s ≡ Trying f' y)) ⊎ ((z : QueueReply T) × Answers c.queue f m z × Turned (answered_next y z) r s)
         → After (next_channel f.ask f.stage m c) x [] (with_deed ds (mark_of_queue m) c seen) (next_channel f.ask f.stage m c ∷ seen) r s
     tried_by f y m r s tf ta (inl h) =
         let d : Channel T W = next_channel f.ask f.stage m c in
@@ -111,7 +111,7 @@ module _ {T W : Type 0} where
   -- ---- how it changes the queue
 
   tried_on : (c : Channel T W) (f : Phase T) (m : QueueMark) (y : Aim W) (r : Option (Reply T)) (s : Stage (Phase T) T W)
-      → ((f' : Phase T) × Goes c.queue f m f' × (r ≡ None) × (s ≡ Trying f' y)) ⊎ ((z : QueueReply T) × Answers c.queue f m z × Turned (answered_next y z) r s)
+      → ((f' : Phase T) × Continues c.queue f m f' × (r ≡ None) × (s ≡ Trying f' y)) ⊎ ((z : QueueReply T) × Answers c.queue f m z × Turned (answered_next y z) r s)
       → Progress c.queue (after f m c.queue)
   tried_on c f m y r s (inl h) = progress c.queue f.ask m f.stage h.0.stage h.1.1
   tried_on c f m y r s (inr h) = answer_progress c.queue f.ask m h.0 f.stage h.1

@@ -1,6 +1,6 @@
 -- Quick calls end within eight steps.
 use Rattle.std.proofs.Common.{◌≡◌, ℕ, ◌<◌, ◌≤◌, ◌==◌, Bool, true, false, if◌then◌else◌, List, Option, None, Some, ◌⊎◌, inl, inr, refl, sym, ap, subst, arith}
-use Rattle.concurrent_queue.specs.Queue.{Phase, trying, displaced, appended, taken, read, measured, GoesOn, AnswersTo}
+use Rattle.concurrent_queue.specs.Queue.{Phase, trying, displaced, appended, taken, read, measured, ContinuesBy, AnswersTo}
 use Rattle.concurrent_queue.specs.Queue as queue
 use Rattle.concurrent_queue.specs.declared.call.QueueAsk.{QueueAsk}
 use Rattle.concurrent_queue.specs.declared.call.QueueAsk.TheVariants as ask
@@ -59,7 +59,7 @@ module _ {T : Type 0} where
   at_count : (a : QueueAsk T) (k : ℕ) (s t : queue.Stage T) → t ≡ s → left_to_try a s < k → left_to_try a t < k
   at_count a k s t e h = subst (λ (z : queue.Stage T). left_to_try a z < k) (sym e) h
 
-  quick_goes : (q : queue.Queue T) (a : QueueAsk T) (m : QueueMark) (s t : queue.Stage T) → IsQuickTry a → GoesOn q a m s t → left_to_try a t < left_to_try a s
+  quick_goes : (q : queue.Queue T) (a : QueueAsk T) (m : QueueMark) (s t : queue.Stage T) → IsQuickTry a → ContinuesBy q a m s t → left_to_try a t < left_to_try a s
   quick_goes q ask.IsEmpty Nothing (trying b) t h g = at_count ask.IsEmpty 2 (read q.removed) t g (omega arith)
   quick_goes q ask.IsFull Nothing (trying b) t h g = at_count ask.IsFull 2 (read q.accepted) t g.0 (omega arith)
   quick_goes q (ask.Push v) m s t h g = absurd h
@@ -212,7 +212,7 @@ module _ {T W : Type 0} where
       → steps_left s < steps_left at
   quick_moves c x (Trying f y) e s ds seen h q g = by_how g.how
     where
-      by_how : ((f' : Phase T) × queue.Goes c.queue f g.mark f' × (let r : Option (Reply T) = None in r ≡ None) × (s ≡ Trying f' y)) ⊎ ((r : QueueReply T) × queue.Answers c.queue f g.mark r × Turned (answered_next y r) None s) → steps_left s < left_to_try f.ask f.stage
+      by_how : ((f' : Phase T) × queue.Continues c.queue f g.mark f' × (let r : Option (Reply T) = None in r ≡ None) × (s ≡ Trying f' y)) ⊎ ((r : QueueReply T) × queue.Answers c.queue f g.mark r × Turned (answered_next y r) None s) → steps_left s < left_to_try f.ask f.stage
       by_how (inl (f', goes, none, there)) =
           subst (λ (z : Stage (Phase T) T W). steps_left z < left_to_try f.ask f.stage) (sym there)
           (subst (λ (a : QueueAsk T). left_to_try a f'.stage < left_to_try f.ask f.stage) (sym goes.0) (quick_goes c.queue f.ask g.mark f.stage f'.stage (quick_try x y f.ask ds seen h.0 q) goes.1))

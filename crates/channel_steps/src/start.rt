@@ -1,7 +1,7 @@
 //! Where runs start, and what is asked between them.
 
 ghost use Rattle.std.specs.Prelude.{◌≡◌, IfOk};
-ghost use Rattle.concurrent_queue.specs.Dispatch.{capacity_of};
+ghost use Rattle.concurrent_queue.specs.Capacity.{capacity_of};
 ghost use Rattle.concurrent_queue.specs.Made.{CanBeMade};
 ghost use Rattle.channel_calls.specs.Plain.{parts_of};
 ghost use Rattle.channel_steps.specs.Scene.{Shows};

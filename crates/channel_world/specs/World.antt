@@ -1,6 +1,6 @@
 -- What a world is while no call is under way: a state of the model.
 use Rattle.std.specs.Prelude.{ℕ, ◌+◌, List, length}
-use Rattle.concurrent_queue.specs.Dispatch.{capacity_of}
+use Rattle.concurrent_queue.specs.Capacity.{capacity_of}
 use Rattle.concurrent_queue.specs.Step.{items_in, closed_in}
 use Rattle.event_listener.specs.Lists.{tasks_of}
 use Rattle.channel_calls.specs.Parts.{Parts, Roster}

@@ -2,11 +2,11 @@
 use Rattle.std.proofs.Common.{◌≡◌, ℕ, ◌+◌, ◌%◌, ◌^◌, ◌==◌, Bool, true, false, arith, slice_index, None, Some, Result, Ok, Err, ⊎_elim, refl, sym, subst, ap}
 use Rattle.std.proofs.lemmas.Bool.Decides.{nat_tests}
 use Rattle.concurrent_queue.specs.Contents.{Contents, write_slot, slot_at}
-use Rattle.concurrent_queue.specs.Ahead.{IsStep, PushesSingle, PopsSingle, PushesRing, PopsRing, CanWin, GoesAhead, PopsOnEnd, PushesAhead, PushesAheadIn, PopsAhead, PopsAheadIn}
-use Rattle.concurrent_queue.specs.RingWords.{cap_of, ring_mark, index, next_word, set_tail, set_head, ring_step}
-use Rattle.concurrent_queue.specs.RingWords as words
-use Rattle.concurrent_queue.specs.Single.{set_state, single_step}
-use Rattle.concurrent_queue.specs.Single as one
+use Rattle.concurrent_queue.specs.machine.Ahead.{IsStep, PushesSingle, PopsSingle, PushesRing, PopsRing, CanWin, GoesAhead, PopsOnEnd, PushesAhead, PushesAheadIn, PopsAhead, PopsAheadIn}
+use Rattle.concurrent_queue.specs.machine.RingWords.{cap_of, ring_mark, index, next_word, set_tail, set_head, ring_step}
+use Rattle.concurrent_queue.specs.machine.RingWords as words
+use Rattle.concurrent_queue.specs.machine.Single.{set_state, single_step}
+use Rattle.concurrent_queue.specs.machine.Single as one
 use Rattle.concurrent_queue.specs.declared.bounded.RingAction.{RingAction}
 use Rattle.concurrent_queue.specs.declared.bounded.RingAction.TheVariants as ring
 use Rattle.concurrent_queue.specs.declared.bounded.WhenFull.TheVariants.{Refuse}

@@ -1,10 +1,10 @@
 -- A call that is stepped to its end with no other beside it, from the contract of a step alone.
 use Rattle.std.proofs.Common.{◌≡◌, ℕ, ◌+◌, if◌then◌else◌, ◌<◌, ◌≤◌, ◌^◌, ⊎_elim, Bool, true, false, not, List, [], ◌∷◌, ◌++◌, length, drop, Option, None, Some, Ok, Err, ◌==◌, ◌⊎◌, inl, inr, refl, sym, ap, ◌∙◌, subst, arith}
 use Rattle.concurrent_queue.specs.Contents.{Contents}
-use Rattle.concurrent_queue.specs.Dispatch.{capacity_of}
-use Rattle.concurrent_queue.specs.Queue.{Queue, opened, Stage, trying, displaced, appended, taken, read, measured, Phase, asked, is_filled, is_full_at, may_refuse, IsOpen, IsShut, IsOldest, message, marked, after, is_displaced, seen_after, IsInRange, GoesPush, GoesForce, GoesPop, GoesOn, AnswersPush, AnswersForce, AnswersPop, AnswersTo}
+use Rattle.concurrent_queue.specs.Capacity.{capacity_of}
+use Rattle.concurrent_queue.specs.Queue.{Queue, opened, Stage, trying, displaced, appended, taken, read, measured, Phase, asked, is_filled, is_full_at, may_refuse, IsOpen, IsShut, IsOldest, message, marked, after, is_displaced, seen_after, IsInRange, ContinuesPush, ContinuesForce, ContinuesPop, ContinuesBy, AnswersPush, AnswersForce, AnswersPop, AnswersTo}
 use Rattle.std.proofs.lemmas.Bool.Decides.{nat_tests}
-use Rattle.concurrent_queue.specs.Step.{seat, Fits, Steps, IsQueueStep, Starts, rank, items_in, closed_in}
+use Rattle.concurrent_queue.specs.Step.{seat, Fits, StepLeaves, IsQueueStep, Starts, rank, items_in, closed_in}
 use Rattle.concurrent_queue.specs.Made.{IsNew}
 use Rattle.concurrent_queue.specs.declared.cells.QueueForm.{QueueForm}
 use Rattle.concurrent_queue.specs.declared.cells.QueueForm.TheVariants.{Bounded, Unbounded}
@@ -84,7 +84,7 @@ module _ {T : Type 0} where
     next_so : (a : QueueAsk T) (t s : Stage T) (q : Queue T) → t ≡ s → So q0 a s q → So q0 a t q
     next_so a t s q e h = subst (λ (x : Stage T). So q0 a x q) (sym e) h
 
-    so_push : (q : Queue T) (v : T) (m : QueueMark) (s t : Stage T) → GoesPush q m s t → So q0 (ask.Push v) s q → So q0 (ask.Push v) t (marked (ask.Push v) (is_displaced s) m q)
+    so_push : (q : Queue T) (v : T) (m : QueueMark) (s t : Stage T) → ContinuesPush q m s t → So q0 (ask.Push v) s q → So q0 (ask.Push v) t (marked (ask.Push v) (is_displaced s) m q)
     so_push q v Nothing (trying b) t g h = next_so (ask.Push v) t _ q g (h.0, λ e. refuses_from b q q0 h.0 h.1 e)
     so_push q v Nothing (appended None) t g h = next_so (ask.Push v) t _ q g h
     so_push q v Append (trying b) t g h =
@@ -92,7 +92,7 @@ module _ {T : Type 0} where
         (subst (λ (x : Queue T). IsOpen x) h.0 g.0, subst (λ (x : Queue T). is_filled x ≡ false) h.0 g.1, ap (λ (x : Queue T). marked (ask.Push v) false Append x) h.0)
     so_push q v m s t g h = absurd g
 
-    so_force : (q : Queue T) (v : T) (m : QueueMark) (s t : Stage T) → GoesForce q m s t → So q0 (ask.ForcePush v) s q → So q0 (ask.ForcePush v) t (marked (ask.ForcePush v) (is_displaced s) m q)
+    so_force : (q : Queue T) (v : T) (m : QueueMark) (s t : Stage T) → ContinuesForce q m s t → So q0 (ask.ForcePush v) s q → So q0 (ask.ForcePush v) t (marked (ask.ForcePush v) (is_displaced s) m q)
     so_force q v Nothing (trying b) t g h = next_so (ask.ForcePush v) t _ q g (h.0, λ e. refuses_from b q q0 h.0 h.1 e)
     so_force q v Nothing (displaced d) t g h = next_so (ask.ForcePush v) t _ q g h
     so_force q v Nothing (appended None) t g h = next_so (ask.ForcePush v) t _ q g h
@@ -117,28 +117,28 @@ module _ {T : Type 0} where
         (subst (λ (x : Queue T). IsOldest g.0 x) h.0 g.1, (open_from b q q0 h.0 h.1 g.2, filled_at q q0 h.0 g.3), ap (λ (x : Queue T). marked (ask.ForcePush v) false TakeDisplaced x) h.0)
     so_force q v m s t g h = absurd g
 
-    so_pop : (q : Queue T) (m : QueueMark) (s t : Stage T) → GoesPop q m s t → So q0 ask.Pop s q → So q0 ask.Pop t (marked ask.Pop (is_displaced s) m q)
+    so_pop : (q : Queue T) (m : QueueMark) (s t : Stage T) → ContinuesPop q m s t → So q0 ask.Pop s q → So q0 ask.Pop t (marked ask.Pop (is_displaced s) m q)
     so_pop q Nothing (trying b) t g h = next_so ask.Pop t _ q g (h.0, λ e. refuses_from b q q0 h.0 h.1 e)
     so_pop q Nothing (taken v) t g h = next_so ask.Pop t _ q g h
     so_pop q Take (trying b) t g h =
         next_so ask.Pop t _ _ g.2 (subst (λ (x : Queue T). IsOldest g.0 x) h.0 g.1, ap (λ (x : Queue T). marked ask.Pop false Take x) h.0)
     so_pop q m s t g h = absurd g
 
-    so_empty : (q : Queue T) (m : QueueMark) (s t : Stage T) → GoesOn q ask.IsEmpty m s t → So q0 ask.IsEmpty s q → So q0 ask.IsEmpty t (marked ask.IsEmpty (is_displaced s) m q)
+    so_empty : (q : Queue T) (m : QueueMark) (s t : Stage T) → ContinuesBy q ask.IsEmpty m s t → So q0 ask.IsEmpty s q → So q0 ask.IsEmpty t (marked ask.IsEmpty (is_displaced s) m q)
     so_empty q Nothing (trying b) t g h = next_so ask.IsEmpty t _ q g (h.0, ap (λ (x : Queue T). x.removed) h.0)
     so_empty q m s t g h = absurd g
 
-    so_full : (q : Queue T) (m : QueueMark) (s t : Stage T) → GoesOn q ask.IsFull m s t → So q0 ask.IsFull s q → So q0 ask.IsFull t (marked ask.IsFull (is_displaced s) m q)
+    so_full : (q : Queue T) (m : QueueMark) (s t : Stage T) → ContinuesBy q ask.IsFull m s t → So q0 ask.IsFull s q → So q0 ask.IsFull t (marked ask.IsFull (is_displaced s) m q)
     so_full q Nothing (trying b) t g h = next_so ask.IsFull t _ q g.0 (h.0, ap (λ (x : Queue T). x.accepted) h.0)
     so_full q m s t g h = absurd g
 
-    so_len : (q : Queue T) (m : QueueMark) (s t : Stage T) → GoesOn q ask.Len m s t → So q0 ask.Len s q → So q0 ask.Len t (marked ask.Len (is_displaced s) m q)
+    so_len : (q : Queue T) (m : QueueMark) (s t : Stage T) → ContinuesBy q ask.Len m s t → So q0 ask.Len s q → So q0 ask.Len t (marked ask.Len (is_displaced s) m q)
     so_len q Nothing (trying b) t g h = next_so ask.Len t _ q g (h.0, tt)
     so_len q Nothing (read n) t g h = next_so ask.Len t _ q g (h.0, ap (λ (x : Queue T). length x.items) h.0)
     so_len q Nothing (measured n k) t g h = next_so ask.Len t _ q g (h.0, λ e. absurd cc)
     so_len q m s t g h = absurd g
 
-    pub so_goes : (q : Queue T) (a : QueueAsk T) (m : QueueMark) (s t : Stage T) → GoesOn q a m s t → So q0 a s q → So q0 a t (marked a (is_displaced s) m q)
+    pub so_goes : (q : Queue T) (a : QueueAsk T) (m : QueueMark) (s t : Stage T) → ContinuesBy q a m s t → So q0 a s q → So q0 a t (marked a (is_displaced s) m q)
     so_goes q (ask.Push v) m s t g h = so_push q v m s t g h
     so_goes q (ask.ForcePush v) m s t g h = so_force q v m s t g h
     so_goes q ask.Pop m s t g h = so_pop q m s t g h
@@ -352,13 +352,13 @@ module _ {T : Type 0} where
   in_range q a s (inl h) = inl h
   in_range q a s (inr h) = inr (omega arith)
 
-  due_push : (q : Queue T) (v : T) (m : QueueMark) (s t : Stage T) → GoesPush q m s t → (marked (ask.Push v) (is_displaced s) m q).accepted + due (ask.Push v) t ≤ q.accepted + due (ask.Push v) s
+  due_push : (q : Queue T) (v : T) (m : QueueMark) (s t : Stage T) → ContinuesPush q m s t → (marked (ask.Push v) (is_displaced s) m q).accepted + due (ask.Push v) t ≤ q.accepted + due (ask.Push v) s
   due_push q v Nothing (trying b) t g = let e = ap (due (ask.Push v)) g in omega arith
   due_push q v Nothing (appended None) t g = let e = ap (due (ask.Push v)) g in omega arith
   due_push q v Append (trying b) t g = let e = ap (due (ask.Push v)) g.2 in omega arith
   due_push q v m s t g = absurd g
 
-  due_force : (q : Queue T) (v : T) (m : QueueMark) (s t : Stage T) → GoesForce q m s t → (marked (ask.ForcePush v) (is_displaced s) m q).accepted + due (ask.ForcePush v) t ≤ q.accepted + due (ask.ForcePush v) s
+  due_force : (q : Queue T) (v : T) (m : QueueMark) (s t : Stage T) → ContinuesForce q m s t → (marked (ask.ForcePush v) (is_displaced s) m q).accepted + due (ask.ForcePush v) t ≤ q.accepted + due (ask.ForcePush v) s
   due_force q v Nothing (trying b) t g = let e = ap (due (ask.ForcePush v)) g in omega arith
   due_force q v Nothing (displaced d) t g = let e = ap (due (ask.ForcePush v)) g in omega arith
   due_force q v Nothing (appended o) t g = let e = ap (due (ask.ForcePush v)) g in omega arith
@@ -368,13 +368,13 @@ module _ {T : Type 0} where
   due_force q v TakeDisplaced (trying b) t g = let e = ap (due (ask.ForcePush v)) g.5 in omega arith
   due_force q v m s t g = absurd g
 
-  due_pop : (q : Queue T) (m : QueueMark) (s t : Stage T) → GoesPop q m s t → (marked ask.Pop (is_displaced s) m q).accepted + due ask.Pop t ≤ q.accepted + due ask.Pop s
+  due_pop : (q : Queue T) (m : QueueMark) (s t : Stage T) → ContinuesPop q m s t → (marked ask.Pop (is_displaced s) m q).accepted + due ask.Pop t ≤ q.accepted + due ask.Pop s
   due_pop q Nothing s t g = omega arith
   due_pop q Take s t g = omega arith
   due_pop q m s t g = absurd g
 
   -- a step that appends brings what was due
-  due_goes : (q : Queue T) (a : QueueAsk T) (m : QueueMark) (s t : Stage T) → GoesOn q a m s t → (marked a (is_displaced s) m q).accepted + due a t ≤ q.accepted + due a s
+  due_goes : (q : Queue T) (a : QueueAsk T) (m : QueueMark) (s t : Stage T) → ContinuesBy q a m s t → (marked a (is_displaced s) m q).accepted + due a t ≤ q.accepted + due a s
   due_goes q (ask.Push v) m s t g = due_push q v m s t g
   due_goes q (ask.ForcePush v) m s t g = due_force q v m s t g
   due_goes q ask.Pop m s t g = due_pop q m s t g
@@ -468,7 +468,7 @@ module _ {T : Type 0} where
       }
 
   module _ (m : Held T) (a : QueueAsk T) (c : Contents T) (call : QueueCall T) (x : IsAlone m a c call) (d : Contents T) (next : QueueCall T) where
-    step_of : (r : Option (QueueReply T)) → IsQueueStep c call d next r → Steps x.fits.0 c call x.phase d next r x.now [] []
+    step_of : (r : Option (QueueReply T)) → IsQueueStep c call d next r → StepLeaves x.fits.0 c call x.phase d next r x.now [] []
     step_of r step = step x.fits.0 x.now x.phase [] [] (in_range x.now x.phase.ask x.phase.stage x.range) x.fits.1
 
     same_limit : (after x.phase next.mark x.now).capacity ≡ x.start.capacity
@@ -477,8 +477,8 @@ module _ {T : Type 0} where
     pub alone_more : IsQueueStep c call d next None → IsAlone m a d next
     alone_more step =
         let h = step_of None step in
-        let p = h.does.0 in
-        let goes = h.does.1 in
+        let p = h.effect.0 in
+        let goes = h.effect.1 in
         let so : So x.start x.phase.ask p.stage (after x.phase next.mark x.now) = so_goes x.start x.now x.phase.ask next.mark x.phase.stage p.stage goes.1 x.so in
         record {
           start = x.start;
@@ -487,7 +487,7 @@ module _ {T : Type 0} where
           phase = p;
           asks = goes.0 ∙ x.asks;
           room = x.room;
-          fits = (_, h.does.2);
+          fits = (_, h.effect.2);
           range = ⊎_elim (λ l. inl (same_capacity x.now x.phase next.mark ∙ l))
               (λ l. inr (let e = due_goes x.now x.phase.ask next.mark x.phase.stage p.stage goes.1 in
               let o : due p.ask p.stage ≡ due x.phase.ask p.stage = ap (λ (b : QueueAsk T). due b p.stage) goes.0 in omega arith)) x.range;
@@ -499,13 +499,13 @@ module _ {T : Type 0} where
     alone_nearer step = (step_of None step).ends (tt, λ e. inr refl)
 
     -- the positions that the last step leaves used up
-    used_then_is : (r : QueueReply T) (h : Steps x.fits.0 c call x.phase d next (Some r) x.now [] []) → used_after (capacity_of d.form) m.used r ≡ used_of (after x.phase next.mark x.now).capacity (after x.phase next.mark x.now).accepted
+    used_then_is : (r : QueueReply T) (h : StepLeaves x.fits.0 c call x.phase d next (Some r) x.now [] []) → used_after (capacity_of d.form) m.used r ≡ used_of (after x.phase next.mark x.now).capacity (after x.phase next.mark x.now).accepted
     used_then_is r h =
         let q' : Queue T = after x.phase next.mark x.now in
-        let limit : capacity_of d.form ≡ x.start.capacity = sym (shows d q' [] (_, h.does.1)).limit ∙ same_limit in
+        let limit : capacity_of d.form ≡ x.start.capacity = sym (shows d q' [] (_, h.effect.1)).limit ∙ same_limit in
         let was : m.used ≡ used_of x.start.capacity x.start.accepted = ap (λ (y : Held T). y.used) x.was in
         let accepted : q'.accepted ≡ (if is_accepted r then x.start.accepted + 1 else x.start.accepted) =
-        none_more x.now x.phase.ask next.mark r x.phase.stage h.does.0 ∙ counts x.start x.now x.phase.ask next.mark r x.phase.stage h.does.0 x.so in
+        none_more x.now x.phase.ask next.mark r x.phase.stage h.effect.0 ∙ counts x.start x.now x.phase.ask next.mark r x.phase.stage h.effect.0 x.so in
         ap (λ (k : Option ℕ). used_after k m.used r) limit ∙ ap (λ (n : ℕ). used_after x.start.capacity n r) was
         ∙ used_then (is_accepted r) x.start.capacity x.start.accepted ∙ ap (λ (n : ℕ). used_of x.start.capacity n) (sym accepted) ∙ ap (λ (k : Option ℕ). used_of k q'.accepted) (sym same_limit)
 
@@ -514,9 +514,9 @@ module _ {T : Type 0} where
         let h = step_of (Some r) step in
         let q' : Queue T = after x.phase next.mark x.now in
         let same : used ≡ used_of q'.capacity q'.accepted = e ∙ used_then_is r h in
-        let more = none_more x.now x.phase.ask next.mark r x.phase.stage h.does.0 in
+        let more = none_more x.now x.phase.ask next.mark r x.phase.stage h.effect.0 in
         let range : IsInRange q' = ⊎_elim (λ l. inl (same_capacity x.now x.phase next.mark ∙ l)) (λ l. inr (omega arith)) x.range in
-        (q', (_, h.does.1), same, small_by q' used (is_one_slot q'.capacity) refl same range)
+        (q', (_, h.effect.1), same, small_by q' used (is_one_slot q'.capacity) refl same range)
 
     pub alone_end : (r : QueueReply T) (used : ℕ) → used ≡ used_after (capacity_of d.form) m.used r → IsQueueStep c call d next (Some r) → Gives a m (held d used) r
     alone_end r used e step =
@@ -526,10 +526,10 @@ module _ {T : Type 0} where
         let balance : IsBalanced x.now = (shows c x.now (seat call x.phase ∷ []) x.fits).balance in
         let room1 : HasRoom a (view x.start).used = subst (λ (n : Held T). HasRoom a n.used) x.was x.room in
         let room : HasRoom x.phase.ask (view x.start).used = subst (λ (b : QueueAsk T). HasRoom b (view x.start).used) (sym x.asks) room1 in
-        let g : Gives x.phase.ask (view x.start) (view q') r = ends x.start x.now x.phase.ask next.mark r x.phase.stage room balance h.does.0 x.so in
+        let g : Gives x.phase.ask (view x.start) (view q') r = ends x.start x.now x.phase.ask next.mark r x.phase.stage room balance h.effect.0 x.so in
         let g1 : Gives a (view x.start) (view q') r = subst (λ (b : QueueAsk T). Gives b (view x.start) (view q') r) x.asks g in
         let g2 : Gives a m (view q') r = subst (λ (n : Held T). Gives a n (view q') r) (sym x.was) g1 in
-        subst (λ (n : Held T). Gives a m n r) (sym (held_is d q' used (_, h.does.1) same)) g2
+        subst (λ (n : Held T). Gives a m n r) (sym (held_is d q' used (_, h.effect.1) same)) g2
 
   -- a queue that no call is under way on holds no more than its capacity
   pub long_within : (c : Contents T) (used : ℕ) → IsSound c used → (cap : ℕ) → capacity_of c.form ≡ Some cap → length (items_in c) ≤ cap

@@ -2,9 +2,10 @@
 use Rattle.std.proofs.Common.{◌≡◌, ℕ, zero, suc, ◌+◌, ◌==◌, Bool, true, false, Option, None, Some, Ok, MatchOption, if◌then◌else◌, refl, sym, ap, ◌∙◌, subst, arith}
 use Rattle.std.proofs.lemmas.Bool.Decides.{nat_tests}
 use Rattle.concurrent_queue.specs.Contents.{Contents, write_slot}
-use Rattle.concurrent_queue.specs.Dispatch.{capacity_of, IsStateStep, IsFirstStep, IsBoundedFirst, ByRing, in_ring, ring_cap}
-use Rattle.concurrent_queue.specs.RingWords.{cap_of, ring_mark, index, next_word, set_tail, set_head, stays, marks, finishes, pushed_reply, ring_start, ring_step}
-use Rattle.concurrent_queue.specs.RingAtOnce.{IsFree, pushed, IsThere, popped, PushesBounded, PushesAtOnce, PopsBounded, PopsAtOnce}
+use Rattle.concurrent_queue.specs.machine.Dispatch.{IsStateStep, IsFirstStep, IsBoundedFirst, ByRing, in_ring, ring_cap}
+use Rattle.concurrent_queue.specs.Capacity.{capacity_of}
+use Rattle.concurrent_queue.specs.machine.RingWords.{cap_of, ring_mark, index, next_word, set_tail, set_head, stays, marks, finishes, pushed_reply, ring_start, ring_step}
+use Rattle.concurrent_queue.specs.machine.RingAtOnce.{IsFree, pushed, IsThere, popped, PushesBounded, PushesAtOnce, PopsBounded, PopsAtOnce}
 use Rattle.concurrent_queue.specs.Alone.{Held, held, IsSound, used_after, one_more, HasRoom, Gives}
 use Rattle.concurrent_queue.specs.Step.{IsQueueStep}
 use Rattle.concurrent_queue.specs.declared.bounded.RingAction.{RingAction}

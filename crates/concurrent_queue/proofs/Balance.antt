@@ -1,6 +1,6 @@
 -- What every step keeps of a queue, in every form: the messages held and the removed ones are the accepted ones.
 use Rattle.std.proofs.Common.{◌≡◌, ◌+◌, List, [], ◌∷◌, length, drop, Some, refl, ap, arith, length-append}
-use Rattle.concurrent_queue.specs.Queue.{Queue, Stage, trying, displaced, appended, taken, read, measured, Phase, IsOldest, message, after, Goes, GoesOn, Answers, AnswersTo}
+use Rattle.concurrent_queue.specs.Queue.{Queue, Stage, trying, displaced, appended, taken, read, measured, Phase, IsOldest, message, after, Continues, ContinuesBy, Answers, AnswersTo}
 use Rattle.concurrent_queue.specs.declared.call.QueueAsk.{QueueAsk}
 use Rattle.concurrent_queue.specs.declared.call.QueueAsk.TheVariants as ask
 use Rattle.concurrent_queue.specs.declared.call.QueueMark.{QueueMark}
@@ -20,7 +20,7 @@ module _ {T : Type 0} where
   IsFair q a Replace = ((v : T) × (message a ≡ v ∷ [])) × ((v : T) × IsOldest v q) × (q.capacity ≡ Some 1)
   IsFair q a Close = Unit {0}
 
-  fair_push : (q : Queue T) (v : T) (m : QueueMark) (s t : Stage T) → GoesOn q (ask.Push v) m s t → IsFair q (ask.Push v) m
+  fair_push : (q : Queue T) (v : T) (m : QueueMark) (s t : Stage T) → ContinuesBy q (ask.Push v) m s t → IsFair q (ask.Push v) m
   fair_push q v Nothing s t g = tt
   fair_push q v Append s t g = (v, refl)
   fair_push q v Take s t g = absurd g
@@ -28,7 +28,7 @@ module _ {T : Type 0} where
   fair_push q v Replace s t g = absurd g
   fair_push q v Close s t g = tt
 
-  fair_force : (q : Queue T) (v : T) (m : QueueMark) (s t : Stage T) → GoesOn q (ask.ForcePush v) m s t → IsFair q (ask.ForcePush v) m
+  fair_force : (q : Queue T) (v : T) (m : QueueMark) (s t : Stage T) → ContinuesBy q (ask.ForcePush v) m s t → IsFair q (ask.ForcePush v) m
   fair_force q v Nothing s t g = tt
   fair_force q v Append s t g = (v, refl)
   fair_force q v Take s t g = absurd g
@@ -46,7 +46,7 @@ module _ {T : Type 0} where
   fair_force q v Replace (measured n k) t g = absurd g
   fair_force q v Close s t g = tt
 
-  fair_pop : (q : Queue T) (m : QueueMark) (s t : Stage T) → GoesOn q ask.Pop m s t → IsFair q ask.Pop m
+  fair_pop : (q : Queue T) (m : QueueMark) (s t : Stage T) → ContinuesBy q ask.Pop m s t → IsFair q ask.Pop m
   fair_pop q Nothing s t g = tt
   fair_pop q Append s t g = absurd g
   fair_pop q Take (trying seen) t g = (g.0, g.1)
@@ -59,7 +59,7 @@ module _ {T : Type 0} where
   fair_pop q Replace s t g = absurd g
   fair_pop q Close s t g = tt
 
-  fair_empty : (q : Queue T) (m : QueueMark) (s t : Stage T) → GoesOn q ask.IsEmpty m s t → IsFair q ask.IsEmpty m
+  fair_empty : (q : Queue T) (m : QueueMark) (s t : Stage T) → ContinuesBy q ask.IsEmpty m s t → IsFair q ask.IsEmpty m
   fair_empty q Nothing s t g = tt
   fair_empty q Append s t g = absurd g
   fair_empty q Take s t g = absurd g
@@ -67,7 +67,7 @@ module _ {T : Type 0} where
   fair_empty q Replace s t g = absurd g
   fair_empty q Close s t g = tt
 
-  fair_full : (q : Queue T) (m : QueueMark) (s t : Stage T) → GoesOn q ask.IsFull m s t → IsFair q ask.IsFull m
+  fair_full : (q : Queue T) (m : QueueMark) (s t : Stage T) → ContinuesBy q ask.IsFull m s t → IsFair q ask.IsFull m
   fair_full q Nothing s t g = tt
   fair_full q Append s t g = absurd g
   fair_full q Take s t g = absurd g
@@ -75,7 +75,7 @@ module _ {T : Type 0} where
   fair_full q Replace s t g = absurd g
   fair_full q Close s t g = tt
 
-  fair_len : (q : Queue T) (m : QueueMark) (s t : Stage T) → GoesOn q ask.Len m s t → IsFair q ask.Len m
+  fair_len : (q : Queue T) (m : QueueMark) (s t : Stage T) → ContinuesBy q ask.Len m s t → IsFair q ask.Len m
   fair_len q Nothing s t g = tt
   fair_len q Append s t g = absurd g
   fair_len q Take s t g = absurd g
@@ -83,7 +83,7 @@ module _ {T : Type 0} where
   fair_len q Replace s t g = absurd g
   fair_len q Close s t g = tt
 
-  fair_on : (q : Queue T) (a : QueueAsk T) (m : QueueMark) (s t : Stage T) → GoesOn q a m s t → IsFair q a m
+  fair_on : (q : Queue T) (a : QueueAsk T) (m : QueueMark) (s t : Stage T) → ContinuesBy q a m s t → IsFair q a m
   fair_on q (ask.Push v) m s t g = fair_push q v m s t g
   fair_on q (ask.ForcePush v) m s t g = fair_force q v m s t g
   fair_on q ask.Pop m s t g = fair_pop q m s t g
@@ -94,7 +94,7 @@ module _ {T : Type 0} where
   fair_on q ask.Len m s t g = fair_len q m s t g
   fair_on q ask.Capacity m s t g = absurd g
 
-  pub fair_goes : (q : Queue T) (p : Phase T) (m : QueueMark) (p' : Phase T) → Goes q p m p' → IsFair q p.ask m
+  pub fair_goes : (q : Queue T) (p : Phase T) (m : QueueMark) (p' : Phase T) → Continues q p m p' → IsFair q p.ask m
   fair_goes q p m p' g = fair_on q p.ask m p.stage p'.stage g.1
 
   -- an answer comes by a step with no mark, or by a closing one

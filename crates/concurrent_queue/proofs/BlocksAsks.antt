@@ -1,9 +1,9 @@
 -- Closing an unbounded queue, and its questions.
 use Rattle.std.proofs.Common.{◌≡◌, ℕ, ◌+◌, ◌-◌, ◌*◌, ◌/◌, ◌%◌, ◌≤◌, ⊎_elim, Bool, true, false, List, [], length, Option, None, Some, refl, sym, ap, ◌∙◌, arith}
 use Rattle.std.proofs.lemmas.Bool.{cases_lt}
-use Rattle.concurrent_queue.specs.BlocksState.{Blocks, Sound, Duty, fill, take, count, retire, link, turn_tail, turn_head, start, keep, owed, one_if, position, number, tail_word}
-use Rattle.concurrent_queue.specs.BlocksCalls.{close, ask_closed, ask_empty, empty_tail, ask_full, ask_len, len_head, len_tail, ask_capacity, finished, Knows, owes}
-use Rattle.concurrent_queue.specs.BlocksMoves.{Stands, BlocksKept}
+use Rattle.concurrent_queue.specs.machine.BlocksState.{Blocks, SoundBlocks, Duty, fill, take, count, retire, link, turn_tail, turn_head, start, keep, owed, one_if, position, number, tail_word}
+use Rattle.concurrent_queue.specs.machine.BlocksCalls.{close, ask_closed, ask_empty, empty_tail, ask_full, ask_len, len_head, len_tail, ask_capacity, finished, KnowsBlocks, owes}
+use Rattle.concurrent_queue.specs.machine.BlocksMoves.{StandsBlocks, BlocksKept}
 use Rattle.concurrent_queue.specs.Queue.{Queue, Phase, trying, read, measured, is_filled, is_full_at}
 use Rattle.concurrent_queue.specs.declared.call.QueueMark.TheVariants as mark
 use Rattle.concurrent_queue.specs.declared.call.QueueReply.TheVariants as reply
@@ -25,7 +25,7 @@ pub half : (p : ℕ) (b : Bool) → (2 * p + one_if b) / 2 ≡ p
 half p false = omega arith
 half p true = omega arith
 
-module _ {T : Type 0} (r : Blocks T) (now : Queue T) (s : Sound r now.items) (st : Stands r now) (u : Phase T) where
+module _ {T : Type 0} (r : Blocks T) (now : Queue T) (s : SoundBlocks r now.items) (st : StandsBlocks r now) (u : Phase T) where
   pub tail_number : number (tail_word r / 2) ≡ r.tail
   tail_number =
       let h = half (position r.tail r.tail_turns) r.closed in
@@ -54,7 +54,7 @@ module _ {T : Type 0} (r : Blocks T) (now : Queue T) (s : Sound r now.items) (st
   close_owners start = refl
   close_owners (keep b) = refl
 
-  pub at-closes : (r' : Blocks T) → r' ≡ record r { closed = true } → r.closed ≡ false → Knows r close u → BlocksKept r now close u r' finished mark.Close (Some (ending.Replied (reply.Close true)))
+  pub at-closes : (r' : Blocks T) → r' ≡ record r { closed = true } → r.closed ≡ false → KnowsBlocks r close u → BlocksKept r now close u r' finished mark.Close (Some (ending.Replied (reply.Close true)))
   at-closes r' e c k = rw e (record {
     stands = record { sound = close_keeps r now.items s; closed = refl; accepted = st.accepted; removed = st.removed; coming = st.coming; capacity = st.capacity };
     owners = close_owners;
@@ -62,46 +62,46 @@ module _ {T : Type 0} (r : Blocks T) (now : Queue T) (s : Sound r now.items) (st
     leaves = (phase.close_answers now u.ask u.stage k.1.0 k.0 k.1.1 (sym st.closed ∙ c), refl);
   })
 
-  pub at-closed_before : (r' : Blocks T) → r' ≡ r → r.closed ≡ true → Knows r close u → BlocksKept r now close u r' finished mark.Nothing (Some (ending.Replied (reply.Close false)))
+  pub at-closed_before : (r' : Blocks T) → r' ≡ r → r.closed ≡ true → KnowsBlocks r close u → BlocksKept r now close u r' finished mark.Nothing (Some (ending.Replied (reply.Close false)))
   at-closed_before r' e c k = keep.quiet r now s st u close r' finished _ e (λ d. refl) (phase.closed_answers now u.ask u.stage k.1.0 k.0 k.1.1 (sym st.closed ∙ c), refl)
 
-  pub at-tells_closed : (b : Bool) (r' : Blocks T) → r' ≡ r → r.closed ≡ b → Knows r ask_closed u → BlocksKept r now ask_closed u r' finished mark.Nothing (Some (ending.Replied (reply.Flag b)))
+  pub at-tells_closed : (b : Bool) (r' : Blocks T) → r' ≡ r → r.closed ≡ b → KnowsBlocks r ask_closed u → BlocksKept r now ask_closed u r' finished mark.Nothing (Some (ending.Replied (reply.Flag b)))
   at-tells_closed b r' e c k = keep.quiet r now s st u ask_closed r' finished _ e (λ d. refl) (phase.is_closed_answers now u.ask u.stage k.1.0 b k.0 k.1.1 (sym st.closed ∙ c), refl)
 
-  pub at-empty_loads : (n : ℕ) (r' : Blocks T) → r' ≡ r → n ≡ r.head → Knows r ask_empty u → BlocksKept r now ask_empty u r' (empty_tail n) mark.Nothing None
+  pub at-empty_loads : (n : ℕ) (r' : Blocks T) → r' ≡ r → n ≡ r.head → KnowsBlocks r ask_empty u → BlocksKept r now ask_empty u r' (empty_tail n) mark.Nothing None
   at-empty_loads n r' e h k = keep.quiet r now s st u ask_empty r' (empty_tail n) None e (λ d. refl)
       (record { ask = u.ask; stage = read n }, phase.empty_reads now u.ask u.stage k.1.0 n k.0 k.1.1 (h ∙ sym st.removed), (k.0, refl, omega arith))
 
-  pub at-empty_tells : (n : ℕ) (r' : Blocks T) → r' ≡ r → r.tail ≡ n → Knows r (empty_tail n) u → BlocksKept r now (empty_tail n) u r' finished mark.Nothing (Some (ending.Replied (reply.Flag true)))
+  pub at-empty_tells : (n : ℕ) (r' : Blocks T) → r' ≡ r → r.tail ≡ n → KnowsBlocks r (empty_tail n) u → BlocksKept r now (empty_tail n) u r' finished mark.Nothing (Some (ending.Replied (reply.Flag true)))
   at-empty_tells n r' e t k = keep.quiet r now s st u (empty_tail n) r' finished _ e (λ d. refl) (phase.is_empty_answers now u.ask u.stage n k.0 k.1 (no_items (omega (arith, t, k.2))), refl)
 
-  pub at-empty_denies : (n : ℕ) (r' : Blocks T) → r' ≡ r → (r.tail ≡ n → ⊥) → Knows r (empty_tail n) u → BlocksKept r now (empty_tail n) u r' finished mark.Nothing (Some (ending.Replied (reply.Flag false)))
+  pub at-empty_denies : (n : ℕ) (r' : Blocks T) → r' ≡ r → (r.tail ≡ n → ⊥) → KnowsBlocks r (empty_tail n) u → BlocksKept r now (empty_tail n) u r' finished mark.Nothing (Some (ending.Replied (reply.Flag false)))
   at-empty_denies n r' e t k = keep.quiet r now s st u (empty_tail n) r' finished _ e (λ d. refl)
       (phase.not_empty_answers now u.ask u.stage n k.0 k.1 (let o = s.order in let a = st.accepted in let h = k.2 in ⊎_elim (λ g. omega arith) (λ g. absurd (t (omega arith))) (cases_lt n r.tail)), refl)
 
-  pub at-tells_full : (r' : Blocks T) → r' ≡ r → Knows r ask_full u → BlocksKept r now ask_full u r' finished mark.Nothing (Some (ending.Replied (reply.Flag false)))
+  pub at-tells_full : (r' : Blocks T) → r' ≡ r → KnowsBlocks r ask_full u → BlocksKept r now ask_full u r' finished mark.Nothing (Some (ending.Replied (reply.Flag false)))
   at-tells_full r' e k = keep.quiet r now s st u ask_full r' finished _ e (λ d. refl) (phase.is_full_answers now u.ask u.stage k.1.0 k.0 k.1.1 unfilled, refl)
 
-  pub at-tells_capacity : (r' : Blocks T) → r' ≡ r → Knows r ask_capacity u → BlocksKept r now ask_capacity u r' finished mark.Nothing (Some (ending.Replied (reply.Cap None)))
+  pub at-tells_capacity : (r' : Blocks T) → r' ≡ r → KnowsBlocks r ask_capacity u → BlocksKept r now ask_capacity u r' finished mark.Nothing (Some (ending.Replied (reply.Cap None)))
   at-tells_capacity r' e k = keep.quiet r now s st u ask_capacity r' finished _ e (λ d. refl) (phase.capacity_answers now u.ask u.stage k.1.0 k.0 k.1.1 st.capacity, refl)
 
   -- the length: the tail, then the head, then the tail again
-  pub at-len_loads : (t : ℕ) (r' : Blocks T) → r' ≡ r → t ≡ tail_word r → Knows r ask_len u → BlocksKept r now ask_len u r' (len_head t) mark.Nothing None
+  pub at-len_loads : (t : ℕ) (r' : Blocks T) → r' ≡ r → t ≡ tail_word r → KnowsBlocks r ask_len u → BlocksKept r now ask_len u r' (len_head t) mark.Nothing None
   at-len_loads t r' e h k =
       let n : number (t / 2) ≡ r.tail = ap (λ (w : ℕ). number (w / 2)) h ∙ tail_number in
       keep.quiet r now s st u ask_len r' (len_head t) None e (λ d. refl)
       (record { ask = u.ask; stage = read (number (t / 2)) }, phase.len_reads now u.ask u.stage k.1.0 (number (t / 2)) k.0 k.1.1 (n ∙ sym st.accepted), (k.0, refl, omega (arith, n)))
 
-  pub at-len_looks : (t h : ℕ) (r' : Blocks T) → r' ≡ r → h ≡ r.head → Knows r (len_head t) u → BlocksKept r now (len_head t) u r' (len_tail t h) mark.Nothing None
+  pub at-len_looks : (t h : ℕ) (r' : Blocks T) → r' ≡ r → h ≡ r.head → KnowsBlocks r (len_head t) u → BlocksKept r now (len_head t) u r' (len_tail t h) mark.Nothing None
   at-len_looks t h r' e q k =
       let c = items_count in
       keep.quiet r now s st u (len_head t) r' (len_tail t h) None e (λ d. refl)
       (record { ask = u.ask; stage = measured (number (t / 2)) (length now.items) }, phase.len_measures now u.ask u.stage (number (t / 2)) k.0 k.1, (length now.items, k.0, refl, omega (arith, c, q, k.2), omega (arith, c, q)))
 
-  pub at-len_tells : (t h m : ℕ) (r' : Blocks T) → r' ≡ r → tail_word r ≡ t → m ≡ number (t / 2) - h → Knows r (len_tail t h) u → BlocksKept r now (len_tail t h) u r' finished mark.Nothing (Some (ending.Replied (reply.Count m)))
+  pub at-len_tells : (t h m : ℕ) (r' : Blocks T) → r' ≡ r → tail_word r ≡ t → m ≡ number (t / 2) - h → KnowsBlocks r (len_tail t h) u → BlocksKept r now (len_tail t h) u r' finished mark.Nothing (Some (ending.Replied (reply.Count m)))
   at-len_tells t h m r' e w q k =
       let n : number (t / 2) ≡ r.tail = ap (λ (x : ℕ). number (x / 2)) (sym w) ∙ tail_number in
       keep.quiet r now s st u (len_tail t h) r' finished _ e (λ d. refl) (phase.len_answers now u.ask u.stage (number (t / 2)) k.0 m k.1 k.2 (omega (arith, q, n, k.3, k.4)) (st.accepted ∙ sym n), refl)
 
-  pub at-len_back : (t h : ℕ) (r' : Blocks T) → r' ≡ r → Knows r (len_tail t h) u → BlocksKept r now (len_tail t h) u r' ask_len mark.Nothing None
+  pub at-len_back : (t h : ℕ) (r' : Blocks T) → r' ≡ r → KnowsBlocks r (len_tail t h) u → BlocksKept r now (len_tail t h) u r' ask_len mark.Nothing None
   at-len_back t h r' e k = keep.quiet r now s st u (len_tail t h) r' ask_len None e (λ d. refl) (record { ask = u.ask; stage = trying false }, phase.len_returns now u.ask u.stage (number (t / 2)) k.0 k.1 k.2, (k.1, (false, refl)))

@@ -4,11 +4,11 @@ use Rattle.std.proofs.lemmas.Bool.{cases_lt, false≢true}
 use Rattle.concurrent_queue.specs.Contents.{Contents}
 use Rattle.concurrent_queue.specs.Queue.{Phase}
 use Rattle.concurrent_queue.specs.Step.{chain_after}
-use Rattle.concurrent_queue.specs.BlocksState.{Blocks, Sound, held, used, chained}
-use Rattle.concurrent_queue.specs.BlocksCalls.{Act, Knows}
-use Rattle.concurrent_queue.specs.BlocksMoves.{Moves, push_opens, push_stays, push_shut, push_shut_held, push_returns, look_none, look_none_held, look_more, look_ready, makes, makes_more, refused, refused_more, first_wins, first_loses, starts, starts_more, swap_wins, swap_wins_edge, swap_loses, turns, adds, links, puts, stores, stores_held, gives, pop_loads, pop_stays, pop_looks_none, pop_looks, pop_empty, pop_shut, pop_back, pop_goes, pop_wins, pop_wins_edge, pop_loses, next_waits, next_found, blocks, heads, wait_waits, wait_found, takes, counts, counts_last, retires, closes, closed_before, tells_closed, empty_loads, empty_tells, empty_denies, tells_full, len_loads, len_looks, len_tells, len_back, tells_capacity}
-use Rattle.concurrent_queue.specs.BlocksDenotes.{Denotes, Shows}
-use Rattle.concurrent_queue.specs.BlocksForm.{IsChain}
+use Rattle.concurrent_queue.specs.machine.BlocksState.{Blocks, SoundBlocks, held, used, chained}
+use Rattle.concurrent_queue.specs.machine.BlocksCalls.{Act, KnowsBlocks}
+use Rattle.concurrent_queue.specs.machine.BlocksMoves.{Moves, push_opens, push_stays, push_shut, push_shut_held, push_returns, look_none, look_none_held, look_more, look_ready, makes, makes_more, refused, refused_more, first_wins, first_loses, starts, starts_more, swap_wins, swap_wins_edge, swap_loses, turns, adds, links, puts, stores, stores_held, gives, pop_loads, pop_stays, pop_looks_none, pop_looks, pop_empty, pop_shut, pop_back, pop_goes, pop_wins, pop_wins_edge, pop_loses, next_waits, next_found, blocks, heads, wait_waits, wait_found, takes, counts, counts_last, retires, closes, closed_before, tells_closed, empty_loads, empty_tells, empty_denies, tells_full, len_loads, len_looks, len_tells, len_back, tells_capacity}
+use Rattle.concurrent_queue.specs.machine.BlocksDenotes.{Denotes, Shows}
+use Rattle.concurrent_queue.specs.machine.BlocksForm.{IsChain}
 use Rattle.concurrent_queue.specs.declared.call.QueueMark.{QueueMark}
 use Rattle.concurrent_queue.specs.declared.unbounded.ending.Ending.{Ending}
 use Rattle.concurrent_queue.proofs.BlocksBasics.{by_bool, get_before, get_end}
@@ -27,8 +27,8 @@ module _ {T : Type 0} (r : Blocks T) where
   held_used : (k : ℕ) → held ≡ used k → ⊥
   held_used k e = absurd cc
 
-  module _ (items : List T) (u : Phase T) (s : Sound r items) where
-    pub grows : {a : Act T} {r' : Blocks T} {a' : Act T} {k : QueueMark} {x : Option (Ending T)} → Moves r a r' a' k x → Knows r a u → Grows r'
+  module _ (items : List T) (u : Phase T) (s : SoundBlocks r items) where
+    pub grows : {a : Act T} {r' : Blocks T} {a' : Act T} {k : QueueMark} {x : Option (Ending T)} → Moves r a r' a' k x → KnowsBlocks r a u → Grows r'
     grows (first_wins {h = h} e z) f = inr (h, e, λ some same. absurd (omega (arith, z)))
     grows (turns {n = n} {h = h} e) f =
         inr (

@@ -4,13 +4,13 @@ use Rattle.std.proofs.Math.Nat.{mod-eq_of_lt}
 use Rattle.std.proofs.lemmas.Bool.{cases_lt}
 use Rattle.concurrent_queue.specs.Contents.{Contents, block_at, blank, zeros, nones}
 use Rattle.concurrent_queue.specs.Contents as words
-use Rattle.concurrent_queue.specs.BlocksState.{Blocks, Sound, Spot, unmade, held, used, one_if, chained, position, number}
-use Rattle.concurrent_queue.specs.BlocksCalls.{push_swap, push_put, push_turn}
-use Rattle.concurrent_queue.specs.BlocksMoves.{Moves, swap_wins, swap_wins_edge, extended}
-use Rattle.concurrent_queue.specs.Places.{Each}
+use Rattle.concurrent_queue.specs.machine.BlocksState.{Blocks, SoundBlocks, Spot, unmade, held, used, one_if, chained, position, number}
+use Rattle.concurrent_queue.specs.machine.BlocksCalls.{push_swap, push_put, push_turn}
+use Rattle.concurrent_queue.specs.machine.BlocksMoves.{Moves, swap_wins, swap_wins_edge, extended}
+use Rattle.concurrent_queue.specs.machine.Places.{Each}
 use Rattle.std.proofs.lemmas.Bool.Decides.{nat_tests}
 use Rattle.concurrent_queue.proofs.BlocksAsks.{number_rest, number_turn, half}
-use Rattle.concurrent_queue.specs.BlocksDenotes.{IsTailAt, IsHeadAt, Denotes, IsBlock, Shows, is_spare, IsIdle}
+use Rattle.concurrent_queue.specs.machine.BlocksDenotes.{IsTailAt, IsHeadAt, Denotes, IsBlock, Shows, is_spare, IsIdle}
 use Rattle.concurrent_queue.specs.declared.call.QueueMark.TheVariants as mark
 use Rattle.concurrent_queue.proofs.BlocksBasics.{by_bool}
 use Rattle.concurrent_queue.proofs.BlocksSteps.{pick_other, pick_here, by_eq, taken_none}
@@ -33,7 +33,7 @@ nones_at {T} i h = all_none (words.in_each None) (refl, (refl, (refl, (refl, (re
     all_none (x ∷ xs) all zero h = ap Some all.0
     all_none (x ∷ xs) all (suc i) h = all_none xs all.1 i (omega arith)
 
-module _ {T : Type 0} (c : Contents T) (r : Blocks T) (queue : List T) (s : Sound r queue) (d : Denotes c r) where
+module _ {T : Type 0} (c : Contents T) (r : Blocks T) (queue : List T) (s : SoundBlocks r queue) (d : Denotes c r) where
   -- a tail word of an open queue at rest at n says all that
   pub meets : (n : ℕ) → c.tail ≡ 2 * position n false → (r.closed ≡ false) × (r.tail_turns ≡ false) × (r.tail ≡ n)
   meets n e = by_bool r.closed
@@ -112,7 +112,7 @@ module _ {T : Type 0} (c : Contents T) (r : Blocks T) (queue : List T) (s : Soun
             (λ g. (let q : k ≡ r.last = omega arith in
             let n' : (chained r h).num k ≡ h = pick_here k r.last h (r.num k) q in
             let blank_is : block_at c ((chained r h).num k) ≡ blank = ap (block_at c) n' ∙ d.idle h (idle_held (r.spot h) e) in
-            subst (λ (x : words.Block T). IsBlock (chained r h) k x) (sym blank_is) (fresh_block h k (omega arith)))) (cases_lt k r.last);
+            subst (λ (x : words.BlockCells T). IsBlock (chained r h) k x) (sym blank_is) (fresh_block h k (omega arith)))) (cases_lt k r.last);
         numbered = λ k l. ⊎_elim
             (λ g. subst (λ (j : ℕ). j < length c.blocks) (sym (pick_other k r.last h (r.num k) (λ q. omega arith))) (d.numbered k g))
             (λ g. subst (λ (j : ℕ). j < length c.blocks) (sym (pick_here k r.last h (r.num k) (omega arith))) in_range) (cases_lt k r.last);

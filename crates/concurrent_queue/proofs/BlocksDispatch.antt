@@ -1,9 +1,9 @@
 -- Every step of an unbounded queue's call keeps what the queue means.
 use Rattle.std.proofs.Common.{◌≡◌, ℕ, ◌-◌, ◌/◌, ◌<◌, ◌≤◌, ⊎_elim, true, Option, None, Some, refl, sym, ap, ◌∙◌, subst, arith}
 use Rattle.std.proofs.lemmas.Bool.{cases_lt}
-use Rattle.concurrent_queue.specs.BlocksState.{Blocks, Sound, held, Duty, fill, take, count, retire, link, turn_tail, turn_head, start, keep, owed, with_spot}
-use Rattle.concurrent_queue.specs.BlocksCalls.{Act, push, push_return, push_look, push_make, push_first, push_more, push_swap, push_give, pop, pop_look, pop_tail, pop_swap, pop_next, pop_wait, pop_take, finished, AtTail, TailBlock, AtHead, HeadBlock, Knows, holding, owes}
-use Rattle.concurrent_queue.specs.BlocksMoves.{Moves, push_opens, push_stays, push_shut, push_shut_held, push_returns, look_none, look_none_held, look_more, look_ready, makes, makes_more, refused, refused_more, first_wins, first_loses, starts, starts_more, swap_wins, swap_wins_edge, swap_loses, turns, adds, links, puts, stores, stores_held, gives, pop_loads, pop_stays, pop_looks_none, pop_looks, pop_empty, pop_shut, pop_back, pop_goes, pop_wins, pop_wins_edge, pop_loses, next_waits, next_found, blocks, heads, wait_waits, wait_found, takes, counts, counts_last, retires, closes, closed_before, tells_closed, empty_loads, empty_tells, empty_denies, tells_full, len_loads, len_looks, len_tells, len_back, tells_capacity, Stands, BlocksKept}
+use Rattle.concurrent_queue.specs.machine.BlocksState.{Blocks, SoundBlocks, held, Duty, fill, take, count, retire, link, turn_tail, turn_head, start, keep, owed, with_spot}
+use Rattle.concurrent_queue.specs.machine.BlocksCalls.{Act, push, push_return, push_look, push_make, push_first, push_more, push_swap, push_give, pop, pop_look, pop_tail, pop_swap, pop_next, pop_wait, pop_take, finished, AtTail, TailBlock, AtHead, HeadBlock, KnowsBlocks, holding, owes}
+use Rattle.concurrent_queue.specs.machine.BlocksMoves.{Moves, push_opens, push_stays, push_shut, push_shut_held, push_returns, look_none, look_none_held, look_more, look_ready, makes, makes_more, refused, refused_more, first_wins, first_loses, starts, starts_more, swap_wins, swap_wins_edge, swap_loses, turns, adds, links, puts, stores, stores_held, gives, pop_loads, pop_stays, pop_looks_none, pop_looks, pop_empty, pop_shut, pop_back, pop_goes, pop_wins, pop_wins_edge, pop_loses, next_waits, next_found, blocks, heads, wait_waits, wait_found, takes, counts, counts_last, retires, closes, closed_before, tells_closed, empty_loads, empty_tells, empty_denies, tells_full, len_loads, len_looks, len_tells, len_back, tells_capacity, StandsBlocks, BlocksKept}
 use Rattle.concurrent_queue.specs.Queue.{Queue, Phase, trying, seen_after}
 use Rattle.concurrent_queue.proofs.BlocksKeeps as keep
 use Rattle.concurrent_queue.proofs.BlocksAsks as asks
@@ -26,7 +26,7 @@ holding_none turn_head = refl
 holding_none start = refl
 holding_none (keep b) = refl
 
-module _ {T : Type 0} (r : Blocks T) (now : Queue T) (s : Sound r now.items) (st : Stands r now) (u : Phase T) where
+module _ {T : Type 0} (r : Blocks T) (now : Queue T) (s : SoundBlocks r now.items) (st : StandsBlocks r now) (u : Phase T) where
   -- the block that tail_block shows is the tail's, if the tail is still where it was read
   shown : (n b : ℕ) → AtTail r n → 1 ≤ r.last → b ≡ r.num (r.last - 1) → TailBlock r n b
   shown n b k l e = (l, λ t. e ∙ ap r.num (⊎_elim (λ h. omega arith) (λ h. absurd (omega (arith, h.0))) (s.last (k.1 t))))
@@ -43,7 +43,7 @@ module _ {T : Type 0} (r : Blocks T) (now : Queue T) (s : Sound r now.items) (st
   below : (n : ℕ) → n ≤ r.head → (r.tail ≡ n → ⊥) → n < r.tail
   below n h ne = let o = s.order in by_eq r.tail n (λ e. absurd (ne e)) (λ z. ⊎_elim (λ g. g) (λ g. absurd (z (omega arith))) (cases_lt n r.tail))
 
-  pub blocks_keeps : {a : Act T} {r' : Blocks T} {a' : Act T} {k : QueueMark} {x : Option (Ending T)} → Moves r a r' a' k x → Knows r a u → ((d : Duty) → owes a d ≤ owed r d)
+  pub blocks_keeps : {a : Act T} {r' : Blocks T} {a' : Act T} {k : QueueMark} {x : Option (Ending T)} → Moves r a r' a' k x → KnowsBlocks r a u → ((d : Duty) → owes a d ≤ owed r d)
       → ((m : ℕ) → owes a (count (m / 31)) ≡ 1 → owes a (take m) ≡ 0 → owed r (count (m / 31)) ≡ 1 → owed r (take m) ≡ 0) → BlocksKept r now a u r' a' k x
   blocks_keeps (push_opens {v = v} {h = h} {n = n} {r' = r'} e c t o) f mine dry = keep.quiet r now s st u (push v h) r' (push_look v n h) None e (λ d. refl) (keep.still r now s st u f.1.0, keep.send_goes r now s st u v f.0 f.1, (f.0, ap trying (open_refuses f.1.0 now (sym st.closed ∙ c) st.capacity), f.2, (omega arith, λ g. o)))
   blocks_keeps (push_stays {v = v} {h = h} {r' = r'} e z) f mine dry = keep.quiet r now s st u (push v h) r' (push v h) None e (λ d. refl) (keep.still r now s st u f.1.0, keep.send_goes r now s st u v f.0 f.1, (f.0, (seen_after f.1.0 now, refl), f.2))

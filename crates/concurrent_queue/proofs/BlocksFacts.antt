@@ -2,17 +2,17 @@
 use Rattle.std.proofs.Common.{◌≡◌, ℕ, ◌^◌, ◌<◌, ◌≤◌, ⊎_elim, Bool, false, List, [], ◌∷◌, ◌++◌, map, Option, None, Some, MatchOption, refl, sym, ap, ◌∙◌, subst, inl, inr, arith}
 use Rattle.std.proofs.lemmas.List.{map-append}
 use Rattle.concurrent_queue.specs.Contents.{Contents, empty_blocks}
-use Rattle.concurrent_queue.specs.Queue.{Queue, Phase, asked, after, Goes, Answers, IsInRange, opened}
-use Rattle.concurrent_queue.specs.Places.{Place, Each}
+use Rattle.concurrent_queue.specs.Queue.{Queue, Phase, asked, after, Continues, Answers, IsInRange, opened}
+use Rattle.concurrent_queue.specs.machine.Places.{Place, Each}
 use Rattle.concurrent_queue.specs.Step.{chain_after, HoldsNobodyUp, AllQuiet, IsQuiet}
-use Rattle.concurrent_queue.specs.Forms.{place, place_phases, FormStep, FormSteps, FormStarts, FormRanks}
-use Rattle.concurrent_queue.specs.BlocksState.{Blocks, Sound, Duty, fill, take, count, retire, link, turn_tail, turn_head, start, keep, owed}
-use Rattle.concurrent_queue.specs.BlocksCalls.{Knows, owes}
-use Rattle.concurrent_queue.specs.BlocksMoves.{Stands, BlocksSeat, BlocksMeans, is_force, answer_as}
-use Rattle.concurrent_queue.specs.BlocksLeft as left
-use Rattle.concurrent_queue.specs.BlocksDenotes.{Denotes, act_of, IsProper}
-use Rattle.concurrent_queue.specs.BlocksForm.{seat_of, IsFit, IsChain, UnboundedMeans}
-use Rattle.concurrent_queue.specs.BlocksWords.{IsUnboundedStep, IsBlocksStep, reply_of, begin, unbounded_rank, blocks_rank}
+use Rattle.concurrent_queue.specs.machine.Forms.{place, place_phases, FormStep, FormSteps, FormStarts, FormRanks}
+use Rattle.concurrent_queue.specs.machine.BlocksState.{Blocks, SoundBlocks, Duty, fill, take, count, retire, link, turn_tail, turn_head, start, keep, owed}
+use Rattle.concurrent_queue.specs.machine.BlocksCalls.{KnowsBlocks, owes}
+use Rattle.concurrent_queue.specs.machine.BlocksMoves.{StandsBlocks, BlocksSeat, BlocksMeans, is_force, answer_as}
+use Rattle.concurrent_queue.specs.machine.BlocksLeft as left
+use Rattle.concurrent_queue.specs.machine.BlocksDenotes.{Denotes, act_of, IsProper}
+use Rattle.concurrent_queue.specs.machine.BlocksForm.{seat_of, IsFit, IsChain, UnboundedMeans}
+use Rattle.concurrent_queue.specs.machine.BlocksWords.{IsUnboundedStep, IsBlocksStep, reply_of, begin, unbounded_rank, blocks_rank}
 use Rattle.concurrent_queue.specs.declared.call.QueueAsk.{QueueAsk}
 use Rattle.concurrent_queue.specs.declared.call.QueueAsk.TheVariants as ask
 use Rattle.concurrent_queue.specs.declared.call.Stepped.{Stepped}
@@ -51,7 +51,7 @@ module _ {T : Type 0} where
   none_left [] e = refl
   none_left (p ∷ ps) e = absurd cc
 
-  in_range : (r : Blocks T) (q : Queue T) → Stands r q → IsInRange q → r.tail ≤ 2 ^ 61
+  in_range : (r : Blocks T) (q : Queue T) → StandsBlocks r q → IsInRange q → r.tail ≤ 2 ^ 61
   in_range r q st range = ⊎_elim (λ g. absurd (some_none (sym st.capacity ∙ g))) (λ g. let e = st.accepted in omega arith) range
 
   module _ (chain : List ℕ) (c : Contents T) (a : UnboundedCall T) (d : Contents T) (x : Progress T) (q : Queue T) (p : Phase T) (l r : List (Place (UnboundedCall T) T)) (n : Blocks T) (den : Denotes c n)
@@ -69,7 +69,7 @@ module _ {T : Type 0} where
 
     abbrev Goes-on : Option (Ending T) → Type 0
     Goes-on e = MatchOption (reply_of a.displacing e)
-        ((p' : Phase T) × Goes q p x.mark p' × UnboundedMeans (chain_after chain c d) d (after p x.mark q) (l ++ place (record { displacing = a.displacing; action = x.action }) p' ∷ r))
+        ((p' : Phase T) × Continues q p x.mark p' × UnboundedMeans (chain_after chain c d) d (after p x.mark q) (l ++ place (record { displacing = a.displacing; action = x.action }) p' ∷ r))
         (λ y. Answers q p x.mark y × UnboundedMeans (chain_after chain c d) d (after p x.mark q) (l ++ r))
 
     does_it : (e : Option (Ending T)) → Advances moved.0 q p (map seat_of l) (map seat_of r) (act_of x.action) x.mark e → Goes-on e
@@ -95,7 +95,7 @@ module _ {T : Type 0} where
     ends_it None h = h
     ends_it (Some y) h = tt
 
-    sound_after : (e : Option (Ending T)) → Advances moved.0 q p (map seat_of l) (map seat_of r) (act_of x.action) x.mark e → Sound moved.0 (after p x.mark q).items
+    sound_after : (e : Option (Ending T)) → Advances moved.0 q p (map seat_of l) (map seat_of r) (act_of x.action) x.mark e → SoundBlocks moved.0 (after p x.mark q).items
     sound_after None h = h.2.stands.sound
     sound_after (Some y) h = h.1.stands.sound
 
@@ -126,7 +126,7 @@ module _ {T : Type 0} where
       subst (λ (z : Stepped (UnboundedCall T) T). FormStep (UnboundedMeans (chain_after chain c d)) blocks_rank c a p d z q l r) (sym made.2) (record {
         same_form = small.1;
         one_cell = small.0;
-        does = does_all chain c a d x q p l r m.0 m.1 means others fit.0 fit.1 made.1 range m.4;
+        effect = does_all chain c a d x q p l r m.0 m.1 means others fit.0 fit.1 made.1 range m.4;
         ends = ends_all chain c a d x q p l r m.0 m.1 means others fit.0 fit.1 made.1 range m.4;
       })
 
@@ -153,7 +153,7 @@ module _ {T : Type 0} where
   new_owes ask.Len d = refl
   new_owes ask.Capacity d = refl
 
-  new_knows : (n : Blocks T) (a : QueueAsk T) → Knows n (act_of (begin a).action) (asked a)
+  new_knows : (n : Blocks T) (a : QueueAsk T) → KnowsBlocks n (act_of (begin a).action) (asked a)
   new_knows n (ask.Push v) = (inl refl, (false, refl), tt)
   new_knows n (ask.ForcePush v) = (inr refl, (false, refl), tt)
   new_knows n ask.Pop = (refl, (false, refl))
@@ -184,7 +184,7 @@ module _ {T : Type 0} where
         subst (λ (ps : List (BlocksSeat T)). BlocksMeans m.0 q ps) (sym (seats_with l r new)) (record {
           stands = old.stands;
           owners = λ e. owners_with e (map seat_of l) (map seat_of r) (seat_of new) ∙ (let z = new_owes a e in let o = old.owners e in omega arith);
-          seats = Each-with (λ (s : BlocksSeat T). Knows m.0 s.act s.phase) (map seat_of l) (map seat_of r) (seat_of new) (new_knows m.0 a) old.seats;
+          seats = Each-with (λ (s : BlocksSeat T). KnowsBlocks m.0 s.act s.phase) (map seat_of l) (map seat_of r) (seat_of new) (new_knows m.0 a) old.seats;
         }),
         each_with IsFit l r new m.3 (new_fits a),
         m.4,

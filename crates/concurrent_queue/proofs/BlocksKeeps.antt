@@ -2,10 +2,10 @@
 use Rattle.std.proofs.Common.{◌≡◌, ℕ, ◌+◌, ◌-◌, ◌/◌, ◌%◌, ◌<◌, ◌≤◌, ⊎_elim, Bool, true, false, if◌then◌else◌, ◌==◌, ◌&&◌, not, nat_lt, List, [], ◌∷◌, ◌++◌, length, drop, Option, None, Some, Ok, Err, slice_get, MatchOption, refl, sym, ap, ◌∙◌, subst, inl, inr, arith}
 use Rattle.std.proofs.lemmas.Bool.{false≢true}
 use Rattle.std.proofs.lemmas.Bool.Decides.{nat_tests}
-use Rattle.concurrent_queue.specs.BlocksState.{Blocks, Cell, Block, Sound, Spot, unmade, spare, held, used, taken_in, one_if, is_held, is_none, Duty, fill, take, count, retire, link, turn_tail, turn_head, start, keep, owed, with_cell, with_block, with_spot, chained}
-use Rattle.concurrent_queue.specs.BlocksCalls.{Act, push_first, push_start, push_swap, push_turn, push_add, push_link, push_put, push_store, pop_tail, pop_swap, pop_next, pop_block, pop_head, pop_wait, pop_take, pop_count, pop_retire, finished, TailBlock, HeadBlock, IsBlockOf, IsSend, IsTry, Fills, Takes, Knows, same, holding, owes}
-use Rattle.concurrent_queue.specs.BlocksMoves.{Stands, BlocksKept, IsFree, extended, answer}
-use Rattle.concurrent_queue.specs.Queue.{Queue, Phase, trying, appended, taken, message, after, seen_after, is_filled, is_full_at, Goes, Answers}
+use Rattle.concurrent_queue.specs.machine.BlocksState.{Blocks, Cell, BlockState, SoundBlocks, Spot, unmade, spare, held, used, taken_in, one_if, is_held, is_none, Duty, fill, take, count, retire, link, turn_tail, turn_head, start, keep, owed, with_cell, with_block, with_spot, chained}
+use Rattle.concurrent_queue.specs.machine.BlocksCalls.{Act, push_first, push_start, push_swap, push_turn, push_add, push_link, push_put, push_store, pop_tail, pop_swap, pop_next, pop_block, pop_head, pop_wait, pop_take, pop_count, pop_retire, finished, TailBlock, HeadBlock, IsBlockOf, IsSend, IsTry, Fills, Takes, KnowsBlocks, same, holding, owes}
+use Rattle.concurrent_queue.specs.machine.BlocksMoves.{StandsBlocks, BlocksKept, IsFree, extended, answer}
+use Rattle.concurrent_queue.specs.Queue.{Queue, Phase, trying, appended, taken, message, after, seen_after, is_filled, is_full_at, Continues, Answers}
 use Rattle.concurrent_queue.specs.declared.call.QueueAsk.TheVariants as ask
 use Rattle.concurrent_queue.proofs.BlocksBasics.{get_end, front, by_bool}
 use Rattle.concurrent_queue.proofs.BlocksSteps as step
@@ -35,13 +35,13 @@ neither : (b : Bool) → one_if (true && not b) ≡ 0 → b ≡ true
 neither true e = refl
 neither false e = absurd (omega arith)
 
-module _ {T : Type 0} (r : Blocks T) (now : Queue T) (s : Sound r now.items) (st : Stands r now) (u : Phase T) where
+module _ {T : Type 0} (r : Blocks T) (now : Queue T) (s : SoundBlocks r now.items) (st : StandsBlocks r now) (u : Phase T) where
   -- a step without a mark leaves the queue as it is
-  pub unmarked : {r' : Blocks T} → Sound r' now.items → r'.closed ≡ r.closed → r'.tail ≡ r.tail → r'.head ≡ r.head → Stands r' now
+  pub unmarked : {r' : Blocks T} → SoundBlocks r' now.items → r'.closed ≡ r.closed → r'.tail ≡ r.tail → r'.head ≡ r.head → StandsBlocks r' now
   unmarked x c t h = record { sound = x; closed = c ∙ st.closed; accepted = st.accepted ∙ sym t; removed = st.removed ∙ sym h; coming = st.coming; capacity = st.capacity }
 
   abbrev Leaves : Blocks T → Act T → Option (Ending T) → Type 0
-  Leaves r' a' x = MatchOption x ((p' : Phase T) × Goes now u mark.Nothing p' × Knows r' a' p') (λ y. Answers now u mark.Nothing (answer u.ask y) × (a' ≡ finished))
+  Leaves r' a' x = MatchOption x ((p' : Phase T) × Continues now u mark.Nothing p' × KnowsBlocks r' a' p') (λ y. Answers now u mark.Nothing (answer u.ask y) × (a' ≡ finished))
 
   -- nothing changes but what the call knows
   pub quiet : (a : Act T) (r' : Blocks T) (a' : Act T) (x : Option (Ending T)) → r' ≡ r → ((d : Duty) → owes a' d ≡ owes a d) → Leaves r a' x → BlocksKept r now a u r' a' mark.Nothing x
@@ -56,16 +56,16 @@ module _ {T : Type 0} (r : Blocks T) (now : Queue T) (s : Sound r now.items) (st
   abbrev pub still : Bool → Phase T
   still seen = record { ask = u.ask; stage = trying (seen_after seen now) }
 
-  pub send_goes : (v : T) → IsSend u.ask v → (t : IsTry u) → Goes now u mark.Nothing (still t.0)
+  pub send_goes : (v : T) → IsSend u.ask v → (t : IsTry u) → Continues now u mark.Nothing (still t.0)
   send_goes v i t = phase.send_goes now u.ask u.stage v t.0 i t.1
 
-  pub pop_goes : u.ask ≡ ask.Pop → (t : IsTry u) → Goes now u mark.Nothing (still t.0)
+  pub pop_goes : u.ask ≡ ask.Pop → (t : IsTry u) → Continues now u mark.Nothing (still t.0)
   pop_goes e t = phase.pop_goes now u.ask u.stage t.0 e t.1
 
-  pub sent_goes : (v : T) → IsSend u.ask v → u.stage ≡ appended None → Goes now u mark.Nothing u
+  pub sent_goes : (v : T) → IsSend u.ask v → u.stage ≡ appended None → Continues now u mark.Nothing u
   sent_goes v i t = phase.sent_goes now u.ask u.stage v i t
 
-  pub took_goes : (d : T) → u.ask ≡ ask.Pop → u.stage ≡ taken d → Goes now u mark.Nothing u
+  pub took_goes : (d : T) → u.ask ≡ ask.Pop → u.stage ≡ taken d → Continues now u mark.Nothing u
   took_goes d e t = phase.took_goes now u.ask u.stage d e t
 
   tail_there : (n : ℕ) → r.tail ≡ n → r.tail_turns ≡ false → 1 ≤ r.last → n / 31 < r.last
@@ -78,10 +78,10 @@ module _ {T : Type 0} (r : Blocks T) (now : Queue T) (s : Sound r now.items) (st
   pub its_message : (v : T) → IsSend u.ask v → message u.ask ≡ v ∷ []
   its_message v i = ⊎_elim (λ e. ap message e) (λ e. ap message e) i
 
-  pushed_sound : (v : T) (edge : Bool) → IsSend u.ask v → r.tail_turns ≡ false → 1 ≤ r.last → (edge ≡ false → r.tail % 31 ≡ 30 → ⊥) → (edge ≡ true → r.tail % 31 ≡ 30) → Sound (extended r v edge) (now.items ++ message u.ask)
-  pushed_sound v edge w o some low high = subst (λ (xs : List T). Sound (extended r v edge) (now.items ++ xs)) (sym (its_message v w)) (step.append_keeps r now.items s v edge o some low high)
+  pushed_sound : (v : T) (edge : Bool) → IsSend u.ask v → r.tail_turns ≡ false → 1 ≤ r.last → (edge ≡ false → r.tail % 31 ≡ 30 → ⊥) → (edge ≡ true → r.tail % 31 ≡ 30) → SoundBlocks (extended r v edge) (now.items ++ message u.ask)
+  pushed_sound v edge w o some low high = subst (λ (xs : List T). SoundBlocks (extended r v edge) (now.items ++ xs)) (sym (its_message v w)) (step.append_keeps r now.items s v edge o some low high)
 
-  pushed_stands : (v : T) (edge : Bool) (seen : Bool) → u.stage ≡ trying seen → Sound (extended r v edge) (now.items ++ message u.ask) → Stands (extended r v edge) (after u mark.Append now)
+  pushed_stands : (v : T) (edge : Bool) (seen : Bool) → u.stage ≡ trying seen → SoundBlocks (extended r v edge) (now.items ++ message u.ask) → StandsBlocks (extended r v edge) (after u mark.Append now)
   pushed_stands v edge seen t x = record {
     sound = x;
     closed = st.closed;
@@ -97,7 +97,7 @@ module _ {T : Type 0} (r : Blocks T) (now : Queue T) (s : Sound r now.items) (st
   not_filled : is_filled now ≡ false
   not_filled = ap (λ (c : Option ℕ). is_full_at c now.items) st.capacity
 
-  push_wins : (v : T) → IsSend u.ask v → IsTry u → r.closed ≡ false → Goes now u mark.Append sent_phase
+  push_wins : (v : T) → IsSend u.ask v → IsTry u → r.closed ≡ false → Continues now u mark.Append sent_phase
   push_wins v i t c = phase.append_goes now u.ask u.stage v t.0 i t.1 (sym st.closed ∙ c) not_filled
 
   pushed_fills : (v : T) (edge : Bool) (n b : ℕ) → IsSend u.ask v → r.tail ≡ n → r.tail_turns ≡ false → TailBlock r n b → Fills (extended r v edge) sent_phase v n b None
@@ -118,7 +118,7 @@ module _ {T : Type 0} (r : Blocks T) (now : Queue T) (s : Sound r now.items) (st
   swap_owners v n b h t o ne (keep x) = refl
 
   pub at-swap_wins : (v : T) (n b : ℕ) (h : Option ℕ) (r' : Blocks T) → r' ≡ extended r v false → r.tail ≡ n → r.tail_turns ≡ false → r.closed ≡ false → (n % 31 ≡ 30 → ⊥)
-      → Knows r (push_swap v n b h) u → BlocksKept r now (push_swap v n b h) u r' (push_put v n b h) mark.Append None
+      → KnowsBlocks r (push_swap v n b h) u → BlocksKept r now (push_swap v n b h) u r' (push_put v n b h) mark.Append None
   at-swap_wins v n b h r' e t o c ne k = rw e (record {
     stands = pushed_stands v false k.1.0 k.1.1 (pushed_sound v false k.0 o k.4.0 (λ q g. ne (omega arith)) (λ q. absurd (false≢true q)));
     owners = swap_owners v n b h t o ne;
@@ -138,7 +138,7 @@ module _ {T : Type 0} (r : Blocks T) (now : Queue T) (s : Sound r now.items) (st
   edge_owners v n b h t o ed (keep x) = refl
 
   pub at-swap_wins_edge : (v : T) (n b h : ℕ) (r' : Blocks T) → r' ≡ extended r v true → r.tail ≡ n → r.tail_turns ≡ false → r.closed ≡ false → n % 31 ≡ 30
-      → Knows r (push_swap v n b (Some h)) u → BlocksKept r now (push_swap v n b (Some h)) u r' (push_turn v n b h) mark.Append None
+      → KnowsBlocks r (push_swap v n b (Some h)) u → BlocksKept r now (push_swap v n b (Some h)) u r' (push_turn v n b h) mark.Append None
   at-swap_wins_edge v n b h r' e t o c ed k =
       let l : r.last ≡ n / 31 + 1 = ⊎_elim (λ g. omega arith) (λ g. absurd (omega (arith, g.0, k.4.0))) (s.last o) in
       rw e (record {
@@ -169,7 +169,7 @@ module _ {T : Type 0} (r : Blocks T) (now : Queue T) (s : Sound r now.items) (st
   chain_block : (n b h : ℕ) → IsBlockOf r n b → IsBlockOf (chained r h) n b
   chain_block n b h k = (omega (arith, k.0), k.1 ∙ sym (pick_other (n / 31) r.last h (r.num (n / 31)) (λ q. omega (arith, k.0))))
 
-  pub at-turns : (v : T) (n b h : ℕ) (r' : Blocks T) → r' ≡ chained r h → Knows r (push_turn v n b h) u → BlocksKept r now (push_turn v n b h) u r' (push_add v n b h) mark.Nothing None
+  pub at-turns : (v : T) (n b h : ℕ) (r' : Blocks T) → r' ≡ chained r h → KnowsBlocks r (push_turn v n b h) u → BlocksKept r now (push_turn v n b h) u r' (push_add v n b h) mark.Nothing None
   at-turns v n b h r' e k =
       let f = k.0 in
       rw e (record {
@@ -190,7 +190,7 @@ module _ {T : Type 0} (r : Blocks T) (now : Queue T) (s : Sound r now.items) (st
   add_owners v n b h o start = refl
   add_owners v n b h o (keep x) = refl
 
-  pub at-adds : (v : T) (n b h : ℕ) (r' : Blocks T) → r' ≡ record r { tail_turns = false } → Knows r (push_add v n b h) u → BlocksKept r now (push_add v n b h) u r' (push_link v n b h) mark.Nothing None
+  pub at-adds : (v : T) (n b h : ℕ) (r' : Blocks T) → r' ≡ record r { tail_turns = false } → KnowsBlocks r (push_add v n b h) u → BlocksKept r now (push_add v n b h) u r' (push_link v n b h) mark.Nothing None
   at-adds v n b h r' e k = rw e (record {
     stands = unmarked (step.tail_rests r now.items s (omega (arith, k.1, k.2, k.4))) refl refl refl;
     owners = add_owners v n b h k.3;
@@ -202,7 +202,7 @@ module _ {T : Type 0} (r : Blocks T) (now : Queue T) (s : Sound r now.items) (st
   and_no false = refl
   and_no true = refl
 
-  abbrev link_to : ℕ → Block
+  abbrev link_to : ℕ → BlockState
   link_to k = record { linked = true; reads = (r.block k).reads; retired = (r.block k).retired }
 
   at_one : (b : Bool) → 1 ≤ one_if b → b ≡ true
@@ -235,7 +235,7 @@ module _ {T : Type 0} (r : Blocks T) (now : Queue T) (s : Sound r now.items) (st
   link_owners v n b h mine start = refl
   link_owners v n b h mine (keep x) = refl
 
-  pub at-links : (v : T) (n b h : ℕ) (r' : Blocks T) → r' ≡ with_block r (n / 31) (link_to (n / 31)) → 1 ≤ owed r (link (n / 31)) → Knows r (push_link v n b h) u → BlocksKept r now (push_link v n b h) u r' (push_put v n b None) mark.Nothing None
+  pub at-links : (v : T) (n b h : ℕ) (r' : Blocks T) → r' ≡ with_block r (n / 31) (link_to (n / 31)) → 1 ≤ owed r (link (n / 31)) → KnowsBlocks r (push_link v n b h) u → BlocksKept r now (push_link v n b h) u r' (push_put v n b None) mark.Nothing None
   at-links v n b h r' e mine k =
       let p = (link_open n mine).0 in
       let low : n / 31 < r.tail / 31 = grind (arith, nat_tests) in
@@ -261,7 +261,7 @@ module _ {T : Type 0} (r : Blocks T) (now : Queue T) (s : Sound r now.items) (st
   put_owners v n b h w start = refl
   put_owners v n b h w (keep x) = refl
 
-  pub at-puts : (v : T) (n b : ℕ) (h : Option ℕ) (r' : Blocks T) → r' ≡ with_cell r n (record { written = false; slot = Some v }) → Knows r (push_put v n b h) u → BlocksKept r now (push_put v n b h) u r' (push_store n b h) mark.Nothing None
+  pub at-puts : (v : T) (n b : ℕ) (h : Option ℕ) (r' : Blocks T) → r' ≡ with_cell r n (record { written = false; slot = Some v }) → KnowsBlocks r (push_put v n b h) u → BlocksKept r now (push_put v n b h) u r' (push_store n b h) mark.Nothing None
   at-puts v n b h r' e k =
       let f = k.0 in
       let c : Cell T = record { written = false; slot = Some v } in
@@ -293,7 +293,7 @@ module _ {T : Type 0} (r : Blocks T) (now : Queue T) (s : Sound r now.items) (st
   store_owners n b h v a' o w x t start = rw (o start) refl
   store_owners n b h v a' o w x t (keep y) = rw (o (keep y)) refl
 
-  pub at-stores : (n b : ℕ) (h : Option ℕ) (r' : Blocks T) (a' : Act T) (x : Option (Ending T)) → r' ≡ with_cell r n (store_to n) → ((d : Duty) → owes a' d ≡ holding h d) → (k : Knows r (push_store n b h) u)
+  pub at-stores : (n b : ℕ) (h : Option ℕ) (r' : Blocks T) (a' : Act T) (x : Option (Ending T)) → r' ≡ with_cell r n (store_to n) → ((d : Duty) → owes a' d ≡ holding h d) → (k : KnowsBlocks r (push_store n b h) u)
       → Leaves (with_cell r n (store_to n)) a' x → BlocksKept r now (push_store n b h) u r' a' mark.Nothing x
   at-stores n b h r' a' x e o k l =
       let f = k.1 in
@@ -365,7 +365,7 @@ module _ {T : Type 0} (r : Blocks T) (now : Queue T) (s : Sound r now.items) (st
   first_owners v n h e z f start = rw (z, f) refl
   first_owners v n h e z f (keep x) = spot_moves h (used r.last) e refl x
 
-  pub at-first_wins : (v : T) (n h : ℕ) (r' : Blocks T) → r' ≡ chained r h → r.last ≡ 0 → Knows r (push_first v n h) u → BlocksKept r now (push_first v n h) u r' (push_start v n h) mark.Nothing None
+  pub at-first_wins : (v : T) (n h : ℕ) (r' : Blocks T) → r' ≡ chained r h → r.last ≡ 0 → KnowsBlocks r (push_first v n h) u → BlocksKept r now (push_first v n h) u r' (push_start v n h) mark.Nothing None
   at-first_wins v n h r' e z k =
       let f : r.first ≡ 0 = let q = s.inside in omega arith in
       let rest : r.tail_turns ≡ true → ⊥ = λ o. (let q = s.paged o in omega arith) in
@@ -389,7 +389,7 @@ module _ {T : Type 0} (r : Blocks T) (now : Queue T) (s : Sound r now.items) (st
   start_owners v n b a' o f l start = let p : nat_lt 0 r.last ≡ true = grind (arith, nat_tests) in rw (o start, f, p) refl
   start_owners v n b a' o f l (keep x) = rw (o (keep x)) refl
 
-  pub at-starts : (v : T) (n b : ℕ) (r' : Blocks T) (a' : Act T) → r' ≡ record r { first = 1 } → ((d : Duty) → owes a' d ≡ 0) → Knows r (push_start v n b) u → Leaves (record r { first = 1 }) a' None
+  pub at-starts : (v : T) (n b : ℕ) (r' : Blocks T) (a' : Act T) → r' ≡ record r { first = 1 } → ((d : Duty) → owes a' d ≡ 0) → KnowsBlocks r (push_start v n b) u → Leaves (record r { first = 1 }) a' None
       → BlocksKept r now (push_start v n b) u r' a' mark.Nothing None
   at-starts v n b r' a' e o k l =
       let ht : r.head_turns ≡ true → ⊥ = λ q. (let g = s.turned q in omega (arith, g.2, k.4)) in
@@ -407,7 +407,7 @@ module _ {T : Type 0} (r : Blocks T) (now : Queue T) (s : Sound r now.items) (st
   took_phase d = record { ask = u.ask; stage = taken d }
 
   popped_took : (n b : ℕ) → u.ask ≡ ask.Pop → IsTry u → r.head ≡ n → r.head_turns ≡ false → n < r.tail → HeadBlock r n b → (edge : Bool)
-      → (d : T) × Goes now u mark.Take (took_phase d) × Takes (record r { head = r.head + 1; head_turns = edge }) (took_phase d) n b d
+      → (d : T) × Continues now u mark.Take (took_phase d) × Takes (record r { head = r.head + 1; head_turns = edge }) (took_phase d) n b d
   popped_took n b w ds t o more k edge =
       let q = s.all in
       let len = drop_length r.all r.head (omega arith) in
@@ -415,7 +415,7 @@ module _ {T : Type 0} (r : Blocks T) (now : Queue T) (s : Sound r now.items) (st
       let is : slice_get r.all n ≡ Some f.0 = subst (λ (j : ℕ). slice_get r.all j ≡ Some f.0) t (drop_get r.all r.head f.0 f.1 (sym s.items ∙ f.2)) in
       (f.0, phase.take_goes now u.ask u.stage f.0 ds.0 w ds.1 (f.1, f.2), (w, refl, is, omega arith, (head_there n t o k.0, k.1 t), λ g. s.full n g (omega arith) ∙ is))
 
-  popped_stands : (edge : Bool) → Sound (record r { head = r.head + 1; head_turns = edge }) (drop 1 now.items) → Stands (record r { head = r.head + 1; head_turns = edge }) (after u mark.Take now)
+  popped_stands : (edge : Bool) → SoundBlocks (record r { head = r.head + 1; head_turns = edge }) (drop 1 now.items) → StandsBlocks (record r { head = r.head + 1; head_turns = edge }) (after u mark.Take now)
   popped_stands edge x = record {
     sound = x;
     closed = st.closed;
@@ -436,7 +436,7 @@ module _ {T : Type 0} (r : Blocks T) (now : Queue T) (s : Sound r now.items) (st
   pop_owners n b t o more start = refl
   pop_owners n b t o more (keep x) = refl
 
-  pub at-pop_wins : (n b : ℕ) (r' : Blocks T) → r' ≡ record r { head = r.head + 1; head_turns = false } → r.head ≡ n → r.head_turns ≡ false → (n % 31 ≡ 30 → ⊥) → Knows r (pop_swap n b) u → BlocksKept r now (pop_swap n b) u r' (pop_wait n b) mark.Take None
+  pub at-pop_wins : (n b : ℕ) (r' : Blocks T) → r' ≡ record r { head = r.head + 1; head_turns = false } → r.head ≡ n → r.head_turns ≡ false → (n % 31 ≡ 30 → ⊥) → KnowsBlocks r (pop_swap n b) u → BlocksKept r now (pop_swap n b) u r' (pop_wait n b) mark.Take None
   at-pop_wins n b r' e t o ne k = rw e (record {
     stands = popped_stands false (step.take_keeps r now.items s false o k.3.0 (omega (arith, k.4)) (λ q g. ne (omega arith)) (λ q. absurd (false≢true q)));
     owners = pop_owners n b t o k.4;
@@ -455,7 +455,7 @@ module _ {T : Type 0} (r : Blocks T) (now : Queue T) (s : Sound r now.items) (st
   pop_edge_owners n b t o more start = refl
   pop_edge_owners n b t o more (keep x) = refl
 
-  pub at-pop_wins_edge : (n b : ℕ) (r' : Blocks T) → r' ≡ record r { head = r.head + 1; head_turns = true } → r.head ≡ n → r.head_turns ≡ false → n % 31 ≡ 30 → Knows r (pop_swap n b) u → BlocksKept r now (pop_swap n b) u r' (pop_next n b) mark.Take None
+  pub at-pop_wins_edge : (n b : ℕ) (r' : Blocks T) → r' ≡ record r { head = r.head + 1; head_turns = true } → r.head ≡ n → r.head_turns ≡ false → n % 31 ≡ 30 → KnowsBlocks r (pop_swap n b) u → BlocksKept r now (pop_swap n b) u r' (pop_next n b) mark.Take None
   at-pop_wins_edge n b r' e t o ed k =
       let d = popped_took n b k.0 k.1 t o k.4 k.3 true in
       rw e (record {
@@ -466,7 +466,7 @@ module _ {T : Type 0} (r : Blocks T) (now : Queue T) (s : Sound r now.items) (st
       })
 
   -- it goes on to the next block
-  pub at-next_found : (n b c : ℕ) (r' : Blocks T) → r' ≡ r → (r.block (n / 31)).linked ≡ true → c ≡ r.num (n / 31 + 1) → Knows r (pop_next n b) u → BlocksKept r now (pop_next n b) u r' (pop_block n b c) mark.Nothing None
+  pub at-next_found : (n b c : ℕ) (r' : Blocks T) → r' ≡ r → (r.block (n / 31)).linked ≡ true → c ≡ r.num (n / 31 + 1) → KnowsBlocks r (pop_next n b) u → BlocksKept r now (pop_next n b) u r' (pop_block n b c) mark.Nothing None
   at-next_found n b c r' e l q k = quiet (pop_next n b) r' (pop_block n b c) None e (λ d. refl) (u, took_goes k.0 k.1.0 k.1.1, (k.0, k.1, k.2, k.3, k.4, k.5, s.linked (n / 31) l, q))
 
   block_owners : (n b c : ℕ) → 1 ≤ r.first → (d : Duty) → owes {T = T} (pop_head n b) d + owed r d ≡ owes {T = T} (pop_block n b c) d + owed (record r { first = r.first + 1 }) d
@@ -480,7 +480,7 @@ module _ {T : Type 0} (r : Blocks T) (now : Queue T) (s : Sound r now.items) (st
   block_owners n b c f start = let p : (r.first == 0) ≡ false = grind (arith, nat_tests) in let q : (r.first + 1 == 0) ≡ false = grind (arith, nat_tests) in rw (p, q) refl
   block_owners n b c f (keep x) = refl
 
-  pub at-blocks : (n b c : ℕ) (r' : Blocks T) → r' ≡ record r { first = r.first + 1 } → Knows r (pop_block n b c) u → BlocksKept r now (pop_block n b c) u r' (pop_head n b) mark.Nothing None
+  pub at-blocks : (n b c : ℕ) (r' : Blocks T) → r' ≡ record r { first = r.first + 1 } → KnowsBlocks r (pop_block n b c) u → BlocksKept r now (pop_block n b c) u r' (pop_head n b) mark.Nothing None
   at-blocks n b c r' e k = rw e (record {
     stands = unmarked (step.first_moves r now.items s (r.first + 1) (omega (arith, k.5, k.6)) (λ q. absurd (false≢true (sym q ∙ k.4))) (omega (arith, k.2, k.3, k.5)) (omega arith)) refl refl refl;
     owners = block_owners n b c (omega (arith, k.5));
@@ -499,7 +499,7 @@ module _ {T : Type 0} (r : Blocks T) (now : Queue T) (s : Sound r now.items) (st
   head_owners n b o start = refl
   head_owners n b o (keep x) = refl
 
-  pub at-heads : (n b : ℕ) (r' : Blocks T) → r' ≡ record r { head_turns = false } → Knows r (pop_head n b) u → BlocksKept r now (pop_head n b) u r' (pop_wait n b) mark.Nothing None
+  pub at-heads : (n b : ℕ) (r' : Blocks T) → r' ≡ record r { head_turns = false } → KnowsBlocks r (pop_head n b) u → BlocksKept r now (pop_head n b) u r' (pop_wait n b) mark.Nothing None
   at-heads n b r' e k = rw e (record {
     stands = unmarked (step.head_rests r now.items s (omega (arith, k.2, k.3, k.5))) refl refl refl;
     owners = head_owners n b k.4;
@@ -524,7 +524,7 @@ module _ {T : Type 0} (r : Blocks T) (now : Queue T) (s : Sound r now.items) (st
   some_same : {x y : T} → Some x ≡ Some y → x ≡ y
   some_same e = cc
 
-  pub at-takes : (n b : ℕ) (d : T) (r' : Blocks T) → (r.cell n).slot ≡ Some d → r' ≡ with_cell r n (record { written = true; slot = None }) → 1 ≤ owed r (count (n / 31)) → Knows r (pop_take n b) u → BlocksKept r now (pop_take n b) u r' (pop_count n b d) mark.Nothing None
+  pub at-takes : (n b : ℕ) (d : T) (r' : Blocks T) → (r.cell n).slot ≡ Some d → r' ≡ with_cell r n (record { written = true; slot = None }) → 1 ≤ owed r (count (n / 31)) → KnowsBlocks r (pop_take n b) u → BlocksKept r now (pop_take n b) u r' (pop_count n b d) mark.Nothing None
   at-takes n b d r' x e mine k =
       let f = k.1 in
       let same_d : k.0 ≡ d = some_same (sym (f.5 k.2) ∙ x) in
@@ -535,7 +535,7 @@ module _ {T : Type 0} (r : Blocks T) (now : Queue T) (s : Sound r now.items) (st
         leaves = (u, took_goes k.0 f.0 f.1, (f.0, subst (λ (z : T). u.stage ≡ taken z) same_d f.1, f.3, f.4));
       })
 
-  abbrev more : ℕ → Block
+  abbrev more : ℕ → BlockState
   more k = record { linked = (r.block k).linked; reads = (r.block k).reads + 1; retired = (r.block k).retired }
 
   count_count : (n : ℕ) → 1 ≤ owed r (count (n / 31)) → (k : ℕ) → 0 + (taken_in r.head k - (r.block k).reads) ≡ same (n / 31) k + (taken_in r.head k - ((with_block r (n / 31) (more (n / 31))).block k).reads)
@@ -573,7 +573,7 @@ module _ {T : Type 0} (r : Blocks T) (now : Queue T) (s : Sound r now.items) (st
   last_owners n b d mine z start = refl
   last_owners n b d mine z (keep x) = refl
 
-  pub at-counts : (n b : ℕ) (d : T) (r' : Blocks T) → r' ≡ with_block r (n / 31) (more (n / 31)) → ((r.block (n / 31)).reads ≡ 30 → ⊥) → 1 ≤ owed r (count (n / 31)) → Knows r (pop_count n b d) u → BlocksKept r now (pop_count n b d) u r' finished mark.Nothing (Some (ending.Replied (reply.Pop (Ok d))))
+  pub at-counts : (n b : ℕ) (d : T) (r' : Blocks T) → r' ≡ with_block r (n / 31) (more (n / 31)) → ((r.block (n / 31)).reads ≡ 30 → ⊥) → 1 ≤ owed r (count (n / 31)) → KnowsBlocks r (pop_count n b d) u → BlocksKept r now (pop_count n b d) u r' finished mark.Nothing (Some (ending.Replied (reply.Pop (Ok d))))
   at-counts n b d r' e ne mine k =
       let t = taken_all r.head (n / 31) in
       let f = not_retired (n / 31) (λ q. omega (arith, mine, t)) in
@@ -592,7 +592,7 @@ module _ {T : Type 0} (r : Blocks T) (now : Queue T) (s : Sound r now.items) (st
 
   -- the last read: all the block's messages are taken, as no other call still has to take one
   pub at-counts_last : (n b : ℕ) (d : T) (r' : Blocks T) → r' ≡ with_block r (n / 31) (more (n / 31)) → (r.block (n / 31)).reads ≡ 30 → 1 ≤ owed r (count (n / 31)) → ((m : ℕ) → m / 31 ≡ n / 31 → owed r (take m) ≡ 0)
-      → Knows r (pop_count n b d) u → BlocksKept r now (pop_count n b d) u r' (pop_retire n b d) mark.Nothing None
+      → KnowsBlocks r (pop_count n b d) u → BlocksKept r now (pop_count n b d) u r' (pop_retire n b d) mark.Nothing None
   at-counts_last n b d r' e z mine drained k =
       let t = taken_all r.head (n / 31) in
       let f = not_retired (n / 31) (λ q. omega arith) in
@@ -604,7 +604,7 @@ module _ {T : Type 0} (r : Blocks T) (now : Queue T) (s : Sound r now.items) (st
         leaves = (u, took_goes d k.0 k.1, (k.0, k.1, k.2, k.3));
       })
 
-  abbrev shut : ℕ → Block
+  abbrev shut : ℕ → BlockState
   shut k = record { linked = (r.block k).linked; reads = 31; retired = true }
 
   retire_owners : (n b : ℕ) (d : T) → (r.block (n / 31)).reads ≡ 31 → (r.block (n / 31)).retired ≡ false → r.spot b ≡ used (n / 31) → (e : Duty) → owes {T = T} finished e + owed r e ≡ owes (pop_retire n b d) e + owed (with_spot (with_block r (n / 31) (shut (n / 31))) b spare) e
@@ -618,7 +618,7 @@ module _ {T : Type 0} (r : Blocks T) (now : Queue T) (s : Sound r now.items) (st
   retire_owners n b d z f x start = refl
   retire_owners n b d z f x (keep y) = account r.spot b spare (λ j w. one_if (is_held w)) (λ j. 0) (λ j. 0) (rw x refl) (λ m ne. refl) y
 
-  pub at-retires : (n b : ℕ) (d : T) (r' : Blocks T) → r' ≡ with_spot (with_block r (n / 31) (shut (n / 31))) b spare → 1 ≤ owed r (retire (n / 31)) → Knows r (pop_retire n b d) u → BlocksKept r now (pop_retire n b d) u r' finished mark.Nothing (Some (ending.Replied (reply.Pop (Ok d))))
+  pub at-retires : (n b : ℕ) (d : T) (r' : Blocks T) → r' ≡ with_spot (with_block r (n / 31) (shut (n / 31))) b spare → 1 ≤ owed r (retire (n / 31)) → KnowsBlocks r (pop_retire n b d) u → BlocksKept r now (pop_retire n b d) u r' finished mark.Nothing (Some (ending.Replied (reply.Pop (Ok d))))
   at-retires n b d r' e mine k =
       let p = both ((r.block (n / 31)).reads == 31) (not (r.block (n / 31)).retired) (at_one ((r.block (n / 31)).reads == 31 && not (r.block (n / 31)).retired) mine) in
       let f = unnot (r.block (n / 31)).retired p.1 in
@@ -626,7 +626,7 @@ module _ {T : Type 0} (r : Blocks T) (now : Queue T) (s : Sound r now.items) (st
       let z : (r.block (n / 31)).reads ≡ 31 = grind (arith, nat_tests) in
       let x : r.spot b ≡ used (n / 31) = ap r.spot k.3.1 ∙ s.live (n / 31) k.3.0 f in
       rw e (record {
-        stands = unmarked (subst (λ (j : ℕ). Sound (with_spot (with_block r (n / 31) (shut (n / 31))) j spare) now.items) (sym k.3.1) (step.retire_keeps r now.items s (n / 31) (r.block (n / 31)).linked refl k.3.0 f z)) refl refl refl;
+        stands = unmarked (subst (λ (j : ℕ). SoundBlocks (with_spot (with_block r (n / 31) (shut (n / 31))) j spare) now.items) (sym k.3.1) (step.retire_keeps r now.items s (n / 31) (r.block (n / 31)).linked refl k.3.0 f z)) refl refl refl;
         owners = retire_owners n b d z f x;
         others = later.later_retire r now.items s (pop_retire n b d) (n / 31) (shut (n / 31)) b (λ g. step.held_used (n / 31) (sym g ∙ x));
         leaves = (phase.took_answers now u.ask u.stage d k.0 k.1, refl);

@@ -2,9 +2,9 @@
 use Rattle.std.proofs.Common.{◌≡◌, ℕ, zero, suc, ◌+◌, ◌/◌, ◌%◌, ◌<◌, ◌≤◌, ⊎_elim, Bool, true, false, if◌then◌else◌, ◌==◌, ◌&&◌, not, nat_lt, List, [], ◌∷◌, length, Some, slice_get, refl, sym, ap, ◌∙◌, subst, arith}
 use Rattle.std.proofs.lemmas.Bool.{cases_lt, false≢true}
 use Rattle.std.proofs.lemmas.Bool.Decides.{nat_tests}
-use Rattle.concurrent_queue.specs.BlocksState.{Blocks, Cell, Block, Sound, Spot, spare, held, used, one_if, is_none, fill, take, turn_tail, turn_head, start, keep, with_cell, with_block, with_spot, chained}
-use Rattle.concurrent_queue.specs.BlocksCalls.{Act, same, owes}
-use Rattle.concurrent_queue.specs.BlocksMoves.{Later, extended}
+use Rattle.concurrent_queue.specs.machine.BlocksState.{Blocks, Cell, BlockState, SoundBlocks, Spot, spare, held, used, one_if, is_none, fill, take, turn_tail, turn_head, start, keep, with_cell, with_block, with_spot, chained}
+use Rattle.concurrent_queue.specs.machine.BlocksCalls.{Act, same, owes}
+use Rattle.concurrent_queue.specs.machine.BlocksMoves.{Later, extended}
 use Rattle.concurrent_queue.proofs.BlocksBasics.{get_before, by_bool}
 use Rattle.concurrent_queue.proofs.BlocksSteps.{pick_other, pick_here, by_eq, cell_other, cell_here}
 
@@ -24,7 +24,7 @@ some_there [] n h = absurd (omega arith)
 some_there (y ∷ xs) zero h = (y, refl)
 some_there (y ∷ xs) (suc n) h = some_there xs n (omega arith)
 
-module _ {T : Type 0} (r : Blocks T) (items : List T) (s : Sound r items) (a : Act T) where
+module _ {T : Type 0} (r : Blocks T) (items : List T) (s : SoundBlocks r items) (a : Act T) where
   pub later_none : Later r r a
   later_none = record {
     all = λ n v e. e;
@@ -229,7 +229,7 @@ module _ {T : Type 0} (r : Blocks T) (items : List T) (s : Sound r items) (a : A
     holds = λ b f e. e;
   }
 
-  pub later_block : (k : ℕ) (b : Block) → Later r (with_block r k b) a
+  pub later_block : (k : ℕ) (b : BlockState) → Later r (with_block r k b) a
   later_block k b = record {
     all = λ n v e. e;
     shut = λ c. c;
@@ -249,7 +249,7 @@ module _ {T : Type 0} (r : Blocks T) (items : List T) (s : Sound r items) (a : A
     holds = λ b f e. e;
   }
 
-  pub later_retire : (k : ℕ) (b : Block) (h : ℕ) → (r.spot h ≡ held → ⊥) → Later r (with_spot (with_block r k b) h spare) a
+  pub later_retire : (k : ℕ) (b : BlockState) (h : ℕ) → (r.spot h ≡ held → ⊥) → Later r (with_spot (with_block r k b) h spare) a
   later_retire k b h ne = record {
     all = λ n v e. e;
     shut = λ c. c;
@@ -276,7 +276,7 @@ account t n c f p q here away m = by_eq m n
     (λ e. rw (pick_here m n c (t m) e) (subst (λ (j : ℕ). p j + f j (t j) ≡ q j + f j c) (sym e) here))
     (λ ne. rw (pick_other m n c (t m) ne, away m ne) refl)
 
-module _ {T : Type 0} (r : Blocks T) (items : List T) (s : Sound r items) where
+module _ {T : Type 0} (r : Blocks T) (items : List T) (s : SoundBlocks r items) where
   pub fill_append : (m : ℕ) → same r.tail m + one_if (nat_lt m r.tail && not (r.cell m).written) ≡ one_if (nat_lt m (r.tail + 1) && not (r.cell m).written)
   fill_append m = by_eq m r.tail
       (λ e. let w : (r.cell m).written ≡ false = (s.fresh m (omega arith)).0 in rw (w, same_is r.tail m e) (grind (arith, nat_tests)))

@@ -2,10 +2,10 @@
 use Rattle.std.proofs.Common.{◌≡◌, ℕ, ◌+◌, ◌/◌, ◌%◌, ◌<◌, ◌≤◌, ⊎_elim, Bool, true, false, ◌==◌, ◌||◌, ◌&&◌, not, nat_lt, List, Option, None, MatchOption, refl, sym, ap, ◌∙◌, arith}
 use Rattle.std.proofs.lemmas.Bool.{false≢true}
 use Rattle.std.proofs.lemmas.Bool.Decides.{nat_tests}
-use Rattle.concurrent_queue.specs.BlocksState.{Blocks, Sound, one_if, fill, link, turn_tail, turn_head, start, tail_word}
-use Rattle.concurrent_queue.specs.BlocksCalls.{Act, push, push_return, push_look, push_make, push_first, push_start, push_more, push_swap, push_turn, push_add, push_link, push_put, push_store, push_give, pop, pop_look, pop_tail, pop_swap, pop_next, pop_block, pop_head, pop_wait, pop_take, pop_count, pop_retire, close, ask_closed, ask_empty, empty_tail, ask_full, ask_len, len_head, len_tail, ask_capacity, finished, Knows, owes}
-use Rattle.concurrent_queue.specs.BlocksMoves.{Moves, push_opens, push_stays, push_shut, push_shut_held, push_returns, look_none, look_none_held, look_more, look_ready, makes, makes_more, refused, refused_more, first_wins, first_loses, starts, starts_more, swap_wins, swap_wins_edge, swap_loses, turns, adds, links, puts, stores, stores_held, gives, pop_loads, pop_stays, pop_looks_none, pop_looks, pop_empty, pop_shut, pop_back, pop_goes, pop_wins, pop_wins_edge, pop_loses, next_waits, next_found, blocks, heads, wait_waits, wait_found, takes, counts, counts_last, retires, closes, closed_before, tells_closed, empty_loads, empty_tells, empty_denies, tells_full, len_loads, len_looks, len_tells, len_back, tells_capacity}
-use Rattle.concurrent_queue.specs.BlocksLeft.{tail_moved, head_moved, left, Quiet}
+use Rattle.concurrent_queue.specs.machine.BlocksState.{Blocks, SoundBlocks, one_if, fill, link, turn_tail, turn_head, start, tail_word}
+use Rattle.concurrent_queue.specs.machine.BlocksCalls.{Act, push, push_return, push_look, push_make, push_first, push_start, push_more, push_swap, push_turn, push_add, push_link, push_put, push_store, push_give, pop, pop_look, pop_tail, pop_swap, pop_next, pop_block, pop_head, pop_wait, pop_take, pop_count, pop_retire, close, ask_closed, ask_empty, empty_tail, ask_full, ask_len, len_head, len_tail, ask_capacity, finished, KnowsBlocks, owes}
+use Rattle.concurrent_queue.specs.machine.BlocksMoves.{Moves, push_opens, push_stays, push_shut, push_shut_held, push_returns, look_none, look_none_held, look_more, look_ready, makes, makes_more, refused, refused_more, first_wins, first_loses, starts, starts_more, swap_wins, swap_wins_edge, swap_loses, turns, adds, links, puts, stores, stores_held, gives, pop_loads, pop_stays, pop_looks_none, pop_looks, pop_empty, pop_shut, pop_back, pop_goes, pop_wins, pop_wins_edge, pop_loses, next_waits, next_found, blocks, heads, wait_waits, wait_found, takes, counts, counts_last, retires, closes, closed_before, tells_closed, empty_loads, empty_tells, empty_denies, tells_full, len_loads, len_looks, len_tells, len_back, tells_capacity}
+use Rattle.concurrent_queue.specs.machine.BlocksLeft.{tail_moved, head_moved, left, Quiet}
 use Rattle.concurrent_queue.specs.Queue.{Phase}
 use Rattle.concurrent_queue.specs.declared.call.QueueMark.{QueueMark}
 use Rattle.concurrent_queue.specs.declared.unbounded.ending.Ending.{Ending}
@@ -17,7 +17,7 @@ ones true true e f g = absurd (omega arith)
 ones true false e f g = false≢true f
 ones false c e f g = false≢true e
 
-module _ {T : Type 0} (r : Blocks T) (queue : List T) (s : Sound r queue) (u : Phase T) where
+module _ {T : Type 0} (r : Blocks T) (queue : List T) (s : SoundBlocks r queue) (u : Phase T) where
   at_tail : (n : ℕ) → n ≡ r.tail → r.closed ≡ false → r.tail_turns ≡ false → tail_moved r n ≡ false
   at_tail n e c o = let q : (r.tail == n) ≡ true = grind (arith, nat_tests) in rw (q, c, o) refl
 
@@ -48,7 +48,7 @@ module _ {T : Type 0} (r : Blocks T) (queue : List T) (s : Sound r queue) (u : P
   or_yes false = refl
   or_yes true = refl
 
-  push_turns : (h : Option ℕ) → Rattle.concurrent_queue.specs.BlocksCalls.holding h turn_tail ≡ 0
+  push_turns : (h : Option ℕ) → Rattle.concurrent_queue.specs.machine.BlocksCalls.holding h turn_tail ≡ 0
   push_turns h = refl
 
   -- a page at rest, since nobody else turns it
@@ -93,7 +93,7 @@ module _ {T : Type 0} (r : Blocks T) (queue : List T) (s : Sound r queue) (u : P
   some_first : (r.first ≡ 0 → ⊥) → (r.first == 0) ≡ false
   some_first z = grind (arith, nat_tests)
 
-  pub nearer : {a : Act T} {r' : Blocks T} {a' : Act T} {k : QueueMark} {x : Option (Ending T)} → Moves r a r' a' k x → Knows r a u → Quiet r a → MatchOption x (left r' a' < left r a) (λ y. Unit {0})
+  pub nearer : {a : Act T} {r' : Blocks T} {a' : Act T} {k : QueueMark} {x : Option (Ending T)} → Moves r a r' a' k x → KnowsBlocks r a u → Quiet r a → MatchOption x (left r' a' < left r a) (λ y. Unit {0})
   nearer (push_opens {n = n} e c t o) f q = rw (e, at_tail n t c o) (omega arith)
   nearer (push_stays {v = v} {h = h} e o) f q = absurd (false≢true (sym (no_tail_turn (push v h) q (push_turns h)) ∙ o))
   nearer (push_shut e c) f q = tt

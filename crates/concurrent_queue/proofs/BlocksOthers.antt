@@ -1,9 +1,9 @@
 -- What a call of an unbounded queue knows outlasts a step of another: the one lemma for all steps.
 use Rattle.std.proofs.Common.{◌≡◌, ℕ, ◌+◌, ◌/◌, ◌<◌, ◌≤◌, ⊎_elim, Bool, true, false, ◌==◌, List, Option, None, Some, refl, sym, ap, ◌∙◌, arith}
 use Rattle.std.proofs.lemmas.Bool.Decides.{nat_tests}
-use Rattle.concurrent_queue.specs.BlocksState.{Blocks, Cell, Sound, one_if, Duty, fill, take, turn_tail, turn_head, start, keep, owed}
-use Rattle.concurrent_queue.specs.BlocksCalls.{Act, push, push_return, push_look, push_make, push_first, push_start, push_more, push_swap, push_turn, push_add, push_link, push_put, push_store, push_give, pop, pop_look, pop_tail, pop_swap, pop_next, pop_block, pop_head, pop_wait, pop_take, pop_count, pop_retire, close, ask_closed, ask_empty, empty_tail, ask_full, ask_len, len_head, len_tail, ask_capacity, finished, Holds, AtTail, TailBlock, AtHead, HeadBlock, IsBlockOf, Fills, Takes, Knows, same, owes}
-use Rattle.concurrent_queue.specs.BlocksMoves.{Later}
+use Rattle.concurrent_queue.specs.machine.BlocksState.{Blocks, Cell, SoundBlocks, one_if, Duty, fill, take, turn_tail, turn_head, start, keep, owed}
+use Rattle.concurrent_queue.specs.machine.BlocksCalls.{Act, push, push_return, push_look, push_make, push_first, push_start, push_more, push_swap, push_turn, push_add, push_link, push_put, push_store, push_give, pop, pop_look, pop_tail, pop_swap, pop_next, pop_block, pop_head, pop_wait, pop_take, pop_count, pop_retire, close, ask_closed, ask_empty, empty_tail, ask_full, ask_len, len_head, len_tail, ask_capacity, finished, Holds, AtTail, TailBlock, AtHead, HeadBlock, IsBlockOf, Fills, Takes, KnowsBlocks, same, owes}
+use Rattle.concurrent_queue.specs.machine.BlocksMoves.{Later}
 use Rattle.concurrent_queue.specs.Queue.{Phase}
 
 pub eq_self : (n : ℕ) → (n == n) ≡ true
@@ -19,7 +19,7 @@ at_most_one true = omega arith
 pub quit : (b : Bool) (x y : ℕ) → x + y ≤ one_if b → x ≡ 1 → y ≡ 0
 quit b x y h e = omega (arith, h, at_most_one b)
 
-module _ {T : Type 0} (r : Blocks T) (items : List T) (s : Sound r items) (r' : Blocks T) (a : Act T) (l : Later r r' a) where
+module _ {T : Type 0} (r : Blocks T) (items : List T) (s : SoundBlocks r items) (r' : Blocks T) (a : Act T) (l : Later r r' a) where
   at_tail : (n : ℕ) → AtTail r n → AtTail r' n
   at_tail n k = (omega (arith, k.0, l.tail), λ e. (let here : r.tail ≡ n = omega (arith, k.0, l.tail) in l.tail_rests (e ∙ sym here) (k.1 here)))
 
@@ -69,10 +69,10 @@ module _ {T : Type 0} (r : Blocks T) (items : List T) (s : Sound r items) (r' : 
   no_turn_head : (q : Act T) → ((d : Duty) → owes q d + owes a d ≤ owed r d) → owes q turn_head ≡ 1 → owes a turn_head ≡ 0
   no_turn_head q ne e = quit _ _ _ (ne turn_head) e
 
-  its_block : (h : Option ℕ) (b : ℕ) → h ≡ Some b → Rattle.concurrent_queue.specs.BlocksCalls.holds h b ≡ 1
+  its_block : (h : Option ℕ) (b : ℕ) → h ≡ Some b → Rattle.concurrent_queue.specs.machine.BlocksCalls.holds h b ≡ 1
   its_block h b e = rw e (same_self b)
 
-  pub later_keeps : (q : Act T) (u : Phase T) → ((d : Duty) → owes q d + owes a d ≤ owed r d) → Knows r q u → Knows r' q u
+  pub later_keeps : (q : Act T) (u : Phase T) → ((d : Duty) → owes q d + owes a d ≤ owed r d) → KnowsBlocks r q u → KnowsBlocks r' q u
   later_keeps (push v h) u ne k = (k.0, k.1, holding_keeps h (λ b e. no_keep (push v h) b ne (its_block h b e)) k.2)
   later_keeps (push_return v h) u ne k = (k.0, k.1, l.holds h (no_keep (push_return v h) h ne (same_self h)) k.2, l.shut k.3)
   later_keeps (push_look v n h) u ne k = (k.0, k.1, holding_keeps h (λ b e. no_keep (push_look v n h) b ne (its_block h b e)) k.2, at_tail n k.3)

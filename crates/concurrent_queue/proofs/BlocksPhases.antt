@@ -1,10 +1,10 @@
 -- What a call of an unbounded queue may do and answer, by what it asked and how far it has come.
 use Rattle.std.proofs.Common.{◌≡◌, ℕ, ◌<◌, ⊎_elim, Bool, true, false, [], length, None, Ok, Err, refl, sym, ap, subst}
-use Rattle.concurrent_queue.specs.Queue.{Queue, Stage, Phase, trying, appended, taken, read, measured, seen_after, is_filled, IsOldest, Goes, Answers}
+use Rattle.concurrent_queue.specs.Queue.{Queue, Stage, Phase, trying, appended, taken, read, measured, seen_after, is_filled, IsOldest, Continues, Answers}
 use Rattle.concurrent_queue.specs.declared.call.QueueAsk.{QueueAsk}
 use Rattle.concurrent_queue.specs.declared.call.QueueAsk.TheVariants as ask
-use Rattle.concurrent_queue.specs.BlocksCalls.{IsSend}
-use Rattle.concurrent_queue.specs.BlocksMoves.{answer}
+use Rattle.concurrent_queue.specs.machine.BlocksCalls.{IsSend}
+use Rattle.concurrent_queue.specs.machine.BlocksMoves.{answer}
 use Rattle.concurrent_queue.specs.declared.call.QueueMark.TheVariants as mark
 use Rattle.concurrent_queue.specs.declared.call.QueueReply.TheVariants as reply
 use Rattle.concurrent_queue.specs.declared.error.PopError.TheVariants as pop_error
@@ -19,7 +19,7 @@ module _ {T : Type 0} where
   at_both P {a} {b} {x} {y} e f h = subst (λ (c : QueueAsk T). P c x) (sym e) (subst (λ (z : Stage T). P b z) (sym f) h)
 
   abbrev pub Still : Queue T → Bool → QueueAsk T → Stage T → Type 0
-  Still q seen a x = Goes q (at a x) mark.Nothing (at a (trying (seen_after seen q)))
+  Still q seen a x = Continues q (at a x) mark.Nothing (at a (trying (seen_after seen q)))
 
   pub send_goes : (q : Queue T) (a : QueueAsk T) (x : Stage T) (v : T) (seen : Bool) → IsSend a v → x ≡ trying seen → Still q seen a x
   send_goes q a x v seen i f = ⊎_elim (λ e. at_both (Still q seen) e f (refl, refl)) (λ e. at_both (Still q seen) e f (refl, refl)) i
@@ -28,7 +28,7 @@ module _ {T : Type 0} where
   pop_goes q a x seen e f = at_both (Still q seen) e f (refl, refl)
 
   abbrev Rests : Queue T → QueueAsk T → Stage T → Type 0
-  Rests q a x = Goes q (at a x) mark.Nothing (at a x)
+  Rests q a x = Continues q (at a x) mark.Nothing (at a x)
 
   pub sent_goes : (q : Queue T) (a : QueueAsk T) (x : Stage T) (v : T) → IsSend a v → x ≡ appended None → Rests q a x
   sent_goes q a x v i f = ⊎_elim (λ e. at_both (Rests q) e f (refl, refl)) (λ e. at_both (Rests q) e f (refl, refl)) i
@@ -58,13 +58,13 @@ module _ {T : Type 0} where
   drained_answers q a x seen e f c i n = at_both (Ends q (ending.Replied (reply.Pop (Err pop_error.Closed)))) e f (c, (i, n))
 
   abbrev Appends : Queue T → QueueAsk T → Stage T → Type 0
-  Appends q a x = Goes q (at a x) mark.Append (at a (appended None))
+  Appends q a x = Continues q (at a x) mark.Append (at a (appended None))
 
   pub append_goes : (q : Queue T) (a : QueueAsk T) (x : Stage T) (v : T) (seen : Bool) → IsSend a v → x ≡ trying seen → q.closed ≡ false → is_filled q ≡ false → Appends q a x
   append_goes q a x v seen i f c n = ⊎_elim (λ e. at_both (Appends q) e f (refl, (c, n, refl))) (λ e. at_both (Appends q) e f (refl, (c, n, refl))) i
 
   abbrev Takes : Queue T → T → QueueAsk T → Stage T → Type 0
-  Takes q d a x = Goes q (at a x) mark.Take (at a (taken d))
+  Takes q d a x = Continues q (at a x) mark.Take (at a (taken d))
 
   pub take_goes : (q : Queue T) (a : QueueAsk T) (x : Stage T) (d : T) (seen : Bool) → a ≡ ask.Pop → x ≡ trying seen → IsOldest d q → Takes q d a x
   take_goes q a x d seen e f o = at_both (Takes q d) e f (refl, (d, o, refl))
@@ -85,8 +85,8 @@ module _ {T : Type 0} where
   pub capacity_answers : (q : Queue T) (a : QueueAsk T) (x : Stage T) (seen : Bool) → a ≡ ask.Capacity → x ≡ trying seen → q.capacity ≡ None → Ends q (ending.Replied (reply.Cap None)) a x
   capacity_answers q a x seen e f c = at_both (Ends q (ending.Replied (reply.Cap None))) e f (sym c)
 
-  pub empty_reads : (q : Queue T) (a : QueueAsk T) (x : Stage T) (seen : Bool) (n : ℕ) → a ≡ ask.IsEmpty → x ≡ trying seen → n ≡ q.removed → Goes q (at a x) mark.Nothing (at a (read n))
-  empty_reads q a x seen n e f g = at_both (λ b y. Goes q (at b y) mark.Nothing (at b (read n))) e f (refl, ap read g)
+  pub empty_reads : (q : Queue T) (a : QueueAsk T) (x : Stage T) (seen : Bool) (n : ℕ) → a ≡ ask.IsEmpty → x ≡ trying seen → n ≡ q.removed → Continues q (at a x) mark.Nothing (at a (read n))
+  empty_reads q a x seen n e f g = at_both (λ b y. Continues q (at b y) mark.Nothing (at b (read n))) e f (refl, ap read g)
 
   pub is_empty_answers : (q : Queue T) (a : QueueAsk T) (x : Stage T) (n : ℕ) → a ≡ ask.IsEmpty → x ≡ read n → q.items ≡ [] → Ends q (ending.Replied (reply.Flag true)) a x
   is_empty_answers q a x n e f i = at_both (Ends q (ending.Replied (reply.Flag true))) e f i
@@ -94,14 +94,14 @@ module _ {T : Type 0} where
   pub not_empty_answers : (q : Queue T) (a : QueueAsk T) (x : Stage T) (n : ℕ) → a ≡ ask.IsEmpty → x ≡ read n → n < q.accepted → Ends q (ending.Replied (reply.Flag false)) a x
   not_empty_answers q a x n e f i = at_both (Ends q (ending.Replied (reply.Flag false))) e f i
 
-  pub len_reads : (q : Queue T) (a : QueueAsk T) (x : Stage T) (seen : Bool) (n : ℕ) → a ≡ ask.Len → x ≡ trying seen → n ≡ q.accepted → Goes q (at a x) mark.Nothing (at a (read n))
-  len_reads q a x seen n e f g = at_both (λ b y. Goes q (at b y) mark.Nothing (at b (read n))) e f (refl, ap read g)
+  pub len_reads : (q : Queue T) (a : QueueAsk T) (x : Stage T) (seen : Bool) (n : ℕ) → a ≡ ask.Len → x ≡ trying seen → n ≡ q.accepted → Continues q (at a x) mark.Nothing (at a (read n))
+  len_reads q a x seen n e f g = at_both (λ b y. Continues q (at b y) mark.Nothing (at b (read n))) e f (refl, ap read g)
 
-  pub len_measures : (q : Queue T) (a : QueueAsk T) (x : Stage T) (n : ℕ) → a ≡ ask.Len → x ≡ read n → Goes q (at a x) mark.Nothing (at a (measured n (length q.items)))
-  len_measures q a x n e f = at_both (λ b y. Goes q (at b y) mark.Nothing (at b (measured n (length q.items)))) e f (refl, refl)
+  pub len_measures : (q : Queue T) (a : QueueAsk T) (x : Stage T) (n : ℕ) → a ≡ ask.Len → x ≡ read n → Continues q (at a x) mark.Nothing (at a (measured n (length q.items)))
+  len_measures q a x n e f = at_both (λ b y. Continues q (at b y) mark.Nothing (at b (measured n (length q.items)))) e f (refl, refl)
 
-  pub len_returns : (q : Queue T) (a : QueueAsk T) (x : Stage T) (n k : ℕ) → a ≡ ask.Len → x ≡ measured n k → Goes q (at a x) mark.Nothing (at a (trying false))
-  len_returns q a x n k e f = at_both (λ b y. Goes q (at b y) mark.Nothing (at b (trying false))) e f (refl, refl)
+  pub len_returns : (q : Queue T) (a : QueueAsk T) (x : Stage T) (n k : ℕ) → a ≡ ask.Len → x ≡ measured n k → Continues q (at a x) mark.Nothing (at a (trying false))
+  len_returns q a x n k e f = at_both (λ b y. Continues q (at b y) mark.Nothing (at b (trying false))) e f (refl, refl)
 
   pub len_answers : (q : Queue T) (a : QueueAsk T) (x : Stage T) (n k m : ℕ) → a ≡ ask.Len → x ≡ measured n k → m ≡ k → q.accepted ≡ n → Ends q (ending.Replied (reply.Count m)) a x
   len_answers q a x n k m e f g h = at_both (Ends q (ending.Replied (reply.Count m))) e f (g, h)

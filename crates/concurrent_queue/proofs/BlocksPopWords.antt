@@ -6,13 +6,13 @@ use Rattle.std.specs.Int.Bits.{or_step, or_zero_r}
 use Rattle.concurrent_queue.specs.Contents.{Contents, block_at, slot_at, with_reads, with_retired}
 use Rattle.concurrent_queue.specs.Contents as words
 use Rattle.concurrent_queue.specs.Queue.{Phase}
-use Rattle.concurrent_queue.specs.BlocksState.{Blocks, Cell, Block, Sound, Spot, spare, held, used, one_if, taken_in, Duty, count, owed, position, number, with_cell, with_block, with_spot}
-use Rattle.concurrent_queue.specs.BlocksState as duty
-use Rattle.concurrent_queue.specs.BlocksCalls as call
-use Rattle.concurrent_queue.specs.BlocksCalls.{Knows, owes}
-use Rattle.concurrent_queue.specs.BlocksMoves.{Moves, counted, pop_loads, pop_stays, pop_looks_none, pop_looks, pop_empty, pop_shut, pop_back, pop_goes, pop_wins, pop_wins_edge, pop_loses, next_waits, next_found, blocks, heads, wait_waits, wait_found, takes, counts, counts_last, retires, closes, closed_before, tells_closed, empty_loads, empty_tells, empty_denies, tells_full, len_loads, len_looks, len_tells, len_back, tells_capacity}
-use Rattle.concurrent_queue.specs.BlocksDenotes.{Denotes, IsBlock, act_of, IsHeadAt}
-use Rattle.concurrent_queue.specs.BlocksWords.{load_head, look_head_block, look_tail, swap_head, load_next, store_head_block, store_head, wait_written, take_message, after_take, count_read, retire_block, close_tail, tells, stays, ask_tail, empty_load_head, empty_load_tail, len_load_tail, len_load_head, len_again}
+use Rattle.concurrent_queue.specs.machine.BlocksState.{Blocks, Cell, BlockState, SoundBlocks, Spot, spare, held, used, one_if, taken_in, Duty, count, owed, position, number, with_cell, with_block, with_spot}
+use Rattle.concurrent_queue.specs.machine.BlocksState as duty
+use Rattle.concurrent_queue.specs.machine.BlocksCalls as call
+use Rattle.concurrent_queue.specs.machine.BlocksCalls.{KnowsBlocks, owes}
+use Rattle.concurrent_queue.specs.machine.BlocksMoves.{Moves, counted, pop_loads, pop_stays, pop_looks_none, pop_looks, pop_empty, pop_shut, pop_back, pop_goes, pop_wins, pop_wins_edge, pop_loses, next_waits, next_found, blocks, heads, wait_waits, wait_found, takes, counts, counts_last, retires, closes, closed_before, tells_closed, empty_loads, empty_tells, empty_denies, tells_full, len_loads, len_looks, len_tells, len_back, tells_capacity}
+use Rattle.concurrent_queue.specs.machine.BlocksDenotes.{Denotes, IsBlock, act_of, IsHeadAt}
+use Rattle.concurrent_queue.specs.machine.BlocksWords.{load_head, look_head_block, look_tail, swap_head, load_next, store_head_block, store_head, wait_written, take_message, after_take, count_read, retire_block, close_tail, tells, stays, ask_tail, empty_load_head, empty_load_tail, len_load_tail, len_load_head, len_again}
 use Rattle.concurrent_queue.specs.declared.call.QueueMark.TheVariants as mark
 use Rattle.concurrent_queue.specs.declared.call.QueueReply.TheVariants as reply
 use Rattle.concurrent_queue.specs.declared.cells.Slot.TheVariants as slot
@@ -44,7 +44,7 @@ one_bit : (b : Bool) → (one_if b == 1) ≡ b
 one_bit false = refl
 one_bit true = refl
 
-module _ {T : Type 0} (c : Contents T) (r : Blocks T) (queue : List T) (s : Sound r queue) (d : Denotes c r) (u : Phase T) (small : r.tail ≤ 2 ^ 61) where
+module _ {T : Type 0} (c : Contents T) (r : Blocks T) (queue : List T) (s : SoundBlocks r queue) (d : Denotes c r) (u : Phase T) (small : r.tail ≤ 2 ^ 61) where
   pub at-pop : Yields r act.Pop (load_head c)
   at-pop = choose (λ y. Yields r act.Pop (c, y)) (c.head % 32 == 31)
       (λ e. (r, d, pop_stays refl (sym (words_of.head_turns_is c r queue s d) ∙ e), tt))
@@ -117,7 +117,7 @@ module _ {T : Type 0} (c : Contents T) (r : Blocks T) (queue : List T) (s : Soun
   uncounted : (k : ℕ) → 1 ≤ owed r (count k) → (r.block k).retired ≡ false
   uncounted k mine = let t = taken_all r.head k in by_bool (r.block k).retired (λ f. f) (λ f. absurd (let z = s.retired k f in omega arith))
 
-  pub at-pop_next : (p b : ℕ) → IsHeadAt p → Knows r (act_of (act.PopNext p b)) u → 1 ≤ owed r (count (number p / 31)) → Yields r (act.PopNext p b) (load_next c p b)
+  pub at-pop_next : (p b : ℕ) → IsHeadAt p → KnowsBlocks r (act_of (act.PopNext p b)) u → 1 ≤ owed r (count (number p / 31)) → Yields r (act.PopNext p b) (load_next c p b)
   at-pop_next p b w f mine =
       let k : ℕ = number p / 31 in
       let it = f.1.4 in
@@ -131,7 +131,7 @@ module _ {T : Type 0} (c : Contents T) (r : Blocks T) (queue : List T) (s : Soun
       let q : (block_at c b).next ≡ r.num (k + 1) + 1 = rw l at next in
       (r, d, next_found refl l (omega arith), (w, omega arith))))
 
-  pub at-pop_block : (p b n : ℕ) → IsHeadAt p → 1 ≤ n → Knows r (act_of (act.PopBlock p b n)) u → Yields r (act.PopBlock p b n) (store_head_block c p b n)
+  pub at-pop_block : (p b n : ℕ) → IsHeadAt p → 1 ≤ n → KnowsBlocks r (act_of (act.PopBlock p b n)) u → Yields r (act.PopBlock p b n) (store_head_block c p b n)
   at-pop_block p b n w some f =
       let e : n ≡ r.num (number p / 31 + 1) + 1 = (let q = f.7 in omega arith) in
       let at : r.num (number p / 31 + 1) ≡ r.num (r.first + 1 - 1) = ap r.num (let q = f.5 in omega arith) in (
@@ -141,7 +141,7 @@ module _ {T : Type 0} (c : Contents T) (r : Blocks T) (queue : List T) (s : Soun
         w,
       )
 
-  pub at-pop_head : (p b : ℕ) → IsHeadAt p → Knows r (act_of (act.PopHead p b)) u → Yields r (act.PopHead p b) (store_head c p b)
+  pub at-pop_head : (p b : ℕ) → IsHeadAt p → KnowsBlocks r (act_of (act.PopHead p b)) u → Yields r (act.PopHead p b) (store_head c p b)
   at-pop_head p b w f =
       let h = head_small in
       let ed : number p % 31 ≡ 30 = f.2 in
@@ -153,7 +153,7 @@ module _ {T : Type 0} (c : Contents T) (r : Blocks T) (queue : List T) (s : Soun
         w,
       )
 
-  pub at-pop_wait : (p b : ℕ) → IsHeadAt p → Knows r (act_of (act.PopWait p b)) u → 1 ≤ owed r (count (number p / 31)) → Yields r (act.PopWait p b) (wait_written c p b)
+  pub at-pop_wait : (p b : ℕ) → IsHeadAt p → KnowsBlocks r (act_of (act.PopWait p b)) u → 1 ≤ owed r (count (number p / 31)) → Yields r (act.PopWait p b) (wait_written c p b)
   at-pop_wait p b w f mine =
       let n : ℕ = number p in
       let k : ℕ = number p / 31 in
@@ -166,7 +166,7 @@ module _ {T : Type 0} (c : Contents T) (r : Blocks T) (queue : List T) (s : Soun
       (λ e. (r, d, wait_found refl (sym is ∙ e), w))
       (λ e. (r, d, wait_waits refl (sym is ∙ e), w))
 
-  pub at-pop_take : (p b : ℕ) → IsHeadAt p → Knows r (act_of (act.PopTake p b)) u → 1 ≤ owed r (count (number p / 31)) → Yields r (act.PopTake p b) (take_message c p b)
+  pub at-pop_take : (p b : ℕ) → IsHeadAt p → KnowsBlocks r (act_of (act.PopTake p b)) u → 1 ≤ owed r (count (number p / 31)) → Yields r (act.PopTake p b) (take_message c p b)
   at-pop_take p b w f mine =
       let n : ℕ = number p in
       let k : ℕ = number p / 31 in
@@ -180,18 +180,18 @@ module _ {T : Type 0} (c : Contents T) (r : Blocks T) (queue : List T) (s : Soun
       subst (λ (o : Option T). Yields r (act.PopTake p b) (words.write_slot c (slot.In b (p % 32)) None, stays (after_take p b o))) (sym found)
       (with_cell r n (record { written = true; slot = None }), slot_words c r queue s d u small n (p % 32) b (record { written = true; slot = None }) w (head_place p w) it.0 it.1 alive (sym f.2), takes full refl, w)
 
-  count_block : (k : ℕ) (y : words.Block T) → IsBlock r k y → (r.block k).reads < 31 → IsBlock (counted r k) k (with_reads y ((y.reads + 1) % 2 ^ 64))
+  count_block : (k : ℕ) (y : words.BlockCells T) → IsBlock r k y → (r.block k).reads < 31 → IsBlock (counted r k) k (with_reads y ((y.reads + 1) % 2 ^ 64))
   count_block k y b low =
-      let blk : Block = record { linked = (r.block k).linked; reads = (r.block k).reads + 1; retired = (r.block k).retired } in
+      let blk : BlockState = record { linked = (r.block k).linked; reads = (r.block k).reads + 1; retired = (r.block k).retired } in
       let here = pick_here k k blk (r.block k) refl in
       record {
-        next = b.next ∙ sym (ap (λ (z : Block). if z.linked then r.num (k + 1) + 1 else 0) here);
-        reads = (let e = b.reads in mod-eq_of_lt (omega arith) ∙ (ap (λ (z : ℕ). z + 1) e ∙ sym (ap (λ (z : Block). z.reads) here)));
+        next = b.next ∙ sym (ap (λ (z : BlockState). if z.linked then r.num (k + 1) + 1 else 0) here);
+        reads = (let e = b.reads in mod-eq_of_lt (omega arith) ∙ (ap (λ (z : ℕ). z + 1) e ∙ sym (ap (λ (z : BlockState). z.reads) here)));
         written = b.written;
         slots = b.slots;
       }
 
-  pub at-pop_count : (p b : ℕ) (v : T) → IsHeadAt p → Knows r (act_of (act.PopCount p b v)) u → 1 ≤ owed r (count (number p / 31)) → Yields r (act.PopCount p b v) (count_read c p b v)
+  pub at-pop_count : (p b : ℕ) (v : T) → IsHeadAt p → KnowsBlocks r (act_of (act.PopCount p b v)) u → 1 ≤ owed r (count (number p / 31)) → Yields r (act.PopCount p b v) (count_read c p b v)
   at-pop_count p b v w f mine =
       let k : ℕ = number p / 31 in
       let it = f.3 in
@@ -199,7 +199,7 @@ module _ {T : Type 0} (c : Contents T) (r : Blocks T) (queue : List T) (s : Soun
       let x = d.used k it.0 alive in
       let t = taken_all r.head k in
       let low : (r.block k).reads < 31 = omega arith in
-      let blk : Block = record { linked = (r.block k).linked; reads = (r.block k).reads + 1; retired = (r.block k).retired } in
+      let blk : BlockState = record { linked = (r.block k).linked; reads = (r.block k).reads + 1; retired = (r.block k).retired } in
       let left : Denotes (words.with_block c b (with_reads (block_at c b) (((block_at c b).reads + 1) % 2 ^ 64))) (counted r k) =
       subst (λ (z : ℕ). Denotes (words.with_block c z (with_reads (block_at c z) (((block_at c z).reads + 1) % 2 ^ 64))) (counted r k)) (sym it.1)
       (retire.block_words c r queue s d k it.0 alive blk (with_reads (block_at c (r.num k)) (((block_at c (r.num k)).reads + 1) % 2 ^ 64)) alive (count_block k (block_at c (r.num k)) x low)) in
@@ -208,14 +208,14 @@ module _ {T : Type 0} (c : Contents T) (r : Blocks T) (queue : List T) (s : Soun
       (λ e. (counted r k, left, counts_last refl (sym reads ∙ is_eq (block_at c b).reads 30 e), w))
       (λ e. (counted r k, left, counts refl (λ q. not_eq (block_at c b).reads 30 e (reads ∙ q)), tt))
 
-  pub at-pop_retire : (p b : ℕ) (v : T) → IsHeadAt p → Knows r (act_of (act.PopRetire p b v)) u → 1 ≤ owed r (duty.retire (number p / 31)) → Yields r (act.PopRetire p b v) (retire_block c b v)
+  pub at-pop_retire : (p b : ℕ) (v : T) → IsHeadAt p → KnowsBlocks r (act_of (act.PopRetire p b v)) u → 1 ≤ owed r (duty.retire (number p / 31)) → Yields r (act.PopRetire p b v) (retire_block c b v)
   at-pop_retire p b v w f mine =
       let k : ℕ = number p / 31 in
       let it = f.3 in
       let q = both ((r.block k).reads == 31) (not (r.block k).retired) (one_is ((r.block k).reads == 31 && not (r.block k).retired) mine) in
       let alive = unnot (r.block k).retired q.1 in
       let at : r.spot b ≡ used k = ap r.spot it.1 ∙ s.live k it.0 alive in
-      let shut : Block = record { linked = (r.block k).linked; reads = 31; retired = true } in
+      let shut : BlockState = record { linked = (r.block k).linked; reads = 31; retired = true } in
       (with_spot (with_block r k shut) b spare, retire.retire_words c r queue s d k b at shut refl, retires refl, tt)
 
   -- closing, and the questions

@@ -6,11 +6,11 @@ use Rattle.std.proofs.Math.Nat.{mod-eq_of_lt}
 use Rattle.concurrent_queue.specs.Contents.{Contents, block_at, is_vacant, can_put, with_slot, without_spare, spare_of}
 use Rattle.concurrent_queue.specs.Contents as words
 use Rattle.concurrent_queue.specs.Queue.{Phase}
-use Rattle.concurrent_queue.specs.BlocksState.{Blocks, Cell, Block, Sound, spare, held, one_if, position, number, with_cell, with_block, with_spot, chained}
-use Rattle.concurrent_queue.specs.BlocksCalls.{Knows}
-use Rattle.concurrent_queue.specs.BlocksMoves.{extended, push_opens, push_stays, push_shut, push_shut_held, push_returns, look_none, look_none_held, look_more, look_ready, makes, makes_more, refused, refused_more, first_wins, first_loses, starts, starts_more, swap_loses, turns, adds, links, puts, stores, stores_held, gives}
-use Rattle.concurrent_queue.specs.BlocksDenotes.{Denotes, IsBlock, act_of, IsTailAt, IsProper}
-use Rattle.concurrent_queue.specs.BlocksWords.{Step, load_tail, when_shut, give_back, look_tail_block, look_first, look_with, Obtains, swap_first, start_head, swap_tail, after_swap, turn_tail_block, add_tail, link_next, put_message, store_written, give_spare}
+use Rattle.concurrent_queue.specs.machine.BlocksState.{Blocks, Cell, BlockState, SoundBlocks, spare, held, one_if, position, number, with_cell, with_block, with_spot, chained}
+use Rattle.concurrent_queue.specs.machine.BlocksCalls.{KnowsBlocks}
+use Rattle.concurrent_queue.specs.machine.BlocksMoves.{extended, push_opens, push_stays, push_shut, push_shut_held, push_returns, look_none, look_none_held, look_more, look_ready, makes, makes_more, refused, refused_more, first_wins, first_loses, starts, starts_more, swap_loses, turns, adds, links, puts, stores, stores_held, gives}
+use Rattle.concurrent_queue.specs.machine.BlocksDenotes.{Denotes, IsBlock, act_of, IsTailAt, IsProper}
+use Rattle.concurrent_queue.specs.machine.BlocksWords.{Step, load_tail, when_shut, give_back, look_tail_block, look_first, look_with, Obtains, swap_first, start_head, swap_tail, after_swap, turn_tail_block, add_tail, link_next, put_message, store_written, give_spare}
 use Rattle.concurrent_queue.specs.declared.call.QueueMark.TheVariants as mark
 use Rattle.concurrent_queue.specs.declared.cells.Slot.TheVariants as slot
 use Rattle.concurrent_queue.specs.declared.unbounded.action.UnboundedAction.TheVariants as act
@@ -20,7 +20,7 @@ use Rattle.concurrent_queue.proofs.BlocksDenote as words_of
 use Rattle.concurrent_queue.proofs.BlocksRetire as retire
 use Rattle.concurrent_queue.proofs.BlocksYields.{Yields, choose, is_eq, not_eq, some_none, set_get, set_get_other, tail_offset, tail_place, shows_none, shows_some, chain_word}
 
-module _ {T : Type 0} (c : Contents T) (r : Blocks T) (queue : List T) (s : Sound r queue) (d : Denotes c r) (u : Phase T) (small : r.tail ≤ 2 ^ 61) where
+module _ {T : Type 0} (c : Contents T) (r : Blocks T) (queue : List T) (s : SoundBlocks r queue) (d : Denotes c r) (u : Phase T) (small : r.tail ≤ 2 ^ 61) where
   shut_case : (v : T) (h : Option ℕ) → r.closed ≡ true → Yields r (act.Push v h) (c, when_shut v h)
   shut_case v None k = (r, d, push_shut refl k, tt)
   shut_case v (Some h) k = (r, d, push_shut_held refl k, tt)
@@ -46,7 +46,7 @@ module _ {T : Type 0} (c : Contents T) (r : Blocks T) (queue : List T) (s : Soun
       (λ t. (let o = sym (words_of.closed_is c r queue s d) ∙ e in let f = sym (words_of.tail_turns_is c r queue s d) ∙ t in
       (r, d, push_opens refl o (words_of.tail_number_is c r queue s d) f, tail_open o f)))))
 
-  pub at-push_return : (v : T) (h : ℕ) → Knows r (act_of (act.PushReturn v h)) u → Yields r (act.PushReturn v h) (give_back c v h)
+  pub at-push_return : (v : T) (h : ℕ) → KnowsBlocks r (act_of (act.PushReturn v h)) u → Yields r (act.PushReturn v h) (give_back c v h)
   at-push_return v h f = (with_spot r h spare, retire.give_words c r d h f.2 queue s, push_returns refl, tt)
 
   look_first_case : (v : T) (t : ℕ) (h : Option ℕ) → IsTailAt t → r.last ≡ 0 → Yields r (act.PushLook v t h) (c, look_first v t h)
@@ -77,7 +77,7 @@ module _ {T : Type 0} (c : Contents T) (r : Blocks T) (queue : List T) (s : Soun
   none_yet : r.last ≡ 0 → r.tail ≡ 0
   none_yet z = by_bool r.tail_turns (λ o. ⊎_elim (λ g. absurd (omega (arith, g))) (λ g. g.1) (s.last o)) (λ o. absurd (let p = (s.paged o).0 in omega arith))
 
-  pub at-push_first : (v : T) (t h : ℕ) → IsTailAt t → Knows r (act_of (act.PushFirst v t h)) u → Yields r (act.PushFirst v t h) (swap_first c v t h)
+  pub at-push_first : (v : T) (t h : ℕ) → IsTailAt t → KnowsBlocks r (act_of (act.PushFirst v t h)) u → Yields r (act.PushFirst v t h) (swap_first c v t h)
   at-push_first v t h w f = choose (λ y. Yields r (act.PushFirst v t h) y) (c.tail_block == 0)
       (λ e. (let z = shows_none c r d r.last c.tail_block d.tail_block (is_eq c.tail_block 0 e) in
       (chained r h, words_of.chain_words c r queue s d h f.2 (let n = none_yet z in omega arith), first_wins refl z, w)))
@@ -91,7 +91,7 @@ module _ {T : Type 0} (c : Contents T) (r : Blocks T) (queue : List T) (s : Soun
       (λ g. (begun, x, starts_more refl, w))
       (λ g. (begun, x, starts refl, (w, λ q z. not_eq (t / 2 % 32) 30 g q)))
 
-  pub at-push_start : (v : T) (t b : ℕ) → IsTailAt t → Knows r (act_of (act.PushStart v t b)) u → Yields r (act.PushStart v t b) (start_head c v t b)
+  pub at-push_start : (v : T) (t b : ℕ) → IsTailAt t → KnowsBlocks r (act_of (act.PushStart v t b)) u → Yields r (act.PushStart v t b) (start_head c v t b)
   at-push_start v t b w f =
       let l = f.3.0 in
       start_case v t b w (words_of.words_only c r queue s d r.all r.head r.head_turns r.tail r.tail_turns r.closed 1 c.head c.tail ((b + 1) % 2 ^ 64) d.head d.tail
@@ -129,10 +129,10 @@ module _ {T : Type 0} (c : Contents T) (r : Blocks T) (queue : List T) (s : Soun
       (λ e. (r, d, swap_loses refl (words_of.tail_lost c r queue s d t w.0 (not_eq c.tail t e)), tt))
 
   -- the page turn
-  pub at-push_turn : (v : T) (t b h : ℕ) → IsTailAt t → Knows r (act_of (act.PushTurn v t b h)) u → Yields r (act.PushTurn v t b h) (turn_tail_block c v t b h)
+  pub at-push_turn : (v : T) (t b h : ℕ) → IsTailAt t → KnowsBlocks r (act_of (act.PushTurn v t b h)) u → Yields r (act.PushTurn v t b h) (turn_tail_block c v t b h)
   at-push_turn v t b h w f = (chained r h, words_of.chain_words c r queue s d h f.1 (omega (arith, f.2, f.3, f.5)), turns refl, w)
 
-  pub at-push_add : (v : T) (t b h : ℕ) → IsTailAt t → Knows r (act_of (act.PushAdd v t b h)) u → Yields r (act.PushAdd v t b h) (add_tail c v t b h)
+  pub at-push_add : (v : T) (t b h : ℕ) → IsTailAt t → KnowsBlocks r (act_of (act.PushAdd v t b h)) u → Yields r (act.PushAdd v t b h) (add_tail c v t b h)
   at-push_add v t b h w f =
       let e : c.tail ≡ 2 * position r.tail true + one_if r.closed = rw f.3 at d.tail in
       let g = s.paged f.3 in
@@ -149,20 +149,20 @@ module _ {T : Type 0} (c : Contents T) (r : Blocks T) (queue : List T) (s : Soun
   unread : (n : ℕ) → (r.cell n).written ≡ false → (r.block (n / 31)).retired ≡ false
   unread n w = by_bool (r.block (n / 31)).retired (λ f. f) (λ f. absurd (false≢true (sym w ∙ (s.done n (s.retired (n / 31) f)).0)))
 
-  abbrev link_to : ℕ → Block
+  abbrev link_to : ℕ → BlockState
   link_to k = record { linked = true; reads = (r.block k).reads; retired = (r.block k).retired }
 
-  pub at-push_link : (v : T) (t b h : ℕ) → IsTailAt t → Knows r (act_of (act.PushLink v t b h)) u → Yields r (act.PushLink v t b h) (link_next c v t b h)
+  pub at-push_link : (v : T) (t b h : ℕ) → IsTailAt t → KnowsBlocks r (act_of (act.PushLink v t b h)) u → Yields r (act.PushLink v t b h) (link_next c v t b h)
   at-push_link v t b h w f =
       let k : ℕ = number (t / 2) / 31 in
       let fill = f.0 in
       let alive = unread (number (t / 2)) fill.5 in
       let x = d.used k fill.4.0 alive in
-      let y : words.Block T = words.with_next (block_at c (r.num k)) ((h + 1) % 2 ^ 64) in
+      let y : words.BlockCells T = words.with_next (block_at c (r.num k)) ((h + 1) % 2 ^ 64) in
       let here = pick_here k k (link_to k) (r.block k) refl in
       let is : IsBlock (with_block r k (link_to k)) k y = record {
-        next = chain_word c r d (k + 1) h f.2 f.3 ∙ (ap (λ (z : ℕ). z + 1) f.3 ∙ sym (ap (λ (z : Block). if z.linked then r.num (k + 1) + 1 else 0) here));
-        reads = x.reads ∙ sym (ap (λ (z : Block). z.reads) here);
+        next = chain_word c r d (k + 1) h f.2 f.3 ∙ (ap (λ (z : ℕ). z + 1) f.3 ∙ sym (ap (λ (z : BlockState). if z.linked then r.num (k + 1) + 1 else 0) here));
+        reads = x.reads ∙ sym (ap (λ (z : BlockState). z.reads) here);
         written = x.written;
         slots = x.slots;
       } in
@@ -175,7 +175,7 @@ module _ {T : Type 0} (c : Contents T) (r : Blocks T) (queue : List T) (s : Soun
   cell_off : (n i j : ℕ) (x : Cell T) → 31 * (n / 31) + i ≡ n → (j ≡ i → ⊥) → (with_cell r n x).cell (31 * (n / 31) + j) ≡ r.cell (31 * (n / 31) + j)
   cell_off n i j x e ne = pick_other (31 * (n / 31) + j) n x (r.cell (31 * (n / 31) + j)) (λ q. ne (omega arith))
 
-  slot_block : (n i : ℕ) (x : Cell T) (y : words.Block T) → i < 31 → 31 * (n / 31) + i ≡ n → IsBlock r (n / 31) y → x.written ≡ (r.cell n).written → IsBlock (with_cell r n x) (n / 31) (with_slot y i x.slot)
+  slot_block : (n i : ℕ) (x : Cell T) (y : words.BlockCells T) → i < 31 → 31 * (n / 31) + i ≡ n → IsBlock r (n / 31) y → x.written ≡ (r.cell n).written → IsBlock (with_cell r n x) (n / 31) (with_slot y i x.slot)
   slot_block n i x y low e b w = record {
     next = b.next;
     reads = b.reads;
@@ -196,7 +196,7 @@ module _ {T : Type 0} (c : Contents T) (r : Blocks T) (queue : List T) (s : Soun
   vacant_at n i b low e l q alive none = subst (λ (z : ℕ). can_put c (slot.In z i) ≡ true) (sym q)
       (ap is_vacant ((d.used (n / 31) l alive).slots i low ∙ ap Some (ap (λ (m : ℕ). (r.cell m).slot) e ∙ none)))
 
-  pub at-push_put : (v : T) (t b : ℕ) (h : Option ℕ) → IsTailAt t → Knows r (act_of (act.PushPut v t b h)) u → Yields r (act.PushPut v t b h) (put_message c v t b h)
+  pub at-push_put : (v : T) (t b : ℕ) (h : Option ℕ) → IsTailAt t → KnowsBlocks r (act_of (act.PushPut v t b h)) u → Yields r (act.PushPut v t b h) (put_message c v t b h)
   at-push_put v t b h w f =
       let n : ℕ = number (t / 2) in
       let fill = f.0 in
@@ -208,7 +208,7 @@ module _ {T : Type 0} (c : Contents T) (r : Blocks T) (queue : List T) (s : Soun
   abbrev stored : ℕ → Cell T
   stored n = record { written = true; slot = (r.cell n).slot }
 
-  store_block : (n i : ℕ) (y : words.Block T) → i < 31 → 31 * (n / 31) + i ≡ n → IsBlock r (n / 31) y → IsBlock (with_cell r n (stored n)) (n / 31) (words.with_written y i 1)
+  store_block : (n i : ℕ) (y : words.BlockCells T) → i < 31 → 31 * (n / 31) + i ≡ n → IsBlock r (n / 31) y → IsBlock (with_cell r n (stored n)) (n / 31) (words.with_written y i 1)
   store_block n i y low e b = record {
     next = b.next;
     reads = b.reads;
@@ -225,7 +225,7 @@ module _ {T : Type 0} (c : Contents T) (r : Blocks T) (queue : List T) (s : Soun
   store_words n i b low e l q alive = subst (λ (z : ℕ). Denotes (words.with_block c z (words.with_written (block_at c z) i 1)) (with_cell r n (stored n))) (sym q)
       (retire.cell_words c r queue s d n l alive (stored n) (words.with_written (block_at c (r.num (n / 31))) i 1) (store_block n i (block_at c (r.num (n / 31))) low e (d.used (n / 31) l alive)))
 
-  pub at-push_store : (t b : ℕ) (h : Option ℕ) → IsTailAt t → Knows r (act_of {T = T} (act.PushStore t b h)) u → Yields r (act.PushStore t b h) (store_written c t b h)
+  pub at-push_store : (t b : ℕ) (h : Option ℕ) → IsTailAt t → KnowsBlocks r (act_of {T = T} (act.PushStore t b h)) u → Yields r (act.PushStore t b h) (store_written c t b h)
   at-push_store t b None w f =
       let n : ℕ = number (t / 2) in
       let fill = f.1 in
@@ -235,5 +235,5 @@ module _ {T : Type 0} (c : Contents T) (r : Blocks T) (queue : List T) (s : Soun
       let fill = f.1 in
       (with_cell r n (stored n), store_words n (t / 2 % 32) b w.1 (tail_place t w) fill.4.0 fill.4.1 (unread n fill.5), stores_held refl, tt)
 
-  pub at-push_give : (h : ℕ) → Knows r (act_of {T = T} (act.PushGive h)) u → Yields r (act.PushGive h) (give_spare c h)
+  pub at-push_give : (h : ℕ) → KnowsBlocks r (act_of {T = T} (act.PushGive h)) u → Yields r (act.PushGive h) (give_spare c h)
   at-push_give h f = (with_spot r h spare, retire.give_words c r d h f.3 queue s, gives refl, tt)

@@ -2,12 +2,12 @@
 use Rattle.std.proofs.Common.{◌≡◌, ℕ, ◌<◌, ◌≤◌, ◌⊎◌, ⊎_elim, Bool, true, false, ◌==◌, List, [], ◌∷◌, ◌++◌, Option, None, Some, MatchOption, refl, sym, ap, arith}
 use Rattle.std.proofs.lemmas.Bool.{false≢true}
 use Rattle.std.proofs.lemmas.Bool.Decides.{nat_tests}
-use Rattle.concurrent_queue.specs.BlocksState.{Blocks, Sound, Duty, fill, take, count, retire, link, turn_tail, turn_head, start, keep, owed}
-use Rattle.concurrent_queue.specs.BlocksCalls.{Act, push, push_return, push_look, push_make, push_first, push_start, push_more, push_swap, push_turn, push_add, push_link, push_put, push_store, push_give, pop, pop_look, pop_tail, pop_swap, pop_next, pop_block, pop_head, pop_wait, pop_take, pop_count, pop_retire, close, ask_closed, ask_empty, empty_tail, ask_full, ask_len, len_head, len_tail, ask_capacity, finished, Knows, owes, holding}
-use Rattle.concurrent_queue.specs.BlocksMoves.{Moves, BlocksSeat, BlocksMeans, owners}
-use Rattle.concurrent_queue.specs.Places.{Each}
+use Rattle.concurrent_queue.specs.machine.BlocksState.{Blocks, SoundBlocks, Duty, fill, take, count, retire, link, turn_tail, turn_head, start, keep, owed}
+use Rattle.concurrent_queue.specs.machine.BlocksCalls.{Act, push, push_return, push_look, push_make, push_first, push_start, push_more, push_swap, push_turn, push_add, push_link, push_put, push_store, push_give, pop, pop_look, pop_tail, pop_swap, pop_next, pop_block, pop_head, pop_wait, pop_take, pop_count, pop_retire, close, ask_closed, ask_empty, empty_tail, ask_full, ask_len, len_head, len_tail, ask_capacity, finished, KnowsBlocks, owes, holding}
+use Rattle.concurrent_queue.specs.machine.BlocksMoves.{Moves, BlocksSeat, BlocksMeans, owners}
+use Rattle.concurrent_queue.specs.machine.Places.{Each}
 use Rattle.concurrent_queue.specs.Step.{IsQuiet}
-use Rattle.concurrent_queue.specs.BlocksLeft.{left, is_keep}
+use Rattle.concurrent_queue.specs.machine.BlocksLeft.{left, is_keep}
 use Rattle.concurrent_queue.specs.Queue.{Queue, Phase, Stage, trying, displaced, appended, taken, read, measured}
 use Rattle.concurrent_queue.specs.declared.call.QueueMark.{QueueMark}
 use Rattle.concurrent_queue.specs.declared.unbounded.ending.Ending.{Ending}
@@ -46,7 +46,7 @@ holding_rest h turn_head e = refl
 holding_rest h start e = refl
 holding_rest h (keep b) e = absurd (false≢true (sym e))
 
-starting_rest : (d : Duty) → is_start d ≡ false → Rattle.concurrent_queue.specs.BlocksCalls.starting d ≡ 0
+starting_rest : (d : Duty) → is_start d ≡ false → Rattle.concurrent_queue.specs.machine.BlocksCalls.starting d ≡ 0
 starting_rest (fill n) e = refl
 starting_rest (take n) e = refl
 starting_rest (count n) e = refl
@@ -58,7 +58,7 @@ starting_rest start e = absurd (false≢true (sym e))
 starting_rest (keep b) e = refl
 
 -- a call without a mark owes nothing but a held block and the first head_block
-idle_owes : {T : Type 0} (r : Blocks T) (a : Act T) (u : Phase T) → Knows r a u → IsQuiet u.stage → (d : Duty) → is_keep d ≡ false → is_start d ≡ false → owes a d ≡ 0
+idle_owes : {T : Type 0} (r : Blocks T) (a : Act T) (u : Phase T) → KnowsBlocks r a u → IsQuiet u.stage → (d : Duty) → is_keep d ≡ false → is_start d ≡ false → owes a d ≡ 0
 idle_owes r (push v h) u k e d f g = holding_rest h d f
 idle_owes r (push_return v h) u k e d f g = holding_rest (Some h) d f
 idle_owes r (push_look v n h) u k e d f g = holding_rest h d f
@@ -101,7 +101,7 @@ none_owe d [] all = refl
 none_owe d (p ∷ ps) all = omega (arith, all.0, none_owe d ps all.1)
 
 -- after a first taking the first head_block is stored
-started : {T : Type 0} (r : Blocks T) (queue : List T) → Sound r queue → 1 ≤ r.head → owed r start ≡ 0
+started : {T : Type 0} (r : Blocks T) (queue : List T) → SoundBlocks r queue → 1 ≤ r.head → owed r start ≡ 0
 started r queue s h =
     let some : 1 ≤ r.first = by_bool r.head_turns (λ f. ⊎_elim (λ g. omega arith) (λ g. absurd (omega (arith, g.1))) (s.first f)) (λ f. (s.turned f).2) in
     let a : (r.first == 0) ≡ false = grind (arith, nat_tests) in
@@ -149,12 +149,12 @@ module _ {T : Type 0} (r : Blocks T) (q : Queue T) (l r2 : List (BlocksSeat T)) 
   abbrev pub OthersQuiet : Type 0
   OthersQuiet = Each (λ (s : BlocksSeat T). IsQuiet s.phase.stage) (l ++ r2)
 
-  owe_not : (d : Duty) → is_keep d ≡ false → is_start d ≡ false → (ps : List (BlocksSeat T)) → Each (λ (s : BlocksSeat T). Knows r s.act s.phase) ps → Each (λ (s : BlocksSeat T). IsQuiet s.phase.stage) ps → owners d ps ≡ 0
+  owe_not : (d : Duty) → is_keep d ≡ false → is_start d ≡ false → (ps : List (BlocksSeat T)) → Each (λ (s : BlocksSeat T). KnowsBlocks r s.act s.phase) ps → Each (λ (s : BlocksSeat T). IsQuiet s.phase.stage) ps → owners d ps ≡ 0
   owe_not d f g [] k e = refl
   owe_not d f g (s ∷ ps) k e = let here = idle_owes r s.act s.phase k.0 e.0 d f g in omega (arith, here, owe_not d f g ps k.1 e.1)
 
-  others_know : Each (λ (s : BlocksSeat T). Knows r s.act s.phase) (l ++ r2)
-  others_know = Each-out (λ (s : BlocksSeat T). Knows r s.act s.phase) l r2 (seat_at a p) means.seats
+  others_know : Each (λ (s : BlocksSeat T). KnowsBlocks r s.act s.phase) (l ++ r2)
+  others_know = Each-out (λ (s : BlocksSeat T). KnowsBlocks r s.act s.phase) l r2 (seat_at a p) means.seats
 
   only_its : OthersQuiet → (d : Duty) → is_keep d ≡ false → is_start d ≡ false → owed r d ≡ owes a d
   only_its e d f g = let i = its_owners r q l r2 a p means d in let o = owe_not d f g (l ++ r2) others_know e in omega arith

@@ -2,11 +2,11 @@
 use Rattle.std.proofs.Common.{◌≡◌, ℕ, zero, suc, ◌+◌, ◌*◌, ◌/◌, ◌^◌, ◌<◌, ◌≤◌, ⊎_elim, Bool, true, false, if◌then◌else◌, ◌==◌, List, [], ◌∷◌, ◌++◌, length, length-append, Some, slice_index_or, slice_set, refl, sym, ap, ◌∙◌, subst, arith}
 use Rattle.std.proofs.lemmas.Bool.{cases_lt, false≢true}
 use Rattle.concurrent_queue.specs.Contents.{Contents, block_at, blank, no_block, with_retired, with_spare, without_spare, spare_of, spare_in, blocks_with, others_of}
-use Rattle.concurrent_queue.specs.BlocksState.{Blocks, Block, Sound, Spot, unmade, spare, held, used, one_if, with_block, with_spot, Cell, with_cell}
+use Rattle.concurrent_queue.specs.machine.BlocksState.{Blocks, BlockState, SoundBlocks, Spot, unmade, spare, held, used, one_if, with_block, with_spot, Cell, with_cell}
 use Rattle.concurrent_queue.specs.Contents as words
-use Rattle.concurrent_queue.specs.BlocksCalls.{same}
-use Rattle.concurrent_queue.specs.BlocksMoves.{IsFree}
-use Rattle.concurrent_queue.specs.BlocksDenotes.{Denotes, IsBlock, is_spare, IsIdle, times}
+use Rattle.concurrent_queue.specs.machine.BlocksCalls.{same}
+use Rattle.concurrent_queue.specs.machine.BlocksMoves.{IsFree}
+use Rattle.concurrent_queue.specs.machine.BlocksDenotes.{Denotes, IsBlock, is_spare, IsIdle, times}
 use Rattle.concurrent_queue.proofs.BlocksSteps.{pick_other, pick_here, by_eq, used_same, held_used}
 use Rattle.concurrent_queue.proofs.BlocksLater.{same_is, same_not}
 use Rattle.concurrent_queue.proofs.BlocksSpares.{room}
@@ -45,7 +45,7 @@ module _ {T : Type 0} (c : Contents T) (r : Blocks T) (d : Denotes c r) where
   pub none_unmade : (j : ℕ) → length c.blocks ≤ j → times j c.spares ≡ 0
   none_unmade j l = d.spares j ∙ ap (λ (z : Spot). one_if (is_spare z)) (d.made j l)
 
-module _ {T : Type 0} (c : Contents T) (r : Blocks T) (queue : List T) (s : Sound r queue) (d : Denotes c r) (k b : ℕ) (x : r.spot b ≡ used k) (shut : Block) (gone : shut.retired ≡ true) where
+module _ {T : Type 0} (c : Contents T) (r : Blocks T) (queue : List T) (s : SoundBlocks r queue) (d : Denotes c r) (k b : ℕ) (x : r.spot b ≡ used k) (shut : BlockState) (gone : shut.retired ≡ true) where
   in_range : b < length c.blocks
   in_range = ⊎_elim (λ g. g) (λ g. absurd (used_unmade k (sym x ∙ d.made b g))) (cases_lt b (length c.blocks))
 
@@ -59,15 +59,15 @@ module _ {T : Type 0} (c : Contents T) (r : Blocks T) (queue : List T) (s : Soun
     head_block = d.head_block;
     tail_block = d.tail_block;
     used = λ j l f. by_eq j k
-        (λ q. absurd (false≢true (sym f ∙ ap (λ (y : Block). y.retired) (pick_here j k shut (r.block j) q) ∙ gone)))
+        (λ q. absurd (false≢true (sym f ∙ ap (λ (y : BlockState). y.retired) (pick_here j k shut (r.block j) q) ∙ gone)))
         (λ ne. (let same_block = pick_other j k shut (r.block j) ne in
-        let f' : (r.block j).retired ≡ false = sym (ap (λ (y : Block). y.retired) same_block) ∙ f in
+        let f' : (r.block j).retired ≡ false = sym (ap (λ (y : BlockState). y.retired) same_block) ∙ f in
         let y = d.used j l f' in
         let live = s.live j l f' in
         let at : block_at (with_retired c b) (r.num j) ≡ block_at c (r.num j) = set_other c.blocks b (r.num j) blank no_block (λ q. ne (used_same j k (sym live ∙ ap r.spot q ∙ x))) in
-        subst (λ (z : words.Block T). IsBlock (with_spot (with_block r k shut) b spare) j z) (sym at) (record {
-          next = y.next ∙ ap (λ (z : Block). if z.linked then r.num (j + 1) + 1 else 0) (sym same_block);
-          reads = y.reads ∙ ap (λ (z : Block). z.reads) (sym same_block);
+        subst (λ (z : words.BlockCells T). IsBlock (with_spot (with_block r k shut) b spare) j z) (sym at) (record {
+          next = y.next ∙ ap (λ (z : BlockState). if z.linked then r.num (j + 1) + 1 else 0) (sym same_block);
+          reads = y.reads ∙ ap (λ (z : BlockState). z.reads) (sym same_block);
           written = y.written;
           slots = y.slots;
         })));
@@ -88,7 +88,7 @@ module _ {T : Type 0} (c : Contents T) (r : Blocks T) (queue : List T) (s : Soun
   }
 
 -- a word or a slot of one block in use is written: no other ordinal's block changes
-module _ {T : Type 0} (c : Contents T) (r : Blocks T) (queue : List T) (s : Sound r queue) (d : Denotes c r) (n : ℕ) (low : n / 31 < r.last) (alive : (r.block (n / 31)).retired ≡ false) where
+module _ {T : Type 0} (c : Contents T) (r : Blocks T) (queue : List T) (s : SoundBlocks r queue) (d : Denotes c r) (n : ℕ) (low : n / 31 < r.last) (alive : (r.block (n / 31)).retired ≡ false) where
   its : r.spot (r.num (n / 31)) ≡ used (n / 31)
   its = s.live (n / 31) low alive
 
@@ -98,7 +98,7 @@ module _ {T : Type 0} (c : Contents T) (r : Blocks T) (queue : List T) (s : Soun
   elsewhere : (cell : Cell T) (j i : ℕ) → i < 31 → (j ≡ n / 31 → ⊥) → (with_cell r n cell).cell (31 * j + i) ≡ r.cell (31 * j + i)
   elsewhere cell j i b ne = pick_other (31 * j + i) n cell (r.cell (31 * j + i)) (λ q. ne (omega arith))
 
-  pub cell_words : (cell : Cell T) (x : words.Block T) → IsBlock (with_cell r n cell) (n / 31) x → Denotes (words.with_block c (r.num (n / 31)) x) (with_cell r n cell)
+  pub cell_words : (cell : Cell T) (x : words.BlockCells T) → IsBlock (with_cell r n cell) (n / 31) x → Denotes (words.with_block c (r.num (n / 31)) x) (with_cell r n cell)
   cell_words cell x is =
       let here : r.num (n / 31) < length c.blocks = ⊎_elim (λ g. g) (λ g. absurd (used_unmade (n / 31) (sym its ∙ d.made (r.num (n / 31)) g))) (cases_lt (r.num (n / 31)) (length c.blocks)) in
       record {
@@ -108,10 +108,10 @@ module _ {T : Type 0} (c : Contents T) (r : Blocks T) (queue : List T) (s : Soun
         tail_block = d.tail_block;
         used = λ j l f. by_eq j (n / 31)
             (λ q. (let at : block_at (words.with_block c (r.num (n / 31)) x) (r.num j) ≡ x = ap (λ (i : ℕ). block_at (words.with_block c (r.num (n / 31)) x) (r.num i)) q ∙ set_here c.blocks (r.num (n / 31)) x no_block here in
-            subst (λ (z : words.Block T). IsBlock (with_cell r n cell) j z) (sym at) (subst (λ (i : ℕ). IsBlock (with_cell r n cell) i x) (sym q) is)))
+            subst (λ (z : words.BlockCells T). IsBlock (with_cell r n cell) j z) (sym at) (subst (λ (i : ℕ). IsBlock (with_cell r n cell) i x) (sym q) is)))
             (λ ne. (let y = d.used j l f in
             let at : block_at (words.with_block c (r.num (n / 31)) x) (r.num j) ≡ block_at c (r.num j) = set_other c.blocks (r.num (n / 31)) (r.num j) x no_block (λ q. ne (used_same j (n / 31) (sym (s.live j l f) ∙ ap r.spot q ∙ its))) in
-            subst (λ (z : words.Block T). IsBlock (with_cell r n cell) j z) (sym at) (record {
+            subst (λ (z : words.BlockCells T). IsBlock (with_cell r n cell) j z) (sym at) (record {
               next = y.next;
               reads = y.reads;
               written = λ i b. y.written i b ∙ ap (λ (z : Cell T). Some (one_if z.written)) (sym (elsewhere cell j i b ne));
@@ -125,11 +125,11 @@ module _ {T : Type 0} (c : Contents T) (r : Blocks T) (queue : List T) (s : Soun
       }
 
 -- a word of one live block's own is written: its link, or its count of reads
-module _ {T : Type 0} (c : Contents T) (r : Blocks T) (queue : List T) (s : Sound r queue) (d : Denotes c r) (k : ℕ) (low : k < r.last) (alive : (r.block k).retired ≡ false) where
+module _ {T : Type 0} (c : Contents T) (r : Blocks T) (queue : List T) (s : SoundBlocks r queue) (d : Denotes c r) (k : ℕ) (low : k < r.last) (alive : (r.block k).retired ≡ false) where
   there : r.num k < length c.blocks
   there = ⊎_elim (λ g. g) (λ g. absurd (used_unmade k (sym (s.live k low alive) ∙ d.made (r.num k) g))) (cases_lt (r.num k) (length c.blocks))
 
-  pub block_words : (blk : Block) (x : words.Block T) → blk.retired ≡ false → IsBlock (with_block r k blk) k x → Denotes (words.with_block c (r.num k) x) (with_block r k blk)
+  pub block_words : (blk : BlockState) (x : words.BlockCells T) → blk.retired ≡ false → IsBlock (with_block r k blk) k x → Denotes (words.with_block c (r.num k) x) (with_block r k blk)
   block_words blk x kept is = record {
     head = d.head;
     tail = d.tail;
@@ -137,14 +137,14 @@ module _ {T : Type 0} (c : Contents T) (r : Blocks T) (queue : List T) (s : Soun
     tail_block = d.tail_block;
     used = λ j l f. by_eq j k
         (λ q. (let at : block_at (words.with_block c (r.num k) x) (r.num j) ≡ x = ap (λ (i : ℕ). block_at (words.with_block c (r.num k) x) (r.num i)) q ∙ set_here c.blocks (r.num k) x no_block there in
-        subst (λ (z : words.Block T). IsBlock (with_block r k blk) j z) (sym at) (subst (λ (i : ℕ). IsBlock (with_block r k blk) i x) (sym q) is)))
+        subst (λ (z : words.BlockCells T). IsBlock (with_block r k blk) j z) (sym at) (subst (λ (i : ℕ). IsBlock (with_block r k blk) i x) (sym q) is)))
         (λ ne. (let same_block = pick_other j k blk (r.block j) ne in
-        let f' : (r.block j).retired ≡ false = sym (ap (λ (y : Block). y.retired) same_block) ∙ f in
+        let f' : (r.block j).retired ≡ false = sym (ap (λ (y : BlockState). y.retired) same_block) ∙ f in
         let y = d.used j l f' in
         let at : block_at (words.with_block c (r.num k) x) (r.num j) ≡ block_at c (r.num j) = set_other c.blocks (r.num k) (r.num j) x no_block (λ q. ne (used_same j k (sym (s.live j l f') ∙ ap r.spot q ∙ s.live k low alive))) in
-        subst (λ (z : words.Block T). IsBlock (with_block r k blk) j z) (sym at) (record {
-          next = y.next ∙ ap (λ (z : Block). if z.linked then r.num (j + 1) + 1 else 0) (sym same_block);
-          reads = y.reads ∙ ap (λ (z : Block). z.reads) (sym same_block);
+        subst (λ (z : words.BlockCells T). IsBlock (with_block r k blk) j z) (sym at) (record {
+          next = y.next ∙ ap (λ (z : BlockState). if z.linked then r.num (j + 1) + 1 else 0) (sym same_block);
+          reads = y.reads ∙ ap (λ (z : BlockState). z.reads) (sym same_block);
           written = y.written;
           slots = y.slots;
         })));
@@ -170,17 +170,17 @@ module _ {T : Type 0} (c : Contents T) (r : Blocks T) (d : Denotes c r) (h : ℕ
   kept_place = room (length c.blocks) h c.spares (once_spare c r d) (none_unmade c r d) kept_in (d.spares h ∙ ap (λ (z : Spot). one_if (is_spare z)) e)
 
   -- a block in use is another one
-  not_it : (k : ℕ) → (queue : List T) → Sound r queue → k < r.last → (r.block k).retired ≡ false → r.num k ≡ h → ⊥
+  not_it : (k : ℕ) → (queue : List T) → SoundBlocks r queue → k < r.last → (r.block k).retired ≡ false → r.num k ≡ h → ⊥
   not_it k queue s l f q = held_used k (sym e ∙ ap r.spot (sym q) ∙ s.live k l f)
 
-  pub give_words : (queue : List T) → Sound r queue → Denotes (with_retired c h) (with_spot r h spare)
+  pub give_words : (queue : List T) → SoundBlocks r queue → Denotes (with_retired c h) (with_spot r h spare)
   give_words queue s = record {
     head = d.head;
     tail = d.tail;
     head_block = d.head_block;
     tail_block = d.tail_block;
     used = λ j l f. (let y = d.used j l f in
-        subst (λ (z : words.Block T). IsBlock (with_spot r h spare) j z) (sym (set_other c.blocks h (r.num j) blank no_block (not_it j queue s l f))) (record { next = y.next; reads = y.reads; written = y.written; slots = y.slots }));
+        subst (λ (z : words.BlockCells T). IsBlock (with_spot r h spare) j z) (sym (set_other c.blocks h (r.num j) blank no_block (not_it j queue s l f))) (record { next = y.next; reads = y.reads; written = y.written; slots = y.slots }));
     numbered = λ j l. (let n = set_length c.blocks h blank in let g = d.numbered j l in omega arith);
     idle = λ j i. by_eq j h
         (λ q. ap (block_at (with_retired c h)) q ∙ set_here c.blocks h blank no_block kept_in)
@@ -221,12 +221,12 @@ one_is true h = refl
 free_is : (x y : Spot) → x ≡ y → IsFree y → IsFree x
 free_is x y e f = subst IsFree (sym e) f
 
-module _ {T : Type 0} (c : Contents T) (r : Blocks T) (queue : List T) (s : Sound r queue) (d : Denotes c r) where
+module _ {T : Type 0} (c : Contents T) (r : Blocks T) (queue : List T) (s : SoundBlocks r queue) (d : Denotes c r) where
   -- a section that takes the block b, which is not in use, and leaves these blocks and spare ones
-  abbrev got : ℕ → List (words.Block T) → List ℕ → Contents T
+  abbrev got : ℕ → List (words.BlockCells T) → List ℕ → Contents T
   got b bs xs = record c { blocks = bs; spares = xs }
 
-  got_words : (b : ℕ) (bs : List (words.Block T)) (xs : List ℕ) → ((k : ℕ) → r.spot b ≡ used k → ⊥) → ((j : ℕ) → (j ≡ b → ⊥) → slice_index_or bs j no_block ≡ block_at c j) → slice_index_or bs b no_block ≡ blank
+  got_words : (b : ℕ) (bs : List (words.BlockCells T)) (xs : List ℕ) → ((k : ℕ) → r.spot b ≡ used k → ⊥) → ((j : ℕ) → (j ≡ b → ⊥) → slice_index_or bs j no_block ≡ block_at c j) → slice_index_or bs b no_block ≡ blank
       → ((j : ℕ) → times j xs ≡ one_if (is_spare (if j == b then held else r.spot j))) → ((j : ℕ) → length bs ≤ j → length c.blocks ≤ j) → ((j : ℕ) → j < length c.blocks → j < length bs) → (length bs ≤ b → ⊥) → length bs < 2 ^ 64 → Denotes (got b bs xs) (with_spot r b held)
   got_words b bs xs free at is_blank listed shorter within inside small = record {
     head = d.head;
@@ -234,7 +234,7 @@ module _ {T : Type 0} (c : Contents T) (r : Blocks T) (queue : List T) (s : Soun
     head_block = d.head_block;
     tail_block = d.tail_block;
     used = λ j l f. (let y = d.used j l f in
-        subst (λ (z : words.Block T). IsBlock (with_spot r b held) j z) (sym (at (r.num j) (λ q. free j (ap r.spot (sym q) ∙ s.live j l f)))) (record { next = y.next; reads = y.reads; written = y.written; slots = y.slots }));
+        subst (λ (z : words.BlockCells T). IsBlock (with_spot r b held) j z) (sym (at (r.num j) (λ q. free j (ap r.spot (sym q) ∙ s.live j l f)))) (record { next = y.next; reads = y.reads; written = y.written; slots = y.slots }));
     numbered = λ j l. within (r.num j) (d.numbered j l);
     idle = λ j i. by_eq j b (λ q. ap (block_at (got b bs xs)) q ∙ is_blank) (λ ne. at j ne ∙ d.idle j (subst IsIdle (pick_other j b held (r.spot j) ne) i));
     spares = listed;

@@ -5,16 +5,16 @@ use Rattle.std.proofs.lemmas.Bool.{cases_lt, false≢true}
 use Rattle.std.proofs.lemmas.Bool.Decides.{nat_tests}
 use Rattle.concurrent_queue.specs.Contents.{Contents, block_at, slot_at}
 use Rattle.concurrent_queue.specs.Queue.{Queue, Phase, appended, message}
-use Rattle.concurrent_queue.specs.Places.{Place, Each}
+use Rattle.concurrent_queue.specs.machine.Places.{Place, Each}
 use Rattle.concurrent_queue.specs.Step.{ShowsBy, LiesBy, IsBrought, HasBrought}
-use Rattle.concurrent_queue.specs.Forms.{place_phases}
-use Rattle.concurrent_queue.specs.BlocksState.{Blocks, one_if, Duty, fill, link, turn_head, start, owed, position}
-use Rattle.concurrent_queue.specs.BlocksCalls as call
-use Rattle.concurrent_queue.specs.BlocksCalls.{Act, Knows, IsSend, Fills, same, owes}
-use Rattle.concurrent_queue.specs.BlocksMoves.{Stands, BlocksSeat, BlocksMeans, owners}
-use Rattle.concurrent_queue.specs.BlocksDenotes.{Denotes, act_of}
-use Rattle.concurrent_queue.specs.BlocksForm.{seat_of, IsChain, UnboundedMeans}
-use Rattle.concurrent_queue.specs.BlocksWords.{blocks_closed, blocks_length, blocks_counted, blocks_slot, blocks_items, chain_items}
+use Rattle.concurrent_queue.specs.machine.Forms.{place_phases}
+use Rattle.concurrent_queue.specs.machine.BlocksState.{Blocks, one_if, Duty, fill, link, turn_head, start, owed, position}
+use Rattle.concurrent_queue.specs.machine.BlocksCalls as call
+use Rattle.concurrent_queue.specs.machine.BlocksCalls.{Act, KnowsBlocks, IsSend, Fills, same, owes}
+use Rattle.concurrent_queue.specs.machine.BlocksMoves.{StandsBlocks, BlocksSeat, BlocksMeans, owners}
+use Rattle.concurrent_queue.specs.machine.BlocksDenotes.{Denotes, act_of}
+use Rattle.concurrent_queue.specs.machine.BlocksForm.{seat_of, IsChain, UnboundedMeans}
+use Rattle.concurrent_queue.specs.machine.BlocksWords.{blocks_closed, blocks_length, blocks_counted, blocks_slot, blocks_items, chain_items}
 use Rattle.concurrent_queue.specs.declared.call.QueueAsk.TheVariants as ask
 use Rattle.concurrent_queue.specs.declared.cells.Slot.{Slot}
 use Rattle.concurrent_queue.specs.declared.cells.Slot.TheVariants as slot
@@ -66,7 +66,7 @@ module _ {T : Type 0} (r : Blocks T) (n : ℕ) (v : T) (is : slice_get r.all n �
   fills : (m b : ℕ) (x : Option T) (w : T) (p : Phase T) → 1 ≤ same m n → Fills r p w m b x → Brings p
   fills m b x w p h f = brings p w f.0 f.1 (subst (λ (j : ℕ). slice_get r.all j ≡ Some w) (its_cell m h) f.2)
 
-  pub filler : (a : Act T) (p : Phase T) → Knows r a p → 1 ≤ owes a (fill n) → Brings p
+  pub filler : (a : Act T) (p : Phase T) → KnowsBlocks r a p → 1 ≤ owes a (fill n) → Brings p
   filler (call.push w h) p k l = absurd (omega arith)
   filler (call.push_return w h) p k l = absurd (omega arith)
   filler (call.push_look w m h) p k l = absurd (omega arith)
@@ -104,7 +104,7 @@ module _ {T : Type 0} (r : Blocks T) (n : ℕ) (v : T) (is : slice_get r.all n �
   filler call.finished p k l = absurd (omega arith)
 
   -- some call under way fills the cell
-  brought : (ps : List (Place (UnboundedCall T) T)) → 1 ≤ owners (fill n) (map seat_of ps) → Each (λ (s : BlocksSeat T). Knows r s.act s.phase) (map seat_of ps) → IsBrought (place_phases ps) v
+  brought : (ps : List (Place (UnboundedCall T) T)) → 1 ≤ owners (fill n) (map seat_of ps) → Each (λ (s : BlocksSeat T). KnowsBlocks r s.act s.phase) (map seat_of ps) → IsBrought (place_phases ps) v
   brought [] h k = absurd (omega arith)
   brought (p ∷ ps) h k = by_eq (owes (act_of p.action.action) (fill n)) 0
       (λ e. inr (brought ps (omega arith) k.1))
@@ -136,7 +136,7 @@ slot_offset (slot.At i) = 0
 slot_offset (slot.In b i) = i
 
 module _ {T : Type 0} (c : Contents T) (q : Queue T) (ps : List (Place (UnboundedCall T) T)) (r : Blocks T) (d : Denotes c r) (means : BlocksMeans r q (map seat_of ps)) where
-  st : Stands r q
+  st : StandsBlocks r q
   st = means.stands
 
   counts : length q.items + r.head ≡ r.tail

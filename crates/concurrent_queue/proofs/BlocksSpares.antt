@@ -3,7 +3,7 @@ use Rattle.std.proofs.Common.{◌≡◌, ℕ, zero, suc, ◌+◌, ◌<◌, ◌�
 use Rattle.std.proofs.lemmas.Bool.{cases_lt}
 use Rattle.std.proofs.lemmas.Bool.Decides.{nat_tests}
 use Rattle.concurrent_queue.specs.Contents.{with_spare}
-use Rattle.concurrent_queue.specs.BlocksDenotes.{times}
+use Rattle.concurrent_queue.specs.machine.BlocksDenotes.{times}
 use Rattle.concurrent_queue.proofs.BlocksLater.{same_is, same_not}
 
 -- how many entries of a list are below m

@@ -2,8 +2,8 @@
 use Rattle.std.proofs.Common.{◌≡◌, false, [], None, refl, inr, arith}
 use Rattle.std.proofs.lemmas.Bool.{false≢true}
 use Rattle.std.proofs.lemmas.Bool.Decides.{nat_tests}
-use Rattle.concurrent_queue.specs.BlocksState.{Blocks, unmade, Duty, fill, take, count, retire, link, turn_tail, turn_head, start, keep, owed}
-use Rattle.concurrent_queue.specs.BlocksMoves.{BlocksMeans}
+use Rattle.concurrent_queue.specs.machine.BlocksState.{Blocks, unmade, Duty, fill, take, count, retire, link, turn_tail, turn_head, start, keep, owed}
+use Rattle.concurrent_queue.specs.machine.BlocksMoves.{BlocksMeans}
 use Rattle.concurrent_queue.specs.Queue.{Queue}
 use Rattle.concurrent_queue.proofs.BlocksSteps.{taken_none}
 

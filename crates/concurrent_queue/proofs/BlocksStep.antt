@@ -3,12 +3,12 @@ use Rattle.std.proofs.Common.{◌≡◌, ℕ, ◌+◌, ◌-◌, ◌/◌, ◌%◌
 use Rattle.concurrent_queue.specs.Contents.{Contents, write, write_slot, without_spare, with_retired, block_at, can_put}
 use Rattle.concurrent_queue.specs.Queue.{Phase}
 use Rattle.concurrent_queue.specs.Step.{OneCell}
-use Rattle.concurrent_queue.specs.BlocksState.{Blocks, Sound, Duty, count, owed, number, tail_word}
-use Rattle.concurrent_queue.specs.BlocksState as duty
-use Rattle.concurrent_queue.specs.BlocksCalls.{Knows, owes}
-use Rattle.concurrent_queue.specs.BlocksDenotes.{Denotes, Shows, act_of, IsTailAt, IsHeadAt, IsProper}
-use Rattle.concurrent_queue.specs.BlocksLeft as left
-use Rattle.concurrent_queue.specs.BlocksWords.{Step, IsUnboundedStep, Obtains, unbounded_rank, late}
+use Rattle.concurrent_queue.specs.machine.BlocksState.{Blocks, SoundBlocks, Duty, count, owed, number, tail_word}
+use Rattle.concurrent_queue.specs.machine.BlocksState as duty
+use Rattle.concurrent_queue.specs.machine.BlocksCalls.{KnowsBlocks, owes}
+use Rattle.concurrent_queue.specs.machine.BlocksDenotes.{Denotes, Shows, act_of, IsTailAt, IsHeadAt, IsProper}
+use Rattle.concurrent_queue.specs.machine.BlocksLeft as left
+use Rattle.concurrent_queue.specs.machine.BlocksWords.{Step, IsUnboundedStep, Obtains, unbounded_rank, late}
 use Rattle.concurrent_queue.specs.declared.cells.Word.{Word}
 use Rattle.concurrent_queue.specs.declared.cells.Word.TheVariants as word
 use Rattle.concurrent_queue.specs.declared.cells.Slot.TheVariants as slot
@@ -103,12 +103,12 @@ module _ {T : Type 0} where
   small_step c act.AskCapacity x e = subst (Small c) (sym e) (same_cells c)
   small_step c act.Finished x e = subst (Small c) (sym e) (same_cells c)
 
-module _ {T : Type 0} (c : Contents T) (r : Blocks T) (queue : List T) (s : Sound r queue) (d : Denotes c r) (u : Phase T) (small : r.tail ≤ 2 ^ 61) where
+module _ {T : Type 0} (c : Contents T) (r : Blocks T) (queue : List T) (s : SoundBlocks r queue) (d : Denotes c r) (u : Phase T) (small : r.tail ≤ 2 ^ 61) where
   counts_its : (a : UnboundedAction T) (k : ℕ) → ((e : Duty) → owes (act_of a) e ≤ owed r e) → owes (act_of a) (count k) ≡ 1 → 1 ≤ owed r (count k)
   counts_its a k mine e = let m = mine (count k) in omega arith
 
   -- each step on the words is a step on the numbers
-  pub yields : (a : UnboundedAction T) (x : Step T) → IsProper a → Knows r (act_of a) u → ((e : Duty) → owes (act_of a) e ≤ owed r e) → IsUnboundedStep c a x → Yields r a x
+  pub yields : (a : UnboundedAction T) (x : Step T) → IsProper a → KnowsBlocks r (act_of a) u → ((e : Duty) → owes (act_of a) e ≤ owed r e) → IsUnboundedStep c a x → Yields r a x
   yields (act.Push v h) x w f mine e = subst (Yields r (act.Push v h)) (sym e) (pushes.at-push c r queue s d u small v h)
   yields (act.PushShut v h) x w f mine e = absurd w
   yields (act.PushReturn v h) x w f mine e = subst (Yields r (act.PushReturn v h)) (sym e) (pushes.at-push_return c r queue s d u small v h f)
@@ -148,7 +148,7 @@ module _ {T : Type 0} (c : Contents T) (r : Blocks T) (queue : List T) (s : Soun
 
 -- ---- the rank by the words is the rank by the numbers
 
-module _ {T : Type 0} (c : Contents T) (r : Blocks T) (queue : List T) (s : Sound r queue) (d : Denotes c r) where
+module _ {T : Type 0} (c : Contents T) (r : Blocks T) (queue : List T) (s : SoundBlocks r queue) (d : Denotes c r) where
   same_tail : (t : ℕ) → IsTailAt t → not (c.tail == t) ≡ left.tail_moved r (number (t / 2))
   same_tail t w = by_eq c.tail t
       (λ e. (let m = words_of.tail_met c r queue s d t w e in rw (eq_is c.tail t e, m.0, m.1, eq_is r.tail (number (t / 2)) m.2) refl))

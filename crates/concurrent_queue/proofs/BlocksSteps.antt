@@ -2,9 +2,9 @@
 use Rattle.std.proofs.Common.{◌≡◌, ℕ, zero, suc, ◌+◌, ◌*◌, ◌/◌, ◌%◌, ◌<◌, ◌≤◌, ◌⊎◌, ⊎_elim, Bool, true, false, if◌then◌else◌, ◌==◌, List, [], ◌∷◌, ◌++◌, length, drop, None, Some, slice_get, refl, sym, ap, ◌∙◌, subst, inl, arith, length-append}
 use Rattle.std.proofs.lemmas.Bool.{cases_lt, false≢true}
 use Rattle.std.proofs.lemmas.Bool.Decides.{nat_tests}
-use Rattle.concurrent_queue.specs.BlocksState.{Blocks, Cell, Block, Sound, Spot, spare, held, used, taken_in, with_cell, with_block, with_spot, chained}
-use Rattle.concurrent_queue.specs.BlocksCalls.{same}
-use Rattle.concurrent_queue.specs.BlocksMoves.{extended}
+use Rattle.concurrent_queue.specs.machine.BlocksState.{Blocks, Cell, BlockState, SoundBlocks, Spot, spare, held, used, taken_in, with_cell, with_block, with_spot, chained}
+use Rattle.concurrent_queue.specs.machine.BlocksCalls.{same}
+use Rattle.concurrent_queue.specs.machine.BlocksMoves.{extended}
 use Rattle.concurrent_queue.proofs.BlocksBasics.{get_before}
 
 pub drop_end : {A : Type 0} (xs : List A) (x : A) (k : ℕ) → k ≤ length xs → drop k (xs ++ x ∷ []) ≡ drop k xs ++ x ∷ []
@@ -60,8 +60,8 @@ taken_none h k e = let a : k < h / 31 → ⊥ = λ q. omega arith in let b : k �
 pub taken_full : (h k : ℕ) → taken_in h k ≡ 31 → k < h / 31
 taken_full h k e = grind (arith, nat_tests)
 
-module _ {T : Type 0} (r : Blocks T) (items : List T) (s : Sound r items) where
-  pub append_keeps : (v : T) (edge : Bool) → r.tail_turns ≡ false → 1 ≤ r.last → (edge ≡ false → r.tail % 31 ≡ 30 → ⊥) → (edge ≡ true → r.tail % 31 ≡ 30) → Sound (extended r v edge) (items ++ v ∷ [])
+module _ {T : Type 0} (r : Blocks T) (items : List T) (s : SoundBlocks r items) where
+  pub append_keeps : (v : T) (edge : Bool) → r.tail_turns ≡ false → 1 ≤ r.last → (edge ≡ false → r.tail % 31 ≡ 30 → ⊥) → (edge ≡ true → r.tail % 31 ≡ 30) → SoundBlocks (extended r v edge) (items ++ v ∷ [])
   append_keeps v edge o some low high =
       let last : r.last ≡ r.tail / 31 + 1 = ⊎_elim (λ h. h) (λ h. absurd (omega (arith, h.0))) (s.last o) in
       record {
@@ -85,7 +85,7 @@ module _ {T : Type 0} (r : Blocks T) (items : List T) (s : Sound r items) where
       }
 
   pub take_keeps : (edge : Bool) → r.head_turns ≡ false → 1 ≤ r.first → r.head < r.tail → (edge ≡ false → r.head % 31 ≡ 30 → ⊥) → (edge ≡ true → r.head % 31 ≡ 30)
-      → Sound (record r { head = r.head + 1; head_turns = edge }) (drop 1 items)
+      → SoundBlocks (record r { head = r.head + 1; head_turns = edge }) (drop 1 items)
   take_keeps edge o some more low high =
       let first : r.first ≡ r.head / 31 + 1 = ⊎_elim (λ h. h) (λ h. absurd (omega (arith, h.0))) (s.first o) in
       record {
@@ -109,7 +109,7 @@ module _ {T : Type 0} (r : Blocks T) (items : List T) (s : Sound r items) where
       }
 
   -- the tail's word store of a block that is held: at the very first, and where a page is turned
-  pub chain_keeps : (h : ℕ) → r.spot h ≡ held → (r.tail_turns ≡ true × (r.last ≡ r.tail / 31)) ⊎ ((r.tail_turns ≡ false) × (r.last ≡ 0) × (r.tail ≡ 0)) → Sound (chained r h) items
+  pub chain_keeps : (h : ℕ) → r.spot h ≡ held → (r.tail_turns ≡ true × (r.last ≡ r.tail / 31)) ⊎ ((r.tail_turns ≡ false) × (r.last ≡ 0) × (r.tail ≡ 0)) → SoundBlocks (chained r h) items
   chain_keeps h e or =
       record {
         all = s.all;
@@ -138,7 +138,7 @@ module _ {T : Type 0} (r : Blocks T) (items : List T) (s : Sound r items) where
       }
 
   -- a block that isn't in the chain changes its spot
-  pub spot_keeps : (h : ℕ) (x : Spot) → ((k : ℕ) → r.spot h ≡ used k → ⊥) → Sound (with_spot r h x) items
+  pub spot_keeps : (h : ℕ) (x : Spot) → ((k : ℕ) → r.spot h ≡ used k → ⊥) → SoundBlocks (with_spot r h x) items
   spot_keeps h x free = record {
     all = s.all;
     items = s.items;
@@ -160,7 +160,7 @@ module _ {T : Type 0} (r : Blocks T) (items : List T) (s : Sound r items) where
   }
 
   -- a page is turned at the tail, at the head, and the first block and the next one are stored in head_block
-  pub tail_rests : r.last ≡ r.tail / 31 + 1 → Sound (record r { tail_turns = false }) items
+  pub tail_rests : r.last ≡ r.tail / 31 + 1 → SoundBlocks (record r { tail_turns = false }) items
   tail_rests e = record {
     all = s.all;
     items = s.items;
@@ -181,7 +181,7 @@ module _ {T : Type 0} (r : Blocks T) (items : List T) (s : Sound r items) where
     live = s.live;
   }
 
-  pub head_rests : r.first ≡ r.head / 31 + 1 → Sound (record r { head_turns = false }) items
+  pub head_rests : r.first ≡ r.head / 31 + 1 → SoundBlocks (record r { head_turns = false }) items
   head_rests e = record {
     all = s.all;
     items = s.items;
@@ -202,7 +202,7 @@ module _ {T : Type 0} (r : Blocks T) (items : List T) (s : Sound r items) where
     live = s.live;
   }
 
-  pub first_moves : (f : ℕ) → f ≤ r.last → (r.head_turns ≡ false → f ≡ r.head / 31 + 1) → f ≤ r.head / 31 + 1 → 1 ≤ f → Sound (record r { first = f }) items
+  pub first_moves : (f : ℕ) → f ≤ r.last → (r.head_turns ≡ false → f ≡ r.head / 31 + 1) → f ≤ r.head / 31 + 1 → 1 ≤ f → SoundBlocks (record r { first = f }) items
   first_moves f b e low some = record {
     all = s.all;
     items = s.items;
@@ -238,7 +238,7 @@ module _ {T : Type 0} (r : Blocks T) (items : List T) (s : Sound r items) where
       (λ e. subst (λ (x : Cell T). P m x) (sym (cell_here n c m e)) (subst (λ (j : ℕ). P j c) (sym e) here))
       (λ ne. subst (λ (x : Cell T). P m x) (sym (cell_other n c m ne)) (others m))
 
-  pub cell_keeps : (n : ℕ) (c : Cell T) → FineCell n c → Sound (with_cell r n c) items
+  pub cell_keeps : (n : ℕ) (c : Cell T) → FineCell n c → SoundBlocks (with_cell r n c) items
   cell_keeps n c fine = record {
     all = s.all;
     items = s.items;
@@ -259,17 +259,17 @@ module _ {T : Type 0} (r : Blocks T) (items : List T) (s : Sound r items) where
     live = s.live;
   }
 
-  pub block_is : (k : ℕ) (b : Block) (P : ℕ → Block → Type 0) → P k b → ((m : ℕ) → P m (r.block m)) → (m : ℕ) → P m ((with_block r k b).block m)
+  pub block_is : (k : ℕ) (b : BlockState) (P : ℕ → BlockState → Type 0) → P k b → ((m : ℕ) → P m (r.block m)) → (m : ℕ) → P m ((with_block r k b).block m)
   block_is k b P here others m = by_eq m k
-      (λ e. subst (λ (x : Block). P m x) (sym (pick_here m k b (r.block m) e)) (subst (λ (j : ℕ). P j b) (sym e) here))
-      (λ ne. subst (λ (x : Block). P m x) (sym (pick_other m k b (r.block m) ne)) (others m))
+      (λ e. subst (λ (x : BlockState). P m x) (sym (pick_here m k b (r.block m) e)) (subst (λ (j : ℕ). P j b) (sym e) here))
+      (λ ne. subst (λ (x : BlockState). P m x) (sym (pick_other m k b (r.block m) ne)) (others m))
 
   -- a block is linked, or a read of it is counted
-  abbrev FineBlock : ℕ → Block → Type 0
+  abbrev FineBlock : ℕ → BlockState → Type 0
   FineBlock k b = (r.tail / 31 ≤ k → b.linked ≡ false) × (b.linked ≡ true → k + 1 < r.last) × (b.reads ≤ taken_in r.head k)
       × ((n : ℕ) → n / 31 ≡ k → b.reads ≡ 31 → ((r.cell n).written ≡ true) × ((r.cell n).slot ≡ None)) × (b.retired ≡ true → b.reads ≡ 31) × (b.retired ≡ false → (r.block k).retired ≡ false)
 
-  pub block_keeps : (k : ℕ) (b : Block) → FineBlock k b → Sound (with_block r k b) items
+  pub block_keeps : (k : ℕ) (b : BlockState) → FineBlock k b → SoundBlocks (with_block r k b) items
   block_keeps k b fine = record {
     all = s.all;
     items = s.items;
@@ -292,9 +292,9 @@ module _ {T : Type 0} (r : Blocks T) (items : List T) (s : Sound r items) where
 
   -- a block whose reads are all counted goes to the spare ones
   pub retire_keeps : (k : ℕ) (l : Bool) → l ≡ (r.block k).linked → k < r.last → (r.block k).retired ≡ false → (r.block k).reads ≡ 31
-      → Sound (with_spot (with_block r k (record { linked = l; reads = 31; retired = true })) (r.num k) spare) items
+      → SoundBlocks (with_spot (with_block r k (record { linked = l; reads = 31; retired = true })) (r.num k) spare) items
   retire_keeps k l e low f full =
-      let b : Block = record { linked = l; reads = 31; retired = true } in
+      let b : BlockState = record { linked = l; reads = 31; retired = true } in
       let old = s.live k low f in
       record {
         all = s.all;
@@ -314,13 +314,13 @@ module _ {T : Type 0} (r : Blocks T) (items : List T) (s : Sound r items) where
         done = λ n. block_is k b (λ j x. n / 31 ≡ j → x.reads ≡ 31 → ((r.cell n).written ≡ true) × ((r.cell n).slot ≡ None)) (λ g h. s.done n (ap (λ (i : ℕ). (r.block i).reads) g ∙ full)) (λ j g h. s.done n (ap (λ (i : ℕ). (r.block i).reads) g ∙ h)) (n / 31) refl;
         retired = block_is k b (λ j x. x.retired ≡ true → x.reads ≡ 31) (λ h. refl) s.retired;
         live = λ j h g. by_eq j k
-            (λ q. absurd (false≢true (sym g ∙ ap (λ (x : Block). x.retired) (pick_here j k b (r.block j) q))))
-            (λ ne. (let there = s.live j h (sym (ap (λ (x : Block). x.retired) (pick_other j k b (r.block j) ne)) ∙ g) in
+            (λ q. absurd (false≢true (sym g ∙ ap (λ (x : BlockState). x.retired) (pick_here j k b (r.block j) q))))
+            (λ ne. (let there = s.live j h (sym (ap (λ (x : BlockState). x.retired) (pick_other j k b (r.block j) ne)) ∙ g) in
             pick_other (r.num j) (r.num k) spare (r.spot (r.num j)) (λ z. ne (used_same j k (sym there ∙ ap r.spot z ∙ old))) ∙ there));
       }
 
   -- the queue is closed
-  pub close_keeps : Sound (record r { closed = true }) items
+  pub close_keeps : SoundBlocks (record r { closed = true }) items
   close_keeps = record {
     all = s.all;
     items = s.items;

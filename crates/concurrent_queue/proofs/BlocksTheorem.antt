@@ -1,10 +1,10 @@
 -- The theorem of an unbounded queue's step: one call among all that are under way.
 use Rattle.std.proofs.Common.{◌≡◌, ℕ, ◌+◌, ◌/◌, ◌≤◌, List, [], ◌∷◌, ◌++◌, Option, None, Some, MatchOption, sym, ap, ◌∙◌, arith}
-use Rattle.concurrent_queue.specs.BlocksState.{Blocks, Duty, take, count, owed}
-use Rattle.concurrent_queue.specs.BlocksCalls.{Act, push, push_return, push_look, push_make, push_first, push_start, push_more, push_swap, push_turn, push_add, push_link, push_put, push_store, push_give, pop, pop_look, pop_tail, pop_swap, pop_next, pop_block, pop_head, pop_wait, pop_take, pop_count, pop_retire, close, ask_closed, ask_empty, empty_tail, ask_full, ask_len, len_head, len_tail, ask_capacity, finished, Knows, same, owes}
-use Rattle.concurrent_queue.specs.BlocksMoves.{Moves, Later, BlocksKept, BlocksSeat, BlocksMeans, owners, answer}
-use Rattle.concurrent_queue.specs.Places.{Each}
-use Rattle.concurrent_queue.specs.Queue.{Queue, Phase, after, Goes, Answers}
+use Rattle.concurrent_queue.specs.machine.BlocksState.{Blocks, Duty, take, count, owed}
+use Rattle.concurrent_queue.specs.machine.BlocksCalls.{Act, push, push_return, push_look, push_make, push_first, push_start, push_more, push_swap, push_turn, push_add, push_link, push_put, push_store, push_give, pop, pop_look, pop_tail, pop_swap, pop_next, pop_block, pop_head, pop_wait, pop_take, pop_count, pop_retire, close, ask_closed, ask_empty, empty_tail, ask_full, ask_len, len_head, len_tail, ask_capacity, finished, KnowsBlocks, same, owes}
+use Rattle.concurrent_queue.specs.machine.BlocksMoves.{Moves, Later, BlocksKept, BlocksSeat, BlocksMeans, owners, answer}
+use Rattle.concurrent_queue.specs.machine.Places.{Each}
+use Rattle.concurrent_queue.specs.Queue.{Queue, Phase, after, Continues, Answers}
 use Rattle.concurrent_queue.proofs.BlocksSteps.{by_eq}
 use Rattle.concurrent_queue.proofs.BlocksLater.{same_is, same_not}
 use Rattle.concurrent_queue.proofs.BlocksOthers.{later_keeps}
@@ -87,7 +87,7 @@ seat_at a p = record { act = a; phase = p }
 -- what a step of one call leaves: it goes on or ends, and the queue and the calls under way mean the queue after its mark
 abbrev pub Advances : {T : Type 0} → Blocks T → Queue T → Phase T → List (BlocksSeat T) → List (BlocksSeat T) → Act T → QueueMark → Option (Ending T) → Type 0
 Advances {T} r' q p left right a' m x = MatchOption x
-    ((p' : Phase T) × Goes q p m p' × BlocksMeans r' (after p m q) (left ++ seat_at a' p' ∷ right))
+    ((p' : Phase T) × Continues q p m p' × BlocksMeans r' (after p m q) (left ++ seat_at a' p' ∷ right))
     (λ y. Answers q p m (answer p.ask y) × BlocksMeans r' (after p m q) (left ++ right))
 
 module _ {T : Type 0} (r : Blocks T) (q : Queue T) (left right : List (BlocksSeat T)) (a : Act T) (p : Phase T) (means : BlocksMeans r q (left ++ seat_at a p ∷ right)) where
@@ -101,13 +101,13 @@ module _ {T : Type 0} (r : Blocks T) (q : Queue T) (left right : List (BlocksSea
   mine : (d : Duty) → owes a d ≤ owed r d
   mine d = omega (arith, its_owners d)
 
-  pub knows : Knows r a p
-  knows = Each-in (λ (s : BlocksSeat T). Knows r s.act s.phase) left right (seat_at a p) means.seats
+  pub knows : KnowsBlocks r a p
+  knows = Each-in (λ (s : BlocksSeat T). KnowsBlocks r s.act s.phase) left right (seat_at a p) means.seats
 
-  still_know : {r' : Blocks T} → Later r r' a → Each (λ (s : BlocksSeat T). Knows r' s.act s.phase) (left ++ right)
-  still_know {r'} l = all_others (λ (s : BlocksSeat T). Knows r s.act s.phase) (λ (s : BlocksSeat T). Knows r' s.act s.phase) a (λ d. owed r d)
+  still_know : {r' : Blocks T} → Later r r' a → Each (λ (s : BlocksSeat T). KnowsBlocks r' s.act s.phase) (left ++ right)
+  still_know {r'} l = all_others (λ (s : BlocksSeat T). KnowsBlocks r s.act s.phase) (λ (s : BlocksSeat T). KnowsBlocks r' s.act s.phase) a (λ d. owed r d)
       (λ s k ne. later_keeps r q.items means.stands.sound r' a l s.act s.phase ne k) (left ++ right) (λ d. omega (arith, its_owners d))
-      (Each-out (λ (s : BlocksSeat T). Knows r s.act s.phase) left right (seat_at a p) means.seats)
+      (Each-out (λ (s : BlocksSeat T). KnowsBlocks r s.act s.phase) left right (seat_at a p) means.seats)
 
   kept_means : {r' : Blocks T} {a' : Act T} {m : QueueMark} (x : Option (Ending T)) → BlocksKept r q a p r' a' m x → Advances r' q p left right a' m x
   kept_means {r'} {a'} {m} None f =
@@ -117,7 +117,7 @@ module _ {T : Type 0} (r : Blocks T) (q : Queue T) (left right : List (BlocksSea
         record {
           stands = f.stands;
           owners = λ d. (let w = owners_with d left right (seat_at a' p') in let o = f.owners d in let i = its_owners d in omega arith);
-          seats = Each-with (λ (s : BlocksSeat T). Knows r' s.act s.phase) left right (seat_at a' p') f.leaves.2 (still_know f.others);
+          seats = Each-with (λ (s : BlocksSeat T). KnowsBlocks r' s.act s.phase) left right (seat_at a' p') f.leaves.2 (still_know f.others);
         },
       )
   kept_means {r'} {a'} {m} (Some y) f = (

@@ -3,10 +3,10 @@ use Rattle.std.proofs.Common.{◌≡◌, ℕ, zero, suc, ◌+◌, ◌-◌, ◌*�
 use Rattle.std.proofs.lemmas.Bool.Decides.{nat_tests}
 use Rattle.std.proofs.Math.Nat.{mod-eq_of_lt}
 use Rattle.concurrent_queue.specs.Contents.{Contents}
-use Rattle.concurrent_queue.specs.BlocksState.{Blocks, number}
-use Rattle.concurrent_queue.specs.BlocksMoves.{Moves}
-use Rattle.concurrent_queue.specs.BlocksDenotes.{Denotes, Shows, act_of, named, IsProper, IsTailAt, IsHeadAt}
-use Rattle.concurrent_queue.specs.BlocksWords.{Step}
+use Rattle.concurrent_queue.specs.machine.BlocksState.{Blocks, number}
+use Rattle.concurrent_queue.specs.machine.BlocksMoves.{Moves}
+use Rattle.concurrent_queue.specs.machine.BlocksDenotes.{Denotes, Shows, act_of, named, IsProper, IsTailAt, IsHeadAt}
+use Rattle.concurrent_queue.specs.machine.BlocksWords.{Step}
 use Rattle.concurrent_queue.specs.declared.unbounded.action.UnboundedAction.{UnboundedAction}
 
 pub choose : {A : Type 0} (P : A → Type 0) (b : Bool) {x y : A} → (b ≡ true → P x) → (b ≡ false → P y) → P (if b then x else y)

@@ -3,10 +3,10 @@
 use Rattle.std.proofs.Common.{◌≡◌, ℕ, ◌+◌, ◌<◌, ◌≤◌, ◌==◌, Bool, true, false, List, [], ◌∷◌, ◌++◌, length, drop, map, Option, None, Some, Ok, Err, ⊎_elim, inl, inr, refl, sym, ap, ◌∙◌, subst, arith, length-append}
 use Rattle.std.proofs.lemmas.Bool.{cases_lt}
 use Rattle.concurrent_queue.specs.Contents.{Contents}
-use Rattle.concurrent_queue.specs.Dispatch.{capacity_of}
+use Rattle.concurrent_queue.specs.Capacity.{capacity_of}
 use Rattle.concurrent_queue.specs.Queue.{Queue, is_filled, is_full_at, IsOpen, IsOldest, message, marked}
-use Rattle.concurrent_queue.specs.Rows.{Deed, Appended, Took, Replaced, MadeRoom, Displaced, Closing, MayAnswer, IsBegun}
-use Rattle.concurrent_queue.specs.Scene.{Under, begun, sees, does, makes_room, with_deed, GoesOnAs, unless_ended}
+use Rattle.concurrent_queue.specs.Rows.{MarkedStep, Appended, Took, Replaced, MadeRoom, Displaced, Closing, MayAnswer, IsBegun}
+use Rattle.concurrent_queue.specs.Scene.{CallUnderWay, begun, observing, stepped, makes_room, with_mark, ContinuesAs, unless_ended}
 use Rattle.concurrent_queue.specs.Run.{Config, Next, IsRun, opened_config}
 use Rattle.concurrent_queue.specs.Bounds.{one_if_closed, closings_in}
 use Rattle.concurrent_queue.specs.declared.call.QueueAsk.{QueueAsk}
@@ -37,47 +37,47 @@ module _ {T : Type 0} where
   Says Replace q = (v : T) × IsOldest v q
   Says m q = Unit {0}
 
-  abbrev SaysSo : Deed T → Type 0
+  abbrev SaysSo : MarkedStep T → Type 0
   SaysSo d = Says d.mark d.before
 
   -- ---- the last of a call's marks
 
-  appended_says : (ds : List (Deed T)) (d : Deed T) → Appended (ds ++ d ∷ []) → SaysSo d
+  appended_says : (ds : List (MarkedStep T)) (d : MarkedStep T) → Appended (ds ++ d ∷ []) → SaysSo d
   appended_says [] d h = subst (λ (m : QueueMark). Says m d.before) (sym h.0) h.2
   appended_says (x ∷ []) d h = absurd h
   appended_says (x ∷ y ∷ ds) d h = absurd h
 
-  took_says : (ds : List (Deed T)) (d : Deed T) (v : T) → Took (ds ++ d ∷ []) v → SaysSo d
+  took_says : (ds : List (MarkedStep T)) (d : MarkedStep T) (v : T) → Took (ds ++ d ∷ []) v → SaysSo d
   took_says [] d v h = subst (λ (m : QueueMark). Says m d.before) (sym h.0) tt
   took_says (x ∷ []) d v h = absurd h
   took_says (x ∷ y ∷ ds) d v h = absurd h
 
-  replaced_says : (ds : List (Deed T)) (d : Deed T) (v : T) → Replaced (ds ++ d ∷ []) v → SaysSo d
+  replaced_says : (ds : List (MarkedStep T)) (d : MarkedStep T) (v : T) → Replaced (ds ++ d ∷ []) v → SaysSo d
   replaced_says [] d v h = subst (λ (m : QueueMark). Says m d.before) (sym h.0) (v, h.3)
   replaced_says (x ∷ []) d v h = absurd h
   replaced_says (x ∷ y ∷ ds) d v h = absurd h
 
-  made_room_says : (ds : List (Deed T)) (d : Deed T) (v : T) → MadeRoom (ds ++ d ∷ []) v → SaysSo d
+  made_room_says : (ds : List (MarkedStep T)) (d : MarkedStep T) (v : T) → MadeRoom (ds ++ d ∷ []) v → SaysSo d
   made_room_says [] d v h = subst (λ (m : QueueMark). Says m d.before) (sym h.0) tt
   made_room_says (x ∷ []) d v h = absurd h
   made_room_says (x ∷ y ∷ ds) d v h = absurd h
 
-  displaced_says : (ds : List (Deed T)) (d : Deed T) (v : T) → Displaced (ds ++ d ∷ []) v → SaysSo d
+  displaced_says : (ds : List (MarkedStep T)) (d : MarkedStep T) (v : T) → Displaced (ds ++ d ∷ []) v → SaysSo d
   displaced_says [] d v h = absurd h
   displaced_says (x ∷ []) d v h = subst (λ (m : QueueMark). Says m d.before) (sym h.1) h.2
   displaced_says (x ∷ y ∷ []) d v h = absurd h
   displaced_says (x ∷ y ∷ z ∷ ds) d v h = absurd h
 
-  closing_says : (ds : List (Deed T)) (d : Deed T) → Closing (ds ++ d ∷ []) → SaysSo d
+  closing_says : (ds : List (MarkedStep T)) (d : MarkedStep T) → Closing (ds ++ d ∷ []) → SaysSo d
   closing_says [] d h = subst (λ (m : QueueMark). Says m d.before) (sym h.0) tt
   closing_says (x ∷ []) d h = absurd h
   closing_says (x ∷ y ∷ ds) d h = absurd h
 
-  none_says : (ds : List (Deed T)) (d : Deed T) → ds ++ d ∷ [] ≡ [] → SaysSo d
+  none_says : (ds : List (MarkedStep T)) (d : MarkedStep T) → ds ++ d ∷ [] ≡ [] → SaysSo d
   none_says [] d h = absurd cc
   none_says (x ∷ ds) d h = absurd cc
 
-  begun_says : (a : QueueAsk T) (ds : List (Deed T)) (d : Deed T) → IsBegun a (ds ++ d ∷ []) → SaysSo d
+  begun_says : (a : QueueAsk T) (ds : List (MarkedStep T)) (d : MarkedStep T) → IsBegun a (ds ++ d ∷ []) → SaysSo d
   begun_says (ask.Push v) ds d h = ⊎_elim (none_says ds d) (appended_says ds d) h
   begun_says (ask.ForcePush v) ds d (inl h) = none_says ds d h
   begun_says (ask.ForcePush v) ds d (inr (inl h)) = appended_says ds d h
@@ -93,7 +93,7 @@ module _ {T : Type 0} where
   begun_says ask.Len ds d h = none_says ds d h
   begun_says ask.Capacity ds d h = none_says ds d h
 
-  answer_says : (a : QueueAsk T) (ds : List (Deed T)) (d : Deed T) (seen : List (Queue T)) (r : QueueReply T) → MayAnswer a (ds ++ d ∷ []) seen r → SaysSo d
+  answer_says : (a : QueueAsk T) (ds : List (MarkedStep T)) (d : MarkedStep T) (seen : List (Queue T)) (r : QueueReply T) → MayAnswer a (ds ++ d ∷ []) seen r → SaysSo d
   answer_says (ask.Push v) ds d seen (reply.Push (Ok u)) h = appended_says ds d h
   answer_says (ask.Push v) ds d seen (reply.Push (Err (push_error.Full w))) h = none_says ds d h.1
   answer_says (ask.Push v) ds d seen (reply.Push (Err (push_error.Closed w))) h = none_says ds d h.1
@@ -115,11 +115,11 @@ module _ {T : Type 0} where
   answer_says a ds d seen r h = absurd h
 
   -- the mark of a step says of the queue just before it what it says in the rows
-  goes_says : (u : Under T) (m : QueueMark) (q q' : Queue T) (left : ℕ) (others : List (Under T)) (r : Option (QueueReply T)) → GoesOnAs u (does u m q q' left) q others r → Says m q
-  goes_says u Append q q' left others None h = begun_says u.ask u.deeds (record { mark = Append; before = q; seen = u.seen }) h.0
-  goes_says u Append q q' left others (Some x) h = answer_says u.ask u.deeds (record { mark = Append; before = q; seen = u.seen }) (q' ∷ u.seen) x h
-  goes_says u Replace q q' left others None h = begun_says u.ask u.deeds (record { mark = Replace; before = q; seen = u.seen }) h.0
-  goes_says u Replace q q' left others (Some x) h = answer_says u.ask u.deeds (record { mark = Replace; before = q; seen = u.seen }) (q' ∷ u.seen) x h
+  goes_says : (u : CallUnderWay T) (m : QueueMark) (q q' : Queue T) (left : ℕ) (others : List (CallUnderWay T)) (r : Option (QueueReply T)) → ContinuesAs u (stepped u m q q' left) q others r → Says m q
+  goes_says u Append q q' left others None h = begun_says u.ask u.marked_steps (record { mark = Append; before = q; seen = u.seen }) h.0
+  goes_says u Append q q' left others (Some x) h = answer_says u.ask u.marked_steps (record { mark = Append; before = q; seen = u.seen }) (q' ∷ u.seen) x h
+  goes_says u Replace q q' left others None h = begun_says u.ask u.marked_steps (record { mark = Replace; before = q; seen = u.seen }) h.0
+  goes_says u Replace q q' left others (Some x) h = answer_says u.ask u.marked_steps (record { mark = Replace; before = q; seen = u.seen }) (q' ∷ u.seen) x h
   goes_says u Nothing q q' left others r h = tt
   goes_says u Take q q' left others r h = tt
   goes_says u TakeDisplaced q q' left others r h = tt
@@ -169,7 +169,7 @@ module _ {T : Type 0} where
       let u = s.mine in
       let says = goes_says u e.mark f.scene.now g.scene.now s.left (s.before ++ s.behind) e.reply s.goes_on in
       subst (λ (q : Queue T). Fits cap q) (sym s.now)
-      (same_limit u.ask (makes_room u.deeds) e.mark f.scene.now ∙ h.0, fits_after u.ask (makes_room u.deeds) e.mark f.scene.now cap says h.0 h.1)
+      (same_limit u.ask (makes_room u.marked_steps) e.mark f.scene.now ∙ h.0, fits_after u.ask (makes_room u.marked_steps) e.mark f.scene.now cap says h.0 h.1)
 
   run_fits : (cap : ℕ) (f : Config T) (ss : List (QueueStep T)) (es : List (QueueEntry T)) (g : Config T) → IsRun f ss es g → Fits cap f.scene.now → Fits cap g.scene.now
   run_fits cap f [] [] g r h = subst (λ (x : Config T). Fits cap x.scene.now) (sym r) h
@@ -184,9 +184,9 @@ module _ {T : Type 0} where
   -- ---- closes that answer true
 
   -- each call has done a beginning of what some reply needs
-  abbrev AllBegun : List (Under T) → Type 0
+  abbrev AllBegun : List (CallUnderWay T) → Type 0
   AllBegun [] = Unit {0}
-  AllBegun (u ∷ us) = IsBegun u.ask u.deeds × AllBegun us
+  AllBegun (u ∷ us) = IsBegun u.ask u.marked_steps × AllBegun us
 
   new_begun : (a : QueueAsk T) → IsBegun a []
   new_begun (ask.Push v) = inl refl
@@ -199,36 +199,36 @@ module _ {T : Type 0} where
   new_begun ask.Len = refl
   new_begun ask.Capacity = refl
 
-  begun_sees : (q : Queue T) (us : List (Under T)) → AllBegun us → AllBegun (map (sees q) us)
+  begun_sees : (q : Queue T) (us : List (CallUnderWay T)) → AllBegun us → AllBegun (map (observing q) us)
   begun_sees q [] h = tt
   begun_sees q (u ∷ us) h = (h.0, begun_sees q us h.1)
 
-  begun_join : (us vs : List (Under T)) → AllBegun us → AllBegun vs → AllBegun (us ++ vs)
+  begun_join : (us vs : List (CallUnderWay T)) → AllBegun us → AllBegun vs → AllBegun (us ++ vs)
   begun_join [] vs h g = g
   begun_join (u ∷ us) vs h g = (h.0, begun_join us vs h.1 g)
 
-  begun_before : (us vs : List (Under T)) → AllBegun (us ++ vs) → AllBegun us
+  begun_before : (us vs : List (CallUnderWay T)) → AllBegun (us ++ vs) → AllBegun us
   begun_before [] vs h = tt
   begun_before (u ∷ us) vs h = (h.0, begun_before us vs h.1)
 
-  begun_behind : (us vs : List (Under T)) → AllBegun (us ++ vs) → AllBegun vs
+  begun_behind : (us vs : List (CallUnderWay T)) → AllBegun (us ++ vs) → AllBegun vs
   begun_behind [] vs h = h
   begun_behind (u ∷ us) vs h = begun_behind us vs h.1
 
-  begun_ended : (u u' : Under T) (q : Queue T) (others : List (Under T)) (r : Option (QueueReply T)) → GoesOnAs u u' q others r → AllBegun (unless_ended u' r)
+  begun_ended : (u u' : CallUnderWay T) (q : Queue T) (others : List (CallUnderWay T)) (r : Option (QueueReply T)) → ContinuesAs u u' q others r → AllBegun (unless_ended u' r)
   begun_ended u u' q others None h = (h.0, tt)
   begun_ended u u' q others (Some x) h = tt
 
   next_begun : (f : Config T) (s : QueueStep T) (e : QueueEntry T) (g : Config T) → Next f s e g → AllBegun f.scene.under_way → AllBegun g.scene.under_way
   next_begun f (Begin p a) e g n h =
-      subst (λ (us : List (Under T)). AllBegun us) (sym n.0.under_way) (begun_join f.scene.under_way (begun p a f.scene.now ∷ []) h (new_begun a, tt))
+      subst (λ (us : List (CallUnderWay T)). AllBegun us) (sym n.0.under_way) (begun_join f.scene.under_way (begun p a f.scene.now ∷ []) h (new_begun a, tt))
   next_begun f (Step p) e g n h =
       let s = n.0 in
-      let x : Under T = does s.mine e.mark f.scene.now g.scene.now s.left in
-      let all : AllBegun (s.before ++ s.mine ∷ s.behind) = subst (λ (us : List (Under T)). AllBegun us) s.there h in
-      subst (λ (us : List (Under T)). AllBegun us) (sym s.under_way)
-      (begun_join (map (sees g.scene.now) s.before) (unless_ended x e.reply ++ map (sees g.scene.now) s.behind) (begun_sees g.scene.now s.before (begun_before s.before (s.mine ∷ s.behind) all))
-      (begun_join (unless_ended x e.reply) (map (sees g.scene.now) s.behind) (begun_ended s.mine x f.scene.now (s.before ++ s.behind) e.reply s.goes_on)
+      let x : CallUnderWay T = stepped s.mine e.mark f.scene.now g.scene.now s.left in
+      let all : AllBegun (s.before ++ s.mine ∷ s.behind) = subst (λ (us : List (CallUnderWay T)). AllBegun us) s.there h in
+      subst (λ (us : List (CallUnderWay T)). AllBegun us) (sym s.under_way)
+      (begun_join (map (observing g.scene.now) s.before) (unless_ended x e.reply ++ map (observing g.scene.now) s.behind) (begun_sees g.scene.now s.before (begun_before s.before (s.mine ∷ s.behind) all))
+      (begun_join (unless_ended x e.reply) (map (observing g.scene.now) s.behind) (begun_ended s.mine x f.scene.now (s.before ++ s.behind) e.reply s.goes_on)
       (begun_sees g.scene.now s.behind (begun_behind s.before (s.mine ∷ s.behind) all).1)))
 
   stays_shut : (a : QueueAsk T) (b : Bool) (m : QueueMark) (q : Queue T) → closable (marked a b m q).closed ≤ closable q.closed
@@ -239,7 +239,7 @@ module _ {T : Type 0} where
   stays_shut a b Replace q = omega arith
   stays_shut a b Close q = omega arith
 
-  closed_here : (m : QueueMark) (q : Queue T) (seen : List (Queue T)) → Closing (with_deed [] m q seen) → (m ≡ Close) × IsOpen q
+  closed_here : (m : QueueMark) (q : Queue T) (seen : List (Queue T)) → Closing (with_mark [] m q seen) → (m ≡ Close) × IsOpen q
   closed_here Nothing q seen h = absurd h
   closed_here Append q seen h = h
   closed_here Take q seen h = h
@@ -248,8 +248,8 @@ module _ {T : Type 0} where
   closed_here Close q seen h = h
 
   -- a close that answers true closes an open queue at this very step
-  closes_it : (a : QueueAsk T) (ds : List (Deed T)) (m : QueueMark) (q : Queue T) (seen now : List (Queue T)) → IsBegun a ds → MayAnswer a (with_deed ds m q seen) now (reply.Close true) → (m ≡ Close) × IsOpen q
-  closes_it ask.Close ds m q seen now idle h = closed_here m q seen (subst (λ (es : List (Deed T)). Closing (with_deed es m q seen)) idle h)
+  closes_it : (a : QueueAsk T) (ds : List (MarkedStep T)) (m : QueueMark) (q : Queue T) (seen now : List (Queue T)) → IsBegun a ds → MayAnswer a (with_mark ds m q seen) now (reply.Close true) → (m ≡ Close) × IsOpen q
+  closes_it ask.Close ds m q seen now idle h = closed_here m q seen (subst (λ (es : List (MarkedStep T)). Closing (with_mark es m q seen)) idle h)
   closes_it (ask.Push v) ds m q seen now idle h = absurd h
   closes_it (ask.ForcePush v) ds m q seen now idle h = absurd h
   closes_it ask.Pop ds m q seen now idle h = absurd h
@@ -262,11 +262,11 @@ module _ {T : Type 0} where
   one_less : (a : QueueAsk T) (b : Bool) (m : QueueMark) (q : Queue T) → m ≡ Close → IsOpen q → 1 + closable (marked a b m q).closed ≤ closable q.closed
   one_less a b m q e unshut = rw (e, unshut) (omega arith)
 
-  step_closes : (u : Under T) (b : Bool) (m : QueueMark) (q q' : Queue T) (left : ℕ) (others : List (Under T)) (r : Option (QueueReply T)) → IsBegun u.ask u.deeds → GoesOnAs u (does u m q q' left) q others r
+  step_closes : (u : CallUnderWay T) (b : Bool) (m : QueueMark) (q q' : Queue T) (left : ℕ) (others : List (CallUnderWay T)) (r : Option (QueueReply T)) → IsBegun u.ask u.marked_steps → ContinuesAs u (stepped u m q q' left) q others r
       → one_if_closed r + closable (marked u.ask b m q).closed ≤ closable q.closed
   step_closes u b m q q' left others None idle h = let s = stays_shut u.ask b m q in omega arith
   step_closes u b m q q' left others (Some (reply.Close true)) idle h =
-      let c = closes_it u.ask u.deeds m q u.seen (q' ∷ u.seen) idle h in one_less u.ask b m q c.0 c.1
+      let c = closes_it u.ask u.marked_steps m q u.seen (q' ∷ u.seen) idle h in one_less u.ask b m q c.0 c.1
   step_closes u b m q q' left others (Some (reply.Close false)) idle h = let s = stays_shut u.ask b m q in omega arith
   step_closes u b m q q' left others (Some (reply.Push x)) idle h = let s = stays_shut u.ask b m q in omega arith
   step_closes u b m q q' left others (Some (reply.Force x)) idle h = let s = stays_shut u.ask b m q in omega arith
@@ -281,9 +281,9 @@ module _ {T : Type 0} where
       let same : closable g.scene.now.closed ≡ closable f.scene.now.closed = ap (λ (q : Queue T). closable q.closed) n.0.now in omega arith
   next_closes f (Step p) e g n h =
       let s = n.0 in
-      let all : AllBegun (s.before ++ s.mine ∷ s.behind) = subst (λ (us : List (Under T)). AllBegun us) s.there h in
+      let all : AllBegun (s.before ++ s.mine ∷ s.behind) = subst (λ (us : List (CallUnderWay T)). AllBegun us) s.there h in
       subst (λ (q : Queue T). one_if_closed e.reply + closable q.closed ≤ closable f.scene.now.closed) (sym s.now)
-      (step_closes s.mine (makes_room s.mine.deeds) e.mark f.scene.now g.scene.now s.left (s.before ++ s.behind) e.reply (begun_behind s.before (s.mine ∷ s.behind) all).0 s.goes_on)
+      (step_closes s.mine (makes_room s.mine.marked_steps) e.mark f.scene.now g.scene.now s.left (s.before ++ s.behind) e.reply (begun_behind s.before (s.mine ∷ s.behind) all).0 s.goes_on)
 
   run_closes : (f : Config T) (ss : List (QueueStep T)) (es : List (QueueEntry T)) (g : Config T) → IsRun f ss es g → AllBegun f.scene.under_way → closings_in es ≤ closable f.scene.now.closed
   run_closes f [] [] g r h = omega arith

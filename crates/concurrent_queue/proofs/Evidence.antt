@@ -1,9 +1,9 @@
 -- What is known of a call under way by how far it has come, and that its reply is one that it may give.
 use Rattle.std.proofs.Common.{◌≡◌, ℕ, zero, suc, ◌+◌, ◌<◌, ◌≤◌, Bool, true, false, List, [], ◌∷◌, ◌++◌, length, drop, Option, None, Some, Ok, Err, if◌then◌else◌, ◌==◌, ◌⊎◌, ⊎_elim, inl, inr, refl, sym, ap, ◌∙◌, subst, arith, length-append}
 use Rattle.std.proofs.lemmas.Bool.Decides.{nat_tests}
-use Rattle.concurrent_queue.specs.Queue.{Queue, Stage, trying, displaced, appended, taken, read, measured, is_filled, is_full_at, IsOpen, IsOldest, message, marked, is_displaced, may_refuse_at, seen_after, GoesPush, GoesForce, GoesPop, GoesOn, AnswersPush, AnswersForce, AnswersPop, AnswersClose, AnswersShut, AnswersEmpty, AnswersFull, AnswersLen, AnswersCapacity, AnswersTo}
-use Rattle.concurrent_queue.specs.Rows.{Deed, Once, Appended, Took, Replaced, MadeRoom, Displaced, MayAnswer, IsBegun, is_empty}
-use Rattle.concurrent_queue.specs.Scene.{makes_room, has_brought, with_deed}
+use Rattle.concurrent_queue.specs.Queue.{Queue, Stage, trying, displaced, appended, taken, read, measured, is_filled, is_full_at, IsOpen, IsOldest, message, marked, is_displaced, may_refuse_at, seen_after, ContinuesPush, ContinuesForce, ContinuesPop, ContinuesBy, AnswersPush, AnswersForce, AnswersPop, AnswersClose, AnswersShut, AnswersEmpty, AnswersFull, AnswersLen, AnswersCapacity, AnswersTo}
+use Rattle.concurrent_queue.specs.Rows.{MarkedStep, Once, Appended, Took, Replaced, MadeRoom, Displaced, MayAnswer, IsBegun, is_empty}
+use Rattle.concurrent_queue.specs.Scene.{makes_room, has_brought, with_mark}
 use Rattle.concurrent_queue.specs.Step.{IsQuiet, HasBrought}
 use Rattle.concurrent_queue.specs.declared.call.QueueAsk.{QueueAsk}
 use Rattle.concurrent_queue.specs.declared.call.QueueAsk.TheVariants as ask
@@ -41,7 +41,7 @@ module _ {T : Type 0} where
       (now.capacity ≡ Some 1 → ⊥) × (Once (λ m. is_filled m ≡ false) seen ⊎ ((cap : ℕ) → now.capacity ≡ Some cap → now.removed + cap ≤ n))
   ReadSo now _ n seen = Unit {0}
 
-  abbrev pub Evidence : Queue T → QueueAsk T → Stage T → List (Deed T) → List (Queue T) → Type 0
+  abbrev pub Evidence : Queue T → QueueAsk T → Stage T → List (MarkedStep T) → List (Queue T) → Type 0
   Evidence now a (trying b) ds seen = (ds ≡ []) × (b ≡ true → Once (λ m. Refuses now.capacity m) seen)
   Evidence now a (displaced d) ds seen = MadeRoom ds d
   Evidence now a (appended None) ds seen = Appended ds
@@ -52,32 +52,32 @@ module _ {T : Type 0} where
 
   -- ---- a call with no mark is quiet; one at `appended` has brought its message
 
-  pub quiet_of : (q : Queue T) (a : QueueAsk T) (s : Stage T) (ds : List (Deed T)) (seen : List (Queue T)) → Evidence q a s ds seen → ds ≡ [] → IsQuiet s
+  pub quiet_of : (q : Queue T) (a : QueueAsk T) (s : Stage T) (ds : List (MarkedStep T)) (seen : List (Queue T)) → Evidence q a s ds seen → ds ≡ [] → IsQuiet s
   quiet_of q a (trying b) ds seen ev e = tt
-  quiet_of q a (displaced d) ds seen ev e = absurd (subst (λ (xs : List (Deed T)). MadeRoom xs d) e ev)
-  quiet_of q a (appended None) ds seen ev e = absurd (subst (λ (xs : List (Deed T)). Appended xs) e ev)
-  quiet_of q a (appended (Some d)) ds seen ev e = ⊎_elim (λ h. absurd (subst (λ (xs : List (Deed T)). Replaced xs d) e h)) (λ h. absurd (subst (λ (xs : List (Deed T)). Displaced xs d) e h)) ev
-  quiet_of q a (taken v) ds seen ev e = absurd (subst (λ (xs : List (Deed T)). Took xs v) e ev)
+  quiet_of q a (displaced d) ds seen ev e = absurd (subst (λ (xs : List (MarkedStep T)). MadeRoom xs d) e ev)
+  quiet_of q a (appended None) ds seen ev e = absurd (subst (λ (xs : List (MarkedStep T)). Appended xs) e ev)
+  quiet_of q a (appended (Some d)) ds seen ev e = ⊎_elim (λ h. absurd (subst (λ (xs : List (MarkedStep T)). Replaced xs d) e h)) (λ h. absurd (subst (λ (xs : List (MarkedStep T)). Displaced xs d) e h)) ev
+  quiet_of q a (taken v) ds seen ev e = absurd (subst (λ (xs : List (MarkedStep T)). Took xs v) e ev)
   quiet_of q a (read n) ds seen ev e = tt
   quiet_of q a (measured n k) ds seen ev e = tt
 
-  brought_append : (ds : List (Deed T)) → Appended ds → has_brought ds ≡ true
+  brought_append : (ds : List (MarkedStep T)) → Appended ds → has_brought ds ≡ true
   brought_append [] h = absurd h
   brought_append (d ∷ []) h = rw h.0 refl
   brought_append (d ∷ e ∷ ds) h = absurd h
 
-  brought_replaced : (ds : List (Deed T)) (v : T) → Replaced ds v → has_brought ds ≡ true
+  brought_replaced : (ds : List (MarkedStep T)) (v : T) → Replaced ds v → has_brought ds ≡ true
   brought_replaced [] v h = absurd h
   brought_replaced (d ∷ []) v h = rw h.0 refl
   brought_replaced (d ∷ e ∷ ds) v h = absurd h
 
-  brought_displaced : (ds : List (Deed T)) (v : T) → Displaced ds v → has_brought ds ≡ true
+  brought_displaced : (ds : List (MarkedStep T)) (v : T) → Displaced ds v → has_brought ds ≡ true
   brought_displaced [] v h = absurd h
   brought_displaced (d ∷ []) v h = absurd h
   brought_displaced (d ∷ e ∷ []) v h = rw (h.0.0, h.1) refl
   brought_displaced (d ∷ e ∷ f ∷ ds) v h = absurd h
 
-  pub brought_of : (q : Queue T) (a : QueueAsk T) (s : Stage T) (ds : List (Deed T)) (seen : List (Queue T)) → Evidence q a s ds seen → HasBrought s → has_brought ds ≡ true
+  pub brought_of : (q : Queue T) (a : QueueAsk T) (s : Stage T) (ds : List (MarkedStep T)) (seen : List (Queue T)) → Evidence q a s ds seen → HasBrought s → has_brought ds ≡ true
   brought_of q a (trying b) ds seen ev h = absurd h
   brought_of q a (displaced d) ds seen ev h = absurd h
   brought_of q a (appended None) ds seen ev h = brought_append ds ev
@@ -118,29 +118,29 @@ module _ {T : Type 0} where
   -- ---- a step that goes on
 
   -- what a step leaves of a call: the queue is changed by its marks alone, it has done a beginning, and it is known
-  pub record Gone (q : Queue T) (a : QueueAsk T) (m : QueueMark) (s t : Stage T) (ds : List (Deed T)) (seen : List (Queue T)) : Type 0 where
+  pub record Gone (q : Queue T) (a : QueueAsk T) (m : QueueMark) (s t : Stage T) (ds : List (MarkedStep T)) (seen : List (Queue T)) : Type 0 where
     pub same : marked a (is_displaced s) m q ≡ marked a (makes_room ds) m q
-    pub begun : IsBegun a (with_deed ds m q seen)
-    pub evidence : Evidence (marked a (is_displaced s) m q) a t (with_deed ds m q seen) (marked a (is_displaced s) m q ∷ seen)
+    pub begun : IsBegun a (with_mark ds m q seen)
+    pub evidence : Evidence (marked a (is_displaced s) m q) a t (with_mark ds m q seen) (marked a (is_displaced s) m q ∷ seen)
 
-  at_stage : (q : Queue T) (a : QueueAsk T) (m : QueueMark) (s t u : Stage T) (ds : List (Deed T)) (seen : List (Queue T)) → t ≡ u → Gone q a m s u ds seen → Gone q a m s t ds seen
+  at_stage : (q : Queue T) (a : QueueAsk T) (m : QueueMark) (s t u : Stage T) (ds : List (MarkedStep T)) (seen : List (Queue T)) → t ≡ u → Gone q a m s u ds seen → Gone q a m s t ds seen
   at_stage q a m s t u ds seen e h = subst (λ (x : Stage T). Gone q a m s x ds seen) (sym e) h
 
-  at_deeds : (q : Queue T) (a : QueueAsk T) (m : QueueMark) (s t : Stage T) (ds : List (Deed T)) (seen : List (Queue T)) → ds ≡ [] → Gone q a m s t [] seen → Gone q a m s t ds seen
-  at_deeds q a m s t ds seen e h = subst (λ (x : List (Deed T)). Gone q a m s t x seen) (sym e) h
+  at_deeds : (q : Queue T) (a : QueueAsk T) (m : QueueMark) (s t : Stage T) (ds : List (MarkedStep T)) (seen : List (Queue T)) → ds ≡ [] → Gone q a m s t [] seen → Gone q a m s t ds seen
+  at_deeds q a m s t ds seen e h = subst (λ (x : List (MarkedStep T)). Gone q a m s t x seen) (sym e) h
 
-  room_made : (ds : List (Deed T)) (d : T) → MadeRoom ds d → makes_room ds ≡ true
+  room_made : (ds : List (MarkedStep T)) (d : T) → MadeRoom ds d → makes_room ds ≡ true
   room_made [] d h = absurd h
   room_made (x ∷ []) d h = rw h.0 refl
   room_made (x ∷ y ∷ ds) d h = absurd h
 
-  displaced_now : (ds : List (Deed T)) (d : T) (e : Deed T) → MadeRoom ds d → e.mark ≡ Append → is_filled e.before ≡ false → Displaced (ds ++ e ∷ []) d
+  displaced_now : (ds : List (MarkedStep T)) (d : T) (e : MarkedStep T) → MadeRoom ds d → e.mark ≡ Append → is_filled e.before ≡ false → Displaced (ds ++ e ∷ []) d
   displaced_now [] d e h m f = absurd h
   displaced_now (x ∷ []) d e h m f = (h, m, f)
   displaced_now (x ∷ y ∷ ds) d e h m f = absurd h
 
   module _ (q : Queue T) (seen : List (Queue T)) where
-    goes_push : (v : T) (m : QueueMark) (s t : Stage T) (ds : List (Deed T)) → GoesPush q m s t → Evidence q (ask.Push v) s ds seen → Gone q (ask.Push v) m s t ds seen
+    goes_push : (v : T) (m : QueueMark) (s t : Stage T) (ds : List (MarkedStep T)) → ContinuesPush q m s t → Evidence q (ask.Push v) s ds seen → Gone q (ask.Push v) m s t ds seen
     goes_push v Nothing (trying b) t ds g ev =
         at_stage q _ _ _ t _ ds seen g (record { same = refl; begun = inl ev.0; evidence = (ev.0, λ e. refusal_seen b q seen ev.1 e) })
     goes_push v Nothing (appended None) t ds g ev =
@@ -149,7 +149,7 @@ module _ {T : Type 0} where
         at_stage q _ _ _ t _ ds seen g.2 (at_deeds q _ _ _ _ ds seen ev.0 (record { same = refl; begun = inr (refl, g.0, g.1); evidence = (refl, g.0, g.1) }))
     goes_push v m s t ds g ev = absurd g
 
-    goes_force : (v : T) (m : QueueMark) (s t : Stage T) (ds : List (Deed T)) → GoesForce q m s t → Evidence q (ask.ForcePush v) s ds seen → Gone q (ask.ForcePush v) m s t ds seen
+    goes_force : (v : T) (m : QueueMark) (s t : Stage T) (ds : List (MarkedStep T)) → ContinuesForce q m s t → Evidence q (ask.ForcePush v) s ds seen → Gone q (ask.ForcePush v) m s t ds seen
     goes_force v Nothing (trying b) t ds g ev =
         at_stage q _ _ _ t _ ds seen g (record { same = refl; begun = inl ev.0; evidence = (ev.0, λ e. refusal_seen b q seen ev.1 e) })
     goes_force v Nothing (displaced d) t ds g ev =
@@ -176,7 +176,7 @@ module _ {T : Type 0} where
         (record { same = refl; begun = inr (inr (inr (inl (g.0, (refl, g.3, g.4, g.1, once, g.6))))); evidence = (refl, g.3, g.4, g.1, once, g.6) }))
     goes_force v m s t ds g ev = absurd g
 
-    goes_pop : (m : QueueMark) (s t : Stage T) (ds : List (Deed T)) → GoesPop q m s t → Evidence q ask.Pop s ds seen → Gone q ask.Pop m s t ds seen
+    goes_pop : (m : QueueMark) (s t : Stage T) (ds : List (MarkedStep T)) → ContinuesPop q m s t → Evidence q ask.Pop s ds seen → Gone q ask.Pop m s t ds seen
     goes_pop Nothing (trying b) t ds g ev =
         at_stage q _ _ _ t _ ds seen g (record { same = refl; begun = inl ev.0; evidence = (ev.0, λ e. refusal_seen b q seen ev.1 e) })
     goes_pop Nothing (taken v) t ds g ev =
@@ -189,7 +189,7 @@ module _ {T : Type 0} where
     empty_or_not zero e h = let h' : length q.items + q.removed ≡ q.accepted = h in inr (omega arith)
     empty_or_not (suc n) e h = inl (inl (not_zero (length q.items) (omega arith)))
 
-    goes_empty : (m : QueueMark) (s t : Stage T) (ds : List (Deed T)) → GoesOn q ask.IsEmpty m s t → IsBalanced q → Evidence q ask.IsEmpty s ds seen → Gone q ask.IsEmpty m s t ds seen
+    goes_empty : (m : QueueMark) (s t : Stage T) (ds : List (MarkedStep T)) → ContinuesBy q ask.IsEmpty m s t → IsBalanced q → Evidence q ask.IsEmpty s ds seen → Gone q ask.IsEmpty m s t ds seen
     goes_empty Nothing (trying b) t ds g h ev =
         at_stage q _ _ _ t _ ds seen g (record { same = refl; begun = ev.0; evidence = (ev.0, empty_or_not (length q.items) refl h) })
     goes_empty m s t ds g h ev = absurd g
@@ -201,18 +201,18 @@ module _ {T : Type 0} where
         filled_length : (cap : ℕ) → q.capacity ≡ Some cap → is_filled q ≡ true → length q.items ≡ cap
         filled_length cap f g = eq_of (length q.items) cap (subst (λ (c : Option ℕ). is_full_at c q.items ≡ true) f g)
 
-    goes_full : (m : QueueMark) (s t : Stage T) (ds : List (Deed T)) → GoesOn q ask.IsFull m s t → IsBalanced q → Evidence q ask.IsFull s ds seen → Gone q ask.IsFull m s t ds seen
+    goes_full : (m : QueueMark) (s t : Stage T) (ds : List (MarkedStep T)) → ContinuesBy q ask.IsFull m s t → IsBalanced q → Evidence q ask.IsFull s ds seen → Gone q ask.IsFull m s t ds seen
     goes_full Nothing (trying b) t ds g h ev =
         at_stage q _ _ _ t _ ds seen g.0 (record { same = refl; begun = ev.0; evidence = (ev.0, (g.1, full_or_not (is_filled q) refl h)) })
     goes_full m s t ds g h ev = absurd g
 
-    goes_len : (m : QueueMark) (s t : Stage T) (ds : List (Deed T)) → GoesOn q ask.Len m s t → Evidence q ask.Len s ds seen → Gone q ask.Len m s t ds seen
+    goes_len : (m : QueueMark) (s t : Stage T) (ds : List (MarkedStep T)) → ContinuesBy q ask.Len m s t → Evidence q ask.Len s ds seen → Gone q ask.Len m s t ds seen
     goes_len Nothing (trying b) t ds g ev = at_stage q _ _ _ t _ ds seen g (record { same = refl; begun = ev.0; evidence = (ev.0, tt) })
     goes_len Nothing (read n) t ds g ev = at_stage q _ _ _ t _ ds seen g (record { same = refl; begun = ev.0; evidence = (ev.0, inl refl) })
     goes_len Nothing (measured n k) t ds g ev = at_stage q _ _ _ t _ ds seen g (record { same = refl; begun = ev.0; evidence = (ev.0, λ e. absurd cc) })
     goes_len m s t ds g ev = absurd g
 
-    pub goes_known : (a : QueueAsk T) (m : QueueMark) (s t : Stage T) (ds : List (Deed T)) → GoesOn q a m s t → IsBalanced q → Evidence q a s ds seen → Gone q a m s t ds seen
+    pub goes_known : (a : QueueAsk T) (m : QueueMark) (s t : Stage T) (ds : List (MarkedStep T)) → ContinuesBy q a m s t → IsBalanced q → Evidence q a s ds seen → Gone q a m s t ds seen
     goes_known (ask.Push v) m s t ds g h ev = goes_push v m s t ds g ev
     goes_known (ask.ForcePush v) m s t ds g h ev = goes_force v m s t ds g ev
     goes_known ask.Pop m s t ds g h ev = goes_pop m s t ds g ev
@@ -225,17 +225,17 @@ module _ {T : Type 0} where
 
     -- ---- a step that ends its call
 
-    abbrev Given : QueueAsk T → QueueMark → Stage T → List (Deed T) → QueueReply T → Type 0
-    Given a m s ds r = MayAnswer a (with_deed ds m q seen) (marked a (is_displaced s) m q ∷ seen) r
+    abbrev Given : QueueAsk T → QueueMark → Stage T → List (MarkedStep T) → QueueReply T → Type 0
+    Given a m s ds r = MayAnswer a (with_mark ds m q seen) (marked a (is_displaced s) m q ∷ seen) r
 
-    answers_push : (v : T) (m : QueueMark) (r : QueueReply T) (s : Stage T) (ds : List (Deed T)) → AnswersPush q v m r s → Evidence q (ask.Push v) s ds seen → Given (ask.Push v) m s ds r
+    answers_push : (v : T) (m : QueueMark) (r : QueueReply T) (s : Stage T) (ds : List (MarkedStep T)) → AnswersPush q v m r s → Evidence q (ask.Push v) s ds seen → Given (ask.Push v) m s ds r
     answers_push v Nothing (reply.Push (Ok u)) (appended None) ds h ev = ev
     answers_push v Nothing (reply.Push (Err (push_error.Full w))) (trying b) ds h ev = (h.0, ev.0, full_once q.capacity q.items (q ∷ seen) h.1 (refusal_seen b q seen ev.1 h.2))
     answers_push v Nothing (reply.Push (Err (push_error.Closed w))) (trying b) ds h ev = (h.0, ev.0, inl h.1)
     answers_push v Nothing (reply.Push (Err (push_error.NoMemory w))) (trying b) ds h ev = (h.0, ev.0, unbounded_once q.capacity (q ∷ seen) h.1 (refusal_seen b q seen ev.1 h.2))
     answers_push v m r s ds h ev = absurd h
 
-    answers_force : (v : T) (m : QueueMark) (r : QueueReply T) (s : Stage T) (ds : List (Deed T)) → AnswersForce q v m r s → Evidence q (ask.ForcePush v) s ds seen → Given (ask.ForcePush v) m s ds r
+    answers_force : (v : T) (m : QueueMark) (r : QueueReply T) (s : Stage T) (ds : List (MarkedStep T)) → AnswersForce q v m r s → Evidence q (ask.ForcePush v) s ds seen → Given (ask.ForcePush v) m s ds r
     answers_force v Nothing (reply.Force (Ok None)) (appended None) ds h ev = ev
     answers_force v Nothing (reply.Force (Ok None)) (appended (Some d)) ds h ev = absurd cc
     answers_force v Nothing (reply.Force (Ok (Some w))) (appended None) ds h ev = absurd cc
@@ -245,44 +245,44 @@ module _ {T : Type 0} where
     answers_force v Nothing (reply.Force (Err (force_error.NoMemory w))) (trying b) ds h ev = (h.0, ev.0, unbounded_once q.capacity (q ∷ seen) h.1 (refusal_seen b q seen ev.1 h.2))
     answers_force v m r s ds h ev = absurd h
 
-    answers_pop : (m : QueueMark) (r : QueueReply T) (s : Stage T) (ds : List (Deed T)) → AnswersPop q m r s → Evidence q ask.Pop s ds seen → Given ask.Pop m s ds r
+    answers_pop : (m : QueueMark) (r : QueueReply T) (s : Stage T) (ds : List (MarkedStep T)) → AnswersPop q m r s → Evidence q ask.Pop s ds seen → Given ask.Pop m s ds r
     answers_pop Nothing (reply.Pop (Ok w)) (taken v) ds h ev = subst (λ (x : T). Took ds x) (sym h) ev
     answers_pop Nothing (reply.Pop (Err pop_error.Empty)) (trying b) ds h ev = (ev.0, inl h)
     answers_pop Nothing (reply.Pop (Err pop_error.Closed)) (trying b) ds h ev = (ev.0, inl h)
     answers_pop m r s ds h ev = absurd h
 
-    answers_close : (m : QueueMark) (r : QueueReply T) (s : Stage T) (ds : List (Deed T)) → AnswersClose q m r s → Evidence q ask.Close s ds seen → Given ask.Close m s ds r
+    answers_close : (m : QueueMark) (r : QueueReply T) (s : Stage T) (ds : List (MarkedStep T)) → AnswersClose q m r s → Evidence q ask.Close s ds seen → Given ask.Close m s ds r
     answers_close Close (reply.Close true) (trying b) ds h ev =
-        subst (λ (xs : List (Deed T)). MayAnswer ask.Close (with_deed xs Close q seen) (marked ask.Close false Close q ∷ seen) (reply.Close true)) (sym ev.0) (refl, h)
+        subst (λ (xs : List (MarkedStep T)). MayAnswer ask.Close (with_mark xs Close q seen) (marked ask.Close false Close q ∷ seen) (reply.Close true)) (sym ev.0) (refl, h)
     answers_close Nothing (reply.Close false) (trying b) ds h ev = (ev.0, inl h)
     answers_close m r s ds h ev = absurd h
 
-    answers_shut : (m : QueueMark) (r : QueueReply T) (s : Stage T) (ds : List (Deed T)) → AnswersShut q m r s → Evidence q ask.IsClosed s ds seen → Given ask.IsClosed m s ds r
+    answers_shut : (m : QueueMark) (r : QueueReply T) (s : Stage T) (ds : List (MarkedStep T)) → AnswersShut q m r s → Evidence q ask.IsClosed s ds seen → Given ask.IsClosed m s ds r
     answers_shut Nothing (reply.Flag b) (trying seen) ds h ev = (ev.0, inl h)
     answers_shut m r s ds h ev = absurd h
 
-    answers_empty : (m : QueueMark) (r : QueueReply T) (s : Stage T) (ds : List (Deed T)) → AnswersEmpty q m r s → Evidence q ask.IsEmpty s ds seen → Given ask.IsEmpty m s ds r
+    answers_empty : (m : QueueMark) (r : QueueReply T) (s : Stage T) (ds : List (MarkedStep T)) → AnswersEmpty q m r s → Evidence q ask.IsEmpty s ds seen → Given ask.IsEmpty m s ds r
     answers_empty Nothing (reply.Flag b) (trying seen) ds h ev = (ev.0, inl h)
     answers_empty Nothing (reply.Flag true) (read n) ds h ev = (ev.0, inl (rw h refl))
     answers_empty Nothing (reply.Flag false) (read n) ds h ev = (ev.0, ⊎_elim (λ x. inr x) (λ x. absurd (omega arith)) ev.1)
     answers_empty m r s ds h ev = absurd h
 
-    answers_full : (m : QueueMark) (r : QueueReply T) (s : Stage T) (ds : List (Deed T)) → AnswersFull q m r s → Evidence q ask.IsFull s ds seen → Given ask.IsFull m s ds r
+    answers_full : (m : QueueMark) (r : QueueReply T) (s : Stage T) (ds : List (MarkedStep T)) → AnswersFull q m r s → Evidence q ask.IsFull s ds seen → Given ask.IsFull m s ds r
     answers_full Nothing (reply.Flag b) (trying seen) ds h ev = (ev.0, inl h)
     answers_full Nothing (reply.Flag true) (read n) ds h ev = (ev.0, inl h)
     answers_full Nothing (reply.Flag false) (read n) ds h ev = (ev.0, ⊎_elim (λ x. inr x) (λ x. absurd (let k = x h.0 h.1 in let l = h.2 in omega arith)) ev.1.1)
     answers_full m r s ds h ev = absurd h
 
-    answers_len : (m : QueueMark) (r : QueueReply T) (s : Stage T) (ds : List (Deed T)) → AnswersLen q m r s → Evidence q ask.Len s ds seen → Given ask.Len m s ds r
+    answers_len : (m : QueueMark) (r : QueueReply T) (s : Stage T) (ds : List (MarkedStep T)) → AnswersLen q m r s → Evidence q ask.Len s ds seen → Given ask.Len m s ds r
     answers_len Nothing (reply.Count n) (trying b) ds h ev = (ev.0, inl h)
     answers_len Nothing (reply.Count n) (measured k l) ds h ev = (ev.0, inr (subst (λ (x : ℕ). Once (λ m. length m.items ≡ x) seen) (sym h.0) ev.1))
     answers_len m r s ds h ev = absurd h
 
-    answers_capacity : (m : QueueMark) (r : QueueReply T) (s : Stage T) (ds : List (Deed T)) → AnswersCapacity q m r s → Evidence q ask.Capacity s ds seen → Given ask.Capacity m s ds r
+    answers_capacity : (m : QueueMark) (r : QueueReply T) (s : Stage T) (ds : List (MarkedStep T)) → AnswersCapacity q m r s → Evidence q ask.Capacity s ds seen → Given ask.Capacity m s ds r
     answers_capacity Nothing (reply.Cap c) (trying b) ds h ev = (ev.0, inl (sym h))
     answers_capacity m r s ds h ev = absurd h
 
-    pub answers_known : (a : QueueAsk T) (m : QueueMark) (r : QueueReply T) (s : Stage T) (ds : List (Deed T)) → AnswersTo q a m r s → Evidence q a s ds seen → Given a m s ds r
+    pub answers_known : (a : QueueAsk T) (m : QueueMark) (r : QueueReply T) (s : Stage T) (ds : List (MarkedStep T)) → AnswersTo q a m r s → Evidence q a s ds seen → Given a m s ds r
     answers_known (ask.Push v) m r s ds h ev = answers_push v m r s ds h ev
     answers_known (ask.ForcePush v) m r s ds h ev = answers_force v m r s ds h ev
     answers_known ask.Pop m r s ds h ev = answers_pop m r s ds h ev
@@ -358,7 +358,7 @@ module _ {T : Type 0} where
     keeps_read ask.Len n seen h = tt
     keeps_read ask.Capacity n seen h = tt
 
-    pub evidence_keeps : (a : QueueAsk T) (s : Stage T) (ds : List (Deed T)) (seen : List (Queue T)) → Evidence q a s ds seen → Evidence (marked k b m q) a s ds (marked k b m q ∷ seen)
+    pub evidence_keeps : (a : QueueAsk T) (s : Stage T) (ds : List (MarkedStep T)) (seen : List (Queue T)) → Evidence q a s ds seen → Evidence (marked k b m q) a s ds (marked k b m q ∷ seen)
     evidence_keeps a (trying c) ds seen ev = (ev.0, λ e. inr (subst (λ (cap : Option ℕ). Once (λ x. Refuses cap x) seen) (sym (same_limit q k b m)) (ev.1 e)))
     evidence_keeps a (displaced d) ds seen ev = ev
     evidence_keeps a (appended None) ds seen ev = ev

@@ -1,17 +1,18 @@
 -- What callers use of Fits, by the form of the queue.
 use Rattle.std.proofs.Common.{◌≡◌, ℕ, ◌^◌, ◌<◌, ◌≤◌, ⊎_elim, inl, inr, ◌==◌, Bool, true, false, if◌then◌else◌, arith, option_to_list, List, [], ◌∷◌, ◌++◌, Option, None, Some, MatchOption, Result, Ok, Err, IfOk, refl, sym, ap, subst}
 use Rattle.concurrent_queue.specs.Contents.{Contents, empty_slot, empty_blocks, slot_at}
-use Rattle.concurrent_queue.specs.Queue.{Queue, Phase, asked, after, Goes, Answers, IsInRange, opened}
+use Rattle.concurrent_queue.specs.Queue.{Queue, Phase, asked, after, Continues, Answers, IsInRange, opened}
 use Rattle.std.proofs.lemmas.Bool.Decides.{nat_tests}
-use Rattle.concurrent_queue.specs.Dispatch.{IsSingleStep, in_single, BySingle, IsRingStep, in_ring, ByRing, in_blocks, ByBlocks, IsBoundedFirst, IsFirstStep, IsStateStep, capacity_of, ring_cap}
-use Rattle.concurrent_queue.specs.RingWords.{cap_of, ring_mark, ring_start}
-use Rattle.concurrent_queue.specs.RingMeans.{RingMeans}
-use Rattle.concurrent_queue.specs.RingRank.{ring_rank}
-use Rattle.concurrent_queue.specs.RingReadings.{ring_closed, ring_counted, ring_length, ring_slot, ring_held}
-use Rattle.concurrent_queue.specs.Single.{start}
-use Rattle.concurrent_queue.specs.SingleState.{SingleMeans, single_rank}
-use Rattle.concurrent_queue.specs.BlocksForm.{UnboundedMeans}
-use Rattle.concurrent_queue.specs.BlocksWords.{IsBlocksStep, begin, blocks_closed, blocks_length, blocks_counted, blocks_slot, blocks_items, blocks_rank}
+use Rattle.concurrent_queue.specs.machine.Dispatch.{IsSingleStep, in_single, BySingle, IsRingStep, in_ring, ByRing, in_blocks, ByBlocks, IsBoundedFirst, IsFirstStep, IsStateStep, ring_cap}
+use Rattle.concurrent_queue.specs.Capacity.{capacity_of}
+use Rattle.concurrent_queue.specs.machine.RingWords.{cap_of, ring_mark, ring_start}
+use Rattle.concurrent_queue.specs.machine.RingMeans.{RingMeans}
+use Rattle.concurrent_queue.specs.machine.RingRank.{ring_rank}
+use Rattle.concurrent_queue.specs.machine.RingReadings.{ring_closed, ring_counted, ring_length, ring_slot, ring_held}
+use Rattle.concurrent_queue.specs.machine.Single.{start}
+use Rattle.concurrent_queue.specs.machine.SingleState.{SingleMeans, single_rank}
+use Rattle.concurrent_queue.specs.machine.BlocksForm.{UnboundedMeans}
+use Rattle.concurrent_queue.specs.machine.BlocksWords.{IsBlocksStep, begin, blocks_closed, blocks_length, blocks_counted, blocks_slot, blocks_items, blocks_rank}
 use Rattle.concurrent_queue.specs.Step.{Seat, seat, chain_after, Fits, FitsAt, FitsForm, FitsSlot, FitsRing, FitsBy, IsAtSingle, IsAtRing, IsAtBlocks, phases, OneCell, HoldsNobodyUp, rank, rank_by, rank_first, rank_bounded, rank_blocks, single_closed, single_length, Starts, IsQueueStep, LiesBy, Lies, IsBrought, ShowsBy, Shows, closed_by, closed_in, length_by, length_in, counted_by, counted_in, slot_by, slot_in, items_by, items_in}
 use Rattle.std.specs.declared.alloc.AllocError.{AllocError}
 use Rattle.concurrent_queue.specs.Made.{IsNew, new_cells}
@@ -39,7 +40,7 @@ use Rattle.concurrent_queue.proofs.RingShape.{mark_is}
 use Rattle.concurrent_queue.proofs.RingTheorem.{ring_form_steps, ring_form_starts, ring_form_ranks}
 use Rattle.concurrent_queue.proofs.RingShows.{ring_shows, ring_lies}
 use Rattle.concurrent_queue.proofs.RingMade.{ring_opened}
-use Rattle.concurrent_queue.specs.RingMade.{empty_ring}
+use Rattle.concurrent_queue.specs.machine.RingMade.{empty_ring}
 
 is_one : (cap : ℕ) → cap ≡ 1 → (cap == 1) ≡ true
 is_one cap e = grind (arith, nat_tests)
@@ -65,18 +66,18 @@ module _ {T : Type 0} where
   pub record StepsIn (f : QueueForm) (chain : List ℕ) (c : Contents T) (before : QueueCall T) (p : Phase T) (d : Contents T) (s : Stepped (CallState T) T) (q : Queue T) (l r : List (Seat T)) : Type 0 where
     pub same_form : d.form ≡ c.form
     pub one_cell : OneCell c d
-    pub does : MatchOption s.reply
-        ((p' : Phase T) × Goes q p s.mark p' × FitsForm f (chain_after chain c d) d (after p s.mark q) (l ++ seat (made_call s) p' ∷ r))
+    pub effect : MatchOption s.reply
+        ((p' : Phase T) × Continues q p s.mark p' × FitsForm f (chain_after chain c d) d (after p s.mark q) (l ++ seat (made_call s) p' ∷ r))
         (λ x. Answers q p s.mark x × FitsForm f (chain_after chain c d) d (after p s.mark q) (l ++ r))
     pub ends : HoldsNobodyUp q (phases (l ++ r)) → MatchOption s.reply (rank_by f d s.action < rank_by f c before.state) (λ x. Unit {0})
 
   module _ (chain : List ℕ) (cap : ℕ) (one : cap ≡ 1) (c : Contents T) (a : SingleAction T) (before : QueueCall T) (p : Phase T) (d : Contents T) (x : Stepped (SingleAction T) T) (q : Queue T) (l r : List (Seat T)) (sized : rank_bounded cap c before.state ≡ single_rank c a) where
     single_does : (reply : Option (QueueReply T)) (call : QueueCall T)
         → MatchOption reply
-        ((p' : Phase T) × Goes q p x.mark p' × FitsBy IsAtSingle (SingleMeans d (after p x.mark q)) (l ++ seat call p' ∷ r))
+        ((p' : Phase T) × Continues q p x.mark p' × FitsBy IsAtSingle (SingleMeans d (after p x.mark q)) (l ++ seat call p' ∷ r))
         (λ y. Answers q p x.mark y × FitsBy IsAtSingle (SingleMeans d (after p x.mark q)) (l ++ r))
         → MatchOption reply
-        ((p' : Phase T) × Goes q p x.mark p' × FitsForm (Bounded cap) (chain_after chain c d) d (after p x.mark q) (l ++ seat call p' ∷ r))
+        ((p' : Phase T) × Continues q p x.mark p' × FitsForm (Bounded cap) (chain_after chain c d) d (after p x.mark q) (l ++ seat call p' ∷ r))
         (λ y. Answers q p x.mark y × FitsForm (Bounded cap) (chain_after chain c d) d (after p x.mark q) (l ++ r))
     single_does None call h = (h.0, h.1, inl (record { one = one; calls = h.2 }))
     single_does (Some y) call h = (h.0, inl (record { one = one; calls = h.1 }))
@@ -86,17 +87,17 @@ module _ {T : Type 0} where
         record {
           same_form = h.same_form;
           one_cell = h.one_cell;
-          does = single_does x.reply (made_call (in_single x)) h.does;
+          effect = single_does x.reply (made_call (in_single x)) h.effect;
           ends = λ (quiet : HoldsNobodyUp q (phases (l ++ r))). subst (λ (n : ℕ). MatchOption x.reply (single_rank d x.action < n) (λ y. Unit {0})) (sym sized) (h.ends quiet);
         }
 
   module _ (chain : List ℕ) (cap : ℕ) (two : 2 ≤ cap) (most : cap ≤ 2 ^ 58) (c : Contents T) (a : RingAction T) (before : QueueCall T) (p : Phase T) (d : Contents T) (x : Stepped (RingAction T) T) (q : Queue T) (l r : List (Seat T)) (sized : rank_bounded cap c before.state ≡ ring_rank (ring_mark cap) c a) where
     ring_does : (reply : Option (QueueReply T)) (call : QueueCall T)
         → MatchOption reply
-        ((p' : Phase T) × Goes q p x.mark p' × FitsBy IsAtRing (RingMeans cap (ring_mark cap) d (after p x.mark q)) (l ++ seat call p' ∷ r))
+        ((p' : Phase T) × Continues q p x.mark p' × FitsBy IsAtRing (RingMeans cap (ring_mark cap) d (after p x.mark q)) (l ++ seat call p' ∷ r))
         (λ y. Answers q p x.mark y × FitsBy IsAtRing (RingMeans cap (ring_mark cap) d (after p x.mark q)) (l ++ r))
         → MatchOption reply
-        ((p' : Phase T) × Goes q p x.mark p' × FitsForm (Bounded cap) (chain_after chain c d) d (after p x.mark q) (l ++ seat call p' ∷ r))
+        ((p' : Phase T) × Continues q p x.mark p' × FitsForm (Bounded cap) (chain_after chain c d) d (after p x.mark q) (l ++ seat call p' ∷ r))
         (λ y. Answers q p x.mark y × FitsForm (Bounded cap) (chain_after chain c d) d (after p x.mark q) (l ++ r))
     ring_does None call h = (h.0, h.1, inr (record { two = two; most = most; calls = h.2 }))
     ring_does (Some y) call h = (h.0, inr (record { two = two; most = most; calls = h.1 }))
@@ -106,17 +107,17 @@ module _ {T : Type 0} where
         record {
           same_form = h.same_form;
           one_cell = h.one_cell;
-          does = ring_does x.reply (made_call (in_ring x)) h.does;
+          effect = ring_does x.reply (made_call (in_ring x)) h.effect;
           ends = λ (quiet : HoldsNobodyUp q (phases (l ++ r))). subst (λ (n : ℕ). MatchOption x.reply (ring_rank (ring_mark cap) d x.action < n) (λ y. Unit {0})) (sym sized) (h.ends quiet);
         }
 
   module _ (chain : List ℕ) (c : Contents T) (a : UnboundedCall T) (before : QueueCall T) (p : Phase T) (d : Contents T) (x : Stepped (UnboundedCall T) T) (q : Queue T) (l r : List (Seat T)) (sized : rank_blocks c before.state ≡ blocks_rank c a) where
     blocks_does : (reply : Option (QueueReply T)) (call : QueueCall T)
         → MatchOption reply
-        ((p' : Phase T) × Goes q p x.mark p' × FitsBy IsAtBlocks (UnboundedMeans (chain_after chain c d) d (after p x.mark q)) (l ++ seat call p' ∷ r))
+        ((p' : Phase T) × Continues q p x.mark p' × FitsBy IsAtBlocks (UnboundedMeans (chain_after chain c d) d (after p x.mark q)) (l ++ seat call p' ∷ r))
         (λ y. Answers q p x.mark y × FitsBy IsAtBlocks (UnboundedMeans (chain_after chain c d) d (after p x.mark q)) (l ++ r))
         → MatchOption reply
-        ((p' : Phase T) × Goes q p x.mark p' × FitsForm Unbounded (chain_after chain c d) d (after p x.mark q) (l ++ seat call p' ∷ r))
+        ((p' : Phase T) × Continues q p x.mark p' × FitsForm Unbounded (chain_after chain c d) d (after p x.mark q) (l ++ seat call p' ∷ r))
         (λ y. Answers q p x.mark y × FitsForm Unbounded (chain_after chain c d) d (after p x.mark q) (l ++ r))
     blocks_does None call h = h
     blocks_does (Some y) call h = h
@@ -126,7 +127,7 @@ module _ {T : Type 0} where
         record {
           same_form = h.same_form;
           one_cell = h.one_cell;
-          does = blocks_does x.reply (made_call (in_blocks x)) h.does;
+          effect = blocks_does x.reply (made_call (in_blocks x)) h.effect;
           ends = λ (quiet : HoldsNobodyUp q (phases (l ++ r))). subst (λ (n : ℕ). MatchOption x.reply (blocks_rank d x.action < n) (λ y. Unit {0})) (sym sized) (h.ends quiet);
         }
 
@@ -198,10 +199,10 @@ module _ {T : Type 0} where
 
   does_fits : (f : QueueForm) (chain : List ℕ) (c : Contents T) (p : Phase T) (d : Contents T) (s : Stepped (CallState T) T) (q : Queue T) (l r : List (Seat T)) → d.form ≡ f → (reply : Option (QueueReply T))
       → MatchOption reply
-      ((p' : Phase T) × Goes q p s.mark p' × FitsForm f chain d (after p s.mark q) (l ++ seat (made_call s) p' ∷ r))
+      ((p' : Phase T) × Continues q p s.mark p' × FitsForm f chain d (after p s.mark q) (l ++ seat (made_call s) p' ∷ r))
       (λ x. Answers q p s.mark x × FitsForm f chain d (after p s.mark q) (l ++ r))
       → MatchOption reply
-      ((p' : Phase T) × Goes q p s.mark p' × FitsAt chain d (after p s.mark q) (l ++ seat (made_call s) p' ∷ r))
+      ((p' : Phase T) × Continues q p s.mark p' × FitsAt chain d (after p s.mark q) (l ++ seat (made_call s) p' ∷ r))
       (λ x. Answers q p s.mark x × FitsAt chain d (after p s.mark q) (l ++ r))
   unfolding FitsAt
   does_fits f chain c p d s q l r e None h = (h.0, h.1, subst (λ (g : QueueForm). FitsForm g chain d (after p s.mark q) (l ++ seat (made_call s) h.0 ∷ r)) (sym e) h.2)
@@ -214,7 +215,7 @@ module _ {T : Type 0} where
       let h = steps_in chain c before.mark p d s q l r range c.form before.state refl made fits in
       record {
         one_cell = h.one_cell;
-        does = does_fits c.form (chain_after chain c d) c p d s q l r h.same_form s.reply h.does;
+        effect = does_fits c.form (chain_after chain c d) c p d s q l r h.same_form s.reply h.effect;
         ends = λ (quiet : HoldsNobodyUp q (phases (l ++ r))).
             subst (λ (f : QueueForm). MatchOption s.reply (rank_by f d s.action < rank_by c.form c before.state) (λ x. Unit {0})) (sym h.same_form) (h.ends quiet);
       }

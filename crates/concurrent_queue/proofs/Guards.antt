@@ -10,8 +10,8 @@ use prog.Atomic.{either}
 use Rattle.std.specs.Prelude.{Option, Some, None}
 use Rattle.atomic_table.specs.Table.{State, Me, step, rest, Act, Valid, put_back, carried_after, stepped, keeps, takes, gives, Allows, Enters, opening}
 use Rattle.atomic_table.proofs.Lists.{at_set, at_snoc, at_longer, some_there, set_here, set_else, set_again, exchanged}
-use Rattle.concurrent_queue.specs.Guarded.{AreFree}
-use Rattle.concurrent_queue.specs.Guarded.{IsFree, IsWon, IsGuarded, sat, won, gave}
+use Rattle.concurrent_queue.specs.machine.Guarded.{AreFree}
+use Rattle.concurrent_queue.specs.machine.Guarded.{IsFree, IsWon, IsGuarded, sat, won, gave}
 
 none_some : (i : ℕ) → None ≢ Some i
 none_some i e = absurd (cc)

@@ -1,7 +1,7 @@
 -- What a layer above may use of the queue: what cells show, how far an end is, and what a lone call did.
 use Rattle.std.proofs.Common.{◌≡◌, ℕ, zero, suc, ◌+◌, ◌<◌, ◌≤◌, ◌==◌, Bool, true, false, not, List, [], ◌∷◌, ◌++◌, length, None, Some, Ok, Err, refl, sym, ap, ◌∙◌, subst, arith}
 use Rattle.concurrent_queue.specs.Contents.{Contents}
-use Rattle.concurrent_queue.specs.Queue.{Queue, Stage, trying, displaced, appended, taken, read, measured, Phase, asked, is_filled, IsOpen, IsShut, IsOldest, marked, after, is_displaced, GoesPush, GoesForce, GoesPop, GoesOn, Goes, AnswersPush, AnswersForce, AnswersPop, AnswersTo, Answers}
+use Rattle.concurrent_queue.specs.Queue.{Queue, Stage, trying, displaced, appended, taken, read, measured, Phase, asked, is_filled, IsOpen, IsShut, IsOldest, marked, after, is_displaced, ContinuesPush, ContinuesForce, ContinuesPop, ContinuesBy, Continues, AnswersPush, AnswersForce, AnswersPop, AnswersTo, Answers}
 use Rattle.concurrent_queue.specs.Step.{Seat, seat, Fits, phases, rank, Shows}
 use Rattle.concurrent_queue.specs.declared.call.QueueAsk.{QueueAsk}
 use Rattle.concurrent_queue.specs.declared.call.QueueAsk.TheVariants as ask
@@ -36,7 +36,7 @@ module _ {T : Type 0} where
   -- so many steps of one call lead from there to here
   abbrev pub Leads : ℕ → Queue T → Phase T → Queue T → Phase T → Type 0
   Leads zero q0 f0 q f = (q ≡ q0) × (f ≡ f0)
-  Leads (suc n) q0 f0 q f = (p : Queue T) × (g : Phase T) × (m : QueueMark) × Leads n q0 f0 p g × Goes p g m f × (q ≡ after g m p)
+  Leads (suc n) q0 f0 q f = (p : Queue T) × (g : Phase T) × (m : QueueMark) × Leads n q0 f0 p g × Continues p g m f × (q ≡ after g m p)
 
   -- a call that was made over the queue q0 has come this far
   abbrev pub Comes : Queue T → Queue T → Phase T → Type 0
@@ -97,13 +97,13 @@ module _ {T : Type 0} where
         let by_coming : Bool → Queue T = λ b. record (marked (ask.ForcePush v) false Replace q0) { coming = b } in
         ap (λ (x : Queue T). marked (ask.ForcePush v) true Append x) e ∙ ap by_coming (sym idle.nothing_comes)
 
-    in_push : (q : Queue T) (v : T) (m : QueueMark) (s t : Stage T) → GoesPush q m s t → InPlace t (ask.Push v) (marked (ask.Push v) (is_displaced s) m q)
+    in_push : (q : Queue T) (v : T) (m : QueueMark) (s t : Stage T) → ContinuesPush q m s t → InPlace t (ask.Push v) (marked (ask.Push v) (is_displaced s) m q)
     in_push q v Nothing (trying b) t g = at_next (ask.Push v) _ t _ g tt
     in_push q v Nothing (appended None) t g = at_next (ask.Push v) _ t _ g tt
     in_push q v Append (trying b) t g = at_next (ask.Push v) _ t _ g.2 tt
     in_push q v m s t g = absurd g
 
-    in_force : (q : Queue T) (v : T) (m : QueueMark) (s t : Stage T) → GoesForce q m s t → So q0 (ask.ForcePush v) s q → InPlace s (ask.ForcePush v) q → InPlace t (ask.ForcePush v) (marked (ask.ForcePush v) (is_displaced s) m q)
+    in_force : (q : Queue T) (v : T) (m : QueueMark) (s t : Stage T) → ContinuesForce q m s t → So q0 (ask.ForcePush v) s q → InPlace s (ask.ForcePush v) q → InPlace t (ask.ForcePush v) (marked (ask.ForcePush v) (is_displaced s) m q)
     in_force q v Nothing (trying b) t g so h = at_next (ask.ForcePush v) _ t _ g tt
     in_force q v Nothing (displaced d) t g so h = at_next (ask.ForcePush v) _ t _ g tt
     in_force q v Nothing (appended o) t g so h = at_next (ask.ForcePush v) _ t _ g h
@@ -113,13 +113,13 @@ module _ {T : Type 0} where
     in_force q v TakeDisplaced (trying b) t g so h = at_next (ask.ForcePush v) _ t _ g.5 tt
     in_force q v m s t g so h = absurd g
 
-    in_pop : (q : Queue T) (m : QueueMark) (s t : Stage T) → GoesPop q m s t → InPlace t ask.Pop (marked ask.Pop (is_displaced s) m q)
+    in_pop : (q : Queue T) (m : QueueMark) (s t : Stage T) → ContinuesPop q m s t → InPlace t ask.Pop (marked ask.Pop (is_displaced s) m q)
     in_pop q Nothing (trying b) t g = at_next ask.Pop _ t _ g tt
     in_pop q Nothing (taken v) t g = at_next ask.Pop _ t _ g tt
     in_pop q Take (trying b) t g = at_next ask.Pop _ t _ g.2 tt
     in_pop q m s t g = absurd g
 
-    in_place : (q : Queue T) (a : QueueAsk T) (m : QueueMark) (s t : Stage T) → GoesOn q a m s t → So q0 a s q → InPlace s a q → InPlace t a (marked a (is_displaced s) m q)
+    in_place : (q : Queue T) (a : QueueAsk T) (m : QueueMark) (s t : Stage T) → ContinuesBy q a m s t → So q0 a s q → InPlace s a q → InPlace t a (marked a (is_displaced s) m q)
     in_place q (ask.Push v) m s t g so h = in_push q v m s t g
     in_place q (ask.ForcePush v) m s t g so h = in_force q v m s t g so h
     in_place q ask.Pop m s t g so h = in_pop q m s t g
@@ -191,7 +191,7 @@ module _ {T : Type 0} where
     abbrev Stands : Queue T → QueueAsk T → Stage T → Type 0
     Stands q a s = So q0 a s q × InPlace s a q × IsBalanced q
 
-    goes_so : (p : Queue T) (g : Phase T) (m : QueueMark) (f : Phase T) → Goes p g m f → Stands p g.ask g.stage → Stands (after g m p) f.ask f.stage
+    goes_so : (p : Queue T) (g : Phase T) (m : QueueMark) (f : Phase T) → Continues p g m f → Stands p g.ask g.stage → Stands (after g m p) f.ask f.stage
     goes_so p g m f goes h =
         subst (λ (a : QueueAsk T). Stands (after g m p) a f.stage) (sym goes.0) (
           so_goes q0 p g.ask m g.stage f.stage goes.1 h.0,

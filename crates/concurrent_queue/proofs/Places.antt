@@ -1,6 +1,6 @@
 -- One call among others, in lists of calls under way.
 use Rattle.std.proofs.Common.{◌≡◌, ℕ, ◌+◌, ◌≤◌, List, [], ◌∷◌, ◌++◌, refl, arith}
-use Rattle.concurrent_queue.specs.Places.{Place, Each, sum}
+use Rattle.concurrent_queue.specs.machine.Places.{Place, Each, sum}
 
 module _ {A T : Type 0} where
   pub sum_at : (f : A → ℕ) (l r : List (Place A T)) (p : Place A T) → sum f (l ++ p ∷ r) ≡ f p.action + sum f (l ++ r)

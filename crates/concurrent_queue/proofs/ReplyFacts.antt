@@ -1,13 +1,13 @@
 -- What a step of one form's machine may answer, in the words of all calls.
 use Rattle.std.proofs.Common.{◌≡◌, ℕ, Bool, true, false, Option, None, Some, refl, subst, sym}
-use Rattle.concurrent_queue.specs.Dispatch.{in_ring, in_blocks, ring_cap}
+use Rattle.concurrent_queue.specs.machine.Dispatch.{in_ring, in_blocks, ring_cap}
 use Rattle.concurrent_queue.specs.declared.call.Stepped.{Stepped}
 use Rattle.concurrent_queue.specs.declared.cells.QueueForm.{QueueForm}
 use Rattle.concurrent_queue.specs.declared.cells.QueueForm.TheVariants.{Bounded, Unbounded}
-use Rattle.concurrent_queue.specs.Single.{start}
-use Rattle.concurrent_queue.specs.RingWords.{cap_of, ring_start}
-use Rattle.concurrent_queue.specs.BlocksMoves.{answer_as}
-use Rattle.concurrent_queue.specs.BlocksWords.{begin, reply_of}
+use Rattle.concurrent_queue.specs.machine.Single.{start}
+use Rattle.concurrent_queue.specs.machine.RingWords.{cap_of, ring_start}
+use Rattle.concurrent_queue.specs.machine.BlocksMoves.{answer_as}
+use Rattle.concurrent_queue.specs.machine.BlocksWords.{begin, reply_of}
 use Rattle.concurrent_queue.specs.Replies.{MayAnswer, MaySingle, MayRing, MayEnd, MayBlocks, Tells, Sends, FollowsBy, FollowsIn, RingFollows, BlocksFollows, StateFollows, IsLastSingle, IsSoonSingle, IsLastRing, IsSoonRing, IsLastBlocks, IsSoonBlocks, AsksWords}
 use Rattle.concurrent_queue.specs.declared.call.QueueAsk.{QueueAsk}
 use Rattle.concurrent_queue.specs.declared.call.QueueAsk.TheVariants as ask

@@ -7,10 +7,10 @@ use Rattle.std.proofs.lemmas.Bool.{cases_lt}
 use Rattle.std.proofs.lemmas.Bool.Decides.{nat_tests}
 use Rattle.concurrent_queue.specs.Contents.{Contents, write_slot}
 use Rattle.concurrent_queue.specs.declared.cells.Slot.TheVariants.{At}
-use Rattle.concurrent_queue.specs.Positions.{pos}
-use Rattle.concurrent_queue.specs.RingState.{SlotState, Ring, with_place}
-use Rattle.concurrent_queue.specs.RingMeans.{Denotes}
-use Rattle.concurrent_queue.specs.RingWords.{is_marked, unmarked, index, stride, next_word, count_of, between, set_stamp}
+use Rattle.concurrent_queue.specs.machine.Positions.{pos}
+use Rattle.concurrent_queue.specs.machine.RingState.{SlotState, Ring, with_place}
+use Rattle.concurrent_queue.specs.machine.RingMeans.{Denotes}
+use Rattle.concurrent_queue.specs.machine.RingWords.{is_marked, unmarked, index, stride, next_word, count_of, between, set_stamp}
 use Rattle.concurrent_queue.proofs.RingShape.{IsMark}
 use Rattle.concurrent_queue.proofs.RingPlaces.{pos-index, pos-same, pos-less, pos-turn, pos-next, pos-div, near_same}
 use Rattle.concurrent_queue.proofs.RingSound.{by_bool, by_eq, if_false, if_true}

@@ -3,11 +3,11 @@ use Rattle.std.proofs.Common.{◌≡◌, ℕ, ◌+◌, ◌%◌, ◌<◌, ◌≤�
 use Rattle.std.proofs.lemmas.Nat.{mod_below}
 use Rattle.std.proofs.lemmas.Bool.{cases_lt, false≢true}
 use Rattle.std.proofs.lemmas.Bool.Decides.{nat_tests}
-use Rattle.concurrent_queue.specs.Queue.{Queue, Phase, trying, displaced, appended, taken, read, measured, message, seen_after, Goes, Answers}
-use Rattle.concurrent_queue.specs.RingState.{SlotState, Ring, Sound, IsShown, with_place, reach}
-use Rattle.concurrent_queue.specs.RingCalls.{ask_of, at_stage, Stands, IsItem, Saw, Reached}
-use Rattle.concurrent_queue.specs.RingMeans.{Kept}
-use Rattle.concurrent_queue.specs.RingWords.{shut_reply, pushed_reply, behind}
+use Rattle.concurrent_queue.specs.Queue.{Queue, Phase, trying, displaced, appended, taken, read, measured, message, seen_after, Continues, Answers}
+use Rattle.concurrent_queue.specs.machine.RingState.{SlotState, Ring, SoundRing, IsShown, with_place, reach}
+use Rattle.concurrent_queue.specs.machine.RingCalls.{ask_of, at_stage, StandsRing, IsItem, Saw, Reached}
+use Rattle.concurrent_queue.specs.machine.RingMeans.{Kept}
+use Rattle.concurrent_queue.specs.machine.RingWords.{shut_reply, pushed_reply, behind}
 use Rattle.concurrent_queue.proofs.RingPlaces.{turn-index}
 use Rattle.concurrent_queue.proofs.RingSound.{by_bool}
 use Rattle.concurrent_queue.proofs.RingLater.{eq_self}
@@ -24,7 +24,7 @@ use Rattle.concurrent_queue.specs.declared.bounded.WhenFull.TheVariants.{Refuse,
 use Rattle.concurrent_queue.specs.declared.bounded.RingAction.{RingAction}
 use Rattle.concurrent_queue.specs.declared.bounded.RingAction.TheVariants as act
 
-module _ {T : Type 0} (cap : ℕ) (two : 2 ≤ cap) (r : Ring T) (q : Queue T) (s : Sound cap r) (w : IsShown cap r q) where
+module _ {T : Type 0} (cap : ℕ) (two : 2 ≤ cap) (r : Ring T) (q : Queue T) (s : SoundRing cap r) (w : IsShown cap r q) where
   some : 0 < cap
   some = omega arith
 
@@ -32,11 +32,11 @@ module _ {T : Type 0} (cap : ℕ) (two : 2 ≤ cap) (r : Ring T) (q : Queue T) (
   pub at_phase : (a : RingAction T) (p o : Phase T) (r' : Ring T) (a' : RingAction T) (k : QueueMark) (x : Option (QueueReply T)) → p ≡ o → Kept cap r q a o r' a' k x → Kept cap r q a p r' a' k x
   at_phase a p o r' a' k x e h = subst (λ (y : Phase T). Kept cap r q a y r' a' k x) (sym e) h
 
-  goes_again : (k : WhenFull) (v : T) (seen : Bool) → Goes q (at_stage (ask_of k v) (trying seen)) mark.Nothing (at_stage (ask_of k v) (trying (seen_after seen q)))
+  goes_again : (k : WhenFull) (v : T) (seen : Bool) → Continues q (at_stage (ask_of k v) (trying seen)) mark.Nothing (at_stage (ask_of k v) (trying (seen_after seen q)))
   goes_again Refuse v seen = (refl, refl)
   goes_again Displace v seen = (refl, refl)
 
-  goes_appended : (k : WhenFull) (v : T) → Goes q (at_stage (ask_of k v) (appended None)) mark.Nothing (at_stage (ask_of k v) (appended None))
+  goes_appended : (k : WhenFull) (v : T) → Continues q (at_stage (ask_of k v) (appended None)) mark.Nothing (at_stage (ask_of k v) (appended None))
   goes_appended Refuse v = (refl, refl)
   goes_appended Displace v = (refl, refl)
 
@@ -70,7 +70,7 @@ module _ {T : Type 0} (cap : ℕ) (two : 2 ≤ cap) (r : Ring T) (q : Queue T) (
     push_ready n at = kind.quiet cap some r q s w _ _ (act.PushSwap k v n) None refl refl refl refl
         (at_stage (ask_of k v) (trying (seen_after seen q)), goes_again k v seen, (seen_after seen q, refl, omega arith))
 
-    went_in : (j : WhenFull) → r.closed ≡ false → r.tail < r.head + cap → Goes q (at_stage (ask_of j v) (trying seen)) mark.Append (at_stage (ask_of j v) (appended None))
+    went_in : (j : WhenFull) → r.closed ≡ false → r.tail < r.head + cap → Continues q (at_stage (ask_of j v) (trying seen)) mark.Append (at_stage (ask_of j v) (appended None))
     went_in Refuse o h = (refl, (w.closed ∙ o, kind.not_filled cap some r q s w h, refl))
     went_in Displace o h = (refl, (w.closed ∙ o, kind.not_filled cap some r q s w h, refl))
 
@@ -120,7 +120,7 @@ module _ {T : Type 0} (cap : ℕ) (two : 2 ≤ cap) (r : Ring T) (q : Queue T) (
   calm_passed : (n : ℕ) → (r.at (n % cap)).round ≡ n → (r.tail ≡ n + cap → ⊥) → r.coming ≡ true → r.tail % cap ≡ n % cap → ⊥
   calm_passed n at ne c e = ne (let g = s.coming c in let f = ap (λ (x : ℕ). (r.at x).round) e in omega (arith, g.2))
 
-  pub push_puts : (k : WhenFull) (v : T) (n : ℕ) → Stands cap r n false None → IsItem r n v
+  pub push_puts : (k : WhenFull) (v : T) (n : ℕ) → StandsRing cap r n false None → IsItem r n v
       → Kept cap r q (act.PushPut k v n) (at_stage (ask_of k v) (appended None)) (with_place r (n % cap) (record { round = (r.at (n % cap)).round; written = (r.at (n % cap)).written; slot = Some v })) (act.PushStore k n) mark.Nothing None
   push_puts k v n at it =
       let pl : SlotState T = record { round = (r.at (n % cap)).round; written = (r.at (n % cap)).written; slot = Some v } in
@@ -135,7 +135,7 @@ module _ {T : Type 0} (cap : ℕ) (two : 2 ≤ cap) (r : Ring T) (q : Queue T) (
   pushed_answer Refuse v = tt
   pushed_answer Displace v = refl
 
-  pub push_stores : (k : WhenFull) (v : T) (n : ℕ) → Stands cap r n false (Some v) → IsItem r n v
+  pub push_stores : (k : WhenFull) (v : T) (n : ℕ) → StandsRing cap r n false (Some v) → IsItem r n v
       → Kept cap r q (act.PushStore k n) (at_stage (ask_of k v) (appended None)) (with_place r (n % cap) (record { round = n; written = true; slot = (r.at (n % cap)).slot })) act.Finished mark.Nothing (Some (pushed_reply k))
   push_stores k v n at it =
       let pl : SlotState T = record { round = n; written = true; slot = (r.at (n % cap)).slot } in
@@ -163,7 +163,7 @@ module _ {T : Type 0} (cap : ℕ) (two : 2 ≤ cap) (r : Ring T) (q : Queue T) (
         (d, refl, (won.0, won.1, won.3), omega arith, full, refl),
       ))
 
-  pub force_adds : (v d : T) (c : ℕ) → Stands cap r c true (Some d) → c < r.head → r.tail ≡ c + cap → r.coming ≡ true
+  pub force_adds : (v d : T) (c : ℕ) → StandsRing cap r c true (Some d) → c < r.head → r.tail ≡ c + cap → r.coming ≡ true
       → Kept cap r q (act.ForceAdd v c) (at_stage (ask.ForcePush v) (displaced d)) (record r { all = r.all ++ v ∷ []; tail = r.tail + 1; coming = false }) (act.ForceTake v c) mark.Append None
   force_adds v d c at low t coming = kind.bring_in cap some r q s w _ _ (act.ForceTake v c) v c coming t low refl refl refl refl refl refl (
     at_stage (ask.ForcePush v) (appended (Some d)),
@@ -171,7 +171,7 @@ module _ {T : Type 0} (cap : ℕ) (two : 2 ≤ cap) (r : Ring T) (q : Queue T) (
     (d, refl, at, low, (omega arith, subst (λ (x : ℕ). slice_get (r.all ++ v ∷ []) x ≡ Some v) t (kind.item_last cap some r q s w v))),
   )
 
-  pub force_takes : (v d : T) (c : ℕ) → Stands cap r c true (Some d) → c < r.head → IsItem r (c + cap) v
+  pub force_takes : (v d : T) (c : ℕ) → StandsRing cap r c true (Some d) → c < r.head → IsItem r (c + cap) v
       → Kept cap r q (act.ForceTake v c) (at_stage (ask.ForcePush v) (appended (Some d))) (with_place r (c % cap) (record { round = (r.at (c % cap)).round; written = (r.at (c % cap)).written; slot = None })) (act.ForcePut v c d) mark.Nothing None
   force_takes v d c at low it =
       let pl : SlotState T = record { round = (r.at (c % cap)).round; written = (r.at (c % cap)).written; slot = None } in
@@ -182,7 +182,7 @@ module _ {T : Type 0} (cap : ℕ) (two : 2 ≤ cap) (r : Ring T) (q : Queue T) (
       (rw (eq_self (c % cap)) refl)
       (at_stage (ask.ForcePush v) (appended (Some d)), (refl, refl), (refl, subst (λ (x : SlotState T). (x.round ≡ c) × (x.written ≡ true) × (x.slot ≡ None)) (sym is) (at.0, at.1, refl), low, it))
 
-  pub force_puts : (v d : T) (c : ℕ) → Stands cap r c true None → c < r.head → IsItem r (c + cap) v
+  pub force_puts : (v d : T) (c : ℕ) → StandsRing cap r c true None → c < r.head → IsItem r (c + cap) v
       → Kept cap r q (act.ForcePut v c d) (at_stage (ask.ForcePush v) (appended (Some d))) (with_place r (c % cap) (record { round = (r.at (c % cap)).round; written = (r.at (c % cap)).written; slot = Some v })) (act.ForceStore c d) mark.Nothing None
   force_puts v d c at low it =
       let pl : SlotState T = record { round = (r.at (c % cap)).round; written = (r.at (c % cap)).written; slot = Some v } in
@@ -193,7 +193,7 @@ module _ {T : Type 0} (cap : ℕ) (two : 2 ≤ cap) (r : Ring T) (q : Queue T) (
       (rw (eq_self (c % cap)) refl)
       (at_stage (ask.ForcePush v) (appended (Some d)), (refl, refl), (v, refl, subst (λ (x : SlotState T). (x.round ≡ c) × (x.written ≡ true) × (x.slot ≡ Some v)) (sym is) (at.0, at.1, refl), low, it))
 
-  pub force_stores : (v d : T) (c : ℕ) → Stands cap r c true (Some v) → c < r.head → IsItem r (c + cap) v
+  pub force_stores : (v d : T) (c : ℕ) → StandsRing cap r c true (Some v) → c < r.head → IsItem r (c + cap) v
       → Kept cap r q (act.ForceStore c d) (at_stage (ask.ForcePush v) (appended (Some d))) (with_place r (c % cap) (record { round = c + cap; written = true; slot = (r.at (c % cap)).slot })) act.Finished mark.Nothing (Some (reply.Force (Ok (Some d))))
   force_stores v d c at low it =
       let pl : SlotState T = record { round = c + cap; written = true; slot = (r.at (c % cap)).slot } in
@@ -262,7 +262,7 @@ module _ {T : Type 0} (cap : ℕ) (two : 2 ≤ cap) (r : Ring T) (q : Queue T) (
     pop_shut n t o h reached = kind.quiet cap some r q s w _ _ act.Finished _ refl refl refl refl
         ((w.closed ∙ o, (kind.empty_is cap some r q s w (let m = s.order in omega arith), calm_at n t reached)), refl)
 
-  pub pop_takes : (d : T) (n : ℕ) → Stands cap r n true (Some d) → n < r.head → reach r ≤ n + cap
+  pub pop_takes : (d : T) (n : ℕ) → StandsRing cap r n true (Some d) → n < r.head → reach r ≤ n + cap
       → Kept cap r q (act.PopTake n) (at_stage ask.Pop (taken d)) (with_place r (n % cap) (record { round = (r.at (n % cap)).round; written = (r.at (n % cap)).written; slot = None })) (act.PopStore n d) mark.Nothing None
   pop_takes d n at low far =
       let pl : SlotState T = record { round = (r.at (n % cap)).round; written = (r.at (n % cap)).written; slot = None } in
@@ -274,7 +274,7 @@ module _ {T : Type 0} (cap : ℕ) (two : 2 ≤ cap) (r : Ring T) (q : Queue T) (
       (rw (eq_self (n % cap)) refl)
       (at_stage ask.Pop (taken d), (refl, refl), (refl, subst (λ (x : SlotState T). (x.round ≡ n) × (x.written ≡ true) × (x.slot ≡ None)) (sym is) (at.0, at.1, refl), low, far))
 
-  pub pop_stores : (d : T) (n : ℕ) → Stands cap r n true None → n < r.head → reach r ≤ n + cap
+  pub pop_stores : (d : T) (n : ℕ) → StandsRing cap r n true None → n < r.head → reach r ≤ n + cap
       → Kept cap r q (act.PopStore n d) (at_stage ask.Pop (taken d)) (with_place r (n % cap) (record { round = n + cap; written = false; slot = (r.at (n % cap)).slot })) act.Finished mark.Nothing (Some (reply.Pop (Ok d)))
   pop_stores d n at low far =
       let pl : SlotState T = record { round = n + cap; written = false; slot = (r.at (n % cap)).slot } in

@@ -5,10 +5,10 @@ use Rattle.std.proofs.Common.{◌≡◌, ℕ, zero, suc, ◌+◌, ◌-◌, ◌%�
 use Rattle.std.proofs.lemmas.List.{drop-append-le, length-drop}
 use Rattle.std.proofs.lemmas.Bool.{cases_lt, false≢true}
 use Rattle.std.proofs.lemmas.Bool.Decides.{nat_tests}
-use Rattle.concurrent_queue.specs.Queue.{Queue, Phase, is_displaced, message, is_filled, is_full_at, seen_after, after, Goes, Answers, IsOldest}
-use Rattle.concurrent_queue.specs.RingState.{SlotState, Ring, Sound, IsShown, busy, with_place}
-use Rattle.concurrent_queue.specs.RingCalls.{Duty, hold, bring, IsDuty, held, holds, brings, owes, owed, Knows}
-use Rattle.concurrent_queue.specs.RingMeans.{Later, Kept}
+use Rattle.concurrent_queue.specs.Queue.{Queue, Phase, is_displaced, message, is_filled, is_full_at, seen_after, after, Continues, Answers, IsOldest}
+use Rattle.concurrent_queue.specs.machine.RingState.{SlotState, Ring, SoundRing, IsShown, busy, with_place}
+use Rattle.concurrent_queue.specs.machine.RingCalls.{Duty, hold, bring, IsDuty, held, holds, brings, owes, owed, KnowsRing}
+use Rattle.concurrent_queue.specs.machine.RingMeans.{Later, Kept}
 use Rattle.concurrent_queue.proofs.RingPlaces.{turn-index}
 use Rattle.concurrent_queue.proofs.Refusing.{full_refuses}
 use Rattle.concurrent_queue.proofs.RingSound as sound
@@ -46,7 +46,7 @@ nil_of (x ∷ xs) e = absurd (omega arith)
 eq_not : (i j : ℕ) → (i ≡ j → ⊥) → (i == j) ≡ false
 eq_not i j ne = by_bool (i == j) (λ e. e) (λ e. absurd (ne (grind (arith, nat_tests))))
 
-module _ {T : Type 0} (cap : ℕ) (some : 0 < cap) (r : Ring T) (q : Queue T) (s : Sound cap r) (w : IsShown cap r q) where
+module _ {T : Type 0} (cap : ℕ) (some : 0 < cap) (r : Ring T) (q : Queue T) (s : SoundRing cap r) (w : IsShown cap r q) where
   -- ---- what the ring says of the queue
 
   pub length_is : length q.items + r.head ≡ r.tail
@@ -99,7 +99,7 @@ module _ {T : Type 0} (cap : ℕ) (some : 0 < cap) (r : Ring T) (q : Queue T) (s
       }
 
   pub quiet : (a : RingAction T) (p : Phase T) (a' : RingAction T) (x : Option (QueueReply T)) → held a ≡ None → held a' ≡ None → brings a ≡ 0 → brings a' ≡ 0
-      → MatchOption x ((p' : Phase T) × Goes q p mark.Nothing p' × Knows cap r a' p') (λ y. Answers q p mark.Nothing y × (a' ≡ act.Finished))
+      → MatchOption x ((p' : Phase T) × Continues q p mark.Nothing p' × KnowsRing cap r a' p') (λ y. Answers q p mark.Nothing y × (a' ≡ act.Finished))
       → Kept cap r q a p r a' mark.Nothing x
   quiet a p a' x f f' b b' l = record { sound = s; shown = w; owners = own; later = rests a; leaves = l }
     where
@@ -143,7 +143,7 @@ module _ {T : Type 0} (cap : ℕ) (some : 0 < cap) (r : Ring T) (q : Queue T) (s
   pub append : (a : RingAction T) (p : Phase T) (a' : RingAction T) (v : T) (n : ℕ) → r.tail ≡ n → n ≤ (r.at (n % cap)).round
       → held a ≡ None → held a' ≡ Some n → brings a ≡ 0 → brings a' ≡ 0 → message p.ask ≡ v ∷ [] → is_displaced p.stage ≡ false
       → (((r.at (n % cap)).round ≡ n) × ((r.at (n % cap)).written ≡ false) × ((r.at (n % cap)).slot ≡ None) × (r.tail < r.head + cap)
-      → (p' : Phase T) × Goes q p mark.Append p' × Knows cap (appended_ring v r.coming) a' p')
+      → (p' : Phase T) × Continues q p mark.Append p' × KnowsRing cap (appended_ring v r.coming) a' p')
       → Kept cap r q a p (appended_ring v r.coming) a' mark.Append None
   append a p a' v n t reached f f' b b' e st l =
       let won = sound.push_wins cap some r s n t reached in
@@ -189,7 +189,7 @@ module _ {T : Type 0} (cap : ℕ) (some : 0 < cap) (r : Ring T) (q : Queue T) (s
   -- who makes room at the tail, and then moves it on
   pub bring_in : (a : RingAction T) (p : Phase T) (a' : RingAction T) (v : T) (c : ℕ) → r.coming ≡ true → r.tail ≡ c + cap → c < r.head
       → held a ≡ Some c → held a' ≡ Some c → brings a ≡ 1 → brings a' ≡ 0 → message p.ask ≡ v ∷ [] → is_displaced p.stage ≡ true
-      → ((p' : Phase T) × Goes q p mark.Append p' × Knows cap (appended_ring v false) a' p')
+      → ((p' : Phase T) × Continues q p mark.Append p' × KnowsRing cap (appended_ring v false) a' p')
       → Kept cap r q a p (appended_ring v false) a' mark.Append None
   bring_in a p a' v c coming t low f f' b b' e st l =
       let at = sound.coming_at cap some r s c coming t in
@@ -235,7 +235,7 @@ module _ {T : Type 0} (cap : ℕ) (some : 0 < cap) (r : Ring T) (q : Queue T) (s
       → (b ≡ true → (r.coming ≡ false → r.tail ≡ n + cap))
       → after p k q ≡ record q { items = drop 1 q.items; removed = q.removed + 1; coming = if r.coming then q.coming else b }
       → ((v : T) → ((r.at (n % cap)).round ≡ n) × ((r.at (n % cap)).written ≡ true) × (n < r.tail) × ((r.at (n % cap)).slot ≡ Some v) → IsOldest v q
-      → (p' : Phase T) × Goes q p k p' × Knows cap (taken_ring b) a' p')
+      → (p' : Phase T) × Continues q p k p' × KnowsRing cap (taken_ring b) a' p')
       → Kept cap r q a p (taken_ring b) a' k None
   take a p a' k n b t reached written f f' o o' still fresh e l =
       let won = sound.pop_wins cap some r s n t reached written in
@@ -299,7 +299,7 @@ module _ {T : Type 0} (cap : ℕ) (some : 0 < cap) (r : Ring T) (q : Queue T) (s
       × (x.written ≡ true → r.head ≤ x.round → (x.round < r.tail) × (x.slot ≡ slice_get r.all x.round))
       × (x.written ≡ true → x.round < r.head → r.head ≤ x.round + cap)
 
-  place_sound : (n : ℕ) (pl : SlotState T) → Fine (n % cap) pl → (r.coming ≡ true → r.tail % cap ≡ n % cap → ⊥) → Sound cap (with_place r (n % cap) pl)
+  place_sound : (n : ℕ) (pl : SlotState T) → Fine (n % cap) pl → (r.coming ≡ true → r.tail % cap ≡ n % cap → ⊥) → SoundRing cap (with_place r (n % cap) pl)
   place_sound n pl fine apart =
       let i : ℕ = n % cap in
       let all : (j : ℕ) → j < cap → Fine j ((with_place r i pl).at j) = λ j b. by_eq j i
@@ -327,7 +327,7 @@ module _ {T : Type 0} (cap : ℕ) (some : 0 < cap) (r : Ring T) (q : Queue T) (s
       → (r.coming ≡ true → r.tail % cap ≡ n % cap → ⊥)
       → Fine (n % cap) pl
       → holds cap (n % cap) (held a') + (if busy r (n % cap) then 1 else 0) ≡ 1 + (if (if pl.written then nat_lt pl.round r.head else nat_lt pl.round r.tail) then 1 else 0)
-      → MatchOption x ((p' : Phase T) × Goes q p mark.Nothing p' × Knows cap (with_place r (n % cap) pl) a' p') (λ y. Answers q p mark.Nothing y × (a' ≡ act.Finished))
+      → MatchOption x ((p' : Phase T) × Continues q p mark.Nothing p' × KnowsRing cap (with_place r (n % cap) pl) a' p') (λ y. Answers q p mark.Nothing y × (a' ≡ act.Finished))
       → Kept cap r q a p (with_place r (n % cap) pl) a' mark.Nothing x
   place a p a' n pl x f f' b b' grows stays apart fine acct l =
       let i : ℕ = n % cap in

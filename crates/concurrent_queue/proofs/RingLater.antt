@@ -3,9 +3,9 @@ use Rattle.std.proofs.Common.{◌≡◌, ℕ, ◌+◌, ◌%◌, ◌<◌, ◌≤�
 use Rattle.std.proofs.lemmas.Nat.{mod_below}
 use Rattle.std.proofs.lemmas.Bool.Decides.{nat_tests}
 use Rattle.concurrent_queue.specs.Queue.{Phase}
-use Rattle.concurrent_queue.specs.RingState.{SlotState, Ring, busy}
-use Rattle.concurrent_queue.specs.RingCalls.{Duty, hold, bring, IsDuty, Stands, IsItem, Reached, Saw, Knows, held, owes, owed}
-use Rattle.concurrent_queue.specs.RingMeans.{Later}
+use Rattle.concurrent_queue.specs.machine.RingState.{SlotState, Ring, busy}
+use Rattle.concurrent_queue.specs.machine.RingCalls.{Duty, hold, bring, IsDuty, StandsRing, IsItem, Reached, Saw, KnowsRing, held, owes, owed}
+use Rattle.concurrent_queue.specs.machine.RingMeans.{Later}
 use Rattle.concurrent_queue.specs.declared.bounded.RingAction.{RingAction}
 use Rattle.concurrent_queue.specs.declared.bounded.RingAction.TheVariants as act
 
@@ -38,7 +38,7 @@ module _ {T : Type 0} (cap : ℕ) (some : 0 < cap) (r : Ring T) (a : RingAction 
         let his : owes cap q (hold (n % cap)) ≡ 1 = rw e (rw (eq_self (n % cap)) refl) in
         one_each _ _ _ (apart (hold (n % cap)) (mod_below n cap some)) (at_most_one (busy r (n % cap))) his
 
-    stands_later : (n : ℕ) (w : Bool) (slot : Option T) → held q ≡ Some n → Stands cap r n w slot → Stands cap r' n w slot
+    stands_later : (n : ℕ) (w : Bool) (slot : Option T) → held q ≡ Some n → StandsRing cap r n w slot → StandsRing cap r' n w slot
     stands_later n w slot e s = subst (λ (x : SlotState T). (x.round ≡ n) × (x.written ≡ w) × (x.slot ≡ slot)) (sym (l.place (n % cap) (mine n e))) s
 
     item_later : (n : ℕ) (v : T) → IsItem r n v → IsItem r' n v
@@ -50,7 +50,7 @@ module _ {T : Type 0} (cap : ℕ) (some : 0 < cap) (r : Ring T) (a : RingAction 
     bringing : (x : ℕ) → x ≡ owes cap q bring → x ≡ 1 → owes cap a bring ≡ 0
     bringing x e f = one_each _ _ _ (apart bring tt) (at_most_one r.coming) (sym e ∙ f)
 
-  pub later_keeps : (q : RingAction T) (p : Phase T) → ((d : Duty) → IsDuty cap d → owes cap q d + owes cap a d ≤ owed r d) → Knows cap r q p → Knows cap r' q p
+  pub later_keeps : (q : RingAction T) (p : Phase T) → ((d : Duty) → IsDuty cap d → owes cap q d + owes cap a d ≤ owed r d) → KnowsRing cap r q p → KnowsRing cap r' q p
   later_keeps (act.Push k v) p apart s = s
   later_keeps (act.PushShut k v) p apart s = s
   later_keeps (act.PushStamp k v n) p apart s = (s.0, s.1, saw_later n s.0 s.2)

@@ -4,12 +4,12 @@ use Rattle.std.proofs.lemmas.Nat.{div-mul-add}
 use Rattle.std.proofs.Math.Nat.{mod-eq_of_lt}
 use Rattle.std.proofs.lemmas.Bool.{cases_lt, false≢true}
 use Rattle.std.proofs.lemmas.Bool.Decides.{nat_tests}
-use Rattle.concurrent_queue.specs.Positions.{pos}
+use Rattle.concurrent_queue.specs.machine.Positions.{pos}
 use Rattle.concurrent_queue.specs.Queue.{opened}
-use Rattle.concurrent_queue.specs.RingState.{Ring, Sound}
-use Rattle.concurrent_queue.specs.RingCalls.{Duty, hold, bring, IsDuty, owed}
-use Rattle.concurrent_queue.specs.RingMade.{numbers_below, vacant_slots, empty_ring}
-use Rattle.concurrent_queue.specs.RingMeans.{Denotes, RingMeans}
+use Rattle.concurrent_queue.specs.machine.RingState.{Ring, SoundRing}
+use Rattle.concurrent_queue.specs.machine.RingCalls.{Duty, hold, bring, IsDuty, owed}
+use Rattle.concurrent_queue.specs.machine.RingMade.{numbers_below, vacant_slots, empty_ring}
+use Rattle.concurrent_queue.specs.machine.RingMeans.{Denotes, RingMeans}
 use Rattle.concurrent_queue.proofs.RingShape.{IsMark}
 use Rattle.concurrent_queue.proofs.RingSound.{get_before, get_end}
 
@@ -56,7 +56,7 @@ module _ (T : Type 0) (cap m : ℕ) (two : 2 ≤ cap) (k : IsMark cap m) where
       let d : i / cap ≡ 0 = subst (λ (j : ℕ). j / cap ≡ 0) e (div-mul-add 0 cap i h) in
       rw (d, mod-eq_of_lt h) (omega arith)
 
-  new_sound : Sound cap new_ring
+  new_sound : SoundRing cap new_ring
   unfolding new_ring
   new_sound = record {
     all = refl;

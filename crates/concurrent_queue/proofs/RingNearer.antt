@@ -5,14 +5,14 @@ use Rattle.std.proofs.lemmas.Bool.{false≢true}
 use Rattle.std.proofs.lemmas.Bool.Decides.{nat_tests}
 use Rattle.std.proofs.Math.Nat.{mod-eq_of_lt}
 use Rattle.concurrent_queue.specs.Contents.{Contents, write_slot}
-use Rattle.concurrent_queue.specs.Positions.{pos}
+use Rattle.concurrent_queue.specs.machine.Positions.{pos}
 use Rattle.concurrent_queue.specs.Queue.{Queue, Phase}
-use Rattle.concurrent_queue.specs.RingState.{Ring, Sound, IsShown, busy}
-use Rattle.concurrent_queue.specs.RingCalls.{Duty, hold, IsDuty, owes, owed, held, Knows, placed}
-use Rattle.concurrent_queue.specs.RingMeans.{Denotes}
-use Rattle.concurrent_queue.specs.RingRank.{ring_rank, rests_at}
-use Rattle.concurrent_queue.specs.RingWords as word
-use Rattle.concurrent_queue.specs.RingWords.{is_marked, unmarked, index, behind}
+use Rattle.concurrent_queue.specs.machine.RingState.{Ring, SoundRing, IsShown, busy}
+use Rattle.concurrent_queue.specs.machine.RingCalls.{Duty, hold, IsDuty, owes, owed, held, KnowsRing, placed}
+use Rattle.concurrent_queue.specs.machine.RingMeans.{Denotes}
+use Rattle.concurrent_queue.specs.machine.RingRank.{ring_rank, rests_at}
+use Rattle.concurrent_queue.specs.machine.RingWords as word
+use Rattle.concurrent_queue.specs.machine.RingWords.{is_marked, unmarked, index, behind}
 use Rattle.concurrent_queue.proofs.RingShape.{IsMark}
 use Rattle.concurrent_queue.proofs.RingPlaces.{near_same, turn-index}
 use Rattle.concurrent_queue.proofs.RingSound.{by_bool}
@@ -43,7 +43,7 @@ not_owed true e = absurd (omega arith)
 lt_no : (x y : ℕ) → nat_lt x y ≡ false → y ≤ x
 lt_no x y e = grind (arith, nat_tests)
 
-module _ {T : Type 0} (cap m : ℕ) (two : 2 ≤ cap) (limit : cap ≤ 2 ^ 58) (k : IsMark cap m) (c : Contents T) (r : Ring T) (q : Queue T) (d : Denotes cap m c r) (s : Sound cap r) (w : IsShown cap r q) (few : r.tail ≤ 2 ^ 61) where
+module _ {T : Type 0} (cap m : ℕ) (two : 2 ≤ cap) (limit : cap ≤ 2 ^ 58) (k : IsMark cap m) (c : Contents T) (r : Ring T) (q : Queue T) (d : Denotes cap m c r) (s : SoundRing cap r) (w : IsShown cap r q) (few : r.tail ≤ 2 ^ 61) where
   abbrev Word : ℕ → ℕ
   Word n = pos cap (2 * m) n
 
@@ -173,7 +173,7 @@ module _ {T : Type 0} (cap m : ℕ) (two : 2 ≤ cap) (limit : cap ≤ 2 ^ 58) (
       let h : rests_at m c (unmarked m c.tail) (is_marked m c.tail) ≡ true = rw (e, f) (eq_holds _ _ (d.tail ∙ sym g)) in
       rw h (omega arith)
 
-  pub nearer : (a : RingAction T) (p : Phase T) → Knows cap r a p → ((y : Duty) → IsDuty cap y → owed r y ≡ owes cap a y)
+  pub nearer : (a : RingAction T) (p : Phase T) → KnowsRing cap r a p → ((y : Duty) → IsDuty cap y → owed r y ≡ owes cap a y)
       → Nearer m (ring_rank m c (placed (pos cap (2 * m)) a)) (word.ring_step cap m c (placed (pos cap (2 * m)) a)).0 (word.ring_step cap m c (placed (pos cap (2 * m)) a)).1
   nearer (act.Push j v) p h quiet =
       let P : Stepped (RingAction T) T → Type 0 = λ x. Nearer m 7 c x in

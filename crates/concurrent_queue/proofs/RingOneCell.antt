@@ -2,8 +2,8 @@
 use Rattle.std.proofs.Common.{◌≡◌, ℕ, ◌*◌, ◌==◌, Bool, true, false, if◌then◌else◌, Option, slice_get, bit_or, refl, inl, inr}
 use Rattle.concurrent_queue.specs.Contents.{Contents, write_slot, is_vacant}
 use Rattle.concurrent_queue.specs.Step.{OneCell}
-use Rattle.concurrent_queue.specs.RingWords as word
-use Rattle.concurrent_queue.specs.RingWords.{ring_step, index, put_step, took}
+use Rattle.concurrent_queue.specs.machine.RingWords as word
+use Rattle.concurrent_queue.specs.machine.RingWords.{ring_step, index, put_step, took}
 use Rattle.concurrent_queue.proofs.RingSteps.{pick}
 use Rattle.concurrent_queue.specs.declared.call.Stepped.{Stepped}
 use Rattle.concurrent_queue.specs.declared.cells.Slot.TheVariants.{At}

@@ -4,7 +4,7 @@ use Rattle.std.proofs.lemmas.Nat.{div-mul-add, mod-mul-add, div-add-mod', mod_be
 use Rattle.std.proofs.lemmas.Bool.{cases_lt}
 use Rattle.std.proofs.Math.Nat.{mul-le-mul_left}
 use Rattle.std.proofs.lemmas.Bool.Decides.{nat_tests}
-use Rattle.concurrent_queue.specs.Positions.{pos}
+use Rattle.concurrent_queue.specs.machine.Positions.{pos}
 
 module _ (cap : ℕ) where
   rows_apart : (a b : ℕ) → a < b → a * cap + cap ≤ b * cap

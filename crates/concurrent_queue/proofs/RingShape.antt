@@ -5,7 +5,7 @@ use Rattle.std.proofs.lemmas.Bool.Decides.{nat_tests}
 use Rattle.std.proofs.lemmas.Nat.{leading_length, leading_top}
 use Rattle.std.proofs.Math.Pow.{pow_mono}
 use lib.Count.{count_leading_zeros}
-use Rattle.concurrent_queue.specs.RingWords.{cap_of, ring_mark}
+use Rattle.concurrent_queue.specs.machine.RingWords.{cap_of, ring_mark}
 
 -- the width of a capacity
 pub width_small : (cap : ℕ) → cap ≤ 2 ^ 58 → (64 - count_leading_zeros 64 cap < 64) × (2 ^ (64 - count_leading_zeros 64 cap) < 2 ^ 60) × (0 < 2 ^ (64 - count_leading_zeros 64 cap))

@@ -4,17 +4,17 @@ use Rattle.std.proofs.lemmas.Nat.{mod_below, div-add-mod'}
 use Rattle.std.proofs.lemmas.Bool.{cases_lt, false≢true}
 use Rattle.std.proofs.lemmas.Bool.Decides.{nat_tests}
 use Rattle.concurrent_queue.specs.Contents.{Contents, slot_at}
-use Rattle.concurrent_queue.specs.Positions.{pos}
+use Rattle.concurrent_queue.specs.machine.Positions.{pos}
 use Rattle.concurrent_queue.specs.Queue.{appended, Phase, message}
-use Rattle.concurrent_queue.specs.Places.{Place, Each, sum}
+use Rattle.concurrent_queue.specs.machine.Places.{Place, Each, sum}
 use Rattle.concurrent_queue.specs.Step.{HasBrought, IsBrought, LiesBy}
-use Rattle.concurrent_queue.specs.Forms.{place_phases, FormShows, FormLies}
-use Rattle.concurrent_queue.specs.RingState.{SlotState, Ring, Sound, busy, reach}
-use Rattle.concurrent_queue.specs.RingCalls.{Duty, hold, bring, IsDuty, ask_of, at_stage, owes, owed, Knows}
-use Rattle.concurrent_queue.specs.RingMeans.{Denotes, RingMeans}
-use Rattle.concurrent_queue.specs.RingRank.{ring_rank}
-use Rattle.concurrent_queue.specs.RingWords.{is_marked, unmarked}
-use Rattle.concurrent_queue.specs.RingReadings.{number_of, ring_closed, ring_counted, ring_length, ring_slot, held_from, ring_held}
+use Rattle.concurrent_queue.specs.machine.Forms.{place_phases, FormShows, FormLies}
+use Rattle.concurrent_queue.specs.machine.RingState.{SlotState, Ring, SoundRing, busy, reach}
+use Rattle.concurrent_queue.specs.machine.RingCalls.{Duty, hold, bring, IsDuty, ask_of, at_stage, owes, owed, KnowsRing}
+use Rattle.concurrent_queue.specs.machine.RingMeans.{Denotes, RingMeans}
+use Rattle.concurrent_queue.specs.machine.RingRank.{ring_rank}
+use Rattle.concurrent_queue.specs.machine.RingWords.{is_marked, unmarked}
+use Rattle.concurrent_queue.specs.machine.RingReadings.{number_of, ring_closed, ring_counted, ring_length, ring_slot, held_from, ring_held}
 use Rattle.concurrent_queue.proofs.RingShape.{IsMark}
 use Rattle.concurrent_queue.proofs.RingPlaces.{near_same, turn-index, pos-div}
 use Rattle.concurrent_queue.proofs.RingSound.{by_bool}
@@ -48,7 +48,7 @@ get_inside [] i x e = absurd cc
 get_inside (y ∷ xs) zero x e = omega arith
 get_inside (y ∷ xs) (suc i) x e = omega (arith, get_inside xs i x e)
 
-module _ {T : Type 0} (cap : ℕ) (some : 0 < cap) (r : Ring T) (s : Sound cap r) (n : ℕ) (v : T) (low : r.head ≤ n) (high : n < r.tail) (it : slice_get r.all n ≡ Some v) where
+module _ {T : Type 0} (cap : ℕ) (some : 0 < cap) (r : Ring T) (s : SoundRing cap r) (n : ℕ) (v : T) (low : r.head ≤ n) (high : n < r.tail) (it : slice_get r.all n ≡ Some v) where
   abbrev there : SlotState T
   there = r.at (n % cap)
 
@@ -119,7 +119,7 @@ module _ {T : Type 0} (cap : ℕ) (some : 0 < cap) (r : Ring T) (s : Sound cap r
     reached : (c : ℕ) → reach r ≤ c + cap → r.tail ≤ c + cap
     reached c h = by_bool r.coming (λ e. let g : r.tail + 0 ≤ c + cap = rw e at h in omega arith) (λ e. let g : r.tail + 1 ≤ c + cap = rw e at h in omega arith)
 
-    brought_by : (a : RingAction T) → Knows cap r a p → (◌≡◌ {A = ℕ} (owes cap a (hold (n % cap))) 0) ⊎ Brings p
+    brought_by : (a : RingAction T) → KnowsRing cap r a p → (◌≡◌ {A = ℕ} (owes cap a (hold (n % cap))) 0) ⊎ Brings p
     brought_by (act.PushPut k w c) h = by_bool (c % cap == n % cap) (λ e. inl (none_held c e)) (λ e. inr (filler k c w e h.1.0 h.1.1 h.0 h.2.1))
     brought_by (act.PushStore k c) h = by_bool (c % cap == n % cap) (λ e. inl (none_held c e)) (λ e. inr (filler k c h.0 e h.2.0 h.2.1 h.1 h.3.1))
     brought_by (act.ForceAdd w c) h = by_bool (c % cap == n % cap) (λ e. inl (none_held c e)) (λ e. inr (popper c e h.2.0 h.3 (omega (arith, h.4))))
@@ -151,7 +151,7 @@ module _ {T : Type 0} (cap : ℕ) (some : 0 < cap) (r : Ring T) (s : Sound cap r
     brought_by act.Finished h = absurd h
 
   brought_among : ((there.round ≡ n) ⊎ ((there.round + cap ≡ n) × (there.written ≡ true))) → (xs : List (Place (RingAction T) T)) → 1 ≤ sum (λ a. owes cap a (hold (n % cap))) xs
-      → Each (λ (x : Place (RingAction T) T). Knows cap r x.action x.phase) xs → IsBrought (place_phases xs) v
+      → Each (λ (x : Place (RingAction T) T). KnowsRing cap r x.action x.phase) xs → IsBrought (place_phases xs) v
   brought_among st [] h all = absurd (omega arith)
   brought_among st (x ∷ xs) h all = ⊎_elim
       (λ e. inr (brought_among st xs (omega (arith, e)) all.1))
@@ -159,7 +159,7 @@ module _ {T : Type 0} (cap : ℕ) (some : 0 < cap) (r : Ring T) (s : Sound cap r
       (brought_by st x.phase x.action all.0)
 
   lies_there : (xs : List (Place (RingAction T) T)) → sum (λ a. owes cap a (hold (n % cap))) xs ≡ (if busy r (n % cap) then 1 else 0)
-      → Each (λ (x : Place (RingAction T) T). Knows cap r x.action x.phase) xs → (there.slot ≡ Some v) ⊎ IsBrought (place_phases xs) v
+      → Each (λ (x : Place (RingAction T) T). KnowsRing cap r x.action x.phase) xs → (there.slot ≡ Some v) ⊎ IsBrought (place_phases xs) v
   lies_there xs e all = ⊎_elim (λ h. inl h) (λ h. inr (brought_among h.1 xs (let f : sum (λ a. owes cap a (hold (n % cap))) xs ≡ 1 = e ∙ (rw h.0 refl) in omega arith) all)) which
 
   at_rest_there : busy r (n % cap) ≡ false → there.slot ≡ Some v
@@ -177,7 +177,7 @@ module _ (cap m : ℕ) (some : 0 < cap) (k : IsMark cap m) where
       rw (e, i) (div-add-mod' n cap)
 
 module _ {T : Type 0} (cap m : ℕ) (some : 0 < cap) (k : IsMark cap m) where
-  module _ (c : Contents T) (r : Ring T) (d : Denotes cap m c r) (s : Sound cap r) where
+  module _ (c : Contents T) (r : Ring T) (d : Denotes cap m c r) (s : SoundRing cap r) where
     counted_is : ring_counted cap m c ≡ r.tail
     counted_is = ap (λ (w : ℕ). number_of cap m (unmarked m w)) d.tail ∙ ap (λ (w : ℕ). number_of cap m w) (denote.unmarked_is cap m some k r.tail r.closed) ∙ number_is cap m some k r.tail
 

@@ -2,7 +2,7 @@
 use Rattle.std.proofs.Common.{◌≡◌, ℕ, zero, suc, ◌+◌, ◌%◌, ◌<◌, ◌≤◌, ⊎_elim, Bool, true, false, if◌then◌else◌, List, [], ◌∷◌, ◌++◌, length, None, Some, slice_get, refl, sym, ap, ◌∙◌, subst, arith, length-append}
 use Rattle.std.proofs.lemmas.Nat.{mod_below}
 use Rattle.std.proofs.lemmas.Bool.{cases_lt, false≢true}
-use Rattle.concurrent_queue.specs.RingState.{Ring, Sound}
+use Rattle.concurrent_queue.specs.machine.RingState.{Ring, SoundRing}
 use Rattle.concurrent_queue.proofs.RingPlaces.{near_same, turn-index}
 
 -- the end of a list
@@ -35,7 +35,7 @@ pub if_true : {A : Type 0} (b : Bool) (x y : A) → b ≡ true → (if b then x 
 if_true false x y e = absurd (false≢true e)
 if_true true x y e = refl
 
-module _ {T : Type 0} (cap : ℕ) (some : 0 < cap) (r : Ring T) (s : Sound cap r) where
+module _ {T : Type 0} (cap : ℕ) (some : 0 < cap) (r : Ring T) (s : SoundRing cap r) where
   -- a push wins the tail: its place was free at just this number, and there was room
   pub push_wins : (n : ℕ) → r.tail ≡ n → n ≤ (r.at (n % cap)).round
       → ((r.at (n % cap)).round ≡ n) × ((r.at (n % cap)).written ≡ false) × ((r.at (n % cap)).slot ≡ None) × (r.tail < r.head + cap)
@@ -54,7 +54,7 @@ module _ {T : Type 0} (cap : ℕ) (some : 0 < cap) (r : Ring T) (s : Sound cap r
   wins_calm n e w c = let t = (s.coming c).3 in false≢true (sym w ∙ subst (λ (x : ℕ). (r.at (x % cap)).written ≡ true) e t)
 
   -- a message comes in at the tail
-  pub append_keeps : (v : T) (coming' : Bool) → r.tail < r.head + cap → (coming' ≡ true → ⊥) → Sound cap (record r { all = r.all ++ v ∷ []; tail = r.tail + 1; coming = coming' })
+  pub append_keeps : (v : T) (coming' : Bool) → r.tail < r.head + cap → (coming' ≡ true → ⊥) → SoundRing cap (record r { all = r.all ++ v ∷ []; tail = r.tail + 1; coming = coming' })
   append_keeps v coming' space calm =
       let len = length-append r.all (v ∷ []) in
       let a = s.all in
@@ -91,7 +91,7 @@ module _ {T : Type 0} (cap : ℕ) (some : 0 < cap) (r : Ring T) (s : Sound cap r
   -- the head moves on past a message that is in
   pub take_keeps : (coming' : Bool) → (r.at (r.head % cap)).round ≡ r.head → (r.at (r.head % cap)).written ≡ true → r.head < r.tail
       → (coming' ≡ true → (r.tail < r.head + 1 + cap) × (cap ≤ r.tail) × ((r.at (r.tail % cap)).round + cap ≡ r.tail) × ((r.at (r.tail % cap)).written ≡ true))
-      → Sound cap (record r { head = r.head + 1; coming = coming' })
+      → SoundRing cap (record r { head = r.head + 1; coming = coming' })
   take_keeps coming' won written low came =
       let here : (i : ℕ) → i < cap → (r.at i).round % cap ≡ r.head % cap → (r.at i).round ≡ r.head = λ i b same. (let j : i ≡ r.head % cap = sym (s.index i b) ∙ same in subst (λ (x : ℕ). (r.at x).round ≡ r.head) (sym j) won) in
       let here_written : (i : ℕ) → i < cap → (r.at i).round % cap ≡ r.head % cap → (r.at i).written ≡ true = λ i b same. (let j : i ≡ r.head % cap = sym (s.index i b) ∙ same in subst (λ (x : ℕ). (r.at x).written ≡ true) (sym j) written) in

@@ -5,13 +5,13 @@ use Rattle.std.proofs.Math.Nat.{mod-eq_of_lt}
 use Rattle.std.proofs.lemmas.Bool.{cases_lt, false≢true}
 use Rattle.std.proofs.lemmas.Bool.Decides.{nat_tests}
 use Rattle.concurrent_queue.specs.Contents.{Contents, write_slot, slot_at, is_vacant}
-use Rattle.concurrent_queue.specs.Positions.{pos}
+use Rattle.concurrent_queue.specs.machine.Positions.{pos}
 use Rattle.concurrent_queue.specs.Queue.{Queue, Phase, trying}
-use Rattle.concurrent_queue.specs.RingState.{Ring, Sound, IsShown, with_place}
-use Rattle.concurrent_queue.specs.RingCalls.{ask_of, at_stage, Saw, Knows, placed}
-use Rattle.concurrent_queue.specs.RingMeans.{Denotes, Kept}
-use Rattle.concurrent_queue.specs.RingWords as word
-use Rattle.concurrent_queue.specs.RingWords.{is_marked, unmarked, index, stays, marks, finishes, shut_reply, pushed_reply, behind}
+use Rattle.concurrent_queue.specs.machine.RingState.{Ring, SoundRing, IsShown, with_place}
+use Rattle.concurrent_queue.specs.machine.RingCalls.{ask_of, at_stage, Saw, KnowsRing, placed}
+use Rattle.concurrent_queue.specs.machine.RingMeans.{Denotes, Kept}
+use Rattle.concurrent_queue.specs.machine.RingWords as word
+use Rattle.concurrent_queue.specs.machine.RingWords.{is_marked, unmarked, index, stays, marks, finishes, shut_reply, pushed_reply, behind}
 use Rattle.concurrent_queue.proofs.RingShape.{IsMark}
 use Rattle.concurrent_queue.proofs.RingPlaces.{turn-index}
 use Rattle.concurrent_queue.proofs.RingSound.{by_bool}
@@ -54,7 +54,7 @@ both true true e = (refl, refl)
 both true false e = absurd (false≢true e)
 both false b e = absurd (false≢true e)
 
-module _ {T : Type 0} (cap m : ℕ) (two : 2 ≤ cap) (limit : cap ≤ 2 ^ 58) (k : IsMark cap m) (c : Contents T) (r : Ring T) (q : Queue T) (d : Denotes cap m c r) (s : Sound cap r) (w : IsShown cap r q) (few : r.tail ≤ 2 ^ 61) where
+module _ {T : Type 0} (cap m : ℕ) (two : 2 ≤ cap) (limit : cap ≤ 2 ^ 58) (k : IsMark cap m) (c : Contents T) (r : Ring T) (q : Queue T) (d : Denotes cap m c r) (s : SoundRing cap r) (w : IsShown cap r q) (few : r.tail ≤ 2 ^ 61) where
   at_pos : ℕ → ℕ
   at_pos n = pos cap (2 * m) n
 
@@ -96,7 +96,7 @@ module _ {T : Type 0} (cap m : ℕ) (two : 2 ≤ cap) (limit : cap ≤ 2 ^ 58) (
 
   -- ---- a push
 
-  pub push_load : (j : WhenFull) (v : T) (p : Phase T) → Knows cap r (act.Push j v) p → RingStep cap m r q (act.Push j v) p (word.push_load cap m c j v).0 (word.push_load cap m c j v).1
+  pub push_load : (j : WhenFull) (v : T) (p : Phase T) → KnowsRing cap r (act.Push j v) p → RingStep cap m r q (act.Push j v) p (word.push_load cap m c j v).0 (word.push_load cap m c j v).1
   push_load j v p h = pick (λ (x : Stepped (RingAction T) T). RingStep cap m r q (act.Push j v) p c x) (is_marked m c.tail) _ _
       (λ e. made _ p _ h.1 c _ r act.Finished d refl (keep.push_refused cap two r q s w j v h.0 (sym closed_word ∙ e)))
       (λ e. let o : r.closed ≡ false = sym closed_word ∙ e in
@@ -105,7 +105,7 @@ module _ {T : Type 0} (cap m : ℕ) (two : 2 ≤ cap) (limit : cap ≤ 2 ^ 58) (
       (λ f. absurd (let a = le_true (2 ^ 64 - 2 * m) c.tail f in let b = small_tail in omega arith))
       (λ f. made _ p _ h.1 c _ r (act.PushStamp j v r.tail) d (ap (λ (x : ℕ). act.PushStamp j v x) t) (keep.push_opens cap two r q s w j v h.0 o)))
 
-  push_far : (j : WhenFull) (v : T) (n : ℕ) (p : Phase T) (h : Knows cap r (act.PushStamp j v n) p)
+  push_far : (j : WhenFull) (v : T) (n : ℕ) (p : Phase T) (h : KnowsRing cap r (act.PushStamp j v n) p)
       → (nat_le (2 * m) (Word n) && slice_index c.stamps (index m (Word n)) == Word n - 2 * m + 1) ≡ true → RingStep cap m r q (act.PushStamp j v n) p c (stays (behind j v (Word n - 2 * m)))
   push_far j v n p h e =
       let f = both _ _ e in
@@ -128,7 +128,7 @@ module _ {T : Type 0} (cap m : ℕ) (two : 2 ≤ cap) (limit : cap ≤ 2 ^ 58) (
       far_action Refuse e' = ap (λ (x : ℕ). act.PushHead v x) e'
       far_action Displace e' = ap (λ (x : ℕ). act.ForceHead v x) e'
 
-  pub push_look : (j : WhenFull) (v : T) (n : ℕ) (p : Phase T) → Knows cap r (act.PushStamp j v n) p → RingStep cap m r q (act.PushStamp j v n) p (word.push_look cap m c j v (Word n)).0 (word.push_look cap m c j v (Word n)).1
+  pub push_look : (j : WhenFull) (v : T) (n : ℕ) (p : Phase T) → KnowsRing cap r (act.PushStamp j v n) p → RingStep cap m r q (act.PushStamp j v n) p (word.push_look cap m c j v (Word n)).0 (word.push_look cap m c j v (Word n)).1
   push_look j v n p h =
       pick (λ (x : Stepped (RingAction T) T). RingStep cap m r q (act.PushStamp j v n) p c x) (slice_index c.stamps (index m (Word n)) == Word n) _ _
       (λ e. let at = denote.stamp_ready cap m some k (r.at (n % cap)).round n (r.at (n % cap)).written (s.index (n % cap) (mod_below n cap some)) (sym (stamp_word n) ∙ eq_true _ _ e) in
@@ -140,7 +140,7 @@ module _ {T : Type 0} (cap m : ℕ) (two : 2 ≤ cap) (limit : cap ≤ 2 ^ 58) (
   next_tail : (n : ℕ) → r.tail ≡ n → r.closed ≡ false → word.next_word cap m (Word n) ≡ Word (r.tail + 1) + (if r.closed then m else 0)
   next_tail n t o = denote.next_is cap m some k n (omega arith) ∙ ap (λ (x : ℕ). Word (x + 1)) (sym t) ∙ (rw o (omega arith))
 
-  pub push_swap : (j : WhenFull) (v : T) (n : ℕ) (p : Phase T) → Knows cap r (act.PushSwap j v n) p → RingStep cap m r q (act.PushSwap j v n) p (word.push_swap cap m c j v (Word n)).0 (word.push_swap cap m c j v (Word n)).1
+  pub push_swap : (j : WhenFull) (v : T) (n : ℕ) (p : Phase T) → KnowsRing cap r (act.PushSwap j v n) p → RingStep cap m r q (act.PushSwap j v n) p (word.push_swap cap m c j v (Word n)).0 (word.push_swap cap m c j v (Word n)).1
   push_swap j v n p h =
       pick (λ (x : Contents T × Stepped (RingAction T) T). RingStep cap m r q (act.PushSwap j v n) p x.0 x.1) (c.tail == Word n) _ _
       (λ e. let t = meets_tail n e in
@@ -176,15 +176,15 @@ module _ {T : Type 0} (cap m : ℕ) (two : 2 ≤ cap) (limit : cap ≤ 2 ^ 58) (
   take_words a p o g n v next there again e f l =
       subst (λ (x : Option T). RingStep cap m r q a p (write_slot c (At (index m (Word n))) None) (word.took x next again)) (sym e) (made a p o g _ _ _ there (slotted n None) f l)
 
-  pub push_put : (j : WhenFull) (v : T) (n : ℕ) (p : Phase T) → Knows cap r (act.PushPut j v n) p → RingStep cap m r q (act.PushPut j v n) p (word.push_put cap m c j v (Word n)).0 (word.push_put cap m c j v (Word n)).1
+  pub push_put : (j : WhenFull) (v : T) (n : ℕ) (p : Phase T) → KnowsRing cap r (act.PushPut j v n) p → RingStep cap m r q (act.PushPut j v n) p (word.push_put cap m c j v (Word n)).0 (word.push_put cap m c j v (Word n)).1
   push_put j v n p h = put_words _ p _ h.0 n v (act.PushStore j n) _ (vacant n h.1.2) (keep.push_puts cap two r q s w j v n h.1 h.2)
 
-  pub push_store : (j : WhenFull) (n : ℕ) (p : Phase T) → Knows cap r (act.PushStore j n) p → RingStep cap m r q (act.PushStore j n) p (word.push_store cap m c j (Word n)).0 (word.push_store cap m c j (Word n)).1
+  pub push_store : (j : WhenFull) (n : ℕ) (p : Phase T) → KnowsRing cap r (act.PushStore j n) p → RingStep cap m r q (act.PushStore j n) p (word.push_store cap m c j (Word n)).0 (word.push_store cap m c j (Word n)).1
   push_store j n p h =
       let b = denote.pos_small cap m some k n in
       made _ p _ h.1 _ _ _ act.Finished (stamped n ((Word n + 1) % 2 ^ 64) n true (mod-eq_of_lt (let f = h.3.0 in omega arith))) refl (keep.push_stores cap two r q s w j h.0 n h.2 h.3)
 
-  pub push_head : (v : T) (n : ℕ) (p : Phase T) → Knows cap r (act.PushHead v n) p → RingStep cap m r q (act.PushHead v n) p (word.push_head c v (Word n)).0 (word.push_head c v (Word n)).1
+  pub push_head : (v : T) (n : ℕ) (p : Phase T) → KnowsRing cap r (act.PushHead v n) p → RingStep cap m r q (act.PushHead v n) p (word.push_head c v (Word n)).0 (word.push_head c v (Word n)).1
   push_head v n p h = pick (λ (x : Stepped (RingAction T) T). RingStep cap m r q (act.PushHead v n) p c x) (c.head == Word n) _ _
       (λ e. made _ p _ h.1 c _ r act.Finished d refl (keep.push_full cap two r q s w v h.0 n h.2 (meets_head n e)))
       (λ e. made _ p _ h.1 c _ r (act.Push Refuse v) d refl (keep.push_again-head cap two r q s w v h.0 n))
@@ -192,7 +192,7 @@ module _ {T : Type 0} (cap m : ℕ) (two : 2 ≤ cap) (limit : cap ≤ 2 ^ 58) (
   next_head : (n : ℕ) → r.head ≡ n → word.next_word cap m (Word n) ≡ Word (r.head + 1)
   next_head n t = denote.next_is cap m some k n (let o = s.order in omega arith) ∙ ap (λ (x : ℕ). Word (x + 1)) (sym t)
 
-  pub force_head : (v : T) (n : ℕ) (p : Phase T) → Knows cap r (act.ForceHead v n) p → RingStep cap m r q (act.ForceHead v n) p (word.force_head cap m c v (Word n)).0 (word.force_head cap m c v (Word n)).1
+  pub force_head : (v : T) (n : ℕ) (p : Phase T) → KnowsRing cap r (act.ForceHead v n) p → RingStep cap m r q (act.ForceHead v n) p (word.force_head cap m c v (Word n)).0 (word.force_head cap m c v (Word n)).1
   force_head v n p h =
       pick (λ (x : Contents T × Stepped (RingAction T) T). RingStep cap m r q (act.ForceHead v n) p x.0 x.1) (c.head == Word n) _ _
       (λ e. let t = meets_head n e in
@@ -200,7 +200,7 @@ module _ {T : Type 0} (cap m : ℕ) (two : 2 ≤ cap) (limit : cap ≤ 2 ^ 58) (
       (keep.force_wins cap two r q s w v h.0 n t h.2 h.3))
       (λ e. made _ p _ h.1 c _ r (act.Push Displace v) d refl (keep.force_again cap two r q s w v h.0 n))
 
-  pub force_add : (v : T) (n : ℕ) (p : Phase T) → Knows cap r (act.ForceAdd v n) p → RingStep cap m r q (act.ForceAdd v n) p (word.force_add cap m c v (Word n)).0 (word.force_add cap m c v (Word n)).1
+  pub force_add : (v : T) (n : ℕ) (p : Phase T) → KnowsRing cap r (act.ForceAdd v n) p → RingStep cap m r q (act.ForceAdd v n) p (word.force_add cap m c v (Word n)).0 (word.force_add cap m c v (Word n)).1
   force_add v n p h =
       let t = h.4 in
       let a = denote.stride_is cap m some k n in
@@ -218,13 +218,13 @@ module _ {T : Type 0} (cap m : ℕ) (two : 2 ≤ cap) (limit : cap ≤ 2 ^ 58) (
       (record { head = d.head; tail = ap (λ (x : ℕ). x % 2 ^ 64) sum ∙ mod-eq_of_lt (let g : Word (r.tail + 1) + (if r.closed then m else 0) < 2 ^ 64 = omega arith in g); stamps = d.stamps; slots = d.slots }) refl
       (keep.force_adds cap two r q s w v h.0 n h.2 h.3 h.4 h.5)
 
-  pub force_take : (v : T) (n : ℕ) (p : Phase T) → Knows cap r (act.ForceTake v n) p → RingStep cap m r q (act.ForceTake v n) p (word.force_take cap m c v (Word n)).0 (word.force_take cap m c v (Word n)).1
+  pub force_take : (v : T) (n : ℕ) (p : Phase T) → KnowsRing cap r (act.ForceTake v n) p → RingStep cap m r q (act.ForceTake v n) p (word.force_take cap m c v (Word n)).0 (word.force_take cap m c v (Word n)).1
   force_take v n p h = take_words _ p _ h.1 n h.0 (λ o. act.ForcePut v (Word n) o) (act.ForcePut v n h.0) _ (held_slot n h.0 h.2.2) refl (keep.force_takes cap two r q s w v h.0 n h.2 h.3 h.4)
 
-  pub force_put : (v : T) (n : ℕ) (o : T) (p : Phase T) → Knows cap r (act.ForcePut v n o) p → RingStep cap m r q (act.ForcePut v n o) p (word.force_put cap m c v (Word n) o).0 (word.force_put cap m c v (Word n) o).1
+  pub force_put : (v : T) (n : ℕ) (o : T) (p : Phase T) → KnowsRing cap r (act.ForcePut v n o) p → RingStep cap m r q (act.ForcePut v n o) p (word.force_put cap m c v (Word n) o).0 (word.force_put cap m c v (Word n) o).1
   force_put v n o p h = put_words _ p _ h.0 n v (act.ForceStore n o) _ (vacant n h.1.2) (keep.force_puts cap two r q s w v o n h.1 h.2 h.3)
 
-  pub force_store : (n : ℕ) (o : T) (p : Phase T) → Knows cap r (act.ForceStore n o) p → RingStep cap m r q (act.ForceStore n o) p (word.force_store cap m c (Word n) o).0 (word.force_store cap m c (Word n) o).1
+  pub force_store : (n : ℕ) (o : T) (p : Phase T) → KnowsRing cap r (act.ForceStore n o) p → RingStep cap m r q (act.ForceStore n o) p (word.force_store cap m c (Word n) o).0 (word.force_store cap m c (Word n) o).1
   force_store n o p h =
       let b = denote.pos_small cap m some k (n + cap) in
       let l = denote.lap_later cap m some k n in
@@ -233,10 +233,10 @@ module _ {T : Type 0} (cap m : ℕ) (two : 2 ≤ cap) (limit : cap ≤ 2 ^ 58) (
 
   -- ---- a pop
 
-  pub pop_load : (p : Phase T) → Knows cap r act.Pop p → RingStep cap m r q act.Pop p (word.pop_load cap m c).0 (word.pop_load cap m c).1
+  pub pop_load : (p : Phase T) → KnowsRing cap r act.Pop p → RingStep cap m r q act.Pop p (word.pop_load cap m c).0 (word.pop_load cap m c).1
   pop_load p h = made _ p _ h.1 c _ r (act.PopStamp r.head) d (ap (λ (x : ℕ). act.PopStamp x) d.head) (keep.pop_loads cap two r q s w h.0)
 
-  pub pop_look : (n : ℕ) (p : Phase T) → Knows cap r (act.PopStamp n) p → RingStep cap m r q (act.PopStamp n) p (word.pop_look cap m c (Word n)).0 (word.pop_look cap m c (Word n)).1
+  pub pop_look : (n : ℕ) (p : Phase T) → KnowsRing cap r (act.PopStamp n) p → RingStep cap m r q (act.PopStamp n) p (word.pop_look cap m c (Word n)).0 (word.pop_look cap m c (Word n)).1
   pop_look n p h =
       let b = denote.pos_small cap m some k n in
       let o = s.order in
@@ -249,7 +249,7 @@ module _ {T : Type 0} (cap m : ℕ) (two : 2 ≤ cap) (limit : cap ≤ 2 ^ 58) (
       made _ p _ h.1 c _ r (act.PopTail n) d refl (keep.pop_same cap two r q s w h.0 n h.2 at.0))
       (λ f. made _ p _ h.1 c _ r act.Pop d refl (keep.pop_again-stamp cap two r q s w h.0 n)))
 
-  pub pop_swap : (n : ℕ) (p : Phase T) → Knows cap r (act.PopSwap n) p → RingStep cap m r q (act.PopSwap n) p (word.pop_swap cap m c (Word n)).0 (word.pop_swap cap m c (Word n)).1
+  pub pop_swap : (n : ℕ) (p : Phase T) → KnowsRing cap r (act.PopSwap n) p → RingStep cap m r q (act.PopSwap n) p (word.pop_swap cap m c (Word n)).0 (word.pop_swap cap m c (Word n)).1
   pop_swap n p h =
       pick (λ (x : Contents T × Stepped (RingAction T) T). RingStep cap m r q (act.PopSwap n) p x.0 x.1) (c.head == Word n) _ _
       (λ e. let t = meets_head n e in
@@ -257,7 +257,7 @@ module _ {T : Type 0} (cap m : ℕ) (two : 2 ≤ cap) (limit : cap ≤ 2 ^ 58) (
       (keep.pop_wins cap two r q s w h.0 n t h.2))
       (λ e. made _ p _ h.1 c _ r act.Pop d refl (keep.pop_again-swap cap two r q s w h.0 n))
 
-  pub pop_tail : (n : ℕ) (p : Phase T) → Knows cap r (act.PopTail n) p → RingStep cap m r q (act.PopTail n) p (word.pop_tail cap m c (Word n)).0 (word.pop_tail cap m c (Word n)).1
+  pub pop_tail : (n : ℕ) (p : Phase T) → KnowsRing cap r (act.PopTail n) p → RingStep cap m r q (act.PopTail n) p (word.pop_tail cap m c (Word n)).0 (word.pop_tail cap m c (Word n)).1
   pop_tail n p h =
       pick (λ (x : Stepped (RingAction T) T). RingStep cap m r q (act.PopTail n) p c x) (unmarked m c.tail == Word n) _ _
       (λ e. let t : r.tail ≡ n = denote.same_pos cap m some k r.tail n (sym tail_word ∙ eq_true _ _ e) in by_bool r.closed
@@ -265,10 +265,10 @@ module _ {T : Type 0} (cap m : ℕ) (two : 2 ≤ cap) (limit : cap ≤ 2 ^ 58) (
       (λ o. let f : is_marked m c.tail ≡ true = closed_word ∙ o in rw f (made _ p _ h.1 c _ r act.Finished d refl (keep.pop_shut cap two r q s w h.0 n t o h.2 h.3))))
       (λ e. made _ p _ h.1 c _ r act.Pop d refl (keep.pop_again-tail cap two r q s w h.0 n))
 
-  pub pop_take : (n : ℕ) (p : Phase T) → Knows cap r (act.PopTake n) p → RingStep cap m r q (act.PopTake n) p (word.pop_take cap m c (Word n)).0 (word.pop_take cap m c (Word n)).1
+  pub pop_take : (n : ℕ) (p : Phase T) → KnowsRing cap r (act.PopTake n) p → RingStep cap m r q (act.PopTake n) p (word.pop_take cap m c (Word n)).0 (word.pop_take cap m c (Word n)).1
   pop_take n p h = take_words _ p _ h.1 n h.0 (λ o. act.PopStore (Word n) o) (act.PopStore n h.0) _ (held_slot n h.0 h.2.2) refl (keep.pop_takes cap two r q s w h.0 n h.2 h.3 h.4)
 
-  pub pop_store : (n : ℕ) (v : T) (p : Phase T) → Knows cap r (act.PopStore n v) p → RingStep cap m r q (act.PopStore n v) p (word.pop_store cap m c (Word n) v).0 (word.pop_store cap m c (Word n) v).1
+  pub pop_store : (n : ℕ) (v : T) (p : Phase T) → KnowsRing cap r (act.PopStore n v) p → RingStep cap m r q (act.PopStore n v) p (word.pop_store cap m c (Word n) v).0 (word.pop_store cap m c (Word n) v).1
   pop_store n v p h =
       let b = denote.pos_small cap m some k (n + cap) in
       let l = denote.lap_later cap m some k n in
@@ -281,7 +281,7 @@ module _ {T : Type 0} (cap m : ℕ) (two : 2 ≤ cap) (limit : cap ≤ 2 ^ 58) (
   marked_tail : bit_or c.tail m ≡ Word r.tail + (if true then m else 0)
   marked_tail = ap (λ (x : ℕ). bit_or x m) d.tail ∙ denote.marks_it cap m some k r.tail r.closed
 
-  pub close_step : (p : Phase T) → Knows cap r act.Close p → RingStep cap m r q act.Close p (word.close_step cap m c).0 (word.close_step cap m c).1
+  pub close_step : (p : Phase T) → KnowsRing cap r act.Close p → RingStep cap m r q act.Close p (word.close_step cap m c).0 (word.close_step cap m c).1
   close_step p h =
       pick (λ (x : Stepped (RingAction T) T). RingStep cap m r q act.Close p (word.set_tail c (bit_or c.tail m)) x) (is_marked m c.tail) _ _
       (λ e. let o : r.closed ≡ true = sym closed_word ∙ e in
@@ -289,18 +289,18 @@ module _ {T : Type 0} (cap m : ℕ) (two : 2 ≤ cap) (limit : cap ≤ 2 ^ 58) (
       (λ e. let o : r.closed ≡ false = sym closed_word ∙ e in
       made _ p _ h.1 _ _ _ act.Finished (record { head = d.head; tail = marked_tail; stamps = d.stamps; slots = d.slots }) refl (keep.closes cap two r q s w h.0 o))
 
-  pub is_closed : (p : Phase T) → Knows cap r act.IsClosed p → RingStep cap m r q act.IsClosed p (word.ask_is_closed cap m c).0 (word.ask_is_closed cap m c).1
+  pub is_closed : (p : Phase T) → KnowsRing cap r act.IsClosed p → RingStep cap m r q act.IsClosed p (word.ask_is_closed cap m c).0 (word.ask_is_closed cap m c).1
   is_closed p h = made _ p _ h.1 c _ r act.Finished d refl (keep.says_closed cap two r q s w h.0 (is_marked m c.tail) (sym closed_word))
 
-  pub empty_load : (p : Phase T) → Knows cap r act.IsEmpty p → RingStep cap m r q act.IsEmpty p (word.empty_load cap m c).0 (word.empty_load cap m c).1
+  pub empty_load : (p : Phase T) → KnowsRing cap r act.IsEmpty p → RingStep cap m r q act.IsEmpty p (word.empty_load cap m c).0 (word.empty_load cap m c).1
   empty_load p h = made _ p _ h.1 c _ r (act.IsEmptyTail r.head) d (ap (λ (x : ℕ). act.IsEmptyTail x) d.head) (keep.empty_loads cap two r q s w h.0)
 
-  pub empty_look : (n : ℕ) (p : Phase T) → Knows cap r (act.IsEmptyTail n) p → RingStep cap m r q (act.IsEmptyTail n) p (word.empty_look cap m c (Word n)).0 (word.empty_look cap m c (Word n)).1
+  pub empty_look : (n : ℕ) (p : Phase T) → KnowsRing cap r (act.IsEmptyTail n) p → RingStep cap m r q (act.IsEmptyTail n) p (word.empty_look cap m c (Word n)).0 (word.empty_look cap m c (Word n)).1
   empty_look n p h = by_bool (unmarked m c.tail == Word n)
       (λ e. rw e (made _ p _ h.0 c _ r act.Finished d refl (keep.empty_no cap two r q s w n h.1 (λ t. eq_false _ _ e (tail_word ∙ ap (λ (x : ℕ). Word x) t)))))
       (λ e. rw e (made _ p _ h.0 c _ r act.Finished d refl (keep.empty_yes cap two r q s w n h.1 (denote.same_pos cap m some k r.tail n (sym tail_word ∙ eq_true _ _ e)))))
 
-  pub full_load : (p : Phase T) → Knows cap r act.IsFull p → RingStep cap m r q act.IsFull p (word.full_load cap m c).0 (word.full_load cap m c).1
+  pub full_load : (p : Phase T) → KnowsRing cap r act.IsFull p → RingStep cap m r q act.IsFull p (word.full_load cap m c).0 (word.full_load cap m c).1
   full_load p h = made _ p _ h.1 c _ r (act.IsFullHead r.tail) d (ap (λ (x : ℕ). act.IsFullHead x) tail_word) (keep.full_loads cap two r q s w h.0)
 
   pub full_test : (n : ℕ) → r.head + cap ≡ n → (nat_le (2 * m) (Word n) && c.head == Word n - 2 * m) ≡ true
@@ -321,15 +321,15 @@ module _ {T : Type 0} (cap m : ℕ) (two : 2 ≤ cap) (limit : cap ≤ 2 ^ 58) (
       let l = denote.lap_later cap m some k r.head in
       denote.same_pos cap m some k (r.head + cap) n (omega arith)
 
-  pub full_look : (n : ℕ) (p : Phase T) → Knows cap r (act.IsFullHead n) p → RingStep cap m r q (act.IsFullHead n) p (word.full_look cap m c (Word n)).0 (word.full_look cap m c (Word n)).1
+  pub full_look : (n : ℕ) (p : Phase T) → KnowsRing cap r (act.IsFullHead n) p → RingStep cap m r q (act.IsFullHead n) p (word.full_look cap m c (Word n)).0 (word.full_look cap m c (Word n)).1
   full_look n p h = by_bool (nat_le (2 * m) (Word n) && c.head == Word n - 2 * m)
       (λ e. rw e (made _ p _ h.0 c _ r act.Finished d refl (keep.full_no cap two r q s w n h.1 (λ t. false≢true (sym e ∙ full_test n t)))))
       (λ e. rw e (made _ p _ h.0 c _ r act.Finished d refl (keep.full_yes cap two r q s w n h.1 (full_means n e))))
 
-  pub len_load : (p : Phase T) → Knows cap r act.Len p → RingStep cap m r q act.Len p (word.len_load cap m c).0 (word.len_load cap m c).1
+  pub len_load : (p : Phase T) → KnowsRing cap r act.Len p → RingStep cap m r q act.Len p (word.len_load cap m c).0 (word.len_load cap m c).1
   len_load p h = made _ p _ h.1 c _ r (act.LenHead r.tail (is_marked m c.tail)) d (ap (λ (x : ℕ). act.LenHead x (is_marked m c.tail)) tail_word) (keep.len_loads cap two r q s w h.0 (is_marked m c.tail))
 
-  pub len_look : (n : ℕ) (b : Bool) (p : Phase T) → Knows cap r (act.LenHead n b) p → RingStep cap m r q (act.LenHead n b) p (word.len_look cap m c (Word n) b).0 (word.len_look cap m c (Word n) b).1
+  pub len_look : (n : ℕ) (b : Bool) (p : Phase T) → KnowsRing cap r (act.LenHead n b) p → RingStep cap m r q (act.LenHead n b) p (word.len_look cap m c (Word n) b).0 (word.len_look cap m c (Word n) b).1
   len_look n b p h = made _ p _ h.0 c _ r (act.LenTail n b r.head) d (ap (λ (x : ℕ). act.LenTail (Word n) b x) d.head) (keep.len_looks cap two r q s w n b h.1)
 
   -- the word that a tail read at n was
@@ -337,7 +337,7 @@ module _ {T : Type 0} (cap m : ℕ) (two : 2 ≤ cap) (limit : cap ≤ 2 ^ 58) (
   was_word n false h = omega arith
   was_word n true h = mod-eq_of_lt (let b = denote.pos_small cap m some k n in let g = k.near in let f : Word n + m < 2 ^ 64 = omega arith in f)
 
-  pub len_again : (n : ℕ) (b : Bool) (h : ℕ) (p : Phase T) → Knows cap r (act.LenTail n b h) p → RingStep cap m r q (act.LenTail n b h) p (word.len_again cap m c (Word n) b (Word h)).0 (word.len_again cap m c (Word n) b (Word h)).1
+  pub len_again : (n : ℕ) (b : Bool) (h : ℕ) (p : Phase T) → KnowsRing cap r (act.LenTail n b h) p → RingStep cap m r q (act.LenTail n b h) p (word.len_again cap m c (Word n) b (Word h)).0 (word.len_again cap m c (Word n) b (Word h)).1
   len_again n b h p f =
       pick (λ (x : Stepped (RingAction T) T). RingStep cap m r q (act.LenTail n b h) p c x) (c.tail == (if b then (Word n + m) % 2 ^ 64 else Word n)) _ _
       (λ e. let t : r.tail ≡ n = (denote.same_word cap m some k r.tail n r.closed b (sym d.tail ∙ eq_true _ _ e ∙ was_word n b f.2)).0 in
@@ -347,7 +347,7 @@ module _ {T : Type 0} (cap m : ℕ) (two : 2 ≤ cap) (limit : cap ≤ 2 ^ 58) (
 
   -- ---- one step
 
-  pub ring_steps : (a : RingAction T) (p : Phase T) → Knows cap r a p → RingStep cap m r q a p (word.ring_step cap m c (placed (pos cap (2 * m)) a)).0 (word.ring_step cap m c (placed (pos cap (2 * m)) a)).1
+  pub ring_steps : (a : RingAction T) (p : Phase T) → KnowsRing cap r a p → RingStep cap m r q a p (word.ring_step cap m c (placed (pos cap (2 * m)) a)).0 (word.ring_step cap m c (placed (pos cap (2 * m)) a)).1
   ring_steps (act.Push j v) p h = push_load j v p h
   ring_steps (act.PushShut j v) p h = absurd h
   ring_steps (act.PushStamp j v n) p h = push_look j v n p h

@@ -1,16 +1,16 @@
 -- The machine of a ring meets what every form delivers.
 use Rattle.std.proofs.Common.{◌≡◌, ℕ, ◌+◌, ◌*◌, ◌^◌, ◌<◌, ◌≤◌, ⊎_elim, Bool, true, false, if◌then◌else◌, List, [], ◌∷◌, ◌++◌, map, Option, None, Some, MatchOption, refl, sym, ap, ◌∙◌, subst, arith}
 use Rattle.concurrent_queue.specs.Contents.{Contents}
-use Rattle.concurrent_queue.specs.Positions.{pos}
-use Rattle.concurrent_queue.specs.Queue.{Queue, Phase, asked, after, Goes, Answers, IsInRange}
-use Rattle.concurrent_queue.specs.Places.{Place, Each, sum}
+use Rattle.concurrent_queue.specs.machine.Positions.{pos}
+use Rattle.concurrent_queue.specs.Queue.{Queue, Phase, asked, after, Continues, Answers, IsInRange}
+use Rattle.concurrent_queue.specs.machine.Places.{Place, Each, sum}
 use Rattle.concurrent_queue.specs.Step.{IsQuiet, AllQuiet, HoldsNobodyUp}
-use Rattle.concurrent_queue.specs.Forms.{place, place_phases, FormStep, FormSteps, FormStarts, FormRanks}
-use Rattle.concurrent_queue.specs.RingState.{Ring, Sound, IsShown}
-use Rattle.concurrent_queue.specs.RingCalls.{Duty, hold, bring, IsDuty, owes, owed, Knows, placed}
-use Rattle.concurrent_queue.specs.RingMeans.{Later, Denotes, place_at, RingMeans}
-use Rattle.concurrent_queue.specs.RingRank.{ring_rank, rests_at}
-use Rattle.concurrent_queue.specs.RingWords.{ring_step, ring_start}
+use Rattle.concurrent_queue.specs.machine.Forms.{place, place_phases, FormStep, FormSteps, FormStarts, FormRanks}
+use Rattle.concurrent_queue.specs.machine.RingState.{Ring, SoundRing, IsShown}
+use Rattle.concurrent_queue.specs.machine.RingCalls.{Duty, hold, bring, IsDuty, owes, owed, KnowsRing, placed}
+use Rattle.concurrent_queue.specs.machine.RingMeans.{Later, Denotes, place_at, RingMeans}
+use Rattle.concurrent_queue.specs.machine.RingRank.{ring_rank, rests_at}
+use Rattle.concurrent_queue.specs.machine.RingWords.{ring_step, ring_start}
 use Rattle.concurrent_queue.proofs.Places.{sum_at, each_at, each_others, each_with}
 use Rattle.concurrent_queue.proofs.RingShape.{IsMark}
 use Rattle.concurrent_queue.proofs.RingLater.{later_keeps}
@@ -78,7 +78,7 @@ module _ {T : Type 0} where
   same_phases at (x ∷ xs) = ap (λ (ps : List (Phase T)). x.phase ∷ ps) (same_phases at xs)
 
   -- a call with no mark owes nothing
-  idle_owes : (cap : ℕ) (r : Ring T) (a : RingAction T) (p : Phase T) → Knows cap r a p → IsQuiet p.stage → (y : Duty) → owes cap a y ≡ 0
+  idle_owes : (cap : ℕ) (r : Ring T) (a : RingAction T) (p : Phase T) → KnowsRing cap r a p → IsQuiet p.stage → (y : Duty) → owes cap a y ≡ 0
   idle_owes cap r (act.PushPut k v n) p h g y = absurd (subst (λ (z : Phase T). IsQuiet z.stage) h.0 g)
   idle_owes cap r (act.PushStore k n) p h g y = absurd (subst (λ (z : Phase T). IsQuiet z.stage) h.1 g)
   idle_owes cap r (act.ForceAdd v c) p h g y = absurd (subst (λ (z : Phase T). IsQuiet z.stage) h.1 g)
@@ -129,7 +129,7 @@ module _ {T : Type 0} where
   idle_owes cap r act.Finished p h g y = absurd h
 
   abbrev KnowsAt : ℕ → Ring T → Place (RingAction T) T → Type 0
-  KnowsAt cap r x = Knows cap r x.action x.phase
+  KnowsAt cap r x = KnowsRing cap r x.action x.phase
 
   abbrev owners : ℕ → Duty → List (Place (RingAction T) T) → ℕ
   owners cap y xs = sum (λ a. owes cap a y) xs
@@ -145,7 +145,7 @@ module _ {T : Type 0} where
   all_later cap some r a r' l (x ∷ xs) h g =
       (later_keeps cap some r a r' l x.action x.phase (λ y i. omega (arith, h y i)) g.0, all_later cap some r a r' l xs (λ y i. omega (arith, h y i)) g.1)
 
-  starts_at : (cap : ℕ) (r : Ring T) (a : QueueAsk T) → Knows cap r (ring_start a) (asked a)
+  starts_at : (cap : ℕ) (r : Ring T) (a : QueueAsk T) → KnowsRing cap r (ring_start a) (asked a)
   starts_at cap r (ask.Push v) = (false, refl)
   starts_at cap r (ask.ForcePush v) = (false, refl)
   starts_at cap r ask.Pop = (false, refl)
@@ -206,8 +206,8 @@ module _ {T : Type 0} (cap m : ℕ) (two : 2 ≤ cap) (limit : cap ≤ 2 ^ 58) (
   abbrev pub IsMachineStep : Contents T → RingAction T → Contents T → Stepped (RingAction T) T → Type 0
   IsMachineStep c a d s = (d, s) ≡ ring_step cap m c a
 
-  module _ (c : Contents T) (q : Queue T) (p : Phase T) (l r : List (Place (RingAction T) T)) (ring : Ring T) (denotes : Denotes cap m c ring) (sound : Sound cap ring) (shown : IsShown cap ring q) (few : ring.tail ≤ 2 ^ 61)
-      (left right : List (Place (RingAction T) T)) (lefts : l ≡ map (place_at (pos cap (2 * m))) left) (rights : r ≡ map (place_at (pos cap (2 * m))) right) (a : RingAction T) (knows : Knows cap ring a p)
+  module _ (c : Contents T) (q : Queue T) (p : Phase T) (l r : List (Place (RingAction T) T)) (ring : Ring T) (denotes : Denotes cap m c ring) (sound : SoundRing cap ring) (shown : IsShown cap ring q) (few : ring.tail ≤ 2 ^ 61)
+      (left right : List (Place (RingAction T) T)) (lefts : l ≡ map (place_at (pos cap (2 * m))) left) (rights : r ≡ map (place_at (pos cap (2 * m))) right) (a : RingAction T) (knows : KnowsRing cap ring a p)
       (others : Each (KnowsAt cap ring) (left ++ right)) (counts : (y : Duty) → IsDuty cap y → owes cap a y + owners cap y (left ++ right) ≡ owed ring y) where
     some : 0 < cap
     some = omega arith
@@ -217,9 +217,9 @@ module _ {T : Type 0} (cap m : ℕ) (two : 2 ≤ cap) (limit : cap ≤ 2 ^ 58) (
       kept_others = all_later cap some ring a x.ring x.kept.later (left ++ right) (λ y i. omega (arith, counts y i)) others
 
       goes_on : (reply : Option (QueueReply T)) → reply ≡ s.reply
-          → MatchOption reply ((p' : Phase T) × Goes q p s.mark p' × Knows cap x.ring x.action p') (λ y. Answers q p s.mark y × (x.action ≡ act.Finished))
+          → MatchOption reply ((p' : Phase T) × Continues q p s.mark p' × KnowsRing cap x.ring x.action p') (λ y. Answers q p s.mark y × (x.action ≡ act.Finished))
           → MatchOption reply
-          ((p' : Phase T) × Goes q p s.mark p' × Means d (after p s.mark q) (l ++ place s.action p' ∷ r))
+          ((p' : Phase T) × Continues q p s.mark p' × Means d (after p s.mark q) (l ++ place s.action p' ∷ r))
           (λ y. Answers q p s.mark y × Means d (after p s.mark q) (l ++ r))
       goes_on None e h = (
         h.0,
@@ -267,7 +267,7 @@ module _ {T : Type 0} (cap m : ℕ) (two : 2 ≤ cap) (limit : cap ≤ 2 ^ 58) (
         record {
           same_form = ring_same_form cap m c (placed (pos cap (2 * m)) a);
           one_cell = ring_one_cell cap m c (placed (pos cap (2 * m)) a);
-          does = goes_on s.0 s.1 x s.1.reply refl x.kept.leaves;
+          effect = goes_on s.0 s.1 x s.1.reply refl x.kept.leaves;
           ends = λ (h : HoldsNobodyUp q (place_phases (l ++ r))). nearer cap m two limit k c ring q denotes sound shown few a p knows (quiet h.0);
         }
 

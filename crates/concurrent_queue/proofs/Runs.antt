@@ -2,12 +2,12 @@
 use Rattle.std.proofs.Common.{◌≡◌, ℕ, zero, suc, ◌+◌, ◌<◌, ◌≤◌, List, [], ◌∷◌, ◌++◌, length, map, Option, None, Some, slice_get, slice_set, ◌⊎◌, ⊎_elim, inl, inr, refl, sym, ap, ◌∙◌, subst, arith, append_assoc, append-nil, length-append}
 use Rattle.std.specs.List.{remove}
 use Rattle.concurrent_queue.specs.Contents.{Contents}
-use Rattle.concurrent_queue.specs.Dispatch.{capacity_of}
+use Rattle.concurrent_queue.specs.Capacity.{capacity_of}
 use Rattle.concurrent_queue.specs.Queue.{Queue, Phase, asked, after, marked, is_displaced, AnswersTo, IsInRange, opened}
-use Rattle.concurrent_queue.specs.Places.{Each}
-use Rattle.concurrent_queue.specs.Rows.{Deed}
-use Rattle.concurrent_queue.specs.Scene.{Under, sees, does, with_deed, makes_room, AllIdle, HoldNobodyUp, GoesOnAs, unless_ended, NotUnderWay, IsUnderWay, IsBroughtBy, Reads, new_scene}
-use Rattle.concurrent_queue.specs.Step.{Seat, seat, chain_after, Fits, FitsAt, Steps, IsQueueStep, phases, AllQuiet, HoldsNobodyUp, IsBrought, OneCell, rank, mark_of}
+use Rattle.concurrent_queue.specs.machine.Places.{Each}
+use Rattle.concurrent_queue.specs.Rows.{MarkedStep}
+use Rattle.concurrent_queue.specs.Scene.{CallUnderWay, observing, stepped, with_mark, makes_room, AllIdle, HoldNobodyUp, ContinuesAs, unless_ended, NotUnderWay, IsUnderWay, IsBroughtBy, Reads, new_scene}
+use Rattle.concurrent_queue.specs.Step.{Seat, seat, chain_after, Fits, FitsAt, StepLeaves, IsQueueStep, phases, AllQuiet, HoldsNobodyUp, IsBrought, OneCell, rank, mark_of}
 use Rattle.concurrent_queue.specs.Parties.{party, HasParty, NoneHas, Turns, parties_after, TurnedOver, IsRefused}
 use Rattle.concurrent_queue.specs.Run.{Config, Next, IsRun, accepted_in, one_if_accepted, IsCounted, MayRefuse, opened_config, RanTo}
 use Rattle.concurrent_queue.specs.Made.{IsNew, new_cells}
@@ -32,7 +32,7 @@ use Rattle.concurrent_queue.proofs.FitsFacts.{shows, lies, ranks}
 pub record Sitting (T : Type 0) : Type 0 where
   pub party : Party T
   pub phase : Phase T
-  pub deeds : List (Deed T)
+  pub marked_steps : List (MarkedStep T)
   pub seen : List (Queue T)
   pub left : ℕ
 
@@ -78,8 +78,8 @@ split f (x ∷ xs) (suc k) y e =
     }
 
 module _ {T : Type 0} where
-  abbrev pub under_of : Sitting T → Under T
-  under_of x = record { party = x.party.id; ask = x.phase.ask; deeds = x.deeds; seen = x.seen; left = x.left }
+  abbrev pub under_of : Sitting T → CallUnderWay T
+  under_of x = record { party = x.party.id; ask = x.phase.ask; marked_steps = x.marked_steps; seen = x.seen; left = x.left }
 
   abbrev pub seat_of : Sitting T → Seat T
   seat_of x = seat x.party.call x.phase
@@ -91,7 +91,7 @@ module _ {T : Type 0} where
   sees_too q x = record x { seen = q ∷ x.seen; left = 63 }
 
   abbrev pub IsKnown : Queue T → Sitting T → Type 0
-  IsKnown q x = Evidence q x.phase.ask x.phase.stage x.deeds x.seen
+  IsKnown q x = Evidence q x.phase.ask x.phase.stage x.marked_steps x.seen
 
   abbrev pub IsWithin : Contents T → Sitting T → Type 0
   IsWithin c x = rank c x.party.call ≤ x.left
@@ -103,7 +103,7 @@ module _ {T : Type 0} where
 
   brought_by : (q : Queue T) (xs : List (Sitting T)) (v : T) → Each (λ (x : Sitting T). IsKnown q x) xs → IsBrought (phases (map seat_of xs)) v → IsBroughtBy (map under_of xs) v
   brought_by q [] v all h = absurd h
-  brought_by q (x ∷ xs) v all (inl h) = inl (h.0, brought_of q x.phase.ask x.phase.stage x.deeds x.seen all.0 h.1)
+  brought_by q (x ∷ xs) v all (inl h) = inl (h.0, brought_of q x.phase.ask x.phase.stage x.marked_steps x.seen all.0 h.1)
   brought_by q (x ∷ xs) v all (inr h) = inr (brought_by q xs v all.1 h)
 
   pub reads_of : (chain : List ℕ) (c : Contents T) (q : Queue T) (xs : List (Sitting T)) → FitsAt chain c q (map seat_of xs) → Each (λ (x : Sitting T). IsKnown q x) xs
@@ -125,8 +125,8 @@ module _ {T : Type 0} where
   all_quiet : (q : Queue T) (xs ys : List (Sitting T)) → Each (λ (x : Sitting T). IsKnown q x) xs → Each (λ (x : Sitting T). IsKnown q x) ys
       → AllIdle (map under_of xs ++ map under_of ys) → AllQuiet (phases (map seat_of xs ++ map seat_of ys))
   all_quiet q [] [] h g idle = tt
-  all_quiet q [] (y ∷ ys) h g idle = (quiet_of q y.phase.ask y.phase.stage y.deeds y.seen g.0 idle.0, all_quiet q [] ys tt g.1 idle.1)
-  all_quiet q (x ∷ xs) ys h g idle = (quiet_of q x.phase.ask x.phase.stage x.deeds x.seen h.0 idle.0, all_quiet q xs ys h.1 g idle.1)
+  all_quiet q [] (y ∷ ys) h g idle = (quiet_of q y.phase.ask y.phase.stage y.marked_steps y.seen g.0 idle.0, all_quiet q [] ys tt g.1 idle.1)
+  all_quiet q (x ∷ xs) ys h g idle = (quiet_of q x.phase.ask x.phase.stage x.marked_steps x.seen h.0 idle.0, all_quiet q xs ys h.1 g idle.1)
 
   none_too : (xs ys : List (Sitting T)) → map under_of xs ++ map under_of ys ≡ [] → phases (map seat_of xs ++ map seat_of ys) ≡ []
   none_too [] [] e = refl
@@ -139,9 +139,9 @@ module _ {T : Type 0} where
 
   -- ---- the others see a moment more
 
-  unders_seen : (q : Queue T) (xs : List (Sitting T)) → map under_of (map (sees_too q) xs) ≡ map (sees q) (map under_of xs)
+  unders_seen : (q : Queue T) (xs : List (Sitting T)) → map under_of (map (sees_too q) xs) ≡ map (observing q) (map under_of xs)
   unders_seen q [] = refl
-  unders_seen q (x ∷ xs) = ap (λ us. sees q (under_of x) ∷ us) (unders_seen q xs)
+  unders_seen q (x ∷ xs) = ap (λ us. observing q (under_of x) ∷ us) (unders_seen q xs)
 
   seats_seen : (q : Queue T) (xs : List (Sitting T)) → map seat_of (map (sees_too q) xs) ≡ map seat_of xs
   seats_seen q [] = refl
@@ -154,7 +154,7 @@ module _ {T : Type 0} where
   known_seen : (q : Queue T) (a : QueueAsk T) (b : _) (m : QueueMark) → IsFair q a m → ((cap : ℕ) → q.capacity ≡ Some cap → length q.items ≤ cap) → (xs : List (Sitting T))
       → Each (λ (x : Sitting T). IsKnown q x) xs → Each (λ (x : Sitting T). IsKnown (marked a b m q) x) (map (sees_too (marked a b m q)) xs)
   known_seen q a b m fair within [] h = tt
-  known_seen q a b m fair within (x ∷ xs) h = (evidence_keeps q a b m fair within x.phase.ask x.phase.stage x.deeds x.seen h.0, known_seen q a b m fair within xs h.1)
+  known_seen q a b m fair within (x ∷ xs) h = (evidence_keeps q a b m fair within x.phase.ask x.phase.stage x.marked_steps x.seen h.0, known_seen q a b m fair within xs h.1)
 
   -- ---- the bound on silent steps
 
@@ -226,7 +226,7 @@ module _ {T : Type 0} (form : QueueForm) (made : List (QueueStep T)) (c : Conten
   has_begun p a e d parties' t =
       let call = t.0 in
       let none : NoneHas p (map party_of r.sittings) = subst (λ (ps : List (Party T)). NoneHas p ps) r.parties_are t.2 in
-      let mine : Sitting T = record { party = party p call; phase = asked a; deeds = []; seen = r.now ∷ []; left = 63 } in
+      let mine : Sitting T = record { party = party p call; phase = asked a; marked_steps = []; seen = r.now ∷ []; left = 63 } in
       let all : List (Sitting T) = r.sittings ++ mine ∷ [] in
       let fits_c : FitsAt r.chain c r.now (map seat_of all) =
       subst (λ (ss : List (Seat T)). FitsAt r.chain c r.now ss) (sym (map_join seat_of r.sittings (mine ∷ [])))
@@ -296,11 +296,11 @@ module _ {T : Type 0} (form : QueueForm) (made : List (QueueStep T)) (c : Conten
         ∙ ap (λ (ss : List (Seat T)). ss ++ map seat_of (ms ++ map (sees_too q') right)) (seats_seen q' left)
         ∙ ap (λ (ss : List (Seat T)). map seat_of left ++ ss) (map_join seat_of ms (map (sees_too q') right) ∙ ap (λ (ss : List (Seat T)). map seat_of ms ++ ss) (seats_seen q' right))
 
-    same_unders : (ms : List (Sitting T)) → map under_of (with_mine ms) ≡ map (sees q') (map under_of left) ++ (map under_of ms ++ map (sees q') (map under_of right))
+    same_unders : (ms : List (Sitting T)) → map under_of (with_mine ms) ≡ map (observing q') (map under_of left) ++ (map under_of ms ++ map (observing q') (map under_of right))
     same_unders ms =
         map_join under_of (map (sees_too q') left) (ms ++ map (sees_too q') right)
-        ∙ ap (λ (us : List (Under T)). us ++ map under_of (ms ++ map (sees_too q') right)) (unders_seen q' left)
-        ∙ ap (λ (us : List (Under T)). map (sees q') (map under_of left) ++ us) (map_join under_of ms (map (sees_too q') right) ∙ ap (λ (us : List (Under T)). map under_of ms ++ us) (unders_seen q' right))
+        ∙ ap (λ (us : List (CallUnderWay T)). us ++ map under_of (ms ++ map (sees_too q') right)) (unders_seen q' left)
+        ∙ ap (λ (us : List (CallUnderWay T)). map (observing q') (map under_of left) ++ us) (map_join under_of ms (map (sees_too q') right) ∙ ap (λ (us : List (CallUnderWay T)). map under_of ms ++ us) (unders_seen q' right))
 
     same_parties : (ms : List (Sitting T)) → map party_of (with_mine ms) ≡ map party_of left ++ (map party_of ms ++ map party_of right)
     same_parties ms =
@@ -309,11 +309,11 @@ module _ {T : Type 0} (form : QueueForm) (made : List (QueueStep T)) (c : Conten
         ∙ ap (λ (ps : List (Party T)). map party_of left ++ ps) (map_join party_of ms (map (sees_too q') right) ∙ ap (λ (ps : List (Party T)). map party_of ms ++ ps) (parties_seen q' right))
 
     -- a step that went, with the sittings that it leaves
-    finish : (ms : List (Sitting T)) (n : ℕ) → IsFair r.now mine.phase.ask e.mark → q' ≡ marked mine.phase.ask (makes_room mine.deeds) e.mark r.now → OneCell c d
+    finish : (ms : List (Sitting T)) (n : ℕ) → IsFair r.now mine.phase.ask e.mark → q' ≡ marked mine.phase.ask (makes_room mine.marked_steps) e.mark r.now → OneCell c d
         → FitsAt (chain_after r.chain c d) d q' (map seat_of left ++ (map seat_of ms ++ map seat_of right))
         → Each (λ (x : Sitting T). IsKnown q' x) ms → Each (λ (x : Sitting T). IsSet d x) ms
-        → map under_of ms ≡ unless_ended (does (under_of mine) e.mark r.now q' n) e.reply
-        → GoesOnAs (under_of mine) (does (under_of mine) e.mark r.now q' n) r.now (map under_of left ++ map under_of right) e.reply
+        → map under_of ms ≡ unless_ended (stepped (under_of mine) e.mark r.now q' n) e.reply
+        → ContinuesAs (under_of mine) (stepped (under_of mine) e.mark r.now q' n) r.now (map under_of left ++ map under_of right) e.reply
         → (parties' : List (Party T)) → parties' ≡ map party_of left ++ (map party_of ms ++ map party_of right)
         → HasRun form (made ++ Step p ∷ []) d parties' (trace ++ e ∷ [])
     unfolding q'
@@ -342,7 +342,7 @@ module _ {T : Type 0} (form : QueueForm) (made : List (QueueStep T)) (c : Conten
               whose = whose;
               now = effect;
               goes_on = goes;
-              under_way = same_unders ms ∙ ap (λ (us : List (Under T)). map (sees q') (map under_of left) ++ (us ++ map (sees q') (map under_of right))) mine_is;
+              under_way = same_unders ms ∙ ap (λ (us : List (CallUnderWay T)). map (observing q') (map under_of left) ++ (us ++ map (observing q') (map under_of right))) mine_is;
             },
             cell,
             refl,
@@ -385,36 +385,36 @@ module _ {T : Type 0} (form : QueueForm) (made : List (QueueStep T)) (c : Conten
     q'' : Queue T
     q'' = after mine.phase (mark_of call) r.now
 
-    step_with : (reply : Option (QueueReply T)) → Steps r.chain c mine.party.call mine.phase d call reply r.now (map seat_of left) (map seat_of right)
+    step_with : (reply : Option (QueueReply T)) → StepLeaves r.chain c mine.party.call mine.phase d call reply r.now (map seat_of left) (map seat_of right)
         → (parties' : List (Party T)) → parties' ≡ among left (party mine.party.id call) reply right
         → HasRun form (made ++ Step p ∷ []) d parties' (trace ++ entry reply ∷ [])
     unfolding q'
     step_with None h parties' are =
         let m = mark_of call in
-        let p' = h.does.0 in
-        let goes = h.does.1 in
+        let p' = h.effect.0 in
+        let goes = h.effect.1 in
         let known = known_rest form made c parties trace r p 0 left right mine there whose call (entry None) d refl in
-        let gone = goes_known r.now mine.seen mine.phase.ask m mine.phase.stage p'.stage mine.deeds goes.1 (my_balance form made c parties trace r p 0 left right mine there whose call (entry None) d refl) known.0 in
+        let gone = goes_known r.now mine.seen mine.phase.ask m mine.phase.stage p'.stage mine.marked_steps goes.1 (my_balance form made c parties trace r p 0 left right mine there whose call (entry None) d refl) known.0 in
         let next : Queue T = after mine.phase m r.now in
-        let deeds : List (Deed T) = with_deed mine.deeds m r.now mine.seen in
-        let mine' : Sitting T = record { party = party mine.party.id call; phase = p'; deeds = deeds; seen = next ∷ mine.seen; left = rank d call } in
-        let known' : IsKnown next mine' = subst (λ (a : QueueAsk T). Evidence next a p'.stage deeds (next ∷ mine.seen)) (sym goes.0) gone.evidence in
+        let marked_steps : List (MarkedStep T) = with_mark mine.marked_steps m r.now mine.seen in
+        let mine' : Sitting T = record { party = party mine.party.id call; phase = p'; marked_steps = marked_steps; seen = next ∷ mine.seen; left = rank d call } in
+        let known' : IsKnown next mine' = subst (λ (a : QueueAsk T). Evidence next a p'.stage marked_steps (next ∷ mine.seen)) (sym goes.0) gone.evidence in
         let bound = my_bound form made c parties trace r p 0 left right mine there whose call (entry None) d refl in
         let lefts = known_left form made c parties trace r p 0 left right mine there whose call (entry None) d refl in
         finish form made c parties trace r p 0 left right mine there whose call (entry None) d refl (mine' ∷ []) (rank d call)
-        (fair_goes r.now mine.phase m p' goes) gone.same h.one_cell h.does.2 (known', tt) (inr (omega arith), tt)
-        (ap (λ (a : QueueAsk T). (let u : Under T = record { party = mine.party.id; ask = a; deeds = deeds; seen = next ∷ mine.seen; left = rank d call } in u ∷ [])) goes.0)
-        (gone.begun, ranks d next p' call (map seat_of left) (map seat_of right) (_, h.does.2), λ free. (let n : rank d call < rank c mine.party.call = h.ends (nobody r.now left right lefts known.1 free) in omega arith))
+        (fair_goes r.now mine.phase m p' goes) gone.same h.one_cell h.effect.2 (known', tt) (inr (omega arith), tt)
+        (ap (λ (a : QueueAsk T). (let u : CallUnderWay T = record { party = mine.party.id; ask = a; marked_steps = marked_steps; seen = next ∷ mine.seen; left = rank d call } in u ∷ [])) goes.0)
+        (gone.begun, ranks d next p' call (map seat_of left) (map seat_of right) (_, h.effect.2), λ free. (let n : rank d call < rank c mine.party.call = h.ends (nobody r.now left right lefts known.1 free) in omega arith))
         parties' are
     step_with (Some x) h parties' are =
         let m = mark_of call in
-        let answers = h.does.0 in
+        let answers = h.effect.0 in
         let known = known_rest form made c parties trace r p 0 left right mine there whose call (entry (Some x)) d refl in
         finish form made c parties trace r p 0 left right mine there whose call (entry (Some x)) d refl [] 0
         (fair_answers r.now mine.phase m x answers)
-        (answers_same r.now mine.phase.ask m (is_displaced mine.phase.stage) (makes_room mine.deeds) (λ e. not_append r.now mine.phase.ask x mine.phase.stage (subst (λ (n : QueueMark). AnswersTo r.now mine.phase.ask n x mine.phase.stage) e answers)))
-        h.one_cell h.does.1 tt tt refl
-        (answers_known r.now mine.seen mine.phase.ask m x mine.phase.stage mine.deeds answers known.0)
+        (answers_same r.now mine.phase.ask m (is_displaced mine.phase.stage) (makes_room mine.marked_steps) (λ e. not_append r.now mine.phase.ask x mine.phase.stage (subst (λ (n : QueueMark). AnswersTo r.now mine.phase.ask n x mine.phase.stage) e answers)))
+        h.one_cell h.effect.1 tt tt refl
+        (answers_known r.now mine.seen mine.phase.ask m x mine.phase.stage mine.marked_steps answers known.0)
         parties' are
 
   -- a call makes a step

@@ -2,8 +2,8 @@
 use Rattle.std.proofs.Common.{◌≡◌, ℕ, Bool, true, false, List, [], ◌∷◌, Option, None, Some, is_some, option_to_list, ⊎_elim, refl, sym, ap, ◌∙◌, subst}
 use Rattle.concurrent_queue.specs.Contents.{Contents}
 use Rattle.concurrent_queue.specs.Queue.{Queue, Stage, trying, displaced, appended, taken, read, measured, Phase}
-use Rattle.concurrent_queue.specs.Single.{single_step}
-use Rattle.concurrent_queue.specs.SingleState.{word_of, holds, Knows, Tries, IsTrying}
+use Rattle.concurrent_queue.specs.machine.Single.{single_step}
+use Rattle.concurrent_queue.specs.machine.SingleState.{word_of, holds, KnowsSingle, Tries, IsTrying}
 use Rattle.concurrent_queue.specs.declared.call.QueueAsk.{QueueAsk}
 use Rattle.concurrent_queue.specs.declared.call.QueueAsk.TheVariants as ask
 use Rattle.concurrent_queue.specs.declared.single.SingleAction.{SingleAction}
@@ -55,7 +55,7 @@ module _ {T : Type 0} where
     tries : (a : SingleAction T) (k : QueueAsk T) → Tries k p → ((seen : Bool) → Stays c q locked item slot q.closed a (call_of k (trying seen))) → Keeps c q locked item slot a p
     tries a k t h = let s = try_of p.stage t.1 in carry a k (trying s.0) t.0 s.1 (h s.0)
 
-    pub keeps : (a : SingleAction T) → (holds a ≡ 1 → locked ≡ true) → Knows slot item a p → Keeps c q locked item slot a p
+    pub keeps : (a : SingleAction T) → (holds a ≡ 1 → locked ≡ true) → KnowsSingle slot item a p → Keeps c q locked item slot a p
     keeps (Push v) lock f = tries (Push v) (ask.Push v) f (λ seen. steps.push c q seen locked item slot q.closed v rest)
     keeps (PushPut v) lock f = carry (PushPut v) (ask.Push v) (appended None) f.0.0 f.0.1 (rw (lock refl, f.1, f.2) (steps.push_put c q q.closed v))
     keeps PushUnlock lock f = carry PushUnlock (ask.Push f.0) (appended None) f.1.0 f.1.1 (rw (lock refl, f.2, f.3) (steps.push_unlock c q q.closed f.0))

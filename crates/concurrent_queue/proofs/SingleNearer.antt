@@ -2,8 +2,8 @@
 use Rattle.std.proofs.Common.{◌≡◌, ◌<◌, Bool, true, false, [], ◌∷◌, Option, None, Some, is_some, if◌then◌else◌, MatchOption, ⊎_elim, refl, subst, rules}
 use Rattle.concurrent_queue.specs.Contents.{Contents}
 use Rattle.concurrent_queue.specs.Queue.{Phase}
-use Rattle.concurrent_queue.specs.Single.{single_step, clear}
-use Rattle.concurrent_queue.specs.SingleState.{word_of, holds, Knows, single_rank}
+use Rattle.concurrent_queue.specs.machine.Single.{single_step, clear}
+use Rattle.concurrent_queue.specs.machine.SingleState.{word_of, holds, KnowsSingle, single_rank}
 use Rattle.concurrent_queue.specs.declared.call.Stepped.{Stepped}
 use Rattle.concurrent_queue.specs.declared.single.SingleAction.{SingleAction}
 use Rattle.concurrent_queue.specs.declared.single.SingleAction.TheVariants.{Push, PushPut, PushUnlock, Force, ForceTake, ForcePut, ForceUnlock, Pop, PopTake, PopUnlock, Close, IsClosed, IsEmpty, IsFull, Len, Capacity, Finished}
@@ -58,7 +58,7 @@ module _ {T : Type 0} (c : Contents T) (locked : Bool) (item slot : Option T) (c
       let state' : c.state ≡ word_of false (is_some item) closed = subst (λ (b : Bool). c.state ≡ word_of b (is_some item) closed) e state in
       subst (λ (d : Contents T). Comes d a) (same_cells c _ _ state' slots) n
 
-  pub nearer : (a : SingleAction T) → (holds a ≡ 0 → locked ≡ false) → Knows slot item a p → Comes c a
+  pub nearer : (a : SingleAction T) → (holds a ≡ 0 → locked ≡ false) → KnowsSingle slot item a p → Comes c a
   nearer (Push v) lock f = free (Push v) (lock refl) (push c item slot closed v)
   nearer (PushPut v) lock f = rw (slots, f.1) (search rules)
   nearer PushUnlock lock f = tt

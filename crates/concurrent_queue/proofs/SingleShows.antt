@@ -2,11 +2,11 @@
 use Rattle.std.proofs.Common.{◌≡◌, ℕ, zero, suc, ◌<◌, ◌≤◌, Bool, true, false, not, List, [], ◌∷◌, length, Option, None, Some, is_some, option_to_list, slice_get, if◌then◌else◌, refl, sym, ap, ◌∙◌, subst, inl, inr, ◌⊎◌, ⊎_elim, arith}
 use Rattle.concurrent_queue.specs.Contents.{Contents, slot_at}
 use Rattle.concurrent_queue.specs.Queue.{Queue, Stage, appended, Phase, message}
-use Rattle.concurrent_queue.specs.Places.{Place, Each}
-use Rattle.concurrent_queue.specs.Single.{clear}
-use Rattle.concurrent_queue.specs.SingleState.{word_of, holds, holders, Knows, Means, SingleMeans, single_rank}
+use Rattle.concurrent_queue.specs.machine.Places.{Place, Each}
+use Rattle.concurrent_queue.specs.machine.Single.{clear}
+use Rattle.concurrent_queue.specs.machine.SingleState.{word_of, holds, holders, KnowsSingle, Means, SingleMeans, single_rank}
 use Rattle.concurrent_queue.specs.Step.{HasBrought, IsBrought, single_closed, single_length}
-use Rattle.concurrent_queue.specs.Forms.{place_phases, FormShows, FormLies}
+use Rattle.concurrent_queue.specs.machine.Forms.{place_phases, FormShows, FormLies}
 use Rattle.concurrent_queue.specs.declared.call.QueueAsk.{QueueAsk}
 use Rattle.concurrent_queue.specs.declared.cells.Slot.TheVariants.{At}
 use Rattle.concurrent_queue.specs.declared.single.SingleAction.{SingleAction}
@@ -55,7 +55,7 @@ module _ {T : Type 0} (slot : Option T) (v : T) where
   unfolding IsPlaced
   stored p w f e = inl (f ∙ sym e)
 
-  placed : (a : SingleAction T) (p : Phase T) → Knows slot (Some v) a p → (holds a ≡ 0) ⊎ IsPlaced p
+  placed : (a : SingleAction T) (p : Phase T) → KnowsSingle slot (Some v) a p → (holds a ≡ 0) ⊎ IsPlaced p
   placed (Push x) p f = inl refl
   placed (PushPut x) p f = inr (brought p _ x _ refl f.0.0 f.0.1 f.2)
   placed PushUnlock p f = inr (stored p f.0 f.2 f.3)
@@ -75,7 +75,7 @@ module _ {T : Type 0} (slot : Option T) (v : T) where
   placed Finished p f = absurd f
 
   -- where a call holds the slot, the message lies there or is with that call
-  lies_among : (ps : List (Place (SingleAction T) T)) → 1 ≤ holders ps → Each (λ (x : Place (SingleAction T) T). Knows slot (Some v) x.action x.phase) ps → (slot ≡ Some v) ⊎ IsBrought (place_phases ps) v
+  lies_among : (ps : List (Place (SingleAction T) T)) → 1 ≤ holders ps → Each (λ (x : Place (SingleAction T) T). KnowsSingle slot (Some v) x.action x.phase) ps → (slot ≡ Some v) ⊎ IsBrought (place_phases ps) v
   unfolding IsPlaced
   lies_among [] h all = absurd (omega arith)
   lies_among (x ∷ ps) h all = ⊎_elim
@@ -87,7 +87,7 @@ module _ {T : Type 0} (c : Contents T) (q : Queue T) (ps : List (Place (SingleAc
   lies_of : (locked : Bool) (item slot : Option T) → Means c q ps locked item slot → (v : T) → item ≡ Some v → (slot ≡ Some v) ⊎ IsBrought (place_phases ps) v
   lies_of false item slot m v e = inl (sym (m.at_rest refl) ∙ e)
   lies_of true item slot m v e =
-      lies_among slot v ps (omega (arith, m.one_holder)) (subst (λ (i : Option T). Each (λ (x : Place (SingleAction T) T). Knows slot i x.action x.phase) ps) e m.calls)
+      lies_among slot v ps (omega (arith, m.one_holder)) (subst (λ (i : Option T). Each (λ (x : Place (SingleAction T) T). KnowsSingle slot i x.action x.phase) ps) e m.calls)
 
   in_slot : (slot : Option T) (v : T) → c.slots ≡ slot ∷ [] → (slot ≡ Some v) ⊎ IsBrought (place_phases ps) v → (slot_at c (At 0) ≡ Some v) ⊎ IsBrought (place_phases ps) v
   in_slot slot v e (inl h) = inl (rw e h)

@@ -1,9 +1,9 @@
 -- One step of one call on one slot keeps what the cells mean, at each of the few states of the slot.
 use Rattle.std.proofs.Common.{◌≡◌, ◌+◌, Bool, true, false, [], ◌∷◌, Option, None, Some, is_some, option_to_list, if◌then◌else◌, MatchOption, refl, rules}
 use Rattle.concurrent_queue.specs.Contents.{Contents}
-use Rattle.concurrent_queue.specs.Queue.{Queue, Stage, trying, appended, taken, Phase, after, seen_after, Goes, Answers}
-use Rattle.concurrent_queue.specs.Single.{single_step}
-use Rattle.concurrent_queue.specs.SingleState.{word_of, holds, Knows}
+use Rattle.concurrent_queue.specs.Queue.{Queue, Stage, trying, appended, taken, Phase, after, seen_after, Continues, Answers}
+use Rattle.concurrent_queue.specs.machine.Single.{single_step}
+use Rattle.concurrent_queue.specs.machine.SingleState.{word_of, holds, KnowsSingle}
 use Rattle.concurrent_queue.specs.declared.call.QueueAsk.{QueueAsk}
 use Rattle.concurrent_queue.specs.declared.call.QueueAsk.TheVariants as ask
 use Rattle.concurrent_queue.specs.declared.call.Stepped.{Stepped}
@@ -19,7 +19,7 @@ pub record Kept {T : Type 0} (locked : Bool) (item slot : Option T) (q : Queue T
   pub holding : holds s.action + (if locked then 1 else 0) ≡ holds a + (if locked' then 1 else 0)
   pub same : locked ≡ true → holds a ≡ 0 → (slot' ≡ slot) × (item' ≡ item)
   pub at_rest : locked' ≡ false → item' ≡ slot'
-  pub does : MatchOption s.reply (Goes q p s.mark p' × Knows slot' item' s.action p') (λ y. Answers q p s.mark y × (s.action ≡ Finished))
+  pub effect : MatchOption s.reply (Continues q p s.mark p' × KnowsSingle slot' item' s.action p') (λ y. Answers q p s.mark y × (s.action ≡ Finished))
 
 abbrev pub cells : {T : Type 0} → Contents T → Bool → Option T → Option T → Bool → Contents T
 cells c locked item slot closed = record c { state = word_of locked (is_some item) closed; slots = slot ∷ [] }

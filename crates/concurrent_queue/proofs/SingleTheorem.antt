@@ -1,13 +1,13 @@
 -- The machine of one slot meets what every form delivers.
 use Rattle.std.proofs.Common.{◌≡◌, ℕ, ◌+◌, ◌<◌, ◌≤◌, Bool, true, false, List, [], ◌∷◌, ◌++◌, Option, None, Some, if◌then◌else◌, ◌==◌, MatchOption, refl, sym, ap, ◌∙◌, subst, inl, inr, arith}
 use Rattle.concurrent_queue.specs.Contents.{Contents, can_put, empty_slot}
-use Rattle.concurrent_queue.specs.Queue.{Queue, Stage, Phase, asked, after, Goes, Answers, opened}
-use Rattle.concurrent_queue.specs.Places.{Place, Each}
-use Rattle.concurrent_queue.specs.Dispatch.{IsSingleStep}
-use Rattle.concurrent_queue.specs.Single.{single_step, start}
-use Rattle.concurrent_queue.specs.SingleState.{holds, holders, Knows, Means, SingleMeans, single_rank}
+use Rattle.concurrent_queue.specs.Queue.{Queue, Stage, Phase, asked, after, Continues, Answers, opened}
+use Rattle.concurrent_queue.specs.machine.Places.{Place, Each}
+use Rattle.concurrent_queue.specs.machine.Dispatch.{IsSingleStep}
+use Rattle.concurrent_queue.specs.machine.Single.{single_step, start}
+use Rattle.concurrent_queue.specs.machine.SingleState.{holds, holders, KnowsSingle, Means, SingleMeans, single_rank}
 use Rattle.concurrent_queue.specs.Step.{OneCell, IsQuiet, AllQuiet, HoldsNobodyUp}
-use Rattle.concurrent_queue.specs.Forms.{place, place_phases, FormStep, FormSteps, FormStarts, FormRanks}
+use Rattle.concurrent_queue.specs.machine.Forms.{place, place_phases, FormStep, FormSteps, FormStarts, FormRanks}
 use Rattle.concurrent_queue.specs.declared.call.QueueAsk.{QueueAsk}
 use Rattle.concurrent_queue.specs.declared.call.QueueAsk.TheVariants as ask
 use Rattle.concurrent_queue.specs.declared.call.QueueReply.{QueueReply}
@@ -37,7 +37,7 @@ few false x y f g = g
 module _ {T : Type 0} where
   -- what another call knows is still so
   module _ (slot item slot' item' : Option T) where
-    knows_other : (a : SingleAction T) (p : Phase T) → (1 ≤ holds a → (slot' ≡ slot) × (item' ≡ item)) → Knows slot item a p → Knows slot' item' a p
+    knows_other : (a : SingleAction T) (p : Phase T) → (1 ≤ holds a → (slot' ≡ slot) × (item' ≡ item)) → KnowsSingle slot item a p → KnowsSingle slot' item' a p
     knows_other (Push v) p h f = f
     knows_other (PushPut v) p h f = let e = h (omega arith) in (f.0, e.0 ∙ f.1, e.1 ∙ f.2)
     knows_other PushUnlock p h f = let e = h (omega arith) in (f.0, f.1, e.0 ∙ f.2, e.1 ∙ f.3)
@@ -106,7 +106,7 @@ module _ {T : Type 0} where
     same_form Finished = refl
 
   -- a call with no mark holds nothing
-  quiet_holds : (slot item : Option T) (a : SingleAction T) (p : Phase T) → Knows slot item a p → IsQuiet p.stage → holds a ≡ 0
+  quiet_holds : (slot item : Option T) (a : SingleAction T) (p : Phase T) → KnowsSingle slot item a p → IsQuiet p.stage → holds a ≡ 0
   quiet_holds slot item (Push v) p f h = refl
   quiet_holds slot item (PushPut v) p f h = absurd (subst (λ (s : Stage T). IsQuiet s) f.0.1 h)
   quiet_holds slot item PushUnlock p f h = absurd (subst (λ (s : Stage T). IsQuiet s) f.1.1 h)
@@ -125,7 +125,7 @@ module _ {T : Type 0} where
   quiet_holds slot item Capacity p f h = refl
   quiet_holds slot item Finished p f h = refl
 
-  none_hold : (slot item : Option T) (ps : List (Place (SingleAction T) T)) → Each (λ (x : Place (SingleAction T) T). Knows slot item x.action x.phase) ps → AllQuiet (place_phases ps) → holders ps ≡ 0
+  none_hold : (slot item : Option T) (ps : List (Place (SingleAction T) T)) → Each (λ (x : Place (SingleAction T) T). KnowsSingle slot item x.action x.phase) ps → AllQuiet (place_phases ps) → holders ps ≡ 0
   none_hold slot item [] all quiet = refl
   none_hold slot item (x ∷ ps) all quiet = omega (arith, quiet_holds slot item x.action x.phase all.0 quiet.0, none_hold slot item ps all.1 quiet.1)
 
@@ -133,24 +133,24 @@ module _ {T : Type 0} where
     together : holds a + holders (l ++ r) ≡ (if locked then 1 else 0)
     together = omega (arith, sum_at (λ (x : SingleAction T). holds x) l r (place a p), m.one_holder)
 
-    mine : Knows slot item a p
-    mine = each_at (λ (x : Place (SingleAction T) T). Knows slot item x.action x.phase) l r (place a p) m.calls
+    mine : KnowsSingle slot item a p
+    mine = each_at (λ (x : Place (SingleAction T) T). KnowsSingle slot item x.action x.phase) l r (place a p) m.calls
 
-    others : Each (λ (x : Place (SingleAction T) T). Knows slot item x.action x.phase) (l ++ r)
-    others = each_others (λ (x : Place (SingleAction T) T). Knows slot item x.action x.phase) l r (place a p) m.calls
+    others : Each (λ (x : Place (SingleAction T) T). KnowsSingle slot item x.action x.phase) (l ++ r)
+    others = each_others (λ (x : Place (SingleAction T) T). KnowsSingle slot item x.action x.phase) l r (place a p) m.calls
 
     kept : Keeps c q locked item slot a p
     kept = keeps c q locked item slot p m.state m.slots m.items m.coming m.limit m.at_rest a (λ h. (lock_of locked (holds a) (holders (l ++ r)) together (omega arith)).0) mine
 
     module _ (d : Contents T) (s : Stepped (SingleAction T) T) (locked' : Bool) (item' slot' : Option T) (p' : Phase T) (k : Kept locked item slot q a p d s locked' item' slot' p') where
-      other : (x : Place (SingleAction T) T) → Knows slot item x.action x.phase → holds x.action ≤ holders (l ++ r) → Knows slot' item' x.action x.phase
+      other : (x : Place (SingleAction T) T) → KnowsSingle slot item x.action x.phase → holds x.action ≤ holders (l ++ r) → KnowsSingle slot' item' x.action x.phase
       other x f h = knows_other slot item slot' item' x.action x.phase
           (λ g. let lock = lock_of locked (holders (l ++ r)) (holds a) (omega (arith, together)) (omega arith) in k.same lock.0 lock.1) f
 
-      others_after : Each (λ (x : Place (SingleAction T) T). Knows slot' item' x.action x.phase) (l ++ r)
+      others_after : Each (λ (x : Place (SingleAction T) T). KnowsSingle slot' item' x.action x.phase) (l ++ r)
       others_after = each_keeps _ _ (λ (x : SingleAction T). holds x) (holders (l ++ r)) other (l ++ r) (omega arith) others
 
-      means_after : (ps : List (Place (SingleAction T) T)) → IsFair q p.ask s.mark → holders ps ≡ (if locked' then 1 else 0) → Each (λ (x : Place (SingleAction T) T). Knows slot' item' x.action x.phase) ps
+      means_after : (ps : List (Place (SingleAction T) T)) → IsFair q p.ask s.mark → holders ps ≡ (if locked' then 1 else 0) → Each (λ (x : Place (SingleAction T) T). KnowsSingle slot' item' x.action x.phase) ps
           → SingleMeans d (after p s.mark q) ps
       means_after ps fair one all = (
         locked',
@@ -170,9 +170,9 @@ module _ {T : Type 0} where
       )
 
       does_after : (reply : Option (QueueReply T))
-          → MatchOption reply (Goes q p s.mark p' × Knows slot' item' s.action p') (λ y. Answers q p s.mark y × (s.action ≡ Finished))
+          → MatchOption reply (Continues q p s.mark p' × KnowsSingle slot' item' s.action p') (λ y. Answers q p s.mark y × (s.action ≡ Finished))
           → MatchOption reply
-          ((p' : Phase T) × Goes q p s.mark p' × SingleMeans d (after p s.mark q) (l ++ place s.action p' ∷ r))
+          ((p' : Phase T) × Continues q p s.mark p' × SingleMeans d (after p s.mark q) (l ++ place s.action p' ∷ r))
           (λ x. Answers q p s.mark x × SingleMeans d (after p s.mark q) (l ++ r))
       does_after None h =
           let x : Place (SingleAction T) T = place s.action p' in (
@@ -197,7 +197,7 @@ module _ {T : Type 0} where
         record {
           same_form = same_form c a;
           one_cell = one_cell c a;
-          does = does_after (single_step c a).0 s kept.0 kept.1 kept.2 kept.3 kept.4 s.reply kept.4.does;
+          effect = does_after (single_step c a).0 s kept.0 kept.1 kept.2 kept.3 kept.4 s.reply kept.4.effect;
           ends = nearer_now;
         }
 
@@ -218,7 +218,7 @@ module _ {T : Type 0} where
   start_free ask.Len = refl
   start_free ask.Capacity = refl
 
-  start_knows : (slot item : Option T) (a : QueueAsk T) → Knows slot item (start a) (asked a)
+  start_knows : (slot item : Option T) (a : QueueAsk T) → KnowsSingle slot item (start a) (asked a)
   start_knows slot item (ask.Push v) = (refl, tt)
   start_knows slot item (ask.ForcePush v) = ((refl, tt), inl refl)
   start_knows slot item ask.Pop = ((refl, tt), inl refl)

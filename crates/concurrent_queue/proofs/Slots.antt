@@ -1,7 +1,7 @@
 -- Lists of empty slots, and blocks by their numbers.
 use Rattle.std.proofs.Common.{◌≡◌, ℕ, zero, suc, ◌+◌, ◌<◌, ◌≤◌, List, [], ◌∷◌, ◌++◌, length, map, drop, Option, None, Some, slice_get, slice_set, Result, Ok, Err, MatchResult, true, false, refl, sym, ap, ◌∙◌, subst, arith, append-nil}
 use Rattle.std.proofs.lemmas.List.{map-set}
-use Rattle.concurrent_queue.specs.Contents.{Block, nones, no_block, block_in, is_vacant, with_slot, PutGivesIn}
+use Rattle.concurrent_queue.specs.Contents.{BlockCells, nones, no_block, block_in, is_vacant, with_slot, PutGivesIn}
 use Rattle.concurrent_queue.specs.Plain.{block_of}
 use Rattle.concurrent_queue.specs.declared.pool.PlainBlock.{PlainBlock}
 
@@ -48,24 +48,24 @@ module _ {T : Type 0} where
   beyond (y ∷ xs) zero h = absurd (omega arith)
   beyond (y ∷ xs) (suc i) h = beyond xs i (omega arith)
 
-  pub changed : (xs ys : List (PlainBlock T)) (i : ℕ) (y : PlainBlock T) (g : Block T) → ys ≡ slice_set xs i y → block_of y ≡ g → map block_of ys ≡ slice_set (map block_of xs) i g
-  changed xs ys i y g e f = ap (λ (zs : List (PlainBlock T)). map block_of zs) e ∙ map-set block_of xs i y ∙ ap (λ (b : Block T). slice_set (map block_of xs) i b) f
+  pub changed : (xs ys : List (PlainBlock T)) (i : ℕ) (y : PlainBlock T) (g : BlockCells T) → ys ≡ slice_set xs i y → block_of y ≡ g → map block_of ys ≡ slice_set (map block_of xs) i g
+  changed xs ys i y g e f = ap (λ (zs : List (PlainBlock T)). map block_of zs) e ∙ map-set block_of xs i y ∙ ap (λ (b : BlockCells T). slice_set (map block_of xs) i b) f
 
-  pub unchanged : (xs : List (PlainBlock T)) (i : ℕ) (g : Block T) → length xs ≤ i → map block_of xs ≡ slice_set (map block_of xs) i g
+  pub unchanged : (xs : List (PlainBlock T)) (i : ℕ) (g : BlockCells T) → length xs ≤ i → map block_of xs ≡ slice_set (map block_of xs) i g
   unchanged [] i g h = refl
   unchanged (y ∷ xs) zero g h = absurd (omega arith)
-  unchanged (y ∷ xs) (suc i) g h = ap (λ (bs : List (Block T)). block_of y ∷ bs) (unchanged xs i g (omega arith))
+  unchanged (y ∷ xs) (suc i) g h = ap (λ (bs : List (BlockCells T)). block_of y ∷ bs) (unchanged xs i g (omega arith))
 
   -- one of them is changed
-  pub edited : (xs : List (PlainBlock T)) (i : ℕ) (x y : PlainBlock T) (f : Block T → Block T) → slice_get xs i ≡ Some x → block_of y ≡ f (block_of x)
+  pub edited : (xs : List (PlainBlock T)) (i : ℕ) (x y : PlainBlock T) (f : BlockCells T → BlockCells T) → slice_get xs i ≡ Some x → block_of y ≡ f (block_of x)
       → map block_of (slice_set xs i y) ≡ slice_set (map block_of xs) i (f (block_in (map block_of xs) i))
   edited xs i x y f there e =
       changed xs (slice_set xs i y) i y (f (block_in (map block_of xs) i)) refl (e ∙ ap f (sym (found xs i x there)))
 
-  same_set : (xs : List (Block T)) (i : ℕ) (x : Block T) → slice_get xs i ≡ Some x → slice_set xs i x ≡ xs
+  same_set : (xs : List (BlockCells T)) (i : ℕ) (x : BlockCells T) → slice_get xs i ≡ Some x → slice_set xs i x ≡ xs
   same_set [] i x e = absurd cc
-  same_set (y ∷ xs) zero x e = let same : x ≡ y = cc in ap (λ (b : Block T). b ∷ xs) same
-  same_set (y ∷ xs) (suc i) x e = ap (λ (bs : List (Block T)). y ∷ bs) (same_set xs i x e)
+  same_set (y ∷ xs) zero x e = let same : x ≡ y = cc in ap (λ (b : BlockCells T). b ∷ xs) same
+  same_set (y ∷ xs) (suc i) x e = ap (λ (bs : List (BlockCells T)). y ∷ bs) (same_set xs i x e)
 
   there_of : (xs : List (PlainBlock T)) (i : ℕ) (x : PlainBlock T) → slice_get xs i ≡ Some x → slice_get (map block_of xs) i ≡ Some (block_of x)
   there_of [] i x e = absurd cc
@@ -78,9 +78,9 @@ module _ {T : Type 0} where
       (λ w. (is_vacant (slice_get (block_of x).slots o) ≡ false) × (w ≡ v) × (block_of y ≡ block_of x))
       → PutGivesIn (map block_of xs) i o v r (map block_of (slice_set xs i y))
   put_in xs i o v x y there (Ok u) h =
-      (subst (λ (b : Block T). is_vacant (slice_get b.slots o) ≡ true) (sym (found xs i x there)) h.0, edited xs i x y (λ b. with_slot b o (Some v)) there h.1)
+      (subst (λ (b : BlockCells T). is_vacant (slice_get b.slots o) ≡ true) (sym (found xs i x there)) h.0, edited xs i x y (λ b. with_slot b o (Some v)) there h.1)
   put_in xs i o v x y there (Err w) h = (
-    subst (λ (b : Block T). is_vacant (slice_get b.slots o) ≡ false) (sym (found xs i x there)) h.0,
+    subst (λ (b : BlockCells T). is_vacant (slice_get b.slots o) ≡ false) (sym (found xs i x there)) h.0,
     h.1,
     changed xs (slice_set xs i y) i y (block_of x) refl h.2 ∙ same_set (map block_of xs) i (block_of x) (there_of xs i x there),
   )

@@ -1,10 +1,10 @@
 -- The contract of a step, from what each form delivers.
 use Rattle.std.proofs.Common.{◌≡◌, ℕ, ◌<◌, List, [], ◌∷◌, ◌++◌, Option, None, Some, MatchOption, refl, sym, ap, ◌∙◌, subst}
 use Rattle.concurrent_queue.specs.Contents.{Contents}
-use Rattle.concurrent_queue.specs.Queue.{Queue, Phase, asked, after, Goes, Answers, IsInRange}
-use Rattle.concurrent_queue.specs.Places.{Place}
+use Rattle.concurrent_queue.specs.Queue.{Queue, Phase, asked, after, Continues, Answers, IsInRange}
+use Rattle.concurrent_queue.specs.machine.Places.{Place}
 use Rattle.concurrent_queue.specs.Step.{Seat, seat, AreAt, FitsBy, phases, OneCell, HoldsNobodyUp, chain_after}
-use Rattle.concurrent_queue.specs.Forms.{place, place_phases, FormStep, FormSteps, FormStarts, FormRanks}
+use Rattle.concurrent_queue.specs.machine.Forms.{place, place_phases, FormStep, FormSteps, FormStarts, FormRanks}
 use Rattle.concurrent_queue.specs.declared.call.QueueAsk.{QueueAsk}
 use Rattle.concurrent_queue.specs.declared.call.QueueReply.{QueueReply}
 use Rattle.concurrent_queue.specs.declared.call.Stepped.{Stepped}
@@ -57,18 +57,18 @@ module _ {A T : Type 0} (at : CallState T → A → Type 0) where
     pub record SeatStep (c : Contents T) (a : A) (p : Phase T) (d : Contents T) (s : Stepped A T) (q : Queue T) (l r : List (Seat T)) : Type 0 where
       pub same_form : d.form ≡ c.form
       pub one_cell : OneCell c d
-      pub does : MatchOption s.reply
-          ((p' : Phase T) × Goes q p s.mark p' × FitsBy at (means d (after p s.mark q)) (l ++ seat (after_call s) p' ∷ r))
+      pub effect : MatchOption s.reply
+          ((p' : Phase T) × Continues q p s.mark p' × FitsBy at (means d (after p s.mark q)) (l ++ seat (after_call s) p' ∷ r))
           (λ x. Answers q p s.mark x × FitsBy at (means d (after p s.mark q)) (l ++ r))
       pub ends : HoldsNobodyUp q (phases (l ++ r)) → MatchOption s.reply (left d s.action < left c a) (λ x. Unit {0})
 
     module _ (wraps : (a : A) → at (wrap a) a) (c : Contents T) (a : A) (d : Contents T) (s : Stepped A T) (q : Queue T) (p : Phase T) (l r : List (Seat T)) (before : QueueCall T) (places : List (Place A T)) (parts : Parted l r (seat before p) places) where
       lift : (reply : Option (QueueReply T))
           → MatchOption reply
-          ((p' : Phase T) × Goes q p s.mark p' × means d (after p s.mark q) (parts.left ++ place s.action p' ∷ parts.right))
+          ((p' : Phase T) × Continues q p s.mark p' × means d (after p s.mark q) (parts.left ++ place s.action p' ∷ parts.right))
           (λ x. Answers q p s.mark x × means d (after p s.mark q) (parts.left ++ parts.right))
           → MatchOption reply
-          ((p' : Phase T) × Goes q p s.mark p' × FitsBy at (means d (after p s.mark q)) (l ++ seat (after_call s) p' ∷ r))
+          ((p' : Phase T) × Continues q p s.mark p' × FitsBy at (means d (after p s.mark q)) (l ++ seat (after_call s) p' ∷ r))
           (λ x. Answers q p s.mark x × FitsBy at (means d (after p s.mark q)) (l ++ r))
       lift None h =
           let mine : Place A T = place s.action h.0 in
@@ -81,7 +81,7 @@ module _ {A T : Type 0} (at : CallState T → A → Type 0) where
           record {
             same_form = h.same_form;
             one_cell = h.one_cell;
-            does = lift s.reply h.does;
+            effect = lift s.reply h.effect;
             ends = λ (quiet : HoldsNobodyUp q (phases (l ++ r))). h.ends (subst (λ (ps : List (Phase T)). HoldsNobodyUp q ps) same quiet);
           }
 

@@ -3,11 +3,11 @@ use Rattle.std.proofs.Common.{◌≡◌, ℕ, zero, suc, ◌+◌, ◌%◌, List,
 use lib.Count.{count_leading_zeros}
 use Rattle.concurrent_queue.specs.Contents.{Contents, write, write_slot, slot_at, without_spare, with_retired}
 use Rattle.concurrent_queue.specs.Queue.{Queue, marked}
-use Rattle.concurrent_queue.specs.Scene.{Under, sees, IsBroughtBy}
+use Rattle.concurrent_queue.specs.Scene.{CallUnderWay, observing, IsBroughtBy}
 use Rattle.concurrent_queue.specs.Step.{OneCell, length_in, slot_in}
 use Rattle.concurrent_queue.specs.Run.{Ran}
 use Rattle.concurrent_queue.specs.Made.{new_cells}
-use Rattle.concurrent_queue.specs.RingWords.{ring_mark}
+use Rattle.concurrent_queue.specs.machine.RingWords.{ring_mark}
 use Rattle.concurrent_queue.specs.Whole.{pushing, at_once}
 use Rattle.concurrent_queue.specs.declared.call.QueueAsk.{QueueAsk}
 use Rattle.concurrent_queue.specs.declared.call.QueueAsk.TheVariants as ask
@@ -71,12 +71,12 @@ module _ {T : Type 0} where
   one_step d (inr (inr (inr (inr (b, e))))) = subst (λ (x : Contents T). IsShort x) (sym e) (by_words (with_retired new b) refl refl refl)
 
   -- the only call under way is the one that steps
-  pub record IsAlone (u : Under T) (before : List (Under T)) (mine : Under T) (behind : List (Under T)) : Type 0 where
+  pub record IsAlone (u : CallUnderWay T) (before : List (CallUnderWay T)) (mine : CallUnderWay T) (behind : List (CallUnderWay T)) : Type 0 where
     pub none_before : before ≡ []
     pub is_mine : mine ≡ u
     pub none_behind : behind ≡ []
 
-  alone : (u : Under T) (before : List (Under T)) (mine : Under T) (behind : List (Under T)) → u ∷ [] ≡ before ++ mine ∷ behind → IsAlone u before mine behind
+  alone : (u : CallUnderWay T) (before : List (CallUnderWay T)) (mine : CallUnderWay T) (behind : List (CallUnderWay T)) → u ∷ [] ≡ before ++ mine ∷ behind → IsAlone u before mine behind
   alone u [] mine behind e = record { none_before = refl; is_mine = cc; none_behind = cc }
   alone u (x ∷ []) mine behind e = absurd cc
   alone u (x ∷ y ∷ xs) mine behind e = absurd cc
@@ -90,11 +90,11 @@ module _ {T : Type 0} where
       let s = rest.1.0 in
       let reads = rest.2 in
       let one = alone _ s.before s.mine s.behind (sym begun.0.under_way ∙ s.there) in
-      let asks : s.mine.ask ≡ ask.Push v = ap (λ (u : Under T). u.ask) one.is_mine in
+      let asks : s.mine.ask ≡ ask.Push v = ap (λ (u : CallUnderWay T). u.ask) one.is_mine in
       let nobody : d.scene.under_way ≡ [] = s.under_way ∙ rw (one.none_before, one.none_behind) refl in
       let items : d.scene.now.items ≡ v ∷ [] = ap (λ (q : Queue T). q.items) s.now ∙ (rw (asks, begun.0.now) refl) in
       let long : length_in d.cells ≡ 1 = reads.long ∙ ap (λ (xs : List T). length xs) items in
       let cell : OneCell new d.cells = subst (λ (c : Contents T). OneCell c d.cells) begun.1 rest.1.1 in
       let first : slice_get d.scene.now.items 0 ≡ Some v = ap (λ (xs : List T). slice_get xs 0) items in
       ⊎_elim (λ h. one_step d.cells cell d.chain v long h)
-      (λ h. absurd (subst (λ (us : List (Under T)). IsBroughtBy us v) nobody h)) (reads.lies.there 0 v first)
+      (λ h. absurd (subst (λ (us : List (CallUnderWay T)). IsBroughtBy us v) nobody h)) (reads.lies.there 0 v first)

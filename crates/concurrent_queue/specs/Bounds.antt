@@ -1,7 +1,7 @@
 -- What bounds a run of a queue: how many messages it holds, and how many closes say that they closed it.
 use Rattle.std.specs.Prelude.{◌≡◌, ℕ, ◌+◌, ◌≤◌, true, List, [], ◌∷◌, length, Option, Some}
 use Rattle.concurrent_queue.specs.Contents.{Contents}
-use Rattle.concurrent_queue.specs.Dispatch.{capacity_of}
+use Rattle.concurrent_queue.specs.Capacity.{capacity_of}
 use Rattle.concurrent_queue.specs.Run.{Config, IsRun, opened_config}
 use Rattle.concurrent_queue.specs.declared.call.QueueEntry.{QueueEntry}
 use Rattle.concurrent_queue.specs.declared.call.QueueReply.{QueueReply}

@@ -9,7 +9,7 @@ use Rattle.concurrent_queue.specs.declared.cells.Slot.{Slot}
 use Rattle.concurrent_queue.specs.declared.cells.Slot.TheVariants.{At, In}
 
 -- one block of an unbounded queue
-pub record Block (T : Type 0) : Type 0 where
+pub record BlockCells (T : Type 0) : Type 0 where
   pub next : ℕ
   pub reads : ℕ
   pub written : List ℕ
@@ -25,7 +25,7 @@ pub record Contents (T : Type 0) : Type 0 where
   pub slots : List (Option T)
   pub head_block : ℕ
   pub tail_block : ℕ
-  pub blocks : List (Block T)
+  pub blocks : List (BlockCells T)
   pub spares : List ℕ
 
 -- thirty-one of it
@@ -54,33 +54,33 @@ module _ {T : Type 0} where
   nones = in_each None
 
   -- a block in which nothing was written yet
-  abbrev pub blank : Block T
+  abbrev pub blank : BlockCells T
   blank = record { next = 0; reads = 0; written = zeros; slots = nones }
 
   -- a block that was never made: its words read 0, and it has no slot
-  abbrev pub no_block : Block T
+  abbrev pub no_block : BlockCells T
   no_block = record { next = 0; reads = 0; written = []; slots = [] }
 
   -- the block of a number
-  abbrev pub block_in : List (Block T) → ℕ → Block T
+  abbrev pub block_in : List (BlockCells T) → ℕ → BlockCells T
   block_in blocks b = slice_index_or blocks b no_block
 
-  abbrev pub with_next : Block T → ℕ → Block T
+  abbrev pub with_next : BlockCells T → ℕ → BlockCells T
   with_next x w = record x { next = w }
 
-  abbrev pub with_reads : Block T → ℕ → Block T
+  abbrev pub with_reads : BlockCells T → ℕ → BlockCells T
   with_reads x w = record x { reads = w }
 
-  abbrev pub with_written : Block T → ℕ → ℕ → Block T
+  abbrev pub with_written : BlockCells T → ℕ → ℕ → BlockCells T
   with_written x i w = record x { written = slice_set x.written i w }
 
-  abbrev pub with_slot : Block T → ℕ → Option T → Block T
+  abbrev pub with_slot : BlockCells T → ℕ → Option T → BlockCells T
   with_slot x i o = record x { slots = slice_set x.slots i o }
 
-  abbrev pub block_at : Contents T → ℕ → Block T
+  abbrev pub block_at : Contents T → ℕ → BlockCells T
   block_at c b = block_in c.blocks b
 
-  abbrev pub with_block : Contents T → ℕ → Block T → Contents T
+  abbrev pub with_block : Contents T → ℕ → BlockCells T → Contents T
   with_block c b x = record c { blocks = slice_set c.blocks b x }
 
   -- what a word holds
@@ -127,7 +127,7 @@ module _ {T : Type 0} where
   can_put c (At i) = is_vacant (slice_get c.slots i)
   can_put c (In b i) = is_vacant (slice_get (block_at c b).slots i)
 
-  abbrev pub PutGivesIn : List (Block T) → ℕ → ℕ → T → Result Unit T → List (Block T) → Type 0
+  abbrev pub PutGivesIn : List (BlockCells T) → ℕ → ℕ → T → Result Unit T → List (BlockCells T) → Type 0
   PutGivesIn bs b i v (Ok u) bs' = (is_vacant (slice_get (block_in bs b).slots i) ≡ true) × (bs' ≡ slice_set bs b (with_slot (block_in bs b) i (Some v)))
   PutGivesIn bs b i v (Err w) bs' = (is_vacant (slice_get (block_in bs b).slots i) ≡ false) × (w ≡ v) × (bs' ≡ bs)
 
@@ -137,7 +137,7 @@ module _ {T : Type 0} where
   PutGives c at v (Err w) d = (can_put c at ≡ false) × (w ≡ v) × (d ≡ c)
 
   -- the blocks that a spare section leaves
-  abbrev pub blocks_with : List ℕ → List (Block T) → List (Block T)
+  abbrev pub blocks_with : List ℕ → List (BlockCells T) → List (BlockCells T)
   blocks_with [] blocks = blocks ++ blank ∷ []
   blocks_with (b ∷ bs) blocks = blocks
 

@@ -1,43 +1,30 @@
-pub mod Contents
-pub mod Plain
-pub mod BlocksState
-pub mod BlocksCalls
-pub mod BlocksMoves
-pub mod BlocksLeft
+-- What is promised of a queue. `Queue` is a queue with calls under way, and what each call's next step may do; `Rows` what
+-- a call may answer, by its steps and by the moments that it saw; `Scene` one entry of a run, and `Run` whole runs. Their
+-- laws: `Accounts` (nothing is lost), `Bounds` (never more than fit, closed once), `Lone` (a call that nobody holds up ends)
+-- and `Whole` (no push is whole at its first step). A queue of one owner is said in `Alone`, `Room` and `Walk`, one that
+-- threads share in `SharedQueue`, `Replies` and `Turns`, and what a refusal says in `Errors`. `Step` is the promise of one
+-- step of one call among any others, over the cells of `Contents`; `Capacity` and `Made` say which queues there are.
+-- Not promised, but what the code goes by: `Plain` and `Parties` are its fields as the promise sees them, and `machine` has
+-- the machines of the three forms. No contract of a queue of one owner or of a run needs more than the files named here.
 pub mod Queue
-pub mod BlocksWords
-pub mod BlocksDenotes
-pub mod Places
-pub mod Single
-pub mod SingleState
-pub mod Dispatch
-pub mod Step
-pub mod Forms
-pub mod Positions
-pub mod RingWords
-pub mod RingState
-pub mod RingCalls
-pub mod RingMeans
-pub mod RingRank
-pub mod RingReadings
-pub mod RingMade
-pub mod RingAtOnce
-pub mod BlocksForm
 pub mod Rows
 pub mod Scene
-pub mod Parties
 pub mod Run
 pub mod Accounts
-pub mod Lone
 pub mod Bounds
+pub mod Lone
 pub mod Whole
-pub mod Made
-pub mod Errors
 pub mod Alone
 pub mod Room
 pub mod Walk
-pub mod Guarded
-pub mod Turns
-pub mod Replies
 pub mod SharedQueue
-pub mod Ahead
+pub mod Replies
+pub mod Turns
+pub mod Errors
+pub mod Step
+pub mod Contents
+pub mod Capacity
+pub mod Made
+pub mod Plain
+pub mod Parties
+pub mod machine

@@ -2,7 +2,7 @@
 use Rattle.std.specs.Prelude.{◌≡◌, ℕ, ◌≤◌, List, [], ◌∷◌, ◌++◌, MatchOption}
 use Rattle.std.proofs.Common.{zero, suc}
 use Rattle.concurrent_queue.specs.Contents.{Contents}
-use Rattle.concurrent_queue.specs.Scene.{Scene, Under, HoldNobodyUp}
+use Rattle.concurrent_queue.specs.Scene.{Scene, CallUnderWay, HoldNobodyUp}
 use Rattle.concurrent_queue.specs.Run.{Config, IsRun, opened_config}
 use Rattle.concurrent_queue.specs.declared.call.QueueEntry.{QueueEntry}
 use Rattle.concurrent_queue.specs.declared.cells.QueueForm.{QueueForm}
@@ -24,7 +24,7 @@ module _ {T : Type 0} where
   -- there is no other call
   abbrev pub NobodyHoldsUp : ℕ → Scene T → Type 0
   NobodyHoldsUp p s =
-      (before behind : List (Under T)) (mine : Under T) → s.under_way ≡ before ++ mine ∷ behind → mine.party ≡ p → HoldNobodyUp s.now (before ++ behind)
+      (before behind : List (CallUnderWay T)) (mine : CallUnderWay T) → s.under_way ≡ before ++ mine ∷ behind → mine.party ≡ p → HoldNobodyUp s.now (before ++ behind)
 
 -- from wherever a run has come, a call that nobody holds up replies within its next 64 steps, where these are the next ones
 abbrev pub LoneCallsEnd : Type 0 → Type 0

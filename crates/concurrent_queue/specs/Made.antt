@@ -1,8 +1,8 @@
 -- Which queues can be made, and with which cells.
 use Rattle.std.specs.Prelude.{◌≡◌, ◌<◌, ◌==◌, [], if◌then◌else◌}
 use Rattle.concurrent_queue.specs.Contents.{Contents, empty_slot, empty_blocks}
-use Rattle.concurrent_queue.specs.RingMade.{empty_ring}
-use Rattle.concurrent_queue.specs.Dispatch.{capacity_of}
+use Rattle.concurrent_queue.specs.machine.RingMade.{empty_ring}
+use Rattle.concurrent_queue.specs.Capacity.{capacity_of}
 use Rattle.concurrent_queue.specs.Queue.{opened}
 use Rattle.concurrent_queue.specs.Step.{FitsAt}
 use Rattle.concurrent_queue.specs.declared.cells.QueueForm.{QueueForm}

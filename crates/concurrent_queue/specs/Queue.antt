@@ -115,62 +115,62 @@ module _ {T : Type 0} where
 
   -- ---- a step that does not end its call: over the queue q, by this mark, from one stage to the next
 
-  abbrev pub GoesPush : Queue T → QueueMark → Stage T → Stage T → Type 0
-  GoesPush q Nothing (trying seen) s = s ≡ trying (seen_after seen q)
-  GoesPush q Nothing (appended None) s = s ≡ appended None
-  GoesPush q Append (trying seen) s = IsOpen q × (is_filled q ≡ false) × (s ≡ appended None)
-  GoesPush q _ _ s = ⊥
+  abbrev pub ContinuesPush : Queue T → QueueMark → Stage T → Stage T → Type 0
+  ContinuesPush q Nothing (trying seen) s = s ≡ trying (seen_after seen q)
+  ContinuesPush q Nothing (appended None) s = s ≡ appended None
+  ContinuesPush q Append (trying seen) s = IsOpen q × (is_filled q ≡ false) × (s ≡ appended None)
+  ContinuesPush q _ _ s = ⊥
 
   -- the oldest of a full queue leaves at one step, and the message comes at a later one; on one slot, and there alone, both
   -- are one step
-  abbrev pub GoesForce : Queue T → QueueMark → Stage T → Stage T → Type 0
-  GoesForce q Nothing (trying seen) s = s ≡ trying (seen_after seen q)
-  GoesForce q Nothing (displaced d) s = s ≡ displaced d
-  GoesForce q Nothing (appended o) s = s ≡ appended o
-  GoesForce q Append (trying seen) s = IsOpen q × (is_filled q ≡ false) × (s ≡ appended None)
-  GoesForce q Append (displaced d) s = (q.coming ≡ true) × (is_filled q ≡ false) × (s ≡ appended (Some d))
-  GoesForce q Replace (trying seen) s =
+  abbrev pub ContinuesForce : Queue T → QueueMark → Stage T → Stage T → Type 0
+  ContinuesForce q Nothing (trying seen) s = s ≡ trying (seen_after seen q)
+  ContinuesForce q Nothing (displaced d) s = s ≡ displaced d
+  ContinuesForce q Nothing (appended o) s = s ≡ appended o
+  ContinuesForce q Append (trying seen) s = IsOpen q × (is_filled q ≡ false) × (s ≡ appended None)
+  ContinuesForce q Append (displaced d) s = (q.coming ≡ true) × (is_filled q ≡ false) × (s ≡ appended (Some d))
+  ContinuesForce q Replace (trying seen) s =
       (d : T) × IsOldest d q × IsOpen q × (is_filled q ≡ true) × (q.capacity ≡ Some 1) × (s ≡ appended (Some d))
-  GoesForce q TakeDisplaced (trying seen) s =
+  ContinuesForce q TakeDisplaced (trying seen) s =
       (d : T) × IsOldest d q × (seen_after seen q ≡ true) × (is_filled q ≡ true) × (q.coming ≡ false) × (s ≡ displaced d) × (q.capacity ≡ Some 1 → ⊥)
-  GoesForce q _ _ s = ⊥
+  ContinuesForce q _ _ s = ⊥
 
-  abbrev pub GoesPop : Queue T → QueueMark → Stage T → Stage T → Type 0
-  GoesPop q Nothing (trying seen) s = s ≡ trying (seen_after seen q)
-  GoesPop q Nothing (taken v) s = s ≡ taken v
-  GoesPop q Take (trying seen) s = (v : T) × IsOldest v q × (s ≡ taken v)
-  GoesPop q _ _ s = ⊥
+  abbrev pub ContinuesPop : Queue T → QueueMark → Stage T → Stage T → Type 0
+  ContinuesPop q Nothing (trying seen) s = s ≡ trying (seen_after seen q)
+  ContinuesPop q Nothing (taken v) s = s ≡ taken v
+  ContinuesPop q Take (trying seen) s = (v : T) × IsOldest v q × (s ≡ taken v)
+  ContinuesPop q _ _ s = ⊥
 
   -- a question reads how many were removed
-  abbrev pub GoesEmpty : Queue T → QueueMark → Stage T → Stage T → Type 0
-  GoesEmpty q Nothing (trying seen) s = s ≡ read q.removed
-  GoesEmpty q _ _ s = ⊥
+  abbrev pub ContinuesEmpty : Queue T → QueueMark → Stage T → Stage T → Type 0
+  ContinuesEmpty q Nothing (trying seen) s = s ≡ read q.removed
+  ContinuesEmpty q _ _ s = ⊥
 
   -- or how many were appended; a queue of one slot answers at once
-  abbrev pub GoesFull : Queue T → QueueMark → Stage T → Stage T → Type 0
-  GoesFull q Nothing (trying seen) s = (s ≡ read q.accepted) × (q.capacity ≡ Some 1 → ⊥)
-  GoesFull q _ _ s = ⊥
+  abbrev pub ContinuesFull : Queue T → QueueMark → Stage T → Stage T → Type 0
+  ContinuesFull q Nothing (trying seen) s = (s ≡ read q.accepted) × (q.capacity ≡ Some 1 → ⊥)
+  ContinuesFull q _ _ s = ⊥
 
   -- or how many were appended and then the length, and perhaps begins again
-  abbrev pub GoesLen : Queue T → QueueMark → Stage T → Stage T → Type 0
-  GoesLen q Nothing (trying seen) s = s ≡ read q.accepted
-  GoesLen q Nothing (read n) s = s ≡ measured n (length q.items)
-  GoesLen q Nothing (measured n k) s = s ≡ trying false
-  GoesLen q _ _ s = ⊥
+  abbrev pub ContinuesLen : Queue T → QueueMark → Stage T → Stage T → Type 0
+  ContinuesLen q Nothing (trying seen) s = s ≡ read q.accepted
+  ContinuesLen q Nothing (read n) s = s ≡ measured n (length q.items)
+  ContinuesLen q Nothing (measured n k) s = s ≡ trying false
+  ContinuesLen q _ _ s = ⊥
 
-  abbrev pub GoesOn : Queue T → QueueAsk T → QueueMark → Stage T → Stage T → Type 0
-  GoesOn q (ask.Push v) m s t = GoesPush q m s t
-  GoesOn q (ask.ForcePush v) m s t = GoesForce q m s t
-  GoesOn q ask.Pop m s t = GoesPop q m s t
-  GoesOn q ask.Close m s t = ⊥
-  GoesOn q ask.IsClosed m s t = ⊥
-  GoesOn q ask.IsEmpty m s t = GoesEmpty q m s t
-  GoesOn q ask.IsFull m s t = GoesFull q m s t
-  GoesOn q ask.Len m s t = GoesLen q m s t
-  GoesOn q ask.Capacity m s t = ⊥
+  abbrev pub ContinuesBy : Queue T → QueueAsk T → QueueMark → Stage T → Stage T → Type 0
+  ContinuesBy q (ask.Push v) m s t = ContinuesPush q m s t
+  ContinuesBy q (ask.ForcePush v) m s t = ContinuesForce q m s t
+  ContinuesBy q ask.Pop m s t = ContinuesPop q m s t
+  ContinuesBy q ask.Close m s t = ⊥
+  ContinuesBy q ask.IsClosed m s t = ⊥
+  ContinuesBy q ask.IsEmpty m s t = ContinuesEmpty q m s t
+  ContinuesBy q ask.IsFull m s t = ContinuesFull q m s t
+  ContinuesBy q ask.Len m s t = ContinuesLen q m s t
+  ContinuesBy q ask.Capacity m s t = ⊥
 
-  abbrev pub Goes : Queue T → Phase T → QueueMark → Phase T → Type 0
-  Goes q p m p' = (p'.ask ≡ p.ask) × GoesOn q p.ask m p.stage p'.stage
+  abbrev pub Continues : Queue T → Phase T → QueueMark → Phase T → Type 0
+  Continues q p m p' = (p'.ask ≡ p.ask) × ContinuesBy q p.ask m p.stage p'.stage
 
   -- ---- a step that ends its call: what a refusal says holds at this very step. That the queue was open where it was found
   -- full, or where memory was refused, was so at a step of the call's own: another may have closed it since

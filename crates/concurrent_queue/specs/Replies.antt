@@ -1,9 +1,9 @@
 -- What a call may answer, whatever its cells hold: a reply of its own kind, and a refused message is its own. Over cells that
 -- threads share this is all that is known of a step.
 use Rattle.std.specs.Prelude.{◌≡◌, ℕ, Bool, true, false, Option, None, Some, IfErr, MatchOption, MatchResult}
-use Rattle.concurrent_queue.specs.BlocksMoves.{answer_as}
-use Rattle.concurrent_queue.specs.Dispatch.{ring_cap}
-use Rattle.concurrent_queue.specs.RingWords.{cap_of}
+use Rattle.concurrent_queue.specs.machine.BlocksMoves.{answer_as}
+use Rattle.concurrent_queue.specs.machine.Dispatch.{ring_cap}
+use Rattle.concurrent_queue.specs.machine.RingWords.{cap_of}
 use Rattle.concurrent_queue.specs.declared.call.QueueAsk.{QueueAsk}
 use Rattle.concurrent_queue.specs.declared.call.QueueAsk.TheVariants as ask
 use Rattle.concurrent_queue.specs.declared.call.QueueReply.{QueueReply}

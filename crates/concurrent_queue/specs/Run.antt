@@ -1,8 +1,8 @@
 -- Runs of a closable queue: what may follow from steps of many calls in any order.
 use Rattle.std.specs.Prelude.{◌≡◌, ℕ, ◌+◌, ◌≤◌, ◌^◌, List, [], ◌∷◌, ◌++◌, length, Option, Some, MatchOption, ◌⊎◌}
 use Rattle.concurrent_queue.specs.Contents.{Contents}
-use Rattle.concurrent_queue.specs.Dispatch.{capacity_of}
-use Rattle.concurrent_queue.specs.Scene.{Scene, Under, Begins, Steps, NotUnderWay, IsUnderWay, Reads, new_scene}
+use Rattle.concurrent_queue.specs.Capacity.{capacity_of}
+use Rattle.concurrent_queue.specs.Scene.{Scene, CallUnderWay, Begins, PartySteps, NotUnderWay, IsUnderWay, Reads, new_scene}
 use Rattle.concurrent_queue.specs.Step.{OneCell, chain_after}
 use Rattle.concurrent_queue.specs.Made.{new_cells}
 use Rattle.concurrent_queue.specs.declared.call.QueueEntry.{QueueEntry}
@@ -30,7 +30,7 @@ module _ {T : Type 0} where
   -- one entry of a run. A call begins without touching a cell, and a step touches at most one
   abbrev pub Next : Config T → QueueStep T → QueueEntry T → Config T → Type 0
   Next f (Begin p a) e g = Begins f.scene p a e g.scene × (g.cells ≡ f.cells) × (g.chain ≡ f.chain)
-  Next f (Step p) e g = Steps f.scene p e g.scene × OneCell f.cells g.cells × (g.chain ≡ chain_after f.chain f.cells g.cells)
+  Next f (Step p) e g = PartySteps f.scene p e g.scene × OneCell f.cells g.cells × (g.chain ≡ chain_after f.chain f.cells g.cells)
 
   -- these steps, one after another, with these entries; at each moment the cells show the scene
   abbrev pub IsRun : Config T → List (QueueStep T) → List (QueueEntry T) → Config T → Type 0
@@ -48,7 +48,7 @@ module _ {T : Type 0} where
   IsCounted form trace = (capacity_of form ≡ Some 1) ⊎ (accepted_in trace ≤ 2 ^ 61)
 
   -- why the next step may be refused: want of memory refuses only a step that is neither busy nor idle
-  abbrev pub MayRefuse : List (Under T) → List (QueueStep T) → QueueRefusal → Type 0
+  abbrev pub MayRefuse : List (CallUnderWay T) → List (QueueStep T) → QueueRefusal → Type 0
   MayRefuse us (Begin p a ∷ steps) Busy = IsUnderWay p us
   MayRefuse us (Step p ∷ steps) Idle = NotUnderWay p us
   MayRefuse us (Begin p a ∷ steps) NoMemory = NotUnderWay p us

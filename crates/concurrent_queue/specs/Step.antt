@@ -1,17 +1,17 @@
 -- A step of one call of a queue among all that are under way.
 use Rattle.std.specs.Prelude.{◌≡◌, ℕ, ◌+◌, ◌-◌, ◌^◌, ◌<◌, ◌≤◌, ◌⊎◌, ◌==◌, not, Bool, true, false, List, [], ◌∷◌, ◌++◌, length, map, Option, None, Some, slice_get, MatchOption, option_to_list, if◌then◌else◌}
 use Rattle.concurrent_queue.specs.Contents.{Contents, write, write_slot, slot_at, without_spare, with_retired}
-use Rattle.concurrent_queue.specs.Queue.{Queue, Stage, trying, appended, read, measured, Phase, asked, message, after, Goes, Answers, IsInRange}
-use Rattle.concurrent_queue.specs.Places.{Place}
-use Rattle.concurrent_queue.specs.Single.{start, clear}
-use Rattle.concurrent_queue.specs.SingleState.{SingleMeans, single_rank}
-use Rattle.concurrent_queue.specs.RingWords.{ring_mark, ring_start}
-use Rattle.concurrent_queue.specs.RingMeans.{RingMeans}
-use Rattle.concurrent_queue.specs.RingRank.{ring_rank}
-use Rattle.concurrent_queue.specs.RingReadings.{ring_closed, ring_counted, ring_length, ring_slot, ring_held}
-use Rattle.concurrent_queue.specs.BlocksForm.{UnboundedMeans}
-use Rattle.concurrent_queue.specs.BlocksWords.{begin, blocks_closed, blocks_length, blocks_counted, blocks_slot, blocks_items, blocks_rank}
-use Rattle.concurrent_queue.specs.Dispatch.{capacity_of}
+use Rattle.concurrent_queue.specs.Queue.{Queue, Stage, trying, appended, read, measured, Phase, asked, message, after, Continues, Answers, IsInRange}
+use Rattle.concurrent_queue.specs.machine.Places.{Place}
+use Rattle.concurrent_queue.specs.machine.Single.{start, clear}
+use Rattle.concurrent_queue.specs.machine.SingleState.{SingleMeans, single_rank}
+use Rattle.concurrent_queue.specs.machine.RingWords.{ring_mark, ring_start}
+use Rattle.concurrent_queue.specs.machine.RingMeans.{RingMeans}
+use Rattle.concurrent_queue.specs.machine.RingRank.{ring_rank}
+use Rattle.concurrent_queue.specs.machine.RingReadings.{ring_closed, ring_counted, ring_length, ring_slot, ring_held}
+use Rattle.concurrent_queue.specs.machine.BlocksForm.{UnboundedMeans}
+use Rattle.concurrent_queue.specs.machine.BlocksWords.{begin, blocks_closed, blocks_length, blocks_counted, blocks_slot, blocks_items, blocks_rank}
+use Rattle.concurrent_queue.specs.Capacity.{capacity_of}
 use Rattle.concurrent_queue.specs.declared.call.QueueAsk.{QueueAsk}
 use Rattle.concurrent_queue.specs.declared.call.QueueMark.{QueueMark}
 use Rattle.concurrent_queue.specs.declared.call.QueueReply.{QueueReply}
@@ -237,13 +237,13 @@ module _ {T : Type 0} where
       (chain : List ℕ) (c : Contents T) (q : Queue T) (l r : List (Seat T)) → FitsAt chain c q (l ++ r) → FitsAt chain c q (l ++ seat call (asked a) ∷ r)
 
   -- what a step of the call p leaves, whatever the other calls are: it does what its mark says, and goes on or answers
-  pub record Steps (chain : List ℕ) (c : Contents T) (before : QueueCall T) (p : Phase T) (d : Contents T) (call : QueueCall T) (reply : Option (QueueReply T)) (q : Queue T) (l r : List (Seat T)) : Type 0 where
+  pub record StepLeaves (chain : List ℕ) (c : Contents T) (before : QueueCall T) (p : Phase T) (d : Contents T) (call : QueueCall T) (reply : Option (QueueReply T)) (q : Queue T) (l r : List (Seat T)) : Type 0 where
     pub one_cell : OneCell c d
-    pub does : MatchOption reply
-        ((p' : Phase T) × Goes q p call.mark p' × FitsAt (chain_after chain c d) d (after p call.mark q) (l ++ seat call p' ∷ r))
+    pub effect : MatchOption reply
+        ((p' : Phase T) × Continues q p call.mark p' × FitsAt (chain_after chain c d) d (after p call.mark q) (l ++ seat call p' ∷ r))
         (λ x. Answers q p call.mark x × FitsAt (chain_after chain c d) d (after p call.mark q) (l ++ r))
     pub ends : HoldsNobodyUp q (phases (l ++ r)) → MatchOption reply (rank d call < rank c before) (λ x. Unit {0})
 
   abbrev pub IsQueueStep : Contents T → QueueCall T → Contents T → QueueCall T → Option (QueueReply T) → Type 0
   IsQueueStep c before d call reply =
-      (chain : List ℕ) (q : Queue T) (p : Phase T) (l r : List (Seat T)) → IsInRange q → FitsAt chain c q (l ++ seat before p ∷ r) → Steps chain c before p d call reply q l r
+      (chain : List ℕ) (q : Queue T) (p : Phase T) (l r : List (Seat T)) → IsInRange q → FitsAt chain c q (l ++ seat before p ∷ r) → StepLeaves chain c before p d call reply q l r

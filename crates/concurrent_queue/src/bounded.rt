@@ -11,8 +11,8 @@
 //! steps keeps the mark, since it adds to the tail and never stores it.
 
 ghost use Rattle.std.specs.Prelude.{◌≡◌, ℕ, ◌<◌, ◌^◌, ◌*◌, ◌+◌, ◌-◌, ◌%◌, None, Some, if◌then◌else◌};
-ghost use Rattle.concurrent_queue.specs.RingWords.{cap_of, ring_mark, index, is_marked, unmarked, stride, next_word, count_of, between, shut_reply, pushed_reply, behind, stays, marks, finishes, push_load, push_shut, push_look, push_swap, push_put, push_store, push_head, force_head, force_add, force_take, force_put, force_store, pop_load, pop_look, pop_swap, pop_tail, pop_take, pop_store, close_step, ring_start, ask_is_closed, empty_load, empty_look, full_load, full_look, len_load, len_look, len_again, ring_step};
-ghost use Rattle.concurrent_queue.specs.Dispatch.{IsRingStep, ring_cap};
+ghost use Rattle.concurrent_queue.specs.machine.RingWords.{cap_of, ring_mark, index, is_marked, unmarked, stride, next_word, count_of, between, shut_reply, pushed_reply, behind, stays, marks, finishes, push_load, push_shut, push_look, push_swap, push_put, push_store, push_head, force_head, force_add, force_take, force_put, force_store, pop_load, pop_look, pop_swap, pop_tail, pop_take, pop_store, close_step, ring_start, ask_is_closed, empty_load, empty_look, full_load, full_look, len_load, len_look, len_again, ring_step};
+ghost use Rattle.concurrent_queue.specs.machine.Dispatch.{IsRingStep, ring_cap};
 ghost use Rattle.concurrent_queue.specs.Replies.{RingFollows, MaySend};
 
 pub(crate) mod ahead;
@@ -119,7 +119,7 @@ pub(crate) fn at_most_greatest(capacity: usize) -> u64
 
 impl Shape {
     ghost use Rattle.std.specs.Prelude.{◌≡◌, ◌<◌, ◌^◌, ◌*◌, if◌then◌else◌, ◌+◌, ◌%◌};
-    ghost use Rattle.concurrent_queue.specs.RingWords.{cap_of, ring_mark, index, is_marked, unmarked, stride, next_word, count_of, between};
+    ghost use Rattle.concurrent_queue.specs.machine.RingWords.{cap_of, ring_mark, index, is_marked, unmarked, stride, next_word, count_of, between};
 
     /// The measures of a ring of this capacity; one above 2^58, which no queue has, counts as 2^58.
     pub(crate) fn of(capacity: usize) -> Shape

@@ -7,7 +7,7 @@ ghost use Rattle.concurrent_queue.specs.Contents.{Contents, read, write, slot_at
 use crate::error::NoMemory;
 
 /// Which kind of queue the cells are of.
-#[derive(Clone, Copy)]
+#[derive(Clone, Copy, PartialEq, Eq, Debug)]
 pub enum QueueForm {
     /// At most this many messages.
     Bounded(usize),

@@ -3,7 +3,7 @@
 ghost use Rattle.std.specs.Prelude.{◌≡◌, ◌≤◌, ◌^◌};
 ghost use Rattle.concurrent_queue.specs.Alone.{Gives, PushGives, PopGives, held, IsSound, HasRoom, one_more, used_after};
 ghost use Rattle.concurrent_queue.specs.declared.call.QueueAsk.TheVariants as ask;
-ghost use Rattle.concurrent_queue.specs.Dispatch.{capacity_of};
+ghost use Rattle.concurrent_queue.specs.Capacity.{capacity_of};
 
 use crate::bounded::at_once::{pop_at_once, push_at_once};
 use crate::call::{QueueAsk, QueueReply};
@@ -157,7 +157,8 @@ impl<T: Drop> Exclusive<T> {
 
     /// Appends the message. A refusal hands it back: there was no memory for it, which an open queue with no bound may say,
     /// the queue was full, or nothing more comes in, since it was closed or its positions are used up. In the last case the
-    /// queue closes itself; else a refused push leaves it as it was.
+    /// queue closes itself; else a refused push leaves it as it was. Where `HasPlace` of `specs/Room` holds it succeeds: the
+    /// queue has a bound, is open, holds fewer messages than fit, and has a position left.
     #[inline(always)]
     pub fn push(&mut self, value: T) -> Result<(), PushError<T>>
         ensures { PushGives self.old value self.new result }

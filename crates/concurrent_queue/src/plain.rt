@@ -1,7 +1,7 @@
 //! The cells of a queue of one owner.
 
 ghost use Rattle.std.specs.Prelude.{◌≡◌, IfOk};
-ghost use Rattle.concurrent_queue.specs.RingMade.{numbers_below, vacant_slots};
+ghost use Rattle.concurrent_queue.specs.machine.RingMade.{numbers_below, vacant_slots};
 
 use crate::bounded::GREATEST;
 use crate::cells::{Cells, QueueForm, Slot, Word};
@@ -128,7 +128,7 @@ impl<T: Drop> PlainCells<T> {
     ghost use Rattle.std.specs.Prelude.{◌≡◌, ◌<◌, None, IfOk};
     ghost use Rattle.concurrent_queue.specs.Contents.{read, write, slot_at, write_slot, PutGives, empty_slot, empty_blocks};
     ghost use Rattle.concurrent_queue.specs.Made.{CanBeMade, IsNew};
-    ghost use Rattle.concurrent_queue.specs.RingMade.{empty_ring};
+    ghost use Rattle.concurrent_queue.specs.machine.RingMade.{empty_ring};
     ghost use Rattle.concurrent_queue.specs.declared.cells.QueueForm.TheVariants as form;
     ghost use Rattle.concurrent_queue.specs.Plain.{contents_of};
     ghost use Rattle.concurrent_queue.specs.declared.cells.Slot.TheVariants as slot;

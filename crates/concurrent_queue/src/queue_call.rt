@@ -1,7 +1,7 @@
 //! A call of a queue, made one step at a time.
 
 ghost use Rattle.std.specs.Prelude.{◌≡◌};
-ghost use Rattle.concurrent_queue.specs.Dispatch.{IsStateStep, in_single, in_ring, in_blocks, ended};
+ghost use Rattle.concurrent_queue.specs.machine.Dispatch.{IsStateStep, in_single, in_ring, in_blocks, ended};
 ghost use Rattle.concurrent_queue.specs.Replies.{StateFollows};
 
 pub(crate) mod ahead;

@@ -16,7 +16,7 @@ use std::alloc::Global;
 use std::collections::VecDeque;
 
 /// A step of a run. A party begins a call by saying what it asks, so that no call begins that was stepped elsewhere.
-#[derive(Drop)]
+#[derive(Debug, Drop, PartialEq, Eq)]
 pub enum QueueStep<T> {
     /// The party begins a call that asks this.
     Begin {
@@ -33,7 +33,7 @@ pub enum QueueStep<T> {
 }
 
 /// Why a run stopped.
-#[derive(Clone, Copy)]
+#[derive(Clone, Copy, PartialEq, Eq, Debug)]
 pub enum QueueRefusal {
     /// A party that has a call under way would begin one. Its number is 1.
     Busy,
@@ -51,7 +51,7 @@ pub(crate) struct Party<T> {
 }
 
 /// Where a run stopped before its end, and why.
-#[derive(Clone, Copy)]
+#[derive(Clone, Copy, PartialEq, Eq, Debug)]
 pub struct Stopped {
     /// How many steps were made before.
     pub place: usize,
@@ -60,7 +60,7 @@ pub struct Stopped {
 }
 
 /// What a run did: an entry for each step that was made, and where it stopped.
-#[derive(Drop)]
+#[derive(Debug, Drop, PartialEq, Eq)]
 pub struct QueueRun<T> {
     /// The entries, in the order of the steps.
     pub trace: Vec<QueueEntry<T>>,

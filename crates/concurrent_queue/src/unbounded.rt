@@ -2,8 +2,8 @@
 //! were all read is used again.
 
 ghost use Rattle.std.specs.Prelude.{◌≡◌, None};
-ghost use Rattle.concurrent_queue.specs.BlocksMoves.{answer_as};
-ghost use Rattle.concurrent_queue.specs.BlocksWords.{IsUnboundedStep, IsBlocksStep, begin, reply_of};
+ghost use Rattle.concurrent_queue.specs.machine.BlocksMoves.{answer_as};
+ghost use Rattle.concurrent_queue.specs.machine.BlocksWords.{IsUnboundedStep, IsBlocksStep, begin, reply_of};
 ghost use Rattle.concurrent_queue.specs.Replies.{EndFollows, BlocksFollows};
 
 pub(crate) mod action;

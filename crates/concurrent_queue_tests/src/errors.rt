@@ -1,6 +1,11 @@
 //! What errors say and hand back.
 
-use concurrent_queue::error::{ForcePushError, PopError, PushError};
+use concurrent_queue::error::{ForcePushError, NoMemory, PopError, PushError};
+use concurrent_queue::{
+    QueueAsk, QueueEntry, QueueForm, QueueMark, QueueRefusal, QueueReply, QueueRun, QueueStep,
+    Stopped, run_queue_steps,
+};
+use std::collections::VecDeque;
 use std::test::Fail;
 
 #[test]
@@ -84,6 +89,61 @@ fn texts_of_a_displacing_push_and_of_a_pop(rt: HostRuntime) -> std::result::Resu
     assert_eq!(rt;
         format!(in rt.alloc(); "{shut} {shut:?}")?.as_str(),
         "Closed Closed"
+    );
+    Ok(())
+}
+
+#[test]
+fn want_of_memory_says_so(rt: HostRuntime) -> std::result::Result<(), Fail> {
+    assert_eq!(rt;
+        format!(in rt.alloc(); "{NoMemory} {NoMemory:?}")?.as_str(),
+        "want of memory NoMemory"
+    );
+    Ok(())
+}
+
+#[test]
+fn runs_are_compared_and_shown(rt: HostRuntime) -> std::result::Result<(), Fail> {
+    let mut steps: VecDeque<QueueStep<u64>> = VecDeque::new(rt.alloc());
+    steps.push_back(QueueStep::Begin {
+        party: 1,
+        call: QueueAsk::Pop,
+    })?;
+    steps.push_back(QueueStep::Step { party: 1 })?;
+    steps.push_back(QueueStep::Step { party: 1 })?;
+    assert!(rt; steps[1] == steps[2] && steps[0] != steps[1]);
+    assert_eq!(rt;
+        format!(in rt.alloc(); "{:?}", steps[0])?.as_str(),
+        "Begin { party: 1, call: Pop }"
+    );
+    let form = QueueForm::Bounded(1);
+    assert!(rt; form != QueueForm::Unbounded);
+    assert_eq!(rt; format!(in rt.alloc(); "{form:?}")?.as_str(), "Bounded(1)");
+    let run = run_queue_steps(rt.alloc(), form, &mut steps);
+    let mut trace: Vec<QueueEntry<u64>> = Vec::new(rt.alloc());
+    trace.push(QueueEntry {
+        mark: QueueMark::Nothing,
+        reply: None,
+    })?;
+    trace.push(QueueEntry {
+        mark: QueueMark::Nothing,
+        reply: Some(QueueReply::Pop(Err(PopError::Empty))),
+    })?;
+    assert_eq!(rt;
+        format!(in rt.alloc(); "{:?}", trace[1])?.as_str(),
+        "QueueEntry { mark: Nothing, reply: Some(Pop(Err(Empty))) }"
+    );
+    let same = QueueRun {
+        trace,
+        stopped: Some(Stopped {
+            place: 2,
+            why: QueueRefusal::Idle,
+        }),
+    };
+    assert!(rt; run == same);
+    assert_eq!(rt;
+        format!(in rt.alloc(); "{:?}", run.stopped)?.as_str(),
+        "Some(Stopped { place: 2, why: Idle })"
     );
     Ok(())
 }

@@ -33,6 +33,7 @@ module _ {T W : Type 0} where
         visits = a.nodes.last;
         serials = a.serials;
         room = a.nodes.slab.capacity - slab_len a.nodes.slab;
+        looks = a.nodes.looks;
       }
 
   -- What holds of the fields of every list. No visit stands unsettled between two calls.

@@ -20,12 +20,14 @@ pub record Lists (T W : Type 0) : Type 0 where
   pub told : List (Key × Notice T)
   pub waiting : List (Key × Option W)
 
--- the lists, the visits of the last call, the serials given, and the room for more listeners
+-- The lists, the visits of the last call to nodes of others, the serials given, and the room for more listeners. The
+-- looks are all reads and writes of nodes that any call ever made, of its own node too.
 pub record ListView (T W : Type 0) : Type 0 where
   pub lists : Lists T W
   pub visits : ℕ
   pub serials : ℕ
   pub room : ℕ
+  pub looks : ℕ
 
 -- which of a list's listeners, in the order of listening, a key names
 abbrev pub serial_of : Key → ℕ

@@ -31,6 +31,11 @@ module _ {T W : Type 0} where
   visited_at own slot None visits = visits
   visited_at own slot (Some node) visits = visited own (record { slot = slot; serial = node.serial }) visits
 
+  -- the looks after one at what stands in a slot
+  abbrev pub looked_at : Option (Node T W) → ℕ → ℕ
+  looked_at None looks = looks
+  looked_at (Some node) looks = min (looks + 1) (2 ^ 128 - 1)
+
   abbrev pub changed : Change T W → Node T W → Node T W
   changed (change.Before before) node = record node { before = before }
   changed (change.After after) node = record node { after = after }

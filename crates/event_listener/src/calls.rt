@@ -36,6 +36,7 @@ impl<T: Drop, W: Drop> List<T, W> {
         ensures serials { self.new.serials ≡ self.old.serials }
         ensures room { self.new.room ≡ (if is_some (told_as self.old.lists key) then self.old.room + 1 else self.old.room) }
         ensures visits { self.new.visits ≤ 5 }
+        ensures looks { self.new.looks ≤ self.old.looks + 5 }
     {
         match self.begin(key) {
             None => Err(UnknownListener),
@@ -62,6 +63,7 @@ impl<T: Drop, W: Drop> List<T, W> {
         ensures serials { self.new.serials ≡ self.old.serials }
         ensures room { self.new.room ≡ (if is_some (told_as self.old.lists key) then self.old.room + 1 else self.old.room) }
         ensures visits { self.new.visits ≡ self.old.visits }
+        ensures looks { self.new.looks ≤ self.old.looks + 5 }
     {
         match self.kind(key) {
             None => Err(UnknownListener),
@@ -110,6 +112,7 @@ impl<T: Drop, W: Drop> List<T, W> {
         ensures serials { self.new.serials ≡ self.old.serials }
         ensures room { self.new.room ≡ self.old.room }
         ensures visits { self.new.visits ≤ 5 * told_by result }
+        ensures looks { self.new.looks ≤ self.old.looks + 5 * told_by result }
     {
         self.start();
         let additional = notice.is_additional();
@@ -148,6 +151,7 @@ impl<T: Drop, W: Drop> List<T, W> {
         ensures serials { self.new.serials ≡ self.old.serials }
         ensures room { self.new.room ≡ (if is_some (kind_of self.old.lists key) then self.old.room + 1 else self.old.room) }
         ensures visits { pass_on ≡ false → self.new.visits ≤ 5 }
+        ensures looks { self.new.looks ≤ self.old.looks + (if pass_on then 10 else 5) }
     {
         match self.begin(key) {
             None => Err(UnknownListener),

@@ -9,7 +9,7 @@ pub struct NoMemory;
 
 impl fmt::Display for NoMemory {
     fn fmt<W: fmt::Write>(&self, f: &mut fmt::Formatter<W>) -> fmt::Result {
-        write!(f, "out of memory")
+        write!(f, "want of memory")
     }
 }
 
@@ -39,7 +39,7 @@ pub enum ListenError {
 impl fmt::Display for ListenError {
     fn fmt<W: fmt::Write>(&self, f: &mut fmt::Formatter<W>) -> fmt::Result {
         match self {
-            ListenError::NoMemory => write!(f, "out of memory"),
+            ListenError::NoMemory => write!(f, "want of memory"),
             ListenError::SerialsUsedUp => write!(f, "all serials were given"),
         }
     }

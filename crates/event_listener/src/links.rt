@@ -19,6 +19,7 @@ pub(crate) fn find<T: Drop, W: Drop>(
     ensures slab { nodes.new.slab ≡ nodes.old.slab }
     ensures settled { nodes.new.visits ≡ 0 }
     ensures number { nodes.new.last ≤ nodes.old.last + (nodes.old.visits + 1) }
+    ensures looks { nodes.new.looks ≤ nodes.old.looks + 1 }
     ensures uncounted { counted ≡ false → nodes.new.last ≡ nodes.old.last }
 {
     nodes.begin(key);
@@ -47,6 +48,7 @@ pub(crate) fn set_after<T: Drop, W: Drop>(
     ensures own { nodes.new.own ≡ nodes.old.own }
     ensures visits { nodes.new.visits ≤ nodes.old.visits + 1 }
     ensures last { nodes.new.last ≡ nodes.old.last }
+    ensures looks { nodes.new.looks ≤ nodes.old.looks + 1 }
 {
     match at {
         Some(k) => {
@@ -73,6 +75,7 @@ pub(crate) fn set_before<T: Drop, W: Drop>(
     ensures own { nodes.new.own ≡ nodes.old.own }
     ensures visits { nodes.new.visits ≤ nodes.old.visits + 1 }
     ensures last { nodes.new.last ≡ nodes.old.last }
+    ensures looks { nodes.new.looks ≤ nodes.old.looks + 1 }
 {
     match at {
         Some(k) => {
@@ -103,6 +106,7 @@ pub(crate) fn link_last<T: Drop, W: Drop>(
     ensures err_ends { OnErr result (ends.new ≡ ends.old) }
     ensures settled { nodes.new.visits ≡ 0 }
     ensures number { nodes.new.last ≤ nodes.old.visits + 1 }
+    ensures looks { nodes.new.looks ≤ nodes.old.looks + 1 }
 {
     let node = Node {
         serial,
@@ -129,6 +133,7 @@ pub(crate) fn bridge<T: Drop, W: Drop>(nodes: &mut Nodes<T, W>, ends: &mut Ends,
     ensures own { nodes.new.own ≡ nodes.old.own }
     ensures visits { nodes.new.visits ≤ nodes.old.visits + 3 }
     ensures last { nodes.new.last ≡ nodes.old.last }
+    ensures looks { nodes.new.looks ≤ nodes.old.looks + 3 }
 {
     match nodes.read(at) {
         Some(place) => {
@@ -158,6 +163,7 @@ pub(crate) fn unlink<T: Drop, W: Drop>(
     ensures capacity { nodes.new.slab.capacity ≡ nodes.old.slab.capacity }
     ensures settled { nodes.new.visits ≡ 0 }
     ensures number { nodes.new.last ≤ nodes.old.last + (nodes.old.visits + 3) }
+    ensures looks { nodes.new.looks ≤ nodes.old.looks + 3 }
     ensures uncounted { counted ≡ false → nodes.new.last ≡ nodes.old.last }
 {
     nodes.begin(own);
@@ -178,6 +184,7 @@ pub(crate) fn store_task<T: Drop, W: Drop>(nodes: &mut Nodes<T, W>, own: Key, ta
     ensures capacity { nodes.new.slab.capacity ≡ nodes.old.slab.capacity }
     ensures settled { nodes.new.visits ≡ 0 }
     ensures number { nodes.new.last ≤ nodes.old.last + (nodes.old.visits + 1) }
+    ensures looks { nodes.new.looks ≤ nodes.old.looks + 1 }
 {
     nodes.begin(own);
     let _ = nodes.write(own.slot, Change::State(State::Waiting(Some(task))));
@@ -202,6 +209,7 @@ pub(crate) fn attach_last<T: Drop, W: Drop>(
     ensures capacity { nodes.new.slab.capacity ≡ nodes.old.slab.capacity }
     ensures settled { nodes.new.visits ≡ 0 }
     ensures number { nodes.new.last ≤ nodes.old.last + (nodes.old.visits + 2) }
+    ensures looks { nodes.new.looks ≤ nodes.old.looks + 2 }
 {
     let last = ends.last;
     let was = write_last(nodes, at, last, state);
@@ -229,6 +237,7 @@ fn write_last<T: Drop, W: Drop>(
     ensures capacity { nodes.new.slab.capacity ≡ nodes.old.slab.capacity }
     ensures visits { nodes.new.visits ≤ nodes.old.visits + 1 }
     ensures last { nodes.new.last ≡ nodes.old.last }
+    ensures looks { nodes.new.looks ≤ nodes.old.looks + 1 }
 {
     match nodes.write(at, Change::Last(before, state)) {
         Some(was) => was,

@@ -20,7 +20,9 @@ use std::marker::Model;
 ///
 /// To its callers it is two lists: the told listeners, each with the kind of its notice and its tag, and the waiting
 /// ones, each perhaps with a task. Both keep the order of listening. Besides, it has the number of serials that it
-/// gave, the room for listeners that takes no more memory, and the visits of its last call.
+/// gave, the room for listeners that takes no more memory, the visits of its last call, and the looks of all its calls:
+/// each read and each write of a node ever, that of a call's own listener too. What a call adds to them is bounded, and
+/// nothing takes from them.
 /// Own to this project: in `event-listener` 5.4.2 the list is private to its event.
 #[derive(Drop)]
 pub struct List<T, W> {
@@ -51,6 +53,7 @@ impl<T: Drop, W: Drop> List<T, W> {
         ensures serials { result.serials ≡ 0 }
         ensures room { result.room ≡ 0 }
         ensures visits { result.visits ≡ 0 }
+        ensures looks { result.looks ≡ 0 }
     {
         List {
             nodes: Nodes::new(alloc),
@@ -70,7 +73,8 @@ impl<T: Drop, W: Drop> List<T, W> {
     /// Whether the key is listed, and then whether it is told.
     pub(crate) fn kind(&mut self, key: Key) -> Option<bool>
         ensures answer { result ≡ kind_of self.old.lists key }
-        ensures same { self.new ≡ self.old }
+        ensures same { self.new ≡ record self.old { looks = self.new.looks } }
+        ensures looks { self.new.looks ≤ self.old.looks + 1 }
     {
         find(&mut self.nodes, key, false)
     }
@@ -83,6 +87,7 @@ impl<T: Drop, W: Drop> List<T, W> {
         ensures serials { self.new.serials ≡ self.old.serials }
         ensures room { self.new.room ≡ self.old.room }
         ensures visits { self.new.visits ≤ 1 }
+        ensures looks { self.new.looks ≤ self.old.looks + 1 }
     {
         self.nodes.start();
         find(&mut self.nodes, key, true)
@@ -98,6 +103,7 @@ impl<T: Drop, W: Drop> List<T, W> {
         ensures serials { self.new.serials ≡ self.old.serials }
         ensures room { self.new.room ≡ self.old.room + 1 }
         ensures visits { self.new.visits ≤ self.old.visits + 3 }
+        ensures looks { self.new.looks ≤ self.old.looks + 3 }
         ensures uncounted { counted ≡ false → self.new.visits ≡ self.old.visits }
     {
         let state = unlink(&mut self.nodes, &mut self.told, key, counted);
@@ -114,6 +120,7 @@ impl<T: Drop, W: Drop> List<T, W> {
         ensures serials { self.new.serials ≡ self.old.serials }
         ensures room { self.new.room ≡ self.old.room + 1 }
         ensures visits { self.new.visits ≤ self.old.visits + 3 }
+        ensures looks { self.new.looks ≤ self.old.looks + 3 }
     {
         let _ = unlink(&mut self.nodes, &mut self.waiting, key, true);
     }
@@ -126,6 +133,7 @@ impl<T: Drop, W: Drop> List<T, W> {
         ensures serials { self.new.serials ≡ self.old.serials }
         ensures room { self.new.room ≡ self.old.room }
         ensures visits { self.new.visits ≤ self.old.visits + 1 }
+        ensures looks { self.new.looks ≤ self.old.looks + 1 }
     {
         store_task(&mut self.nodes, key, task);
     }
@@ -142,6 +150,7 @@ impl<T: Drop, W: Drop> List<T, W> {
         ensures unknown { IfOk result (λ key. kind_of self.old.lists key ≡ None) }
         ensures room { OnOk result (self.old.room ≤ self.new.room + 1) }
         ensures visits { self.new.visits ≤ 5 }
+        ensures looks { self.new.looks ≤ self.old.looks + 5 }
         ensures unchanged { OnErr result (self.new.lists ≡ self.old.lists) }
         ensures unchanged_serials { OnErr result (self.new.serials ≡ self.old.serials) }
         ensures kept_room { OnErr result (self.old.room ≤ self.new.room) }
@@ -175,6 +184,7 @@ impl<T: Drop, W: Drop> List<T, W> {
         ensures serials { self.new.serials ≡ self.old.serials }
         ensures room { self.new.room ≡ self.old.room }
         ensures visits { self.new.visits ≤ self.old.visits + 5 }
+        ensures looks { self.new.looks ≤ self.old.looks + 5 }
     {
         match self.waiting.first {
             Some(at) => {
@@ -229,6 +239,7 @@ impl<T: Drop, W: Drop> List<T, W> {
         ensures left { (key : Key) → HasLeft self.old key → HasLeft self.new key }
         ensures serials { self.new.serials ≡ self.old.serials }
         ensures visits { self.new.visits ≡ self.old.visits }
+        ensures looks { self.new.looks ≡ self.old.looks }
     {
         self.nodes.reserve(extra)
     }

@@ -52,6 +52,27 @@ impl<L> WaitError<L> {
     }
 }
 
+impl<L: Drop> Error for WaitError<L> {}
+
+impl<L> fmt::Display for WaitError<L> {
+    fn fmt<W: fmt::Write>(&self, f: &mut fmt::Formatter<W>) -> fmt::Result {
+        f.pad(match self {
+            WaitError::NoMemory(_) => "want of memory",
+            WaitError::NeverInserted(_) => "the listener has given its tag",
+        })
+    }
+}
+
+/// The listener isn't shown: reading it takes the runtime value.
+impl<L> fmt::Debug for WaitError<L> {
+    fn fmt<W: fmt::Write>(&self, f: &mut fmt::Formatter<W>) -> fmt::Result {
+        f.pad(match self {
+            WaitError::NoMemory(_) => "NoMemory(..)",
+            WaitError::NeverInserted(_) => "NeverInserted(..)",
+        })
+    }
+}
+
 /// A listener, which is told once and then has a tag to take.
 ///
 /// It is finished once it has given its tag. One that is dropped unfinished leaves its event; if it was told, its

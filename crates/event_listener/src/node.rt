@@ -1,7 +1,7 @@
 //! The nodes of a list. Each look at a node, and each change of one, is counted, the call's own node left out.
 ghost use Rattle.std.specs.Prelude.{◌≡◌, ◌+◌, ◌-◌, ◌^◌, ◌<◌, ◌≤◌, min, if◌then◌else◌, IsSome, IfSome, Some, None, [], IsOk, IfOk, OnOk, OnErr, ◌≢◌, ℕ};
 ghost use Rattle.slab.specs.Slab.{get, slab_len, Updates, HasRoomFor, ContainsKey, with_value};
-ghost use Rattle.event_listener.specs.Nodes.{visited, visited_at, changed, given, place_at};
+ghost use Rattle.event_listener.specs.Nodes.{visited, visited_at, looked_at, changed, given, place_at};
 
 use crate::error::NoMemory;
 use crate::key::Key;
@@ -54,13 +54,16 @@ pub(crate) enum Change<T, W> {
 /// The nodes, and how often nodes other than those of the call's own listener were read or written.
 ///
 /// [`Nodes::read`] and [`Nodes::write`] are the only ways to a node that is not the call's own. What they count is in
-/// `visits` until [`Nodes::settle`] adds it to the number of the call under way; a poll's belongs to no number.
+/// `visits` until [`Nodes::settle`] adds it to the number of the call under way; a poll's belongs to no number. Either
+/// counts in `looks` besides, whosever the node is, and no call sets that back: so the bound on it holds of what was
+/// really looked at, whatever a call does with its number.
 #[derive(Drop)]
 pub(crate) struct Nodes<T, W> {
     slab: Slab<Node<T, W>>,
     own: Option<Key>,
     visits: u128,
     last: u128,
+    looks: u128,
 }
 
 impl<T: Drop, W: Drop> Nodes<T, W> {
@@ -69,12 +72,14 @@ impl<T: Drop, W: Drop> Nodes<T, W> {
         ensures capacity { result.slab.capacity ≡ 0 }
         ensures visits { result.visits ≡ 0 }
         ensures last { result.last ≡ 0 }
+        ensures looks { result.looks ≡ 0 }
     {
         Nodes {
             slab: Slab::new(alloc),
             own: None,
             visits: 0,
             last: 0,
+            looks: 0,
         }
     }
 
@@ -112,9 +117,11 @@ impl<T: Drop, W: Drop> Nodes<T, W> {
     }
 
     fn count(&mut self, at: usize, serial: u64)
-        ensures rest { self.new ≡ record self.old { visits = visited self.old.own (record { slot = at; serial = serial }) self.old.visits } }
+        ensures rest { self.new ≡ record self.old { visits = visited self.old.own (record { slot = at; serial = serial }) self.old.visits; looks = min (self.old.looks + 1) (2 ^ 128 - 1) } }
         ensures most { self.new.visits ≤ self.old.visits + 1 }
+        ensures most_looks { self.new.looks ≤ self.old.looks + 1 }
     {
+        self.looks = self.looks.saturating_add(1);
         match self.own {
             Some(own) if own.slot == at && own.serial == serial => {}
             _ => self.visits = self.visits.saturating_add(1),
@@ -124,8 +131,9 @@ impl<T: Drop, W: Drop> Nodes<T, W> {
     /// Looks at the node in a slot, if there is one.
     pub(crate) fn read(&mut self, at: usize) -> Option<Place>
         ensures place { result ≡ place_at (get self.old.slab at) }
-        ensures rest { self.new ≡ record self.old { visits = visited_at self.old.own at (get self.old.slab at) self.old.visits } }
+        ensures rest { self.new ≡ record self.old { visits = visited_at self.old.own at (get self.old.slab at) self.old.visits; looks = looked_at (get self.old.slab at) self.old.looks } }
         ensures most { self.new.visits ≤ self.old.visits + 1 }
+        ensures most_looks { self.new.looks ≤ self.old.looks + 1 }
     {
         let place = match self.slab.get(at) {
             Some(node) => Place {
@@ -150,7 +158,9 @@ impl<T: Drop, W: Drop> Nodes<T, W> {
         ensures state { IfSome (get self.old.slab at) (λ node. result ≡ given change node) }
         ensures own { self.new.own ≡ self.old.own }
         ensures visits { self.new.visits ≡ visited_at self.old.own at (get self.old.slab at) self.old.visits }
+        ensures looks { self.new.looks ≡ looked_at (get self.old.slab at) self.old.looks }
         ensures most { self.new.visits ≤ self.old.visits + 1 }
+        ensures most_looks { self.new.looks ≤ self.old.looks + 1 }
         ensures last { self.new.last ≡ self.old.last }
     {
         let serial = match self.slab.get(at) {
@@ -189,6 +199,7 @@ impl<T: Drop, W: Drop> Nodes<T, W> {
         ensures own { IfOk result (λ at. self.new.own ≡ Some (record { slot = at; serial = node.serial })) }
         ensures visits { OnOk result (self.new.visits ≡ self.old.visits) }
         ensures last { OnOk result (self.new.last ≡ 0) }
+        ensures looks { self.new.looks ≡ self.old.looks }
         ensures settled { OnErr result (self.new.visits ≡ 0) }
         ensures number { OnErr result (self.new.last ≤ self.old.visits) }
         ensures succeeds { HasRoomFor self.old.slab 1 → IsOk result }
@@ -225,6 +236,7 @@ impl<T: Drop, W: Drop> Nodes<T, W> {
         ensures capacity { self.new.slab.capacity ≡ self.old.slab.capacity }
         ensures visits { self.new.visits ≡ self.old.visits }
         ensures last { self.new.last ≡ self.old.last }
+        ensures looks { self.new.looks ≡ self.old.looks }
     {
         match self.slab.try_remove(own.slot) {
             Some(node) => node.state,

@@ -16,7 +16,7 @@ use std::fmt;
 use std::sync::{Mutex, Wait};
 
 /// A call that changed the list of a recorded event, with its answer. Calls that change nothing leave no entry.
-#[derive(Drop)]
+#[derive(Debug, Drop, PartialEq, Eq)]
 pub enum RecordedCall<T, W> {
     /// A listener was added, and got this key.
     Listened {
@@ -73,7 +73,7 @@ pub enum RegisterError {
 impl fmt::Display for RegisterError {
     fn fmt<W: fmt::Write>(&self, f: &mut fmt::Formatter<W>) -> fmt::Result {
         match self {
-            RegisterError::NoMemory => write!(f, "out of memory"),
+            RegisterError::NoMemory => write!(f, "want of memory"),
             RegisterError::UnknownListener => write!(f, "no such listener"),
         }
     }

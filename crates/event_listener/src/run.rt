@@ -24,7 +24,7 @@ pub enum Target {
 }
 
 /// A call of a run. Each is the call of [`List`] of the same name.
-#[derive(Drop)]
+#[derive(Debug, Drop, PartialEq, Eq)]
 pub enum ListCall<T, W> {
     /// [`List::insert`].
     Insert,
@@ -64,7 +64,7 @@ pub enum ListCall<T, W> {
 }
 
 /// What a call of a run answered.
-#[derive(Drop)]
+#[derive(Debug, Drop, PartialEq, Eq)]
 pub enum ListReply<T> {
     /// Of [`ListCall::Insert`].
     Insert(Result<Key, ListenError>),
@@ -81,7 +81,7 @@ pub enum ListReply<T> {
 }
 
 /// What a run did.
-#[derive(Drop)]
+#[derive(Debug, Drop, PartialEq, Eq)]
 pub struct ListRun<T> {
     /// What the calls answered, in order.
     pub replies: Vec<ListReply<T>>,

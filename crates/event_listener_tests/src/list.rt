@@ -422,3 +422,45 @@ fn a_refused_growth_leaves_the_list_as_it_was(rt: HostRuntime) -> Result<(), Fai
     assert_eq!(rt; list.told(), inserted);
     Ok(())
 }
+
+#[test]
+fn each_visit_of_another_node_is_counted_once(rt: HostRuntime) -> Result<(), Fail> {
+    let mut list: List<u32, u32> = List::new(rt.alloc());
+    let mut sink = Names {
+        woken: Vec::new(rt.alloc()),
+    };
+    let l1 = list.insert()?;
+    assert_eq!(rt; list.last_visits(), 0);
+    let l2 = list.insert()?;
+    assert_eq!(rt; list.last_visits(), 1);
+    let l3 = list.insert()?;
+    let l4 = list.insert()?;
+    // The call's own node is not counted, and what asks, polls or makes room leaves the number as it was.
+    assert!(rt; list.register(l2, 2).is_ok());
+    assert_eq!(rt; list.last_visits(), 0);
+    assert_eq!(rt; list.notify(more(1, 10), &mut sink), Ok(1));
+    assert_eq!(rt; list.last_visits(), 3);
+    assert_eq!(rt; list.poll(l1), Ok(Some(10)));
+    list.reserve(100)?;
+    assert_eq!(rt; (list.told(), list.total()), (0, 3));
+    assert_eq!(rt; list.last_visits(), 3);
+    // A node between two others has both neighbours written, the last one its neighbour.
+    assert_eq!(rt; list.remove(l3, false, &mut sink), Ok(false));
+    assert_eq!(rt; list.last_visits(), 2);
+    assert_eq!(rt; list.remove(l4, false, &mut sink), Ok(false));
+    assert_eq!(rt; list.last_visits(), 1);
+    // One behind another told one: its own node is read and written, and the neighbours on both chains are written.
+    let l5 = list.insert()?;
+    let l6 = list.insert()?;
+    assert_eq!(rt; list.notify(more(1, 20), &mut sink), Ok(1));
+    assert_eq!(rt; list.last_visits(), 3);
+    assert_eq!(rt; list.notify(more(1, 30), &mut sink), Ok(1));
+    assert_eq!(rt; list.last_visits(), 4);
+    // A told one that passes its notice on tells the next, which counts as in a notice.
+    assert_eq!(rt; list.remove(l5, true, &mut sink), Ok(true));
+    assert_eq!(rt; list.last_visits(), 4);
+    assert_eq!(rt; list.poll(l6), Ok(Some(30)));
+    assert_eq!(rt; list.poll(l2), Ok(Some(20)));
+    assert_eq!(rt; list.last_visits(), 4);
+    Ok(())
+}

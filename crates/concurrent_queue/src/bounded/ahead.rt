@@ -2,8 +2,8 @@
 //! saved is the choice of the next action at each of them, so this is a matter of speed alone.
 
 ghost use Rattle.std.specs.Prelude.{ℕ, true, Ok, MatchResult};
-ghost use Rattle.concurrent_queue.specs.Ahead.{GoesAhead, PopsOnEnd, PushesRing, PopsRing};
-ghost use Rattle.concurrent_queue.specs.RingWords.{ring_step};
+ghost use Rattle.concurrent_queue.specs.machine.Ahead.{GoesAhead, PopsOnEnd, PushesRing, PopsRing};
+ghost use Rattle.concurrent_queue.specs.machine.RingWords.{ring_step};
 ghost use Rattle.concurrent_queue.specs.Replies.{MayRing, MayPush, MayPop};
 ghost use Rattle.concurrent_queue.specs.declared.call.QueueReply.{QueueReply};
 ghost use Rattle.concurrent_queue.specs.declared.call.QueueReply.TheVariants as reply;

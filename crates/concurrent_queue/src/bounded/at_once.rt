@@ -2,7 +2,7 @@
 //! ones would find that the call has to wait or to be refused. That is a matter of speed alone.
 
 ghost use Rattle.std.specs.Prelude.{◌≡◌};
-ghost use Rattle.concurrent_queue.specs.RingAtOnce.{PushesFree, PushesAtOnce, PopsThere, PopsAtOnce};
+ghost use Rattle.concurrent_queue.specs.machine.RingAtOnce.{PushesFree, PushesAtOnce, PopsThere, PopsAtOnce};
 
 use crate::bounded::Shape;
 use crate::cells::{Cells, QueueForm, Slot, Word};

@@ -8,7 +8,7 @@ pub(crate) struct GuardRule;
 
 impl<T> TableRule<Option<T>, Option<u64>, ()> for GuardRule {
     ghost use Rattle.std.specs.Prelude.{None};
-    ghost use Rattle.concurrent_queue.specs.Guarded.{IsGuarded};
+    ghost use Rattle.concurrent_queue.specs.machine.Guarded.{IsGuarded};
 
     ghost holds = { λ _. IsGuarded };
 
@@ -19,7 +19,7 @@ impl<T> TableRule<Option<T>, Option<u64>, ()> for GuardRule {
 pub(crate) struct Sit;
 
 impl<T> Play<Option<T>, Option<u64>> for Sit {
-    ghost use Rattle.concurrent_queue.specs.Guarded.{sat};
+    ghost use Rattle.concurrent_queue.specs.machine.Guarded.{sat};
 
     ghost then = { sat };
 }
@@ -28,7 +28,7 @@ impl<T> Play<Option<T>, Option<u64>> for Sit {
 pub(crate) struct Look;
 
 impl<T> Play<Option<T>, Option<u64>> for Look {
-    ghost use Rattle.concurrent_queue.specs.Guarded.{looked};
+    ghost use Rattle.concurrent_queue.specs.machine.Guarded.{looked};
 
     ghost then = { looked };
 }
@@ -37,7 +37,7 @@ impl<T> Play<Option<T>, Option<u64>> for Look {
 pub(crate) struct Win;
 
 impl<T> Play<Option<T>, Option<u64>> for Win {
-    ghost use Rattle.concurrent_queue.specs.Guarded.{won};
+    ghost use Rattle.concurrent_queue.specs.machine.Guarded.{won};
 
     ghost then = { won };
 }
@@ -46,7 +46,7 @@ impl<T> Play<Option<T>, Option<u64>> for Win {
 pub(crate) struct Give;
 
 impl<T> Play<Option<T>, Option<u64>> for Give {
-    ghost use Rattle.concurrent_queue.specs.Guarded.{gave};
+    ghost use Rattle.concurrent_queue.specs.machine.Guarded.{gave};
 
     ghost then = { gave };
 }

@@ -200,7 +200,8 @@ impl<T: Drop> ConcurrentQueue<T> {
     ghost use Rattle.concurrent_queue.specs.SharedQueue.{limit, CanRefuse, CanRefuseForce};
 
     /// Appends the message. A refusal hands it back: the queue was full or closed, or an unbounded one had no memory for it.
-    /// It may wait.
+    /// It may wait. Other threads push and close too, so nothing that a caller knows says that it will succeed: `HasPlace` of
+    /// `specs/Room` says so of a push into a queue of one owner alone.
     pub fn push<R: Wait>(&self, rt: &R, value: T) -> Result<(), PushError<T>>
         ensures back { IfErr result (λ e. push_message e ≡ value) }
         ensures reason { IfErr result (λ e. CanRefuse (limit self.now) e) }

@@ -1,7 +1,7 @@
 //! Words and slots that threads share, by their indices.
 
 ghost use Rattle.std.specs.Prelude.{◌≡◌, ◌<◌, ◌≤◌, ◌+◌, ◌*◌, [], None, IfSome, IfErr, IfOk, length};
-ghost use Rattle.concurrent_queue.specs.Guarded.{AreFree};
+ghost use Rattle.concurrent_queue.specs.machine.Guarded.{AreFree};
 
 use crate::shared::guard::{Give, GuardRule, Look, Sit, Win};
 use atomic_table::{Seat, Table};

@@ -1,7 +1,7 @@
 //! Closing an unbounded queue, and its questions.
 
 ghost use Rattle.std.specs.Prelude.{◌≡◌, ℕ, None};
-ghost use Rattle.concurrent_queue.specs.BlocksWords.{tells, close_tail, ask_tail, empty_load_head, empty_load_tail, len_load_tail, len_load_head, len_again};
+ghost use Rattle.concurrent_queue.specs.machine.BlocksWords.{tells, close_tail, ask_tail, empty_load_head, empty_load_tail, len_load_tail, len_load_head, len_again};
 ghost use Rattle.concurrent_queue.specs.Replies.{EndFollows};
 
 use crate::call::{QueueMark, QueueReply};

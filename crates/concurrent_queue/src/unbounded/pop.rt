@@ -1,8 +1,8 @@
 //! The steps of a pop from an unbounded queue.
 
 ghost use Rattle.std.specs.Prelude.{◌≡◌, ℕ};
-ghost use Rattle.concurrent_queue.specs.BlocksState.{number};
-ghost use Rattle.concurrent_queue.specs.BlocksWords.{load_head, look_head_block, look_tail, swap_head, load_next, store_head_block, store_head, wait_written, take_message, count_read, retire_block};
+ghost use Rattle.concurrent_queue.specs.machine.BlocksState.{number};
+ghost use Rattle.concurrent_queue.specs.machine.BlocksWords.{load_head, look_head_block, look_tail, swap_head, load_next, store_head_block, store_head, wait_written, take_message, count_read, retire_block};
 ghost use Rattle.concurrent_queue.specs.Replies.{EndFollows};
 
 use crate::call::{QueueMark, QueueReply};

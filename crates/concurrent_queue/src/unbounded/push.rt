@@ -1,7 +1,7 @@
 //! The steps of a push into an unbounded queue.
 
 ghost use Rattle.std.specs.Prelude.{◌≡◌, ℕ};
-ghost use Rattle.concurrent_queue.specs.BlocksWords.{load_tail, shut_tail, give_back, look_with, look_first, when_shut, look_tail_block, Obtains, swap_first, start_head, after_swap, swap_tail, turn_tail_block, add_tail, link_next, put_message, after_store, store_written, give_spare};
+ghost use Rattle.concurrent_queue.specs.machine.BlocksWords.{load_tail, shut_tail, give_back, look_with, look_first, when_shut, look_tail_block, Obtains, swap_first, start_head, after_swap, swap_tail, turn_tail_block, add_tail, link_next, put_message, after_store, store_written, give_spare};
 ghost use Rattle.concurrent_queue.specs.Replies.{EndFollows, MayEnd, Sends};
 
 use crate::call::QueueMark;

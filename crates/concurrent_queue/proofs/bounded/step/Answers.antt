@@ -1,5 +1,5 @@
 use Rattle.std.proofs.Common.{◌≡◌, ℕ, subst, rules}
-use Rattle.concurrent_queue.specs.Dispatch.{ring_cap}
+use Rattle.concurrent_queue.specs.machine.Dispatch.{ring_cap}
 use Rattle.concurrent_queue.specs.Replies.{RingFollows}
 use Rattle.concurrent_queue.proofs.bounded.step.Goals as goal
 

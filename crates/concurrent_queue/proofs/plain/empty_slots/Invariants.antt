@@ -1,5 +1,5 @@
 use Rattle.std.proofs.Common.{◌≡◌}
-use Rattle.concurrent_queue.specs.RingMade.{vacant_slots}
+use Rattle.concurrent_queue.specs.machine.RingMade.{vacant_slots}
 use Rattle.concurrent_queue.proofs.plain.empty_slots.Given as goal
 
 abbrev pub invariant-loop-index : goal.invariant-loop-index

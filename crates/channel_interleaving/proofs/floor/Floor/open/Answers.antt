@@ -1,6 +1,6 @@
 use Rattle.channel_interleaving.proofs.FloorFacts.{new_shown, new_at_work, new_owned}
 use Rattle.std.proofs.Common.{refl}
-use Rattle.concurrent_queue.specs.Dispatch.{capacity_of}
+use Rattle.concurrent_queue.specs.Capacity.{capacity_of}
 use Rattle.channel_interleaving.proofs.UserFacts.{first_users}
 use Rattle.channel_interleaving.proofs.floor.Floor.open.Goals as goal
 

@@ -1,5 +1,5 @@
 use Rattle.std.proofs.Common.{ℕ, ◌≤◌, ◌^◌, sym, ◌∙◌, ap, subst, arith}
-use Rattle.concurrent_queue.specs.RingWords.{ring_mark}
+use Rattle.concurrent_queue.specs.machine.RingWords.{ring_mark}
 use Rattle.concurrent_queue.proofs.RingShape.{cap_small, width_small, mark_bits, mark_small}
 use Rattle.concurrent_queue.proofs.bounded.Shape.of.Goals as goal
 

@@ -1,5 +1,5 @@
 use Rattle.std.proofs.Common.{◌≡◌, rules, subst, sym}
-use Rattle.concurrent_queue.specs.Dispatch.{IsStateStep}
+use Rattle.concurrent_queue.specs.machine.Dispatch.{IsStateStep}
 use Rattle.concurrent_queue.specs.Replies.{StateFollows}
 use Rattle.concurrent_queue.specs.Step.{IsQueueStep}
 use Rattle.concurrent_queue.specs.declared.queue_call.CallState.{CallState}

@@ -29,7 +29,7 @@ returns-clause-left g c = left-kept (returns-clause-lists g c) (ap (λ (v : List
 
 pub returns-clause-room : goal.returns-clause-room
 returns-clause-room g c =
-    ap (λ (n : Nodes _ _). n.slab.capacity - slab_len n.slab) (λ i. record { slab = (c.find.ensures.slab ∙ ap (λ (n : Nodes _ _). n.slab) c.start.ensures) i; own = c.find.new.nodes.own; visits = c.find.new.nodes.visits; last = c.find.new.nodes.last })
+    ap (λ (n : Nodes _ _). n.slab.capacity - slab_len n.slab) (λ i. record { slab = (c.find.ensures.slab ∙ ap (λ (n : Nodes _ _). n.slab) c.start.ensures) i; own = c.find.new.nodes.own; visits = c.find.new.nodes.visits; last = c.find.new.nodes.last; looks = c.find.new.nodes.looks })
     ∙ ap (λ (v : ListView _ _). v.room) c.self.view_is
 
 pub returns-clause-visits : goal.returns-clause-visits
@@ -37,3 +37,9 @@ returns-clause-visits g c =
     let last : c.start.new.self.last ≡ 0 = ap (λ (n : Nodes _ _). n.last) c.start.ensures in
     let visits : c.start.new.self.visits ≡ c.self.inside.nodes.visits = ap (λ (n : Nodes _ _). n.visits) c.start.ensures in
     omega (arith, c.find.ensures.number, c.self.invariant.2.settled, last, visits)
+
+pub returns-clause-looks : goal.returns-clause-looks
+returns-clause-looks g c =
+    let looks : c.start.new.self.looks ≡ c.self.inside.nodes.looks = ap (λ (n : Nodes _ _). n.looks) c.start.ensures in
+    let view = ap (λ (v : ListView _ _). v.looks) c.self.view_is in
+    omega (arith, c.find.ensures.looks, looks, view)

@@ -57,3 +57,6 @@ returns-clause-visits g c =
 
 pub returns-clause-uncounted : goal.returns-clause-uncounted
 returns-clause-uncounted g c = λ quiet. c.unlink-state.ensures.uncounted quiet ∙ ap (λ (v : ListView _ _). v.visits) c.self.view_is
+
+pub returns-clause-looks : goal.returns-clause-looks
+returns-clause-looks g c = let v = ap (λ (v : ListView _ _). v.looks) c.self.view_is in omega (arith, c.unlink-state.ensures.looks, v)

@@ -39,3 +39,6 @@ returns-clause-left g c = left-without c.args.key (returns-clause-lists g c) (ap
 pub returns-clause-visits : goal.returns-clause-visits
 returns-clause-visits g c =
     let v = ap (λ (v : ListView _ _). v.visits) c.self.view_is in omega (arith, c.unlink.ensures.number, c.self.invariant.2.settled, v)
+
+pub returns-clause-looks : goal.returns-clause-looks
+returns-clause-looks g c = let v = ap (λ (v : ListView _ _). v.looks) c.self.view_is in omega (arith, c.unlink.ensures.looks, v)

@@ -33,6 +33,7 @@ loop-i-preserved g c =
       sofar = Sofar-more g.N.Notification.gives g.S.Wakes.wakes c.is_additional-additional.result c.loop-i.i c.args.notice c.loop-i.notice c.next_tag.new.self c.args.self.now.lists c.loop-i.self.lists c.tell_first.new.self.lists c.args.sink.now c.loop-i.sink c.match-tell_first.sink c.in-Ok.tag c.loop-i.invariant.sofar c.in-Ok.ensures.gives c.tell_first.ensures.lists wk;
       can = c.next_tag.ensures.again;
       visits = omega (arith, c.tell_first.ensures.visits, c.loop-i.invariant.visits);
+      looks = omega (arith, c.tell_first.ensures.looks, c.loop-i.invariant.looks);
       serials = c.tell_first.ensures.serials ∙ c.loop-i.invariant.serials;
       room = c.tell_first.ensures.room ∙ c.loop-i.invariant.room;
     }

@@ -51,3 +51,6 @@ returns-clause-left g c = left-with_task c.args.key c.args.task (returns-clause-
 pub returns-clause-visits : goal.returns-clause-visits
 returns-clause-visits g c =
     let v = ap (λ (v : ListView _ _). v.visits) c.self.view_is in omega (arith, c.store_task.ensures.number, c.self.invariant.2.settled, v)
+
+pub returns-clause-looks : goal.returns-clause-looks
+returns-clause-looks g c = let v = ap (λ (v : ListView _ _). v.looks) c.self.view_is in omega (arith, c.store_task.ensures.looks, v)

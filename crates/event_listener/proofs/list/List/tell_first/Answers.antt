@@ -77,3 +77,7 @@ pub returns-clause-visits : goal.returns-clause-visits
 returns-clause-visits g c =
     let v = ap (λ (v : ListView _ _). v.visits) c.self.view_is in
     omega (arith, c.attach_last-was.ensures.number, c.bridge.ensures.visits, c.bridge.ensures.last, c.self.invariant.2.settled, v)
+
+pub returns-clause-looks : goal.returns-clause-looks
+returns-clause-looks g c =
+    let v = ap (λ (v : ListView _ _). v.looks) c.self.view_is in omega (arith, c.attach_last-was.ensures.looks, c.bridge.ensures.looks, v)

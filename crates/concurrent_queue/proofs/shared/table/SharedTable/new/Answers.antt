@@ -1,5 +1,5 @@
 use Rattle.std.proofs.Common.{◌≤◌, ℕ, List, length, arith, subst, sym}
-use Rattle.concurrent_queue.specs.Guarded.{AreFree}
+use Rattle.concurrent_queue.specs.machine.Guarded.{AreFree}
 use Rattle.concurrent_queue.proofs.Guards.{opens}
 use Rattle.concurrent_queue.proofs.shared.table.SharedTable.new.Goals as goal
 

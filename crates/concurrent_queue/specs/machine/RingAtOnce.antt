@@ -1,7 +1,7 @@
 -- A push and a pop of a ring whose steps nobody comes between, all of them at once.
 use Rattle.std.specs.Prelude.{◌≡◌, ℕ, ◌+◌, ◌-◌, ◌*◌, ◌%◌, ◌^◌, ◌==◌, ◌⊎◌, Bool, true, false, nat_le, Option, None, Some, Result, Ok, Err, slice_index, slice_get}
 use Rattle.concurrent_queue.specs.Contents.{Contents, write_slot, slot_at, is_vacant}
-use Rattle.concurrent_queue.specs.RingWords.{cap_of, ring_mark, index, is_marked, next_word, set_tail, set_head, set_stamp}
+use Rattle.concurrent_queue.specs.machine.RingWords.{cap_of, ring_mark, index, is_marked, next_word, set_tail, set_head, set_stamp}
 use Rattle.concurrent_queue.specs.declared.cells.QueueForm.{QueueForm}
 use Rattle.concurrent_queue.specs.declared.cells.QueueForm.TheVariants.{Bounded, Unbounded}
 use Rattle.concurrent_queue.specs.declared.cells.Slot.TheVariants.{At}

@@ -35,7 +35,7 @@ module _ {T : Type 0} where
   with_place r i p = record r { at = λ j. if j == i then p else r.at j }
 
   -- what holds of a ring at every moment
-  pub record Sound (cap : ℕ) (r : Ring T) : Type 0 where
+  pub record SoundRing (cap : ℕ) (r : Ring T) : Type 0 where
     pub all : length r.all ≡ r.tail
     pub order : r.head ≤ r.tail
     pub room : r.tail ≤ r.head + cap

@@ -1,9 +1,9 @@
 -- Which form a queue has, and what each form's machine does at a step.
 use Rattle.std.specs.Prelude.{◌≡◌, ℕ, ◌==◌, Bool, true, false, Option, None, Some}
 use Rattle.concurrent_queue.specs.Contents.{Contents}
-use Rattle.concurrent_queue.specs.Single.{single_step, start}
-use Rattle.concurrent_queue.specs.RingWords.{cap_of, ring_mark, ring_step, ring_start}
-use Rattle.concurrent_queue.specs.BlocksWords.{IsBlocksStep, begin}
+use Rattle.concurrent_queue.specs.machine.Single.{single_step, start}
+use Rattle.concurrent_queue.specs.machine.RingWords.{cap_of, ring_mark, ring_step, ring_start}
+use Rattle.concurrent_queue.specs.machine.BlocksWords.{IsBlocksStep, begin}
 use Rattle.concurrent_queue.specs.declared.call.QueueAsk.{QueueAsk}
 use Rattle.concurrent_queue.specs.declared.call.QueueMark.TheVariants.{Nothing}
 use Rattle.concurrent_queue.specs.declared.call.Stepped.{Stepped}
@@ -14,11 +14,6 @@ use Rattle.concurrent_queue.specs.declared.bounded.RingAction.{RingAction}
 use Rattle.concurrent_queue.specs.declared.unbounded.action.UnboundedCall.{UnboundedCall}
 use Rattle.concurrent_queue.specs.declared.queue_call.CallState.{CallState}
 use Rattle.concurrent_queue.specs.declared.queue_call.CallState.TheVariants.{Asked, Single, Ring, Blocks, Finished}
-
--- how many messages fit
-abbrev pub capacity_of : QueueForm → Option ℕ
-capacity_of (Bounded cap) = Some cap
-capacity_of Unbounded = None
 
 -- how many slots a ring of this form has; an unbounded queue is no ring
 abbrev pub ring_cap : QueueForm → ℕ

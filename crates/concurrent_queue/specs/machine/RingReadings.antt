@@ -2,7 +2,7 @@
 use Rattle.std.specs.Prelude.{ℕ, ◌+◌, ◌-◌, ◌*◌, ◌/◌, ◌%◌, Bool, List, [], ◌++◌, option_to_list}
 use Rattle.std.proofs.Common.{zero, suc}
 use Rattle.concurrent_queue.specs.Contents.{Contents, slot_at}
-use Rattle.concurrent_queue.specs.RingWords.{is_marked, unmarked}
+use Rattle.concurrent_queue.specs.machine.RingWords.{is_marked, unmarked}
 use Rattle.concurrent_queue.specs.declared.cells.Slot.{Slot}
 use Rattle.concurrent_queue.specs.declared.cells.Slot.TheVariants.{At}
 

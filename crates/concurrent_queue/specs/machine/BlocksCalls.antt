@@ -1,6 +1,6 @@
 -- The calls of an unbounded queue by the numbers of its items, and what each knows and owes. b is a block's number, h that of a held block.
 use Rattle.std.specs.Prelude.{◌≡◌, ℕ, ◌+◌, ◌/◌, ◌%◌, ◌<◌, ◌≤◌, ◌⊎◌, Bool, true, false, Option, None, Some, slice_get, if◌then◌else◌, ◌==◌}
-use Rattle.concurrent_queue.specs.BlocksState.{Blocks, held, number, Duty, fill, take, count, retire, link, turn_tail, turn_head, start, keep}
+use Rattle.concurrent_queue.specs.machine.BlocksState.{Blocks, held, number, Duty, fill, take, count, retire, link, turn_tail, turn_head, start, keep}
 use Rattle.concurrent_queue.specs.Queue.{Phase, trying, appended, taken, read, measured}
 use Rattle.concurrent_queue.specs.declared.call.QueueAsk.{QueueAsk}
 use Rattle.concurrent_queue.specs.declared.call.QueueAsk.TheVariants as ask
@@ -88,43 +88,43 @@ Fills r p v n b x = IsSend p.ask v × (p.stage ≡ appended None) × (slice_get 
 abbrev pub Takes : {T : Type 0} → Blocks T → Phase T → ℕ → ℕ → T → Type 0
 Takes r p n b d = (p.ask ≡ ask.Pop) × (p.stage ≡ taken d) × (slice_get r.all n ≡ Some d) × (n < r.head) × IsBlockOf r n b × ((r.cell n).written ≡ true → (r.cell n).slot ≡ Some d)
 
-abbrev pub Knows : {T : Type 0} → Blocks T → Act T → Phase T → Type 0
-Knows r (push v h) p = IsSend p.ask v × IsTry p × Holds r h
-Knows r (push_return v h) p = IsSend p.ask v × IsTry p × (r.spot h ≡ held) × (r.closed ≡ true)
-Knows r (push_look v n h) p = IsSend p.ask v × HasFoundOpen p × Holds r h × AtTail r n
-Knows r (push_make v n) p = IsSend p.ask v × HasFoundOpen p × AtTail r n
-Knows r (push_first v n h) p = IsSend p.ask v × HasFoundOpen p × (r.spot h ≡ held) × AtTail r n
-Knows r (push_start v n b) p = IsSend p.ask v × HasFoundOpen p × AtTail r n × TailBlock r n b × (r.first ≡ 0) × (b ≡ r.num 0)
-Knows r (push_more v n b) p = IsSend p.ask v × HasFoundOpen p × AtTail r n × TailBlock r n b
-Knows r (push_swap v n b h) p = IsSend p.ask v × IsTry p × Holds r h × AtTail r n × TailBlock r n b
-Knows r (push_turn v n b h) p = Fills r p v n b None × (r.spot h ≡ held) × (n % 31 ≡ 30) × (r.tail ≡ n + 1) × (r.tail_turns ≡ true) × (r.last ≡ n / 31 + 1)
-Knows r (push_add v n b h) p = Fills r p v n b None × (n % 31 ≡ 30) × (r.tail ≡ n + 1) × (r.tail_turns ≡ true) × (r.last ≡ n / 31 + 2) × (h ≡ r.num (n / 31 + 1))
-Knows r (push_link v n b h) p = Fills r p v n b None × (n % 31 ≡ 30) × (n / 31 + 1 < r.last) × (h ≡ r.num (n / 31 + 1))
-Knows r (push_put v n b h) p = Fills r p v n b None × Holds r h
-Knows {T} r (push_store n b h) p = (v : T) × Fills r p v n b (Some v) × Holds r h
-Knows {T} r (push_give h) p = (v : T) × IsSend p.ask v × (p.stage ≡ appended None) × (r.spot h ≡ held)
-Knows r pop p = (p.ask ≡ ask.Pop) × IsTry p
-Knows r (pop_look n) p = (p.ask ≡ ask.Pop) × IsTry p × AtHead r n
-Knows r (pop_tail n None) p = (p.ask ≡ ask.Pop) × IsTry p × AtHead r n
-Knows r (pop_tail n (Some b)) p = (p.ask ≡ ask.Pop) × IsTry p × AtHead r n × HeadBlock r n b
-Knows r (pop_swap n b) p = (p.ask ≡ ask.Pop) × IsTry p × AtHead r n × HeadBlock r n b × (n < r.tail)
-Knows {T} r (pop_next n b) p = (d : T) × Takes r p n b d × (n % 31 ≡ 30) × (r.head ≡ n + 1) × (r.head_turns ≡ true) × (r.first ≡ n / 31 + 1)
-Knows {T} r (pop_block n b c) p = (d : T) × Takes r p n b d × (n % 31 ≡ 30) × (r.head ≡ n + 1) × (r.head_turns ≡ true) × (r.first ≡ n / 31 + 1) × (n / 31 + 1 < r.last) × (c ≡ r.num (n / 31 + 1))
-Knows {T} r (pop_head n b) p = (d : T) × Takes r p n b d × (n % 31 ≡ 30) × (r.head ≡ n + 1) × (r.head_turns ≡ true) × (r.first ≡ n / 31 + 2)
-Knows {T} r (pop_wait n b) p = (d : T) × Takes r p n b d
-Knows {T} r (pop_take n b) p = (d : T) × Takes r p n b d × ((r.cell n).written ≡ true)
-Knows r (pop_count n b d) p = (p.ask ≡ ask.Pop) × (p.stage ≡ taken d) × (n < r.head) × IsBlockOf r n b
-Knows r (pop_retire n b d) p = (p.ask ≡ ask.Pop) × (p.stage ≡ taken d) × (n < r.head) × IsBlockOf r n b
-Knows r close p = (p.ask ≡ ask.Close) × IsTry p
-Knows r ask_closed p = (p.ask ≡ ask.IsClosed) × IsTry p
-Knows r ask_empty p = (p.ask ≡ ask.IsEmpty) × IsTry p
-Knows r (empty_tail n) p = (p.ask ≡ ask.IsEmpty) × (p.stage ≡ read n) × (n ≤ r.head)
-Knows r ask_full p = (p.ask ≡ ask.IsFull) × IsTry p
-Knows r ask_len p = (p.ask ≡ ask.Len) × IsTry p
-Knows r (len_head t) p = (p.ask ≡ ask.Len) × (p.stage ≡ read (number (t / 2))) × (number (t / 2) ≤ r.tail)
-Knows {T} r (len_tail t h) p = (k : ℕ) × (p.ask ≡ ask.Len) × (p.stage ≡ measured (number (t / 2)) k) × (number (t / 2) ≤ k + h) × (k + h ≤ r.tail)
-Knows r ask_capacity p = (p.ask ≡ ask.Capacity) × IsTry p
-Knows r finished p = ⊥
+abbrev pub KnowsBlocks : {T : Type 0} → Blocks T → Act T → Phase T → Type 0
+KnowsBlocks r (push v h) p = IsSend p.ask v × IsTry p × Holds r h
+KnowsBlocks r (push_return v h) p = IsSend p.ask v × IsTry p × (r.spot h ≡ held) × (r.closed ≡ true)
+KnowsBlocks r (push_look v n h) p = IsSend p.ask v × HasFoundOpen p × Holds r h × AtTail r n
+KnowsBlocks r (push_make v n) p = IsSend p.ask v × HasFoundOpen p × AtTail r n
+KnowsBlocks r (push_first v n h) p = IsSend p.ask v × HasFoundOpen p × (r.spot h ≡ held) × AtTail r n
+KnowsBlocks r (push_start v n b) p = IsSend p.ask v × HasFoundOpen p × AtTail r n × TailBlock r n b × (r.first ≡ 0) × (b ≡ r.num 0)
+KnowsBlocks r (push_more v n b) p = IsSend p.ask v × HasFoundOpen p × AtTail r n × TailBlock r n b
+KnowsBlocks r (push_swap v n b h) p = IsSend p.ask v × IsTry p × Holds r h × AtTail r n × TailBlock r n b
+KnowsBlocks r (push_turn v n b h) p = Fills r p v n b None × (r.spot h ≡ held) × (n % 31 ≡ 30) × (r.tail ≡ n + 1) × (r.tail_turns ≡ true) × (r.last ≡ n / 31 + 1)
+KnowsBlocks r (push_add v n b h) p = Fills r p v n b None × (n % 31 ≡ 30) × (r.tail ≡ n + 1) × (r.tail_turns ≡ true) × (r.last ≡ n / 31 + 2) × (h ≡ r.num (n / 31 + 1))
+KnowsBlocks r (push_link v n b h) p = Fills r p v n b None × (n % 31 ≡ 30) × (n / 31 + 1 < r.last) × (h ≡ r.num (n / 31 + 1))
+KnowsBlocks r (push_put v n b h) p = Fills r p v n b None × Holds r h
+KnowsBlocks {T} r (push_store n b h) p = (v : T) × Fills r p v n b (Some v) × Holds r h
+KnowsBlocks {T} r (push_give h) p = (v : T) × IsSend p.ask v × (p.stage ≡ appended None) × (r.spot h ≡ held)
+KnowsBlocks r pop p = (p.ask ≡ ask.Pop) × IsTry p
+KnowsBlocks r (pop_look n) p = (p.ask ≡ ask.Pop) × IsTry p × AtHead r n
+KnowsBlocks r (pop_tail n None) p = (p.ask ≡ ask.Pop) × IsTry p × AtHead r n
+KnowsBlocks r (pop_tail n (Some b)) p = (p.ask ≡ ask.Pop) × IsTry p × AtHead r n × HeadBlock r n b
+KnowsBlocks r (pop_swap n b) p = (p.ask ≡ ask.Pop) × IsTry p × AtHead r n × HeadBlock r n b × (n < r.tail)
+KnowsBlocks {T} r (pop_next n b) p = (d : T) × Takes r p n b d × (n % 31 ≡ 30) × (r.head ≡ n + 1) × (r.head_turns ≡ true) × (r.first ≡ n / 31 + 1)
+KnowsBlocks {T} r (pop_block n b c) p = (d : T) × Takes r p n b d × (n % 31 ≡ 30) × (r.head ≡ n + 1) × (r.head_turns ≡ true) × (r.first ≡ n / 31 + 1) × (n / 31 + 1 < r.last) × (c ≡ r.num (n / 31 + 1))
+KnowsBlocks {T} r (pop_head n b) p = (d : T) × Takes r p n b d × (n % 31 ≡ 30) × (r.head ≡ n + 1) × (r.head_turns ≡ true) × (r.first ≡ n / 31 + 2)
+KnowsBlocks {T} r (pop_wait n b) p = (d : T) × Takes r p n b d
+KnowsBlocks {T} r (pop_take n b) p = (d : T) × Takes r p n b d × ((r.cell n).written ≡ true)
+KnowsBlocks r (pop_count n b d) p = (p.ask ≡ ask.Pop) × (p.stage ≡ taken d) × (n < r.head) × IsBlockOf r n b
+KnowsBlocks r (pop_retire n b d) p = (p.ask ≡ ask.Pop) × (p.stage ≡ taken d) × (n < r.head) × IsBlockOf r n b
+KnowsBlocks r close p = (p.ask ≡ ask.Close) × IsTry p
+KnowsBlocks r ask_closed p = (p.ask ≡ ask.IsClosed) × IsTry p
+KnowsBlocks r ask_empty p = (p.ask ≡ ask.IsEmpty) × IsTry p
+KnowsBlocks r (empty_tail n) p = (p.ask ≡ ask.IsEmpty) × (p.stage ≡ read n) × (n ≤ r.head)
+KnowsBlocks r ask_full p = (p.ask ≡ ask.IsFull) × IsTry p
+KnowsBlocks r ask_len p = (p.ask ≡ ask.Len) × IsTry p
+KnowsBlocks r (len_head t) p = (p.ask ≡ ask.Len) × (p.stage ≡ read (number (t / 2))) × (number (t / 2) ≤ r.tail)
+KnowsBlocks {T} r (len_tail t h) p = (k : ℕ) × (p.ask ≡ ask.Len) × (p.stage ≡ measured (number (t / 2)) k) × (number (t / 2) ≤ k + h) × (k + h ≤ r.tail)
+KnowsBlocks r ask_capacity p = (p.ask ≡ ask.Capacity) × IsTry p
+KnowsBlocks r finished p = ⊥
 
 abbrev pub same : ℕ → ℕ → ℕ
 same n m = if n == m then 1 else 0

@@ -2,9 +2,9 @@
 use Rattle.std.specs.Prelude.{◌≡◌, ℕ, zero, suc, ◌+◌, ◌-◌, ◌*◌, ◌^◌, ◌/◌, ◌%◌, ◌<◌, ◌≤◌, ◌⊎◌, Bool, true, false, List, [], ◌∷◌, length, Option, None, Some, slice_get, if◌then◌else◌}
 use Rattle.concurrent_queue.specs.Contents.{Contents, block_at, blank}
 use Rattle.concurrent_queue.specs.Contents as words
-use Rattle.concurrent_queue.specs.BlocksState.{Blocks, Spot, unmade, spare, held, one_if, position, number, tail_word}
-use Rattle.concurrent_queue.specs.BlocksCalls as call
-use Rattle.concurrent_queue.specs.BlocksCalls.{Act, same}
+use Rattle.concurrent_queue.specs.machine.BlocksState.{Blocks, Spot, unmade, spare, held, one_if, position, number, tail_word}
+use Rattle.concurrent_queue.specs.machine.BlocksCalls as call
+use Rattle.concurrent_queue.specs.machine.BlocksCalls.{Act, same}
 use Rattle.concurrent_queue.specs.declared.unbounded.action.UnboundedAction.{UnboundedAction}
 use Rattle.concurrent_queue.specs.declared.unbounded.action.UnboundedAction.TheVariants as act
 
@@ -12,7 +12,7 @@ use Rattle.concurrent_queue.specs.declared.unbounded.action.UnboundedAction.TheV
 abbrev pub Shows : {T : Type 0} → Blocks T → ℕ → ℕ → Type 0
 Shows r f w = ((f ≡ 0) × (w ≡ 0)) ⊎ ((1 ≤ f) × (w ≡ r.num (f - 1) + 1))
 
-pub record IsBlock {T : Type 0} (r : Blocks T) (k : ℕ) (x : words.Block T) : Type 0 where
+pub record IsBlock {T : Type 0} (r : Blocks T) (k : ℕ) (x : words.BlockCells T) : Type 0 where
   pub next : x.next ≡ (if (r.block k).linked then r.num (k + 1) + 1 else 0)
   pub reads : x.reads ≡ (r.block k).reads
   pub written : (i : ℕ) → i < 31 → slice_get x.written i ≡ Some (one_if (r.cell (31 * k + i)).written)

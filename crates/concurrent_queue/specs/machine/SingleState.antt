@@ -2,7 +2,7 @@
 use Rattle.std.specs.Prelude.{◌≡◌, ℕ, ◌+◌, ◌==◌, Bool, false, List, [], ◌∷◌, length, Option, None, Some, is_some, option_to_list, if◌then◌else◌, ◌⊎◌}
 use Rattle.concurrent_queue.specs.Contents.{Contents}
 use Rattle.concurrent_queue.specs.Queue.{Queue, Stage, trying, appended, taken, Phase}
-use Rattle.concurrent_queue.specs.Places.{Place, Each, sum}
+use Rattle.concurrent_queue.specs.machine.Places.{Place, Each, sum}
 use Rattle.concurrent_queue.specs.declared.call.QueueAsk.{QueueAsk}
 use Rattle.concurrent_queue.specs.declared.call.QueueAsk.TheVariants as ask
 use Rattle.concurrent_queue.specs.declared.single.SingleAction.{SingleAction}
@@ -33,28 +33,28 @@ module _ {T : Type 0} where
   Tries a p = (p.ask ≡ a) × IsTrying p.stage
 
   -- a call that asks this and has come so far
-  abbrev pub Stands : QueueAsk T → Stage T → Phase T → Type 0
-  Stands a s p = (p.ask ≡ a) × (p.stage ≡ s)
+  abbrev pub StandsSingle : QueueAsk T → Stage T → Phase T → Type 0
+  StandsSingle a s p = (p.ask ≡ a) × (p.stage ≡ s)
 
   -- what a call at this action asked and did; for one that holds the slot, also what the slot and the list hold
-  abbrev pub Knows : Option T → Option T → SingleAction T → Phase T → Type 0
-  Knows slot item (Push v) p = Tries (ask.Push v) p
-  Knows slot item (PushPut v) p = Stands (ask.Push v) (appended None) p × (slot ≡ None) × (item ≡ Some v)
-  Knows slot item PushUnlock p = (v : T) × Stands (ask.Push v) (appended None) p × (slot ≡ Some v) × (item ≡ Some v)
-  Knows slot item (Force v x) p = Tries (ask.ForcePush v) p × ((x ≡ 0) ⊎ (x ≡ 2))
-  Knows slot item (ForceTake v) p = (d : T) × Stands (ask.ForcePush v) (appended (Some d)) p × (slot ≡ Some d) × (item ≡ Some v)
-  Knows slot item (ForcePut v d) p = Stands (ask.ForcePush v) (appended d) p × (slot ≡ None) × (item ≡ Some v)
-  Knows slot item (ForceUnlock d) p = (v : T) × Stands (ask.ForcePush v) (appended d) p × (slot ≡ Some v) × (item ≡ Some v)
-  Knows slot item (Pop x) p = Tries ask.Pop p × ((x ≡ 2) ⊎ (x ≡ 6))
-  Knows slot item PopTake p = (d : T) × Stands ask.Pop (taken d) p × (slot ≡ Some d) × (item ≡ None)
-  Knows slot item (PopUnlock d) p = Stands ask.Pop (taken d) p × (slot ≡ None) × (item ≡ None)
-  Knows slot item Close p = Tries ask.Close p
-  Knows slot item IsClosed p = Tries ask.IsClosed p
-  Knows slot item IsEmpty p = Tries ask.IsEmpty p
-  Knows slot item IsFull p = Tries ask.IsFull p
-  Knows slot item Len p = Tries ask.Len p
-  Knows slot item Capacity p = Tries ask.Capacity p
-  Knows slot item Finished p = ⊥
+  abbrev pub KnowsSingle : Option T → Option T → SingleAction T → Phase T → Type 0
+  KnowsSingle slot item (Push v) p = Tries (ask.Push v) p
+  KnowsSingle slot item (PushPut v) p = StandsSingle (ask.Push v) (appended None) p × (slot ≡ None) × (item ≡ Some v)
+  KnowsSingle slot item PushUnlock p = (v : T) × StandsSingle (ask.Push v) (appended None) p × (slot ≡ Some v) × (item ≡ Some v)
+  KnowsSingle slot item (Force v x) p = Tries (ask.ForcePush v) p × ((x ≡ 0) ⊎ (x ≡ 2))
+  KnowsSingle slot item (ForceTake v) p = (d : T) × StandsSingle (ask.ForcePush v) (appended (Some d)) p × (slot ≡ Some d) × (item ≡ Some v)
+  KnowsSingle slot item (ForcePut v d) p = StandsSingle (ask.ForcePush v) (appended d) p × (slot ≡ None) × (item ≡ Some v)
+  KnowsSingle slot item (ForceUnlock d) p = (v : T) × StandsSingle (ask.ForcePush v) (appended d) p × (slot ≡ Some v) × (item ≡ Some v)
+  KnowsSingle slot item (Pop x) p = Tries ask.Pop p × ((x ≡ 2) ⊎ (x ≡ 6))
+  KnowsSingle slot item PopTake p = (d : T) × StandsSingle ask.Pop (taken d) p × (slot ≡ Some d) × (item ≡ None)
+  KnowsSingle slot item (PopUnlock d) p = StandsSingle ask.Pop (taken d) p × (slot ≡ None) × (item ≡ None)
+  KnowsSingle slot item Close p = Tries ask.Close p
+  KnowsSingle slot item IsClosed p = Tries ask.IsClosed p
+  KnowsSingle slot item IsEmpty p = Tries ask.IsEmpty p
+  KnowsSingle slot item IsFull p = Tries ask.IsFull p
+  KnowsSingle slot item Len p = Tries ask.Len p
+  KnowsSingle slot item Capacity p = Tries ask.Capacity p
+  KnowsSingle slot item Finished p = ⊥
 
   abbrev pub holders : List (Place (SingleAction T) T) → ℕ
   holders ps = sum (λ a. holds a) ps
@@ -70,7 +70,7 @@ module _ {T : Type 0} where
     pub limit : q.capacity ≡ Some 1
     pub one_holder : holders ps ≡ (if locked then 1 else 0)
     pub at_rest : locked ≡ false → item ≡ slot
-    pub calls : Each (λ (p : Place (SingleAction T) T). Knows slot item p.action p.phase) ps
+    pub calls : Each (λ (p : Place (SingleAction T) T). KnowsSingle slot item p.action p.phase) ps
 
   abbrev pub SingleMeans : Contents T → Queue T → List (Place (SingleAction T) T) → Type 0
   SingleMeans c q ps = (locked : Bool) × (item : Option T) × (slot : Option T) × Means c q ps locked item slot

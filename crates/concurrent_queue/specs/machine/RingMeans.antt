@@ -1,11 +1,11 @@
 -- One step of one call of a ring, and what it leaves to the others.
 use Rattle.std.specs.Prelude.{◌≡◌, ℕ, ◌+◌, ◌*◌, ◌%◌, ◌<◌, ◌≤◌, true, List, Option, Some, MatchOption, map, slice_get, if◌then◌else◌}
 use Rattle.concurrent_queue.specs.Contents.{Contents}
-use Rattle.concurrent_queue.specs.Positions.{pos}
-use Rattle.concurrent_queue.specs.Queue.{Queue, Phase, after, Goes, Answers}
-use Rattle.concurrent_queue.specs.Places.{Place, Each, sum}
-use Rattle.concurrent_queue.specs.RingState.{Ring, Sound, IsShown, reach}
-use Rattle.concurrent_queue.specs.RingCalls.{Knows, Duty, hold, bring, owes, owed, IsDuty, placed}
+use Rattle.concurrent_queue.specs.machine.Positions.{pos}
+use Rattle.concurrent_queue.specs.Queue.{Queue, Phase, after, Continues, Answers}
+use Rattle.concurrent_queue.specs.machine.Places.{Place, Each, sum}
+use Rattle.concurrent_queue.specs.machine.RingState.{Ring, SoundRing, IsShown, reach}
+use Rattle.concurrent_queue.specs.machine.RingCalls.{KnowsRing, Duty, hold, bring, owes, owed, IsDuty, placed}
 use Rattle.concurrent_queue.specs.declared.call.QueueMark.{QueueMark}
 use Rattle.concurrent_queue.specs.declared.call.QueueReply.{QueueReply}
 use Rattle.concurrent_queue.specs.declared.bounded.RingAction.{RingAction}
@@ -25,11 +25,11 @@ module _ {T : Type 0} where
 
   -- a step of a call at a, in the phase p, leaves a ring and an action that mean what its mark says
   pub record Kept (cap : ℕ) (r : Ring T) (q : Queue T) (a : RingAction T) (p : Phase T) (r' : Ring T) (a' : RingAction T) (k : QueueMark) (x : Option (QueueReply T)) : Type 0 where
-    pub sound : Sound cap r'
+    pub sound : SoundRing cap r'
     pub shown : IsShown cap r' (after p k q)
     pub owners : (d : Duty) → IsDuty cap d → owes cap a' d + owed r d ≡ owes cap a d + owed r' d
     pub later : Later cap r a r'
-    pub leaves : MatchOption x ((p' : Phase T) × Goes q p k p' × Knows cap r' a' p') (λ y. Answers q p k y × (a' ≡ act.Finished))
+    pub leaves : MatchOption x ((p' : Phase T) × Continues q p k p' × KnowsRing cap r' a' p') (λ y. Answers q p k y × (a' ≡ act.Finished))
 
   -- what the words and slots of a ring stand for, where the mark is m
   pub record Denotes (cap m : ℕ) (c : Contents T) (r : Ring T) : Type 0 where
@@ -48,7 +48,7 @@ module _ {T : Type 0} where
     pub calls : List (Place (RingAction T) T)
     pub positions : places ≡ map (place_at (pos cap (2 * m))) calls
     pub denotes : Denotes cap m c ring
-    pub sound : Sound cap ring
+    pub sound : SoundRing cap ring
     pub shown : IsShown cap ring q
     pub owners : (d : Duty) → IsDuty cap d → sum (λ a. owes cap a d) calls ≡ owed ring d
-    pub knows : Each (λ (x : Place (RingAction T) T). Knows cap ring x.action x.phase) calls
+    pub knows : Each (λ (x : Place (RingAction T) T). KnowsRing cap ring x.action x.phase) calls

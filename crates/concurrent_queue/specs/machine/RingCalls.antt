@@ -2,7 +2,7 @@
 -- number of the message that a call is about, c that of the one which a displacing push takes out.
 use Rattle.std.specs.Prelude.{◌≡◌, ℕ, ◌+◌, ◌%◌, ◌<◌, ◌≤◌, Bool, true, false, Option, None, Some, slice_get, if◌then◌else◌, ◌==◌, ◌⊎◌}
 use Rattle.concurrent_queue.specs.Queue.{Phase, Stage, trying, displaced, appended, taken, read, measured}
-use Rattle.concurrent_queue.specs.RingState.{Ring, busy, the_place, reach}
+use Rattle.concurrent_queue.specs.machine.RingState.{Ring, busy, the_place, reach}
 use Rattle.concurrent_queue.specs.declared.call.QueueAsk.{QueueAsk}
 use Rattle.concurrent_queue.specs.declared.call.QueueAsk.TheVariants as ask
 use Rattle.concurrent_queue.specs.declared.bounded.WhenFull.{WhenFull}
@@ -35,8 +35,8 @@ module _ {T : Type 0} where
   at_stage a s = record { ask = a; stage = s }
 
   -- the place of the n-th message has come to this number, this far, and holds this
-  abbrev pub Stands : ℕ → Ring T → ℕ → Bool → Option T → Type 0
-  Stands cap r n w slot = ((the_place cap r n).round ≡ n) × ((the_place cap r n).written ≡ w) × ((the_place cap r n).slot ≡ slot)
+  abbrev pub StandsRing : ℕ → Ring T → ℕ → Bool → Option T → Type 0
+  StandsRing cap r n w slot = ((the_place cap r n).round ≡ n) × ((the_place cap r n).written ≡ w) × ((the_place cap r n).slot ≡ slot)
 
   -- the n-th message was appended and is v
   abbrev pub IsItem : Ring T → ℕ → T → Type 0
@@ -51,39 +51,39 @@ module _ {T : Type 0} where
   Saw cap r n seen = (n ≤ r.tail) × ((seen ≡ true) ⊎ (n < r.head + cap))
 
   -- what a call at an action knows of the ring, and how far it has come
-  abbrev pub Knows : ℕ → Ring T → RingAction T → Phase T → Type 0
-  Knows cap r (act.Push k v) p = (seen : Bool) × (p ≡ at_stage (ask_of k v) (trying seen))
-  Knows cap r (act.PushShut k v) p = ⊥
-  Knows cap r (act.PushStamp k v n) p = (seen : Bool) × (p ≡ at_stage (ask_of k v) (trying seen)) × Saw cap r n seen
-  Knows cap r (act.PushSwap k v n) p = (seen : Bool) × (p ≡ at_stage (ask_of k v) (trying seen)) × (n ≤ (the_place cap r n).round)
-  Knows cap r (act.PushPut k v n) p = (p ≡ at_stage (ask_of k v) (appended None)) × Stands cap r n false None × IsItem r n v
-  Knows cap r (act.PushStore k n) p = (v : T) × (p ≡ at_stage (ask_of k v) (appended None)) × Stands cap r n false (Some v) × IsItem r n v
-  Knows cap r (act.PushHead v c) p = (seen : Bool) × (p ≡ at_stage (ask.Push v) (trying seen)) × Saw cap r (c + cap) seen
-  Knows cap r (act.ForceHead v c) p = (seen : Bool) × (p ≡ at_stage (ask.ForcePush v) (trying seen)) × Saw cap r (c + cap) seen × Reached cap r c
-  Knows cap r (act.ForceAdd v c) p =
-      (d : T) × (p ≡ at_stage (ask.ForcePush v) (displaced d)) × Stands cap r c true (Some d) × (c < r.head) × (r.tail ≡ c + cap) × (r.coming ≡ true)
-  Knows cap r (act.ForceTake v c) p =
-      (d : T) × (p ≡ at_stage (ask.ForcePush v) (appended (Some d))) × Stands cap r c true (Some d) × (c < r.head) × IsItem r (c + cap) v
-  Knows cap r (act.ForcePut v c d) p = (p ≡ at_stage (ask.ForcePush v) (appended (Some d))) × Stands cap r c true None × (c < r.head) × IsItem r (c + cap) v
-  Knows cap r (act.ForceStore c d) p =
-      (v : T) × (p ≡ at_stage (ask.ForcePush v) (appended (Some d))) × Stands cap r c true (Some v) × (c < r.head) × IsItem r (c + cap) v
-  Knows cap r act.Pop p = (seen : Bool) × (p ≡ at_stage ask.Pop (trying seen))
-  Knows cap r (act.PopStamp n) p = (seen : Bool) × (p ≡ at_stage ask.Pop (trying seen)) × (n ≤ r.head)
-  Knows cap r (act.PopSwap n) p = (seen : Bool) × (p ≡ at_stage ask.Pop (trying seen)) × Reached cap r n
-  Knows cap r (act.PopTail n) p = (seen : Bool) × (p ≡ at_stage ask.Pop (trying seen)) × (n ≤ r.head) × (n ≤ (the_place cap r n).round)
-  Knows cap r (act.PopTake n) p = (d : T) × (p ≡ at_stage ask.Pop (taken d)) × Stands cap r n true (Some d) × (n < r.head) × (reach r ≤ n + cap)
-  Knows cap r (act.PopStore n d) p = (p ≡ at_stage ask.Pop (taken d)) × Stands cap r n true None × (n < r.head) × (reach r ≤ n + cap)
-  Knows cap r act.Close p = (seen : Bool) × (p ≡ at_stage ask.Close (trying seen))
-  Knows cap r act.IsClosed p = (seen : Bool) × (p ≡ at_stage ask.IsClosed (trying seen))
-  Knows cap r act.IsEmpty p = (seen : Bool) × (p ≡ at_stage ask.IsEmpty (trying seen))
-  Knows cap r (act.IsEmptyTail n) p = (p ≡ at_stage ask.IsEmpty (read n)) × (n ≤ r.head)
-  Knows cap r act.IsFull p = (seen : Bool) × (p ≡ at_stage ask.IsFull (trying seen))
-  Knows cap r (act.IsFullHead n) p = (p ≡ at_stage ask.IsFull (read n)) × (n ≤ r.tail)
-  Knows cap r act.Len p = (seen : Bool) × (p ≡ at_stage ask.Len (trying seen))
-  Knows cap r (act.LenHead n b) p = (p ≡ at_stage ask.Len (read n)) × (n ≤ r.tail)
-  Knows cap r (act.LenTail n b h) p = (k : ℕ) × (p ≡ at_stage ask.Len (measured n k)) × (n ≤ r.tail) × (h ≤ r.head) × (r.tail ≡ n → k + h ≡ n)
-  Knows cap r act.Capacity p = (seen : Bool) × (p ≡ at_stage ask.Capacity (trying seen))
-  Knows cap r act.Finished p = ⊥
+  abbrev pub KnowsRing : ℕ → Ring T → RingAction T → Phase T → Type 0
+  KnowsRing cap r (act.Push k v) p = (seen : Bool) × (p ≡ at_stage (ask_of k v) (trying seen))
+  KnowsRing cap r (act.PushShut k v) p = ⊥
+  KnowsRing cap r (act.PushStamp k v n) p = (seen : Bool) × (p ≡ at_stage (ask_of k v) (trying seen)) × Saw cap r n seen
+  KnowsRing cap r (act.PushSwap k v n) p = (seen : Bool) × (p ≡ at_stage (ask_of k v) (trying seen)) × (n ≤ (the_place cap r n).round)
+  KnowsRing cap r (act.PushPut k v n) p = (p ≡ at_stage (ask_of k v) (appended None)) × StandsRing cap r n false None × IsItem r n v
+  KnowsRing cap r (act.PushStore k n) p = (v : T) × (p ≡ at_stage (ask_of k v) (appended None)) × StandsRing cap r n false (Some v) × IsItem r n v
+  KnowsRing cap r (act.PushHead v c) p = (seen : Bool) × (p ≡ at_stage (ask.Push v) (trying seen)) × Saw cap r (c + cap) seen
+  KnowsRing cap r (act.ForceHead v c) p = (seen : Bool) × (p ≡ at_stage (ask.ForcePush v) (trying seen)) × Saw cap r (c + cap) seen × Reached cap r c
+  KnowsRing cap r (act.ForceAdd v c) p =
+      (d : T) × (p ≡ at_stage (ask.ForcePush v) (displaced d)) × StandsRing cap r c true (Some d) × (c < r.head) × (r.tail ≡ c + cap) × (r.coming ≡ true)
+  KnowsRing cap r (act.ForceTake v c) p =
+      (d : T) × (p ≡ at_stage (ask.ForcePush v) (appended (Some d))) × StandsRing cap r c true (Some d) × (c < r.head) × IsItem r (c + cap) v
+  KnowsRing cap r (act.ForcePut v c d) p = (p ≡ at_stage (ask.ForcePush v) (appended (Some d))) × StandsRing cap r c true None × (c < r.head) × IsItem r (c + cap) v
+  KnowsRing cap r (act.ForceStore c d) p =
+      (v : T) × (p ≡ at_stage (ask.ForcePush v) (appended (Some d))) × StandsRing cap r c true (Some v) × (c < r.head) × IsItem r (c + cap) v
+  KnowsRing cap r act.Pop p = (seen : Bool) × (p ≡ at_stage ask.Pop (trying seen))
+  KnowsRing cap r (act.PopStamp n) p = (seen : Bool) × (p ≡ at_stage ask.Pop (trying seen)) × (n ≤ r.head)
+  KnowsRing cap r (act.PopSwap n) p = (seen : Bool) × (p ≡ at_stage ask.Pop (trying seen)) × Reached cap r n
+  KnowsRing cap r (act.PopTail n) p = (seen : Bool) × (p ≡ at_stage ask.Pop (trying seen)) × (n ≤ r.head) × (n ≤ (the_place cap r n).round)
+  KnowsRing cap r (act.PopTake n) p = (d : T) × (p ≡ at_stage ask.Pop (taken d)) × StandsRing cap r n true (Some d) × (n < r.head) × (reach r ≤ n + cap)
+  KnowsRing cap r (act.PopStore n d) p = (p ≡ at_stage ask.Pop (taken d)) × StandsRing cap r n true None × (n < r.head) × (reach r ≤ n + cap)
+  KnowsRing cap r act.Close p = (seen : Bool) × (p ≡ at_stage ask.Close (trying seen))
+  KnowsRing cap r act.IsClosed p = (seen : Bool) × (p ≡ at_stage ask.IsClosed (trying seen))
+  KnowsRing cap r act.IsEmpty p = (seen : Bool) × (p ≡ at_stage ask.IsEmpty (trying seen))
+  KnowsRing cap r (act.IsEmptyTail n) p = (p ≡ at_stage ask.IsEmpty (read n)) × (n ≤ r.head)
+  KnowsRing cap r act.IsFull p = (seen : Bool) × (p ≡ at_stage ask.IsFull (trying seen))
+  KnowsRing cap r (act.IsFullHead n) p = (p ≡ at_stage ask.IsFull (read n)) × (n ≤ r.tail)
+  KnowsRing cap r act.Len p = (seen : Bool) × (p ≡ at_stage ask.Len (trying seen))
+  KnowsRing cap r (act.LenHead n b) p = (p ≡ at_stage ask.Len (read n)) × (n ≤ r.tail)
+  KnowsRing cap r (act.LenTail n b h) p = (k : ℕ) × (p ≡ at_stage ask.Len (measured n k)) × (n ≤ r.tail) × (h ≤ r.head) × (r.tail ≡ n → k + h ≡ n)
+  KnowsRing cap r act.Capacity p = (seen : Bool) × (p ≡ at_stage ask.Capacity (trying seen))
+  KnowsRing cap r act.Finished p = ⊥
 
   -- the number whose place a call at this action holds
   abbrev pub held : RingAction T → Option ℕ

@@ -2,8 +2,8 @@
 -- follows from it.
 use Rattle.std.specs.Prelude.{◌≡◌, ℕ, ◌<◌, Bool, List, ◌∷◌, ◌++◌, map, Option, MatchOption}
 use Rattle.concurrent_queue.specs.Contents.{Contents}
-use Rattle.concurrent_queue.specs.Queue.{Queue, Phase, asked, after, Goes, Answers, IsInRange}
-use Rattle.concurrent_queue.specs.Places.{Place}
+use Rattle.concurrent_queue.specs.Queue.{Queue, Phase, asked, after, Continues, Answers, IsInRange}
+use Rattle.concurrent_queue.specs.machine.Places.{Place}
 use Rattle.concurrent_queue.specs.Step.{OneCell, HoldsNobodyUp, ShowsBy, LiesBy, IsBrought, chain_after}
 use Rattle.concurrent_queue.specs.declared.call.QueueAsk.{QueueAsk}
 use Rattle.concurrent_queue.specs.declared.call.Stepped.{Stepped}
@@ -25,8 +25,8 @@ module _ {A T : Type 0} where
     pub record FormStep (c : Contents T) (a : A) (p : Phase T) (d : Contents T) (s : Stepped A T) (q : Queue T) (l r : List (Place A T)) : Type 0 where
       pub same_form : d.form ≡ c.form
       pub one_cell : OneCell c d
-      pub does : MatchOption s.reply
-          ((p' : Phase T) × Goes q p s.mark p' × means d (after p s.mark q) (l ++ place s.action p' ∷ r))
+      pub effect : MatchOption s.reply
+          ((p' : Phase T) × Continues q p s.mark p' × means d (after p s.mark q) (l ++ place s.action p' ∷ r))
           (λ x. Answers q p s.mark x × means d (after p s.mark q) (l ++ r))
       pub ends : HoldsNobodyUp q (place_phases (l ++ r)) → MatchOption s.reply (left d s.action < left c a) (λ x. Unit {0})
 

@@ -2,9 +2,9 @@
 use Rattle.std.specs.Prelude.{◌≡◌, ◌⊎◌, ℕ, ◌+◌, ◌-◌, ◌*◌, ◌%◌, ◌^◌, ◌==◌, Bool, true, false, nat_le, None, Some, Result, Ok, Err, slice_index, MatchResult}
 use Rattle.std.proofs.Common.{zero, suc}
 use Rattle.concurrent_queue.specs.Contents.{Contents, write_slot, slot_at, can_put}
-use Rattle.concurrent_queue.specs.RingAtOnce.{IsFree, pushed, IsThere, popped}
-use Rattle.concurrent_queue.specs.RingWords.{cap_of, ring_mark, ring_step, index, is_marked, next_word, set_tail, set_head}
-use Rattle.concurrent_queue.specs.Single.{single_step, set_state, unlocked}
+use Rattle.concurrent_queue.specs.machine.RingAtOnce.{IsFree, pushed, IsThere, popped}
+use Rattle.concurrent_queue.specs.machine.RingWords.{cap_of, ring_mark, ring_step, index, is_marked, next_word, set_tail, set_head}
+use Rattle.concurrent_queue.specs.machine.Single.{single_step, set_state, unlocked}
 use Rattle.concurrent_queue.specs.declared.bounded.RingAction.{RingAction}
 use Rattle.concurrent_queue.specs.declared.bounded.RingAction.TheVariants as ring
 use Rattle.concurrent_queue.specs.declared.bounded.WhenFull.TheVariants.{Refuse}

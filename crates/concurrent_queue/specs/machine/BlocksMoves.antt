@@ -1,9 +1,9 @@
 -- The steps of an unbounded queue's calls, by the numbers of its items and the ordinals of its blocks.
 use Rattle.std.specs.Prelude.{◌≡◌, ℕ, ◌+◌, ◌-◌, ◌/◌, ◌%◌, ◌<◌, ◌≤◌, Bool, true, false, List, [], ◌∷◌, ◌++◌, Option, None, Some, Ok, Err, MatchOption, slice_get}
-use Rattle.concurrent_queue.specs.BlocksState.{Blocks, Sound, Spot, unmade, spare, held, Duty, fill, take, keep, start, turn_tail, turn_head, owed, with_cell, with_block, with_spot, chained, tail_word, number}
-use Rattle.concurrent_queue.specs.BlocksCalls.{Act, push, push_return, push_look, push_make, push_first, push_start, push_more, push_swap, push_turn, push_add, push_link, push_put, push_store, push_give, pop, pop_look, pop_tail, pop_swap, pop_next, pop_block, pop_head, pop_wait, pop_take, pop_count, pop_retire, close, ask_closed, ask_empty, empty_tail, ask_full, ask_len, len_head, len_tail, ask_capacity, finished, Knows, owes}
-use Rattle.concurrent_queue.specs.Queue.{Queue, Phase, after, Goes, Answers}
-use Rattle.concurrent_queue.specs.Places.{Each}
+use Rattle.concurrent_queue.specs.machine.BlocksState.{Blocks, SoundBlocks, Spot, unmade, spare, held, Duty, fill, take, keep, start, turn_tail, turn_head, owed, with_cell, with_block, with_spot, chained, tail_word, number}
+use Rattle.concurrent_queue.specs.machine.BlocksCalls.{Act, push, push_return, push_look, push_make, push_first, push_start, push_more, push_swap, push_turn, push_add, push_link, push_put, push_store, push_give, pop, pop_look, pop_tail, pop_swap, pop_next, pop_block, pop_head, pop_wait, pop_take, pop_count, pop_retire, close, ask_closed, ask_empty, empty_tail, ask_full, ask_len, len_head, len_tail, ask_capacity, finished, KnowsBlocks, owes}
+use Rattle.concurrent_queue.specs.Queue.{Queue, Phase, after, Continues, Answers}
+use Rattle.concurrent_queue.specs.machine.Places.{Each}
 use Rattle.concurrent_queue.specs.declared.call.QueueAsk.{QueueAsk}
 use Rattle.concurrent_queue.specs.declared.call.QueueAsk.TheVariants as ask
 use Rattle.concurrent_queue.specs.declared.call.QueueMark.{QueueMark}
@@ -36,8 +36,8 @@ pub record Later {T : Type 0} (r r' : Blocks T) (a : Act T) : Type 0 where
   pub holds : (b : ℕ) → owes a (keep b) ≡ 0 → r.spot b ≡ held → r'.spot b ≡ held
 
 -- the numbers mean this queue
-pub record Stands {T : Type 0} (r : Blocks T) (q : Queue T) : Type 0 where
-  pub sound : Sound r q.items
+pub record StandsBlocks {T : Type 0} (r : Blocks T) (q : Queue T) : Type 0 where
+  pub sound : SoundBlocks r q.items
   pub closed : r.closed ≡ q.closed
   pub accepted : q.accepted ≡ r.tail
   pub removed : q.removed ≡ r.head
@@ -64,10 +64,10 @@ answer a e = answer_as (is_force a) e
 
 -- what a step of one call keeps: each duty stays owed by as many, and the others' knowledge outlasts it
 pub record BlocksKept {T : Type 0} (r : Blocks T) (q : Queue T) (a : Act T) (p : Phase T) (r' : Blocks T) (a' : Act T) (k : QueueMark) (x : Option (Ending T)) : Type 0 where
-  pub stands : Stands r' (after p k q)
+  pub stands : StandsBlocks r' (after p k q)
   pub owners : (d : Duty) → owes a' d + owed r d ≡ owes a d + owed r' d
   pub others : Later r r' a
-  pub leaves : MatchOption x ((p' : Phase T) × Goes q p k p' × Knows r' a' p') (λ y. Answers q p k (answer p.ask y) × (a' ≡ finished))
+  pub leaves : MatchOption x ((p' : Phase T) × Continues q p k p' × KnowsBlocks r' a' p') (λ y. Answers q p k (answer p.ask y) × (a' ≡ finished))
 
 -- a spot whose block a push may take
 abbrev pub IsFree : Spot → Type 0
@@ -154,6 +154,6 @@ owners d (p ∷ ps) = owes p.act d + owners d ps
 
 -- the numbers and the calls under way mean this queue
 pub record BlocksMeans {T : Type 0} (r : Blocks T) (q : Queue T) (ps : List (BlocksSeat T)) : Type 0 where
-  pub stands : Stands r q
+  pub stands : StandsBlocks r q
   pub owners : (d : Duty) → owners d ps ≡ owed r d
-  pub seats : Each (λ (s : BlocksSeat T). Knows r s.act s.phase) ps
+  pub seats : Each (λ (s : BlocksSeat T). KnowsBlocks r s.act s.phase) ps

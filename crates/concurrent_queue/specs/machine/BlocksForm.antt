@@ -2,10 +2,10 @@
 use Rattle.std.specs.Prelude.{◌≡◌, ℕ, ◌<◌, List, length, map, Some, slice_get}
 use Rattle.concurrent_queue.specs.Contents.{Contents}
 use Rattle.concurrent_queue.specs.Queue.{Queue}
-use Rattle.concurrent_queue.specs.Places.{Place, Each}
-use Rattle.concurrent_queue.specs.BlocksState.{Blocks}
-use Rattle.concurrent_queue.specs.BlocksMoves.{BlocksSeat, BlocksMeans, is_force}
-use Rattle.concurrent_queue.specs.BlocksDenotes.{Denotes, act_of, IsProper}
+use Rattle.concurrent_queue.specs.machine.Places.{Place, Each}
+use Rattle.concurrent_queue.specs.machine.BlocksState.{Blocks}
+use Rattle.concurrent_queue.specs.machine.BlocksMoves.{BlocksSeat, BlocksMeans, is_force}
+use Rattle.concurrent_queue.specs.machine.BlocksDenotes.{Denotes, act_of, IsProper}
 use Rattle.concurrent_queue.specs.declared.unbounded.action.UnboundedCall.{UnboundedCall}
 
 module _ {T : Type 0} where

@@ -1,0 +1,25 @@
+-- The machines: what each form of queue does to its cells at a step, and what its cells and calls mean. The promise stands
+-- beside this folder; nothing here is said to a caller.
+pub mod Single
+pub mod SingleState
+pub mod RingWords
+pub mod RingState
+pub mod RingCalls
+pub mod RingMeans
+pub mod RingRank
+pub mod RingReadings
+pub mod RingMade
+pub mod RingAtOnce
+pub mod BlocksState
+pub mod BlocksCalls
+pub mod BlocksMoves
+pub mod BlocksLeft
+pub mod BlocksWords
+pub mod BlocksDenotes
+pub mod BlocksForm
+pub mod Dispatch
+pub mod Places
+pub mod Positions
+pub mod Forms
+pub mod Ahead
+pub mod Guarded
