@@ -5,6 +5,7 @@ ghost use Rattle.concurrent_queue.specs.Replies.{room_of};
 ghost use Rattle.concurrent_queue.specs.SharedQueue.{limit};
 ghost use Rattle.async_channel.specs.Handles.{handle_of};
 
+use crate::counted::Counted;
 use crate::link::Link;
 use crate::receiver::Receiver;
 use crate::sender::Sender;
@@ -40,8 +41,8 @@ fn open<T: Drop, R: Wait + Copy>(
         Err(_) => return Err(OpenError::IdsUsedUp),
     };
     Ok((
-        Sender::new(rt, Link { shared, id }),
-        Receiver::new(rt, Link { shared: other, id }),
+        Sender::new(rt, Counted::first(Link { shared, id })),
+        Receiver::new(rt, Counted::first(Link { shared: other, id })),
     ))
 }
 

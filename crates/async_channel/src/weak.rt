@@ -1,5 +1,6 @@
 //! The weak handles of a channel, which don't keep it open.
 
+use crate::counted::Counted;
 use crate::link::Link;
 use crate::receiver::Receiver;
 use crate::sender::Sender;
@@ -44,9 +45,9 @@ impl<T: Drop, R: Wait + Copy> WeakSender<T, R> {
         let Some(link) = self.link.try_clone() else {
             return Err(HandleError::NoMemory);
         };
-        match self.link.shared.upgrade(&self.rt, Side::Senders) {
-            Ok(true) => Ok(Some(Sender::new(self.rt, link))),
-            Ok(false) => Ok(None),
+        match Counted::upgraded(link, &self.rt, Side::Senders) {
+            Ok(Some(counted)) => Ok(Some(Sender::new(self.rt, counted))),
+            Ok(None) => Ok(None),
             Err(error) => Err(error),
         }
     }
@@ -104,9 +105,9 @@ impl<T: Drop, R: Wait + Copy> WeakReceiver<T, R> {
         let Some(link) = self.link.try_clone() else {
             return Err(HandleError::NoMemory);
         };
-        match self.link.shared.upgrade(&self.rt, Side::Receivers) {
-            Ok(true) => Ok(Some(Receiver::new(self.rt, link))),
-            Ok(false) => Ok(None),
+        match Counted::upgraded(link, &self.rt, Side::Receivers) {
+            Ok(Some(counted)) => Ok(Some(Receiver::new(self.rt, counted))),
+            Ok(None) => Ok(None),
             Err(error) => Err(error),
         }
     }

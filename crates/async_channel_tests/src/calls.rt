@@ -1,13 +1,13 @@
 //! What calls of a channel do, by worked examples over one slot.
 
-use crate::ask::ChannelAsk;
-use crate::call::ChannelCall;
-use crate::error::{
+use channel_calls::ask::ChannelAsk;
+use channel_calls::call::ChannelCall;
+use channel_calls::error::{
     HandleError, OpenError, RecvError, Refused, SendError, TryRecvError, TrySendError,
 };
-use crate::plain::PlainChannel;
-use crate::reply::Reply;
-use crate::stage::{Kept, Line, Side};
+use channel_calls::plain::PlainChannel;
+use channel_calls::reply::Reply;
+use channel_calls::stage::{Kept, Line, Side};
 use concurrent_queue::cells::QueueForm;
 use event_listener::error::ListenError;
 use event_listener::wakes::Wakes;
