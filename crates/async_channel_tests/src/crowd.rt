@@ -1,55 +1,18 @@
 //! Four threads send and four receive, as the tests of `async-channel` 2.5.0 have them.
 
 use crate::said::{Ends, opened, sent};
+use crate::tally::Tally;
 use async_channel::{Receiver, Sender, TryRecvError};
 use futures::StreamExt;
 use futures::executor::block_on;
 use std::alloc::{AllocGlobal, Global};
 use std::random::RandomSource;
-use std::sync::{Mutex, Wait};
+use std::sync::Wait;
 use std::test::Fail;
 use std::thread;
 use std::thread::Threads;
 
 const COUNT: u64 = 2_500;
-
-/// How often each number came.
-#[derive(Drop)]
-struct Tally {
-    seen: Mutex<Vec<u32>>,
-}
-
-impl Tally {
-    fn new(alloc: Global) -> Option<Tally> {
-        let mut seen = Vec::new(alloc);
-        for _ in 0..COUNT {
-            seen.push(0u32).ok()?;
-        }
-        Some(Tally {
-            seen: Mutex::new(seen),
-        })
-    }
-
-    /// Notes this number; false where it is none that was sent.
-    fn note<R: Wait>(&self, rt: &R, number: u64) -> bool {
-        match self.seen.lock(rt).get_mut(number as usize) {
-            Some(seen) => {
-                *seen = seen.wrapping_add(1);
-                true
-            }
-            None => false,
-        }
-    }
-
-    /// Whether each number came so often.
-    fn all_are<R: Wait>(&self, rt: &R, times: u32) -> bool {
-        let mut right = true;
-        for seen in self.seen.lock(rt).iter() {
-            right = right && *seen == times;
-        }
-        right
-    }
-}
 
 fn sends_all<R>(rt: R, s: &Sender<u64, R>) -> bool
 where
@@ -109,7 +72,7 @@ where
     R: Wait + Threads + Copy + RandomSource + AllocGlobal + Send + Sync,
 {
     let (s, r) = ends;
-    let Some(tally) = Tally::new(alloc) else {
+    let Some(tally) = Tally::new(alloc, COUNT) else {
         return false;
     };
     let (did, got) = thread::join(&rt, || four_send(rt, &s), || four_take(rt, &r, &tally));
@@ -161,7 +124,7 @@ where
     R: Wait + Threads + Copy + RandomSource + AllocGlobal + Send + Sync,
 {
     let (s, r) = ends;
-    let Some(tally) = Tally::new(alloc) else {
+    let Some(tally) = Tally::new(alloc, COUNT) else {
         return false;
     };
     let (did, (a, b)) = thread::join(

@@ -9,6 +9,8 @@ mod calls;
 #[cfg(test)]
 mod closing;
 #[cfg(test)]
+mod counting;
+#[cfg(test)]
 mod crowd;
 #[cfg(test)]
 mod drops;
@@ -32,6 +34,8 @@ mod rows;
 mod said;
 #[cfg(test)]
 mod smoke;
+#[cfg(test)]
+mod tally;
 #[cfg(test)]
 mod weak;
 #[cfg(test)]

@@ -183,19 +183,34 @@ where
     true
 }
 
+/// A thousand sends, each counted, and a thousand receives.
+fn fills<R>(rt: R, s: &Sender<u64, R>, r: &Receiver<u64, R>) -> bool
+where
+    R: Wait + Copy + RandomSource + AllocGlobal,
+{
+    let mut right = true;
+    for i in 0..1_000usize {
+        let went = sent(rt, s, i as u64);
+        right = right && went && s.len() == i.wrapping_add(1);
+    }
+    for i in 0..1_000u64 {
+        right = right && received(rt, r, i);
+    }
+    right && r.len() == 0
+}
+
 fn counts_between<R>(rt: R, ends: Ends<R>) -> bool
 where
     R: Wait + Threads + Copy + RandomSource + AllocGlobal + Send + Sync,
 {
     let (s, r) = ends;
-    let filled = sends_counted(rt, &s, 1000, 1000) && s.is_full();
-    let emptied = receives_counted(rt, &r, 1000, 1000) && r.is_empty();
+    let filled = fills(rt, &s, &r);
     let (did, got) = thread::join(
         &rt,
         || sends_counted(rt, &s, 2500, 1000),
         || receives_counted(rt, &r, 2500, 1000),
     );
-    filled && emptied && did && got && s.len() == 0 && r.len() == 0
+    filled && did && got && s.len() == 0 && r.len() == 0
 }
 
 #[test]

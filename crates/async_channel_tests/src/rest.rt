@@ -2,6 +2,7 @@
 //! pending whom a message or a place lets go on, and each message that was accepted was received once or is left.
 
 use crate::said::{Said, opened, receives, sends};
+use crate::tally::Tally;
 use async_channel::{Receiver, Recv, Send as Sending, Sender};
 use futures::test::MockTask;
 use std::alloc::AllocGlobal;
@@ -14,13 +15,15 @@ use std::{io, thread};
 const POLLS: u64 = 1_000;
 
 /// The messages of the second sender begin here.
-const SECOND: u64 = 1_000_000;
+const SECOND: u64 = 2_000;
 
-/// How many messages went, what their sum is, and whether those of each sender went in order.
+/// No message is as great as this.
+const LIMIT: u64 = 4_000;
+
+/// How many messages went, and whether those of each sender went in order.
 #[derive(Clone, Copy)]
 struct Went {
     count: u64,
-    sum: u64,
     first: u64,
     second: u64,
     in_order: bool,
@@ -30,7 +33,6 @@ impl Went {
     fn new() -> Went {
         Went {
             count: 0,
-            sum: 0,
             first: 0,
             second: SECOND,
             in_order: true,
@@ -40,7 +42,6 @@ impl Went {
     /// One message more, which is no earlier one of its sender.
     fn note(&mut self, message: u64) {
         self.count = self.count.wrapping_add(1);
-        self.sum = self.sum.wrapping_add(message);
         let next = message.wrapping_add(1);
         if message < SECOND {
             self.in_order = self.in_order && self.first <= message;
@@ -78,7 +79,7 @@ where
     Ok((went, task, send))
 }
 
-fn poll_receives<R>(rt: R, r: &Receiver<u64, R>) -> Got<'_, R>
+fn poll_receives<'a, R>(rt: R, r: &'a Receiver<u64, R>, tally: &Tally) -> Got<'a, R>
 where
     R: Wait + Copy + RandomSource + AllocGlobal,
 {
@@ -88,6 +89,7 @@ where
     for _ in 0..POLLS {
         if let Said::Got(message) = receives(&task, &mut recv) {
             went.note(message);
+            tally.note(&rt, message);
             task = MockTask::new(&rt)?;
             recv = r.recv();
         } else {
@@ -104,11 +106,15 @@ where
     thread::join(&rt, || poll_sends(rt, s, 0), || poll_sends(rt, s, SECOND))
 }
 
-fn two_receive<R>(rt: R, r: &Receiver<u64, R>) -> (Got<'_, R>, Got<'_, R>)
+fn two_receive<'a, R>(rt: R, r: &'a Receiver<u64, R>, tally: &Tally) -> (Got<'a, R>, Got<'a, R>)
 where
     R: Wait + Threads + Copy + RandomSource + AllocGlobal + Send + Sync,
 {
-    thread::join(&rt, || poll_receives(rt, r), || poll_receives(rt, r))
+    thread::join(
+        &rt,
+        || poll_receives(rt, r, tally),
+        || poll_receives(rt, r, tally),
+    )
 }
 
 /// Polls a send that was woken, unless it is done.
@@ -128,44 +134,55 @@ fn settle_send<R: Wait + Copy>(
 }
 
 /// Polls a receive that was woken, unless it is done.
-fn settle_receive<R: Wait + Copy>(got: &mut (Went, MockTask, Recv<'_, u64, R>), done: &mut bool) {
+fn settle_receive<R: Wait + Copy>(
+    rt: R,
+    got: &mut (Went, MockTask, Recv<'_, u64, R>),
+    tally: &Tally,
+    done: &mut bool,
+) {
     if *done || !got.1.is_woken() {
         return;
     }
     if let Said::Got(message) = receives(&got.1, &mut got.2) {
         *done = true;
         got.0.note(message);
+        tally.note(&rt, message);
     }
 }
 
 /// What is still in the channel.
-fn drain<R: Wait + Copy>(r: &Receiver<u64, R>) -> Went {
+fn drain<R: Wait + Copy>(rt: R, r: &Receiver<u64, R>, tally: &Tally) -> Went {
     let mut left = Went::new();
-    for _ in 0..POLLS.wrapping_mul(4) {
+    for _ in 0..LIMIT {
         match r.try_recv() {
-            Ok(message) => left.note(message),
+            Ok(message) => {
+                left.note(message);
+                tally.note(&rt, message);
+            }
             Err(_) => return left,
         }
     }
     left
 }
 
-/// Whether what was sent is what was received, in each sender's order, and what is left.
-fn adds_up(sent: [Went; 2], got: [Went; 2], left: Went) -> bool {
-    let count = got[0]
-        .count
-        .wrapping_add(got[1].count)
-        .wrapping_add(left.count);
-    let sum = got[0].sum.wrapping_add(got[1].sum).wrapping_add(left.sum);
+/// Whether each message that was sent was received once or is left, and those of each sender went in order.
+fn adds_up<R: Wait>(
+    rt: &R,
+    sent: [Went; 2],
+    got: [Went; 2],
+    left: Went,
+    tally: &Tally,
+) -> bool {
     let ordered = got[0].in_order && got[1].in_order && left.in_order;
-    let all = sent[0].count.wrapping_add(sent[1].count) == count;
-    ordered && all && sent[0].sum.wrapping_add(sent[1].sum) == sum
+    ordered && tally.are_once(rt, sent[0].count, SECOND, sent[1].count)
 }
 
 fn settles<'a, R>(
+    rt: R,
     sent: (Sent<'a, R>, Sent<'a, R>),
     got: (Got<'a, R>, Got<'a, R>),
     r: &'a Receiver<u64, R>,
+    tally: &Tally,
 ) -> io::Result<bool>
 where
     R: Wait + Copy,
@@ -177,34 +194,42 @@ where
     for _ in 0..100 {
         settle_send(&mut a, 0, &mut done[0]);
         settle_send(&mut b, SECOND, &mut done[1]);
-        settle_receive(&mut c, &mut done[2]);
-        settle_receive(&mut d, &mut done[3]);
+        settle_receive(rt, &mut c, tally, &mut done[2]);
+        settle_receive(rt, &mut d, tally, &mut done[3]);
     }
     let senders_still = (done[0] || !a.1.is_woken()) && (done[1] || !b.1.is_woken());
     let receivers_still = (done[2] || !c.1.is_woken()) && (done[3] || !d.1.is_woken());
     let sends_rest = done[0] && done[1] || r.is_full();
     let receives_rest = done[2] && done[3] || r.is_empty();
-    let whole = adds_up([a.0, b.0], [c.0, d.0], drain(r));
+    let left = drain(rt, r, tally);
+    let whole = adds_up(&rt, [a.0, b.0], [c.0, d.0], left, tally);
     Ok(senders_still && receivers_still && sends_rest && receives_rest && whole)
 }
+
+/// What both threads of senders and both of receivers have in the end.
+type All<'a, R> = ((Sent<'a, R>, Sent<'a, R>), (Got<'a, R>, Got<'a, R>));
 
 fn all_four<'a, R>(
     rt: R,
     s: &'a Sender<u64, R>,
     r: &'a Receiver<u64, R>,
-) -> ((Sent<'a, R>, Sent<'a, R>), (Got<'a, R>, Got<'a, R>))
+    tally: &Tally,
+) -> All<'a, R>
 where
     R: Wait + Threads + Copy + RandomSource + AllocGlobal + Send + Sync,
 {
-    thread::join(&rt, || two_send(rt, s), || two_receive(rt, r))
+    thread::join(&rt, || two_send(rt, s), || two_receive(rt, r, tally))
 }
 
 fn comes_to_rest<R>(rt: R, s: &Sender<u64, R>, r: &Receiver<u64, R>) -> io::Result<bool>
 where
     R: Wait + Threads + Copy + RandomSource + AllocGlobal + Send + Sync,
 {
-    let (sent, got) = all_four(rt, s, r);
-    settles(sent, got, r)
+    let Some(tally) = Tally::new(rt.alloc(), LIMIT) else {
+        return Ok(false);
+    };
+    let (sent, got) = all_four(rt, s, r, &tally);
+    settles(rt, sent, got, r, &tally)
 }
 
 #[test]
