@@ -34,12 +34,16 @@ fn open<T: Drop, R: Wait + Copy>(
         return Err(OpenError::NoMemory);
     };
     let Ok(other) = Arc::try_clone(&shared) else {
+        drop(shared);
         return Err(OpenError::NoMemory);
     };
-    let id = match ids.next_four() {
-        Ok(four) => four[0].number(),
-        Err(_) => return Err(OpenError::IdsUsedUp),
+    let Ok(four) = ids.next_four() else {
+        drop(shared);
+        drop(other);
+        return Err(OpenError::IdsUsedUp);
     };
+    let id = four[0].number();
+    drop(four);
     Ok((
         Sender::new(rt, Counted::first(Link { shared, id })),
         Receiver::new(rt, Counted::first(Link { shared: other, id })),

@@ -66,12 +66,13 @@ impl<T: Drop, R: Wait + Copy> Receiver<T, R> {
     }
 
     /// Closes the channel: nothing more is sent, and what was sent can still be received. True in the one call that closed it;
-    /// all who wait are woken then. It may wait for the locks of those who wait.
+    /// all who wait are woken then. It may wait for the locks of those who wait. As `async-channel` 2.5.0.
     pub fn close(&self) -> bool {
         self.counted.link.shared.close(&self.rt)
     }
 
-    /// How many messages the channel held at a moment of the call. It may wait, since it asks again where others came between.
+    /// How many messages the channel held at a moment of the call. It may wait, since it asks again where others came between. As
+    /// `async-channel` 2.5.0.
     pub fn len(&self) -> usize {
         self.counted.link.shared.len(&self.rt)
     }
@@ -82,48 +83,51 @@ impl<T: Drop, R: Wait + Copy> Receiver<T, R> {
     ghost use Rattle.std.specs.Prelude.{◌≡◌, ◌↔◌, IsTrue, None, false};
     ghost use Rattle.concurrent_queue.specs.Replies.{room_of};
 
-    /// Whether the channel is closed. It waits for nobody.
+    /// Whether the channel is closed. It waits for nobody. As `async-channel` 2.5.0.
     pub fn is_closed(&self) -> bool {
         self.counted.link.shared.is_closed()
     }
 
-    /// Whether the channel holds no message. It waits for nobody.
+    /// Whether the channel holds no message. It waits for nobody. As `async-channel` 2.5.0.
     pub fn is_empty(&self) -> bool {
         self.counted.link.shared.is_empty()
     }
 
-    /// Whether the channel holds as many messages as it can; one without a bound never does. It waits for nobody.
+    /// Whether the channel holds as many messages as it can; one without a bound never does. It waits for nobody. As
+    /// `async-channel` 2.5.0.
     pub fn is_full(&self) -> bool
         ensures { room_of self.now.form ≡ None → result ≡ false }
     {
         self.counted.link.shared.is_full()
     }
 
-    /// How many messages the channel can hold, if there is a bound. It waits for nobody.
+    /// How many messages the channel can hold, if there is a bound. It waits for nobody. As `async-channel` 2.5.0.
     pub fn capacity(&self) -> Option<usize>
         ensures { result ≡ room_of self.now.form }
     {
         self.counted.link.shared.capacity()
     }
 
-    /// How many senders live. It waits for nobody.
+    /// How many senders live. It waits for nobody. As `async-channel` 2.5.0.
     pub fn sender_count(&self) -> usize {
         self.counted.link.shared.count(Side::Senders)
     }
 
-    /// How many receivers live. It waits for nobody.
+    /// How many receivers live. It waits for nobody. As `async-channel` 2.5.0.
     pub fn receiver_count(&self) -> usize {
         self.counted.link.shared.count(Side::Receivers)
     }
 
-    /// Whether both are handles of one channel: whether the identities are equal. It waits for nobody.
+    /// Whether both are handles of one channel: whether the identities are equal. It waits for nobody. As
+    /// `async-channel` 2.5.0, which compares addresses.
     pub fn same_channel(&self, other: &Receiver<T, R>) -> bool
         ensures { IsTrue result ↔ (self.now.id ≡ other.now.id) }
     {
         self.counted.link.is_same(&other.counted.link)
     }
 
-    /// Whether this stream has ended: whether the channel is closed, and then whether it is empty. It waits for nobody.
+    /// Whether this stream has ended: whether the channel is closed, and then whether it is empty. It waits for nobody. As
+    /// `FusedStream` of `async-channel` 2.5.0 says it.
     pub fn is_terminated(&self) -> bool {
         self.counted.link.shared.is_terminated()
     }
@@ -135,7 +139,9 @@ impl<T: Drop, R: Wait + Copy> Receiver<T, R> {
 
     /// One more receiver of this channel. `Clone` of `async-channel` 2.5.0, which ends the program where this is refused.
     ///
-    /// Refused where more than half of `usize::MAX` receivers live; nothing is changed then. It may wait for other clonings to end.
+    /// Refused where more than half of `usize::MAX` receivers live, or where the ties to the shared memory are used up. Nothing is
+    /// changed then: no step of a call that is refused raises the count, and what was raised can't be let go but by a handle's drop.
+    /// It may wait for other clonings to end.
     pub fn try_clone(&self) -> Result<Receiver<T, R>, HandleError>
         ensures { IfOk result (λ more. more ≡ self.now) }
     {

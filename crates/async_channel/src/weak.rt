@@ -37,8 +37,9 @@ impl<T: Drop, R: Wait + Copy> WeakSender<T, R> {
 
     /// A sender of this channel; `None` where the channel is closed or no sender lives.
     ///
-    /// Refused where more than half of `usize::MAX` senders live; nothing is changed then. It may wait for other clonings to
-    /// end. As `async-channel` 2.5.0, which ends the program where this is refused.
+    /// Refused where more than half of `usize::MAX` senders live, or where the ties to the shared memory are used up; nothing is
+    /// changed then, as by `try_clone`. It may wait for other clonings to end. As `async-channel` 2.5.0, which ends the program
+    /// where this is refused.
     pub fn upgrade(&self) -> Result<Option<Sender<T, R>>, HandleError>
         ensures { IfOk result (λ made. IfSome made (λ sender. sender ≡ self.now)) }
     {
@@ -97,8 +98,9 @@ impl<T: Drop, R: Wait + Copy> WeakReceiver<T, R> {
 
     /// A receiver of this channel; `None` where the channel is closed or no receiver lives.
     ///
-    /// Refused where more than half of `usize::MAX` receivers live; nothing is changed then. It may wait for other clonings to
-    /// end. As `async-channel` 2.5.0, which ends the program where this is refused.
+    /// Refused where more than half of `usize::MAX` receivers live, or where the ties to the shared memory are used up; nothing is
+    /// changed then, as by `try_clone`. It may wait for other clonings to end. As `async-channel` 2.5.0, which ends the program
+    /// where this is refused.
     pub fn upgrade(&self) -> Result<Option<Receiver<T, R>>, HandleError>
         ensures { IfOk result (λ made. IfSome made (λ receiver. receiver ≡ self.now)) }
     {

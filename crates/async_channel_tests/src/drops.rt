@@ -2,6 +2,7 @@
 
 use async_channel::{Receiver, Sender, bounded};
 use event_listener::id::EventIds;
+use futures::task::Poll;
 use futures::test::MockTask;
 use std::alloc::{AllocGlobal, Global};
 use std::random::RandomSource;
@@ -18,8 +19,12 @@ fn opened<R: Wait + Copy>(rt: R, alloc: Global) -> Option<Both<R>> {
     bounded(rt, alloc, 2, &mut EventIds::new()).ok()
 }
 
-/// Sends tokens by both calls that don't wait: how many were accepted, and how many displaced.
-fn sends<R: Wait + Copy>(s: &Sender<Token, R>, token: &Token) -> (usize, usize) {
+/// Sends tokens through a sender of its own by both calls that don't wait, and leaves a polled send behind: how many were accepted,
+/// and how many displaced.
+fn sends<R>(rt: R, s: Sender<Token, R>, token: &Token) -> (usize, usize)
+where
+    R: Wait + Copy + RandomSource + AllocGlobal,
+{
     let mut accepted = 0usize;
     let mut displaced = 0usize;
     for _ in 0..500 {
@@ -34,10 +39,18 @@ fn sends<R: Wait + Copy>(s: &Sender<Token, R>, token: &Token) -> (usize, usize) 
             displaced = displaced.wrapping_add(usize::from(oldest.is_some()));
         }
     }
-    (accepted, displaced)
+    let (Ok(last), Ok(task)) = (Arc::try_clone(token), MockTask::new(&rt)) else {
+        return (0, 1);
+    };
+    let went = matches!(task.poll(&mut s.send(last)), Poll::Ready(Ok(())));
+    (accepted.wrapping_add(usize::from(went)), displaced)
 }
 
-fn receives<R: Wait + Copy>(r: &Receiver<Token, R>) -> usize {
+/// Receives through a receiver of its own, and leaves a polled receive behind: how many came.
+fn receives<R>(rt: R, r: Receiver<Token, R>) -> usize
+where
+    R: Wait + Copy + RandomSource + AllocGlobal,
+{
     let mut received = 0usize;
     for _ in 0..500 {
         if r.try_recv().is_ok() {
@@ -45,22 +58,30 @@ fn receives<R: Wait + Copy>(r: &Receiver<Token, R>) -> usize {
         }
         thread::yield_now();
     }
-    received
+    let came = match MockTask::new(&rt) {
+        Ok(task) => matches!(task.poll(&mut r.recv()), Poll::Ready(Ok(_))),
+        Err(_) => false,
+    };
+    received.wrapping_add(usize::from(came))
 }
 
 /// Whether what was accepted is what was received, displaced or left, and nothing else of the tokens lives.
 fn adds_up<R>(rt: R, ends: &Both<R>, token: &Token) -> bool
 where
-    R: Wait + Threads + Copy + Send + Sync,
+    R: Wait + Threads + Copy + RandomSource + AllocGlobal + Send + Sync,
 {
+    let (Ok(s), Ok(r)) = (ends.0.try_clone(), ends.1.try_clone()) else {
+        return false;
+    };
     let ((accepted, displaced), received) = thread::join(
         &rt,
-        || sends(&ends.0, token),
-        || receives(&ends.1),
+        move || sends(rt, s, token),
+        move || receives(rt, r),
     );
     let left = ends.1.len();
     let gone = received.wrapping_add(displaced).wrapping_add(left);
-    accepted == gone && Arc::strong_count(token) == left.wrapping_add(1)
+    let counted = (ends.0.sender_count(), ends.1.receiver_count()) == (1, 1);
+    counted && accepted == gone && Arc::strong_count(token) == left.wrapping_add(1)
 }
 
 /// A pending send is dropped on one thread, a receiver on another: whether both messages and the one left are let go.

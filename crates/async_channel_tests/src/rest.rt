@@ -166,13 +166,7 @@ fn drain<R: Wait + Copy>(rt: R, r: &Receiver<u64, R>, tally: &Tally) -> Went {
 }
 
 /// Whether each message that was sent was received once or is left, and those of each sender went in order.
-fn adds_up<R: Wait>(
-    rt: &R,
-    sent: [Went; 2],
-    got: [Went; 2],
-    left: Went,
-    tally: &Tally,
-) -> bool {
+fn adds_up<R: Wait>(rt: &R, sent: [Went; 2], got: [Went; 2], left: Went, tally: &Tally) -> bool {
     let ordered = got[0].in_order && got[1].in_order && left.in_order;
     ordered && tally.are_once(rt, sent[0].count, SECOND, sent[1].count)
 }
