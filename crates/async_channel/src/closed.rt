@@ -33,7 +33,11 @@ impl<'a, T: Drop, R: Wait + Copy> Closed<'a, T, R> {
     fn leave(&mut self) {
         let sender = self.sender;
         let key = self.waits.key.take();
-        sender.link.shared.give_up(&sender.rt, Line::Closings, key);
+        sender
+            .counted
+            .link
+            .shared
+            .give_up(&sender.rt, Line::Closings, key);
     }
 }
 
@@ -42,7 +46,7 @@ impl<T: Drop, R: Wait + Copy> Future for Closed<'_, T, R> {
 
     fn poll(&mut self, cx: &mut Context<'_>) -> Poll<Result<(), ListenError>> {
         let sender = self.sender;
-        let shared = &sender.link.shared;
+        let shared = &sender.counted.link.shared;
         let task = self.waits.arm(&sender.rt, shared.alloc, cx);
         let key = self.waits.key.take();
         let (polled, key) = shared.poll_closed(&sender.rt, key, task);

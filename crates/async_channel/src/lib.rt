@@ -21,6 +21,7 @@
 mod blocking;
 mod cells;
 mod closed;
+mod counted;
 mod link;
 mod open;
 mod polls;

@@ -5,6 +5,7 @@ ghost use Rattle.concurrent_queue.specs.Replies.{room_of};
 ghost use Rattle.concurrent_queue.specs.SharedQueue.{limit};
 ghost use Rattle.async_channel.specs.Handles.{handle_of};
 
+use crate::counted::Counted;
 use crate::link::Link;
 use crate::receiver::Receiver;
 use crate::sender::Sender;
@@ -33,15 +34,19 @@ fn open<T: Drop, R: Wait + Copy>(
         return Err(OpenError::NoMemory);
     };
     let Ok(other) = Arc::try_clone(&shared) else {
+        drop(shared);
         return Err(OpenError::NoMemory);
     };
-    let id = match ids.next_four() {
-        Ok(four) => four[0].number(),
-        Err(_) => return Err(OpenError::IdsUsedUp),
+    let Ok(four) = ids.next_four() else {
+        drop(shared);
+        drop(other);
+        return Err(OpenError::IdsUsedUp);
     };
+    let id = four[0].number();
+    drop(four);
     Ok((
-        Sender::new(rt, Link { shared, id }),
-        Receiver::new(rt, Link { shared: other, id }),
+        Sender::new(rt, Counted::first(Link { shared, id })),
+        Receiver::new(rt, Counted::first(Link { shared: other, id })),
     ))
 }
 

@@ -1,6 +1,6 @@
 //! The receiving side of a channel.
 
-use crate::link::Link;
+use crate::counted::Counted;
 use crate::recv::Recv;
 use crate::waits::Waits;
 use crate::weak::WeakReceiver;
@@ -17,7 +17,7 @@ use std::sync::Wait;
 /// the channel. The drop may wait for the locks of those who wait. Contracts see a receiver as its channel: how many messages
 /// it holds at most, and its identity. As `async-channel` 2.5.0, but that it has the runtime with it.
 pub struct Receiver<T: Drop, R: Wait + Copy> {
-    pub(crate) link: Link<T>,
+    pub(crate) counted: Counted<T>,
     pub(crate) rt: R,
     pub(crate) waits: Waits,
 }
@@ -27,18 +27,18 @@ impl<T: Drop, R: Wait + Copy> Model for Receiver<T, R> {
 
     ghost Value = { Handle };
 
-    ghost view = { λ h. handle_of h.link };
+    ghost view = { λ h. handle_of h.counted.link };
 }
 
 impl<T: Drop, R: Wait + Copy> Receiver<T, R> {
     ghost use Rattle.std.specs.Prelude.{◌≡◌};
     ghost use Rattle.async_channel.specs.Handles.{handle_of};
 
-    pub(crate) fn new(rt: R, link: Link<T>) -> Receiver<T, R>
-        ensures { result ≡ handle_of link }
+    pub(crate) fn new(rt: R, counted: Counted<T>) -> Receiver<T, R>
+        ensures { result ≡ handle_of counted.link }
     {
         Receiver {
-            link,
+            counted,
             rt,
             waits: Waits::new(),
         }
@@ -49,7 +49,7 @@ impl<T: Drop, R: Wait + Copy> Receiver<T, R> {
     /// Refused where there is none: as empty while the channel is open, as closed afterwards. It doesn't wait for a message, but
     /// may wait for another call's end and for the locks of those who wait. As `async-channel` 2.5.0.
     pub fn try_recv(&self) -> Result<T, TryRecvError> {
-        self.link.shared.try_recv(&self.rt)
+        self.counted.link.shared.try_recv(&self.rt)
     }
 
     /// A receive that waits for a message: nothing is done until it is polled. As `async-channel` 2.5.0.
@@ -62,18 +62,19 @@ impl<T: Drop, R: Wait + Copy> Receiver<T, R> {
     /// Refused where the channel is closed and empty, or where what a wait needs was refused: memory, or a serial of a listener.
     /// As `async-channel` 2.5.0, but for the wants.
     pub fn recv_blocking(&self) -> Result<T, Refused<RecvError>> {
-        self.link.shared.recv_blocking(&self.rt)
+        self.counted.link.shared.recv_blocking(&self.rt)
     }
 
     /// Closes the channel: nothing more is sent, and what was sent can still be received. True in the one call that closed it;
-    /// all who wait are woken then. It may wait for the locks of those who wait.
+    /// all who wait are woken then. It may wait for the locks of those who wait. As `async-channel` 2.5.0.
     pub fn close(&self) -> bool {
-        self.link.shared.close(&self.rt)
+        self.counted.link.shared.close(&self.rt)
     }
 
-    /// How many messages the channel held at a moment of the call. It may wait, since it asks again where others came between.
+    /// How many messages the channel held at a moment of the call. It may wait, since it asks again where others came between. As
+    /// `async-channel` 2.5.0.
     pub fn len(&self) -> usize {
-        self.link.shared.len(&self.rt)
+        self.counted.link.shared.len(&self.rt)
     }
 }
 
@@ -82,50 +83,53 @@ impl<T: Drop, R: Wait + Copy> Receiver<T, R> {
     ghost use Rattle.std.specs.Prelude.{◌≡◌, ◌↔◌, IsTrue, None, false};
     ghost use Rattle.concurrent_queue.specs.Replies.{room_of};
 
-    /// Whether the channel is closed. It waits for nobody.
+    /// Whether the channel is closed. It waits for nobody. As `async-channel` 2.5.0.
     pub fn is_closed(&self) -> bool {
-        self.link.shared.is_closed()
+        self.counted.link.shared.is_closed()
     }
 
-    /// Whether the channel holds no message. It waits for nobody.
+    /// Whether the channel holds no message. It waits for nobody. As `async-channel` 2.5.0.
     pub fn is_empty(&self) -> bool {
-        self.link.shared.is_empty()
+        self.counted.link.shared.is_empty()
     }
 
-    /// Whether the channel holds as many messages as it can; one without a bound never does. It waits for nobody.
+    /// Whether the channel holds as many messages as it can; one without a bound never does. It waits for nobody. As
+    /// `async-channel` 2.5.0.
     pub fn is_full(&self) -> bool
         ensures { room_of self.now.form ≡ None → result ≡ false }
     {
-        self.link.shared.is_full()
+        self.counted.link.shared.is_full()
     }
 
-    /// How many messages the channel can hold, if there is a bound. It waits for nobody.
+    /// How many messages the channel can hold, if there is a bound. It waits for nobody. As `async-channel` 2.5.0.
     pub fn capacity(&self) -> Option<usize>
         ensures { result ≡ room_of self.now.form }
     {
-        self.link.shared.capacity()
+        self.counted.link.shared.capacity()
     }
 
-    /// How many senders live. It waits for nobody.
+    /// How many senders live. It waits for nobody. As `async-channel` 2.5.0.
     pub fn sender_count(&self) -> usize {
-        self.link.shared.count(Side::Senders)
+        self.counted.link.shared.count(Side::Senders)
     }
 
-    /// How many receivers live. It waits for nobody.
+    /// How many receivers live. It waits for nobody. As `async-channel` 2.5.0.
     pub fn receiver_count(&self) -> usize {
-        self.link.shared.count(Side::Receivers)
+        self.counted.link.shared.count(Side::Receivers)
     }
 
-    /// Whether both are handles of one channel: whether the identities are equal. It waits for nobody.
+    /// Whether both are handles of one channel: whether the identities are equal. It waits for nobody. As
+    /// `async-channel` 2.5.0, which compares addresses.
     pub fn same_channel(&self, other: &Receiver<T, R>) -> bool
         ensures { IsTrue result ↔ (self.now.id ≡ other.now.id) }
     {
-        self.link.is_same(&other.link)
+        self.counted.link.is_same(&other.counted.link)
     }
 
-    /// Whether this stream has ended: whether the channel is closed, and then whether it is empty. It waits for nobody.
+    /// Whether this stream has ended: whether the channel is closed, and then whether it is empty. It waits for nobody. As
+    /// `FusedStream` of `async-channel` 2.5.0 says it.
     pub fn is_terminated(&self) -> bool {
-        self.link.shared.is_terminated()
+        self.counted.link.shared.is_terminated()
     }
 }
 
@@ -135,15 +139,17 @@ impl<T: Drop, R: Wait + Copy> Receiver<T, R> {
 
     /// One more receiver of this channel. `Clone` of `async-channel` 2.5.0, which ends the program where this is refused.
     ///
-    /// Refused where more than half of `usize::MAX` receivers live; nothing is changed then. It may wait for other clonings to end.
+    /// Refused where more than half of `usize::MAX` receivers live, or where the ties to the shared memory are used up. Nothing is
+    /// changed then: no step of a call that is refused raises the count, and what was raised can't be let go but by a handle's drop.
+    /// It may wait for other clonings to end.
     pub fn try_clone(&self) -> Result<Receiver<T, R>, HandleError>
         ensures { IfOk result (λ more. more ≡ self.now) }
     {
-        let Some(link) = self.link.try_clone() else {
+        let Some(link) = self.counted.link.try_clone() else {
             return Err(HandleError::NoMemory);
         };
-        match self.link.shared.clone_handle(&self.rt, Side::Receivers) {
-            Ok(()) => Ok(Receiver::new(self.rt, link)),
+        match Counted::one_more(link, &self.rt, Side::Receivers) {
+            Ok(counted) => Ok(Receiver::new(self.rt, counted)),
             Err(error) => Err(error),
         }
     }
@@ -154,7 +160,7 @@ impl<T: Drop, R: Wait + Copy> Receiver<T, R> {
         ensures channel { IfOk result (λ weak. weak ≡ self.now) }
         ensures reason { IfErr result (λ e. e ≡ HandleError.NoMemory) }
     {
-        match self.link.try_clone() {
+        match self.counted.link.try_clone() {
             Some(link) => Ok(WeakReceiver::new(self.rt, link)),
             None => Err(HandleError::NoMemory),
         }
@@ -169,7 +175,7 @@ impl<T: Drop, R: Wait + Copy> fmt::Debug for Receiver<T, R> {
 
 impl<T: Drop, R: Wait + Copy> Drop for Receiver<T, R> {
     fn drop(self) {
-        let Self { link, rt, waits } = self;
-        drop(link.shared.run(&rt, ChannelAsk::DropReceiver(waits.key)));
+        let Self { counted, rt, waits } = self;
+        counted.lower(&rt, ChannelAsk::DropReceiver(waits.key));
     }
 }

@@ -34,6 +34,7 @@ impl<'a, T: Drop, R: Wait + Copy> Recv<'a, T, R> {
         let receiver = self.receiver;
         let key = self.waits.key.take();
         receiver
+            .counted
             .link
             .shared
             .give_up(&receiver.rt, Line::Receives, key);
@@ -45,7 +46,7 @@ impl<T: Drop, R: Wait + Copy> Future for Recv<'_, T, R> {
 
     fn poll(&mut self, cx: &mut Context<'_>) -> Poll<Result<T, Refused<RecvError>>> {
         let receiver = self.receiver;
-        let shared = &receiver.link.shared;
+        let shared = &receiver.counted.link.shared;
         let task = self.waits.arm(&receiver.rt, shared.alloc, cx);
         let key = self.waits.key.take();
         let (polled, key) = shared.poll_recv(&receiver.rt, key, task);

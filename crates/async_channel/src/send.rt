@@ -52,7 +52,7 @@ impl<'a, T: Drop, R: Wait + Copy> Send<'a, T, R> {
         ensures kept { Keeps cx.old cx.new }
     {
         let sender = self.sender;
-        let shared = &sender.link.shared;
+        let shared = &sender.counted.link.shared;
         let task = self.waits.arm(&sender.rt, shared.alloc, cx);
         let message = self.message.take();
         let key = self.waits.key.take();
@@ -83,7 +83,11 @@ impl<'a, T: Drop, R: Wait + Copy> Send<'a, T, R> {
         let sender = self.sender;
         let message = self.message.take();
         let key = self.waits.key.take();
-        sender.link.shared.give_up_send(&sender.rt, message, key)
+        sender
+            .counted
+            .link
+            .shared
+            .give_up_send(&sender.rt, message, key)
     }
 }
 

@@ -1,7 +1,7 @@
 //! The sending side of a channel.
 
 use crate::closed::Closed;
-use crate::link::Link;
+use crate::counted::Counted;
 use crate::send::Send;
 use crate::weak::WeakSender;
 use channel_calls::ask::ChannelAsk;
@@ -17,7 +17,7 @@ use std::sync::Wait;
 /// sender as its channel: how many messages it holds at most, and its identity. As `async-channel` 2.5.0, but that it has the
 /// runtime with it.
 pub struct Sender<T: Drop, R: Wait + Copy> {
-    pub(crate) link: Link<T>,
+    pub(crate) counted: Counted<T>,
     pub(crate) rt: R,
 }
 
@@ -26,7 +26,7 @@ impl<T: Drop, R: Wait + Copy> Model for Sender<T, R> {
 
     ghost Value = { Handle };
 
-    ghost view = { λ h. handle_of h.link };
+    ghost view = { λ h. handle_of h.counted.link };
 }
 
 impl<T: Drop, R: Wait + Copy> Sender<T, R> {
@@ -36,10 +36,10 @@ impl<T: Drop, R: Wait + Copy> Sender<T, R> {
     ghost use Rattle.channel_calls.specs.Replies.{RefusesTrySend, RefusesForceSend};
     ghost use Rattle.async_channel.specs.Handles.{handle_of, Unsent};
 
-    pub(crate) fn new(rt: R, link: Link<T>) -> Sender<T, R>
-        ensures { result ≡ handle_of link }
+    pub(crate) fn new(rt: R, counted: Counted<T>) -> Sender<T, R>
+        ensures { result ≡ handle_of counted.link }
     {
-        Sender { link, rt }
+        Sender { counted, rt }
     }
 
     /// Sends the message where there is a place for it.
@@ -50,7 +50,7 @@ impl<T: Drop, R: Wait + Copy> Sender<T, R> {
     pub fn try_send(&self, message: T) -> Result<(), Refused<TrySendError<T>, T>>
         ensures { IfErr result (λ e. RefusesTrySend (is_bounded self.now.form) message e) }
     {
-        self.link.shared.try_send(&self.rt, message)
+        self.counted.link.shared.try_send(&self.rt, message)
     }
 
     /// Sends the message; where the channel is full, its oldest message leaves for it and is answered.
@@ -61,7 +61,7 @@ impl<T: Drop, R: Wait + Copy> Sender<T, R> {
         ensures refused { IfErr result (λ e. RefusesForceSend (is_bounded self.now.form) message e) }
         ensures displaced { room_of self.now.form ≡ None → IfOk result (λ oldest. oldest ≡ None) }
     {
-        self.link.shared.force_send(&self.rt, message)
+        self.counted.link.shared.force_send(&self.rt, message)
     }
 
     /// A send of this message that waits for a place: nothing is done until it is polled. As `async-channel` 2.5.0.
@@ -83,18 +83,19 @@ impl<T: Drop, R: Wait + Copy> Sender<T, R> {
     pub fn send_blocking(&self, message: T) -> Result<(), Refused<SendError<T>, T>>
         ensures { IfErr result (λ e. Unsent e ≡ message) }
     {
-        self.link.shared.send_blocking(&self.rt, message)
+        self.counted.link.shared.send_blocking(&self.rt, message)
     }
 
     /// Closes the channel: nothing more is sent, and what was sent can still be received. True in the one call that closed it;
-    /// all who wait are woken then. It may wait for the locks of those who wait.
+    /// all who wait are woken then. It may wait for the locks of those who wait. As `async-channel` 2.5.0.
     pub fn close(&self) -> bool {
-        self.link.shared.close(&self.rt)
+        self.counted.link.shared.close(&self.rt)
     }
 
-    /// How many messages the channel held at a moment of the call. It may wait, since it asks again where others came between.
+    /// How many messages the channel held at a moment of the call. It may wait, since it asks again where others came between. As
+    /// `async-channel` 2.5.0.
     pub fn len(&self) -> usize {
-        self.link.shared.len(&self.rt)
+        self.counted.link.shared.len(&self.rt)
     }
 }
 
@@ -103,45 +104,47 @@ impl<T: Drop, R: Wait + Copy> Sender<T, R> {
     ghost use Rattle.std.specs.Prelude.{◌≡◌, ◌↔◌, IsTrue, None, false};
     ghost use Rattle.concurrent_queue.specs.Replies.{room_of};
 
-    /// Whether the channel is closed. It waits for nobody.
+    /// Whether the channel is closed. It waits for nobody. As `async-channel` 2.5.0.
     pub fn is_closed(&self) -> bool {
-        self.link.shared.is_closed()
+        self.counted.link.shared.is_closed()
     }
 
-    /// Whether the channel holds no message. It waits for nobody.
+    /// Whether the channel holds no message. It waits for nobody. As `async-channel` 2.5.0.
     pub fn is_empty(&self) -> bool {
-        self.link.shared.is_empty()
+        self.counted.link.shared.is_empty()
     }
 
-    /// Whether the channel holds as many messages as it can; one without a bound never does. It waits for nobody.
+    /// Whether the channel holds as many messages as it can; one without a bound never does. It waits for nobody. As
+    /// `async-channel` 2.5.0.
     pub fn is_full(&self) -> bool
         ensures { room_of self.now.form ≡ None → result ≡ false }
     {
-        self.link.shared.is_full()
+        self.counted.link.shared.is_full()
     }
 
-    /// How many messages the channel can hold, if there is a bound. It waits for nobody.
+    /// How many messages the channel can hold, if there is a bound. It waits for nobody. As `async-channel` 2.5.0.
     pub fn capacity(&self) -> Option<usize>
         ensures { result ≡ room_of self.now.form }
     {
-        self.link.shared.capacity()
+        self.counted.link.shared.capacity()
     }
 
-    /// How many senders live. It waits for nobody.
+    /// How many senders live. It waits for nobody. As `async-channel` 2.5.0.
     pub fn sender_count(&self) -> usize {
-        self.link.shared.count(Side::Senders)
+        self.counted.link.shared.count(Side::Senders)
     }
 
-    /// How many receivers live. It waits for nobody.
+    /// How many receivers live. It waits for nobody. As `async-channel` 2.5.0.
     pub fn receiver_count(&self) -> usize {
-        self.link.shared.count(Side::Receivers)
+        self.counted.link.shared.count(Side::Receivers)
     }
 
-    /// Whether both are handles of one channel: whether the identities are equal. It waits for nobody.
+    /// Whether both are handles of one channel: whether the identities are equal. It waits for nobody. As
+    /// `async-channel` 2.5.0, which compares addresses.
     pub fn same_channel(&self, other: &Sender<T, R>) -> bool
         ensures { IsTrue result ↔ (self.now.id ≡ other.now.id) }
     {
-        self.link.is_same(&other.link)
+        self.counted.link.is_same(&other.counted.link)
     }
 }
 
@@ -151,15 +154,17 @@ impl<T: Drop, R: Wait + Copy> Sender<T, R> {
 
     /// One more sender of this channel. `Clone` of `async-channel` 2.5.0, which ends the program where this is refused.
     ///
-    /// Refused where more than half of `usize::MAX` senders live; nothing is changed then. It may wait for other clonings to end.
+    /// Refused where more than half of `usize::MAX` senders live, or where the ties to the shared memory are used up. Nothing is
+    /// changed then: no step of a call that is refused raises the count, and what was raised can't be let go but by a handle's drop.
+    /// It may wait for other clonings to end.
     pub fn try_clone(&self) -> Result<Sender<T, R>, HandleError>
         ensures { IfOk result (λ more. more ≡ self.now) }
     {
-        let Some(link) = self.link.try_clone() else {
+        let Some(link) = self.counted.link.try_clone() else {
             return Err(HandleError::NoMemory);
         };
-        match self.link.shared.clone_handle(&self.rt, Side::Senders) {
-            Ok(()) => Ok(Sender::new(self.rt, link)),
+        match Counted::one_more(link, &self.rt, Side::Senders) {
+            Ok(counted) => Ok(Sender::new(self.rt, counted)),
             Err(error) => Err(error),
         }
     }
@@ -170,7 +175,7 @@ impl<T: Drop, R: Wait + Copy> Sender<T, R> {
         ensures channel { IfOk result (λ weak. weak ≡ self.now) }
         ensures reason { IfErr result (λ e. e ≡ HandleError.NoMemory) }
     {
-        match self.link.try_clone() {
+        match self.counted.link.try_clone() {
             Some(link) => Ok(WeakSender::new(self.rt, link)),
             None => Err(HandleError::NoMemory),
         }
@@ -185,7 +190,7 @@ impl<T: Drop, R: Wait + Copy> fmt::Debug for Sender<T, R> {
 
 impl<T: Drop, R: Wait + Copy> Drop for Sender<T, R> {
     fn drop(self) {
-        let Self { link, rt } = self;
-        drop(link.shared.run(&rt, ChannelAsk::DropSender));
+        let Self { counted, rt } = self;
+        counted.lower(&rt, ChannelAsk::DropSender);
     }
 }

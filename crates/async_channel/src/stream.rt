@@ -6,15 +6,17 @@ use futures::Stream;
 use futures::task::{Context, Poll};
 use std::sync::Wait;
 
-/// It ends once the channel is closed and empty. Where memory or a serial of a listener is refused that is its next item.
+/// It ends once the channel is closed and empty. Where memory or a serial of a listener is refused that is its next item. A poll
+/// takes a copy of the waker first; where none is got nothing is tried, and memory is what is wanted. It may wait for another
+/// call's end and for the locks of those who wait. As `async-channel` 2.5.0, but for the refusals.
 impl<T: Drop, R: Wait + Copy> Stream for Receiver<T, R> {
     type Item = Result<T, ListenError>;
 
     fn poll_next(&mut self, cx: &mut Context<'_>) -> Poll<Option<Result<T, ListenError>>> {
         let rt = self.rt;
-        let task = self.waits.arm(&rt, self.link.shared.alloc, cx);
+        let task = self.waits.arm(&rt, self.counted.link.shared.alloc, cx);
         let key = self.waits.key.take();
-        let (polled, key) = self.link.shared.poll_next(&rt, key, task);
+        let (polled, key) = self.counted.link.shared.poll_next(&rt, key, task);
         self.waits.key = key;
         polled
     }

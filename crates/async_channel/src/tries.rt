@@ -8,9 +8,8 @@ ghost use Rattle.async_channel.specs.Handles.{form_of};
 
 use crate::shared::{Given, Shared};
 use channel_calls::ask::ChannelAsk;
-use channel_calls::error::{HandleError, Refused, SendError, TryRecvError, TrySendError};
+use channel_calls::error::{Refused, SendError, TryRecvError, TrySendError};
 use channel_calls::reply::Reply;
-use channel_calls::stage::Side;
 use std::sync::Wait;
 
 impl<T: Drop> Shared<T> {
@@ -52,37 +51,22 @@ impl<T: Drop> Shared<T> {
     }
 
     pub(crate) fn close<R: Wait>(&self, rt: &R) -> bool {
-        match self.run(rt, ChannelAsk::Close).reply {
-            Reply::Closed(closed) => closed,
+        let given = self.run(rt, ChannelAsk::Close);
+        let closed = match &given.reply {
+            Reply::Closed(closed) => *closed,
             _ => unreachable!(),
-        }
+        };
+        drop(given);
+        closed
     }
 
     pub(crate) fn len<R: Wait>(&self, rt: &R) -> usize {
-        match self.run(rt, ChannelAsk::Len).reply {
-            Reply::Count(count) => count,
+        let given = self.run(rt, ChannelAsk::Len);
+        let count = match &given.reply {
+            Reply::Count(count) => *count,
             _ => unreachable!(),
-        }
-    }
-
-    /// Counts one more handle of this kind. Refused where more than half of `usize::MAX` live; nothing is changed then.
-    pub(crate) fn clone_handle<R: Wait>(&self, rt: &R, side: Side) -> Result<(), HandleError>
-        ensures { IfErr result (λ e. e ≡ HandleError.TooMany) }
-    {
-        match self.run(rt, ChannelAsk::CloneHandle(side)).reply {
-            Reply::Made => Ok(()),
-            _ => Err(HandleError::TooMany),
-        }
-    }
-
-    /// Counts one more handle of this kind, where the channel is open and one lives: whether it did. Refused as above.
-    pub(crate) fn upgrade<R: Wait>(&self, rt: &R, side: Side) -> Result<bool, HandleError>
-        ensures { IfErr result (λ e. e ≡ HandleError.TooMany) }
-    {
-        match self.run(rt, ChannelAsk::Upgrade(side)).reply {
-            Reply::Made => Ok(true),
-            Reply::NotMade => Ok(false),
-            _ => Err(HandleError::TooMany),
-        }
+        };
+        drop(given);
+        count
     }
 }

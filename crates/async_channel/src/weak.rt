@@ -1,5 +1,6 @@
 //! The weak handles of a channel, which don't keep it open.
 
+use crate::counted::Counted;
 use crate::link::Link;
 use crate::receiver::Receiver;
 use crate::sender::Sender;
@@ -36,17 +37,18 @@ impl<T: Drop, R: Wait + Copy> WeakSender<T, R> {
 
     /// A sender of this channel; `None` where the channel is closed or no sender lives.
     ///
-    /// Refused where more than half of `usize::MAX` senders live; nothing is changed then. It may wait for other clonings to
-    /// end. As `async-channel` 2.5.0, which ends the program where this is refused.
+    /// Refused where more than half of `usize::MAX` senders live, or where the ties to the shared memory are used up; nothing is
+    /// changed then, as by `try_clone`. It may wait for other clonings to end. As `async-channel` 2.5.0, which ends the program
+    /// where this is refused.
     pub fn upgrade(&self) -> Result<Option<Sender<T, R>>, HandleError>
         ensures { IfOk result (λ made. IfSome made (λ sender. sender ≡ self.now)) }
     {
         let Some(link) = self.link.try_clone() else {
             return Err(HandleError::NoMemory);
         };
-        match self.link.shared.upgrade(&self.rt, Side::Senders) {
-            Ok(true) => Ok(Some(Sender::new(self.rt, link))),
-            Ok(false) => Ok(None),
+        match Counted::upgraded(link, &self.rt, Side::Senders) {
+            Ok(Some(counted)) => Ok(Some(Sender::new(self.rt, counted))),
+            Ok(None) => Ok(None),
             Err(error) => Err(error),
         }
     }
@@ -96,17 +98,18 @@ impl<T: Drop, R: Wait + Copy> WeakReceiver<T, R> {
 
     /// A receiver of this channel; `None` where the channel is closed or no receiver lives.
     ///
-    /// Refused where more than half of `usize::MAX` receivers live; nothing is changed then. It may wait for other clonings to
-    /// end. As `async-channel` 2.5.0, which ends the program where this is refused.
+    /// Refused where more than half of `usize::MAX` receivers live, or where the ties to the shared memory are used up; nothing is
+    /// changed then, as by `try_clone`. It may wait for other clonings to end. As `async-channel` 2.5.0, which ends the program
+    /// where this is refused.
     pub fn upgrade(&self) -> Result<Option<Receiver<T, R>>, HandleError>
         ensures { IfOk result (λ made. IfSome made (λ receiver. receiver ≡ self.now)) }
     {
         let Some(link) = self.link.try_clone() else {
             return Err(HandleError::NoMemory);
         };
-        match self.link.shared.upgrade(&self.rt, Side::Receivers) {
-            Ok(true) => Ok(Some(Receiver::new(self.rt, link))),
-            Ok(false) => Ok(None),
+        match Counted::upgraded(link, &self.rt, Side::Receivers) {
+            Ok(Some(counted)) => Ok(Some(Receiver::new(self.rt, counted))),
+            Ok(None) => Ok(None),
             Err(error) => Err(error),
         }
     }

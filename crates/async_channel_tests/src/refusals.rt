@@ -1,13 +1,19 @@
-//! What is answered where a growth is refused. Run with `rt try --test --fail-alloc N` for N from 1 on, these meet each refusal
-//! in turn: nothing is lost or doubled then, and what was refused goes when it is asked again.
+//! What is answered where a growth is refused. Run with `rt try --test --fail-alloc N -- refusals` for N from 1 on, these meet each
+//! refusal in turn: nothing is lost or doubled then, and what was refused goes when it is asked again.
 
-use async_channel::{OpenError, Receiver, Refused, Sender, TrySendError, bounded, unbounded};
+use crate::said::{Ends, Said, closes, opened, streams};
+use async_channel::{
+    OpenError, Receiver, Refused, Sender, TrySendError, WeakReceiver, WeakSender, bounded,
+    unbounded,
+};
 use event_listener::id::EventIds;
 use futures::task::Poll;
 use futures::test::MockTask;
 use std::alloc::Global;
 use std::sync::Wait;
 use std::test::Fail;
+use std::thread;
+use std::thread::Threads;
 
 /// How many of these were refused, and whether all was as it should be.
 #[derive(Clone, Copy, PartialEq, Eq, Debug)]
@@ -64,49 +70,173 @@ fn waits<R: Wait + Copy>(s: &Sender<u64, R>, r: &Receiver<u64, R>, task: &MockTa
     make_seen(refused, (refused || pending) && went && woken && got)
 }
 
-/// A send waits: where it is refused it keeps its message.
+/// A send waits: where it is refused it keeps its message, and else the next taking wakes it.
 fn keeps<R: Wait + Copy>(s: &Sender<u64, R>, r: &Receiver<u64, R>, task: &MockTask) -> Seen {
     let filled = s.try_send(1).is_ok();
     let mut send = s.send(2);
     let first = task.poll(&mut send);
     let refused = matches!(first, Poll::Ready(Err(Refused::NoMemory(()))));
     let kept = !send.is_terminated();
-    let back = send.give_up() == Some(2);
     let got = r.try_recv() == Ok(1);
+    let woken = refused || task.is_woken();
+    let back = send.give_up() == Some(2);
     make_seen(
         refused,
-        (refused || first.is_pending()) && filled && kept && back && got,
+        (refused || first.is_pending()) && filled && kept && got && woken && back,
     )
 }
 
-/// The blocking calls that need not wait take no memory.
-fn blocks<R: Wait + Copy>(s: &Sender<u64, R>, r: &Receiver<u64, R>) -> bool {
+/// A stream and a wait for the closing wait: where one is refused it isn't pending, and a message wakes the stream that is.
+fn streams_and_closings<R: Wait + Copy>(ends: &mut Ends<R>, tasks: [&MockTask; 2]) -> Seen {
+    let mut closed = ends.0.closed();
+    let waits = closes(tasks[0], &mut closed);
+    let streamed = streams(tasks[1], &mut ends.1);
+    let went = ends.0.try_send(6).is_ok();
+    let woken = streamed == Said::Wanted || tasks[1].is_woken();
+    let got = ends.1.try_recv() == Ok(6);
+    let polled = [waits, streamed];
+    let right = polled
+        .iter()
+        .all(|said| *said == Said::Pending || *said == Said::Wanted);
+    make_seen(
+        polled.contains(&Said::Wanted),
+        right && went && woken && got,
+    )
+}
+
+/// The calls that take no memory on a channel with a bound.
+fn takes_none<R: Wait + Copy>(s: &Sender<u64, R>, r: &Receiver<u64, R>) -> bool {
     let sent = s.send_blocking(8).is_ok();
     let full = s.try_send(9) == Err(Refused::Plain(TrySendError::Full(9)));
-    sent && full && r.recv_blocking() == Ok(8)
+    let forced = s.force_send(9) == Ok(Some(8));
+    sent && full && forced && r.recv_blocking() == Ok(9) && !s.is_closed()
+}
+
+/// More handles, of which none takes memory: so many strong ones as were made are counted, and none once they are dropped.
+fn counts<R: Wait + Copy>(s: &Sender<u64, R>, r: &Receiver<u64, R>) -> Seen {
+    let strong = (s.try_clone(), r.try_clone());
+    let weak = (s.downgrade(), r.downgrade());
+    let made = (
+        1usize.wrapping_add(usize::from(strong.0.is_ok())),
+        1usize.wrapping_add(usize::from(strong.1.is_ok())),
+    );
+    let counted = (s.sender_count(), r.receiver_count()) == made;
+    let upgraded = match &weak {
+        (Ok(ws), Ok(wr)) => upgrades(ws, wr),
+        _ => false,
+    };
+    drop(strong);
+    let refused = made != (2, 2) || !upgraded;
+    make_seen(
+        refused,
+        counted && (s.sender_count(), r.receiver_count()) == (1, 1),
+    )
+}
+
+/// Whether clones of weak handles are upgraded.
+fn upgrades<R: Wait + Copy>(ws: &WeakSender<u64, R>, wr: &WeakReceiver<u64, R>) -> bool {
+    match (ws.try_clone(), wr.try_clone()) {
+        (Ok(ws), Ok(wr)) => {
+            matches!(ws.upgrade(), Ok(Some(_))) && matches!(wr.upgrade(), Ok(Some(_)))
+        }
+        _ => false,
+    }
+}
+
+/// Lets others run for a while: long enough for a call beside it to sleep.
+fn pauses() {
+    for _ in 0..2_000u64 {
+        thread::yield_now();
+    }
+}
+
+/// A send finds no place and sleeps: where its listener or what it sleeps on is refused, the message is handed back.
+fn send_sleeps<R>(rt: R, s: &Sender<u64, R>, r: &Receiver<u64, R>) -> Seen
+where
+    R: Wait + Threads + Copy + Send + Sync,
+{
+    let filled = s.try_send(1).is_ok();
+    let (first, slept) = thread::join(
+        &rt,
+        || {
+            pauses();
+            r.try_recv() == Ok(1)
+        },
+        || s.send_blocking(2),
+    );
+    let refused = slept == Err(Refused::NoMemory(2));
+    let second = match slept {
+        Ok(()) => r.try_recv() == Ok(2),
+        Err(_) => refused,
+    };
+    make_seen(refused, filled && first && second && r.is_empty())
+}
+
+/// A receive finds no message and sleeps.
+fn receive_sleeps<R>(rt: R, s: &Sender<u64, R>, r: &Receiver<u64, R>) -> Seen
+where
+    R: Wait + Threads + Copy + Send + Sync,
+{
+    let (went, slept) = thread::join(
+        &rt,
+        || {
+            pauses();
+            s.try_send(3).is_ok()
+        },
+        || r.recv_blocking(),
+    );
+    let refused = slept == Err(Refused::NoMemory(()));
+    let got = match slept {
+        Ok(message) => message == 3,
+        Err(_) => refused && r.try_recv() == Ok(3),
+    };
+    make_seen(refused, went && got && r.is_empty())
+}
+
+/// How many of these were refused; `None` where one was not as it should be.
+fn all_right(all: &[Seen]) -> Option<usize> {
+    let mut refused = 0usize;
+    for one in all {
+        if !one.right {
+            return None;
+        }
+        refused = refused.wrapping_add(one.refused);
+    }
+    Some(refused)
 }
 
 #[test]
 fn refused_growths(rt: HostRuntime) -> Result<(), Fail> {
     let alloc = rt.alloc();
-    let mut ids = EventIds::new();
-    let task = MockTask::new(&rt)?;
-    let other = MockTask::new(&rt)?;
-    let (s, r) = bounded(rt, alloc, 1, &mut ids).expect(&rt, "memory");
-    let (us, ur) = unbounded(rt, alloc, &mut ids).expect(&rt, "memory");
+    let (one, two) = (MockTask::new(&rt)?, MockTask::new(&rt)?);
+    let (three, four) = (MockTask::new(&rt)?, MockTask::new(&rt)?);
+    let mut ends = opened(rt, alloc, 1).expect(&rt, "memory");
+    let (us, ur) = opened(rt, alloc, 0).expect(&rt, "memory");
     let all = [
         opens(rt, alloc),
         sends(&us, &ur),
-        waits(&s, &r, &task),
-        keeps(&s, &r, &other),
+        counts(&ends.0, &ends.1),
+        waits(&ends.0, &ends.1, &one),
+        keeps(&ends.0, &ends.1, &two),
+        streams_and_closings(&mut ends, [&three, &four]),
     ];
-    let mut refused = 0usize;
-    for one in all {
-        assert!(rt; one.right);
-        refused = refused.wrapping_add(one.refused);
-    }
-    assert!(rt; refused <= 1);
-    assert!(rt; blocks(&s, &r));
+    assert!(rt; all_right(all.as_slice()).is_some_and(|refused| refused <= 1));
+    assert!(rt; takes_none(&ends.0, &ends.1));
+    Ok(())
+}
+
+/// After a sleep that was refused nobody is left behind who takes a notice from those who wait later.
+#[test]
+fn refused_sleeps(rt: HostRuntime) -> Result<(), Fail> {
+    let (one, two) = (MockTask::new(&rt)?, MockTask::new(&rt)?);
+    let (s, r) = opened(rt, rt.alloc(), 1).expect(&rt, "memory");
+    let all = [
+        send_sleeps(rt, &s, &r),
+        receive_sleeps(rt, &s, &r),
+        waits(&s, &r, &one),
+        keeps(&s, &r, &two),
+    ];
+    assert!(rt; all_right(all.as_slice()).is_some_and(|refused| refused <= 1));
     Ok(())
 }
 

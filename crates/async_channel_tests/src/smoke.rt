@@ -12,7 +12,11 @@ where
     R: Wait + Copy + RandomSource + AllocGlobal,
 {
     let (s, r) = ends;
-    let first = s.try_send(7).is_ok() && r.try_recv() == Ok(7);
+    let went = match s.capacity() {
+        Some(_) => sent(rt, &s, 7),
+        None => s.try_send(7).is_ok(),
+    };
+    let first = went && r.try_recv() == Ok(7);
     let second = sent(rt, &s, 8) && received(rt, &r, 8);
     first && second && r.try_recv() == Err(TryRecvError::Empty)
 }
@@ -53,11 +57,11 @@ fn state<R: Wait + Copy>(s: &Sender<u64, R>, r: &Receiver<u64, R>) -> Option<(us
 fn lengths_of_two_places(rt: HostRuntime) -> Result<(), Fail> {
     let (s, r) = opened(rt, rt.alloc(), 2).expect(&rt, "memory");
     assert_eq!(rt; state(&s, &r), Some((0, true, false)));
-    assert!(rt; s.try_send(1).is_ok());
+    assert!(rt; sent(rt, &s, 1));
     assert_eq!(rt; state(&s, &r), Some((1, false, false)));
-    assert!(rt; s.try_send(2).is_ok());
+    assert!(rt; sent(rt, &s, 2));
     assert_eq!(rt; state(&s, &r), Some((2, false, true)));
-    assert!(rt; r.try_recv().is_ok());
+    assert!(rt; received(rt, &r, 1));
     assert_eq!(rt; state(&s, &r), Some((1, false, false)));
     Ok(())
 }
@@ -66,9 +70,9 @@ fn lengths_of_two_places(rt: HostRuntime) -> Result<(), Fail> {
 fn lengths_without_a_bound(rt: HostRuntime) -> Result<(), Fail> {
     let (s, r) = opened(rt, rt.alloc(), 0).expect(&rt, "memory");
     assert_eq!(rt; state(&s, &r), Some((0, true, false)));
-    assert!(rt; s.try_send(1).is_ok());
+    assert!(rt; sent(rt, &s, 1));
     assert_eq!(rt; state(&s, &r), Some((1, false, false)));
-    assert!(rt; r.try_recv().is_ok());
+    assert!(rt; received(rt, &r, 1));
     assert_eq!(rt; state(&s, &r), Some((0, true, false)));
     Ok(())
 }
@@ -88,13 +92,17 @@ fn capacities(rt: HostRuntime) -> Result<(), Fail> {
 }
 
 /// Fifty sends and fifty receives, with the length right after each.
-fn counts_fifty<R: Wait + Copy>(ends: &Ends<R>) -> bool {
+fn counts_fifty<R>(rt: R, ends: &Ends<R>) -> bool
+where
+    R: Wait + Copy + RandomSource + AllocGlobal,
+{
     let mut right = true;
     for i in 0..50usize {
-        right = right && ends.0.try_send(i as u64).is_ok() && ends.0.len() == i.wrapping_add(1);
+        let went = sent(rt, &ends.0, i as u64);
+        right = right && went && ends.0.len() == i.wrapping_add(1);
     }
     for i in 0..50usize {
-        let got = ends.1.try_recv() == Ok(i as u64);
+        let got = received(rt, &ends.1, i as u64);
         right = right && got && ends.1.len() == 49usize.wrapping_sub(i);
     }
     right
@@ -103,11 +111,11 @@ fn counts_fifty<R: Wait + Copy>(ends: &Ends<R>) -> bool {
 #[test]
 fn lengths_after_each_call(rt: HostRuntime) -> Result<(), Fail> {
     let unbounded = opened(rt, rt.alloc(), 0).expect(&rt, "memory");
-    assert!(rt; counts_fifty(&unbounded));
+    assert!(rt; counts_fifty(rt, &unbounded));
     let bounded = opened(rt, rt.alloc(), 1000).expect(&rt, "memory");
     let mut right = true;
     for _ in 0..100 {
-        right = right && counts_fifty(&bounded);
+        right = right && counts_fifty(rt, &bounded);
     }
     assert!(rt; right);
     Ok(())
@@ -122,12 +130,13 @@ where
     drop(r);
     let polled = sent_back(rt, &s, 4);
     let tried = s.try_send(5) == Err(Refused::Plain(TrySendError::Closed(5)));
-    before && polled && tried && refuses_blocking(&s)
+    let again = sent_back(rt, &s, 6);
+    before && polled && tried && again && refuses_blocking(&s)
 }
 
 fn refuses_blocking<R: Wait + Copy>(s: &Sender<u64, R>) -> bool {
-    match s.send_blocking(6) {
-        Err(Refused::Plain(error)) => error.into_inner() == 6,
+    match s.send_blocking(7) {
+        Err(Refused::Plain(error)) => error.into_inner() == 7,
         _ => false,
     }
 }
@@ -153,14 +162,17 @@ fn calls_after_the_closing(rt: HostRuntime) -> Result<(), Fail> {
     Ok(())
 }
 
-fn takes_a_thousand<R>(rt: R, ends: Ends<R>) -> bool
+fn takes_thousands<R>(rt: R, ends: Ends<R>) -> bool
 where
     R: Wait + Copy + RandomSource + AllocGlobal,
 {
     let (s, r) = ends;
     let mut all = true;
-    for i in 0..500u64 {
-        all = all && s.try_send(i).is_ok() && sent(rt, &s, i);
+    for i in 0..1_000u64 {
+        all = all && s.try_send(i).is_ok();
+    }
+    for i in 0..1_000u64 {
+        all = all && sent(rt, &s, i);
     }
     drop(r);
     let tried = s.try_send(777) == Err(Refused::Plain(TrySendError::Closed(777)));
@@ -169,7 +181,7 @@ where
 
 #[test]
 fn sends_without_a_bound(rt: HostRuntime) -> Result<(), Fail> {
-    assert!(rt; takes_a_thousand(rt, opened(rt, rt.alloc(), 0).expect(&rt, "memory")));
+    assert!(rt; takes_thousands(rt, opened(rt, rt.alloc(), 0).expect(&rt, "memory")));
     Ok(())
 }
 
@@ -190,7 +202,8 @@ fn handles_are_counted(rt: HostRuntime) -> Result<(), Fail> {
         assert_eq!(rt; (r.sender_count(), r.receiver_count()), (21, 21));
         drop(senders);
         drop(receivers);
-        assert_eq!(rt; (r.sender_count(), s.receiver_count()), (1, 1));
+        assert_eq!(rt; (s.sender_count(), s.receiver_count()), (1, 1));
+        assert_eq!(rt; (r.sender_count(), r.receiver_count()), (1, 1));
     }
     Ok(())
 }

@@ -55,7 +55,7 @@ fn notify_nobody<R: Wait>(rt: &R, event: &Event<()>) -> u64 {
 fn listen_and_drop<R: Wait + Copy>(rt: R, event: &Event<()>) -> u64 {
     let mut refused = 0u64;
     for _ in 0..CALLS {
-        match event.listen(rt) {
+        match event.listen(&rt) {
             Ok(listener) => drop(listener),
             Err(_) => refused = refused.wrapping_add(1),
         }

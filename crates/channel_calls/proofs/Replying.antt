@@ -385,6 +385,11 @@ module _ {T : Type 0} (W : Type 0) (b : QueueForm) where
   pub at_stage : (stage stage' : Stage (QueueCall T) T W) → stage ≡ stage' → (s : Stage (QueueCall T) T W) (o : Option (Reply T)) → FollowsStage b stage' s o → FollowsStage b stage s o
   at_stage stage stage' e s o h = subst (λ (z : Stage (QueueCall T) T W). FollowsStage b z s o) (sym e) h
 
+  pub at_next : (stage s s0 : Stage (QueueCall T) T W) (o o0 : Option (Reply T)) → s ≡ s0 → o ≡ o0 → FollowsStage b stage s0 o0 → FollowsStage b stage s o
+  at_next stage s s0 o o0 e g h =
+      let by_answer : FollowsStage b stage s0 o = subst (λ (z : Option (Reply T)). FollowsStage b stage s0 z) (sym g) h in
+      subst (λ (z : Stage (QueueCall T) T W). FollowsStage b stage z o) (sym e) by_answer
+
   pub at_work : (w w' : Work T W) → w ≡ w' → (s : Stage (QueueCall T) T W) (o : Option (Reply T)) → FollowsStage b (Working w') s o → FollowsStage b (Working w) s o
   at_work w w' e s o h = subst (λ (z : Work T W). FollowsStage b (Working z) s o) (sym e) h
 

@@ -258,6 +258,12 @@ module _ {T W : Type 0} (parts : Parts T W) (names : List W) (parts' : Parts T W
   pub at_mark : (stage stage' : Stage (QueueCall T) T W) (m m0 : Mark) (r : Option (Reply T)) → m ≡ m0 → IsStepOver parts stage names parts' stage' m0 r → IsStepOver parts stage names parts' stage' m r
   at_mark stage stage' m m0 r e h = subst (λ (x : Mark). IsStepOver parts stage names parts' stage' x r) (sym e) h
 
+  pub at_next : (stage s s0 : Stage (QueueCall T) T W) (m m0 : Mark) (r r0 : Option (Reply T)) → s ≡ s0 → m ≡ m0 → r ≡ r0 → IsStepOver parts stage names parts' s0 m0 r0 → IsStepOver parts stage names parts' s m r
+  at_next stage s s0 m m0 r r0 e f g h =
+      let by_reply : IsStepOver parts stage names parts' s0 m0 r = subst (λ (x : Option (Reply T)). IsStepOver parts stage names parts' s0 m0 x) (sym g) h in
+      let by_mark : IsStepOver parts stage names parts' s0 m r = subst (λ (x : Mark). IsStepOver parts stage names parts' s0 x r) (sym f) by_reply in
+      subst (λ (x : Stage (QueueCall T) T W). IsStepOver parts stage names parts' x m r) (sym e) by_mark
+
 pub at_reply : {T : Type 0} (c d : Contents T) (call call' : QueueCall T) (x y : Option (QueueReply T)) → x ≡ y → IsQueueStep c call d call' x → IsQueueStep c call d call' y
 at_reply {T} c d call call' x y e h = subst (λ (z : Option (QueueReply T)). IsQueueStep c call d call' z) e h
 

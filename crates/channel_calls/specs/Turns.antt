@@ -99,6 +99,12 @@ module _ {T : Type 0} where
   closer_ending (closer.Receiver key) closed = record { reply = reply.Unit; message = None; held = held_on Streams key }
 
 module _ {T W : Type 0} where
+  -- what is answered by this turn
+  abbrev pub answer_of : Turn T W → Option (Reply T)
+  answer_of (Tries x a) = None
+  answer_of (Works w) = None
+  answer_of (Ends x kept) = Some x
+
   -- the call answers, or drops the listener that it still holds and answers then
   abbrev pub ends_by : Ending T → Turn T W
   ends_by e = elim e.held [ None ↦ Ends e.reply (leaving None e.message) | Some held ↦ Works (work.Leave e) ]

@@ -1,8 +1,9 @@
 //! A call of a channel, which is made one step at a time.
 
-ghost use Rattle.std.specs.Prelude.{◌≡◌};
+ghost use Rattle.std.specs.Prelude.{◌≡◌, true, Some};
 ghost use Rattle.channel_calls.specs.Moves.{IsChannelStep, IsNewCall};
 ghost use Rattle.channel_calls.specs.Replies.{FollowsStage};
+ghost use Rattle.channel_calls.specs.Marks.{is_up};
 ghost use Rattle.concurrent_queue.specs.Replies.{is_bounded};
 ghost use Rattle.concurrent_queue.specs.declared.cells.QueueForm.{QueueForm};
 
@@ -11,7 +12,7 @@ use crate::cells::ChannelCells;
 use crate::mark::Mark;
 use crate::reply::Reply;
 use crate::stage::{Kept, Stage};
-use crate::step::{stage_step, takes};
+use crate::step::{Stepped, stage_step, takes};
 use concurrent_queue::queue_call::QueueCall;
 use event_listener::wakes::Wakes;
 use std::mem;
@@ -38,7 +39,8 @@ impl<T: Drop, W: Drop> ChannelCall<T, W> {
     /// and does nothing after that.
     ///
     /// Over cells whose contents are unknown, what may be answered after the step, and what it answers, might have been
-    /// answered before it.
+    /// answered before it. Over any cells a step that counts one handle more is its call's last, and answers that it was made:
+    /// a clone or an upgrade that is refused has counted none.
     pub fn step<C: ChannelCells<T, W>, S: Wakes<W>>(
         &mut self,
         cells: &mut C,
@@ -47,6 +49,7 @@ impl<T: Drop, W: Drop> ChannelCall<T, W> {
         ensures steps { C.known → IsChannelStep S.wakes (C.parts cells.old) self.old.stage sink.old (C.parts cells.new) self.new.stage self.new.mark result sink.new }
         ensures answers { (f : QueueForm) → C.has_form cells.old f → FollowsStage f self.old.stage self.new.stage result }
         ensures form { (f : QueueForm) → C.has_form cells.old f → C.has_form cells.new f }
+        ensures raises { is_up self.new.mark ≡ true → result ≡ Some Reply.Made }
     {
         let stage = mem::replace(&mut self.stage, Stage::Finished(Kept::nothing()));
         let stepped = stage_step(stage, cells, sink);
@@ -69,10 +72,9 @@ impl<T: Drop, W: Drop> ChannelCall<T, W> {
         ensures unmarked { result.mark ≡ Mark.Nothing }
     {
         let begun = takes(ask.first(), Mark::Nothing);
-        ChannelCall {
-            stage: begun.stage,
-            mark: begun.mark,
-        }
+        let Stepped { stage, mark, reply } = begun;
+        drop(reply);
+        ChannelCall { stage, mark }
     }
 
     /// What a call that has answered leaves to its operation: the listener of a pending one, the message of an unfinished

@@ -1,5 +1,5 @@
 //! A part of `async_channel`: the calls of a channel, cut into atomic steps, and what one step of each does, whatever other calls
-//! are under way.
+//! are under way. Their tests stand in `async_channel_tests`.
 #![tactic(auto)]
 
 mod answered;
@@ -13,6 +13,4 @@ pub mod plain;
 pub mod reply;
 pub mod stage;
 mod step;
-#[cfg(test)]
-mod tests;
 mod turn;

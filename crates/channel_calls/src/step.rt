@@ -1,9 +1,10 @@
 //! One step of a channel's call.
 
-ghost use Rattle.std.specs.Prelude.{◌≡◌, [], None};
+ghost use Rattle.std.specs.Prelude.{◌≡◌, [], None, true, false};
 ghost use Rattle.event_listener.specs.Notices.{Woken};
 ghost use Rattle.channel_calls.specs.Moves.{IsTaken, IsStepOver, IsChannelStep};
-ghost use Rattle.channel_calls.specs.Turns.{leaving};
+ghost use Rattle.channel_calls.specs.Turns.{leaving, answer_of};
+ghost use Rattle.channel_calls.specs.Marks.{is_up, is_made};
 ghost use Rattle.channel_calls.specs.Replies.{FollowsTurn, FollowsStage};
 ghost use Rattle.concurrent_queue.specs.Replies.{is_bounded};
 ghost use Rattle.concurrent_queue.specs.declared.cells.QueueForm.{QueueForm};
@@ -21,16 +22,18 @@ use concurrent_queue::queue_call::QueueCall;
 use event_listener::key::Key;
 use event_listener::wakes::Wakes;
 
-/// What one step leaves.
+/// What one step leaves. One that counts a handle more answers that it was made: no call that is refused has counted one.
 #[derive(Drop)]
 pub(crate) struct Stepped<T, W> {
     pub(crate) stage: Stage<QueueCall<T>, T, W>,
     pub(crate) mark: Mark,
     pub(crate) reply: Option<Reply<T>>,
+    ghost raises: { is_up mark ≡ true → is_made reply ≡ true },
 }
 
 /// Takes the turn after a step with this mark.
 pub(crate) fn takes<T: Drop, W: Drop>(turn: Turn<T, W>, mark: Mark) -> Stepped<T, W>
+    requires raises { is_up mark ≡ true → is_made (answer_of turn) ≡ true }
     ensures taken { IsTaken turn result.reply result.stage }
     ensures mark { result.mark ≡ mark }
     ensures follows { (b : QueueForm) → FollowsTurn b turn result.stage result.reply }
@@ -54,6 +57,20 @@ pub(crate) fn takes<T: Drop, W: Drop>(turn: Turn<T, W>, mark: Mark) -> Stepped<T
     }
 }
 
+/// The call stands at this stage after a step with this mark, and hasn't answered by it.
+fn goes_on<T, W>(stage: Stage<QueueCall<T>, T, W>, mark: Mark) -> Stepped<T, W>
+    requires raises { is_up mark ≡ false }
+    ensures stage { result.stage ≡ stage }
+    ensures mark { result.mark ≡ mark }
+    ensures reply { result.reply ≡ None }
+{
+    Stepped {
+        stage,
+        mark,
+        reply: None,
+    }
+}
+
 /// One step of the queue's call.
 fn try_step<T: Drop, W: Drop, C: ChannelCells<T, W>>(
     mut call: QueueCall<T>,
@@ -67,12 +84,11 @@ fn try_step<T: Drop, W: Drop, C: ChannelCells<T, W>>(
     let answer = cells.step_queue(&mut call);
     let mark = Mark::of_queue(call.last_mark());
     match answer {
-        None => Stepped {
-            stage: Stage::Trying(call, aim),
-            mark,
-            reply: None,
-        },
-        Some(answer) => takes(answered_next(aim, answer), mark),
+        None => goes_on(Stage::Trying(call, aim), mark),
+        Some(answer) => {
+            drop(call);
+            takes(answered_next(aim, answer), mark)
+        }
     }
 }
 
@@ -232,10 +248,6 @@ pub(crate) fn stage_step<T: Drop, W: Drop, C: ChannelCells<T, W>, S: Wakes<W>>(
     match stage {
         Stage::Trying(call, aim) => try_step(call, aim, cells),
         Stage::Working(work) => work_step(work, cells, sink),
-        Stage::Finished(kept) => Stepped {
-            stage: Stage::Finished(kept),
-            mark: Mark::Nothing,
-            reply: None,
-        },
+        Stage::Finished(kept) => goes_on(Stage::Finished(kept), Mark::Nothing),
     }
 }

@@ -48,16 +48,17 @@ impl<T: Drop> Event<T> {
         }
     }
 
-    /// Adds a listener, which is told by the next notice that reaches it. It gives up its place when it is dropped.
+    /// Adds a listener, which is told by the next notice that reaches it. It gives up its place when it is dropped, for which it
+    /// keeps a copy of the runtime.
     ///
     /// Refused for memory, or where all serials of the event's list were given; the listeners are as before then. It
     /// may wait for the list's lock.
-    pub fn listen<R: Wait + Copy>(&self, rt: R) -> Result<EventListener<T, R>, ListenError>
+    pub fn listen<R: Wait + Copy>(&self, rt: &R) -> Result<EventListener<T, R>, ListenError>
         ensures event { IfOk result (λ listener. listener.event ≡ self.now) }
         ensures listens { IfOk result (λ listener. listener.is_finished ≡ false) }
     {
         match Arc::new(self.alloc, WakerCell::new()) {
-            Ok(cell) => EventListener::new(rt, self, cell),
+            Ok(cell) => EventListener::new(*rt, self, cell),
             Err(_) => Err(ListenError::NoMemory),
         }
     }

@@ -78,9 +78,9 @@ fn additional_and_default<R: Wait + Copy>(
     task: &MockTask,
 ) -> Result<([usize; 3], [Polled<()>; 3]), Stuck> {
     let event: Event<()> = event(alloc)?;
-    let mut l1 = event.listen(rt)?;
-    let mut l2 = event.listen(rt)?;
-    let mut l3 = event.listen(rt)?;
+    let mut l1 = event.listen(&rt)?;
+    let mut l2 = event.listen(&rt)?;
+    let mut l3 = event.listen(&rt)?;
     let told = [
         event.notify_additional(&rt, 1),
         event.notify(&rt, 1u8).unwrap_or(9),
@@ -102,10 +102,10 @@ fn a_told_one_leaves<R: Wait + Copy>(
     task: &MockTask,
 ) -> Result<([usize; 2], [Polled<()>; 3]), Stuck> {
     let event: Event<()> = event(alloc)?;
-    let l1 = event.listen(rt)?;
-    let mut l2 = event.listen(rt)?;
-    let mut l3 = event.listen(rt)?;
-    let mut l4 = event.listen(rt)?;
+    let l1 = event.listen(&rt)?;
+    let mut l2 = event.listen(&rt)?;
+    let mut l3 = event.listen(&rt)?;
+    let mut l4 = event.listen(&rt)?;
     let told = [
         event.notify_additional(&rt, 1),
         event.notify(&rt, 2i16).unwrap_or(9),
@@ -127,9 +127,9 @@ fn made_tags<R: Wait + Copy>(
     task: &MockTask,
 ) -> Result<(usize, [Polled<u32>; 3]), Stuck> {
     let event: Event<u32> = event(alloc)?;
-    let mut l1 = event.listen(rt)?;
-    let mut l2 = event.listen(rt)?;
-    let mut l3 = event.listen(rt)?;
+    let mut l1 = event.listen(&rt)?;
+    let mut l2 = event.listen(&rt)?;
+    let mut l3 = event.listen(&rt)?;
     let mut next = 9u32;
     let notice = 2usize.tag_with(|| {
         next = next.wrapping_add(1);
@@ -153,13 +153,13 @@ fn made_for_whom<R: Wait + Copy>(rt: R, alloc: Global) -> Result<[(usize, u32); 
     let event: Event<u32> = event(alloc)?;
     let mut made = 0u32;
     let before = makes_tags(rt, &event, 3, &mut made);
-    drop(event.listen(rt)?);
+    drop(event.listen(&rt)?);
     let left = makes_tags(rt, &event, 3, &mut made);
-    let _told = event.listen(rt)?;
+    let _told = event.listen(&rt)?;
     let _ = event.notify(&rt, 1u8.tag(7u32));
     let told = makes_tags(rt, &event, 1, &mut made);
-    let _second = event.listen(rt)?;
-    let _third = event.listen(rt)?;
+    let _second = event.listen(&rt)?;
+    let _third = event.listen(&rt)?;
     let two = makes_tags(rt, &event, 4, &mut made);
     Ok([before, left, told, two])
 }
@@ -191,8 +191,8 @@ fn a_tag_is_passed_on<R: Wait + Copy>(
     task: &MockTask,
 ) -> Result<Polled<u32>, Stuck> {
     let event: Event<u32> = event(alloc)?;
-    let l1 = event.listen(rt)?;
-    let mut l2 = event.listen(rt)?;
+    let l1 = event.listen(&rt)?;
+    let mut l2 = event.listen(&rt)?;
     let _ = event.notify(&rt, 1u64.tag(7u32));
     drop(l1);
     poll(task, &mut l2)
@@ -204,8 +204,8 @@ fn discarded<R: Wait + Copy>(
     task: &MockTask,
 ) -> Result<(usize, bool, Polled<()>, bool), Stuck> {
     let event: Event<()> = event(alloc)?;
-    let l1 = event.listen(rt)?;
-    let mut l2 = event.listen(rt)?;
+    let l1 = event.listen(&rt)?;
+    let mut l2 = event.listen(&rt)?;
     let told = event.notify(&rt, 1u8).unwrap_or(9);
     let was_told = l1.discard();
     let polled = poll(task, &mut l2)?;
@@ -219,7 +219,7 @@ fn a_notice_for_nobody<R: Wait + Copy>(
 ) -> Result<(usize, Polled<()>), Stuck> {
     let event: Event<()> = event(alloc)?;
     let told = event.notify(&rt, 5i8).unwrap_or(9);
-    let mut l1 = event.listen(rt)?;
+    let mut l1 = event.listen(&rt)?;
     Ok((told, poll(task, &mut l1)?))
 }
 
@@ -227,10 +227,10 @@ fn a_notice_for_nobody<R: Wait + Copy>(
 /// and after.
 fn units<R: Wait + Copy>(rt: R, alloc: Global) -> Result<([usize; 5], [bool; 2], usize), Stuck> {
     let event = Event::new(alloc, EventIds::new().next()?);
-    let _first = event.listen(rt)?;
-    let _second = event.listen(rt)?;
-    let _third = event.listen(rt)?;
-    let _fourth = event.listen(rt)?;
+    let _first = event.listen(&rt)?;
+    let _second = event.listen(&rt)?;
+    let _third = event.listen(&rt)?;
+    let _fourth = event.listen(&rt)?;
     let before = event.is_notified(&rt);
     let told = [
         event.notify_relaxed(&rt, 1),
@@ -293,9 +293,9 @@ fn tags_run_out<R: Wait + Copy>(
     task: &MockTask,
 ) -> Result<(Result<usize, NotifyError>, [Polled<u32>; 3]), Stuck> {
     let event: Event<u32> = event(alloc)?;
-    let mut l1 = event.listen(rt)?;
-    let mut l2 = event.listen(rt)?;
-    let mut l3 = event.listen(rt)?;
+    let mut l1 = event.listen(&rt)?;
+    let mut l2 = event.listen(&rt)?;
+    let mut l3 = event.listen(&rt)?;
     let answer = event.notify(&rt, Scarce { left: 2 });
     Ok((
         answer,

@@ -21,7 +21,7 @@ fn six_events<R: Wait + Copy>(rt: R, alloc: Global) -> Result<bool, Stuck> {
     keep(&mut events, Event::with_tag(alloc, ids.next()?))?;
     let mut apart = true;
     for (place, event) in events.iter().enumerate() {
-        let listener = event.listen(rt)?;
+        let listener = event.listen(&rt)?;
         for (at, other) in events.iter().enumerate() {
             apart = apart && listener.listens_to(other) == (at == place);
         }

@@ -17,7 +17,7 @@ fn tag_of<T: Drop, L: Listener<T> + Drop>(waited: Result<T, WaitError<L>>) -> Op
 
 fn waited<R: Wait + Copy>(rt: R, alloc: Global) -> Result<Option<u32>, Stuck> {
     let event: Event<u32> = event(alloc)?;
-    let listener = event.listen(rt)?;
+    let listener = event.listen(&rt)?;
     let _ = event.notify(&rt, 1u8.tag(5u32));
     Ok(tag_of(listener.wait()))
 }
@@ -29,11 +29,11 @@ fn out_of_time<R: Wait + Clock + Copy>(
     let event: Event<u32> = event(alloc)?;
     let now = Instant::now(&rt).map_err(|_| Stuck::Waits)?;
     let zero = matches!(
-        event.listen(rt)?.wait_timeout(&rt, Duration::ZERO),
+        event.listen(&rt)?.wait_timeout(&rt, Duration::ZERO),
         Ok(None)
     );
-    let present = matches!(event.listen(rt)?.wait_deadline(&rt, now), Ok(None));
-    let told = event.listen(rt)?;
+    let present = matches!(event.listen(&rt)?.wait_deadline(&rt, now), Ok(None));
+    let told = event.listen(&rt)?;
     let _ = event.notify(&rt, 1u8.tag(6u32));
     let tag = told.wait_timeout(&rt, Duration::ZERO).unwrap_or(None);
     Ok((zero, present, tag, event.total_listeners(&rt)))
@@ -45,8 +45,8 @@ fn finished<R: Wait + Clock + Copy>(
     task: &MockTask,
 ) -> Result<([Polled<()>; 2], bool, bool), Stuck> {
     let event: Event<()> = event(alloc)?;
-    let mut listener = event.listen(rt)?;
-    let other = event.listen(rt)?;
+    let mut listener = event.listen(&rt)?;
+    let other = event.listen(&rt)?;
     let same = listener.same_event(&other) && listener.listens_to(&event);
     let _ = event.notify(&rt, 1u8);
     let polled = [poll(task, &mut listener)?, poll(task, &mut listener)?];
@@ -73,7 +73,7 @@ fn waits(rt: HostRuntime) -> Result<(), Fail> {
 
 fn told_twice<R: Wait + Copy>(rt: R, alloc: Global, task: &MockTask) -> Result<[bool; 5], Stuck> {
     let event: Event<()> = event(alloc)?;
-    let mut listener = event.listen(rt)?;
+    let mut listener = event.listen(&rt)?;
     let first = task.poll(&mut listener).is_pending();
     let second = task.poll(&mut listener).is_pending();
     let silent = !task.is_woken();
@@ -89,7 +89,7 @@ fn polled_by_hand<R: Wait + Copy>(
     task: &MockTask,
 ) -> Result<[bool; 2], Stuck> {
     let event: Event<()> = event(alloc)?;
-    let mut listener = event.listen(rt)?;
+    let mut listener = event.listen(&rt)?;
     poll(task, &mut listener)?;
     let silent = !task.is_woken();
     poll(task, &mut listener)?;
@@ -129,8 +129,8 @@ fn four_threads<R: Wait + Threads + Copy + Send + Sync>(
     rt: R,
     event: &Event<()>,
 ) -> Result<(usize, usize), Stuck> {
-    let first = event.listen(rt)?;
-    let second = event.listen(rt)?;
+    let first = event.listen(&rt)?;
+    let second = event.listen(&rt)?;
     let told = AtomicUsize::new(0);
     let counted = &told;
     let (one, two) = thread::join(
@@ -189,8 +189,8 @@ fn parked<R: Wait + Threads + Copy + Send + Sync>(
 ) -> Result<(bool, usize), Stuck> {
     let woken: Event<()> = event(alloc)?;
     let gate: Event<()> = event(alloc)?;
-    let sleeper = woken.listen(rt)?;
-    let at_gate = gate.listen(rt)?;
+    let sleeper = woken.listen(&rt)?;
+    let at_gate = gate.listen(&rt)?;
     let (out, inside) = (&gate, &woken);
     let (went_on, told) = thread::join(
         &rt,
@@ -212,8 +212,8 @@ fn dropped_elsewhere<R: Wait + Threads + Copy + Send + Sync>(
     task: &MockTask,
 ) -> Result<Polled<u32>, Stuck> {
     let event: Event<u32> = event(alloc)?;
-    let told = event.listen(rt)?;
-    let mut waiting = event.listen(rt)?;
+    let told = event.listen(&rt)?;
+    let mut waiting = event.listen(&rt)?;
     if !all_cross(&event, &told) {
         return Err(Stuck::Waits);
     }

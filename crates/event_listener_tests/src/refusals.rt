@@ -65,9 +65,9 @@ fn was_told<R: Wait + Copy>(listened: Result<EventListener<Costly, R>, ListenErr
 
 /// Three listen and one notice with costly tags goes to all of them.
 fn events<R: Wait + Copy>(rt: R, event: &Event<Costly>, alloc: Global) -> Seen {
-    let first = event.listen(rt);
-    let second = event.listen(rt);
-    let third = event.listen(rt);
+    let first = event.listen(&rt);
+    let second = event.listen(&rt);
+    let third = event.listen(&rt);
     let refused = [first.is_err(), second.is_err(), third.is_err()];
     let listed = 3usize.wrapping_sub(
         tally([refused[0], refused[1], refused[2], false], true).refused,
@@ -89,7 +89,7 @@ fn events<R: Wait + Copy>(rt: R, event: &Event<Costly>, alloc: Global) -> Seen {
 
 /// A told listener waits, and waits again where its parker was refused.
 fn waits<R: Wait + Clock + Copy>(rt: R, event: &Event<()>) -> Seen {
-    let Ok(told) = event.listen(rt) else {
+    let Ok(told) = event.listen(&rt) else {
         return tally([true, false, false, false], event.total_listeners(&rt) == 0);
     };
     let one = event.notify_additional(&rt, 1) == 1;

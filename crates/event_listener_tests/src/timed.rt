@@ -20,7 +20,7 @@ fn told_in_time<R: Wait + Threads + Clock + Copy + Send + Sync>(
 ) -> Result<(usize, Option<u32>, bool), Stuck> {
     let event: Event<u32> = event(alloc)?;
     let shared = &event;
-    let listener = event.listen(rt)?;
+    let listener = event.listen(&rt)?;
     let start = Instant::now(&rt).map_err(|_| Stuck::Waits)?;
     let (tag, told) = thread::join(
         &rt,
@@ -48,8 +48,8 @@ fn a_wait_that_is_told_in_time_gives_the_tag(rt: HostRuntime) -> Result<(), Fail
 fn time_passes<R: Wait + Clock + Copy>(rt: R, alloc: Global) -> Result<[bool; 3], Stuck> {
     let event: Event<()> = event(alloc)?;
     let limit = Duration::from_millis(30);
-    let first = event.listen(rt)?;
-    let second = event.listen(rt)?;
+    let first = event.listen(&rt)?;
+    let second = event.listen(&rt)?;
     let start = Instant::now(&rt).map_err(|_| Stuck::Waits)?;
     let none = matches!(first.wait_timeout(&rt, limit), Ok(None));
     let now = Instant::now(&rt).map_err(|_| Stuck::Waits)?;
@@ -78,7 +78,7 @@ const ROUNDS: usize = 20_000;
 fn waits_briefly<R: Wait + Clock + Copy>(rt: R, event: &Event<()>, begun: &AtomicUsize) -> usize {
     let mut woken = 0usize;
     for round in 0..ROUNDS {
-        let listener = event.listen(rt);
+        let listener = event.listen(&rt);
         begun.store(round.wrapping_add(1), Ordering::SeqCst);
         let Ok(listener) = listener else {
             continue;

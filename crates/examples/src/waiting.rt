@@ -9,7 +9,7 @@ use std::{io, thread};
 /// Waits until there is a value, and takes it. It listens before it looks, so no notice falls between.
 fn take<R: Wait>(rt: &R, event: &Event<()>, place: &Mutex<Option<u64>>) -> Option<u64> {
     for _ in rt.forever() {
-        let listener = event.listen(rt).ok()?;
+        let listener = event.listen(&rt).ok()?;
         if let Some(value) = place.lock(rt).take() {
             return Some(value);
         }

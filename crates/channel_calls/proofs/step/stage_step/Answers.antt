@@ -1,6 +1,6 @@
 use Rattle.std.proofs.Common.{[], refl, None}
 use Rattle.channel_calls.specs.declared.stage.Stage.TheVariants.{Trying, Working, Finished}
-use Rattle.channel_calls.proofs.Steps.{rests, at_stage}
+use Rattle.channel_calls.proofs.Steps.{rests, at_next, at_stage}
 use Rattle.concurrent_queue.specs.Replies.{is_bounded}
 use Rattle.channel_calls.specs.Replies.{FollowsStage}
 use Rattle.channel_calls.proofs.Replying as replying
@@ -13,7 +13,7 @@ pub returns-in-Working-clause-steps : goal.returns-in-Working-clause-steps
 returns-in-Working-clause-steps g c known = at_stage _ _ _ _ _ _ _ _ (Working c.in-Working.work) _ c.in-Working.is (c.work_step.ensures.steps known)
 
 pub returns-in-Finished-clause-steps : goal.returns-in-Finished-clause-steps
-returns-in-Finished-clause-steps g c known = at_stage _ _ _ _ _ _ _ _ (Finished c.in-Finished.kept) _ c.in-Finished.is ([], refl, rests _ _ c.in-Finished.kept refl)
+returns-in-Finished-clause-steps g c known = at_stage _ _ _ _ _ _ _ _ (Finished c.in-Finished.kept) _ c.in-Finished.is ([], refl, at_next _ _ _ _ _ _ _ _ _ _ c.goes_on.ensures.stage c.goes_on.ensures.mark c.goes_on.ensures.reply (rests _ _ c.in-Finished.kept refl))
 
 pub returns-in-Trying-clause-answers : goal.returns-in-Trying-clause-answers
 returns-in-Trying-clause-answers g c f has = replying.at_stage _ f _ (Trying c.in-Trying.call c.in-Trying.aim) c.in-Trying.is _ _ (c.try_step.ensures.answers f has)
@@ -25,4 +25,4 @@ pub returns-in-Finished-clause-answers : goal.returns-in-Finished-clause-answers
 returns-in-Finished-clause-answers g c f has =
     let kept = c.in-Finished.kept in
     let h : FollowsStage {W = g.row.W.Denot} f (Finished kept) (Finished kept) None = λ r m w. w in
-    replying.at_stage _ f _ (Finished kept) c.in-Finished.is (Finished kept) None h
+    replying.at_stage _ f _ (Finished kept) c.in-Finished.is _ _ (replying.at_next _ f (Finished kept) _ _ _ _ c.goes_on.ensures.stage c.goes_on.ensures.reply h)

@@ -1,0 +1,41 @@
+//! Which handles are of one channel, and which types cross threads.
+
+use async_channel::{
+    Closed, Receiver, Recv, Send as Sending, Sender, WeakReceiver, WeakSender, unbounded,
+};
+use event_listener::id::EventIds;
+use std::sync::Wait;
+use std::test::Fail;
+
+fn crosses<T: Send + Sync>() -> bool {
+    true
+}
+
+/// Each of these is `Send` and `Sync` where its messages are `Send`.
+fn all_cross<'a, R: Wait + Copy + Send + Sync + 'a>() -> bool {
+    crosses::<Sender<u64, R>>()
+        && crosses::<Receiver<u64, R>>()
+        && crosses::<WeakSender<u64, R>>()
+        && crosses::<WeakReceiver<u64, R>>()
+        && crosses::<Sending<'a, u64, R>>()
+        && crosses::<Recv<'a, u64, R>>()
+        && crosses::<Closed<'a, u64, R>>()
+}
+
+#[test]
+fn handles_of_one_channel(rt: HostRuntime) -> Result<(), Fail> {
+    let mut ids = EventIds::new();
+    let (s, r) = unbounded::<u64, _>(rt, rt.alloc(), &mut ids).expect(&rt, "memory");
+    let (other, _others) = unbounded::<u64, _>(rt, rt.alloc(), &mut ids).expect(&rt, "memory");
+    let more = s.try_clone().expect(&rt, "handles");
+    let weak = r
+        .downgrade()
+        .expect(&rt, "handles")
+        .upgrade()
+        .expect(&rt, "handles");
+    let again = weak.expect(&rt, "an open channel");
+    assert!(rt; s.same_channel(&more) && r.same_channel(&again));
+    assert!(rt; !s.same_channel(&other));
+    assert!(rt; all_cross::<HostRuntime>());
+    Ok(())
+}

@@ -1,0 +1,117 @@
+//! Ten tasks on each of two threads, run by an executor of `futures`.
+
+use crate::said::{Ends, opened};
+use async_channel::{Receiver, Recv, Send as Sending, Sender};
+use futures::Future;
+use futures::executor::LocalPool;
+use futures::task::{Context, Poll};
+use std::alloc::AllocGlobal;
+use std::random::RandomSource;
+use std::sync::Wait;
+use std::sync::atomic::{AtomicU64, Ordering};
+use std::test::Fail;
+use std::thread::Threads;
+use std::{io, thread};
+
+/// A task that sends one message, and counts it.
+#[derive(Drop)]
+struct SendTask<'a, R: Wait + Copy> {
+    send: Sending<'a, u64, R>,
+    sent: &'a AtomicU64,
+}
+
+impl<R: Wait + Copy> Future for SendTask<'_, R> {
+    type Output = ();
+
+    fn poll(&mut self, cx: &mut Context<'_>) -> Poll<()> {
+        match self.send.poll(cx) {
+            Poll::Pending => Poll::Pending,
+            Poll::Ready(answer) => {
+                if answer.is_ok() {
+                    self.sent.fetch_add(1, Ordering::SeqCst);
+                }
+                Poll::Ready(())
+            }
+        }
+    }
+}
+
+/// A task that receives one message, and adds it up.
+#[derive(Drop)]
+struct RecvTask<'a, R: Wait + Copy> {
+    recv: Recv<'a, u64, R>,
+    sum: &'a AtomicU64,
+}
+
+impl<R: Wait + Copy> Future for RecvTask<'_, R> {
+    type Output = ();
+
+    fn poll(&mut self, cx: &mut Context<'_>) -> Poll<()> {
+        match self.recv.poll(cx) {
+            Poll::Pending => Poll::Pending,
+            Poll::Ready(answer) => {
+                if let Ok(message) = answer {
+                    self.sum.fetch_add(message, Ordering::SeqCst);
+                }
+                Poll::Ready(())
+            }
+        }
+    }
+}
+
+fn ten_send<'a, R>(rt: R, s: &'a Sender<u64, R>, sent: &'a AtomicU64) -> io::Result<()>
+where
+    R: Wait + Copy + RandomSource + AllocGlobal,
+{
+    let mut pool = LocalPool::new(&rt)?;
+    let spawner = pool.spawner()?;
+    for i in 1..11u64 {
+        let send = s.send(i);
+        if spawner.spawn(SendTask { send, sent }).is_err() {
+            return Ok(());
+        }
+    }
+    pool.run(&rt);
+    Ok(())
+}
+
+fn ten_receive<'a, R>(rt: R, r: &'a Receiver<u64, R>, sum: &'a AtomicU64) -> io::Result<()>
+where
+    R: Wait + Copy + RandomSource + AllocGlobal,
+{
+    let mut pool = LocalPool::new(&rt)?;
+    let spawner = pool.spawner()?;
+    for _ in 0..10 {
+        let recv = r.recv();
+        if spawner.spawn(RecvTask { recv, sum }).is_err() {
+            return Ok(());
+        }
+    }
+    pool.run(&rt);
+    Ok(())
+}
+
+/// How many were sent, and the sum of what was received.
+fn runs_twenty<R>(rt: R, ends: Ends<R>) -> (u64, u64)
+where
+    R: Wait + Threads + Copy + RandomSource + AllocGlobal + Send + Sync,
+{
+    let (s, r) = ends;
+    let sent = AtomicU64::new(0);
+    let sum = AtomicU64::new(0);
+    let _ = thread::join(
+        &rt,
+        || ten_send(rt, &s, &sent),
+        || ten_receive(rt, &r, &sum),
+    );
+    (sent.load(Ordering::SeqCst), sum.load(Ordering::SeqCst))
+}
+
+#[test]
+fn tasks_of_two_executors(rt: HostRuntime) -> Result<(), Fail> {
+    for capacity in [1, 3, 0] {
+        let ends = opened(rt, rt.alloc(), capacity).expect(&rt, "memory");
+        assert_eq!(rt; runs_twenty(rt, ends), (10, 55));
+    }
+    Ok(())
+}

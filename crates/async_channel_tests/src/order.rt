@@ -1,0 +1,140 @@
+//! In which order a call wakes those who wait: they are tasks of one executor, which polls woken tasks in the order of their
+//! wakes, and each poll writes its task's name down.
+
+ghost use Rattle.futures.specs.Poll.{OnPending};
+ghost use Rattle.futures.specs.Task.{IsArmed, Keeps};
+
+use crate::said::opened;
+use async_channel::{Closed, Receiver, Recv, Sender};
+use futures::executor::{LocalPool, LocalSpawner};
+use futures::task::{Context, Poll};
+use futures::{Future, Stream};
+use std::alloc::{AllocGlobal, Global};
+use std::random::RandomSource;
+use std::sync::{Mutex, Wait};
+use std::test::Fail;
+
+/// The names of those who were polled, in order.
+type Names = Mutex<Vec<u32>>;
+
+/// Who waits.
+#[derive(Drop)]
+enum Waiting<'a, R: Wait + Copy> {
+    Message(Recv<'a, u64, R>),
+    Stream(Receiver<u64, R>),
+    Closing(Closed<'a, u64, R>),
+}
+
+impl<R: Wait + Copy> Waiting<'_, R> {
+    fn poll(&mut self, cx: &mut Context<'_>) -> Poll<()>
+        ensures armed { OnPending result (IsArmed cx.new) }
+        ensures kept { Keeps cx.old cx.new }
+    {
+        let pending = match self {
+            Waiting::Message(recv) => recv.poll(cx).is_pending(),
+            Waiting::Stream(stream) => stream.poll_next(cx).is_pending(),
+            Waiting::Closing(closed) => closed.poll(cx).is_pending(),
+        };
+        if pending {
+            Poll::Pending
+        } else {
+            Poll::Ready(())
+        }
+    }
+}
+
+/// A task that writes its name down at each poll.
+#[derive(Drop)]
+struct Named<'a, R: Wait + Copy> {
+    rt: R,
+    name: u32,
+    names: &'a Names,
+    waiting: Waiting<'a, R>,
+}
+
+impl<R: Wait + Copy> Future for Named<'_, R> {
+    type Output = ();
+
+    fn poll(&mut self, cx: &mut Context<'_>) -> Poll<()> {
+        let _ = self.names.lock(&self.rt).push(self.name);
+        self.waiting.poll(cx)
+    }
+}
+
+/// One more task of the executor: whether it was taken.
+fn spawns<'a, R: Wait + Copy>(
+    rt: R,
+    spawner: &LocalSpawner<Named<'a, R>>,
+    name: u32,
+    names: &'a Names,
+    waiting: Waiting<'a, R>,
+) -> bool {
+    let task = Named {
+        rt,
+        name,
+        names,
+        waiting,
+    };
+    spawner.spawn(task).is_ok()
+}
+
+/// A wait for the closing, a stream and a receive are polled in this order, and then as the call wakes them: a closing by hand, or
+/// else a send.
+fn polls<'a, R>(
+    rt: R,
+    s: &'a Sender<u64, R>,
+    r: &'a Receiver<u64, R>,
+    names: &'a Names,
+    closes: bool,
+) -> Option<()>
+where
+    R: Wait + Copy + RandomSource + AllocGlobal,
+{
+    let mut pool = LocalPool::new(&rt).ok()?;
+    let spawner = pool.spawner().ok()?;
+    let stream = r.try_clone().ok()?;
+    let first = spawns(rt, &spawner, 1, names, Waiting::Closing(s.closed()));
+    let second = spawns(rt, &spawner, 2, names, Waiting::Stream(stream));
+    let third = spawns(rt, &spawner, 3, names, Waiting::Message(r.recv()));
+    pool.run_until_stalled(10);
+    if closes {
+        s.close();
+    } else {
+        s.try_send(7).ok()?;
+    }
+    pool.run_until_stalled(10);
+    if first && second && third {
+        Some(())
+    } else {
+        None
+    }
+}
+
+/// Whether the names are these.
+fn are<R: Wait + Copy>(rt: R, names: &Names, want: &[u32]) -> bool {
+    names.lock(&rt).as_slice() == want
+}
+
+/// Whether the tasks are polled in this order.
+fn is_order<R>(rt: R, alloc: Global, closes: bool, want: &[u32]) -> bool
+where
+    R: Wait + Copy + RandomSource + AllocGlobal,
+{
+    let Some((s, r)) = opened(rt, alloc, 0) else {
+        return false;
+    };
+    let names = Mutex::new(Vec::new(alloc));
+    polls(rt, &s, &r, &names, closes).is_some() && are(rt, &names, want)
+}
+
+#[test]
+fn a_closing_wakes_receives_streams_and_closings_in_order(rt: HostRuntime) -> Result<(), Fail> {
+    assert!(rt; is_order(rt, rt.alloc(), true, [1, 2, 3, 3, 2, 1].as_slice()));
+    Ok(())
+}
+
+#[test]
+fn a_message_wakes_a_receive_before_the_streams(rt: HostRuntime) -> Result<(), Fail> {
+    assert!(rt; is_order(rt, rt.alloc(), false, [1, 2, 3, 3, 2].as_slice()));
+    Ok(())
+}

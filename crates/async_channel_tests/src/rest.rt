@@ -1,0 +1,238 @@
+//! Two threads poll sends by hand and two poll receives. Afterwards what was woken is polled until nothing is: then nobody is
+//! pending whom a message or a place lets go on, and each message that was accepted was received once or is left.
+
+use crate::said::{Said, opened, receives, sends};
+use crate::tally::Tally;
+use async_channel::{Receiver, Recv, Send as Sending, Sender};
+use futures::test::MockTask;
+use std::alloc::AllocGlobal;
+use std::random::RandomSource;
+use std::sync::Wait;
+use std::test::Fail;
+use std::thread::Threads;
+use std::{io, thread};
+
+const POLLS: u64 = 1_000;
+
+/// The messages of the second sender begin here.
+const SECOND: u64 = 2_000;
+
+/// No message is as great as this.
+const LIMIT: u64 = 4_000;
+
+/// How many messages went, and whether those of each sender went in order.
+#[derive(Clone, Copy)]
+struct Went {
+    count: u64,
+    first: u64,
+    second: u64,
+    in_order: bool,
+}
+
+impl Went {
+    fn new() -> Went {
+        Went {
+            count: 0,
+            first: 0,
+            second: SECOND,
+            in_order: true,
+        }
+    }
+
+    /// One message more, which is no earlier one of its sender.
+    fn note(&mut self, message: u64) {
+        self.count = self.count.wrapping_add(1);
+        let next = message.wrapping_add(1);
+        if message < SECOND {
+            self.in_order = self.in_order && self.first <= message;
+            self.first = next;
+        } else {
+            self.in_order = self.in_order && self.second <= message;
+            self.second = next;
+        }
+    }
+}
+
+/// A thread that sends: what was accepted, and its last send with its task.
+type Sent<'a, R> = io::Result<(Went, MockTask, Sending<'a, u64, R>)>;
+
+/// A thread that receives: what it got, and its last receive with its task.
+type Got<'a, R> = io::Result<(Went, MockTask, Recv<'a, u64, R>)>;
+
+fn poll_sends<R>(rt: R, s: &Sender<u64, R>, from: u64) -> Sent<'_, R>
+where
+    R: Wait + Copy + RandomSource + AllocGlobal,
+{
+    let mut went = Went::new();
+    let mut task = MockTask::new(&rt)?;
+    let mut send = s.send(from);
+    for _ in 0..POLLS {
+        if sends(&task, &mut send) == Said::Done {
+            let message = from.wrapping_add(went.count);
+            went.note(message);
+            task = MockTask::new(&rt)?;
+            send = s.send(message.wrapping_add(1));
+        } else {
+            thread::yield_now();
+        }
+    }
+    Ok((went, task, send))
+}
+
+fn poll_receives<'a, R>(rt: R, r: &'a Receiver<u64, R>, tally: &Tally) -> Got<'a, R>
+where
+    R: Wait + Copy + RandomSource + AllocGlobal,
+{
+    let mut went = Went::new();
+    let mut task = MockTask::new(&rt)?;
+    let mut recv = r.recv();
+    for _ in 0..POLLS {
+        if let Said::Got(message) = receives(&task, &mut recv) {
+            went.note(message);
+            tally.note(&rt, message);
+            task = MockTask::new(&rt)?;
+            recv = r.recv();
+        } else {
+            thread::yield_now();
+        }
+    }
+    Ok((went, task, recv))
+}
+
+fn two_send<R>(rt: R, s: &Sender<u64, R>) -> (Sent<'_, R>, Sent<'_, R>)
+where
+    R: Wait + Threads + Copy + RandomSource + AllocGlobal + Send + Sync,
+{
+    thread::join(&rt, || poll_sends(rt, s, 0), || poll_sends(rt, s, SECOND))
+}
+
+fn two_receive<'a, R>(rt: R, r: &'a Receiver<u64, R>, tally: &Tally) -> (Got<'a, R>, Got<'a, R>)
+where
+    R: Wait + Threads + Copy + RandomSource + AllocGlobal + Send + Sync,
+{
+    thread::join(
+        &rt,
+        || poll_receives(rt, r, tally),
+        || poll_receives(rt, r, tally),
+    )
+}
+
+/// Polls a send that was woken, unless it is done.
+fn settle_send<R: Wait + Copy>(
+    sent: &mut (Went, MockTask, Sending<'_, u64, R>),
+    from: u64,
+    done: &mut bool,
+) {
+    if *done || !sent.1.is_woken() {
+        return;
+    }
+    if sends(&sent.1, &mut sent.2) == Said::Done {
+        *done = true;
+        let count = sent.0.count;
+        sent.0.note(from.wrapping_add(count));
+    }
+}
+
+/// Polls a receive that was woken, unless it is done.
+fn settle_receive<R: Wait + Copy>(
+    rt: R,
+    got: &mut (Went, MockTask, Recv<'_, u64, R>),
+    tally: &Tally,
+    done: &mut bool,
+) {
+    if *done || !got.1.is_woken() {
+        return;
+    }
+    if let Said::Got(message) = receives(&got.1, &mut got.2) {
+        *done = true;
+        got.0.note(message);
+        tally.note(&rt, message);
+    }
+}
+
+/// What is still in the channel.
+fn drain<R: Wait + Copy>(rt: R, r: &Receiver<u64, R>, tally: &Tally) -> Went {
+    let mut left = Went::new();
+    for _ in 0..LIMIT {
+        match r.try_recv() {
+            Ok(message) => {
+                left.note(message);
+                tally.note(&rt, message);
+            }
+            Err(_) => return left,
+        }
+    }
+    left
+}
+
+/// Whether each message that was sent was received once or is left, and those of each sender went in order.
+fn adds_up<R: Wait>(rt: &R, sent: [Went; 2], got: [Went; 2], left: Went, tally: &Tally) -> bool {
+    let ordered = got[0].in_order && got[1].in_order && left.in_order;
+    ordered && tally.are_once(rt, sent[0].count, SECOND, sent[1].count)
+}
+
+fn settles<'a, R>(
+    rt: R,
+    sent: (Sent<'a, R>, Sent<'a, R>),
+    got: (Got<'a, R>, Got<'a, R>),
+    r: &'a Receiver<u64, R>,
+    tally: &Tally,
+) -> io::Result<bool>
+where
+    R: Wait + Copy,
+{
+    let (a, b) = sent;
+    let (c, d) = got;
+    let (mut a, mut b, mut c, mut d) = (a?, b?, c?, d?);
+    let mut done = [false; 4];
+    for _ in 0..100 {
+        settle_send(&mut a, 0, &mut done[0]);
+        settle_send(&mut b, SECOND, &mut done[1]);
+        settle_receive(rt, &mut c, tally, &mut done[2]);
+        settle_receive(rt, &mut d, tally, &mut done[3]);
+    }
+    let senders_still = (done[0] || !a.1.is_woken()) && (done[1] || !b.1.is_woken());
+    let receivers_still = (done[2] || !c.1.is_woken()) && (done[3] || !d.1.is_woken());
+    let sends_rest = done[0] && done[1] || r.is_full();
+    let receives_rest = done[2] && done[3] || r.is_empty();
+    let left = drain(rt, r, tally);
+    let whole = adds_up(&rt, [a.0, b.0], [c.0, d.0], left, tally);
+    Ok(senders_still && receivers_still && sends_rest && receives_rest && whole)
+}
+
+/// What both threads of senders and both of receivers have in the end.
+type All<'a, R> = ((Sent<'a, R>, Sent<'a, R>), (Got<'a, R>, Got<'a, R>));
+
+fn all_four<'a, R>(
+    rt: R,
+    s: &'a Sender<u64, R>,
+    r: &'a Receiver<u64, R>,
+    tally: &Tally,
+) -> All<'a, R>
+where
+    R: Wait + Threads + Copy + RandomSource + AllocGlobal + Send + Sync,
+{
+    thread::join(&rt, || two_send(rt, s), || two_receive(rt, r, tally))
+}
+
+fn comes_to_rest<R>(rt: R, s: &Sender<u64, R>, r: &Receiver<u64, R>) -> io::Result<bool>
+where
+    R: Wait + Threads + Copy + RandomSource + AllocGlobal + Send + Sync,
+{
+    let Some(tally) = Tally::new(rt.alloc(), LIMIT) else {
+        return Ok(false);
+    };
+    let (sent, got) = all_four(rt, s, r, &tally);
+    settles(rt, sent, got, r, &tally)
+}
+
+#[test]
+fn at_rest(rt: HostRuntime) -> Result<(), Fail> {
+    for capacity in [1, 3, 0] {
+        for _ in 0..5 {
+            let (s, r) = opened(rt, rt.alloc(), capacity).expect(&rt, "memory");
+            assert!(rt; comes_to_rest(rt, &s, &r)?);
+        }
+    }
+    Ok(())
+}
