@@ -21,10 +21,17 @@ use std::mem;
 ///
 /// Each [`step`](ChannelCall::step) does one thing to the channel's cells: one step of a call of the queue, one section on
 /// one list of listeners, one operation on one count, or nothing. Own to this project.
-#[derive(Drop)]
 pub struct ChannelCall<T, W> {
     stage: Stage<QueueCall<T>, T, W>,
     mark: Mark,
+}
+
+/// By hand, so that what a crate above proves of a call that it lets go doesn't go into its stages.
+impl<T: Drop, W: Drop> Drop for ChannelCall<T, W> {
+    fn drop(self) {
+        let ChannelCall { stage, mark: _ } = self;
+        drop(stage);
+    }
 }
 
 impl<T: Drop, W: Drop> ChannelCall<T, W> {
@@ -82,7 +89,8 @@ impl<T: Drop, W: Drop> ChannelCall<T, W> {
     pub fn into_kept(self) -> Kept<T>
         ensures { result ≡ kept_by self.stage }
     {
-        match self.stage {
+        let ChannelCall { stage, mark: _ } = self;
+        match stage {
             Stage::Finished(kept) => kept,
             stage => {
                 drop(stage);

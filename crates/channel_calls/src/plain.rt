@@ -14,7 +14,6 @@ use event_listener::wakes::Wakes;
 use std::alloc::{AllocError, Global};
 
 /// A queue's cells, four lists of listeners and two counts of handles, with one owner. Own to this project.
-#[derive(Drop)]
 pub struct PlainChannel<T, W> {
     cells: PlainCells<T>,
     sends: List<(), W>,
@@ -23,6 +22,26 @@ pub struct PlainChannel<T, W> {
     closings: List<(), W>,
     senders: usize,
     receivers: usize,
+}
+
+/// By hand, so that what a crate above proves of a channel that it lets go doesn't go into its cells and lists.
+impl<T: Drop, W: Drop> Drop for PlainChannel<T, W> {
+    fn drop(self) {
+        let PlainChannel {
+            cells,
+            sends,
+            receives,
+            streams,
+            closings,
+            senders: _,
+            receivers: _,
+        } = self;
+        drop(cells);
+        drop(sends);
+        drop(receives);
+        drop(streams);
+        drop(closings);
+    }
 }
 
 impl<T: Drop, W: Drop> PlainChannel<T, W> {

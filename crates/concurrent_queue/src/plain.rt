@@ -10,7 +10,6 @@ use crate::pool::Pool;
 use std::alloc::{AllocError, Global};
 
 /// The cells of a queue of one owner, for each form of queue.
-#[derive(Drop)]
 pub struct PlainCells<T> {
     form: QueueForm,
     state: u64,
@@ -21,6 +20,26 @@ pub struct PlainCells<T> {
     head_block: u64,
     tail_block: u64,
     pool: Pool<T>,
+}
+
+/// By hand, so that what a crate above proves of cells that it lets go doesn't go into their blocks.
+impl<T: Drop> Drop for PlainCells<T> {
+    fn drop(self) {
+        let PlainCells {
+            form: _,
+            state: _,
+            head: _,
+            tail: _,
+            stamps,
+            slots,
+            head_block: _,
+            tail_block: _,
+            pool,
+        } = self;
+        drop(stamps);
+        drop(slots);
+        drop(pool);
+    }
 }
 
 /// The stamps of a new ring: each slot waits for the message that is first at its index.
