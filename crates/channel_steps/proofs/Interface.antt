@@ -15,7 +15,7 @@ use Rattle.channel_calls.specs.declared.stage.Stage.{Stage}
 use Rattle.channel_calls.specs.declared.stage.Stage.TheVariants.{Finished}
 use Rattle.channel_steps.specs.Count.{counted, brought_in, taken_out}
 use Rattle.channel_steps.specs.Left.{all_left}
-use Rattle.channel_steps.specs.Scene.{Under, Scene, sees, does, unless_ended, Known, AllKnown, IsBalanced, Steps, Shows}
+use Rattle.channel_steps.specs.Scene.{Under, Scene, sees, does, unless_ended, Known, AllKnown, IsBalanced, HoldNobodyUp, Steps, Shows}
 use Rattle.channel_steps.specs.Run.{Next, begun}
 use Rattle.channel_steps.specs.declared.party.Entry.{Entry}
 use Rattle.channel_steps.specs.declared.party.Party.{Party}
@@ -25,6 +25,7 @@ use Rattle.channel_steps.proofs.OwnFacts.{moves_on, all_see, own_known, begins_k
 use Rattle.channel_steps.proofs.SceneFacts.{known_left, known_right, known_both}
 use Rattle.channel_steps.proofs.CountFacts as count_facts
 use Rattle.channel_steps.proofs.FewFacts as few_facts
+use Rattle.channel_steps.proofs.IdleFacts as idle_facts
 use Rattle.channel_steps.proofs.LineFacts as line_facts
 use Rattle.channel_steps.proofs.LoneFacts as lone_facts
 use Rattle.channel_steps.proofs.LoneFacts.{lone_after}
@@ -114,6 +115,11 @@ module _ {T W : Type 0} where
   pub few_left : (parts : Parts T W) (parties : List (Party T W)) (s : Scene T W) → Shows parts parties s
       → (k n : ℕ) → slice_get (all_left parts parties) k ≡ Some n → n ≤ 197
   few_left parts parties s sh k n there = few_facts.few_left parts parties s sh k n there
+
+  -- where the others hold a call up no more, they still do so after a step of its own
+  pub hold_still : (s : Scene T W) (p : ℕ) (e : Entry T) (names : List W) (t : Scene T W) (n : Steps s p e names t)
+      → HoldNobodyUp s.now (n.before ++ n.behind) → HoldNobodyUp t.now (map (sees t.now) n.before ++ map (sees t.now) n.behind)
+  hold_still s p e names t n hold = idle_facts.hold_still s p e names t n hold
 
 module _ {W : Type 0} where
   -- ---- lines
