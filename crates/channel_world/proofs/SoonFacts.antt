@@ -41,11 +41,10 @@ module _ {T : Type 0} where
   all_in_a_row : (m : Moment T) (xs : List (Step T)) (es : List (Entry T)) (ns : List (Moment T)) → AllKept m.book m.scene → FewLeft m
       → EachStep LeadsBy m xs es ns → EndInARow m xs es ns
   all_in_a_row m [] [] [] k few h = tt
-  all_in_a_row m (x ∷ xs) (e ∷ es) (n ∷ ns) k few h =
-      (
-        λ p free. (let row = row_left p m (x ∷ xs) (e ∷ es) (n ∷ ns) k h free in let most = few p in omega (arith, row, most)),
-        all_in_a_row n xs es ns h.0.holds.kept h.0.holds.few h.1,
-      )
+  all_in_a_row m (x ∷ xs) (e ∷ es) (n ∷ ns) k few h = (
+    λ p free. (let row = row_left p m (x ∷ xs) (e ∷ es) (n ∷ ns) k h free in let most = few p in omega (arith, row, most)),
+    all_in_a_row n xs es ns h.0.holds.kept h.0.holds.few h.1,
+  )
   all_in_a_row m [] [] (n ∷ ns) k few h = absurd h
   all_in_a_row m [] (e ∷ es) ns k few h = absurd h
   all_in_a_row m (x ∷ xs) [] ns k few h = absurd h
@@ -75,5 +74,6 @@ module _ {T : Type 0} where
     first = few;
     few = all_few m xs es ns h;
     nearer = all_nearer m xs es ns h;
-    in_a_row = all_in_a_row m xs es ns k few h;
+    in_front = λ p free. (let row = row_left p m xs es ns k h free in let most = few p in omega (arith, row, most));
+    later = all_in_a_row m xs es ns k few h;
   }

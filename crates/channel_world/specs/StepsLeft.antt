@@ -28,9 +28,10 @@ module _ {T : Type 0} where
 
   -- From the moment m on by these steps, to these moments: at most 197 steps of its own are left to each call at each moment, and
   -- each step that does not end its call, where the others hold it up no more, leaves it fewer. So it ends among its next 198, if
-  -- these are the next.
+  -- these are the next: those in front of the list, and from each later moment on.
   pub record EndSoon (m : Moment T) (xs : List (Step T)) (es : List (Entry T)) (ns : List (Moment T)) : Type 0 where
     pub first : FewLeft m
     pub few : EachStep (λ m x e n. FewLeft n) m xs es ns
     pub nearer : EachStep ComesNearer m xs es ns
-    pub in_a_row : EndInARow m xs es ns
+    pub in_front : (p : ℕ) → NobodyHoldsUp p m → in_a_row p xs es ≤ 197
+    pub later : EndInARow m xs es ns
