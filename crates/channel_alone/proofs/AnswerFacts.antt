@@ -34,7 +34,7 @@ use Rattle.channel_calls.specs.Moves.{Channel, listens, registers}
 use Rattle.channel_alone.specs.Alone as alone
 use Rattle.channel_alone.specs.Alone.{Outcome, Where, ends, receives_by, says_only, Waits, Listens, PollsFor}
 use Rattle.channel_alone.proofs.TryFacts.{left_by}
-use Rattle.channel_alone.proofs.LineFacts.{fresh_waits}
+use Rattle.channel_steps.proofs.Interface.{fresh_waits, same_line}
 use Rattle.channel_alone.proofs.Rest.{RestTry, RestTurn, RestWork, ends_rest}
 
 -- ---- one of two
@@ -78,12 +78,6 @@ open_is false e = refl
 bounded : {A : Type 0} (cap : Option ℕ) (items : List A) → cap ≡ None → is_full_at cap items ≡ true → ⊥
 bounded None items e h = absurd cc
 bounded (Some n) items e h = absurd cc
-
-pub same_line : {W : Type 0} (line : Line) (l : Listeners W) (a : Roster W) → listeners line (with_listeners line l a) ≡ l
-same_line Sends l a = refl
-same_line Receives l a = refl
-same_line Streams l a = refl
-same_line Closings l a = refl
 
 module _ {T W : Type 0} where
   -- ---- a poll that the channel refused

@@ -30,8 +30,8 @@ use Rattle.channel_calls.specs.Moves.{Channel, Effect, Turned, Worked, tells_one
 use Rattle.channel_alone.specs.Alone.{Outcome, Where, after_waking, answers, ends, closes, clones}
 use Rattle.channel_alone.proofs.Order.{order_turn, order_work, ends_soon}
 use Rattle.channel_alone.proofs.Rest.{RestTry, RestWork, RestTurn, RestLoad, ends_rest}
-use Rattle.channel_alone.proofs.LineFacts.{fresh_waits}
-use Rattle.channel_alone.proofs.AnswerFacts.{same_line, given_then}
+use Rattle.channel_steps.proofs.Interface.{fresh_waits, same_line}
+use Rattle.channel_alone.proofs.AnswerFacts.{given_then}
 
 raised_now : (n : ℕ) → nat_lt most n ≡ false → ((n == n) && nat_lt n (2 ^ 64 - 1)) ≡ true
 raised_now n e = grind (arith, nat_tests)

@@ -15,18 +15,20 @@ use Rattle.channel_model.specs.declared.name.Waiter.{Waiter}
 use Rattle.channel_steps.specs.Count.{counted, brought_in, taken_out}
 use Rattle.channel_steps.specs.Run.{new_scene, HasBegun, Begins}
 use Rattle.channel_steps.specs.Tellings.{telling, dropping}
-use Rattle.channel_steps.specs.Scene.{Scene, Sitting, under_of, IsBalanced, Shows, StepsAt, parties_in, unless_answered}
+use Rattle.channel_steps.specs.Left.{left_at}
+use Rattle.channel_steps.specs.Scene.{Scene, Sitting, under_of, IsBalanced, Shows, StepsAt, StepsNearer, parties_in, unless_answered}
 use Rattle.channel_steps.specs.declared.party.Entry.{Entry as ChannelEntry}
 use Rattle.channel_steps.specs.declared.party.Party.{Party}
 use Rattle.channel_interleaving.specs.Bookkeeping.{asks}
-use Rattle.channel_interleaving.specs.Floor.{parts_in, book_of, moment_of, Shown, StandsIn, Stands, AreAtWork, AreOwned, IsSame, Stepped, Steps, RanTo}
+use Rattle.channel_interleaving.specs.Left.{left_of}
+use Rattle.channel_interleaving.specs.Floor.{parts_in, book_of, moment_of, lefts_in, Shown, StandsIn, Stands, AreAtWork, AreOwned, IsSame, Stepped, Steps, RanTo}
 use Rattle.channel_model.specs.declared.refusal.WorldRefusal.{WorldRefusal}
 use Rattle.channel_model.specs.declared.run.Stopped.{Stopped}
 use Rattle.std.proofs.lemmas.Bool.Decides.{nat_tests}
 use Rattle.channel_interleaving.specs.Refusal.{step_refusal}
 use Rattle.channel_interleaving.specs.Roll.{first_roll, IsAgent}
 use Rattle.channel_interleaving.specs.Run.{Book, Made, MayRefuse, Stops, begun, ended, with_woken}
-use Rattle.channel_interleaving.specs.Runs.{Moment, LeadsBy, IsRun, end_of, accepted_in, left_in}
+use Rattle.channel_interleaving.specs.Runs.{Moment, FewLeft, LeadsBy, IsRun, end_of, accepted_in, left_in}
 use Rattle.channel_interleaving.specs.Woken.{Hears}
 use Rattle.channel_interleaving.specs.declared.floor.Floor.{Floor}
 use Rattle.channel_interleaving.specs.declared.names.Agent.{Agent}
@@ -35,10 +37,11 @@ use Rattle.channel_interleaving.specs.declared.step.Entry.{Entry}
 use Rattle.channel_interleaving.specs.declared.step.Step.{Step}
 use Rattle.channel_interleaving.specs.declared.step.Step.TheVariants as step
 use Rattle.channel_interleaving.specs.declared.woken.Woken.{Woken as Sink}
-use Rattle.channel_steps.proofs.Interface.{accepts_one, messages_counted, messages_moved}
+use Rattle.channel_steps.proofs.Interface.{accepts_one, few_left, messages_counted, messages_moved}
 use Rattle.channel_interleaving.specs.Kept.{AllKept}
 use Rattle.channel_interleaving.proofs.AccountFacts.{no_accounts, next_accounts}
 use Rattle.channel_interleaving.proofs.AllKept.{kept_first, kept_next}
+use Rattle.channel_interleaving.proofs.LeftFacts.{comes_nearer, few_of}
 use Rattle.channel_interleaving.proofs.OwedFacts.{owed}
 use Rattle.channel_interleaving.proofs.WokenFacts.{all_heard, few_woken}
 
@@ -56,8 +59,8 @@ map-remove f (x ∷ xs) zero = refl
 map-remove f (x ∷ xs) (suc k) = ap (λ ys. f x ∷ ys) (map-remove f xs k)
 
 module _ {T : Type 0} where
-  abbrev moment_with : Parts T Waiter → Scene T Waiter → Book T → Moment T
-  moment_with parts s b = record { parts = parts; scene = s; book = b }
+  abbrev moment_with : Parts T Waiter → List (Party T Waiter) → Scene T Waiter → Book T → Moment T
+  moment_with parts parties s b = record { parts = parts; scene = s; book = b; left = λ party. left_of party parts parties }
 
   -- ---- at the start
 
@@ -106,6 +109,7 @@ module _ {T : Type 0} where
               (subst (λ (x : ChannelEntry T). Begins s p.0 (asks old.roll c) x b.after) b.begins.entry b.begins, woken);
           book = book;
         };
+        nearer = tt;
         shown = record {
           shows = rw parts b.shown;
           accepted = rw (made, ap (λ (x : Channel T Waiter). x.queue.accepted) b.begins.now)
@@ -161,7 +165,7 @@ module _ {T : Type 0} where
       → new.messages ≡ counted old.messages entry.mark → new.made ≡ old.made + 1 → old.made < 2 ^ 61
       → step_refusal old.roll old.agents.items (step.Step p) ≡ None
       → Steps (step.Step p) old e new
-  has_stepped p k n a x old new empty full e entry there whose agent his steps none most room mark reply woken book messages
+  has_stepped p k n a x old new empty full e entry there whose agent own steps none most room mark reply woken book messages
       made low fine s sh =
       let accepted = sh.accepted in
       let range : IsInRange s.now.queue = inr (omega (arith, accepted, low)) in
@@ -169,23 +173,27 @@ module _ {T : Type 0} where
       let roster : (parts_in old).roster ≡ s.now.roster = sym (ap (λ (c : Channel T Waiter). c.roster) sh.shows.now) in
       let most_now : ((line : Line) → length (listeners line s.now.roster).waiting ≤ n) =
       subst (λ (r : Roster Waiter). (line : Line) → length (listeners line r).waiting ≤ n) roster most in
-      let few = few_woken n s.now most_now (telling h.step.mine.at) (dropping h.step.mine.at) h.names h.step.named in
+      let few = few_woken n s.now most_now (telling h.steps.step.mine.at) (dropping h.steps.step.mine.at) h.names h.steps.step.named in
       let start : vec_len empty.names ≡ length empty.names.items = empty.names.ok.0 in
       let nobody : length empty.names.items ≡ 0 = ap length none in
       let heard : full.names.items ≡ h.names = all_heard empty h.names full h.woken (omega (arith, few, room, start, nobody))
       ∙ ap (λ (ws : List Waiter). ws ++ h.names) none in
-      let one = accepts_one s x.id entry h.names h.after h.step in
-      let counts = messages_counted s x.id entry h.names h.after h.step (balanced_in _ _ s sh.shows)
+      let one = accepts_one s x.id entry h.names h.after h.steps.step in
+      let counts = messages_counted s x.id entry h.names h.after h.steps.step (balanced_in _ _ s sh.shows)
       (balanced_in _ _ h.after h.shown) (omega (arith, accepted, low)) in
+      let his : StepsNearer k (lefts_in old) (lefts_in new) s p.0 (record { mark = e.mark; reply = e.reply; kept = entry.kept }) e.woken.items h.after =
+      rw (mark, reply, woken, heard, sym whose) h.steps in
       record {
         after = h.after;
         touches = h.one_place;
         made = record {
           not_refused = fine;
           kept = entry.kept;
-          next = rw (mark, reply, woken, heard, sym whose) h.step;
-          book = (k, a, agent, his, rw (reply, woken) book);
+          next = his.step;
+          book = (k, a, agent, own, rw (reply, woken) book);
         };
+        nearer = λ goes_on hold.
+            subst (λ (j : ℕ). left_at j (lefts_in new) < left_at j (lefts_in old)) (sym his.place) (his.nearer goes_on hold);
         shown = record {
           shows = h.shown;
           accepted = omega (arith, accepted, one, made);
@@ -220,6 +228,10 @@ module _ {T : Type 0} where
   pub owned_where : (f : Floor T) (s : Scene T Waiter) → StandsIn f s → AreOwned f
   owned_where f s h = record { scene = s; shown = h.shown; kept = h.kept }
 
+  -- few steps are left in what stands
+  pub few_in : (f : Floor T) (s : Scene T Waiter) → StandsIn f s → FewLeft (moment_of f s)
+  few_in f s k party = few_of party (parts_in f) f.parties.items (few_left (parts_in f) f.parties.items s k.shown.shows)
+
   -- a step that was made leads from a scene in which it stood to one in which it stands
   pub step_stands : (x : Step T) (f g : Floor T) (e : Entry T) (s : Scene T Waiter) (k : StandsIn f s) (t : Stepped x f e g s)
       → StandsIn g t.after
@@ -230,7 +242,16 @@ module _ {T : Type 0} where
       → LeadsBy (moment_of f s) x e (moment_of g t.after)
   leads_by x f g e s k t =
       let after = step_stands x f g e s k t in
-      record { touches = t.touches; made = t.made; holds = record { kept = after.kept; owed = after.owed } }
+      record {
+        touches = t.touches;
+        made = t.made;
+        nearer = comes_nearer x f g e s k t;
+        holds = record {
+          kept = after.kept;
+          owed = after.owed;
+          few = few_in g t.after after;
+        };
+      }
 
   -- ---- numbers
 
@@ -339,8 +360,9 @@ module _ {T : Type 0} where
 
   moment_same : (g h : Floor T) (s : Scene T Waiter) → IsSame g h → moment_of h s ≡ moment_of g s
   moment_same g h s same =
-      ap (λ (c : PlainChannel T Waiter). moment_with (parts_of c) s (book_of h)) same.channel
-      ∙ ap (λ (b : Book T). moment_with (parts_in g) s b) same.book
+      ap (λ (c : PlainChannel T Waiter). moment_with (parts_of c) h.parties.items s (book_of h)) same.channel
+      ∙ (ap (λ (ps : List (Party T Waiter)). moment_with (parts_in g) ps s (book_of h)) same.parties
+      ∙ ap (λ (b : Book T). moment_with (parts_in g) g.parties.items s b) same.book)
 
   pub ran_same : (steps left left' : List (Step T)) (f : Floor T) (trace : List (Entry T)) (g h : Floor T) → left' ≡ left
       → IsSame g h → RanTo steps left f trace g → RanTo steps left' f trace h

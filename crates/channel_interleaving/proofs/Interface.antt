@@ -1,10 +1,19 @@
--- What layers above may use: of a channel with no call under way, and of what leads on from one scene to another.
-use Rattle.std.proofs.Common.{◌≡◌, []}
+-- What layers above may use: of a channel with no call under way, of what leads on from one scene to another, and how few steps
+-- are left to the calls under way.
+use Rattle.std.proofs.Common.{◌≡◌, [], None}
 use Rattle.channel_model.specs.declared.name.Waiter.{Waiter}
-use Rattle.channel_steps.specs.Scene.{Scene}
-use Rattle.channel_interleaving.specs.Floor.{Shown, AreAtWork, IsQuiet, LeadsOn, Stands}
+use Rattle.channel_steps.specs.Scene.{Scene, HoldNobodyUp}
+use Rattle.channel_interleaving.specs.Floor.{moment_of, Shown, AreAtWork, IsQuiet, LeadsOn, Stands, StandsIn}
+use Rattle.channel_interleaving.specs.Kept.{AllKept}
+use Rattle.channel_interleaving.specs.Left.{others_of}
+use Rattle.channel_interleaving.specs.Runs.{Moment, FewLeft, LeadsBy}
+use Rattle.channel_interleaving.specs.declared.step.Entry.{Entry}
+use Rattle.channel_interleaving.specs.declared.step.PartyId.{PartyId}
+use Rattle.channel_interleaving.specs.declared.step.Step.TheVariants as step
 use Rattle.channel_interleaving.specs.declared.floor.Floor.{Floor}
 use Rattle.channel_interleaving.proofs.AccountFacts.{no_accounts, accounts_both}
+use Rattle.channel_interleaving.proofs.FloorFacts as floor_facts
+use Rattle.channel_interleaving.proofs.LeftFacts as left_facts
 use Rattle.channel_interleaving.proofs.LoneFacts as facts
 
 module _ {T : Type 0} where
@@ -32,3 +41,12 @@ module _ {T : Type 0} where
   stands_led f g before leads =
       let t = leads before.scene before.stands in
       record { scene = t.last; stands = t.stands }
+
+  -- no call has more than 197 steps left that nobody holds up
+  pub few_in : (f : Floor T) (s : Scene T Waiter) → StandsIn f s → FewLeft (moment_of f s)
+  few_in f s k = floor_facts.few_in f s k
+
+  -- where the others hold a call up no more, they still do so after a step of its own
+  pub nobody_still : (m : Moment T) (p : PartyId) (e : Entry T) (n : Moment T) → AllKept m.book m.scene → LeadsBy m (step.Step p) e n
+      → e.reply ≡ None → HoldNobodyUp m.scene.now (others_of p.0 m.scene.under_way) → HoldNobodyUp n.scene.now (others_of p.0 n.scene.under_way)
+  nobody_still m p e n k l goes_on hold = left_facts.nobody_still m p e n k l goes_on hold

@@ -33,6 +33,7 @@ pub mod OwnerOrderNames
 pub mod OwnerOrderWakes
 pub mod OwnerOrder
 pub mod OwnerOrderRuns
+pub mod LeftFacts
 pub mod FloorFacts
 pub mod PendingFacts
 pub mod PollFacts

@@ -1,13 +1,15 @@
 -- What the parts of an interleaved channel stand for.
-use Rattle.std.specs.Prelude.{◌≡◌, ℕ, Bool, true, false, ◌+◌, ◌≤◌, List, [], ◌++◌, map, length, Option, Some}
+use Rattle.std.specs.Prelude.{◌≡◌, ℕ, Bool, true, false, ◌+◌, ◌≤◌, ◌<◌, List, [], ◌++◌, map, length, Option, None, Some}
 use Rattle.channel_calls.specs.Parts.{Parts}
 use Rattle.channel_calls.specs.Plain.{parts_of}
 use Rattle.channel_model.specs.Names.{at}
 use Rattle.channel_model.specs.declared.name.Waiter.{Waiter}
+use Rattle.channel_steps.specs.Left.{all_left, left_at}
 use Rattle.channel_steps.specs.Run.{new_scene, Accounts, Touches}
-use Rattle.channel_steps.specs.Scene.{Scene, Shows, parties_in}
+use Rattle.channel_steps.specs.Scene.{Scene, Shows, HoldNobodyUp, parties_in}
 use Rattle.channel_interleaving.specs.Owed.{Owed}
 use Rattle.channel_interleaving.specs.Kept.{AllKept}
+use Rattle.channel_interleaving.specs.Left.{left_of}
 use Rattle.channel_interleaving.specs.Roll.{first_roll}
 use Rattle.channel_interleaving.specs.Run.{Book, Made, channel_step}
 use Rattle.channel_interleaving.specs.Runs.{Moment, IsRun, end_of, accepted_in, left_in}
@@ -16,6 +18,7 @@ use Rattle.channel_interleaving.specs.declared.names.Agent.{Agent}
 use Rattle.channel_interleaving.specs.declared.names.Hold.{Hold}
 use Rattle.channel_interleaving.specs.declared.step.Entry.{Entry}
 use Rattle.channel_interleaving.specs.declared.step.Step.{Step}
+use Rattle.channel_interleaving.specs.declared.step.Step.TheVariants as step
 
 module _ {T : Type 0} where
   abbrev pub book_of : Floor T → Book T
@@ -80,7 +83,8 @@ module _ {T : Type 0} where
     pub stands : StandsIn f scene
 
   abbrev pub moment_of : Floor T → Scene T Waiter → Moment T
-  moment_of f s = record { parts = parts_in f; scene = s; book = book_of f }
+  moment_of f s =
+      record { parts = parts_in f; scene = s; book = book_of f; left = λ party. left_of party (parts_in f) f.parties.items }
 
   -- no handle is used by more than twice as many as steps were made
   abbrev pub AreFewUsers : Floor T → Type 0
@@ -97,11 +101,23 @@ module _ {T : Type 0} where
     pub stands : StandsIn f (new_scene capacity)
     pub book : book_of f ≡ record { roll = first_roll; order = []; agents = [] }
 
+  -- the steps that are left to the calls under way, in the order in which they began
+  abbrev pub lefts_in : Floor T → List ℕ
+  lefts_in f = all_left (parts_in f) f.parties.items
+
+  -- where the others hold nobody up, a step that does not end its call leaves it fewer
+  abbrev pub Nearer : (x : Step T) (old : Floor T) (e : Entry T) (new : Floor T) (s t : Scene T Waiter) → Made (book_of old) s x e (book_of new) t → Type 0
+  Nearer (step.Begin p c) old e new s t made = Unit {0}
+  Nearer (step.Step p) old e new s t made =
+      e.reply ≡ None → HoldNobodyUp s.now (made.next.before ++ made.next.behind)
+      → left_at (length made.next.before) (lefts_in new) < left_at (length made.next.before) (lefts_in old)
+
   -- a step that was made, from any scene that was shown
   pub record Stepped (x : Step T) (old : Floor T) (e : Entry T) (new : Floor T) (s : Scene T Waiter) : Type 0 where
     pub after : Scene T Waiter
     pub touches : Touches (channel_step old.roll x) (parts_in old) (parts_in new)
     pub made : Made (book_of old) s x e (book_of new) after
+    pub nearer : Nearer x old e new s after made
     pub shown : Shown new after
 
   abbrev pub Steps : Step T → Floor T → Entry T → Floor T → Type 0

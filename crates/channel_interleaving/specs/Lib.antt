@@ -11,6 +11,7 @@ pub mod OwnerWoken
 pub mod OwnerOrder
 pub mod OwnerPolled
 pub mod Kept
+pub mod Left
 pub mod Runs
 pub mod Floor
 pub mod Lone

@@ -1,32 +1,49 @@
 -- Runs: what may follow from steps of many parties in any order, by names, and what holds at each moment of them.
-use Rattle.std.specs.Prelude.{ℕ, ◌+◌, List, [], ◌∷◌}
+use Rattle.std.specs.Prelude.{◌≡◌, ℕ, ◌+◌, ◌<◌, ◌≤◌, List, [], ◌∷◌, None}
 use Rattle.channel_calls.specs.Parts.{Parts}
 use Rattle.channel_model.specs.declared.name.Waiter.{Waiter}
 use Rattle.channel_steps.specs.Count.{brought_in, taken_out}
 use Rattle.channel_steps.specs.Run.{Touches}
-use Rattle.channel_steps.specs.Scene.{Scene}
+use Rattle.channel_steps.specs.Scene.{Scene, HoldNobodyUp}
 use Rattle.channel_interleaving.specs.Kept.{AllKept}
+use Rattle.channel_interleaving.specs.Left.{others_of}
 use Rattle.channel_interleaving.specs.Owed.{Owed}
 use Rattle.channel_interleaving.specs.Run.{Book, Made, channel_step}
 use Rattle.channel_interleaving.specs.declared.step.Entry.{Entry}
 use Rattle.channel_interleaving.specs.declared.step.Step.{Step}
+use Rattle.channel_interleaving.specs.declared.step.Step.TheVariants as step
 
--- a moment: what the cells hold, the channel with its calls under way, and the book
+-- a moment: what the cells hold, the channel with its calls under way, the book, and how many more steps of its own the call of
+-- each party makes at most, where nobody holds it up
 pub record Moment (T : Type 0) : Type 0 where
   pub parts : Parts T Waiter
   pub scene : Scene T Waiter
   pub book : Book T
+  pub left : ℕ → ℕ
 
 module _ {T : Type 0} where
-  -- what holds at every moment: all that is kept, and the wake-ups that are owed
+  -- no call has more steps of its own left than these, where nobody holds it up
+  abbrev pub FewLeft : Moment T → Type 0
+  FewLeft m = (party : ℕ) → m.left party ≤ 197
+
+  -- what holds at every moment: all that is kept, the wake-ups that are owed, and how few steps are left
   pub record Holds (m : Moment T) : Type 0 where
     pub kept : AllKept m.book m.scene
     pub owed : Owed m.book m.scene
+    pub few : FewLeft m
 
-  -- a step leads from one moment to the next: nothing refused it, and at most one cell, list or count differs after it
+  -- a step of a call that the others do not hold up, and that does not end it, leaves it fewer
+  abbrev pub ComesNearer : Moment T → Step T → Entry T → Moment T → Type 0
+  ComesNearer m (step.Begin p c) e n = Unit {0}
+  ComesNearer m (step.Step p) e n =
+      e.reply ≡ None → HoldNobodyUp m.scene.now (others_of p.0 m.scene.under_way) → n.left p.0 < m.left p.0
+
+  -- a step leads from one moment to the next: nothing refused it, at most one cell, list or count differs after it, and its call
+  -- comes nearer to its end where the others let it
   pub record LeadsBy (m : Moment T) (x : Step T) (e : Entry T) (n : Moment T) : Type 0 where
     pub touches : Touches (channel_step m.book.roll x) m.parts n.parts
     pub made : Made m.book m.scene x e n.book n.scene
+    pub nearer : ComesNearer m x e n
     pub holds : Holds n
 
   -- so it is of each of these steps, with its entry, from the moment before it to the one after it

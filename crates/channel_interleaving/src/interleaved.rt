@@ -199,6 +199,8 @@ impl<T: Drop> Interleaved<T> {
         requires limit { self.old.made < 2 ^ 61 }
         requires room { WakesAtMost (vec_capacity names - vec_len names) (poll_of name) self.old }
         ensures polled { PollsAlone name self.old names.items result.reply result.names.items self.new }
+        ensures stands { Stands self.new }
+        ensures leads { LeadsOn self.old self.new }
         ensures quiet { IsQuiet self.new }
         ensures made { self.new.made ≡ self.old.made + 1 }
         ensures capacity { vec_capacity names ≤ vec_capacity result.names }

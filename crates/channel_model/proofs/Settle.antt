@@ -301,7 +301,7 @@ module _ {T : Type 0} where
       poll_cases w a e (inl x) c = subst (λ (y : Answer T). So y) (sym x) (answered_so w e c)
       poll_cases w a e (inr (lack, x)) c = unanswered_so lack w c a x
 
-first_there : (w : Waiter) (ws : List Waiter) → slice_get ws 0 ≡ Some w → is_among w ws ≡ true
+pub first_there : (w : Waiter) (ws : List Waiter) → slice_get ws 0 ≡ Some w → is_among w ws ≡ true
 first_there w [] e = cc e
 first_there w (x ∷ xs) e = let same : x ≡ w = cc e in subst (λ (v : Waiter). is_among w (v ∷ xs) ≡ true) (sym same) (rw (same_refl w) refl)
 

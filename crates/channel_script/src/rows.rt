@@ -118,10 +118,10 @@ fn what_cannot_be_read(rt: HostRuntime) -> Result<(), Fail> {
         "ok\nline 2: can't be read\n",
         ScriptEnd::Unreadable { line: 2 },
     )?;
-    // not read yet
+    // settle takes no name
     show(
         &rt,
-        "bounded 1\nsettle\n",
+        "bounded 1\nsettle s\n",
         "ok\nline 2: can't be read\n",
         ScriptEnd::Unreadable { line: 2 },
     )?;
@@ -145,6 +145,67 @@ fn what_cannot_be_read(rt: HostRuntime) -> Result<(), Fail> {
         "unbounded\nrecv abcdefghi r\n",
         "ok\nline 2: can't be read\n",
         ScriptEnd::Unreadable { line: 2 },
+    )?;
+    Ok(())
+}
+
+#[test]
+fn settling(rt: HostRuntime) -> Result<(), Fail> {
+    // settling three receives
+    show(
+        &rt,
+        "bounded 1\nrecv a r\nrecv b r\nrecv c r\npoll a\npoll b\npoll c\ntry_send s 9\nsettle\nlen r\nsettle\n",
+        "ok\nok\nok\nok\npending\npending\npending\nok wakes a\npolls 2: a ok 9, b pending\n0\npolls 0\n",
+        ScriptEnd::Done,
+    )?;
+    // settling after a closing
+    show(
+        &rt,
+        "bounded 1\nclone q r\nclosed e s\ntry_send s 1\nsend a s 2\nsend b s 3\npoll a\npoll b\ntry_recv r\nrecv c r\npoll e\nnext q\npoll c\nclose r\nsettle\nsettle\n",
+        "ok\nok\nok\nok\nok\nok\npending\npending\nok 1 wakes a\nok\npending\npending\npending\ntrue wakes b c q e\npolls 5: a closed 2, b closed 3, c closed, q none, e ready\npolls 0\n",
+        ScriptEnd::Done,
+    )?;
+    // nobody woken to settle
+    show(
+        &rt,
+        "bounded 1\nrecv a r\npoll a\nsettle\n",
+        "ok\nok\npending\npolls 0\n",
+        ScriptEnd::Done,
+    )?;
+    // a woken stream is settled whose receiver is borrowed
+    show(
+        &rt,
+        "unbounded\nnext r\nrecv a r\ntry_send s 1\nnext r\nsettle\nnext r\n",
+        "ok\npending\nok\nok wakes r\nrefused 6\npolls 1: r some 1\nrefused 6\n",
+        ScriptEnd::Done,
+    )?;
+    // who was told is not woken again, and keeps its place
+    show(
+        &rt,
+        "bounded 2\nrecv a r\nnext r\ndrop a\nnext r\nrecv b r\npoll b\ntry_send s 1\ntry_send s 2\nclose s\nsettle\n",
+        "ok\nok\nrefused 6\nok\npending\nok\npending\nok wakes b r\nok\ntrue\npolls 2: b ok 1, r some 2\n",
+        ScriptEnd::Done,
+    )?;
+    // woken by the polls of a settling
+    show(
+        &rt,
+        "unbounded\nclone q r\nrecv a r\nrecv b r\npoll a\npoll b\nnext q\nsend c s 7\npoll c\nsend d s 8\nsettle\npoll d\nsettle\n",
+        "ok\nok\nok\nok\npending\npending\npending\nok\nok wakes a q\nok\npolls 3: a ok 7, q pending, b pending\nok wakes b q\npolls 2: b ok 8, q pending\n",
+        ScriptEnd::Done,
+    )?;
+    // one polled twice
+    show(
+        &rt,
+        "bounded 1\nrecv b r\npoll b\ntry_send s 1\nsend c s 2\npoll c\ntry_recv r\nsettle\n",
+        "ok\nok\npending\nok wakes b\nok\npending\nok 1 wakes c\npolls 3: b pending, c ok, b ok 2\n",
+        ScriptEnd::Done,
+    )?;
+    // a stream polled twice
+    show(
+        &rt,
+        "bounded 1\nclone q r\nrecv b r\npoll b\nnext q\ntry_send s 1\nsend c s 2\npoll c\nsettle\n",
+        "ok\nok\nok\npending\npending\nok wakes b q\nok\npending\npolls 4: b ok 1, q pending, c ok, q some 2\n",
+        ScriptEnd::Done,
     )?;
     Ok(())
 }

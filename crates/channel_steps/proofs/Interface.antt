@@ -1,22 +1,32 @@
 -- What a layer above may use: what is known of the calls under way stays known over every entry of a run; a step of the
--- only call under way; and how a step changes the number of messages.
-use Rattle.std.proofs.Common.{◌≡◌, ℕ, ◌+◌, ◌^◌, ◌≤◌, ◌<◌, List, [], ◌∷◌, ◌++◌, map, length, Option, None, Some, sym, subst}
+-- only call under way; how a step changes the number of messages; that no call has more than 197 steps left that nobody holds
+-- up; and that a listener which was just added waits.
+use Rattle.std.proofs.Common.{◌≡◌, ℕ, ◌+◌, ◌^◌, ◌≤◌, ◌<◌, true, List, [], ◌∷◌, ◌++◌, map, length, slice_get, Option, None, Some, sym, subst}
 use Rattle.concurrent_queue.specs.Queue.{Phase}
+use Rattle.event_listener.specs.Lists.{kind_of, listened}
+use Rattle.event_listener.specs.declared.key.Key.{Key}
 use Rattle.channel_calls.specs.Moves.{Channel, Effect, Moves}
+use Rattle.channel_calls.specs.Parts.{Parts, Roster, Listeners, listeners, with_listeners, waits}
+use Rattle.channel_calls.specs.declared.stage.Line.{Line}
 use Rattle.channel_calls.specs.declared.mark.Mark.{Mark}
 use Rattle.channel_calls.specs.declared.reply.Reply.{Reply}
 use Rattle.channel_calls.specs.declared.stage.Kept.{Kept}
 use Rattle.channel_calls.specs.declared.stage.Stage.{Stage}
 use Rattle.channel_calls.specs.declared.stage.Stage.TheVariants.{Finished}
 use Rattle.channel_steps.specs.Count.{counted, brought_in, taken_out}
-use Rattle.channel_steps.specs.Scene.{Under, Scene, sees, does, unless_ended, Known, AllKnown, IsBalanced, Steps}
+use Rattle.channel_steps.specs.Left.{all_left}
+use Rattle.channel_steps.specs.Scene.{Under, Scene, sees, does, unless_ended, Known, AllKnown, IsBalanced, HoldNobodyUp, Steps, Shows}
 use Rattle.channel_steps.specs.Run.{Next, begun}
 use Rattle.channel_steps.specs.declared.party.Entry.{Entry}
+use Rattle.channel_steps.specs.declared.party.Party.{Party}
 use Rattle.channel_steps.specs.declared.run.Step.{Step}
 use Rattle.channel_steps.specs.declared.run.Step.TheVariants as step
 use Rattle.channel_steps.proofs.OwnFacts.{moves_on, all_see, own_known, begins_known}
 use Rattle.channel_steps.proofs.SceneFacts.{known_left, known_right, known_both}
 use Rattle.channel_steps.proofs.CountFacts as count_facts
+use Rattle.channel_steps.proofs.FewFacts as few_facts
+use Rattle.channel_steps.proofs.IdleFacts as idle_facts
+use Rattle.channel_steps.proofs.LineFacts as line_facts
 use Rattle.channel_steps.proofs.LoneFacts as lone_facts
 use Rattle.channel_steps.proofs.LoneFacts.{lone_after}
 
@@ -98,3 +108,26 @@ module _ {T W : Type 0} where
       count_facts.balance_moved s.now.queue e.mark t.now.queue
       (count_facts.moved_by s.now n.mine.at (record { channel = t.now; mark = e.mark; woken = names }) e.reply n.at_now
       n.moves) a b
+
+  -- ---- how many steps are left
+
+  -- no call under way has more than 197 that nobody holds up
+  pub few_left : (parts : Parts T W) (parties : List (Party T W)) (s : Scene T W) → Shows parts parties s
+      → (k n : ℕ) → slice_get (all_left parts parties) k ≡ Some n → n ≤ 197
+  few_left parts parties s sh k n there = few_facts.few_left parts parties s sh k n there
+
+  -- where the others hold a call up no more, they still do so after a step of its own
+  pub hold_still : (s : Scene T W) (p : ℕ) (e : Entry T) (names : List W) (t : Scene T W) (n : Steps s p e names t)
+      → HoldNobodyUp s.now (n.before ++ n.behind) → HoldNobodyUp t.now (map (sees t.now) n.before ++ map (sees t.now) n.behind)
+  hold_still s p e names t n hold = idle_facts.hold_still s p e names t n hold
+
+module _ {W : Type 0} where
+  -- ---- lines
+
+  -- a listener under a key that was not listed waits
+  pub fresh_waits : (key : Key) (l : Listeners W) → kind_of l key ≡ None → waits key (listened key l) ≡ true
+  fresh_waits key l none = line_facts.fresh_waits key l none
+
+  -- a line is as it was set
+  pub same_line : (line : Line) (l : Listeners W) (a : Roster W) → listeners line (with_listeners line l a) ≡ l
+  same_line line l a = line_facts.same_line line l a

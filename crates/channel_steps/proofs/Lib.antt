@@ -5,6 +5,10 @@ pub mod WorkFacts
 pub mod QuickFacts
 pub mod MoveFacts
 pub mod OwnFacts
+pub mod LineFacts
+pub mod LeftFacts
+pub mod IdleFacts
+pub mod FewFacts
 pub mod SceneFacts
 pub mod RunFacts
 pub mod StartFacts

@@ -26,19 +26,22 @@ module _ {T : Type 0} where
   -- ---- the queue's bounds
 
   abbrev pub Grows : Queue T → Queue T → Type 0
-  Grows q q' = (q'.capacity ≡ q.capacity) × (q'.accepted ≤ q.accepted + 1)
+  Grows q q' = (q'.capacity ≡ q.capacity) × (q'.accepted ≤ q.accepted + 1) × (q.removed ≤ q'.removed)
 
   stays : (q q' : Queue T) → q' ≡ q → Grows q q'
-  stays q q' e =
-      (ap (λ (x : Queue T). x.capacity) e, (let a : q'.accepted ≡ q.accepted = ap (λ (x : Queue T). x.accepted) e in omega arith))
+  stays q q' e = (
+    ap (λ (x : Queue T). x.capacity) e,
+    (let a : q'.accepted ≡ q.accepted = ap (λ (x : Queue T). x.accepted) e in omega arith),
+    (let r : q'.removed ≡ q.removed = ap (λ (x : Queue T). x.removed) e in omega arith),
+  )
 
   marked_grows : (f : Phase T) (m : QueueMark) (q : Queue T) → Grows q (after f m q)
-  marked_grows f Nothing q = (refl, omega arith)
-  marked_grows f Append q = (refl, omega arith)
-  marked_grows f Take q = (refl, omega arith)
-  marked_grows f TakeDisplaced q = (refl, omega arith)
-  marked_grows f Replace q = (refl, omega arith)
-  marked_grows f Close q = (refl, omega arith)
+  marked_grows f Nothing q = (refl, omega arith, omega arith)
+  marked_grows f Append q = (refl, omega arith, omega arith)
+  marked_grows f Take q = (refl, omega arith, omega arith)
+  marked_grows f TakeDisplaced q = (refl, omega arith, omega arith)
+  marked_grows f Replace q = (refl, omega arith, omega arith)
+  marked_grows f Close q = (refl, omega arith, omega arith)
 
 module _ {T W : Type 0} where
   queue_of : (e e' : Effect T W) → e ≡ e' → e.channel.queue ≡ e'.channel.queue

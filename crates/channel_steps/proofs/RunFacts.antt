@@ -93,7 +93,7 @@ module _ {T W : Type 0} where
         → HasParty p parties k → StepsAt wakes parts parties k a e parts' parties' b → Turns wakes (step.Step p) parts parties a e parts' parties' b
     stepped_by p k parts parties a e parts' parties' b has steps s range sh =
         let h = steps s (record { id = p; call = has.0 }) range sh has.1 in
-        record { names = h.names; after = h.after; touches = h.one_place; next = h.step; woken = h.woken; shown = h.shown }
+        record { names = h.names; after = h.after; touches = h.one_place; next = h.steps.step; woken = h.woken; shown = h.shown }
 
     -- ---- runs
 

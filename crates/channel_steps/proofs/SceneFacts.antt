@@ -1,21 +1,27 @@
 -- A step of one party among all.
-use Rattle.std.proofs.Common.{◌≡◌, ℕ, zero, suc, ◌+◌, List, [], ◌∷◌, ◌++◌, map, length, slice_get, slice_set, Option, None, Some, refl, sym, ap, ◌∙◌, subst, append_assoc}
+use Rattle.std.proofs.Common.{◌≡◌, ℕ, zero, suc, ◌+◌, ◌<◌, unwrap_or, List, [], ◌∷◌, ◌++◌, map, length, slice_get, slice_set, Option, None, Some, refl, sym, ap, ◌∙◌, subst, append_assoc}
 use Rattle.std.specs.List.{remove}
 use Rattle.concurrent_queue.specs.Queue.{Queue, Phase, IsInRange}
-use Rattle.concurrent_queue.specs.Step.{Seat, Fits}
+use Rattle.concurrent_queue.specs.Step.{Seat, Fits, HoldsNobodyUp, phases}
 use Rattle.channel_calls.specs.Parts.{Parts}
-use Rattle.channel_calls.specs.Moves.{Channel, Effect, channel, seats, phase, IsStepOver, IsChannelStep, OnePlace}
+use Rattle.concurrent_queue.specs.declared.queue_call.QueueCall.{QueueCall}
+use Rattle.channel_calls.specs.Moves.{Channel, Effect, channel, seats, phase, IsStepOver, IsChannelStep, OnePlace, Made}
 use Rattle.channel_calls.specs.declared.call.ChannelCall.{ChannelCall}
 use Rattle.channel_calls.specs.declared.mark.Mark.{Mark}
 use Rattle.channel_calls.specs.declared.reply.Reply.{Reply}
 use Rattle.channel_calls.specs.Asks.{kept_by}
 use Rattle.channel_calls.specs.declared.stage.Kept.{Kept}
 use Rattle.channel_calls.specs.declared.stage.Stage.{Stage}
+use Rattle.channel_calls.specs.declared.stage.Stage.TheVariants.{Trying, Working, Finished}
 use Rattle.channel_steps.specs.declared.party.Party.{Party}
 use Rattle.channel_steps.specs.declared.party.Entry.{Entry}
-use Rattle.channel_steps.specs.Moments.{with_deed}
-use Rattle.channel_steps.specs.Scene.{Under, Scene, sees, does, gone_by, came_by, Known, AllKnown, IsBalanced, Steps, Sitting, under_of, seats_of, all_seats, Shows, parties_in, unless_answered, parties_after, left_by, SteppedAt, StepsAt}
+use Rattle.channel_steps.specs.Known.{StageAt}
+use Rattle.channel_steps.specs.Left.{party_left, all_left, left_at}
+use Rattle.channel_steps.specs.Moments.{Deed, with_deed}
+use Rattle.channel_steps.specs.Scene.{Under, Scene, sees, does, gone_by, came_by, Known, AllKnown, IsBalanced, HoldNobodyUp, Sitting, under_of, seats_of, all_seats, Shows, parties_in, unless_answered, parties_after, left_by, StepsNearer, SteppedAt, StepsAt}
 use Rattle.channel_steps.specs.Tellings.{telling}
+use Rattle.channel_steps.proofs.IdleFacts.{idle_holds}
+use Rattle.channel_steps.proofs.LeftFacts.{IsAtWork, step_lessens}
 use Rattle.channel_steps.proofs.MoveFacts.{answered_alone, kept_at}
 use Rattle.channel_steps.proofs.TryFacts.{Progress}
 use Rattle.channel_steps.proofs.OwnFacts.{moves_on, names_of, moves_held, all_see, own_known, own_finishes, own_in_time}
@@ -69,6 +75,20 @@ module _ {A B : Type 0} (g : A → B) where
   pub remove-round : (l : List A) (x : A) (r : List A) → remove (map g (l ++ (x ∷ r))) (length l) ≡ map g l ++ map g r
   remove-round [] x r = refl
   remove-round (z ∷ l) x r = ap (λ zs. g z ∷ zs) (remove-round l x r)
+
+module _ {A B : Type 0} (g : A → B) (n : B → ℕ) where
+  -- the number of the one in the midst, and of what is put in its place
+  number-round : (l : List A) (x : A) (r : List A) → unwrap_or (slice_get (map n (map g (l ++ (x ∷ r)))) (length l)) 0 ≡ n (g x)
+  number-round [] x r = refl
+  number-round (z ∷ l) x r = number-round l x r
+
+  number-set : (l : List A) (x : A) (r : List A) (y : B) → unwrap_or (slice_get (map n (slice_set (map g (l ++ (x ∷ r))) (length l) y)) (length l)) 0 ≡ n y
+  number-set [] x r y = refl
+  number-set (z ∷ l) x r y = number-set l x r y
+
+length-images : {A B : Type 0} (g : A → B) (xs : List A) → length (map g xs) ≡ length xs
+length-images g [] = refl
+length-images g (x ∷ xs) = ap (λ n. suc n) (length-images g xs)
 
 module _ {T W : Type 0} where
   abbrev pub saw : Channel T W → Sitting T W → Sitting T W
@@ -135,8 +155,33 @@ module _ {T W : Type 0} where
     right_known : AllKnown before_it (map under_of r)
     right_known = let h = known_right before_it (map under_of l) (under_of x ∷ map under_of r) all_round in h.1
 
+    -- where the others hold nobody up, fewer steps are left
+    at_work : (ds : List (Deed T W)) (s : Stage (QueueCall T) T W) → StageAt before_it x.ask (phase x.inner s) ds x.seen → IsAtWork s
+    at_work ds (Trying call aim) h = tt
+    at_work ds (Working w) h = tt
+    at_work ds (Finished kept) h = absurd h
+
+    others_hold : HoldNobodyUp before_it (map under_of l ++ map under_of r) → HoldsNobodyUp q (phases (all_seats l ++ all_seats r))
+    others_hold hold =
+        let both = map-round under_of l r in
+        let others : AllKnown before_it (map under_of (l ++ r)) =
+        subst (λ (us : List (Under T W)). AllKnown before_it us) (sym both) (known_both before_it (map under_of l) (map under_of r) left_known right_known) in
+        subst (λ (ss : List (Seat T)). HoldsNobodyUp q (phases ss)) (seats_append l r)
+        (idle_holds before_it (l ++ r) others (subst (λ (us : List (Under T W)). HoldNobodyUp before_it us) (sym both) hold))
+
+    comes_nearer : Made parts x.party.call.stage names parts' p'.call.stage m None q x.inner (all_seats l) (all_seats r)
+        → HoldNobodyUp before_it (map under_of l ++ map under_of r)
+        → left_at (length l) (all_left parts' (slice_set (map party_of (l ++ (x ∷ r))) (length l) p')) < left_at (length l) (all_left parts (map party_of (l ++ (x ∷ r))))
+    comes_nearer made hold =
+        let less = step_lessens parts parts' names p'.call.stage m None q x.inner (all_seats l) (all_seats r) x.party.call.stage
+        (at_work x.deeds x.party.call.stage mine_known.stands) made (others_hold hold) in
+        rw (number-round party_of (party_left parts) l x r, number-set party_of (party_left parts') l x r p') less
+
     abbrev pub Outcome : Option (Reply T) → List (Party T W) → Type 0
-    Outcome reply parties' = (t : Scene T W) × Steps (scene_of q parts (l ++ (x ∷ r)) gone came) x.party.id (record { mark = m; reply = reply; kept = left_by p' reply }) names t × Shows parts' parties' t × OnePlace parts parts'
+    Outcome reply parties' =
+        (t : Scene T W)
+        × StepsNearer (length l) (all_left parts (map party_of (l ++ (x ∷ r)))) (all_left parts' parties') (scene_of q parts (l ++ (x ∷ r)) gone came) x.party.id (record { mark = m; reply = reply; kept = left_by p' reply }) names t
+        × Shows parts' parties' t × OnePlace parts parts'
 
     pub core : (reply : Option (Reply T)) → IsStepOver parts x.party.call.stage names parts' p'.call.stage m reply
         → Outcome reply (parties_after (map party_of (l ++ (x ∷ r))) (length l) p' reply)
@@ -164,20 +209,24 @@ module _ {T W : Type 0} where
         (own_known before_it (under_of x) bal mine_known m now names at' made.moves, all_see before_it now on (map under_of r) right_known) in (
           scene_of q' parts' after_all (gone ++ gone_by m q.items) (came ++ came_by m x.ask),
           record {
-            before = map under_of l;
-            mine = under_of x;
-            behind = map under_of r;
-            at_now = at';
-            there = map-round under_of l (x ∷ r);
-            whose = refl;
-            moves = made.moves;
-            left = under_are;
-            named = names_of before_it at0 e None at' made.moves;
-            finishes = refl;
-            quick = own_in_time before_it (under_of x) bal mine_known m now names at' None made.moves;
-            gone = refl;
-            came = refl;
-            held = moves_held before_it x.ask at0 x.deeds x.seen e None at' mine_known.stands made.moves;
+            step = record {
+              before = map under_of l;
+              mine = under_of x;
+              behind = map under_of r;
+              at_now = at';
+              there = map-round under_of l (x ∷ r);
+              whose = refl;
+              moves = made.moves;
+              left = under_are;
+              named = names_of before_it at0 e None at' made.moves;
+              finishes = refl;
+              quick = own_in_time before_it (under_of x) bal mine_known m now names at' None made.moves;
+              gone = refl;
+              came = refl;
+              held = moves_held before_it x.ask at0 x.deeds x.seen e None at' mine_known.stands made.moves;
+            };
+            place = length-images under_of l;
+            nearer = λ none hold. comes_nearer made hold;
           },
           record {
             sittings = after_all;
@@ -213,20 +262,24 @@ module _ {T W : Type 0} where
         known_both now (map (sees now) (map under_of l)) (map (sees now) (map under_of r)) (all_see before_it now on (map under_of l) left_known) (all_see before_it now on (map under_of r) right_known) in (
           scene_of q' parts' after_all (gone ++ gone_by m q.items) (came ++ came_by m x.ask),
           record {
-            before = map under_of l;
-            mine = under_of x;
-            behind = map under_of r;
-            at_now = at';
-            there = map-round under_of l (x ∷ r);
-            whose = refl;
-            moves = made.moves;
-            left = under_are;
-            named = names_of before_it at0 e (Some y) at' made.moves;
-            finishes = own_finishes before_it (under_of x) bal mine_known m now names at' y (kept_by p'.call.stage) (λ kept there. kept_at made.phase_now p'.call.stage kept there) made.moves;
-            quick = own_in_time before_it (under_of x) bal mine_known m now names at' (Some y) made.moves;
-            gone = refl;
-            came = refl;
-            held = moves_held before_it x.ask at0 x.deeds x.seen e (Some y) at' mine_known.stands made.moves;
+            step = record {
+              before = map under_of l;
+              mine = under_of x;
+              behind = map under_of r;
+              at_now = at';
+              there = map-round under_of l (x ∷ r);
+              whose = refl;
+              moves = made.moves;
+              left = under_are;
+              named = names_of before_it at0 e (Some y) at' made.moves;
+              finishes = own_finishes before_it (under_of x) bal mine_known m now names at' y (kept_by p'.call.stage) (λ kept there. kept_at made.phase_now p'.call.stage kept there) made.moves;
+              quick = own_in_time before_it (under_of x) bal mine_known m now names at' (Some y) made.moves;
+              gone = refl;
+              came = refl;
+              held = moves_held before_it x.ask at0 x.deeds x.seen e (Some y) at' mine_known.stands made.moves;
+            };
+            place = length-images under_of l;
+            nearer = λ none hold. absurd (let no : Some y ≡ None = none in cc);
           },
           record {
             sittings = after_all;
@@ -261,11 +314,26 @@ module _ {T W : Type 0} where
       ap (λ (zs : List (Party T W)). parties_after zs (length l) c.0 e.reply) (sym parties_is) ∙ (ap (λ n. parties_after parties n c.0 e.reply) d.5 ∙ sym c.4) in
       let scene_is : scene_of sh.queue parts (l ++ (x ∷ r)) s.gone s.came ≡ s = same_scene s (channel sh.queue parts) (map under_of (l ++ (x ∷ r))) (sym sh.now) (sym under_is) in
       let before_all : Scene T W = scene_of sh.queue parts (l ++ (x ∷ r)) s.gone s.came in
+      let names = c.2.0 in
+      let t = o.0 in
+      let first : List ℕ = all_left parts (map party_of (l ++ (x ∷ r))) in
+      let last : List ℕ = all_left parts' (parties_after (map party_of (l ++ (x ∷ r))) (length l) c.0 e.reply) in
+      let of_entry : StepsNearer (length l) first last before_all x.party.id e names t =
+      subst (λ (kept : Option (Kept T)). StepsNearer (length l) first last before_all x.party.id (record { mark = e.mark; reply = e.reply; kept = kept }) names t) (sym c.3) o.1 in
+      let of_party : StepsNearer (length l) first last s p.id e names t =
+      subst (λ (n : ℕ). StepsNearer (length l) first last s n e names t) (ap (λ (y : Party T W). y.id) d.4)
+      (subst (λ (z : Scene T W). StepsNearer (length l) first last z x.party.id e names t) scene_is of_entry) in
+      let from_here : StepsNearer (length l) (all_left parts parties) last s p.id e names t =
+      subst (λ (zs : List (Party T W)). StepsNearer (length l) (all_left parts zs) last s p.id e names t) (sym parties_is) of_party in
+      let to_there : StepsNearer (length l) (all_left parts parties) (all_left parts' parties') s p.id e names t =
+      subst (λ (zs : List (Party T W)). StepsNearer (length l) (all_left parts parties) (all_left parts' zs) s p.id e names t) left from_here in
+      let there_now : StepsNearer k (all_left parts parties) (all_left parts' parties') s p.id e names t =
+      subst (λ n. StepsNearer n (all_left parts parties) (all_left parts' parties') s p.id e names t) d.5 to_there in
       record {
         names = c.2.0;
         woken = c.2.1;
         after = o.0;
-        step = subst (λ (n : ℕ). Steps s n e c.2.0 o.0) (ap (λ (y : Party T W). y.id) d.4) (subst (λ (z : Scene T W). Steps z x.party.id e c.2.0 o.0) scene_is (subst (λ (kept : Option (Kept T)). Steps before_all x.party.id (record { mark = e.mark; reply = e.reply; kept = kept }) c.2.0 o.0) (sym c.3) o.1));
+        steps = there_now;
         one_place = o.3;
         shown = subst (λ (zs : List (Party T W)). Shows parts' zs o.0) left o.2;
       }

@@ -2,6 +2,7 @@ pub mod Moments
 pub mod Tellings
 pub mod Answers
 pub mod Known
+pub mod Left
 pub mod Scene
 pub mod Run
 pub mod Count

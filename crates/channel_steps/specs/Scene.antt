@@ -1,5 +1,5 @@
 -- A channel with calls under way, seen without its cells, and what one step of one of them does.
-use Rattle.std.specs.Prelude.{◌≡◌, ℕ, ◌+◌, ◌<◌, ◌≤◌, List, [], ◌∷◌, ◌++◌, length, take, Option, None, Some, map, slice_get, slice_set}
+use Rattle.std.specs.Prelude.{◌≡◌, ℕ, ◌+◌, ◌<◌, ◌≤◌, ◌⊎◌, List, [], ◌∷◌, ◌++◌, length, take, Option, None, Some, map, slice_get, slice_set}
 use Rattle.std.specs.List.{remove}
 use Rattle.concurrent_queue.specs.Queue.{Queue, Phase, IsInRange}
 use Rattle.concurrent_queue.specs.Step.{Seat, Fits}
@@ -18,6 +18,7 @@ use Rattle.channel_calls.specs.declared.stage.Stage.{Stage}
 use Rattle.channel_calls.specs.declared.stage.Stage.TheVariants.{Finished}
 use Rattle.channel_steps.specs.Answers.{Met, Keeps}
 use Rattle.channel_steps.specs.Known.{StageAt, ToldAt, IsQuick, steps_left}
+use Rattle.channel_steps.specs.Left.{all_left, left_at}
 use Rattle.channel_steps.specs.Moments.{Deed, with_deed}
 use Rattle.channel_steps.specs.Tellings.{Telling, owed, telling, dropping, Names}
 use Rattle.channel_steps.specs.declared.party.Party.{Party}
@@ -157,6 +158,18 @@ module _ {T W : Type 0} where
   AllKnown now [] = Unit {0}
   AllKnown now (u ∷ us) = Known now u × AllKnown now us
 
+  -- ---- calls that hold nobody up
+
+  -- none of these calls has a mark but Nothing
+  abbrev pub AreIdle : List (Under T W) → Type 0
+  AreIdle [] = Unit {0}
+  AreIdle (u ∷ us) = (u.deeds ≡ []) × AreIdle us
+
+  -- these other calls hold nobody up: none has a mark, and an unbounded channel has had its first taking, or there is no other
+  -- call
+  abbrev pub HoldNobodyUp : Channel T W → List (Under T W) → Type 0
+  HoldNobodyUp c others = AreIdle others × (c.queue.capacity ≡ None → (0 < c.queue.removed) ⊎ (others ≡ []))
+
   -- ---- what the cells and the parties show
 
   abbrev pub under_of : Sitting T W → Under T W
@@ -213,6 +226,13 @@ module _ {T W : Type 0} where
   left_by p None = None
   left_by p (Some r) = Some (kept_by p.call.stage)
 
+  -- one step of the k-th call, from these cells and parties to those: where the others hold nobody up and it does not answer, it
+  -- has fewer steps left
+  pub record StepsNearer (k : ℕ) (left left' : List ℕ) (s : Scene T W) (p : ℕ) (e : Entry T) (names : List W) (t : Scene T W) : Type 0 where
+    pub step : Steps s p e names t
+    pub place : length step.before ≡ k
+    pub nearer : e.reply ≡ None → HoldNobodyUp s.now (step.before ++ step.behind) → left_at k left' < left_at k left
+
   module _ {S : Type 0} (wakes : S → W → S → Type 0) where
     -- the code of one step
     abbrev pub SteppedAt : Parts T W → List (Party T W) → ℕ → S → Entry T → Parts T W → List (Party T W) → S → Type 0
@@ -220,16 +240,16 @@ module _ {T W : Type 0} where
         (p : Party T W) → slice_get parties k ≡ Some p →
         (p' : Party T W) × (p'.id ≡ p.id) × IsChannelStep wakes parts p.call.stage sink parts' p'.call.stage e.mark e.reply sink' × (e.kept ≡ left_by p' e.reply) × (parties' ≡ parties_after parties k p' e.reply)
 
-    -- a step that was made in the scene s
-    pub record Stepped (parts : Parts T W) (sink : S) (e : Entry T) (parts' : Parts T W) (parties' : List (Party T W)) (sink' : S) (s : Scene T W) (p : ℕ) : Type 0 where
+    -- a step of the k-th call that was made in the scene s
+    pub record Stepped (parts : Parts T W) (parties : List (Party T W)) (k : ℕ) (sink : S) (e : Entry T) (parts' : Parts T W) (parties' : List (Party T W)) (sink' : S) (s : Scene T W) (p : ℕ) : Type 0 where
       pub names : List W
       pub woken : Woken wakes sink names sink'
       pub after : Scene T W
-      pub step : Steps s p e names after
+      pub steps : StepsNearer k (all_left parts parties) (all_left parts' parties') s p e names after
       pub one_place : OnePlace parts parts'
       pub shown : Shows parts' parties' after
 
     -- the k-th call under way makes a step, in every scene that the cells and the parties show
     abbrev pub StepsAt : Parts T W → List (Party T W) → ℕ → S → Entry T → Parts T W → List (Party T W) → S → Type 0
     StepsAt parts parties k sink e parts' parties' sink' =
-        (s : Scene T W) (p : Party T W) → IsInRange s.now.queue → Shows parts parties s → slice_get parties k ≡ Some p → Stepped parts sink e parts' parties' sink' s p.id
+        (s : Scene T W) (p : Party T W) → IsInRange s.now.queue → Shows parts parties s → slice_get parties k ≡ Some p → Stepped parts parties k sink e parts' parties' sink' s p.id

@@ -1,7 +1,7 @@
 //! Random interleavings of the calls of up to four parties in a world of each form. Where no call is under way, every other
 //! call is made alone, and later ones go on by steps. After each step, and after each call made alone, the world is compared
 //! with a plain count of it. One line for each form, or one that says which interleaving differs, at which step and after how
-//! many calls made alone.
+//! many calls made alone. Then random worlds of each form that are settled, each beside a plain channel, with a line for each form.
 #![tactic(auto)]
 
 mod alone;
@@ -14,9 +14,11 @@ mod due;
 mod made;
 mod names;
 mod owed;
+mod plain;
 mod plan;
 mod random;
 mod saw;
+mod settling;
 #[cfg(test)]
 mod tests;
 mod trial;
@@ -25,6 +27,7 @@ mod waiting;
 
 use crate::differs::Differs;
 use crate::made::Made;
+use crate::settling::{Polls, settle_random};
 use crate::trial::Trial;
 use channel_calls::error::OpenError;
 use channel_world::world::World;
@@ -35,6 +38,9 @@ use std::process::ExitCode;
 
 /// How many interleavings a channel of each form has.
 const INTERLEAVINGS: u64 = 10_000;
+
+/// How many random worlds of each form are settled.
+const SETTLED: u64 = 2_000;
 
 /// The seed of the first one; each later one has the next seed.
 const SEED: u64 = 20_260_000;
@@ -132,9 +138,47 @@ fn compare<R: Print>(rt: &R, form: Form, alloc: Global) -> io::Result<bool> {
     Ok(true)
 }
 
+/// Settles one random world.
+fn settle(form: Form, seed: u64, alloc: Global) -> Result<Polls, Differs> {
+    match form.open(alloc) {
+        Ok(world) => settle_random(world, form.capacity(), seed, alloc),
+        Err(_) => Err(Differs::NoMemory),
+    }
+}
+
+/// Settles random worlds of this form. Whether they agree.
+fn settle_all<R: Print>(rt: &R, form: Form, alloc: Global) -> io::Result<bool> {
+    let name = form.name();
+    let mut polls = 0u64;
+    let mut most = 0usize;
+    for number in 0..SETTLED {
+        let seed = SEED + number;
+        match settle(form, seed, alloc) {
+            Ok(made) => {
+                polls = polls.wrapping_add(made.polls);
+                most = most.max(made.most);
+            }
+            Err(differs) => {
+                println!(rt; "{name}: settling, seed {seed}: {differs}")?;
+                return Ok(false);
+            }
+        }
+    }
+    println!(rt;
+        "{name}: {SETTLED} worlds settled by {polls} polls, {most} pending at most, agree"
+    )?;
+    Ok(true)
+}
+
 fn main(rt: HostRuntime) -> ExitCode {
     for form in [Form::OneSlot, Form::RingOfThree, Form::Unbounded] {
         match compare(&rt, form, rt.alloc()) {
+            Ok(true) => {}
+            _ => return ExitCode::FAILURE,
+        }
+    }
+    for form in [Form::OneSlot, Form::RingOfThree, Form::Unbounded] {
+        match settle_all(&rt, form, rt.alloc()) {
             Ok(true) => {}
             _ => return ExitCode::FAILURE,
         }

@@ -9,6 +9,7 @@ use crate::owed::is_nothing_owed;
 use crate::plan::{Kind, Plan};
 use crate::under_way::{Subject, UnderWay};
 use crate::waiting::{Came, Waiting};
+use crate::{Form, settle};
 use channel_calls::mark::Mark;
 use channel_calls::stage::Line;
 use channel_world::name::{OpId, Waiter};
@@ -128,5 +129,14 @@ fn who_came_first_is_woken_first(rt: HostRuntime) {
     let rows = [(0, 1, Ok(())), (4, 6, Ok(())), (5, 6, Err(Differs::Woken))];
     for (from, to, want) in rows {
         assert_eq!(rt; wakes_second(from, to, rt.alloc()), Some(want));
+    }
+}
+
+#[test]
+fn random_worlds_settle_as_plain_channels(rt: HostRuntime) {
+    for form in [Form::OneSlot, Form::RingOfThree, Form::Unbounded] {
+        for seed in 0..25u64 {
+            assert_eq!(rt; settle(form, seed, rt.alloc()).err(), None);
+        }
     }
 }

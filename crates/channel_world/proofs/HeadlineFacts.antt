@@ -29,6 +29,8 @@ use Rattle.channel_interleaving.specs.declared.step.Entry.{Entry}
 use Rattle.channel_interleaving.specs.declared.step.PartyId.{PartyId}
 use Rattle.channel_interleaving.specs.declared.step.Step.{Step}
 use Rattle.channel_interleaving.specs.declared.step.Step.TheVariants as step
+use Rattle.channel_interleaving.proofs.Interface.{few_in}
+use Rattle.channel_world.proofs.SoonFacts.{end_soon}
 use Rattle.channel_world.specs.Headline.{Headline}
 use Rattle.channel_world.specs.Sentences.{IfBoth, Own, IsAccepted, TouchesOneCell, RepliesByItsRow, TellsWhatItOwes, LeavesNothing, RefusedLeavesNothing, WaitsForNobody, OwesWhoWaits, EndsForGood}
 
@@ -170,6 +172,7 @@ module _ {T : Type 0} where
         told = each LeadsBy TellsWhatItOwes tells start r.made trace r.moments r.run;
         refused = each LeadsBy RefusedLeavesNothing refuses start r.made trace r.moments r.run;
         waits_for_nobody = each LeadsBy WaitsForNobody waits start r.made trace r.moments r.run;
+        ends_soon = end_soon start r.made trace r.moments k.kept (few_in old s k) r.run;
         stops = stops;
         owed = each LeadsBy OwesWhoWaits owes start r.made trace r.moments r.run;
         for_good = all_end_well start r.made trace r.moments k.kept r.run;

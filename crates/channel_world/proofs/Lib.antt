@@ -1,11 +1,15 @@
 pub mod Few
 pub mod Opening
+pub mod SoonFacts
 pub mod HeadlineFacts
 pub mod Whole
 pub mod Tasks
+pub mod Polls
+pub mod SettleFacts
 pub mod WordLemmas
 pub mod CommandLemmas
 pub mod TableLemmas
 pub mod ScriptLemmas
 pub mod IoLemmas
 pub mod GrowthLemmas
+pub mod SettleText

@@ -30,7 +30,7 @@ module _ {T : Type 0} where
       ap (λ c. at_rest (record g { channel = c })) same.channel
       ∙ ap (λ (b : Book T). at_rest (record f { roll = b.roll; order = b.order })) same.book
 
-  can_be_lent : (f : Floor T) → AreFewUsers f → f.made < 2 ^ 61 → CanBeLent f.roll
+  pub can_be_lent : (f : Floor T) → AreFewUsers f → f.made < 2 ^ 61 → CanBeLent f.roll
   can_be_lent f few low handle h e = let users = few handle h e in omega (arith, users, low)
 
   module _ (agree : RefusalsAgree T) (f : Floor T) (kept : IsKept f) (quiet : IsQuiet f) (c : Call T) where

@@ -11,6 +11,7 @@ use Rattle.channel_model.specs.declared.run.Stopped.{Stopped}
 use Rattle.channel_steps.specs.Run.{Accounts}
 use Rattle.channel_steps.specs.Scene.{Scene}
 use Rattle.channel_world.specs.Sentences.{IsAccepted, TouchesOneCell, RepliesByItsRow, TellsWhatItOwes, RefusedLeavesNothing, WaitsForNobody, OwesWhoWaits, EndsForGood}
+use Rattle.channel_world.specs.StepsLeft.{EndSoon}
 
 module _ {T : Type 0} where
   -- The world `old`, standing in the scene `from`, was given the steps `steps`; `left` were left, and it became `new`. A scene is
@@ -39,6 +40,9 @@ module _ {T : Type 0} where
     pub refused : EachStep RefusedLeavesNothing (moment_of old from) made trace moments
     -- closing, dropping, giving up, refused polls and the questions end within eight steps of their own, whatever others do
     pub waits_for_nobody : EachStep WaitsForNobody (moment_of old from) made trace moments
+    -- at each moment each call has at most 197 steps of its own left, and where no other call under way has a mark but Nothing
+    -- each of its steps leaves it fewer, or ends it
+    pub ends_soon : EndSoon (moment_of old from) made trace moments
     -- the run stops at the first step that is refused, which stays in front, for the first reason that there is
     pub stops : Stops (book_of new) left (length trace) stopped
     -- at each moment, beside one who is pending and was not woken, there is no message, free place or closing but such as a

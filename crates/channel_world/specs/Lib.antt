@@ -1,6 +1,8 @@
 pub mod World
 pub mod Sentences
+pub mod StepsLeft
 pub mod Headline
+pub mod Settled
 pub mod Words
 pub mod Command
 pub mod Said

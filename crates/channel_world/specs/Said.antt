@@ -17,6 +17,8 @@ use Rattle.channel_world.specs.declared.script.command.Command.{Command as Parse
 use Rattle.channel_world.specs.declared.script.command.Command.TheVariants as parsed
 use Rattle.channel_world.specs.declared.script.command.Doing.{Doing}
 use Rattle.channel_world.specs.declared.script.command.Doing.TheVariants as doing
+use Rattle.channel_world.specs.declared.script.command.Line.{Line}
+use Rattle.channel_world.specs.declared.script.command.Line.TheVariants as line
 use Rattle.channel_world.specs.declared.script.command.Making.{Making}
 use Rattle.channel_world.specs.declared.script.command.Making.TheVariants as making
 use Rattle.channel_world.specs.declared.script.command.Opening.{Opening as ParsedOpening}
@@ -66,6 +68,10 @@ said (parsed.Send op sender msg) = say.send op.now sender.now msg
 said (parsed.New what new handle) = made_by what new.now handle.now
 said (parsed.One what name) = done_to what name.now
 said (parsed.SameChannel a b) = say.same_channel a.now b.now
+
+abbrev pub said_line : Line → Command
+said_line (line.Call command) = said command
+said_line line.Settle = say.settle
 
 abbrev pub said_first : ParsedOpening → Opening
 said_first (opening.Bounded capacity) = bounded capacity

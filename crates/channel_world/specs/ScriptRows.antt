@@ -102,10 +102,25 @@ pub greatest_message : ran today (codes "bounded 1" ∷ codes "try_send s 184467
 unfolding digits
 greatest_message = refl
 
-pub not_read_yet : ran today (codes "bounded 1" ∷ codes "settle" ∷ [])
+pub settling_three_receives : ran today (codes "bounded 1" ∷ codes "recv a r" ∷ codes "recv b r" ∷ codes "recv c r" ∷ codes "poll a" ∷ codes "poll b" ∷ codes "poll c" ∷ codes "try_send s 9" ∷ codes "settle" ∷ codes "len r" ∷ codes "settle" ∷ [])
+    ≡ (codes "ok" ∷ codes "ok" ∷ codes "ok" ∷ codes "ok" ∷ codes "pending" ∷ codes "pending" ∷ codes "pending" ∷ codes "ok wakes a" ∷ codes "polls 2: a ok 9, b pending" ∷ codes "0" ∷ codes "polls 0" ∷ [], 0)
+unfolding digits
+settling_three_receives = refl
+
+pub settling_after_a_closing : ran today (codes "bounded 1" ∷ codes "clone q r" ∷ codes "closed e s" ∷ codes "try_send s 1" ∷ codes "send a s 2" ∷ codes "send b s 3" ∷ codes "poll a" ∷ codes "poll b" ∷ codes "try_recv r" ∷ codes "recv c r" ∷ codes "poll e" ∷ codes "next q" ∷ codes "poll c" ∷ codes "close r" ∷ codes "settle" ∷ codes "settle" ∷ [])
+    ≡ (codes "ok" ∷ codes "ok" ∷ codes "ok" ∷ codes "ok" ∷ codes "ok" ∷ codes "ok" ∷ codes "pending" ∷ codes "pending" ∷ codes "ok 1 wakes a" ∷ codes "ok" ∷ codes "pending" ∷ codes "pending" ∷ codes "pending" ∷ codes "true wakes b c q e" ∷ codes "polls 5: a closed 2, b closed 3, c closed, q none, e ready" ∷ codes "polls 0" ∷ [], 0)
+unfolding digits
+settling_after_a_closing = refl
+
+pub nobody_woken_to_settle : ran today (codes "bounded 1" ∷ codes "recv a r" ∷ codes "poll a" ∷ codes "settle" ∷ [])
+    ≡ (codes "ok" ∷ codes "ok" ∷ codes "pending" ∷ codes "polls 0" ∷ [], 0)
+unfolding digits
+nobody_woken_to_settle = refl
+
+pub settle_takes_no_name : ran today (codes "bounded 1" ∷ codes "settle s" ∷ [])
     ≡ (codes "ok" ∷ codes "line 2: can't be read" ∷ [], 2)
 unfolding digits
-not_read_yet = refl
+settle_takes_no_name = refl
 
 pub receiver_of_an_open_channel_is_not_terminated : ran today (codes "unbounded" ∷ codes "is_terminated r" ∷ codes "is_terminated s" ∷ [])
     ≡ (codes "ok" ∷ codes "false" ∷ codes "refused 7" ∷ [], 0)

@@ -1,6 +1,6 @@
 -- Reply lines.
-use Rattle.std.specs.Prelude.{ℕ, List, [], ◌∷◌, ◌++◌, length, Bool, true, false, None, Some, Ok, Err, codes}
-use Rattle.std.specs.List.{flat_map, join_by}
+use Rattle.std.specs.Prelude.{◌≡◌, ℕ, zero, suc, List, [], ◌∷◌, ◌++◌, length, Bool, true, false, None, Some, Ok, Err, codes}
+use Rattle.std.specs.List.{flat_map, join_by, list_any}
 use Rattle.std.specs.Fmt.{decimal}
 use Rattle.channel_calls.specs.declared.reply.Reply.{Reply}
 use Rattle.channel_calls.specs.declared.reply.Reply.TheVariants as reply
@@ -11,6 +11,7 @@ use Rattle.channel_calls.specs.declared.error.TrySendError.TheVariants as send_e
 use Rattle.channel_calls.specs.declared.error.TryRecvError.TheVariants as recv_error
 use Rattle.channel_model.specs.declared.refusal.WorldRefusal.{WorldRefusal}
 use Rattle.channel_model.specs.declared.refusal.WorldRefusal.TheVariants as why
+use Rattle.channel_world.specs.declared.settle.Settled.{Settled}
 use Rattle.futures.specs.declared.task.Poll.TheVariants.{Ready, Pending}
 
 abbrev pub yes_or_no : Bool → List ℕ
@@ -91,6 +92,11 @@ abbrev pub settle_text : Table → List (Waiter × Reply ℕ) → List ℕ
 settle_text table [] = codes "polls 0"
 settle_text table (p ∷ ps) = codes "polls " ++ decimal (length (p ∷ ps)) ++ codes ": " ++ join_by (poll_text table) (codes ", ") (p ∷ ps)
 
+-- what stands before the k-th poll
+abbrev pub part_before : ℕ → List ℕ
+part_before zero = codes ": "
+part_before (suc k) = codes ", "
+
 -- a reply says that memory or serials were refused
 abbrev pub wants_growth : Reply ℕ → Bool
 wants_growth (reply.TrySend (Err (NoMemory m))) = true
@@ -104,3 +110,7 @@ wants_growth (reply.RecvPoll (Ready (Err (SerialsUsedUp u)))) = true
 wants_growth (reply.ClosedPoll (Ready (Err e))) = true
 wants_growth (reply.Next (Ready (Some (Err e)))) = true
 wants_growth r = false
+
+-- no poll of these was refused memory or serials
+abbrev pub AreAmple : List (Settled ℕ) → Type 0
+AreAmple polls = list_any (λ (p : Settled ℕ). wants_growth p.reply) polls ≡ false

@@ -15,6 +15,7 @@ pub mod name;
 mod room;
 mod run;
 pub mod script;
+pub mod settle;
 pub mod step;
 pub mod world;
 

@@ -8,7 +8,7 @@ impl<T: Drop> World<T> {
     ghost use Rattle.channel_world.specs.World.{most_woken, untold_count, at_rest};
 
     /// How many wait untold; None where there is no such number.
-    fn untold_count(&self) -> Option<usize>
+    pub(crate) fn untold_count(&self) -> Option<usize>
         ensures { IfSome result (λ n. untold_count (at_rest self.now).waiting ≤ n) }
     {
         let sends = self.steps.waiting(Line::Sends);

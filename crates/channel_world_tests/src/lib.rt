@@ -22,4 +22,6 @@ mod said;
 #[cfg(test)]
 mod sends;
 #[cfg(test)]
+mod settle;
+#[cfg(test)]
 mod waits;

@@ -2,9 +2,9 @@
 ghost use Rattle.std.specs.Prelude.{◌≡◌, ◌==◌, ◌∷◌, length, option_copied};
 ghost use Rattle.std.specs.Option.{option_map};
 ghost use Rattle.channel_world.specs.Words.{words_after};
-ghost use Rattle.channel_world.specs.Command.{openings, parse, parsed, read, that_is, for_word, message_commands, operation_commands, handle_commands, question_commands};
+ghost use Rattle.channel_world.specs.Command.{openings, parse, parsed, read, that_is, for_word, call_commands, message_commands, operation_commands, handle_commands, question_commands};
 ghost use Rattle.channel_world.specs.Language.{today};
-ghost use Rattle.channel_world.specs.Said.{said, said_first, form_of};
+ghost use Rattle.channel_world.specs.Said.{said, said_line, said_first, form_of};
 
 use super::words::{first_word, next_name, next_number};
 
@@ -99,6 +99,15 @@ pub enum Command<'a> {
         a: &'a [u8],
         b: &'a [u8],
     },
+}
+
+/// What a line after the first says.
+#[derive(Clone, Copy)]
+pub enum Line<'a> {
+    /// A command that makes one call.
+    Call(Command<'a>),
+    /// Settling.
+    Settle,
 }
 
 /// The first word of a command.
@@ -207,7 +216,7 @@ fn question_spelled(word: &[u8]) -> Option<Question>
 
 /// The verb that is spelled so.
 fn verb_spelled(word: &[u8]) -> Option<Verb>
-    ensures { option_map form_of result ≡ for_word word.now today }
+    ensures { option_map form_of result ≡ for_word word.now call_commands }
 {
     if let Some(verb) = message_verb(word) {
         return Some(verb);
@@ -285,16 +294,31 @@ fn complete<'a>(verb: Verb, rest: Option<&'a [u8]>) -> Option<Command<'a>>
     }
 }
 
-/// The command that a line says; None where it can't be read.
-pub fn parse_line(line: &[u8]) -> Option<Command<'_>>
-    ensures { option_map said result ≡ parse today line.entry.now }
+/// What a line says of this word and what stands after it.
+fn line_of<'a>(word: &[u8], rest: Option<&'a [u8]>) -> Option<Line<'a>>
+    ensures { option_map said_line result ≡ parsed today (word.now ∷ words_after (option_copied rest.entry)) }
+{
+    if let Some(verb) = verb_spelled(word) {
+        return match complete(verb, rest) {
+            Some(command) => Some(Line::Call(command)),
+            None => None,
+        };
+    }
+    if word == b"settle".as_slice() && is_end(rest) {
+        return Some(Line::Settle);
+    }
+    None
+}
+
+/// What a line says; None where it can't be read.
+pub fn parse_line(line: &[u8]) -> Option<Line<'_>>
+    ensures { option_map said_line result ≡ parse today line.entry.now }
 {
     if line.len() > LINE_LIMIT {
         return None;
     }
     let (word, rest) = first_word(line);
-    let verb = verb_spelled(word)?;
-    complete(verb, rest)
+    line_of(word, rest)
 }
 
 /// The opening of this word and what stands after it on its line.

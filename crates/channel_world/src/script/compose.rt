@@ -6,11 +6,11 @@ ghost use Rattle.channel_interleaving.specs.Floor.{IsQuiet};
 ghost use Rattle.channel_world.specs.World.{at_rest};
 ghost use Rattle.channel_world.specs.Words.{lines_of};
 ghost use Rattle.channel_world.specs.Language.{today};
-ghost use Rattle.channel_world.specs.Said.{said, scene_of};
+ghost use Rattle.channel_world.specs.Said.{said_line, scene_of};
 ghost use Rattle.channel_world.specs.Script.{readable, ending, followed, first_names, opened, script_of_lines};
 ghost use Rattle.channel_world.specs.Added.{Extends};
 
-use super::command::{Command, Opening, parse_line, parse_opening};
+use super::command::{Line, Opening, parse_line, parse_opening};
 use super::end::ScriptEnd;
 use super::scene::Scene;
 use super::table::{Sort, Table};
@@ -33,9 +33,9 @@ fn add_line(out: &mut Vec<u8>, line: &[u8]) -> Result<(), AllocError>
     Ok(())
 }
 
-/// The command of a line of this number, if it can be read.
-fn readable(number: u32, line: &[u8]) -> Option<Command<'_>>
-    ensures command { option_map said result ≡ readable today number line.entry.now }
+/// What a line of this number says, if it can be read.
+fn readable(number: u32, line: &[u8]) -> Option<Line<'_>>
+    ensures command { option_map said_line result ≡ readable today number line.entry.now }
     ensures small { OnSome result (number ≤ LINES_LIMIT) }
 {
     if number > LINES_LIMIT {

@@ -7,12 +7,12 @@ ghost use Rattle.channel_world.specs.World.{at_rest};
 ghost use Rattle.channel_model.specs.Refusal.{refusal};
 ghost use Rattle.channel_world.specs.Table.{named_in};
 ghost use Rattle.channel_world.specs.Asked.{used, given, lives, is_known, is_given_before, with_given, handle_of, question_call, call_of};
-ghost use Rattle.channel_world.specs.Script.{checked, answered, obeyed};
-ghost use Rattle.channel_world.specs.Said.{said, scene_of, asked_as, sort_of, sending_call, making_call, handle_call, op_call};
+ghost use Rattle.channel_world.specs.Script.{checked, answered, obeyed, settles};
+ghost use Rattle.channel_world.specs.Said.{said, said_line, scene_of, asked_as, sort_of, sending_call, making_call, handle_call, op_call};
 
-use super::command::{Command, Doing, Making, Question, Sending};
+use super::command::{Command, Doing, Line, Making, Question, Sending};
 use super::table::{Named, Sort, Table};
-use super::text::{answer_line, refused_line};
+use super::text::{answer_line, refused_line, settle_line};
 use crate::world::World;
 use channel_model::call::Call;
 use channel_model::name::{HandleId, OpId};
@@ -288,9 +288,9 @@ impl<'a> Scene<'a> {
         Ok(line)
     }
 
-    /// Does what a command says, and gives its reply line. Where memory or serials are refused nothing is known of the
-    /// scene.
-    pub fn obey(&mut self, alloc: Global, command: &Command<'a>) -> Result<Vec<u8>, AllocError>
+    /// Makes the call that a command says, if it is not refused, and gives its reply line. Where memory or serials are
+    /// refused nothing is known of the scene.
+    fn call(&mut self, alloc: Global, command: &Command<'a>) -> Result<Vec<u8>, AllocError>
         requires quiet { IsQuiet self.old.world }
         requires few { length self.old.table < 2 ^ 32 }
         ensures line { IfOk result (λ line. record { after = scene_of self.new; line = line.items } ≡ obeyed (scene_of self.old) (said command.now)) }
@@ -300,6 +300,34 @@ impl<'a> Scene<'a> {
         match self.check(command) {
             Ok(call) => self.make(alloc, command, call),
             Err(why) => refused_line(alloc, why),
+        }
+    }
+
+    /// Settles, and gives the reply line. Where memory or serials are refused nothing is known of the scene.
+    fn settle(&mut self, alloc: Global) -> Result<Vec<u8>, AllocError>
+        requires quiet { IsQuiet self.old.world }
+        ensures line { IfOk result (λ line. record { after = scene_of self.new; line = line.items } ≡ settles (scene_of self.old)) }
+        ensures names { self.new.table ≡ self.old.table }
+        ensures quiet { IsQuiet self.new.world }
+    {
+        let Ok(polls) = self.world.settle() else {
+            return Err(AllocError);
+        };
+        let line = settle_line(alloc, &self.table, polls.as_slice())?;
+        Ok(line)
+    }
+
+    /// Does what a line says, and gives its reply line. Where memory or serials are refused nothing is known of the scene.
+    pub fn obey(&mut self, alloc: Global, line: &Line<'a>) -> Result<Vec<u8>, AllocError>
+        requires quiet { IsQuiet self.old.world }
+        requires few { length self.old.table < 2 ^ 32 }
+        ensures line { IfOk result (λ text. record { after = scene_of self.new; line = text.items } ≡ obeyed (scene_of self.old) (said_line line.now)) }
+        ensures names { OnOk result (length self.new.table ≤ length self.old.table + 1) }
+        ensures quiet { IsQuiet self.new.world }
+    {
+        match line {
+            Line::Call(command) => self.call(alloc, command),
+            Line::Settle => self.settle(alloc),
         }
     }
 }

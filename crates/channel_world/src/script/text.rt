@@ -1,8 +1,10 @@
 //! Reply lines.
 ghost use Rattle.std.specs.Prelude.{◌≡◌, ◌++◌, false, IfOk, OnOk, string_bytes};
-ghost use Rattle.channel_world.specs.Text.{reply_text, wakes_text, refused_text, refusal_number, wants_growth, IsTry, IsPoll};
+ghost use Rattle.channel_world.specs.Text.{reply_text, wakes_text, refused_text, refusal_number, wants_growth, IsTry, IsPoll, poll_text, part_before, settle_text, AreAmple};
+ghost use Rattle.channel_world.specs.Settled.{polls_in};
 
 use super::table::Table;
+use crate::settle::Settled;
 use channel_calls::error::{Refused, SendError, TryRecvError, TrySendError};
 use channel_calls::reply::Reply;
 use channel_model::name::Waiter;
@@ -104,6 +106,48 @@ pub fn answer_line(
 {
     let mut line = reply_text(alloc, &done.reply)?.into_bytes();
     add_wakes(table, done.woken.as_slice(), &mut line)?;
+    Ok(line)
+}
+
+/// Adds one poll of a settling: its name and its reply. Not where it was refused memory or serials.
+fn add_poll(
+    alloc: Global,
+    table: &Table<'_>,
+    poll: &Settled<u64>,
+    line: &mut Vec<u8>,
+) -> Result<(), AllocError>
+    ensures text { OnOk result (line.new.items ≡ line.old.items ++ poll_text table.now (poll.now.name, poll.now.reply)) }
+    ensures whole { OnOk result (wants_growth poll.now.reply ≡ false) }
+{
+    let reply = reply_text(alloc, &poll.reply)?;
+    line.extend_from_slice(table.waiter_name(poll.name))?;
+    line.push(b' ')?;
+    line.extend_from_slice(reply.as_bytes())?;
+    Ok(())
+}
+
+/// What stands before the k-th poll of a settling.
+fn part_before(k: usize) -> &'static [u8]
+    ensures { result.now ≡ part_before k }
+{
+    if k == 0 { b": " } else { b", " }
+}
+
+/// The line for a settling; none where a poll of it was refused memory or serials.
+pub fn settle_line(
+    alloc: Global,
+    table: &Table<'_>,
+    polls: &[Settled<u64>],
+) -> Result<Vec<u8>, AllocError>
+    ensures text { IfOk result (λ line. line.items ≡ settle_text table.now (polls_in polls.now)) }
+    ensures whole { OnOk result (AreAmple polls.now) }
+{
+    let count = polls.len();
+    let mut line = format!(in alloc; "polls {count}")?.into_bytes();
+    for k in 0..count {
+        line.extend_from_slice(part_before(k))?;
+        add_poll(alloc, table, &polls[k], &mut line)?;
+    }
     Ok(line)
 }
 

@@ -1,7 +1,7 @@
 use Rattle.std.proofs.Common.{arith, rules, ◌≡◌, ◌+◌, Some, subst, ap}
 use Rattle.channel_world.specs.Words.{lines_of}
 use Rattle.channel_world.specs.Language.{today}
-use Rattle.channel_world.specs.Said.{said, scene_of}
+use Rattle.channel_world.specs.Said.{said_line, scene_of}
 use Rattle.channel_world.specs.Script.{Script, followed, replying_first, readable, ending}
 use Rattle.channel_world.specs.declared.script.end.ScriptEnd.TheVariants.{Done, Memory}
 use Rattle.channel_world.proofs.ScriptLemmas.{GoesOn, stays, stays_by, is_done, goes_on, followed_more}
@@ -21,7 +21,7 @@ loop-line-preserved c =
     let whole = followed today (scene_of c.args.scene.now) 2 (lines_of c.args.text.now) in
     let rest = followed today (scene_of c.obey.new.self) (c.loop-line.number + 1) (lines_of c.in-Some.after.now) in
     let reply = c.in-Ok.reply.items in
-    let command = said c.in-Some-readable.command in
+    let command = said_line c.in-Some-readable.command in
     let says : Some command ≡ readable today c.loop-line.number c.in-Some.line.now = search rules in
     let more : followed today (scene_of c.loop-line.scene) c.loop-line.number (lines_of c.loop-line.rest.now) ≡ replying_first reply rest =
     followed_more today (scene_of c.loop-line.scene) (scene_of c.obey.new.self) c.loop-line.number (lines_of c.loop-line.rest.now) (lines_of c.in-Some.after.now) c.in-Some.line.now reply command c.in-Some.ensures.lines says c.in-Ok.ensures.line in

@@ -1,10 +1,12 @@
--- A listener that was just added waits.
+-- A listener that was just added waits, and a line that was just set is as it was set.
 use Rattle.std.proofs.Common.{◌≡◌, not, Bool, true, false, if◌then◌else◌, List, [], ◌∷◌, ◌++◌, Option, None, Some, is_some, refl, sym, subst, arith}
 use Rattle.std.proofs.lemmas.Bool.Decides.{nat_tests}
 use Rattle.std.specs.Map.{lookup}
 use Rattle.event_listener.specs.declared.key.Key.{Key}
 use Rattle.event_listener.specs.Lists.{kind_of, told_as, waits_as, same_key, listened}
-use Rattle.channel_calls.specs.Parts.{Listeners, waits}
+use Rattle.channel_calls.specs.Parts.{Listeners, Roster, listeners, with_listeners, waits}
+use Rattle.channel_calls.specs.declared.stage.Line.{Line}
+use Rattle.channel_calls.specs.declared.stage.Line.TheVariants.{Sends, Receives, Streams, Closings}
 
 same_as_itself : (key : Key) → same_key key key ≡ true
 same_as_itself key = grind (arith, nat_tests)
@@ -33,3 +35,9 @@ module _ {W : Type 0} where
       let b : is_some (waits_as (listened key l) key) ≡ true = found_last key l.waiting in
       let k : kind_of (listened key l) key ≡ Some false = waits_by (is_some (told_as l key)) (is_some (waits_as (listened key l) key)) a b in
       subst (λ (x : Option Bool). (elim x [ Some told ↦ not told | None ↦ false ]) ≡ true) (sym k) refl
+
+  pub same_line : (line : Line) (l : Listeners W) (a : Roster W) → listeners line (with_listeners line l a) ≡ l
+  same_line Sends l a = refl
+  same_line Receives l a = refl
+  same_line Streams l a = refl
+  same_line Closings l a = refl

@@ -1,0 +1,160 @@
+-- The steps that are left to a call, by its party and by its place.
+use Rattle.std.proofs.Common.{arith, ◌≡◌, ℕ, zero, suc, ◌≤◌, ◌<◌, ◌==◌, Bool, true, false, if◌then◌else◌, List, [], ◌∷◌, ◌++◌, map, length, slice_get, Option, None, Some, refl, sym, ap, ◌∙◌, subst}
+use Rattle.std.proofs.lemmas.Bool.Decides.{nat_tests}
+use Rattle.std.proofs.lemmas.List.{length-map}
+use Rattle.channel_calls.specs.Moves.{Channel}
+use Rattle.channel_calls.specs.Parts.{Parts}
+use Rattle.channel_calls.specs.declared.reply.Reply.{Reply}
+use Rattle.channel_model.specs.declared.name.Waiter.{Waiter}
+use Rattle.channel_steps.specs.Left.{party_left, all_left, left_at}
+use Rattle.channel_steps.proofs.Interface.{hold_still}
+use Rattle.channel_steps.specs.Scene.{Under, Scene, Sitting, HoldNobodyUp, Shows, Steps, sees, does, under_of, unless_ended, parties_in}
+use Rattle.channel_steps.specs.declared.party.Entry.{Entry as ChannelEntry}
+use Rattle.channel_steps.specs.declared.party.Party.{Party}
+use Rattle.channel_interleaving.specs.Floor.{book_of, parts_in, moment_of, lefts_in, StandsIn, Stepped}
+use Rattle.channel_interleaving.specs.Kept.{AllKept}
+use Rattle.channel_interleaving.specs.Left.{others_of, left_of}
+use Rattle.channel_interleaving.specs.Owners.{Post, post, All, AllDiffer, Differ, Owned, Together}
+use Rattle.channel_interleaving.specs.Run.{Book}
+use Rattle.channel_interleaving.specs.Runs.{Moment, ComesNearer, LeadsBy}
+use Rattle.channel_interleaving.specs.declared.floor.Floor.{Floor}
+use Rattle.channel_interleaving.specs.declared.names.Agent.{Agent}
+use Rattle.channel_interleaving.specs.declared.step.Entry.{Entry}
+use Rattle.channel_interleaving.specs.declared.step.PartyId.{PartyId}
+use Rattle.channel_interleaving.specs.declared.step.Step.{Step}
+use Rattle.channel_interleaving.specs.declared.step.Step.TheVariants as step
+
+-- ---- numbers
+
+is_same : (a b : ℕ) → a ≡ b → (a == b) ≡ true
+is_same a b e = grind (arith, nat_tests)
+
+is_other : (a b : ℕ) → (a ≡ b → ⊥) → (a == b) ≡ false
+is_other a b f = by (a == b) refl where
+  by : (t : Bool) → (a == b) ≡ t → t ≡ false
+  by true e = absurd (f (grind (arith, nat_tests)))
+  by false e = refl
+
+module _ {T : Type 0} where
+  -- ---- a party has one call under way
+
+  -- none of these calls is of this party
+  abbrev NoneIs : ℕ → List (Under T Waiter) → Type 0
+  NoneIs p us = All (λ (u : Under T Waiter). u.party ≡ p → ⊥) us
+
+  not_among : (posts : Waiter → Post) (a : Agent T) (agents : List (Agent T)) (us : List (Under T Waiter)) (mine : Under T Waiter)
+      (vs : List (Under T Waiter)) → Together posts agents (us ++ (mine ∷ vs)) → All (Differ a) agents → a.party ≡ mine.party → ⊥
+  not_among posts a [] [] mine vs t d e = t
+  not_among posts a [] (u ∷ us) mine vs t d e = t
+  not_among posts a (b ∷ more) [] mine vs t d e = d.0.party (e ∙ sym t.0.party)
+  not_among posts a (b ∷ more) (u ∷ us) mine vs t d e = not_among posts a more us mine vs t.1 d.1 e
+
+  none_before : (posts : Waiter → Post) (agents : List (Agent T)) (us : List (Under T Waiter)) (mine : Under T Waiter)
+      (vs : List (Under T Waiter)) → Together posts agents (us ++ (mine ∷ vs)) → AllDiffer agents → NoneIs mine.party us
+  none_before posts agents [] mine vs t d = tt
+  none_before posts [] (u ∷ us) mine vs t d = absurd t
+  none_before posts (a ∷ more) (u ∷ us) mine vs t d =
+      (λ e. not_among posts a more us mine vs t.1 d.0 (t.0.party ∙ e), none_before posts more us mine vs t.1 d.1)
+
+  others_are : (p : ℕ) (us : List (Under T Waiter)) (mine : Under T Waiter) (vs : List (Under T Waiter)) → NoneIs p us → mine.party ≡ p
+      → others_of p (us ++ (mine ∷ vs)) ≡ us ++ vs
+  others_are p [] mine vs none his = rw (is_same mine.party p his) refl
+  others_are p (u ∷ us) mine vs none his =
+      rw (is_other u.party p none.0) (ap (λ (l : List (Under T Waiter)). u ∷ l) (others_are p us mine vs none.1 his))
+
+  -- ---- the parties are those of the calls under way
+
+  seated : (xs : List (Sitting T Waiter)) → parties_in (map (λ (x : Sitting T Waiter). x.party) xs) ≡ map (λ (u : Under T Waiter). u.party) (map under_of xs)
+  seated [] = refl
+  seated (x ∷ xs) = ap (λ (l : List ℕ). x.party.id ∷ l) (seated xs)
+
+  parties_shown : (parts : Parts T Waiter) (ps : List (Party T Waiter)) (s : Scene T Waiter) → Shows parts ps s
+      → parties_in ps ≡ map (λ (u : Under T Waiter). u.party) s.under_way
+  parties_shown parts ps s sh =
+      ap (λ (l : List (Party T Waiter)). parties_in l) sh.parties_are
+      ∙ (seated sh.sittings ∙ ap (λ (l : List (Under T Waiter)). map (λ (u : Under T Waiter). u.party) l) (sym sh.under_way))
+
+  -- ---- what is left to the call of a party
+
+  left_is : (p : ℕ) (parts : Parts T Waiter) (us : List (Under T Waiter)) (mine : Under T Waiter) (vs : List (Under T Waiter))
+      (ps : List (Party T Waiter)) → parties_in ps ≡ map (λ (u : Under T Waiter). u.party) (us ++ (mine ∷ vs)) → NoneIs p us
+      → mine.party ≡ p → left_of p parts ps ≡ left_at (length us) (all_left parts ps)
+  left_is p parts [] mine vs [] e none his = absurd cc
+  left_is p parts [] mine vs (x ∷ xs) e none his =
+      let first : x.id ≡ mine.party = cc e in rw (is_same x.id p (first ∙ his)) refl
+  left_is p parts (u ∷ us) mine vs [] e none his = absurd cc
+  left_is p parts (u ∷ us) mine vs (x ∷ xs) e none his =
+      let first : x.id ≡ u.party = cc e in
+      let rest : parties_in xs ≡ map (λ (v : Under T Waiter). v.party) (us ++ (mine ∷ vs)) = cc e in
+      rw (is_other x.id p (λ same. none.0 (sym first ∙ same))) (left_is p parts us mine vs xs rest none.1 his)
+
+  pub few_of : (p : ℕ) (parts : Parts T Waiter) (ps : List (Party T Waiter))
+      → ((k n : ℕ) → slice_get (all_left parts ps) k ≡ Some n → n ≤ 197) → left_of p parts ps ≤ 197
+  few_of p parts [] few = omega arith
+  few_of p parts (x ∷ xs) few = by (few_of p parts xs (λ k n e. few (suc k) n e)) (x.id == p)
+    where
+      by : left_of p parts xs ≤ 197 → (b : Bool) → (if b then party_left parts x else left_of p parts xs) ≤ 197
+      by rest true = few 0 (party_left parts x) refl
+      by rest false = rest
+
+  -- ---- a step
+
+  none_seen : (p : ℕ) (c : Channel T Waiter) (us : List (Under T Waiter)) → NoneIs p us → NoneIs p (map (sees c) us)
+  none_seen p c [] none = tt
+  none_seen p c (u ∷ us) none = (none.0, none_seen p c us none.1)
+
+  module _ (b : Book T) (s : Scene T Waiter) (o : Owned b s) (p : ℕ) (e : ChannelEntry T) (names : List Waiter) (t : Scene T Waiter)
+      (n : Steps s p e names t) where
+    apart : NoneIs p n.before
+    apart =
+        subst (λ (q : ℕ). NoneIs q n.before) n.whose
+        (none_before (post b.roll) b.agents n.before n.mine n.behind
+        (subst (λ (us : List (Under T Waiter)). Together (post b.roll) b.agents us) n.there o.together) o.differ)
+
+    others_before : others_of p s.under_way ≡ n.before ++ n.behind
+    others_before = ap (λ (us : List (Under T Waiter)). others_of p us) n.there ∙ others_are p n.before n.mine n.behind apart n.whose
+
+    abbrev mine_after : Under T Waiter
+    mine_after = does n.mine n.at_now e.mark s.now t.now
+
+    after_is : e.reply ≡ None → t.under_way ≡ map (sees t.now) n.before ++ (mine_after ∷ map (sees t.now) n.behind)
+    after_is goes_on =
+        subst (λ (r : Option (Reply T)). t.under_way ≡ map (sees t.now) n.before ++ (unless_ended mine_after r ++ map (sees t.now) n.behind)) goes_on n.left
+
+    others_after : e.reply ≡ None → others_of p t.under_way ≡ map (sees t.now) n.before ++ map (sees t.now) n.behind
+    others_after goes_on =
+        ap (λ (us : List (Under T Waiter)). others_of p us) (after_is goes_on)
+        ∙ others_are p (map (sees t.now) n.before) mine_after (map (sees t.now) n.behind) (none_seen p t.now n.before apart) n.whose
+
+    still_free : e.reply ≡ None → HoldNobodyUp s.now (others_of p s.under_way) → HoldNobodyUp t.now (others_of p t.under_way)
+    still_free goes_on hold =
+        subst (λ (us : List (Under T Waiter)). HoldNobodyUp t.now us) (sym (others_after goes_on))
+        (hold_still s p e names t n (subst (λ (us : List (Under T Waiter)). HoldNobodyUp s.now us) others_before hold))
+
+  -- where the others hold a call up no more, they still do so after a step of its own
+  pub nobody_still : (m : Moment T) (p : PartyId) (e : Entry T) (n : Moment T) → AllKept m.book m.scene → LeadsBy m (step.Step p) e n
+      → e.reply ≡ None → HoldNobodyUp m.scene.now (others_of p.0 m.scene.under_way) → HoldNobodyUp n.scene.now (others_of p.0 n.scene.under_way)
+  nobody_still m p e n k l goes_on hold = still_free m.book m.scene k.owned p.0 _ e.woken.items n.scene l.made.next goes_on hold
+
+  pub comes_nearer : (x : Step T) (f g : Floor T) (e : Entry T) (s : Scene T Waiter) → StandsIn f s → (t : Stepped x f e g s)
+      → ComesNearer (moment_of f s) x e (moment_of g t.after)
+  comes_nearer (step.Begin p c) f g e s k t = tt
+  comes_nearer (step.Step p) f g e s k t = λ goes_on hold.
+      let n = t.made.next in
+      let u = t.after in
+      let o = k.kept.owned in
+      let free = apart (book_of f) s o p.0 _ e.woken.items u n in
+      let others = others_before (book_of f) s o p.0 _ e.woken.items u n in
+      let after = after_is (book_of f) s o p.0 _ e.woken.items u n goes_on in
+      let mine : Under T Waiter = does n.mine n.at_now e.mark s.now u.now in
+      let less = t.nearer goes_on (subst (λ (us : List (Under T Waiter)). HoldNobodyUp s.now us) others hold) in
+      let was : left_of p.0 (parts_in f) f.parties.items ≡ left_at (length n.before) (lefts_in f) =
+      left_is p.0 (parts_in f) n.before n.mine n.behind f.parties.items
+      (parties_shown (parts_in f) f.parties.items s k.shown.shows ∙ ap (λ (us : List (Under T Waiter)). map (λ (v : Under T Waiter). v.party) us) n.there)
+      free n.whose in
+      let is : left_of p.0 (parts_in g) g.parties.items ≡ left_at (length (map (sees u.now) n.before)) (lefts_in g) =
+      left_is p.0 (parts_in g) (map (sees u.now) n.before) mine (map (sees u.now) n.behind) g.parties.items
+      (parties_shown (parts_in g) g.parties.items u t.shown.shows ∙ ap (λ (us : List (Under T Waiter)). map (λ (v : Under T Waiter). v.party) us) after)
+      (none_seen p.0 u.now n.before free) n.whose in
+      let place : length (map (sees u.now) n.before) ≡ length n.before = length-map n.before (sees u.now) in
+      rw (was, is, place) less

@@ -1,0 +1,18 @@
+-- How many more steps of its own the call of a party makes at most, where the others hold it up no more.
+use Rattle.std.specs.Prelude.{ℕ, ◌==◌, List, [], ◌∷◌, if◌then◌else◌}
+use Rattle.channel_calls.specs.Parts.{Parts}
+use Rattle.channel_model.specs.declared.name.Waiter.{Waiter}
+use Rattle.channel_steps.specs.Left.{party_left}
+use Rattle.channel_steps.specs.Scene.{Under}
+use Rattle.channel_steps.specs.declared.party.Party.{Party}
+
+module _ {T : Type 0} where
+  -- the calls under way but that of this party
+  abbrev pub others_of : ℕ → List (Under T Waiter) → List (Under T Waiter)
+  others_of p [] = []
+  others_of p (u ∷ us) = if u.party == p then us else u ∷ others_of p us
+
+  -- the steps that are left to the call of this party; none where it has none under way
+  abbrev pub left_of : ℕ → Parts T Waiter → List (Party T Waiter) → ℕ
+  left_of p parts [] = 0
+  left_of p parts (x ∷ xs) = if x.id == p then party_left parts x else left_of p parts xs

@@ -1,0 +1,98 @@
+-- Calls without a mark hold no call of the queue up.
+use Rattle.std.proofs.Common.{arith, ◌≡◌, ◌<◌, ◌≤◌, ℕ, List, [], ◌∷◌, ◌++◌, map, None, Some, ◌⊎◌, inl, inr, refl, sym, ap, ◌∙◌, subst}
+use Rattle.concurrent_queue.specs.Queue.{Queue, Phase, trying, displaced, appended, taken, read, measured}
+use Rattle.concurrent_queue.specs.Queue as queue
+use Rattle.concurrent_queue.specs.Step.{Seat, IsQuiet, AllQuiet, HoldsNobodyUp, phases}
+use Rattle.concurrent_queue.specs.declared.call.QueueAsk.{QueueAsk}
+use Rattle.concurrent_queue.specs.declared.call.QueueAsk.TheVariants as ask
+use Rattle.concurrent_queue.specs.declared.queue_call.QueueCall.{QueueCall}
+use Rattle.channel_calls.specs.Moves.{Channel, phase, seats}
+use Rattle.channel_calls.specs.declared.ask.ChannelAsk.{ChannelAsk}
+use Rattle.channel_calls.specs.declared.stage.Stage.{Stage}
+use Rattle.channel_calls.specs.declared.stage.Stage.TheVariants.{Trying, Working, Finished}
+use Rattle.channel_steps.specs.Known.{TryAt, StageAt}
+use Rattle.channel_steps.specs.Moments.{Deed}
+use Rattle.channel_steps.specs.Scene.{Under, Scene, Steps, Sitting, sees, under_of, seats_of, all_seats, AllKnown, AreIdle, HoldNobodyUp}
+use Rattle.channel_steps.specs.declared.party.Entry.{Entry}
+use Rattle.channel_steps.proofs.MoveFacts.{grows}
+
+quiet_append : {T : Type 0} → (xs ys : List (Seat T)) → AllQuiet (phases xs) → AllQuiet (phases ys) → AllQuiet (phases (xs ++ ys))
+quiet_append [] ys h k = k
+quiet_append (x ∷ xs) ys h k = (h.0, quiet_append xs ys h.1 k)
+
+module _ {T W : Type 0} where
+  idle_try : (now : Channel T W) (a : QueueAsk T) (s : queue.Stage T) (seen : List (Channel T W)) → TryAt now a s [] seen → IsQuiet s
+  idle_try now a (trying b) seen h = tt
+  idle_try now a (read n) seen h = tt
+  idle_try now a (measured n k) seen h = tt
+  idle_try now (ask.Push v) (appended None) seen h = absurd h
+  idle_try now (ask.ForcePush v) (displaced d) seen h = absurd h
+  idle_try now (ask.ForcePush v) (appended None) seen h = absurd h
+  idle_try now (ask.ForcePush v) (appended (Some d)) seen (inl h) = absurd h
+  idle_try now (ask.ForcePush v) (appended (Some d)) seen (inr h) = absurd h
+  idle_try now ask.Pop (taken v) seen h = absurd h
+  idle_try now a s seen h = absurd h
+
+  idle_stage : (now : Channel T W) (x : ChannelAsk T W) (f : Phase T) (s : Stage (QueueCall T) T W) (seen : List (Channel T W))
+      → StageAt now x (phase f s) [] seen → AllQuiet (phases (seats f s))
+  idle_stage now x f (Trying call aim) seen h = (idle_try now f.ask f.stage seen h.1, tt)
+  idle_stage now x f (Working w) seen h = tt
+  idle_stage now x f (Finished kept) seen h = tt
+
+  pub idle_seats : (now : Channel T W) (xs : List (Sitting T W)) → AllKnown now (map under_of xs) → AreIdle (map under_of xs)
+      → AllQuiet (phases (all_seats xs))
+  idle_seats now [] known idle = tt
+  idle_seats now (x ∷ xs) known idle =
+      let k = known.0 in
+      let stands = subst (λ (ds : List (Deed T W)). StageAt now x.ask (phase x.inner x.party.call.stage) ds x.seen) idle.0 k.stands in
+      quiet_append (seats_of x) (all_seats xs) (idle_stage now x.ask x.inner x.party.call.stage x.seen stands) (idle_seats now xs known.1 idle.1)
+
+  none_seats : (xs : List (Sitting T W)) → map under_of xs ≡ [] → all_seats xs ≡ []
+  none_seats [] e = refl
+  none_seats (x ∷ xs) e = absurd cc
+
+  -- calls without a mark hold up no call of the queue
+  pub idle_holds : (now : Channel T W) (xs : List (Sitting T W)) → AllKnown now (map under_of xs) → HoldNobodyUp now (map under_of xs)
+      → HoldsNobodyUp now.queue (phases (all_seats xs))
+  idle_holds now xs known (idle, first) = (idle_seats now xs known idle, λ bare. by (first bare))
+    where
+      by : (0 < now.queue.removed) ⊎ (map under_of xs ≡ []) → (0 < now.queue.removed) ⊎ (phases (all_seats xs) ≡ [])
+      by (inl some) = inl some
+      by (inr none) = inr (ap phases (none_seats xs none))
+
+  -- ---- they still hold nobody up after its step
+
+  idle_seen : (c : Channel T W) (us : List (Under T W)) → AreIdle us → AreIdle (map (sees c) us)
+  idle_seen c [] h = tt
+  idle_seen c (u ∷ us) h = (h.0, idle_seen c us h.1)
+
+  idle_left : (us vs : List (Under T W)) → AreIdle (us ++ vs) → AreIdle us
+  idle_left [] vs h = tt
+  idle_left (u ∷ us) vs h = (h.0, idle_left us vs h.1)
+
+  idle_right : (us vs : List (Under T W)) → AreIdle (us ++ vs) → AreIdle vs
+  idle_right [] vs h = h
+  idle_right (u ∷ us) vs h = idle_right us vs h.1
+
+  idle_both : (us vs : List (Under T W)) → AreIdle us → AreIdle vs → AreIdle (us ++ vs)
+  idle_both [] vs h k = k
+  idle_both (u ∷ us) vs h k = (h.0, idle_both us vs h.1 k)
+
+  pub hold_still : (s : Scene T W) (p : ℕ) (e : Entry T) (names : List W) (t : Scene T W) (n : Steps s p e names t)
+      → HoldNobodyUp s.now (n.before ++ n.behind) → HoldNobodyUp t.now (map (sees t.now) n.before ++ map (sees t.now) n.behind)
+  hold_still s p e names t n (idle, first) =
+      let g = grows s.now n.mine.at (record { channel = t.now; mark = e.mark; woken = names }) e.reply n.at_now n.moves in (
+        idle_both (map (sees t.now) n.before) (map (sees t.now) n.behind) (idle_seen t.now n.before (idle_left n.before n.behind idle))
+            (idle_seen t.now n.behind (idle_right n.before n.behind idle)),
+        λ bare. by g.2 (first (sym g.0 ∙ bare)),
+      )
+    where
+      none : (us vs : List (Under T W)) → us ++ vs ≡ [] → map (sees t.now) us ++ map (sees t.now) vs ≡ []
+      none [] [] h = refl
+      none [] (v ∷ vs) h = absurd cc
+      none (u ∷ us) vs h = absurd cc
+
+      by : s.now.queue.removed ≤ t.now.queue.removed → (0 < s.now.queue.removed) ⊎ (n.before ++ n.behind ≡ [])
+          → (0 < t.now.queue.removed) ⊎ (map (sees t.now) n.before ++ map (sees t.now) n.behind ≡ [])
+      by more (inl some) = inl (omega (arith, some, more))
+      by more (inr nobody) = inr (none n.before n.behind nobody)

@@ -1,0 +1,372 @@
+-- How many steps a call still makes at most that nobody holds up, beside others.
+use Rattle.std.proofs.Common.{◌≡◌, ◌≤◌, ◌<◌, ◌+◌, ◌-◌, ◌^◌, ◌==◌, ◌&&◌, nat_lt, ℕ, Bool, true, false, if◌then◌else◌, List, ◌++◌, Option, None, Some, Ok, Err, inl, inr, refl, sym, ap, ◌∙◌, subst, arith}
+use Rattle.std.proofs.lemmas.Bool.Decides.{nat_tests}
+use Rattle.concurrent_queue.specs.Contents.{Contents}
+use Rattle.concurrent_queue.specs.Queue.{Queue, Phase, asked}
+use Rattle.concurrent_queue.specs.Step.{Seat, Fits, HoldsNobodyUp, phases, rank}
+use Rattle.concurrent_queue.specs.declared.call.QueueAsk.TheVariants as ask
+use Rattle.concurrent_queue.specs.declared.call.QueueReply.{QueueReply}
+use Rattle.concurrent_queue.specs.declared.call.QueueReply.TheVariants as answer
+use Rattle.concurrent_queue.specs.declared.error.PushError.TheVariants as push_error
+use Rattle.concurrent_queue.specs.declared.error.ForcePushError.TheVariants as force_error
+use Rattle.concurrent_queue.specs.declared.error.PopError.TheVariants as pop_error
+use Rattle.concurrent_queue.specs.declared.queue_call.QueueCall.{QueueCall}
+use Rattle.concurrent_queue.proofs.Interface.{ranks}
+use Rattle.event_listener.specs.declared.key.Key.{Key}
+use Rattle.event_listener.specs.declared.error.ListenError.{ListenError}
+use Rattle.event_listener.specs.Lists.{kind_of, listened}
+use Rattle.channel_calls.specs.declared.mark.Mark.{Mark}
+use Rattle.channel_calls.specs.declared.reply.Reply.{Reply}
+use Rattle.channel_calls.specs.declared.reply.Reply.TheVariants as reply
+use Rattle.channel_calls.specs.declared.stage.Aim.{Aim}
+use Rattle.channel_calls.specs.declared.stage.Aim.TheVariants as aim
+use Rattle.channel_calls.specs.declared.stage.Closer.{Closer}
+use Rattle.channel_calls.specs.declared.stage.Ending.{Ending}
+use Rattle.channel_calls.specs.declared.stage.Held.{Held}
+use Rattle.channel_calls.specs.declared.stage.Kept.{Kept}
+use Rattle.channel_calls.specs.declared.stage.Line.{Line}
+use Rattle.channel_calls.specs.declared.stage.Line.TheVariants.{Sends, Receives, Streams, Closings}
+use Rattle.channel_calls.specs.declared.stage.Making.{Making}
+use Rattle.channel_calls.specs.declared.stage.Making.TheVariants as making
+use Rattle.channel_calls.specs.declared.stage.Side.{Side}
+use Rattle.channel_calls.specs.declared.stage.Stage.{Stage}
+use Rattle.channel_calls.specs.declared.stage.Stage.TheVariants.{Trying, Working, Finished}
+use Rattle.channel_calls.specs.declared.stage.Turn.{Turn}
+use Rattle.channel_calls.specs.declared.stage.Turn.TheVariants.{Tries, Works, Ends}
+use Rattle.channel_calls.specs.declared.stage.Waiting.{Waiting}
+use Rattle.channel_calls.specs.declared.stage.Waiting.TheVariants as waiting
+use Rattle.channel_calls.specs.declared.stage.Work.{Work}
+use Rattle.channel_calls.specs.declared.stage.Work.TheVariants.{TellReceive, TellStreams, TellSend, TellAll, Insert, Register, Leave, Lower, Count, Load, Raise}
+use Rattle.channel_calls.specs.Parts.{Parts, Roster, Listeners, listeners, with_listeners, waits, count, is_raised}
+use Rattle.channel_calls.specs.Turns.{most, line_of, leaving, nothing_kept, ends_by, again, pends_by, unlistened, refused_next, closer_ending, dropper, told_all_next, lowered_next, counted_next, loaded_next, raised_next}
+use Rattle.channel_calls.specs.Answered.{sent_next, forced_next, received_next, send_next, receive_next, stream_next, closing_next, polled_next, closed_next, asked_next, terminated_next, upgraded_next, answered_next}
+use Rattle.channel_calls.specs.Moves.{Channel, Effect, channel, Turned, Worked, Tried, Moves, seats, phase, IsTaken, Hastens, Made}
+use Rattle.channel_steps.specs.Known.{left_to_tell}
+use Rattle.channel_steps.specs.Left.{left_after, left_to_work, steps_left}
+use Rattle.channel_steps.proofs.LineFacts.{fresh_waits, same_line}
+
+-- ---- the steps that are left
+
+module _ {T W : Type 0} where
+  -- a call of the queue that nobody holds up answers by its 64th step
+  abbrev pub left_to_turn : Roster W → Turn T W → ℕ
+  left_to_turn a (Tries x aim) = 64 + left_after a aim
+  left_to_turn a (Works w) = left_to_work a w
+  left_to_turn a (Ends x kept) = 0
+
+few_or : (b : Bool) (n i j : ℕ) → i ≤ n → j ≤ n → (if b then i else j) ≤ n
+few_or true n i j h k = h
+few_or false n i j h k = k
+
+few_to_tell : (line : Line) → left_to_tell line ≤ 5
+few_to_tell Sends = omega arith
+few_to_tell Receives = omega arith
+few_to_tell Streams = omega arith
+few_to_tell Closings = omega arith
+
+few_after : {W : Type 0} (a : Roster W) (x : Aim W) → left_after a x ≤ 133
+few_after a (aim.Poll line None task) = omega arith
+few_after a (aim.Poll line (Some key) task) = few_or (waits key (listeners line a)) 133 3 133 (omega arith) (omega arith)
+few_after a x = omega arith
+
+module _ {T W : Type 0} where
+  few_to_work : (a : Roster W) (w : Work T W) → left_to_work a w ≤ 133
+  few_to_work a (TellAll line c) = let h = few_to_tell line in omega (arith, h)
+  few_to_work a (Register w key task) = few_or (waits key (listeners (line_of w) a)) 133 1 133 (omega arith) (omega arith)
+  few_to_work a (Raise side n m) = few_or (is_raised side n a) 133 1 3 (omega arith) (omega arith)
+  few_to_work a w = omega arith
+
+  -- no call makes more than 197 steps that nobody holds up
+  pub few_left : (c : Contents T) (a : Roster W) (q : Queue T) (f : Phase T) (s : Stage (QueueCall T) T W) (l r : List (Seat T))
+      → Fits c q (l ++ (seats f s ++ r)) → steps_left c a s ≤ 197
+  few_left c a q f (Trying call aim) l r fits =
+      let h = ranks c q f call l r fits in
+      let k = few_after a aim in
+      omega (arith, h, k)
+  few_left c a q f (Working w) l r fits = let h = few_to_work a w in omega (arith, h)
+  few_left c a q f (Finished kept) l r fits = omega arith
+
+-- ---- after an answer of the queue
+
+register_or_try : (b : Bool) → (if b then 1 else 133) ≤ (if b then 3 else 133)
+register_or_try true = omega arith
+register_or_try false = omega arith
+
+at_least : (b : Bool) (n i j : ℕ) → n ≤ i → n ≤ j → n ≤ (if b then i else j)
+at_least true n i j h k = h
+at_least false n i j h k = k
+
+module _ {W : Type 0} (a : Roster W) where
+  some_to_poll : (line : Line) (key : Option Key) (task : W) (n : ℕ) → n ≤ 3 → n ≤ left_after a (aim.Poll line key task)
+  some_to_poll line None task n h = omega (arith, h)
+  some_to_poll line (Some key) task n h = at_least (waits key (listeners line a)) n 3 133 h (omega (arith, h))
+
+module _ {T W : Type 0} (a : Roster W) where
+  ended : (x : Reply T) (message : Option T) (held : Option Held)
+      → left_to_turn a (let t : Turn T W = ends_by (record { reply = x; message = message; held = held }) in t) ≤ 1
+  ended x message None = omega arith
+  ended x message (Some h) = omega arith
+
+  ends_soon : (x : Ending T) → left_to_turn a (let t : Turn T W = ends_by x in t) ≤ 1
+  ends_soon x = ended x.reply x.message x.held
+
+  refused_left : (w : Waiting T) (line : Line) (key : Option Key) (task : W) → line_of w ≡ line
+      → left_to_turn a (refused_next w key task) ≤ left_after a (aim.Poll line key task)
+  refused_left w line None task e = omega arith
+  refused_left w line (Some key) task e =
+      subst (λ (l : Line). (if waits key (listeners (line_of w) a) then 1 else 133) ≤ (if waits key (listeners l a) then 3 else 133)) e
+      (register_or_try (waits key (listeners (line_of w) a)))
+
+  sent_left : (x : QueueReply T) → left_to_turn a (let t : Turn T W = sent_next x in t) ≤ 3
+  sent_left (answer.Push (Ok u)) = omega arith
+  sent_left (answer.Push (Err (push_error.Full m))) = omega arith
+  sent_left (answer.Push (Err (push_error.Closed m))) = omega arith
+  sent_left (answer.Push (Err (push_error.NoMemory m))) = omega arith
+  sent_left x = omega arith
+
+  forced_left : (x : QueueReply T) → left_to_turn a (let t : Turn T W = forced_next x in t) ≤ 3
+  forced_left (answer.Force (Ok d)) = omega arith
+  forced_left (answer.Force (Err (force_error.Closed m))) = omega arith
+  forced_left (answer.Force (Err (force_error.NoMemory m))) = omega arith
+  forced_left x = omega arith
+
+  received_left : (x : QueueReply T) → left_to_turn a (let t : Turn T W = received_next x in t) ≤ 2
+  received_left (answer.Pop (Ok m)) = omega arith
+  received_left (answer.Pop (Err pop_error.Empty)) = omega arith
+  received_left (answer.Pop (Err pop_error.Closed)) = omega arith
+  received_left x = omega arith
+
+  module _ (key : Option Key) (task : W) where
+    soon : (line : Line) (x : Ending T) → left_to_turn a (let t : Turn T W = ends_by x in t) ≤ left_after a (aim.Poll line key task)
+    soon line x = let h = ends_soon x in let k = some_to_poll a line key task 1 (omega arith) in omega (arith, h, k)
+
+    send_left : (x : QueueReply T) → left_to_turn a (send_next x key task) ≤ left_after a (aim.Poll Sends key task)
+    send_left (answer.Push (Ok u)) = some_to_poll a Sends key task 3 (omega arith)
+    send_left (answer.Push (Err (push_error.Full m))) = refused_left (waiting.Send m) Sends key task refl
+    send_left (answer.Push (Err (push_error.Closed m))) = soon Sends _
+    send_left (answer.Push (Err (push_error.NoMemory m))) = soon Sends _
+    send_left x = some_to_poll a Sends key task 0 (omega arith)
+
+    receive_left : (x : QueueReply T) → left_to_turn a (receive_next x key task) ≤ left_after a (aim.Poll Receives key task)
+    receive_left (answer.Pop (Ok m)) = some_to_poll a Receives key task 2 (omega arith)
+    receive_left (answer.Pop (Err pop_error.Empty)) = refused_left waiting.Receive Receives key task refl
+    receive_left (answer.Pop (Err pop_error.Closed)) = soon Receives _
+    receive_left x = some_to_poll a Receives key task 0 (omega arith)
+
+    stream_left : (x : QueueReply T) → left_to_turn a (stream_next x key task) ≤ left_after a (aim.Poll Streams key task)
+    stream_left (answer.Pop (Ok m)) = some_to_poll a Streams key task 2 (omega arith)
+    stream_left (answer.Pop (Err pop_error.Empty)) = refused_left waiting.Stream Streams key task refl
+    stream_left (answer.Pop (Err pop_error.Closed)) = soon Streams _
+    stream_left x = some_to_poll a Streams key task 0 (omega arith)
+
+    closing_left : (x : QueueReply T) → left_to_turn a (closing_next x key task) ≤ left_after a (aim.Poll Closings key task)
+    closing_left (answer.Flag true) = soon Closings _
+    closing_left (answer.Flag false) = refused_left waiting.Closing Closings key task refl
+    closing_left x = some_to_poll a Closings key task 0 (omega arith)
+
+    polled_left : (line : Line) (x : QueueReply T) → left_to_turn a (polled_next line x key task) ≤ left_after a (aim.Poll line key task)
+    polled_left Sends x = send_left x
+    polled_left Receives x = receive_left x
+    polled_left Streams x = stream_left x
+    polled_left Closings x = closing_left x
+
+  closed_left : (x : QueueReply T) (c : Closer) → left_to_turn a (let t : Turn T W = closed_next x c in t) ≤ 5
+  closed_left (answer.Close true) c = omega arith
+  closed_left (answer.Close false) c = let h = ends_soon (closer_ending c false) in omega (arith, h)
+  closed_left x c = omega arith
+
+  asked_left : (x : QueueReply T) → left_to_turn a (let t : Turn T W = asked_next x in t) ≤ 0
+  asked_left (answer.Flag b) = omega arith
+  asked_left (answer.Count n) = omega arith
+  asked_left (answer.Cap c) = omega arith
+  asked_left x = omega arith
+
+  terminated_left : (x : QueueReply T) → left_to_turn a (let t : Turn T W = terminated_next x in t) ≤ 64
+  terminated_left (answer.Flag true) = omega arith
+  terminated_left (answer.Flag false) = omega arith
+  terminated_left x = omega arith
+
+  upgraded_left : (x : QueueReply T) (side : Side) → left_to_turn a (let t : Turn T W = upgraded_next x side in t) ≤ 2
+  upgraded_left (answer.Flag true) side = omega arith
+  upgraded_left (answer.Flag false) side = omega arith
+  upgraded_left x side = omega arith
+
+  pub answered_left : (x : Aim W) (y : QueueReply T) → left_to_turn a (answered_next x y) ≤ left_after a x
+  answered_left aim.TrySend y = sent_left y
+  answered_left aim.ForceSend y = forced_left y
+  answered_left aim.TryRecv y = received_left y
+  answered_left (aim.Poll line key task) y = polled_left key task line y
+  answered_left (aim.Close c) y = closed_left y c
+  answered_left aim.Ask y = asked_left y
+  answered_left aim.IsTerminated y = terminated_left y
+  answered_left (aim.Upgrade side) y = upgraded_left y side
+
+-- ---- after a step on a list or a count
+
+raised_now : (n : ℕ) → nat_lt most n ≡ false → ((n == n) && nat_lt n (2 ^ 64 - 1)) ≡ true
+raised_now n e = grind (arith, nat_tests)
+
+module _ {T W : Type 0} where
+  -- the turn that a step of this work takes, after which less is left
+  pub record Lessens (c : Channel T W) (w : Work T W) (e : Effect T W) (r : Option (Reply T)) (s : Stage (Phase T) T W) : Type 0 where
+    pub turn : Turn T W
+    pub turned : Turned turn r s
+    pub less : left_to_turn e.channel.roster turn < left_to_work c.roster w
+
+  module _ (c : Channel T W) (e : Effect T W) (r : Option (Reply T)) (s : Stage (Phase T) T W) where
+    told_left : (line : Line) (by : Closer) → left_to_turn e.channel.roster (let t : Turn T W = told_all_next line by in t) < left_to_tell line
+    told_left Sends by = omega arith
+    told_left Receives by = omega arith
+    told_left Streams by = omega arith
+    told_left Closings by = let h = ends_soon {T = T} e.channel.roster (closer_ending by true) in omega (arith, h)
+
+    try_less : (b : Bool) → b ≡ true → 64 + (if b then 3 else 133) < 68
+    try_less true h = omega arith
+    try_less false h = absurd cc
+
+    inserted_less : (w : Waiting T) (task : W) (key : Key) (l : Listeners W) → kind_of l key ≡ None
+        → e.channel.roster ≡ with_listeners (line_of w) (listened key l) c.roster
+        → left_to_turn e.channel.roster (again w (Some key) task) < 68
+    inserted_less w task key l none same =
+        let waiting : waits key (listeners (line_of w) e.channel.roster) ≡ true =
+        ap (λ (a : Roster W). waits key (listeners (line_of w) a)) same
+        ∙ (ap (λ (x : Listeners W). waits key x) (same_line (line_of w) (listened key l) c.roster) ∙ fresh_waits key l none) in
+        try_less (waits key (listeners (line_of w) e.channel.roster)) waiting
+
+    registered_less : (b : Bool) (w : Waiting T) (key : Key) (task : W)
+        → left_to_turn e.channel.roster (if b then pends_by w key else again w None task) < (if b then 1 else 133)
+    registered_less true w key task = omega arith
+    registered_less false w key task = omega arith
+
+    lowered_less : (b : Bool) (by : Closer)
+        → left_to_turn e.channel.roster (let t : Turn T W = if b then Tries ask.Close (aim.Close by) else ends_by (closer_ending by false) in t) < 70
+    lowered_less true by = omega arith
+    lowered_less false by = let x : Ending T = closer_ending by false in let h = ends_soon e.channel.roster x in omega (arith, h)
+
+    raised_soon : (b : Bool) → b ≡ true → (if b then 1 else 3) < 2
+    raised_soon true h = omega arith
+    raised_soon false h = absurd cc
+
+    counted_less : (b : Bool) (side : Side) (m : Making) → b ≡ nat_lt most (count side c.roster)
+        → left_to_turn c.roster (let t : Turn T W = if b then Ends reply.TooMany nothing_kept else Works (Raise side (count side c.roster) m) in t) < 2
+    counted_less true side m h = omega arith
+    counted_less false side m h = raised_soon (is_raised side (count side c.roster) c.roster) (raised_now (count side c.roster) (sym h))
+
+    upgraded_less : (b : Bool) (side : Side)
+        → left_to_turn c.roster (let t : Turn T W = if b then Ends reply.NotMade nothing_kept else counted_next side making.Upgrade (count side c.roster) in t) < 2
+    upgraded_less true side = omega arith
+    upgraded_less false side = counted_less (nat_lt most (count side c.roster)) side making.Upgrade refl
+
+    loaded_less : (side : Side) (m : Making) → left_to_turn c.roster (let t : Turn T W = loaded_next side m (count side c.roster) in t) < 2
+    loaded_less side making.Clone = counted_less (nat_lt most (count side c.roster)) side making.Clone refl
+    loaded_less side making.Upgrade = upgraded_less (count side c.roster == 0) side
+
+    raised_less : (b : Bool) (side : Side) (m : Making) → left_to_turn e.channel.roster (let t : Turn T W = raised_next side m b in t) < (if b then 1 else 3)
+    raised_less true side m = omega arith
+    raised_less false side m = omega arith
+
+    roster_of : {e0 : Effect T W} → e ≡ e0 → e.channel.roster ≡ e0.channel.roster
+    roster_of h = ap (λ (x : Effect T W). x.channel.roster) h
+
+    pub work_lessens : (w : Work T W) → Worked c w e r s → Lessens c w e r s
+    work_lessens (TellReceive x) h = record { turn = Works (TellStreams x); turned = h.1; less = omega arith }
+    work_lessens (TellStreams x) h = record { turn = ends_by x; turned = h.1; less = (let k = ends_soon {W = W} e.channel.roster x in omega (arith, k)) }
+    work_lessens (TellSend x) h = record { turn = ends_by x; turned = h.1; less = (let k = ends_soon {W = W} e.channel.roster x in omega (arith, k)) }
+    work_lessens (TellAll line by) h = record { turn = told_all_next line by; turned = h.1; less = told_left line by }
+    work_lessens (Insert w task) (inl h) =
+        record { turn = again w (Some h.0) task; turned = h.3; less = inserted_less w task h.0 (listeners (line_of w) c.roster) h.1 (roster_of h.2) }
+    work_lessens (Insert w task) (inr h) = record { turn = unlistened w h.0; turned = h.2; less = omega arith }
+    work_lessens (Register w key task) h =
+        let b = waits key (listeners (line_of w) c.roster) in
+        record { turn = if b then pends_by w key else again w None task; turned = h.1; less = registered_less b w key task }
+    work_lessens (Leave x) h = record { turn = Ends x.reply (leaving None x.message); turned = h.1; less = omega arith }
+    work_lessens (Lower side key) h =
+        record { turn = lowered_next side key (count side c.roster); turned = h.1; less = lowered_less (count side c.roster == 1) (dropper side key) }
+    work_lessens (Count side) h = record { turn = Ends (reply.Count (count side c.roster)) nothing_kept; turned = h.1; less = omega arith }
+    work_lessens (Load side m) h =
+        record {
+          turn = loaded_next side m (count side c.roster);
+          turned = h.1;
+          less = subst (λ (a : Roster W). left_to_turn a (let t : Turn T W = loaded_next side m (count side c.roster) in t) < 2) (sym (roster_of h.0)) (loaded_less side m);
+        }
+    work_lessens (Raise side n m) h =
+        let b = is_raised side n c.roster in
+        record { turn = raised_next side m b; turned = h.1; less = raised_less b side m }
+
+  -- ---- a step of a call, beside others that hold nobody up
+
+  -- a turn that was taken leaves no more than it says
+  taken_left : (c : Contents T) (a : Roster W) (q : Queue T) (f : Phase T) (l r : List (Seat T)) (turn : Turn T W) (x : Option (Reply T)) (s : Stage (QueueCall T) T W)
+      → Fits c q (l ++ (seats f s ++ r)) → IsTaken turn x s → steps_left c a s ≤ left_to_turn a turn
+  taken_left c a q f l r (Tries y aim) x (Trying call z) fits (call', starts, none, same) =
+      let aims : left_after a z ≡ left_after a aim = ap (λ (w : Aim W). left_after a w) (same_aim call call' z aim same) in
+      let h = ranks c q f call l r fits in
+      omega (arith, h, aims)
+    where
+      same_aim : (u v : QueueCall T) (y z : Aim W) → (let s : Stage (QueueCall T) T W = Trying u y in s) ≡ Trying v z → y ≡ z
+      same_aim u v y z e = cc e
+  taken_left c a q f l r (Tries y aim) x (Working w) fits (call', starts, none, same) =
+      absurd (let no : (let s : Stage (QueueCall T) T W = Working w in s) ≡ Trying call' aim = same in cc)
+  taken_left c a q f l r (Tries y aim) x (Finished kept) fits taken = omega arith
+  taken_left c a q f l r (Works w) x s fits (none, same) = subst (λ (z : Stage (QueueCall T) T W). steps_left c a z ≤ left_to_work a w) (sym same) (omega arith)
+  taken_left c a q f l r (Ends y kept) x s fits (some, same) = subst (λ (z : Stage (QueueCall T) T W). steps_left c a z ≤ 0) (sym same) (omega arith)
+
+  turned_left : (c : Contents T) (a : Roster W) (q : Queue T) (f : Phase T) (l r : List (Seat T)) (turn : Turn T W) (x : Option (Reply T)) (s : Stage (QueueCall T) T W)
+      → Fits c q (l ++ (seats f s ++ r)) → Turned turn x (phase f s) → steps_left c a s ≤ left_to_turn a turn
+  turned_left c a q f l r (Tries y aim) x (Trying call z) fits (none, same) =
+      let aims : left_after a z ≡ left_after a aim = ap (λ (w : Aim W). left_after a w) (same_aim f (asked y) z aim same) in
+      let h = ranks c q f call l r fits in
+      omega (arith, h, aims)
+    where
+      same_aim : (u v : Phase T) (y z : Aim W) → (let s : Stage (Phase T) T W = Trying u y in s) ≡ Trying v z → y ≡ z
+      same_aim u v y z e = cc e
+  turned_left c a q f l r (Tries y aim) x (Working w) fits (none, same) =
+      absurd (let no : (let s : Stage (Phase T) T W = Working w in s) ≡ Trying (asked y) aim = same in cc)
+  turned_left c a q f l r (Tries y aim) x (Finished kept) fits turned = omega arith
+  turned_left c a q f l r (Works w) x (Trying call z) fits (none, same) =
+      absurd (let no : (let s : Stage (Phase T) T W = Trying f z in s) ≡ Working w = same in cc)
+  turned_left c a q f l r (Works w) x (Working v) fits (none, same) =
+      let e : v ≡ w = cc same in subst (λ (z : Work T W). left_to_work a z ≤ left_to_work a w) (sym e) (omega arith)
+  turned_left c a q f l r (Works w) x (Finished kept) fits turned = omega arith
+  turned_left c a q f l r (Ends y kept) x (Trying call z) fits (some, same) =
+      absurd (let no : (let s : Stage (Phase T) T W = Trying f z in s) ≡ Finished kept = same in cc)
+  turned_left c a q f l r (Ends y kept) x (Working v) fits (some, same) =
+      absurd (let no : (let s : Stage (Phase T) T W = Working v in s) ≡ Finished kept = same in cc)
+  turned_left c a q f l r (Ends y kept) x (Finished k) fits turned = omega arith
+
+  -- one that has not answered
+  abbrev pub IsAtWork : Stage (QueueCall T) T W → Type 0
+  IsAtWork (Trying call aim) = Unit {0}
+  IsAtWork (Working w) = Unit {0}
+  IsAtWork (Finished kept) = ⊥
+
+  module _ (parts parts' : Parts T W) (names : List W) (stage' : Stage (QueueCall T) T W) (m : Mark) (x : Option (Reply T))
+      (q : Queue T) (f : Phase T) (l r : List (Seat T)) where
+    tried_less : (call : QueueCall T) (y : Aim W) (made : Made parts (Trying call y) names parts' stage' m x q f l r)
+        → Hastens parts.cells q f (Trying call y) parts'.cells x stage'
+        → steps_left parts'.cells parts'.roster stage' < steps_left parts.cells parts.roster (Trying call y)
+    tried_less call y made (inl (call', same, less)) =
+        let moved : Tried (channel q parts) f y (record { channel = channel made.queue parts'; mark = m; woken = names }) x (phase made.phase_now stage') = made.moves in
+        let still : left_after parts'.roster y ≡ left_after parts.roster y =
+        ap (λ (e : Effect T W). left_after e.channel.roster y) moved.effect in
+        subst (λ (z : Stage (QueueCall T) T W). steps_left parts'.cells parts'.roster z < steps_left parts.cells parts.roster (Trying call y))
+        (sym same) (omega (arith, less, still))
+    tried_less call y made (inr (z, k, ans, taken)) =
+        let moved : Tried (channel q parts) f y (record { channel = channel made.queue parts'; mark = m; woken = names }) x (phase made.phase_now stage') = made.moves in
+        let still : left_after parts'.roster y ≡ left_after parts.roster y =
+        ap (λ (e : Effect T W). left_after e.channel.roster y) moved.effect in
+        let turn = taken_left parts'.cells parts'.roster made.queue made.phase_now l r (answered_next y z) x stage' made.fits taken in
+        let falls = answered_left parts'.roster y z in
+        omega (arith, turn, falls, still)
+
+    -- a step of a call at work that nobody holds up leaves fewer
+    pub step_lessens : (stage : Stage (QueueCall T) T W) → IsAtWork stage → Made parts stage names parts' stage' m x q f l r
+        → HoldsNobodyUp q (phases (l ++ r)) → steps_left parts'.cells parts'.roster stage' < steps_left parts.cells parts.roster stage
+    step_lessens (Trying call y) at made free = tried_less call y made (made.ends free)
+    step_lessens (Working w) at made free =
+        let e : Effect T W = record { channel = channel made.queue parts'; mark = m; woken = names } in
+        let b : Lessens (channel q parts) w e x (phase made.phase_now stage') = work_lessens (channel q parts) e x (phase made.phase_now stage') w made.moves in
+        let turn = turned_left parts'.cells parts'.roster made.queue made.phase_now l r b.turn x stage' made.fits b.turned in
+        let less = b.less in
+        omega (arith, turn, less)
+    step_lessens (Finished kept) at made free = absurd at

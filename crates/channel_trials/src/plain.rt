@@ -1,0 +1,182 @@
+//! A plain channel whose calls are made one at a time: what is held, and who waits, in order.
+
+use crate::answer::Answer;
+use crate::differs::Differs;
+use channel_calls::stage::Line;
+use channel_world::name::Waiter;
+use std::alloc::Global;
+
+/// One who is pending.
+#[derive(Clone, Copy)]
+struct Sleeper {
+    name: Waiter,
+    line: Line,
+    /// What it sends, of a send.
+    message: u64,
+}
+
+/// What is held, who waits untold, in the order in which they came, and who was woken, in the order of their wakes.
+#[derive(Drop)]
+pub struct Plain {
+    capacity: Option<usize>,
+    held: Vec<u64>,
+    is_closed: bool,
+    untold: Vec<Sleeper>,
+    woken: Vec<Sleeper>,
+}
+
+impl Plain {
+    /// An open channel with nothing in it and nobody who waits.
+    pub fn new(capacity: Option<usize>, alloc: Global) -> Self {
+        Plain {
+            capacity,
+            held: Vec::new(alloc),
+            is_closed: false,
+            untold: Vec::new(alloc),
+            woken: Vec::new(alloc),
+        }
+    }
+
+    /// How many messages it holds.
+    pub fn messages(&self) -> usize {
+        self.held.len()
+    }
+
+    /// How many are pending.
+    pub fn pending(&self) -> usize {
+        self.untold.len().saturating_add(self.woken.len())
+    }
+
+    /// How many of them were woken.
+    pub fn woken(&self) -> usize {
+        self.woken.len()
+    }
+
+    /// Whose wake is the oldest.
+    pub fn first_woken(&self) -> Option<Waiter> {
+        self.woken.first().map(|sleeper| sleeper.name)
+    }
+
+    /// Whether the messages that it may hold are there.
+    fn is_full(&self) -> bool {
+        match self.capacity {
+            Some(capacity) => self.held.len() >= capacity,
+            None => false,
+        }
+    }
+
+    /// Tells the first one on a line.
+    fn tell_one(&mut self, line: Line) -> Result<(), Differs> {
+        let place = self.untold.iter().position(|sleeper| sleeper.line == line);
+        match place {
+            Some(place) if place < self.untold.len() => {
+                let sleeper = self.untold.remove(place);
+                add(&mut self.woken, sleeper)
+            }
+            _ => Ok(()),
+        }
+    }
+
+    /// Tells all on a line.
+    fn tell_all(&mut self, line: Line) -> Result<(), Differs> {
+        for _ in 0..self.untold.len() {
+            self.tell_one(line)?;
+        }
+        Ok(())
+    }
+
+    /// A message comes in, or why it doesn't.
+    pub fn send(&mut self, message: u64) -> Result<Answer, Differs> {
+        if self.is_closed {
+            return Ok(Answer::SendClosed(message));
+        }
+        if self.is_full() {
+            return Ok(Answer::Full(message));
+        }
+        if self.held.push(message).is_err() {
+            return Err(Differs::NoMemory);
+        }
+        self.tell_one(Line::Receives)?;
+        self.tell_all(Line::Streams)?;
+        Ok(Answer::Sent)
+    }
+
+    /// The oldest message leaves, or why none does.
+    pub fn receive(&mut self) -> Result<Answer, Differs> {
+        if self.held.is_empty() {
+            return Ok(if self.is_closed {
+                Answer::ReceiveClosed
+            } else {
+                Answer::Empty
+            });
+        }
+        let message = self.held.remove(0);
+        self.tell_one(Line::Sends)?;
+        Ok(Answer::Received(message))
+    }
+
+    /// It is closed, if it was not.
+    pub fn close(&mut self) -> Result<Answer, Differs> {
+        if self.is_closed {
+            return Ok(Answer::Closed(false));
+        }
+        self.is_closed = true;
+        for line in [Line::Sends, Line::Receives, Line::Streams, Line::Closings] {
+            self.tell_all(line)?;
+        }
+        Ok(Answer::Closed(true))
+    }
+
+    /// What one tries that is polled.
+    fn try_once(&mut self, sleeper: Sleeper) -> Result<Answer, Differs> {
+        match sleeper.line {
+            Line::Sends => self.send(sleeper.message),
+            Line::Receives | Line::Streams => self.receive(),
+            Line::Closings if self.is_closed => Ok(Answer::HasClosed),
+            Line::Closings => Ok(Answer::Empty),
+        }
+    }
+
+    /// One is polled. Where it can't go on it waits, after all others; an operation that goes on without having looked at its
+    /// notice passes it on.
+    fn poll_one(&mut self, sleeper: Sleeper, was_told: bool) -> Result<Answer, Differs> {
+        let answer = self.try_once(sleeper)?;
+        if let Answer::Full(_) | Answer::Empty = answer {
+            add(&mut self.untold, sleeper)?;
+            return Ok(Answer::Pending);
+        }
+        if was_told && sleeper.line != Line::Streams {
+            self.tell_one(sleeper.line)?;
+        }
+        Ok(answer)
+    }
+
+    /// The first poll of one that waits on this line; a send brings this message.
+    pub fn poll_new(&mut self, name: Waiter, line: Line, message: u64) -> Result<Answer, Differs> {
+        self.poll_one(
+            Sleeper {
+                name,
+                line,
+                message,
+            },
+            false,
+        )
+    }
+
+    /// A poll of the one whose wake is the oldest.
+    pub fn poll_woken(&mut self) -> Result<Answer, Differs> {
+        if self.woken.is_empty() {
+            return Err(Differs::Woken);
+        }
+        let sleeper = self.woken.remove(0);
+        self.poll_one(sleeper, true)
+    }
+}
+
+/// One more at the end.
+fn add(sleepers: &mut Vec<Sleeper>, sleeper: Sleeper) -> Result<(), Differs> {
+    match sleepers.push(sleeper) {
+        Ok(()) => Ok(()),
+        Err(_) => Err(Differs::NoMemory),
+    }
+}

@@ -1,0 +1,63 @@
+-- One poll of settling: what the channel did is an answer of the model.
+use Rattle.std.proofs.Common.{arith, ◌≡◌, ◌<◌, ◌≤◌, ◌+◌, ◌-◌, ◌^◌, ℕ, List, [], ◌++◌, length, true, refl, sym, ap, subst, ◌∙◌}
+use Rattle.channel_calls.specs.declared.reply.Reply.{Reply}
+use Rattle.channel_alone.specs.Alone.{Outcome, Alone}
+use Rattle.channel_interleaving.proofs.Interface.{none_under_way, no_agents}
+use Rattle.channel_interleaving.specs.Bookkeeping.{asks}
+use Rattle.channel_interleaving.specs.Floor.{book_of, Shown, IsKept, IsQuiet}
+use Rattle.channel_interleaving.specs.Kept.{AllKept}
+use Rattle.channel_interleaving.specs.Lone.{book_alone, WakesAtMost}
+use Rattle.channel_interleaving.specs.Run.{Book}
+use Rattle.channel_interleaving.specs.Settle.{PollsAlone}
+use Rattle.channel_interleaving.specs.declared.floor.Floor.{Floor}
+use Rattle.channel_model.specs.Answer.{Answer}
+use Rattle.channel_model.specs.Awake.{AwakeIn}
+use Rattle.channel_model.specs.Lines.{is_among}
+use Rattle.channel_model.specs.Refused.{Answers}
+use Rattle.channel_model.specs.Settling.{poll_of}
+use Rattle.channel_model.specs.State.{State}
+use Rattle.channel_model.specs.declared.name.Waiter.{Waiter}
+use Rattle.channel_rest.specs.Lone.{PollsAnswer}
+use Rattle.channel_rest.specs.Rest.{state_at, RestIsAWorld}
+use Rattle.channel_steps.specs.Scene.{Scene}
+use Rattle.channel_world.specs.Settled.{Polls}
+use Rattle.channel_world.specs.World.{at_rest}
+use Rattle.channel_world.proofs.Opening.{at_rest_is}
+use Rattle.channel_world.proofs.Whole.{can_be_lent}
+
+module _ {T : Type 0} (f : Floor T) (kept : IsKept f) (quiet : IsQuiet f) where
+  -- nobody is left asleep where no call is under way
+  pub awake_at_rest : RestIsAWorld T → AwakeIn (at_rest f)
+  awake_at_rest rests =
+      let k = kept.listeners in
+      let world = rests (book_of f) k.scene k.kept (none_under_way f k.scene quiet k.shown) in
+      subst (λ (x : State T). AwakeIn x) (sym (at_rest_is f k.scene k.shown quiet)) world.awake
+
+  module _ (answer : PollsAnswer T) (w : Waiter) (there : is_among w (at_rest f).waiting.woken ≡ true) where
+    -- whatever the poll does alone, the model allows
+    allowed : (s t : Scene T Waiter) (o : Outcome T Waiter) → f.made < 2 ^ 61 → Shown f s → AllKept (book_of f) s
+        → Alone (asks f.roll (poll_of w)) s.now o → t.now ≡ o.channel
+        → Answers (at_rest f) (poll_of w) (record { after = state_at (book_alone (book_of f) (poll_of w) o) t; reply = o.reply; woken = o.woken })
+    allowed s t o low sh k alone now =
+        let a =
+        answer (book_of f) s t w o k (no_agents f kept.at_work quiet) (none_under_way f s quiet sh) (can_be_lent f kept.users low)
+        there alone now in
+        subst (λ (x : State T). Answers x (poll_of w)
+        (record { after = state_at (book_alone (book_of f) (poll_of w) o) t; reply = o.reply; woken = o.woken }))
+        (sym (at_rest_is f s sh quiet)) a
+
+    -- it wakes no more than there is room for
+    pub poll_wakes_few : (n room : ℕ) → ((a : Answer T) → Answers (at_rest f) (poll_of w) a → n + length a.woken ≤ room)
+        → WakesAtMost (room - n) (poll_of w) f
+    poll_wakes_few n room fits s o low sh k alone =
+        let few = fits _ (allowed s (record s { now = o.channel }) o low sh k alone refl) in omega (arith, few)
+
+    pub poll_answers : (g : Floor T) (before : List Waiter) (x : Reply T) (after : List Waiter) → IsQuiet g
+        → PollsAlone w f before x after g → Polls w (at_rest f) before x after (at_rest g)
+    poll_answers g before x after still p =
+        let k = kept.listeners in
+        let d = p.called k.scene k.shown k.kept in
+        let a = allowed k.scene d.after d.outcome d.limit k.shown k.kept d.alone d.now in
+        let same : at_rest g ≡ state_at (book_alone (book_of f) (poll_of w) d.outcome) d.after =
+        at_rest_is g d.after d.shown still ∙ ap (λ (b : Book T). state_at b d.after) d.book in
+        record { woken = p.woken; names = p.names; answers = rw (same, d.reply, d.woken) a }

@@ -1,0 +1,181 @@
+-- The loop of settling: its polls so far, who is woken, and how many polls are still to come.
+use Rattle.std.proofs.Common.{arith, ◌≡◌, ◌≤◌, ◌+◌, ◌*◌, ◌-◌, ℕ, suc, List, [], ◌∷◌, ◌++◌, map, length, drop, Option, None, Some, slice_get, true, false, refl, sym, ap, subst, ◌∙◌, append_assoc, length-append}
+use Rattle.std.proofs.Math.Nat.{mul-le-mul}
+use Rattle.std.specs.List.{filter}
+use Rattle.std.proofs.lemmas.List.{length-map, map-append}
+use Rattle.channel_calls.specs.declared.reply.Reply.{Reply}
+use Rattle.channel_calls.specs.declared.stage.Line.{Line}
+use Rattle.channel_calls.specs.declared.stage.Line.TheVariants.{Sends, Receives, Streams, Closings}
+use Rattle.channel_model.specs.Answer.{Answer}
+use Rattle.channel_model.specs.Awake.{AwakeIn}
+use Rattle.channel_model.specs.Laws.{line_of}
+use Rattle.channel_model.specs.Lines.{Waiting, is_among, is_stream, untold}
+use Rattle.channel_model.specs.Names.{Names}
+use Rattle.channel_model.specs.Refused.{Answers}
+use Rattle.channel_model.specs.Settling.{poll_of, SettlesTo, Settles, NobodyGoesOn, pending_count}
+use Rattle.channel_model.specs.State.{State}
+use Rattle.channel_model.specs.declared.name.Waiter.{Waiter}
+use Rattle.channel_model.specs.declared.name.Waiter.TheVariants.{Op, Stream}
+use Rattle.channel_model.proofs.Counting.{among_self, or_right}
+use Rattle.channel_model.proofs.LawSteps.{poll_awake}
+use Rattle.channel_model.proofs.Settle.{count_all, first_there, settle_more, settle_ends, settling_ends, at_rest, streams_nearer, woken_next}
+use Rattle.channel_world.specs.Settled.{Polls, polls_in, most_polls, most_streams}
+use Rattle.channel_world.specs.declared.settle.Settled.{Settled}
+use Rattle.channel_world.specs.World.{untold_count}
+
+-- ---- lists
+
+behind : {A : Type 0} (xs ys : List A) → slice_get (xs ++ ys) (length xs) ≡ slice_get ys 0
+behind [] ys = refl
+behind (x ∷ xs) ys = behind xs ys
+
+first_of : {A : Type 0} (x : A) (xs : List A) → slice_get xs 0 ≡ Some x → xs ≡ x ∷ drop 1 xs
+first_of x [] e = cc e
+first_of x (y ∷ ys) e = let same : y ≡ x = cc e in ap (λ z. z ∷ ys) same
+
+-- ---- how many polls there are at most
+
+pub count_is : (ws vs : List Waiter) (n : ℕ) → ws ≡ vs → n ≡ length (filter is_stream ws) → n ≡ length (filter is_stream vs)
+count_is ws vs n same e = e ∙ ap (λ (xs : List Waiter). length (filter is_stream xs)) same
+
+pub enough_polls : (l : Waiting) (untold woken streams : ℕ) → untold_count l ≤ untold → woken ≡ length l.woken → most_streams l ≤ streams
+    → most_polls l ≤ (streams + 2) * (untold + woken) + woken
+enough_polls l untold woken streams u w h =
+    let each : 2 + most_streams l ≤ streams + 2 = omega (arith, h) in
+    let all : pending_count l ≤ untold + woken = omega (arith, u, w) in
+    let more = mul-le-mul each all in
+    omega (arith, more, w)
+
+-- ---- how many streams are pending
+
+-- a stream stands in no other line
+no_streams : {T : Type 0} (names : Names T) (line : Line) (ws : List Waiter) → (Some Streams ≡ Some line → ⊥)
+    → ((w : Waiter) → is_among w ws ≡ true → line_of names w ≡ Some line) → length (filter is_stream ws) ≤ 0
+no_streams names line [] other h = omega arith
+no_streams names line (Op op ∷ ws) other h = no_streams names line ws other (λ w e. h w (or_right _ (is_among w ws) e))
+no_streams names line (Stream r ∷ ws) other h = absurd (other (h (Stream r) (among_self (Stream r) ws)))
+
+few_filtered : (ws : List Waiter) → length (filter is_stream ws) ≤ length ws
+few_filtered [] = omega arith
+few_filtered (Op op ∷ ws) = let h = few_filtered ws in omega (arith, h)
+few_filtered (Stream r ∷ ws) = let h = few_filtered ws in omega (arith, h)
+
+module _ {T : Type 0} where
+  few_streams : (s : State T) → AwakeIn s → count_all is_stream s.waiting ≤ most_streams s.waiting
+  few_streams s awake =
+      let lines = awake.placed.lines in
+      let a = no_streams s.names Sends s.waiting.sends (λ e. let no : Some Streams ≡ Some Sends = e in cc) (lines Sends) in
+      let b = no_streams s.names Receives s.waiting.receives (λ e. let no : Some Streams ≡ Some Receives = e in cc) (lines Receives) in
+      let d = no_streams s.names Closings s.waiting.closings (λ e. let no : Some Streams ≡ Some Closings = e in cc) (lines Closings) in
+      let e = few_filtered s.waiting.streams in
+      omega (arith, a, b, d, e)
+
+  -- ---- the loop
+
+  -- the polls so far have led from s to t; the names are those that were polled, and after them those who are woken
+  pub record Goes (s t : State T) (polls : List (Waiter × Reply T)) (names : List Waiter) : Type 0 where
+    pub led : SettlesTo s polls t
+    pub named : names ≡ map (λ p. p.0) polls ++ t.waiting.woken
+    pub began : AwakeIn s
+    pub awake : AwakeIn t
+    pub streams : count_all is_stream t.waiting ≤ most_streams s.waiting
+    pub left : length polls + (length t.waiting.woken + (2 + most_streams s.waiting) * pending_count t.waiting) ≤ most_polls s.waiting
+
+  pub goes_first : (s : State T) (names : List Waiter) → AwakeIn s → names ≡ s.waiting.woken → Goes s s [] names
+  goes_first s names awake e = record { led = refl; named = e; began = awake; awake = awake; streams = few_streams s awake; left = omega arith }
+
+  polled_all : (polls : List (Waiter × Reply T)) → length (map (λ p. p.0) polls) ≡ length polls
+  polled_all polls = length-map polls (λ p. p.0)
+
+  pub goes_length : (s t : State T) (polls : List (Waiter × Reply T)) (names : List Waiter) → Goes s t polls names
+      → length names ≡ length polls + length t.waiting.woken
+  goes_length s t polls names h =
+      ap (λ (ws : List Waiter). length ws) h.named
+      ∙ (length-append (map (λ p. p.0) polls) t.waiting.woken ∙ ap (λ n. n + length t.waiting.woken) (polled_all polls))
+
+  -- who is polled next is the first of those who are woken
+  pub goes_next : (s t : State T) (polls : List (Waiter × Reply T)) (names : List Waiter) (w : Waiter) → Goes s t polls names
+      → slice_get names (length polls) ≡ Some w → slice_get t.waiting.woken 0 ≡ Some w
+  goes_next s t polls names w h e =
+      sym (behind (map (λ p. p.0) polls) t.waiting.woken)
+      ∙ (ap (λ n. slice_get (map (λ p. p.0) polls ++ t.waiting.woken) n) (polled_all polls)
+      ∙ (ap (λ (ws : List Waiter). slice_get ws (length polls)) (sym h.named) ∙ e))
+
+  pub next_there : (t : State T) (w : Waiter) → slice_get t.waiting.woken 0 ≡ Some w → is_among w t.waiting.woken ≡ true
+  next_there t w e = first_there w t.waiting.woken e
+
+  module _ (s t : State T) (polls : List (Waiter × Reply T)) (names : List Waiter) (w : Waiter) (h : Goes s t polls names)
+      (front : slice_get t.waiting.woken 0 ≡ Some w) where
+    rest_of : length t.waiting.woken ≡ suc (length (drop 1 t.waiting.woken))
+    rest_of = ap (λ (ws : List Waiter). length ws) (first_of w t.waiting.woken front)
+
+    -- however it answers, there is room for those whom it wakes, and more polls are to come
+    pub one_more : (a : Answer T) → Answers t (poll_of w) a → length names + length a.woken ≤ most_polls s.waiting
+    one_more a says =
+        let left = h.left in
+        let nearer = (streams_nearer (most_streams s.waiting) t h.awake h.streams w a front says).1 in
+        let next = ap (λ (ws : List Waiter). length ws) (woken_next t h.awake w a front says) in
+        let both = length-append (drop 1 t.waiting.woken) a.woken in
+        let all = goes_length s t polls names h in
+        omega (arith, left, nearer, next, both, all, rest_of)
+
+    pub some_left : suc (length polls) ≤ most_polls s.waiting
+    some_left = let left = h.left in omega (arith, left, rest_of)
+
+    pub goes_on : (u : State T) (x : Reply T) (after : List Waiter) → Polls w t names x after u → Goes s u (polls ++ (w, x) ∷ []) after
+    goes_on u x after p =
+        let a : Answer T = record { after = u; reply = x; woken = p.woken } in
+        let near = streams_nearer (most_streams s.waiting) t h.awake h.streams w a front p.answers in
+        let nearer = near.1 in
+        let left = h.left in
+        let more = length-append polls ((w, x) ∷ []) in
+        let ws = map (λ (q : Waiter × Reply T). q.0) polls in
+        let rest = drop 1 t.waiting.woken in
+        record {
+          led = settle_more s t u polls w x p.woken h.led front p.answers;
+          named = p.names
+              ∙ (ap (λ (l : List Waiter). l ++ p.woken) h.named
+              ∙ (ap (λ (l : List Waiter). (ws ++ l) ++ p.woken) (first_of w t.waiting.woken front)
+              ∙ (append_assoc ws (w ∷ rest) p.woken
+              ∙ (sym (append_assoc ws (w ∷ []) (rest ++ p.woken))
+              ∙ (ap (λ (l : List Waiter). l ++ (rest ++ p.woken)) (sym (map-append (λ (q : Waiter × Reply T). q.0) polls ((w, x) ∷ [])))
+              ∙ ap (λ (l : List Waiter). map (λ (q : Waiter × Reply T). q.0) (polls ++ (w, x) ∷ []) ++ l) (sym (woken_next t h.awake w a front p.answers)))))));
+          began = h.began;
+          awake = poll_awake t w a h.awake p.answers;
+          streams = near.0;
+          left = omega (arith, left, nearer, more);
+        }
+
+  -- the same of the polls as they stand in a list
+  abbrev as_poll : Settled T → Waiter × Reply T
+  as_poll p = (p.name, p.reply)
+
+  pub goes_front : (s t : State T) (polls : List (Settled T)) (names : List Waiter) (n : ℕ) (w : Waiter) → Goes s t (polls_in polls) names
+      → n ≡ length polls → slice_get names n ≡ Some w → slice_get t.waiting.woken 0 ≡ Some w
+  goes_front s t polls names n w h count e =
+      goes_next s t (polls_in polls) names w h (ap (λ k. slice_get names k) (length-map polls as_poll ∙ sym count) ∙ e)
+
+  pub goes_pushed : (s t : State T) (polls pushed : List (Settled T)) (w : Waiter) (x : Reply T) (names : List Waiter)
+      → pushed ≡ polls ++ record { name = w; reply = x } ∷ [] → Goes s t (polls_in polls ++ (w, x) ∷ []) names → Goes s t (polls_in pushed) names
+  goes_pushed s t polls pushed w x names e h =
+      subst (λ (ps : List (Waiter × Reply T)). Goes s t ps names)
+      (sym (ap (λ (ps : List (Settled T)). polls_in ps) e ∙ map-append as_poll polls (record { name = w; reply = x } ∷ []))) h
+
+  -- where all names were polled nobody is woken, and nobody goes on
+  pub record Rests (s t : State T) (polls : List (Settled T)) : Type 0 where
+    pub settles : Settles s (polls_in polls) t
+    pub few : 2 * length polls ≤ pending_count s.waiting * (pending_count s.waiting + 1)
+    pub rests : (t.waiting.woken ≡ []) × NobodyGoesOn t
+
+  pub goes_end : (s t : State T) (polls : List (Settled T)) (names : List Waiter) → Goes s t (polls_in polls) names
+      → length names ≤ length polls → Rests s t polls
+  goes_end s t polls names h done =
+      let all = goes_length s t (polls_in polls) names h in
+      let same = length-map polls as_poll in
+      let settled = settle_ends s t (polls_in polls) h.led (none t.waiting.woken (omega (arith, done, all, same))) in
+      let few = settling_ends s t (polls_in polls) h.began h.led in
+      record { settles = settled; few = omega (arith, few, same); rests = at_rest s t (polls_in polls) h.began settled }
+    where
+      none : (ws : List Waiter) → length ws ≤ 0 → ws ≡ []
+      none [] e = refl
+      none (v ∷ vs) e = absurd (omega (arith, e))

@@ -1,0 +1,79 @@
+-- How soon a call ends that nobody holds up.
+use Rattle.std.proofs.Common.{arith, ◌≡◌, ℕ, suc, ◌≤◌, ◌<◌, ◌==◌, ◌&&◌, Bool, true, false, if◌then◌else◌, is_none, List, [], ◌∷◌, Option, None, Some, refl, sym, subst}
+use Rattle.std.proofs.lemmas.Bool.Decides.{nat_tests}
+use Rattle.channel_calls.specs.declared.reply.Reply.{Reply}
+use Rattle.channel_interleaving.proofs.Interface.{nobody_still}
+use Rattle.channel_interleaving.specs.Kept.{AllKept}
+use Rattle.channel_interleaving.specs.Runs.{Moment, EachStep, FewLeft, ComesNearer, LeadsBy}
+use Rattle.channel_interleaving.specs.declared.step.Entry.{Entry}
+use Rattle.channel_interleaving.specs.declared.step.Step.{Step}
+use Rattle.channel_interleaving.specs.declared.step.Step.TheVariants as step
+use Rattle.channel_world.specs.StepsLeft.{in_a_row, NobodyHoldsUp, EndInARow, EndSoon}
+
+same_number : (a b : ℕ) → (a == b) ≡ true → a ≡ b
+same_number a b e = grind (arith, nat_tests)
+
+module _ {T : Type 0} where
+  -- there are no more in a row than are left
+  row_left : (p : ℕ) (m : Moment T) (xs : List (Step T)) (es : List (Entry T)) (ns : List (Moment T)) → AllKept m.book m.scene
+      → EachStep LeadsBy m xs es ns → NobodyHoldsUp p m → in_a_row p xs es ≤ m.left p
+  row_left p m [] [] [] k h free = omega arith
+  row_left p m (step.Begin q c ∷ xs) (e ∷ es) (n ∷ ns) k h free = omega arith
+  row_left p m (step.Step q ∷ xs) (e ∷ es) (n ∷ ns) k h free =
+      by (λ still. row_left p n xs es ns h.0.holds.kept h.1 still) (q.0 == p) refl e.reply refl
+    where
+      by : (NobodyHoldsUp p n → in_a_row p xs es ≤ n.left p) → (b : Bool) → (q.0 == p) ≡ b → (r : Option (Reply T)) → e.reply ≡ r
+          → (if b && is_none r then suc (in_a_row p xs es) else 0) ≤ m.left p
+      by more false same r goes_on = omega arith
+      by more true same (Some x) goes_on = omega arith
+      by more true same None goes_on =
+          let his : q.0 ≡ p = same_number q.0 p same in
+          let his_free : NobodyHoldsUp q.0 m = subst (λ (j : ℕ). NobodyHoldsUp j m) (sym his) free in
+          let less : n.left p < m.left p = subst (λ (j : ℕ). n.left j < m.left j) his (h.0.nearer goes_on his_free) in
+          let still : NobodyHoldsUp p n = subst (λ (j : ℕ). NobodyHoldsUp j n) his (nobody_still m q e n k h.0 goes_on his_free) in
+          let rest = more still in
+          omega (arith, less, rest)
+  row_left p m [] [] (n ∷ ns) k h free = absurd h
+  row_left p m [] (e ∷ es) ns k h free = absurd h
+  row_left p m (x ∷ xs) [] ns k h free = absurd h
+  row_left p m (x ∷ xs) (e ∷ es) [] k h free = absurd h
+
+  all_in_a_row : (m : Moment T) (xs : List (Step T)) (es : List (Entry T)) (ns : List (Moment T)) → AllKept m.book m.scene → FewLeft m
+      → EachStep LeadsBy m xs es ns → EndInARow m xs es ns
+  all_in_a_row m [] [] [] k few h = tt
+  all_in_a_row m (x ∷ xs) (e ∷ es) (n ∷ ns) k few h = (
+    λ p free. (let row = row_left p m (x ∷ xs) (e ∷ es) (n ∷ ns) k h free in let most = few p in omega (arith, row, most)),
+    all_in_a_row n xs es ns h.0.holds.kept h.0.holds.few h.1,
+  )
+  all_in_a_row m [] [] (n ∷ ns) k few h = absurd h
+  all_in_a_row m [] (e ∷ es) ns k few h = absurd h
+  all_in_a_row m (x ∷ xs) [] ns k few h = absurd h
+  all_in_a_row m (x ∷ xs) (e ∷ es) [] k few h = absurd h
+
+  all_few : (m : Moment T) (xs : List (Step T)) (es : List (Entry T)) (ns : List (Moment T)) → EachStep LeadsBy m xs es ns
+      → EachStep (λ m x e n. FewLeft n) m xs es ns
+  all_few m [] [] [] h = tt
+  all_few m (x ∷ xs) (e ∷ es) (n ∷ ns) h = (h.0.holds.few, all_few n xs es ns h.1)
+  all_few m [] [] (n ∷ ns) h = absurd h
+  all_few m [] (e ∷ es) ns h = absurd h
+  all_few m (x ∷ xs) [] ns h = absurd h
+  all_few m (x ∷ xs) (e ∷ es) [] h = absurd h
+
+  all_nearer : (m : Moment T) (xs : List (Step T)) (es : List (Entry T)) (ns : List (Moment T)) → EachStep LeadsBy m xs es ns
+      → EachStep ComesNearer m xs es ns
+  all_nearer m [] [] [] h = tt
+  all_nearer m (x ∷ xs) (e ∷ es) (n ∷ ns) h = (h.0.nearer, all_nearer n xs es ns h.1)
+  all_nearer m [] [] (n ∷ ns) h = absurd h
+  all_nearer m [] (e ∷ es) ns h = absurd h
+  all_nearer m (x ∷ xs) [] ns h = absurd h
+  all_nearer m (x ∷ xs) (e ∷ es) [] h = absurd h
+
+  pub end_soon : (m : Moment T) (xs : List (Step T)) (es : List (Entry T)) (ns : List (Moment T)) → AllKept m.book m.scene → FewLeft m
+      → EachStep LeadsBy m xs es ns → EndSoon m xs es ns
+  end_soon m xs es ns k few h = record {
+    first = few;
+    few = all_few m xs es ns h;
+    nearer = all_nearer m xs es ns h;
+    in_front = λ p free. (let row = row_left p m xs es ns k h free in let most = few p in omega (arith, row, most));
+    later = all_in_a_row m xs es ns k few h;
+  }

@@ -1,0 +1,1 @@
+use Rattle.channel_world.proofs.settle.count_streams.Goals as goal

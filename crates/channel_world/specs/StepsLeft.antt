@@ -1,0 +1,37 @@
+-- How soon a call ends that nobody holds up: the number of steps of its own that are left to it at each moment of a run.
+use Rattle.std.specs.Prelude.{◌≡◌, ℕ, suc, ◌≤◌, ◌==◌, ◌&&◌, if◌then◌else◌, is_none, List, [], ◌∷◌}
+use Rattle.channel_steps.specs.Scene.{HoldNobodyUp}
+use Rattle.channel_interleaving.specs.Left.{others_of}
+use Rattle.channel_interleaving.specs.Runs.{Moment, EachStep, FewLeft, ComesNearer}
+use Rattle.channel_interleaving.specs.declared.step.Entry.{Entry}
+use Rattle.channel_interleaving.specs.declared.step.PartyId.{PartyId}
+use Rattle.channel_interleaving.specs.declared.step.Step.{Step}
+use Rattle.channel_interleaving.specs.declared.step.Step.TheVariants as step
+
+module _ {T : Type 0} where
+  -- how many of the next steps are this party's, one after another, with no reply among them
+  abbrev pub in_a_row : ℕ → List (Step T) → List (Entry T) → ℕ
+  in_a_row p (step.Step q ∷ xs) (e ∷ es) = if (q.0 == p) && is_none e.reply then suc (in_a_row p xs es) else 0
+  in_a_row p xs es = 0
+
+  -- the other calls under way hold the call of this party up no more: none has a mark but Nothing, and an unbounded channel has
+  -- had its first taking, or there is no other call
+  abbrev pub NobodyHoldsUp : ℕ → Moment T → Type 0
+  NobodyHoldsUp p m = HoldNobodyUp m.scene.now (others_of p m.scene.under_way)
+
+  -- at each moment, where the others hold a party's call up no more, it ends among its next 198 steps, if these are the next
+  abbrev pub EndInARow : Moment T → List (Step T) → List (Entry T) → List (Moment T) → Type 0
+  EndInARow m [] [] [] = Unit {0}
+  EndInARow m (x ∷ xs) (e ∷ es) (n ∷ ns) =
+      ((p : ℕ) → NobodyHoldsUp p m → in_a_row p (x ∷ xs) (e ∷ es) ≤ 197) × EndInARow n xs es ns
+  EndInARow m _ _ _ = ⊥
+
+  -- From the moment m on by these steps, to these moments: at most 197 steps of its own are left to each call at each moment, and
+  -- each step that does not end its call, where the others hold it up no more, leaves it fewer. So it ends among its next 198, if
+  -- these are the next: those in front of the list, and from each later moment on.
+  pub record EndSoon (m : Moment T) (xs : List (Step T)) (es : List (Entry T)) (ns : List (Moment T)) : Type 0 where
+    pub first : FewLeft m
+    pub few : EachStep (λ m x e n. FewLeft n) m xs es ns
+    pub nearer : EachStep ComesNearer m xs es ns
+    pub in_front : (p : ℕ) → NobodyHoldsUp p m → in_a_row p xs es ≤ 197
+    pub later : EndInARow m xs es ns

@@ -1,0 +1,161 @@
+//! Settling: those who are pending and were woken are polled, the one whose wake is oldest first, until nobody is woken.
+
+ghost use Rattle.std.specs.Prelude.{◌≡◌, length, IfSome};
+ghost use Rattle.std.specs.List.{filter};
+ghost use Rattle.channel_model.specs.Lines.{is_stream};
+
+use super::call::Reply;
+use super::name::Waiter;
+use super::world::World;
+use channel_calls::stage::Line;
+use channel_interleaving::settle::Polled;
+use channel_rest::laws::{a_channel_at_rest_is_a_world, a_poll_of_settling_is_the_models};
+use event_listener::error::NoMemory;
+
+/// One poll of a settling. Own to this project.
+#[derive(Drop)]
+pub struct Settled<T> {
+    /// Who was polled.
+    pub name: Waiter,
+    /// What the poll answered.
+    pub reply: Reply<T>,
+}
+
+/// Room for all that a settling answers.
+#[derive(Drop)]
+struct Room<T> {
+    /// Those who are polled, in order, as far as they are known.
+    names: Vec<Waiter>,
+    /// The polls that were made.
+    polls: Vec<Settled<T>>,
+}
+
+/// How many of these names are streams. None where there is no such number.
+fn count_streams(names: &Vec<Waiter>) -> Option<usize>
+    ensures { IfSome result (λ n. n ≡ length (filter is_stream names.now.items)) }
+{
+    let mut count = 0usize;
+    for k in 0..names.len() {
+        if let Waiter::Stream(_) = names[k] {
+            count = count.checked_add(1)?;
+        }
+    }
+    Some(count)
+}
+
+impl<T: Drop> World<T> {
+    ghost use Rattle.std.specs.Prelude.{◌≡◌, ◌≤◌, ◌<◌, ◌+◌, ◌^◌, [], true, length, vec_len, vec_capacity, IfSome, OnSome};
+    ghost use Rattle.channel_interleaving.specs.Floor.{IsQuiet, LeadsOn};
+    ghost use Rattle.channel_model.specs.Answer.{Answer};
+    ghost use Rattle.channel_model.specs.Lines.{is_among};
+    ghost use Rattle.channel_model.specs.Refused.{Answers};
+    ghost use Rattle.channel_model.specs.Settling.{poll_of};
+    ghost use Rattle.channel_world.specs.Settled.{Polls, most_polls};
+    ghost use Rattle.channel_world.specs.World.{at_rest};
+
+    /// How many polls settling makes at most, where these are woken. None where there is no such number.
+    fn most_polls(&self, woken: &Vec<Waiter>) -> Option<usize>
+        requires { woken.now.items ≡ (at_rest self.now).waiting.woken }
+        ensures { IfSome result (λ n. most_polls (at_rest self.now).waiting ≤ n) }
+    {
+        let untold = self.untold_count()?;
+        let pending = untold.checked_add(woken.len())?;
+        let told = count_streams(woken)?;
+        let streams = self.steps.waiting(Line::Streams).checked_add(told)?;
+        let each = streams.checked_add(2)?;
+        let later = each.checked_mul(pending)?;
+        later.checked_add(woken.len())
+    }
+
+    /// Room for all that settling answers. None where it was refused, or where the limit of steps leaves none.
+    fn room_to_settle(&self) -> Option<Room<T>>
+        ensures names { IfSome result (λ r. r.names.items ≡ (at_rest self.now).waiting.woken) }
+        ensures polls { IfSome result (λ r. r.polls.items ≡ []) }
+        ensures room { IfSome result (λ r. most_polls (at_rest self.now).waiting ≤ vec_capacity r.names) }
+        ensures answers { IfSome result (λ r. most_polls (at_rest self.now).waiting ≤ vec_capacity r.polls) }
+        ensures steps { OnSome result (self.now.made + most_polls (at_rest self.now).waiting ≤ 2 ^ 61) }
+    {
+        let Ok(mut names) = self.steps.woken_names() else {
+            return None;
+        };
+        let most = self.most_polls(&names)?;
+        if !self.steps.has_calls(most) || names.reserve(most).is_err() {
+            return None;
+        }
+        let Ok(polls) = Vec::with_capacity(self.alloc(), most) else {
+            return None;
+        };
+        Some(Room { names, polls })
+    }
+
+    /// Polls one that is pending and was woken. Those whom the poll wakes go after the names, where there is room for them.
+    fn poll_woken(&mut self, name: Waiter, names: Vec<Waiter>) -> Polled<T>
+        requires quiet { IsQuiet self.old }
+        requires woken { is_among name (at_rest self.old).waiting.woken ≡ true }
+        requires limit { self.old.made < 2 ^ 61 }
+        requires room { (a : Answer T) → Answers (at_rest self.old) (poll_of name) a → vec_len names + length a.woken ≤ vec_capacity names }
+        ensures polled { Polls name (at_rest self.old) names.items result.reply result.names.items (at_rest self.new) }
+        ensures quiet { IsQuiet self.new }
+        ensures leads { LeadsOn self.old self.new }
+        ensures made { self.new.made ≡ self.old.made + 1 }
+        ensures capacity { vec_capacity names ≤ vec_capacity result.names }
+    {
+        a_poll_of_settling_is_the_models::<T>();
+        self.steps.keeps();
+        self.steps.poll_alone(name, names)
+    }
+}
+
+impl<T: Drop> World<T> {
+    ghost use Rattle.std.specs.Prelude.{◌≡◌, ◌≤◌, ◌+◌, ◌*◌, [], vec_len, IfOk, OnOk, OnErr};
+    ghost use Rattle.channel_interleaving.specs.Floor.{IsQuiet, LeadsOn, Stands};
+    ghost use Rattle.channel_model.specs.Settling.{Settles, pending_count};
+    ghost use Rattle.channel_world.specs.Settled.{polls_in, NoReceiveGoesOn, NoSendGoesOn, NoStreamGoesOn, NobodyMissesTheClosing};
+    ghost use Rattle.channel_world.specs.World.{at_rest};
+
+    /// Polls those who are pending and were woken, the one whose wake is oldest first, again and again until nobody is woken;
+    /// and says whom it polled, in order, and what each poll answered.
+    ///
+    /// Whom a poll wakes is polled in its turn; who was not woken is not polled. A stream is polled even while a live operation
+    /// borrows its receiver. Where w operations and streams are pending, there are w(w+1)/2 polls at most. After them nobody is
+    /// woken, and nobody is pending whom a message, a free place or a closing lets go on.
+    ///
+    /// Room for all answers, and for the names of those who are woken, is taken before the first poll. Where it is refused, or
+    /// where the limit of 2^61 steps leaves too few, it is `NoMemory`, and nothing is changed. Where a poll itself is refused
+    /// memory or serials, for its listener or a block of the queue, its reply says so, and it is pending no more; all the rest
+    /// holds as before. No call is to be under way, and none is after it; what left the channel, followed by what it holds, is
+    /// what it held followed by what came, in order, from each scene in which the world stood. Nothing waits. Own to this
+    /// project.
+    pub fn settle(&mut self) -> Result<Vec<Settled<T>>, NoMemory>
+        requires quiet { IsQuiet self.old }
+        ensures polls { IfOk result (λ polls. Settles (at_rest self.old) (polls_in polls.items) (at_rest self.new)) }
+        ensures few { IfOk result (λ polls. 2 * vec_len polls
+            ≤ pending_count (at_rest self.old).waiting * (pending_count (at_rest self.old).waiting + 1)) }
+        ensures nobody_woken { OnOk result ((at_rest self.new).waiting.woken ≡ []) }
+        ensures receives { OnOk result (NoReceiveGoesOn (at_rest self.new)) }
+        ensures sends { OnOk result (NoSendGoesOn (at_rest self.new)) }
+        ensures streams { OnOk result (NoStreamGoesOn (at_rest self.new)) }
+        ensures closing { OnOk result (NobodyMissesTheClosing (at_rest self.new)) }
+        ensures unchanged { OnErr result (self.new ≡ self.old) }
+        ensures quiet { IsQuiet self.new }
+        ensures leads { LeadsOn self.old self.new }
+        ensures stands { Stands self.new }
+    {
+        a_channel_at_rest_is_a_world::<T>();
+        self.steps.keeps();
+        let Some(room) = self.room_to_settle() else {
+            return Err(NoMemory);
+        };
+        let Room {
+            mut names,
+            mut polls,
+        } = room;
+        while polls.len() < names.len() {
+            let name = names[polls.len()];
+            let Polled { reply, names: more } = self.poll_woken(name, names);
+            names = more;
+            polls.push_reserved(Settled { name, reply });
+        }
+        Ok(polls)
+    }
+}
