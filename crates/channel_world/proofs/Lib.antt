@@ -1,5 +1,6 @@
 pub mod Few
 pub mod Opening
+pub mod MarkFacts
 pub mod HeadlineFacts
 pub mod Whole
 pub mod Tasks
