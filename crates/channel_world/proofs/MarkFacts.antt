@@ -37,6 +37,16 @@ use Rattle.channel_steps.specs.Scene.{Under, Known, AllKnown}
 use Rattle.channel_interleaving.specs.Owners.{All}
 use Rattle.channel_world.specs.Marks.{AreMarksOf, marks_of, BeginsItsMarks}
 
+module _ {T : Type 0} where
+  -- a question marks nothing
+  abbrev IsQuestion : QueueAsk T → Type 0
+  IsQuestion q.IsClosed = Unit {0}
+  IsQuestion q.IsEmpty = Unit {0}
+  IsQuestion q.IsFull = Unit {0}
+  IsQuestion q.Len = Unit {0}
+  IsQuestion q.Capacity = Unit {0}
+  IsQuestion a = ⊥
+
 module _ {T W : Type 0} where
   abbrev Begun : ChannelAsk T W → List (Deed T W) → Type 0
   Begun a ds = (later : List Mark) × AreMarksOf a (marks_of ds ++ later)
@@ -204,15 +214,6 @@ module _ {T W : Type 0} where
   popped now (trying b) ds seen h = inl (no_marks ds h)
   popped now (taken v) ds seen h = inr (took_marks ds v h)
   popped now s ds seen h = absurd h
-
-  -- a question marks nothing
-  abbrev IsQuestion : QueueAsk T → Type 0
-  IsQuestion q.IsClosed = Unit {0}
-  IsQuestion q.IsEmpty = Unit {0}
-  IsQuestion q.IsFull = Unit {0}
-  IsQuestion q.Len = Unit {0}
-  IsQuestion q.Capacity = Unit {0}
-  IsQuestion a = ⊥
 
   questioned : (now : Channel T W) (a : QueueAsk T) (s : queue.Stage T) (ds : List (Deed T W)) (seen : List (Channel T W)) → IsQuestion a
       → TryAt now a s ds seen → ds ≡ []
