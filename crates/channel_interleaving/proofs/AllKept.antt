@@ -18,6 +18,7 @@ use Rattle.channel_interleaving.specs.Order.{all_moved_last}
 use Rattle.channel_interleaving.specs.Refusal.{refusal}
 use Rattle.channel_interleaving.specs.Roll.{first_roll, is_at_work}
 use Rattle.channel_interleaving.specs.Run.{Book, Made, begun, ended, with_woken}
+use Rattle.channel_interleaving.specs.Users.{FewUsers}
 use Rattle.channel_interleaving.specs.declared.names.Agent.{Agent}
 use Rattle.channel_interleaving.specs.declared.roll.Roll.{Roll}
 use Rattle.channel_interleaving.specs.declared.step.Entry.{Entry}
@@ -32,6 +33,7 @@ use Rattle.channel_interleaving.proofs.OwnerRuns.{stepped, idle_and_free}
 use Rattle.channel_interleaving.proofs.OwnerSteps.{owned_first, begins_owned}
 use Rattle.channel_interleaving.proofs.OwnerWoken.{stepped_woken}
 use Rattle.channel_interleaving.proofs.OwnerWokenRuns.{woken_first, begins_woken}
+use Rattle.channel_interleaving.proofs.UserFacts.{users_first, users_begun, users_ended}
 
 all_moved_append : (xs ys ws : List Waiter) → all_moved_last (xs ++ ys) ws ≡ all_moved_last ys (all_moved_last xs ws)
 all_moved_append [] ys ws = refl
@@ -47,6 +49,7 @@ module _ {T : Type 0} where
         order = order_first T cap;
         sound = all_sound_new cap;
         polled = polled_first (record { roll = first_roll; order = []; agents = [] }) refl;
+        users = users_first T;
       }
 
   -- a call begins
@@ -60,6 +63,7 @@ module _ {T : Type 0} where
         order = begins_order q c b s t e n k.owned k.order fine;
         sound = all_sound_next s (channel.Begin q.0 (asks b.roll c)) e [] t k.sound (n, refl);
         polled = polled_begun q c b s k.owned fine k.polled;
+        users = users_begun q c b k.users;
       }
 
   -- the book after a step of a party
@@ -80,6 +84,7 @@ module _ {T : Type 0} where
         sound = all_sound_next s (channel.Step q.0) e names t k.sound st;
         polled = polled_step b c s t q e.mark e.reply e.kept names k.owned known st after.0 after.1 after.2 after.3
             after.4 k.polled;
+        users = subst (λ (d : Book T). FewUsers d) (sym after.4) (users_ended after.0 after.1 e.reply e.kept names b after.2 k.users);
       }
 
   -- a step that was made

@@ -1,6 +1,6 @@
 -- Steps of an interleaved channel, and runs of them.
 use Rattle.std.specs.List.{remove}
-use Rattle.std.proofs.Common.{arith, ◌≡◌, ℕ, zero, suc, ◌+◌, ◌^◌, ◌≤◌, ◌<◌, true, false, nat_lt, slice_index_or, List, [], ◌∷◌, ◌++◌, map, length, slice_get, vec_len, vec_capacity, Option, None, Some, inr, refl, sym, ap, ◌∙◌, subst, append_assoc}
+use Rattle.std.proofs.Common.{arith, ◌≡◌, ℕ, zero, suc, ◌+◌, ◌-◌, ◌^◌, ◌≤◌, ◌<◌, min, Bool, true, false, nat_lt, slice_index_or, List, [], ◌∷◌, ◌++◌, map, length, slice_get, vec_len, vec_capacity, Option, None, Some, inr, refl, sym, ap, ◌∙◌, subst, append_assoc}
 use Rattle.concurrent_queue.specs.Queue.{Queue, IsInRange}
 use Rattle.channel_calls.specs.Parts.{Parts, Roster, listeners}
 use Rattle.channel_calls.specs.Moves.{Channel}
@@ -16,12 +16,13 @@ use Rattle.channel_steps.specs.Count.{counted, brought_in, taken_out}
 use Rattle.channel_steps.specs.Run.{new_scene, HasBegun, Begins}
 use Rattle.channel_steps.specs.Tellings.{telling, dropping}
 use Rattle.channel_steps.specs.Left.{left_at}
-use Rattle.channel_steps.specs.Scene.{Scene, Sitting, under_of, IsBalanced, Shows, StepsAt, StepsNearer, parties_in, unless_answered}
+use Rattle.channel_steps.specs.Scene.{Scene, Sitting, under_of, IsBalanced, Shows, StepsAt, StepsNearer, parties_in, unless_answered, brought}
 use Rattle.channel_steps.specs.declared.party.Entry.{Entry as ChannelEntry}
 use Rattle.channel_steps.specs.declared.party.Party.{Party}
 use Rattle.channel_interleaving.specs.Bookkeeping.{asks}
 use Rattle.channel_interleaving.specs.Left.{left_of}
-use Rattle.channel_interleaving.specs.Floor.{parts_in, book_of, moment_of, lefts_in, Shown, StandsIn, Stands, AreAtWork, AreOwned, IsSame, Stepped, Steps, RanTo}
+use Rattle.channel_interleaving.specs.Floor.{parts_in, book_of, moment_of, lefts_in, Shown, StandsIn, Stands, AreAtWork, AreOwned, IsSame, Stepped, Steps, RanTo, HasPosition}
+use Rattle.channel_interleaving.specs.Positions.{brings, yet_in}
 use Rattle.channel_model.specs.declared.refusal.WorldRefusal.{WorldRefusal}
 use Rattle.channel_model.specs.declared.run.Stopped.{Stopped}
 use Rattle.std.proofs.lemmas.Bool.Decides.{nat_tests}
@@ -37,12 +38,14 @@ use Rattle.channel_interleaving.specs.declared.step.Entry.{Entry}
 use Rattle.channel_interleaving.specs.declared.step.Step.{Step}
 use Rattle.channel_interleaving.specs.declared.step.Step.TheVariants as step
 use Rattle.channel_interleaving.specs.declared.woken.Woken.{Woken as Sink}
-use Rattle.channel_steps.proofs.Interface.{accepts_one, few_left, messages_counted, messages_moved}
+use Rattle.channel_steps.proofs.Interface.{few_left, messages_counted, messages_moved}
 use Rattle.channel_interleaving.specs.Kept.{AllKept}
 use Rattle.channel_interleaving.proofs.AccountFacts.{no_accounts, next_accounts}
 use Rattle.channel_interleaving.proofs.AllKept.{kept_first, kept_next}
 use Rattle.channel_interleaving.proofs.LeftFacts.{comes_nearer, few_of}
 use Rattle.channel_interleaving.proofs.OwedFacts.{owed}
+use Rattle.channel_interleaving.proofs.PlaceFacts.{brought_most, no_message}
+use Rattle.channel_interleaving.proofs.PositionFacts.{step_brings, begin_brings, yet_most}
 use Rattle.channel_interleaving.proofs.WokenFacts.{all_heard, few_woken}
 
 -- ---- lists
@@ -73,8 +76,9 @@ module _ {T : Type 0} where
     none (x ∷ xs) e = absurd cc
 
   pub new_shown : (f : Floor T) (cap : Option ℕ) → Shows (parts_in f) f.parties.items (new_scene cap) → f.messages ≡ 0
-      → Shown f (new_scene cap)
-  new_shown f cap sh none = record { shows = sh; accepted = omega arith; messages = none }
+      → f.accepted ≡ 0 → Shown f (new_scene cap)
+  new_shown f cap sh none nothing =
+      record { shows = sh; accepted = omega arith; within = omega (arith, nothing); messages = none }
 
   pub new_at_work : (f : Floor T) (cap : Option ℕ) → Shows (parts_in f) f.parties.items (new_scene cap)
       → f.agents.items ≡ [] → AreAtWork f
@@ -90,13 +94,41 @@ module _ {T : Type 0} where
 
   -- ---- a call begins
 
+  -- as many calls are under way as there are parties
+  sitting_lengths : (xs : List (Sitting T Waiter)) → length (map under_of xs) ≡ length (map (λ (x : Sitting T Waiter). x.party) xs)
+  sitting_lengths [] = refl
+  sitting_lengths (x ∷ xs) = ap (λ (n : ℕ). suc n) (sitting_lengths xs)
+
+  yet_few : (f : Floor T) (s : Scene T Waiter) → Shows (parts_in f) f.parties.items s → yet_in s.under_way ≤ length f.parties.items
+  yet_few f s sh =
+      let most = yet_most s.under_way in
+      let calls = ap length sh.under_way in
+      let parties = ap length sh.parties_are in
+      let same = sitting_lengths sh.sittings in
+      omega (arith, most, calls, parties, same)
+
+  -- where a call begins that has a position, the messages that may yet come are within the positions
+  begun_within : (p : PartyId) (c : Call T) (f : Floor T) (s t : Scene T Waiter) (entry : ChannelEntry T) → HasPosition c f → Shown f s
+      → Begins s p.0 (asks f.roll c) entry t → f.accepted + yet_in t.under_way < 2 ^ 61
+  begun_within p c f s t entry place sh b = by (brings f.roll c) refl where
+    more : yet_in t.under_way ≤ yet_in s.under_way + length (brought (asks f.roll c))
+    more = begin_brings s p.0 (asks f.roll c) entry t b
+
+    by : (x : Bool) → brings f.roll c ≡ x → f.accepted + yet_in t.under_way < 2 ^ 61
+    by true e =
+        let room = place e in
+        let few = yet_few f s sh.shows in
+        let one = brought_most (asks f.roll c) in
+        omega (arith, more, room, few, one)
+    by false e = let none = no_message f.roll c e in let before = sh.within in omega (arith, more, none, before)
+
   pub has_begun : (p : PartyId) (c : Call T) (old new : Floor T) (e : Entry T) (entry : ChannelEntry T)
       → HasBegun p.0 (asks old.roll c) old.parties.items entry new.parties.items
       → e.mark ≡ Nothing → e.reply ≡ None → e.woken.items ≡ []
-      → new.channel ≡ old.channel → book_of new ≡ begun p c (book_of old) → new.messages ≡ old.messages → new.made ≡ old.made + 1
-      → step_refusal old.roll old.agents.items (step.Begin p c) ≡ None
+      → new.channel ≡ old.channel → book_of new ≡ begun p c (book_of old) → new.messages ≡ old.messages → new.accepted ≡ old.accepted
+      → HasPosition c old → step_refusal old.roll old.agents.items (step.Begin p c) ≡ None
       → Steps (step.Begin p c) old e new
-  has_begun p c old new e entry h mark reply woken same book messages made fine s sh =
+  has_begun p c old new e entry h mark reply woken same book messages counts place fine s sh =
       let b = h (parts_in old) s sh.shows in
       let parts : parts_in new ≡ parts_in old = ap parts_of same in
       record {
@@ -112,8 +144,8 @@ module _ {T : Type 0} where
         nearer = tt;
         shown = record {
           shows = rw parts b.shown;
-          accepted = rw (made, ap (λ (x : Channel T Waiter). x.queue.accepted) b.begins.now)
-              (let low = sh.accepted in omega (arith, low));
+          accepted = rw (counts, ap (λ (x : Channel T Waiter). x.queue.accepted) b.begins.now) sh.accepted;
+          within = rw counts (begun_within p c old s b.after entry place sh b.begins);
           messages = messages ∙ (sh.messages ∙ sym (ap (λ (x : Channel T Waiter). length x.queue.items) b.begins.now));
         };
       }
@@ -154,7 +186,7 @@ module _ {T : Type 0} where
   balanced_in parts parties s sh =
       subst (λ (q : Queue T). IsBalanced q) (sym (ap (λ (c : Channel T Waiter). c.queue) sh.now)) sh.balanced
 
-  pub has_stepped : (p : PartyId) (k n : ℕ) (a : Agent T) (x : Party T Waiter) (old new : Floor T) (empty full : Sink)
+  pub has_stepped : (p : PartyId) (k n came : ℕ) (a : Agent T) (x : Party T Waiter) (old new : Floor T) (empty full : Sink)
       (e : Entry T) (entry : ChannelEntry T)
       → slice_get old.parties.items k ≡ Some x → x.id ≡ p.0 → slice_get old.agents.items k ≡ Some a → a.party ≡ p.0
       → StepsAt Hears (parts_in old) old.parties.items k empty entry (parts_in new) new.parties.items full
@@ -162,13 +194,15 @@ module _ {T : Type 0} where
       → n ≤ vec_capacity empty.names
       → e.mark ≡ entry.mark → e.reply ≡ entry.reply → e.woken.items ≡ full.names.items
       → book_of new ≡ ended k a entry.reply entry.kept (with_woken full.names.items (book_of old))
-      → new.messages ≡ counted old.messages entry.mark → new.made ≡ old.made + 1 → old.made < 2 ^ 61
+      → new.messages ≡ counted old.messages entry.mark → came ≡ brought_in entry.mark
+      → new.accepted ≡ min (old.accepted + came) (2 ^ 64 - 1)
       → step_refusal old.roll old.agents.items (step.Step p) ≡ None
       → Steps (step.Step p) old e new
-  has_stepped p k n a x old new empty full e entry there whose agent own steps none most room mark reply woken book messages
-      made low fine s sh =
+  has_stepped p k n came a x old new empty full e entry there whose agent own steps none most room mark reply woken book messages
+      brought counts fine s sh =
       let accepted = sh.accepted in
-      let range : IsInRange s.now.queue = inr (omega (arith, accepted, low)) in
+      let within = sh.within in
+      let range : IsInRange s.now.queue = inr (omega (arith, accepted, within)) in
       let h = steps s x range sh.shows there in
       let roster : (parts_in old).roster ≡ s.now.roster = sym (ap (λ (c : Channel T Waiter). c.roster) sh.shows.now) in
       let most_now : ((line : Line) → length (listeners line s.now.roster).waiting ≤ n) =
@@ -178,9 +212,11 @@ module _ {T : Type 0} where
       let nobody : length empty.names.items ≡ 0 = ap length none in
       let heard : full.names.items ≡ h.names = all_heard empty h.names full h.woken (omega (arith, few, room, start, nobody))
       ∙ ap (λ (ws : List Waiter). ws ++ h.names) none in
-      let one = accepts_one s x.id entry h.names h.after h.steps.step in
-      let counts = messages_counted s x.id entry h.names h.after h.steps.step (balanced_in _ _ s sh.shows)
-      (balanced_in _ _ h.after h.shown) (omega (arith, accepted, low)) in
+      let b = step_brings s x.id entry h.names h.after h.steps.step in
+      let grown = b.accepted in
+      let fewer = b.fewer in
+      let messages_now = messages_counted s x.id entry h.names h.after h.steps.step (balanced_in _ _ s sh.shows)
+      (balanced_in _ _ h.after h.shown) (omega (arith, accepted, within)) in
       let his : StepsNearer k (lefts_in old) (lefts_in new) s p.0 (record { mark = e.mark; reply = e.reply; kept = entry.kept }) e.woken.items h.after =
       rw (mark, reply, woken, heard, sym whose) h.steps in
       record {
@@ -196,8 +232,9 @@ module _ {T : Type 0} where
             subst (λ (j : ℕ). left_at j (lefts_in new) < left_at j (lefts_in old)) (sym his.place) (his.nearer goes_on hold);
         shown = record {
           shows = h.shown;
-          accepted = omega (arith, accepted, one, made);
-          messages = messages ∙ (ap (λ m. counted m entry.mark) sh.messages ∙ counts);
+          accepted = omega (arith, accepted, within, grown, fewer, brought, counts);
+          within = omega (arith, within, fewer, brought, counts);
+          messages = messages ∙ (ap (λ m. counted m entry.mark) sh.messages ∙ messages_now);
         };
       }
 
@@ -347,7 +384,8 @@ module _ {T : Type 0} where
       let parts : parts_in h ≡ parts_in g = ap (λ c. parts_of c) same.channel in
       record {
         shows = rw (parts, same.parties) sh.shows;
-        accepted = rw same.made sh.accepted;
+        accepted = rw same.accepted sh.accepted;
+        within = rw same.accepted sh.within;
         messages = rw same.messages sh.messages;
       }
 

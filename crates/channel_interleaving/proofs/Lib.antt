@@ -26,6 +26,8 @@ pub mod Interface
 pub mod OwedCounts
 pub mod OwedFacts
 pub mod UserFacts
+pub mod PositionFacts
+pub mod PlaceFacts
 pub mod OwnerOrderWithin
 pub mod OwnerOrderLists
 pub mod OwnerOrderMoves

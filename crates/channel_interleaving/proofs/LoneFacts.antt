@@ -1,5 +1,5 @@
 -- A call made alone, by names: what its code does, and what is kept.
-use Rattle.std.proofs.Common.{arith, ◌≡◌, ◌+◌, ◌≤◌, ◌<◌, ◌^◌, ℕ, Bool, true, false, List, [], ◌∷◌, ◌++◌, map, length, drop, None, Result, Ok, Err, IfOk, OnErr, inr, refl, sym, ap, ◌∙◌, subst, vec_len, vec_capacity}
+use Rattle.std.proofs.Common.{arith, ◌≡◌, ◌+◌, ◌-◌, ◌≤◌, ◌<◌, ◌^◌, min, ℕ, Bool, true, false, List, [], ◌∷◌, ◌++◌, map, length, drop, None, Result, Ok, Err, IfOk, OnErr, inr, refl, sym, ap, ◌∙◌, subst, vec_len, vec_capacity}
 use Rattle.channel_calls.specs.Moves.{Channel}
 use Rattle.channel_calls.specs.declared.ask.ChannelAsk.{ChannelAsk}
 use Rattle.channel_calls.specs.declared.reply.Reply.{Reply}
@@ -14,9 +14,11 @@ use Rattle.concurrent_queue.specs.Step.{Fits}
 use Rattle.channel_steps.specs.Scene.{Scene, Sitting, under_of, all_seats, Shows, parties_in}
 use Rattle.channel_steps.specs.Start.{TellsQuiet as Tells}
 use Rattle.channel_interleaving.specs.Bookkeeping.{asks}
-use Rattle.channel_interleaving.specs.Floor.{parts_in, book_of, Shown, AreAtWork, AreFewUsers, AreOwned, IsKept, IsQuiet, IsSame, LeadsOn, TellsQuiet}
+use Rattle.channel_interleaving.specs.Floor.{parts_in, book_of, Shown, AreAtWork, AreOwned, IsKept, IsQuiet, IsSame, LeadsOn, TellsQuiet}
+use Rattle.channel_interleaving.specs.Floor as place
 use Rattle.channel_interleaving.specs.Kept.{AllKept}
 use Rattle.channel_interleaving.specs.Lone.{names_alone, order_alone, CallsAlone, WakesAtMost}
+use Rattle.channel_interleaving.specs.Positions.{brings, accepted_by, yet_in}
 use Rattle.channel_interleaving.specs.Refusal.{refusal}
 use Rattle.channel_interleaving.specs.Run.{Book}
 use Rattle.channel_interleaving.specs.Woken.{Hears}
@@ -27,6 +29,7 @@ use Rattle.channel_interleaving.proofs.AllKept.{kept_alone}
 use Rattle.channel_interleaving.proofs.AccountFacts.{no_accounts, lone_accounts}
 use Rattle.channel_interleaving.proofs.OwnerBegins.{Admitted, admitted}
 use Rattle.channel_interleaving.proofs.FloorFacts.{no_parties, owned_same, owned_where, stands_in, stands_same}
+use Rattle.channel_interleaving.proofs.PlaceFacts.{Counted, counted_alone}
 use Rattle.channel_interleaving.proofs.WokenFacts.{all_heard, drop_front}
 
 module _ {T : Type 0} where
@@ -57,18 +60,19 @@ module _ {T : Type 0} where
       none (x ∷ xs) e = absurd cc
 
   -- a queue that is shown has a position more
-  pub has_position : (f : Floor T) (s : Scene T Waiter) → Shown f s → f.made < 2 ^ 61 → HasPosition s.now.queue
-  has_position f s sh low = let accepted = sh.accepted in inr (omega (arith, accepted, low))
+  pub has_position : (f : Floor T) (s : Scene T Waiter) → Shown f s → HasPosition s.now.queue
+  has_position f s sh = let accepted = sh.accepted in let within = sh.within in inr (omega (arith, accepted, within))
 
   -- the cells are at rest
-  pub is_at_rest : (f : Floor T) (s : Scene T Waiter) → Shown f s → IsQuiet f → f.made < 2 ^ 61 → IsAtRest (parts_in f)
-  is_at_rest f s sh quiet low =
+  pub is_at_rest : (f : Floor T) (s : Scene T Waiter) → Shown f s → IsQuiet f → IsAtRest (parts_in f)
+  is_at_rest f s sh quiet =
       let q = sh.shows.queue in
       let accepted = sh.accepted in
+      let within = sh.within in
       let same : s.now.queue.accepted ≡ q.accepted = ap (λ (x : Channel T Waiter). x.queue.accepted) sh.shows.now in
       let none = nobody sh.shows.sittings (sym sh.shows.parties_are ∙ quiet) in (
         q,
-        inr (omega (arith, accepted, same, low)),
+        inr (omega (arith, accepted, same, within)),
         subst (λ (xs : List (Sitting T Waiter)). Fits (parts_in f).cells q (all_seats xs)) none sh.shows.fits,
       )
     where
@@ -76,9 +80,27 @@ module _ {T : Type 0} where
       nobody [] e = refl
       nobody (x ∷ xs) e = absurd cc
 
-  pub is_called : (c : Call T) (old new : Floor T) (a : ChannelAsk T Waiter) (d : Done T) (empty full : Sink) (fresh : List Waiter) (room : ℕ)
+  -- a call that was made alone left the messages that were counted within the positions
+  within_alone : (c : Call T) (old new : Floor T) (b : Bool) (x : Reply T) (came : ℕ) (s t : Scene T Waiter) → brings old.roll c ≡ b
+      → Counted old.accepted b x t → Shown old s → IsQuiet old → place.HasPosition c old → came ≡ accepted_by b x
+      → new.accepted ≡ min (old.accepted + came) (2 ^ 64 - 1) → t.under_way ≡ []
+      → (t.now.queue.accepted ≤ new.accepted) × (new.accepted + yet_in t.under_way < 2 ^ 61)
+  within_alone c old new b x came s t e counted sh quiet room same counts over =
+      let accepted = counted.accepted in
+      let most = counted.most in
+      let within = sh.within in
+      let none : yet_in t.under_way ≡ 0 = ap yet_in over in
+      let new_most : old.accepted + came < 2 ^ 61 = by b e counted.none in
+      (omega (arith, accepted, same, counts, new_most), omega (arith, none, counts, new_most))
+    where
+      by : (y : Bool) → brings old.roll c ≡ y → (b ≡ false → accepted_by b x ≡ 0) → old.accepted + came < 2 ^ 61
+      by true f given = let left = room f in let one = counted.most in omega (arith, left, one, same)
+      by false f given = let nothing = given (sym e ∙ f) in let within = sh.within in omega (arith, nothing, within, same)
+
+  pub is_called : (c : Call T) (old new : Floor T) (a : ChannelAsk T Waiter) (d : Done T) (empty full : Sink) (fresh : List Waiter) (room came : ℕ)
       → RunsInScenes Hears a (parts_in old) empty old.messages d (parts_in new) full new.messages
-      → a ≡ asks old.roll c → IsQuiet old → IsQuiet new → old.made < 2 ^ 61 → new.made ≡ old.made + 1
+      → a ≡ asks old.roll c → IsQuiet old → IsQuiet new → place.HasPosition c old → came ≡ accepted_by (brings old.roll c) d.reply
+      → new.accepted ≡ min (old.accepted + came) (2 ^ 64 - 1)
       → drop (length empty.names.items) full.names.items ≡ fresh → length empty.names.items + room ≤ vec_capacity empty.names
       → WakesAtMost room c old
       → book_of new ≡ record {
@@ -87,33 +109,38 @@ module _ {T : Type 0} where
         agents = [];
       }
       → CallsAlone c old d.reply fresh new
-  is_called c old new a d empty full fresh room ran asked quiet still low made behind enough few book s sh all =
-      let r = ran s 0 (has_position old s sh low) (subst (λ ps. Shows (parts_in old) ps s) quiet sh.shows) in
+  is_called c old new a d empty full fresh room came ran asked quiet still place_left brought counts behind enough few book s sh all =
+      let r = ran s 0 (has_position old s sh) (subst (λ ps. Shows (parts_in old) ps s) quiet sh.shows) in
       let alone : Alone (asks old.roll c) s.now r.outcome =
       subst (λ (x : ChannelAsk T Waiter). Alone x s.now r.outcome) asked r.does in
-      let most = few s r.outcome low sh all alone in
+      let most = few s r.outcome sh all alone in
       let start : vec_len empty.names ≡ length empty.names.items = empty.names.ok.0 in
       let heard : fresh ≡ r.outcome.woken =
       sym behind
       ∙ (ap (λ (ws : List Waiter). drop (length empty.names.items) ws) (all_heard empty r.outcome.woken full r.woken (omega (arith, most, enough, start)))
       ∙ drop_front empty.names.items r.outcome.woken) in
       let least = sh.accepted in
-      let more = r.accepted in
+      let within = sh.within in
+      let run : LoneRun s 0 (asks old.roll c) r.outcome r.after =
+      subst (λ (x : ChannelAsk T Waiter). LoneRun s 0 x r.outcome r.after) asked r.run in
+      let counted = counted_alone old.roll c old.accepted s r.after r.outcome 0 run alone r.now (none_under_way old s quiet sh) sh.accepted in
+      let left = within_alone c old new (brings old.roll c) r.outcome.reply came s r.after refl counted sh quiet place_left
+      (brought ∙ ap (λ (y : Reply T). accepted_by (brings old.roll c) y) r.reply) counts run.over in
       record {
         outcome = r.outcome;
         after = r.after;
         alone = alone;
         reply = r.reply;
         woken = heard;
-        run = subst (λ (x : ChannelAsk T Waiter). LoneRun s 0 x r.outcome r.after) asked r.run;
+        run = run;
         now = r.now;
         shown = record {
           shows = subst (λ ps. Shows (parts_in new) ps r.after) (sym still) r.shown;
-          accepted = rw (made, ap (λ (x : Channel T Waiter). x.queue.accepted) r.now) (omega (arith, least, more));
-          messages = r.counted sh.messages (omega (arith, least, low));
+          accepted = left.0;
+          within = left.1;
+          messages = r.counted sh.messages (omega (arith, least, within));
         };
         book = book ∙ rw (r.reply, r.kept, heard) refl;
-        limit = low;
       }
 
   -- a call made alone leads from a scene in which the channel stood to one in which it stands
@@ -143,23 +170,21 @@ module _ {T : Type 0} where
 
   -- what is kept, a call made alone keeps
   pub call_kept : (c : Call T) (old new : Floor T) (x : Reply T) (names : List Waiter) → IsKept old → IsQuiet old → AreAtWork new
-      → AreFewUsers new
       → Admitted old.roll c → CallsAlone c old x names new → IsKept new
-  call_kept c old new x names k quiet at_work users fine called =
+  call_kept c old new x names k quiet at_work fine called =
       let o = k.listeners in
       let l = call_leads c old new x names k.at_work quiet fine called o.scene (stands_in old o.scene o.shown o.kept) in
       record {
         listeners = owned_where new l.last l.stands;
         at_work = at_work;
-        users = users;
       }
 
   -- and so where it was handed back
   pub kept_whatever : (c : Call T) (old new : Floor T) (result : Result (Answered T) (Call T)) → IsKept old → IsQuiet old
-      → AreAtWork new → AreFewUsers new → refusal old.roll c ≡ None
+      → AreAtWork new → refusal old.roll c ≡ None
       → IfOk result (λ (d : Answered T). CallsAlone c old d.reply d.woken.items new)
       → OnErr result (IsSame old new) → IsKept new
-  kept_whatever c old new (Ok d) k quiet at_work users fine called same =
-      call_kept c old new d.reply d.woken.items k quiet at_work users (admitted old.roll c fine) called
-  kept_whatever c old new (Err x) k quiet at_work users fine called same =
-      record { listeners = owned_same old new same k.listeners; at_work = at_work; users = users }
+  kept_whatever c old new (Ok d) k quiet at_work fine called same =
+      call_kept c old new d.reply d.woken.items k quiet at_work (admitted old.roll c fine) called
+  kept_whatever c old new (Err x) k quiet at_work fine called same =
+      record { listeners = owned_same old new same k.listeners; at_work = at_work }

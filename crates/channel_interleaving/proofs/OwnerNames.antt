@@ -23,13 +23,13 @@ use Rattle.channel_interleaving.specs.declared.names.Standing.{Standing}
 use Rattle.channel_interleaving.specs.declared.names.Standing.TheVariants.{Rests, Waits, IsPolled}
 use Rattle.channel_interleaving.specs.declared.roll.Roll.{Roll}
 
-same_number : (a b : ℕ) → nat_eq a b ≡ true → a ≡ b
+pub same_number : (a b : ℕ) → nat_eq a b ≡ true → a ≡ b
 same_number a b e = grind (arith, nat_tests, e)
 
-own_number : (a : ℕ) → nat_eq a a ≡ true
+pub own_number : (a : ℕ) → nat_eq a a ≡ true
 own_number a = grind (arith, nat_tests)
 
-number_or : (a b : ℕ) → (a ≡ b) ⊎ (a ≡ b → ⊥)
+pub number_or : (a b : ℕ) → (a ≡ b) ⊎ (a ≡ b → ⊥)
 number_or a b = by (nat_eq a b) refl
   where
     by : (t : Bool) → nat_eq a b ≡ t → (a ≡ b) ⊎ (a ≡ b → ⊥)
@@ -85,7 +85,7 @@ module _ {X : Type 0} where
   set_at true n f es v same on h = ap (λ t. cond t (Some v) (lookup (nat_eq n) es)) same
   set_at false n f es v same on h = ap (λ t. cond t (Some f.1) (lookup (nat_eq n) (set_value (nat_eq n) es v))) same ∙ on h
 
-  set_there : (n : ℕ) (es : Directory X) (v : Option X) → is_some (lookup (nat_eq n) es) ≡ true → lookup (nat_eq n) (set_value (nat_eq n) es v) ≡ Some v
+  pub set_there : (n : ℕ) (es : Directory X) (v : Option X) → is_some (lookup (nat_eq n) es) ≡ true → lookup (nat_eq n) (set_value (nat_eq n) es v) ≡ Some v
   set_there n [] v h = absurd (let no : false ≡ true = h in cc)
   set_there n (f ∷ es) v h = set_at (nat_eq n f.0) n f es v refl (set_there n es v) h
 
@@ -98,7 +98,7 @@ module _ {X : Type 0} where
       by false e = refl
   other_at false n m f es v same other on = ap (λ o. cond (nat_eq m f.0) (Some f.1) o) on
 
-  set_other : (n m : ℕ) (es : Directory X) (v : Option X) → (m ≡ n → ⊥) → lookup (nat_eq m) (set_value (nat_eq n) es v) ≡ lookup (nat_eq m) es
+  pub set_other : (n m : ℕ) (es : Directory X) (v : Option X) → (m ≡ n → ⊥) → lookup (nat_eq m) (set_value (nat_eq n) es v) ≡ lookup (nat_eq m) es
   set_other n m [] v other = refl
   set_other n m (f ∷ es) v other = other_at (nat_eq n f.0) n m f es v refl other (set_other n m es v other)
 
@@ -111,7 +111,7 @@ module _ {X : Type 0} where
       by (Some None) h = absurd (let no : None ≡ Some x = h in cc)
       by (Some (Some y)) h = ap (λ (z : Option X). Some z) h
 
-  is_there : (o : Option (Option X)) (y : Option X) → o ≡ Some y → is_some o ≡ true
+  pub is_there : (o : Option (Option X)) (y : Option X) → o ≡ Some y → is_some o ≡ true
   is_there o y e = ap (λ (z : Option (Option X)). is_some z) e
 
 -- ---- all names
@@ -241,7 +241,7 @@ module _ {T : Type 0} where
       (sym (ap (λ (x : Option Hold). option_map_or (λ (y : Hold). with_changed handle.0 (change y) r.handles) x r.handles) e))
       (handle_set r handle (Some (change h)) (is_there (lookup (nat_eq handle.0) r.handles) (Some h) (found handle.0 r.handles h e)))
 
-  handle_none : (r : Roll T) (handle : HandleId) (change : Hold → Hold) → at handle.0 r.handles ≡ None → with_handle change handle r ≡ r
+  pub handle_none : (r : Roll T) (handle : HandleId) (change : Hold → Hold) → at handle.0 r.handles ≡ None → with_handle change handle r ≡ r
   handle_none r handle change e =
       ap (λ (d : Directory Hold). record r { handles = d }) (ap (λ (x : Option Hold). option_map_or (λ (y : Hold). with_changed handle.0 (change y) r.handles) x r.handles) e)
 

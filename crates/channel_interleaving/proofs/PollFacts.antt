@@ -27,13 +27,13 @@ module _ {T : Type 0} where
   pub names_heard : (c : Call T) (old : Floor T) (a : ChannelAsk T Waiter) (d : Done T) (empty full : Sink) (after : Parts T Waiter)
       (messages room : ℕ)
       → RunsInScenes Hears a (parts_in old) empty old.messages d after full messages → a ≡ asks old.roll c
-      → AreOwned old → IsQuiet old → old.made < 2 ^ 61 → length empty.names.items + room ≤ vec_capacity empty.names
+      → AreOwned old → IsQuiet old → length empty.names.items + room ≤ vec_capacity empty.names
       → WakesAtMost room c old → Heard empty full
-  names_heard c old a d empty full after messages room ran asked o quiet low enough few =
-      let r = ran o.scene 0 (has_position old o.scene o.shown low) (subst (λ ps. Shows (parts_in old) ps o.scene) quiet o.shown.shows) in
+  names_heard c old a d empty full after messages room ran asked o quiet enough few =
+      let r = ran o.scene 0 (has_position old o.scene o.shown) (subst (λ ps. Shows (parts_in old) ps o.scene) quiet o.shown.shows) in
       let alone : Alone (asks old.roll c) o.scene.now r.outcome =
       subst (λ (x : ChannelAsk T Waiter). Alone x o.scene.now r.outcome) asked r.does in
-      let most = few o.scene r.outcome low o.shown o.kept alone in
+      let most = few o.scene r.outcome o.shown o.kept alone in
       let start : vec_len empty.names ≡ length empty.names.items = empty.names.ok.0 in
       let end : vec_len full.names ≡ length full.names.items = full.names.ok.0 in
       let fits : vec_len empty.names + length r.outcome.woken ≤ vec_capacity empty.names = omega (arith, most, enough, start) in

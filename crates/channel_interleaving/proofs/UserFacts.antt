@@ -1,23 +1,28 @@
 -- How many use each handle, as calls begin, make steps and end.
-use Rattle.std.proofs.Common.{arith, ◌≡◌, ℕ, ◌+◌, ◌≤◌, nat_eq, false, List, [], ◌∷◌, Option, None, Some, ◌⊎◌, inl, inr, refl, sym, ◌∙◌, subst}
-use Rattle.std.specs.Option.{option_map_or}
-use Rattle.std.specs.Map.{set_value}
+use Rattle.std.proofs.Common.{arith, ◌≡◌, ℕ, zero, suc, ◌+◌, ◌≤◌, nat_eq, Bool, true, false, cond, List, [], ◌∷◌, ◌++◌, length, slice_get, unwrap_or, Option, None, Some, ◌⊎◌, inl, inr, refl, sym, ap, ◌∙◌, subst}
+use Rattle.std.specs.List.{remove}
+use Rattle.std.specs.Option.{option_map, option_map_or}
+use Rattle.std.specs.Map.{lookup, set_value}
+use Rattle.channel_calls.specs.Turns.{nothing_kept}
 use Rattle.channel_calls.specs.declared.reply.Reply.{Reply}
 use Rattle.channel_calls.specs.declared.reply.Reply.TheVariants as reply
 use Rattle.channel_calls.specs.declared.stage.Kept.{Kept}
+use Rattle.channel_model.proofs.WaiterLemmas.{decided}
+use Rattle.channel_model.specs.Answer.{weak_of, strong_of}
 use Rattle.channel_model.specs.Names.{Directory, at, with_changed, without, with_spent}
 use Rattle.channel_model.specs.declared.call.Call.{Call}
 use Rattle.channel_model.specs.declared.call.Call.TheVariants as call
+use Rattle.channel_model.specs.declared.name.Handle.{Handle}
 use Rattle.channel_model.specs.declared.name.HandleId.{HandleId}
 use Rattle.channel_model.specs.declared.name.HandleKind.{HandleKind}
 use Rattle.channel_model.specs.declared.name.HandleKind.TheVariants as handle_kind
+use Rattle.channel_model.specs.declared.name.OpId.{OpId}
 use Rattle.channel_model.specs.declared.name.Waiter.{Waiter}
 use Rattle.channel_model.specs.declared.name.Waiter.TheVariants.{Op, Stream}
-use Rattle.channel_model.proofs.WaiterLemmas.{decided}
-use Rattle.channel_interleaving.specs.Bookkeeping.{names_begun, settled, installed, woken, all_woken, lent_by, operation_named, handle_named, errand_of}
-use Rattle.channel_interleaving.specs.Roll.{standing_with, with_handle, with_lent, with_given_back, with_standing, unused, first_handles, first_roll}
-use Rattle.channel_interleaving.specs.Lone.{names_alone}
-use Rattle.channel_interleaving.specs.Run.{Book, ended, with_woken}
+use Rattle.channel_interleaving.specs.Bookkeeping.{names_begun, settled, installed, woken, all_woken, lent_by, lent_to_poll, with_operation, operation_named, handle_named, errand_of, leave_handle_of, new_from, unpolled}
+use Rattle.channel_interleaving.specs.Roll.{standing_with, used_more, used_less, with_handle, with_lent, with_given_back, with_standing, unused, first_handles, first_roll, handle_at}
+use Rattle.channel_interleaving.specs.Run.{Book, begun, ended, with_woken}
+use Rattle.channel_interleaving.specs.Users.{one, uses, all_uses, FewUsers}
 use Rattle.channel_interleaving.specs.declared.names.Agent.{Agent}
 use Rattle.channel_interleaving.specs.declared.names.Errand.{Errand}
 use Rattle.channel_interleaving.specs.declared.names.Errand.TheVariants as errand
@@ -26,15 +31,55 @@ use Rattle.channel_interleaving.specs.declared.names.Operation.{Operation}
 use Rattle.channel_interleaving.specs.declared.names.Standing.{Standing}
 use Rattle.channel_interleaving.specs.declared.names.Standing.TheVariants.{IsPolled}
 use Rattle.channel_interleaving.specs.declared.roll.Roll.{Roll}
+use Rattle.channel_interleaving.specs.declared.step.PartyId.{PartyId}
+use Rattle.channel_interleaving.proofs.OwnerNames.{same_number, own_number, number_or, set_there, set_other, found, is_there, handle_none}
 
--- no handle is used by more than so many
-abbrev pub AreFew : ℕ → Directory Hold → Type 0
-AreFew n d = (name : ℕ) (h : Hold) → at name d ≡ Some h → h.handle.borrowers ≤ n
+-- each handle is used by no more than so many
+abbrev AreFew : (ℕ → ℕ) → Directory Hold → Type 0
+AreFew n d = (name : ℕ) (h : Hold) → at name d ≡ Some h → h.handle.borrowers ≤ n name
+
+abbrev NoMore : (ℕ → ℕ) → (ℕ → ℕ) → Type 0
+NoMore n m = (name : ℕ) → n name ≤ m name
 
 -- ---- directories
 
 inner : {X : Type 0} (x y : X) → Some x ≡ Some y → x ≡ y
 inner x y e = cc
+
+never : {X : Type 0} (x : X) → None ≡ Some x → ⊥
+never x e = absurd (let no : None ≡ Some x = e in cc)
+
+abbrev living : {X : Type 0} → Option (Option X) → Option X
+living o = option_map_or (λ (x : Option _). x) o None
+
+-- under the name of what lives there stands what was set, and under any other what stood there
+changed : {X : Type 0} (n m : ℕ) (d : Directory X) (v : Option X) (g : X) → at n d ≡ Some g
+    → ((m ≡ n) × (at m (set_value (nat_eq n) d v) ≡ v)) ⊎ ((m ≡ n → ⊥) × (at m (set_value (nat_eq n) d v) ≡ at m d))
+changed {X} n m d v g there = by (number_or m n) where
+  by : (m ≡ n) ⊎ (m ≡ n → ⊥)
+      → ((m ≡ n) × (at m (set_value (nat_eq n) d v) ≡ v)) ⊎ ((m ≡ n → ⊥) × (at m (set_value (nat_eq n) d v) ≡ at m d))
+  by (inl e) =
+      let set : lookup (nat_eq n) (set_value (nat_eq n) d v) ≡ Some v =
+      set_there n d v (is_there (lookup (nat_eq n) d) (Some g) (found n d g there)) in
+      inl (e, subst (λ (k : ℕ). at k (set_value (nat_eq n) d v) ≡ v) (sym e) (ap (λ (o : Option (Option X)). living o) set))
+  by (inr f) = inr (f, ap (λ (o : Option (Option X)). living o) (set_other n m d v f))
+
+more_few : (n m : ℕ → ℕ) (d : Directory Hold) → NoMore n m → AreFew n d → AreFew m d
+more_few n m d le few name h i = let f = few name h i in let l = le name in omega (arith, f, l)
+
+-- under a name that was just taken nothing lives
+spent_few : (n : ℕ → ℕ) (name : ℕ) (d : Directory Hold) → AreFew n d → AreFew n (with_spent name d)
+spent_few n name d few m h i = by (nat_eq m name) i where
+  by : (t : Bool) → living (cond t (Some None) (lookup (nat_eq m) d)) ≡ Some h → h.handle.borrowers ≤ n m
+  by true e = absurd (never h e)
+  by false e = few m h e
+
+-- and one that didn't live doesn't
+spent_none : (n m : ℕ) (d : Directory Hold) → at m d ≡ None → at m (with_spent n d) ≡ None
+spent_none n m d e = by (nat_eq m n) where
+  by : (t : Bool) → living (cond t (Some None) (lookup (nat_eq m) d)) ≡ None
+  by true = refl
+  by false = e
 
 -- under a name stands what stood there, or what was set
 set_at : {X : Type 0} (n m : ℕ) (d : Directory X) (v : Option X)
@@ -52,179 +97,285 @@ set_at n m (f ∷ d) v = elim (decided (nat_eq n f.0)) [
 ]
 
 -- so many may use it that is set
-set_few : (n : ℕ) (name : ℕ) (d : Directory Hold) (v : Option Hold) → AreFew n d
-    → ((h : Hold) → v ≡ Some h → h.handle.borrowers ≤ n) → AreFew n (set_value (nat_eq name) d v)
+set_few : (n : ℕ → ℕ) (name : ℕ) (d : Directory Hold) (v : Option Hold) → AreFew n d
+    → ((h : Hold) → v ≡ Some h → (m : ℕ) → h.handle.borrowers ≤ n m) → AreFew n (set_value (nat_eq name) d v)
 set_few n name d v few new m h i = by (set_at name m d v) where
-  by : (at m (set_value (nat_eq name) d v) ≡ at m d) ⊎ (at m (set_value (nat_eq name) d v) ≡ v) → h.handle.borrowers ≤ n
+  by : (at m (set_value (nat_eq name) d v) ≡ at m d) ⊎ (at m (set_value (nat_eq name) d v) ≡ v) → h.handle.borrowers ≤ n m
   by (inl e) = few m h (sym e ∙ i)
-  by (inr e) = new h (sym e ∙ i)
+  by (inr e) = new h (sym e ∙ i) m
 
--- under a name that was just taken nothing lives
-spent_few : (n : ℕ) (name : ℕ) (d : Directory Hold) → AreFew n d → AreFew n (with_spent name d)
-spent_few n name d few m h i = elim (decided (nat_eq m name)) [
-  | inl t ↦ absurd (let no : None ≡ Some h = rw t at i in cc)
-  | inr t ↦ few m h (rw t at i)
-]
+set_length_at : {X : Type 0} (t : Bool) (n : ℕ) (f : ℕ × Option X) (d : Directory X) (v : Option X)
+    → length (set_value (nat_eq n) d v) ≡ length d → length (cond t ((f.0, v) ∷ d) (f ∷ set_value (nat_eq n) d v)) ≡ suc (length d)
+set_length_at true n f d v e = refl
+set_length_at false n f d v e = ap (λ (k : ℕ). suc k) e
 
--- one more lives, which so many may use
-added_few : (n : ℕ) (name : ℕ) (x : Hold) (d : Directory Hold) → x.handle.borrowers ≤ n → AreFew n d
-    → AreFew n ((name, Some x) ∷ d)
-added_few n name x d low few m h i = elim (decided (nat_eq m name)) [
-  | inl t ↦ subst (λ (y : Hold). y.handle.borrowers ≤ n) (inner x h (rw t at i)) low
-  | inr t ↦ few m h (rw t at i)
-]
+-- as many names as before
+set_length : {X : Type 0} (n : ℕ) (d : Directory X) (v : Option X) → length (set_value (nat_eq n) d v) ≡ length d
+set_length n [] v = refl
+set_length n (f ∷ d) v = set_length_at (nat_eq n f.0) n f d v (set_length n d v)
 
-more_few : (n m : ℕ) (d : Directory Hold) → n ≤ m → AreFew n d → AreFew m d
-more_few n m d le few name h i = let f = few name h i in omega (arith, le, f)
+-- ---- one handle
 
-kept : (n : ℕ) (d : Directory Hold) → AreFew n d → AreFew (n + 2) d
-kept n d few = more_few n (n + 2) d (omega arith) few
+one_there : (handle : HandleId) → one handle.0 handle ≡ 1
+one_there handle = ap (λ (t : Bool). cond t 1 0) (own_number handle.0)
+
+one_most : (name : ℕ) (handle : HandleId) → one name handle ≤ 1
+one_most name handle = by (nat_eq name handle.0) where
+  by : (t : Bool) → cond t 1 0 ≤ 1
+  by true = omega arith
+  by false = omega arith
+
+one_other : (name : ℕ) (handle : HandleId) → (name ≡ handle.0 → ⊥) → one name handle ≡ 0
+one_other name handle f = by (nat_eq name handle.0) refl where
+  by : (t : Bool) → nat_eq name handle.0 ≡ t → (let n : ℕ = cond t 1 0 in n ≡ 0)
+  by true e = absurd (f (same_number name handle.0 e))
+  by false e = refl
 
 module _ {T : Type 0} where
-  -- ---- changes of one handle
-
-  handle_few : (n m : ℕ) (change : Hold → Hold) (handle : HandleId) (r : Roll T) → n ≤ m
-      → ((h : Hold) → h.handle.borrowers ≤ n → (change h).handle.borrowers ≤ m)
+  handle_few : (n m : ℕ → ℕ) (change : Hold → Hold) (handle : HandleId) (r : Roll T)
+      → ((name : ℕ) → (name ≡ handle.0 → ⊥) → n name ≤ m name)
+      → ((h : Hold) → h.handle.borrowers ≤ n handle.0 → (change h).handle.borrowers ≤ m handle.0)
       → AreFew n r.handles → AreFew m (with_handle change handle r).handles
   handle_few n m change handle r le bound few = by (at handle.0 r.handles) refl where
     by : (o : Option Hold) → at handle.0 r.handles ≡ o
         → AreFew m (option_map_or (λ (h : Hold). with_changed handle.0 (change h) r.handles) o r.handles)
-    by None e = more_few n m r.handles le few
-    by (Some g) e =
-        set_few m handle.0 r.handles (Some (change g)) (more_few n m r.handles le few)
-        (λ h i. subst (λ (x : Hold). x.handle.borrowers ≤ m) (inner (change g) h i) (bound g (few handle.0 g e)))
+    by None e name h i = one_of (number_or name handle.0) where
+      one_of : (name ≡ handle.0) ⊎ (name ≡ handle.0 → ⊥) → h.handle.borrowers ≤ m name
+      one_of (inl same) = absurd (never h (sym e ∙ subst (λ (k : ℕ). at k r.handles ≡ Some h) same i))
+      one_of (inr other) = let f = few name h i in let l = le name other in omega (arith, f, l)
+    by (Some g) e name h i = one_of (changed handle.0 name r.handles (Some (change g)) g e) where
+      one_of : ((name ≡ handle.0) × (at name (set_value (nat_eq handle.0) r.handles (Some (change g))) ≡ Some (change g)))
+          ⊎ ((name ≡ handle.0 → ⊥) × (at name (set_value (nat_eq handle.0) r.handles (Some (change g))) ≡ at name r.handles))
+          → h.handle.borrowers ≤ m name
+      one_of (inl (same, is)) =
+          subst (λ (k : ℕ). h.handle.borrowers ≤ m k) (sym same)
+          (subst (λ (x : Hold). x.handle.borrowers ≤ m handle.0) (inner (change g) h (sym is ∙ i)) (bound g (few handle.0 g e)))
+      one_of (inr (other, is)) = let f = few name h (sym is ∙ i) in let l = le name other in omega (arith, f, l)
 
   -- one more may use it
-  lent_few : (n : ℕ) (handle : HandleId) (r : Roll T) → AreFew n r.handles → AreFew (n + 1) (with_lent handle r).handles
-  lent_few n handle r few = handle_few n (n + 1) _ handle r (omega arith) (λ h f. omega (arith, f)) few
+  lent_few : (n : ℕ → ℕ) (handle : HandleId) (r : Roll T) → AreFew n r.handles
+      → AreFew (λ name. n name + one name handle) (with_lent handle r).handles
+  lent_few n handle r few =
+      let there = one_there handle in
+      handle_few n (λ name. n name + one name handle) used_more handle r (λ name other. omega arith)
+      (λ h f. omega (arith, f, there)) few
 
-  given_back_few : (n : ℕ) (handle : HandleId) (r : Roll T) → AreFew n r.handles → AreFew n (with_given_back handle r).handles
-  given_back_few n handle r few = handle_few n n _ handle r (omega arith) (λ h f. omega (arith, f)) few
+  -- and one fewer
+  given_back_few : (n : ℕ → ℕ) (handle : HandleId) (r : Roll T) → AreFew (λ name. n name + one name handle) r.handles
+      → AreFew n (with_given_back handle r).handles
+  given_back_few n handle r few =
+      let there = one_there handle in
+      handle_few (λ name. n name + one name handle) n used_less handle r
+      (λ name other. let none = one_other name handle other in omega (arith, none))
+      (λ h f. omega (arith, f, there)) few
 
-  standing_few : (n : ℕ) (s : Standing) (handle : HandleId) (r : Roll T) → AreFew n r.handles
+  standing_few : (n : ℕ → ℕ) (s : Standing) (handle : HandleId) (r : Roll T) → AreFew n r.handles
       → AreFew n (with_standing s handle r).handles
-  standing_few n s handle r few = handle_few n n _ handle r (omega arith) (λ h f. f) few
+  standing_few n s handle r few =
+      handle_few n n (λ (h : Hold). record h { standing = s }) handle r (λ name other. omega arith) (λ h f. f) few
 
   -- ---- the beginning of a call
 
-  once : (n : ℕ) (handle : HandleId) (r : Roll T) → AreFew n r.handles → AreFew (n + 2) (with_lent handle r).handles
-  once n handle r few = more_few (n + 1) (n + 2) (with_lent handle r).handles (omega arith) (lent_few n handle r few)
+  operation_length : (change : Operation T → Operation T) (op : OpId) (r : Roll T)
+      → length (with_operation change op r).operations ≡ length r.operations
+  operation_length change op r = by (at op.0 r.operations) where
+    by : (o : Option (Operation T))
+        → length (option_map_or (λ (x : Operation T). with_changed op.0 (change x) r.operations) o r.operations) ≡ length r.operations
+    by None = refl
+    by (Some x) = set_length op.0 r.operations (Some (change x))
 
-  named : (n : ℕ) (handle new : HandleId) (r : Roll T) → AreFew n r.handles
-      → AreFew (n + 2) (with_lent handle (handle_named new r)).handles
-  named n handle new r few = once n handle (handle_named new r) (spent_few n new.0 r.handles few)
+  -- so many are allowed then
+  abbrev allowed : (ℕ → ℕ) → Call T → Roll T → ℕ → ℕ
+  allowed n c r name = length (names_begun r c).operations + (n name + uses name (errand_of r c))
 
-  lent_by_few : (n : ℕ) (o : Option (Operation T)) (r : Roll T) → AreFew n r.handles → AreFew (n + 2) (lent_by o r).handles
-  lent_by_few n None r few = kept n r.handles few
-  lent_by_few n (Some o) r few = once n o.handle r few
+  module _ (n : ℕ → ℕ) (r : Roll T) (few : AreFew (λ name. length r.operations + n name) r.handles) where
+    abbrev now : ℕ → ℕ
+    now name = length r.operations + n name
 
-  -- a call that begins uses two handles at most
-  pub begun_few : (n : ℕ) (c : Call T) (r : Roll T) → AreFew n r.handles → AreFew (n + 2) (names_begun r c).handles
-  begun_few n (call.NewSend op sender msg) r few = once n sender (operation_named op r) few
-  begun_few n (call.NewRecv op receiver) r few = once n receiver (operation_named op r) few
-  begun_few n (call.NewClosed op sender) r few = once n sender (operation_named op r) few
-  begun_few n (call.Poll op) r few = kept n r.handles few
-  begun_few n (call.PollRefused op) r few = kept n r.handles few
-  begun_few n (call.GiveUp op) r few = kept n r.handles few
-  begun_few n (call.SendIsTerminated op) r few = lent_by_few n (at op.0 r.operations) r few
-  begun_few n (call.PollNext receiver) r few =
-      once n receiver (with_standing (IsPolled false) receiver r) (standing_few n (IsPolled false) receiver r few)
-  begun_few n (call.StreamIsTerminated receiver) r few = once n receiver r few
-  begun_few n (call.TrySend sender msg) r few = once n sender r few
-  begun_few n (call.ForceSend sender msg) r few = once n sender r few
-  begun_few n (call.TryRecv receiver) r few = once n receiver r few
-  begun_few n (call.Close handle) r few = once n handle r few
-  begun_few n (call.Drop handle) r few =
-      let nothing : (h : Hold) → None ≡ Some h → h.handle.borrowers ≤ n = λ h e. absurd (let no : None ≡ Some h = e in cc) in
-      kept n (without handle.0 r.handles) (set_few n handle.0 r.handles None few nothing)
-  begun_few n (call.TryClone handle new) r few = named n handle new r few
-  begun_few n (call.Downgrade handle new) r few = named n handle new r few
-  begun_few n (call.Upgrade weak new) r few = named n weak new r few
-  begun_few n (call.SameChannel a b) r few =
-      let both = lent_few (n + 1) b (with_lent a r) (lent_few n a r few) in
-      more_few (n + 1 + 1) (n + 2) (with_lent b (with_lent a r)).handles (omega arith) both
-  begun_few n (call.IsClosed handle) r few = once n handle r few
-  begun_few n (call.IsEmpty handle) r few = once n handle r few
-  begun_few n (call.IsFull handle) r few = once n handle r few
-  begun_few n (call.Len handle) r few = once n handle r few
-  begun_few n (call.Capacity handle) r few = once n handle r few
-  begun_few n (call.SenderCount handle) r few = once n handle r few
-  begun_few n (call.ReceiverCount handle) r few = once n handle r few
+    -- an operation is made
+    made : (op : OpId) (handle : HandleId)
+        → AreFew (λ name. length (operation_named op r).operations + (n name + 0)) (with_lent handle (operation_named op r)).handles
+    made op handle =
+        more_few (λ name. now name + one name handle) (λ name. length (operation_named op r).operations + (n name + 0))
+        (with_lent handle (operation_named op r)).handles (λ name. let most = one_most name handle in omega (arith, most))
+        (lent_few now handle (operation_named op r) few)
+
+    once : (handle : HandleId)
+        → AreFew (λ name. length r.operations + (n name + one name handle)) (with_lent handle r).handles
+    once handle =
+        more_few (λ name. now name + one name handle) (λ name. length r.operations + (n name + one name handle))
+        (with_lent handle r).handles (λ name. omega arith) (lent_few now handle r few)
+
+    -- a handle is made from one that lives, or that doesn't
+    named : (handle new : HandleId) (kind : HandleKind → HandleKind)
+        → AreFew (λ name. length r.operations + (n name + uses name (let e : Errand T = new_from handle new kind (handle_at handle r) in e)))
+        (with_lent handle (handle_named new r)).handles
+    named handle new kind = by (at handle.0 r.handles) refl where
+      spent : AreFew now (handle_named new r).handles
+      spent = spent_few now new.0 r.handles few
+
+      by : (o : Option Hold) → at handle.0 r.handles ≡ o
+          → AreFew (λ name. length r.operations + (n name + uses name (let e : Errand T = new_from handle new kind (let f : Option Handle = option_map (λ (h : Hold). h.handle) o in f) in e)))
+          (with_lent handle (handle_named new r)).handles
+      by None e =
+          subst (λ (x : Roll T). AreFew (λ name. length r.operations + (n name + 0)) x.handles)
+          (sym (handle_none (handle_named new r) handle used_more (spent_none new.0 handle.0 r.handles e)))
+          (more_few now (λ name. length r.operations + (n name + 0)) (handle_named new r).handles (λ name. omega arith) spent)
+      by (Some h) e =
+          more_few (λ name. now name + one name handle) (λ name. length r.operations + (n name + one name handle))
+          (with_lent handle (handle_named new r)).handles (λ name. omega arith) (lent_few now handle (handle_named new r) spent)
+
+    same : (l : ℕ) (m : ℕ → ℕ) → l ≡ length r.operations → AreFew (λ name. l + (n name + m name)) r.handles
+    same l m e = more_few now (λ name. l + (n name + m name)) r.handles (λ name. omega (arith, e)) few
+
+    lent_by_few : (o : Option (Operation T))
+        → AreFew (λ name. length (lent_by o r).operations + (n name + uses name (let e : Errand T = leave_handle_of o in e))) (lent_by o r).handles
+    lent_by_few None = same (length r.operations) (λ name. 0) refl
+    lent_by_few (Some o) = once o.handle
+
+    pub begun_few : (c : Call T) → AreFew (allowed n c r) (names_begun r c).handles
+    begun_few (call.NewSend op sender msg) = made op sender
+    begun_few (call.NewRecv op receiver) = made op receiver
+    begun_few (call.NewClosed op sender) = made op sender
+    begun_few (call.Poll op) = same _ (λ name. 0) (operation_length lent_to_poll op r)
+    begun_few (call.PollRefused op) = same _ (λ name. 0) (operation_length lent_to_poll op r)
+    begun_few (call.GiveUp op) = same _ (λ name. uses name (errand_of r (call.GiveUp op))) (set_length op.0 r.operations None)
+    begun_few (call.SendIsTerminated op) = lent_by_few (at op.0 r.operations)
+    begun_few (call.PollNext receiver) =
+        let stands : Roll T = with_standing (IsPolled false) receiver r in
+        more_few (λ name. now name + one name receiver) (λ name. length r.operations + (n name + one name receiver))
+        (with_lent receiver stands).handles (λ name. omega arith)
+        (lent_few now receiver stands (standing_few now (IsPolled false) receiver r few))
+    begun_few (call.StreamIsTerminated receiver) = once receiver
+    begun_few (call.TrySend sender msg) = once sender
+    begun_few (call.ForceSend sender msg) = once sender
+    begun_few (call.TryRecv receiver) = once receiver
+    begun_few (call.Close handle) = once handle
+    begun_few (call.Drop handle) =
+        more_few now (λ name. length r.operations + (n name + 0)) (without handle.0 r.handles) (λ name. omega arith)
+        (set_few now handle.0 r.handles None few (λ h e m. absurd (never h e)))
+    begun_few (call.TryClone handle new) = named handle new (λ k. k)
+    begun_few (call.Downgrade handle new) = named handle new weak_of
+    begun_few (call.Upgrade weak new) = named weak new strong_of
+    begun_few (call.SameChannel a b) =
+        more_few (λ name. now name + one name a + one name b) (λ name. length r.operations + (n name + (one name a + one name b)))
+        (with_lent b (with_lent a r)).handles (λ name. omega arith)
+        (lent_few (λ name. now name + one name a) b (with_lent a r) (lent_few now a r few))
+    begun_few (call.IsClosed handle) = once handle
+    begun_few (call.IsEmpty handle) = once handle
+    begun_few (call.IsFull handle) = once handle
+    begun_few (call.Len handle) = once handle
+    begun_few (call.Capacity handle) = once handle
+    begun_few (call.SenderCount handle) = once handle
+    begun_few (call.ReceiverCount handle) = once handle
 
   -- ---- its end
 
-  installed_few : (n : ℕ) (new : HandleId) (kind : HandleKind) (y : Reply T) (r : Roll T) → AreFew n r.handles
+  installed_few : (n : ℕ → ℕ) (new : HandleId) (kind : HandleKind) (y : Reply T) (r : Roll T) → AreFew n r.handles
       → AreFew n (installed new kind y r).handles
   installed_few n new kind reply.Made r few =
-      set_few n new.0 r.handles _ few (λ h e. subst (λ (x : Hold). x.handle.borrowers ≤ n) (inner _ h e) (omega arith))
+      set_few n new.0 r.handles _ few (λ h e m. subst (λ (x : Hold). x.handle.borrowers ≤ n m) (inner _ h e) (omega arith))
   installed_few n new kind y r few = few
 
-  -- at its end no handle is used by more
-  settled_few : (n : ℕ) (e : Errand T) (y : Reply T) (left : Kept T) (r : Roll T) → AreFew n r.handles
-      → AreFew n (settled e y left r).handles
-  settled_few n errand.Nothing y left r few = few
+  -- a handle that it gives back is used by one fewer
+  settled_few : (n : ℕ → ℕ) (e : Errand T) (y : Reply T) (left : Kept T) (r : Roll T)
+      → AreFew (λ name. n name + uses name e) r.handles → AreFew n (settled e y left r).handles
+  settled_few n errand.Nothing y left r few = more_few (λ name. n name + 0) n r.handles (λ name. omega arith) few
   settled_few n (errand.Leave handle) y left r few = given_back_few n handle r few
-  settled_few n (errand.LeaveBoth a b) y left r few = given_back_few n b (with_given_back a r) (given_back_few n a r few)
-  settled_few n (errand.Make op operation) y left r few = few
-  settled_few n (errand.Poll op) y left r few = few
+  settled_few n (errand.LeaveBoth a b) y left r few =
+      given_back_few n b (with_given_back a r)
+      (given_back_few (λ name. n name + one name b) a r
+      (more_few (λ name. n name + (one name a + one name b)) (λ name. n name + one name b + one name a) r.handles (λ name. omega arith) few))
+  settled_few n (errand.Make op operation) y left r few = more_few (λ name. n name + 0) n r.handles (λ name. omega arith) few
+  settled_few n (errand.Poll op) y left r few = more_few (λ name. n name + 0) n r.handles (λ name. omega arith) few
   settled_few n (errand.PollNext receiver) y left r few =
       let stands = standing_with left.key in
-      given_back_few n receiver (with_standing stands receiver r) (standing_few n stands receiver r few)
+      given_back_few n receiver (with_standing stands receiver r)
+      (standing_few (λ name. n name + one name receiver) stands receiver r few)
   settled_few n (errand.New from new kind) y left r few =
       installed_few n new kind y (with_given_back from r) (given_back_few n from r few)
 
+  installed_length : (new : HandleId) (kind : HandleKind) (y : Reply T) (r : Roll T)
+      → length (installed new kind y r).operations ≡ length r.operations
+  installed_length new kind reply.Made r = refl
+  installed_length new kind y r = refl
+
+  settled_length : (e : Errand T) (y : Reply T) (left : Kept T) (r : Roll T)
+      → length (settled e y left r).operations ≡ length r.operations
+  settled_length errand.Nothing y left r = refl
+  settled_length (errand.Leave handle) y left r = refl
+  settled_length (errand.LeaveBoth a b) y left r = refl
+  settled_length (errand.Make op operation) y left r = set_length op.0 r.operations (Some operation)
+  settled_length (errand.Poll op) y left r = operation_length _ op r
+  settled_length (errand.PollNext receiver) y left r = refl
+  settled_length (errand.New from new kind) y left r = installed_length new kind y (with_given_back from r)
+
   -- ---- wakes
 
-  all_woken_few : (n : ℕ) (names : List Waiter) (r : Roll T) → AreFew n r.handles → AreFew n (all_woken names r).handles
+  all_woken_few : (n : ℕ → ℕ) (names : List Waiter) (r : Roll T) → AreFew n r.handles → AreFew n (all_woken names r).handles
   all_woken_few n [] r few = few
   all_woken_few n (Op op ∷ names) r few = all_woken_few n names (woken (Op op) r) few
   all_woken_few n (Stream handle ∷ names) r few =
-      all_woken_few n names (woken (Stream handle) r) (handle_few n n _ handle r (omega arith) (λ h f. f) few)
+      all_woken_few n names (woken (Stream handle) r)
+      (handle_few n n _ handle r (λ name other. omega arith) (λ h f. f) few)
 
-  -- a step of a call, which may be its last
-  pub ended_few : (n k : ℕ) (a : Agent T) (y : Option (Reply T)) (left : Option (Kept T)) (names : List Waiter) (b : Book T)
-      → AreFew n b.roll.handles → AreFew n (ended k a y left (with_woken names b)).roll.handles
-  ended_few n k a None left names b few = all_woken_few n names b.roll few
-  ended_few n k a (Some y) left names b few =
-      settled_few n a.errand y _ (all_woken names b.roll) (all_woken_few n names b.roll few)
+  all_woken_length : (names : List Waiter) (r : Roll T) → length (all_woken names r).operations ≡ length r.operations
+  all_woken_length [] r = refl
+  all_woken_length (Op op ∷ names) r = all_woken_length names (woken (Op op) r) ∙ operation_length _ op r
+  all_woken_length (Stream handle ∷ names) r = all_woken_length names (woken (Stream handle) r)
+
+  -- ---- the calls under way
+
+  uses_more : (name : ℕ) (agents : List (Agent T)) (a : Agent T)
+      → all_uses name (agents ++ a ∷ []) ≡ all_uses name agents + uses name a.errand
+  uses_more name [] a = omega arith
+  uses_more name (b ∷ agents) a = let rest = uses_more name agents a in omega (arith, rest)
+
+  uses_fewer : (name k : ℕ) (agents : List (Agent T)) (a : Agent T) → slice_get agents k ≡ Some a
+      → all_uses name agents ≡ all_uses name (remove agents k) + uses name a.errand
+  uses_fewer name k [] a e = absurd cc
+  uses_fewer name zero (b ∷ agents) a e =
+      let same : uses name b.errand ≡ uses name a.errand = ap (λ (x : Agent T). uses name x.errand) (agent_is b a e) in
+      omega (arith, same)
+    where
+      agent_is : (x y : Agent T) → Some x ≡ Some y → x ≡ y
+      agent_is x y f = cc
+  uses_fewer name (suc k) (b ∷ agents) a e = let rest = uses_fewer name k agents a e in omega (arith, rest)
+
+  -- ---- steps
+
+  pub users_begun : (q : PartyId) (c : Call T) (b : Book T) → FewUsers b → FewUsers (begun q c b)
+  users_begun q c b few name h i =
+      let most = begun_few (λ (n : ℕ). all_uses n b.agents) b.roll few c name h i in
+      let more = uses_more name b.agents (record { party = q.0; errand = errand_of b.roll c }) in
+      omega (arith, most, more)
+
+  pub users_ended : (k : ℕ) (a : Agent T) (y : Option (Reply T)) (left : Option (Kept T)) (names : List Waiter) (b : Book T)
+      → slice_get b.agents k ≡ Some a → FewUsers b → FewUsers (ended k a y left (with_woken names b))
+  users_ended k a None left names b there few name h i =
+      let most = all_woken_few (λ (n : ℕ). length b.roll.operations + all_uses n b.agents) names b.roll few name h i in
+      let same = all_woken_length names b.roll in
+      omega (arith, most, same)
+  users_ended k a (Some y) left names b there few name h i =
+      let woken_now : Roll T = all_woken names b.roll in
+      let n : ℕ → ℕ = λ x. length b.roll.operations + all_uses x (remove b.agents k) in
+      let start : AreFew (λ x. n x + uses x a.errand) b.roll.handles =
+      more_few (λ x. length b.roll.operations + all_uses x b.agents) (λ x. n x + uses x a.errand) b.roll.handles
+      (λ x. let fewer = uses_fewer x k b.agents a there in omega (arith, fewer)) few in
+      let kept : Kept T = unwrap_or left nothing_kept in
+      let most = settled_few n a.errand y kept woken_now (all_woken_few (λ x. n x + uses x a.errand) names b.roll start) name h i in
+      let same = all_woken_length names b.roll in
+      let also = settled_length a.errand y kept woken_now in
+      omega (arith, most, same, also)
 
 -- at first nobody uses a handle
-pub first_few : AreFew 0 first_handles
-first_few =
-    let sender = added_few 0 0 (unused handle_kind.Sender) [] (omega arith) none in
-    added_few 0 1 (unused handle_kind.Receiver) ((0, Some (unused handle_kind.Sender)) ∷ []) (omega arith) sender where
-      none : AreFew 0 []
-      none name h i = absurd (let no : None ≡ Some h = i in cc)
+pub users_first : (T : Type 0) → FewUsers {T = T} (record { roll = first_roll; order = []; agents = [] })
+users_first T name h i = by (nat_eq name 1) (nat_eq name 0) i where
+  none : (kind : HandleKind) (x : Hold) → Some (unused kind) ≡ Some x → x.handle.borrowers ≤ 0
+  none kind x e = subst (λ (y : Hold). y.handle.borrowers ≤ 0) (inner (unused kind) x e) (omega arith)
 
--- ---- steps
-
-module _ {T : Type 0} where
-  pub first_users : (r : Roll T) → r ≡ first_roll → AreFew 0 r.handles
-  first_users r first = subst (λ (x : Roll T). AreFew 0 x.handles) (sym first) first_few
-
-  -- a call that begins uses two at most, and is a step
-  pub begun_users : (c : Call T) (old new : Roll T) (made : ℕ) → new ≡ names_begun old c → AreFew (made + made) old.handles
-      → AreFew (made + 1 + (made + 1)) new.handles
-  begun_users c old new made names few =
-      subst (λ (x : Roll T). AreFew (made + 1 + (made + 1)) x.handles) (sym names)
-      (more_few (made + made + 2) (made + 1 + (made + 1)) (names_begun old c).handles (omega arith)
-      (begun_few (made + made) c old few))
-
-  pub stepped_users : (k : ℕ) (a : Agent T) (y : Option (Reply T)) (left : Option (Kept T)) (names : List Waiter)
-      (old new : Book T) (made : ℕ)
-      → new ≡ ended k a y left (with_woken names old) → AreFew (made + made) old.roll.handles
-      → AreFew (made + 1 + (made + 1)) new.roll.handles
-  stepped_users k a y left names old new made book few =
-      subst (λ (x : Book T). AreFew (made + 1 + (made + 1)) x.roll.handles) (sym book)
-      (more_few (made + made) (made + 1 + (made + 1)) (ended k a y left (with_woken names old)).roll.handles (omega arith)
-      (ended_few (made + made) k a y left names old few))
-
-  -- a call made alone is as many
-  pub alone_users : (c : Call T) (y : Reply T) (left : Kept T) (names : List Waiter) (old new : Roll T) (made : ℕ)
-      → new ≡ names_alone old c y left names → AreFew (made + made) old.handles → AreFew (made + 1 + (made + 1)) new.handles
-  alone_users c y left names old new made after few =
-      let n = made + made + 2 in
-      subst (λ (x : Roll T). AreFew (made + 1 + (made + 1)) x.handles) (sym after)
-      (more_few n (made + 1 + (made + 1)) (names_alone old c y left names).handles (omega arith)
-      (settled_few n (errand_of old c) y left (all_woken names (names_begun old c))
-      (all_woken_few n names (names_begun old c) (begun_few (made + made) c old few))))
+  by : (t u : Bool) → living (cond t (Some (Some (unused handle_kind.Receiver))) (cond u (Some (Some (unused handle_kind.Sender))) None)) ≡ Some h
+      → h.handle.borrowers ≤ 0
+  by true u e = none handle_kind.Receiver h e
+  by false true e = none handle_kind.Sender h e
+  by false false e = absurd (never h e)

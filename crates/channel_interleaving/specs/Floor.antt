@@ -1,8 +1,8 @@
 -- What the parts of an interleaved channel stand for.
-use Rattle.std.specs.Prelude.{◌≡◌, ℕ, Bool, true, false, ◌+◌, ◌≤◌, ◌<◌, List, [], ◌++◌, map, length, Option, None, Some}
+use Rattle.std.specs.Prelude.{◌≡◌, ℕ, Bool, true, false, ◌+◌, ◌≤◌, ◌<◌, List, [], ◌++◌, map, length, Option, None, Some, ◌^◌}
 use Rattle.channel_calls.specs.Parts.{Parts}
 use Rattle.channel_calls.specs.Plain.{parts_of}
-use Rattle.channel_model.specs.Names.{at}
+use Rattle.channel_model.specs.declared.call.Call.{Call}
 use Rattle.channel_model.specs.declared.name.Waiter.{Waiter}
 use Rattle.channel_steps.specs.Left.{all_left, left_at}
 use Rattle.channel_steps.specs.Run.{new_scene, Accounts, Touches}
@@ -10,12 +10,12 @@ use Rattle.channel_steps.specs.Scene.{Scene, Shows, HoldNobodyUp, parties_in}
 use Rattle.channel_interleaving.specs.Owed.{Owed}
 use Rattle.channel_interleaving.specs.Kept.{AllKept}
 use Rattle.channel_interleaving.specs.Left.{left_of}
+use Rattle.channel_interleaving.specs.Positions.{brings, yet_in}
 use Rattle.channel_interleaving.specs.Roll.{first_roll}
 use Rattle.channel_interleaving.specs.Run.{Book, Made, channel_step}
 use Rattle.channel_interleaving.specs.Runs.{Moment, IsRun, end_of, accepted_in, left_in}
 use Rattle.channel_interleaving.specs.declared.floor.Floor.{Floor}
 use Rattle.channel_interleaving.specs.declared.names.Agent.{Agent}
-use Rattle.channel_interleaving.specs.declared.names.Hold.{Hold}
 use Rattle.channel_interleaving.specs.declared.step.Entry.{Entry}
 use Rattle.channel_interleaving.specs.declared.step.Step.{Step}
 use Rattle.channel_interleaving.specs.declared.step.Step.TheVariants as step
@@ -27,11 +27,12 @@ module _ {T : Type 0} where
   abbrev pub parts_in : Floor T → Parts T Waiter
   parts_in f = parts_of f.channel
 
-  -- The cells and the calls under way stand for this scene, which has accepted no more messages than steps were made, and
-  -- holds as many as are counted.
+  -- The cells and the calls under way stand for this scene, which has accepted no more messages than are counted, and holds as
+  -- many as are counted. With those that the calls under way may yet bring, they are within the positions of a queue.
   pub record Shown (f : Floor T) (s : Scene T Waiter) : Type 0 where
     pub shows : Shows (parts_in f) f.parties.items s
-    pub accepted : s.now.queue.accepted ≤ f.made
+    pub accepted : s.now.queue.accepted ≤ f.accepted
+    pub within : f.accepted + yet_in s.under_way < 2 ^ 61
     pub messages : f.messages ≡ length s.now.queue.items
 
   -- the parties at work are those whose calls are under way, in the same order
@@ -55,13 +56,17 @@ module _ {T : Type 0} where
   abbrev pub calls_in : Floor T → ℕ
   calls_in f = length f.agents.items
 
+  -- a call that may bring a message has a position for it, beside those that the calls under way may yet bring
+  abbrev pub HasPosition : Call T → Floor T → Type 0
+  HasPosition c f = brings f.roll c ≡ true → f.accepted + length f.parties.items + 1 < 2 ^ 61
+
   -- nothing is changed but the room that was taken
   pub record IsSame (f g : Floor T) : Type 0 where
     pub channel : g.channel ≡ f.channel
     pub parties : g.parties.items ≡ f.parties.items
     pub book : book_of g ≡ book_of f
     pub messages : g.messages ≡ f.messages
-    pub made : g.made ≡ f.made
+    pub accepted : g.accepted ≡ f.accepted
 
   -- each listener has its owner, those who were woken are told, in the order of their waking, and nobody who waits is forgotten,
   -- in a scene that is shown
@@ -86,15 +91,10 @@ module _ {T : Type 0} where
   moment_of f s =
       record { parts = parts_in f; scene = s; book = book_of f; left = λ party. left_of party (parts_in f) f.parties.items }
 
-  -- no handle is used by more than twice as many as steps were made
-  abbrev pub AreFewUsers : Floor T → Type 0
-  AreFewUsers f = (handle : ℕ) (h : Hold) → at handle f.roll.handles ≡ Some h → h.handle.borrowers ≤ f.made + f.made
-
   -- what is always so
   pub record IsKept (f : Floor T) : Type 0 where
     pub listeners : AreOwned f
     pub at_work : AreAtWork f
-    pub users : AreFewUsers f
 
   -- a channel that was just opened: its first sender and its first receiver live, and nobody is at work
   pub record IsOpen (capacity : Option ℕ) (f : Floor T) : Type 0 where

@@ -10,8 +10,10 @@ pub mod Owed
 pub mod OwnerWoken
 pub mod OwnerOrder
 pub mod OwnerPolled
+pub mod Users
 pub mod Kept
 pub mod Left
+pub mod Positions
 pub mod Runs
 pub mod Floor
 pub mod Lone

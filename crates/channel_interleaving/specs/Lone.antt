@@ -1,5 +1,5 @@
 -- A call made alone, from its beginning to its end, by names.
-use Rattle.std.specs.Prelude.{◌≡◌, ◌<◌, ◌≤◌, ◌^◌, ℕ, List, [], length}
+use Rattle.std.specs.Prelude.{◌≡◌, ◌≤◌, ℕ, List, [], length}
 use Rattle.channel_calls.specs.declared.reply.Reply.{Reply}
 use Rattle.channel_calls.specs.declared.stage.Kept.{Kept}
 use Rattle.channel_alone.specs.Alone.{Outcome, Alone}
@@ -45,7 +45,6 @@ module _ {T : Type 0} where
     pub now : after.now ≡ outcome.channel
     pub shown : Shown new after
     pub book : book_of new ≡ book_alone (book_of old) c outcome
-    pub limit : old.made < 2 ^ 61
 
   -- in each scene that is shown and in which all is kept
   abbrev pub CallsAlone : Call T → Floor T → Reply T → List Waiter → Floor T → Type 0
@@ -54,5 +53,5 @@ module _ {T : Type 0} where
   -- a call made alone wakes no more than so many
   abbrev pub WakesAtMost : ℕ → Call T → Floor T → Type 0
   WakesAtMost room c f =
-      (s : Scene T Waiter) (o : Outcome T Waiter) → f.made < 2 ^ 61 → Shown f s → AllKept (book_of f) s
+      (s : Scene T Waiter) (o : Outcome T Waiter) → Shown f s → AllKept (book_of f) s
       → Alone (asks f.roll c) s.now o → length o.woken ≤ room

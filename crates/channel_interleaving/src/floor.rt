@@ -4,6 +4,7 @@ use crate::beginning::Begun;
 use crate::ending::write_back;
 use crate::names::{Agent, find_agent, is_at_work};
 use crate::order::Order;
+use crate::position::brought_in;
 use crate::roll::Roll;
 use crate::step::{Entry, PartyId, Step};
 use crate::woken::Woken;
@@ -34,14 +35,11 @@ pub struct Floor<T> {
     pub agents: Vec<Agent<T>>,
     /// How many messages the channel holds.
     pub messages: u64,
-    /// How many steps were made, which is no fewer than the messages that were accepted.
-    pub made: u64,
+    /// How many messages the channel has accepted.
+    pub accepted: u64,
     /// Where memory comes from.
     pub alloc: Global,
 }
-
-/// How many steps are made at most: the positions of a queue end there.
-pub(crate) const MOST_STEPS: u64 = 1 << 61;
 
 ghost use Rattle.std.specs.Prelude.{◌≡◌, ◌<◌, ◌++◌, ◌∷◌, [], IsTrue, vec_len, vec_capacity};
 
@@ -71,7 +69,7 @@ impl<T: Drop> Floor<T> {
     ghost use Rattle.channel_steps.specs.Run.{new_scene};
     ghost use Rattle.channel_interleaving.specs.Roll.{first_roll, IsAgent};
     ghost use Rattle.channel_interleaving.specs.Refusal.{step_refusal};
-    ghost use Rattle.channel_interleaving.specs.Floor.{book_of, Shown, AreAtWork, AreOwned, AreFewUsers, IsSame, Steps};
+    ghost use Rattle.channel_interleaving.specs.Floor.{book_of, Shown, AreAtWork, AreOwned, IsSame, Steps};
 
     /// An open channel over a queue of this form, with its first two handles and nobody at work.
     pub(crate) fn open(alloc: Global, form: QueueForm) -> Result<Floor<T>, AllocError>
@@ -79,7 +77,6 @@ impl<T: Drop> Floor<T> {
         ensures shown { IfOk result (λ f. Shown f (new_scene (capacity_of form))) }
         ensures book { IfOk result (λ f. book_of f ≡ record { roll = first_roll; order = []; agents = [] }) }
         ensures at_work { IfOk result (λ f. AreAtWork f) }
-        ensures users { IfOk result (λ f. AreFewUsers f) }
         ensures owned { IfOk result (λ f. AreOwned f) }
     {
         let order = Order::new(alloc)?;
@@ -92,7 +89,7 @@ impl<T: Drop> Floor<T> {
             order,
             agents: Vec::new(alloc),
             messages: 0,
-            made: 0,
+            accepted: 0,
             alloc,
         })
     }
@@ -122,11 +119,13 @@ impl<T: Drop> Floor<T> {
         requires accepted { step_refusal self.old.roll self.old.agents.items (Step.Begin party call) ≡ None }
         ensures ok { IfOk result (λ e. Steps (Step.Begin party call) self.old e self.new) }
         ensures at_work { AreAtWork self.old → AreAtWork self.new }
-        ensures users { AreFewUsers self.old → AreFewUsers self.new }
         ensures err { OnErr result (IsSame self.old self.new) }
         ensures back { IfErr result (λ c. c ≡ call) }
     {
-        if self.made >= MOST_STEPS || !has_room(&mut self.parties) || !has_room(&mut self.agents) {
+        if !self.has_position(&call)
+            || !has_room(&mut self.parties)
+            || !has_room(&mut self.agents)
+        {
             return Err(call);
         }
         let Ok(()) = self.order.begin(&call) else {
@@ -141,7 +140,6 @@ impl<T: Drop> Floor<T> {
             },
         );
         let _ = begin(&mut self.parties, party.0, ask);
-        self.made += 1;
         Ok(Entry {
             mark: Mark::Nothing,
             woken: Vec::new(self.alloc),
@@ -156,12 +154,8 @@ impl<T: Drop> Floor<T> {
         requires at_work { AreAtWork self.old }
         ensures some { IfSome result (λ e. Steps (Step.Step party) self.old e self.new) }
         ensures at_work { AreAtWork self.new }
-        ensures users { AreFewUsers self.old → AreFewUsers self.new }
         ensures none { IfNone result (IsSame self.old self.new) }
     {
-        if self.made >= MOST_STEPS {
-            return None;
-        }
         let room = self.channel.most_listeners();
         let Ok(mut sink) = Woken::with_room(room, self.alloc) else {
             return None;
@@ -172,7 +166,7 @@ impl<T: Drop> Floor<T> {
             &mut self.channel,
             &mut sink,
         );
-        self.made += 1;
+        self.accepted = self.accepted.saturating_add(brought_in(mark));
         self.messages = counted(self.messages, mark);
         let Woken { names } = sink;
         self.roll.wake_all(&names);
@@ -198,7 +192,6 @@ impl<T: Drop> Floor<T> {
         requires at_work { AreAtWork self.old }
         ensures ok { IfOk result (λ e. Steps step self.old e self.new) }
         ensures at_work { AreAtWork self.new }
-        ensures users { AreFewUsers self.old → AreFewUsers self.new }
         ensures err { OnErr result (IsSame self.old self.new) }
         ensures back { IfErr result (λ x. x ≡ step) }
     {

@@ -1,6 +1,7 @@
 //! A channel whose handles and operations are called by name, with the calls of several parties under way.
 
-use crate::floor::{Floor, MOST_STEPS};
+use crate::floor::Floor;
+use crate::position::MOST_MESSAGES;
 use crate::settle::Polled;
 use crate::step::{Run, Step};
 use channel_calls::error::OpenError;
@@ -111,7 +112,8 @@ impl<T: Drop> Interleaved<T> {
     /// A step is refused for the first of these reasons that there is: the party that begins is at work; the one that steps
     /// isn't; a used name doesn't live; what lives there is of another kind; its operation or its receiver's stream is being
     /// polled; it drops, or polls as a stream, a handle in use; a new name was taken. Else it may be refused for want of
-    /// memory; after 2^61 steps it is. Nothing waits. Own to this project.
+    /// memory, as the begin of a send is that might bring the 2^61st message. Nothing is refused for the number of steps.
+    /// Nothing waits. Own to this project.
     pub fn run_steps(&mut self, steps: &mut VecDeque<Step<T>>) -> Run<T>
         ensures ran { RanTo steps.old.items steps.new.items self.old result.trace.items self.new }
         ensures stopped { Stops (book_of self.new) steps.new.items (vec_len result.trace) result.stopped }
@@ -196,13 +198,13 @@ impl<T: Drop> Interleaved<T> {
     pub fn poll_alone(&mut self, name: Waiter, names: Vec<Waiter>) -> Polled<T>
         requires quiet { IsQuiet self.old }
         requires woken { IsWoken name self.old }
-        requires limit { self.old.made < 2 ^ 61 }
+        requires limit { self.old.accepted + 1 < 2 ^ 61 }
         requires room { WakesAtMost (vec_capacity names - vec_len names) (poll_of name) self.old }
         ensures polled { PollsAlone name self.old names.items result.reply result.names.items self.new }
         ensures stands { Stands self.new }
         ensures leads { LeadsOn self.old self.new }
         ensures quiet { IsQuiet self.new }
-        ensures made { self.new.made ≡ self.old.made + 1 }
+        ensures accepted { self.new.accepted ≤ self.old.accepted + 1 }
         ensures capacity { vec_capacity names ≤ vec_capacity result.names }
     {
         self.floor.poll_alone(name, names)
@@ -216,12 +218,12 @@ impl<T: Drop> Interleaved<T> {
         self.floor.order.woken(&self.floor.roll, self.floor.alloc)
     }
 
-    /// Whether so many more calls may be made alone, by the limit of steps. Own to this project.
+    /// Whether so many more calls may be made alone, even if each brings a message. Own to this project.
     pub fn has_calls(&self, count: usize) -> bool
-        ensures { IsTrue result → self.now.made + count ≤ 2 ^ 61 }
+        ensures { IsTrue result → self.now.accepted + count < 2 ^ 61 }
     {
-        match self.floor.made.checked_add(count as u64) {
-            Some(made) => made <= MOST_STEPS,
+        match self.floor.accepted.checked_add(count as u64) {
+            Some(accepted) => accepted <= MOST_MESSAGES,
             None => false,
         }
     }
@@ -230,8 +232,9 @@ impl<T: Drop> Interleaved<T> {
     pub fn keeps(&self)
         ensures kept { IsKept self.now }
         ensures stands { Stands self.now }
+        ensures few { length self.now.roll.operations < 2 ^ 63 }
     {
-        let _ = &self.floor;
+        let _operations = self.floor.roll.operations.iter();
     }
 
     /// Why a call is not begun, room and parties aside. Own to this project.

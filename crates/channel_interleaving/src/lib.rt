@@ -9,8 +9,9 @@
 //! keeps of those who wait), `Owed` (the wake-ups owed to those who are pending), `Floor` (the scenes in which a channel by
 //! names stands, and how what is done leads from one to another).
 //!
-//! A call that goes through a receiver whose stream is being polled is refused as under way, its drop too. After 2^61 steps
-//! every step is refused for want of memory, before the positions of a queue end; a call to be made alone is handed back then.
+//! A call that goes through a receiver whose stream is being polled is refused as under way, its drop too. The
+//! positions of a queue end with the 2^61st message: a send that might bring that one is refused for want of memory, and nothing
+//! else is refused for a number, neither of steps nor of calls.
 //!
 //! Proved, for every message type and every list of steps: the opening of a channel and what it refuses; that no step is made
 //! that one of the seven reasons refuses; that each step of a run is a step of the channel, with that step's mark, woken names
@@ -37,6 +38,7 @@ pub mod interleaved;
 mod lone;
 pub mod names;
 pub mod order;
+mod position;
 mod refusal;
 pub mod roll;
 mod run;

@@ -1,7 +1,8 @@
 //! Calls made alone, from their beginning to their end.
 
 use crate::beginning::Begun;
-use crate::floor::{Floor, MOST_STEPS};
+use crate::floor::Floor;
+use crate::position::accepted_by;
 use crate::woken::Woken;
 use channel_alone::run::{Done as Ended, run_alone};
 use channel_model::call::Call;
@@ -10,7 +11,7 @@ use channel_model::run::Done;
 impl<T: Drop> Floor<T> {
     ghost use Rattle.std.specs.Prelude.{◌≡◌, None, IfOk, IfErr, OnErr};
     ghost use Rattle.channel_interleaving.specs.Refusal.{refusal};
-    ghost use Rattle.channel_interleaving.specs.Floor.{AreAtWork, AreOwned, AreFewUsers, IsQuiet, IsSame};
+    ghost use Rattle.channel_interleaving.specs.Floor.{AreAtWork, AreOwned, IsQuiet, IsSame};
     ghost use Rattle.channel_interleaving.specs.Lone.{CallsAlone, WakesAtMost};
 
     /// Makes a call that is not refused, where no call is under way, from its beginning to its end; or hands it back where
@@ -24,11 +25,11 @@ impl<T: Drop> Floor<T> {
         ensures ok { IfOk result (λ d. CallsAlone call self.old d.reply d.woken.items self.new) }
         ensures at_work { AreAtWork self.new }
         ensures quiet { IsQuiet self.new }
-        ensures users { AreFewUsers self.old → AreFewUsers self.new }
         ensures err { OnErr result (IsSame self.old self.new) }
         ensures back { IfErr result (λ c. c ≡ call) }
     {
-        if self.made >= MOST_STEPS {
+        let brings = self.roll.brings(&call);
+        if !self.has_position(&call) {
             return Err(call);
         }
         let Ok(mut sink) = Woken::with_room(room, self.alloc) else {
@@ -44,7 +45,7 @@ impl<T: Drop> Floor<T> {
             &mut self.messages,
             &mut sink,
         );
-        self.made += 1;
+        self.accepted = self.accepted.saturating_add(accepted_by(brings, &reply));
         let Woken { names } = sink;
         self.roll.wake_all(&names);
         self.order.wake_all(&names);

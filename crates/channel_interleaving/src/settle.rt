@@ -3,6 +3,7 @@
 use crate::beginning::Begun;
 use crate::floor::Floor;
 use crate::order::Order;
+use crate::position::accepted_by;
 use crate::roll::Roll;
 use crate::woken::Woken;
 use channel_alone::run::{Done as Ended, run_alone};
@@ -85,7 +86,7 @@ impl Order {
 impl<T: Drop> Floor<T> {
     ghost use Rattle.std.specs.Prelude.{◌≡◌, ◌≤◌, ◌<◌, ◌+◌, ◌-◌, ◌^◌, vec_len, vec_capacity};
     ghost use Rattle.channel_model.specs.Settling.{poll_of};
-    ghost use Rattle.channel_interleaving.specs.Floor.{AreAtWork, AreOwned, AreFewUsers, IsQuiet};
+    ghost use Rattle.channel_interleaving.specs.Floor.{AreAtWork, AreOwned, IsQuiet};
     ghost use Rattle.channel_interleaving.specs.Lone.{WakesAtMost};
     ghost use Rattle.channel_interleaving.specs.Settle.{IsWoken, PollsAlone};
 
@@ -97,16 +98,16 @@ impl<T: Drop> Floor<T> {
         requires at_work { AreAtWork self.old }
         requires quiet { IsQuiet self.old }
         requires woken { IsWoken name self.old }
-        requires limit { self.old.made < 2 ^ 61 }
+        requires limit { self.old.accepted + 1 < 2 ^ 61 }
         requires room { WakesAtMost (vec_capacity names - vec_len names) (poll_of name) self.old }
         ensures polled { PollsAlone name self.old names.items result.reply result.names.items self.new }
         ensures at_work { AreAtWork self.new }
         ensures quiet { IsQuiet self.new }
-        ensures users { AreFewUsers self.old → AreFewUsers self.new }
-        ensures made { self.new.made ≡ self.old.made + 1 }
+        ensures accepted { self.new.accepted ≤ self.old.accepted + 1 }
         ensures capacity { vec_capacity names ≤ vec_capacity result.names }
     {
         let from = names.len();
+        let brings = self.roll.brings_polled(name);
         let mut sink = Woken { names };
         let Begun { ask, errand } = self.roll.begin_poll(name);
         let Ended { reply, kept } = run_alone(
@@ -115,7 +116,7 @@ impl<T: Drop> Floor<T> {
             &mut self.messages,
             &mut sink,
         );
-        self.made += 1;
+        self.accepted = self.accepted.saturating_add(accepted_by(brings, &reply));
         let Woken { names } = sink;
         self.roll.wake_from(&names, from);
         self.order.wake_from(&names, from);

@@ -3,4 +3,6 @@
 #![tactic(auto)]
 
 #[cfg(test)]
+mod many;
+#[cfg(test)]
 mod rows;

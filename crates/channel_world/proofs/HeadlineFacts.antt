@@ -31,8 +31,9 @@ use Rattle.channel_interleaving.specs.declared.step.Step.{Step}
 use Rattle.channel_interleaving.specs.declared.step.Step.TheVariants as step
 use Rattle.channel_interleaving.proofs.Interface.{few_in}
 use Rattle.channel_world.proofs.SoonFacts.{end_soon}
+use Rattle.channel_world.proofs.MarkFacts.{all_begin}
 use Rattle.channel_world.specs.Headline.{Headline}
-use Rattle.channel_world.specs.Sentences.{IfBoth, Own, IsAccepted, TouchesOneCell, RepliesByItsRow, TellsWhatItOwes, LeavesNothing, RefusedLeavesNothing, WaitsForNobody, OwesWhoWaits, EndsForGood}
+use Rattle.channel_world.specs.Sentences.{IfBoth, Own, IsAccepted, TouchesOneCell, RepliesByItsRow, BeginsMarksOfARow, TellsWhatItOwes, LeavesNothing, RefusedLeavesNothing, WaitsForNobody, OwesWhoWaits, EndsForGood}
 
 module _ {T : Type 0} where
   -- what follows of each step follows of all
@@ -78,6 +79,9 @@ module _ {T : Type 0} where
   replies : (m : Moment T) (x : Step T) (e : Entry T) (n : Moment T) → LeadsBy m x e n → RepliesByItsRow m x e n
   replies m (step.Begin p c) e n l = tt
   replies m (step.Step p) e n l = let s = l.made.next in (own m p e n l, row _ e.reply l.made.kept s.finishes)
+
+  begins : (m : Moment T) (x : Step T) (e : Entry T) (n : Moment T) → LeadsBy m x e n → BeginsMarksOfARow m x e n
+  begins m x e n l = let s = l.holds.kept.sound.streams in all_begin n.scene.now n.scene.under_way s.known
 
   told_all : (u : Under T Waiter) (r : Option (Reply T)) (k : Option (Kept T)) → MayFinish u r k → IfSome r (λ x. u.told ≡ owed u.deeds)
   told_all u None k f = tt
@@ -168,6 +172,7 @@ module _ {T : Type 0} where
         accepted = each LeadsBy IsAccepted accepted start r.made trace r.moments r.run;
         accounts = r.accounts;
         replies = each LeadsBy RepliesByItsRow replies start r.made trace r.moments r.run;
+        begun = each LeadsBy BeginsMarksOfARow begins start r.made trace r.moments r.run;
         cells = each LeadsBy TouchesOneCell cells start r.made trace r.moments r.run;
         told = each LeadsBy TellsWhatItOwes tells start r.made trace r.moments r.run;
         refused = each LeadsBy RefusedLeavesNothing refuses start r.made trace r.moments r.run;

@@ -1,6 +1,7 @@
 pub mod Few
 pub mod Opening
 pub mod SoonFacts
+pub mod MarkFacts
 pub mod HeadlineFacts
 pub mod Whole
 pub mod Tasks

@@ -1,14 +1,15 @@
 -- One whole call: what the channel did alone is the answer of the model.
-use Rattle.std.proofs.Common.{arith, ◌≡◌, ◌<◌, ◌≤◌, ◌^◌, ℕ, List, [], None, Result, Ok, Err, IfOk, refl, sym, ap, subst, ◌∙◌}
+use Rattle.std.proofs.Common.{arith, ◌≡◌, ◌<◌, ◌≤◌, ◌^◌, ℕ, List, [], length, None, Result, Ok, Err, IfOk, refl, sym, ap, subst, ◌∙◌}
 use Rattle.channel_calls.specs.declared.reply.Reply.{Reply}
 use Rattle.channel_alone.specs.Alone.{Outcome, Alone}
 use Rattle.channel_interleaving.proofs.Interface.{none_under_way, no_agents}
 use Rattle.channel_interleaving.specs.Bookkeeping.{asks}
-use Rattle.channel_interleaving.specs.Floor.{book_of, Shown, AreFewUsers, IsKept, IsQuiet, IsSame}
+use Rattle.channel_interleaving.specs.Floor.{book_of, Shown, IsKept, IsQuiet, IsSame}
 use Rattle.channel_interleaving.specs.Kept.{AllKept}
 use Rattle.channel_interleaving.specs.Lone.{book_alone, CallsAlone, WakesAtMost}
 use Rattle.channel_interleaving.specs.Refusal as names
 use Rattle.channel_interleaving.specs.Run.{Book}
+use Rattle.channel_interleaving.specs.Users.{all_uses, FewUsers}
 use Rattle.channel_interleaving.specs.declared.floor.Floor.{Floor}
 use Rattle.channel_model.specs.Refusal.{refusal}
 use Rattle.channel_model.specs.Refused.{Answers}
@@ -30,8 +31,12 @@ module _ {T : Type 0} where
       ap (λ c. at_rest (record g { channel = c })) same.channel
       ∙ ap (λ (b : Book T). at_rest (record f { roll = b.roll; order = b.order })) same.book
 
-  pub can_be_lent : (f : Floor T) → AreFewUsers f → f.made < 2 ^ 61 → CanBeLent f.roll
-  can_be_lent f few low handle h e = let users = few handle h e in omega (arith, users, low)
+  -- where nobody is at work, no handle is used by more than operations were named
+  can_be_lent : (f : Floor T) → FewUsers (book_of f) → f.agents.items ≡ [] → length f.roll.operations < 2 ^ 63 → CanBeLent f.roll
+  can_be_lent f few nobody low handle h e =
+      let users = few handle h e in
+      let none = ap (all_uses handle) nobody in
+      omega (arith, users, none, low)
 
   module _ (agree : RefusalsAgree T) (f : Floor T) (kept : IsKept f) (quiet : IsQuiet f) (c : Call T) where
     abbrev nobody : f.agents.items ≡ []
@@ -44,33 +49,33 @@ module _ {T : Type 0} where
         agree (book_of f) o.scene c o.kept nobody
         ∙ ap (λ (x : State T). refusal x c) (sym (at_rest_is f o.scene o.shown quiet))
 
-    module _ (answer : LoneCallsAnswer T) (fine : refusal (at_rest f) c ≡ None) where
+    module _ (few : length f.roll.operations < 2 ^ 63) (answer : LoneCallsAnswer T) (fine : refusal (at_rest f) c ≡ None) where
       accepted : names.refusal f.roll c ≡ None
       accepted = refused_alike ∙ fine
 
       -- whatever it does alone, the model allows
-      allowed : (s t : Scene T Waiter) (o : Outcome T Waiter) → f.made < 2 ^ 61 → Shown f s → AllKept (book_of f) s
+      allowed : (s t : Scene T Waiter) (o : Outcome T Waiter) → Shown f s → AllKept (book_of f) s
           → Alone (asks f.roll c) s.now o → t.now ≡ o.channel
           → Answers (at_rest f) c (record { after = state_at (book_alone (book_of f) c o) t; reply = o.reply; woken = o.woken })
-      allowed s t o low sh k alone now =
+      allowed s t o sh k alone now =
           let a =
-          answer (book_of f) s t c o k nobody (none_under_way f s quiet sh) (can_be_lent f kept.users low) accepted alone now in
+          answer (book_of f) s t c o k nobody (none_under_way f s quiet sh) (can_be_lent f k.users nobody few) accepted alone now in
           subst (λ (x : State T). Answers x c (record { after = state_at (book_alone (book_of f) c o) t; reply = o.reply; woken = o.woken }))
           (sym (at_rest_is f s sh quiet)) a
 
       -- it wakes no more than there is room for
       pub wakes_few : (room : ℕ) → most_woken c (at_rest f).waiting ≤ room → WakesAtMost room c f
-      wakes_few room most s o low sh k alone =
-          let a = allowed s (record s { now = o.channel }) o low sh k alone refl in
-          let few = few_woken (at_rest f) c _ a in
-          omega (arith, few, most)
+      wakes_few room most s o sh k alone =
+          let a = allowed s (record s { now = o.channel }) o sh k alone refl in
+          let woken = few_woken (at_rest f) c _ a in
+          omega (arith, woken, most)
 
       pub call_answers : (g : Floor T) (x : Reply T) (woken : List Waiter) → IsQuiet g → CallsAlone c f x woken g
           → Answers (at_rest f) c (record { after = at_rest g; reply = x; woken = woken })
       call_answers g x woken still called =
           let k = kept.listeners in
           let d = called k.scene k.shown k.kept in
-          let a = allowed k.scene d.after d.outcome d.limit k.shown k.kept d.alone d.now in
+          let a = allowed k.scene d.after d.outcome k.shown k.kept d.alone d.now in
           let after : at_rest g ≡ state_at (book_alone (book_of f) c d.outcome) d.after =
           at_rest_is g d.after d.shown still ∙ ap (λ (b : Book T). state_at b d.after) d.book in
           rw (after, d.reply, d.woken) a

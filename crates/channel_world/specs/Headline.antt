@@ -10,7 +10,7 @@ use Rattle.channel_model.specs.declared.name.Waiter.{Waiter}
 use Rattle.channel_model.specs.declared.run.Stopped.{Stopped}
 use Rattle.channel_steps.specs.Run.{Accounts}
 use Rattle.channel_steps.specs.Scene.{Scene}
-use Rattle.channel_world.specs.Sentences.{IsAccepted, TouchesOneCell, RepliesByItsRow, TellsWhatItOwes, RefusedLeavesNothing, WaitsForNobody, OwesWhoWaits, EndsForGood}
+use Rattle.channel_world.specs.Sentences.{IsAccepted, TouchesOneCell, RepliesByItsRow, TellsWhatItOwes, RefusedLeavesNothing, WaitsForNobody, OwesWhoWaits, EndsForGood, BeginsMarksOfARow}
 use Rattle.channel_world.specs.StepsLeft.{EndSoon}
 
 module _ {T : Type 0} where
@@ -32,6 +32,8 @@ module _ {T : Type 0} where
     pub accounts : Accounts from to
     -- a call that ends has the marks that its reply's row names, and found what the row says at moments of its own
     pub replies : EachStep RepliesByItsRow (moment_of old from) made trace moments
+    -- and a call under way has made the first of such marks
+    pub begun : EachStep BeginsMarksOfARow (moment_of old from) made trace moments
     -- each step touches one cell, one list or one count at most
     pub cells : EachStep TouchesOneCell (moment_of old from) made trace moments
     -- what the marks of a call owe is told, in order, once each, and nothing else wakes anybody but a listener that is dropped

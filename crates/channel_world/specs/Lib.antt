@@ -1,4 +1,5 @@
 pub mod World
+pub mod Marks
 pub mod Sentences
 pub mod StepsLeft
 pub mod Headline

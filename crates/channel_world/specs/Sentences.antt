@@ -18,6 +18,7 @@ use Rattle.channel_steps.specs.Run.{Touches}
 use Rattle.channel_steps.specs.Scene.{Under, EndsInTime}
 use Rattle.channel_steps.specs.Tellings.{owed, telling, dropping, Names}
 use Rattle.channel_interleaving.specs.Owed.{Owed}
+use Rattle.channel_interleaving.specs.Owners.{All}
 use Rattle.channel_interleaving.specs.Refusal.{step_refusal}
 use Rattle.channel_interleaving.specs.Run.{IsBookAfter, channel_step}
 use Rattle.channel_interleaving.specs.Runs.{Moment}
@@ -25,6 +26,7 @@ use Rattle.channel_interleaving.specs.declared.step.Entry.{Entry}
 use Rattle.channel_interleaving.specs.declared.step.PartyId.{PartyId}
 use Rattle.channel_interleaving.specs.declared.step.Step.{Step}
 use Rattle.channel_interleaving.specs.declared.step.Step.TheVariants as step
+use Rattle.channel_world.specs.Marks.{BeginsItsMarks}
 
 abbrev pub IfBoth : {A B : Type 0} → (A → B → Type 0) → Option A → Option B → Type 0
 IfBoth P (Some a) (Some b) = P a b
@@ -62,6 +64,10 @@ module _ {T : Type 0} where
   -- where it ends its call, the call's marks and moments are what the reply's row says
   abbrev pub RepliesByItsRow : Moment T → Step T → Entry T → Moment T → Type 0
   RepliesByItsRow m x e n = OfItsCall (λ m p e n own. IfSome e.reply (λ r. Met own.after.ask own.after.deeds own.after.seen r)) m x e n
+
+  -- of each call that is under way after it, the marks are the first of those that a call which asks this makes
+  abbrev pub BeginsMarksOfARow : Moment T → Step T → Entry T → Moment T → Type 0
+  BeginsMarksOfARow m x e n = All (λ (u : Under T Waiter). BeginsItsMarks u) n.scene.under_way
 
   -- it wakes those whom its one telling finds waiting, in order, or him to whom a listener of its own that it drops passes its
   -- notice on; where it ends its call, all that the call's marks owe was told, in order, once each

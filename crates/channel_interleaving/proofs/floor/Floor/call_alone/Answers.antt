@@ -1,8 +1,8 @@
-use Rattle.std.proofs.Common.{arith, ◌+◌, ◌<◌, ◌^◌, List, length, drop, refl, ap}
+use Rattle.std.proofs.Common.{arith, ◌+◌, Bool, List, length, drop, refl, ap, ◌∙◌}
+use Rattle.channel_interleaving.specs.Positions.{accepted_by}
 use Rattle.channel_model.specs.declared.name.Waiter.{Waiter}
 use Rattle.channel_interleaving.proofs.LoneFacts.{no_agents, is_at_rest, is_called}
 use Rattle.channel_interleaving.proofs.OwnerBegins.{admitted}
-use Rattle.channel_interleaving.proofs.UserFacts.{alone_users}
 use Rattle.channel_interleaving.proofs.floor.Floor.call_alone.Goals as goal
 
 pub begin-requires-2 : goal.begin-requires-2
@@ -11,13 +11,11 @@ begin-requires-2 g c = let a = admitted c.args.self.now.roll c.args.call c.requi
 pub run_alone-reply-requires : goal.run_alone-reply-requires
 run_alone-reply-requires g c =
     let o = c.requires.owned in
-    let low : c.args.self.now.made < 2 ^ 61 = omega (arith, c.if-self-ge-MOST_STEPS.false) in
-    record { at_rest = is_at_rest c.args.self.now o.scene o.shown c.requires.quiet low }
+    record { at_rest = is_at_rest c.args.self.now o.scene o.shown c.requires.quiet }
 
 pub returns-clause-ok : goal.returns-clause-ok
 returns-clause-ok g c =
     let b = c.in_ok-ask.ensures.ok in
-    let low : c.args.self.now.made < 2 ^ 61 = omega (arith, c.if-self-ge-MOST_STEPS.false) in
     let none = no_agents c.args.self.now c.requires.at_work c.requires.quiet in
     let full = c.run_alone-reply.new.sink.names.items in
     is_called c.args.call c.args.self.now
@@ -28,11 +26,12 @@ returns-clause-ok g c =
       order = c.settle.new.self;
       agents = c.args.self.now.agents;
       messages = c.run_alone-reply.new.messages;
-      made = c.args.self.now.made + 1;
+      accepted = c.saturating_add-self.result;
       alloc = c.args.self.now.alloc;
     })
-    c.in_ok-ask.field-0.ask c.run_alone-reply.result c.in-Ok.sink c.run_alone-reply.new.sink full c.args.room
-    c.run_alone-reply.ensures.scenes b.ask c.requires.quiet c.requires.quiet low refl
+    c.in_ok-ask.field-0.ask c.run_alone-reply.result c.in-Ok.sink c.run_alone-reply.new.sink full c.args.room c.accepted_by.result
+    c.run_alone-reply.ensures.scenes b.ask c.requires.quiet c.requires.quiet (c.if-not-has_position.ensures refl)
+    (c.accepted_by.ensures ∙ ap (λ (b : Bool). accepted_by b c.run_alone-reply.result.reply) c.brings-brings.ensures) c.saturating_add-self.ensures
     (ap (λ (ws : List Waiter). drop (length ws) full) c.in-Ok.ensures.none)
     (let start = ap (λ (ws : List Waiter). length ws) c.in-Ok.ensures.none in omega (arith, start, c.in-Ok.ensures.room))
     c.requires.room
@@ -46,14 +45,3 @@ returns-clause-ok g c =
       c.in-Ok-begin.ensures.ok,
       none,
     ) refl)
-
-pub returns-clause-users : goal.returns-clause-users
-returns-clause-users g c few =
-    let b = c.in_ok-ask.ensures.ok in
-    let done = c.run_alone-reply.result in
-    alone_users c.args.call done.reply done.kept c.run_alone-reply.new.sink.names.items c.args.self.now.roll c.settle-2.new.self
-    c.args.self.now.made
-    (rw (c.settle-2.ensures, c.wake_all.ensures, b.errand, b.names) refl) few
-
-pub returns-in_err-ask-clause-users : goal.returns-in_err-ask-clause-users
-returns-in_err-ask-clause-users g c few = rw c.in_err-ask.ensures.err few

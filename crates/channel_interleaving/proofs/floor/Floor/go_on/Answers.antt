@@ -1,7 +1,5 @@
 use Rattle.std.proofs.Common.{arith, ◌≡◌, length, vec_len, refl, sym}
-use Rattle.channel_interleaving.specs.Floor.{book_of}
 use Rattle.channel_interleaving.proofs.FloorFacts.{party_at, within, has_stepped, stepped_at_work}
-use Rattle.channel_interleaving.proofs.UserFacts.{stepped_users}
 use Rattle.channel_interleaving.proofs.floor.Floor.go_on.Goals as goal
 
 pub step_at-mark-requires : goal.step_at-mark-requires
@@ -24,14 +22,14 @@ returns-clause-some g c =
     c.requires.party in
     let a = c.requires.party.0 in
     let there = c.requires.party.1 in
-    has_stepped c.args.party c.args.k c.most_listeners-room.result a at.0 c.args.self.now _ c.in-Ok.sink c.step_at-mark.new.sink _
+    has_stepped c.args.party c.args.k c.most_listeners-room.result c.brought_in.result a at.0 c.args.self.now _ c.in-Ok.sink c.step_at-mark.new.sink _
     c.step_at-mark.result
     at.1 at.2 there c.requires.party.2
     (c.step_at-mark.ensures.steps tt)
     c.in-Ok.ensures.none c.most_listeners-room.ensures c.in-Ok.ensures.room
     refl refl refl
     (rw (sym c.wake_all.ensures, sym c.wake_all-2.ensures) (c.write_back.ensures a there))
-    c.counted-self.ensures refl (omega (arith, c.if-self-ge-MOST_STEPS.false)) c.requires.accepted
+    c.counted-self.ensures c.brought_in.ensures c.saturating_add-self.ensures c.requires.accepted
 
 pub returns-clause-at_work : goal.returns-clause-at_work
 returns-clause-at_work g c =
@@ -42,13 +40,3 @@ returns-clause-at_work g c =
     c.step_at-mark.new.parties.items c.requires.at_work
     (rw (sym c.wake_all.ensures, sym c.wake_all-2.ensures) (c.write_back.ensures a c.requires.party.1))
     c.step_at-mark.ensures.parties
-
-pub returns-clause-users : goal.returns-clause-users
-returns-clause-users g c few =
-    let a = c.requires.party.0 in
-    stepped_users c.args.k a c.step_at-mark.result.reply c.step_at-mark.result.kept c.step_at-mark.new.sink.names.items
-    (book_of c.args.self.now)
-    (record { roll = c.write_back.new.roll; order = c.write_back.new.order; agents = c.write_back.new.agents.items })
-    c.args.self.now.made
-    (rw (sym c.wake_all.ensures, sym c.wake_all-2.ensures) (c.write_back.ensures a c.requires.party.1))
-    few

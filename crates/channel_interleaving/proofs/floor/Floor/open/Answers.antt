@@ -1,11 +1,10 @@
 use Rattle.channel_interleaving.proofs.FloorFacts.{new_shown, new_at_work, new_owned}
 use Rattle.std.proofs.Common.{refl}
 use Rattle.concurrent_queue.specs.Capacity.{capacity_of}
-use Rattle.channel_interleaving.proofs.UserFacts.{first_users}
 use Rattle.channel_interleaving.proofs.floor.Floor.open.Goals as goal
 
 pub returns-clause-shown : goal.returns-clause-shown
-returns-clause-shown g c = new_shown _ (capacity_of c.args.form) c.in_ok-opened.ensures.shown refl
+returns-clause-shown g c = new_shown _ (capacity_of c.args.form) c.in_ok-opened.ensures.shown refl refl
 
 pub returns-clause-at_work : goal.returns-clause-at_work
 returns-clause-at_work g c = new_at_work
@@ -16,15 +15,12 @@ returns-clause-at_work g c = new_at_work
       order = c.in_ok-order.order;
       agents = c.new-3.result;
       messages = 0;
-      made = 0;
+      accepted = 0;
       alloc = c.args.alloc;
     })
     (capacity_of c.args.form) c.in_ok-opened.ensures.shown c.new-3.ensures.items
 
 pub returns-clause-owned : goal.returns-clause-owned
 returns-clause-owned g c = new_owned _ (capacity_of c.args.form)
-    (new_shown _ (capacity_of c.args.form) c.in_ok-opened.ensures.shown refl)
+    (new_shown _ (capacity_of c.args.form) c.in_ok-opened.ensures.shown refl refl)
     (rw (c.new-3.ensures.items, c.in_ok-roll.ensures, c.in_ok-order.ensures) refl)
-
-pub returns-clause-users : goal.returns-clause-users
-returns-clause-users g c = first_users c.in_ok-roll.roll c.in_ok-roll.ensures

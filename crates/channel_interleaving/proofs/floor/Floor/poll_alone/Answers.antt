@@ -1,9 +1,10 @@
-use Rattle.std.proofs.Common.{arith, ◌≡◌, ◌+◌, ◌-◌, ◌≤◌, List, drop, length, vec_len, vec_capacity, refl, sym, ap, ◌∙◌}
+use Rattle.std.proofs.Common.{arith, ◌≡◌, ◌+◌, ◌-◌, ◌≤◌, Bool, List, drop, length, vec_len, vec_capacity, refl, sym, ap, ◌∙◌}
 use Rattle.channel_model.specs.Settling.{poll_of}
+use Rattle.channel_interleaving.specs.Positions.{accepted_by}
 use Rattle.channel_model.specs.declared.name.Waiter.{Waiter}
 use Rattle.channel_interleaving.proofs.LoneFacts.{no_agents, is_at_rest, is_called}
 use Rattle.channel_interleaving.proofs.PollFacts.{Heard, names_heard}
-use Rattle.channel_interleaving.proofs.UserFacts.{alone_users}
+use Rattle.channel_interleaving.proofs.PlaceFacts.{accepted_most}
 use Rattle.channel_interleaving.proofs.WokenPolls.{poll_keeps_order}
 use Rattle.channel_interleaving.specs.declared.woken.Woken.{Woken as Sink}
 use Rattle.channel_calls.specs.Plain.{parts_of}
@@ -11,7 +12,7 @@ use Rattle.channel_interleaving.proofs.floor.Floor.poll_alone.Goals as goal
 
 pub run_alone-reply-requires : goal.run_alone-reply-requires
 run_alone-reply-requires g c =
-    let o = c.requires.owned in record { at_rest = is_at_rest c.args.self.now o.scene o.shown c.requires.quiet c.requires.limit }
+    let o = c.requires.owned in record { at_rest = is_at_rest c.args.self.now o.scene o.shown c.requires.quiet }
 
 pub wake_from-requires : goal.wake_from-requires
 wake_from-requires g c =
@@ -21,7 +22,7 @@ wake_from-requires g c =
     names_heard (poll_of c.args.name) c.args.self.now c.begin_poll-ask.result.ask c.run_alone-reply.result empty
     c.run_alone-reply.new.sink (parts_of c.run_alone-reply.new.channel) c.run_alone-reply.new.messages
     (vec_capacity c.args.names - vec_len c.args.names) c.run_alone-reply.ensures.scenes c.begin_poll-ask.ensures.ask
-    c.requires.owned c.requires.quiet c.requires.limit (omega (arith, start)) c.requires.room in
+    c.requires.owned c.requires.quiet (omega (arith, start)) c.requires.room in
     let fits = h.fits in omega (arith, fits, c.len-from.ensures)
 
 pub wake_from-requires-2 : goal.wake_from-requires-2
@@ -32,7 +33,7 @@ wake_from-requires-2 g c =
     names_heard (poll_of c.args.name) c.args.self.now c.begin_poll-ask.result.ask c.run_alone-reply.result empty
     c.run_alone-reply.new.sink (parts_of c.run_alone-reply.new.channel) c.run_alone-reply.new.messages
     (vec_capacity c.args.names - vec_len c.args.names) c.run_alone-reply.ensures.scenes c.begin_poll-ask.ensures.ask
-    c.requires.owned c.requires.quiet c.requires.limit (omega (arith, start)) c.requires.room in
+    c.requires.owned c.requires.quiet (omega (arith, start)) c.requires.room in
     let fits = h.fits in omega (arith, fits, c.len-from.ensures)
 
 pub returns-clause-capacity : goal.returns-clause-capacity
@@ -43,7 +44,7 @@ returns-clause-capacity g c =
     names_heard (poll_of c.args.name) c.args.self.now c.begin_poll-ask.result.ask c.run_alone-reply.result empty
     c.run_alone-reply.new.sink (parts_of c.run_alone-reply.new.channel) c.run_alone-reply.new.messages
     (vec_capacity c.args.names - vec_len c.args.names) c.run_alone-reply.ensures.scenes c.begin_poll-ask.ensures.ask
-    c.requires.owned c.requires.quiet c.requires.limit (omega (arith, start)) c.requires.room in
+    c.requires.owned c.requires.quiet (omega (arith, start)) c.requires.room in
     h.capacity
 
 pub returns-clause-polled : goal.returns-clause-polled
@@ -54,7 +55,7 @@ returns-clause-polled g c =
     names_heard (poll_of c.args.name) c.args.self.now c.begin_poll-ask.result.ask c.run_alone-reply.result empty
     c.run_alone-reply.new.sink (parts_of c.run_alone-reply.new.channel) c.run_alone-reply.new.messages
     (vec_capacity c.args.names - vec_len c.args.names) c.run_alone-reply.ensures.scenes c.begin_poll-ask.ensures.ask
-    c.requires.owned c.requires.quiet c.requires.limit (omega (arith, start)) c.requires.room in
+    c.requires.owned c.requires.quiet (omega (arith, start)) c.requires.room in
     let old = c.args.self.now in
     let b = c.begin_poll-ask.ensures in
     let full = c.run_alone-reply.new.sink.names.items in
@@ -73,12 +74,14 @@ returns-clause-polled g c =
             order = c.settle.new.self;
             agents = old.agents;
             messages = c.run_alone-reply.new.messages;
-            made = old.made + 1;
+            accepted = c.saturating_add-self.result;
             alloc = old.alloc;
           })
           c.begin_poll-ask.result.ask c.run_alone-reply.result empty c.run_alone-reply.new.sink fresh
-          (vec_capacity c.args.names - vec_len c.args.names) c.run_alone-reply.ensures.scenes b.ask c.requires.quiet
-          c.requires.quiet c.requires.limit refl refl (omega (arith, start)) c.requires.room
+          (vec_capacity c.args.names - vec_len c.args.names) c.accepted_by.result c.run_alone-reply.ensures.scenes b.ask c.requires.quiet
+          c.requires.quiet (λ e. let nobody = ap length c.requires.quiet in omega (arith, nobody, c.requires.limit))
+          (c.accepted_by.ensures ∙ ap (λ (b : Bool). accepted_by b c.run_alone-reply.result.reply) c.brings_polled-brings.ensures)
+          c.saturating_add-self.ensures refl (omega (arith, start)) c.requires.room
           (rw (
             c.settle-2.ensures,
             c.settle.ensures,
@@ -92,10 +95,7 @@ returns-clause-polled g c =
           ) refl);
     }
 
-pub returns-clause-users : goal.returns-clause-users
-returns-clause-users g c few =
-    let b = c.begin_poll-ask.ensures in
-    let done = c.run_alone-reply.result in
-    let fresh = drop c.len-from.result c.run_alone-reply.new.sink.names.items in
-    alone_users (poll_of c.args.name) done.reply done.kept fresh c.args.self.now.roll c.settle-2.new.self c.args.self.now.made
-    (rw (c.settle-2.ensures, c.wake_from.ensures, b.errand, b.names) refl) few
+pub returns-clause-accepted : goal.returns-clause-accepted
+returns-clause-accepted g c =
+    let most = accepted_most c.brings_polled-brings.result c.run_alone-reply.result.reply in
+    omega (arith, most, c.accepted_by.ensures, c.saturating_add-self.ensures)

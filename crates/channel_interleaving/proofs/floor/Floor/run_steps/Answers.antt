@@ -8,7 +8,7 @@ use Rattle.channel_interleaving.proofs.floor.Floor.run_steps.Goals as goal
 
 pub loop-step-init : goal.loop-step-init
 loop-step-init g c =
-    (rw c.new-trace.ensures.items (ran_none c.args.steps.now.items c.args.self.now), c.requires.at_work, λ few. few)
+    (rw c.new-trace.ensures.items (ran_none c.args.steps.now.items c.args.self.now), c.requires.at_work)
 
 pub returns-in-Some-stop-clause-ran : goal.returns-in-Some-stop-clause-ran
 returns-in-Some-stop-clause-ran g c = rw (c.stopped.ensures.trace, c.stop.ensures.items) c.loop-step.invariant.0
@@ -33,7 +33,6 @@ loop-step-preserved g c =
           (ran_more c.args.steps.now.items c.pop_front.new.self.items c.unwrap-step.result c.args.self.now c.loop-step.trace.items
           c.loop-step.self c.in-Ok.entry c.turn.new.self (rw (sym in_front) c.loop-step.invariant.0) c.in-Ok.ensures.ok),
       c.in-Ok.ensures.at_work,
-      λ few. c.in-Ok.ensures.users (c.loop-step.invariant.2 few),
     )
 
 pub returns-in-Err-clause-ran : goal.returns-in-Err-clause-ran
@@ -61,9 +60,6 @@ returns-in-Err-clause-stopped g c =
     rw c.in-Err.ensures.err.book
     (stops_back (book_of c.loop-step.self) c.push_front_reserved.new.self.items c.pop_front.new.self.items c.unwrap-step.result _
     _ _ _ back (ap (λ t. vec_len t) c.stopped-in-Err.ensures.trace) c.stopped-in-Err.ensures.stopped (inr (free, refl)))
-
-pub returns-in-Err-clause-users : goal.returns-in-Err-clause-users
-returns-in-Err-clause-users g c few = c.in-Err.ensures.users (c.loop-step.invariant.2 few)
 
 pub returns-clause-ran : goal.returns-clause-ran
 returns-clause-ran g c = c.loop-step.invariant.0

@@ -1,6 +1,5 @@
 use Rattle.std.proofs.Common.{refl}
 use Rattle.channel_interleaving.proofs.FloorFacts.{has_begun}
-use Rattle.channel_interleaving.proofs.UserFacts.{begun_users}
 use Rattle.channel_interleaving.proofs.floor.Floor.start.Goals as goal
 
 pub returns-clause-ok : goal.returns-clause-ok
@@ -10,9 +9,4 @@ returns-clause-ok g c =
     (rw (← c.has_room.ensures.items, ← b.ask) c.begin-3.ensures.begins)
     refl refl c.new.ensures.items refl
     (rw (c.append.ensures, c.has_room-else-not-has_room.ensures.items, ← b.errand, b.names, c.in-Ok.ensures.ok) refl)
-    refl refl c.requires.accepted
-
-pub returns-clause-users : goal.returns-clause-users
-returns-clause-users g c few =
-    let b = c.in_ok-ask.ensures.ok in
-    begun_users c.args.call c.args.self.now.roll c.begin-2.new.self c.args.self.now.made b.names few
+    refl refl (c.if-not-has_position.ensures refl) c.requires.accepted

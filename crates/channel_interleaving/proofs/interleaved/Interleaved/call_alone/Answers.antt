@@ -10,7 +10,6 @@ invariant_of-self g c =
     let a = c.call_alone.ensures in
     let kept : IsKept c.args.self.now = subst (λ (f : Floor g.row.T.Denot). IsKept f) c.self.view_is c.self.invariant in
     kept_whatever c.args.call c.args.self.now c.call_alone.new.self c.call_alone.result kept c.requires.quiet a.at_work
-    (let k = c.self.invariant in a.users k.users)
     c.requires.accepted (rw (sym c.self.view_is) a.ok) (rw (sym c.self.view_is) a.err)
 
 pub returns-clause-stands : goal.returns-clause-stands

@@ -16,7 +16,6 @@ invariant_of-self g c =
     let p : PollsAlone c.args.name old c.args.names.items c.poll_alone.result.reply c.poll_alone.result.names.items c.poll_alone.new.self
     = rw (sym c.self.view_is) a.polled in
     call_kept (poll_of c.args.name) old c.poll_alone.new.self c.poll_alone.result.reply p.woken kept c.requires.quiet a.at_work
-    (let k = c.self.invariant in a.users k.users)
     (woken_admitted old.roll old.order c.args.name c.requires.woken) p.called
 
 pub returns-clause-stands : goal.returns-clause-stands

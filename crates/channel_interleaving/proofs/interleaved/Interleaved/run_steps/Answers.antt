@@ -10,7 +10,6 @@ invariant_of-self g c =
     record {
       listeners = owned_where c.run_steps.new.self ran.last ran.stands;
       at_work = c.run_steps.ensures.at_work;
-      users = c.run_steps.ensures.users c.self.invariant.users;
     }
 
 pub returns-clause-ran : goal.returns-clause-ran

@@ -24,7 +24,7 @@ call_alone-requires-clause-room g c =
     ap (λ (x : Floor g.row.T.Denot). refusal (at_rest x) c.args.call) c.self.view_is ∙ c.requires.accepted in
     let most : most_woken c.args.call (at_rest f).waiting ≤ c.in-Some.room =
     subst (λ (x : Floor g.row.T.Denot). most_woken c.args.call (at_rest x).waiting ≤ c.in-Some.room) (sym c.self.view_is) c.in-Some.ensures in
-    wakes_few laws.refused f c.keeps.ensures.kept quiet c.args.call laws.answered fine c.in-Some.room most
+    wakes_few laws.refused f c.keeps.ensures.kept quiet c.args.call c.keeps.ensures.few laws.answered fine c.in-Some.room most
 
 pub returns-clause-ok : goal.returns-clause-ok
 returns-clause-ok g c =
@@ -34,7 +34,7 @@ returns-clause-ok g c =
     let fine : refusal (at_rest f) c.args.call ≡ None =
     ap (λ (x : Floor g.row.T.Denot). refusal (at_rest x) c.args.call) c.self.view_is ∙ c.requires.accepted in
     rw (sym c.self.view_is)
-    (answers_whatever laws.refused f c.keeps.ensures.kept quiet c.args.call laws.answered fine c.call_alone.new.self c.call_alone.result
+    (answers_whatever laws.refused f c.keeps.ensures.kept quiet c.args.call c.keeps.ensures.few laws.answered fine c.call_alone.new.self c.call_alone.result
     c.call_alone.ensures.quiet c.call_alone.ensures.ok)
 
 pub returns-in_default-clause-leads : goal.returns-in_default-clause-leads

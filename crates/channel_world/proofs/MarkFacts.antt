@@ -1,0 +1,287 @@
+-- Of what is known of a call under way follows which marks it has made.
+use Rattle.std.proofs.Common.{◌≡◌, Bool, true, false, List, [], ◌∷◌, ◌++◌, Option, None, Some, Ok, Err, inl, inr, ◌⊎◌, refl, sym, ap, ◌∙◌, subst, append-nil}
+use Rattle.concurrent_queue.specs.Queue.{trying, displaced, appended, taken, read, measured}
+use Rattle.concurrent_queue.specs.Queue as queue
+use Rattle.concurrent_queue.specs.declared.call.QueueAsk.{QueueAsk}
+use Rattle.concurrent_queue.specs.declared.call.QueueAsk.TheVariants as q
+use Rattle.futures.specs.declared.task.Poll.TheVariants.{Ready, Pending}
+use Rattle.channel_calls.specs.Marks.{up, down}
+use Rattle.channel_calls.specs.Moves.{Channel}
+use Rattle.channel_calls.specs.declared.ask.ChannelAsk.{ChannelAsk}
+use Rattle.channel_calls.specs.declared.ask.ChannelAsk.TheVariants as ask
+use Rattle.channel_calls.specs.declared.error.Refused.TheVariants as refused
+use Rattle.channel_calls.specs.declared.error.TrySendError.TheVariants as try_send_error
+use Rattle.channel_calls.specs.declared.error.TryRecvError.TheVariants as try_recv_error
+use Rattle.channel_calls.specs.declared.mark.Mark.{Mark}
+use Rattle.channel_calls.specs.declared.mark.Mark.TheVariants.{Append, Take, TakeDisplaced, Replace, Close}
+use Rattle.channel_calls.specs.declared.reply.Reply.{Reply}
+use Rattle.channel_calls.specs.declared.reply.Reply.TheVariants as reply
+use Rattle.channel_calls.specs.declared.stage.Aim.{Aim}
+use Rattle.channel_calls.specs.declared.stage.Aim.TheVariants as aim
+use Rattle.channel_calls.specs.declared.stage.Closer.TheVariants as closer
+use Rattle.channel_calls.specs.declared.stage.Line.TheVariants.{Sends, Receives, Streams, Closings}
+use Rattle.channel_calls.specs.declared.stage.Side.{Side}
+use Rattle.channel_calls.specs.declared.stage.Side.TheVariants.{Senders, Receivers}
+use Rattle.channel_calls.specs.declared.stage.Stage.{Stage}
+use Rattle.channel_calls.specs.declared.stage.Stage.TheVariants.{Trying, Working, Finished}
+use Rattle.channel_calls.specs.declared.stage.Work.{Work}
+use Rattle.channel_calls.specs.declared.stage.Work.TheVariants.{TellReceive, TellStreams, TellSend, TellAll, Insert, Register, Leave, Lower, Count, Load, Raise}
+use Rattle.channel_calls.specs.declared.stage.Ending.{Ending}
+use Rattle.channel_calls.specs.Turns.{closer_ending}
+use Rattle.concurrent_queue.specs.Queue.{Phase}
+use Rattle.channel_model.specs.declared.name.Waiter.{Waiter}
+use Rattle.channel_steps.specs.Answers.{Row}
+use Rattle.channel_steps.specs.Known.{TriesFor, TryAt, WorkAt, StageAt, Answered}
+use Rattle.channel_steps.specs.Moments.{Deed, Appended, Took, Replaced, MadeRoom, Displaced, ClosedIt, Raised, Upgraded, LeftLast, Dropped}
+use Rattle.channel_steps.specs.Scene.{Under, Known, AllKnown}
+use Rattle.channel_interleaving.specs.Owners.{All}
+use Rattle.channel_world.specs.Marks.{AreMarksOf, marks_of, BeginsItsMarks}
+
+module _ {T : Type 0} where
+  -- a question marks nothing
+  abbrev IsQuestion : QueueAsk T → Type 0
+  IsQuestion q.IsClosed = Unit {0}
+  IsQuestion q.IsEmpty = Unit {0}
+  IsQuestion q.IsFull = Unit {0}
+  IsQuestion q.Len = Unit {0}
+  IsQuestion q.Capacity = Unit {0}
+  IsQuestion a = ⊥
+
+module _ {T W : Type 0} where
+  abbrev Begun : ChannelAsk T W → List (Deed T W) → Type 0
+  Begun a ds = (later : List Mark) × AreMarksOf a (marks_of ds ++ later)
+
+  -- ---- which marks these are
+
+  no_marks : (ds : List (Deed T W)) → ds ≡ [] → marks_of ds ≡ []
+  no_marks ds e = ap (λ (x : List (Deed T W)). marks_of x) e
+
+  appended_marks : (ds : List (Deed T W)) → Appended ds → marks_of ds ≡ Append ∷ []
+  appended_marks [] h = absurd h
+  appended_marks (d ∷ []) h = ap (λ (m : Mark). m ∷ []) h.0
+  appended_marks (d ∷ e ∷ ds) h = absurd h
+
+  took_marks : (ds : List (Deed T W)) (v : T) → Took ds v → marks_of ds ≡ Take ∷ []
+  took_marks [] v h = absurd h
+  took_marks (d ∷ []) v h = ap (λ (m : Mark). m ∷ []) h.0
+  took_marks (d ∷ e ∷ ds) v h = absurd h
+
+  replaced_marks : (ds : List (Deed T W)) (v : T) → Replaced ds v → marks_of ds ≡ Replace ∷ []
+  replaced_marks [] v h = absurd h
+  replaced_marks (d ∷ []) v h = ap (λ (m : Mark). m ∷ []) h.0
+  replaced_marks (d ∷ e ∷ ds) v h = absurd h
+
+  room_marks : (ds : List (Deed T W)) (v : T) → MadeRoom ds v → marks_of ds ≡ TakeDisplaced ∷ []
+  room_marks [] v h = absurd h
+  room_marks (d ∷ []) v h = ap (λ (m : Mark). m ∷ []) h.0
+  room_marks (d ∷ e ∷ ds) v h = absurd h
+
+  displaced_marks : (ds : List (Deed T W)) (v : T) → Displaced ds v → marks_of ds ≡ TakeDisplaced ∷ Append ∷ []
+  displaced_marks [] v h = absurd h
+  displaced_marks (d ∷ []) v h = absurd h
+  displaced_marks (d ∷ e ∷ []) v h = ap (λ (m : Mark). m ∷ e.mark ∷ []) h.0.0 ∙ ap (λ (m : Mark). TakeDisplaced ∷ m ∷ []) h.1
+  displaced_marks (d ∷ e ∷ f ∷ ds) v h = absurd h
+
+  closed_marks : (ds : List (Deed T W)) → ClosedIt ds → marks_of ds ≡ Close ∷ []
+  closed_marks [] h = absurd h
+  closed_marks (d ∷ []) h = ap (λ (m : Mark). m ∷ []) h.0
+  closed_marks (d ∷ e ∷ ds) h = absurd h
+
+  raised_marks : (side : Side) (ds : List (Deed T W)) → Raised side ds → marks_of ds ≡ up side ∷ []
+  raised_marks side [] h = absurd h
+  raised_marks side (d ∷ []) h = ap (λ (m : Mark). m ∷ []) h.0
+  raised_marks side (d ∷ e ∷ ds) h = absurd h
+
+  upgraded_marks : (side : Side) (ds : List (Deed T W)) → Upgraded side ds → marks_of ds ≡ up side ∷ []
+  upgraded_marks side [] h = absurd h
+  upgraded_marks side (d ∷ []) h = ap (λ (m : Mark). m ∷ []) h.0
+  upgraded_marks side (d ∷ e ∷ ds) h = absurd h
+
+  left_marks : (side : Side) (ds : List (Deed T W)) (seen : List (Channel T W)) → LeftLast side ds seen → marks_of ds ≡ down side ∷ []
+  left_marks side [] seen h = absurd h
+  left_marks side (d ∷ []) seen h = ap (λ (m : Mark). m ∷ []) h.0
+  left_marks side (d ∷ e ∷ ds) seen h = absurd h
+
+  dropped_marks : (side : Side) (ds : List (Deed T W)) (seen : List (Channel T W)) → Dropped side ds seen
+      → (marks_of ds ≡ down side ∷ []) ⊎ (marks_of ds ≡ down side ∷ Close ∷ [])
+  dropped_marks side [] seen h = absurd h
+  dropped_marks side (d ∷ []) seen h = inl (ap (λ (m : Mark). m ∷ []) h.0)
+  dropped_marks side (d ∷ e ∷ []) seen h = inr (ap (λ (m : Mark). m ∷ e.mark ∷ []) h.0 ∙ ap (λ (m : Mark). down side ∷ m ∷ []) h.2)
+  dropped_marks side (d ∷ e ∷ f ∷ ds) seen h = absurd h
+
+  -- ---- a call that has answered
+
+  row_marks : (a : ChannelAsk T W) (ds : List (Deed T W)) (seen : List (Channel T W)) (r : Reply T) → Row a ds seen r
+      → AreMarksOf a (marks_of ds)
+  row_marks (ask.TrySend m) ds seen (reply.TrySend (Ok u)) h = inr (appended_marks ds h)
+  row_marks (ask.TrySend m) ds seen (reply.TrySend (Err (refused.Plain (try_send_error.Full v)))) h = inl (no_marks ds h.1)
+  row_marks (ask.TrySend m) ds seen (reply.TrySend (Err (refused.Plain (try_send_error.Closed v)))) h = inl (no_marks ds h.1)
+  row_marks (ask.TrySend m) ds seen (reply.TrySend (Err (refused.NoMemory v))) h = inl (no_marks ds h.1)
+  row_marks (ask.ForceSend m) ds seen (reply.ForceSend (Ok None)) h = inr (inl (appended_marks ds h))
+  row_marks (ask.ForceSend m) ds seen (reply.ForceSend (Ok (Some d))) (inl h) = inr (inr (inl (replaced_marks ds d h)))
+  row_marks (ask.ForceSend m) ds seen (reply.ForceSend (Ok (Some d))) (inr h) = inr (inr (inr (displaced_marks ds d h)))
+  row_marks (ask.ForceSend m) ds seen (reply.ForceSend (Err (refused.Plain e))) h = inl (no_marks ds h.1)
+  row_marks (ask.ForceSend m) ds seen (reply.ForceSend (Err (refused.NoMemory v))) h = inl (no_marks ds h.1)
+  row_marks ask.TryRecv ds seen (reply.TryRecv (Ok v)) h = inr (took_marks ds v h)
+  row_marks ask.TryRecv ds seen (reply.TryRecv (Err try_recv_error.Empty)) h = inl (no_marks ds h.0)
+  row_marks ask.TryRecv ds seen (reply.TryRecv (Err try_recv_error.Closed)) h = inl (no_marks ds h.0)
+  row_marks ask.Close ds seen (reply.Closed true) h = inr (closed_marks ds h)
+  row_marks ask.Close ds seen (reply.Closed false) h = inl (no_marks ds h.0)
+  row_marks (ask.PollSend m key task) ds seen (reply.SendPoll (Ready (Ok u))) h = inr (appended_marks ds h)
+  row_marks (ask.PollSend m key task) ds seen (reply.SendPoll (Ready (Err (refused.Plain e)))) h = inl (no_marks ds h.1)
+  row_marks (ask.PollSend m key task) ds seen (reply.SendPoll (Ready (Err (refused.NoMemory u)))) h = inl (no_marks ds h.0)
+  row_marks (ask.PollSend m key task) ds seen (reply.SendPoll (Ready (Err (refused.SerialsUsedUp u)))) h = inl (no_marks ds h.0)
+  row_marks (ask.PollSend m key task) ds seen (reply.SendPoll Pending) h = inl (no_marks ds h.0)
+  row_marks ask.PollFinishedSend ds seen r h = no_marks ds h.0
+  row_marks (ask.PollRecv key task) ds seen (reply.RecvPoll (Ready (Ok v))) h = inr (took_marks ds v h)
+  row_marks (ask.PollRecv key task) ds seen (reply.RecvPoll (Ready (Err (refused.Plain e)))) h = inl (no_marks ds h.0)
+  row_marks (ask.PollRecv key task) ds seen (reply.RecvPoll (Ready (Err (refused.NoMemory u)))) h = inl (no_marks ds h.0)
+  row_marks (ask.PollRecv key task) ds seen (reply.RecvPoll (Ready (Err (refused.SerialsUsedUp u)))) h = inl (no_marks ds h.0)
+  row_marks (ask.PollRecv key task) ds seen (reply.RecvPoll Pending) h = inl (no_marks ds h.0)
+  row_marks (ask.PollClosed key task) ds seen (reply.ClosedPoll (Ready (Ok u))) h = no_marks ds h.0
+  row_marks (ask.PollClosed key task) ds seen (reply.ClosedPoll (Ready (Err e))) h = no_marks ds h.0
+  row_marks (ask.PollClosed key task) ds seen (reply.ClosedPoll Pending) h = no_marks ds h.0
+  row_marks (ask.PollNext key task) ds seen (reply.Next (Ready (Some (Ok v)))) h = inr (took_marks ds v h)
+  row_marks (ask.PollNext key task) ds seen (reply.Next (Ready (Some (Err e)))) h = inl (no_marks ds h)
+  row_marks (ask.PollNext key task) ds seen (reply.Next (Ready None)) h = inl (no_marks ds h.0)
+  row_marks (ask.PollNext key task) ds seen (reply.Next Pending) h = inl (no_marks ds h.0)
+  row_marks (ask.RefusePoll line message key) ds seen r h = no_marks ds h.0
+  row_marks (ask.GiveUp line message key) ds seen r h = no_marks ds h.0
+  row_marks ask.DropSender ds seen r h = dropped_marks Senders ds seen h.0
+  row_marks (ask.DropReceiver key) ds seen r h = dropped_marks Receivers ds seen h.0
+  row_marks (ask.CloneHandle side) ds seen reply.Made h = inr (raised_marks side ds h)
+  row_marks (ask.CloneHandle side) ds seen reply.TooMany h = inl (no_marks ds h.0)
+  row_marks (ask.Upgrade side) ds seen reply.Made h = inr (upgraded_marks side ds h)
+  row_marks (ask.Upgrade side) ds seen reply.NotMade h = inl (no_marks ds h.0)
+  row_marks (ask.Upgrade side) ds seen reply.TooMany h = inl (no_marks ds h.0)
+  row_marks (ask.HandleCount side) ds seen (reply.Count n) h = no_marks ds h.0
+  row_marks ask.IsClosed ds seen (reply.Flag b) h = no_marks ds h.0
+  row_marks ask.IsEmpty ds seen (reply.Flag b) h = no_marks ds h.0
+  row_marks ask.IsFull ds seen (reply.Flag b) h = no_marks ds h.0
+  row_marks ask.Len ds seen (reply.Count n) h = no_marks ds h.0
+  row_marks ask.Capacity ds seen (reply.Cap c) h = no_marks ds h.0
+  row_marks ask.IsTerminated ds seen (reply.Flag true) h = no_marks ds h.0
+  row_marks ask.IsTerminated ds seen (reply.Flag false) h = no_marks ds h.0
+  row_marks (ask.SendIsTerminated b) ds seen r h = no_marks ds h.0
+  row_marks (ask.SameChannel b) ds seen r h = no_marks ds h.0
+  row_marks ask.Make ds seen r h = no_marks ds h.0
+  row_marks ask.DropWeak ds seen r h = no_marks ds h.0
+  row_marks a ds seen r h = absurd h
+
+  whole : (a : ChannelAsk T W) (ds : List (Deed T W)) → AreMarksOf a (marks_of ds) → Begun a ds
+  whole a ds h = ([], subst (λ (ms : List Mark). AreMarksOf a ms) (sym (append-nil (marks_of ds))) h)
+
+  -- ---- a call that has made no mark
+
+  none_made : (a : ChannelAsk T W) → (later : List Mark) × AreMarksOf a later
+  none_made ask.DropSender = (down Senders ∷ [], inl refl)
+  none_made (ask.DropReceiver key) = (down Receivers ∷ [], inl refl)
+  none_made (ask.TrySend m) = ([], inl refl)
+  none_made (ask.PollSend m key task) = ([], inl refl)
+  none_made (ask.ForceSend m) = ([], inl refl)
+  none_made ask.TryRecv = ([], inl refl)
+  none_made (ask.PollRecv key task) = ([], inl refl)
+  none_made (ask.PollNext key task) = ([], inl refl)
+  none_made ask.Close = ([], inl refl)
+  none_made (ask.CloneHandle side) = ([], inl refl)
+  none_made (ask.Upgrade side) = ([], inl refl)
+  none_made a = ([], refl)
+
+  nothing : (a : ChannelAsk T W) (ds : List (Deed T W)) → ds ≡ [] → Begun a ds
+  nothing a ds e =
+      let n = none_made a in
+      (n.0, subst (λ (ms : List Mark). AreMarksOf a (ms ++ n.0)) (sym (no_marks ds e)) n.1)
+
+  -- ---- while the queue has the next step
+
+  pushed : (now : Channel T W) (v : T) (s : queue.Stage T) (ds : List (Deed T W)) (seen : List (Channel T W)) → TryAt now (q.Push v) s ds seen
+      → (marks_of ds ≡ []) ⊎ (marks_of ds ≡ Append ∷ [])
+  pushed now v (trying b) ds seen h = inl (no_marks ds h.0)
+  pushed now v (appended None) ds seen h = inr (appended_marks ds h)
+  pushed now v s ds seen h = absurd h
+
+  forced : (now : Channel T W) (m v : T) (s : queue.Stage T) (ds : List (Deed T W)) (seen : List (Channel T W))
+      → TryAt now (q.ForcePush v) s ds seen → Begun (ask.ForceSend m) ds
+  forced now m v (trying b) ds seen h = nothing (ask.ForceSend m) ds h.0
+  forced now m v (displaced d) ds seen h = (Append ∷ [], inr (inr (inr (ap (λ (ms : List Mark). ms ++ Append ∷ []) (room_marks ds d h)))))
+  forced now m v (appended None) ds seen h = whole (ask.ForceSend m) ds (inr (inl (appended_marks ds h)))
+  forced now m v (appended (Some d)) ds seen (inl h) = whole (ask.ForceSend m) ds (inr (inr (inl (replaced_marks ds d h))))
+  forced now m v (appended (Some d)) ds seen (inr h) = whole (ask.ForceSend m) ds (inr (inr (inr (displaced_marks ds d h))))
+  forced now m v s ds seen h = absurd h
+
+  popped : (now : Channel T W) (s : queue.Stage T) (ds : List (Deed T W)) (seen : List (Channel T W)) → TryAt now q.Pop s ds seen
+      → (marks_of ds ≡ []) ⊎ (marks_of ds ≡ Take ∷ [])
+  popped now (trying b) ds seen h = inl (no_marks ds h)
+  popped now (taken v) ds seen h = inr (took_marks ds v h)
+  popped now s ds seen h = absurd h
+
+  questioned : (now : Channel T W) (a : QueueAsk T) (s : queue.Stage T) (ds : List (Deed T W)) (seen : List (Channel T W)) → IsQuestion a
+      → TryAt now a s ds seen → ds ≡ []
+  questioned now q.IsClosed (trying b) ds seen i h = h
+  questioned now q.IsEmpty (trying b) ds seen i h = h
+  questioned now q.IsEmpty (read n) ds seen i h = h.0
+  questioned now q.IsFull (trying b) ds seen i h = h
+  questioned now q.IsFull (read n) ds seen i h = h.0
+  questioned now q.Len (trying b) ds seen i h = h
+  questioned now q.Len (read n) ds seen i h = h
+  questioned now q.Len (measured n k) ds seen i h = h.0
+  questioned now q.Capacity (trying b) ds seen i h = h
+  questioned now (q.Push v) s ds seen i h = absurd i
+  questioned now (q.ForcePush v) s ds seen i h = absurd i
+  questioned now q.Pop s ds seen i h = absurd i
+  questioned now q.Close s ds seen i h = absurd i
+  questioned now a s ds seen i h = absurd h
+
+  tries : (now : Channel T W) (a : ChannelAsk T W) (y : Aim W) (x : QueueAsk T) (s : queue.Stage T) (ds : List (Deed T W))
+      (seen : List (Channel T W)) → TriesFor a y x ds seen → TryAt now x s ds seen → Begun a ds
+  tries now (ask.TrySend m) aim.TrySend (q.Push v) s ds seen t h = whole (ask.TrySend m) ds (pushed now v s ds seen h)
+  tries now (ask.ForceSend m) aim.ForceSend (q.ForcePush v) s ds seen t h = forced now m v s ds seen h
+  tries now ask.TryRecv aim.TryRecv q.Pop s ds seen t h = whole ask.TryRecv ds (popped now s ds seen h)
+  tries now ask.Close (aim.Close closer.Call) q.Close s ds seen t h = nothing ask.Close ds t
+  tries now (ask.PollSend m k w) (aim.Poll Sends key task) (q.Push v) s ds seen t h = whole (ask.PollSend m k w) ds (pushed now v s ds seen h)
+  tries now (ask.PollRecv k w) (aim.Poll Receives key task) q.Pop s ds seen t h = whole (ask.PollRecv k w) ds (popped now s ds seen h)
+  tries now (ask.PollClosed k w) (aim.Poll Closings key task) q.IsClosed s ds seen t h = nothing (ask.PollClosed k w) ds (questioned now q.IsClosed s ds seen tt h)
+  tries now (ask.PollNext k w) (aim.Poll Streams key task) q.Pop s ds seen t h = whole (ask.PollNext k w) ds (popped now s ds seen h)
+  tries now ask.DropSender (aim.Close closer.Sender) q.Close s ds seen t h = whole ask.DropSender ds (inl (left_marks Senders ds seen t))
+  tries now (ask.DropReceiver k) (aim.Close (closer.Receiver key)) q.Close s ds seen t h = whole (ask.DropReceiver k) ds (inl (left_marks Receivers ds seen t))
+  tries now (ask.Upgrade side) (aim.Upgrade z) q.IsClosed s ds seen t h = nothing (ask.Upgrade side) ds (questioned now q.IsClosed s ds seen tt h)
+  tries now ask.IsClosed aim.Ask q.IsClosed s ds seen t h = nothing ask.IsClosed ds (questioned now q.IsClosed s ds seen tt h)
+  tries now ask.IsEmpty aim.Ask q.IsEmpty s ds seen t h = nothing ask.IsEmpty ds (questioned now q.IsEmpty s ds seen tt h)
+  tries now ask.IsFull aim.Ask q.IsFull s ds seen t h = nothing ask.IsFull ds (questioned now q.IsFull s ds seen tt h)
+  tries now ask.Len aim.Ask q.Len s ds seen t h = nothing ask.Len ds (questioned now q.Len s ds seen tt h)
+  tries now ask.Capacity aim.Ask q.Capacity s ds seen t h = nothing ask.Capacity ds (questioned now q.Capacity s ds seen tt h)
+  tries now ask.IsTerminated aim.IsTerminated q.IsClosed s ds seen t h = nothing ask.IsTerminated ds (questioned now q.IsClosed s ds seen tt h)
+  tries now ask.IsTerminated aim.Ask q.IsEmpty s ds seen t h = nothing ask.IsTerminated ds (questioned now q.IsEmpty s ds seen tt h)
+  tries now a y x s ds seen t h = absurd t
+
+  -- ---- while a list or a count has the next step
+
+  answered : (a : ChannelAsk T W) (x : Ending T) (ds : List (Deed T W)) (seen : List (Channel T W)) → Answered a x ds seen → Begun a ds
+  answered a x ds seen h = whole a ds (row_marks a ds h.0.1 x.reply h.0.3)
+
+  works : (a : ChannelAsk T W) (w : Work T W) (ds : List (Deed T W)) (seen : List (Channel T W)) → WorkAt a w ds seen → Begun a ds
+  works a (TellReceive x) ds seen h = answered a x ds seen h
+  works a (TellStreams x) ds seen h = answered a x ds seen h
+  works a (TellSend x) ds seen h = answered a x ds seen h
+  works a (TellAll line y) ds seen h = answered a (closer_ending y true) ds seen h
+  works a (Insert w task) ds seen h = nothing a ds h.1
+  works a (Register w key task) ds seen h = nothing a ds h.1
+  works a (Leave x) ds seen h = answered a x ds seen h
+  works a (Lower side key) ds seen h = nothing a ds h.1
+  works a (Count side) ds seen h = nothing a ds h.1
+  works a (Load side m) ds seen h = nothing a ds h.1
+  works a (Raise side n m) ds seen h = nothing a ds h.1
+
+  stages : (now : Channel T W) (a : ChannelAsk T W) (at : Stage (Phase T) T W) (ds : List (Deed T W)) (seen : List (Channel T W))
+      → StageAt now a at ds seen → Begun a ds
+  stages now a (Trying f y) ds seen h = tries now a y f.ask f.stage ds seen h.0 h.1
+  stages now a (Working w) ds seen h = works a w ds seen h
+  stages now a (Finished kept) ds seen h = absurd h
+
+  begins : (now : Channel T W) (u : Under T W) → Known now u → BeginsItsMarks u
+  begins now u k = let b = stages now u.ask u.at u.deeds u.seen k.stands in record { later = b.0; all = b.1 }
+
+module _ {T : Type 0} where
+  pub all_begin : (now : Channel T Waiter) (us : List (Under T Waiter)) → AllKnown now us → All (λ (u : Under T Waiter). BeginsItsMarks u) us
+  all_begin now [] k = tt
+  all_begin now (u ∷ us) k = (begins now u k.0, all_begin now us k.1)
