@@ -8,6 +8,7 @@ mod decimal;
 mod event;
 mod list;
 mod queue;
+mod recorded;
 mod shared;
 mod steps;
 
@@ -28,6 +29,7 @@ fn measure<R: Clock + Print + Wait + Threads + Copy + Sync>(
         "event" => event::measure_events(rt, alloc),
         "pairs" => queue::make_pairs(&rt, alloc),
         "queue" => queue::measure_queues(&rt, alloc),
+        "recorded" => recorded::measure_recorded(&rt, alloc),
         "shared" => shared::measure_shared(&rt, alloc),
         "steps" => steps::measure_steps(&rt, alloc),
         _ => println!(&rt; "nothing to measure is named {word}"),

@@ -9,3 +9,4 @@ pub mod TableLemmas
 pub mod ScriptLemmas
 pub mod IoLemmas
 pub mod GrowthLemmas
+pub mod RecordLemmas
