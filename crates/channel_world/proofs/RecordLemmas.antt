@@ -63,8 +63,7 @@ module _ {T : Type 0} where
   one_recorded v t r count count' total total' parts amount all i at made longer counted =
       let before = i.counted in
       record {
-        capacity = i.capacity;
-        replays = replays_more 0 (start i.capacity) v.state t v.entries r i.replays (omega (arith, at)) made;
+        replays = replays_more 0 (start v.capacity) v.state t v.entries r i.replays (omega (arith, at)) made;
         counted = omega (arith, before, longer, counted);
         idle = i.idle;
         parts_left = i.parts_left;
@@ -130,13 +129,13 @@ module _ {T : Type 0} where
             ∙ append_assoc s.channel.messages (accepted_by sends r.call r.reply) (accepted_after (sends_after sends r.call) rs))));
       }
 
-  history_kept : (rs : List (Receipt T)) (h : IsHistory rs) → RecordKept [] (start h.capacity) rs h.last
-  history_kept rs h = record_kept 0 [] (start h.capacity) rs h.last (opened_kept h.capacity) h.replays
+  history_kept : (capacity : Option ℕ) (rs : List (Receipt T)) (h : IsHistory capacity rs) → RecordKept [] (start capacity) rs h.last
+  history_kept capacity rs h = record_kept 0 [] (start capacity) rs h.last (opened_kept capacity) h.replays
 
-  pub in_order : (rs : List (Receipt T)) (h : IsHistory rs) → removed rs ++ h.last.channel.messages ≡ accepted rs
-  in_order rs h = (history_kept rs h).account
+  pub in_order : (capacity : Option ℕ) (rs : List (Receipt T)) (h : IsHistory capacity rs) → removed rs ++ h.last.channel.messages ≡ accepted rs
+  in_order capacity rs h = (history_kept capacity rs h).account
 
-  pub nobody_left : (rs : List (Receipt T)) (h : IsHistory rs) → NobodyIsLeft h.last
-  nobody_left rs h =
-      let a = (history_kept rs h).awake in
+  pub nobody_left : (capacity : Option ℕ) (rs : List (Receipt T)) (h : IsHistory capacity rs) → NobodyIsLeft h.last
+  nobody_left capacity rs h =
+      let a = (history_kept capacity rs h).awake in
       record { receives = a.receives; sends = a.sends; unbounded = a.unbounded; streams = a.streams; opened = a.opened }

@@ -1,5 +1,5 @@
 -- Two laws of every record of calls.
-use Rattle.std.specs.Prelude.{◌≡◌, ℕ, List, [], ◌∷◌, ◌++◌}
+use Rattle.std.specs.Prelude.{◌≡◌, ℕ, List, [], ◌∷◌, ◌++◌, Option}
 use Rattle.channel_model.specs.Laws.{removed_by, accepted_by, sends_after, NobodyIsLeft}
 use Rattle.channel_world.specs.RecordReplay.{IsHistory}
 use Rattle.channel_world.specs.declared.recorded.receipt.Receipt.{Receipt}
@@ -20,8 +20,8 @@ module _ {T : Type 0} where
 
 -- What was received or displaced, followed by what is held at the end, is what was accepted, in order.
 abbrev pub RecordLosesNothing : Type 0 → Type 0
-RecordLosesNothing T = (rs : List (Receipt T)) (h : IsHistory rs) → removed rs ++ h.last.channel.messages ≡ accepted rs
+RecordLosesNothing T = (capacity : Option ℕ) (rs : List (Receipt T)) (h : IsHistory capacity rs) → removed rs ++ h.last.channel.messages ≡ accepted rs
 
 -- At the end no unwoken pending one stands beside a message, a free place or a closing that no woken one answers for.
 abbrev pub RecordLeavesNobody : Type 0 → Type 0
-RecordLeavesNobody T = (rs : List (Receipt T)) (h : IsHistory rs) → NobodyIsLeft h.last
+RecordLeavesNobody T = (capacity : Option ℕ) (rs : List (Receipt T)) (h : IsHistory capacity rs) → NobodyIsLeft h.last

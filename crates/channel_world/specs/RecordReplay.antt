@@ -6,6 +6,11 @@ use Rattle.channel_model.specs.Refused.{Answers}
 use Rattle.channel_model.specs.State.{State, start}
 use Rattle.channel_world.specs.declared.recorded.receipt.Receipt.{Receipt}
 
+-- a record: the capacity with which its channel was opened, and its calls
+pub record RecordView (T : Type 0) : Type 0 where
+  pub capacity : Option ℕ
+  pub entries : List (Receipt T)
+
 module _ {T : Type 0} where
   -- in s the call is accepted, and may answer and wake as the receipt says and leave t
   abbrev pub Made : State T → Receipt T → State T → Type 0
@@ -16,9 +21,8 @@ module _ {T : Type 0} where
   Replays place s [] t = t ≡ s
   Replays place s (r ∷ rs) t = (mid : State T) × (r.place ≡ place) × Made s r mid × Replays (place + 1) mid rs t
 
-  -- they are all calls that were made of a channel since it was opened
-  pub record IsHistory (rs : List (Receipt T)) : Type 0 where
-    pub capacity : Option ℕ
+  -- they are all calls that were made of a channel of this capacity since it was opened
+  pub record IsHistory (capacity : Option ℕ) (rs : List (Receipt T)) : Type 0 where
     -- the channel after the last of them
     pub last : State T
     pub replays : Replays 0 (start capacity) rs last

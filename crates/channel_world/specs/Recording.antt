@@ -9,6 +9,8 @@ use Rattle.channel_world.specs.declared.recorded.error.RecordError.TheVariants.{
 use Rattle.channel_world.specs.declared.recorded.receipt.Receipt.{Receipt}
 
 pub record RecordingView (T : Type 0) : Type 0 where
+  -- the capacity with which the channel was opened, and the channel as it stands
+  pub capacity : Option ℕ
   pub state : State T
   pub entries : List (Receipt T)
   -- how many seats were made, and how many parts of the ledger no seat has
@@ -20,11 +22,10 @@ abbrev pub with_seat : {T : Type 0} → RecordingView T → RecordingView T
 with_seat v = record v { seats = v.seats + 1; parts = v.parts - 1 }
 
 module _ {T : Type 0} where
-  -- The record leads from an opened channel to the world as it stands, and the ledger counts its entries: all of them are the
+  -- The record leads from a channel opened with the capacity to the world as it stands, and the ledger counts its entries: all of them are the
   -- seats', of which each has one part.
   pub record IsRecording (v : RecordingView T) (count total parts amount all : ℕ) : Type 0 where
-    pub capacity : Option ℕ
-    pub replays : Replays 0 (start capacity) v.entries v.state
+    pub replays : Replays 0 (start v.capacity) v.entries v.state
     pub counted : total ≡ count
     pub idle : amount ≡ 0
     pub parts_left : parts ≡ v.parts

@@ -51,7 +51,7 @@ fn both<L: Ledger + Sync, R: Threads + Wait + Sync>(
 ) -> Option<(u32, u32, Record<u64>)>
     requires name { blank.name ≡ L.name }
     requires parts { (blank.parts ≡ L.parts) × (blank.parts ≡ 3) }
-    ensures { IfSome result (λ r. length r.2 ≡ r.0 + r.1) }
+    ensures { IfSome result (λ r. length r.2.entries ≡ r.0 + r.1) }
 {
     let mut ids = EventIds::new();
     let channel = RecordedChannel::<u64, L>::bounded(alloc, 1, &mut ids, blank, 3).ok()?;
@@ -81,8 +81,8 @@ fn both<L: Ledger + Sync, R: Threads + Wait + Sync>(
 /// What a reader of a finished record knows, with nothing but the record: what was received or displaced, followed by what is
 /// held at its end, is what was accepted, in order; and nobody was left asleep then.
 fn read<T>(record: &Record<T>) -> &[Receipt<T>]
-    ensures entries { result.now ≡ record.now }
-    ensures laws { (h : IsHistory record.now) × (removed record.now ++ h.last.channel.messages ≡ accepted record.now) × NobodyIsLeft h.last }
+    ensures entries { result.now ≡ record.now.entries }
+    ensures laws { (h : IsHistory record.now.capacity record.now.entries) × (removed record.now.entries ++ h.last.channel.messages ≡ accepted record.now.entries) × NobodyIsLeft h.last }
 {
     a_record_loses_nothing::<T>();
     a_record_leaves_nobody_asleep::<T>();

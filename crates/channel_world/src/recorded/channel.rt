@@ -1,6 +1,6 @@
 //! The recorded channel.
 
-ghost use Rattle.std.specs.Prelude.{◌≡◌, ◌<◌, ◌+◌, ◌-◌, ◌^◌, ℕ, Option, Err, IfOk, IfErr, OnOk, OnErr, length};
+ghost use Rattle.std.specs.Prelude.{◌≡◌, ◌<◌, ◌+◌, ◌-◌, ◌^◌, Err, IfOk, IfErr, OnOk, OnErr, length};
 ghost use Rattle.channel_interleaving.specs.Floor.{IsQuiet};
 ghost use Rattle.channel_model.specs.State.{start};
 ghost use Rattle.channel_world.specs.RecordSeat.{calls_of, one_more};
@@ -62,7 +62,7 @@ impl<T: Copy, L: Ledger> RecordedChannel<T, L> {
         ensures used_up { IfErr result (λ e. e.0 ≡ OpenError.IdsUsedUp → 2 ^ 64 - 1 < ids.old + 4) }
     {
         match World::bounded(alloc, capacity, ids) {
-            Ok(world) => Ok(Self::over(alloc, world, blank, parts)),
+            Ok(world) => Ok(Self::over(alloc, Some(capacity), world, blank, parts)),
             Err(why) => Err((why, blank)),
         }
     }
@@ -82,19 +82,25 @@ impl<T: Copy, L: Ledger> RecordedChannel<T, L> {
         ensures used_up { IfErr result (λ e. e.0 ≡ OpenError.IdsUsedUp → 2 ^ 64 - 1 < ids.old + 4) }
     {
         match World::unbounded(alloc, ids) {
-            Ok(world) => Ok(Self::over(alloc, world, blank, parts)),
+            Ok(world) => Ok(Self::over(alloc, None, world, blank, parts)),
             Err(why) => Err((why, blank)),
         }
     }
 
     // A world that was just opened, under its lock.
-    fn over(alloc: Global, world: World<T>, blank: Blank, parts: u64) -> Self
-        requires opened { (capacity : Option ℕ) × (at_rest world ≡ start capacity) }
+    fn over(
+        alloc: Global,
+        capacity: Option<usize>,
+        world: World<T>,
+        blank: Blank,
+        parts: u64,
+    ) -> Self
+        requires opened { at_rest world ≡ start capacity }
         requires quiet { IsQuiet world }
         requires name { blank.name ≡ L.name }
         requires parts { (blank.parts ≡ L.parts) × (blank.parts ≡ parts) }
     {
-        let recording = Recording::new(alloc, world, blank, parts);
+        let recording = Recording::new(alloc, capacity, world, blank, parts);
         RecordedChannel {
             inner: Mutex::new(recording),
         }
@@ -132,7 +138,7 @@ impl<T: Copy, L: Ledger> RecordedChannel<T, L> {
     ///
     /// Where a seat is missing the channel and the seats come back.
     pub fn finish(self, seats: Vec<RecordSeat<L>>) -> Result<Record<T>, MissingSeat<T, L>>
-        ensures counted { IfOk result (λ r. length r ≡ calls_of seats.items) }
+        ensures counted { IfOk result (λ r. length r.entries ≡ calls_of seats.items) }
         ensures back { IfErr result (λ m. m.seats.items ≡ seats.items) }
     {
         let RecordedChannel { inner } = self;

@@ -25,6 +25,8 @@ const MOST_SEATS: u64 = 1 << 32;
 #[derive(Drop)]
 pub(crate) struct Recording<T: Copy, L: Ledger> {
     alloc: Global,
+    /// The capacity with which the channel was opened.
+    capacity: Option<usize>,
     world: World<T>,
     /// The call that is handed to the world; empty between two calls.
     asked: VecDeque<Call<T>>,
@@ -45,13 +47,12 @@ impl<T: Copy, L: Ledger> Model for Recording<T, L> {
 
     ghost Value = { RecordingView T };
 
-    ghost view = { λ r. record { state = at_rest r.world; entries = r.entries.items; seats = r.made; parts = r.left } };
+    ghost view = { λ r. record { capacity = r.capacity; state = at_rest r.world; entries = r.entries.items; seats = r.made; parts = r.left } };
 
-    ghost invariant = { λ r. IsQuiet r.world × (r.asked.items ≡ []) × IsRecording (record { state = at_rest r.world; entries = r.entries.items; seats = r.made; parts = r.left }) (vec_len r.entries) r.book.total r.rest.parts r.rest.amount L.parts };
+    ghost invariant = { λ r. IsQuiet r.world × (r.asked.items ≡ []) × IsRecording (record { capacity = r.capacity; state = at_rest r.world; entries = r.entries.items; seats = r.made; parts = r.left }) (vec_len r.entries) r.book.total r.rest.parts r.rest.amount L.parts };
 }
 
 impl<T: Copy, L: Ledger> Recording<T, L> {
-    ghost use Rattle.std.specs.Prelude.{ℕ, Option};
     ghost use Rattle.channel_interleaving.specs.Floor.{IsQuiet};
     ghost use Rattle.channel_model.specs.State.{start};
     ghost use Rattle.channel_world.specs.RecordReplay.{Made};
@@ -59,16 +60,23 @@ impl<T: Copy, L: Ledger> Recording<T, L> {
     ghost use Rattle.channel_world.specs.Recording.{with_seat, call_in, MayRefuse};
 
     /// A world that was just opened, with an empty record and all parts of the ledger.
-    pub(crate) fn new(alloc: Global, world: World<T>, blank: Blank, parts: u64) -> Self
-        requires opened { (capacity : Option ℕ) × (at_rest world ≡ start capacity) }
+    pub(crate) fn new(
+        alloc: Global,
+        capacity: Option<usize>,
+        world: World<T>,
+        blank: Blank,
+        parts: u64,
+    ) -> Self
+        requires opened { at_rest world ≡ start capacity }
         requires quiet { IsQuiet world }
         requires name { blank.name ≡ L.name }
         requires parts { (blank.parts ≡ L.parts) × (blank.parts ≡ parts) }
-        ensures { result ≡ record { state = at_rest world; entries = []; seats = 0; parts = parts } }
+        ensures { result ≡ record { capacity = capacity; state = at_rest world; entries = []; seats = 0; parts = parts } }
     {
         let (book, rest) = blank.open::<L>();
         Recording {
             alloc,
+            capacity,
             world,
             asked: VecDeque::new(alloc),
             entries: Vec::new(alloc),
@@ -145,8 +153,8 @@ impl<T: Copy, L: Ledger> Recording<T, L> {
         seats: Vec<RecordSeat<L>>,
     ) -> Result<Record<T>, (Self, Vec<RecordSeat<L>>)>
         ensures all { OnOk result (length seats.items ≡ self.seats) }
-        ensures record { IfOk result (λ r. r ≡ self.entries) }
-        ensures counted { IfOk result (λ r. length r ≡ calls_of seats.items) }
+        ensures record { IfOk result (λ r. r ≡ record { capacity = self.capacity; entries = self.entries }) }
+        ensures counted { IfOk result (λ r. length r.entries ≡ calls_of seats.items) }
         ensures missing { OnErr result (length seats.items ≢ self.seats) }
         ensures back { IfErr result (λ b. (b.0 ≡ self) × (b.1.items ≡ seats.items)) }
     {
@@ -155,6 +163,7 @@ impl<T: Copy, L: Ledger> Recording<T, L> {
         }
         let Recording {
             alloc: _,
+            capacity,
             world: _,
             asked: _,
             entries,
@@ -170,7 +179,7 @@ impl<T: Copy, L: Ledger> Recording<T, L> {
             all.merge(mine);
         }
         book.audit(&mut all);
-        Ok(Record { entries })
+        Ok(Record { capacity, entries })
     }
 }
 

@@ -36,7 +36,7 @@ invariant_of-self-in-Some-pop g c =
     c.run_calls-done.ensures.run c.in-Some.ensures.asked c.in-Some-pop.ensures.items in
     let made : Made before entry after = made_so before after c.args.call done c.len-place.result c.seat.inside.number entry does is in
     let old = c.self.inside.entries.items in
-    let v : RecordingView g.row.T.Denot = record { state = before; entries = old; seats = c.self.inside.made; parts = c.self.inside.left } in
+    let v : RecordingView g.row.T.Denot = record { capacity = c.self.inside.capacity; state = before; entries = old; seats = c.self.inside.made; parts = c.self.inside.left } in
     let place : entry.place ≡ c.len-place.result = ap (λ (r : Receipt g.row.T.Denot). r.place) is in
     let len = c.len-place.ensures in
     let still = c.in-Some.ensures.entries.1 in
@@ -51,7 +51,7 @@ invariant_of-self-in-Some-pop g c =
       c.clear.ensures.items,
       subst
           (λ (es : List (Receipt g.row.T.Denot)).
-          IsRecording (record { state = after; entries = es; seats = c.self.inside.made; parts = c.self.inside.left }) (vec_len c.push_reserved.new.self)
+          IsRecording (record { capacity = c.self.inside.capacity; state = after; entries = es; seats = c.self.inside.made; parts = c.self.inside.left }) (vec_len c.push_reserved.new.self)
           c.add.new.self.total c.self.inside.rest.parts c.self.inside.rest.amount g.L.Ledger.parts)
           (sym items) i,
     )
@@ -65,7 +65,7 @@ invariant_of-self-in-None-pop g c =
     let long : vec_len done ≡ length done.items = done.ok.0 in
     let none = none_done before after c.args.call c.ask-room.new.asked.items c.run_calls-done.new.calls.items done.items c.run_calls-done.result.stopped
     c.reason.result c.run_calls-done.ensures.run c.in-Some.ensures.asked (omega (arith, empty, long)) c.reason.ensures in
-    let v : RecordingView g.row.T.Denot = record { state = before; entries = c.self.inside.entries.items; seats = c.self.inside.made; parts = c.self.inside.left } in (
+    let v : RecordingView g.row.T.Denot = record { capacity = c.self.inside.capacity; state = before; entries = c.self.inside.entries.items; seats = c.self.inside.made; parts = c.self.inside.left } in (
       c.run_calls-done.ensures.quiet,
       c.clear.ensures.items,
       still_recording v after c.ask-room.new.entries.items (vec_len c.self.inside.entries) (vec_len c.ask-room.new.entries) c.self.inside.book.total
@@ -104,9 +104,10 @@ returns-in-Some-pop-clause-recorded g c =
     c.push_reserved.ensures.items
     ∙ (ap (λ (es : List (Receipt g.row.T.Denot)). es ++ c.twice-entry.result.0 ∷ []) old
     ∙ ap (λ (r : Receipt g.row.T.Denot). c.args.self.now.entries ++ r ∷ []) (sym c.twice-entry.ensures.same)) in
+    let capacity = ap (λ (v : RecordingView g.row.T.Denot). v.capacity) view in
     let seats = ap (λ (v : RecordingView g.row.T.Denot). v.seats) view in
     let parts = ap (λ (v : RecordingView g.row.T.Denot). v.parts) view in
-    λ i. record { state = at_rest c.run_calls-done.new.self; entries = items i; seats = seats i; parts = parts i }
+    λ i. record { capacity = capacity i; state = at_rest c.run_calls-done.new.self; entries = items i; seats = seats i; parts = parts i }
 
 pub returns-in-None-clause-why : goal.returns-in-None-clause-why
 returns-in-None-clause-why g c =

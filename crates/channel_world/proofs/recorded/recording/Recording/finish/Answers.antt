@@ -1,6 +1,7 @@
 use Rattle.std.proofs.Common.{◌≡◌, ◌+◌, ◌∙◌, ◌∷◌, ◌++◌, [], List, ap, arith, length, refl, vec_len}
 use Rattle.channel_world.proofs.RecordLemmas.{calls_snoc, no_calls}
 use Rattle.channel_world.specs.RecordSeat.{SeatView, calls_of}
+use Rattle.channel_world.specs.World.{at_rest}
 use Rattle.channel_world.proofs.recorded.recording.Recording.finish.Goals as goal
 
 pub loop-seat-preserved : goal.loop-seat-preserved
@@ -38,3 +39,6 @@ returns-clause-counted g c =
     let total = i.total in
     let entries : vec_len c.self.inside.entries ≡ length c.self.inside.entries.items = c.self.inside.entries.ok.0 in
     omega (arith, q, rest, whole, total, counted, entries)
+
+pub invariant_of-result : goal.invariant_of-result
+invariant_of-result g c = record { last = at_rest c.self.inside.world; replays = c.self.invariant.2.replays }

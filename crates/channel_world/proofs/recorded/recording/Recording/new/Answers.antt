@@ -17,8 +17,7 @@ invariant_of-result g c =
       c.requires.quiet,
       c.new.ensures.items,
       record {
-        capacity = opened.0;
-        replays = subst (λ (rs : List (Receipt g.row.T.Denot)). Replays 0 (start opened.0) rs (at_rest c.args.world)) (sym c.new-2.ensures.items) opened.1;
+        replays = subst (λ (rs : List (Receipt g.row.T.Denot)). Replays 0 (start c.args.capacity) rs (at_rest c.args.world)) (sym c.new-2.ensures.items) opened;
         counted = omega (arith, total, len);
         idle = c.open-book.ensures.amount;
         parts_left = omega (arith, parts, a, b);

@@ -26,7 +26,6 @@ invariant_of-self g c =
       c.self.invariant.0,
       c.self.invariant.1,
       record {
-        capacity = i.capacity;
         replays = i.replays;
         counted = i.counted;
         idle = omega (arith, idle, amount);
