@@ -3,14 +3,13 @@ use Rattle.std.proofs.Common.{arith, ◌≡◌, ◌+◌, ℕ, List, [], ◌∷�
 use Rattle.std.specs.Option.{option_map}
 use Rattle.channel_model.specs.Awake.{AwakeIn}
 use Rattle.channel_model.specs.Laws.{removed_by, accepted_by, sends_after, NobodyIsLeft}
-use Rattle.channel_model.specs.Refusal.{refusal}
 use Rattle.channel_model.specs.Run.{Runs, Stops, Does, MayStop}
 use Rattle.channel_model.specs.State.{State, start}
 use Rattle.channel_model.specs.declared.call.Call.{Call}
 use Rattle.channel_model.specs.declared.refusal.WorldRefusal.{WorldRefusal}
 use Rattle.channel_model.specs.declared.run.Done.{Done}
 use Rattle.channel_model.specs.declared.run.Stopped.{Stopped}
-use Rattle.channel_model.proofs.LawSteps.{Kept, Good, step_good, opened_kept}
+use Rattle.channel_model.proofs.LawSteps.{Kept, step_good, opened_kept}
 use Rattle.channel_world.specs.RecordLaws.{removed, accepted, accepted_after}
 use Rattle.channel_world.specs.RecordReplay.{Made, Replays, IsHistory}
 use Rattle.channel_world.specs.RecordSeat.{SeatView, calls_of}

@@ -1,8 +1,6 @@
-use Rattle.std.proofs.Common.{arith, ◌≡◌, ◌≤◌, ◌+◌, ◌∙◌, ◌∷◌, ◌++◌, [], List, Some, ap, length, refl, subst, sym, vec_len}
-use Rattle.std.specs.Option.{option_map}
+use Rattle.std.proofs.Common.{arith, ◌≡◌, ◌∙◌, ◌∷◌, ◌++◌, [], List, Some, ap, length, subst, sym, vec_len}
 use Rattle.channel_model.specs.Answer.{Answer}
 use Rattle.channel_model.specs.Run.{Does, MayStop}
-use Rattle.channel_model.specs.declared.run.Stopped.{Stopped}
 use Rattle.channel_world.proofs.Few.{few_woken}
 use Rattle.channel_world.proofs.RecordLemmas.{one_done, made_so, none_done, one_recorded, still_recording}
 use Rattle.channel_world.specs.RecordReplay.{Made}

@@ -1,4 +1,4 @@
-use Rattle.std.proofs.Common.{◌≡◌, ◌+◌, ◌∙◌, ◌∷◌, ◌++◌, [], List, ap, arith, length, refl, vec_len}
+use Rattle.std.proofs.Common.{◌≡◌, ◌∙◌, ◌∷◌, ◌++◌, [], List, ap, arith, length, refl, vec_len}
 use Rattle.channel_world.proofs.RecordLemmas.{calls_snoc, no_calls}
 use Rattle.channel_world.specs.RecordSeat.{SeatView, calls_of}
 use Rattle.channel_world.specs.World.{at_rest}

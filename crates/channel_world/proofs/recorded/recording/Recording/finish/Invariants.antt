@@ -1,4 +1,4 @@
-use Rattle.std.proofs.Common.{◌≡◌, ◌+◌, List, vec_len}
+use Rattle.std.proofs.Common.{◌≡◌, ◌+◌, vec_len}
 use Rattle.channel_world.specs.RecordSeat.{calls_of}
 use Rattle.channel_world.proofs.recorded.recording.Recording.finish.Given as goal
 

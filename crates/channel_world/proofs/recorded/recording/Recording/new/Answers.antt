@@ -1,4 +1,4 @@
-use Rattle.std.proofs.Common.{◌≡◌, ◌+◌, List, [], arith, refl, subst, sym}
+use Rattle.std.proofs.Common.{List, arith, subst, sym}
 use Rattle.channel_model.specs.State.{start}
 use Rattle.channel_world.specs.RecordReplay.{Replays}
 use Rattle.channel_world.specs.World.{at_rest}
