@@ -8,6 +8,7 @@ mod decimal;
 mod event;
 mod list;
 mod queue;
+mod recorded;
 mod settle;
 mod shared;
 mod steps;
@@ -29,6 +30,7 @@ fn measure<R: Clock + Print + Wait + Threads + Copy + Sync>(
         "event" => event::measure_events(rt, alloc),
         "pairs" => queue::make_pairs(&rt, alloc),
         "queue" => queue::measure_queues(&rt, alloc),
+        "recorded" => recorded::measure_recorded(&rt, alloc),
         "settle" => settle::measure_settling(&rt, alloc),
         "shared" => shared::measure_shared(&rt, alloc),
         "steps" => steps::measure_steps(&rt, alloc),

@@ -14,3 +14,4 @@ pub mod ScriptLemmas
 pub mod IoLemmas
 pub mod GrowthLemmas
 pub mod SettleText
+pub mod RecordLemmas

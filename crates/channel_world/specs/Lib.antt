@@ -16,3 +16,7 @@ pub mod Output
 pub mod Added
 pub mod ScriptRows
 pub mod LanguageRows
+pub mod RecordSeat
+pub mod RecordReplay
+pub mod RecordLaws
+pub mod Recording

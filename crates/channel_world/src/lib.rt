@@ -12,6 +12,7 @@
 
 pub mod call;
 pub mod name;
+pub mod recorded;
 mod room;
 mod run;
 pub mod script;
@@ -25,5 +26,8 @@ pub use channel_calls::error::{
 };
 pub use channel_calls::mark::Mark;
 pub use name::{Handle, HandleId, HandleKind, OpId, Waiter};
+pub use recorded::{
+    MissingSeat, Names, Receipt, Record, RecordError, RecordSeat, RecordedChannel, SeatsUsedUp,
+};
 pub use step::{Entry, PartyId, Run, Step};
 pub use world::World;

@@ -4,6 +4,7 @@
 
 mod calls;
 mod one_owner;
+mod recorded;
 mod semaphore;
 mod shared_queue;
 mod steps;
@@ -17,5 +18,6 @@ fn main(rt: HostRuntime) -> io::Result<()> {
     waiting::show(&rt, rt.alloc())?;
     semaphore::show(&rt, rt.alloc())?;
     calls::show(&rt, rt.alloc())?;
-    steps::show(&rt, rt.alloc())
+    steps::show(&rt, rt.alloc())?;
+    recorded::show(&rt, rt.alloc())
 }

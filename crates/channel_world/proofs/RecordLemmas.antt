@@ -1,0 +1,140 @@
+-- Records that grow, the one call of a run, the calls of seats, and the two laws of every record.
+use Rattle.std.proofs.Common.{arith, ◌≡◌, ◌+◌, ℕ, List, [], ◌∷◌, ◌++◌, length, Option, None, Some, IfSome, refl, sym, subst, ap, ◌∙◌, append_assoc, append-nil}
+use Rattle.std.specs.Option.{option_map}
+use Rattle.channel_model.specs.Awake.{AwakeIn}
+use Rattle.channel_model.specs.Laws.{removed_by, accepted_by, sends_after, NobodyIsLeft}
+use Rattle.channel_model.specs.Run.{Runs, Stops, Does, MayStop}
+use Rattle.channel_model.specs.State.{State, start}
+use Rattle.channel_model.specs.declared.call.Call.{Call}
+use Rattle.channel_model.specs.declared.refusal.WorldRefusal.{WorldRefusal}
+use Rattle.channel_model.specs.declared.run.Done.{Done}
+use Rattle.channel_model.specs.declared.run.Stopped.{Stopped}
+use Rattle.channel_model.proofs.LawSteps.{Kept, step_good, opened_kept}
+use Rattle.channel_world.specs.RecordLaws.{removed, accepted, accepted_after}
+use Rattle.channel_world.specs.RecordReplay.{Made, Replays, IsHistory}
+use Rattle.channel_world.specs.RecordSeat.{SeatView, calls_of}
+use Rattle.channel_world.specs.Recording.{RecordingView, IsRecording}
+use Rattle.channel_world.specs.declared.recorded.receipt.Receipt.{Receipt}
+
+-- ---- seats
+
+pub calls_snoc : (ss : List SeatView) (s : SeatView) → calls_of (ss ++ s ∷ []) ≡ calls_of ss + s.calls
+calls_snoc [] s = omega arith
+calls_snoc (x ∷ ss) s = let h = calls_snoc ss s in omega (arith, h)
+
+pub no_calls : (ss : List SeatView) → length ss ≡ 0 → calls_of ss ≡ 0
+no_calls [] e = refl
+no_calls (x ∷ ss) e = absurd (omega (arith, e))
+
+-- ---- lists of one
+
+only_one : {A : Type 0} (xs : List A) (x y : A) → y ∷ [] ≡ xs ++ x ∷ [] → y ≡ x
+only_one [] x y e = cc e
+only_one (a ∷ []) x y e = cc e
+only_one (a ∷ b ∷ xs) x y e = cc e
+
+not_none : {A : Type 0} (xs : List A) (x : A) → [] ≡ xs ++ x ∷ [] → ⊥
+not_none [] x e = cc e
+not_none (a ∷ xs) x e = cc e
+
+module _ {T : Type 0} where
+  -- ---- one entry more
+
+  pub replays_more : (place : ℕ) (s mid t : State T) (rs : List (Receipt T)) (r : Receipt T) → Replays place s rs mid → r.place ≡ place + length rs → Made mid r t
+      → Replays place s (rs ++ r ∷ []) t
+  replays_more place s mid t [] r same at made = (t, omega (arith, at), subst (λ (x : State T). Made x r t) same made, refl)
+  replays_more place s mid t (x ∷ rs) r (next, here, first, more) at made =
+      (next, here, first, replays_more (place + 1) next mid t rs r more (omega (arith, at)) made)
+
+  -- a recording in which nothing was changed, whatever room its list has now
+  pub same_view : (v : RecordingView T) (t : State T) (rs : List (Receipt T)) → t ≡ v.state → rs ≡ v.entries → record v { state = t; entries = rs } ≡ v
+  same_view v t rs same kept = λ i. record v { state = same i; entries = kept i }
+
+  pub still_recording : (v : RecordingView T) (t : State T) (rs : List (Receipt T)) (count count' total parts amount all : ℕ) → IsRecording v count total parts amount all
+      → t ≡ v.state → rs ≡ v.entries → count' ≡ count → IsRecording (record v { state = t; entries = rs }) count' total parts amount all
+  still_recording v t rs count count' total parts amount all i same kept as_long =
+      subst (λ (n : ℕ). IsRecording (record v { state = t; entries = rs }) n total parts amount all) (sym as_long)
+      (subst (λ (x : RecordingView T). IsRecording x count total parts amount all) (sym (same_view v t rs same kept)) i)
+
+  pub one_recorded : (v : RecordingView T) (t : State T) (r : Receipt T) (count count' total total' parts amount all : ℕ) → IsRecording v count total parts amount all
+      → r.place ≡ length v.entries → Made v.state r t → count' ≡ count + 1 → total' ≡ total + 1
+      → IsRecording (record v { state = t; entries = v.entries ++ r ∷ [] }) count' total' parts amount all
+  one_recorded v t r count count' total total' parts amount all i at made longer counted =
+      let before = i.counted in
+      record {
+        replays = replays_more 0 (start v.capacity) v.state t v.entries r i.replays (omega (arith, at)) made;
+        counted = omega (arith, before, longer, counted);
+        idle = i.idle;
+        parts_left = i.parts_left;
+        one_each = i.one_each;
+        numbered = i.numbered;
+      }
+
+  -- ---- a run of one call
+
+  last_of : (s t : State T) (c : Call T) (before ds : List (Done T)) (d : Done T) (why : Option WorldRefusal) (rest : List (Call T))
+      → Runs s (c ∷ []) ds why rest t → ds ≡ before ++ d ∷ [] → Does s c d t
+  last_of s t c before [] d why rest run e = absurd (not_none before d e)
+  last_of s t c before (x ∷ []) d why rest (mid, does, (left, same, stops)) e =
+      let is : x ≡ d = only_one before d x e in
+      subst (λ (y : Done T). Does s c y t) is (subst (λ (y : State T). Does s c x y) (sym same) does)
+  last_of s t c before (x ∷ y ∷ ds) d why rest (mid, does, more) e = absurd more
+
+  -- the call that was made is the last one made
+  pub one_done : (s t : State T) (c : Call T) (calls rest : List (Call T)) (before ds : List (Done T)) (d : Done T) (why : Option WorldRefusal)
+      → Runs s calls ds why rest t → calls ≡ c ∷ [] → ds ≡ before ++ d ∷ [] → Does s c d t
+  one_done s t c calls rest before ds d why run one e =
+      last_of s t c before ds d why rest (subst (λ (cs : List (Call T)). Runs s cs ds why rest t) one run) e
+
+  -- and the receipt that says so of it is right
+  pub made_so : (s t : State T) (c : Call T) (d : Done T) (place seat : ℕ) (r : Receipt T) → Does s c d t
+      → r ≡ record { place = place; seat = seat; call = c; reply = d.reply; woken = d.woken.items } → Made s r t
+  made_so s t c d place seat r does is = subst (λ (x : Receipt T). Made s x t) (sym is) does
+
+  stopped_by : (s : State T) (c : Call T) (stopped : Option Stopped) (why : WorldRefusal) → Stops s (c ∷ []) (option_map (λ (x : Stopped). x.why) stopped)
+      → IfSome stopped (λ x. why ≡ x.why) → MayStop s c (Some why)
+  stopped_by s c None why stops is = absurd stops
+  stopped_by s c (Some x) why stops is = subst (λ (w : WorldRefusal). MayStop s c (Some w)) (sym is) stops
+
+  -- or none was made, for a reason, and nothing is changed
+  pub none_done : (s t : State T) (c : Call T) (calls rest : List (Call T)) (ds : List (Done T)) (stopped : Option Stopped) (why : WorldRefusal)
+      → Runs s calls ds (option_map (λ (x : Stopped). x.why) stopped) rest t → calls ≡ c ∷ [] → length ds ≡ 0 → IfSome stopped (λ x. why ≡ x.why)
+      → (t ≡ s) × MayStop s c (Some why)
+  none_done s t c calls rest [] stopped why (left, same, stops) one none is =
+      (same, stopped_by s c stopped why (subst (λ (cs : List (Call T)). Stops s cs (option_map (λ (x : Stopped). x.why) stopped)) one stops) is)
+  none_done s t c calls rest (d ∷ ds) stopped why run one none is = absurd (omega (arith, none))
+
+  -- ---- the laws
+
+  pub record RecordKept (sends : List (ℕ × T)) (s : State T) (rs : List (Receipt T)) (t : State T) : Type 0 where
+    pub awake : AwakeIn t
+    pub account : removed rs ++ t.channel.messages ≡ s.channel.messages ++ accepted_after sends rs
+
+  pub record_kept : (place : ℕ) (sends : List (ℕ × T)) (s : State T) (rs : List (Receipt T)) (t : State T) → Kept sends s → Replays place s rs t → RecordKept sends s rs t
+  record_kept place sends s [] t kept same = record {
+    awake = subst (λ (x : State T). AwakeIn x) (sym same) kept.awake;
+    account = ap (λ (x : State T). x.channel.messages) same ∙ sym (append-nil s.channel.messages);
+  }
+  record_kept place sends s (r ∷ rs) t kept (mid, here, made, more) =
+      let g = step_good sends s kept.awake kept.keeps r.call (record { after = mid; reply = r.reply; woken = r.woken }) made.0 made.1 in
+      let on = record_kept (place + 1) (sends_after sends r.call) mid rs t (record { awake = g.awake; keeps = g.keeps }) more in
+      record {
+        awake = on.awake;
+        account =
+            append_assoc (removed_by r.reply) (removed rs) t.channel.messages
+            ∙ (ap (λ (ms : List T). removed_by r.reply ++ ms) on.account
+            ∙ (sym (append_assoc (removed_by r.reply) mid.channel.messages (accepted_after (sends_after sends r.call) rs))
+            ∙ (ap (λ (ms : List T). ms ++ accepted_after (sends_after sends r.call) rs) g.account
+            ∙ append_assoc s.channel.messages (accepted_by sends r.call r.reply) (accepted_after (sends_after sends r.call) rs))));
+      }
+
+  history_kept : (capacity : Option ℕ) (rs : List (Receipt T)) (h : IsHistory capacity rs) → RecordKept [] (start capacity) rs h.last
+  history_kept capacity rs h = record_kept 0 [] (start capacity) rs h.last (opened_kept capacity) h.replays
+
+  pub in_order : (capacity : Option ℕ) (rs : List (Receipt T)) (h : IsHistory capacity rs) → removed rs ++ h.last.channel.messages ≡ accepted rs
+  in_order capacity rs h = (history_kept capacity rs h).account
+
+  pub nobody_left : (capacity : Option ℕ) (rs : List (Receipt T)) (h : IsHistory capacity rs) → NobodyIsLeft h.last
+  nobody_left capacity rs h =
+      let a = (history_kept capacity rs h).awake in
+      record { receives = a.receives; sends = a.sends; unbounded = a.unbounded; streams = a.streams; opened = a.opened }

@@ -1,0 +1,119 @@
+use Rattle.std.proofs.Common.{arith, ◌≡◌, ◌∙◌, ◌∷◌, ◌++◌, [], List, Some, ap, length, subst, sym, vec_len}
+use Rattle.channel_model.specs.Answer.{Answer}
+use Rattle.channel_model.specs.Run.{Does, MayStop}
+use Rattle.channel_world.proofs.Few.{few_woken}
+use Rattle.channel_world.proofs.RecordLemmas.{one_done, made_so, none_done, one_recorded, still_recording}
+use Rattle.channel_world.specs.RecordReplay.{Made}
+use Rattle.channel_world.specs.Recording.{RecordingView, IsRecording}
+use Rattle.channel_world.specs.World.{at_rest}
+use Rattle.channel_world.specs.declared.recorded.receipt.Receipt.{Receipt}
+use Rattle.channel_world.proofs.recorded.recording.Recording.call.Goals as goal
+
+pub twice-entry-requires-clause-room : goal.twice-entry-requires-clause-room
+twice-entry-requires-clause-room g c =
+    let before = at_rest c.self.inside.world in
+    let after = at_rest c.run_calls-done.new.self in
+    let done = c.in-Some-pop.done in
+    let does : Does before c.args.call done after =
+    one_done before after c.args.call c.ask-room.new.asked.items c.run_calls-done.new.calls.items c.pop.new.self.items c.run_calls-done.result.done.items done _
+    c.run_calls-done.ensures.run c.in-Some.ensures.asked c.in-Some-pop.ensures.items in
+    let a : Answer g.row.T.Denot = record { after = after; reply = done.reply; woken = done.woken.items } in
+    let few = few_woken before c.args.call a does.1 in
+    let room = c.in-Some.ensures.names.1 in
+    omega (arith, few, room)
+
+pub invariant_of-self-in-Some-pop : goal.invariant_of-self-in-Some-pop
+invariant_of-self-in-Some-pop g c =
+    let before = at_rest c.self.inside.world in
+    let after = at_rest c.run_calls-done.new.self in
+    let done = c.in-Some-pop.done in
+    let entry = c.twice-entry.result.0 in
+    let is = c.twice-entry.ensures.entry in
+    let does : Does before c.args.call done after =
+    one_done before after c.args.call c.ask-room.new.asked.items c.run_calls-done.new.calls.items c.pop.new.self.items c.run_calls-done.result.done.items done _
+    c.run_calls-done.ensures.run c.in-Some.ensures.asked c.in-Some-pop.ensures.items in
+    let made : Made before entry after = made_so before after c.args.call done c.len-place.result c.seat.inside.number entry does is in
+    let old = c.self.inside.entries.items in
+    let v : RecordingView g.row.T.Denot = record { capacity = c.self.inside.capacity; state = before; entries = old; seats = c.self.inside.made; parts = c.self.inside.left } in
+    let place : entry.place ≡ c.len-place.result = ap (λ (r : Receipt g.row.T.Denot). r.place) is in
+    let len = c.len-place.ensures in
+    let still = c.in-Some.ensures.entries.1 in
+    let long : vec_len c.self.inside.entries ≡ length old = c.self.inside.entries.ok.0 in
+    let at : entry.place ≡ length v.entries = omega (arith, place, len, still, long) in
+    let longer = c.push_reserved.ensures.len in
+    let items : c.push_reserved.new.self.items ≡ old ++ entry ∷ [] =
+    c.push_reserved.ensures.items ∙ ap (λ (es : List (Receipt g.row.T.Denot)). es ++ entry ∷ []) c.in-Some.ensures.entries.0 in
+    let i = one_recorded v after entry (vec_len c.self.inside.entries) (vec_len c.push_reserved.new.self) c.self.inside.book.total c.add.new.self.total
+    c.self.inside.rest.parts c.self.inside.rest.amount g.L.Ledger.parts c.self.invariant.2 at made (omega (arith, longer, still)) c.add.ensures.total in (
+      c.run_calls-done.ensures.quiet,
+      c.clear.ensures.items,
+      subst
+          (λ (es : List (Receipt g.row.T.Denot)).
+          IsRecording (record { capacity = c.self.inside.capacity; state = after; entries = es; seats = c.self.inside.made; parts = c.self.inside.left }) (vec_len c.push_reserved.new.self)
+          c.add.new.self.total c.self.inside.rest.parts c.self.inside.rest.amount g.L.Ledger.parts)
+          (sym items) i,
+    )
+
+pub invariant_of-self-in-None-pop : goal.invariant_of-self-in-None-pop
+invariant_of-self-in-None-pop g c =
+    let before = at_rest c.self.inside.world in
+    let after = at_rest c.run_calls-done.new.self in
+    let done = c.run_calls-done.result.done in
+    let empty = c.in-None.ensures.cases.0 in
+    let long : vec_len done ≡ length done.items = done.ok.0 in
+    let none = none_done before after c.args.call c.ask-room.new.asked.items c.run_calls-done.new.calls.items done.items c.run_calls-done.result.stopped
+    c.reason.result c.run_calls-done.ensures.run c.in-Some.ensures.asked (omega (arith, empty, long)) c.reason.ensures in
+    let v : RecordingView g.row.T.Denot = record { capacity = c.self.inside.capacity; state = before; entries = c.self.inside.entries.items; seats = c.self.inside.made; parts = c.self.inside.left } in (
+      c.run_calls-done.ensures.quiet,
+      c.clear.ensures.items,
+      still_recording v after c.ask-room.new.entries.items (vec_len c.self.inside.entries) (vec_len c.ask-room.new.entries) c.self.inside.book.total
+          c.self.inside.rest.parts c.self.inside.rest.amount g.L.Ledger.parts c.self.invariant.2 none.0 c.in-Some.ensures.entries.0 c.in-Some.ensures.entries.1,
+    )
+
+pub returns-in-Some-pop-clause-place : goal.returns-in-Some-pop-clause-place
+returns-in-Some-pop-clause-place g c =
+    let is = c.twice-entry.ensures.same ∙ c.twice-entry.ensures.entry in
+    let place : c.twice-entry.result.1.place ≡ c.len-place.result = ap (λ (r : Receipt g.row.T.Denot). r.place) is in
+    let len = c.len-place.ensures in
+    let still = c.in-Some.ensures.entries.1 in
+    let long : vec_len c.self.inside.entries ≡ length c.self.inside.entries.items = c.self.inside.entries.ok.0 in
+    let seen = ap (λ (v : RecordingView g.row.T.Denot). length v.entries) c.self.view_is in
+    omega (arith, place, len, still, long, seen)
+
+pub returns-in-Some-pop-clause-made : goal.returns-in-Some-pop-clause-made
+returns-in-Some-pop-clause-made g c =
+    let before = at_rest c.self.inside.world in
+    let after = at_rest c.run_calls-done.new.self in
+    let done = c.in-Some-pop.done in
+    let receipt = c.twice-entry.result.1 in
+    let does : Does before c.args.call done after =
+    one_done before after c.args.call c.ask-room.new.asked.items c.run_calls-done.new.calls.items c.pop.new.self.items c.run_calls-done.result.done.items done _
+    c.run_calls-done.ensures.run c.in-Some.ensures.asked c.in-Some-pop.ensures.items in
+    let made : Made before receipt after =
+    made_so before after c.args.call done c.len-place.result c.seat.inside.number receipt does (c.twice-entry.ensures.same ∙ c.twice-entry.ensures.entry) in
+    subst (λ (v : RecordingView g.row.T.Denot). Made v.state receipt after) c.self.view_is made
+
+pub returns-in-Some-pop-clause-recorded : goal.returns-in-Some-pop-clause-recorded
+returns-in-Some-pop-clause-recorded g c =
+    let receipt = c.twice-entry.result.1 in
+    let view = c.self.view_is in
+    let old : c.ask-room.new.entries.items ≡ c.args.self.now.entries = c.in-Some.ensures.entries.0 ∙ ap (λ (v : RecordingView g.row.T.Denot). v.entries) view in
+    let items : c.push_reserved.new.self.items ≡ c.args.self.now.entries ++ receipt ∷ [] =
+    c.push_reserved.ensures.items
+    ∙ (ap (λ (es : List (Receipt g.row.T.Denot)). es ++ c.twice-entry.result.0 ∷ []) old
+    ∙ ap (λ (r : Receipt g.row.T.Denot). c.args.self.now.entries ++ r ∷ []) (sym c.twice-entry.ensures.same)) in
+    let capacity = ap (λ (v : RecordingView g.row.T.Denot). v.capacity) view in
+    let seats = ap (λ (v : RecordingView g.row.T.Denot). v.seats) view in
+    let parts = ap (λ (v : RecordingView g.row.T.Denot). v.parts) view in
+    λ i. record { capacity = capacity i; state = at_rest c.run_calls-done.new.self; entries = items i; seats = seats i; parts = parts i }
+
+pub returns-in-None-clause-why : goal.returns-in-None-clause-why
+returns-in-None-clause-why g c =
+    let before = at_rest c.self.inside.world in
+    let after = at_rest c.run_calls-done.new.self in
+    let done = c.run_calls-done.result.done in
+    let empty = c.in-None.ensures.cases.0 in
+    let long : vec_len done ≡ length done.items = done.ok.0 in
+    let none = none_done before after c.args.call c.ask-room.new.asked.items c.run_calls-done.new.calls.items done.items c.run_calls-done.result.stopped
+    c.reason.result c.run_calls-done.ensures.run c.in-Some.ensures.asked (omega (arith, empty, long)) c.reason.ensures in
+    subst (λ (v : RecordingView g.row.T.Denot). MayStop v.state c.args.call (Some c.reason.result)) c.self.view_is none.1

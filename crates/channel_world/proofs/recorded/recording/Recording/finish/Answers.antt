@@ -1,0 +1,44 @@
+use Rattle.std.proofs.Common.{◌≡◌, ◌∙◌, ◌∷◌, ◌++◌, [], List, ap, arith, length, refl, vec_len}
+use Rattle.channel_world.proofs.RecordLemmas.{calls_snoc, no_calls}
+use Rattle.channel_world.specs.RecordSeat.{SeatView, calls_of}
+use Rattle.channel_world.specs.World.{at_rest}
+use Rattle.channel_world.proofs.recorded.recording.Recording.finish.Goals as goal
+
+pub loop-seat-preserved : goal.loop-seat-preserved
+loop-seat-preserved g c =
+    let i = c.loop-seat.invariant in
+    let items : c.loop-seat.seats.items ≡ c.pop.new.self.items ++ c.in-Some.seat ∷ [] = c.in-Some.ensures.items in
+    let len = c.in-Some.ensures.len in
+    let view = c.seat.view_is in
+    let calls : c.seat.inside.mine.amount ≡ c.in-Some.seat.calls = ap (λ (s : SeatView). s.calls) view in
+    let one : c.seat.inside.mine.parts ≡ 1 = c.seat.invariant in
+    let all = ap (λ (ss : List SeatView). calls_of ss) items ∙ calls_snoc c.pop.new.self.items c.in-Some.seat in
+    let parts = c.merge.ensures.parts in
+    let amount = c.merge.ensures.amount in
+    let p = i.parts in
+    let q = i.calls in
+    record {
+      parts = omega (arith, parts, one, len, p);
+      calls = omega (arith, amount, calls, all, q);
+      total = refl;
+      entries = refl;
+    }
+
+pub returns-clause-counted : goal.returns-clause-counted
+returns-clause-counted g c =
+    let i = c.loop-seat.invariant in
+    let p = i.parts in
+    let q = i.calls in
+    let old = c.self.invariant.2 in
+    let seats = old.one_each in
+    let counted = old.counted in
+    let none : vec_len c.loop-seat.seats ≡ 0 = c.in_default.ensures.cases.0 in
+    let long : vec_len c.loop-seat.seats ≡ length c.loop-seat.seats.items = c.loop-seat.seats.ok.0 in
+    let rest = no_calls c.loop-seat.seats.items (omega (arith, none, long)) in
+    let whole = c.audit.ensures.whole (omega (arith, p, seats, none)) in
+    let total = i.total in
+    let entries : vec_len c.self.inside.entries ≡ length c.self.inside.entries.items = c.self.inside.entries.ok.0 in
+    omega (arith, q, rest, whole, total, counted, entries)
+
+pub invariant_of-result : goal.invariant_of-result
+invariant_of-result g c = record { last = at_rest c.self.inside.world; replays = c.self.invariant.2.replays }

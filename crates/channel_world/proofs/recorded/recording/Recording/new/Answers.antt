@@ -1,0 +1,27 @@
+use Rattle.std.proofs.Common.{List, arith, subst, sym}
+use Rattle.channel_model.specs.State.{start}
+use Rattle.channel_world.specs.RecordReplay.{Replays}
+use Rattle.channel_world.specs.World.{at_rest}
+use Rattle.channel_world.specs.declared.recorded.receipt.Receipt.{Receipt}
+use Rattle.channel_world.proofs.recorded.recording.Recording.new.Goals as goal
+
+pub invariant_of-result : goal.invariant_of-result
+invariant_of-result g c =
+    let all = c.requires.parts in
+    let total = c.open-book.ensures.total in
+    let parts = c.open-book.ensures.parts in
+    let len = c.new-2.ensures.len in
+    let a = all.0 in
+    let b = all.1 in
+    let opened = c.requires.opened in (
+      c.requires.quiet,
+      c.new.ensures.items,
+      record {
+        replays = subst (λ (rs : List (Receipt g.row.T.Denot)). Replays 0 (start c.args.capacity) rs (at_rest c.args.world)) (sym c.new-2.ensures.items) opened;
+        counted = omega (arith, total, len);
+        idle = c.open-book.ensures.amount;
+        parts_left = omega (arith, parts, a, b);
+        one_each = omega (arith, a, b);
+        numbered = omega arith;
+      },
+    )

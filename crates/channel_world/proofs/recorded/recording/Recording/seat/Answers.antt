@@ -1,0 +1,36 @@
+use Rattle.std.proofs.Common.{arith, ap, inl, inr}
+use Rattle.channel_world.specs.Recording.{RecordingView}
+use Rattle.channel_world.proofs.recorded.recording.Recording.seat.Goals as goal
+use Rattle.channel_world.proofs.recorded.recording.Recording.seat.Goals.{then-self-le1-via-then-self-le1, then-self-le1-via-else-self-le1+then-self-ge-MOST_SEATS}
+
+pub returns-then-self-le1-clause-used_up : goal.returns-then-self-le1-clause-used_up
+returns-then-self-le1-clause-used_up g c =
+    let parts = ap (λ (v : RecordingView g.row.T.Denot). v.parts) c.self.view_is in
+    let seats = ap (λ (v : RecordingView g.row.T.Denot). v.seats) c.self.view_is in
+    let most = c.self.invariant.2.numbered in
+    elim c.then-self-le1.branch [
+      | then-self-le1-via-then-self-le1 w ↦ let h = w.if-self-le1.true in inl (omega (arith, parts, h))
+      | then-self-le1-via-else-self-le1+then-self-ge-MOST_SEATS w ↦ let h = w.if-self-ge-MOST_SEATS.true in inr (omega (arith, seats, most, h))
+    ]
+
+pub invariant_of-self : goal.invariant_of-self
+invariant_of-self g c =
+    let i = c.self.invariant.2 in
+    let idle = i.idle in
+    let left = i.parts_left in
+    let each = i.one_each in
+    let more = c.if-self-le1.false in
+    let few = c.if-self-ge-MOST_SEATS.false in
+    let parts = c.split_off-mine.ensures.parts_left in
+    let amount = c.split_off-mine.ensures.amount_left in (
+      c.self.invariant.0,
+      c.self.invariant.1,
+      record {
+        replays = i.replays;
+        counted = i.counted;
+        idle = omega (arith, idle, amount);
+        parts_left = omega (arith, left, parts, more);
+        one_each = omega (arith, each, more);
+        numbered = omega (arith, few);
+      },
+    )

@@ -1,0 +1,27 @@
+-- Two laws of every record of calls.
+use Rattle.std.specs.Prelude.{◌≡◌, ℕ, List, [], ◌∷◌, ◌++◌, Option}
+use Rattle.channel_model.specs.Laws.{removed_by, accepted_by, sends_after, NobodyIsLeft}
+use Rattle.channel_world.specs.RecordReplay.{IsHistory}
+use Rattle.channel_world.specs.declared.recorded.receipt.Receipt.{Receipt}
+
+module _ {T : Type 0} where
+  -- what the calls took out of the channel, received or displaced, in order
+  abbrev pub removed : List (Receipt T) → List T
+  removed [] = []
+  removed (r ∷ rs) = removed_by r.reply ++ removed rs
+
+  -- what they brought in, in order; `sends` has the message of each send that was made before them, under its name
+  abbrev pub accepted_after : List (ℕ × T) → List (Receipt T) → List T
+  accepted_after sends [] = []
+  accepted_after sends (r ∷ rs) = accepted_by sends r.call r.reply ++ accepted_after (sends_after sends r.call) rs
+
+  abbrev pub accepted : List (Receipt T) → List T
+  accepted rs = accepted_after [] rs
+
+-- What was received or displaced, followed by what is held at the end, is what was accepted, in order.
+abbrev pub RecordLosesNothing : Type 0 → Type 0
+RecordLosesNothing T = (capacity : Option ℕ) (rs : List (Receipt T)) (h : IsHistory capacity rs) → removed rs ++ h.last.channel.messages ≡ accepted rs
+
+-- At the end no unwoken pending one stands beside a message, a free place or a closing that no woken one answers for.
+abbrev pub RecordLeavesNobody : Type 0 → Type 0
+RecordLeavesNobody T = (capacity : Option ℕ) (rs : List (Receipt T)) (h : IsHistory capacity rs) → NobodyIsLeft h.last

@@ -1,0 +1,155 @@
+//! The recorded channel.
+
+ghost use Rattle.std.specs.Prelude.{◌≡◌, ◌<◌, ◌+◌, ◌-◌, ◌^◌, Err, IfOk, IfErr, OnOk, OnErr, length};
+ghost use Rattle.channel_interleaving.specs.Floor.{IsQuiet};
+ghost use Rattle.channel_model.specs.State.{start};
+ghost use Rattle.channel_world.specs.RecordSeat.{calls_of, one_more};
+ghost use Rattle.channel_world.specs.Recording.{call_in};
+ghost use Rattle.channel_world.specs.World.{at_rest};
+
+use super::error::{RecordError, SeatsUsedUp};
+use super::receipt::Receipt;
+use super::record::Record;
+use super::recording::Recording;
+use super::seat::RecordSeat;
+use crate::call::Call;
+use crate::world::World;
+use channel_calls::error::OpenError;
+use event_listener::id::EventIds;
+use std::alloc::Global;
+use std::sync::ledger::{Blank, Ledger};
+use std::sync::{Mutex, Wait};
+
+/// A channel between threads, its handles and operations called by their names, one call at a time under one lock, with the
+/// record of all its calls.
+///
+/// It is used in a function over its ledger `L`, so that a seat of another channel has another type and does not compile. At
+/// each lock the record leads from the opened channel to the channel as it stands. Own to this project; what the calls answer
+/// is as in `async-channel` 2.5.0.
+#[derive(Drop)]
+pub struct RecordedChannel<T: Copy, L: Ledger> {
+    inner: Mutex<Recording<T, L>>,
+}
+
+/// Not every seat was gathered: the channel and the seats come back, and the channel can be used on. Own to this project.
+#[derive(Drop)]
+pub struct MissingSeat<T: Copy, L: Ledger> {
+    /// The channel.
+    pub channel: RecordedChannel<T, L>,
+    /// The seats that were gathered.
+    pub seats: Vec<RecordSeat<L>>,
+}
+
+impl<T: Copy, L: Ledger> RecordedChannel<T, L> {
+    /// An open channel of this capacity, without a message and with an empty record. The ledger is this channel's alone, and
+    /// has so many parts: one for each seat, and one that stays with the channel.
+    ///
+    /// Refused as `World::bounded`, and then the blank comes back.
+    pub fn bounded(
+        alloc: Global,
+        capacity: usize,
+        ids: &mut EventIds,
+        blank: Blank,
+        parts: u64,
+    ) -> Result<Self, (OpenError, Blank)>
+        requires capacity { 0 < capacity }
+        requires name { blank.name ≡ L.name }
+        requires parts { (blank.parts ≡ L.parts) × (blank.parts ≡ parts) }
+        ensures ids { OnOk result (ids.new ≡ ids.old + 4) }
+        ensures unchanged { OnErr result (ids.new ≡ ids.old) }
+        ensures back { IfErr result (λ e. e.1 ≡ blank) }
+        ensures limit { 2 ^ 58 < capacity → result ≡ Err (OpenError.NoMemory, blank) }
+        ensures used_up { IfErr result (λ e. e.0 ≡ OpenError.IdsUsedUp → 2 ^ 64 - 1 < ids.old + 4) }
+    {
+        match World::bounded(alloc, capacity, ids) {
+            Ok(world) => Ok(Self::over(alloc, Some(capacity), world, blank, parts)),
+            Err(why) => Err((why, blank)),
+        }
+    }
+
+    /// An open channel for any number of messages, else as `bounded`.
+    pub fn unbounded(
+        alloc: Global,
+        ids: &mut EventIds,
+        blank: Blank,
+        parts: u64,
+    ) -> Result<Self, (OpenError, Blank)>
+        requires name { blank.name ≡ L.name }
+        requires parts { (blank.parts ≡ L.parts) × (blank.parts ≡ parts) }
+        ensures ids { OnOk result (ids.new ≡ ids.old + 4) }
+        ensures unchanged { OnErr result (ids.new ≡ ids.old) }
+        ensures back { IfErr result (λ e. e.1 ≡ blank) }
+        ensures used_up { IfErr result (λ e. e.0 ≡ OpenError.IdsUsedUp → 2 ^ 64 - 1 < ids.old + 4) }
+    {
+        match World::unbounded(alloc, ids) {
+            Ok(world) => Ok(Self::over(alloc, None, world, blank, parts)),
+            Err(why) => Err((why, blank)),
+        }
+    }
+
+    // A world that was just opened, under its lock.
+    fn over(
+        alloc: Global,
+        capacity: Option<usize>,
+        world: World<T>,
+        blank: Blank,
+        parts: u64,
+    ) -> Self
+        requires opened { at_rest world ≡ start capacity }
+        requires quiet { IsQuiet world }
+        requires name { blank.name ≡ L.name }
+        requires parts { (blank.parts ≡ L.parts) × (blank.parts ≡ parts) }
+    {
+        let recording = Recording::new(alloc, capacity, world, blank, parts);
+        RecordedChannel {
+            inner: Mutex::new(recording),
+        }
+    }
+
+    /// One more seat, which made no call yet. Seats are numbered from 0 in the order of making.
+    ///
+    /// Refused where no part of the ledger but the last is left, or where 2^32 seats were made. It may wait for the lock.
+    pub fn seat<R: Wait>(&self, rt: &R) -> Result<RecordSeat<L>, SeatsUsedUp>
+        ensures { IfOk result (λ s. s.calls ≡ 0) }
+    {
+        self.inner.lock(rt).seat()
+    }
+
+    /// Makes a call from its begin to its end, with nobody else at work, and records it; the receipt is a copy of the entry.
+    ///
+    /// Refused for want of room for the entry or the receipt, or as `World::run_calls` refuses it. Then nothing has changed,
+    /// nothing is recorded and the call comes back. It may wait for the lock.
+    pub fn call<R: Wait>(
+        &self,
+        rt: &R,
+        seat: &mut RecordSeat<L>,
+        call: Call<T>,
+    ) -> Result<Receipt<T>, RecordError<T>>
+        ensures asked { IfOk result (λ r. (r.call ≡ call) × (r.seat ≡ seat.old.number)) }
+        ensures counted { OnOk result (seat.new ≡ one_more seat.old) }
+        ensures back { IfErr result (λ e. call_in e ≡ call) }
+        ensures idle { OnErr result (seat.new ≡ seat.old) }
+    {
+        self.inner.lock(rt).call(seat, call)
+    }
+
+    /// The record, where all seats that were made are gathered: it has as many entries as they made accepted calls. A channel
+    /// of which no seat was made is finished with the empty list.
+    ///
+    /// Where a seat is missing the channel and the seats come back.
+    pub fn finish(self, seats: Vec<RecordSeat<L>>) -> Result<Record<T>, MissingSeat<T, L>>
+        ensures counted { IfOk result (λ r. length r.entries ≡ calls_of seats.items) }
+        ensures back { IfErr result (λ m. m.seats.items ≡ seats.items) }
+    {
+        let RecordedChannel { inner } = self;
+        match inner.into_inner().finish(seats) {
+            Ok(record) => Ok(record),
+            Err((recording, seats)) => Err(MissingSeat {
+                channel: RecordedChannel {
+                    inner: Mutex::new(recording),
+                },
+                seats,
+            }),
+        }
+    }
+}

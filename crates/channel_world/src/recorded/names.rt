@@ -1,0 +1,74 @@
+//! Lists of names.
+
+ghost use Rattle.std.specs.Prelude.{◌≡◌, ◌≤◌, [], length, vec_capacity};
+
+use crate::name::Waiter;
+use std::marker::Model;
+
+/// Names in order. Contracts see no more of them than the list, so two copies are equal whatever room they have.
+///
+/// Own to this project.
+#[derive(Drop)]
+pub struct Names {
+    items: Vec<Waiter>,
+}
+
+impl Model for Names {
+    ghost use Rattle.std.specs.Prelude.{List};
+    ghost use Rattle.channel_model.specs.declared.name.Waiter.{Waiter};
+
+    ghost Value = { List Waiter };
+
+    ghost view = { λ n. n.items.items };
+}
+
+impl Names {
+    /// These names.
+    pub fn new(items: Vec<Waiter>) -> Names
+        ensures { result ≡ items.items }
+    {
+        Names { items }
+    }
+
+    /// The names in order.
+    pub fn as_slice(&self) -> &[Waiter]
+        ensures { result.now ≡ self.now }
+    {
+        self.items.as_slice()
+    }
+
+    // A copy of these names, in the room that was taken for it.
+    pub(crate) fn copied(&self, room: Vec<Waiter>) -> Names
+        requires empty { room.items ≡ [] }
+        requires room { length self.now ≤ vec_capacity room }
+        ensures { result ≡ self.now }
+    {
+        let mut items = room;
+        let Ok(()) = items.extend_from_slice(self.items.as_slice()) else {
+            unreachable!()
+        };
+        Names { items }
+    }
+}
+
+impl PartialEq for Names {
+    ghost use Rattle.std.specs.Cmp.Lexicographic.{pointwise, lists_per};
+    ghost use Rattle.channel_model.specs.Lines.{same_waiter};
+    ghost use Rattle.std.specs.Cmp.{partial_equiv_from_equiv};
+    ghost use Rattle.channel_model.proofs.WaiterLemmas.{same_equiv};
+
+    ghost eq = { λ a b. pointwise same_waiter a b };
+
+    ghost laws = { lists_per (partial_equiv_from_equiv same_equiv) };
+
+    fn eq(&self, other: &Names) -> bool {
+        self.items.as_slice() == other.items.as_slice()
+    }
+}
+
+impl Eq for Names {
+    ghost use Rattle.std.specs.Cmp.Lexicographic.{lists_equiv};
+    ghost use Rattle.channel_model.proofs.WaiterLemmas.{same_equiv};
+
+    ghost laws = { lists_equiv same_equiv };
+}

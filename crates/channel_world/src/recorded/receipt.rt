@@ -1,0 +1,21 @@
+//! Entries of a record.
+
+use super::names::Names;
+use crate::call::{Call, Reply};
+
+/// A recorded call: where it stands in the record, who made it, what it asked, what it answered and whom it woke.
+///
+/// The record is the list of these, and whoever makes a call gets a copy of its entry. Own to this project.
+#[derive(Drop, PartialEq, Eq)]
+pub struct Receipt<T> {
+    /// The entry's place in the record, counted from 0.
+    pub place: usize,
+    /// The number of the seat that made the call.
+    pub seat: u32,
+    /// What was asked.
+    pub call: Call<T>,
+    /// What was answered.
+    pub reply: Reply<T>,
+    /// Whom the call woke, in order.
+    pub woken: Names,
+}

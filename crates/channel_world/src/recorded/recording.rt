@@ -1,0 +1,250 @@
+//! What stands behind the lock: a world with the record of its calls.
+
+ghost use Rattle.std.specs.Prelude.{◌≡◌, ◌≢◌, ◌⊎◌, ◌<◌, ◌≤◌, ◌+◌, ◌^◌, ◌∷◌, ◌++◌, [], IfSome, IfNone, IfOk, IfErr, OnOk, OnErr, length, vec_len, vec_capacity};
+ghost use Rattle.std.specs.VecDeque.{deque_len, deque_capacity};
+ghost use Rattle.channel_world.specs.World.{at_rest, most_woken};
+
+use super::copies::{copied_call, copied_reply};
+use super::error::{RecordError, SeatsUsedUp};
+use super::names::Names;
+use super::receipt::Receipt;
+use super::record::Record;
+use super::seat::RecordSeat;
+use crate::call::{Call, CallRun, Done, Stopped, WorldRefusal};
+use crate::name::Waiter;
+use crate::world::World;
+use std::alloc::Global;
+use std::collections::VecDeque;
+use std::marker::Model;
+use std::sync::ledger::{Blank, Book, Ledger, Share};
+
+/// How many seats there are at most: so many numbers does a seat's have.
+const MOST_SEATS: u64 = 1 << 32;
+
+/// A world with the record of its calls, the book of the ledger, and those of its parts that no seat has.
+#[derive(Drop)]
+pub(crate) struct Recording<T: Copy, L: Ledger> {
+    alloc: Global,
+    /// The capacity with which the channel was opened.
+    capacity: Option<usize>,
+    world: World<T>,
+    /// The call that is handed to the world; empty between two calls.
+    asked: VecDeque<Call<T>>,
+    entries: Vec<Receipt<T>>,
+    book: Book<L>,
+    rest: Share<L>,
+    /// How many parts no seat has, the channel's last one among them.
+    left: u64,
+    /// How many seats were made.
+    made: u64,
+}
+
+impl<T: Copy, L: Ledger> Model for Recording<T, L> {
+    ghost use Rattle.std.specs.Prelude.{◌≡◌, [], vec_len};
+    ghost use Rattle.channel_interleaving.specs.Floor.{IsQuiet};
+    ghost use Rattle.channel_world.specs.Recording.{RecordingView, IsRecording};
+    ghost use Rattle.channel_world.specs.World.{at_rest};
+
+    ghost Value = { RecordingView T };
+
+    ghost view = { λ r. record { capacity = r.capacity; state = at_rest r.world; entries = r.entries.items; seats = r.made; parts = r.left } };
+
+    ghost invariant = { λ r. IsQuiet r.world × (r.asked.items ≡ []) × IsRecording (record { capacity = r.capacity; state = at_rest r.world; entries = r.entries.items; seats = r.made; parts = r.left }) (vec_len r.entries) r.book.total r.rest.parts r.rest.amount L.parts };
+}
+
+impl<T: Copy, L: Ledger> Recording<T, L> {
+    ghost use Rattle.channel_interleaving.specs.Floor.{IsQuiet};
+    ghost use Rattle.channel_model.specs.State.{start};
+    ghost use Rattle.channel_world.specs.RecordReplay.{Made};
+    ghost use Rattle.channel_world.specs.RecordSeat.{calls_of, new_seat, one_more};
+    ghost use Rattle.channel_world.specs.Recording.{with_seat, call_in, MayRefuse};
+
+    /// A world that was just opened, with an empty record and all parts of the ledger.
+    pub(crate) fn new(
+        alloc: Global,
+        capacity: Option<usize>,
+        world: World<T>,
+        blank: Blank,
+        parts: u64,
+    ) -> Self
+        requires opened { at_rest world ≡ start capacity }
+        requires quiet { IsQuiet world }
+        requires name { blank.name ≡ L.name }
+        requires parts { (blank.parts ≡ L.parts) × (blank.parts ≡ parts) }
+        ensures { result ≡ record { capacity = capacity; state = at_rest world; entries = []; seats = 0; parts = parts } }
+    {
+        let (book, rest) = blank.open::<L>();
+        Recording {
+            alloc,
+            capacity,
+            world,
+            asked: VecDeque::new(alloc),
+            entries: Vec::new(alloc),
+            book,
+            rest,
+            left: parts,
+            made: 0,
+        }
+    }
+
+    /// One more seat, with one part of the ledger; the last part stays here.
+    pub(crate) fn seat(&mut self) -> Result<RecordSeat<L>, SeatsUsedUp>
+        ensures seat { IfOk result (λ s. s ≡ new_seat self.old.seats) }
+        ensures made { OnOk result (self.new ≡ with_seat self.old) }
+        ensures used_up { OnErr result ((self.old.parts ≤ 1) ⊎ (self.old.seats ≡ 2 ^ 32)) }
+        ensures unchanged { OnErr result (self.new ≡ self.old) }
+    {
+        if self.left <= 1 || self.made >= MOST_SEATS {
+            return Err(SeatsUsedUp);
+        }
+        let mine = self.rest.split_off(1, 0);
+        let number = self.made as u32;
+        self.left -= 1;
+        self.made += 1;
+        Ok(RecordSeat { number, mine })
+    }
+
+    /// Makes a call for a seat and records it. Room for its entry and its receipt is taken first.
+    pub(crate) fn call(
+        &mut self,
+        seat: &mut RecordSeat<L>,
+        call: Call<T>,
+    ) -> Result<Receipt<T>, RecordError<T>>
+        ensures asked { IfOk result (λ r. (r.call ≡ call) × (r.seat ≡ seat.old.number)) }
+        ensures place { IfOk result (λ r. r.place ≡ length self.old.entries) }
+        ensures made { IfOk result (λ r. Made self.old.state r self.new.state) }
+        ensures recorded { IfOk result (λ r. self.new ≡ record self.old { state = self.new.state; entries = self.old.entries ++ r ∷ [] }) }
+        ensures counted { OnOk result (seat.new ≡ one_more seat.old) }
+        ensures why { IfErr result (λ e. MayRefuse self.old.state e) }
+        ensures back { IfErr result (λ e. call_in e ≡ call) }
+        ensures unchanged { OnErr result (self.new ≡ self.old) }
+        ensures idle { OnErr result (seat.new ≡ seat.old) }
+    {
+        let room = ask(
+            self.alloc,
+            &self.world,
+            &mut self.asked,
+            &mut self.entries,
+            &call,
+        );
+        let Some(names) = room else {
+            return Err(RecordError::NoRoom { call });
+        };
+        let CallRun { mut done, stopped } = self.world.run_calls(&mut self.asked);
+        self.asked.clear();
+        match done.pop() {
+            Some(done) => {
+                let place = self.entries.len();
+                let (entry, receipt) = twice(place, seat.number, call, done, names);
+                self.entries.push_reserved(entry);
+                self.book.add(&mut seat.mine, 1);
+                Ok(receipt)
+            }
+            None => Err(RecordError::World {
+                why: reason(stopped),
+                call,
+            }),
+        }
+    }
+
+    /// The record, where as many seats are gathered as were made. Else all comes back.
+    pub(crate) fn finish(
+        self,
+        seats: Vec<RecordSeat<L>>,
+    ) -> Result<Record<T>, (Self, Vec<RecordSeat<L>>)>
+        ensures all { OnOk result (length seats.items ≡ self.seats) }
+        ensures record { IfOk result (λ r. r ≡ record { capacity = self.capacity; entries = self.entries }) }
+        ensures counted { IfOk result (λ r. length r.entries ≡ calls_of seats.items) }
+        ensures missing { OnErr result (length seats.items ≢ self.seats) }
+        ensures back { IfErr result (λ b. (b.0 ≡ self) × (b.1.items ≡ seats.items)) }
+    {
+        if seats.len() as u64 != self.made {
+            return Err((self, seats));
+        }
+        let Recording {
+            alloc: _,
+            capacity,
+            world: _,
+            asked: _,
+            entries,
+            mut book,
+            rest,
+            left: _,
+            made: _,
+        } = self;
+        let mut all = rest;
+        let mut seats = seats;
+        while let Some(seat) = seats.pop() {
+            let RecordSeat { number: _, mine } = seat;
+            all.merge(mine);
+        }
+        book.audit(&mut all);
+        Ok(Record { capacity, entries })
+    }
+}
+
+/// Hands a copy of the call to the world's list, once there is room for it, for its entry and for the names of its receipt.
+/// That for the names is what comes back; None where room is refused.
+fn ask<T: Copy>(
+    alloc: Global,
+    world: &World<T>,
+    asked: &mut VecDeque<Call<T>>,
+    entries: &mut Vec<Receipt<T>>,
+    call: &Call<T>,
+) -> Option<Vec<Waiter>>
+    requires { asked.old.items ≡ [] }
+    ensures asked { IfSome result (λ names. asked.new.items ≡ call.now ∷ []) }
+    ensures names { IfSome result (λ names. (names.items ≡ []) × (most_woken call.now (at_rest world.now).waiting ≤ vec_capacity names)) }
+    ensures room { IfSome result (λ names. vec_len entries.new < vec_capacity entries.new) }
+    ensures entries { (entries.new.items ≡ entries.old.items) × (vec_len entries.new ≡ vec_len entries.old) }
+    ensures refused { IfNone result (asked.new.items ≡ []) }
+{
+    let most = world.room_for(call)?;
+    let names = Vec::with_capacity(alloc, most).ok()?;
+    entries.reserve(1).ok()?;
+    asked.reserve(1).ok()?;
+    asked.push_back_reserved(copied_call(call));
+    Some(names)
+}
+
+/// The entry of a call that was made, and its receipt, whose names lie in the room that was taken for them.
+fn twice<T: Copy>(
+    place: usize,
+    seat: u32,
+    call: Call<T>,
+    done: Done<T>,
+    room: Vec<Waiter>,
+) -> (Receipt<T>, Receipt<T>)
+    requires empty { room.items ≡ [] }
+    requires room { length done.woken.items ≤ vec_capacity room }
+    ensures entry { result.0 ≡ record { place = place; seat = seat; call = call; reply = done.reply; woken = done.woken.items } }
+    ensures same { result.1 ≡ result.0 }
+{
+    let Done { reply, woken } = done;
+    let woken = Names::new(woken);
+    let receipt = Receipt {
+        place,
+        seat,
+        call: copied_call(&call),
+        reply: copied_reply(&reply),
+        woken: woken.copied(room),
+    };
+    let entry = Receipt {
+        place,
+        seat,
+        call,
+        reply,
+        woken,
+    };
+    (entry, receipt)
+}
+
+/// Why a run stopped that did not make its one call.
+fn reason(stopped: Option<Stopped>) -> WorldRefusal
+    ensures { IfSome stopped (λ s. result ≡ s.why) }
+{
+    match stopped {
+        Some(stopped) => stopped.why,
+        None => WorldRefusal::NoMemory,
+    }
+}

@@ -1,0 +1,76 @@
+//! Channels are opened with the capacity that was asked for, of which no contract speaks.
+ghost use Rattle.std.specs.Prelude.{◌≡◌};
+
+use channel_world::RecordedChannel;
+use channel_world::call::{Call, Reply};
+use channel_world::name::HandleId;
+use event_listener::id::EventIds;
+use std::alloc::Global;
+use std::marker::Brand;
+use std::sync::Wait;
+use std::sync::ledger::{Blank, Ledger};
+use std::test::*;
+
+/// What a channel says of its capacity, and what its record does.
+#[derive(Clone, Copy, Debug, PartialEq, Eq)]
+struct Said {
+    channel: Option<usize>,
+    record: Option<usize>,
+}
+
+fn ask<L: Ledger, R: Wait>(
+    rt: &R,
+    alloc: Global,
+    channel: RecordedChannel<u64, L>,
+) -> Option<Said> {
+    let mut seat = channel.seat(rt).ok()?;
+    let ask = Call::Capacity {
+        handle: HandleId(0),
+    };
+    let receipt = channel.call(rt, &mut seat, ask).ok()?;
+    let mut seats = Vec::new(alloc);
+    seats.push(seat).ok()?;
+    let record = channel.finish(seats).ok()?;
+    match &receipt.reply {
+        Reply::Cap(capacity) => Some(Said {
+            channel: *capacity,
+            record: record.capacity(),
+        }),
+        _ => None,
+    }
+}
+
+fn bounded<L: Ledger, R: Wait>(rt: &R, alloc: Global, blank: Blank) -> Option<Said>
+    requires name { blank.name ≡ L.name }
+    requires parts { (blank.parts ≡ L.parts) × (blank.parts ≡ 2) }
+{
+    let mut ids = EventIds::new();
+    let channel = RecordedChannel::<u64, L>::bounded(alloc, 3, &mut ids, blank, 2).ok()?;
+    ask(rt, alloc, channel)
+}
+
+fn unbounded<L: Ledger, R: Wait>(rt: &R, alloc: Global, blank: Blank) -> Option<Said>
+    requires name { blank.name ≡ L.name }
+    requires parts { (blank.parts ≡ L.parts) × (blank.parts ≡ 2) }
+{
+    let mut ids = EventIds::new();
+    let channel = RecordedChannel::<u64, L>::unbounded(alloc, &mut ids, blank, 2).ok()?;
+    ask(rt, alloc, channel)
+}
+
+/// What is said where the capacity is this.
+fn said(capacity: Option<usize>) -> Option<Said> {
+    Some(Said {
+        channel: capacity,
+        record: capacity,
+    })
+}
+
+#[test]
+fn the_capacity_is_as_asked_for(rt: HostRuntime) -> Result<(), Fail> {
+    let three = bounded::<Brand, HostRuntime>(&rt, rt.alloc(), Blank::new(2));
+    assert_eq!(rt; three, said(Some(3)));
+    let any = unbounded::<Brand, HostRuntime>(&rt, rt.alloc(), Blank::new(2));
+    assert_eq!(rt; any, said(None));
+    Ok(())
+}

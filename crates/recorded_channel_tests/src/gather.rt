@@ -1,0 +1,99 @@
+//! Seats: how many there are, and that all are gathered at the end.
+ghost use Rattle.std.specs.Prelude.{◌≡◌};
+
+use channel_world::call::Call;
+use channel_world::name::HandleId;
+use channel_world::{RecordedChannel, SeatsUsedUp};
+use event_listener::id::EventIds;
+use std::alloc::Global;
+use std::marker::Brand;
+use std::sync::Wait;
+use std::sync::ledger::{Blank, Ledger};
+use std::test::*;
+
+const LEN: Call<u64> = Call::Len {
+    handle: HandleId(0),
+};
+
+/// What came of two seats.
+#[derive(Debug, PartialEq, Eq, Drop)]
+struct Gathered {
+    numbers: (u32, u32),
+    third: Option<SeatsUsedUp>,
+    /// How many seats came back where one was missing.
+    back: usize,
+    /// How many entries the record has.
+    entries: usize,
+}
+
+/// A channel of a blank of three parts: two seats, of which the second is gathered first.
+fn gather<L: Ledger, R: Wait>(rt: &R, alloc: Global, blank: Blank) -> Option<Gathered>
+    requires name { blank.name ≡ L.name }
+    requires parts { (blank.parts ≡ L.parts) × (blank.parts ≡ 3) }
+{
+    let mut ids = EventIds::new();
+    let channel = RecordedChannel::<u64, L>::bounded(alloc, 1, &mut ids, blank, 3).ok()?;
+    let mut first = channel.seat(rt).ok()?;
+    let mut second = channel.seat(rt).ok()?;
+    let third = channel.seat(rt).err();
+    let numbers = (first.number(), second.number());
+    channel.call(rt, &mut second, LEN).ok()?;
+    channel.call(rt, &mut first, LEN).ok()?;
+    let mut seats = Vec::new(alloc);
+    seats.push(second).ok()?;
+    let missing = channel.finish(seats).err()?;
+    let back = missing.seats.len();
+    missing.channel.call(rt, &mut first, LEN).ok()?;
+    let mut seats = missing.seats;
+    seats.push(first).ok()?;
+    let record = missing.channel.finish(seats).ok()?;
+    Some(Gathered {
+        numbers,
+        third,
+        back,
+        entries: record.len(),
+    })
+}
+
+/// With one seat missing channel and seat come back and are used on; with both there is the record.
+#[test]
+fn a_missing_seat_is_waited_for(rt: HostRuntime) -> Result<(), Fail> {
+    let gathered = gather::<Brand, HostRuntime>(&rt, rt.alloc(), Blank::new(3));
+    assert_eq!(rt;
+        gathered,
+        Some(Gathered {
+            numbers: (0, 1),
+            third: Some(SeatsUsedUp),
+            back: 1,
+            entries: 3,
+        })
+    );
+    Ok(())
+}
+
+/// Whether no seat is made of so few parts, and how many entries the record then has.
+fn nobody<L: Ledger, R: Wait>(
+    rt: &R,
+    alloc: Global,
+    blank: Blank,
+    parts: u64,
+) -> Option<(bool, usize)>
+    requires name { blank.name ≡ L.name }
+    requires parts { (blank.parts ≡ L.parts) × (blank.parts ≡ parts) }
+{
+    let mut ids = EventIds::new();
+    let channel = RecordedChannel::<u64, L>::unbounded(alloc, &mut ids, blank, parts).ok()?;
+    let refused = channel.seat(rt).is_err();
+    let record = channel.finish(Vec::new(alloc)).ok()?;
+    Some((refused, record.len()))
+}
+
+/// The last part stays with the channel, and a channel without seats is finished with the empty list.
+#[test]
+fn no_seat_is_made_of_one_part(rt: HostRuntime) -> Result<(), Fail> {
+    let none = nobody::<Brand, HostRuntime>(&rt, rt.alloc(), Blank::new(0), 0);
+    assert_eq!(rt; none, Some((true, 0)));
+    let one = nobody::<Brand, HostRuntime>(&rt, rt.alloc(), Blank::new(1), 1);
+    assert_eq!(rt; one, Some((true, 0)));
+    Ok(())
+}

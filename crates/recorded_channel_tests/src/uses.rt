@@ -1,0 +1,99 @@
+//! What a program can rely on, proved of it here with no word of how a recorded channel is made.
+ghost use Rattle.std.specs.Prelude.{◌≡◌, ◌+◌, ◌++◌, IfSome, length};
+ghost use Rattle.channel_model.specs.Laws.{NobodyIsLeft};
+ghost use Rattle.channel_world.specs.RecordLaws.{removed, accepted};
+ghost use Rattle.channel_world.specs.RecordReplay.{IsHistory};
+
+use channel_world::call::Call;
+use channel_world::name::HandleId;
+use channel_world::recorded::laws::{a_record_leaves_nobody_asleep, a_record_loses_nothing};
+use channel_world::{Receipt, Record, RecordSeat, RecordedChannel};
+use event_listener::id::EventIds;
+use std::alloc::Global;
+use std::marker::Brand;
+use std::sync::Wait;
+use std::sync::ledger::{Blank, Ledger};
+use std::test::*;
+use std::thread;
+use std::thread::Threads;
+
+/// How many calls each thread makes.
+const CALLS: u32 = 100;
+
+/// Makes calls and counts those that are accepted.
+fn work<L: Ledger, R: Wait>(
+    rt: &R,
+    channel: &RecordedChannel<u64, L>,
+    seat: RecordSeat<L>,
+    handle: HandleId,
+) -> (RecordSeat<L>, u32)
+    ensures { result.0.calls ≡ seat.calls + result.1 }
+{
+    let mut seat = seat;
+    let mut made: u32 = 0;
+    for _i in 0..CALLS {
+        let call = Call::TrySend {
+            sender: handle,
+            msg: 1,
+        };
+        if channel.call(rt, &mut seat, call).is_ok() {
+            made += 1;
+        }
+    }
+    (seat, made)
+}
+
+/// How many calls two threads counted, and the record, which has as many entries.
+fn both<L: Ledger + Sync, R: Threads + Wait + Sync>(
+    rt: &R,
+    alloc: Global,
+    blank: Blank,
+) -> Option<(u32, u32, Record<u64>)>
+    requires name { blank.name ≡ L.name }
+    requires parts { (blank.parts ≡ L.parts) × (blank.parts ≡ 3) }
+    ensures { IfSome result (λ r. length r.2.entries ≡ r.0 + r.1) }
+{
+    let mut ids = EventIds::new();
+    let channel = RecordedChannel::<u64, L>::bounded(alloc, 1, &mut ids, blank, 3).ok()?;
+    let first = channel.seat(rt).ok()?;
+    let second = channel.seat(rt).ok()?;
+    let shared = &channel;
+    let (a, b) = thread::join(
+        rt,
+        move || -> (RecordSeat<L>, u32)
+            requires { first.calls ≡ 0 }
+            ensures { result.0.calls ≡ result.1 }
+        { work(rt, shared, first, HandleId(0)) },
+        move || -> (RecordSeat<L>, u32)
+            requires { second.calls ≡ 0 }
+            ensures { result.0.calls ≡ result.1 }
+        { work(rt, shared, second, HandleId(1)) },
+    );
+    let (first, m) = a;
+    let (second, n) = b;
+    let mut seats = Vec::new(alloc);
+    seats.push(first).ok()?;
+    seats.push(second).ok()?;
+    let record = channel.finish(seats).ok()?;
+    Some((m, n, record))
+}
+
+/// What a reader of a finished record knows, with nothing but the record: what was received or displaced, followed by what is
+/// held at its end, is what was accepted, in order; and nobody was left asleep then.
+fn read<T>(record: &Record<T>) -> &[Receipt<T>]
+    ensures entries { result.now ≡ record.now.entries }
+    ensures laws { (h : IsHistory record.now.capacity record.now.entries) × (removed record.now.entries ++ h.last.channel.messages ≡ accepted record.now.entries) × NobodyIsLeft h.last }
+{
+    a_record_loses_nothing::<T>();
+    a_record_leaves_nobody_asleep::<T>();
+    record.entries()
+}
+
+/// The calls of one thread are all accepted, those of the other, which sends through a receiver, all refused.
+#[test]
+fn the_record_has_as_many_entries_as_were_counted(rt: HostRuntime) -> Result<(), Fail> {
+    let all = both::<Brand, HostRuntime>(&rt, rt.alloc(), Blank::new(3));
+    let (m, n, record) = all.expect(&rt, "memory");
+    assert_eq!(rt; (m, n, read(&record).len()), (CALLS, 0, 100));
+    Ok(())
+}
