@@ -4,12 +4,14 @@ use crate::answers::{
     closed, forced_send, is_closed, polled_closed, polled_next, polled_recv, polled_send, received,
     sent, tried_recv, tried_send,
 };
-use crate::party::Party;
-use crate::point::{Did, Point, Side, Sight};
+use crate::party::{Hands, Party};
 use crate::random::Random;
+use async_channel::Receiver;
 use event_listener::error::ListenError;
 use futures::Stream;
 use futures::task::Poll;
+use futures::test::MockTask;
+use history_checker::point::{Did, Point, Side, Sight};
 use std::sync::Wait;
 
 /// The calls of handles.
@@ -125,43 +127,43 @@ impl<'a, R: Wait + Copy> Party<'a, R> {
     pub fn try_send(&mut self) {
         let message = self.next_message();
         let begin = self.stamps.stamp();
-        let answer = self.sender.try_send(message);
+        let answer = self.hands.sender.try_send(message);
         self.note(begin, tried_send(message, &answer));
     }
 
     fn force_send(&mut self) {
         let message = self.next_message();
         let begin = self.stamps.stamp();
-        let answer = self.sender.force_send(message);
-        let capacity = self.sender.capacity();
+        let answer = self.hands.sender.force_send(message);
+        let capacity = self.hands.sender.capacity();
         self.note(begin, forced_send(capacity, message, &answer));
     }
 
     fn send_blocking(&mut self) {
         let message = self.next_message();
         let begin = self.stamps.stamp();
-        let answer = self.sender.send_blocking(message);
+        let answer = self.hands.sender.send_blocking(message);
         self.note(begin, sent(message, &answer));
     }
 
     pub fn try_recv(&mut self) {
         let begin = self.stamps.stamp();
-        let answer = self.receiver.try_recv();
+        let answer = self.hands.receiver.try_recv();
         self.note(begin, tried_recv(&answer));
     }
 
     fn recv_blocking(&mut self) {
         let begin = self.stamps.stamp();
-        let answer = self.receiver.recv_blocking();
+        let answer = self.hands.receiver.recv_blocking();
         self.note(begin, received(&answer));
     }
 
     pub fn close(&mut self) {
         let begin = self.stamps.stamp();
         let answer = if self.random.once_in(2) {
-            self.sender.close()
+            self.hands.sender.close()
         } else {
-            self.receiver.close()
+            self.hands.receiver.close()
         };
         self.note(begin, closed(answer));
     }
@@ -172,7 +174,7 @@ impl<'a, R: Wait + Copy> Party<'a, R> {
     fn poll_send(&mut self) {
         if self.send.is_none() {
             self.sending = self.next_message();
-            self.send = Some(self.sender.send(self.sending));
+            self.send = Some(self.hands.sender.send(self.sending));
         }
         let Some(mut send) = self.send.take() else {
             return;
@@ -188,7 +190,7 @@ impl<'a, R: Wait + Copy> Party<'a, R> {
     fn poll_recv(&mut self) {
         let mut recv = match self.recv.take() {
             Some(recv) => recv,
-            None => self.receiver.recv(),
+            None => self.hands.receiver.recv(),
         };
         let begin = self.stamps.stamp();
         let answer = self.tasks.recv.poll(&mut recv);
@@ -201,7 +203,7 @@ impl<'a, R: Wait + Copy> Party<'a, R> {
     fn poll_closed(&mut self) {
         let mut closed = match self.closed.take() {
             Some(closed) => closed,
-            None => self.sender.closed(),
+            None => self.hands.sender.closed(),
         };
         let begin = self.stamps.stamp();
         let answer = self.tasks.closed.poll(&mut closed);
@@ -226,8 +228,9 @@ impl<'a, R: Wait + Copy> Party<'a, R> {
     fn give_up_send(&mut self) {
         if let Some(send) = self.send.take() {
             let begin = self.stamps.stamp();
+            let finished = send.is_terminated();
             let back = send.give_up();
-            self.note(begin, Did::nothing_if(back == Some(self.sending)));
+            self.note(begin, Did::nothing_if(!finished && back == Some(self.sending)));
         }
     }
 
@@ -247,7 +250,11 @@ impl<'a, R: Wait + Copy> Party<'a, R> {
 // Questions and handles.
 impl<'a, R: Wait + Copy> Party<'a, R> {
     fn ask(&mut self, question: Question) {
-        let (s, r) = (self.sender, self.receiver);
+        let Hands {
+            sender: s,
+            receiver: r,
+            ..
+        } = self.hands;
         let begin = self.stamps.stamp();
         let did = match question {
             Question::IsClosed => is_closed(s.is_closed()),
@@ -267,7 +274,7 @@ impl<'a, R: Wait + Copy> Party<'a, R> {
 
     fn clone_sender(&mut self) {
         let begin = self.stamps.stamp();
-        match self.sender.try_clone() {
+        match self.hands.sender.try_clone() {
             Ok(sender) => {
                 self.note(begin, Did::Once(Point::Raise(Side::Senders)));
                 let _ = self.senders.push(sender);
@@ -278,7 +285,7 @@ impl<'a, R: Wait + Copy> Party<'a, R> {
 
     fn clone_receiver(&mut self) {
         let begin = self.stamps.stamp();
-        match self.receiver.try_clone() {
+        match self.hands.receiver.try_clone() {
             Ok(receiver) => {
                 self.note(begin, Did::Once(Point::Raise(Side::Receivers)));
                 let _ = self.receivers.push(receiver);
@@ -289,24 +296,24 @@ impl<'a, R: Wait + Copy> Party<'a, R> {
 
     fn upgrade_sender(&mut self) {
         let begin = self.stamps.stamp();
-        match self.weak_sender.upgrade() {
+        match self.hands.weak_sender.upgrade() {
             Ok(Some(sender)) => {
-                self.note(begin, upgraded(Side::Senders));
+                self.note(begin, Did::upgraded(Side::Senders));
                 let _ = self.senders.push(sender);
             }
-            Ok(None) => self.note(begin, not_made(Side::Senders)),
+            Ok(None) => self.note(begin, Did::not_upgraded(Side::Senders)),
             Err(_) => self.log.spoiled = true,
         }
     }
 
     fn upgrade_receiver(&mut self) {
         let begin = self.stamps.stamp();
-        match self.weak_receiver.upgrade() {
+        match self.hands.weak_receiver.upgrade() {
             Ok(Some(receiver)) => {
-                self.note(begin, upgraded(Side::Receivers));
+                self.note(begin, Did::upgraded(Side::Receivers));
                 let _ = self.receivers.push(receiver);
             }
-            Ok(None) => self.note(begin, not_made(Side::Receivers)),
+            Ok(None) => self.note(begin, Did::not_upgraded(Side::Receivers)),
             Err(_) => self.log.spoiled = true,
         }
     }
@@ -315,7 +322,7 @@ impl<'a, R: Wait + Copy> Party<'a, R> {
         if let Some(sender) = self.senders.pop() {
             let begin = self.stamps.stamp();
             drop(sender);
-            self.note(begin, dropped(Side::Senders));
+            self.note(begin, Did::dropped(Side::Senders));
         }
     }
 
@@ -323,22 +330,15 @@ impl<'a, R: Wait + Copy> Party<'a, R> {
         if let Some(receiver) = self.receivers.pop() {
             let begin = self.stamps.stamp();
             drop(receiver);
-            self.note(begin, dropped(Side::Receivers));
+            self.note(begin, Did::dropped(Side::Receivers));
         }
     }
 }
 
-/// A handle was made from a weak one.
-pub fn upgraded(side: Side) -> Did {
-    Did::Twice(Point::Sees(Sight::Open), Point::Raise(side))
-}
-
-/// No handle was made from a weak one.
-pub fn not_made(side: Side) -> Did {
-    Did::saw(Sight::NotMade(side))
-}
-
-/// A handle was dropped.
-pub fn dropped(side: Side) -> Did {
-    Did::Twice(Point::Lower(side), Point::CloseIfLast(side))
+/// A poll of a receiver as a stream.
+fn poll_stream<R: Wait + Copy>(
+    task: &MockTask,
+    stream: &mut Receiver<u64, R>,
+) -> Poll<Option<Result<u64, ListenError>>> {
+    task.enter(|cx| stream.poll_next(cx))
 }

@@ -1,10 +1,10 @@
 //! What a call did, as its answer says.
 
-use crate::point::{Did, Point, Sight};
 use async_channel::{RecvError, Refused, SendError, TryRecvError, TrySendError};
 use concurrent_queue::error::{ForcePushError, PopError, PushError};
 use event_listener::error::ListenError;
 use futures::task::Poll;
+use history_checker::point::{Did, Point, Sight};
 
 /// A send that doesn't wait.
 pub fn tried_send(message: u64, answer: &Result<(), Refused<TrySendError<u64>, u64>>) -> Did {
@@ -30,17 +30,11 @@ pub fn pushed(message: u64, answer: &Result<(), PushError<u64>>) -> Did {
     }
 }
 
-/// The message came in, and this one left for it. One slot does both at once; a ring was found open and full first.
-fn displaced(capacity: Option<usize>, message: u64, oldest: Option<u64>) -> Did {
-    match (oldest, capacity) {
-        (None, _) => Did::Once(Point::Append(message)),
-        (Some(_), None) => Did::Never,
-        (Some(oldest), Some(1)) => Did::Once(Point::Replace(oldest, message)),
-        (Some(oldest), Some(_)) => Did::Thrice(
-            Point::Sees(Sight::Crowded),
-            Point::Displace(oldest),
-            Point::Arrive(message),
-        ),
+/// The message came in, and perhaps this one left for it.
+fn came_in(capacity: Option<usize>, message: u64, oldest: Option<u64>) -> Did {
+    match oldest {
+        Some(oldest) => Did::displaced(capacity, oldest, message),
+        None => Did::Once(Point::Append(message)),
     }
 }
 
@@ -51,7 +45,7 @@ pub fn forced_send(
     answer: &Result<Option<u64>, Refused<SendError<u64>, u64>>,
 ) -> Did {
     match answer {
-        Ok(oldest) => displaced(capacity, message, *oldest),
+        Ok(oldest) => came_in(capacity, message, *oldest),
         Err(Refused::Plain(SendError(back))) if *back == message => Did::saw(Sight::Shut),
         Err(_) => Did::Never,
     }
@@ -64,7 +58,7 @@ pub fn forced_push(
     answer: &Result<Option<u64>, ForcePushError<u64>>,
 ) -> Did {
     match answer {
-        Ok(oldest) => displaced(capacity, message, *oldest),
+        Ok(oldest) => came_in(capacity, message, *oldest),
         Err(ForcePushError::Closed(back)) if *back == message => Did::saw(Sight::Shut),
         Err(_) => Did::Never,
     }

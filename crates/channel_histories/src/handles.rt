@@ -1,18 +1,17 @@
 //! A history over the handles of one channel.
 
-use crate::acts::{dropped, not_made, upgraded};
 use crate::answers::{tried_recv, tried_send};
 use crate::form::Form;
 use crate::gate::Gate;
-use crate::history::History;
-use crate::log::{Log, Stamps};
 use crate::party::{Hands, Party, Tasks};
-use crate::plain::Plain;
-use crate::point::Side;
 use crate::random::Random;
-use crate::rest::{Look, is_restful};
 use async_channel::{Receiver, Sender, WeakReceiver, WeakSender, bounded, unbounded};
 use event_listener::id::EventIds;
+use history_checker::history::History;
+use history_checker::log::{Log, Stamps};
+use history_checker::plain::Plain;
+use history_checker::point::{Did, Side};
+use history_checker::rest::{Look, is_restful};
 use std::alloc::{AllocGlobal, Global};
 use std::random::RandomSource;
 use std::sync::Wait;
@@ -42,6 +41,7 @@ struct Job<R: Wait + Copy> {
     thread: usize,
     seed: u64,
     hands: Hands<R>,
+    stream: Receiver<u64, R>,
 }
 
 /// What it gives back.
@@ -79,7 +79,7 @@ fn make_calls<R: Wait + Copy>(
 fn let_go<H: Drop>(handle: H, side: Side, stamps: &Stamps, log: &mut Log) {
     let begin = stamps.stamp();
     drop(handle);
-    log.note(begin, stamps.stamp(), dropped(side));
+    log.note(begin, stamps.stamp(), Did::dropped(side));
 }
 
 /// Another sender is made, and dropped.
@@ -87,10 +87,10 @@ fn make_sender<R: Wait + Copy>(weak: &WeakSender<u64, R>, stamps: &Stamps, log: 
     let begin = stamps.stamp();
     match weak.upgrade() {
         Ok(Some(sender)) => {
-            log.note(begin, stamps.stamp(), upgraded(Side::Senders));
+            log.note(begin, stamps.stamp(), Did::upgraded(Side::Senders));
             let_go(sender, Side::Senders, stamps, log);
         }
-        Ok(None) => log.note(begin, stamps.stamp(), not_made(Side::Senders)),
+        Ok(None) => log.note(begin, stamps.stamp(), Did::not_upgraded(Side::Senders)),
         Err(_) => log.spoiled = true,
     }
 }
@@ -100,10 +100,10 @@ fn make_receiver<R: Wait + Copy>(weak: &WeakReceiver<u64, R>, stamps: &Stamps, l
     let begin = stamps.stamp();
     match weak.upgrade() {
         Ok(Some(receiver)) => {
-            log.note(begin, stamps.stamp(), upgraded(Side::Receivers));
+            log.note(begin, stamps.stamp(), Did::upgraded(Side::Receivers));
             let_go(receiver, Side::Receivers, stamps, log);
         }
-        Ok(None) => log.note(begin, stamps.stamp(), not_made(Side::Receivers)),
+        Ok(None) => log.note(begin, stamps.stamp(), Did::not_upgraded(Side::Receivers)),
         Err(_) => log.spoiled = true,
     }
 }
@@ -113,7 +113,6 @@ fn leave_receiving<R: Wait + Copy>(hands: Hands<R>, stamps: &Stamps, log: &mut L
     let Hands {
         sender,
         receiver,
-        stream,
         weak_sender,
         weak_receiver: _,
     } = hands;
@@ -123,7 +122,6 @@ fn leave_receiving<R: Wait + Copy>(hands: Hands<R>, stamps: &Stamps, log: &mut L
     log.note(begin, stamps.stamp(), tried_recv(&answer));
     make_sender(&weak_sender, stamps, log);
     let_go(receiver, Side::Receivers, stamps, log);
-    let_go(stream, Side::Receivers, stamps, log);
 }
 
 /// The handles go, the receivers first.
@@ -131,12 +129,10 @@ fn leave_sending<R: Wait + Copy>(hands: Hands<R>, message: u64, stamps: &Stamps,
     let Hands {
         sender,
         receiver,
-        stream,
         weak_sender: _,
         weak_receiver,
     } = hands;
     let_go(receiver, Side::Receivers, stamps, log);
-    let_go(stream, Side::Receivers, stamps, log);
     let begin = stamps.stamp();
     let answer = sender.try_send(message);
     log.note(begin, stamps.stamp(), tried_send(message, &answer));
@@ -152,7 +148,8 @@ where
     let Job {
         thread,
         seed,
-        mut hands,
+        hands,
+        mut stream,
     } = job;
     let Ok(tasks) = Tasks::new(rt) else {
         return Seen {
@@ -163,9 +160,18 @@ where
     let mut random = Random::new(seed, thread);
     let sends_last = random.once_in(2);
     let first = (thread as u64).wrapping_mul(MESSAGES);
-    let mut party = Party::new(&mut hands, &tasks, &shared.stamps, random, first, alloc);
+    let mut party = Party::new(
+        &hands,
+        &mut stream,
+        &tasks,
+        &shared.stamps,
+        random,
+        first,
+        alloc,
+    );
     let look = make_calls(rt, &mut party, shared, seed % 2 == 0, thread == 0);
     let mut log = party.into_log();
+    let_go(stream, Side::Receivers, &shared.stamps, &mut log);
     if sends_last {
         leave_sending(hands, first, &shared.stamps, &mut log);
     } else {
@@ -202,6 +208,7 @@ fn jobs<R: Wait + Copy>(
             thread,
             seed,
             hands: Hands::of(&sender, &receiver)?,
+            stream: receiver.try_clone().ok()?,
         };
         jobs.push(job).ok()?;
     }

@@ -8,22 +8,15 @@ mod answers;
 mod form;
 mod gate;
 mod handles;
-mod history;
-mod log;
-mod order;
 mod party;
-mod plain;
-mod point;
 mod queue;
 mod random;
 mod rest;
-#[cfg(test)]
-mod tests;
 
 use crate::form::Form;
 use crate::handles::over_handles;
-use crate::history::History;
 use crate::queue::over_queue;
+use history_checker::history::History;
 use std::alloc::{AllocGlobal, Global};
 use std::env::Env;
 use std::process::ExitCode;

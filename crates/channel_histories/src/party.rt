@@ -1,11 +1,11 @@
 //! One thread of a history over handles.
 
 use crate::acts::Act;
-use crate::log::{Log, Stamps};
-use crate::point::Did;
 use crate::random::Random;
 use async_channel::{Closed, Receiver, Recv, Send, Sender, WeakReceiver, WeakSender};
 use futures::test::MockTask;
+use history_checker::log::{Log, Stamps};
+use history_checker::point::Did;
 use std::alloc::{AllocGlobal, Global};
 use std::random::RandomSource;
 use std::sync::Wait;
@@ -31,12 +31,11 @@ impl Tasks {
     }
 }
 
-/// The handles that a thread begins with.
+/// The handles that a thread begins with, beside the receiver that it polls as a stream.
 #[derive(Drop)]
 pub struct Hands<R: Wait + Copy> {
     pub sender: Sender<u64, R>,
     pub receiver: Receiver<u64, R>,
-    pub stream: Receiver<u64, R>,
     pub weak_sender: WeakSender<u64, R>,
     pub weak_receiver: WeakReceiver<u64, R>,
 }
@@ -47,7 +46,6 @@ impl<R: Wait + Copy> Hands<R> {
         Some(Hands {
             sender: sender.try_clone().ok()?,
             receiver: receiver.try_clone().ok()?,
-            stream: receiver.try_clone().ok()?,
             weak_sender: sender.downgrade().ok()?,
             weak_receiver: receiver.downgrade().ok()?,
         })
@@ -57,11 +55,8 @@ impl<R: Wait + Copy> Hands<R> {
 /// A thread's handles, operations and log.
 #[derive(Drop)]
 pub struct Party<'a, R: Wait + Copy> {
-    pub sender: &'a Sender<u64, R>,
-    pub receiver: &'a Receiver<u64, R>,
+    pub hands: &'a Hands<R>,
     pub stream: &'a mut Receiver<u64, R>,
-    pub weak_sender: &'a WeakSender<u64, R>,
-    pub weak_receiver: &'a WeakReceiver<u64, R>,
     pub tasks: &'a Tasks,
     pub stamps: &'a Stamps,
     pub random: Random,
@@ -82,7 +77,8 @@ pub struct Party<'a, R: Wait + Copy> {
 impl<'a, R: Wait + Copy> Party<'a, R> {
     /// A thread that has made no call. Its messages are those above this number.
     pub fn new(
-        hands: &'a mut Hands<R>,
+        hands: &'a Hands<R>,
+        stream: &'a mut Receiver<u64, R>,
         tasks: &'a Tasks,
         stamps: &'a Stamps,
         random: Random,
@@ -90,11 +86,8 @@ impl<'a, R: Wait + Copy> Party<'a, R> {
         alloc: Global,
     ) -> Party<'a, R> {
         Party {
-            sender: &hands.sender,
-            receiver: &hands.receiver,
-            stream: &mut hands.stream,
-            weak_sender: &hands.weak_sender,
-            weak_receiver: &hands.weak_receiver,
+            hands,
+            stream,
             tasks,
             stamps,
             random,

@@ -3,12 +3,12 @@
 use crate::answers::{closed, forced_push, is_closed, popped, pushed};
 use crate::form::Form;
 use crate::gate::Gate;
-use crate::history::History;
-use crate::log::{Log, Stamps};
-use crate::plain::Plain;
-use crate::point::{Did, Sight};
 use crate::random::Random;
 use concurrent_queue::shared::queue::ConcurrentQueue;
+use history_checker::history::History;
+use history_checker::log::{Log, Stamps};
+use history_checker::plain::Plain;
+use history_checker::point::{Did, Sight};
 use std::alloc::Global;
 use std::sync::Wait;
 use std::thread;

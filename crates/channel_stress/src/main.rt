@@ -1,7 +1,7 @@
 //! Stress on channels between threads: more threads than processors send and receive through channels of each form, all
 //! messages being counted when they are received and when they are let go; a thousand tasks wait; ten thousand handles are
-//! made and dropped. A run in which nothing moves any more is ended, with what is under way then. `channel_stress MESSAGES`:
-//! how many messages each sender of a crowd has.
+//! made and dropped. A run in which nothing moves any more is ended, and says what was under way then. `channel_stress MESSAGES`:
+//! how many messages each sender of a crowd has; `channel_stress times`: how long it takes to wake one of many.
 #![tactic(auto)]
 
 mod clones;
@@ -71,25 +71,49 @@ where
     Ok(woken && counted)
 }
 
-/// How many messages are asked for.
-fn messages<R: Env + Alloc<A = Global>>(rt: &R) -> io::Result<u64> {
-    let mut words = env::args(rt)?.skip(1);
-    let asked = words
-        .next()
-        .and_then(|word| word.as_str().parse::<u64>().ok());
-    Ok(asked.unwrap_or(MESSAGES))
+/// How long a send takes that wakes one of few tasks, and one of many.
+fn print_times<R>(rt: R, alloc: Global) -> io::Result<()>
+where
+    R: Wait + Copy + RandomSource + AllocGlobal + Clock + Print,
+{
+    for waiting in [10, 100, 1_000, 10_000] {
+        if let Some(taken) = waiting::time_of_wakes(rt, alloc, waiting) {
+            println!(&rt; "{waiting} tasks wait: {taken} ns for a message that wakes one")?;
+        }
+    }
+    Ok(())
 }
 
-fn main(rt: HostRuntime) -> io::Result<ExitCode> {
-    let messages = messages(&rt)?;
+/// All crowds, with so many messages a sender, and the others: whether all was right.
+fn run_all<R>(rt: R, alloc: Global, messages: u64) -> io::Result<bool>
+where
+    R: Wait + Threads + Copy + RandomSource + AllocGlobal + Clock + Print + Send + Sync + 'static,
+{
     for kind in KINDS {
         for channel in CHANNELS {
-            if !run_crowd(rt, rt.alloc(), channel, kind, messages)? {
-                return Ok(ExitCode::FAILURE);
+            if !run_crowd(rt, alloc, channel, kind, messages)? {
+                return Ok(false);
             }
         }
     }
-    if run_others(rt, rt.alloc())? {
+    run_others(rt, alloc)
+}
+
+/// The first word, if there is one.
+fn first_word<R: Env + Alloc<A = Global>>(rt: &R) -> io::Result<Option<String>> {
+    Ok(env::args(rt)?.nth(1))
+}
+
+fn main(rt: HostRuntime) -> io::Result<ExitCode> {
+    let mut messages = MESSAGES;
+    if let Some(word) = first_word(&rt)? {
+        if word.as_str() == "times" {
+            print_times(rt, rt.alloc())?;
+            return Ok(ExitCode::SUCCESS);
+        }
+        messages = word.as_str().parse::<u64>().unwrap_or(MESSAGES);
+    }
+    if run_all(rt, rt.alloc(), messages)? {
         Ok(ExitCode::SUCCESS)
     } else {
         Ok(ExitCode::FAILURE)

@@ -6,12 +6,17 @@ use futures::task::Poll;
 use futures::test::MockTask;
 use std::alloc::{AllocGlobal, Global};
 use std::random::RandomSource;
+use std::rt::Clock;
 use std::sync::Wait;
+use std::time::Instant;
 
 /// How many receive, and how many wait for the closing; and how many messages come.
-pub const TASKS: usize = 1_000;
+const TASKS: usize = 1_000;
 
-pub const MESSAGES: u64 = 500;
+const MESSAGES: u64 = 500;
+
+/// How many messages are timed.
+const TIMED: u64 = 10;
 
 /// A task with the receive that it polls.
 #[derive(Drop)]
@@ -32,12 +37,13 @@ fn receive<'a, R>(
     rt: &R,
     alloc: Global,
     receiver: &'a Receiver<u64, R>,
+    count: usize,
 ) -> Option<Vec<Receiving<'a, R>>>
 where
     R: Wait + Copy + RandomSource + AllocGlobal,
 {
     let mut tasks = Vec::new(alloc);
-    for _ in 0..TASKS {
+    for _ in 0..count {
         let task = MockTask::new(rt).ok()?;
         let mut recv = receiver.recv();
         if task.poll(&mut recv).is_ready() {
@@ -125,11 +131,27 @@ where
     R: Wait + Copy + RandomSource + AllocGlobal,
 {
     let (sender, receiver) = unbounded(rt, alloc, &mut EventIds::new()).ok()?;
-    let mut receives = receive(&rt, alloc, &receiver)?;
+    let mut receives = receive(&rt, alloc, &receiver, TASKS)?;
     let mut closings = await_closing(&rt, alloc, &sender)?;
     let in_order = wakes_in_order(&sender, receives.as_slice());
     let asleep = closings.iter().all(|one| !one.task.is_woken());
     let closed = sender.close();
     let received = receives_all(&mut receives);
     Some(in_order && asleep && closed && received && closes_all(&mut closings))
+}
+
+/// How many nanoseconds each of ten sends takes that wakes one of so many tasks. `None` where memory was refused.
+pub fn time_of_wakes<R>(rt: R, alloc: Global, waiting: usize) -> Option<u128>
+where
+    R: Wait + Copy + RandomSource + AllocGlobal + Clock,
+{
+    let (sender, receiver) = unbounded(rt, alloc, &mut EventIds::new()).ok()?;
+    let tasks = receive(&rt, alloc, &receiver, waiting)?;
+    let start = Instant::now(&rt).ok()?;
+    for message in 0..TIMED {
+        sender.try_send(message).ok()?;
+    }
+    let taken = start.elapsed(&rt).ok()?.as_nanos();
+    drop(tasks);
+    Some(taken / u128::from(TIMED))
 }

@@ -1,6 +1,5 @@
 //! The checker is tried: planted wrong histories, each beside one that is like it and right.
 
-use crate::acts::dropped;
 use crate::log::Log;
 use crate::order::{Verdict, judge};
 use crate::plain::Plain;
@@ -34,13 +33,9 @@ fn takes(message: u64) -> Did {
     Did::Once(Point::Take(message))
 }
 
-/// A displacing send into a full ring.
+/// A displacing send into a ring of two.
 fn displaces(oldest: u64, message: u64) -> Did {
-    Did::Thrice(
-        Point::Sees(Sight::Crowded),
-        Point::Displace(oldest),
-        Point::Arrive(message),
-    )
+    Did::displaced(Some(2), oldest, message)
 }
 
 #[test]
@@ -136,7 +131,7 @@ fn between_the_steps_of_a_displacing_send(rt: HostRuntime) -> Result<(), Fail> {
 fn open_after_the_last_drop(rt: HostRuntime) -> Result<(), Fail> {
     let alloc = rt.alloc();
     let open = [(2, 3, Did::saw(Sight::Open))];
-    let drops = dropped(Side::Senders);
+    let drops = Did::dropped(Side::Senders);
     let clones = Did::Once(Point::Raise(Side::Senders));
     assert_eq!(rt; verdict(alloc, &[(0, 1, drops)], &open), Verdict::Refused);
     assert_eq!(rt; verdict(alloc, &[(0, 3, drops)], &open), Verdict::Fits);

@@ -6,11 +6,14 @@ use crate::plain::Plain;
 use std::alloc::Global;
 use std::io;
 
-/// The logs of all threads, the channel that they began with, and whether nobody slept at the rest who must not.
+/// What all threads of one channel did.
 #[derive(Drop)]
 pub struct History {
+    /// The channel that they began with.
     pub plain: Plain,
+    /// A log for each thread.
     pub logs: Vec<Log>,
+    /// Whether nobody slept at the rest who must not.
     pub restful: bool,
 }
 

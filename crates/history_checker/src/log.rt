@@ -11,6 +11,7 @@ pub struct Stamps {
 }
 
 impl Stamps {
+    /// Whose first stamp is 0.
     pub fn new() -> Stamps {
         Stamps {
             next: AtomicU64::new(0),
@@ -26,14 +27,18 @@ impl Stamps {
 /// What happened between these stamps.
 #[derive(Clone, Copy, PartialEq, Eq, Debug)]
 pub struct Moment {
+    /// The stamp of the call's begin.
     pub begin: u64,
+    /// The stamp of its end.
     pub end: u64,
+    /// What happened.
     pub point: Point,
 }
 
 /// What the calls of one thread did, in their order.
 #[derive(Drop)]
 pub struct Log {
+    /// The moments of all calls.
     pub moments: Vec<Moment>,
     /// Whether a call answered what none may, or memory was refused.
     pub spoiled: bool,

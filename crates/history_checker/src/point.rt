@@ -1,9 +1,11 @@
-//! What happens to a channel at one moment.
+//! What happens to a channel at one moment, and what a call did.
 
 /// The two kinds of handles.
 #[derive(Clone, Copy, PartialEq, Eq, Debug)]
 pub enum Side {
+    /// Senders.
     Senders,
+    /// Receivers.
     Receivers,
 }
 
@@ -62,9 +64,13 @@ pub enum Point {
 /// What a call did, as its answer says: what happened at moments of it, in this order.
 #[derive(Clone, Copy, PartialEq, Eq, Debug)]
 pub enum Did {
+    /// Nothing that anybody sees.
     Nothing,
+    /// This.
     Once(Point),
+    /// These two.
     Twice(Point, Point),
+    /// These three.
     Thrice(Point, Point, Point),
     /// No call may answer so.
     Never,
@@ -74,6 +80,35 @@ impl Did {
     /// It only found this.
     pub fn saw(sight: Sight) -> Did {
         Did::Once(Point::Sees(sight))
+    }
+
+    /// A handle of this kind was made from a weak one of an open channel.
+    pub fn upgraded(side: Side) -> Did {
+        Did::Twice(Point::Sees(Sight::Open), Point::Raise(side))
+    }
+
+    /// None was made from a weak one.
+    pub fn not_upgraded(side: Side) -> Did {
+        Did::saw(Sight::NotMade(side))
+    }
+
+    /// One was dropped.
+    pub fn dropped(side: Side) -> Did {
+        Did::Twice(Point::Lower(side), Point::CloseIfLast(side))
+    }
+
+    /// A message came in, and the oldest one left for it, of a channel that was full. One slot does both at once; a ring was
+    /// found open and full first. Without a bound none leaves for another.
+    pub fn displaced(capacity: Option<usize>, oldest: u64, message: u64) -> Did {
+        match capacity {
+            None => Did::Never,
+            Some(1) => Did::Once(Point::Replace(oldest, message)),
+            Some(_) => Did::Thrice(
+                Point::Sees(Sight::Crowded),
+                Point::Displace(oldest),
+                Point::Arrive(message),
+            ),
+        }
     }
 
     /// Nothing, where this is as it must be.
