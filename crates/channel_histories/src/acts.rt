@@ -4,7 +4,7 @@ use crate::answers::{
     closed, forced_send, is_closed, polled_closed, polled_next, polled_recv, polled_send, received,
     sent, tried_recv, tried_send,
 };
-use crate::party::{Hands, Party};
+use crate::party::Party;
 use crate::random::Random;
 use async_channel::Receiver;
 use event_listener::error::ListenError;
@@ -230,7 +230,10 @@ impl<'a, R: Wait + Copy> Party<'a, R> {
             let begin = self.stamps.stamp();
             let finished = send.is_terminated();
             let back = send.give_up();
-            self.note(begin, Did::nothing_if(!finished && back == Some(self.sending)));
+            self.note(
+                begin,
+                Did::nothing_if(!finished && back == Some(self.sending)),
+            );
         }
     }
 
@@ -250,11 +253,8 @@ impl<'a, R: Wait + Copy> Party<'a, R> {
 // Questions and handles.
 impl<'a, R: Wait + Copy> Party<'a, R> {
     fn ask(&mut self, question: Question) {
-        let Hands {
-            sender: s,
-            receiver: r,
-            ..
-        } = self.hands;
+        let s = &self.hands.sender;
+        let r = &self.hands.receiver;
         let begin = self.stamps.stamp();
         let did = match question {
             Question::IsClosed => is_closed(s.is_closed()),
@@ -267,7 +267,7 @@ impl<'a, R: Wait + Copy> Party<'a, R> {
             Question::ReceiverCount => {
                 Did::saw(Sight::Count(Side::Receivers, s.receiver_count()))
             }
-            Question::SameChannel => Did::nothing_if(r.same_channel(self.stream)),
+            Question::SameChannel => Did::nothing_if(r.same_channel(&*self.stream)),
         };
         self.note(begin, did);
     }

@@ -116,7 +116,10 @@ where
         let seen = Arc::try_clone(watch).ok()?;
         let way = sending(kind, number);
         let work = move || send_all(rt, mine, &seen, number, messages, way);
-        started.push(thread::spawn(&rt, work).ok()?).ok()?;
+        match thread::spawn(&rt, work) {
+            Ok(handle) => started.push(handle).ok()?,
+            Err(_) => return None,
+        }
     }
     Some(started)
 }
@@ -137,7 +140,10 @@ where
         let seen = Arc::try_clone(watch).ok()?;
         let way = receiving(number);
         let work = move || receive_all(rt, mine, &seen, SENDERS, alloc, way);
-        started.push(thread::spawn(&rt, work).ok()?).ok()?;
+        match thread::spawn(&rt, work) {
+            Ok(handle) => started.push(handle).ok()?,
+            Err(_) => return None,
+        }
     }
     Some(started)
 }
@@ -175,25 +181,68 @@ fn add_up<R: Threads>(
     }
 }
 
-/// Lets a crowd send so many messages each through a channel of this capacity, 0 for none. `None` where memory or a thread
-/// was refused.
-pub fn run<R>(rt: R, alloc: Global, capacity: usize, messages: u64, kind: Kind) -> Option<End>
+/// Starts the thread that closes, if there is to be one; the sender goes. How many were started.
+fn start_closer<R>(
+    rt: R,
+    sender: Sender<Token, R>,
+    watch: &Arc<Watch>,
+    messages: u64,
+    kind: Kind,
+) -> Option<u64>
 where
-    R: Wait + Threads + Copy + RandomSource + AllocGlobal + Clock + Send + Sync + 'static,
+    R: Wait + Threads + Copy + Send + Sync + 'static,
+{
+    if kind != Kind::Closes {
+        drop(sender);
+        return Some(0);
+    }
+    let seen = Arc::try_clone(watch).ok()?;
+    let work = move || close_at(rt, sender, &seen, messages);
+    match thread::spawn(&rt, work) {
+        Ok(_) => Some(1),
+        Err(_) => None,
+    }
+}
+
+/// A crowd at work.
+#[derive(Drop)]
+struct Crowd<R: Wait + Copy> {
+    watch: Arc<Watch>,
+    receiver: Receiver<Token, R>,
+    senders: Vec<JoinHandle<Sent>>,
+    receivers: Vec<JoinHandle<Got>>,
+    threads: u64,
+}
+
+/// Starts all threads of a crowd.
+fn start<R>(rt: R, alloc: Global, capacity: usize, messages: u64, kind: Kind) -> Option<Crowd<R>>
+where
+    R: Wait + Threads + Copy + RandomSource + AllocGlobal + Send + Sync + 'static,
 {
     let (sender, receiver) = open(rt, alloc, capacity)?;
     let watch = Arc::new(alloc, Watch::new()).ok()?;
     let receivers = start_receivers(rt, alloc, &receiver, &watch)?;
     let senders = start_senders(rt, alloc, &sender, &watch, messages, kind)?;
-    let mut threads = (SENDERS as u64).wrapping_add(RECEIVERS as u64);
-    if kind == Kind::Closes {
-        let seen = Arc::try_clone(&watch).ok()?;
-        let third = messages.wrapping_mul(3);
-        drop(thread::spawn(&rt, move || close_at(rt, sender, &seen, third)).ok()?);
-        threads = threads.wrapping_add(1);
-    } else {
-        drop(sender);
-    }
+    let closers = start_closer(rt, sender, &watch, messages.wrapping_mul(3), kind)?;
+    let threads = (SENDERS as u64).wrapping_add(RECEIVERS as u64);
+    Some(Crowd {
+        watch,
+        receiver,
+        senders,
+        receivers,
+        threads: threads.wrapping_add(closers),
+    })
+}
+
+/// Waits for a crowd's end, or for the moment when nothing moves any more.
+fn finish<R: Wait + Threads + Copy + Clock>(rt: R, crowd: Crowd<R>) -> Option<End> {
+    let Crowd {
+        watch,
+        receiver,
+        senders,
+        receivers,
+        threads,
+    } = crowd;
     if !watch.wait_for(&rt, threads) {
         return Some(End::Asleep {
             sending: watch.sending(),
@@ -206,4 +255,13 @@ where
     drop(receiver);
     let end = add_up(&rt, &watch, senders, receivers);
     over.then_some(end)
+}
+
+/// Lets a crowd send so many messages each through a channel of this capacity, 0 for none. `None` where memory or a thread
+/// was refused, or the channel was not closed at last.
+pub fn run<R>(rt: R, alloc: Global, capacity: usize, messages: u64, kind: Kind) -> Option<End>
+where
+    R: Wait + Threads + Copy + RandomSource + AllocGlobal + Clock + Send + Sync + 'static,
+{
+    finish(rt, start(rt, alloc, capacity, messages, kind)?)
 }

@@ -89,9 +89,9 @@ fn run_all<R>(rt: R, alloc: Global, messages: u64) -> io::Result<bool>
 where
     R: Wait + Threads + Copy + RandomSource + AllocGlobal + Clock + Print + Send + Sync + 'static,
 {
-    for kind in KINDS {
-        for channel in CHANNELS {
-            if !run_crowd(rt, alloc, channel, kind, messages)? {
+    for kind in &KINDS {
+        for channel in &CHANNELS {
+            if !run_crowd(rt, alloc, *channel, *kind, messages)? {
                 return Ok(false);
             }
         }

@@ -4,7 +4,7 @@ use crate::log::{Log, Moment};
 use crate::plain::Plain;
 use std::alloc::{AllocError, Global};
 
-/// How many states are gone on from at most.
+/// How many states are gone on from at most, and how many moments may change nothing.
 const MOST: u64 = 1_000_000;
 
 /// What the search found.
@@ -73,7 +73,8 @@ impl State {
         Ok(())
     }
 
-    /// Lets one moment come that changes nothing. Whatever fits afterwards fits without that too, so no other choice is lost.
+    /// Lets one moment come that changes nothing, if there is one. Whatever fits without that fits after it too, so no choice
+    /// is lost.
     fn pass_one(&mut self, logs: &[Log], limit: u64) -> Result<bool, AllocError> {
         for thread in 0..logs.len() {
             if let Some(moment) = self.choice(logs, thread, limit) {
@@ -84,6 +85,20 @@ impl State {
             }
         }
         Ok(false)
+    }
+
+    /// Lets moments come that change nothing, as long as there are such. It answers the limit for what comes next, `None` where
+    /// nothing is to come.
+    fn pass(&mut self, logs: &[Log]) -> Result<Option<u64>, AllocError> {
+        for _ in 0..MOST {
+            let Some(limit) = self.limit(logs) else {
+                return Ok(None);
+            };
+            if !self.pass_one(logs, limit)? {
+                return Ok(Some(limit));
+            }
+        }
+        Err(AllocError)
     }
 
     /// The states after each moment that can come now, the one that has to end first being last.
@@ -100,28 +115,33 @@ impl State {
                 }
             }
         }
-        if let Some((moment, thread)) = first {
-            let mut after = self;
-            after.make(moment, thread)?;
-            states.push(after)?;
+        let mut after = self;
+        match first {
+            Some((moment, thread)) => {
+                after.make(moment, thread)?;
+                states.push(after)
+            }
+            None => {
+                drop(after);
+                Ok(())
+            }
         }
-        Ok(())
     }
 }
 
 /// One state is gone on from: whether an order was found.
 fn search_one(state: State, logs: &[Log], states: &mut Vec<State>) -> Result<bool, AllocError> {
     let mut state = state;
-    for _ in 0..u64::MAX {
-        let Some(limit) = state.limit(logs) else {
-            return Ok(true);
-        };
-        if !state.pass_one(logs, limit)? {
+    match state.pass(logs)? {
+        Some(limit) => {
             state.go_on(logs, limit, states)?;
-            return Ok(false);
+            Ok(false)
+        }
+        None => {
+            drop(state);
+            Ok(true)
         }
     }
-    Ok(false)
 }
 
 /// Searches from this channel on.

@@ -148,9 +148,18 @@ impl Plain {
                 self.messages.push_back(message)?;
             }
             Point::Close => self.closed = true,
-            Point::Raise(side) => self.recount(side, self.count(side).wrapping_add(1), thread),
-            Point::Lower(side) => self.recount(side, self.count(side).wrapping_sub(1), thread),
-            Point::CloseIfLast(side) => self.closed = self.closed || self.was_last(side, thread),
+            Point::Raise(side) => {
+                let count = self.count(side).wrapping_add(1);
+                self.recount(side, count, thread);
+            }
+            Point::Lower(side) => {
+                let count = self.count(side).wrapping_sub(1);
+                self.recount(side, count, thread);
+            }
+            Point::CloseIfLast(side) => {
+                let last = self.was_last(side, thread);
+                self.closed = self.closed || last;
+            }
             Point::Sees(_) => {}
         }
         Ok(())
