@@ -1,0 +1,121 @@
+//! Stress on channels between threads: more threads than processors send and receive through channels of each form, all
+//! messages being counted when they are received and when they are let go; a thousand tasks wait; ten thousand handles are
+//! made and dropped. A run in which nothing moves any more is ended, and says what was under way then. `channel_stress MESSAGES`:
+//! how many messages each sender of a crowd has; `channel_stress times`: how long it takes to wake one of many.
+#![tactic(auto)]
+
+mod clones;
+mod crowd;
+mod token;
+mod waiting;
+mod watch;
+mod work;
+
+use crate::crowd::{End, Kind};
+use std::alloc::{AllocGlobal, Global};
+use std::env::Env;
+use std::process::ExitCode;
+use std::random::RandomSource;
+use std::rt::Clock;
+use std::sync::Wait;
+use std::thread::Threads;
+use std::{env, io};
+
+/// How many messages each sender of a crowd has, unless a number is asked for.
+const MESSAGES: u64 = 100;
+
+/// The channels of a crowd: a name, and how many messages one holds at most, 0 for any number.
+static CHANNELS: [(&str, usize); 3] = [("one slot", 1), ("ring of 3", 3), ("unbounded", 0)];
+
+/// The kinds of crowds, each with what is found.
+static KINDS: [(&str, Kind); 3] = [
+    ("each message came once and in order", Kind::Waits),
+    (
+        "closed in the midst, the rest came and then the end",
+        Kind::Closes,
+    ),
+    ("each message came or was displaced", Kind::Displaces),
+];
+
+/// One crowd through one channel: whether all was right.
+fn run_crowd<R>(
+    rt: R,
+    alloc: Global,
+    channel: (&str, usize),
+    kind: (&str, Kind),
+    messages: u64,
+) -> io::Result<bool>
+where
+    R: Wait + Threads + Copy + RandomSource + AllocGlobal + Clock + Print + Send + Sync + 'static,
+{
+    let (name, capacity) = channel;
+    let (found, kind) = kind;
+    let end = crowd::run(rt, alloc, capacity, messages, kind);
+    match end {
+        Some(End::Right) => println!(&rt; "{name}: {found}")?,
+        Some(end) => println!(&rt; "{name}: not so that {found}: {end:?}")?,
+        None => println!(&rt; "{name}: not closed at last, or want of memory or threads")?,
+    }
+    Ok(end == Some(End::Right))
+}
+
+/// Tasks that wait, and handles that are cloned: whether all was right.
+fn run_others<R>(rt: R, alloc: Global) -> io::Result<bool>
+where
+    R: Wait + Threads + Copy + RandomSource + AllocGlobal + Print + Send + Sync,
+{
+    let woken = waiting::wakes_each_once(rt, alloc) == Some(true);
+    println!(&rt; "a thousand tasks are woken in order, and each once: {woken}")?;
+    let counted = clones::end_with_one(rt, alloc) == Some(true);
+    println!(&rt; "ten thousand handles on eight threads leave one of each kind: {counted}")?;
+    Ok(woken && counted)
+}
+
+/// How long a send takes that wakes one of few tasks, and one of many.
+fn print_times<R>(rt: R, alloc: Global) -> io::Result<()>
+where
+    R: Wait + Copy + RandomSource + AllocGlobal + Clock + Print,
+{
+    for waiting in [10, 100, 1_000, 10_000] {
+        if let Some(taken) = waiting::time_of_wakes(rt, alloc, waiting) {
+            println!(&rt; "{waiting} tasks wait: {taken} ns for a message that wakes one")?;
+        }
+    }
+    Ok(())
+}
+
+/// All crowds, with so many messages a sender, and the others: whether all was right.
+fn run_all<R>(rt: R, alloc: Global, messages: u64) -> io::Result<bool>
+where
+    R: Wait + Threads + Copy + RandomSource + AllocGlobal + Clock + Print + Send + Sync + 'static,
+{
+    for kind in &KINDS {
+        for channel in &CHANNELS {
+            if !run_crowd(rt, alloc, *channel, *kind, messages)? {
+                return Ok(false);
+            }
+        }
+    }
+    run_others(rt, alloc)
+}
+
+/// The first word, if there is one.
+fn first_word<R: Env + Alloc<A = Global>>(rt: &R) -> io::Result<Option<String>> {
+    Ok(env::args(rt)?.nth(1))
+}
+
+fn main(rt: HostRuntime) -> io::Result<ExitCode> {
+    let mut messages = MESSAGES;
+    if let Some(word) = first_word(&rt)? {
+        if word.as_str() == "times" {
+            print_times(rt, rt.alloc())?;
+            return Ok(ExitCode::SUCCESS);
+        }
+        messages = word.as_str().parse::<u64>().unwrap_or(MESSAGES);
+    }
+    if run_all(rt, rt.alloc(), messages)? {
+        Ok(ExitCode::SUCCESS)
+    } else {
+        Ok(ExitCode::FAILURE)
+    }
+}
