@@ -33,15 +33,14 @@ module _ {T : Type 0} (f : Floor T) (kept : IsKept f) (quiet : IsQuiet f) where
       let world = rests (book_of f) k.scene k.kept (none_under_way f k.scene quiet k.shown) in
       subst (λ (x : State T). AwakeIn x) (sym (at_rest_is f k.scene k.shown quiet)) world.awake
 
-  module _ (answer : PollsAnswer T) (w : Waiter) (there : is_among w (at_rest f).waiting.woken ≡ true) where
+  module _ (few : length f.roll.operations < 2 ^ 63) (answer : PollsAnswer T) (w : Waiter) (there : is_among w (at_rest f).waiting.woken ≡ true) where
     -- whatever the poll does alone, the model allows
-    allowed : (s t : Scene T Waiter) (o : Outcome T Waiter) → f.made < 2 ^ 61 → Shown f s → AllKept (book_of f) s
+    allowed : (s t : Scene T Waiter) (o : Outcome T Waiter) → Shown f s → AllKept (book_of f) s
         → Alone (asks f.roll (poll_of w)) s.now o → t.now ≡ o.channel
         → Answers (at_rest f) (poll_of w) (record { after = state_at (book_alone (book_of f) (poll_of w) o) t; reply = o.reply; woken = o.woken })
-    allowed s t o low sh k alone now =
-        let a =
-        answer (book_of f) s t w o k (no_agents f kept.at_work quiet) (none_under_way f s quiet sh) (can_be_lent f kept.users low)
-        there alone now in
+    allowed s t o sh k alone now =
+        let nobody = no_agents f kept.at_work quiet in
+        let a = answer (book_of f) s t w o k nobody (none_under_way f s quiet sh) (can_be_lent f k.users nobody few) there alone now in
         subst (λ (x : State T). Answers x (poll_of w)
         (record { after = state_at (book_alone (book_of f) (poll_of w) o) t; reply = o.reply; woken = o.woken }))
         (sym (at_rest_is f s sh quiet)) a
@@ -49,15 +48,15 @@ module _ {T : Type 0} (f : Floor T) (kept : IsKept f) (quiet : IsQuiet f) where
     -- it wakes no more than there is room for
     pub poll_wakes_few : (n room : ℕ) → ((a : Answer T) → Answers (at_rest f) (poll_of w) a → n + length a.woken ≤ room)
         → WakesAtMost (room - n) (poll_of w) f
-    poll_wakes_few n room fits s o low sh k alone =
-        let few = fits _ (allowed s (record s { now = o.channel }) o low sh k alone refl) in omega (arith, few)
+    poll_wakes_few n room fits s o sh k alone =
+        let most = fits _ (allowed s (record s { now = o.channel }) o sh k alone refl) in omega (arith, most)
 
     pub poll_answers : (g : Floor T) (before : List Waiter) (x : Reply T) (after : List Waiter) → IsQuiet g
         → PollsAlone w f before x after g → Polls w (at_rest f) before x after (at_rest g)
     poll_answers g before x after still p =
         let k = kept.listeners in
         let d = p.called k.scene k.shown k.kept in
-        let a = allowed k.scene d.after d.outcome d.limit k.shown k.kept d.alone d.now in
+        let a = allowed k.scene d.after d.outcome k.shown k.kept d.alone d.now in
         let same : at_rest g ≡ state_at (book_alone (book_of f) (poll_of w) d.outcome) d.after =
         at_rest_is g d.after d.shown still ∙ ap (λ (b : Book T). state_at b d.after) d.book in
         record { woken = p.woken; names = p.names; answers = rw (same, d.reply, d.woken) a }

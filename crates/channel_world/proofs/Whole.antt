@@ -32,7 +32,7 @@ module _ {T : Type 0} where
       ∙ ap (λ (b : Book T). at_rest (record f { roll = b.roll; order = b.order })) same.book
 
   -- where nobody is at work, no handle is used by more than operations were named
-  can_be_lent : (f : Floor T) → FewUsers (book_of f) → f.agents.items ≡ [] → length f.roll.operations < 2 ^ 63 → CanBeLent f.roll
+  pub can_be_lent : (f : Floor T) → FewUsers (book_of f) → f.agents.items ≡ [] → length f.roll.operations < 2 ^ 63 → CanBeLent f.roll
   can_be_lent f few nobody low handle h e =
       let users = few handle h e in
       let none = ap (all_uses handle) nobody in

@@ -67,13 +67,13 @@ impl<T: Drop> World<T> {
         later.checked_add(woken.len())
     }
 
-    /// Room for all that settling answers. None where it was refused, or where the limit of steps leaves none.
+    /// Room for all that settling answers. None where it was refused, or where the positions of messages leave none.
     fn room_to_settle(&self) -> Option<Room<T>>
         ensures names { IfSome result (λ r. r.names.items ≡ (at_rest self.now).waiting.woken) }
         ensures polls { IfSome result (λ r. r.polls.items ≡ []) }
         ensures room { IfSome result (λ r. most_polls (at_rest self.now).waiting ≤ vec_capacity r.names) }
         ensures answers { IfSome result (λ r. most_polls (at_rest self.now).waiting ≤ vec_capacity r.polls) }
-        ensures steps { OnSome result (self.now.made + most_polls (at_rest self.now).waiting ≤ 2 ^ 61) }
+        ensures places { OnSome result (self.now.accepted + most_polls (at_rest self.now).waiting < 2 ^ 61) }
     {
         let Ok(mut names) = self.steps.woken_names() else {
             return None;
@@ -92,12 +92,12 @@ impl<T: Drop> World<T> {
     fn poll_woken(&mut self, name: Waiter, names: Vec<Waiter>) -> Polled<T>
         requires quiet { IsQuiet self.old }
         requires woken { is_among name (at_rest self.old).waiting.woken ≡ true }
-        requires limit { self.old.made < 2 ^ 61 }
+        requires limit { self.old.accepted + 1 < 2 ^ 61 }
         requires room { (a : Answer T) → Answers (at_rest self.old) (poll_of name) a → vec_len names + length a.woken ≤ vec_capacity names }
         ensures polled { Polls name (at_rest self.old) names.items result.reply result.names.items (at_rest self.new) }
         ensures quiet { IsQuiet self.new }
         ensures leads { LeadsOn self.old self.new }
-        ensures made { self.new.made ≡ self.old.made + 1 }
+        ensures accepted { self.new.accepted ≤ self.old.accepted + 1 }
         ensures capacity { vec_capacity names ≤ vec_capacity result.names }
     {
         a_poll_of_settling_is_the_models::<T>();
@@ -121,7 +121,7 @@ impl<T: Drop> World<T> {
     /// woken, and nobody is pending whom a message, a free place or a closing lets go on.
     ///
     /// Room for all answers, and for the names of those who are woken, is taken before the first poll. Where it is refused, or
-    /// where the limit of 2^61 steps leaves too few, it is `NoMemory`, and nothing is changed. Where a poll itself is refused
+    /// where so many messages were accepted that polls of sends could pass 2^61, it is `NoMemory`, and nothing is changed. Where a poll itself is refused
     /// memory or serials, for its listener or a block of the queue, its reply says so, and it is pending no more; all the rest
     /// holds as before. No call is to be under way, and none is after it; what left the channel, followed by what it holds, is
     /// what it held followed by what came, in order, from each scene in which the world stood. Nothing waits. Own to this

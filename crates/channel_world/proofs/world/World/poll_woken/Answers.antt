@@ -9,7 +9,7 @@ pub poll_alone-requires-clause-room : goal.poll_alone-requires-clause-room
 poll_alone-requires-clause-room g c =
     let f = c.self.inside.steps in
     let quiet : IsQuiet f = subst (λ (x : Floor g.row.T.Denot). IsQuiet x) (sym c.self.view_is) c.requires.quiet in
-    poll_wakes_few f c.keeps.ensures.kept quiet c.a_poll_of_settling_is_the_models.ensures c.args.name (rw c.self.view_is c.requires.woken) _ _
+    poll_wakes_few f c.keeps.ensures.kept quiet c.keeps.ensures.few c.a_poll_of_settling_is_the_models.ensures c.args.name (rw c.self.view_is c.requires.woken) _ _
     (rw c.self.view_is c.requires.room)
 
 pub returns-clause-polled : goal.returns-clause-polled
@@ -17,7 +17,7 @@ returns-clause-polled g c =
     let f = c.self.inside.steps in
     let quiet : IsQuiet f = subst (λ (x : Floor g.row.T.Denot). IsQuiet x) (sym c.self.view_is) c.requires.quiet in
     rw (sym c.self.view_is)
-    (poll_answers f c.keeps.ensures.kept quiet c.a_poll_of_settling_is_the_models.ensures c.args.name (rw c.self.view_is c.requires.woken)
+    (poll_answers f c.keeps.ensures.kept quiet c.keeps.ensures.few c.a_poll_of_settling_is_the_models.ensures c.args.name (rw c.self.view_is c.requires.woken)
     c.poll_alone.new.self c.args.names.items c.poll_alone.result.reply c.poll_alone.result.names.items c.poll_alone.ensures.quiet
     c.poll_alone.ensures.polled)
 

@@ -1,5 +1,5 @@
 -- From the room that was taken.
-use Rattle.std.proofs.Common.{arith, rules, ◌≤◌, ◌+◌, ◌^◌, ◌∙◌, ap, vec_len, vec_capacity}
+use Rattle.std.proofs.Common.{arith, rules, ◌<◌, ◌≤◌, ◌+◌, ◌^◌, ◌∙◌, ap, vec_len, vec_capacity}
 use Rattle.channel_interleaving.specs.OwnerOrder.{woken_in}
 use Rattle.channel_interleaving.specs.declared.floor.Floor.{Floor}
 use Rattle.channel_world.proofs.world.World.room_to_settle.Goals as goal
@@ -14,8 +14,8 @@ returns-clause-room g c =
     let room : vec_len c.reserve.new.self + c.in_ok-most.most ≤ vec_capacity c.reserve.new.self = search rules in
     omega (arith, most, room)
 
-pub returns-clause-steps : goal.returns-clause-steps
-returns-clause-steps g c =
+pub returns-clause-places : goal.returns-clause-places
+returns-clause-places g c =
     let most = c.in_ok-most.ensures in
-    let steps : c.args.self.now.made + c.in_ok-most.most ≤ 2 ^ 61 = search rules in
-    omega (arith, most, steps)
+    let places : c.args.self.now.accepted + c.in_ok-most.most < 2 ^ 61 = search rules in
+    omega (arith, most, places)

@@ -22,14 +22,14 @@ loop-names-init g c =
     subst (λ (x : Floor g.row.T.Denot). AwakeIn (at_rest x)) c.self.view_is
     (awake_at_rest f c.keeps.ensures.kept quiet c.a_channel_at_rest_is_a_world.ensures.as_in_the_world) in
     let r = c.in-Some.ensures in
-    let steps = r.steps in
+    let places = r.places in
     record {
       goes = rw r.polls (goes_first (at_rest now) c.in-Some.room.names.items awake r.names);
       quiet = c.requires.quiet;
       leads = leads_nowhere now;
       names = r.room;
       polls = r.answers;
-      steps = omega (arith, steps);
+      places = omega (arith, places);
     }
 
 pub poll_woken-reply-requires-clause-quiet : goal.poll_woken-reply-requires-clause-quiet
@@ -64,8 +64,8 @@ poll_woken-reply-requires-clause-limit g c =
     let count = polls.ok.0 in
     let same = length-map polls.items (λ (p : Settled g.row.T.Denot). (p.name, p.reply)) in
     let left = some_left s t (polls_in polls.items) names.items name goes front in
-    let steps = c.loop-names.invariant.steps in
-    omega (arith, left, steps, count, same)
+    let places = c.loop-names.invariant.places in
+    omega (arith, left, places, count, same)
 
 pub poll_woken-reply-requires-clause-room : goal.poll_woken-reply-requires-clause-room
 poll_woken-reply-requires-clause-room g c a says =
@@ -121,12 +121,12 @@ loop-names-preserved g c =
     let pushed = c.push_reserved.ensures in
     let i = c.loop-names.invariant in
     let more = e.capacity in
-    let made = e.made in
+    let accepted = e.accepted in
     let wider = pushed.capacity in
     let longer = pushed.len in
     let a = i.names in
     let b = i.polls in
-    let d = i.steps in
+    let d = i.places in
     record {
       goes = goes_pushed s u polls.items c.push_reserved.new.self.items name after.reply after.names.items pushed.items
           (goes_on s t (polls_in polls.items) names.items name goes front u after.reply after.names.items e.polled);
@@ -134,7 +134,7 @@ loop-names-preserved g c =
       leads = leads_on c.args.self.now c.loop-names.self c.poll_woken-reply.new.self i.leads e.leads;
       names = omega (arith, more, a);
       polls = omega (arith, wider, b);
-      steps = omega (arith, made, longer, d);
+      places = omega (arith, accepted, longer, d);
     }
 
 pub loop-names-smaller : goal.loop-names-smaller

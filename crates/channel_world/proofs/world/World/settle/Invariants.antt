@@ -1,4 +1,4 @@
-use Rattle.std.proofs.Common.{◌≤◌, ◌+◌, ◌-◌, ◌^◌, vec_len, vec_capacity}
+use Rattle.std.proofs.Common.{◌<◌, ◌≤◌, ◌+◌, ◌-◌, ◌^◌, vec_len, vec_capacity}
 use Rattle.channel_interleaving.specs.Floor.{IsQuiet, LeadsOn}
 use Rattle.channel_world.proofs.SettleFacts.{Goes}
 use Rattle.channel_world.specs.Settled.{polls_in, most_polls}
@@ -12,7 +12,7 @@ invariant-loop-names g l = record {
   leads : LeadsOn l.fn.self l.self;
   names : most_polls (at_rest l.fn.self).waiting ≤ vec_capacity l.names;
   polls : most_polls (at_rest l.fn.self).waiting ≤ vec_capacity l.polls;
-  steps : l.self.made + most_polls (at_rest l.fn.self).waiting ≤ 2 ^ 61 + vec_len l.polls;
+  places : l.self.accepted + most_polls (at_rest l.fn.self).waiting < 2 ^ 61 + vec_len l.polls;
 }
 
 abbrev pub decreases-loop-names : goal.decreases-loop-names
