@@ -25,6 +25,7 @@ pub mod LoneFacts
 pub mod Interface
 pub mod OwedCounts
 pub mod OwedFacts
+mod OwedRows
 pub mod UserFacts
 pub mod PositionFacts
 pub mod PlaceFacts

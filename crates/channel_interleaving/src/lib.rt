@@ -9,9 +9,9 @@
 //! keeps of those who wait), `Owed` (the wake-ups owed to those who are pending), `Floor` (the scenes in which a channel by
 //! names stands, and how what is done leads from one to another).
 //!
-//! A call that goes through a receiver whose stream is being polled is refused as under way, its drop too. The
-//! positions of a queue end with the 2^61st message: a send that might bring that one is refused for want of memory, and nothing
-//! else is refused for a number, neither of steps nor of calls.
+//! A call that goes through a receiver whose stream is being polled is refused as under way, its drop too. The positions of a
+//! queue end with the 2^61st message: a send that might bring it is refused for want of memory as it begins. Nothing else is
+//! refused for a number, neither of steps nor of calls.
 //!
 //! Proved, for every message type and every list of steps: the opening of a channel and what it refuses; that no step is made
 //! that one of the seven reasons refuses; that each step of a run is a step of the channel, with that step's mark, woken names
