@@ -17,14 +17,17 @@ pub const SENDERS: usize = 9;
 
 pub const RECEIVERS: usize = 8;
 
-/// What a crowd does besides.
+/// How a crowd sends and receives, and how it ends. But where it is closed in the midst, the channel stays open until all
+/// messages have left it, so that no closing wakes whom a notice has forgotten.
 #[derive(Clone, Copy, PartialEq, Eq)]
 pub enum Kind {
-    /// Every way of sending but the displacing one; the last sender's drop closes.
-    Waits,
-    /// The same, and the channel is closed once a third of the messages was sent.
+    /// Everybody sleeps where there is no place or no message.
+    Sleeps,
+    /// The same, but all receivers are streams.
+    Streams,
+    /// In all ways but displacing; the channel is closed once a third of the messages were made.
     Closes,
-    /// Every third sender displaces.
+    /// In all ways; a third of the senders displace.
     Displaces,
 }
 
@@ -54,36 +57,26 @@ pub enum End {
 
 /// The way of the sender of this number.
 fn sending(kind: Kind, number: usize) -> Sending {
-    match number % 3 {
-        0 => Sending::Blocking,
-        1 => Sending::Polled,
-        _ if kind == Kind::Displaces => Sending::Forced,
-        _ => Sending::Tried,
+    match (kind, number % 3) {
+        (_, 0) => Sending::Blocking,
+        (_, 1) => Sending::Polled,
+        (Kind::Displaces, _) => Sending::Forced,
+        (Kind::Closes, _) => Sending::Tried,
+        (_, _) => Sending::Polled,
     }
 }
 
 /// The way of the receiver of this number.
-fn receiving(number: usize) -> Receiving {
-    match number % 4 {
-        0 => Receiving::Blocking,
-        1 => Receiving::Polled,
-        2 => Receiving::Streamed,
-        _ => Receiving::Tried,
+fn receiving(kind: Kind, number: usize) -> Receiving {
+    match (kind, number % 4) {
+        (Kind::Streams, _) => Receiving::Streamed,
+        (_, 0) => Receiving::Blocking,
+        (_, 1) => Receiving::Polled,
+        (Kind::Sleeps, 2) => Receiving::Blocking,
+        (Kind::Sleeps, _) => Receiving::Polled,
+        (_, 2) => Receiving::Streamed,
+        (_, _) => Receiving::Tried,
     }
-}
-
-/// Closes the channel once so many messages were made.
-fn close_at<R: Wait + Copy>(rt: R, sender: Sender<Token, R>, watch: &Watch, messages: u64) {
-    for _ in rt.forever() {
-        if watch.made.get() >= messages {
-            sender.close();
-            drop(sender);
-            watch.threads_ended.raise();
-            return;
-        }
-        thread::yield_now();
-    }
-    unreachable!()
 }
 
 /// The two handles of a channel that was just opened.
@@ -130,6 +123,7 @@ fn start_receivers<R>(
     alloc: Global,
     receiver: &Receiver<Token, R>,
     watch: &Arc<Watch>,
+    kind: Kind,
 ) -> Option<Vec<JoinHandle<Got>>>
 where
     R: Wait + Threads + Copy + RandomSource + AllocGlobal + Send + Sync + 'static,
@@ -138,7 +132,7 @@ where
     for number in 0..RECEIVERS {
         let mine = receiver.try_clone().ok()?;
         let seen = Arc::try_clone(watch).ok()?;
-        let way = receiving(number);
+        let way = receiving(kind, number);
         let work = move || receive_all(rt, mine, &seen, SENDERS, alloc, way);
         match thread::spawn(&rt, work) {
             Ok(handle) => started.push(handle).ok()?,
@@ -181,37 +175,14 @@ fn add_up<R: Threads>(
     }
 }
 
-/// Starts the thread that closes, if there is to be one; the sender goes. How many were started.
-fn start_closer<R>(
-    rt: R,
-    sender: Sender<Token, R>,
-    watch: &Arc<Watch>,
-    messages: u64,
-    kind: Kind,
-) -> Option<u64>
-where
-    R: Wait + Threads + Copy + Send + Sync + 'static,
-{
-    if kind != Kind::Closes {
-        drop(sender);
-        return Some(0);
-    }
-    let seen = Arc::try_clone(watch).ok()?;
-    let work = move || close_at(rt, sender, &seen, messages);
-    match thread::spawn(&rt, work) {
-        Ok(_) => Some(1),
-        Err(_) => None,
-    }
-}
-
 /// A crowd at work.
 #[derive(Drop)]
 struct Crowd<R: Wait + Copy> {
     watch: Arc<Watch>,
+    sender: Sender<Token, R>,
     receiver: Receiver<Token, R>,
     senders: Vec<JoinHandle<Sent>>,
     receivers: Vec<JoinHandle<Got>>,
-    threads: u64,
 }
 
 /// Starts all threads of a crowd.
@@ -221,35 +192,69 @@ where
 {
     let (sender, receiver) = open(rt, alloc, capacity)?;
     let watch = Arc::new(alloc, Watch::new()).ok()?;
-    let receivers = start_receivers(rt, alloc, &receiver, &watch)?;
+    let receivers = start_receivers(rt, alloc, &receiver, &watch, kind)?;
     let senders = start_senders(rt, alloc, &sender, &watch, messages, kind)?;
-    let closers = start_closer(rt, sender, &watch, messages.wrapping_mul(3), kind)?;
-    let threads = (SENDERS as u64).wrapping_add(RECEIVERS as u64);
     Some(Crowd {
         watch,
+        sender,
         receiver,
         senders,
         receivers,
-        threads: threads.wrapping_add(closers),
     })
 }
 
-/// Waits for a crowd's end, or for the moment when nothing moves any more.
-fn finish<R: Wait + Threads + Copy + Clock>(rt: R, crowd: Crowd<R>) -> Option<End> {
+/// Waits until all messages have left the channel, or closes it once a third of them were made. False once nothing moves.
+fn see_through<R: Wait + Copy + Clock>(
+    rt: R,
+    watch: &Watch,
+    sender: &Sender<Token, R>,
+    messages: u64,
+    kind: Kind,
+) -> bool {
+    if kind != Kind::Closes {
+        let all = messages.wrapping_mul(SENDERS as u64);
+        return watch.wait_for(&rt, &watch.taken, all);
+    }
+    let third = messages.wrapping_mul(3);
+    for _ in rt.forever() {
+        if watch.made.get() >= third {
+            sender.close();
+            return true;
+        }
+        thread::yield_now();
+    }
+    unreachable!()
+}
+
+/// What holds where nothing moves.
+fn asleep<R: Wait + Copy>(watch: &Watch, receiver: &Receiver<Token, R>) -> End {
+    End::Asleep {
+        sending: watch.sending(),
+        receiving: watch.receiving(),
+        messages: receiver.len(),
+        closed: receiver.is_closed(),
+    }
+}
+
+/// Waits for a crowd's end, or for the moment when nothing moves any more. `None` where the channel was not closed at last.
+fn finish<R>(rt: R, crowd: Crowd<R>, messages: u64, kind: Kind) -> Option<End>
+where
+    R: Wait + Threads + Copy + Clock,
+{
     let Crowd {
         watch,
+        sender,
         receiver,
         senders,
         receivers,
-        threads,
     } = crowd;
-    if !watch.wait_for(&rt, threads) {
-        return Some(End::Asleep {
-            sending: watch.sending(),
-            receiving: watch.receiving(),
-            messages: receiver.len(),
-            closed: receiver.is_closed(),
-        });
+    if !see_through(rt, &watch, &sender, messages, kind) {
+        return Some(asleep(&watch, &receiver));
+    }
+    drop(sender);
+    let threads = (SENDERS as u64).wrapping_add(RECEIVERS as u64);
+    if !watch.wait_for(&rt, &watch.threads_ended, threads) {
+        return Some(asleep(&watch, &receiver));
     }
     let over = matches!(receiver.try_recv(), Err(TryRecvError::Closed));
     drop(receiver);
@@ -263,5 +268,6 @@ pub fn run<R>(rt: R, alloc: Global, capacity: usize, messages: u64, kind: Kind) 
 where
     R: Wait + Threads + Copy + RandomSource + AllocGlobal + Clock + Send + Sync + 'static,
 {
-    finish(rt, start(rt, alloc, capacity, messages, kind)?)
+    let crowd = start(rt, alloc, capacity, messages, kind)?;
+    finish(rt, crowd, messages, kind)
 }

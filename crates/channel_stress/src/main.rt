@@ -28,13 +28,14 @@ const MESSAGES: u64 = 100;
 static CHANNELS: [(&str, usize); 3] = [("one slot", 1), ("ring of 3", 3), ("unbounded", 0)];
 
 /// The kinds of crowds, each with what is found.
-static KINDS: [(&str, Kind); 3] = [
-    ("each message came once and in order", Kind::Waits),
+static KINDS: [(&str, Kind); 4] = [
+    ("sleepers get each message once and in order", Kind::Sleeps),
+    ("streams get each message once and in order", Kind::Streams),
     (
-        "closed in the midst, the rest came and then the end",
+        "closed in the midst, it gives the rest and then the end",
         Kind::Closes,
     ),
-    ("each message came or was displaced", Kind::Displaces),
+    ("each message comes or is displaced", Kind::Displaces),
 ];
 
 /// One crowd through one channel: whether all was right.

@@ -33,10 +33,11 @@ impl Count {
     }
 }
 
-/// What is counted: messages made and let go, sends and receives begun and ended, threads that have ended.
+/// What is counted: messages made, taken out and let go, sends and receives begun and ended, threads that have ended.
 #[derive(Drop)]
 pub struct Watch {
     pub made: Count,
+    pub taken: Count,
     pub gone: Count,
     pub sends_begun: Count,
     pub sends_ended: Count,
@@ -49,6 +50,7 @@ impl Watch {
     pub fn new() -> Watch {
         Watch {
             made: Count::new(),
+            taken: Count::new(),
             gone: Count::new(),
             sends_begun: Count::new(),
             sends_ended: Count::new(),
@@ -66,12 +68,12 @@ impl Watch {
             .wrapping_add(self.threads_ended.get())
     }
 
-    /// Waits until so many threads have ended: true; false once nothing has moved for fifteen seconds.
-    pub fn wait_for<R: Wait + Clock>(&self, rt: &R, threads: u64) -> bool {
+    /// Waits until one of the counts is this: true; false once nothing has moved for fifteen seconds.
+    pub fn wait_for<R: Wait + Clock>(&self, rt: &R, count: &Count, end: u64) -> bool {
         let mut last = 0;
         let mut still = 0u64;
         for _ in rt.forever() {
-            if self.threads_ended.get() == threads {
+            if count.get() == end {
                 return true;
             }
             if still == STILL {

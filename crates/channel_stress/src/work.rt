@@ -102,7 +102,10 @@ where
             break;
         }
         all.accepted = all.accepted.wrapping_add(1);
-        all.displaced = all.displaced.wrapping_add(u64::from(displaced));
+        if displaced {
+            all.displaced = all.displaced.wrapping_add(1);
+            watch.taken.raise();
+        }
     }
     drop(sender);
     watch.threads_ended.raise();
@@ -183,6 +186,7 @@ where
         let Some(token) = token else {
             break;
         };
+        watch.taken.raise();
         all.received = all.received.wrapping_add(1);
         all.in_order = orders.note(&token) && all.in_order;
     }
