@@ -7,7 +7,7 @@ use std::fmt;
 /// A recorded call was not made. Nothing was changed, nothing was recorded, and the call comes back.
 ///
 /// Own to this project.
-#[derive(Debug, Drop, PartialEq, Eq)]
+#[derive(Drop, PartialEq, Eq)]
 pub enum RecordError<T> {
     /// The world refuses the call.
     World {
@@ -53,7 +53,17 @@ impl<T> fmt::Display for RecordError<T> {
     }
 }
 
-impl<T: fmt::Debug + Drop> Error for RecordError<T> {}
+/// Why, without the call.
+impl<T> fmt::Debug for RecordError<T> {
+    fn fmt<W: fmt::Write>(&self, f: &mut fmt::Formatter<W>) -> fmt::Result {
+        match self {
+            RecordError::World { why, .. } => write!(f, "World({why:?}, ..)"),
+            RecordError::NoRoom { .. } => write!(f, "NoRoom(..)"),
+        }
+    }
+}
+
+impl<T> Error for RecordError<T> {}
 
 impl fmt::Display for SeatsUsedUp {
     fn fmt<W: fmt::Write>(&self, f: &mut fmt::Formatter<W>) -> fmt::Result {
