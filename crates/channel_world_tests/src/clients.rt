@@ -1,10 +1,8 @@
-//! Clients of a world that know nothing of it but that it is one. They are proved; nothing runs them.
+//! A client of a world that knows nothing of it but that it is one. It is proved; nothing runs it.
 
 ghost use Rattle.std.specs.Prelude.{◌≡◌, ◌+◌};
-ghost use Rattle.channel_interleaving.specs.Floor.{IsQuiet, LeadsOn};
 ghost use Rattle.channel_interleaving.specs.Runs.{accepted_in, left_in};
 
-use channel_world::call::Call;
 use channel_world::step::{Run, Step};
 use channel_world::world::World;
 use std::collections::VecDeque;
@@ -29,26 +27,4 @@ pub fn count<T: Drop>(world: &mut World<T>, steps: &mut VecDeque<Step<T>>) -> Co
     let run = world.run_steps(steps);
     let after = world.messages();
     Counted { before, after, run }
-}
-
-/// Makes calls, then steps of any parties, and then calls again, if no call is under way then: from each scene in which the
-/// world stood it came to one in which it stands, and what left the channel on the way, followed by what it holds, is what it
-/// held followed by what came, in order.
-#[tactic(auto, using(channel_interleaving::proofs::Interface::leads_on))]
-pub fn carry<T: Drop>(
-    world: &mut World<T>,
-    first: &mut VecDeque<Call<T>>,
-    steps: &mut VecDeque<Step<T>>,
-    second: &mut VecDeque<Call<T>>,
-) -> bool
-    requires quiet { IsQuiet world.old }
-    ensures accounts { LeadsOn world.old world.new }
-{
-    let _ = world.run_calls(first);
-    let _ = world.run_steps(steps);
-    let is_quiet = world.is_quiet();
-    if is_quiet {
-        let _ = world.run_calls(second);
-    }
-    is_quiet
 }
