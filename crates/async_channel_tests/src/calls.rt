@@ -152,10 +152,7 @@ impl Fixture {
 
 /// Whether it is shown to users by the first text and to programmers by the second.
 fn shows<T: fmt::Display + fmt::Debug>(alloc: Global, shown: &T, user: &str, debug: &str) -> bool {
-    match (
-        format!(in alloc; "{shown}"),
-        format!(in alloc; "{shown:?}"),
-    ) {
+    match (format!(in alloc; "{shown}"), format!(in alloc; "{shown:?}")) {
         (Ok(first), Ok(second)) => first.as_str() == user && second.as_str() == debug,
         _ => false,
     }
@@ -192,30 +189,15 @@ fn shows_wants(alloc: Global) -> bool {
     let serials: Refused<RecvError> = Refused::SerialsUsedUp(());
     shows(alloc, &memory, "want of memory", "NoMemory(())")
         && shows(alloc, &serials, "serials used up", "SerialsUsedUp(())")
-        && shows(
-            alloc,
-            &OpenError::NoMemory,
-            "want of memory",
-            "NoMemory",
-        )
+        && shows(alloc, &OpenError::NoMemory, "want of memory", "NoMemory")
         && shows(
             alloc,
             &OpenError::IdsUsedUp,
             "identities used up",
             "IdsUsedUp",
         )
-        && shows(
-            alloc,
-            &HandleError::TooMany,
-            "too many handles",
-            "TooMany",
-        )
-        && shows(
-            alloc,
-            &HandleError::NoMemory,
-            "want of memory",
-            "NoMemory",
-        )
+        && shows(alloc, &HandleError::TooMany, "too many handles", "TooMany")
+        && shows(alloc, &HandleError::NoMemory, "want of memory", "NoMemory")
 }
 
 #[test]
@@ -258,7 +240,10 @@ fn a_message_that_comes_between_two_tries_is_taken(rt: HostRuntime) -> Result<()
     drop(all);
     assert_eq!(rt;
         (said, woke_nobody),
-        ([Said::GoesOn, Said::GoesOn, Said::Received(5), Said::Sent], true)
+        (
+            [Said::GoesOn, Said::GoesOn, Said::Received(5), Said::Sent],
+            true
+        )
     );
     Ok(())
 }
@@ -299,7 +284,11 @@ fn wakes_who_still_waits(all: &mut Fixture) -> ([Said; 6], bool, bool) {
     let woken = all.woke([3].as_slice());
     let mut send = ChannelCall::new(ChannelAsk::PollSend(3, second, 3));
     let sent = all.steps(&mut send, 6);
-    ([filled, pending, taken, left, received, sent], nobody, woken)
+    (
+        [filled, pending, taken, left, received, sent],
+        nobody,
+        woken,
+    )
 }
 
 #[test]
@@ -326,7 +315,11 @@ fn refused_poll_passes_on(all: &mut Fixture, held: [Option<Key>; 2]) -> ([Said; 
     let two = all.woke([1, 3].as_slice());
     let (refused, key, _) = all.runs(ChannelAsk::RefusePoll(Line::Receives, None, held[0]));
     let three = all.woke([1, 3, 2].as_slice());
-    ([forced, refused], two && three, key.is_some() || held[1].is_none())
+    (
+        [forced, refused],
+        two && three,
+        key.is_some() || held[1].is_none(),
+    )
 }
 
 /// The last sender is dropped while two receivers live: who waits for the closing is woken, and the rest is received.
@@ -361,7 +354,10 @@ fn a_refused_poll_passes_on_and_the_last_sender_closes(rt: HostRuntime) -> Resul
     let refused = refused_poll_passes_on(&mut all, [first, second]);
     let closed = last_sender_closes(&mut all, stream, closing);
     drop(all);
-    assert_eq!(rt; refused, ([Said::Displaced(None), Said::Refused], true, false));
+    assert_eq!(rt;
+        refused,
+        ([Said::Displaced(None), Said::Refused], true, false)
+    );
     let said = [
         Said::Made,
         Said::Count(2),

@@ -108,7 +108,11 @@ fn two_stream<R>(rt: R, r: &Receiver<u64, R>, tally: &Tally) -> bool
 where
     R: Wait + Threads + Copy + RandomSource + AllocGlobal + Send + Sync,
 {
-    let (Ok(one), Ok(two)) = (r.try_clone(), r.try_clone()) else {
+    let Ok(one) = r.try_clone() else {
+        return false;
+    };
+    let Ok(two) = r.try_clone() else {
+        drop(one);
         return false;
     };
     let (a, b) = thread::join(

@@ -19,6 +19,37 @@ fn opened<R: Wait + Copy>(rt: R, alloc: Global) -> Option<Both<R>> {
     bounded(rt, alloc, 2, &mut EventIds::new()).ok()
 }
 
+/// A send that doesn't wait and one that displaces: whether each was accepted, and whether one was displaced.
+fn sends_two<R: Wait + Copy>(s: &Sender<Token, R>, token: &Token) -> (bool, bool, bool) {
+    let tried = match Arc::try_clone(token) {
+        Ok(one) => s.try_send(one).is_ok(),
+        Err(_) => false,
+    };
+    let Ok(two) = Arc::try_clone(token) else {
+        return (tried, false, false);
+    };
+    let forced = s.force_send(two);
+    let displaced = matches!(&forced, Ok(Some(_)));
+    (tried, forced.is_ok(), displaced)
+}
+
+/// Whether a polled send is accepted; where it is pending it is dropped.
+fn sends_last<R>(rt: R, s: &Sender<Token, R>, token: &Token) -> bool
+where
+    R: Wait + Copy + RandomSource + AllocGlobal,
+{
+    let Ok(task) = MockTask::new(&rt) else {
+        return false;
+    };
+    match Arc::try_clone(token) {
+        Ok(last) => {
+            let polled = task.poll(&mut s.send(last));
+            matches!(&polled, Poll::Ready(Ok(())))
+        }
+        Err(_) => false,
+    }
+}
+
 /// Sends tokens through a sender of its own by both calls that don't wait, and leaves a polled send behind: how many were accepted,
 /// and how many displaced.
 fn sends<R>(rt: R, s: Sender<Token, R>, token: &Token) -> (usize, usize)
@@ -28,21 +59,13 @@ where
     let mut accepted = 0usize;
     let mut displaced = 0usize;
     for _ in 0..500 {
-        let (Ok(one), Ok(two)) = (Arc::try_clone(token), Arc::try_clone(token)) else {
-            return (0, 1);
-        };
-        if s.try_send(one).is_ok() {
-            accepted = accepted.wrapping_add(1);
-        }
-        if let Ok(oldest) = s.force_send(two) {
-            accepted = accepted.wrapping_add(1);
-            displaced = displaced.wrapping_add(usize::from(oldest.is_some()));
-        }
+        let (tried, forced, oldest) = sends_two(&s, token);
+        accepted = accepted
+            .wrapping_add(usize::from(tried))
+            .wrapping_add(usize::from(forced));
+        displaced = displaced.wrapping_add(usize::from(oldest));
     }
-    let (Ok(last), Ok(task)) = (Arc::try_clone(token), MockTask::new(&rt)) else {
-        return (0, 1);
-    };
-    let went = matches!(task.poll(&mut s.send(last)), Poll::Ready(Ok(())));
+    let went = sends_last(rt, &s, token);
     (accepted.wrapping_add(usize::from(went)), displaced)
 }
 
@@ -59,7 +82,10 @@ where
         thread::yield_now();
     }
     let came = match MockTask::new(&rt) {
-        Ok(task) => matches!(task.poll(&mut r.recv()), Poll::Ready(Ok(_))),
+        Ok(task) => {
+            let polled = task.poll(&mut r.recv());
+            matches!(&polled, Poll::Ready(Ok(_)))
+        }
         Err(_) => false,
     };
     received.wrapping_add(usize::from(came))
@@ -70,7 +96,11 @@ fn adds_up<R>(rt: R, ends: &Both<R>, token: &Token) -> bool
 where
     R: Wait + Threads + Copy + RandomSource + AllocGlobal + Send + Sync,
 {
-    let (Ok(s), Ok(r)) = (ends.0.try_clone(), ends.1.try_clone()) else {
+    let Ok(s) = ends.0.try_clone() else {
+        return false;
+    };
+    let Ok(r) = ends.1.try_clone() else {
+        drop(s);
         return false;
     };
     let ((accepted, displaced), received) = thread::join(

@@ -135,9 +135,11 @@ fn counts<R: Wait + Copy>(s: &Sender<u64, R>, r: &Receiver<u64, R>) -> Seen {
 
 /// Whether clones of weak handles are upgraded.
 fn upgrades<R: Wait + Copy>(ws: &WeakSender<u64, R>, wr: &WeakReceiver<u64, R>) -> bool {
-    match (ws.try_clone(), wr.try_clone()) {
+    let clones = (ws.try_clone(), wr.try_clone());
+    match (&clones.0, &clones.1) {
         (Ok(ws), Ok(wr)) => {
-            matches!(ws.upgrade(), Ok(Some(_))) && matches!(wr.upgrade(), Ok(Some(_)))
+            let made = (ws.upgrade(), wr.upgrade());
+            matches!(&made.0, Ok(Some(_))) && matches!(&made.1, Ok(Some(_)))
         }
         _ => false,
     }

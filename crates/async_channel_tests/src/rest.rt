@@ -53,11 +53,15 @@ impl Went {
     }
 }
 
-/// A thread that sends: what was accepted, and its last send with its task.
-type Sent<'a, R> = io::Result<(Went, MockTask, Sending<'a, u64, R>)>;
+/// What a sender had accepted, and its last send with its task.
+type LastSend<'a, R> = (Went, MockTask, Sending<'a, u64, R>);
 
-/// A thread that receives: what it got, and its last receive with its task.
-type Got<'a, R> = io::Result<(Went, MockTask, Recv<'a, u64, R>)>;
+/// What a receiver got, and its last receive with its task.
+type LastRecv<'a, R> = (Went, MockTask, Recv<'a, u64, R>);
+
+type Sent<'a, R> = io::Result<LastSend<'a, R>>;
+
+type Got<'a, R> = io::Result<LastRecv<'a, R>>;
 
 fn poll_sends<R>(rt: R, s: &Sender<u64, R>, from: u64) -> Sent<'_, R>
 where
@@ -118,11 +122,7 @@ where
 }
 
 /// Polls a send that was woken, unless it is done.
-fn settle_send<R: Wait + Copy>(
-    sent: &mut (Went, MockTask, Sending<'_, u64, R>),
-    from: u64,
-    done: &mut bool,
-) {
+fn settle_send<R: Wait + Copy>(sent: &mut LastSend<'_, R>, from: u64, done: &mut bool) {
     if *done || !sent.1.is_woken() {
         return;
     }
@@ -136,7 +136,7 @@ fn settle_send<R: Wait + Copy>(
 /// Polls a receive that was woken, unless it is done.
 fn settle_receive<R: Wait + Copy>(
     rt: R,
-    got: &mut (Went, MockTask, Recv<'_, u64, R>),
+    got: &mut LastRecv<'_, R>,
     tally: &Tally,
     done: &mut bool,
 ) {
@@ -171,33 +171,41 @@ fn adds_up<R: Wait>(rt: &R, sent: [Went; 2], got: [Went; 2], left: Went, tally: 
     ordered && tally.are_once(rt, sent[0].count, SECOND, sent[1].count)
 }
 
-fn settles<'a, R>(
+/// Both results, where both are there.
+fn both<T: Drop>(pair: (io::Result<T>, io::Result<T>)) -> Option<(T, T)> {
+    let (first, second) = pair;
+    let Ok(first) = first else {
+        drop(second);
+        return None;
+    };
+    match second {
+        Ok(second) => Some((first, second)),
+        Err(_) => None,
+    }
+}
+
+/// Polls whom was woken until nobody is. Then nobody who isn't done could go on, and nothing was lost or doubled.
+fn settles<'a, R: Wait + Copy>(
     rt: R,
-    sent: (Sent<'a, R>, Sent<'a, R>),
-    got: (Got<'a, R>, Got<'a, R>),
+    sent: &mut (LastSend<'a, R>, LastSend<'a, R>),
+    got: &mut (LastRecv<'a, R>, LastRecv<'a, R>),
     r: &'a Receiver<u64, R>,
     tally: &Tally,
-) -> io::Result<bool>
-where
-    R: Wait + Copy,
-{
-    let (a, b) = sent;
-    let (c, d) = got;
-    let (mut a, mut b, mut c, mut d) = (a?, b?, c?, d?);
+) -> bool {
     let mut done = [false; 4];
     for _ in 0..100 {
-        settle_send(&mut a, 0, &mut done[0]);
-        settle_send(&mut b, SECOND, &mut done[1]);
-        settle_receive(rt, &mut c, tally, &mut done[2]);
-        settle_receive(rt, &mut d, tally, &mut done[3]);
+        settle_send(&mut sent.0, 0, &mut done[0]);
+        settle_send(&mut sent.1, SECOND, &mut done[1]);
+        settle_receive(rt, &mut got.0, tally, &mut done[2]);
+        settle_receive(rt, &mut got.1, tally, &mut done[3]);
     }
-    let senders_still = (done[0] || !a.1.is_woken()) && (done[1] || !b.1.is_woken());
-    let receivers_still = (done[2] || !c.1.is_woken()) && (done[3] || !d.1.is_woken());
+    let senders_still = (done[0] || !sent.0.1.is_woken()) && (done[1] || !sent.1.1.is_woken());
+    let receivers_still = (done[2] || !got.0.1.is_woken()) && (done[3] || !got.1.1.is_woken());
     let sends_rest = done[0] && done[1] || r.is_full();
     let receives_rest = done[2] && done[3] || r.is_empty();
     let left = drain(rt, r, tally);
-    let whole = adds_up(&rt, [a.0, b.0], [c.0, d.0], left, tally);
-    Ok(senders_still && receivers_still && sends_rest && receives_rest && whole)
+    let whole = adds_up(&rt, [sent.0.0, sent.1.0], [got.0.0, got.1.0], left, tally);
+    senders_still && receivers_still && sends_rest && receives_rest && whole
 }
 
 /// What both threads of senders and both of receivers have in the end.
@@ -215,15 +223,23 @@ where
     thread::join(&rt, || two_send(rt, s), || two_receive(rt, r, tally))
 }
 
-fn comes_to_rest<R>(rt: R, s: &Sender<u64, R>, r: &Receiver<u64, R>) -> io::Result<bool>
+fn comes_to_rest<R>(rt: R, s: &Sender<u64, R>, r: &Receiver<u64, R>) -> bool
 where
     R: Wait + Threads + Copy + RandomSource + AllocGlobal + Send + Sync,
 {
     let Some(tally) = Tally::new(rt.alloc(), LIMIT) else {
-        return Ok(false);
+        return false;
     };
     let (sent, got) = all_four(rt, s, r, &tally);
-    settles(rt, sent, got, r, &tally)
+    let Some(mut sent) = both(sent) else {
+        drop(got);
+        return false;
+    };
+    let Some(mut got) = both(got) else {
+        drop(sent);
+        return false;
+    };
+    settles(rt, &mut sent, &mut got, r, &tally)
 }
 
 #[test]
@@ -231,7 +247,7 @@ fn at_rest(rt: HostRuntime) -> Result<(), Fail> {
     for capacity in [1, 3, 0] {
         for _ in 0..5 {
             let (s, r) = opened(rt, rt.alloc(), capacity).expect(&rt, "memory");
-            assert!(rt; comes_to_rest(rt, &s, &r)?);
+            assert!(rt; comes_to_rest(rt, &s, &r));
         }
     }
     Ok(())

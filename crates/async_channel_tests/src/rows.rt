@@ -1,174 +1,307 @@
 //! Worked examples through handles on one thread, polled by hand: what each call answers, and whose tasks are woken.
 
 use crate::said::{Said, closes, opened, receives, sends, streams};
-use async_channel::{Refused, SendError, TryRecvError, TrySendError};
+use async_channel::{Receiver, Refused, SendError, Sender, TryRecvError, TrySendError};
 use futures::test::MockTask;
+use std::sync::Wait;
 use std::test::Fail;
+
+/// Whether a send that doesn't wait is done.
+fn goes<R: Wait + Copy>(s: &Sender<u64, R>, message: u64) -> bool {
+    s.try_send(message) == Ok(())
+}
+
+/// Whether it finds the channel full, and hands its message back.
+fn is_full_for<R: Wait + Copy>(s: &Sender<u64, R>, message: u64) -> bool {
+    s.try_send(message) == Err(Refused::Plain(TrySendError::Full(message)))
+}
+
+fn one_place<R: Wait + Copy>(
+    s: &Sender<u64, R>,
+    r: &Receiver<u64, R>,
+    task: &MockTask,
+) -> ([Said; 2], [bool; 2]) {
+    let sent = sends(task, &mut s.send(10));
+    let full = is_full_for(s, 20);
+    let got = receives(task, &mut r.recv());
+    let empty = r.try_recv() == Err(TryRecvError::Empty);
+    ([sent, got], [full, empty])
+}
 
 #[test]
 fn one_place_takes_one_message(rt: HostRuntime) -> Result<(), Fail> {
     let (s, r) = opened(rt, rt.alloc(), 1).expect(&rt, "memory");
     let task = MockTask::new(&rt)?;
-    assert_eq!(rt; sends(&task, &mut s.send(10)), Said::Done);
-    assert_eq!(rt; s.try_send(20), Err(Refused::Plain(TrySendError::Full(20))));
-    assert_eq!(rt; receives(&task, &mut r.recv()), Said::Got(10));
-    assert_eq!(rt; r.try_recv(), Err(TryRecvError::Empty));
+    let seen = one_place(&s, &r, &task);
+    assert_eq!(rt; seen, ([Said::Done, Said::Got(10)], [true, true]));
     Ok(())
+}
+
+fn displaces<R: Wait + Copy>(
+    s: &Sender<u64, R>,
+    r: &Receiver<u64, R>,
+    task: &MockTask,
+) -> ([Said; 2], [bool; 2], bool) {
+    let first = sends(task, &mut s.send(1));
+    let second = sends(task, &mut s.send(2));
+    let third = s.force_send(3) == Ok(None);
+    let fourth = s.force_send(4) == Ok(Some(1));
+    let got = [r.try_recv(), r.try_recv(), r.try_recv()] == [Ok(2), Ok(3), Ok(4)];
+    ([first, second], [third, fourth], got)
 }
 
 #[test]
 fn a_forced_message_displaces_the_oldest(rt: HostRuntime) -> Result<(), Fail> {
     let (s, r) = opened(rt, rt.alloc(), 3).expect(&rt, "memory");
     let task = MockTask::new(&rt)?;
-    assert_eq!(rt; sends(&task, &mut s.send(1)), Said::Done);
-    assert_eq!(rt; sends(&task, &mut s.send(2)), Said::Done);
-    assert_eq!(rt; s.force_send(3), Ok(None));
-    assert_eq!(rt; s.force_send(4), Ok(Some(1)));
-    assert_eq!(rt;
-        [r.try_recv(), r.try_recv(), r.try_recv()],
-        [Ok(2), Ok(3), Ok(4)]
-    );
+    let seen = displaces(&s, &r, &task);
+    assert_eq!(rt; seen, ([Said::Done, Said::Done], [true, true], true));
     Ok(())
 }
 
 #[test]
 fn the_last_sender_closes(rt: HostRuntime) -> Result<(), Fail> {
     let (s, r) = opened(rt, rt.alloc(), 0).expect(&rt, "memory");
-    assert_eq!(rt; s.try_send(1), Ok(()));
-    assert_eq!(rt;
-        [r.try_recv(), r.try_recv()],
-        [Ok(1), Err(TryRecvError::Empty)]
-    );
+    let went = goes(&s, 1);
+    let before = [r.try_recv(), r.try_recv()];
     drop(s);
-    assert_eq!(rt; r.try_recv(), Err(TryRecvError::Closed));
+    let after = r.try_recv();
+    drop(r);
+    assert_eq!(rt; (went, before), (true, [Ok(1), Err(TryRecvError::Empty)]));
+    assert_eq!(rt; after, Err(TryRecvError::Closed));
     Ok(())
+}
+
+fn refuses_all<R: Wait + Copy>(s: &Sender<u64, R>, task: &MockTask) -> (Said, [bool; 2]) {
+    let polled = sends(task, &mut s.send(4));
+    let tried = s.try_send(5) == Err(Refused::Plain(TrySendError::Closed(5)));
+    let forced = s.force_send(6) == Err(Refused::Plain(SendError(6)));
+    (polled, [tried, forced])
 }
 
 #[test]
 fn the_last_receiver_closes(rt: HostRuntime) -> Result<(), Fail> {
     let (s, r) = opened(rt, rt.alloc(), 100).expect(&rt, "memory");
     let task = MockTask::new(&rt)?;
-    assert_eq!(rt; sends(&task, &mut s.send(1)), Said::Done);
-    assert_eq!(rt; sends(&task, &mut s.send(2)), Said::Done);
-    assert_eq!(rt; sends(&task, &mut s.send(3)), Said::Done);
+    let before = [
+        sends(&task, &mut s.send(1)),
+        sends(&task, &mut s.send(2)),
+        sends(&task, &mut s.send(3)),
+    ];
     drop(r);
-    assert_eq!(rt; sends(&task, &mut s.send(4)), Said::Back(4));
-    assert_eq!(rt; s.try_send(5), Err(Refused::Plain(TrySendError::Closed(5))));
-    assert_eq!(rt; s.force_send(6), Err(Refused::Plain(SendError(6))));
+    let after = refuses_all(&s, &task);
+    assert_eq!(rt; before, [Said::Done, Said::Done, Said::Done]);
+    assert_eq!(rt; after, (Said::Back(4), [true, true]));
     Ok(())
+}
+
+/// Two receives wait; the one that was told leaves. What is said, who was woken before that, and whether the other was then.
+fn leaves_after_its_notice<R: Wait + Copy>(
+    s: &Sender<u64, R>,
+    r: &Receiver<u64, R>,
+    tasks: [&MockTask; 2],
+) -> ([Said; 3], [bool; 2], [bool; 3]) {
+    let (mut r1, mut r2) = (r.recv(), r.recv());
+    let first = receives(tasks[0], &mut r1);
+    let second = receives(tasks[1], &mut r2);
+    let went = goes(s, 10);
+    let woken = [tasks[0].is_woken(), tasks[1].is_woken()];
+    let full = is_full_for(s, 20);
+    drop(r1);
+    let passed_on = tasks[1].is_woken();
+    let got = receives(tasks[1], &mut r2);
+    ([first, second, got], woken, [went, full, passed_on])
 }
 
 #[test]
 fn a_told_receive_that_leaves_passes_its_notice_on(rt: HostRuntime) -> Result<(), Fail> {
     let (s, r) = opened(rt, rt.alloc(), 1).expect(&rt, "memory");
     let (one, two) = (MockTask::new(&rt)?, MockTask::new(&rt)?);
-    let (mut r1, mut r2) = (r.recv(), r.recv());
-    assert_eq!(rt; receives(&one, &mut r1), Said::Pending);
-    assert_eq!(rt; receives(&two, &mut r2), Said::Pending);
-    assert_eq!(rt; s.try_send(10), Ok(()));
-    assert_eq!(rt; (one.is_woken(), two.is_woken()), (true, false));
-    assert_eq!(rt; s.try_send(20), Err(Refused::Plain(TrySendError::Full(20))));
-    drop(r1);
-    assert!(rt; two.is_woken());
-    assert_eq!(rt; receives(&two, &mut r2), Said::Got(10));
+    let seen = leaves_after_its_notice(&s, &r, [&one, &two]);
+    let said = [Said::Pending, Said::Pending, Said::Got(10)];
+    assert_eq!(rt; seen, (said, [true, false], [true, true, true]));
     Ok(())
+}
+
+/// Two sends wait. What their polls say, what is received, who was woken by the first taking, and whether the second send was by
+/// the first one's.
+fn takings_wake_sends<R: Wait + Copy>(
+    s: &Sender<u64, R>,
+    r: &Receiver<u64, R>,
+    tasks: [&MockTask; 2],
+) -> ([Said; 4], [bool; 4], [bool; 2], [bool; 3]) {
+    let filled = goes(s, 1);
+    let (mut a, mut b) = (s.send(2), s.send(3));
+    let first = sends(tasks[0], &mut a);
+    let second = sends(tasks[1], &mut b);
+    let one = r.try_recv() == Ok(1);
+    let woken = [tasks[0].is_woken(), tasks[1].is_woken()];
+    let done = sends(tasks[0], &mut a);
+    let next = [tasks[1].is_woken(), a.is_terminated(), b.is_terminated()];
+    let two = r.try_recv() == Ok(2);
+    let last = sends(tasks[1], &mut b);
+    let three = r.try_recv() == Ok(3);
+    (
+        [first, second, done, last],
+        [filled, one, two, three],
+        woken,
+        next,
+    )
 }
 
 #[test]
 fn each_taking_wakes_the_next_send(rt: HostRuntime) -> Result<(), Fail> {
     let (s, r) = opened(rt, rt.alloc(), 1).expect(&rt, "memory");
     let (one, two) = (MockTask::new(&rt)?, MockTask::new(&rt)?);
-    assert_eq!(rt; s.try_send(1), Ok(()));
-    let (mut a, mut b) = (s.send(2), s.send(3));
-    assert_eq!(rt; sends(&one, &mut a), Said::Pending);
-    assert_eq!(rt; sends(&two, &mut b), Said::Pending);
-    assert_eq!(rt; r.try_recv(), Ok(1));
-    assert_eq!(rt; (one.is_woken(), two.is_woken()), (true, false));
-    assert_eq!(rt; sends(&one, &mut a), Said::Done);
-    assert!(rt; two.is_woken() && a.is_terminated() && !b.is_terminated());
-    assert_eq!(rt; r.try_recv(), Ok(2));
-    assert_eq!(rt; sends(&two, &mut b), Said::Done);
-    assert_eq!(rt; r.try_recv(), Ok(3));
+    let (said, went, woken, next) = takings_wake_sends(&s, &r, [&one, &two]);
+    assert_eq!(rt;
+        said,
+        [Said::Pending, Said::Pending, Said::Done, Said::Done]
+    );
+    assert_eq!(rt; went, [true, true, true, true]);
+    assert_eq!(rt; (woken, next), ([true, false], [true, true, false]));
     Ok(())
+}
+
+/// A receive, a stream and a wait for the closing wait, and the channel is closed twice.
+fn closing_wakes<R: Wait + Copy>(
+    s: &Sender<u64, R>,
+    r: &Receiver<u64, R>,
+    stream: &mut Receiver<u64, R>,
+    tasks: [&MockTask; 3],
+) -> ([Said; 6], [bool; 2], [bool; 3]) {
+    let (mut waits, mut c) = (r.recv(), s.closed());
+    let first = receives(tasks[0], &mut waits);
+    let second = streams(tasks[1], stream);
+    let third = closes(tasks[2], &mut c);
+    let closed = [s.close(), s.close()];
+    let woken = [
+        tasks[0].is_woken(),
+        tasks[1].is_woken(),
+        tasks[2].is_woken(),
+    ];
+    let fourth = receives(tasks[0], &mut waits);
+    let fifth = streams(tasks[1], stream);
+    let sixth = closes(tasks[2], &mut c);
+    ([first, second, third, fourth, fifth, sixth], closed, woken)
 }
 
 #[test]
 fn a_closing_wakes_everybody(rt: HostRuntime) -> Result<(), Fail> {
     let (s, r) = opened(rt, rt.alloc(), 0).expect(&rt, "memory");
-    let (one, two, three) = (
-        MockTask::new(&rt)?,
-        MockTask::new(&rt)?,
-        MockTask::new(&rt)?,
-    );
     let mut t = r.try_clone().expect(&rt, "handles");
-    let (mut waits, mut c) = (r.recv(), s.closed());
-    assert_eq!(rt; receives(&one, &mut waits), Said::Pending);
-    assert_eq!(rt; streams(&two, &mut t), Said::Pending);
-    assert_eq!(rt; closes(&three, &mut c), Said::Pending);
-    assert!(rt; s.close() && !s.close());
-    assert!(rt; one.is_woken() && two.is_woken() && three.is_woken());
-    assert_eq!(rt; receives(&one, &mut waits), Said::Over);
-    assert_eq!(rt; streams(&two, &mut t), Said::Over);
-    assert_eq!(rt; closes(&three, &mut c), Said::Over);
+    let (one, two) = (MockTask::new(&rt)?, MockTask::new(&rt)?);
+    let three = MockTask::new(&rt)?;
+    let seen = closing_wakes(&s, &r, &mut t, [&one, &two, &three]);
+    let before = [Said::Pending, Said::Pending, Said::Pending];
+    assert_eq!(rt; [seen.0[0], seen.0[1], seen.0[2]], before);
+    assert_eq!(rt;
+        [seen.0[3], seen.0[4], seen.0[5]],
+        [Said::Over, Said::Over, Said::Over]
+    );
+    assert_eq!(rt; (seen.1, seen.2), ([true, false], [true, true, true]));
     Ok(())
+}
+
+/// A stream and a receive wait, and two messages come.
+fn message_wakes_both<R: Wait + Copy>(
+    s: &Sender<u64, R>,
+    r: &Receiver<u64, R>,
+    stream: &mut Receiver<u64, R>,
+    tasks: [&MockTask; 2],
+) -> ([Said; 5], [bool; 4], [bool; 2]) {
+    let mut waits = r.recv();
+    let first = streams(tasks[0], stream);
+    let second = receives(tasks[1], &mut waits);
+    let seven = goes(s, 7);
+    let woken = [tasks[0].is_woken(), tasks[1].is_woken()];
+    let third = streams(tasks[0], stream);
+    let fourth = receives(tasks[1], &mut waits);
+    let still = !tasks[1].is_woken();
+    let eight = goes(s, 8);
+    let again = tasks[1].is_woken();
+    let fifth = receives(tasks[1], &mut waits);
+    (
+        [first, second, third, fourth, fifth],
+        [seven, still, eight, again],
+        woken,
+    )
 }
 
 #[test]
 fn a_message_wakes_a_receive_and_a_stream(rt: HostRuntime) -> Result<(), Fail> {
     let (s, r) = opened(rt, rt.alloc(), 0).expect(&rt, "memory");
-    let (one, two) = (MockTask::new(&rt)?, MockTask::new(&rt)?);
     let mut t = r.try_clone().expect(&rt, "handles");
-    let mut waits = r.recv();
-    assert_eq!(rt; streams(&one, &mut t), Said::Pending);
-    assert_eq!(rt; receives(&two, &mut waits), Said::Pending);
-    assert_eq!(rt; s.try_send(7), Ok(()));
-    assert!(rt; one.is_woken() && two.is_woken());
-    assert_eq!(rt; streams(&one, &mut t), Said::Got(7));
-    assert_eq!(rt; receives(&two, &mut waits), Said::Pending);
-    assert!(rt; !two.is_woken());
-    assert_eq!(rt; s.try_send(8), Ok(()));
-    assert!(rt; two.is_woken());
-    assert_eq!(rt; receives(&two, &mut waits), Said::Got(8));
+    let (one, two) = (MockTask::new(&rt)?, MockTask::new(&rt)?);
+    let (said, right, woken) = message_wakes_both(&s, &r, &mut t, [&one, &two]);
+    let got = [
+        Said::Pending,
+        Said::Pending,
+        Said::Got(7),
+        Said::Pending,
+        Said::Got(8),
+    ];
+    assert_eq!(rt; said, got);
+    assert_eq!(rt; (right, woken), ([true, true, true, true], [true, true]));
     Ok(())
+}
+
+/// A receive is polled twice before its message comes: what is said, and whether it was woken before and after that.
+fn polled_twice<R: Wait + Copy>(
+    s: &Sender<u64, R>,
+    r: &Receiver<u64, R>,
+    task: &MockTask,
+) -> ([Said; 3], [bool; 3]) {
+    let mut waits = r.recv();
+    let first = receives(task, &mut waits);
+    let second = receives(task, &mut waits);
+    let before = task.is_woken();
+    let went = goes(s, 9);
+    let after = task.is_woken();
+    let got = receives(task, &mut waits);
+    ([first, second, got], [before, went, after])
 }
 
 #[test]
 fn a_second_poll_wakes_nobody(rt: HostRuntime) -> Result<(), Fail> {
     let (s, r) = opened(rt, rt.alloc(), 1).expect(&rt, "memory");
     let task = MockTask::new(&rt)?;
-    let mut waits = r.recv();
-    assert_eq!(rt; receives(&task, &mut waits), Said::Pending);
-    assert_eq!(rt; receives(&task, &mut waits), Said::Pending);
-    assert!(rt; !task.is_woken());
-    assert_eq!(rt; s.try_send(9), Ok(()));
-    assert!(rt; task.is_woken());
-    assert_eq!(rt; receives(&task, &mut waits), Said::Got(9));
+    let seen = polled_twice(&s, &r, &task);
+    let said = [Said::Pending, Said::Pending, Said::Got(9)];
+    assert_eq!(rt; seen, (said, [false, true, true]));
     Ok(())
+}
+
+/// A send is polled twice: what is said, and whether it was finished before and after.
+fn finishes<R: Wait + Copy>(s: &Sender<u64, R>, task: &MockTask) -> ([Said; 2], [bool; 2], bool) {
+    let mut a = s.send(1);
+    let before = a.is_terminated();
+    let first = sends(task, &mut a);
+    let second = sends(task, &mut a);
+    let after = a.is_terminated();
+    ([first, second], [before, after], a.give_up() == None)
 }
 
 #[test]
 fn a_finished_send_is_pending(rt: HostRuntime) -> Result<(), Fail> {
     let (s, r) = opened(rt, rt.alloc(), 2).expect(&rt, "memory");
     let task = MockTask::new(&rt)?;
-    let mut a = s.send(1);
-    assert!(rt; !a.is_terminated());
-    assert_eq!(rt; sends(&task, &mut a), Said::Done);
-    assert_eq!(rt; sends(&task, &mut a), Said::Pending);
-    assert_eq!(rt; (a.is_terminated(), r.len()), (true, 1));
-    assert_eq!(rt; a.give_up(), None);
-    assert_eq!(rt; s.send(2).give_up(), Some(2));
+    let seen = finishes(&s, &task);
+    let left = (r.len(), s.send(2).give_up());
+    assert_eq!(rt; seen, ([Said::Done, Said::Pending], [false, true], true));
+    assert_eq!(rt; left, (1, Some(2)));
     Ok(())
 }
 
-fn sends_to<R: std::sync::Wait + Copy>(s: &async_channel::Sender<u64, R>, last: u64) -> bool {
+fn sends_to<R: Wait + Copy>(s: &Sender<u64, R>, last: u64) -> bool {
     let mut all = true;
     for i in 1..last {
-        all = all && s.try_send(i) == Ok(());
+        all = all && goes(s, i);
     }
     all
 }
 
-fn receives_to<R: std::sync::Wait + Copy>(r: &async_channel::Receiver<u64, R>, last: u64) -> bool {
+fn receives_to<R: Wait + Copy>(r: &Receiver<u64, R>, last: u64) -> bool {
     let mut all = true;
     for i in 1..last {
         all = all && r.try_recv() == Ok(i);
@@ -179,10 +312,9 @@ fn receives_to<R: std::sync::Wait + Copy>(r: &async_channel::Receiver<u64, R>, l
 #[test]
 fn messages_past_one_block_come_in_order(rt: HostRuntime) -> Result<(), Fail> {
     let (s, r) = opened(rt, rt.alloc(), 0).expect(&rt, "memory");
-    assert!(rt; sends_to(&s, 33));
-    assert!(rt; receives_to(&r, 33));
-    assert!(rt; r.is_empty());
-    assert_eq!(rt; r.try_recv(), Err(TryRecvError::Empty));
+    let all = sends_to(&s, 33) && receives_to(&r, 33);
+    let empty = r.is_empty() && r.try_recv() == Err(TryRecvError::Empty);
+    assert_eq!(rt; (all, empty), (true, true));
     Ok(())
 }
 

@@ -1,7 +1,7 @@
 -- Messages that come in, and those that calls under way may yet bring, over steps, over beginnings and over a call made alone.
 use Rattle.std.proofs.Common.{arith, ◌≡◌, ℕ, ◌+◌, ◌≤◌, ◌==◌, nat_lt, Bool, true, false, if◌then◌else◌, List, [], ◌∷◌, ◌++◌, map, length, Option, None, Some, Ok, Err, inl, inr, ◌⊎◌, refl, sym, ap, ◌∙◌, subst}
 use Rattle.std.specs.Option.{option_map, option_map_or}
-use Rattle.concurrent_queue.specs.Queue.{Queue, Phase, trying, displaced, appended, taken, read, measured, GoesOn, AnswersTo, Goes, Answers, after}
+use Rattle.concurrent_queue.specs.Queue.{Queue, Phase, trying, displaced, appended, taken, read, measured, ContinuesBy, AnswersTo, Continues, Answers, after}
 use Rattle.concurrent_queue.specs.Queue as queue
 use Rattle.concurrent_queue.specs.declared.call.QueueAsk.{QueueAsk}
 use Rattle.concurrent_queue.specs.declared.call.QueueAsk.TheVariants as ask
@@ -54,7 +54,7 @@ module _ {T : Type 0} where
   -- ---- the queue's calls
 
   -- a try goes on: what it brings in, it brings no more
-  tried_on : (q : Queue T) (a : QueueAsk T) (m : QueueMark) (s t : queue.Stage T) → GoesOn q a m s t
+  tried_on : (q : Queue T) (a : QueueAsk T) (m : QueueMark) (s t : queue.Stage T) → ContinuesBy q a m s t
       → brought_in (mark_of_queue m) + yet_tried a t ≤ yet_tried a s
   tried_on q (ask.Push v) Nothing (trying b) t g = let e = ap (λ (z : queue.Stage T). yet_tried (ask.Push v) z) g in omega (arith, e)
   tried_on q (ask.Push v) Nothing (appended None) t g = let e = ap (λ (z : queue.Stage T). yet_tried (ask.Push v) z) g in omega (arith, e)
@@ -385,7 +385,7 @@ module _ {T W : Type 0} where
       let few = by h.how in
       record { accepted = omega (arith, plain, now, grown); fewer = omega (arith, plain, few) }
     where
-      by : ((f' : Phase T) × Goes c.queue f h.mark f' × (r ≡ None) × (s ≡ Trying f' y))
+      by : ((f' : Phase T) × Continues c.queue f h.mark f' × (r ≡ None) × (s ≡ Trying f' y))
           ⊎ ((x : QueueReply T) × Answers c.queue f h.mark x × Turned (answered_next y x) r s)
           → brought_in (mark_of_queue h.mark) + yet s ≤ yet_tried f.ask f.stage
       by (inl (f', goes, none, there)) =

@@ -40,7 +40,7 @@ use std::process::ExitCode;
 const INTERLEAVINGS: u64 = 10_000;
 
 /// How many random worlds of each form are settled.
-const SETTLED: u64 = 2_000;
+const SETTLED: u64 = 300;
 
 /// The seed of the first one; each later one has the next seed.
 const SEED: u64 = 20_260_000;

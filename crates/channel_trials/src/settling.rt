@@ -12,8 +12,8 @@ use channel_world::world::World;
 use std::alloc::Global;
 use std::collections::VecDeque;
 
-/// How many are polled at most before a world is settled.
-const MOST: usize = 50;
+/// How many calls are made at most before a world is settled.
+const MOST: usize = 120;
 
 /// How many polls a settling made, of how many worlds.
 #[derive(Clone, Copy)]

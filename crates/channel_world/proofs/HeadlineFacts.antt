@@ -177,7 +177,7 @@ module _ {T : Type 0} where
         told = each LeadsBy TellsWhatItOwes tells start r.made trace r.moments r.run;
         refused = each LeadsBy RefusedLeavesNothing refuses start r.made trace r.moments r.run;
         waits_for_nobody = each LeadsBy WaitsForNobody waits start r.made trace r.moments r.run;
-        ends_soon = end_soon start r.made trace r.moments k.kept (few_in old s k) r.run;
+        ends_soon = end_soon steps left start r.made trace r.moments r.first k.kept (few_in old s k) r.run;
         stops = stops;
         owed = each LeadsBy OwesWhoWaits owes start r.made trace r.moments r.run;
         for_good = all_end_well start r.made trace r.moments k.kept r.run;

@@ -94,15 +94,12 @@ module _ {T : Type 0} where
       ∙ (length-append (map (λ p. p.0) polls) t.waiting.woken ∙ ap (λ n. n + length t.waiting.woken) (polled_all polls))
 
   -- who is polled next is the first of those who are woken
-  pub goes_next : (s t : State T) (polls : List (Waiter × Reply T)) (names : List Waiter) (w : Waiter) → Goes s t polls names
+  goes_next : (s t : State T) (polls : List (Waiter × Reply T)) (names : List Waiter) (w : Waiter) → Goes s t polls names
       → slice_get names (length polls) ≡ Some w → slice_get t.waiting.woken 0 ≡ Some w
   goes_next s t polls names w h e =
       sym (behind (map (λ p. p.0) polls) t.waiting.woken)
       ∙ (ap (λ n. slice_get (map (λ p. p.0) polls ++ t.waiting.woken) n) (polled_all polls)
       ∙ (ap (λ (ws : List Waiter). slice_get ws (length polls)) (sym h.named) ∙ e))
-
-  pub next_there : (t : State T) (w : Waiter) → slice_get t.waiting.woken 0 ≡ Some w → is_among w t.waiting.woken ≡ true
-  next_there t w e = first_there w t.waiting.woken e
 
   module _ (s t : State T) (polls : List (Waiter × Reply T)) (names : List Waiter) (w : Waiter) (h : Goes s t polls names)
       (front : slice_get t.waiting.woken 0 ≡ Some w) where
@@ -110,7 +107,7 @@ module _ {T : Type 0} where
     rest_of = ap (λ (ws : List Waiter). length ws) (first_of w t.waiting.woken front)
 
     -- however it answers, there is room for those whom it wakes, and more polls are to come
-    pub one_more : (a : Answer T) → Answers t (poll_of w) a → length names + length a.woken ≤ most_polls s.waiting
+    one_more : (a : Answer T) → Answers t (poll_of w) a → length names + length a.woken ≤ most_polls s.waiting
     one_more a says =
         let left = h.left in
         let nearer = (streams_nearer (most_streams s.waiting) t h.awake h.streams w a front says).1 in
@@ -119,7 +116,7 @@ module _ {T : Type 0} where
         let all = goes_length s t polls names h in
         omega (arith, left, nearer, next, both, all, rest_of)
 
-    pub some_left : suc (length polls) ≤ most_polls s.waiting
+    some_left : suc (length polls) ≤ most_polls s.waiting
     some_left = let left = h.left in omega (arith, left, rest_of)
 
     pub goes_on : (u : State T) (x : Reply T) (after : List Waiter) → Polls w t names x after u → Goes s u (polls ++ (w, x) ∷ []) after
@@ -150,10 +147,28 @@ module _ {T : Type 0} where
   abbrev as_poll : Settled T → Waiter × Reply T
   as_poll p = (p.name, p.reply)
 
-  pub goes_front : (s t : State T) (polls : List (Settled T)) (names : List Waiter) (n : ℕ) (w : Waiter) → Goes s t (polls_in polls) names
-      → n ≡ length polls → slice_get names n ≡ Some w → slice_get t.waiting.woken 0 ≡ Some w
-  goes_front s t polls names n w h count e =
-      goes_next s t (polls_in polls) names w h (ap (λ k. slice_get names k) (length-map polls as_poll ∙ sym count) ∙ e)
+  pub polls_count : (polls : List (Settled T)) → length (polls_in polls) ≡ length polls
+  polls_count polls = length-map polls as_poll
+
+  -- who is polled next: there is room for whom that wakes, and for what it answers
+  pub record NextPoll (s t : State T) (polls : List (Settled T)) (names : List Waiter) (w : Waiter) : Type 0 where
+    pub front : slice_get t.waiting.woken 0 ≡ Some w
+    pub woken : is_among w t.waiting.woken ≡ true
+    pub left : suc (length polls) ≤ most_polls s.waiting
+    pub room : (a : Answer T) → Answers t (poll_of w) a → length names + length a.woken ≤ most_polls s.waiting
+
+  pub next_poll : (s t : State T) (polls : List (Settled T)) (names : List Waiter) (n : ℕ) (w : Waiter) → Goes s t (polls_in polls) names
+      → n ≡ length polls → slice_get names n ≡ Some w → NextPoll s t polls names w
+  next_poll s t polls names n w h count e =
+      let same = polls_count polls in
+      let front = goes_next s t (polls_in polls) names w h (ap (λ k. slice_get names k) (same ∙ sym count) ∙ e) in
+      let left = some_left s t (polls_in polls) names w h front in
+      record {
+        front = front;
+        woken = first_there w t.waiting.woken front;
+        left = omega (arith, left, same);
+        room = one_more s t (polls_in polls) names w h front;
+      }
 
   pub goes_pushed : (s t : State T) (polls pushed : List (Settled T)) (w : Waiter) (x : Reply T) (names : List Waiter)
       → pushed ≡ polls ++ record { name = w; reply = x } ∷ [] → Goes s t (polls_in polls ++ (w, x) ∷ []) names → Goes s t (polls_in pushed) names

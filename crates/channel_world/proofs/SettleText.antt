@@ -1,7 +1,7 @@
 -- The text of a settling; and that where no growth was refused, settling is what the definitions compute.
 use Rattle.std.proofs.Common.{arith, ◌≡◌, ◌≤◌, ◌+◌, ◌*◌, ◌/◌, ◌||◌, ℕ, zero, suc, List, [], ◌∷◌, ◌++◌, map, take, length, Bool, true, false, Some, slice_get, codes, refl, sym, ap, subst, ◌∙◌, append_assoc, append-nil}
 use Rattle.std.proofs.lemmas.List.{length-map, map-append}
-use Rattle.std.specs.Fmt.{decimal, digits}
+use Rattle.std.specs.Fmt.{decimal}
 use Rattle.std.specs.Option.{option_map_or}
 use Rattle.std.specs.List.{flat_map, join_by, list_any}
 use Rattle.channel_calls.specs.declared.reply.Reply.{Reply}
@@ -12,7 +12,7 @@ use Rattle.channel_model.specs.declared.name.Waiter.{Waiter}
 use Rattle.channel_world.specs.Script.{Scene, Obeyed, settled, settles, waiting_count}
 use Rattle.channel_world.specs.Settled.{polls_in}
 use Rattle.channel_world.specs.Table.{Table}
-use Rattle.channel_world.specs.Text.{poll_text, settle_text, part_before, wants_growth, AreAmple}
+use Rattle.channel_world.specs.Text.{poll_text, parted, settle_text, part_before, wants_growth, AreAmple}
 use Rattle.channel_world.specs.declared.settle.Settled.{Settled}
 use Rattle.channel_world.proofs.GrowthLemmas.{is_ample}
 
@@ -42,11 +42,6 @@ any_more p (y ∷ ys) x h e = by (λ k. any_more p ys x k e) (p y) h
 
 -- ---- the text
 
--- the polls, parted: a colon before the first, a comma before each other
-abbrev pub parted : Table → List (Waiter × Reply ℕ) → List ℕ
-parted table [] = []
-parted table (p ∷ ps) = codes ": " ++ join_by (poll_text table) (codes ", ") (p ∷ ps)
-
 parted_more : (table : Table) (ps : List (Waiter × Reply ℕ)) (p : Waiter × Reply ℕ)
     → parted table (ps ++ p ∷ []) ≡ parted table ps ++ (part_before (length ps) ++ poll_text table p)
 parted_more table [] p = ap (λ zs. codes ": " ++ zs) (append-nil (poll_text table p))
@@ -72,19 +67,10 @@ ample_more polls k p e h w =
     subst (λ (ps : List (Settled ℕ)). AreAmple ps) (sym (take_more polls k p e))
     (any_more (λ (q : Settled ℕ). wants_growth q.reply) (take k polls) p h w)
 
-no_polls : (table : Table) → codes "polls " ++ decimal 0 ++ parted table [] ≡ settle_text table []
-unfolding digits
-no_polls table = refl
-
-whole_text : (table : Table) (ps : List (Waiter × Reply ℕ)) → codes "polls " ++ decimal (length ps) ++ parted table ps ≡ settle_text table ps
-whole_text table [] = no_polls table
-whole_text table (p ∷ ps) = refl
-
 pub written : (table : Table) (polls : List (Settled ℕ))
     → codes "polls " ++ decimal (length polls) ++ parted table (polls_in polls) ≡ settle_text table (polls_in polls)
 written table polls =
     ap (λ n. codes "polls " ++ decimal n ++ parted table (polls_in polls)) (sym (length-map polls (λ (q : Settled ℕ). (q.name, q.reply))))
-    ∙ whole_text table (polls_in polls)
 
 -- ---- the settling
 
@@ -101,9 +87,10 @@ ample_settles (suc n) s t (p ∷ ps) h (front, (mid, names, answers, more)) w =
     let rest : AreAmple ps = (apart (wants_growth p.reply) w).1 in
     let is : record { after = mid; reply = p.reply; woken = names } ≡ answer s (poll_of p.name) = is_ample s (poll_of p.name) _ answers first in
     let on : settled n mid ≡ (polls_in ps, t) = ample_settles n mid t ps (omega (arith, h)) more rest in
-    rw front
-    (subst (λ (a : Answer ℕ). ((p.name, a.reply) ∷ (settled n a.after).0, (settled n a.after).1) ≡ ((p.name, p.reply) ∷ polls_in ps, t)) is
-    (ap (λ (d : List (Waiter × Reply ℕ) × State ℕ). ((p.name, p.reply) ∷ d.0, d.1)) on))
+    let so : Answer ℕ → List (Waiter × Reply ℕ) × State ℕ = λ a. ((p.name, a.reply) ∷ (settled n a.after).0, (settled n a.after).1) in
+    let behind : List (Waiter × Reply ℕ) × State ℕ → List (Waiter × Reply ℕ) × State ℕ = λ d. ((p.name, p.reply) ∷ d.0, d.1) in
+    let all : List (Waiter × Reply ℕ) × State ℕ = (polls_in (p ∷ ps), t) in
+    rw front (subst (λ (a : Answer ℕ). so a ≡ all) is (ap behind on))
   where
     apart : (b : Bool) → (b || list_any (λ (q : Settled ℕ). wants_growth q.reply) ps) ≡ false
         → (b ≡ false) × (list_any (λ (q : Settled ℕ). wants_growth q.reply) ps ≡ false)

@@ -1,5 +1,5 @@
 -- How soon a call ends that nobody holds up.
-use Rattle.std.proofs.Common.{arith, ◌≡◌, ℕ, suc, ◌≤◌, ◌<◌, ◌==◌, ◌&&◌, Bool, true, false, if◌then◌else◌, is_none, List, [], ◌∷◌, Option, None, Some, refl, sym, subst}
+use Rattle.std.proofs.Common.{arith, ◌≡◌, ℕ, suc, ◌≤◌, ◌<◌, ◌==◌, ◌&&◌, Bool, true, false, if◌then◌else◌, is_none, List, [], ◌∷◌, ◌++◌, Option, None, Some, refl, sym, ap, ◌∙◌, subst}
 use Rattle.std.proofs.lemmas.Bool.Decides.{nat_tests}
 use Rattle.channel_calls.specs.declared.reply.Reply.{Reply}
 use Rattle.channel_interleaving.proofs.Interface.{nobody_still}
@@ -68,12 +68,37 @@ module _ {T : Type 0} where
   all_nearer m (x ∷ xs) [] ns h = absurd h
   all_nearer m (x ∷ xs) (e ∷ es) [] h = absurd h
 
-  pub end_soon : (m : Moment T) (xs : List (Step T)) (es : List (Entry T)) (ns : List (Moment T)) → AllKept m.book m.scene → FewLeft m
-      → EachStep LeadsBy m xs es ns → EndSoon m xs es ns
-  end_soon m xs es ns k few h = record {
+  -- ---- in front of a list
+
+  none_in_a_row : (p : ℕ) (xs : List (Step T)) → in_a_row {T = T} p xs [] ≡ 0
+  none_in_a_row p [] = refl
+  none_in_a_row p (step.Begin q c ∷ xs) = refl
+  none_in_a_row p (step.Step q ∷ xs) = refl
+
+  -- steps that were not made do not count
+  row_in_front : (p : ℕ) (left : List (Step T)) (m : Moment T) (xs : List (Step T)) (es : List (Entry T)) (ns : List (Moment T))
+      → EachStep LeadsBy m xs es ns → in_a_row p (xs ++ left) es ≡ in_a_row p xs es
+  row_in_front p left m [] [] [] h = none_in_a_row p left
+  row_in_front p left m (step.Begin q c ∷ xs) (e ∷ es) (n ∷ ns) h = refl
+  row_in_front p left m (step.Step q ∷ xs) (e ∷ es) (n ∷ ns) h =
+      ap (λ k. if (q.0 == p) && is_none e.reply then suc k else 0) (row_in_front p left n xs es ns h.1)
+  row_in_front p left m [] [] (n ∷ ns) h = absurd h
+  row_in_front p left m [] (e ∷ es) ns h = absurd h
+  row_in_front p left m (x ∷ xs) [] ns h = absurd h
+  row_in_front p left m (x ∷ xs) (e ∷ es) [] h = absurd h
+
+  pub end_soon : (steps left : List (Step T)) (m : Moment T) (xs : List (Step T)) (es : List (Entry T)) (ns : List (Moment T))
+      → steps ≡ xs ++ left → AllKept m.book m.scene → FewLeft m → EachStep LeadsBy m xs es ns → EndSoon steps m xs es ns
+  end_soon steps left m xs es ns first k few h = record {
     first = few;
     few = all_few m xs es ns h;
     nearer = all_nearer m xs es ns h;
-    in_front = λ p free. (let row = row_left p m xs es ns k h free in let most = few p in omega (arith, row, most));
+    in_front = λ p free. (
+        let same : in_a_row p steps es ≡ in_a_row p xs es =
+        ap (λ (l : List (Step T)). in_a_row p l es) first ∙ row_in_front p left m xs es ns h in
+        let row = row_left p m xs es ns k h free in
+        let most = few p in
+        omega (arith, same, row, most)
+        );
     later = all_in_a_row m xs es ns k few h;
   }

@@ -44,7 +44,7 @@ module _ {T : Type 0} where
     pub waits_for_nobody : EachStep WaitsForNobody (moment_of old from) made trace moments
     -- at each moment each call has at most 197 steps of its own left, and where no other call under way has a mark but Nothing
     -- each of its steps leaves it fewer, or ends it
-    pub ends_soon : EndSoon (moment_of old from) made trace moments
+    pub ends_soon : EndSoon steps (moment_of old from) made trace moments
     -- the run stops at the first step that is refused, which stays in front, for the first reason that there is
     pub stops : Stops (book_of new) left (length trace) stopped
     -- at each moment, beside one who is pending and was not woken, there is no message, free place or closing but such as a

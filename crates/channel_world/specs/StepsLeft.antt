@@ -26,12 +26,12 @@ module _ {T : Type 0} where
       ((p : ℕ) → NobodyHoldsUp p m → in_a_row p (x ∷ xs) (e ∷ es) ≤ 197) × EndInARow n xs es ns
   EndInARow m _ _ _ = ⊥
 
-  -- From the moment m on by these steps, to these moments: at most 197 steps of its own are left to each call at each moment, and
-  -- each step that does not end its call, where the others hold it up no more, leaves it fewer. So it ends among its next 198, if
-  -- these are the next: those in front of the list, and from each later moment on.
-  pub record EndSoon (m : Moment T) (xs : List (Step T)) (es : List (Entry T)) (ns : List (Moment T)) : Type 0 where
+  -- From the moment m on by the first steps xs of this list, to these moments: at most 197 steps of its own are left to each call at
+  -- each moment, and each step that does not end its call, where the others hold it up no more, leaves it fewer. So it ends among
+  -- its next 198, if these are the next: those in front of the list, and from each later moment on.
+  pub record EndSoon (steps : List (Step T)) (m : Moment T) (xs : List (Step T)) (es : List (Entry T)) (ns : List (Moment T)) : Type 0 where
     pub first : FewLeft m
     pub few : EachStep (λ m x e n. FewLeft n) m xs es ns
     pub nearer : EachStep ComesNearer m xs es ns
-    pub in_front : (p : ℕ) → NobodyHoldsUp p m → in_a_row p xs es ≤ 197
+    pub in_front : (party : ℕ) → NobodyHoldsUp party m → in_a_row party steps es ≤ 197
     pub later : EndInARow m xs es ns

@@ -88,9 +88,13 @@ refused_text w = codes "refused " ++ decimal (refusal_number w)
 abbrev pub poll_text : Table → Waiter × Reply ℕ → List ℕ
 poll_text table p = waiter_name table p.0 ++ 32 ∷ reply_text p.1
 
+-- the polls: a colon before the first, a comma before each other
+abbrev pub parted : Table → List (Waiter × Reply ℕ) → List ℕ
+parted table [] = []
+parted table (p ∷ ps) = codes ": " ++ join_by (poll_text table) (codes ", ") (p ∷ ps)
+
 abbrev pub settle_text : Table → List (Waiter × Reply ℕ) → List ℕ
-settle_text table [] = codes "polls 0"
-settle_text table (p ∷ ps) = codes "polls " ++ decimal (length (p ∷ ps)) ++ codes ": " ++ join_by (poll_text table) (codes ", ") (p ∷ ps)
+settle_text table ps = codes "polls " ++ decimal (length ps) ++ parted table ps
 
 -- what stands before the k-th poll
 abbrev pub part_before : ℕ → List ℕ

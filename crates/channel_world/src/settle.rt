@@ -1,6 +1,6 @@
 //! Settling: those who are pending and were woken are polled, the one whose wake is oldest first, until nobody is woken.
 
-ghost use Rattle.std.specs.Prelude.{◌≡◌, length, IfSome};
+ghost use Rattle.std.specs.Prelude.{◌≡◌, ◌≤◌, [], length, vec_capacity, IfSome};
 ghost use Rattle.std.specs.List.{filter};
 ghost use Rattle.channel_model.specs.Lines.{is_stream};
 
@@ -11,6 +11,7 @@ use channel_calls::stage::Line;
 use channel_interleaving::settle::Polled;
 use channel_rest::laws::{a_channel_at_rest_is_a_world, a_poll_of_settling_is_the_models};
 use event_listener::error::NoMemory;
+use std::alloc::Global;
 
 /// One poll of a settling. Own to this project.
 #[derive(Drop)]
@@ -43,8 +44,24 @@ fn count_streams(names: &Vec<Waiter>) -> Option<usize>
     Some(count)
 }
 
+/// Room for so many polls more than these names, and for what they answer. None where it was refused.
+fn take_room<T: Drop>(mut names: Vec<Waiter>, most: usize, alloc: Global) -> Option<Room<T>>
+    ensures names { IfSome result (λ r. r.names.items ≡ names.items) }
+    ensures polls { IfSome result (λ r. r.polls.items ≡ []) }
+    ensures room { IfSome result (λ r. most ≤ vec_capacity r.names) }
+    ensures answers { IfSome result (λ r. most ≤ vec_capacity r.polls) }
+{
+    if names.reserve(most).is_err() {
+        return None;
+    }
+    let Ok(polls) = Vec::with_capacity(alloc, most) else {
+        return None;
+    };
+    Some(Room { names, polls })
+}
+
 impl<T: Drop> World<T> {
-    ghost use Rattle.std.specs.Prelude.{◌≡◌, ◌≤◌, ◌<◌, ◌+◌, ◌^◌, [], true, length, vec_len, vec_capacity, IfSome, OnSome};
+    ghost use Rattle.std.specs.Prelude.{◌≡◌, ◌≤◌, ◌<◌, ◌+◌, ◌^◌, [], true, length, vec_len, vec_capacity, IfSome, OnSome, IsTrue};
     ghost use Rattle.channel_interleaving.specs.Floor.{IsQuiet, LeadsOn};
     ghost use Rattle.channel_model.specs.Answer.{Answer};
     ghost use Rattle.channel_model.specs.Lines.{is_among};
@@ -67,6 +84,13 @@ impl<T: Drop> World<T> {
         later.checked_add(woken.len())
     }
 
+    /// Whether so many more calls may be made, even if each brings a message.
+    fn has_calls(&self, count: usize) -> bool
+        ensures { IsTrue result → self.now.accepted + count < 2 ^ 61 }
+    {
+        self.steps.has_calls(count)
+    }
+
     /// Room for all that settling answers. None where it was refused, or where the positions of messages leave none.
     fn room_to_settle(&self) -> Option<Room<T>>
         ensures names { IfSome result (λ r. r.names.items ≡ (at_rest self.now).waiting.woken) }
@@ -75,17 +99,15 @@ impl<T: Drop> World<T> {
         ensures answers { IfSome result (λ r. most_polls (at_rest self.now).waiting ≤ vec_capacity r.polls) }
         ensures places { OnSome result (self.now.accepted + most_polls (at_rest self.now).waiting < 2 ^ 61) }
     {
-        let Ok(mut names) = self.steps.woken_names() else {
+        let Ok(names) = self.steps.woken_names() else {
             return None;
         };
         let most = self.most_polls(&names)?;
-        if !self.steps.has_calls(most) || names.reserve(most).is_err() {
+        if !self.has_calls(most) {
             return None;
         }
-        let Ok(polls) = Vec::with_capacity(self.alloc(), most) else {
-            return None;
-        };
-        Some(Room { names, polls })
+        let room = take_room(names, most, self.alloc())?;
+        Some(room)
     }
 
     /// Polls one that is pending and was woken. Those whom the poll wakes go after the names, where there is room for them.

@@ -1,14 +1,12 @@
 //! Clients of a world that know nothing of it but that it is one. They are proved; nothing runs them.
 
-ghost use Rattle.std.specs.Prelude.{◌≡◌, ◌+◌, ◌≤◌, ◌++◌, ℕ, List};
-ghost use Rattle.channel_interleaving.specs.Floor.{moment_of, StandsIn, IsQuiet, LeadsOn};
+ghost use Rattle.std.specs.Prelude.{◌≡◌, ◌+◌, ◌≤◌, ℕ};
+ghost use Rattle.channel_interleaving.specs.Floor.{moment_of, StandsIn};
 ghost use Rattle.channel_interleaving.specs.Runs.{accepted_in, left_in};
 ghost use Rattle.channel_model.specs.declared.name.Waiter.{Waiter};
 ghost use Rattle.channel_steps.specs.Scene.{Scene};
 ghost use Rattle.channel_world.specs.StepsLeft.{in_a_row, NobodyHoldsUp};
-ghost use Rattle.channel_interleaving.specs.declared.step.Step.{Step};
 
-use channel_world::call::Call;
 use channel_world::step::{Run, Step};
 use channel_world::world::World;
 use std::collections::VecDeque;
@@ -39,29 +37,7 @@ pub fn count<T: Drop>(world: &mut World<T>, steps: &mut VecDeque<Step<T>>) -> Co
 /// front of the list with no reply among them.
 pub fn ends_soon<T: Drop>(world: &mut World<T>, steps: &mut VecDeque<Step<T>>) -> Run<T>
     ensures { (s : Scene T Waiter) → StandsIn world.old s → (party : ℕ) → NobodyHoldsUp party (moment_of world.old s)
-        → (made : List (Step T)) × (steps.old.items ≡ made ++ steps.new.items) × (in_a_row party made result.trace.items ≤ 197) }
+        → in_a_row party steps.old.items result.trace.items ≤ 197 }
 {
     world.run_steps(steps)
-}
-
-/// Makes calls, then steps of any parties, and then calls again, if no call is under way then: from each scene in which the
-/// world stood it came to one in which it stands, and what left the channel on the way, followed by what it holds, is what it
-/// held followed by what came, in order.
-#[tactic(auto, using(channel_interleaving::proofs::Interface::leads_on))]
-pub fn carry<T: Drop>(
-    world: &mut World<T>,
-    first: &mut VecDeque<Call<T>>,
-    steps: &mut VecDeque<Step<T>>,
-    second: &mut VecDeque<Call<T>>,
-) -> bool
-    requires quiet { IsQuiet world.old }
-    ensures accounts { LeadsOn world.old world.new }
-{
-    let _ = world.run_calls(first);
-    let _ = world.run_steps(steps);
-    let is_quiet = world.is_quiet();
-    if is_quiet {
-        let _ = world.run_calls(second);
-    }
-    is_quiet
 }

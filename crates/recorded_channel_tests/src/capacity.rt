@@ -59,7 +59,7 @@ fn unbounded<L: Ledger, R: Wait>(rt: &R, alloc: Global, blank: Blank) -> Option<
 }
 
 /// What is said where the capacity is this.
-fn said(capacity: Option<usize>) -> Option<Said> {
+fn as_asked(capacity: Option<usize>) -> Option<Said> {
     Some(Said {
         channel: capacity,
         record: capacity,
@@ -69,8 +69,8 @@ fn said(capacity: Option<usize>) -> Option<Said> {
 #[test]
 fn the_capacity_is_as_asked_for(rt: HostRuntime) -> Result<(), Fail> {
     let three = bounded::<Brand, HostRuntime>(&rt, rt.alloc(), Blank::new(2));
-    assert_eq!(rt; three, said(Some(3)));
+    assert_eq!(rt; three, as_asked(Some(3)));
     let any = unbounded::<Brand, HostRuntime>(&rt, rt.alloc(), Blank::new(2));
-    assert_eq!(rt; any, said(None));
+    assert_eq!(rt; any, as_asked(None));
     Ok(())
 }

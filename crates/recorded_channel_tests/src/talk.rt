@@ -90,7 +90,7 @@ fn finish<L: Ledger>(
 
 /// What came of the talk: the words that were heard, how many calls were made on each channel, and how many were recorded.
 #[derive(Debug, PartialEq, Eq, Drop)]
-struct Talk {
+struct Outcome {
     heard: (Option<u64>, Option<u64>),
     made: (usize, usize),
     recorded: (usize, usize),
@@ -101,7 +101,7 @@ fn talk<L: Ledger + Sync, M: Ledger + Sync, R: Threads + Wait + Sync>(
     alloc: Global,
     first: Blank,
     second: Blank,
-) -> Option<Talk>
+) -> Option<Outcome>
     requires first { (first.name ≡ L.name) × (first.parts ≡ L.parts) × (first.parts ≡ 3) }
     requires second { (second.name ≡ M.name) × (second.parts ≡ M.parts) × (second.parts ≡ 3) }
 {
@@ -120,7 +120,7 @@ fn talk<L: Ledger + Sync, M: Ledger + Sync, R: Threads + Wait + Sync>(
     let made = (a.said.wrapping_add(b.asked), b.said.wrapping_add(a.asked));
     let first = finish(alloc, one, a.speaks, b.listens)?;
     let second = finish(alloc, two, a.listens, b.speaks)?;
-    Some(Talk {
+    Some(Outcome {
         heard,
         made,
         recorded: (first.len(), second.len()),

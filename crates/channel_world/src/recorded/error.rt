@@ -63,7 +63,7 @@ impl<T> fmt::Debug for RecordError<T> {
     }
 }
 
-impl<T> Error for RecordError<T> {}
+impl<T: Drop> Error for RecordError<T> {}
 
 impl fmt::Display for SeatsUsedUp {
     fn fmt<W: fmt::Write>(&self, f: &mut fmt::Formatter<W>) -> fmt::Result {

@@ -22,8 +22,13 @@ returns g c =
     let sum = c.in_ok-streams.ensures.1 in
     let enough = enough_polls l c.in_ok-untold.untold (vec_len c.args.woken.now) c.in_ok-streams.streams c.in_ok-untold.ensures woken
     (omega (arith, streams, told, sum)) in
-    let pending = c.in_ok-pending.ensures.1 in
-    let each = c.in_ok-each.ensures.1 in
-    let later = c.in_ok-later.ensures.1 in
+    let sum-pending = c.in_ok-pending.ensures.1 in
+    let sum-each = c.in_ok-each.ensures.1 in
+    let product = c.in_ok-later.ensures.1 in
+    let pending : c.in_ok-pending.pending ≡ c.in_ok-untold.untold + vec_len c.args.woken.now = omega (arith, sum-pending, c.len.ensures) in
+    let each : c.in_ok-each.each ≡ c.in_ok-streams.streams + 2 = omega (arith, sum-each) in
+    let whole : c.in_ok-each.each * c.in_ok-pending.pending ≡ (c.in_ok-streams.streams + 2) * (c.in_ok-untold.untold + vec_len c.args.woken.now) =
+    ap (λ n. n * c.in_ok-pending.pending) each ∙ ap (λ n. (c.in_ok-streams.streams + 2) * n) pending in
+    let later : c.in_ok-later.later ≡ c.in_ok-each.each * c.in_ok-pending.pending = omega (arith, product) in
     no_less _ c.checked_add-4.result _ (c.in_ok-later.later + c.len-2.result) c.checked_add-4.ensures
-    (omega (arith, enough, later, each, pending, c.len.ensures, c.len-2.ensures))
+    (omega (arith, enough, later, whole, c.len-2.ensures))

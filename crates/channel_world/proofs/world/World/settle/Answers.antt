@@ -1,6 +1,5 @@
 -- From the loop: the polls so far, and what is to come.
-use Rattle.std.proofs.Common.{arith, rules, ◌≡◌, ◌≤◌, ◌<◌, ◌+◌, ◌∙◌, length, slice_get, Some, vec_len, sym, ap, subst}
-use Rattle.std.proofs.lemmas.List.{length-map}
+use Rattle.std.proofs.Common.{arith, rules, ◌≡◌, ◌∙◌, length, slice_get, Some, vec_len, sym, subst}
 use Rattle.std.proofs.lemmas.Option.{slice_get_read}
 use Rattle.channel_interleaving.proofs.Interface.{leads_nowhere, leads_on, stands_led}
 use Rattle.channel_interleaving.specs.Floor.{IsQuiet, Stands}
@@ -8,9 +7,8 @@ use Rattle.channel_interleaving.specs.declared.floor.Floor.{Floor}
 use Rattle.channel_model.specs.Awake.{AwakeIn}
 use Rattle.channel_world.specs.Settled.{polls_in}
 use Rattle.channel_world.specs.World.{at_rest}
-use Rattle.channel_world.specs.declared.settle.Settled.{Settled}
 use Rattle.channel_world.proofs.Polls.{awake_at_rest}
-use Rattle.channel_world.proofs.SettleFacts.{goes_first, goes_front, goes_length, goes_on, goes_pushed, goes_end, next_there, one_more, some_left}
+use Rattle.channel_world.proofs.SettleFacts.{goes_first, goes_on, goes_pushed, goes_end, next_poll}
 use Rattle.channel_world.proofs.world.World.settle.Goals as goal
 
 pub loop-names-init : goal.loop-names-init
@@ -33,88 +31,77 @@ loop-names-init g c =
     }
 
 pub poll_woken-reply-requires-clause-quiet : goal.poll_woken-reply-requires-clause-quiet
-poll_woken-reply-requires-clause-quiet g c = c.loop-names.invariant.quiet
+poll_woken-reply-requires-clause-quiet g c =
+    c.loop-names.invariant.quiet
 
 pub poll_woken-reply-requires-clause-woken : goal.poll_woken-reply-requires-clause-woken
 poll_woken-reply-requires-clause-woken g c =
-    let s = at_rest c.args.self.now in
-    let t = at_rest c.loop-names.self in
     let names = c.loop-names.names in
     let polls = c.loop-names.polls in
+    let place = c.len-in-loop-names-2.result in
     let name = c.index-name.result.now in
-    let goes = c.loop-names.invariant.goes in
-    let there : slice_get names.items (vec_len polls) ≡ Some name =
-    slice_get_read names.items (vec_len names) (vec_len polls) name names.ok.0 (search rules) c.index-name.ensures.value in
-    let front = goes_front s t polls.items names.items (vec_len polls) name goes polls.ok.0 there in
-    let count = polls.ok.0 in
-    let same = length-map polls.items (λ (p : Settled g.row.T.Denot). (p.name, p.reply)) in
-    next_there t name front
+    let here : slice_get names.items place ≡ Some name =
+    slice_get_read names.items (vec_len names) place name names.ok.0 (search rules) c.index-name.ensures in
+    let next = next_poll (at_rest c.args.self.now) (at_rest c.loop-names.self) polls.items names.items place name c.loop-names.invariant.goes
+    (c.len-in-loop-names-2.ensures ∙ polls.ok.0) here in
+    next.woken
 
 pub poll_woken-reply-requires-clause-limit : goal.poll_woken-reply-requires-clause-limit
 poll_woken-reply-requires-clause-limit g c =
-    let s = at_rest c.args.self.now in
-    let t = at_rest c.loop-names.self in
     let names = c.loop-names.names in
     let polls = c.loop-names.polls in
+    let place = c.len-in-loop-names-2.result in
     let name = c.index-name.result.now in
-    let goes = c.loop-names.invariant.goes in
-    let there : slice_get names.items (vec_len polls) ≡ Some name =
-    slice_get_read names.items (vec_len names) (vec_len polls) name names.ok.0 (search rules) c.index-name.ensures.value in
-    let front = goes_front s t polls.items names.items (vec_len polls) name goes polls.ok.0 there in
-    let count = polls.ok.0 in
-    let same = length-map polls.items (λ (p : Settled g.row.T.Denot). (p.name, p.reply)) in
-    let left = some_left s t (polls_in polls.items) names.items name goes front in
+    let here : slice_get names.items place ≡ Some name =
+    slice_get_read names.items (vec_len names) place name names.ok.0 (search rules) c.index-name.ensures in
+    let next = next_poll (at_rest c.args.self.now) (at_rest c.loop-names.self) polls.items names.items place name c.loop-names.invariant.goes
+    (c.len-in-loop-names-2.ensures ∙ polls.ok.0) here in
+    let left = next.left in
     let places = c.loop-names.invariant.places in
-    omega (arith, left, places, count, same)
+    let count = polls.ok.0 in
+    omega (arith, left, places, count)
 
 pub poll_woken-reply-requires-clause-room : goal.poll_woken-reply-requires-clause-room
-poll_woken-reply-requires-clause-room g c a says =
-    let s = at_rest c.args.self.now in
-    let t = at_rest c.loop-names.self in
+poll_woken-reply-requires-clause-room g c =
     let names = c.loop-names.names in
     let polls = c.loop-names.polls in
+    let place = c.len-in-loop-names-2.result in
     let name = c.index-name.result.now in
-    let goes = c.loop-names.invariant.goes in
-    let there : slice_get names.items (vec_len polls) ≡ Some name =
-    slice_get_read names.items (vec_len names) (vec_len polls) name names.ok.0 (search rules) c.index-name.ensures.value in
-    let front = goes_front s t polls.items names.items (vec_len polls) name goes polls.ok.0 there in
-    let count = polls.ok.0 in
-    let same = length-map polls.items (λ (p : Settled g.row.T.Denot). (p.name, p.reply)) in
-    let one = one_more s t (polls_in polls.items) names.items name goes front a says in
+    let here : slice_get names.items place ≡ Some name =
+    slice_get_read names.items (vec_len names) place name names.ok.0 (search rules) c.index-name.ensures in
+    let next = next_poll (at_rest c.args.self.now) (at_rest c.loop-names.self) polls.items names.items place name c.loop-names.invariant.goes
+    (c.len-in-loop-names-2.ensures ∙ polls.ok.0) here in
+    λ a says.
+    let one = next.room a says in
     let room = c.loop-names.invariant.names in
-    let long : vec_len names ≡ length names.items = names.ok.0 in
+    let long = names.ok.0 in
     omega (arith, one, room, long)
 
 pub push_reserved-requires : goal.push_reserved-requires
 push_reserved-requires g c =
-    let s = at_rest c.args.self.now in
-    let t = at_rest c.loop-names.self in
     let names = c.loop-names.names in
     let polls = c.loop-names.polls in
+    let place = c.len-in-loop-names-2.result in
     let name = c.index-name.result.now in
-    let goes = c.loop-names.invariant.goes in
-    let there : slice_get names.items (vec_len polls) ≡ Some name =
-    slice_get_read names.items (vec_len names) (vec_len polls) name names.ok.0 (search rules) c.index-name.ensures.value in
-    let front = goes_front s t polls.items names.items (vec_len polls) name goes polls.ok.0 there in
-    let count = polls.ok.0 in
-    let same = length-map polls.items (λ (p : Settled g.row.T.Denot). (p.name, p.reply)) in
-    let left = some_left s t (polls_in polls.items) names.items name goes front in
+    let here : slice_get names.items place ≡ Some name =
+    slice_get_read names.items (vec_len names) place name names.ok.0 (search rules) c.index-name.ensures in
+    let next = next_poll (at_rest c.args.self.now) (at_rest c.loop-names.self) polls.items names.items place name c.loop-names.invariant.goes
+    (c.len-in-loop-names-2.ensures ∙ polls.ok.0) here in
+    let left = next.left in
     let room = c.loop-names.invariant.polls in
-    omega (arith, left, room, count, same)
+    let count = polls.ok.0 in
+    omega (arith, left, room, count)
 
 pub loop-names-preserved : goal.loop-names-preserved
 loop-names-preserved g c =
-    let s = at_rest c.args.self.now in
-    let t = at_rest c.loop-names.self in
     let names = c.loop-names.names in
     let polls = c.loop-names.polls in
+    let place = c.len-in-loop-names-2.result in
     let name = c.index-name.result.now in
-    let goes = c.loop-names.invariant.goes in
-    let there : slice_get names.items (vec_len polls) ≡ Some name =
-    slice_get_read names.items (vec_len names) (vec_len polls) name names.ok.0 (search rules) c.index-name.ensures.value in
-    let front = goes_front s t polls.items names.items (vec_len polls) name goes polls.ok.0 there in
-    let count = polls.ok.0 in
-    let same = length-map polls.items (λ (p : Settled g.row.T.Denot). (p.name, p.reply)) in
+    let here : slice_get names.items place ≡ Some name =
+    slice_get_read names.items (vec_len names) place name names.ok.0 (search rules) c.index-name.ensures in
+    let next = next_poll (at_rest c.args.self.now) (at_rest c.loop-names.self) polls.items names.items place name c.loop-names.invariant.goes
+    (c.len-in-loop-names-2.ensures ∙ polls.ok.0) here in
     let e = c.poll_woken-reply.ensures in
     let after = c.poll_woken-reply.result in
     let u = at_rest c.poll_woken-reply.new.self in
@@ -128,8 +115,8 @@ loop-names-preserved g c =
     let b = i.polls in
     let d = i.places in
     record {
-      goes = goes_pushed s u polls.items c.push_reserved.new.self.items name after.reply after.names.items pushed.items
-          (goes_on s t (polls_in polls.items) names.items name goes front u after.reply after.names.items e.polled);
+      goes = goes_pushed (at_rest c.args.self.now) u polls.items c.push_reserved.new.self.items name after.reply after.names.items pushed.items
+          (goes_on (at_rest c.args.self.now) (at_rest c.loop-names.self) (polls_in polls.items) names.items name i.goes next.front u after.reply after.names.items e.polled);
       quiet = e.quiet;
       leads = leads_on c.args.self.now c.loop-names.self c.poll_woken-reply.new.self i.leads e.leads;
       names = omega (arith, more, a);
@@ -139,98 +126,88 @@ loop-names-preserved g c =
 
 pub loop-names-smaller : goal.loop-names-smaller
 loop-names-smaller g c =
-    let s = at_rest c.args.self.now in
-    let t = at_rest c.loop-names.self in
     let names = c.loop-names.names in
     let polls = c.loop-names.polls in
+    let place = c.len-in-loop-names-2.result in
     let name = c.index-name.result.now in
-    let goes = c.loop-names.invariant.goes in
-    let there : slice_get names.items (vec_len polls) ≡ Some name =
-    slice_get_read names.items (vec_len names) (vec_len polls) name names.ok.0 (search rules) c.index-name.ensures.value in
-    let front = goes_front s t polls.items names.items (vec_len polls) name goes polls.ok.0 there in
-    let count = polls.ok.0 in
-    let same = length-map polls.items (λ (p : Settled g.row.T.Denot). (p.name, p.reply)) in
-    let left = some_left s t (polls_in polls.items) names.items name goes front in
+    let here : slice_get names.items place ≡ Some name =
+    slice_get_read names.items (vec_len names) place name names.ok.0 (search rules) c.index-name.ensures in
+    let next = next_poll (at_rest c.args.self.now) (at_rest c.loop-names.self) polls.items names.items place name c.loop-names.invariant.goes
+    (c.len-in-loop-names-2.ensures ∙ polls.ok.0) here in
+    let left = next.left in
     let longer = c.push_reserved.ensures.len in
-    omega (arith, left, longer, count, same)
+    let count = polls.ok.0 in
+    omega (arith, left, longer, count)
 
 pub returns-clause-polls : goal.returns-clause-polls
 returns-clause-polls g c =
-    let s = at_rest c.args.self.now in
-    let t = at_rest c.loop-names.self in
     let names = c.loop-names.names in
     let polls = c.loop-names.polls in
-    let end = goes_end s t polls.items names.items c.loop-names.invariant.goes
+    let end = goes_end (at_rest c.args.self.now) (at_rest c.loop-names.self) polls.items names.items c.loop-names.invariant.goes
     (let a = names.ok.0 in let b = polls.ok.0 in omega (arith, a, b, c.loop-names-test.false)) in
     end.settles
 
 pub returns-clause-few : goal.returns-clause-few
 returns-clause-few g c =
-    let s = at_rest c.args.self.now in
-    let t = at_rest c.loop-names.self in
     let names = c.loop-names.names in
     let polls = c.loop-names.polls in
-    let end = goes_end s t polls.items names.items c.loop-names.invariant.goes
+    let end = goes_end (at_rest c.args.self.now) (at_rest c.loop-names.self) polls.items names.items c.loop-names.invariant.goes
     (let a = names.ok.0 in let b = polls.ok.0 in omega (arith, a, b, c.loop-names-test.false)) in
     let few = end.few in let b = polls.ok.0 in rw b few
 
 pub returns-clause-nobody_woken : goal.returns-clause-nobody_woken
 returns-clause-nobody_woken g c =
-    let s = at_rest c.args.self.now in
-    let t = at_rest c.loop-names.self in
     let names = c.loop-names.names in
     let polls = c.loop-names.polls in
-    let end = goes_end s t polls.items names.items c.loop-names.invariant.goes
+    let end = goes_end (at_rest c.args.self.now) (at_rest c.loop-names.self) polls.items names.items c.loop-names.invariant.goes
     (let a = names.ok.0 in let b = polls.ok.0 in omega (arith, a, b, c.loop-names-test.false)) in
     end.rests.0
 
 pub returns-clause-receives : goal.returns-clause-receives
 returns-clause-receives g c =
-    let s = at_rest c.args.self.now in
-    let t = at_rest c.loop-names.self in
     let names = c.loop-names.names in
     let polls = c.loop-names.polls in
-    let end = goes_end s t polls.items names.items c.loop-names.invariant.goes
+    let end = goes_end (at_rest c.args.self.now) (at_rest c.loop-names.self) polls.items names.items c.loop-names.invariant.goes
     (let a = names.ok.0 in let b = polls.ok.0 in omega (arith, a, b, c.loop-names-test.false)) in
     let n = end.rests.1 in n.receives
 
 pub returns-clause-sends : goal.returns-clause-sends
 returns-clause-sends g c =
-    let s = at_rest c.args.self.now in
-    let t = at_rest c.loop-names.self in
     let names = c.loop-names.names in
     let polls = c.loop-names.polls in
-    let end = goes_end s t polls.items names.items c.loop-names.invariant.goes
+    let end = goes_end (at_rest c.args.self.now) (at_rest c.loop-names.self) polls.items names.items c.loop-names.invariant.goes
     (let a = names.ok.0 in let b = polls.ok.0 in omega (arith, a, b, c.loop-names-test.false)) in
     let n = end.rests.1 in record { bounded = n.sends; unbounded = n.unbounded }
 
 pub returns-clause-streams : goal.returns-clause-streams
 returns-clause-streams g c =
-    let s = at_rest c.args.self.now in
-    let t = at_rest c.loop-names.self in
     let names = c.loop-names.names in
     let polls = c.loop-names.polls in
-    let end = goes_end s t polls.items names.items c.loop-names.invariant.goes
+    let end = goes_end (at_rest c.args.self.now) (at_rest c.loop-names.self) polls.items names.items c.loop-names.invariant.goes
     (let a = names.ok.0 in let b = polls.ok.0 in omega (arith, a, b, c.loop-names-test.false)) in
     let n = end.rests.1 in n.streams
 
 pub returns-clause-closing : goal.returns-clause-closing
 returns-clause-closing g c =
-    let s = at_rest c.args.self.now in
-    let t = at_rest c.loop-names.self in
     let names = c.loop-names.names in
     let polls = c.loop-names.polls in
-    let end = goes_end s t polls.items names.items c.loop-names.invariant.goes
+    let end = goes_end (at_rest c.args.self.now) (at_rest c.loop-names.self) polls.items names.items c.loop-names.invariant.goes
     (let a = names.ok.0 in let b = polls.ok.0 in omega (arith, a, b, c.loop-names-test.false)) in
     let n = end.rests.1 in n.opened
 
 pub returns-clause-quiet : goal.returns-clause-quiet
-returns-clause-quiet g c = c.loop-names.invariant.quiet
+returns-clause-quiet g c =
+    c.loop-names.invariant.quiet
 
 pub returns-clause-leads : goal.returns-clause-leads
-returns-clause-leads g c = c.loop-names.invariant.leads
+returns-clause-leads g c =
+    c.loop-names.invariant.leads
 
 pub returns-clause-stands : goal.returns-clause-stands
 returns-clause-stands g c =
     let before = subst (λ (f : Floor g.row.T.Denot). Stands f) c.self.view_is c.keeps.ensures.stands in
     stands_led c.args.self.now c.loop-names.self before c.loop-names.invariant.leads
+
+pub returns-in_default-clause-leads : goal.returns-in_default-clause-leads
+returns-in_default-clause-leads g c =
+    leads_nowhere c.args.self.now
