@@ -39,7 +39,7 @@ impl fmt::Display for Differs {
             Differs::Refusal => "a refusal differs",
             Differs::Endless => "a call doesn't end",
             Differs::Accounts => "what left isn't what came",
-            Differs::NoMemory => "out of memory",
+            Differs::NoMemory => "want of memory",
         };
         f.write_str(text)
     }

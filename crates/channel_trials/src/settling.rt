@@ -2,6 +2,7 @@
 
 use crate::answer::{Answer, read};
 use crate::differs::Differs;
+use crate::form::Form;
 use crate::plain::Plain;
 use crate::random::Random;
 use channel_calls::stage::Line;
@@ -171,7 +172,7 @@ impl Twin {
 }
 
 /// Makes so many random calls one at a time in a new world, and settles it now and then. How many polls that made.
-pub fn settle_random(
+fn settle_random(
     world: World<u64>,
     capacity: Option<usize>,
     seed: u64,
@@ -200,4 +201,12 @@ pub fn settle_random(
         twin.act()?;
     }
     Ok(all)
+}
+
+/// Settles the random world of this seed and form, beside a plain channel. How many polls that made, or what differs.
+pub fn settle(form: Form, seed: u64, alloc: Global) -> Result<Polls, Differs> {
+    match form.open(alloc) {
+        Ok(world) => settle_random(world, form.capacity(), seed, alloc),
+        Err(_) => Err(Differs::NoMemory),
+    }
 }

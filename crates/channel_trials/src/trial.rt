@@ -14,9 +14,6 @@ use channel_world::world::World;
 use std::alloc::Global;
 use std::collections::VecDeque;
 
-#[cfg(test)]
-mod tests;
-
 /// How many turns an interleaving has at least, how many more it may have, and how many rounds its calls have to end in.
 const TURNS: usize = 40;
 
@@ -42,7 +39,8 @@ pub struct Trial {
     world: World<u64>,
     steps: VecDeque<Step<u64>>,
     calls: VecDeque<Call<u64>>,
-    book: Book,
+    /// The plain count.
+    pub book: Book,
     random: Random,
     /// How many parties there are.
     parties: usize,
@@ -118,7 +116,7 @@ impl Trial {
     }
 
     /// Makes a call alone, from its begin to its end, where no call is under way.
-    fn run_alone(&mut self, plan: Plan) -> Result<Option<CallRun<u64>>, Differs> {
+    pub fn run_alone(&mut self, plan: Plan) -> Result<Option<CallRun<u64>>, Differs> {
         if !self.world.is_quiet() {
             return Ok(None);
         }
@@ -129,7 +127,12 @@ impl Trial {
     }
 
     /// Counts a party's call that was made alone, or refused.
-    fn count_alone(&mut self, party: u32, plan: Plan, run: CallRun<u64>) -> Result<(), Differs> {
+    pub fn count_alone(
+        &mut self,
+        party: u32,
+        plan: Plan,
+        run: CallRun<u64>,
+    ) -> Result<(), Differs> {
         let CallRun { mut done, stopped } = run;
         let refusal = self.book.refusal(party, plan);
         is_stopped_as_due(stopped, refusal, self.calls.len())?;
@@ -146,7 +149,7 @@ impl Trial {
     }
 
     /// A party begins a call, or is refused it.
-    fn begin(&mut self, party: u32, plan: Plan) -> Result<(), Differs> {
+    pub fn begin(&mut self, party: u32, plan: Plan) -> Result<(), Differs> {
         let refusal = self.book.refusal(party, plan);
         let step = Step::Begin {
             party: PartyId(party),
@@ -215,7 +218,7 @@ impl Trial {
     }
 
     /// Lets all calls end.
-    fn settle(&mut self) -> Result<(), Differs> {
+    pub fn settle(&mut self) -> Result<(), Differs> {
         for _ in 0..ROUNDS {
             if self.world.is_quiet() {
                 return Ok(());

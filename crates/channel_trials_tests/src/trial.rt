@@ -1,11 +1,16 @@
 //! What a trial refuses whose plain count is wrong.
 
-use super::*;
-use crate::answer::Answer;
-use crate::waiting::Came;
+use channel_calls::mark::Mark;
 use channel_calls::stage::Line;
+use channel_trials::book::Book;
+use channel_trials::differs::Differs;
+use channel_trials::plan::{Kind, Plan};
+use channel_trials::trial::Trial;
+use channel_trials::waiting::Came;
 use channel_world::name::{OpId, Waiter};
+use channel_world::world::World;
 use event_listener::id::EventIds;
+use std::alloc::Global;
 
 /// What is wrong in a plain count.
 #[derive(Clone, Copy, Debug)]

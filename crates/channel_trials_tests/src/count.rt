@@ -1,17 +1,18 @@
 //! What the plain count refuses by itself.
 
-use crate::answer::Answer;
-use crate::book::Book;
-use crate::count::Count;
-use crate::differs::Differs;
-use crate::due::is_due;
-use crate::owed::is_nothing_owed;
-use crate::plan::{Kind, Plan};
-use crate::under_way::{Subject, UnderWay};
-use crate::waiting::{Came, Waiting};
-use crate::{Form, settle};
 use channel_calls::mark::Mark;
 use channel_calls::stage::Line;
+use channel_trials::answer::Answer;
+use channel_trials::book::Book;
+use channel_trials::count::Count;
+use channel_trials::differs::Differs;
+use channel_trials::due::is_due;
+use channel_trials::form::Form;
+use channel_trials::owed::is_nothing_owed;
+use channel_trials::plan::{Kind, Plan};
+use channel_trials::settling::settle;
+use channel_trials::under_way::{Subject, UnderWay};
+use channel_trials::waiting::{Came, Waiting};
 use channel_world::name::{OpId, Waiter};
 use std::alloc::Global;
 
