@@ -1,6 +1,6 @@
 //! A history over the handles of one channel.
 
-use crate::answers::{tried_recv, tried_send};
+use crate::answers::{is_closed, tried_recv, tried_send};
 use crate::form::Form;
 use crate::gate::Gate;
 use crate::party::{Hands, Party, Tasks};
@@ -10,7 +10,7 @@ use event_listener::id::EventIds;
 use history_checker::history::History;
 use history_checker::log::{Log, Stamps};
 use history_checker::plain::Plain;
-use history_checker::point::{Did, Side};
+use history_checker::point::{Did, Side, Sight};
 use history_checker::rest::{Look, is_restful};
 use std::alloc::{AllocGlobal, Global};
 use std::random::RandomSource;
@@ -118,6 +118,12 @@ fn leave_receiving<R: Wait + Copy>(hands: Hands<R>, stamps: &Stamps, log: &mut L
     } = hands;
     let_go(sender, Side::Senders, stamps, log);
     let begin = stamps.stamp();
+    let shut = receiver.is_closed();
+    log.note(begin, stamps.stamp(), is_closed(shut));
+    let begin = stamps.stamp();
+    let senders = Sight::Count(Side::Senders, receiver.sender_count());
+    log.note(begin, stamps.stamp(), Did::saw(senders));
+    let begin = stamps.stamp();
     let answer = receiver.try_recv();
     log.note(begin, stamps.stamp(), tried_recv(&answer));
     make_sender(&weak_sender, stamps, log);
@@ -133,6 +139,12 @@ fn leave_sending<R: Wait + Copy>(hands: Hands<R>, message: u64, stamps: &Stamps,
         weak_receiver,
     } = hands;
     let_go(receiver, Side::Receivers, stamps, log);
+    let begin = stamps.stamp();
+    let shut = sender.is_closed();
+    log.note(begin, stamps.stamp(), is_closed(shut));
+    let begin = stamps.stamp();
+    let receivers = Sight::Count(Side::Receivers, sender.receiver_count());
+    log.note(begin, stamps.stamp(), Did::saw(receivers));
     let begin = stamps.stamp();
     let answer = sender.try_send(message);
     log.note(begin, stamps.stamp(), tried_send(message, &answer));

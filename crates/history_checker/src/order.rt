@@ -119,7 +119,8 @@ impl State {
         match first {
             Some((moment, thread)) => {
                 after.make(moment, thread)?;
-                states.push(after)
+                states.push(after)?;
+                Ok(())
             }
             None => {
                 drop(after);

@@ -23,5 +23,5 @@ returns-clause-answers g c =
 pub returns-clause-places : goal.returns-clause-places
 returns-clause-places g c =
     let most = c.in_ok-most.ensures in
-    let places : c.args.self.now.accepted + c.in_ok-most.most < 2 ^ 61 = search rules in
+    let places : c.args.self.now.accepted + c.in_ok-most.most < 2 ^ 61 = ? in
     omega (arith, most, places)
