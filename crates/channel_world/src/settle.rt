@@ -51,13 +51,14 @@ fn take_room<T: Drop>(mut names: Vec<Waiter>, most: usize, alloc: Global) -> Opt
     ensures room { IfSome result (λ r. most ≤ vec_capacity r.names) }
     ensures answers { IfSome result (λ r. most ≤ vec_capacity r.polls) }
 {
-    if names.reserve(most).is_err() {
-        return None;
+    match names.reserve(most) {
+        Ok(()) => {}
+        Err(_) => return None,
     }
-    let Ok(polls) = Vec::with_capacity(alloc, most) else {
-        return None;
-    };
-    Some(Room { names, polls })
+    match Vec::with_capacity(alloc, most) {
+        Ok(polls) => Some(Room { names, polls }),
+        Err(_) => None,
+    }
 }
 
 impl<T: Drop> World<T> {
@@ -103,11 +104,11 @@ impl<T: Drop> World<T> {
             return None;
         };
         let most = self.most_polls(&names)?;
-        if !self.has_calls(most) {
-            return None;
+        if self.has_calls(most) {
+            take_room(names, most, self.alloc())
+        } else {
+            None
         }
-        let room = take_room(names, most, self.alloc())?;
-        Some(room)
     }
 
     /// Polls one that is pending and was woken. Those whom the poll wakes go after the names, where there is room for them.
