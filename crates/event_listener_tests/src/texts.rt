@@ -96,8 +96,8 @@ fn runs_are_compared_and_shown(rt: HostRuntime) -> Result<(), Fail> {
     replies.push(ListReply::Insert(Ok(first_key(&rt)?)))?;
     replies.push(ListReply::Poll(Ok(None)))?;
     assert_eq!(rt;
-        format!(in rt.alloc(); "{:?}", run.replies[1])?.as_str(),
-        "Poll(Ok(None))"
+        format!(in rt.alloc(); "{:?}", run.replies)?.as_str(),
+        "[Insert(Ok(Key { slot: 0, serial: 0 })), Poll(Ok(None))]"
     );
     let same = ListRun {
         replies,
@@ -122,11 +122,12 @@ fn records_are_compared_and_shown(rt: HostRuntime) -> Result<(), Fail> {
     assert!(rt; event.insert(&rt).is_ok());
     let (_, calls) = event.into_parts();
     let key = first_key(&rt)?;
-    assert!(rt; calls[0] == RecordedCall::Listened { key });
-    assert!(rt; calls[0] != RecordedCall::Polled { key, tag: 1 });
+    let listened = RecordedCall::Listened { key };
+    assert!(rt; listened != RecordedCall::Polled { key, tag: 1 });
+    assert!(rt; calls.as_slice() == [listened].as_slice());
     assert_eq!(rt;
-        format!(in rt.alloc(); "{:?}", calls[0])?.as_str(),
-        "Listened { key: Key { slot: 0, serial: 0 } }"
+        format!(in rt.alloc(); "{:?}", calls)?.as_str(),
+        "[Listened { key: Key { slot: 0, serial: 0 } }]"
     );
     Ok(())
 }
