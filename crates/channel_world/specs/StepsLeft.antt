@@ -1,8 +1,11 @@
 -- How soon a call ends that nobody holds up: the number of steps of its own that are left to it at each moment of a run.
 use Rattle.std.specs.Prelude.{◌≡◌, ℕ, suc, ◌≤◌, ◌==◌, ◌&&◌, if◌then◌else◌, is_none, List, [], ◌∷◌}
-use Rattle.channel_steps.specs.Scene.{HoldNobodyUp}
+use Rattle.channel_model.specs.declared.name.Waiter.{Waiter}
+use Rattle.channel_steps.specs.Scene.{Scene, HoldNobodyUp}
+use Rattle.channel_interleaving.specs.Floor.{moment_of, StandsIn}
 use Rattle.channel_interleaving.specs.Left.{others_of}
 use Rattle.channel_interleaving.specs.Runs.{Moment, EachStep, FewLeft, ComesNearer}
+use Rattle.channel_interleaving.specs.declared.floor.Floor.{Floor}
 use Rattle.channel_interleaving.specs.declared.step.Entry.{Entry}
 use Rattle.channel_interleaving.specs.declared.step.PartyId.{PartyId}
 use Rattle.channel_interleaving.specs.declared.step.Step.{Step}
@@ -35,3 +38,8 @@ module _ {T : Type 0} where
     pub nearer : EachStep ComesNearer m xs es ns
     pub in_front : (party : ℕ) → NobodyHoldsUp party m → in_a_row party steps es ≤ 197
     pub later : EndInARow m xs es ns
+
+  -- from whatever scene the world stood in: a call that the others hold up no more does not make 198 steps in front of the list
+  abbrev pub EndsInFront : Floor T → List (Step T) → List (Entry T) → Type 0
+  EndsInFront old steps trace =
+      (s : Scene T Waiter) → StandsIn old s → (party : ℕ) → NobodyHoldsUp party (moment_of old s) → in_a_row party steps trace ≤ 197

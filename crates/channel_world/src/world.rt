@@ -85,6 +85,7 @@ impl<T: Drop> World<T> {
     ghost use Rattle.channel_interleaving.specs.Runs.{accepted_in, left_in};
     ghost use Rattle.channel_interleaving.specs.Floor.{calls_in, messages_in, LeadsOn, Stands, StandsIn, TellsQuiet};
     ghost use Rattle.channel_world.specs.Headline.{Headline};
+    ghost use Rattle.channel_world.specs.StepsLeft.{EndsInFront};
 
     /// Runs steps of any parties, from the front. The first one that is refused stays in front, with nothing of it done;
     /// `stopped` says at which place of the list, counted from 0, and why.
@@ -107,6 +108,7 @@ impl<T: Drop> World<T> {
     pub fn run_steps(&mut self, steps: &mut VecDeque<Step<T>>) -> Run<T>
         ensures headline { (s : Scene T Waiter) → StandsIn self.old s
             → Headline steps.old.items steps.new.items self.old result.trace.items result.stopped self.new s }
+        ensures soon { EndsInFront self.old steps.old.items result.trace.items }
         ensures leads { LeadsOn self.old self.new }
         ensures stands { Stands self.new }
         ensures messages { messages_in self.new + left_in result.trace.items ≡ messages_in self.old + accepted_in result.trace.items }

@@ -1,11 +1,8 @@
 //! Clients of a world that know nothing of it but that it is one. They are proved; nothing runs them.
 
-ghost use Rattle.std.specs.Prelude.{◌≡◌, ◌+◌, ◌≤◌, ℕ};
-ghost use Rattle.channel_interleaving.specs.Floor.{moment_of, StandsIn};
+ghost use Rattle.std.specs.Prelude.{◌≡◌, ◌+◌};
 ghost use Rattle.channel_interleaving.specs.Runs.{accepted_in, left_in};
-ghost use Rattle.channel_model.specs.declared.name.Waiter.{Waiter};
-ghost use Rattle.channel_steps.specs.Scene.{Scene};
-ghost use Rattle.channel_world.specs.StepsLeft.{in_a_row, NobodyHoldsUp};
+ghost use Rattle.channel_world.specs.StepsLeft.{EndsInFront};
 
 use channel_world::step::{Run, Step};
 use channel_world::world::World;
@@ -36,8 +33,7 @@ pub fn count<T: Drop>(world: &mut World<T>, steps: &mut VecDeque<Step<T>>) -> Co
 /// Makes steps in whatever world, calls begun before included: no party whose call the others hold up no more makes 198 steps in
 /// front of the list with no reply among them.
 pub fn ends_soon<T: Drop>(world: &mut World<T>, steps: &mut VecDeque<Step<T>>) -> Run<T>
-    ensures { (s : Scene T Waiter) → StandsIn world.old s → (party : ℕ) → NobodyHoldsUp party (moment_of world.old s)
-        → in_a_row party steps.old.items result.trace.items ≤ 197 }
+    ensures { EndsInFront world.old steps.old.items result.trace.items }
 {
     world.run_steps(steps)
 }

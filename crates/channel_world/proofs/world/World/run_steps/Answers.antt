@@ -14,6 +14,9 @@ returns-clause-headline g c =
     (subst (λ n. Stops (book_of c.run_steps.new.self) c.run_steps.new.steps.items n c.run_steps.result.stopped)
     c.run_steps.result.trace.ok.0 c.run_steps.ensures.stopped)
 
+pub returns-clause-soon : goal.returns-clause-soon
+returns-clause-soon g c = λ s stands party free. (returns-clause-headline g c s stands).ends_soon.in_front party free
+
 pub returns-clause-leads : goal.returns-clause-leads
 returns-clause-leads g c =
     let ran = subst (λ (f : Floor g.row.T.Denot). RanTo c.args.steps.now.items c.run_steps.new.steps.items f c.run_steps.result.trace.items c.run_steps.new.self)
