@@ -25,3 +25,8 @@ RecordLosesNothing T = (capacity : Option ℕ) (rs : List (Receipt T)) (h : IsHi
 -- At the end no unwoken pending one stands beside a message, a free place or a closing that no woken one answers for.
 abbrev pub RecordLeavesNobody : Type 0 → Type 0
 RecordLeavesNobody T = (capacity : Option ℕ) (rs : List (Receipt T)) (h : IsHistory capacity rs) → NobodyIsLeft h.last
+
+-- A record that replays from an opened channel to a state in which both laws hold.
+abbrev pub KeepsItsLaws : {T : Type 0} → Option ℕ → List (Receipt T) → Type 0
+KeepsItsLaws capacity rs =
+    (h : IsHistory capacity rs) × (removed rs ++ h.last.channel.messages ≡ accepted rs) × NobodyIsLeft h.last

@@ -1,12 +1,9 @@
 //! What a program can rely on, proved of it here with no word of how a recorded channel is made.
-ghost use Rattle.std.specs.Prelude.{◌≡◌, ◌+◌, ◌++◌, IfSome, length};
-ghost use Rattle.channel_model.specs.Laws.{NobodyIsLeft};
-ghost use Rattle.channel_world.specs.RecordLaws.{removed, accepted};
-ghost use Rattle.channel_world.specs.RecordReplay.{IsHistory};
+ghost use Rattle.std.specs.Prelude.{◌≡◌, ◌+◌, IfSome, length};
+ghost use Rattle.channel_world.specs.RecordLaws.{KeepsItsLaws};
 
 use channel_world::call::Call;
 use channel_world::name::HandleId;
-use channel_world::recorded::laws::{a_record_leaves_nobody_asleep, a_record_loses_nothing};
 use channel_world::{Receipt, Record, RecordSeat, RecordedChannel};
 use event_listener::id::EventIds;
 use std::alloc::Global;
@@ -43,6 +40,21 @@ fn work<L: Ledger, R: Wait>(
     (seat, made)
 }
 
+/// The record of two seats that are gathered, which has as many entries as they made accepted calls.
+fn gather<L: Ledger>(
+    channel: RecordedChannel<u64, L>,
+    first: RecordSeat<L>,
+    second: RecordSeat<L>,
+    alloc: Global,
+) -> Option<Record<u64>>
+    ensures { IfSome result (λ r. length r.entries ≡ first.calls + second.calls) }
+{
+    let mut seats = Vec::new(alloc);
+    seats.push(first).ok()?;
+    seats.push(second).ok()?;
+    channel.finish(seats).ok()
+}
+
 /// How many calls two threads counted, and the record, which has as many entries.
 fn both<L: Ledger + Sync, R: Threads + Wait + Sync>(
     rt: &R,
@@ -71,10 +83,7 @@ fn both<L: Ledger + Sync, R: Threads + Wait + Sync>(
     );
     let (first, m) = a;
     let (second, n) = b;
-    let mut seats = Vec::new(alloc);
-    seats.push(first).ok()?;
-    seats.push(second).ok()?;
-    let record = channel.finish(seats).ok()?;
+    let record = gather(channel, first, second, alloc)?;
     Some((m, n, record))
 }
 
@@ -82,10 +91,8 @@ fn both<L: Ledger + Sync, R: Threads + Wait + Sync>(
 /// held at its end, is what was accepted, in order; and nobody was left asleep then.
 fn read<T>(record: &Record<T>) -> &[Receipt<T>]
     ensures entries { result.now ≡ record.now.entries }
-    ensures laws { (h : IsHistory record.now.capacity record.now.entries) × (removed record.now.entries ++ h.last.channel.messages ≡ accepted record.now.entries) × NobodyIsLeft h.last }
+    ensures laws { KeepsItsLaws record.now.capacity record.now.entries }
 {
-    a_record_loses_nothing::<T>();
-    a_record_leaves_nobody_asleep::<T>();
     record.entries()
 }
 

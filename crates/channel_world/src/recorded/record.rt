@@ -1,5 +1,6 @@
 //! The record of a channel.
 
+use super::laws::{a_record_leaves_nobody_asleep, a_record_loses_nothing};
 use super::receipt::Receipt;
 use std::marker::Model;
 
@@ -26,6 +27,7 @@ impl<T> Model for Record<T> {
 
 impl<T> Record<T> {
     ghost use Rattle.std.specs.Prelude.{◌≡◌, length};
+    ghost use Rattle.channel_world.specs.RecordLaws.{KeepsItsLaws};
     ghost use Rattle.channel_world.specs.RecordReplay.{IsHistory};
 
     /// How many calls were made.
@@ -42,11 +44,16 @@ impl<T> Record<T> {
         self.capacity
     }
 
-    /// The entries in order: all calls that were made of the channel since it was opened, each at its place.
+    /// The entries in order: all calls that were made of the channel since it was opened, each at its place. What was received
+    /// or displaced, followed by what the channel held at its end, is what was accepted, in order; and nobody was left asleep
+    /// then beside a message, a free place or a closing that no woken one answers for.
     pub fn entries(&self) -> &[Receipt<T>]
         ensures entries { result.now ≡ self.now.entries }
         ensures history { IsHistory self.now.capacity self.now.entries }
+        ensures laws { KeepsItsLaws self.now.capacity self.now.entries }
     {
+        a_record_loses_nothing::<T>();
+        a_record_leaves_nobody_asleep::<T>();
         self.entries.as_slice()
     }
 }
