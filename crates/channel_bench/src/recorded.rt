@@ -141,7 +141,7 @@ fn recorded<L: Ledger + Sync, R: Clock + Wait + Threads + Sync>(
 }
 
 /// One round of each, of which the quickest of all rounds counts; false for want of memory.
-fn round<R: Clock + Wait + Threads + Sync>(
+fn measure_round<R: Clock + Wait + Threads + Sync>(
     rt: &R,
     alloc: Global,
     best: &mut (Round, Round, Round),
@@ -165,7 +165,7 @@ pub fn measure_recorded<R: Clock + Print + Wait + Threads + Sync>(
 ) -> io::Result<()> {
     let mut best = (Round::none(), Round::none(), Round::none());
     for _ in 0..ROUNDS {
-        if !round(rt, alloc, &mut best)? {
+        if !measure_round(rt, alloc, &mut best)? {
             return println!(rt; "recorded: out of memory");
         }
     }
