@@ -6,6 +6,8 @@ pub returns-clause-laws : goal.returns-clause-laws
 returns-clause-laws g c =
     let now = c.args.self.now in
     let h : IsHistory now.capacity now.entries =
-    subst (λ (r : RecordView g.row.T.Denot). IsHistory r.capacity r.entries) c.self.view_is c.self.invariant in
-    (h, c.a_record_loses_nothing.ensures.in_order now.capacity now.entries h,
-    c.a_record_leaves_nobody_asleep.ensures.awake now.capacity now.entries h)
+    subst (λ (r : RecordView g.row.T.Denot). IsHistory r.capacity r.entries) c.self.view_is c.self.invariant in (
+      h,
+      c.a_record_loses_nothing.ensures.in_order now.capacity now.entries h,
+      c.a_record_leaves_nobody_asleep.ensures.awake now.capacity now.entries h,
+    )
