@@ -89,11 +89,11 @@ fn both<L: Ledger + Sync, R: Threads + Wait + Sync>(
 
 /// What a reader of a finished record knows, with nothing but the record: what was received or displaced, followed by what is
 /// held at its end, is what was accepted, in order; and nobody was left asleep then.
-fn read<T>(record: &Record<T>) -> &[Receipt<T>]
-    ensures entries { result.now ≡ record.now.entries }
-    ensures laws { KeepsItsLaws record.now.capacity record.now.entries }
+fn read<T>(finished: &Record<T>) -> &[Receipt<T>]
+    ensures entries { result.now ≡ finished.now.entries }
+    ensures laws { KeepsItsLaws finished.now.capacity finished.now.entries }
 {
-    record.entries()
+    finished.entries()
 }
 
 /// The calls of one thread are all accepted, those of the other, which sends through a receiver, all refused.
