@@ -1,10 +1,12 @@
 -- What an error of a channel holds.
-use Rattle.std.specs.Prelude.{Bool, true, false}
+use Rattle.std.specs.Prelude.{Bool, true, false, not, Option, Some, None}
 use Rattle.channel_calls.specs.declared.error.SendError.{SendError}
 use Rattle.channel_calls.specs.declared.error.TrySendError.{TrySendError}
 use Rattle.channel_calls.specs.declared.error.TrySendError.TheVariants as try_send
 use Rattle.channel_calls.specs.declared.error.TryRecvError.{TryRecvError}
 use Rattle.channel_calls.specs.declared.error.TryRecvError.TheVariants as try_recv
+use Rattle.channel_calls.specs.declared.error.Refused.{Refused}
+use Rattle.channel_calls.specs.declared.error.Refused.TheVariants as refused
 
 module _ {T : Type 0} where
   -- the message that wasn't sent
@@ -19,6 +21,36 @@ module _ {T : Type 0} where
   abbrev pub found_full : TrySendError T → Bool
   found_full (try_send.Full m) = true
   found_full (try_send.Closed m) = false
+
+  -- the message of a send that was refused, whatever refused it
+  abbrev pub handed_back : Refused (SendError T) T → T
+  handed_back (refused.Plain e) = unsent e
+  handed_back (refused.NoMemory m) = m
+  handed_back (refused.SerialsUsedUp m) = m
+
+  -- that of a send that doesn't wait
+  abbrev pub try_handed_back : Refused (TrySendError T) T → T
+  try_handed_back (refused.Plain e) = try_unsent e
+  try_handed_back (refused.NoMemory m) = m
+  try_handed_back (refused.SerialsUsedUp m) = m
+
+  -- whether an open and full channel refused it
+  abbrev pub was_full : Refused (TrySendError T) T → Bool
+  was_full (refused.Plain e) = found_full e
+  was_full (refused.NoMemory m) = false
+  was_full (refused.SerialsUsedUp m) = false
+
+  -- whether a closed channel refused it
+  abbrev pub was_closed : Refused (TrySendError T) T → Bool
+  was_closed (refused.Plain e) = not (found_full e)
+  was_closed (refused.NoMemory m) = false
+  was_closed (refused.SerialsUsedUp m) = false
+
+-- the channel's own refusal; none where memory or serials were wanting
+abbrev pub own_refusal : {E K : Type 0} → Refused E K → Option E
+own_refusal (refused.Plain e) = Some e
+own_refusal (refused.NoMemory k) = None
+own_refusal (refused.SerialsUsedUp k) = None
 
 -- whether it was refused by an open and empty channel, and not by a closed one
 abbrev pub found_empty : TryRecvError → Bool

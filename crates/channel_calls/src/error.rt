@@ -102,6 +102,76 @@ impl<T> TrySendError<T> {
     }
 }
 
+impl<E, K> Refused<E, K> {
+    ghost use Rattle.std.specs.Prelude.{◌≡◌};
+    ghost use Rattle.channel_calls.specs.Errors.{own_refusal};
+
+    /// The channel's own refusal. `None` where memory or serials were wanting: what they hand back is dropped then.
+    pub fn into_plain(self) -> Option<E>
+    where
+        E: Drop,
+        K: Drop,
+        ensures { result ≡ own_refusal self }
+    {
+        match self {
+            Refused::Plain(error) => Some(error),
+            Refused::NoMemory(_) | Refused::SerialsUsedUp(_) => None,
+        }
+    }
+}
+
+impl<T> Refused<SendError<T>, T> {
+    ghost use Rattle.std.specs.Prelude.{◌≡◌};
+    ghost use Rattle.channel_calls.specs.Errors.{handed_back};
+
+    /// The message that wasn't sent, whatever refused it.
+    pub fn into_inner(self) -> T
+        ensures { result ≡ handed_back self }
+    {
+        match self {
+            Refused::Plain(error) => error.into_inner(),
+            Refused::NoMemory(message) => message,
+            Refused::SerialsUsedUp(message) => message,
+        }
+    }
+}
+
+impl<T> Refused<TrySendError<T>, T> {
+    ghost use Rattle.std.specs.Prelude.{◌≡◌};
+    ghost use Rattle.channel_calls.specs.Errors.{try_handed_back, was_full, was_closed};
+
+    /// The message that wasn't sent, whatever refused it.
+    pub fn into_inner(self) -> T
+        ensures { result ≡ try_handed_back self }
+    {
+        match self {
+            Refused::Plain(error) => error.into_inner(),
+            Refused::NoMemory(message) => message,
+            Refused::SerialsUsedUp(message) => message,
+        }
+    }
+
+    /// Whether an open and full channel refused the message.
+    pub fn is_full(&self) -> bool
+        ensures { result ≡ was_full self.now }
+    {
+        match self {
+            Refused::Plain(error) => error.is_full(),
+            _ => false,
+        }
+    }
+
+    /// Whether a closed channel refused the message.
+    pub fn is_closed(&self) -> bool
+        ensures { result ≡ was_closed self.now }
+    {
+        match self {
+            Refused::Plain(error) => error.is_closed(),
+            _ => false,
+        }
+    }
+}
+
 impl TryRecvError {
     ghost use Rattle.std.specs.Prelude.{◌≡◌, not};
     ghost use Rattle.channel_calls.specs.Errors.{found_empty};

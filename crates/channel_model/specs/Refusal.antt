@@ -11,6 +11,7 @@ use Rattle.channel_model.specs.declared.name.HandleKind.{HandleKind}
 use Rattle.channel_model.specs.declared.name.HandleKind.TheVariants.{Sender, Receiver, WeakSender, WeakReceiver}
 use Rattle.channel_model.specs.declared.refusal.WorldRefusal.{WorldRefusal}
 use Rattle.channel_model.specs.declared.refusal.WorldRefusal.TheVariants.{UnknownName, WrongKind, Borrowed, NameTaken}
+use Rattle.channel_model.specs.declared.refusal.WorldRefusal.TheVariants as why
 
 -- what a call wants of a name that it uses
 pub data Want : Type 0 where
@@ -120,3 +121,14 @@ refusal s c =
     else (if not (are_fit s.names c) then Some WrongKind
     else (if takes_borrowed s.names c then Some Borrowed
     else (if names_taken s.names c then Some NameTaken else None)))
+
+-- the number by which a script names a refusal
+abbrev pub refusal_number : WorldRefusal → ℕ
+refusal_number why.Busy = 1
+refusal_number why.Idle = 2
+refusal_number why.UnknownName = 3
+refusal_number why.NameTaken = 4
+refusal_number why.OpUnderWay = 5
+refusal_number why.Borrowed = 6
+refusal_number why.WrongKind = 7
+refusal_number why.NoMemory = 8

@@ -26,6 +26,27 @@ pub enum WorldRefusal {
     NoMemory,
 }
 
+impl WorldRefusal {
+    ghost use Rattle.std.specs.Prelude.{◌≡◌};
+    ghost use Rattle.channel_model.specs.Refusal.{refusal_number};
+
+    /// The number by which a script names it, from 1 to 8.
+    pub fn number(self) -> u8
+        ensures { result ≡ refusal_number self }
+    {
+        match self {
+            WorldRefusal::Busy => 1,
+            WorldRefusal::Idle => 2,
+            WorldRefusal::UnknownName => 3,
+            WorldRefusal::NameTaken => 4,
+            WorldRefusal::OpUnderWay => 5,
+            WorldRefusal::Borrowed => 6,
+            WorldRefusal::WrongKind => 7,
+            WorldRefusal::NoMemory => 8,
+        }
+    }
+}
+
 impl fmt::Display for WorldRefusal {
     fn fmt<W: fmt::Write>(&self, f: &mut fmt::Formatter<W>) -> fmt::Result {
         f.pad(match self {

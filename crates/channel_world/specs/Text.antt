@@ -10,7 +10,7 @@ use Rattle.channel_calls.specs.declared.error.Refused.TheVariants.{Plain, NoMemo
 use Rattle.channel_calls.specs.declared.error.TrySendError.TheVariants as send_error
 use Rattle.channel_calls.specs.declared.error.TryRecvError.TheVariants as recv_error
 use Rattle.channel_model.specs.declared.refusal.WorldRefusal.{WorldRefusal}
-use Rattle.channel_model.specs.declared.refusal.WorldRefusal.TheVariants as why
+use Rattle.channel_model.specs.Refusal.{refusal_number}
 use Rattle.channel_world.specs.declared.settle.Settled.{Settled}
 use Rattle.futures.specs.declared.task.Poll.TheVariants.{Ready, Pending}
 
@@ -70,16 +70,6 @@ IsPoll r = ⊥
 abbrev pub wakes_text : Table → List Waiter → List ℕ
 wakes_text table [] = []
 wakes_text table (w ∷ ws) = codes " wakes" ++ flat_map (λ v. 32 ∷ waiter_name table v) (w ∷ ws)
-
-abbrev pub refusal_number : WorldRefusal → ℕ
-refusal_number why.Busy = 1
-refusal_number why.Idle = 2
-refusal_number why.UnknownName = 3
-refusal_number why.NameTaken = 4
-refusal_number why.OpUnderWay = 5
-refusal_number why.Borrowed = 6
-refusal_number why.WrongKind = 7
-refusal_number why.NoMemory = 8
 
 abbrev pub refused_text : WorldRefusal → List ℕ
 refused_text w = codes "refused " ++ decimal (refusal_number w)

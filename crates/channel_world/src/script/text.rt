@@ -1,6 +1,6 @@
 //! Reply lines.
 ghost use Rattle.std.specs.Prelude.{◌≡◌, ◌++◌, false, IfOk, OnOk, string_bytes};
-ghost use Rattle.channel_world.specs.Text.{reply_text, wakes_text, refused_text, refusal_number, wants_growth, IsTry, IsPoll, poll_text, part_before, settle_text, AreAmple};
+ghost use Rattle.channel_world.specs.Text.{reply_text, wakes_text, refused_text, wants_growth, IsTry, IsPoll, poll_text, part_before, settle_text, AreAmple};
 ghost use Rattle.channel_world.specs.Settled.{polls_in};
 
 use super::table::Table;
@@ -155,22 +155,6 @@ pub fn settle_line(
 pub fn refused_line(alloc: Global, why: WorldRefusal) -> Result<Vec<u8>, AllocError>
     ensures { IfOk result (λ line. line.items ≡ refused_text why) }
 {
-    let number = number_of(why);
+    let number = why.number();
     Ok(format!(in alloc; "refused {number}")?.into_bytes())
-}
-
-/// The number of a refusal.
-fn number_of(why: WorldRefusal) -> u8
-    ensures { result ≡ refusal_number why }
-{
-    match why {
-        WorldRefusal::Busy => 1,
-        WorldRefusal::Idle => 2,
-        WorldRefusal::UnknownName => 3,
-        WorldRefusal::NameTaken => 4,
-        WorldRefusal::OpUnderWay => 5,
-        WorldRefusal::Borrowed => 6,
-        WorldRefusal::WrongKind => 7,
-        WorldRefusal::NoMemory => 8,
-    }
 }
