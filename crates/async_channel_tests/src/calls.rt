@@ -223,6 +223,33 @@ fn errors_are_told_apart(rt: HostRuntime) -> Result<(), Fail> {
     Ok(())
 }
 
+/// Whether it was full, whether it was closed, and the message that a refused send hands back.
+fn told(refused: Refused<TrySendError<u64>, u64>) -> (bool, bool, u64) {
+    (
+        refused.is_full(),
+        refused.is_closed(),
+        refused.into_inner(),
+    )
+}
+
+/// Whether the channel's own refusal stays, and want of memory or of serials is none of the channel's.
+fn keeps_its_own() -> bool {
+    let own: Refused<RecvError> = Refused::Plain(RecvError);
+    let memory: Refused<RecvError> = Refused::NoMemory(());
+    let sent: Refused<SendError<u64>, u64> = Refused::NoMemory(4);
+    own.into_plain() == Some(RecvError) && memory.into_plain().is_none() && sent.into_inner() == 4
+}
+
+#[test]
+fn refusals_hand_back_their_message(rt: HostRuntime) -> Result<(), Fail> {
+    let full = told(Refused::Plain(TrySendError::Full(1)));
+    let closed = told(Refused::Plain(TrySendError::Closed(2)));
+    let memory = told(Refused::NoMemory(3));
+    assert_eq!(rt; [full, closed, memory], [(true, false, 1), (false, true, 2), (false, false, 3)]);
+    assert!(rt; keeps_its_own());
+    Ok(())
+}
+
 fn takes_between_two_tries(all: &mut Fixture) -> [Said; 4] {
     let mut receive = ChannelCall::new(ChannelAsk::PollRecv(None, 1));
     let begun = all.steps(&mut receive, 2);

@@ -1,5 +1,5 @@
-//! What is answered where a growth is refused. Run with `rt try --test --fail-alloc N -- refusals` for N from 1 on, these meet each
-//! refusal in turn: nothing is lost or doubled then, and what was refused goes when it is asked again.
+//! What is answered where a growth is refused. `tools/refuse_growths.py async_channel_tests refus` refuses each request for memory in
+//! turn: nothing is lost or doubled then, and what was refused goes when it is asked again.
 
 use crate::said::{Ends, Said, closes, opened, streams};
 use async_channel::{
@@ -152,19 +152,20 @@ fn pauses() {
     }
 }
 
-/// A send finds no place and sleeps: where its listener or what it sleeps on is refused, the message is handed back.
+/// A send finds no place and sleeps: where its listener or what it sleeps on is refused, the message is handed back. Who sleeps
+/// stands before who wakes it: where no second thread is to be had, the two are called one after another, the second first.
 fn send_sleeps<R>(rt: R, s: &Sender<u64, R>, r: &Receiver<u64, R>) -> Seen
 where
     R: Wait + Threads + Copy + Send + Sync,
 {
     let filled = s.try_send(1).is_ok();
-    let (first, slept) = thread::join(
+    let (slept, first) = thread::join(
         &rt,
+        || s.send_blocking(2),
         || {
             pauses();
             r.try_recv() == Ok(1)
         },
-        || s.send_blocking(2),
     );
     let refused = slept == Err(Refused::NoMemory(2));
     let second = match slept {
@@ -179,13 +180,13 @@ fn receive_sleeps<R>(rt: R, s: &Sender<u64, R>, r: &Receiver<u64, R>) -> Seen
 where
     R: Wait + Threads + Copy + Send + Sync,
 {
-    let (went, slept) = thread::join(
+    let (slept, went) = thread::join(
         &rt,
+        || r.recv_blocking(),
         || {
             pauses();
             s.try_send(3).is_ok()
         },
-        || r.recv_blocking(),
     );
     let refused = slept == Err(Refused::NoMemory(()));
     let got = match slept {

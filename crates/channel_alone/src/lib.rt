@@ -1,4 +1,4 @@
-//! A call of a channel of one owner, from its beginning to its end, with nobody else at work.
+//! A part of `channel_world`: a call of a channel of one owner, from its beginning to its end, with nobody else at work.
 #![tactic(auto)]
 
 pub mod run;

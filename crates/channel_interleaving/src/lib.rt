@@ -1,5 +1,5 @@
-//! A channel with its handles and operations by name, and the calls of several parties under way, in any interleaving. Where no
-//! call is under way, a call may also be made alone, from its beginning to its end.
+//! A part of `channel_world`: a channel with its handles and operations by name, and the calls of several parties under way, in any
+//! interleaving. Where no call is under way, a call may also be made alone, from its beginning to its end.
 //!
 //! What is said of it is in the contracts, and what they mean in `specs/`: `Roll` (what lives under which name), `Pending` (how
 //! many are pending or woken), `Refusal` (which steps are refused), `Bookkeeping` (what a call asks as it begins, and what it

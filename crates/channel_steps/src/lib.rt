@@ -1,4 +1,4 @@
-//! A channel of one owner with the calls of many parties under way: any interleaving of their steps.
+//! A part of `channel_world`: a channel of one owner with the calls of many parties under way, in any interleaving of their steps.
 #![tactic(auto)]
 
 pub mod count;

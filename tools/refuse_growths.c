@@ -1,0 +1,99 @@
+/* Refuses one request for memory of a program: preloaded before it, by refuse_growths.py.
+ *
+ * The program's own requests alone are counted, from 1 on, not those of the C library or of its loader. The one whose number
+ * REFUSED_REQUEST says is answered with no memory. How many there were is written to the file that REFUSED_REQUEST_SAID names. */
+#define _GNU_SOURCE
+#include <errno.h>
+#include <fcntl.h>
+#include <link.h>
+#include <stdatomic.h>
+#include <stdio.h>
+#include <stdlib.h>
+#include <unistd.h>
+
+static atomic_ulong requests;
+static unsigned long refused;
+static unsigned long program_begin;
+static unsigned long program_end;
+
+/* The first object that is loaded is the program itself. */
+static int find_program(struct dl_phdr_info *object, size_t size, void *unused)
+{
+    (void)size;
+    (void)unused;
+    for (int i = 0; i < object->dlpi_phnum; i++) {
+        const ElfW(Phdr) *part = &object->dlpi_phdr[i];
+        if (part->p_type == PT_LOAD && (part->p_flags & PF_X)) {
+            program_begin = object->dlpi_addr + part->p_vaddr;
+            program_end = program_begin + part->p_memsz;
+        }
+    }
+    return 1;
+}
+
+__attribute__((constructor)) static void begin(void)
+{
+    const char *number = getenv("REFUSED_REQUEST");
+    refused = number ? strtoul(number, NULL, 10) : 0;
+    dl_iterate_phdr(find_program, NULL);
+}
+
+__attribute__((destructor)) static void end(void)
+{
+    const char *path = getenv("REFUSED_REQUEST_SAID");
+    int file = path ? open(path, O_WRONLY | O_CREAT | O_APPEND, 0666) : -1;
+    if (file >= 0) {
+        dprintf(file, "%lu\n", atomic_load(&requests));
+        close(file);
+    }
+}
+
+/* Whether this request, which returns to `caller`, is the one to refuse. */
+static int is_refused(void *caller)
+{
+    unsigned long from = (unsigned long)caller;
+    if (from < program_begin || from >= program_end)
+        return 0;
+    return atomic_fetch_add(&requests, 1) + 1 == refused;
+}
+
+/* The C library's own, under the names that it gives them for such a use. */
+extern void *__libc_malloc(size_t size);
+extern void *__libc_calloc(size_t count, size_t size);
+extern void *__libc_realloc(void *old, size_t size);
+extern void *__libc_memalign(size_t alignment, size_t size);
+
+static void *no_memory(void)
+{
+    errno = ENOMEM;
+    return NULL;
+}
+
+void *malloc(size_t size)
+{
+    return is_refused(__builtin_return_address(0)) ? no_memory() : __libc_malloc(size);
+}
+
+void *calloc(size_t count, size_t size)
+{
+    return is_refused(__builtin_return_address(0)) ? no_memory() : __libc_calloc(count, size);
+}
+
+void *realloc(void *old, size_t size)
+{
+    return is_refused(__builtin_return_address(0)) ? no_memory() : __libc_realloc(old, size);
+}
+
+void *aligned_alloc(size_t alignment, size_t size)
+{
+    return is_refused(__builtin_return_address(0)) ? no_memory() : __libc_memalign(alignment, size);
+}
+
+int posix_memalign(void **memory, size_t alignment, size_t size)
+{
+    void *given = is_refused(__builtin_return_address(0)) ? NULL : __libc_memalign(alignment, size);
+    if (!given)
+        return ENOMEM;
+    *memory = given;
+    return 0;
+}
