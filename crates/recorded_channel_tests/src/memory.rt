@@ -146,7 +146,7 @@ fn pass<L: Ledger, R: Wait>(rt: &R, alloc: Global, blank: Blank) -> Option<Passe
 
 /// Whichever growth is refused, opening hands the blank back, and a call comes back with nothing changed and nothing recorded:
 /// made once more it is answered as with ample memory, and the record has an entry for each receipt. As a test it runs with
-/// ample memory; by hand, `rt try --test --fail-alloc N` refuses the Nth request for each N until one is never reached.
+/// ample memory; `tools/refuse_growths.py recorded_channel_tests memory` refuses each of its requests in turn.
 #[test]
 fn a_refused_growth_changes_nothing(rt: HostRuntime) -> Result<(), Fail> {
     let passed = pass::<Brand, HostRuntime>(&rt, rt.alloc(), Blank::new(PARTS));
