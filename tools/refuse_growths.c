@@ -1,17 +1,19 @@
 /* Refuses one request for memory of a program: preloaded before it, by refuse_growths.py.
  *
  * The program's own requests alone are counted, from 1 on, not those of the C library or of its loader. The one whose number
- * REFUSED_REQUEST says is answered with no memory. How many there were is written to the file that REFUSED_REQUEST_SAID names. */
+ * REFUSED_REQUEST says is answered with no memory. The count stands in the file that REFUSED_REQUEST_COUNT names, as it goes, since a
+ * program may end without a word. */
 #define _GNU_SOURCE
 #include <errno.h>
 #include <fcntl.h>
 #include <link.h>
 #include <stdatomic.h>
-#include <stdio.h>
 #include <stdlib.h>
+#include <sys/mman.h>
 #include <unistd.h>
 
-static atomic_ulong requests;
+static atomic_ulong uncounted;
+static atomic_ulong *requests = &uncounted;
 static unsigned long refused;
 static unsigned long program_begin;
 static unsigned long program_end;
@@ -34,18 +36,16 @@ static int find_program(struct dl_phdr_info *object, size_t size, void *unused)
 __attribute__((constructor)) static void begin(void)
 {
     const char *number = getenv("REFUSED_REQUEST");
-    refused = number ? strtoul(number, NULL, 10) : 0;
-    dl_iterate_phdr(find_program, NULL);
-}
-
-__attribute__((destructor)) static void end(void)
-{
-    const char *path = getenv("REFUSED_REQUEST_SAID");
-    int file = path ? open(path, O_WRONLY | O_CREAT | O_APPEND, 0666) : -1;
+    const char *path = getenv("REFUSED_REQUEST_COUNT");
+    int file = path ? open(path, O_RDWR) : -1;
     if (file >= 0) {
-        dprintf(file, "%lu\n", atomic_load(&requests));
+        void *shared = mmap(NULL, sizeof *requests, PROT_READ | PROT_WRITE, MAP_SHARED, file, 0);
+        if (shared != MAP_FAILED)
+            requests = shared;
         close(file);
     }
+    refused = number ? strtoul(number, NULL, 10) : 0;
+    dl_iterate_phdr(find_program, NULL);
 }
 
 /* Whether this request, which returns to `caller`, is the one to refuse. */
@@ -54,7 +54,7 @@ static int is_refused(void *caller)
     unsigned long from = (unsigned long)caller;
     if (from < program_begin || from >= program_end)
         return 0;
-    return atomic_fetch_add(&requests, 1) + 1 == refused;
+    return atomic_fetch_add(requests, 1) + 1 == refused;
 }
 
 /* The C library's own, under the names that it gives them for such a use. */

@@ -35,21 +35,22 @@ def names_of(tests, word):
 
 
 def run(tests, name, library, number, room):
-    """Says how the run ended, and how many requests it made where it says so."""
-    said = f"{room}/said"
-    if os.path.exists(said):
-        os.remove(said)
-    environment = {**os.environ, "LD_PRELOAD": library, "REFUSED_REQUEST": str(number), "REFUSED_REQUEST_SAID": said}
+    """Says how the run ended, and how many requests it made."""
+    count = f"{room}/count"
+    with open(count, "wb") as it:
+        it.write(bytes(8))
+    environment = {**os.environ, "LD_PRELOAD": library, "REFUSED_REQUEST": str(number), "REFUSED_REQUEST_COUNT": count}
     how = {"env": environment, "stdin": subprocess.DEVNULL, "stdout": subprocess.DEVNULL, "stderr": subprocess.PIPE}
     try:
         ran = subprocess.run([tests, name], timeout=SECONDS, **how)
     except subprocess.TimeoutExpired:
-        return "hangs", None
+        return "hangs", 0
+    with open(count, "rb") as it:
+        made = int.from_bytes(it.read(8), "little")
     if ran.returncode == 0:
-        with open(said, encoding="ascii") as it:
-            return "right", int(it.read())
+        return "right", made
     told = ran.stderr.decode(errors="replace").strip()
-    return ("stopped" if told.startswith(PREPARING) else f"wrong: {told[:200]}"), None
+    return ("stopped" if told.startswith(PREPARING) else f"wrong: {told[:200]}"), made
 
 
 def sweep(tests, name, library, last, room):
