@@ -7,40 +7,18 @@ use Rattle.concurrent_queue.specs.declared.call.QueueAsk.TheVariants as ask
 
 pub data Act (T : Type 0) : Type 0 where
   push : T → Option ℕ → Act T
-  push_return : T → ℕ → Act T
+  push_return push_make : T → ℕ → Act T
   push_look : T → ℕ → Option ℕ → Act T
-  push_make : T → ℕ → Act T
-  push_first : T → ℕ → ℕ → Act T
-  push_start : T → ℕ → ℕ → Act T
-  push_more : T → ℕ → ℕ → Act T
-  push_swap : T → ℕ → ℕ → Option ℕ → Act T
-  push_turn : T → ℕ → ℕ → ℕ → Act T
-  push_add : T → ℕ → ℕ → ℕ → Act T
-  push_link : T → ℕ → ℕ → ℕ → Act T
-  push_put : T → ℕ → ℕ → Option ℕ → Act T
+  push_first push_start push_more : T → ℕ → ℕ → Act T
+  push_swap push_put : T → ℕ → ℕ → Option ℕ → Act T
+  push_turn push_add push_link : T → ℕ → ℕ → ℕ → Act T
   push_store : ℕ → ℕ → Option ℕ → Act T
-  push_give : ℕ → Act T
-  pop : Act T
-  pop_look : ℕ → Act T
+  push_give pop_look empty_tail len_head : ℕ → Act T
+  pop close ask_closed ask_empty ask_full ask_len ask_capacity finished : Act T
   pop_tail : ℕ → Option ℕ → Act T
-  pop_swap : ℕ → ℕ → Act T
-  pop_next : ℕ → ℕ → Act T
+  pop_swap pop_next pop_head pop_wait pop_take len_tail : ℕ → ℕ → Act T
   pop_block : ℕ → ℕ → ℕ → Act T
-  pop_head : ℕ → ℕ → Act T
-  pop_wait : ℕ → ℕ → Act T
-  pop_take : ℕ → ℕ → Act T
-  pop_count : ℕ → ℕ → T → Act T
-  pop_retire : ℕ → ℕ → T → Act T
-  close : Act T
-  ask_closed : Act T
-  ask_empty : Act T
-  empty_tail : ℕ → Act T
-  ask_full : Act T
-  ask_len : Act T
-  len_head : ℕ → Act T
-  len_tail : ℕ → ℕ → Act T
-  ask_capacity : Act T
-  finished : Act T
+  pop_count pop_retire : ℕ → ℕ → T → Act T
 
 -- the last place of a block: the winner of it turns the page
 abbrev pub is_edge : ℕ → Bool
