@@ -1,5 +1,5 @@
 -- A step of an unbounded queue's call on its cells: one cell, the same form, a move on the numbers, and the rank.
-use Rattle.std.proofs.Common.{◌≡◌, ℕ, ◌+◌, ◌-◌, ◌/◌, ◌%◌, ◌^◌, ◌≤◌, ⊎_elim, Bool, true, false, ◌==◌, ◌||◌, not, List, Option, None, Some, bit_or, refl, sym, ap, ◌∙◌, subst, inl, inr, arith}
+use Rattle.std.proofs.Common.{◌≡◌, ℕ, ◌+◌, ◌-◌, ◌/◌, ◌%◌, ◌^◌, ◌≤◌, ⊎_elim, true, false, ◌==◌, not, List, Option, None, Some, bit_or, refl, sym, ap, ◌∙◌, subst, inl, inr, arith}
 use Rattle.concurrent_queue.specs.Contents.{Contents, write, write_slot, without_spare, with_retired, block_at, can_put}
 use Rattle.concurrent_queue.specs.Queue.{Phase}
 use Rattle.concurrent_queue.specs.Step.{OneCell}

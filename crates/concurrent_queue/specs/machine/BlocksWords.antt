@@ -1,5 +1,5 @@
 -- The steps of an unbounded queue, as functions of what its words and slots hold. t is a tail word, p a head position.
-use Rattle.std.specs.Prelude.{◌≡◌, ℕ, zero, suc, ◌++◌, [], List, ◌||◌, not, option_to_list, ◌+◌, ◌-◌, ◌/◌, ◌%◌, ◌^◌, ◌<◌, ◌&&◌, ◌⊎◌, nat_le, Bool, true, false, Option, None, Some, Ok, Err, length, slice_index, slice_index_or, if◌then◌else◌, ◌==◌, bit_or}
+use Rattle.std.specs.Prelude.{◌≡◌, ℕ, zero, suc, ◌++◌, [], List, option_to_list, ◌+◌, ◌-◌, ◌/◌, ◌%◌, ◌^◌, ◌<◌, ◌⊎◌, nat_le, Bool, true, false, Option, None, Some, Ok, Err, length, slice_index, slice_index_or, if◌then◌else◌, ◌==◌, bit_or}
 use Rattle.concurrent_queue.specs.Contents.{Contents, write, block_at, slot_at, write_slot, can_put, spare_of, without_spare, with_retired}
 use Rattle.concurrent_queue.specs.machine.BlocksState.{number}
 use Rattle.concurrent_queue.specs.machine.BlocksMoves.{answer_as}
