@@ -4,6 +4,7 @@ ghost use Rattle.std.specs.Prelude.{◌≡◌, ◌≤◌, ◌^◌};
 ghost use Rattle.concurrent_queue.specs.Alone.{Gives, PushGives, PopGives, held, IsSound, HasRoom, one_more, used_after};
 ghost use Rattle.concurrent_queue.specs.declared.call.QueueAsk.TheVariants as ask;
 ghost use Rattle.concurrent_queue.specs.Capacity.{capacity_of};
+ghost use Rattle.concurrent_queue.specs.Plain.{contents_of};
 
 use crate::bounded::at_once::{pop_at_once, push_at_once};
 use crate::call::{QueueAsk, QueueReply};
@@ -11,6 +12,7 @@ use crate::cells::{Cells, QueueForm};
 use crate::error::{ForcePushError, NoMemory, PopError, PushError};
 use crate::plain::PlainCells;
 use crate::queue_call::QueueCall;
+use crate::unbounded::at_once as blocks;
 use std::alloc::Global;
 use std::marker::Model;
 
@@ -86,17 +88,23 @@ fn finish<T: Drop, C: Cells<T>>(cells: &mut C, used: &mut u64, ask: QueueAsk<T>)
 
 /// Appends a message: at once where nothing stands against it, else step by step.
 #[inline(always)]
-fn push_into<T: Drop, C: Cells<T>>(
-    cells: &mut C,
+fn push_into<T: Drop>(
+    cells: &mut PlainCells<T>,
     used: &mut u64,
     value: T,
 ) -> Result<(), PushError<T>>
-    requires known { C.known }
-    requires sound { IsSound (C.contents cells.old) used.old }
+    requires sound { IsSound (contents_of cells.old) used.old }
     requires room { HasRoom (ask.Push value) used.old }
-    ensures sound { IsSound (C.contents cells.new) used.new }
-    ensures answer { PushGives (held (C.contents cells.old) used.old) value (held (C.contents cells.new) used.new) result }
+    ensures sound { IsSound (contents_of cells.new) used.new }
+    ensures answer { PushGives (held (contents_of cells.old) used.old) value (held (contents_of cells.new) used.new) result }
 {
+    let value = match blocks::push_at_once(value, cells) {
+        Ok(()) => {
+            *used += 1;
+            return Ok(());
+        }
+        Err(value) => value,
+    };
     let value = match push_at_once(value, cells) {
         Ok(()) => {
             *used += 1;
@@ -112,12 +120,14 @@ fn push_into<T: Drop, C: Cells<T>>(
 
 /// Takes the oldest message: at once where it lies there, else step by step.
 #[inline(always)]
-fn pop_from<T: Drop, C: Cells<T>>(cells: &mut C, used: &mut u64) -> Result<T, PopError>
-    requires known { C.known }
-    requires sound { IsSound (C.contents cells.old) used.old }
-    ensures sound { IsSound (C.contents cells.new) used.new }
-    ensures answer { PopGives (held (C.contents cells.old) used.old) (held (C.contents cells.new) used.new) result }
+fn pop_from<T: Drop>(cells: &mut PlainCells<T>, used: &mut u64) -> Result<T, PopError>
+    requires sound { IsSound (contents_of cells.old) used.old }
+    ensures sound { IsSound (contents_of cells.new) used.new }
+    ensures answer { PopGives (held (contents_of cells.old) used.old) (held (contents_of cells.new) used.new) result }
 {
+    if let Some(value) = blocks::pop_at_once(cells) {
+        return Ok(value);
+    }
     if let Some(value) = pop_at_once(cells) {
         return Ok(value);
     }
