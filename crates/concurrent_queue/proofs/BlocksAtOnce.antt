@@ -5,6 +5,7 @@ use Rattle.concurrent_queue.specs.Contents.{Contents, BlockCells, no_block, bloc
 use Rattle.concurrent_queue.specs.machine.Dispatch.{IsFirstStep, in_blocks}
 use Rattle.concurrent_queue.specs.Capacity.{capacity_of}
 use Rattle.concurrent_queue.specs.machine.BlocksMoves.{answer_as}
+use Rattle.concurrent_queue.specs.machine.BlocksState.{number}
 use Rattle.concurrent_queue.specs.machine.BlocksWords.{IsUnboundedStep, Obtains, begin, answered, stays, finishes, load_tail, look_tail_block, swap_tail, put_message, load_head, look_tail, swap_head, load_next, wait_written, take_message, count_read}
 use Rattle.concurrent_queue.specs.machine.BlocksAtOnce.{filled, drawn, HasPlaceAt, HasAt, IsOpenAtTail, tail_offset, head_offset, turned, PushesBlocks, IsFilledAtHead, left_behind, PopsBlocks}
 use Rattle.concurrent_queue.specs.Alone.{held, IsSound, one_more, HasRoom, Gives}
@@ -30,6 +31,10 @@ use Rattle.concurrent_queue.proofs.BlocksYields.{eq_is, eq_not}
 
 counted : (f : QueueForm) (used : ℕ) → f ≡ Unbounded → used + 1 ≡ one_more (capacity_of f) used
 counted f used e = ap (λ (g : QueueForm). one_more (capacity_of g) used) (sym e)
+
+-- positions at rest are in the order of the messages
+apart : (p q : ℕ) → p < q → p % 32 < 31 → (number q == number p) ≡ false
+apart p q less rests = eq_not (number q) (number p) (λ e. omega arith)
 
 module _ {T : Type 0} where
   -- ---- a block that is changed twice
@@ -167,7 +172,7 @@ module _ {T : Type 0} where
         let written : (slice_index (block_at c b).written o == 1) ≡ true = eq_is (slice_index (block_at c b).written o) 1 has.1 in
         let some : ((block_at c2 b).reads == 30) ≡ false = ap (λ (z : BlockCells T). z.reads == 30) (set_here c1 b x1 has.0) ∙ has.3 in
         let e1 : (c, stays (act.PopLook p)) ≡ load_head c = rw not31 refl in
-        let e3 : (c, stays (act.PopSwap p b)) ≡ look_tail c p c.head_block = rw (there.2, there.1) refl in
+        let e3 : (c, stays (act.PopSwap p b)) ≡ look_tail c p c.head_block = rw (apart p (c.tail / 2) there.2 (omega arith), there.1) refl in
         let e4 : (c1, going (act.PopWait p b) Take) ≡ swap_head c p b = rw (itself p, not30) refl in
         let e5 : (c1, stays (act.PopTake p b)) ≡ wait_written c1 p b = rw written refl in
         let e6 : (c2, stays (act.PopCount p b v)) ≡ take_message c1 p b = rw has.2 refl in
@@ -201,7 +206,7 @@ module _ {T : Type 0} where
         let lies : slice_index_or (block_at c b).slots o None ≡ Some v = ap (λ (i : ℕ). slice_index_or (block_at c b).slots i None) at30 ∙ has.2 in
         let all : ((block_at c4 b).reads == 30) ≡ true = ap (λ (z : BlockCells T). z.reads == 30) (set_here c3 b x1 has.0) ∙ has.3 in
         let e1 : (c, stays (act.PopLook p)) ≡ load_head c = rw not31 refl in
-        let e3 : (c, stays (act.PopSwap p b)) ≡ look_tail c p c.head_block = rw (there.2, there.1) refl in
+        let e3 : (c, stays (act.PopSwap p b)) ≡ look_tail c p c.head_block = rw (apart p (c.tail / 2) there.2 (omega (arith, at30)), there.1) refl in
         let e4 : (c1, going (act.PopNext p b) Take) ≡ swap_head c p b = rw (itself p, is30) refl in
         let e5 : (c1, stays (act.PopBlock p b n)) ≡ load_next c1 p b = rw linked refl in
         let e8 : (c3, stays (act.PopTake p b)) ≡ wait_written c3 p b = rw written refl in

@@ -86,6 +86,37 @@ fn finish<T: Drop, C: Cells<T>>(cells: &mut C, used: &mut u64, ask: QueueAsk<T>)
     }
 }
 
+/// Appends a message step by step.
+#[inline(never)]
+fn push_stepping<T: Drop>(
+    cells: &mut PlainCells<T>,
+    used: &mut u64,
+    value: T,
+) -> Result<(), PushError<T>>
+    requires sound { IsSound (contents_of cells.old) used.old }
+    requires room { HasRoom (ask.Push value) used.old }
+    ensures sound { IsSound (contents_of cells.new) used.new }
+    ensures answer { PushGives (held (contents_of cells.old) used.old) value (held (contents_of cells.new) used.new) result }
+{
+    match finish(cells, used, QueueAsk::Push(value)) {
+        QueueReply::Push(result) => result,
+        _ => unreachable!(),
+    }
+}
+
+/// Takes the oldest message step by step.
+#[inline(never)]
+fn pop_stepping<T: Drop>(cells: &mut PlainCells<T>, used: &mut u64) -> Result<T, PopError>
+    requires sound { IsSound (contents_of cells.old) used.old }
+    ensures sound { IsSound (contents_of cells.new) used.new }
+    ensures answer { PopGives (held (contents_of cells.old) used.old) (held (contents_of cells.new) used.new) result }
+{
+    match finish(cells, used, QueueAsk::Pop) {
+        QueueReply::Pop(result) => result,
+        _ => unreachable!(),
+    }
+}
+
 /// Appends a message: at once where nothing stands against it, else step by step.
 #[inline(always)]
 fn push_into<T: Drop>(
@@ -112,10 +143,7 @@ fn push_into<T: Drop>(
         }
         Err(value) => value,
     };
-    match finish(cells, used, QueueAsk::Push(value)) {
-        QueueReply::Push(result) => result,
-        _ => unreachable!(),
-    }
+    push_stepping(cells, used, value)
 }
 
 /// Takes the oldest message: at once where it lies there, else step by step.
@@ -131,10 +159,7 @@ fn pop_from<T: Drop>(cells: &mut PlainCells<T>, used: &mut u64) -> Result<T, Pop
     if let Some(value) = pop_at_once(cells) {
         return Ok(value);
     }
-    match finish(cells, used, QueueAsk::Pop) {
-        QueueReply::Pop(result) => result,
-        _ => unreachable!(),
-    }
+    pop_stepping(cells, used)
 }
 
 impl<T: Drop> Exclusive<T> {

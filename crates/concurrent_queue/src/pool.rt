@@ -132,7 +132,7 @@ impl<T: Drop> PlainBlock<T> {
     fn fill(&mut self, offset: u64, value: T) -> Result<(), T>
         ensures { MatchResult result
             (λ _. (is_vacant (slice_get (block_of self.old).slots offset) ≡ true) × (block_of self.new ≡ filled (block_of self.old) offset value))
-            (λ w. (w ≡ value) × (self.new ≡ self.old)) }
+            (λ w. (w ≡ value) × (block_of self.new ≡ block_of self.old)) }
     {
         if offset < SLOTS && self.slots[offset as usize].is_none() {
             self.slots[offset as usize] = Some(value);
@@ -146,18 +146,21 @@ impl<T: Drop> PlainBlock<T> {
     /// Takes the message of a slot that is written, and counts that. At `None` nothing is changed; `last` says whether all
     /// others were taken.
     #[inline(always)]
+    #[tactic(auto, using(crate::proofs::Slots::none_again))]
     fn draw(&mut self, offset: u64, last: bool) -> Option<T>
-        ensures { MatchOption result (self.new ≡ self.old)
+        ensures { MatchOption result (block_of self.new ≡ block_of self.old)
             (λ v. (slice_index (block_of self.old).written offset ≡ 1) × (slice_index_or (block_of self.old).slots offset None ≡ Some v) × (((block_of self.old).reads == 30) ≡ last) × (block_of self.new ≡ drawn (block_of self.old) offset)) }
     {
         if SLOTS <= offset || self.written[offset as usize] != 1 || (self.reads == 30) != last {
             return None;
         }
-        if self.slots[offset as usize].is_none() {
-            return None;
+        match self.slots[offset as usize].take() {
+            Some(value) => {
+                self.reads = self.reads.wrapping_add(1);
+                Some(value)
+            }
+            None => None,
         }
-        self.reads = self.reads.wrapping_add(1);
-        self.slots[offset as usize].take()
     }
 
     fn take(&mut self, offset: u64) -> Option<T>

@@ -1,7 +1,6 @@
 -- A push and a pop of an unbounded queue whose steps nobody comes between, all of them at once.
 use Rattle.std.specs.Prelude.{◌≡◌, ℕ, ◌+◌, ◌-◌, ◌/◌, ◌%◌, ◌^◌, ◌<◌, ◌==◌, ◌⊎◌, Bool, true, false, List, ◌∷◌, length, nat_le, Option, None, Some, Result, Ok, Err, slice_index, slice_index_or, slice_get, slice_set}
 use Rattle.concurrent_queue.specs.Contents.{Contents, BlockCells, block_in, block_at, with_block, with_reads, with_written, with_slot, with_retired, write, is_vacant}
-use Rattle.concurrent_queue.specs.machine.BlocksState.{number}
 use Rattle.concurrent_queue.specs.declared.cells.QueueForm.TheVariants.{Unbounded}
 use Rattle.concurrent_queue.specs.declared.cells.Word.TheVariants.{Next}
 
@@ -70,7 +69,7 @@ module _ {T : Type 0} (c : Contents T) where
 
   -- there is a block at the head, and a message
   abbrev pub IsFilledAtHead : Type 0
-  IsFilledAtHead = (c.form ≡ Unbounded) × ((c.head_block == 0) ≡ false) × ((number (c.tail / 2) == number c.head) ≡ false)
+  IsFilledAtHead = (c.form ≡ Unbounded) × ((c.head_block == 0) ≡ false) × (c.head < c.tail / 2)
 
   -- v leaves the midst of the block at the head
   abbrev pub PopsMidst : T → Contents T → Type 0

@@ -8,7 +8,6 @@ ghost use Rattle.concurrent_queue.specs.Plain.{contents_of};
 
 use crate::cells::{Cells, QueueForm};
 use crate::plain::PlainCells;
-use crate::unbounded::pop::number_of;
 
 /// Pushes where the block at the tail has room, or a spare one can come after it. `Err` hands the message back, and nothing
 /// is changed.
@@ -82,7 +81,7 @@ pub(crate) fn pop_at_once<T: Drop>(cells: &mut PlainCells<T>) -> Option<T>
         QueueForm::Bounded(_) => return None,
     }
     let head = cells.head;
-    if cells.head_block == 0 || number_of(cells.tail / 2) == number_of(head) {
+    if cells.head_block == 0 || cells.tail / 2 <= head {
         return None;
     }
     if head % 32 < 30 {
