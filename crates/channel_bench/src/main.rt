@@ -9,6 +9,7 @@ mod event;
 mod list;
 mod queue;
 mod recorded;
+mod rounds;
 mod settle;
 mod shared;
 mod steps;

@@ -1,7 +1,8 @@
-//! What a push and a pop cost together in a ring, beside a plain deque's, and in unbounded queues that hold few messages and
-//! many.
+//! What a push and a pop cost together in queues of one owner, a ring and unbounded ones, beside a plain deque's; and in
+//! unbounded queues that hold few messages and many.
 
 use crate::decimal::Decimal;
+use crate::rounds::Rounds;
 use concurrent_queue::exclusive::Exclusive;
 use std::alloc::Global;
 use std::collections::VecDeque;
@@ -14,9 +15,7 @@ const ROOM: usize = 1_000;
 
 const HELD: usize = 500;
 
-/// How many messages the short unbounded queue holds, and the long one.
-const SHORT: usize = 1_000;
-
+/// How many messages the long unbounded queue holds.
 const LONG: usize = 1_000_000;
 
 /// How many pairs of a push and a pop are timed together, and how many rounds there are.
@@ -27,20 +26,20 @@ const ROUNDS: u32 = 400;
 /// How many pairs show that blocks are used again.
 const MANY: u32 = 1_000_000;
 
-/// A queue, the sum of what was popped from it, and the nanoseconds of its best round.
+/// A queue, the sum of what was popped from it, and what its rounds took.
 #[derive(Drop)]
 struct Bench {
     queue: Exclusive<u64>,
     sum: u64,
-    best: u128,
+    rounds: Rounds,
 }
 
 impl Bench {
-    fn of(queue: Exclusive<u64>) -> Self {
+    fn of(queue: Exclusive<u64>, alloc: Global) -> Self {
         Bench {
             queue,
             sum: 0,
-            best: u128::MAX,
+            rounds: Rounds::new(alloc),
         }
     }
 
@@ -60,11 +59,10 @@ impl Bench {
         }
     }
 
-    /// One round, of which the quickest counts.
     fn round<R: Clock>(&mut self, rt: &R) -> io::Result<()> {
         let start = Instant::now(rt)?;
         self.pairs(PAIRS);
-        self.best = self.best.min(start.elapsed(rt)?.as_nanos());
+        self.rounds.add(start.elapsed(rt)?.as_nanos());
         Ok(())
     }
 }
@@ -74,10 +72,18 @@ impl Bench {
 struct Plain {
     deque: VecDeque<u64>,
     sum: u64,
-    best: u128,
+    rounds: Rounds,
 }
 
 impl Plain {
+    fn of(alloc: Global) -> Self {
+        Plain {
+            deque: VecDeque::new(alloc),
+            sum: 0,
+            rounds: Rounds::new(alloc),
+        }
+    }
+
     fn fill(&mut self, messages: usize) {
         for message in 0..messages {
             let _ = self.deque.push_back(message as u64);
@@ -92,65 +98,91 @@ impl Plain {
                 self.sum = self.sum.wrapping_add(popped);
             }
         }
-        self.best = self.best.min(start.elapsed(rt)?.as_nanos());
+        self.rounds.add(start.elapsed(rt)?.as_nanos());
         Ok(())
     }
 }
 
-/// A ring beside a deque, both of which hold as much.
-fn compare_ring<R: Clock + Print>(rt: &R, ring: &mut Bench, plain: &mut Plain) -> io::Result<()> {
-    ring.fill(HELD);
-    plain.fill(HELD);
-    for _ in 0..ROUNDS {
-        ring.round(rt)?;
-        plain.round(rt)?;
-    }
-    if ring.sum != plain.sum {
-        return println!(rt; "queue: a call was refused");
-    }
-    let ratio = Decimal::of(ring.best, plain.best);
-    let ours = Decimal::of(ring.best, PAIRS as u128);
-    let theirs = Decimal::of(plain.best, PAIRS as u128);
+/// What a pair takes at the least and in the middle, beside one of other rounds.
+fn report<R: Print>(
+    rt: &R,
+    what: &str,
+    beside: &str,
+    ours: &Rounds,
+    theirs: &Rounds,
+) -> io::Result<()> {
+    let pairs = PAIRS as u128;
+    let least = Decimal::of(ours.least(), pairs);
+    let other = Decimal::of(theirs.least(), pairs);
+    let ratio = Decimal::of(ours.least(), theirs.least());
     println!(rt;
-        "queue, ring: a push and a pop take {ours} ns, of a deque {theirs} ns, {ratio} times as long"
+        "queue, {what}: a push and a pop take {least} ns at the least, of {beside} {other} ns, {ratio} times as long"
+    )?;
+    let middle = Decimal::of(ours.median(), pairs);
+    let other = Decimal::of(theirs.median(), pairs);
+    let ratio = Decimal::of(ours.median(), theirs.median());
+    println!(rt;
+        "queue, {what}: in the median {middle} ns, of {beside} {other} ns, {ratio} times as long"
     )
 }
 
+/// A queue beside a deque, both of which hold as much.
+fn compare_deque<R: Clock + Print>(
+    rt: &R,
+    alloc: Global,
+    what: &str,
+    queue: Exclusive<u64>,
+) -> io::Result<()> {
+    let mut ours = Bench::of(queue, alloc);
+    let mut plain = Plain::of(alloc);
+    ours.fill(HELD);
+    plain.fill(HELD);
+    for _ in 0..ROUNDS {
+        ours.round(rt)?;
+        plain.round(rt)?;
+    }
+    if ours.sum != plain.sum {
+        return println!(rt; "queue: a call was refused");
+    }
+    report(rt, what, "a deque", &ours.rounds, &plain.rounds)
+}
+
 fn measure_ring<R: Clock + Print>(rt: &R, alloc: Global) -> io::Result<()> {
-    let mut plain = Plain {
-        deque: VecDeque::new(alloc),
-        sum: 0,
-        best: u128::MAX,
-    };
     match Exclusive::bounded(alloc, ROOM) {
-        Ok(queue) => compare_ring(rt, &mut Bench::of(queue), &mut plain),
+        Ok(queue) => compare_deque(rt, alloc, "ring", queue),
         Err(_) => println!(rt; "queue: want of memory"),
     }
 }
 
-/// An unbounded queue that holds few messages beside one that holds many.
-fn compare_blocks<R: Clock + Print>(rt: &R, short: &mut Bench, long: &mut Bench) -> io::Result<()> {
-    short.fill(SHORT);
+/// An unbounded queue that holds many messages beside one that holds few.
+fn compare_lengths<R: Clock + Print>(
+    rt: &R,
+    long: &mut Bench,
+    short: &mut Bench,
+) -> io::Result<()> {
     long.fill(LONG);
+    short.fill(HELD);
     for _ in 0..ROUNDS {
-        short.round(rt)?;
         long.round(rt)?;
+        short.round(rt)?;
     }
-    if short.queue.len() != SHORT || long.queue.len() != LONG {
+    if long.queue.len() != LONG || short.queue.len() != HELD {
         return println!(rt; "queue: a call was refused");
     }
-    let ratio = Decimal::of(long.best, short.best);
-    let few = Decimal::of(short.best, PAIRS as u128);
-    let many = Decimal::of(long.best, PAIRS as u128);
-    println!(rt;
-        "queue, unbounded: a push and a pop take {few} ns with {SHORT} messages, {many} ns with {LONG}, {ratio} times as long"
+    report(
+        rt,
+        "unbounded with a million messages",
+        "one with few",
+        &long.rounds,
+        &short.rounds,
     )
 }
 
 fn measure_blocks<R: Clock + Print>(rt: &R, alloc: Global) -> io::Result<()> {
-    let mut short = Bench::of(Exclusive::unbounded(alloc));
-    let mut long = Bench::of(Exclusive::unbounded(alloc));
-    compare_blocks(rt, &mut short, &mut long)
+    compare_deque(rt, alloc, "unbounded", Exclusive::unbounded(alloc))?;
+    let mut long = Bench::of(Exclusive::unbounded(alloc), alloc);
+    let mut short = Bench::of(Exclusive::unbounded(alloc), alloc);
+    compare_lengths(rt, &mut long, &mut short)
 }
 
 /// Measures queues of one owner.
@@ -161,7 +193,7 @@ pub fn measure_queues<R: Clock + Print>(rt: &R, alloc: Global) -> io::Result<()>
 
 /// Pushes into an unbounded queue and pops from it again, many times over, so that its memory can be measured from outside.
 pub fn make_pairs<R: Print>(rt: &R, alloc: Global) -> io::Result<()> {
-    let mut bench = Bench::of(Exclusive::unbounded(alloc));
+    let mut bench = Bench::of(Exclusive::unbounded(alloc), alloc);
     bench.pairs(MANY);
     println!(rt;
         "pairs: {MANY} pushes and pops, {} messages left",

@@ -27,7 +27,7 @@ use Rattle.concurrent_queue.specs.declared.queue_call.QueueCall.{QueueCall}
 use Rattle.concurrent_queue.proofs.AloneFacts.{IsAlone, alone_start, alone_more, alone_sound, alone_end}
 use Rattle.concurrent_queue.proofs.FitsFacts.{is_queue_step, starts}
 
-itself : (n : ℕ) → (n == n) ≡ true
+pub itself : (n : ℕ) → (n == n) ≡ true
 itself n = grind (arith, nat_tests)
 
 used_more : (capacity : ℕ) → (capacity == 1) ≡ false → (used : ℕ) → used + 1 ≡ one_more (Some capacity) used
@@ -35,7 +35,7 @@ used_more capacity more used = sym (ap (λ (b : Bool). if b then used else used 
 
 module _ {T : Type 0} where
   -- a call at this state makes at most k steps, which nobody comes between; they leave d, and the last one replies r
-  abbrev Runs : ℕ → Contents T → CallState T → Contents T → QueueReply T → Type 0
+  abbrev pub Runs : ℕ → Contents T → CallState T → Contents T → QueueReply T → Type 0
   Runs zero c s d r = ⊥
   Runs (suc k) c s d r =
       (e : Contents T) × (x : Stepped (CallState T) T) × IsStateStep c s e x × MatchOption x.reply (Runs k e x.action d r) (λ y. (y ≡ r) × (e ≡ d))
@@ -67,7 +67,7 @@ module _ {T : Type 0} where
         (further run.1.reply run.0 (λ (h : Runs k run.0 run.1.action d r). runs_end k run.0 (record { state = run.1.action; mark = run.1.mark }) h) run.3)
 
   -- a call that nobody comes between, from its start
-  ran : (k : ℕ) (c : Contents T) (used : ℕ) (a : QueueAsk T) (d : Contents T) (r : QueueReply T) (used' : ℕ) → IsSound c used → HasRoom a used → Runs k c (Asked a) d r → used' ≡ used_after (capacity_of d.form) used r
+  pub ran : (k : ℕ) (c : Contents T) (used : ℕ) (a : QueueAsk T) (d : Contents T) (r : QueueReply T) (used' : ℕ) → IsSound c used → HasRoom a used → Runs k c (Asked a) d r → used' ≡ used_after (capacity_of d.form) used r
       → IsSound d used' × Gives a (held c used) (held d used') r
   ran k c used a d r used' sound room run e =
       let call : QueueCall T = record { state = Asked a; mark = Nothing } in
@@ -182,7 +182,7 @@ module _ {T : Type 0} where
       by_slot false e g = pushed_ring capacity e c used v d form sound room g.0 g.1
 
   -- a push at once does what its steps do
-  pub pushed_at_once : (c : Contents T) (used : ℕ) (v : T) (d : Contents T) → IsSound c used → HasRoom (ask.Push v) used → PushesAtOnce c.form c v (Ok tt) d
+  pushed_at_once : (c : Contents T) (used : ℕ) (v : T) (d : Contents T) → IsSound c used → HasRoom (ask.Push v) used → PushesAtOnce c.form c v (Ok tt) d
       → IsSound d (used + 1) × Gives (ask.Push v) (held c used) (held d (used + 1)) (reply.Push (Ok tt))
   pushed_at_once c used v d sound room h = push_by c.form c used v d refl sound room h
 
@@ -195,6 +195,19 @@ module _ {T : Type 0} where
       by_slot true e g = absurd g
       by_slot false e g = popped_ring capacity e c used v d form sound g.0 g.1
 
-  pub popped_at_once : (c : Contents T) (used : ℕ) (v : T) (d : Contents T) → IsSound c used → PopsAtOnce c.form c (Some v) d
+  popped_at_once : (c : Contents T) (used : ℕ) (v : T) (d : Contents T) → IsSound c used → PopsAtOnce c.form c (Some v) d
       → IsSound d used × Gives ask.Pop (held c used) (held d used) (reply.Pop (Ok v))
   popped_at_once c used v d sound h = pop_by c.form c used v d refl sound h
+
+  -- the same from contents that are those of before
+  pub pushed_from : (b c : Contents T) (used : ℕ) (v w : T) (d : Contents T) → (w ≡ v) × (c ≡ b) → IsSound b used → HasRoom (ask.Push v) used → PushesAtOnce c.form c w (Ok tt) d
+      → IsSound d (used + 1) × Gives (ask.Push v) (held b used) (held d (used + 1)) (reply.Push (Ok tt))
+  pushed_from b c used v w d same sound room h =
+      subst (λ (x : Contents T). IsSound d (used + 1) × Gives (ask.Push v) (held x used) (held d (used + 1)) (reply.Push (Ok tt))) same.1
+      (pushed_at_once c used v d (subst (λ (x : Contents T). IsSound x used) (sym same.1) sound) room (subst (λ (x : T). PushesAtOnce c.form c x (Ok tt) d) same.0 h))
+
+  pub popped_from : (b c : Contents T) (used : ℕ) (v : T) (d : Contents T) → c ≡ b → IsSound b used → PopsAtOnce c.form c (Some v) d
+      → IsSound d used × Gives ask.Pop (held b used) (held d used) (reply.Pop (Ok v))
+  popped_from b c used v d same sound h =
+      subst (λ (x : Contents T). IsSound d used × Gives ask.Pop (held x used) (held d used) (reply.Pop (Ok v))) same
+      (popped_at_once c used v d (subst (λ (x : Contents T). IsSound x used) (sym same) sound) h)

@@ -1,12 +1,12 @@
 -- The blocks that an unbounded queue has used, in order: the word for the tail's block names each of them as it comes.
-use Rattle.std.proofs.Common.{◌≡◌, ℕ, ◌+◌, ◌-◌, ◌/◌, ◌<◌, ◌≤◌, ◌⊎◌, ⊎_elim, Bool, true, false, if◌then◌else◌, ◌==◌, List, [], ◌∷◌, ◌++◌, length, Option, None, Some, slice_get, refl, sym, ap, ◌∙◌, subst, inl, inr, arith, length-append}
+use Rattle.std.proofs.Common.{◌≡◌, ℕ, ◌+◌, ◌-◌, ◌/◌, ◌<◌, ◌≤◌, ◌⊎◌, ⊎_elim, ◌==◌, List, [], ◌∷◌, ◌++◌, Option, Some, slice_get, refl, sym, ap, ◌∙◌, subst, inl, inr, arith, length-append}
 use Rattle.std.proofs.lemmas.Bool.{cases_lt, false≢true}
 use Rattle.concurrent_queue.specs.Contents.{Contents}
 use Rattle.concurrent_queue.specs.Queue.{Phase}
 use Rattle.concurrent_queue.specs.Step.{chain_after}
 use Rattle.concurrent_queue.specs.machine.BlocksState.{Blocks, SoundBlocks, held, used, chained}
 use Rattle.concurrent_queue.specs.machine.BlocksCalls.{Act, KnowsBlocks}
-use Rattle.concurrent_queue.specs.machine.BlocksMoves.{Moves, push_opens, push_stays, push_shut, push_shut_held, push_returns, look_none, look_none_held, look_more, look_ready, makes, makes_more, refused, refused_more, first_wins, first_loses, starts, starts_more, swap_wins, swap_wins_edge, swap_loses, turns, adds, links, puts, stores, stores_held, gives, pop_loads, pop_stays, pop_looks_none, pop_looks, pop_empty, pop_shut, pop_back, pop_goes, pop_wins, pop_wins_edge, pop_loses, next_waits, next_found, blocks, heads, wait_waits, wait_found, takes, counts, counts_last, retires, closes, closed_before, tells_closed, empty_loads, empty_tells, empty_denies, tells_full, len_loads, len_looks, len_tells, len_back, tells_capacity}
+use Rattle.concurrent_queue.specs.machine.BlocksMoves.{Moves, push_opens, push_stays, push_shut, push_shut_held, push_returns, look_none, look_none_held, look_more, look_ready, makes, makes_more, refused, refused_more, first_wins, first_loses, starts, starts_more, swap_wins, swap_wins_edge, swap_loses, turns, adds, links, puts, stores, stores_held, gives, pop_loads, pop_stays, pop_looks_none, pop_looks, pop_empty, pop_shut, pop_back, pop_goes, pop_wins, pop_wins_edge, pop_loses, next_waits, next_found, blocks, heads, wait_waits, wait_found, takes, counts, counts_last, retires, closes, closed_before, tells_closed, empty_loads, empty_tells, empty_denies, tells_full, len_loads, len_looks, len_tells, len_back, tells_capacity, seeking, bringing, popping, asking}
 use Rattle.concurrent_queue.specs.machine.BlocksDenotes.{Denotes, Shows}
 use Rattle.concurrent_queue.specs.machine.BlocksForm.{IsChain}
 use Rattle.concurrent_queue.specs.declared.call.QueueMark.{QueueMark}
@@ -29,8 +29,8 @@ module _ {T : Type 0} (r : Blocks T) where
 
   module _ (items : List T) (u : Phase T) (s : SoundBlocks r items) where
     pub grows : {a : Act T} {r' : Blocks T} {a' : Act T} {k : QueueMark} {x : Option (Ending T)} → Moves r a r' a' k x → KnowsBlocks r a u → Grows r'
-    grows (first_wins {h = h} e z) f = inr (h, e, λ some same. absurd (omega (arith, z)))
-    grows (turns {n = n} {h = h} e) f =
+    grows (seeking (first_wins {h = h} e z)) f = inr (h, e, λ some same. absurd (omega (arith, z)))
+    grows (bringing (turns {n = n} {h = h} e)) f =
         inr (
           h,
           e,
@@ -40,64 +40,64 @@ module _ {T : Type 0} (r : Blocks T) where
               (λ alive. held_used (n / 31) (sym f.1 ∙ ap r.spot (same ∙ ap r.num at) ∙ s.live (n / 31) (omega (arith, f.5)) alive))
               (λ gone. absurd (false≢true (sym f.0.5 ∙ (s.done n (s.retired (n / 31) gone)).0)))),
         )
-    grows (push_opens e c t o) f = still e refl (λ j. refl)
-    grows (push_stays e z) f = still e refl (λ j. refl)
-    grows (push_shut e c) f = still e refl (λ j. refl)
-    grows (push_shut_held e c) f = still e refl (λ j. refl)
-    grows (push_returns e) f = still e refl (λ j. refl)
-    grows (look_none e z) f = still e refl (λ j. refl)
-    grows (look_none_held e z) f = still e refl (λ j. refl)
-    grows (look_more e l q) f = still e refl (λ j. refl)
-    grows (look_ready e l q) f = still e refl (λ j. refl)
-    grows (makes e free) f = still e refl (λ j. refl)
-    grows (makes_more e free) f = still e refl (λ j. refl)
-    grows (refused e) f = still e refl (λ j. refl)
-    grows (refused_more e) f = still e refl (λ j. refl)
-    grows (first_loses e z) f = still e refl (λ j. refl)
-    grows (starts e) f = still e refl (λ j. refl)
-    grows (starts_more e) f = still e refl (λ j. refl)
-    grows (swap_wins e t o c ne) f = still e refl (λ j. refl)
-    grows (swap_wins_edge e t o c ed) f = still e refl (λ j. refl)
-    grows (swap_loses e z) f = still e refl (λ j. refl)
-    grows (adds e) f = still e refl (λ j. refl)
-    grows (links e) f = still e refl (λ j. refl)
-    grows (puts e) f = still e refl (λ j. refl)
-    grows (stores e) f = still e refl (λ j. refl)
-    grows (stores_held e) f = still e refl (λ j. refl)
-    grows (gives e) f = still e refl (λ j. refl)
-    grows (pop_loads e t o) f = still e refl (λ j. refl)
-    grows (pop_stays e z) f = still e refl (λ j. refl)
-    grows (pop_looks_none e z) f = still e refl (λ j. refl)
-    grows (pop_looks e l q) f = still e refl (λ j. refl)
-    grows (pop_empty e t c) f = still e refl (λ j. refl)
-    grows (pop_shut e t c) f = still e refl (λ j. refl)
-    grows (pop_back e z) f = still e refl (λ j. refl)
-    grows (pop_goes e ne) f = still e refl (λ j. refl)
-    grows (pop_wins e t o ne) f = still e refl (λ j. refl)
-    grows (pop_wins_edge e t o ed) f = still e refl (λ j. refl)
-    grows (pop_loses e z) f = still e refl (λ j. refl)
-    grows (next_waits e z) f = still e refl (λ j. refl)
-    grows (next_found e l q) f = still e refl (λ j. refl)
-    grows (blocks e) f = still e refl (λ j. refl)
-    grows (heads e) f = still e refl (λ j. refl)
-    grows (wait_waits e z) f = still e refl (λ j. refl)
-    grows (wait_found e w) f = still e refl (λ j. refl)
-    grows (takes x e) f = still e refl (λ j. refl)
-    grows (counts e ne) f = still e refl (λ j. refl)
-    grows (counts_last e z) f = still e refl (λ j. refl)
-    grows (retires e) f = still e refl (λ j. refl)
-    grows (closes e c) f = still e refl (λ j. refl)
-    grows (closed_before e c) f = still e refl (λ j. refl)
-    grows (tells_closed e c) f = still e refl (λ j. refl)
-    grows (empty_loads e h) f = still e refl (λ j. refl)
-    grows (empty_tells e t) f = still e refl (λ j. refl)
-    grows (empty_denies e t) f = still e refl (λ j. refl)
-    grows (tells_full e) f = still e refl (λ j. refl)
-    grows (len_loads e t) f = still e refl (λ j. refl)
-    grows (len_looks e h) f = still e refl (λ j. refl)
-    grows (len_tells e t m) f = still e refl (λ j. refl)
-    grows (len_back e t) f = still e refl (λ j. refl)
-    grows (tells_capacity e) f = still e refl (λ j. refl)
+    grows (seeking (push_opens e c t o)) f = still e refl (λ j. refl)
+    grows (seeking (push_stays e z)) f = still e refl (λ j. refl)
+    grows (seeking (push_shut e c)) f = still e refl (λ j. refl)
+    grows (seeking (push_shut_held e c)) f = still e refl (λ j. refl)
+    grows (seeking (push_returns e)) f = still e refl (λ j. refl)
+    grows (seeking (look_none e z)) f = still e refl (λ j. refl)
+    grows (seeking (look_none_held e z)) f = still e refl (λ j. refl)
+    grows (seeking (look_more e l q)) f = still e refl (λ j. refl)
+    grows (seeking (look_ready e l q)) f = still e refl (λ j. refl)
+    grows (seeking (makes e free)) f = still e refl (λ j. refl)
+    grows (seeking (makes_more e free)) f = still e refl (λ j. refl)
+    grows (seeking (refused e)) f = still e refl (λ j. refl)
+    grows (seeking (refused_more e)) f = still e refl (λ j. refl)
+    grows (seeking (first_loses e z)) f = still e refl (λ j. refl)
+    grows (seeking (starts e)) f = still e refl (λ j. refl)
+    grows (seeking (starts_more e)) f = still e refl (λ j. refl)
+    grows (seeking (swap_wins e t o c ne)) f = still e refl (λ j. refl)
+    grows (seeking (swap_wins_edge e t o c ed)) f = still e refl (λ j. refl)
+    grows (seeking (swap_loses e z)) f = still e refl (λ j. refl)
+    grows (bringing (adds e)) f = still e refl (λ j. refl)
+    grows (bringing (links e)) f = still e refl (λ j. refl)
+    grows (bringing (puts e)) f = still e refl (λ j. refl)
+    grows (bringing (stores e)) f = still e refl (λ j. refl)
+    grows (bringing (stores_held e)) f = still e refl (λ j. refl)
+    grows (bringing (gives e)) f = still e refl (λ j. refl)
+    grows (popping (pop_loads e t o)) f = still e refl (λ j. refl)
+    grows (popping (pop_stays e z)) f = still e refl (λ j. refl)
+    grows (popping (pop_looks_none e z)) f = still e refl (λ j. refl)
+    grows (popping (pop_looks e l q)) f = still e refl (λ j. refl)
+    grows (popping (pop_empty e t c)) f = still e refl (λ j. refl)
+    grows (popping (pop_shut e t c)) f = still e refl (λ j. refl)
+    grows (popping (pop_back e z)) f = still e refl (λ j. refl)
+    grows (popping (pop_goes e ne)) f = still e refl (λ j. refl)
+    grows (popping (pop_wins e t o ne)) f = still e refl (λ j. refl)
+    grows (popping (pop_wins_edge e t o ed)) f = still e refl (λ j. refl)
+    grows (popping (pop_loses e z)) f = still e refl (λ j. refl)
+    grows (popping (next_waits e z)) f = still e refl (λ j. refl)
+    grows (popping (next_found e l q)) f = still e refl (λ j. refl)
+    grows (popping (blocks e)) f = still e refl (λ j. refl)
+    grows (popping (heads e)) f = still e refl (λ j. refl)
+    grows (popping (wait_waits e z)) f = still e refl (λ j. refl)
+    grows (popping (wait_found e w)) f = still e refl (λ j. refl)
+    grows (popping (takes x e)) f = still e refl (λ j. refl)
+    grows (popping (counts e ne)) f = still e refl (λ j. refl)
+    grows (popping (counts_last e z)) f = still e refl (λ j. refl)
+    grows (popping (retires e)) f = still e refl (λ j. refl)
+    grows (asking (closes e c)) f = still e refl (λ j. refl)
+    grows (asking (closed_before e c)) f = still e refl (λ j. refl)
+    grows (asking (tells_closed e c)) f = still e refl (λ j. refl)
+    grows (asking (empty_loads e h)) f = still e refl (λ j. refl)
+    grows (asking (empty_tells e t)) f = still e refl (λ j. refl)
+    grows (asking (empty_denies e t)) f = still e refl (λ j. refl)
+    grows (asking (tells_full e)) f = still e refl (λ j. refl)
+    grows (asking (len_loads e t)) f = still e refl (λ j. refl)
+    grows (asking (len_looks e h)) f = still e refl (λ j. refl)
+    grows (asking (len_tells e t m)) f = still e refl (λ j. refl)
+    grows (asking (len_back e t)) f = still e refl (λ j. refl)
+    grows (asking (tells_capacity e)) f = still e refl (λ j. refl)
 
 module _ {T : Type 0} (chain : List ℕ) (r : Blocks T) (c d : Contents T) where
   -- the word names the same block where the chain stays

@@ -6,7 +6,7 @@ use Rattle.concurrent_queue.specs.Contents.{Contents, block_at, blank, zeros, no
 use Rattle.concurrent_queue.specs.Contents as words
 use Rattle.concurrent_queue.specs.machine.BlocksState.{Blocks, SoundBlocks, Spot, unmade, held, used, one_if, chained, position, number}
 use Rattle.concurrent_queue.specs.machine.BlocksCalls.{push_swap, push_put, push_turn}
-use Rattle.concurrent_queue.specs.machine.BlocksMoves.{Moves, swap_wins, swap_wins_edge, extended}
+use Rattle.concurrent_queue.specs.machine.BlocksMoves.{Moves, swap_wins, swap_wins_edge, extended, seeking}
 use Rattle.concurrent_queue.specs.machine.Places.{Each}
 use Rattle.std.proofs.lemmas.Bool.Decides.{nat_tests}
 use Rattle.concurrent_queue.proofs.BlocksAsks.{number_rest, number_turn, half}
@@ -59,7 +59,7 @@ module _ {T : Type 0} (c : Contents T) (r : Blocks T) (queue : List T) (s : Soun
           made = d.made;
           few = d.few;
         },
-        swap_wins refl m.2 m.1 m.0 ne,
+        seeking (swap_wins refl m.2 m.1 m.0 ne),
       )
 
   pub wins_edge_words : (v : T) (n b h : ℕ) → 2 * position n false + 2 < 2 ^ 64 → n % 31 ≡ 30 → c.tail ≡ 2 * position n false
@@ -78,7 +78,7 @@ module _ {T : Type 0} (c : Contents T) (r : Blocks T) (queue : List T) (s : Soun
           made = d.made;
           few = d.few;
         },
-        swap_wins_edge refl m.2 m.1 m.0 ed,
+        seeking (swap_wins_edge refl m.2 m.1 m.0 ed),
       )
 
   held_unmade : held ≡ unmade → ⊥

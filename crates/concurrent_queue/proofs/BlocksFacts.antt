@@ -10,9 +10,10 @@ use Rattle.concurrent_queue.specs.machine.BlocksState.{Blocks, SoundBlocks, Duty
 use Rattle.concurrent_queue.specs.machine.BlocksCalls.{KnowsBlocks, owes}
 use Rattle.concurrent_queue.specs.machine.BlocksMoves.{StandsBlocks, BlocksSeat, BlocksMeans, is_force, answer_as}
 use Rattle.concurrent_queue.specs.machine.BlocksLeft as left
+use Rattle.concurrent_queue.specs.machine.BlocksLeft.{unbounded_rank, blocks_rank}
 use Rattle.concurrent_queue.specs.machine.BlocksDenotes.{Denotes, act_of, IsProper}
 use Rattle.concurrent_queue.specs.machine.BlocksForm.{seat_of, IsFit, IsChain, UnboundedMeans}
-use Rattle.concurrent_queue.specs.machine.BlocksWords.{IsUnboundedStep, IsBlocksStep, reply_of, begin, unbounded_rank, blocks_rank}
+use Rattle.concurrent_queue.specs.machine.BlocksWords.{IsUnboundedStep, IsBlocksStep, reply_of, begin}
 use Rattle.concurrent_queue.specs.declared.call.QueueAsk.{QueueAsk}
 use Rattle.concurrent_queue.specs.declared.call.QueueAsk.TheVariants as ask
 use Rattle.concurrent_queue.specs.declared.call.Stepped.{Stepped}

@@ -4,7 +4,7 @@ use Rattle.std.proofs.lemmas.Bool.{false≢true}
 use Rattle.std.proofs.lemmas.Bool.Decides.{nat_tests}
 use Rattle.concurrent_queue.specs.machine.BlocksState.{Blocks, SoundBlocks, one_if, fill, link, turn_tail, turn_head, start, tail_word}
 use Rattle.concurrent_queue.specs.machine.BlocksCalls.{Act, push, push_return, push_look, push_make, push_first, push_start, push_more, push_swap, push_turn, push_add, push_link, push_put, push_store, push_give, pop, pop_look, pop_tail, pop_swap, pop_next, pop_block, pop_head, pop_wait, pop_take, pop_count, pop_retire, close, ask_closed, ask_empty, empty_tail, ask_full, ask_len, len_head, len_tail, ask_capacity, finished, KnowsBlocks, owes}
-use Rattle.concurrent_queue.specs.machine.BlocksMoves.{Moves, push_opens, push_stays, push_shut, push_shut_held, push_returns, look_none, look_none_held, look_more, look_ready, makes, makes_more, refused, refused_more, first_wins, first_loses, starts, starts_more, swap_wins, swap_wins_edge, swap_loses, turns, adds, links, puts, stores, stores_held, gives, pop_loads, pop_stays, pop_looks_none, pop_looks, pop_empty, pop_shut, pop_back, pop_goes, pop_wins, pop_wins_edge, pop_loses, next_waits, next_found, blocks, heads, wait_waits, wait_found, takes, counts, counts_last, retires, closes, closed_before, tells_closed, empty_loads, empty_tells, empty_denies, tells_full, len_loads, len_looks, len_tells, len_back, tells_capacity}
+use Rattle.concurrent_queue.specs.machine.BlocksMoves.{Moves, push_opens, push_stays, push_shut, push_shut_held, push_returns, look_none, look_none_held, look_more, look_ready, makes, makes_more, refused, refused_more, first_wins, first_loses, starts, starts_more, swap_wins, swap_wins_edge, swap_loses, turns, adds, links, puts, stores, stores_held, gives, pop_loads, pop_stays, pop_looks_none, pop_looks, pop_empty, pop_shut, pop_back, pop_goes, pop_wins, pop_wins_edge, pop_loses, next_waits, next_found, blocks, heads, wait_waits, wait_found, takes, counts, counts_last, retires, closes, closed_before, tells_closed, empty_loads, empty_tells, empty_denies, tells_full, len_loads, len_looks, len_tells, len_back, tells_capacity, seeking, bringing, popping, asking}
 use Rattle.concurrent_queue.specs.machine.BlocksLeft.{tail_moved, head_moved, left, Quiet}
 use Rattle.concurrent_queue.specs.Queue.{Phase}
 use Rattle.concurrent_queue.specs.declared.call.QueueMark.{QueueMark}
@@ -94,65 +94,65 @@ module _ {T : Type 0} (r : Blocks T) (queue : List T) (s : SoundBlocks r queue) 
   some_first z = grind (arith, nat_tests)
 
   pub nearer : {a : Act T} {r' : Blocks T} {a' : Act T} {k : QueueMark} {x : Option (Ending T)} → Moves r a r' a' k x → KnowsBlocks r a u → Quiet r a → MatchOption x (left r' a' < left r a) (λ y. Unit {0})
-  nearer (push_opens {n = n} e c t o) f q = rw (e, at_tail n t c o) (omega arith)
-  nearer (push_stays {v = v} {h = h} e o) f q = absurd (false≢true (sym (no_tail_turn (push v h) q (push_turns h)) ∙ o))
-  nearer (push_shut e c) f q = tt
-  nearer (push_shut_held e c) f q = omega arith
-  nearer (push_returns e) f q = tt
-  nearer (look_none {n = n} e z) f q = rw (e, zero_last z, or_no (tail_moved r n)) (omega arith)
-  nearer (look_none_held {n = n} e z) f q = rw (e, zero_last z, or_no (tail_moved r n)) (omega arith)
-  nearer (look_more e l b) f q = rw e (omega arith)
-  nearer (look_ready e l b) f q = rw e (omega arith)
-  nearer (makes e free) f q = rw e (omega arith)
-  nearer (makes_more e free) f q = rw e (omega arith)
-  nearer (refused e) f q = tt
-  nearer (refused_more e) f q = tt
-  nearer (first_wins {n = n} e z) f q = rw (e, zero_last z, or_no (tail_moved r n)) (omega arith)
-  nearer (first_loses {n = n} e z) f q = rw (some_last z, or_yes (tail_moved r n)) (omega arith)
-  nearer (starts e) f q = rw e (omega arith)
-  nearer (starts_more e) f q = rw e (omega arith)
-  nearer (swap_wins e t o c ne) f q = omega arith
-  nearer (swap_wins_edge e t o c ed) f q = omega arith
-  nearer (swap_loses {v = v} {n = n} {b = b} {h = h} e ne) f q = rw (off_tail n ne) (omega arith)
-  nearer (turns e) f q = omega arith
-  nearer (adds e) f q = omega arith
-  nearer (links e) f q = omega arith
-  nearer (puts e) f q = omega arith
-  nearer (stores e) f q = tt
-  nearer (stores_held e) f q = omega arith
-  nearer (gives e) f q = tt
-  nearer (pop_loads {n = n} e t o) f q = rw (e, at_head n t o) (omega arith)
-  nearer (pop_stays e o) f q = absurd (false≢true (sym (no_head_turn pop q refl) ∙ o))
-  nearer (pop_looks_none {n = n} e z) f q = rw (e, zero_first z, or_no (head_moved r n)) (omega arith)
-  nearer (pop_looks e l b) f q = rw e (omega arith)
-  nearer (pop_empty e t c) f q = tt
-  nearer (pop_shut e t c) f q = tt
-  nearer (pop_back {n = n} e ne) f q = by_eq r.head n
+  nearer (seeking (push_opens {n = n} e c t o)) f q = rw (e, at_tail n t c o) (omega arith)
+  nearer (seeking (push_stays {v = v} {h = h} e o)) f q = absurd (false≢true (sym (no_tail_turn (push v h) q (push_turns h)) ∙ o))
+  nearer (seeking (push_shut e c)) f q = tt
+  nearer (seeking (push_shut_held e c)) f q = omega arith
+  nearer (seeking (push_returns e)) f q = tt
+  nearer (seeking (look_none {n = n} e z)) f q = rw (e, zero_last z, or_no (tail_moved r n)) (omega arith)
+  nearer (seeking (look_none_held {n = n} e z)) f q = rw (e, zero_last z, or_no (tail_moved r n)) (omega arith)
+  nearer (seeking (look_more e l b)) f q = rw e (omega arith)
+  nearer (seeking (look_ready e l b)) f q = rw e (omega arith)
+  nearer (seeking (makes e free)) f q = rw e (omega arith)
+  nearer (seeking (makes_more e free)) f q = rw e (omega arith)
+  nearer (seeking (refused e)) f q = tt
+  nearer (seeking (refused_more e)) f q = tt
+  nearer (seeking (first_wins {n = n} e z)) f q = rw (e, zero_last z, or_no (tail_moved r n)) (omega arith)
+  nearer (seeking (first_loses {n = n} e z)) f q = rw (some_last z, or_yes (tail_moved r n)) (omega arith)
+  nearer (seeking (starts e)) f q = rw e (omega arith)
+  nearer (seeking (starts_more e)) f q = rw e (omega arith)
+  nearer (seeking (swap_wins e t o c ne)) f q = omega arith
+  nearer (seeking (swap_wins_edge e t o c ed)) f q = omega arith
+  nearer (seeking (swap_loses {v = v} {n = n} {b = b} {h = h} e ne)) f q = rw (off_tail n ne) (omega arith)
+  nearer (bringing (turns e)) f q = omega arith
+  nearer (bringing (adds e)) f q = omega arith
+  nearer (bringing (links e)) f q = omega arith
+  nearer (bringing (puts e)) f q = omega arith
+  nearer (bringing (stores e)) f q = tt
+  nearer (bringing (stores_held e)) f q = omega arith
+  nearer (bringing (gives e)) f q = tt
+  nearer (popping (pop_loads {n = n} e t o)) f q = rw (e, at_head n t o) (omega arith)
+  nearer (popping (pop_stays e o)) f q = absurd (false≢true (sym (no_head_turn pop q refl) ∙ o))
+  nearer (popping (pop_looks_none {n = n} e z)) f q = rw (e, zero_first z, or_no (head_moved r n)) (omega arith)
+  nearer (popping (pop_looks e l b)) f q = rw e (omega arith)
+  nearer (popping (pop_empty e t c)) f q = tt
+  nearer (popping (pop_shut e t c)) f q = tt
+  nearer (popping (pop_back {n = n} e ne)) f q = by_eq r.head n
       (λ h. rw (some_first (stored n q ne h), or_yes (head_moved r n)) (omega arith))
       (λ h. rw (off_head n (λ e o. h e)) (omega arith))
-  nearer (pop_goes e ne) f q = rw e (omega arith)
-  nearer (pop_wins e t o ne) f q = omega arith
-  nearer (pop_wins_edge e t o ed) f q = omega arith
-  nearer (pop_loses {n = n} {b = b} e ne) f q = rw (off_head n ne) (omega arith)
-  nearer (next_waits {n = n} {b = b} e l) f q = absurd (linked_by_now n b q f.2 f.3 l)
-  nearer (next_found e l c) f q = omega arith
-  nearer (blocks e) f q = omega arith
-  nearer (heads e) f q = omega arith
-  nearer (wait_waits {n = n} {b = b} e w) f q = absurd (written_by_now n b q f.1.3 w)
-  nearer (wait_found e w) f q = omega arith
-  nearer (takes x e) f q = omega arith
-  nearer (counts e ne) f q = tt
-  nearer (counts_last e z) f q = omega arith
-  nearer (retires e) f q = tt
-  nearer (closes e c) f q = tt
-  nearer (closed_before e c) f q = tt
-  nearer (tells_closed e c) f q = tt
-  nearer (empty_loads e h) f q = omega arith
-  nearer (empty_tells e h) f q = tt
-  nearer (empty_denies e h) f q = tt
-  nearer (tells_full e) f q = tt
-  nearer (len_loads {t = t} e h) f q = rw (e, on_tail t h) (omega arith)
-  nearer (len_looks e h) f q = rw e (omega arith)
-  nearer (len_tells e w m) f q = tt
-  nearer (len_back {t = t} e ne) f q = rw (past_tail t ne) (omega arith)
-  nearer (tells_capacity e) f q = tt
+  nearer (popping (pop_goes e ne)) f q = rw e (omega arith)
+  nearer (popping (pop_wins e t o ne)) f q = omega arith
+  nearer (popping (pop_wins_edge e t o ed)) f q = omega arith
+  nearer (popping (pop_loses {n = n} {b = b} e ne)) f q = rw (off_head n ne) (omega arith)
+  nearer (popping (next_waits {n = n} {b = b} e l)) f q = absurd (linked_by_now n b q f.2 f.3 l)
+  nearer (popping (next_found e l c)) f q = omega arith
+  nearer (popping (blocks e)) f q = omega arith
+  nearer (popping (heads e)) f q = omega arith
+  nearer (popping (wait_waits {n = n} {b = b} e w)) f q = absurd (written_by_now n b q f.1.3 w)
+  nearer (popping (wait_found e w)) f q = omega arith
+  nearer (popping (takes x e)) f q = omega arith
+  nearer (popping (counts e ne)) f q = tt
+  nearer (popping (counts_last e z)) f q = omega arith
+  nearer (popping (retires e)) f q = tt
+  nearer (asking (closes e c)) f q = tt
+  nearer (asking (closed_before e c)) f q = tt
+  nearer (asking (tells_closed e c)) f q = tt
+  nearer (asking (empty_loads e h)) f q = omega arith
+  nearer (asking (empty_tells e h)) f q = tt
+  nearer (asking (empty_denies e h)) f q = tt
+  nearer (asking (tells_full e)) f q = tt
+  nearer (asking (len_loads {t = t} e h)) f q = rw (e, on_tail t h) (omega arith)
+  nearer (asking (len_looks e h)) f q = rw e (omega arith)
+  nearer (asking (len_tells e w m)) f q = tt
+  nearer (asking (len_back {t = t} e ne)) f q = rw (past_tail t ne) (omega arith)
+  nearer (asking (tells_capacity e)) f q = tt

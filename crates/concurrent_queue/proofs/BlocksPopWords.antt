@@ -10,7 +10,7 @@ use Rattle.concurrent_queue.specs.machine.BlocksState.{Blocks, Cell, BlockState,
 use Rattle.concurrent_queue.specs.machine.BlocksState as duty
 use Rattle.concurrent_queue.specs.machine.BlocksCalls as call
 use Rattle.concurrent_queue.specs.machine.BlocksCalls.{KnowsBlocks, owes}
-use Rattle.concurrent_queue.specs.machine.BlocksMoves.{Moves, counted, pop_loads, pop_stays, pop_looks_none, pop_looks, pop_empty, pop_shut, pop_back, pop_goes, pop_wins, pop_wins_edge, pop_loses, next_waits, next_found, blocks, heads, wait_waits, wait_found, takes, counts, counts_last, retires, closes, closed_before, tells_closed, empty_loads, empty_tells, empty_denies, tells_full, len_loads, len_looks, len_tells, len_back, tells_capacity}
+use Rattle.concurrent_queue.specs.machine.BlocksMoves.{Moves, counted, pop_loads, pop_stays, pop_looks_none, pop_looks, pop_empty, pop_shut, pop_back, pop_goes, pop_wins, pop_wins_edge, pop_loses, next_waits, next_found, blocks, heads, wait_waits, wait_found, takes, counts, counts_last, retires, closes, closed_before, tells_closed, empty_loads, empty_tells, empty_denies, tells_full, len_loads, len_looks, len_tells, len_back, tells_capacity, popping, asking}
 use Rattle.concurrent_queue.specs.machine.BlocksDenotes.{Denotes, IsBlock, act_of, IsHeadAt}
 use Rattle.concurrent_queue.specs.machine.BlocksWords.{load_head, look_head_block, look_tail, swap_head, load_next, store_head_block, store_head, wait_written, take_message, after_take, count_read, retire_block, close_tail, tells, stays, ask_tail, empty_load_head, empty_load_tail, len_load_tail, len_load_head, len_again}
 use Rattle.concurrent_queue.specs.declared.call.QueueMark.TheVariants as mark
@@ -47,19 +47,19 @@ one_bit true = refl
 module _ {T : Type 0} (c : Contents T) (r : Blocks T) (queue : List T) (s : SoundBlocks r queue) (d : Denotes c r) (u : Phase T) (small : r.tail ≤ 2 ^ 61) where
   pub at-pop : Yields r act.Pop (load_head c)
   at-pop = choose (λ y. Yields r act.Pop (c, y)) (c.head % 32 == 31)
-      (λ e. (r, d, pop_stays refl (sym (words_of.head_turns_is c r queue s d) ∙ e), tt))
+      (λ e. (r, d, popping (pop_stays refl (sym (words_of.head_turns_is c r queue s d) ∙ e)), tt))
       (λ e. (
         r,
         d,
-        pop_loads refl (words_of.head_number_is c r queue s d) (sym (words_of.head_turns_is c r queue s d) ∙ e),
+        popping (pop_loads refl (words_of.head_number_is c r queue s d) (sym (words_of.head_turns_is c r queue s d) ∙ e)),
         (let f = sym (words_of.head_turns_is c r queue s d) ∙ e in let p : c.head ≡ position r.head false = rw f at d.head in omega arith),
       ))
 
   pub at-pop_look : (p : ℕ) → IsHeadAt p → Yields r (act.PopLook p) (look_head_block c p)
   at-pop_look p w = by_eq c.head_block 0
-      (λ e. (r, d, subst (λ (b : Option ℕ). Moves r (act_of (act.PopLook p)) r (call.pop_tail (number p) b) mark.Nothing None) (sym (named_none c.head_block e)) (pop_looks_none refl (shows_none c r d r.first c.head_block d.head_block e)), w))
+      (λ e. (r, d, subst (λ (b : Option ℕ). Moves r (act_of (act.PopLook p)) r (call.pop_tail (number p) b) mark.Nothing None) (sym (named_none c.head_block e)) (popping (pop_looks_none refl (shows_none c r d r.first c.head_block d.head_block e))), w))
       (λ ne. (let q = shows_some c r d r.first c.head_block d.head_block ne in
-      (r, d, subst (λ (b : Option ℕ). Moves r (act_of (act.PopLook p)) r (call.pop_tail (number p) b) mark.Nothing None) (sym (named_some c.head_block (r.num (r.first - 1)) q.1)) (pop_looks refl q.0 refl), w)))
+      (r, d, subst (λ (b : Option ℕ). Moves r (act_of (act.PopLook p)) r (call.pop_tail (number p) b) mark.Nothing None) (sym (named_some c.head_block (r.num (r.first - 1)) q.1)) (popping (pop_looks refl q.0 refl)), w)))
 
   tail_same : (p : ℕ) → number (c.tail / 2) ≡ number p → r.tail ≡ number p
   tail_same p e = sym (words_of.tail_number_is c r queue s d) ∙ e
@@ -67,14 +67,14 @@ module _ {T : Type 0} (c : Contents T) (r : Blocks T) (queue : List T) (s : Soun
   pub at-pop_tail : (p b : ℕ) → IsHeadAt p → Yields r (act.PopTail p b) (look_tail c p b)
   at-pop_tail p b w = choose (λ y. Yields r (act.PopTail p b) (c, y)) (number (c.tail / 2) == number p)
       (λ e. choose (λ y. Yields r (act.PopTail p b) (c, y)) (c.tail % 2 == 1)
-      (λ k. (r, d, pop_shut refl (tail_same p (is_eq (number (c.tail / 2)) (number p) e)) (sym (words_of.closed_is c r queue s d) ∙ k), tt))
-      (λ o. (r, d, pop_empty refl (tail_same p (is_eq (number (c.tail / 2)) (number p) e)) (sym (words_of.closed_is c r queue s d) ∙ o), tt)))
+      (λ k. (r, d, popping (pop_shut refl (tail_same p (is_eq (number (c.tail / 2)) (number p) e)) (sym (words_of.closed_is c r queue s d) ∙ k)), tt))
+      (λ o. (r, d, popping (pop_empty refl (tail_same p (is_eq (number (c.tail / 2)) (number p) e)) (sym (words_of.closed_is c r queue s d) ∙ o)), tt)))
       (λ e. goes b (λ q. not_eq (number (c.tail / 2)) (number p) e (words_of.tail_number_is c r queue s d ∙ q)))
     where
       goes : (x : ℕ) → (r.tail ≡ number p → ⊥) → Yields r (act.PopTail p x) (c, if x == 0 then stays act.Pop else stays (act.PopSwap p (x - 1)))
       goes x ne = choose (λ y. Yields r (act.PopTail p x) (c, y)) (x == 0)
-          (λ e. (r, d, subst (λ (o : Option ℕ). Moves r (call.pop_tail (number p) o) r call.pop mark.Nothing None) (sym (named_none x (is_eq x 0 e))) (pop_back refl ne), tt))
-          (λ e. (let z = not_eq x 0 e in (r, d, subst (λ (o : Option ℕ). Moves r (call.pop_tail (number p) o) r (call.pop_swap (number p) (x - 1)) mark.Nothing None) (sym (named_some x (x - 1) (omega arith))) (pop_goes refl ne), w)))
+          (λ e. (r, d, subst (λ (o : Option ℕ). Moves r (call.pop_tail (number p) o) r call.pop mark.Nothing None) (sym (named_none x (is_eq x 0 e))) (popping (pop_back refl ne)), tt))
+          (λ e. (let z = not_eq x 0 e in (r, d, subst (λ (o : Option ℕ). Moves r (call.pop_tail (number p) o) r (call.pop_swap (number p) (x - 1)) mark.Nothing None) (sym (named_some x (x - 1) (omega arith))) (popping (pop_goes refl ne)), w)))
 
   -- the exchange of the head
   head_small : r.head ≤ 2 ^ 61
@@ -90,7 +90,7 @@ module _ {T : Type 0} (c : Contents T) (r : Blocks T) (queue : List T) (s : Soun
       let inner : p % 32 < 30 = ⊎_elim (λ g. g) (λ g. absurd (ne (omega arith))) (cases_lt (p % 32) 30) in (
         record r { head = r.head + 1; head_turns = false },
         words_of.words_only c r queue s d r.all (r.head + 1) false r.tail r.tail_turns r.closed r.first ((p + 1) % 2 ^ 64) c.tail c.head_block (mod-eq_of_lt low ∙ (omega arith)) d.tail d.head_block,
-        pop_wins refl n m.0 (λ q. ne (sym (head_offset p w) ∙ q)),
+        popping (pop_wins refl n m.0 (λ q. ne (sym (head_offset p w) ∙ q))),
         w,
       )
 
@@ -102,7 +102,7 @@ module _ {T : Type 0} (c : Contents T) (r : Blocks T) (queue : List T) (s : Soun
       let low : p + 1 < 2 ^ 64 = omega arith in (
         record r { head = r.head + 1; head_turns = true },
         words_of.words_only c r queue s d r.all (r.head + 1) true r.tail r.tail_turns r.closed r.first ((p + 1) % 2 ^ 64) c.tail c.head_block (mod-eq_of_lt low ∙ (omega arith)) d.tail d.head_block,
-        pop_wins_edge refl n m.0 (head_offset p w ∙ ed),
+        popping (pop_wins_edge refl n m.0 (head_offset p w ∙ ed)),
         w,
       )
 
@@ -111,7 +111,7 @@ module _ {T : Type 0} (c : Contents T) (r : Blocks T) (queue : List T) (s : Soun
       (λ e. choose (λ a. Yields r (act.PopSwap p b) (record c { head = (p + 1) % 2 ^ 64 }, record { action = a; mark = mark.Take; ending = None })) (p % 32 == 30)
       (λ q. wins_edge p b w (is_eq c.head p e) (is_eq (p % 32) 30 q))
       (λ q. wins p b w (is_eq c.head p e) (not_eq (p % 32) 30 q)))
-      (λ e. (r, d, pop_loses refl (words_of.head_lost c r queue s d p w (not_eq c.head p e)), tt))
+      (λ e. (r, d, popping (pop_loses refl (words_of.head_lost c r queue s d p w (not_eq c.head p e))), tt))
 
   -- who still counts a read of a block works on a live one
   uncounted : (k : ℕ) → 1 ≤ owed r (count k) → (r.block k).retired ≡ false
@@ -125,11 +125,11 @@ module _ {T : Type 0} (c : Contents T) (r : Blocks T) (queue : List T) (s : Soun
       let next : (block_at c b).next ≡ (if (r.block k).linked then r.num (k + 1) + 1 else 0) = subst (λ (z : ℕ). (block_at c z).next ≡ (if (r.block k).linked then r.num (k + 1) + 1 else 0)) (sym it.1) x.next in
       choose (λ y. Yields r (act.PopNext p b) (c, y)) ((block_at c b).next == 0)
       (λ e. (let z = is_eq (block_at c b).next 0 e in
-      (r, d, next_waits refl (by_bool (r.block k).linked (λ g. g) (λ g. absurd (let q : (block_at c b).next ≡ r.num (k + 1) + 1 = rw g at next in omega arith))), w)))
+      (r, d, popping (next_waits refl (by_bool (r.block k).linked (λ g. g) (λ g. absurd (let q : (block_at c b).next ≡ r.num (k + 1) + 1 = rw g at next in omega arith)))), w)))
       (λ e. (let z = not_eq (block_at c b).next 0 e in
       let l : (r.block k).linked ≡ true = by_bool (r.block k).linked (λ g. absurd (z (rw g at next))) (λ g. g) in
       let q : (block_at c b).next ≡ r.num (k + 1) + 1 = rw l at next in
-      (r, d, next_found refl l (omega arith), (w, omega arith))))
+      (r, d, popping (next_found refl l (omega arith)), (w, omega arith))))
 
   pub at-pop_block : (p b n : ℕ) → IsHeadAt p → 1 ≤ n → KnowsBlocks r (act_of (act.PopBlock p b n)) u → Yields r (act.PopBlock p b n) (store_head_block c p b n)
   at-pop_block p b n w some f =
@@ -137,7 +137,7 @@ module _ {T : Type 0} (c : Contents T) (r : Blocks T) (queue : List T) (s : Soun
       let at : r.num (number p / 31 + 1) ≡ r.num (r.first + 1 - 1) = ap r.num (let q = f.5 in omega arith) in (
         record r { first = r.first + 1 },
         words_of.words_only c r queue s d r.all r.head r.head_turns r.tail r.tail_turns r.closed (r.first + 1) c.head c.tail n d.head d.tail (inr (omega arith, e ∙ ap (λ (z : ℕ). z + 1) at)),
-        blocks refl,
+        popping (blocks refl),
         w,
       )
 
@@ -149,7 +149,7 @@ module _ {T : Type 0} (c : Contents T) (r : Blocks T) (queue : List T) (s : Soun
       let low : p + 2 < 2 ^ 64 = omega arith in (
         record r { head_turns = false },
         words_of.words_only c r queue s d r.all r.head false r.tail r.tail_turns r.closed r.first ((p + 2) % 2 ^ 64) c.tail c.head_block (mod-eq_of_lt low ∙ (omega arith)) d.tail d.head_block,
-        heads refl,
+        popping (heads refl),
         w,
       )
 
@@ -163,8 +163,8 @@ module _ {T : Type 0} (c : Contents T) (r : Blocks T) (queue : List T) (s : Soun
       (index_get (block_at c (r.num k)).written (p % 32) (one_if (r.cell n).written) (x.written (p % 32) w ∙ ap (λ (m : ℕ). Some (one_if (r.cell m).written)) (head_place p w))) in
       let is : (slice_index (block_at c b).written (p % 32) == 1) ≡ (r.cell n).written = ap (λ (z : ℕ). z == 1) here ∙ one_bit (r.cell n).written in
       choose (λ y. Yields r (act.PopWait p b) (c, y)) (slice_index (block_at c b).written (p % 32) == 1)
-      (λ e. (r, d, wait_found refl (sym is ∙ e), w))
-      (λ e. (r, d, wait_waits refl (sym is ∙ e), w))
+      (λ e. (r, d, popping (wait_found refl (sym is ∙ e)), w))
+      (λ e. (r, d, popping (wait_waits refl (sym is ∙ e)), w))
 
   pub at-pop_take : (p b : ℕ) → IsHeadAt p → KnowsBlocks r (act_of (act.PopTake p b)) u → 1 ≤ owed r (count (number p / 31)) → Yields r (act.PopTake p b) (take_message c p b)
   at-pop_take p b w f mine =
@@ -178,7 +178,7 @@ module _ {T : Type 0} (c : Contents T) (r : Blocks T) (queue : List T) (s : Soun
       let found : slot_at c (slot.In b (p % 32)) ≡ Some v = subst (λ (z : ℕ). slot_at c (slot.In z (p % 32)) ≡ Some v) (sym it.1)
       (index_or_get (block_at c (r.num k)).slots (p % 32) (Some v) None (x.slots (p % 32) w ∙ (ap (λ (m : ℕ). Some (r.cell m).slot) (head_place p w) ∙ ap Some full))) in
       subst (λ (o : Option T). Yields r (act.PopTake p b) (words.write_slot c (slot.In b (p % 32)) None, stays (after_take p b o))) (sym found)
-      (with_cell r n (record { written = true; slot = None }), slot_words c r queue s d u small n (p % 32) b (record { written = true; slot = None }) w (head_place p w) it.0 it.1 alive (sym f.2), takes full refl, w)
+      (with_cell r n (record { written = true; slot = None }), slot_words c r queue s d u small n (p % 32) b (record { written = true; slot = None }) w (head_place p w) it.0 it.1 alive (sym f.2), popping (takes full refl), w)
 
   count_block : (k : ℕ) (y : words.BlockCells T) → IsBlock r k y → (r.block k).reads < 31 → IsBlock (counted r k) k (with_reads y ((y.reads + 1) % 2 ^ 64))
   count_block k y b low =
@@ -205,8 +205,8 @@ module _ {T : Type 0} (c : Contents T) (r : Blocks T) (queue : List T) (s : Soun
       (retire.block_words c r queue s d k it.0 alive blk (with_reads (block_at c (r.num k)) (((block_at c (r.num k)).reads + 1) % 2 ^ 64)) alive (count_block k (block_at c (r.num k)) x low)) in
       let reads : (block_at c b).reads ≡ (r.block k).reads = subst (λ (z : ℕ). (block_at c z).reads ≡ (r.block k).reads) (sym it.1) x.reads in
       choose (λ y. Yields r (act.PopCount p b v) (words.with_block c b (with_reads (block_at c b) (((block_at c b).reads + 1) % 2 ^ 64)), y)) ((block_at c b).reads == 30)
-      (λ e. (counted r k, left, counts_last refl (sym reads ∙ is_eq (block_at c b).reads 30 e), w))
-      (λ e. (counted r k, left, counts refl (λ q. not_eq (block_at c b).reads 30 e (reads ∙ q)), tt))
+      (λ e. (counted r k, left, popping (counts_last refl (sym reads ∙ is_eq (block_at c b).reads 30 e)), w))
+      (λ e. (counted r k, left, popping (counts refl (λ q. not_eq (block_at c b).reads 30 e (reads ∙ q))), tt))
 
   pub at-pop_retire : (p b : ℕ) (v : T) → IsHeadAt p → KnowsBlocks r (act_of (act.PopRetire p b v)) u → 1 ≤ owed r (duty.retire (number p / 31)) → Yields r (act.PopRetire p b v) (retire_block c b v)
   at-pop_retire p b v w f mine =
@@ -216,7 +216,7 @@ module _ {T : Type 0} (c : Contents T) (r : Blocks T) (queue : List T) (s : Soun
       let alive = unnot (r.block k).retired q.1 in
       let at : r.spot b ≡ used k = ap r.spot it.1 ∙ s.live k it.0 alive in
       let shut : BlockState = record { linked = (r.block k).linked; reads = 31; retired = true } in
-      (with_spot (with_block r k shut) b spare, retire.retire_words c r queue s d k b at shut refl, retires refl, tt)
+      (with_spot (with_block r k shut) b spare, retire.retire_words c r queue s d k b at shut refl, popping (retires refl), tt)
 
   -- closing, and the questions
   shut_same : r.closed ≡ true → bit_or c.tail 1 ≡ c.tail
@@ -228,34 +228,34 @@ module _ {T : Type 0} (c : Contents T) (r : Blocks T) (queue : List T) (s : Soun
   pub at-close : Yields r act.Close (close_tail c)
   at-close = choose (λ y. Yields r act.Close (record c { tail = bit_or c.tail 1 }, y)) (c.tail % 2 == 1)
       (λ e. (let k = sym (words_of.closed_is c r queue s d) ∙ e in
-      (r, subst (λ (t : ℕ). Denotes (record c { tail = t }) r) (sym (shut_same k)) d, closed_before refl k, tt)))
+      (r, subst (λ (t : ℕ). Denotes (record c { tail = t }) r) (sym (shut_same k)) d, asking (closed_before refl k), tt)))
       (λ e. (let k = sym (words_of.closed_is c r queue s d) ∙ e in
-      (record r { closed = true }, words_of.words_only c r queue s d r.all r.head r.head_turns r.tail r.tail_turns true r.first c.head (bit_or c.tail 1) c.head_block d.head (shut_now k) d.head_block, closes refl k, tt)))
+      (record r { closed = true }, words_of.words_only c r queue s d r.all r.head r.head_turns r.tail r.tail_turns true r.first c.head (bit_or c.tail 1) c.head_block d.head (shut_now k) d.head_block, asking (closes refl k), tt)))
 
   pub at-ask_closed : Yields r act.AskClosed (ask_tail c)
-  at-ask_closed = (r, d, tells_closed refl (sym (words_of.closed_is c r queue s d)), tt)
+  at-ask_closed = (r, d, asking (tells_closed refl (sym (words_of.closed_is c r queue s d))), tt)
 
   pub at-ask_empty : Yields r act.AskEmpty (empty_load_head c)
-  at-ask_empty = (r, d, empty_loads refl (words_of.head_number_is c r queue s d), tt)
+  at-ask_empty = (r, d, asking (empty_loads refl (words_of.head_number_is c r queue s d)), tt)
 
   pub at-empty_tail : (p : ℕ) → Yields r (act.EmptyTail p) (empty_load_tail c p)
   at-empty_tail p = by_bool (number (c.tail / 2) == number p)
-      (λ e. subst (λ (b : Bool). Yields r (act.EmptyTail p) (c, tells (reply.Flag b))) (sym e) (r, d, empty_denies refl (λ q. not_eq (number (c.tail / 2)) (number p) e (words_of.tail_number_is c r queue s d ∙ q)), tt))
-      (λ e. subst (λ (b : Bool). Yields r (act.EmptyTail p) (c, tells (reply.Flag b))) (sym e) (r, d, empty_tells refl (tail_same p (is_eq (number (c.tail / 2)) (number p) e)), tt))
+      (λ e. subst (λ (b : Bool). Yields r (act.EmptyTail p) (c, tells (reply.Flag b))) (sym e) (r, d, asking (empty_denies refl (λ q. not_eq (number (c.tail / 2)) (number p) e (words_of.tail_number_is c r queue s d ∙ q))), tt))
+      (λ e. subst (λ (b : Bool). Yields r (act.EmptyTail p) (c, tells (reply.Flag b))) (sym e) (r, d, asking (empty_tells refl (tail_same p (is_eq (number (c.tail / 2)) (number p) e))), tt))
 
   pub at-ask_full : Yields r act.AskFull (c, tells (reply.Flag false))
-  at-ask_full = (r, d, tells_full refl, tt)
+  at-ask_full = (r, d, asking (tells_full refl), tt)
 
   pub at-ask_len : Yields r act.AskLen (len_load_tail c)
-  at-ask_len = (r, d, len_loads refl d.tail, tt)
+  at-ask_len = (r, d, asking (len_loads refl d.tail), tt)
 
   pub at-len_head : (t : ℕ) → Yields r (act.LenHead t) (len_load_head c t)
-  at-len_head t = (r, d, len_looks refl (words_of.head_number_is c r queue s d), tt)
+  at-len_head t = (r, d, asking (len_looks refl (words_of.head_number_is c r queue s d)), tt)
 
   pub at-len_tail : (t p : ℕ) → Yields r (act.LenTail t p) (len_again c t p)
   at-len_tail t p = choose (λ y. Yields r (act.LenTail t p) (c, y)) (c.tail == t)
-      (λ e. (r, d, len_tells refl (sym d.tail ∙ is_eq c.tail t e) refl, tt))
-      (λ e. (r, d, len_back refl (λ q. not_eq c.tail t e (d.tail ∙ q)), tt))
+      (λ e. (r, d, asking (len_tells refl (sym d.tail ∙ is_eq c.tail t e) refl), tt))
+      (λ e. (r, d, asking (len_back refl (λ q. not_eq c.tail t e (d.tail ∙ q))), tt))
 
   pub at-ask_capacity : Yields r act.AskCapacity (c, tells (reply.Cap None))
-  at-ask_capacity = (r, d, tells_capacity refl, tt)
+  at-ask_capacity = (r, d, asking (tells_capacity refl), tt)

@@ -8,7 +8,7 @@ use Rattle.concurrent_queue.specs.Contents as words
 use Rattle.concurrent_queue.specs.Queue.{Phase}
 use Rattle.concurrent_queue.specs.machine.BlocksState.{Blocks, Cell, BlockState, SoundBlocks, spare, held, one_if, position, number, with_cell, with_block, with_spot, chained}
 use Rattle.concurrent_queue.specs.machine.BlocksCalls.{KnowsBlocks}
-use Rattle.concurrent_queue.specs.machine.BlocksMoves.{extended, push_opens, push_stays, push_shut, push_shut_held, push_returns, look_none, look_none_held, look_more, look_ready, makes, makes_more, refused, refused_more, first_wins, first_loses, starts, starts_more, swap_loses, turns, adds, links, puts, stores, stores_held, gives}
+use Rattle.concurrent_queue.specs.machine.BlocksMoves.{extended, push_opens, push_stays, push_shut, push_shut_held, push_returns, look_none, look_none_held, look_more, look_ready, makes, makes_more, refused, refused_more, first_wins, first_loses, starts, starts_more, swap_loses, turns, adds, links, puts, stores, stores_held, gives, seeking, bringing}
 use Rattle.concurrent_queue.specs.machine.BlocksDenotes.{Denotes, IsBlock, act_of, IsTailAt, IsProper}
 use Rattle.concurrent_queue.specs.machine.BlocksWords.{Step, load_tail, when_shut, give_back, look_tail_block, look_first, look_with, Obtains, swap_first, start_head, swap_tail, after_swap, turn_tail_block, add_tail, link_next, put_message, store_written, give_spare}
 use Rattle.concurrent_queue.specs.declared.call.QueueMark.TheVariants as mark
@@ -22,8 +22,8 @@ use Rattle.concurrent_queue.proofs.BlocksYields.{Yields, choose, is_eq, not_eq, 
 
 module _ {T : Type 0} (c : Contents T) (r : Blocks T) (queue : List T) (s : SoundBlocks r queue) (d : Denotes c r) (u : Phase T) (small : r.tail ≤ 2 ^ 61) where
   shut_case : (v : T) (h : Option ℕ) → r.closed ≡ true → Yields r (act.Push v h) (c, when_shut v h)
-  shut_case v None k = (r, d, push_shut refl k, tt)
-  shut_case v (Some h) k = (r, d, push_shut_held refl k, tt)
+  shut_case v None k = (r, d, seeking (push_shut refl k), tt)
+  shut_case v (Some h) k = (r, d, seeking (push_shut_held refl k), tt)
 
   tail_open : r.closed ≡ false → r.tail_turns ≡ false → IsTailAt c.tail
   tail_open o f = let e : c.tail ≡ 2 * position r.tail false + 0 = rw (f, o) at d.tail in (omega arith, omega arith)
@@ -42,22 +42,22 @@ module _ {T : Type 0} (c : Contents T) (r : Blocks T) (queue : List T) (s : Soun
       (λ e. choose (λ y. Yields r (act.Push v h) (c, y)) (nat_le 9223372036854775744 (c.tail / 2))
       (λ big. absurd (false≢true (sym not_ended ∙ big)))
       (λ low. choose (λ y. Yields r (act.Push v h) (c, y)) (c.tail / 2 % 32 == 31)
-      (λ t. (r, d, push_stays refl (sym (words_of.tail_turns_is c r queue s d) ∙ t), tt))
+      (λ t. (r, d, seeking (push_stays refl (sym (words_of.tail_turns_is c r queue s d) ∙ t)), tt))
       (λ t. (let o = sym (words_of.closed_is c r queue s d) ∙ e in let f = sym (words_of.tail_turns_is c r queue s d) ∙ t in
-      (r, d, push_opens refl o (words_of.tail_number_is c r queue s d) f, tail_open o f)))))
+      (r, d, seeking (push_opens refl o (words_of.tail_number_is c r queue s d) f), tail_open o f)))))
 
   pub at-push_return : (v : T) (h : ℕ) → KnowsBlocks r (act_of (act.PushReturn v h)) u → Yields r (act.PushReturn v h) (give_back c v h)
-  at-push_return v h f = (with_spot r h spare, retire.give_words c r d h f.2 queue s, push_returns refl, tt)
+  at-push_return v h f = (with_spot r h spare, retire.give_words c r d h f.2 queue s, seeking (push_returns refl), tt)
 
   look_first_case : (v : T) (t : ℕ) (h : Option ℕ) → IsTailAt t → r.last ≡ 0 → Yields r (act.PushLook v t h) (c, look_first v t h)
-  look_first_case v t None w z = (r, d, look_none refl z, w)
-  look_first_case v t (Some h) w z = (r, d, look_none_held refl z, w)
+  look_first_case v t None w z = (r, d, seeking (look_none refl z), w)
+  look_first_case v t (Some h) w z = (r, d, seeking (look_none_held refl z), w)
 
   look_with_case : (v : T) (t b : ℕ) (h : Option ℕ) → IsTailAt t → 1 ≤ r.last → b ≡ r.num (r.last - 1) → Yields r (act.PushLook v t h) (c, look_with v t b h)
-  look_with_case v t b (Some h) w l e = (r, d, look_ready refl l e, (w, λ g q. some_none q))
+  look_with_case v t b (Some h) w l e = (r, d, seeking (look_ready refl l e), (w, λ g q. some_none q))
   look_with_case v t b None w l e = choose (λ y. Yields r (act.PushLook v t None) (c, y)) (t / 2 % 32 == 30)
-      (λ g. (r, d, look_more refl l e, w))
-      (λ g. (r, d, look_ready refl l e, (w, λ q z. not_eq (t / 2 % 32) 30 g q)))
+      (λ g. (r, d, seeking (look_more refl l e), w))
+      (λ g. (r, d, seeking (look_ready refl l e), (w, λ q z. not_eq (t / 2 % 32) 30 g q)))
 
   pub at-push_look : (v : T) (t : ℕ) (h : Option ℕ) → IsTailAt t → Yields r (act.PushLook v t h) (look_tail_block c v t h)
   at-push_look v t h w = choose (λ y. Yields r (act.PushLook v t h) (c, y)) (c.tail_block == 0)
@@ -66,13 +66,13 @@ module _ {T : Type 0} (c : Contents T) (r : Blocks T) (queue : List T) (s : Soun
 
   pub at-push_make : (v : T) (t : ℕ) (x : Step T) → IsTailAt t → Obtains c v (λ h. act.PushFirst v t h) x → Yields r (act.PushMake v t) x
   at-push_make v t x w o = ⊎_elim
-      (λ g. (let y = retire.spare_words c r queue s d g.1 in subst (λ (z : Step T). Yields r (act.PushMake v t) z) (sym g.0) (with_spot r (spare_of c) held, y.0, makes refl y.1, w)))
-      (λ g. subst (λ (z : Step T). Yields r (act.PushMake v t) z) (sym g.1) (r, d, refused refl, tt)) o
+      (λ g. (let y = retire.spare_words c r queue s d g.1 in subst (λ (z : Step T). Yields r (act.PushMake v t) z) (sym g.0) (with_spot r (spare_of c) held, y.0, seeking (makes refl y.1), w)))
+      (λ g. subst (λ (z : Step T). Yields r (act.PushMake v t) z) (sym g.1) (r, d, seeking (refused refl), tt)) o
 
   pub at-push_more : (v : T) (t b : ℕ) (x : Step T) → IsTailAt t → Obtains c v (λ h. act.PushSwap v t b (Some h)) x → Yields r (act.PushMore v t b) x
   at-push_more v t b x w o = ⊎_elim
-      (λ g. (let y = retire.spare_words c r queue s d g.1 in subst (λ (z : Step T). Yields r (act.PushMore v t b) z) (sym g.0) (with_spot r (spare_of c) held, y.0, makes_more refl y.1, (w, λ e q. some_none q))))
-      (λ g. subst (λ (z : Step T). Yields r (act.PushMore v t b) z) (sym g.1) (r, d, refused_more refl, tt)) o
+      (λ g. (let y = retire.spare_words c r queue s d g.1 in subst (λ (z : Step T). Yields r (act.PushMore v t b) z) (sym g.0) (with_spot r (spare_of c) held, y.0, seeking (makes_more refl y.1), (w, λ e q. some_none q))))
+      (λ g. subst (λ (z : Step T). Yields r (act.PushMore v t b) z) (sym g.1) (r, d, seeking (refused_more refl), tt)) o
 
   none_yet : r.last ≡ 0 → r.tail ≡ 0
   none_yet z = by_bool r.tail_turns (λ o. ⊎_elim (λ g. absurd (omega (arith, g))) (λ g. g.1) (s.last o)) (λ o. absurd (let p = (s.paged o).0 in omega arith))
@@ -80,16 +80,16 @@ module _ {T : Type 0} (c : Contents T) (r : Blocks T) (queue : List T) (s : Soun
   pub at-push_first : (v : T) (t h : ℕ) → IsTailAt t → KnowsBlocks r (act_of (act.PushFirst v t h)) u → Yields r (act.PushFirst v t h) (swap_first c v t h)
   at-push_first v t h w f = choose (λ y. Yields r (act.PushFirst v t h) y) (c.tail_block == 0)
       (λ e. (let z = shows_none c r d r.last c.tail_block d.tail_block (is_eq c.tail_block 0 e) in
-      (chained r h, words_of.chain_words c r queue s d h f.2 (let n = none_yet z in omega arith), first_wins refl z, w)))
-      (λ e. (r, d, first_loses refl (λ z. ⊎_elim (λ g. not_eq c.tail_block 0 e g.1) (λ g. omega (arith, g.0)) d.tail_block), tt))
+      (chained r h, words_of.chain_words c r queue s d h f.2 (let n = none_yet z in omega arith), seeking (first_wins refl z), w)))
+      (λ e. (r, d, seeking (first_loses refl (λ z. ⊎_elim (λ g. not_eq c.tail_block 0 e g.1) (λ g. omega (arith, g.0)) d.tail_block)), tt))
 
   abbrev begun : Blocks T
   begun = record r { first = 1 }
 
   start_case : (v : T) (t b : ℕ) → IsTailAt t → Denotes (record c { head_block = (b + 1) % 2 ^ 64 }) begun → Yields r (act.PushStart v t b) (record c { head_block = (b + 1) % 2 ^ 64 }, look_with v t b None)
   start_case v t b w x = choose (λ y. Yields r (act.PushStart v t b) (record c { head_block = (b + 1) % 2 ^ 64 }, y)) (t / 2 % 32 == 30)
-      (λ g. (begun, x, starts_more refl, w))
-      (λ g. (begun, x, starts refl, (w, λ q z. not_eq (t / 2 % 32) 30 g q)))
+      (λ g. (begun, x, seeking (starts_more refl), w))
+      (λ g. (begun, x, seeking (starts refl), (w, λ q z. not_eq (t / 2 % 32) 30 g q)))
 
   pub at-push_start : (v : T) (t b : ℕ) → IsTailAt t → KnowsBlocks r (act_of (act.PushStart v t b)) u → Yields r (act.PushStart v t b) (start_head c v t b)
   at-push_start v t b w f =
@@ -126,11 +126,11 @@ module _ {T : Type 0} (c : Contents T) (r : Blocks T) (queue : List T) (s : Soun
   pub at-push_swap : (v : T) (t b : ℕ) (h : Option ℕ) → IsProper (act.PushSwap v t b h) → Yields r (act.PushSwap v t b h) (swap_tail c v t b h)
   at-push_swap v t b h w = choose (λ y. Yields r (act.PushSwap v t b h) y) (c.tail == t)
       (λ e. swap_case v t b h w.0 w.1 (is_eq c.tail t e))
-      (λ e. (r, d, swap_loses refl (words_of.tail_lost c r queue s d t w.0 (not_eq c.tail t e)), tt))
+      (λ e. (r, d, seeking (swap_loses refl (words_of.tail_lost c r queue s d t w.0 (not_eq c.tail t e))), tt))
 
   -- the page turn
   pub at-push_turn : (v : T) (t b h : ℕ) → IsTailAt t → KnowsBlocks r (act_of (act.PushTurn v t b h)) u → Yields r (act.PushTurn v t b h) (turn_tail_block c v t b h)
-  at-push_turn v t b h w f = (chained r h, words_of.chain_words c r queue s d h f.1 (omega (arith, f.2, f.3, f.5)), turns refl, w)
+  at-push_turn v t b h w f = (chained r h, words_of.chain_words c r queue s d h f.1 (omega (arith, f.2, f.3, f.5)), bringing (turns refl), w)
 
   pub at-push_add : (v : T) (t b h : ℕ) → IsTailAt t → KnowsBlocks r (act_of (act.PushAdd v t b h)) u → Yields r (act.PushAdd v t b h) (add_tail c v t b h)
   at-push_add v t b h w f =
@@ -141,7 +141,7 @@ module _ {T : Type 0} (c : Contents T) (r : Blocks T) (queue : List T) (s : Soun
         record r { tail_turns = false },
         words_of.words_only c r queue s d r.all r.head r.head_turns r.tail false r.closed r.first c.head ((c.tail + 2) % 2 ^ 64) c.head_block d.head
             (mod-eq_of_lt (omega (arith, step, low)) ∙ step) d.head_block,
-        adds refl,
+        bringing (adds refl),
         w,
       )
 
@@ -166,7 +166,7 @@ module _ {T : Type 0} (c : Contents T) (r : Blocks T) (queue : List T) (s : Soun
         written = x.written;
         slots = x.slots;
       } in
-      (with_block r k (link_to k), subst (λ (z : ℕ). Denotes (words.with_block c z (words.with_next (block_at c z) ((h + 1) % 2 ^ 64))) (with_block r k (link_to k))) (sym fill.4.1) (retire.block_words c r queue s d k fill.4.0 alive (link_to k) y alive is), links refl, w)
+      (with_block r k (link_to k), subst (λ (z : ℕ). Denotes (words.with_block c z (words.with_next (block_at c z) ((h + 1) % 2 ^ 64))) (with_block r k (link_to k))) (sym fill.4.1) (retire.block_words c r queue s d k fill.4.0 alive (link_to k) y alive is), bringing (links refl), w)
 
   -- the message is put
   cell_at : (n i : ℕ) (x : Cell T) → 31 * (n / 31) + i ≡ n → (with_cell r n x).cell (31 * (n / 31) + i) ≡ x
@@ -202,7 +202,7 @@ module _ {T : Type 0} (c : Contents T) (r : Blocks T) (queue : List T) (s : Soun
       let fill = f.0 in
       let alive = unread n fill.5 in
       choose (λ y. Yields r (act.PushPut v t b h) y) (can_put c (slot.In b (t / 2 % 32)))
-      (λ e. (with_cell r n (record { written = false; slot = Some v }), slot_words n (t / 2 % 32) b (record { written = false; slot = Some v }) w.1 (tail_place t w) fill.4.0 fill.4.1 alive (sym fill.5), puts refl, w))
+      (λ e. (with_cell r n (record { written = false; slot = Some v }), slot_words n (t / 2 % 32) b (record { written = false; slot = Some v }) w.1 (tail_place t w) fill.4.0 fill.4.1 alive (sym fill.5), bringing (puts refl), w))
       (λ e. absurd (false≢true (sym e ∙ vacant_at n (t / 2 % 32) b w.1 (tail_place t w) fill.4.0 fill.4.1 alive fill.6)))
 
   abbrev stored : ℕ → Cell T
@@ -229,11 +229,11 @@ module _ {T : Type 0} (c : Contents T) (r : Blocks T) (queue : List T) (s : Soun
   at-push_store t b None w f =
       let n : ℕ = number (t / 2) in
       let fill = f.1 in
-      (with_cell r n (stored n), store_words n (t / 2 % 32) b w.1 (tail_place t w) fill.4.0 fill.4.1 (unread n fill.5), stores refl, tt)
+      (with_cell r n (stored n), store_words n (t / 2 % 32) b w.1 (tail_place t w) fill.4.0 fill.4.1 (unread n fill.5), bringing (stores refl), tt)
   at-push_store t b (Some h) w f =
       let n : ℕ = number (t / 2) in
       let fill = f.1 in
-      (with_cell r n (stored n), store_words n (t / 2 % 32) b w.1 (tail_place t w) fill.4.0 fill.4.1 (unread n fill.5), stores_held refl, tt)
+      (with_cell r n (stored n), store_words n (t / 2 % 32) b w.1 (tail_place t w) fill.4.0 fill.4.1 (unread n fill.5), bringing (stores_held refl), tt)
 
   pub at-push_give : (h : ℕ) → KnowsBlocks r (act_of {T = T} (act.PushGive h)) u → Yields r (act.PushGive h) (give_spare c h)
-  at-push_give h f = (with_spot r h spare, retire.give_words c r d h f.3 queue s, gives refl, tt)
+  at-push_give h f = (with_spot r h spare, retire.give_words c r d h f.3 queue s, bringing (gives refl), tt)

@@ -1,5 +1,5 @@
 -- A step of an unbounded queue's call on its cells: one cell, the same form, a move on the numbers, and the rank.
-use Rattle.std.proofs.Common.{◌≡◌, ℕ, ◌+◌, ◌-◌, ◌/◌, ◌%◌, ◌^◌, ◌≤◌, ⊎_elim, Bool, true, false, ◌==◌, ◌||◌, not, List, Option, None, Some, bit_or, refl, sym, ap, ◌∙◌, subst, inl, inr, arith}
+use Rattle.std.proofs.Common.{◌≡◌, ℕ, ◌+◌, ◌-◌, ◌/◌, ◌%◌, ◌^◌, ◌≤◌, ⊎_elim, true, false, ◌==◌, not, List, Option, None, Some, bit_or, refl, sym, ap, ◌∙◌, subst, inl, inr, arith}
 use Rattle.concurrent_queue.specs.Contents.{Contents, write, write_slot, without_spare, with_retired, block_at, can_put}
 use Rattle.concurrent_queue.specs.Queue.{Phase}
 use Rattle.concurrent_queue.specs.Step.{OneCell}
@@ -8,7 +8,8 @@ use Rattle.concurrent_queue.specs.machine.BlocksState as duty
 use Rattle.concurrent_queue.specs.machine.BlocksCalls.{KnowsBlocks, owes}
 use Rattle.concurrent_queue.specs.machine.BlocksDenotes.{Denotes, Shows, act_of, IsTailAt, IsHeadAt, IsProper}
 use Rattle.concurrent_queue.specs.machine.BlocksLeft as left
-use Rattle.concurrent_queue.specs.machine.BlocksWords.{Step, IsUnboundedStep, Obtains, unbounded_rank, late}
+use Rattle.concurrent_queue.specs.machine.BlocksLeft.{unbounded_rank}
+use Rattle.concurrent_queue.specs.machine.BlocksWords.{Step, IsUnboundedStep, Obtains}
 use Rattle.concurrent_queue.specs.declared.cells.Word.{Word}
 use Rattle.concurrent_queue.specs.declared.cells.Word.TheVariants as word
 use Rattle.concurrent_queue.specs.declared.cells.Slot.TheVariants as slot
@@ -194,12 +195,8 @@ module _ {T : Type 0} (c : Contents T) (r : Blocks T) (queue : List T) (s : Soun
   rank_is act.Pop w = refl
   rank_is (act.PopLook p) w = rw (same_head p w) refl
   rank_is (act.PopTail p b) w = by_eq b 0
-      (λ e. rw (same_head p w, eq_is b 0 e, named_none b e, same_none r.first c.head_block d.head_block) refl)
-      (λ ne. rw (same_head p w, eq_not b 0 ne, named_some b (b - 1) (omega arith)) (ap (λ (x : Bool). 11 + late x) (or_false (left.head_moved r (number p)))))
-    where
-      or_false : (x : Bool) → (x || false) ≡ x
-      or_false false = refl
-      or_false true = refl
+      (λ e. rw (named_none b e, same_head p w, same_none r.first c.head_block d.head_block) refl)
+      (λ ne. rw (named_some b (b - 1) (omega arith), same_head p w) refl)
   rank_is (act.PopSwap p b) w = rw (same_head p w) refl
   rank_is (act.PopNext p b) w = refl
   rank_is (act.PopBlock p b n) w = refl

@@ -12,7 +12,8 @@ use Rattle.concurrent_queue.specs.machine.RingReadings.{ring_closed, ring_counte
 use Rattle.concurrent_queue.specs.machine.Single.{start}
 use Rattle.concurrent_queue.specs.machine.SingleState.{SingleMeans, single_rank}
 use Rattle.concurrent_queue.specs.machine.BlocksForm.{UnboundedMeans}
-use Rattle.concurrent_queue.specs.machine.BlocksWords.{IsBlocksStep, begin, blocks_closed, blocks_length, blocks_counted, blocks_slot, blocks_items, blocks_rank}
+use Rattle.concurrent_queue.specs.machine.BlocksWords.{IsBlocksStep, begin, blocks_closed, blocks_length, blocks_counted, blocks_slot, blocks_items}
+use Rattle.concurrent_queue.specs.machine.BlocksLeft.{blocks_rank}
 use Rattle.concurrent_queue.specs.Step.{Seat, seat, chain_after, Fits, FitsAt, FitsForm, FitsSlot, FitsRing, FitsBy, IsAtSingle, IsAtRing, IsAtBlocks, phases, OneCell, HoldsNobodyUp, rank, rank_by, rank_first, rank_bounded, rank_blocks, single_closed, single_length, Starts, IsQueueStep, LiesBy, Lies, IsBrought, ShowsBy, Shows, closed_by, closed_in, length_by, length_in, counted_by, counted_in, slot_by, slot_in, items_by, items_in}
 use Rattle.std.specs.declared.alloc.AllocError.{AllocError}
 use Rattle.concurrent_queue.specs.Made.{IsNew, new_cells}

@@ -6,6 +6,7 @@ mod BlocksLater
 mod BlocksPhases
 mod BlocksKeeps
 mod BlocksAsks
+mod BlocksAtOnce
 mod BlocksDispatch
 mod BlocksTheorem
 mod BlocksNearer

@@ -1,17 +1,15 @@
 -- A push made whole at its first step is no run of a ring: it would change a slot and a word.
-use Rattle.std.proofs.Common.{◌≡◌, ℕ, zero, suc, ◌+◌, ◌%◌, List, [], ◌∷◌, ◌++◌, length, map, Option, None, Some, Ok, slice_get, slice_index_or, ⊎_elim, inl, inr, refl, sym, ap, ◌∙◌, subst, arith}
+use Rattle.std.proofs.Common.{◌≡◌, ℕ, zero, suc, List, [], ◌∷◌, ◌++◌, length, Option, None, Some, slice_get, slice_index_or, ⊎_elim, inl, inr, refl, sym, ap, ◌∙◌, subst, arith}
 use lib.Count.{count_leading_zeros}
 use Rattle.concurrent_queue.specs.Contents.{Contents, write, write_slot, slot_at, without_spare, with_retired}
-use Rattle.concurrent_queue.specs.Queue.{Queue, marked}
-use Rattle.concurrent_queue.specs.Scene.{CallUnderWay, observing, IsBroughtBy}
+use Rattle.concurrent_queue.specs.Queue.{Queue}
+use Rattle.concurrent_queue.specs.Scene.{CallUnderWay, IsBroughtBy}
 use Rattle.concurrent_queue.specs.Step.{OneCell, length_in, slot_in}
 use Rattle.concurrent_queue.specs.Run.{Ran}
 use Rattle.concurrent_queue.specs.Made.{new_cells}
 use Rattle.concurrent_queue.specs.machine.RingWords.{ring_mark}
 use Rattle.concurrent_queue.specs.Whole.{pushing, at_once}
-use Rattle.concurrent_queue.specs.declared.call.QueueAsk.{QueueAsk}
 use Rattle.concurrent_queue.specs.declared.call.QueueAsk.TheVariants as ask
-use Rattle.concurrent_queue.specs.declared.call.QueueMark.TheVariants.{Append}
 use Rattle.concurrent_queue.specs.declared.cells.QueueForm.TheVariants.{Bounded}
 use Rattle.concurrent_queue.specs.declared.cells.Word.TheVariants.{State, Head, Tail, Stamp, HeadBlock, TailBlock, Next, Reads, Written}
 use Rattle.concurrent_queue.specs.declared.cells.Word.{Word}

@@ -4,6 +4,7 @@ use Rattle.std.specs.Prelude.{◌≡◌, ℕ, Bool, true, false, Option, None, S
 use Rattle.concurrent_queue.specs.machine.BlocksMoves.{answer_as}
 use Rattle.concurrent_queue.specs.machine.Dispatch.{ring_cap}
 use Rattle.concurrent_queue.specs.machine.RingWords.{cap_of}
+use Rattle.concurrent_queue.specs.machine.RingCalls.{ask_of}
 use Rattle.concurrent_queue.specs.declared.call.QueueAsk.{QueueAsk}
 use Rattle.concurrent_queue.specs.declared.call.QueueAsk.TheVariants as ask
 use Rattle.concurrent_queue.specs.declared.call.QueueReply.{QueueReply}
@@ -18,7 +19,6 @@ use Rattle.concurrent_queue.specs.declared.cells.QueueForm.TheVariants.{Bounded,
 use Rattle.concurrent_queue.specs.declared.single.SingleAction.{SingleAction}
 use Rattle.concurrent_queue.specs.declared.single.SingleAction.TheVariants as single
 use Rattle.concurrent_queue.specs.declared.bounded.WhenFull.{WhenFull}
-use Rattle.concurrent_queue.specs.declared.bounded.WhenFull.TheVariants.{Refuse, Displace}
 use Rattle.concurrent_queue.specs.declared.bounded.RingAction.{RingAction}
 use Rattle.concurrent_queue.specs.declared.bounded.RingAction.TheVariants as ring
 use Rattle.concurrent_queue.specs.declared.unbounded.ending.Ending.{Ending}
@@ -51,6 +51,13 @@ module _ {A R : Type 0} where
   abbrev pub FollowsIn : {F : Type 0} → (F → A → R → Type 0) → (A → Type 0) → (A → Type 0) → F → A → A → Option R → Type 0
   FollowsIn {F} may last soon form a a' answer =
       MatchOption answer (((f : F) (r : R) → may f a' r → may form a r) × (last a → ⊥) × (soon a → last a')) (λ r. may form a r)
+
+-- what is still known of what a call under way was asked: the whole of it; all but the message, which it has put down; or
+-- nothing any more, since it is over
+pub data StillAsked (T : Type 0) : Type 0 where
+  whole : QueueAsk T → StillAsked T
+  all_but_message : (T → QueueAsk T) → StillAsked T
+  no_more : StillAsked T
 
 module _ {T : Type 0} where
   -- a refused push hands its message back; only a bounded queue is full, and only an unbounded one is out of memory
@@ -97,74 +104,141 @@ module _ {T : Type 0} where
   MayCap room (reply.Cap c) = c ≡ room
   MayCap room _ = ⊥
 
-  -- by what was asked of a queue of this form
-  abbrev pub MayAnswer : QueueForm → QueueAsk T → QueueReply T → Type 0
-  MayAnswer form (ask.Push v) r = MayPush (is_bounded form) v r
-  MayAnswer form (ask.ForcePush v) r = MayForce (is_bounded form) v r
-  MayAnswer form ask.Pop r = MayPop r
-  MayAnswer form ask.Close r = MayClose r
-  MayAnswer form ask.IsClosed r = MayFlag r
-  MayAnswer form ask.IsEmpty r = MayFlag r
-  MayAnswer form ask.IsFull r = MayFull (is_bounded form) r
-  MayAnswer form ask.Len r = MayCount r
-  MayAnswer form ask.Capacity r = MayCap (room_of form) r
+  -- by what was asked of a queue with a bound or none, and with room for so many
+  abbrev pub MayReply : Bool → Option ℕ → QueueAsk T → QueueReply T → Type 0
+  MayReply bounded room (ask.Push v) r = MayPush bounded v r
+  MayReply bounded room (ask.ForcePush v) r = MayForce bounded v r
+  MayReply bounded room ask.Pop r = MayPop r
+  MayReply bounded room ask.Close r = MayClose r
+  MayReply bounded room ask.IsClosed r = MayFlag r
+  MayReply bounded room ask.IsEmpty r = MayFlag r
+  MayReply bounded room ask.IsFull r = MayFull bounded r
+  MayReply bounded room ask.Len r = MayCount r
+  MayReply bounded room ask.Capacity r = MayCap room r
 
-  -- ---- by how far a call has come; one that has put its message down can't hand it back
+  -- of a queue of this form
+  abbrev pub MayAnswer : QueueForm → QueueAsk T → QueueReply T → Type 0
+  MayAnswer form a r = MayReply (is_bounded form) (room_of form) a r
+
+  -- ---- what a call under way was asked, in each form
+
+  -- one slot
+  abbrev pub single_asked : SingleAction T → StillAsked T
+  single_asked (single.Push v) = whole (ask.Push v)
+  single_asked (single.PushPut v) = whole (ask.Push v)
+  single_asked single.PushUnlock = all_but_message (λ v. ask.Push v)
+  single_asked (single.Force v x) = whole (ask.ForcePush v)
+  single_asked (single.ForceTake v) = whole (ask.ForcePush v)
+  single_asked (single.ForcePut v o) = whole (ask.ForcePush v)
+  single_asked (single.ForceUnlock o) = all_but_message (λ v. ask.ForcePush v)
+  single_asked (single.Pop x) = whole ask.Pop
+  single_asked single.PopTake = whole ask.Pop
+  single_asked (single.PopUnlock v) = whole ask.Pop
+  single_asked single.Close = whole ask.Close
+  single_asked single.IsClosed = whole ask.IsClosed
+  single_asked single.IsEmpty = whole ask.IsEmpty
+  single_asked single.IsFull = whole ask.IsFull
+  single_asked single.Len = whole ask.Len
+  single_asked single.Capacity = whole ask.Capacity
+  single_asked single.Finished = no_more
+
+  -- a ring: closing and the questions
+  abbrev pub ring_question : RingAction T → StillAsked T
+  ring_question ring.Close = whole ask.Close
+  ring_question ring.IsClosed = whole ask.IsClosed
+  ring_question ring.IsEmpty = whole ask.IsEmpty
+  ring_question (ring.IsEmptyTail h) = whole ask.IsEmpty
+  ring_question ring.IsFull = whole ask.IsFull
+  ring_question (ring.IsFullHead t) = whole ask.IsFull
+  ring_question ring.Len = whole ask.Len
+  ring_question (ring.LenHead t m) = whole ask.Len
+  ring_question (ring.LenTail t m h) = whole ask.Len
+  ring_question ring.Capacity = whole ask.Capacity
+  ring_question _ = no_more
+
+  -- a ring
+  abbrev pub ring_asked : RingAction T → StillAsked T
+  ring_asked (ring.Push w v) = whole (ask_of w v)
+  ring_asked (ring.PushShut w v) = whole (ask_of w v)
+  ring_asked (ring.PushStamp w v t) = whole (ask_of w v)
+  ring_asked (ring.PushSwap w v t) = whole (ask_of w v)
+  ring_asked (ring.PushPut w v t) = whole (ask_of w v)
+  ring_asked (ring.PushStore w t) = all_but_message (λ v. ask_of w v)
+  ring_asked (ring.PushHead v h) = whole (ask.Push v)
+  ring_asked (ring.ForceHead v h) = whole (ask.ForcePush v)
+  ring_asked (ring.ForceAdd v h) = whole (ask.ForcePush v)
+  ring_asked (ring.ForceTake v h) = whole (ask.ForcePush v)
+  ring_asked (ring.ForcePut v h o) = whole (ask.ForcePush v)
+  ring_asked (ring.ForceStore h o) = all_but_message (λ v. ask.ForcePush v)
+  ring_asked ring.Pop = whole ask.Pop
+  ring_asked (ring.PopStamp h) = whole ask.Pop
+  ring_asked (ring.PopSwap h) = whole ask.Pop
+  ring_asked (ring.PopTail h) = whole ask.Pop
+  ring_asked (ring.PopTake h) = whole ask.Pop
+  ring_asked (ring.PopStore h v) = whole ask.Pop
+  ring_asked a = ring_question a
+
+  -- blocks: popping, closing and the questions
+  abbrev pub blocks_question : UnboundedAction T → StillAsked T
+  blocks_question blocks.Pop = whole ask.Pop
+  blocks_question (blocks.PopLook h) = whole ask.Pop
+  blocks_question (blocks.PopTail h b) = whole ask.Pop
+  blocks_question (blocks.PopSwap h b) = whole ask.Pop
+  blocks_question (blocks.PopNext h b) = whole ask.Pop
+  blocks_question (blocks.PopBlock h b n) = whole ask.Pop
+  blocks_question (blocks.PopHead h b) = whole ask.Pop
+  blocks_question (blocks.PopWait h b) = whole ask.Pop
+  blocks_question (blocks.PopTake h b) = whole ask.Pop
+  blocks_question (blocks.PopCount h b v) = whole ask.Pop
+  blocks_question (blocks.PopRetire h b v) = whole ask.Pop
+  blocks_question blocks.Close = whole ask.Close
+  blocks_question blocks.AskClosed = whole ask.IsClosed
+  blocks_question blocks.AskEmpty = whole ask.IsEmpty
+  blocks_question (blocks.EmptyTail h) = whole ask.IsEmpty
+  blocks_question blocks.AskFull = whole ask.IsFull
+  blocks_question blocks.AskLen = whole ask.Len
+  blocks_question (blocks.LenHead t) = whole ask.Len
+  blocks_question (blocks.LenTail t h) = whole ask.Len
+  blocks_question blocks.AskCapacity = whole ask.Capacity
+  blocks_question _ = no_more
+
+  -- blocks; a displacing push has nothing to displace here, and goes the way of a push
+  abbrev pub blocks_asked : UnboundedAction T → StillAsked T
+  blocks_asked (blocks.Push v h) = whole (ask.Push v)
+  blocks_asked (blocks.PushShut v h) = whole (ask.Push v)
+  blocks_asked (blocks.PushReturn v h) = whole (ask.Push v)
+  blocks_asked (blocks.PushLook v t h) = whole (ask.Push v)
+  blocks_asked (blocks.PushMake v t) = whole (ask.Push v)
+  blocks_asked (blocks.PushFirst v t h) = whole (ask.Push v)
+  blocks_asked (blocks.PushStart v t b) = whole (ask.Push v)
+  blocks_asked (blocks.PushMore v t b) = whole (ask.Push v)
+  blocks_asked (blocks.PushSwap v t b h) = whole (ask.Push v)
+  blocks_asked (blocks.PushTurn v t b n) = whole (ask.Push v)
+  blocks_asked (blocks.PushAdd v t b n) = whole (ask.Push v)
+  blocks_asked (blocks.PushLink v t b n) = whole (ask.Push v)
+  blocks_asked (blocks.PushPut v t b h) = whole (ask.Push v)
+  blocks_asked (blocks.PushStore t b h) = all_but_message (λ v. ask.Push v)
+  blocks_asked (blocks.PushGive h) = all_but_message (λ v. ask.Push v)
+  blocks_asked a = blocks_question a
+
+  -- ---- the replies that follow
+
+  -- a call that has put its message down can't hand it back: its reply is right for each message
+  abbrev pub MayStill : Bool → Option ℕ → StillAsked T → QueueReply T → Type 0
+  MayStill bounded room (whole a) r = MayReply bounded room a r
+  MayStill bounded room (all_but_message a) r = (v : T) → MayReply bounded room (a v) r
+  MayStill bounded room no_more r = ⊥
 
   abbrev pub MaySingle : SingleAction T → QueueReply T → Type 0
-  MaySingle (single.Push v) r = MayPush true v r
-  MaySingle (single.PushPut v) r = MayPush true v r
-  MaySingle single.PushUnlock r = (v : T) → MayPush true v r
-  MaySingle (single.Force v x) r = MayForce true v r
-  MaySingle (single.ForceTake v) r = MayForce true v r
-  MaySingle (single.ForcePut v o) r = MayForce true v r
-  MaySingle (single.ForceUnlock o) r = (v : T) → MayForce true v r
-  MaySingle (single.Pop x) r = MayPop r
-  MaySingle single.PopTake r = MayPop r
-  MaySingle (single.PopUnlock v) r = MayPop r
-  MaySingle single.Close r = MayClose r
-  MaySingle single.IsClosed r = MayFlag r
-  MaySingle single.IsEmpty r = MayFlag r
-  MaySingle single.IsFull r = MayFull true r
-  MaySingle single.Len r = MayCount r
-  MaySingle single.Capacity r = MayCap (Some 1) r
-  MaySingle single.Finished r = ⊥
-
-  abbrev pub MaySend : WhenFull → T → QueueReply T → Type 0
-  MaySend Refuse v r = MayPush true v r
-  MaySend Displace v r = MayForce true v r
+  MaySingle a r = MayStill true (Some 1) (single_asked a) r
 
   -- of a ring of so many slots
   abbrev pub MayRing : ℕ → RingAction T → QueueReply T → Type 0
-  MayRing cap (ring.Push w v) r = MaySend w v r
-  MayRing cap (ring.PushShut w v) r = MaySend w v r
-  MayRing cap (ring.PushStamp w v t) r = MaySend w v r
-  MayRing cap (ring.PushSwap w v t) r = MaySend w v r
-  MayRing cap (ring.PushPut w v t) r = MaySend w v r
-  MayRing cap (ring.PushStore w t) r = (v : T) → MaySend w v r
-  MayRing cap (ring.PushHead v h) r = MaySend Refuse v r
-  MayRing cap (ring.ForceHead v h) r = MaySend Displace v r
-  MayRing cap (ring.ForceAdd v h) r = MaySend Displace v r
-  MayRing cap (ring.ForceTake v h) r = MaySend Displace v r
-  MayRing cap (ring.ForcePut v h o) r = MaySend Displace v r
-  MayRing cap (ring.ForceStore h o) r = (v : T) → MaySend Displace v r
-  MayRing cap ring.Pop r = MayPop r
-  MayRing cap (ring.PopStamp h) r = MayPop r
-  MayRing cap (ring.PopSwap h) r = MayPop r
-  MayRing cap (ring.PopTail h) r = MayPop r
-  MayRing cap (ring.PopTake h) r = MayPop r
-  MayRing cap (ring.PopStore h v) r = MayPop r
-  MayRing cap ring.Close r = MayClose r
-  MayRing cap ring.IsClosed r = MayFlag r
-  MayRing cap ring.IsEmpty r = MayFlag r
-  MayRing cap (ring.IsEmptyTail h) r = MayFlag r
-  MayRing cap ring.IsFull r = MayFull true r
-  MayRing cap (ring.IsFullHead t) r = MayFull true r
-  MayRing cap ring.Len r = MayCount r
-  MayRing cap (ring.LenHead t m) r = MayCount r
-  MayRing cap (ring.LenTail t m h) r = MayCount r
-  MayRing cap ring.Capacity r = MayCap (Some cap) r
-  MayRing cap ring.Finished r = ⊥
+  MayRing cap a r = MayStill true (Some cap) (ring_asked a) r
+
+  -- to a push into any ring
+  abbrev pub MaySend : WhenFull → T → QueueReply T → Type 0
+  MaySend w v r = (cap : ℕ) → MayReply true (Some cap) (ask_of w v) r
 
   -- how a push into an unbounded queue may end, and how a call that answers there
   abbrev pub Sends : T → Ending T → Type 0
@@ -177,43 +251,18 @@ module _ {T : Type 0} where
   Tells a (Replied r) = MayAnswer Unbounded a r
   Tells a _ = ⊥
 
+  abbrev pub EndsWhole : QueueAsk T → Ending T → Type 0
+  EndsWhole (ask.Push v) e = Sends v e
+  EndsWhole (ask.ForcePush v) e = Sends v e
+  EndsWhole a e = Tells a e
+
+  abbrev pub EndsStill : StillAsked T → Ending T → Type 0
+  EndsStill (whole a) e = EndsWhole a e
+  EndsStill (all_but_message a) e = (v : T) → EndsWhole (a v) e
+  EndsStill no_more e = ⊥
+
   abbrev pub MayEnd : UnboundedAction T → Ending T → Type 0
-  MayEnd (blocks.Push v h) e = Sends v e
-  MayEnd (blocks.PushShut v h) e = Sends v e
-  MayEnd (blocks.PushReturn v h) e = Sends v e
-  MayEnd (blocks.PushLook v t h) e = Sends v e
-  MayEnd (blocks.PushMake v t) e = Sends v e
-  MayEnd (blocks.PushFirst v t h) e = Sends v e
-  MayEnd (blocks.PushStart v t b) e = Sends v e
-  MayEnd (blocks.PushMore v t b) e = Sends v e
-  MayEnd (blocks.PushSwap v t b h) e = Sends v e
-  MayEnd (blocks.PushTurn v t b n) e = Sends v e
-  MayEnd (blocks.PushAdd v t b n) e = Sends v e
-  MayEnd (blocks.PushLink v t b n) e = Sends v e
-  MayEnd (blocks.PushPut v t b h) e = Sends v e
-  MayEnd (blocks.PushStore t b h) e = (v : T) → Sends v e
-  MayEnd (blocks.PushGive h) e = (v : T) → Sends v e
-  MayEnd blocks.Pop e = Tells ask.Pop e
-  MayEnd (blocks.PopLook h) e = Tells ask.Pop e
-  MayEnd (blocks.PopTail h b) e = Tells ask.Pop e
-  MayEnd (blocks.PopSwap h b) e = Tells ask.Pop e
-  MayEnd (blocks.PopNext h b) e = Tells ask.Pop e
-  MayEnd (blocks.PopBlock h b n) e = Tells ask.Pop e
-  MayEnd (blocks.PopHead h b) e = Tells ask.Pop e
-  MayEnd (blocks.PopWait h b) e = Tells ask.Pop e
-  MayEnd (blocks.PopTake h b) e = Tells ask.Pop e
-  MayEnd (blocks.PopCount h b v) e = Tells ask.Pop e
-  MayEnd (blocks.PopRetire h b v) e = Tells ask.Pop e
-  MayEnd blocks.Close e = Tells ask.Close e
-  MayEnd blocks.AskClosed e = Tells ask.IsClosed e
-  MayEnd blocks.AskEmpty e = Tells ask.IsEmpty e
-  MayEnd (blocks.EmptyTail h) e = Tells ask.IsEmpty e
-  MayEnd blocks.AskFull e = Tells ask.IsFull e
-  MayEnd blocks.AskLen e = Tells ask.Len e
-  MayEnd (blocks.LenHead t) e = Tells ask.Len e
-  MayEnd (blocks.LenTail t h) e = Tells ask.Len e
-  MayEnd blocks.AskCapacity e = Tells ask.Capacity e
-  MayEnd blocks.Finished e = ⊥
+  MayEnd a e = EndsStill (blocks_asked a) e
 
   abbrev pub MayBlocks : UnboundedCall T → QueueReply T → Type 0
   MayBlocks call r = (e : Ending T) × MayEnd call.action e × (r ≡ answer_as call.displacing e)

@@ -10,7 +10,8 @@ use Rattle.concurrent_queue.specs.machine.RingMeans.{RingMeans}
 use Rattle.concurrent_queue.specs.machine.RingRank.{ring_rank}
 use Rattle.concurrent_queue.specs.machine.RingReadings.{ring_closed, ring_counted, ring_length, ring_slot, ring_held}
 use Rattle.concurrent_queue.specs.machine.BlocksForm.{UnboundedMeans}
-use Rattle.concurrent_queue.specs.machine.BlocksWords.{begin, blocks_closed, blocks_length, blocks_counted, blocks_slot, blocks_items, blocks_rank}
+use Rattle.concurrent_queue.specs.machine.BlocksWords.{begin, blocks_closed, blocks_length, blocks_counted, blocks_slot, blocks_items}
+use Rattle.concurrent_queue.specs.machine.BlocksLeft.{blocks_rank}
 use Rattle.concurrent_queue.specs.Capacity.{capacity_of}
 use Rattle.concurrent_queue.specs.declared.call.QueueAsk.{QueueAsk}
 use Rattle.concurrent_queue.specs.declared.call.QueueMark.{QueueMark}

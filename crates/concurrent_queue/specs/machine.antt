@@ -16,6 +16,7 @@ pub mod BlocksMoves
 pub mod BlocksLeft
 pub mod BlocksWords
 pub mod BlocksDenotes
+pub mod BlocksAtOnce
 pub mod BlocksForm
 pub mod Dispatch
 pub mod Places

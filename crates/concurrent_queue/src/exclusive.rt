@@ -4,6 +4,7 @@ ghost use Rattle.std.specs.Prelude.{◌≡◌, ◌≤◌, ◌^◌};
 ghost use Rattle.concurrent_queue.specs.Alone.{Gives, PushGives, PopGives, held, IsSound, HasRoom, one_more, used_after};
 ghost use Rattle.concurrent_queue.specs.declared.call.QueueAsk.TheVariants as ask;
 ghost use Rattle.concurrent_queue.specs.Capacity.{capacity_of};
+ghost use Rattle.concurrent_queue.specs.Plain.{contents_of};
 
 use crate::bounded::at_once::{pop_at_once, push_at_once};
 use crate::call::{QueueAsk, QueueReply};
@@ -11,6 +12,7 @@ use crate::cells::{Cells, QueueForm};
 use crate::error::{ForcePushError, NoMemory, PopError, PushError};
 use crate::plain::PlainCells;
 use crate::queue_call::QueueCall;
+use crate::unbounded::at_once as blocks;
 use std::alloc::Global;
 use std::marker::Model;
 
@@ -84,19 +86,56 @@ fn finish<T: Drop, C: Cells<T>>(cells: &mut C, used: &mut u64, ask: QueueAsk<T>)
     }
 }
 
-/// Appends a message: at once where nothing stands against it, else step by step.
-#[inline(always)]
-fn push_into<T: Drop, C: Cells<T>>(
-    cells: &mut C,
+/// Appends a message step by step.
+#[inline(never)]
+fn push_stepping<T: Drop>(
+    cells: &mut PlainCells<T>,
     used: &mut u64,
     value: T,
 ) -> Result<(), PushError<T>>
-    requires known { C.known }
-    requires sound { IsSound (C.contents cells.old) used.old }
+    requires sound { IsSound (contents_of cells.old) used.old }
     requires room { HasRoom (ask.Push value) used.old }
-    ensures sound { IsSound (C.contents cells.new) used.new }
-    ensures answer { PushGives (held (C.contents cells.old) used.old) value (held (C.contents cells.new) used.new) result }
+    ensures sound { IsSound (contents_of cells.new) used.new }
+    ensures answer { PushGives (held (contents_of cells.old) used.old) value (held (contents_of cells.new) used.new) result }
 {
+    match finish(cells, used, QueueAsk::Push(value)) {
+        QueueReply::Push(result) => result,
+        _ => unreachable!(),
+    }
+}
+
+/// Takes the oldest message step by step.
+#[inline(never)]
+fn pop_stepping<T: Drop>(cells: &mut PlainCells<T>, used: &mut u64) -> Result<T, PopError>
+    requires sound { IsSound (contents_of cells.old) used.old }
+    ensures sound { IsSound (contents_of cells.new) used.new }
+    ensures answer { PopGives (held (contents_of cells.old) used.old) (held (contents_of cells.new) used.new) result }
+{
+    match finish(cells, used, QueueAsk::Pop) {
+        QueueReply::Pop(result) => result,
+        _ => unreachable!(),
+    }
+}
+
+/// Appends a message: at once where nothing stands against it, else step by step.
+#[inline(always)]
+fn push_into<T: Drop>(
+    cells: &mut PlainCells<T>,
+    used: &mut u64,
+    value: T,
+) -> Result<(), PushError<T>>
+    requires sound { IsSound (contents_of cells.old) used.old }
+    requires room { HasRoom (ask.Push value) used.old }
+    ensures sound { IsSound (contents_of cells.new) used.new }
+    ensures answer { PushGives (held (contents_of cells.old) used.old) value (held (contents_of cells.new) used.new) result }
+{
+    let value = match blocks::push_at_once(value, cells) {
+        Ok(()) => {
+            *used += 1;
+            return Ok(());
+        }
+        Err(value) => value,
+    };
     let value = match push_at_once(value, cells) {
         Ok(()) => {
             *used += 1;
@@ -104,27 +143,23 @@ fn push_into<T: Drop, C: Cells<T>>(
         }
         Err(value) => value,
     };
-    match finish(cells, used, QueueAsk::Push(value)) {
-        QueueReply::Push(result) => result,
-        _ => unreachable!(),
-    }
+    push_stepping(cells, used, value)
 }
 
 /// Takes the oldest message: at once where it lies there, else step by step.
 #[inline(always)]
-fn pop_from<T: Drop, C: Cells<T>>(cells: &mut C, used: &mut u64) -> Result<T, PopError>
-    requires known { C.known }
-    requires sound { IsSound (C.contents cells.old) used.old }
-    ensures sound { IsSound (C.contents cells.new) used.new }
-    ensures answer { PopGives (held (C.contents cells.old) used.old) (held (C.contents cells.new) used.new) result }
+fn pop_from<T: Drop>(cells: &mut PlainCells<T>, used: &mut u64) -> Result<T, PopError>
+    requires sound { IsSound (contents_of cells.old) used.old }
+    ensures sound { IsSound (contents_of cells.new) used.new }
+    ensures answer { PopGives (held (contents_of cells.old) used.old) (held (contents_of cells.new) used.new) result }
 {
+    if let Some(value) = blocks::pop_at_once(cells) {
+        return Ok(value);
+    }
     if let Some(value) = pop_at_once(cells) {
         return Ok(value);
     }
-    match finish(cells, used, QueueAsk::Pop) {
-        QueueReply::Pop(result) => result,
-        _ => unreachable!(),
-    }
+    pop_stepping(cells, used)
 }
 
 impl<T: Drop> Exclusive<T> {

@@ -13,13 +13,13 @@ use std::alloc::{AllocError, Global};
 pub struct PlainCells<T> {
     form: QueueForm,
     state: u64,
-    head: u64,
-    tail: u64,
+    pub(crate) head: u64,
+    pub(crate) tail: u64,
     stamps: Vec<u64>,
     slots: Vec<Option<T>>,
-    head_block: u64,
-    tail_block: u64,
-    pool: Pool<T>,
+    pub(crate) head_block: u64,
+    pub(crate) tail_block: u64,
+    pub(crate) pool: Pool<T>,
 }
 
 /// By hand, so that what a crate above proves of cells that it lets go doesn't go into their blocks.

@@ -102,32 +102,45 @@ module _ {T W : Type 0} where
   Ends (c ∷ cs) stopped = IsSome stopped
 
   module _ {S : Type 0} (wakes : S → W → S → Type 0) where
-    -- after these replies this call answers so, and goes from one list and sink to another
-    abbrev pub Makes : List (ListReply T) → ListCall T W → ListReply T → ListView T W → S → ListView T W → S → Type 0
-    Makes done call.Insert answer old sink new sink' =
-        (result : Result Key ListenError) × (answer ≡ reply.Insert result) × Inserts old new result × (sink' ≡ sink)
-    Makes done (call.Register listener task) answer old sink new sink' =
-        let key = key_named listener done in
+    -- registering at a listener: it is answered, leaves where it was told, and else keeps the task
+    abbrev pub Registers : Option Key → W → ListReply T → ListView T W → S → ListView T W → S → Type 0
+    Registers key task answer old sink new sink' =
         (answer ≡ reply.Register (about key (λ k. register_answer k old.lists)))
         × Leaves old new (made_at key (λ k lists. registration k task lists) old.lists) (made_at key (room_polled old.lists) old.room)
         × (new.visits ≤ 5) × (sink' ≡ sink)
-    Makes done (call.Poll listener) answer old sink new sink' =
-        let key = key_named listener done in
+
+    -- polling a listener: it is answered, and leaves where it was told
+    abbrev pub Polls : Option Key → ListReply T → ListView T W → S → ListView T W → S → Type 0
+    Polls key answer old sink new sink' =
         (answer ≡ reply.Poll (about key (λ k. poll_answer k old.lists)))
         × Leaves old new (made_at key polled old.lists) (made_at key (room_polled old.lists) old.room)
         × (new.visits ≡ old.visits) × (sink' ≡ sink)
-    Makes done (call.Remove listener pass_on) answer old sink new sink' =
-        let key = key_named listener done in
+
+    -- taking a listener off, which may pass its notice on
+    abbrev pub Removes : Option Key → Bool → ListReply T → ListView T W → S → ListView T W → S → Type 0
+    Removes key pass_on answer old sink new sink' =
         (answer ≡ reply.Remove (about key (λ k. remove_answer k old.lists)))
         × Leaves old new (made_at key (λ k lists. removed k pass_on lists) old.lists) (made_at key (room_removed old.lists) old.room)
         × (pass_on ≡ false → new.visits ≤ 5)
         × Woken wakes sink (wakes_at key pass_on old.lists) sink'
-    Makes done (call.Notify count additional tags) answer old sink new sink' =
-        let given = tags_given additional count tags.items old.lists in
-        (answer ≡ reply.Notify (tags_answer additional count tags.items old.lists))
+
+    -- a notice with these tags, each for one listener
+    abbrev pub Notifies : ℕ → Bool → List T → ListReply T → ListView T W → S → ListView T W → S → Type 0
+    Notifies count additional tags answer old sink new sink' =
+        let given = tags_given additional count tags old.lists in
+        (answer ≡ reply.Notify (tags_answer additional count tags old.lists))
         × Leaves old new (notified additional given old.lists) old.room
         × (new.visits ≤ 5 * length given)
         × Woken wakes sink (tasks_of (take (length given) old.lists.waiting)) sink'
+
+    -- after these replies this call answers so, and goes from one list and sink to another
+    abbrev pub Makes : List (ListReply T) → ListCall T W → ListReply T → ListView T W → S → ListView T W → S → Type 0
+    Makes done call.Insert answer old sink new sink' =
+        (result : Result Key ListenError) × (answer ≡ reply.Insert result) × Inserts old new result × (sink' ≡ sink)
+    Makes done (call.Register listener task) answer old sink new sink' = Registers (key_named listener done) task answer old sink new sink'
+    Makes done (call.Poll listener) answer old sink new sink' = Polls (key_named listener done) answer old sink new sink'
+    Makes done (call.Remove listener pass_on) answer old sink new sink' = Removes (key_named listener done) pass_on answer old sink new sink'
+    Makes done (call.Notify count additional tags) answer old sink new sink' = Notifies count additional tags.items answer old sink new sink'
     Makes done (call.Reserve extra) answer old sink new sink' =
         (result : Result (Unit {0}) NoMemory) × (answer ≡ reply.Reserve result) × Reserves old new extra result × (sink' ≡ sink)
 

@@ -7,40 +7,18 @@ use Rattle.concurrent_queue.specs.declared.call.QueueAsk.TheVariants as ask
 
 pub data Act (T : Type 0) : Type 0 where
   push : T → Option ℕ → Act T
-  push_return : T → ℕ → Act T
+  push_return push_make : T → ℕ → Act T
   push_look : T → ℕ → Option ℕ → Act T
-  push_make : T → ℕ → Act T
-  push_first : T → ℕ → ℕ → Act T
-  push_start : T → ℕ → ℕ → Act T
-  push_more : T → ℕ → ℕ → Act T
-  push_swap : T → ℕ → ℕ → Option ℕ → Act T
-  push_turn : T → ℕ → ℕ → ℕ → Act T
-  push_add : T → ℕ → ℕ → ℕ → Act T
-  push_link : T → ℕ → ℕ → ℕ → Act T
-  push_put : T → ℕ → ℕ → Option ℕ → Act T
+  push_first push_start push_more : T → ℕ → ℕ → Act T
+  push_swap push_put : T → ℕ → ℕ → Option ℕ → Act T
+  push_turn push_add push_link : T → ℕ → ℕ → ℕ → Act T
   push_store : ℕ → ℕ → Option ℕ → Act T
-  push_give : ℕ → Act T
-  pop : Act T
-  pop_look : ℕ → Act T
+  push_give pop_look empty_tail len_head : ℕ → Act T
+  pop close ask_closed ask_empty ask_full ask_len ask_capacity finished : Act T
   pop_tail : ℕ → Option ℕ → Act T
-  pop_swap : ℕ → ℕ → Act T
-  pop_next : ℕ → ℕ → Act T
+  pop_swap pop_next pop_head pop_wait pop_take len_tail : ℕ → ℕ → Act T
   pop_block : ℕ → ℕ → ℕ → Act T
-  pop_head : ℕ → ℕ → Act T
-  pop_wait : ℕ → ℕ → Act T
-  pop_take : ℕ → ℕ → Act T
-  pop_count : ℕ → ℕ → T → Act T
-  pop_retire : ℕ → ℕ → T → Act T
-  close : Act T
-  ask_closed : Act T
-  ask_empty : Act T
-  empty_tail : ℕ → Act T
-  ask_full : Act T
-  ask_len : Act T
-  len_head : ℕ → Act T
-  len_tail : ℕ → ℕ → Act T
-  ask_capacity : Act T
-  finished : Act T
+  pop_count pop_retire : ℕ → ℕ → T → Act T
 
 -- the last place of a block: the winner of it turns the page
 abbrev pub is_edge : ℕ → Bool
@@ -88,6 +66,35 @@ Fills r p v n b x = IsSend p.ask v × (p.stage ≡ appended None) × (slice_get 
 abbrev pub Takes : {T : Type 0} → Blocks T → Phase T → ℕ → ℕ → T → Type 0
 Takes r p n b d = (p.ask ≡ ask.Pop) × (p.stage ≡ taken d) × (slice_get r.all n ≡ Some d) × (n < r.head) × IsBlockOf r n b × ((r.cell n).written ≡ true → (r.cell n).slot ≡ Some d)
 
+-- what closing, or a question, knows at an action; at no other is one under way
+abbrev pub KnowsQuestion : {T : Type 0} → Blocks T → Act T → Phase T → Type 0
+KnowsQuestion r close p = (p.ask ≡ ask.Close) × IsTry p
+KnowsQuestion r ask_closed p = (p.ask ≡ ask.IsClosed) × IsTry p
+KnowsQuestion r ask_empty p = (p.ask ≡ ask.IsEmpty) × IsTry p
+KnowsQuestion r (empty_tail n) p = (p.ask ≡ ask.IsEmpty) × (p.stage ≡ read n) × (n ≤ r.head)
+KnowsQuestion r ask_full p = (p.ask ≡ ask.IsFull) × IsTry p
+KnowsQuestion r ask_len p = (p.ask ≡ ask.Len) × IsTry p
+KnowsQuestion r (len_head t) p = (p.ask ≡ ask.Len) × (p.stage ≡ read (number (t / 2))) × (number (t / 2) ≤ r.tail)
+KnowsQuestion {T} r (len_tail t h) p = (k : ℕ) × (p.ask ≡ ask.Len) × (p.stage ≡ measured (number (t / 2)) k) × (number (t / 2) ≤ k + h) × (k + h ≤ r.tail)
+KnowsQuestion r ask_capacity p = (p.ask ≡ ask.Capacity) × IsTry p
+KnowsQuestion r _ p = ⊥
+
+abbrev pub KnowsPop : {T : Type 0} → Blocks T → Act T → Phase T → Type 0
+KnowsPop r pop p = (p.ask ≡ ask.Pop) × IsTry p
+KnowsPop r (pop_look n) p = (p.ask ≡ ask.Pop) × IsTry p × AtHead r n
+KnowsPop r (pop_tail n None) p = (p.ask ≡ ask.Pop) × IsTry p × AtHead r n
+KnowsPop r (pop_tail n (Some b)) p = (p.ask ≡ ask.Pop) × IsTry p × AtHead r n × HeadBlock r n b
+KnowsPop r (pop_swap n b) p = (p.ask ≡ ask.Pop) × IsTry p × AtHead r n × HeadBlock r n b × (n < r.tail)
+KnowsPop {T} r (pop_next n b) p = (d : T) × Takes r p n b d × (n % 31 ≡ 30) × (r.head ≡ n + 1) × (r.head_turns ≡ true) × (r.first ≡ n / 31 + 1)
+KnowsPop {T} r (pop_block n b c) p = (d : T) × Takes r p n b d × (n % 31 ≡ 30) × (r.head ≡ n + 1) × (r.head_turns ≡ true) × (r.first ≡ n / 31 + 1) × (n / 31 + 1 < r.last) × (c ≡ r.num (n / 31 + 1))
+KnowsPop {T} r (pop_head n b) p = (d : T) × Takes r p n b d × (n % 31 ≡ 30) × (r.head ≡ n + 1) × (r.head_turns ≡ true) × (r.first ≡ n / 31 + 2)
+KnowsPop {T} r (pop_wait n b) p = (d : T) × Takes r p n b d
+KnowsPop {T} r (pop_take n b) p = (d : T) × Takes r p n b d × ((r.cell n).written ≡ true)
+KnowsPop r (pop_count n b d) p = (p.ask ≡ ask.Pop) × (p.stage ≡ taken d) × (n < r.head) × IsBlockOf r n b
+KnowsPop r (pop_retire n b d) p = (p.ask ≡ ask.Pop) × (p.stage ≡ taken d) × (n < r.head) × IsBlockOf r n b
+KnowsPop r a p = KnowsQuestion r a p
+
+-- what a call at an action knows of the queue, and how far it has come
 abbrev pub KnowsBlocks : {T : Type 0} → Blocks T → Act T → Phase T → Type 0
 KnowsBlocks r (push v h) p = IsSend p.ask v × IsTry p × Holds r h
 KnowsBlocks r (push_return v h) p = IsSend p.ask v × IsTry p × (r.spot h ≡ held) × (r.closed ≡ true)
@@ -103,28 +110,7 @@ KnowsBlocks r (push_link v n b h) p = Fills r p v n b None × (n % 31 ≡ 30) ×
 KnowsBlocks r (push_put v n b h) p = Fills r p v n b None × Holds r h
 KnowsBlocks {T} r (push_store n b h) p = (v : T) × Fills r p v n b (Some v) × Holds r h
 KnowsBlocks {T} r (push_give h) p = (v : T) × IsSend p.ask v × (p.stage ≡ appended None) × (r.spot h ≡ held)
-KnowsBlocks r pop p = (p.ask ≡ ask.Pop) × IsTry p
-KnowsBlocks r (pop_look n) p = (p.ask ≡ ask.Pop) × IsTry p × AtHead r n
-KnowsBlocks r (pop_tail n None) p = (p.ask ≡ ask.Pop) × IsTry p × AtHead r n
-KnowsBlocks r (pop_tail n (Some b)) p = (p.ask ≡ ask.Pop) × IsTry p × AtHead r n × HeadBlock r n b
-KnowsBlocks r (pop_swap n b) p = (p.ask ≡ ask.Pop) × IsTry p × AtHead r n × HeadBlock r n b × (n < r.tail)
-KnowsBlocks {T} r (pop_next n b) p = (d : T) × Takes r p n b d × (n % 31 ≡ 30) × (r.head ≡ n + 1) × (r.head_turns ≡ true) × (r.first ≡ n / 31 + 1)
-KnowsBlocks {T} r (pop_block n b c) p = (d : T) × Takes r p n b d × (n % 31 ≡ 30) × (r.head ≡ n + 1) × (r.head_turns ≡ true) × (r.first ≡ n / 31 + 1) × (n / 31 + 1 < r.last) × (c ≡ r.num (n / 31 + 1))
-KnowsBlocks {T} r (pop_head n b) p = (d : T) × Takes r p n b d × (n % 31 ≡ 30) × (r.head ≡ n + 1) × (r.head_turns ≡ true) × (r.first ≡ n / 31 + 2)
-KnowsBlocks {T} r (pop_wait n b) p = (d : T) × Takes r p n b d
-KnowsBlocks {T} r (pop_take n b) p = (d : T) × Takes r p n b d × ((r.cell n).written ≡ true)
-KnowsBlocks r (pop_count n b d) p = (p.ask ≡ ask.Pop) × (p.stage ≡ taken d) × (n < r.head) × IsBlockOf r n b
-KnowsBlocks r (pop_retire n b d) p = (p.ask ≡ ask.Pop) × (p.stage ≡ taken d) × (n < r.head) × IsBlockOf r n b
-KnowsBlocks r close p = (p.ask ≡ ask.Close) × IsTry p
-KnowsBlocks r ask_closed p = (p.ask ≡ ask.IsClosed) × IsTry p
-KnowsBlocks r ask_empty p = (p.ask ≡ ask.IsEmpty) × IsTry p
-KnowsBlocks r (empty_tail n) p = (p.ask ≡ ask.IsEmpty) × (p.stage ≡ read n) × (n ≤ r.head)
-KnowsBlocks r ask_full p = (p.ask ≡ ask.IsFull) × IsTry p
-KnowsBlocks r ask_len p = (p.ask ≡ ask.Len) × IsTry p
-KnowsBlocks r (len_head t) p = (p.ask ≡ ask.Len) × (p.stage ≡ read (number (t / 2))) × (number (t / 2) ≤ r.tail)
-KnowsBlocks {T} r (len_tail t h) p = (k : ℕ) × (p.ask ≡ ask.Len) × (p.stage ≡ measured (number (t / 2)) k) × (number (t / 2) ≤ k + h) × (k + h ≤ r.tail)
-KnowsBlocks r ask_capacity p = (p.ask ≡ ask.Capacity) × IsTry p
-KnowsBlocks r finished p = ⊥
+KnowsBlocks r a p = KnowsPop r a p
 
 abbrev pub same : ℕ → ℕ → ℕ
 same n m = if n == m then 1 else 0

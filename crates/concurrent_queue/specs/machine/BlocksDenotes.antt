@@ -50,44 +50,55 @@ abbrev pub named : ℕ → Option ℕ
 named zero = None
 named (suc b) = Some b
 
+-- a question by what its head position is told by
+abbrev pub question_by : {T : Type 0} → (ℕ → ℕ) → UnboundedAction T → Act T
+question_by head act.Close = call.close
+question_by head act.AskClosed = call.ask_closed
+question_by head act.AskEmpty = call.ask_empty
+question_by head (act.EmptyTail p) = call.empty_tail (head p)
+question_by head act.AskFull = call.ask_full
+question_by head act.AskLen = call.ask_len
+question_by head (act.LenHead t) = call.len_head t
+question_by head (act.LenTail t p) = call.len_tail t (head p)
+question_by head act.AskCapacity = call.ask_capacity
+question_by head _ = call.finished
+
+abbrev pub pop_by : {T : Type 0} → (ℕ → ℕ) → UnboundedAction T → Act T
+pop_by head act.Pop = call.pop
+pop_by head (act.PopLook p) = call.pop_look (head p)
+pop_by head (act.PopTail p b) = call.pop_tail (head p) (named b)
+pop_by head (act.PopSwap p b) = call.pop_swap (head p) b
+pop_by head (act.PopNext p b) = call.pop_next (head p) b
+pop_by head (act.PopBlock p b c) = call.pop_block (head p) b (c - 1)
+pop_by head (act.PopHead p b) = call.pop_head (head p) b
+pop_by head (act.PopWait p b) = call.pop_wait (head p) b
+pop_by head (act.PopTake p b) = call.pop_take (head p) b
+pop_by head (act.PopCount p b d) = call.pop_count (head p) b d
+pop_by head (act.PopRetire p b d) = call.pop_retire (head p) b d
+pop_by head a = question_by head a
+
+-- an action by what its tail word and its head position are told by
+abbrev pub act_by : {T : Type 0} → (ℕ → ℕ) → (ℕ → ℕ) → UnboundedAction T → Act T
+act_by tail head (act.Push v h) = call.push v h
+act_by tail head (act.PushShut v h) = call.finished
+act_by tail head (act.PushReturn v h) = call.push_return v h
+act_by tail head (act.PushLook v t h) = call.push_look v (tail t) h
+act_by tail head (act.PushMake v t) = call.push_make v (tail t)
+act_by tail head (act.PushFirst v t h) = call.push_first v (tail t) h
+act_by tail head (act.PushStart v t b) = call.push_start v (tail t) b
+act_by tail head (act.PushMore v t b) = call.push_more v (tail t) b
+act_by tail head (act.PushSwap v t b h) = call.push_swap v (tail t) b h
+act_by tail head (act.PushTurn v t b h) = call.push_turn v (tail t) b h
+act_by tail head (act.PushAdd v t b h) = call.push_add v (tail t) b h
+act_by tail head (act.PushLink v t b h) = call.push_link v (tail t) b h
+act_by tail head (act.PushPut v t b h) = call.push_put v (tail t) b h
+act_by tail head (act.PushStore t b h) = call.push_store (tail t) b h
+act_by tail head (act.PushGive h) = call.push_give h
+act_by tail head a = pop_by head a
+
 -- an action by the numbers of its items
 abbrev pub act_of : {T : Type 0} → UnboundedAction T → Act T
-act_of (act.Push v h) = call.push v h
-act_of (act.PushShut v h) = call.finished
-act_of (act.PushReturn v h) = call.push_return v h
-act_of (act.PushLook v t h) = call.push_look v (number (t / 2)) h
-act_of (act.PushMake v t) = call.push_make v (number (t / 2))
-act_of (act.PushFirst v t h) = call.push_first v (number (t / 2)) h
-act_of (act.PushStart v t b) = call.push_start v (number (t / 2)) b
-act_of (act.PushMore v t b) = call.push_more v (number (t / 2)) b
-act_of (act.PushSwap v t b h) = call.push_swap v (number (t / 2)) b h
-act_of (act.PushTurn v t b h) = call.push_turn v (number (t / 2)) b h
-act_of (act.PushAdd v t b h) = call.push_add v (number (t / 2)) b h
-act_of (act.PushLink v t b h) = call.push_link v (number (t / 2)) b h
-act_of (act.PushPut v t b h) = call.push_put v (number (t / 2)) b h
-act_of (act.PushStore t b h) = call.push_store (number (t / 2)) b h
-act_of (act.PushGive h) = call.push_give h
-act_of act.Pop = call.pop
-act_of (act.PopLook p) = call.pop_look (number p)
-act_of (act.PopTail p b) = call.pop_tail (number p) (named b)
-act_of (act.PopSwap p b) = call.pop_swap (number p) b
-act_of (act.PopNext p b) = call.pop_next (number p) b
-act_of (act.PopBlock p b c) = call.pop_block (number p) b (c - 1)
-act_of (act.PopHead p b) = call.pop_head (number p) b
-act_of (act.PopWait p b) = call.pop_wait (number p) b
-act_of (act.PopTake p b) = call.pop_take (number p) b
-act_of (act.PopCount p b d) = call.pop_count (number p) b d
-act_of (act.PopRetire p b d) = call.pop_retire (number p) b d
-act_of act.Close = call.close
-act_of act.AskClosed = call.ask_closed
-act_of act.AskEmpty = call.ask_empty
-act_of (act.EmptyTail p) = call.empty_tail (number p)
-act_of act.AskFull = call.ask_full
-act_of act.AskLen = call.ask_len
-act_of (act.LenHead t) = call.len_head t
-act_of (act.LenTail t p) = call.len_tail t (number p)
-act_of act.AskCapacity = call.ask_capacity
-act_of act.Finished = call.finished
+act_of a = act_by (λ t. number (t / 2)) number a
 
 -- a tail word of an open queue whose page is not being turned, and a head position at rest
 abbrev pub IsTailAt : ℕ → Type 0
@@ -95,6 +106,20 @@ IsTailAt t = (t % 2 ≡ 0) × (t / 2 % 32 < 31)
 
 abbrev pub IsHeadAt : ℕ → Type 0
 IsHeadAt p = p % 32 < 31
+
+-- the head position that a pop goes by is such a position
+abbrev pub IsProperPop : {T : Type 0} → UnboundedAction T → Type 0
+IsProperPop (act.PopLook p) = IsHeadAt p
+IsProperPop (act.PopTail p b) = IsHeadAt p
+IsProperPop (act.PopSwap p b) = IsHeadAt p
+IsProperPop (act.PopNext p b) = IsHeadAt p
+IsProperPop (act.PopBlock p b c) = IsHeadAt p × (1 ≤ c)
+IsProperPop (act.PopHead p b) = IsHeadAt p
+IsProperPop (act.PopWait p b) = IsHeadAt p
+IsProperPop (act.PopTake p b) = IsHeadAt p
+IsProperPop (act.PopCount p b d) = IsHeadAt p
+IsProperPop (act.PopRetire p b d) = IsHeadAt p
+IsProperPop _ = Unit {0}
 
 -- the words that an action goes by are such words
 abbrev pub IsProper : {T : Type 0} → UnboundedAction T → Type 0
@@ -110,14 +135,4 @@ IsProper (act.PushAdd v t b h) = IsTailAt t
 IsProper (act.PushLink v t b h) = IsTailAt t
 IsProper (act.PushPut v t b h) = IsTailAt t
 IsProper (act.PushStore t b h) = IsTailAt t
-IsProper (act.PopLook p) = IsHeadAt p
-IsProper (act.PopTail p b) = IsHeadAt p
-IsProper (act.PopSwap p b) = IsHeadAt p
-IsProper (act.PopNext p b) = IsHeadAt p
-IsProper (act.PopBlock p b c) = IsHeadAt p × (1 ≤ c)
-IsProper (act.PopHead p b) = IsHeadAt p
-IsProper (act.PopWait p b) = IsHeadAt p
-IsProper (act.PopTake p b) = IsHeadAt p
-IsProper (act.PopCount p b d) = IsHeadAt p
-IsProper (act.PopRetire p b d) = IsHeadAt p
-IsProper _ = Unit {0}
+IsProper a = IsProperPop a

@@ -81,67 +81,84 @@ extended r v edge = record r { all = r.all ++ v ∷ []; tail = r.tail + 1; tail_
 abbrev pub counted : {T : Type 0} → Blocks T → ℕ → Blocks T
 counted r k = with_block r k (record { linked = (r.block k).linked; reads = (r.block k).reads + 1; retired = (r.block k).retired })
 
+-- a push before it has a place: it looks for the block at the tail, gets one, and takes the place
+pub data SeekMoves {T : Type 0} (r : Blocks T) : Act T → Blocks T → Act T → QueueMark → Option (Ending T) → Type 0 where
+  push_opens : {v : T} {h : Option ℕ} {n : ℕ} {r' : Blocks T} → r' ≡ r → r.closed ≡ false → n ≡ r.tail → r.tail_turns ≡ false → SeekMoves r (push v h) r' (push_look v n h) mark.Nothing None
+  push_stays : {v : T} {h : Option ℕ} {r' : Blocks T} → r' ≡ r → r.tail_turns ≡ true → SeekMoves r (push v h) r' (push v h) mark.Nothing None
+  push_shut : {v : T} {r' : Blocks T} → r' ≡ r → r.closed ≡ true → SeekMoves r (push v None) r' finished mark.Nothing (Some (ending.Closed v))
+  push_shut_held : {v : T} {h : ℕ} {r' : Blocks T} → r' ≡ r → r.closed ≡ true → SeekMoves r (push v (Some h)) r' (push_return v h) mark.Nothing None
+  push_returns : {v : T} {h : ℕ} {r' : Blocks T} → r' ≡ with_spot r h spare → SeekMoves r (push_return v h) r' finished mark.Nothing (Some (ending.Closed v))
+  look_none : {v : T} {n : ℕ} {r' : Blocks T} → r' ≡ r → r.last ≡ 0 → SeekMoves r (push_look v n None) r' (push_make v n) mark.Nothing None
+  look_none_held : {v : T} {n h : ℕ} {r' : Blocks T} → r' ≡ r → r.last ≡ 0 → SeekMoves r (push_look v n (Some h)) r' (push_first v n h) mark.Nothing None
+  look_more : {v : T} {n b : ℕ} {r' : Blocks T} → r' ≡ r → 1 ≤ r.last → b ≡ r.num (r.last - 1) → SeekMoves r (push_look v n None) r' (push_more v n b) mark.Nothing None
+  look_ready : {v : T} {n b : ℕ} {h : Option ℕ} {r' : Blocks T} → r' ≡ r → 1 ≤ r.last → b ≡ r.num (r.last - 1) → SeekMoves r (push_look v n h) r' (push_swap v n b h) mark.Nothing None
+  makes : {v : T} {n h : ℕ} {r' : Blocks T} → r' ≡ with_spot r h held → IsFree (r.spot h) → SeekMoves r (push_make v n) r' (push_first v n h) mark.Nothing None
+  makes_more : {v : T} {n b h : ℕ} {r' : Blocks T} → r' ≡ with_spot r h held → IsFree (r.spot h) → SeekMoves r (push_more v n b) r' (push_swap v n b (Some h)) mark.Nothing None
+  refused : {v : T} {n : ℕ} {r' : Blocks T} → r' ≡ r → SeekMoves r (push_make v n) r' finished mark.Nothing (Some (ending.NoMemory v))
+  refused_more : {v : T} {n b : ℕ} {r' : Blocks T} → r' ≡ r → SeekMoves r (push_more v n b) r' finished mark.Nothing (Some (ending.NoMemory v))
+  first_wins : {v : T} {n h : ℕ} {r' : Blocks T} → r' ≡ chained r h → r.last ≡ 0 → SeekMoves r (push_first v n h) r' (push_start v n h) mark.Nothing None
+  first_loses : {v : T} {n h : ℕ} {r' : Blocks T} → r' ≡ r → (r.last ≡ 0 → ⊥) → SeekMoves r (push_first v n h) r' (push v (Some h)) mark.Nothing None
+  starts : {v : T} {n b : ℕ} {r' : Blocks T} → r' ≡ record r { first = 1 } → SeekMoves r (push_start v n b) r' (push_swap v n b None) mark.Nothing None
+  starts_more : {v : T} {n b : ℕ} {r' : Blocks T} → r' ≡ record r { first = 1 } → SeekMoves r (push_start v n b) r' (push_more v n b) mark.Nothing None
+  swap_wins : {v : T} {n b : ℕ} {h : Option ℕ} {r' : Blocks T} → r' ≡ extended r v false → r.tail ≡ n → r.tail_turns ≡ false → r.closed ≡ false → (n % 31 ≡ 30 → ⊥) → SeekMoves r (push_swap v n b h) r' (push_put v n b h) mark.Append None
+  swap_wins_edge : {v : T} {n b h : ℕ} {r' : Blocks T} → r' ≡ extended r v true → r.tail ≡ n → r.tail_turns ≡ false → r.closed ≡ false → n % 31 ≡ 30 → SeekMoves r (push_swap v n b (Some h)) r' (push_turn v n b h) mark.Append None
+  swap_loses : {v : T} {n b : ℕ} {h : Option ℕ} {r' : Blocks T} → r' ≡ r → (r.tail ≡ n → r.closed ≡ false → r.tail_turns ≡ false → ⊥) → SeekMoves r (push_swap v n b h) r' (push v h) mark.Nothing None
+
+-- a push that has a place: it turns the page and links the next block, if it has the last one, and brings its message
+pub data BringMoves {T : Type 0} (r : Blocks T) : Act T → Blocks T → Act T → QueueMark → Option (Ending T) → Type 0 where
+  turns : {v : T} {n b h : ℕ} {r' : Blocks T} → r' ≡ chained r h → BringMoves r (push_turn v n b h) r' (push_add v n b h) mark.Nothing None
+  adds : {v : T} {n b h : ℕ} {r' : Blocks T} → r' ≡ record r { tail_turns = false } → BringMoves r (push_add v n b h) r' (push_link v n b h) mark.Nothing None
+  links : {v : T} {n b h : ℕ} {r' : Blocks T} → r' ≡ with_block r (n / 31) (record { linked = true; reads = (r.block (n / 31)).reads; retired = (r.block (n / 31)).retired }) → BringMoves r (push_link v n b h) r' (push_put v n b None) mark.Nothing None
+  puts : {v : T} {n b : ℕ} {h : Option ℕ} {r' : Blocks T} → r' ≡ with_cell r n (record { written = false; slot = Some v }) → BringMoves r (push_put v n b h) r' (push_store n b h) mark.Nothing None
+  stores : {n b : ℕ} {r' : Blocks T} → r' ≡ with_cell r n (record { written = true; slot = (r.cell n).slot }) → BringMoves r (push_store n b None) r' finished mark.Nothing (Some ending.Sent)
+  stores_held : {n b h : ℕ} {r' : Blocks T} → r' ≡ with_cell r n (record { written = true; slot = (r.cell n).slot }) → BringMoves r (push_store n b (Some h)) r' (push_give h) mark.Nothing None
+  gives : {h : ℕ} {r' : Blocks T} → r' ≡ with_spot r h spare → BringMoves r (push_give h) r' finished mark.Nothing (Some ending.Sent)
+
+-- a pop
+pub data PopMoves {T : Type 0} (r : Blocks T) : Act T → Blocks T → Act T → QueueMark → Option (Ending T) → Type 0 where
+  pop_loads : {n : ℕ} {r' : Blocks T} → r' ≡ r → n ≡ r.head → r.head_turns ≡ false → PopMoves r pop r' (pop_look n) mark.Nothing None
+  pop_stays : {r' : Blocks T} → r' ≡ r → r.head_turns ≡ true → PopMoves r pop r' pop mark.Nothing None
+  pop_looks_none : {n : ℕ} {r' : Blocks T} → r' ≡ r → r.first ≡ 0 → PopMoves r (pop_look n) r' (pop_tail n None) mark.Nothing None
+  pop_looks : {n b : ℕ} {r' : Blocks T} → r' ≡ r → 1 ≤ r.first → b ≡ r.num (r.first - 1) → PopMoves r (pop_look n) r' (pop_tail n (Some b)) mark.Nothing None
+  pop_empty : {n : ℕ} {b : Option ℕ} {r' : Blocks T} → r' ≡ r → r.tail ≡ n → r.closed ≡ false → PopMoves r (pop_tail n b) r' finished mark.Nothing (Some (ending.Replied (reply.Pop (Err pop_error.Empty))))
+  pop_shut : {n : ℕ} {b : Option ℕ} {r' : Blocks T} → r' ≡ r → r.tail ≡ n → r.closed ≡ true → PopMoves r (pop_tail n b) r' finished mark.Nothing (Some (ending.Replied (reply.Pop (Err pop_error.Closed))))
+  pop_back : {n : ℕ} {r' : Blocks T} → r' ≡ r → (r.tail ≡ n → ⊥) → PopMoves r (pop_tail n None) r' pop mark.Nothing None
+  pop_goes : {n b : ℕ} {r' : Blocks T} → r' ≡ r → (r.tail ≡ n → ⊥) → PopMoves r (pop_tail n (Some b)) r' (pop_swap n b) mark.Nothing None
+  pop_wins : {n b : ℕ} {r' : Blocks T} → r' ≡ record r { head = r.head + 1; head_turns = false } → r.head ≡ n → r.head_turns ≡ false → (n % 31 ≡ 30 → ⊥) → PopMoves r (pop_swap n b) r' (pop_wait n b) mark.Take None
+  pop_wins_edge : {n b : ℕ} {r' : Blocks T} → r' ≡ record r { head = r.head + 1; head_turns = true } → r.head ≡ n → r.head_turns ≡ false → n % 31 ≡ 30 → PopMoves r (pop_swap n b) r' (pop_next n b) mark.Take None
+  pop_loses : {n b : ℕ} {r' : Blocks T} → r' ≡ r → (r.head ≡ n → r.head_turns ≡ false → ⊥) → PopMoves r (pop_swap n b) r' pop mark.Nothing None
+  next_waits : {n b : ℕ} {r' : Blocks T} → r' ≡ r → (r.block (n / 31)).linked ≡ false → PopMoves r (pop_next n b) r' (pop_next n b) mark.Nothing None
+  next_found : {n b c : ℕ} {r' : Blocks T} → r' ≡ r → (r.block (n / 31)).linked ≡ true → c ≡ r.num (n / 31 + 1) → PopMoves r (pop_next n b) r' (pop_block n b c) mark.Nothing None
+  blocks : {n b c : ℕ} {r' : Blocks T} → r' ≡ record r { first = r.first + 1 } → PopMoves r (pop_block n b c) r' (pop_head n b) mark.Nothing None
+  heads : {n b : ℕ} {r' : Blocks T} → r' ≡ record r { head_turns = false } → PopMoves r (pop_head n b) r' (pop_wait n b) mark.Nothing None
+  wait_waits : {n b : ℕ} {r' : Blocks T} → r' ≡ r → (r.cell n).written ≡ false → PopMoves r (pop_wait n b) r' (pop_wait n b) mark.Nothing None
+  wait_found : {n b : ℕ} {r' : Blocks T} → r' ≡ r → (r.cell n).written ≡ true → PopMoves r (pop_wait n b) r' (pop_take n b) mark.Nothing None
+  takes : {n b : ℕ} {d : T} {r' : Blocks T} → (r.cell n).slot ≡ Some d → r' ≡ with_cell r n (record { written = true; slot = None }) → PopMoves r (pop_take n b) r' (pop_count n b d) mark.Nothing None
+  counts : {n b : ℕ} {d : T} {r' : Blocks T} → r' ≡ counted r (n / 31) → ((r.block (n / 31)).reads ≡ 30 → ⊥) → PopMoves r (pop_count n b d) r' finished mark.Nothing (Some (ending.Replied (reply.Pop (Ok d))))
+  counts_last : {n b : ℕ} {d : T} {r' : Blocks T} → r' ≡ counted r (n / 31) → (r.block (n / 31)).reads ≡ 30 → PopMoves r (pop_count n b d) r' (pop_retire n b d) mark.Nothing None
+  retires : {n b : ℕ} {d : T} {r' : Blocks T} → r' ≡ with_spot (with_block r (n / 31) (record { linked = (r.block (n / 31)).linked; reads = 31; retired = true })) b spare → PopMoves r (pop_retire n b d) r' finished mark.Nothing (Some (ending.Replied (reply.Pop (Ok d))))
+
+-- closing and the questions
+pub data AskMoves {T : Type 0} (r : Blocks T) : Act T → Blocks T → Act T → QueueMark → Option (Ending T) → Type 0 where
+  closes : {r' : Blocks T} → r' ≡ record r { closed = true } → r.closed ≡ false → AskMoves r close r' finished mark.Close (Some (ending.Replied (reply.Close true)))
+  closed_before : {r' : Blocks T} → r' ≡ r → r.closed ≡ true → AskMoves r close r' finished mark.Nothing (Some (ending.Replied (reply.Close false)))
+  tells_closed : {b : Bool} {r' : Blocks T} → r' ≡ r → r.closed ≡ b → AskMoves r ask_closed r' finished mark.Nothing (Some (ending.Replied (reply.Flag b)))
+  empty_loads : {n : ℕ} {r' : Blocks T} → r' ≡ r → n ≡ r.head → AskMoves r ask_empty r' (empty_tail n) mark.Nothing None
+  empty_tells : {n : ℕ} {r' : Blocks T} → r' ≡ r → r.tail ≡ n → AskMoves r (empty_tail n) r' finished mark.Nothing (Some (ending.Replied (reply.Flag true)))
+  empty_denies : {n : ℕ} {r' : Blocks T} → r' ≡ r → (r.tail ≡ n → ⊥) → AskMoves r (empty_tail n) r' finished mark.Nothing (Some (ending.Replied (reply.Flag false)))
+  tells_full : {r' : Blocks T} → r' ≡ r → AskMoves r ask_full r' finished mark.Nothing (Some (ending.Replied (reply.Flag false)))
+  len_loads : {t : ℕ} {r' : Blocks T} → r' ≡ r → t ≡ tail_word r → AskMoves r ask_len r' (len_head t) mark.Nothing None
+  len_looks : {t h : ℕ} {r' : Blocks T} → r' ≡ r → h ≡ r.head → AskMoves r (len_head t) r' (len_tail t h) mark.Nothing None
+  len_tells : {t h m : ℕ} {r' : Blocks T} → r' ≡ r → tail_word r ≡ t → m ≡ number (t / 2) - h → AskMoves r (len_tail t h) r' finished mark.Nothing (Some (ending.Replied (reply.Count m)))
+  len_back : {t h : ℕ} {r' : Blocks T} → r' ≡ r → (tail_word r ≡ t → ⊥) → AskMoves r (len_tail t h) r' ask_len mark.Nothing None
+  tells_capacity : {r' : Blocks T} → r' ≡ r → AskMoves r ask_capacity r' finished mark.Nothing (Some (ending.Replied (reply.Cap None)))
+
+-- one step of a call at an action leaves these numbers, and the call at this action, with this mark, or over with this end
 pub data Moves {T : Type 0} (r : Blocks T) : Act T → Blocks T → Act T → QueueMark → Option (Ending T) → Type 0 where
-  push_opens : {v : T} {h : Option ℕ} {n : ℕ} {r' : Blocks T} → r' ≡ r → r.closed ≡ false → n ≡ r.tail → r.tail_turns ≡ false → Moves r (push v h) r' (push_look v n h) mark.Nothing None
-  push_stays : {v : T} {h : Option ℕ} {r' : Blocks T} → r' ≡ r → r.tail_turns ≡ true → Moves r (push v h) r' (push v h) mark.Nothing None
-  push_shut : {v : T} {r' : Blocks T} → r' ≡ r → r.closed ≡ true → Moves r (push v None) r' finished mark.Nothing (Some (ending.Closed v))
-  push_shut_held : {v : T} {h : ℕ} {r' : Blocks T} → r' ≡ r → r.closed ≡ true → Moves r (push v (Some h)) r' (push_return v h) mark.Nothing None
-  push_returns : {v : T} {h : ℕ} {r' : Blocks T} → r' ≡ with_spot r h spare → Moves r (push_return v h) r' finished mark.Nothing (Some (ending.Closed v))
-  look_none : {v : T} {n : ℕ} {r' : Blocks T} → r' ≡ r → r.last ≡ 0 → Moves r (push_look v n None) r' (push_make v n) mark.Nothing None
-  look_none_held : {v : T} {n h : ℕ} {r' : Blocks T} → r' ≡ r → r.last ≡ 0 → Moves r (push_look v n (Some h)) r' (push_first v n h) mark.Nothing None
-  look_more : {v : T} {n b : ℕ} {r' : Blocks T} → r' ≡ r → 1 ≤ r.last → b ≡ r.num (r.last - 1) → Moves r (push_look v n None) r' (push_more v n b) mark.Nothing None
-  look_ready : {v : T} {n b : ℕ} {h : Option ℕ} {r' : Blocks T} → r' ≡ r → 1 ≤ r.last → b ≡ r.num (r.last - 1) → Moves r (push_look v n h) r' (push_swap v n b h) mark.Nothing None
-  makes : {v : T} {n h : ℕ} {r' : Blocks T} → r' ≡ with_spot r h held → IsFree (r.spot h) → Moves r (push_make v n) r' (push_first v n h) mark.Nothing None
-  makes_more : {v : T} {n b h : ℕ} {r' : Blocks T} → r' ≡ with_spot r h held → IsFree (r.spot h) → Moves r (push_more v n b) r' (push_swap v n b (Some h)) mark.Nothing None
-  refused : {v : T} {n : ℕ} {r' : Blocks T} → r' ≡ r → Moves r (push_make v n) r' finished mark.Nothing (Some (ending.NoMemory v))
-  refused_more : {v : T} {n b : ℕ} {r' : Blocks T} → r' ≡ r → Moves r (push_more v n b) r' finished mark.Nothing (Some (ending.NoMemory v))
-  first_wins : {v : T} {n h : ℕ} {r' : Blocks T} → r' ≡ chained r h → r.last ≡ 0 → Moves r (push_first v n h) r' (push_start v n h) mark.Nothing None
-  first_loses : {v : T} {n h : ℕ} {r' : Blocks T} → r' ≡ r → (r.last ≡ 0 → ⊥) → Moves r (push_first v n h) r' (push v (Some h)) mark.Nothing None
-  starts : {v : T} {n b : ℕ} {r' : Blocks T} → r' ≡ record r { first = 1 } → Moves r (push_start v n b) r' (push_swap v n b None) mark.Nothing None
-  starts_more : {v : T} {n b : ℕ} {r' : Blocks T} → r' ≡ record r { first = 1 } → Moves r (push_start v n b) r' (push_more v n b) mark.Nothing None
-  swap_wins : {v : T} {n b : ℕ} {h : Option ℕ} {r' : Blocks T} → r' ≡ extended r v false → r.tail ≡ n → r.tail_turns ≡ false → r.closed ≡ false → (n % 31 ≡ 30 → ⊥) → Moves r (push_swap v n b h) r' (push_put v n b h) mark.Append None
-  swap_wins_edge : {v : T} {n b h : ℕ} {r' : Blocks T} → r' ≡ extended r v true → r.tail ≡ n → r.tail_turns ≡ false → r.closed ≡ false → n % 31 ≡ 30 → Moves r (push_swap v n b (Some h)) r' (push_turn v n b h) mark.Append None
-  swap_loses : {v : T} {n b : ℕ} {h : Option ℕ} {r' : Blocks T} → r' ≡ r → (r.tail ≡ n → r.closed ≡ false → r.tail_turns ≡ false → ⊥) → Moves r (push_swap v n b h) r' (push v h) mark.Nothing None
-  turns : {v : T} {n b h : ℕ} {r' : Blocks T} → r' ≡ chained r h → Moves r (push_turn v n b h) r' (push_add v n b h) mark.Nothing None
-  adds : {v : T} {n b h : ℕ} {r' : Blocks T} → r' ≡ record r { tail_turns = false } → Moves r (push_add v n b h) r' (push_link v n b h) mark.Nothing None
-  links : {v : T} {n b h : ℕ} {r' : Blocks T} → r' ≡ with_block r (n / 31) (record { linked = true; reads = (r.block (n / 31)).reads; retired = (r.block (n / 31)).retired }) → Moves r (push_link v n b h) r' (push_put v n b None) mark.Nothing None
-  puts : {v : T} {n b : ℕ} {h : Option ℕ} {r' : Blocks T} → r' ≡ with_cell r n (record { written = false; slot = Some v }) → Moves r (push_put v n b h) r' (push_store n b h) mark.Nothing None
-  stores : {n b : ℕ} {r' : Blocks T} → r' ≡ with_cell r n (record { written = true; slot = (r.cell n).slot }) → Moves r (push_store n b None) r' finished mark.Nothing (Some ending.Sent)
-  stores_held : {n b h : ℕ} {r' : Blocks T} → r' ≡ with_cell r n (record { written = true; slot = (r.cell n).slot }) → Moves r (push_store n b (Some h)) r' (push_give h) mark.Nothing None
-  gives : {h : ℕ} {r' : Blocks T} → r' ≡ with_spot r h spare → Moves r (push_give h) r' finished mark.Nothing (Some ending.Sent)
-  pop_loads : {n : ℕ} {r' : Blocks T} → r' ≡ r → n ≡ r.head → r.head_turns ≡ false → Moves r pop r' (pop_look n) mark.Nothing None
-  pop_stays : {r' : Blocks T} → r' ≡ r → r.head_turns ≡ true → Moves r pop r' pop mark.Nothing None
-  pop_looks_none : {n : ℕ} {r' : Blocks T} → r' ≡ r → r.first ≡ 0 → Moves r (pop_look n) r' (pop_tail n None) mark.Nothing None
-  pop_looks : {n b : ℕ} {r' : Blocks T} → r' ≡ r → 1 ≤ r.first → b ≡ r.num (r.first - 1) → Moves r (pop_look n) r' (pop_tail n (Some b)) mark.Nothing None
-  pop_empty : {n : ℕ} {b : Option ℕ} {r' : Blocks T} → r' ≡ r → r.tail ≡ n → r.closed ≡ false → Moves r (pop_tail n b) r' finished mark.Nothing (Some (ending.Replied (reply.Pop (Err pop_error.Empty))))
-  pop_shut : {n : ℕ} {b : Option ℕ} {r' : Blocks T} → r' ≡ r → r.tail ≡ n → r.closed ≡ true → Moves r (pop_tail n b) r' finished mark.Nothing (Some (ending.Replied (reply.Pop (Err pop_error.Closed))))
-  pop_back : {n : ℕ} {r' : Blocks T} → r' ≡ r → (r.tail ≡ n → ⊥) → Moves r (pop_tail n None) r' pop mark.Nothing None
-  pop_goes : {n b : ℕ} {r' : Blocks T} → r' ≡ r → (r.tail ≡ n → ⊥) → Moves r (pop_tail n (Some b)) r' (pop_swap n b) mark.Nothing None
-  pop_wins : {n b : ℕ} {r' : Blocks T} → r' ≡ record r { head = r.head + 1; head_turns = false } → r.head ≡ n → r.head_turns ≡ false → (n % 31 ≡ 30 → ⊥) → Moves r (pop_swap n b) r' (pop_wait n b) mark.Take None
-  pop_wins_edge : {n b : ℕ} {r' : Blocks T} → r' ≡ record r { head = r.head + 1; head_turns = true } → r.head ≡ n → r.head_turns ≡ false → n % 31 ≡ 30 → Moves r (pop_swap n b) r' (pop_next n b) mark.Take None
-  pop_loses : {n b : ℕ} {r' : Blocks T} → r' ≡ r → (r.head ≡ n → r.head_turns ≡ false → ⊥) → Moves r (pop_swap n b) r' pop mark.Nothing None
-  next_waits : {n b : ℕ} {r' : Blocks T} → r' ≡ r → (r.block (n / 31)).linked ≡ false → Moves r (pop_next n b) r' (pop_next n b) mark.Nothing None
-  next_found : {n b c : ℕ} {r' : Blocks T} → r' ≡ r → (r.block (n / 31)).linked ≡ true → c ≡ r.num (n / 31 + 1) → Moves r (pop_next n b) r' (pop_block n b c) mark.Nothing None
-  blocks : {n b c : ℕ} {r' : Blocks T} → r' ≡ record r { first = r.first + 1 } → Moves r (pop_block n b c) r' (pop_head n b) mark.Nothing None
-  heads : {n b : ℕ} {r' : Blocks T} → r' ≡ record r { head_turns = false } → Moves r (pop_head n b) r' (pop_wait n b) mark.Nothing None
-  wait_waits : {n b : ℕ} {r' : Blocks T} → r' ≡ r → (r.cell n).written ≡ false → Moves r (pop_wait n b) r' (pop_wait n b) mark.Nothing None
-  wait_found : {n b : ℕ} {r' : Blocks T} → r' ≡ r → (r.cell n).written ≡ true → Moves r (pop_wait n b) r' (pop_take n b) mark.Nothing None
-  takes : {n b : ℕ} {d : T} {r' : Blocks T} → (r.cell n).slot ≡ Some d → r' ≡ with_cell r n (record { written = true; slot = None }) → Moves r (pop_take n b) r' (pop_count n b d) mark.Nothing None
-  counts : {n b : ℕ} {d : T} {r' : Blocks T} → r' ≡ counted r (n / 31) → ((r.block (n / 31)).reads ≡ 30 → ⊥) → Moves r (pop_count n b d) r' finished mark.Nothing (Some (ending.Replied (reply.Pop (Ok d))))
-  counts_last : {n b : ℕ} {d : T} {r' : Blocks T} → r' ≡ counted r (n / 31) → (r.block (n / 31)).reads ≡ 30 → Moves r (pop_count n b d) r' (pop_retire n b d) mark.Nothing None
-  retires : {n b : ℕ} {d : T} {r' : Blocks T} → r' ≡ with_spot (with_block r (n / 31) (record { linked = (r.block (n / 31)).linked; reads = 31; retired = true })) b spare → Moves r (pop_retire n b d) r' finished mark.Nothing (Some (ending.Replied (reply.Pop (Ok d))))
-  closes : {r' : Blocks T} → r' ≡ record r { closed = true } → r.closed ≡ false → Moves r close r' finished mark.Close (Some (ending.Replied (reply.Close true)))
-  closed_before : {r' : Blocks T} → r' ≡ r → r.closed ≡ true → Moves r close r' finished mark.Nothing (Some (ending.Replied (reply.Close false)))
-  tells_closed : {b : Bool} {r' : Blocks T} → r' ≡ r → r.closed ≡ b → Moves r ask_closed r' finished mark.Nothing (Some (ending.Replied (reply.Flag b)))
-  empty_loads : {n : ℕ} {r' : Blocks T} → r' ≡ r → n ≡ r.head → Moves r ask_empty r' (empty_tail n) mark.Nothing None
-  empty_tells : {n : ℕ} {r' : Blocks T} → r' ≡ r → r.tail ≡ n → Moves r (empty_tail n) r' finished mark.Nothing (Some (ending.Replied (reply.Flag true)))
-  empty_denies : {n : ℕ} {r' : Blocks T} → r' ≡ r → (r.tail ≡ n → ⊥) → Moves r (empty_tail n) r' finished mark.Nothing (Some (ending.Replied (reply.Flag false)))
-  tells_full : {r' : Blocks T} → r' ≡ r → Moves r ask_full r' finished mark.Nothing (Some (ending.Replied (reply.Flag false)))
-  len_loads : {t : ℕ} {r' : Blocks T} → r' ≡ r → t ≡ tail_word r → Moves r ask_len r' (len_head t) mark.Nothing None
-  len_looks : {t h : ℕ} {r' : Blocks T} → r' ≡ r → h ≡ r.head → Moves r (len_head t) r' (len_tail t h) mark.Nothing None
-  len_tells : {t h m : ℕ} {r' : Blocks T} → r' ≡ r → tail_word r ≡ t → m ≡ number (t / 2) - h → Moves r (len_tail t h) r' finished mark.Nothing (Some (ending.Replied (reply.Count m)))
-  len_back : {t h : ℕ} {r' : Blocks T} → r' ≡ r → (tail_word r ≡ t → ⊥) → Moves r (len_tail t h) r' ask_len mark.Nothing None
-  tells_capacity : {r' : Blocks T} → r' ≡ r → Moves r ask_capacity r' finished mark.Nothing (Some (ending.Replied (reply.Cap None)))
+  seeking : {a : Act T} {r' : Blocks T} {a' : Act T} {k : QueueMark} {x : Option (Ending T)} → SeekMoves r a r' a' k x → Moves r a r' a' k x
+  bringing : {a : Act T} {r' : Blocks T} {a' : Act T} {k : QueueMark} {x : Option (Ending T)} → BringMoves r a r' a' k x → Moves r a r' a' k x
+  popping : {a : Act T} {r' : Blocks T} {a' : Act T} {k : QueueMark} {x : Option (Ending T)} → PopMoves r a r' a' k x → Moves r a r' a' k x
+  asking : {a : Act T} {r' : Blocks T} {a' : Act T} {k : QueueMark} {x : Option (Ending T)} → AskMoves r a r' a' k x → Moves r a r' a' k x
 
 -- a call with how far it has come
 pub record BlocksSeat (T : Type 0) : Type 0 where

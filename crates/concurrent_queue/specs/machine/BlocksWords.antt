@@ -1,5 +1,5 @@
 -- The steps of an unbounded queue, as functions of what its words and slots hold. t is a tail word, p a head position.
-use Rattle.std.specs.Prelude.{◌≡◌, ℕ, zero, suc, ◌++◌, [], List, ◌||◌, not, option_to_list, ◌+◌, ◌-◌, ◌/◌, ◌%◌, ◌^◌, ◌<◌, ◌&&◌, ◌⊎◌, nat_le, Bool, true, false, Option, None, Some, Ok, Err, length, slice_index, slice_index_or, if◌then◌else◌, ◌==◌, bit_or}
+use Rattle.std.specs.Prelude.{◌≡◌, ℕ, zero, suc, ◌++◌, [], List, option_to_list, ◌+◌, ◌-◌, ◌/◌, ◌%◌, ◌^◌, ◌<◌, ◌⊎◌, nat_le, Bool, true, false, Option, None, Some, Ok, Err, length, slice_index, slice_index_or, if◌then◌else◌, ◌==◌, bit_or}
 use Rattle.concurrent_queue.specs.Contents.{Contents, write, block_at, slot_at, write_slot, can_put, spare_of, without_spare, with_retired}
 use Rattle.concurrent_queue.specs.machine.BlocksState.{number}
 use Rattle.concurrent_queue.specs.machine.BlocksMoves.{answer_as}
@@ -176,6 +176,33 @@ len_load_head c t = (c, stays (act.LenTail t c.head))
 abbrev pub len_again : {T : Type 0} → Contents T → ℕ → ℕ → Step T
 len_again c t p = (c, if c.tail == t then tells (reply.Count (number (t / 2) - number p)) else stays act.AskLen)
 
+-- one step of closing or of a question; a finished call stays so
+abbrev pub IsQuestionStep : {T : Type 0} → Contents T → UnboundedAction T → Step T → Type 0
+IsQuestionStep c act.Close x = x ≡ close_tail c
+IsQuestionStep c act.AskClosed x = x ≡ ask_tail c
+IsQuestionStep c act.AskEmpty x = x ≡ empty_load_head c
+IsQuestionStep c (act.EmptyTail p) x = x ≡ empty_load_tail c p
+IsQuestionStep c act.AskFull x = x ≡ (c, tells (reply.Flag false))
+IsQuestionStep c act.AskLen x = x ≡ len_load_tail c
+IsQuestionStep c (act.LenHead t) x = x ≡ len_load_head c t
+IsQuestionStep c (act.LenTail t p) x = x ≡ len_again c t p
+IsQuestionStep c act.AskCapacity x = x ≡ (c, tells (reply.Cap None))
+IsQuestionStep c _ x = x ≡ (c, stays act.Finished)
+
+abbrev pub IsPopStep : {T : Type 0} → Contents T → UnboundedAction T → Step T → Type 0
+IsPopStep c act.Pop x = x ≡ load_head c
+IsPopStep c (act.PopLook p) x = x ≡ look_head_block c p
+IsPopStep c (act.PopTail p b) x = x ≡ look_tail c p b
+IsPopStep c (act.PopSwap p b) x = x ≡ swap_head c p b
+IsPopStep c (act.PopNext p b) x = x ≡ load_next c p b
+IsPopStep c (act.PopBlock p b n) x = x ≡ store_head_block c p b n
+IsPopStep c (act.PopHead p b) x = x ≡ store_head c p b
+IsPopStep c (act.PopWait p b) x = x ≡ wait_written c p b
+IsPopStep c (act.PopTake p b) x = x ≡ take_message c p b
+IsPopStep c (act.PopCount p b d) x = x ≡ count_read c p b d
+IsPopStep c (act.PopRetire p b d) x = x ≡ retire_block c b d
+IsPopStep c a x = IsQuestionStep c a x
+
 -- one step of a call
 abbrev pub IsUnboundedStep : {T : Type 0} → Contents T → UnboundedAction T → Step T → Type 0
 IsUnboundedStep c (act.Push v h) x = x ≡ load_tail c v h
@@ -193,27 +220,7 @@ IsUnboundedStep c (act.PushLink v t b h) x = x ≡ link_next c v t b h
 IsUnboundedStep c (act.PushPut v t b h) x = x ≡ put_message c v t b h
 IsUnboundedStep c (act.PushStore t b h) x = x ≡ store_written c t b h
 IsUnboundedStep c (act.PushGive h) x = x ≡ give_spare c h
-IsUnboundedStep c act.Pop x = x ≡ load_head c
-IsUnboundedStep c (act.PopLook p) x = x ≡ look_head_block c p
-IsUnboundedStep c (act.PopTail p b) x = x ≡ look_tail c p b
-IsUnboundedStep c (act.PopSwap p b) x = x ≡ swap_head c p b
-IsUnboundedStep c (act.PopNext p b) x = x ≡ load_next c p b
-IsUnboundedStep c (act.PopBlock p b n) x = x ≡ store_head_block c p b n
-IsUnboundedStep c (act.PopHead p b) x = x ≡ store_head c p b
-IsUnboundedStep c (act.PopWait p b) x = x ≡ wait_written c p b
-IsUnboundedStep c (act.PopTake p b) x = x ≡ take_message c p b
-IsUnboundedStep c (act.PopCount p b d) x = x ≡ count_read c p b d
-IsUnboundedStep c (act.PopRetire p b d) x = x ≡ retire_block c b d
-IsUnboundedStep c act.Close x = x ≡ close_tail c
-IsUnboundedStep c act.AskClosed x = x ≡ ask_tail c
-IsUnboundedStep c act.AskEmpty x = x ≡ empty_load_head c
-IsUnboundedStep c (act.EmptyTail p) x = x ≡ empty_load_tail c p
-IsUnboundedStep c act.AskFull x = x ≡ (c, tells (reply.Flag false))
-IsUnboundedStep c act.AskLen x = x ≡ len_load_tail c
-IsUnboundedStep c (act.LenHead t) x = x ≡ len_load_head c t
-IsUnboundedStep c (act.LenTail t p) x = x ≡ len_again c t p
-IsUnboundedStep c act.AskCapacity x = x ≡ (c, tells (reply.Cap None))
-IsUnboundedStep c act.Finished x = x ≡ (c, stays act.Finished)
+IsUnboundedStep c a x = IsPopStep c a x
 
 abbrev pub reply_of : {T : Type 0} → Bool → Option (Ending T) → Option (QueueReply T)
 reply_of b None = None
@@ -263,49 +270,3 @@ chain_items c (suc k) b i =
 
 abbrev pub blocks_items : {T : Type 0} → Contents T → List T
 blocks_items c = chain_items c (blocks_length c) (c.head_block - 1) (c.head % 32)
-
--- how many steps a call at this action still needs at most, where no other holds it up; a call that goes by a word which
--- is not the queue's any more has one round to make again
-abbrev pub late : Bool → ℕ
-late b = if b then 16 else 0
-
-abbrev pub unbounded_rank : {T : Type 0} → Contents T → UnboundedAction T → ℕ
-unbounded_rank c (act.Push v h) = 13
-unbounded_rank c (act.PushShut v h) = 0
-unbounded_rank c (act.PushReturn v h) = 1
-unbounded_rank c (act.PushLook v t h) = 12 + late (not (c.tail == t))
-unbounded_rank c (act.PushMake v t) = 11 + late (not (c.tail == t) || not (c.tail_block == 0))
-unbounded_rank c (act.PushFirst v t h) = 10 + late (not (c.tail == t) || not (c.tail_block == 0))
-unbounded_rank c (act.PushStart v t b) = 9 + late (not (c.tail == t))
-unbounded_rank c (act.PushMore v t b) = 8 + late (not (c.tail == t))
-unbounded_rank c (act.PushSwap v t b h) = 7 + late (not (c.tail == t))
-unbounded_rank c (act.PushTurn v t b h) = 6
-unbounded_rank c (act.PushAdd v t b h) = 5
-unbounded_rank c (act.PushLink v t b h) = 4
-unbounded_rank c (act.PushPut v t b h) = 3
-unbounded_rank c (act.PushStore t b h) = 2
-unbounded_rank c (act.PushGive h) = 1
-unbounded_rank c act.Pop = 13
-unbounded_rank c (act.PopLook p) = 12 + late (not (c.head == p))
-unbounded_rank c (act.PopTail p b) = 11 + late (not (c.head == p) || (b == 0 && not (c.head_block == 0)))
-unbounded_rank c (act.PopSwap p b) = 10 + late (not (c.head == p))
-unbounded_rank c (act.PopNext p b) = 7
-unbounded_rank c (act.PopBlock p b n) = 6
-unbounded_rank c (act.PopHead p b) = 5
-unbounded_rank c (act.PopWait p b) = 4
-unbounded_rank c (act.PopTake p b) = 3
-unbounded_rank c (act.PopCount p b d) = 2
-unbounded_rank c (act.PopRetire p b d) = 1
-unbounded_rank c act.Close = 1
-unbounded_rank c act.AskClosed = 1
-unbounded_rank c act.AskEmpty = 2
-unbounded_rank c (act.EmptyTail p) = 1
-unbounded_rank c act.AskFull = 1
-unbounded_rank c act.AskLen = 3
-unbounded_rank c (act.LenHead t) = 2 + late (not (c.tail == t))
-unbounded_rank c (act.LenTail t p) = 1 + late (not (c.tail == t))
-unbounded_rank c act.AskCapacity = 1
-unbounded_rank c act.Finished = 0
-
-abbrev pub blocks_rank : {T : Type 0} → Contents T → UnboundedCall T → ℕ
-blocks_rank c a = unbounded_rank c a.action

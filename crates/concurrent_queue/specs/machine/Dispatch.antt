@@ -1,5 +1,5 @@
 -- Which form a queue has, and what each form's machine does at a step.
-use Rattle.std.specs.Prelude.{◌≡◌, ℕ, ◌==◌, Bool, true, false, Option, None, Some}
+use Rattle.std.specs.Prelude.{◌≡◌, ℕ, ◌==◌, Bool, true, false, None}
 use Rattle.concurrent_queue.specs.Contents.{Contents}
 use Rattle.concurrent_queue.specs.machine.Single.{single_step, start}
 use Rattle.concurrent_queue.specs.machine.RingWords.{cap_of, ring_mark, ring_step, ring_start}

@@ -50,6 +50,29 @@ module _ {T : Type 0} where
   abbrev pub Saw : ℕ → Ring T → ℕ → Bool → Type 0
   Saw cap r n seen = (n ≤ r.tail) × ((seen ≡ true) ⊎ (n < r.head + cap))
 
+  -- what closing, or a question, knows at an action; at no other is one under way
+  abbrev pub KnowsRingQuestion : ℕ → Ring T → RingAction T → Phase T → Type 0
+  KnowsRingQuestion cap r act.Close p = (seen : Bool) × (p ≡ at_stage ask.Close (trying seen))
+  KnowsRingQuestion cap r act.IsClosed p = (seen : Bool) × (p ≡ at_stage ask.IsClosed (trying seen))
+  KnowsRingQuestion cap r act.IsEmpty p = (seen : Bool) × (p ≡ at_stage ask.IsEmpty (trying seen))
+  KnowsRingQuestion cap r (act.IsEmptyTail n) p = (p ≡ at_stage ask.IsEmpty (read n)) × (n ≤ r.head)
+  KnowsRingQuestion cap r act.IsFull p = (seen : Bool) × (p ≡ at_stage ask.IsFull (trying seen))
+  KnowsRingQuestion cap r (act.IsFullHead n) p = (p ≡ at_stage ask.IsFull (read n)) × (n ≤ r.tail)
+  KnowsRingQuestion cap r act.Len p = (seen : Bool) × (p ≡ at_stage ask.Len (trying seen))
+  KnowsRingQuestion cap r (act.LenHead n b) p = (p ≡ at_stage ask.Len (read n)) × (n ≤ r.tail)
+  KnowsRingQuestion cap r (act.LenTail n b h) p = (k : ℕ) × (p ≡ at_stage ask.Len (measured n k)) × (n ≤ r.tail) × (h ≤ r.head) × (r.tail ≡ n → k + h ≡ n)
+  KnowsRingQuestion cap r act.Capacity p = (seen : Bool) × (p ≡ at_stage ask.Capacity (trying seen))
+  KnowsRingQuestion cap r _ p = ⊥
+
+  abbrev pub KnowsRingPop : ℕ → Ring T → RingAction T → Phase T → Type 0
+  KnowsRingPop cap r act.Pop p = (seen : Bool) × (p ≡ at_stage ask.Pop (trying seen))
+  KnowsRingPop cap r (act.PopStamp n) p = (seen : Bool) × (p ≡ at_stage ask.Pop (trying seen)) × (n ≤ r.head)
+  KnowsRingPop cap r (act.PopSwap n) p = (seen : Bool) × (p ≡ at_stage ask.Pop (trying seen)) × Reached cap r n
+  KnowsRingPop cap r (act.PopTail n) p = (seen : Bool) × (p ≡ at_stage ask.Pop (trying seen)) × (n ≤ r.head) × (n ≤ (the_place cap r n).round)
+  KnowsRingPop cap r (act.PopTake n) p = (d : T) × (p ≡ at_stage ask.Pop (taken d)) × StandsRing cap r n true (Some d) × (n < r.head) × (reach r ≤ n + cap)
+  KnowsRingPop cap r (act.PopStore n d) p = (p ≡ at_stage ask.Pop (taken d)) × StandsRing cap r n true None × (n < r.head) × (reach r ≤ n + cap)
+  KnowsRingPop cap r a p = KnowsRingQuestion cap r a p
+
   -- what a call at an action knows of the ring, and how far it has come
   abbrev pub KnowsRing : ℕ → Ring T → RingAction T → Phase T → Type 0
   KnowsRing cap r (act.Push k v) p = (seen : Bool) × (p ≡ at_stage (ask_of k v) (trying seen))
@@ -67,23 +90,7 @@ module _ {T : Type 0} where
   KnowsRing cap r (act.ForcePut v c d) p = (p ≡ at_stage (ask.ForcePush v) (appended (Some d))) × StandsRing cap r c true None × (c < r.head) × IsItem r (c + cap) v
   KnowsRing cap r (act.ForceStore c d) p =
       (v : T) × (p ≡ at_stage (ask.ForcePush v) (appended (Some d))) × StandsRing cap r c true (Some v) × (c < r.head) × IsItem r (c + cap) v
-  KnowsRing cap r act.Pop p = (seen : Bool) × (p ≡ at_stage ask.Pop (trying seen))
-  KnowsRing cap r (act.PopStamp n) p = (seen : Bool) × (p ≡ at_stage ask.Pop (trying seen)) × (n ≤ r.head)
-  KnowsRing cap r (act.PopSwap n) p = (seen : Bool) × (p ≡ at_stage ask.Pop (trying seen)) × Reached cap r n
-  KnowsRing cap r (act.PopTail n) p = (seen : Bool) × (p ≡ at_stage ask.Pop (trying seen)) × (n ≤ r.head) × (n ≤ (the_place cap r n).round)
-  KnowsRing cap r (act.PopTake n) p = (d : T) × (p ≡ at_stage ask.Pop (taken d)) × StandsRing cap r n true (Some d) × (n < r.head) × (reach r ≤ n + cap)
-  KnowsRing cap r (act.PopStore n d) p = (p ≡ at_stage ask.Pop (taken d)) × StandsRing cap r n true None × (n < r.head) × (reach r ≤ n + cap)
-  KnowsRing cap r act.Close p = (seen : Bool) × (p ≡ at_stage ask.Close (trying seen))
-  KnowsRing cap r act.IsClosed p = (seen : Bool) × (p ≡ at_stage ask.IsClosed (trying seen))
-  KnowsRing cap r act.IsEmpty p = (seen : Bool) × (p ≡ at_stage ask.IsEmpty (trying seen))
-  KnowsRing cap r (act.IsEmptyTail n) p = (p ≡ at_stage ask.IsEmpty (read n)) × (n ≤ r.head)
-  KnowsRing cap r act.IsFull p = (seen : Bool) × (p ≡ at_stage ask.IsFull (trying seen))
-  KnowsRing cap r (act.IsFullHead n) p = (p ≡ at_stage ask.IsFull (read n)) × (n ≤ r.tail)
-  KnowsRing cap r act.Len p = (seen : Bool) × (p ≡ at_stage ask.Len (trying seen))
-  KnowsRing cap r (act.LenHead n b) p = (p ≡ at_stage ask.Len (read n)) × (n ≤ r.tail)
-  KnowsRing cap r (act.LenTail n b h) p = (k : ℕ) × (p ≡ at_stage ask.Len (measured n k)) × (n ≤ r.tail) × (h ≤ r.head) × (r.tail ≡ n → k + h ≡ n)
-  KnowsRing cap r act.Capacity p = (seen : Bool) × (p ≡ at_stage ask.Capacity (trying seen))
-  KnowsRing cap r act.Finished p = ⊥
+  KnowsRing cap r a p = KnowsRingPop cap r a p
 
   -- the number whose place a call at this action holds
   abbrev pub held : RingAction T → Option ℕ
@@ -112,8 +119,6 @@ module _ {T : Type 0} where
 
   -- the action as the code has it
   abbrev pub placed : (ℕ → ℕ) → RingAction T → RingAction T
-  placed at (act.Push k v) = act.Push k v
-  placed at (act.PushShut k v) = act.PushShut k v
   placed at (act.PushStamp k v n) = act.PushStamp k v (at n)
   placed at (act.PushSwap k v n) = act.PushSwap k v (at n)
   placed at (act.PushPut k v n) = act.PushPut k v (at n)
@@ -124,20 +129,13 @@ module _ {T : Type 0} where
   placed at (act.ForceTake v c) = act.ForceTake v (at c)
   placed at (act.ForcePut v c d) = act.ForcePut v (at c) d
   placed at (act.ForceStore c d) = act.ForceStore (at c) d
-  placed at act.Pop = act.Pop
   placed at (act.PopStamp n) = act.PopStamp (at n)
   placed at (act.PopSwap n) = act.PopSwap (at n)
   placed at (act.PopTail n) = act.PopTail (at n)
   placed at (act.PopTake n) = act.PopTake (at n)
   placed at (act.PopStore n d) = act.PopStore (at n) d
-  placed at act.Close = act.Close
-  placed at act.IsClosed = act.IsClosed
-  placed at act.IsEmpty = act.IsEmpty
   placed at (act.IsEmptyTail n) = act.IsEmptyTail (at n)
-  placed at act.IsFull = act.IsFull
   placed at (act.IsFullHead n) = act.IsFullHead (at n)
-  placed at act.Len = act.Len
   placed at (act.LenHead n b) = act.LenHead (at n) b
   placed at (act.LenTail n b h) = act.LenTail (at n) b (at h)
-  placed at act.Capacity = act.Capacity
-  placed at act.Finished = act.Finished
+  placed at a = a

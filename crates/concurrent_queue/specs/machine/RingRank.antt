@@ -11,6 +11,20 @@ module _ {T : Type 0} where
   abbrev pub rests_at : ℕ → Contents T → ℕ → Bool → Bool
   rests_at m c t b = c.tail == (if b then (t + m) % 2 ^ 64 else t)
 
+  -- closing and the questions
+  abbrev pub ring_question_rank : ℕ → Contents T → RingAction T → ℕ
+  ring_question_rank m c act.Close = 1
+  ring_question_rank m c act.IsClosed = 1
+  ring_question_rank m c act.IsEmpty = 2
+  ring_question_rank m c (act.IsEmptyTail h) = 1
+  ring_question_rank m c act.IsFull = 2
+  ring_question_rank m c (act.IsFullHead t) = 1
+  ring_question_rank m c act.Len = 3
+  ring_question_rank m c (act.LenHead t b) = if rests_at m c t b then 2 else 6
+  ring_question_rank m c (act.LenTail t b h) = if rests_at m c t b then 1 else 5
+  ring_question_rank m c act.Capacity = 1
+  ring_question_rank m c _ = 1
+
   abbrev pub ring_rank : ℕ → Contents T → RingAction T → ℕ
   ring_rank m c (act.Push k v) = 7
   ring_rank m c (act.PushShut k v) = 1
@@ -30,14 +44,4 @@ module _ {T : Type 0} where
   ring_rank m c (act.PopTail h) = if unmarked m c.tail == h then 1 else 7
   ring_rank m c (act.PopTake h) = 2
   ring_rank m c (act.PopStore h v) = 1
-  ring_rank m c act.Close = 1
-  ring_rank m c act.IsClosed = 1
-  ring_rank m c act.IsEmpty = 2
-  ring_rank m c (act.IsEmptyTail h) = 1
-  ring_rank m c act.IsFull = 2
-  ring_rank m c (act.IsFullHead t) = 1
-  ring_rank m c act.Len = 3
-  ring_rank m c (act.LenHead t b) = if rests_at m c t b then 2 else 6
-  ring_rank m c (act.LenTail t b h) = if rests_at m c t b then 1 else 5
-  ring_rank m c act.Capacity = 1
-  ring_rank m c act.Finished = 1
+  ring_rank m c a = ring_question_rank m c a

@@ -222,6 +222,20 @@ module _ {T : Type 0} (cap m : ℕ) (c : Contents T) where
   len_again t b h =
       (c, if c.tail == (if b then (t + m) % 2 ^ 64 else t) then finishes (reply.Count (between cap m h t)) else stays act.Len)
 
+  -- one step of closing or of a question; a finished call stays so
+  abbrev pub ring_question_step : RingAction T → Contents T × Stepped (RingAction T) T
+  ring_question_step act.Close = close_step
+  ring_question_step act.IsClosed = ask_is_closed
+  ring_question_step act.IsEmpty = empty_load
+  ring_question_step (act.IsEmptyTail h) = empty_look h
+  ring_question_step act.IsFull = full_load
+  ring_question_step (act.IsFullHead t) = full_look t
+  ring_question_step act.Len = len_load
+  ring_question_step (act.LenHead t b) = len_look t b
+  ring_question_step (act.LenTail t b h) = len_again t b h
+  ring_question_step act.Capacity = (c, finishes (reply.Cap (Some cap)))
+  ring_question_step _ = (c, stays act.Finished)
+
   -- one step of a call
   abbrev pub ring_step : RingAction T → Contents T × Stepped (RingAction T) T
   ring_step (act.Push k v) = push_load k v
@@ -242,14 +256,4 @@ module _ {T : Type 0} (cap m : ℕ) (c : Contents T) where
   ring_step (act.PopTail h) = pop_tail h
   ring_step (act.PopTake h) = pop_take h
   ring_step (act.PopStore h v) = pop_store h v
-  ring_step act.Close = close_step
-  ring_step act.IsClosed = ask_is_closed
-  ring_step act.IsEmpty = empty_load
-  ring_step (act.IsEmptyTail h) = empty_look h
-  ring_step act.IsFull = full_load
-  ring_step (act.IsFullHead t) = full_look t
-  ring_step act.Len = len_load
-  ring_step (act.LenHead t b) = len_look t b
-  ring_step (act.LenTail t b h) = len_again t b h
-  ring_step act.Capacity = (c, finishes (reply.Cap (Some cap)))
-  ring_step act.Finished = (c, stays act.Finished)
+  ring_step a = ring_question_step a
