@@ -1,5 +1,5 @@
 -- What a step does to the number of messages, to the capacity and to the flag.
-use Rattle.std.proofs.Common.{arith, ◌≡◌, ℕ, ◌+◌, ◌<◌, ◌≤◌, ◌==◌, Bool, true, false, List, [], ◌∷◌, ◌++◌, length, drop, Option, None, Some, ◌⊎◌, inl, inr, refl, sym, ap, ◌∙◌, subst, length-append}
+use Rattle.std.proofs.Common.{arith, ◌≡◌, ℕ, ◌+◌, ◌≤◌, ◌==◌, Bool, true, false, List, [], ◌∷◌, length, drop, Option, Some, ◌⊎◌, inl, inr, refl, sym, ap, ◌∙◌, subst, length-append}
 use Rattle.std.proofs.lemmas.Bool.Decides.{nat_tests}
 use Rattle.concurrent_queue.specs.Queue.{Queue, Phase, trying, displaced, is_filled, is_full_at, IsOpen, IsOldest, message, marked, after, is_displaced, ContinuesPush, ContinuesForce, ContinuesPop, ContinuesBy, Continues, AnswersTo, Answers}
 use Rattle.concurrent_queue.specs.Queue as queue
@@ -9,11 +9,10 @@ use Rattle.concurrent_queue.specs.declared.call.QueueMark.{QueueMark}
 use Rattle.concurrent_queue.specs.declared.call.QueueMark.TheVariants.{Nothing, Append, Take, TakeDisplaced, Replace, Close}
 use Rattle.concurrent_queue.specs.declared.call.QueueReply.{QueueReply}
 use Rattle.concurrent_queue.specs.declared.call.QueueReply.TheVariants as answer
-use Rattle.channel_calls.specs.Moves.{Channel, Effect, queued, untouched, Moves}
+use Rattle.channel_calls.specs.Moves.{Channel, Effect, queued, Moves}
 use Rattle.channel_calls.specs.declared.mark.Mark.{Mark}
 use Rattle.channel_calls.specs.declared.mark.Mark.TheVariants as mark
 use Rattle.channel_calls.specs.declared.reply.Reply.{Reply}
-use Rattle.channel_calls.specs.declared.stage.Aim.{Aim}
 use Rattle.channel_calls.specs.declared.stage.Stage.{Stage}
 use Rattle.channel_calls.specs.declared.stage.Stage.TheVariants.{Trying, Working, Finished}
 use Rattle.channel_laws.specs.Bounds.{Fits}
@@ -156,6 +155,7 @@ module _ {T W : Type 0} where
     of TakeDisplaced h = h
     of Replace h = h.1
     of Close h = h
+
     by : (n : QueueMark) → (let e : Effect T W = queued f n c in FlagOf e.mark c e.channel)
     by Nothing = refl
     by Append = refl
@@ -176,6 +176,7 @@ module _ {T W : Type 0} where
     of mark.TakeDisplaced h = absurd h
     of mark.Close h = absurd h
     of n h = tt
+
     by : (n : Mark) → IsStill n → FlagOf n c d
     by mark.Close h = absurd h
     by n h = ap (λ (q : Queue T). q.closed) e

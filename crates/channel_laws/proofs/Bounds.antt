@@ -1,7 +1,7 @@
 -- Over runs: no more messages than fit, never full without a bound, and closed once.
-use Rattle.std.proofs.Common.{arith, ◌≡◌, ℕ, ◌+◌, ◌≤◌, Bool, true, false, List, [], ◌∷◌, ◌++◌, length, map, Option, None, Some, Ok, Err, inl, inr, refl, sym, ap, ◌∙◌, subst}
-use Rattle.concurrent_queue.specs.Queue.{Queue, is_filled, is_full_at}
-use Rattle.channel_calls.specs.Moves.{Channel, Effect}
+use Rattle.std.proofs.Common.{arith, ◌≡◌, ℕ, true, false, List, [], ◌∷◌, ◌++◌, Option, None, Some, Err, inl, inr, refl, sym, ap, ◌∙◌, subst}
+use Rattle.concurrent_queue.specs.Queue.{is_filled, is_full_at}
+use Rattle.channel_calls.specs.Moves.{Channel}
 use Rattle.channel_calls.specs.Parts.{Parts}
 use Rattle.channel_calls.specs.declared.ask.ChannelAsk.{ChannelAsk}
 use Rattle.channel_calls.specs.declared.ask.ChannelAsk.TheVariants as ask
@@ -14,14 +14,14 @@ use Rattle.channel_calls.specs.declared.reply.Reply.TheVariants as reply
 use Rattle.channel_calls.specs.declared.stage.Kept.{Kept}
 use Rattle.channel_calls.specs.declared.stage.Line.TheVariants.{Sends, Receives, Streams, Closings}
 use Rattle.channel_steps.specs.Answers.{Row}
-use Rattle.channel_steps.specs.Moments.{Deed, with_deed, Crowded, Once}
+use Rattle.channel_steps.specs.Moments.{Deed, Crowded, Once}
 use Rattle.channel_steps.specs.Run.{Next, IsRun, new_scene}
-use Rattle.channel_steps.specs.Scene.{Under, Scene, Steps, MayFinish, sees, does, unless_ended}
+use Rattle.channel_steps.specs.Scene.{Under, Scene, Steps, MayFinish, does}
 use Rattle.channel_steps.specs.declared.party.Entry.{Entry}
 use Rattle.channel_steps.specs.declared.run.Step.{Step}
 use Rattle.channel_steps.specs.declared.run.Step.TheVariants as step
 use Rattle.channel_laws.specs.Bounds.{IsDisplacing, SaysFull, NoneFull, Fits, AllOf, BoundSound, BoundsStay, NeverOverfull, UnboundedIsNeverFull}
-use Rattle.channel_laws.specs.Ends.{Each, Replies}
+use Rattle.channel_laws.specs.Ends.{Replies}
 use Rattle.channel_laws.proofs.BoundMoves.{Bounded, SaysOf, moves_bounded}
 use Rattle.channel_laws.proofs.EachFacts.{of_mine, each_steps, each_begins}
 use Rattle.channel_laws.proofs.RunFacts.{kept_long}
@@ -108,9 +108,10 @@ module _ {T W : Type 0} where
   step_never_full s t p e names st h none =
       let b = step_bounded s t p e names st in
       let mine = of_mine (λ u. AllOf s.now.queue.capacity u.seen) s t p e names st h.alike in
-      let seen : AllOf None (t.now ∷ st.mine.seen) = (b.capacity ∙ none, subst (λ (o : Option ℕ). AllOf o st.mine.seen) none mine) in
-      (finish_full (does st.mine st.at_now e.mark s.now t.now) e.reply e.kept st.finishes seen,
-      λ k. unfilled s.now none (displaces_full e.mark s.now b.says k))
+      let seen : AllOf None (t.now ∷ st.mine.seen) = (b.capacity ∙ none, subst (λ (o : Option ℕ). AllOf o st.mine.seen) none mine) in (
+        finish_full (does st.mine st.at_now e.mark s.now t.now) e.reply e.kept st.finishes seen,
+        λ k. unfilled s.now none (displaces_full e.mark s.now b.says k),
+      )
 
   next_never_full : (s : Scene T W) (x : Step T W) (e : Entry T) (names : List W) (t : Scene T W) → Next s x e names t → BoundSound s → s.now.queue.capacity ≡ None
       → (Replies SaysFull e.reply → ⊥) × (IsDisplacing e.mark → ⊥)

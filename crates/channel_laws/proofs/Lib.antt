@@ -26,4 +26,5 @@ pub mod SendMoves
 pub mod Sends
 pub mod BoundMoves
 pub mod Bounds
+pub mod Closers
 pub mod Interface

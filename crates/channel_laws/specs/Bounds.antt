@@ -1,5 +1,5 @@
 -- How many messages a channel holds at most, whether one without a bound is ever full, and how often a channel is closed.
-use Rattle.std.specs.Prelude.{◌≡◌, ℕ, ◌+◌, ◌≤◌, List, [], ◌∷◌, length, true, Option, None, Some, Ok, Err}
+use Rattle.std.specs.Prelude.{◌≡◌, ℕ, ◌+◌, ◌≤◌, List, [], ◌∷◌, length, true, Option, None, Some, Err}
 use Rattle.channel_calls.specs.Moves.{Channel}
 use Rattle.channel_calls.specs.declared.error.Refused.TheVariants as refused
 use Rattle.channel_calls.specs.declared.error.TrySendError.TheVariants as try_send_error

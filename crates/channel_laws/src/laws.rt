@@ -1,7 +1,7 @@
 //! Laws of every run of a channel's steps. Each is the contract of a function that does nothing; what
 //! `channel_steps::run::run_steps` does is such a run.
 
-ghost use Rattle.channel_laws.specs.Bounds.{BoundsStay, NeverOverfull, UnboundedIsNeverFull};
+ghost use Rattle.channel_laws.specs.Bounds.{BoundsStay, ClosesOnce, NeverOverfull, UnboundedIsNeverFull};
 ghost use Rattle.channel_laws.specs.Closed.{ClosingIsForGood};
 ghost use Rattle.channel_laws.specs.Closings.{ClosingStaysOwed, NobodyMissesTheClosing};
 ghost use Rattle.channel_laws.specs.Ends.{EndIsForGood, EndIsKnown, NothingComesAfterTheEnd};
@@ -123,4 +123,12 @@ pub fn no_more_than_fit<T, W, S: Wakes<W>>()
     ensures kept { BoundsStay T W S S.wakes }
     ensures within { NeverOverfull T W S S.wakes }
     ensures never_full { UnboundedIsNeverFull T W S S.wakes }
+{}
+
+/// Of all closes of a run from a channel that was just opened, whatever its steps are, one at most answers that it closed the
+/// channel.
+///
+/// Own to this project.
+pub fn one_close_at_most<T, W, S: Wakes<W>>()
+    ensures once { ClosesOnce T W S S.wakes }
 {}
