@@ -1,7 +1,7 @@
 //! Laws of a channel, in one place: of worlds, of runs of calls made one at a time, and of channels at rest. Each is the contract
 //! of a function that does nothing; who wants to use one calls it.
 
-ghost use Rattle.channel_world.specs.Carried.{LeadsOnInTurn, StaysWhereItIs};
+ghost use Rattle.channel_world.specs.Carried.{HoldsWhatFits, LeadsFurther, LeadsOnInTurn, StaysWhereItIs};
 
 pub use crate::recorded::laws::{a_record_leaves_nobody_asleep, a_record_loses_nothing};
 pub use channel_model::laws::{
@@ -21,4 +21,13 @@ pub use channel_rest::laws::{
 pub fn what_is_done_in_turn_leads_on<T>()
     ensures nothing { StaysWhereItIs T }
     ensures in_turn { LeadsOnInTurn T }
+    ensures further { LeadsFurther T }
+{}
+
+/// A world with a bound never holds more messages than its capacity: after any runs of steps and lists of calls, with calls under
+/// way or not, also while a message that displaced another is on its way.
+///
+/// Own to this project.
+pub fn a_world_holds_what_fits<T>()
+    ensures within { HoldsWhatFits T }
 {}
