@@ -3,7 +3,7 @@
 use Rattle.std.proofs.Common.{◌≡◌, [], None}
 use Rattle.channel_model.specs.declared.name.Waiter.{Waiter}
 use Rattle.channel_steps.specs.Scene.{Scene, HoldNobodyUp}
-use Rattle.channel_interleaving.specs.Floor.{moment_of, Shown, AreAtWork, IsQuiet, LeadsOn, Stands, StandsIn}
+use Rattle.channel_interleaving.specs.Floor.{moment_of, Shown, AreAtWork, IsQuiet, Led, LeadsOn, Stands, StandsIn}
 use Rattle.channel_interleaving.specs.Kept.{AllKept}
 use Rattle.channel_interleaving.specs.Left.{others_of}
 use Rattle.channel_interleaving.specs.Runs.{Moment, FewLeft, LeadsBy}
@@ -33,6 +33,12 @@ module _ {T : Type 0} where
   pub leads_on : (f g h : Floor T) → LeadsOn f g → LeadsOn g h → LeadsOn f h
   leads_on f g h first second s k =
       let m = first s k in
+      let t = second m.last m.stands in
+      record { last = t.last; stands = t.stands; accounts = accounts_both s m.last t.last m.accounts t.accounts }
+
+  -- from one scene too
+  pub led_further : (g h : Floor T) (s : Scene T Waiter) → Led g s → LeadsOn g h → Led h s
+  led_further g h s m second =
       let t = second m.last m.stands in
       record { last = t.last; stands = t.stands; accounts = accounts_both s m.last t.last m.accounts t.accounts }
 

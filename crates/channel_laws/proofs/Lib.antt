@@ -24,4 +24,7 @@ pub mod ReceiveMoves
 pub mod Receives
 pub mod SendMoves
 pub mod Sends
+pub mod BoundMoves
+pub mod Bounds
+pub mod Closers
 pub mod Interface

@@ -9,3 +9,4 @@ pub mod Notices
 pub mod Receives
 pub mod Sends
 pub mod Sound
+pub mod Bounds

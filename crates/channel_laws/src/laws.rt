@@ -1,6 +1,7 @@
 //! Laws of every run of a channel's steps. Each is the contract of a function that does nothing; what
 //! `channel_steps::run::run_steps` does is such a run.
 
+ghost use Rattle.channel_laws.specs.Bounds.{BoundsStay, ClosesOnce, NeverOverfull, UnboundedIsNeverFull};
 ghost use Rattle.channel_laws.specs.Closed.{ClosingIsForGood};
 ghost use Rattle.channel_laws.specs.Closings.{ClosingStaysOwed, NobodyMissesTheClosing};
 ghost use Rattle.channel_laws.specs.Ends.{EndIsForGood, EndIsKnown, NothingComesAfterTheEnd};
@@ -109,4 +110,25 @@ pub fn no_receive_is_forgotten<T, W, S: Wakes<W>>()
 pub fn no_send_is_forgotten<T, W, S: Wakes<W>>()
     ensures kept { SendsStayOwed T W S S.wakes }
     ensures owed { NoSendIsForgotten T W S S.wakes }
+{}
+
+/// Wherever a run from a channel that was just opened has come, whatever its steps are, the channel holds no more messages than its
+/// capacity: also while a message that displaced another is on its way, since no other send takes the place that was made for it.
+/// And in a run over a channel without a bound no send answers that it is full, and none displaces a message.
+///
+/// What makes it so is kept by every run, from whatever scene it holds of.
+///
+/// Own to this project.
+pub fn no_more_than_fit<T, W, S: Wakes<W>>()
+    ensures kept { BoundsStay T W S S.wakes }
+    ensures within { NeverOverfull T W S S.wakes }
+    ensures never_full { UnboundedIsNeverFull T W S S.wakes }
+{}
+
+/// Of all closes of a run from a channel that was just opened, whatever its steps are, one at most answers that it closed the
+/// channel.
+///
+/// Own to this project.
+pub fn one_close_at_most<T, W, S: Wakes<W>>()
+    ensures once { ClosesOnce T W S S.wakes }
 {}

@@ -6,3 +6,8 @@ pub mod LawSteps
 pub mod Settle
 pub mod Interface
 pub mod DirectoryLemmas
+pub mod Live
+pub mod Deeds
+pub mod HandleLaws
+pub mod BoundLaws
+pub mod LeavingLaws

@@ -11,3 +11,6 @@ pub mod Settling
 pub mod Laws
 pub mod Awake
 pub mod Rows
+pub mod Handles
+pub mod Bounds
+pub mod Leaving

@@ -1,5 +1,6 @@
 pub mod Few
 pub mod Opening
+pub mod Carried
 pub mod SoonFacts
 pub mod MarkFacts
 pub mod HeadlineFacts

@@ -4,6 +4,7 @@ pub mod Sentences
 pub mod StepsLeft
 pub mod Headline
 pub mod Settled
+pub mod Carried
 pub mod Words
 pub mod Command
 pub mod Said

@@ -11,6 +11,7 @@
 #![tactic(auto)]
 
 pub mod call;
+pub mod laws;
 pub mod name;
 pub mod recorded;
 mod room;

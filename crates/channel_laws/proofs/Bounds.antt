@@ -1,0 +1,149 @@
+-- Over runs: no more messages than fit, never full without a bound, and closed once.
+use Rattle.std.proofs.Common.{arith, ◌≡◌, ℕ, true, false, List, [], ◌∷◌, ◌++◌, Option, None, Some, Err, inl, inr, refl, sym, ap, ◌∙◌, subst}
+use Rattle.concurrent_queue.specs.Queue.{is_filled, is_full_at}
+use Rattle.channel_calls.specs.Moves.{Channel}
+use Rattle.channel_calls.specs.Parts.{Parts}
+use Rattle.channel_calls.specs.declared.ask.ChannelAsk.{ChannelAsk}
+use Rattle.channel_calls.specs.declared.ask.ChannelAsk.TheVariants as ask
+use Rattle.channel_calls.specs.declared.error.Refused.TheVariants as refused
+use Rattle.channel_calls.specs.declared.error.TrySendError.TheVariants as try_send_error
+use Rattle.channel_calls.specs.declared.mark.Mark.{Mark}
+use Rattle.channel_calls.specs.declared.mark.Mark.TheVariants as mark
+use Rattle.channel_calls.specs.declared.reply.Reply.{Reply}
+use Rattle.channel_calls.specs.declared.reply.Reply.TheVariants as reply
+use Rattle.channel_calls.specs.declared.stage.Kept.{Kept}
+use Rattle.channel_calls.specs.declared.stage.Line.TheVariants.{Sends, Receives, Streams, Closings}
+use Rattle.channel_steps.specs.Answers.{Row}
+use Rattle.channel_steps.specs.Moments.{Deed, Crowded, Once}
+use Rattle.channel_steps.specs.Run.{Next, IsRun, new_scene}
+use Rattle.channel_steps.specs.Scene.{Under, Scene, Steps, MayFinish, does}
+use Rattle.channel_steps.specs.declared.party.Entry.{Entry}
+use Rattle.channel_steps.specs.declared.run.Step.{Step}
+use Rattle.channel_steps.specs.declared.run.Step.TheVariants as step
+use Rattle.channel_laws.specs.Bounds.{IsDisplacing, SaysFull, NoneFull, Fits, AllOf, BoundSound, BoundsStay, NeverOverfull, UnboundedIsNeverFull}
+use Rattle.channel_laws.specs.Ends.{Replies}
+use Rattle.channel_laws.proofs.BoundMoves.{Bounded, SaysOf, moves_bounded}
+use Rattle.channel_laws.proofs.EachFacts.{of_mine, each_steps, each_begins}
+use Rattle.channel_laws.proofs.RunFacts.{kept_long}
+
+module _ {T W : Type 0} where
+  pub step_bounded : (s t : Scene T W) (p : ℕ) (e : Entry T) (names : List W) → Steps s p e names t → Bounded s.now t.now e.mark
+  step_bounded s t p e names st = moves_bounded s.now st.mine.at (record { channel = t.now; mark = e.mark; woken = names }) e.reply st.at_now st.moves
+
+  all_moved : (cs : List (Channel T W)) (a b : Option ℕ) → b ≡ a → AllOf a cs → AllOf b cs
+  all_moved cs a b e h = subst (λ (o : Option ℕ). AllOf o cs) (sym e) h
+
+  pub bound_new : (capacity : Option ℕ) → BoundSound (new_scene {T = T} {W = W} capacity)
+  bound_new capacity = record { fits = λ most e. omega arith; alike = tt }
+
+  pub bound_next : (s : Scene T W) (x : Step T W) (e : Entry T) (names : List W) (t : Scene T W) → Next s x e names t → BoundSound s → BoundSound t
+  bound_next s (step.Begin p a) e names t n h =
+      let same : t.now.queue.capacity ≡ s.now.queue.capacity = ap (λ (c : Channel T W). c.queue.capacity) n.0.now in
+      record {
+        fits = subst (λ (c : Channel T W). Fits c) (sym n.0.now) h.fits;
+        alike = each_begins (λ u. AllOf s.now.queue.capacity u.seen) (λ u. AllOf t.now.queue.capacity u.seen) s t p a e n.0
+            (λ u k. all_moved u.seen s.now.queue.capacity t.now.queue.capacity same k) (sym same, tt) h.alike;
+      }
+  bound_next s (step.Step p) e names t n h =
+      let b = step_bounded s t p e names n in
+      record {
+        fits = b.fits h.fits;
+        alike = each_steps (λ u. AllOf s.now.queue.capacity u.seen) (λ u. AllOf t.now.queue.capacity u.seen) s t p e names n
+            (λ u k. (refl, all_moved u.seen s.now.queue.capacity t.now.queue.capacity b.capacity k))
+            (λ k. (refl, all_moved n.mine.seen s.now.queue.capacity t.now.queue.capacity b.capacity k)) h.alike;
+      }
+
+  capacity_next : (s : Scene T W) (x : Step T W) (e : Entry T) (names : List W) (t : Scene T W) → Next s x e names t → t.now.queue.capacity ≡ s.now.queue.capacity
+  capacity_next s (step.Begin p a) e names t n = ap (λ (c : Channel T W). c.queue.capacity) n.0.now
+  capacity_next s (step.Step p) e names t n = let b = step_bounded s t p e names n in b.capacity
+
+  -- ---- without a bound
+
+  -- without a bound it is full at no moment
+  never_crowded : (cs : List (Channel T W)) → AllOf None cs → Once Crowded cs → ⊥
+  never_crowded [] all h = h
+  never_crowded (c ∷ cs) all (inl h) =
+      let filled : false ≡ true = subst (λ (o : Option ℕ). is_full_at o c.queue.items ≡ true) all.0 h.1 in cc filled
+  never_crowded (c ∷ cs) all (inr h) = never_crowded cs all.1 h
+
+  older_all : (capacity : Option ℕ) (newer older : List (Channel T W)) → AllOf capacity (newer ++ older) → AllOf capacity older
+  older_all capacity [] older all = all
+  older_all capacity (c ∷ newer) older all = older_all capacity newer older all.1
+
+  row_full : (a : ChannelAsk T W) (ds : List (Deed T W)) (seen : List (Channel T W)) (m : T)
+      → Row a ds seen (reply.TrySend (Err (refused.Plain (try_send_error.Full m)))) → Once Crowded seen
+  row_full (ask.TrySend v) ds seen m h = h.2
+  row_full ask.PollFinishedSend ds seen m h = absurd (cc h.1)
+  row_full (ask.RefusePoll Sends message key) ds seen m h = absurd (cc h.1)
+  row_full (ask.RefusePoll Receives message key) ds seen m h = absurd (cc h.1)
+  row_full (ask.RefusePoll Streams message key) ds seen m h = absurd (cc h.1)
+  row_full (ask.RefusePoll Closings message key) ds seen m h = absurd (cc h.1)
+  row_full (ask.GiveUp line message key) ds seen m h = absurd (cc h.1)
+  row_full ask.DropSender ds seen m h = absurd (cc h.1)
+  row_full (ask.DropReceiver key) ds seen m h = absurd (cc h.1)
+  row_full (ask.SendIsTerminated b) ds seen m h = absurd (cc h.1)
+  row_full (ask.SameChannel b) ds seen m h = absurd (cc h.1)
+  row_full ask.Make ds seen m h = absurd (cc h.1)
+  row_full ask.DropWeak ds seen m h = absurd (cc h.1)
+  row_full a ds seen m h = absurd h
+
+  finish_full : (u : Under T W) (r : Option (Reply T)) (left : Option (Kept T)) → MayFinish u r left → AllOf None u.seen → Replies SaysFull r → ⊥
+  finish_full u None left h all full = full
+  finish_full u (Some (reply.TrySend (Err (refused.Plain (try_send_error.Full m))))) left h all full =
+      let met = h.met in
+      let seen = subst (λ (cs : List (Channel T W)). AllOf None cs) met.2 all in
+      never_crowded met.1 (older_all None met.0 met.1 seen) (row_full u.ask u.deeds met.1 m met.3)
+  finish_full u (Some r) left h all full = absurd full
+
+  displaces_full : (m : Mark) (c : Channel T W) → SaysOf m c → IsDisplacing m → is_filled c.queue ≡ true
+  displaces_full mark.TakeDisplaced c h k = h
+  displaces_full mark.Replace c h k = h
+  displaces_full m c h k = absurd k
+
+  unfilled : (c : Channel T W) → c.queue.capacity ≡ None → is_filled c.queue ≡ true → ⊥
+  unfilled c none e = let filled : false ≡ true = subst (λ (o : Option ℕ). is_full_at o c.queue.items ≡ true) none e in cc filled
+
+  step_never_full : (s t : Scene T W) (p : ℕ) (e : Entry T) (names : List W) (st : Steps s p e names t) → BoundSound s → s.now.queue.capacity ≡ None
+      → (Replies SaysFull e.reply → ⊥) × (IsDisplacing e.mark → ⊥)
+  step_never_full s t p e names st h none =
+      let b = step_bounded s t p e names st in
+      let mine = of_mine (λ u. AllOf s.now.queue.capacity u.seen) s t p e names st h.alike in
+      let seen : AllOf None (t.now ∷ st.mine.seen) = (b.capacity ∙ none, subst (λ (o : Option ℕ). AllOf o st.mine.seen) none mine) in (
+        finish_full (does st.mine st.at_now e.mark s.now t.now) e.reply e.kept st.finishes seen,
+        λ k. unfilled s.now none (displaces_full e.mark s.now b.says k),
+      )
+
+  next_never_full : (s : Scene T W) (x : Step T W) (e : Entry T) (names : List W) (t : Scene T W) → Next s x e names t → BoundSound s → s.now.queue.capacity ≡ None
+      → (Replies SaysFull e.reply → ⊥) × (IsDisplacing e.mark → ⊥)
+  next_never_full s (step.Begin p a) e names t n h none =
+      let entry = n.0.entry in
+      (λ k. subst (λ (f : Entry T). Replies SaysFull f.reply) entry k, λ k. subst (λ (f : Entry T). IsDisplacing f.mark) entry k)
+  next_never_full s (step.Step p) e names t n h none = step_never_full s t p e names n h none
+
+  module _ {S : Type 0} (wakes : S → W → S → Type 0) where
+    run_never_full : (parts parts' : Parts T W) (s t : Scene T W) (a b : S) (xs : List (Step T W)) (es : List (Entry T)) → BoundSound s → s.now.queue.capacity ≡ None
+        → IsRun wakes parts s a xs es parts' t b → NoneFull es
+    run_never_full parts parts' s t a b [] [] h none run = tt
+    run_never_full parts parts' s t a b (x ∷ xs) (e ∷ es) h none run =
+        let k = next_never_full s x e run.3 run.1 run.5 h none in
+        (k.0, k.1, run_never_full run.0 parts' run.1 t run.2 b xs es (bound_next s x e run.3 run.1 run.5 h) (capacity_next s x e run.3 run.1 run.5 ∙ none) run.7)
+    run_never_full parts parts' s t a b [] (e ∷ es) h none run = absurd run
+    run_never_full parts parts' s t a b (x ∷ xs) [] h none run = absurd run
+
+    run_capacity : (parts parts' : Parts T W) (s t : Scene T W) (a b : S) (xs : List (Step T W)) (es : List (Entry T)) → IsRun wakes parts s a xs es parts' t b
+        → t.now.queue.capacity ≡ s.now.queue.capacity
+    run_capacity parts parts' s t a b xs es run =
+        kept_long wakes (λ (x : Scene T W). x.now.queue.capacity ≡ s.now.queue.capacity) (λ y x e names z n h. capacity_next y x e names z n ∙ h)
+        parts parts' s t a b xs es refl run
+
+module _ (T W S : Type 0) (wakes : S → W → S → Type 0) where
+  pub bounds_stay : BoundsStay T W S wakes
+  bounds_stay s t steps trace h run = kept_long wakes (λ (x : Scene T W). BoundSound x) bound_next run.0 run.1 s t run.2 run.3 steps trace h run.4
+
+  pub never_overfull : NeverOverfull T W S wakes
+  never_overfull capacity t steps trace run =
+      let k = bounds_stay (new_scene capacity) t steps trace (bound_new capacity) run in
+      (run_capacity wakes run.0 run.1 (new_scene capacity) t run.2 run.3 steps trace run.4, k.fits)
+
+  pub never_full : UnboundedIsNeverFull T W S wakes
+  never_full s t steps trace h none run = run_never_full wakes run.0 run.1 s t run.2 run.3 steps trace h none run.4

@@ -1,0 +1,6 @@
+-- From what its cells show.
+use Rattle.channel_world.proofs.Carried.{holds_what_fits}
+use Rattle.channel_world.proofs.laws.a_world_holds_what_fits.Goals as goal
+
+pub returns : goal.returns
+returns g c = record { within = holds_what_fits }

@@ -1,0 +1,24 @@
+-- What is carried through all that is done to a world, one thing after another; and how many messages a world holds at most.
+use Rattle.std.specs.Prelude.{◌≤◌, IfSome}
+use Rattle.concurrent_queue.specs.Capacity.{capacity_of}
+use Rattle.channel_model.specs.declared.name.Waiter.{Waiter}
+use Rattle.channel_steps.specs.Scene.{Scene}
+use Rattle.channel_interleaving.specs.Floor.{parts_in, messages_in, Led, LeadsOn, Stands}
+use Rattle.channel_interleaving.specs.declared.floor.Floor.{Floor}
+
+-- where nothing is done, each world leads on to itself
+abbrev pub StaysWhereItIs : Type 0 → Type 0
+StaysWhereItIs T = (a : Floor T) → LeadsOn a a
+
+-- Where what is done first leads on from a world to a second, and what is done then from there to a third, all of it leads on from
+-- the first to the third.
+abbrev pub LeadsOnInTurn : Type 0 → Type 0
+LeadsOnInTurn T = (a b c : Floor T) → LeadsOn a b → LeadsOn b c → LeadsOn a c
+
+-- The same from one scene: what was led from it to a world, and leads on from there, is led from it to where that leads.
+abbrev pub LeadsFurther : Type 0 → Type 0
+LeadsFurther T = (b c : Floor T) (s : Scene T Waiter) → Led b s → LeadsOn b c → Led c s
+
+-- A world never holds more messages than its capacity, calls under way or not.
+abbrev pub HoldsWhatFits : Type 0 → Type 0
+HoldsWhatFits T = (w : Floor T) → Stands w → IfSome (capacity_of (parts_in w).cells.form) (λ most. messages_in w ≤ most)

@@ -1,0 +1,33 @@
+//! Laws of a channel, in one place: of worlds, of runs of calls made one at a time, and of channels at rest. Each is the contract
+//! of a function that does nothing; who wants to use one calls it.
+
+ghost use Rattle.channel_world.specs.Carried.{HoldsWhatFits, LeadsFurther, LeadsOnInTurn, StaysWhereItIs};
+
+pub use crate::recorded::laws::{a_record_leaves_nobody_asleep, a_record_loses_nothing};
+pub use channel_model::laws::{
+    a_refused_message_is_not_held, an_unbounded_channel_is_never_full, at_most_one_closes,
+    counts_are_handles, length_is_within, messages_leave_in_turn, nobody_is_left_asleep,
+    nothing_is_lost, settling_ends, upgrades_while_open,
+};
+pub use channel_rest::laws::{
+    a_call_made_alone_is_the_models, a_channel_at_rest_is_a_world, a_poll_of_settling_is_the_models,
+};
+
+/// Runs of steps and lists of calls may follow each other as they like, from whatever world: what left the channel in all of
+/// them, followed by what it holds in the end, is what it held at first followed by what came in all of them, in order. For what
+/// leads on from a first world to a second, and then from the second to a third, leads on from the first to the third.
+///
+/// Own to this project.
+pub fn what_is_done_in_turn_leads_on<T>()
+    ensures nothing { StaysWhereItIs T }
+    ensures in_turn { LeadsOnInTurn T }
+    ensures further { LeadsFurther T }
+{}
+
+/// A world with a bound never holds more messages than its capacity: after any runs of steps and lists of calls, with calls under
+/// way or not, also while a message that displaced another is on its way.
+///
+/// Own to this project.
+pub fn a_world_holds_what_fits<T>()
+    ensures within { HoldsWhatFits T }
+{}
