@@ -18,7 +18,21 @@ abbrev pub yes_or_no : Bool → List ℕ
 yes_or_no true = codes "true"
 yes_or_no false = codes "false"
 
--- a reply that wants memory or serials has no text, since it ends the script
+-- of closing, of a question, and of what makes or ends a handle or an operation; a reply that wants memory or serials has no
+-- text, since it ends the script
+abbrev pub short_text : Reply ℕ → List ℕ
+short_text (reply.Closed b) = yes_or_no b
+short_text (reply.Flag b) = yes_or_no b
+short_text (reply.Count n) = decimal n
+short_text (reply.Cap None) = codes "none"
+short_text (reply.Cap (Some n)) = decimal n
+short_text reply.Made = codes "ok"
+short_text reply.NotMade = codes "none"
+short_text reply.TooMany = codes "too many"
+short_text (reply.GivenUp m) = codes "ok"
+short_text reply.Unit = codes "ok"
+short_text wanting = []
+
 abbrev pub reply_text : Reply ℕ → List ℕ
 reply_text (reply.TrySend (Ok u)) = codes "ok"
 reply_text (reply.TrySend (Err (Plain (send_error.Full m)))) = codes "full " ++ decimal m
@@ -40,17 +54,7 @@ reply_text (reply.ClosedPoll (Ready (Ok u))) = codes "ready"
 reply_text (reply.Next Pending) = codes "pending"
 reply_text (reply.Next (Ready None)) = codes "none"
 reply_text (reply.Next (Ready (Some (Ok m)))) = codes "some " ++ decimal m
-reply_text (reply.Closed b) = yes_or_no b
-reply_text (reply.Flag b) = yes_or_no b
-reply_text (reply.Count n) = decimal n
-reply_text (reply.Cap None) = codes "none"
-reply_text (reply.Cap (Some n)) = decimal n
-reply_text reply.Made = codes "ok"
-reply_text reply.NotMade = codes "none"
-reply_text reply.TooMany = codes "too many"
-reply_text (reply.GivenUp m) = codes "ok"
-reply_text reply.Unit = codes "ok"
-reply_text wanting = []
+reply_text r = short_text r
 
 -- a reply of a try, or of a poll
 abbrev pub IsTry : Reply ℕ → Type 0

@@ -11,8 +11,8 @@ use Rattle.event_listener.specs.Lists.{same_key}
 
 -- the visits after one more, which counts where it is not to the call's own listener
 abbrev pub visited : Option Key → Key → ℕ → ℕ
-visited None key visits = min (visits + 1) (2 ^ 128 - 1)
-visited (Some own) key visits = if same_key own key then visits else min (visits + 1) (2 ^ 128 - 1)
+visited None key visits = min (visits + 1) (2 ^ 64 - 1)
+visited (Some own) key visits = if same_key own key then visits else min (visits + 1) (2 ^ 64 - 1)
 
 module _ {T W : Type 0} where
   abbrev pub is_told : State T W → Bool
@@ -34,7 +34,7 @@ module _ {T W : Type 0} where
   -- the looks after one at what stands in a slot
   abbrev pub looked_at : Option (Node T W) → ℕ → ℕ
   looked_at None looks = looks
-  looked_at (Some node) looks = min (looks + 1) (2 ^ 128 - 1)
+  looked_at (Some node) looks = min (looks + 1) (2 ^ 64 - 1)
 
   abbrev pub changed : Change T W → Node T W → Node T W
   changed (change.Before before) node = record node { before = before }

@@ -238,7 +238,7 @@ impl<T: Drop, W: Drop> List<T, W> {
     pub fn last_visits(&self) -> u128
         ensures { result ≡ self.now.visits }
     {
-        self.nodes.last()
+        self.nodes.last() as u128
     }
 
     /// Makes room for this many more listeners, in all; where there is so much already it isn't refused.

@@ -61,9 +61,9 @@ pub(crate) enum Change<T, W> {
 pub(crate) struct Nodes<T, W> {
     slab: Slab<Node<T, W>>,
     own: Option<Key>,
-    visits: u128,
-    last: u128,
-    looks: u128,
+    visits: u64,
+    last: u64,
+    looks: u64,
 }
 
 impl<T: Drop, W: Drop> Nodes<T, W> {
@@ -100,7 +100,7 @@ impl<T: Drop, W: Drop> Nodes<T, W> {
 
     /// Adds the visits to the number of the call under way, or lets a poll's go.
     pub(crate) fn settle(&mut self, counted: bool)
-        ensures { self.new ≡ record self.old { own = None; visits = 0; last = (if counted then min (self.old.last + self.old.visits) (2 ^ 128 - 1) else self.old.last) } }
+        ensures { self.new ≡ record self.old { own = None; visits = 0; last = (if counted then min (self.old.last + self.old.visits) (2 ^ 64 - 1) else self.old.last) } }
     {
         if counted {
             self.last = self.last.saturating_add(self.visits);
@@ -110,14 +110,14 @@ impl<T: Drop, W: Drop> Nodes<T, W> {
     }
 
     /// The number of the last call.
-    pub(crate) fn last(&self) -> u128
+    pub(crate) fn last(&self) -> u64
         ensures { result ≡ self.now.last }
     {
         self.last
     }
 
     fn count(&mut self, at: usize, serial: u64)
-        ensures rest { self.new ≡ record self.old { visits = visited self.old.own (record { slot = at; serial = serial }) self.old.visits; looks = min (self.old.looks + 1) (2 ^ 128 - 1) } }
+        ensures rest { self.new ≡ record self.old { visits = visited self.old.own (record { slot = at; serial = serial }) self.old.visits; looks = min (self.old.looks + 1) (2 ^ 64 - 1) } }
         ensures most { self.new.visits ≤ self.old.visits + 1 }
         ensures most_looks { self.new.looks ≤ self.old.looks + 1 }
     {
