@@ -3,6 +3,7 @@
 use crate::log::{Log, Moment};
 use crate::plain::Plain;
 use std::alloc::{AllocError, Global};
+use std::collections::HashSet;
 
 /// How many states are gone on from at most, and how many moments may change nothing.
 const MOST: u64 = 1_000_000;
@@ -38,6 +39,16 @@ impl State {
         let plain = self.plain.again()?;
         let made = self.made.clone()?;
         Ok(State { plain, made })
+    }
+
+    /// Numbers that no other state of the same search has.
+    fn numbers(&self, alloc: Global) -> Result<Vec<u64>, AllocError> {
+        let mut numbers = Vec::new(alloc);
+        for made in &self.made {
+            numbers.push(*made as u64)?;
+        }
+        self.plain.tell(&mut numbers)?;
+        Ok(numbers)
     }
 
     /// The thread's next moment.
@@ -130,37 +141,59 @@ impl State {
     }
 }
 
-/// One state is gone on from: whether an order was found.
-fn search_one(state: State, logs: &[Log], states: &mut Vec<State>) -> Result<bool, AllocError> {
-    let mut state = state;
-    match state.pass(logs)? {
-        Some(limit) => {
-            state.go_on(logs, limit, states)?;
-            Ok(false)
+/// The states that are still to be gone on from, and the numbers of those that were.
+#[derive(Drop)]
+struct Search {
+    states: Vec<State>,
+    seen: HashSet<Vec<u64>>,
+    alloc: Global,
+}
+
+impl Search {
+    fn new(first: State, alloc: Global) -> Result<Search, AllocError> {
+        let mut states = Vec::new(alloc);
+        states.push(first)?;
+        Ok(Search {
+            states,
+            seen: HashSet::new(alloc),
+            alloc,
+        })
+    }
+
+    /// Goes on from this state, unless it did before: whether an order was found.
+    fn go_on(&mut self, state: State, logs: &[Log]) -> Result<bool, AllocError> {
+        let mut state = state;
+        let Some(limit) = state.pass(logs)? else {
+            return Ok(true);
+        };
+        let numbers = state.numbers(self.alloc)?;
+        if self.seen.insert(numbers)? {
+            state.go_on(logs, limit, &mut self.states)?;
         }
-        None => {
-            drop(state);
-            Ok(true)
+        Ok(false)
+    }
+
+    /// Goes on from states as long as there are such.
+    fn run(&mut self, logs: &[Log]) -> Result<Verdict, AllocError> {
+        for _ in 0..MOST {
+            let Some(state) = self.states.pop() else {
+                return Ok(Verdict::Refused);
+            };
+            if self.go_on(state, logs)? {
+                return Ok(Verdict::Fits);
+            }
         }
+        Ok(Verdict::Undecided)
     }
 }
 
 /// Searches from this channel on.
-fn search(plain: Plain, logs: &[Log], alloc: Global) -> Result<Verdict, AllocError> {
-    let mut states = Vec::new(alloc);
-    states.push(State::new(plain, logs, alloc)?)?;
-    for _ in 0..MOST {
-        let Some(state) = states.pop() else {
-            return Ok(Verdict::Refused);
-        };
-        if search_one(state, logs, &mut states)? {
-            return Ok(Verdict::Fits);
-        }
-    }
-    Ok(Verdict::Undecided)
+fn find(plain: Plain, logs: &[Log], alloc: Global) -> Result<Verdict, AllocError> {
+    let first = State::new(plain, logs, alloc)?;
+    Search::new(first, alloc)?.run(logs)
 }
 
 /// Whether a plain channel that begins so does what these logs say, in some order that fits the stamps.
 pub fn judge(plain: Plain, logs: &[Log], alloc: Global) -> Verdict {
-    search(plain, logs, alloc).unwrap_or(Verdict::Undecided)
+    find(plain, logs, alloc).unwrap_or(Verdict::Undecided)
 }

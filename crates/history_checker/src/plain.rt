@@ -18,6 +18,14 @@ pub struct Plain {
     last_receiver: Option<usize>,
 }
 
+/// A number for whoever dropped the last handle of a kind, or for nobody.
+fn number_of(thread: Option<usize>) -> u64 {
+    match thread {
+        Some(thread) => (thread as u64).wrapping_add(1),
+        None => 0,
+    }
+}
+
 impl Plain {
     /// An open and empty channel with so many handles.
     pub fn new(capacity: Option<usize>, senders: usize, receivers: usize, alloc: Global) -> Plain {
@@ -46,6 +54,20 @@ impl Plain {
             last_sender: self.last_sender,
             last_receiver: self.last_receiver,
         })
+    }
+
+    /// Adds what it is to these numbers. Of two channels of one capacity they differ where the channels do.
+    pub fn tell(&self, numbers: &mut Vec<u64>) -> Result<(), AllocError> {
+        numbers.push(u64::from(self.closed))?;
+        numbers.push(u64::from(self.coming))?;
+        numbers.push(self.senders as u64)?;
+        numbers.push(self.receivers as u64)?;
+        numbers.push(number_of(self.last_sender))?;
+        numbers.push(number_of(self.last_receiver))?;
+        for message in &self.messages {
+            numbers.push(*message)?;
+        }
+        Ok(())
     }
 
     fn is_full(&self) -> bool {
