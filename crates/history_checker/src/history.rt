@@ -3,6 +3,7 @@
 use crate::log::Log;
 use crate::order::{Verdict, judge};
 use crate::plain::Plain;
+use crate::rest::Rest;
 use std::alloc::Global;
 use std::io;
 
@@ -13,8 +14,6 @@ pub struct History {
     pub plain: Plain,
     /// A log for each thread.
     pub logs: Vec<Log>,
-    /// Whether nobody slept at the rest who must not.
-    pub restful: bool,
 }
 
 /// What is wrong with a history.
@@ -31,14 +30,27 @@ pub enum Fault {
 }
 
 impl History {
-    /// What is wrong with it, if anything is.
-    pub fn fault(&self, alloc: Global) -> Option<Fault> {
+    fn is_spoiled(&self) -> bool {
+        self.logs.iter().any(|log| log.spoiled)
+    }
+
+    /// Whether nobody slept who must not, when no call was under way.
+    fn is_restful(&self) -> bool {
+        let mut rest = Rest::unseen();
         for log in &self.logs {
-            if log.spoiled {
-                return Some(Fault::Spoiled);
+            if let Some(look) = log.look {
+                rest = rest.with(look);
             }
         }
-        if !self.restful {
+        rest.is_right()
+    }
+
+    /// What is wrong with it, if anything is.
+    pub fn fault(&self, alloc: Global) -> Option<Fault> {
+        if self.is_spoiled() {
+            return Some(Fault::Spoiled);
+        }
+        if !self.is_restful() {
             return Some(Fault::Asleep);
         }
         let Ok(plain) = self.plain.again() else {

@@ -1,6 +1,7 @@
 //! What the calls of one thread did, with the stamps between which they did it.
 
 use crate::point::{Did, Point};
+use crate::rest::Look;
 use std::alloc::Global;
 use std::sync::atomic::{AtomicU64, Ordering};
 
@@ -40,6 +41,8 @@ pub struct Moment {
 pub struct Log {
     /// The moments of all calls.
     pub moments: Vec<Moment>,
+    /// What it saw when no call was under way, if it looked then.
+    pub look: Option<Look>,
     /// Whether a call answered what none may, or memory was refused.
     pub spoiled: bool,
 }
@@ -49,15 +52,8 @@ impl Log {
     pub fn new(alloc: Global) -> Log {
         Log {
             moments: Vec::new(alloc),
+            look: None,
             spoiled: false,
-        }
-    }
-
-    /// Of one that was refused memory.
-    pub fn spoiled(alloc: Global) -> Log {
-        Log {
-            moments: Vec::new(alloc),
-            spoiled: true,
         }
     }
 

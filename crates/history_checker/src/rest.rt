@@ -55,32 +55,64 @@ impl Waiting {
     }
 }
 
-/// Whether nobody sleeps who must not: on a closed channel nobody does; on an open one no receive beside messages and no
-/// send beside free places for which others are woken, and no stream beside a message.
-pub fn is_restful(looks: &[Look]) -> bool {
-    let mut sends = Waiting::nobody();
-    let mut receives = Waiting::nobody();
-    let mut streams = Waiting::nobody();
-    let mut closings = Waiting::nobody();
-    for look in looks {
-        sends = sends.with(look.send);
-        receives = receives.with(look.recv);
-        streams = streams.with(look.stream);
-        closings = closings.with(look.closed);
+/// What the threads see together.
+#[derive(Clone, Copy)]
+pub struct Rest {
+    sends: Waiting,
+    receives: Waiting,
+    closings: Waiting,
+    streams: Waiting,
+    look: Option<Look>,
+}
+
+impl Rest {
+    /// Of no thread.
+    pub fn unseen() -> Rest {
+        Rest {
+            sends: Waiting::nobody(),
+            receives: Waiting::nobody(),
+            closings: Waiting::nobody(),
+            streams: Waiting::nobody(),
+            look: None,
+        }
     }
-    let Some(look) = looks.first() else {
-        return true;
-    };
-    if look.shut {
-        return sends.asleep == 0
-            && receives.asleep == 0
-            && streams.asleep == 0
-            && closings.asleep == 0;
+
+    /// With what one thread more sees.
+    pub fn with(self, look: Look) -> Rest {
+        Rest {
+            sends: self.sends.with(look.send),
+            receives: self.receives.with(look.recv),
+            closings: self.closings.with(look.closed),
+            streams: self.streams.with(look.stream),
+            look: Some(look),
+        }
     }
-    let places = match look.capacity {
-        Some(capacity) => capacity.saturating_sub(look.messages),
-        None => usize::MAX,
-    };
-    let fed = streams.asleep == 0 || look.messages == 0;
-    sends.answers_for(places) && receives.answers_for(look.messages) && fed
+
+    fn nobody_sleeps(self) -> bool {
+        self.sends.asleep == 0
+            && self.receives.asleep == 0
+            && self.closings.asleep == 0
+            && self.streams.asleep == 0
+    }
+
+    /// Nobody sleeps beside what is there of an open channel.
+    fn is_fed(self, look: Look) -> bool {
+        let places = match look.capacity {
+            Some(capacity) => capacity.saturating_sub(look.messages),
+            None => usize::MAX,
+        };
+        self.sends.answers_for(places)
+            && self.receives.answers_for(look.messages)
+            && (self.streams.asleep == 0 || look.messages == 0)
+    }
+
+    /// Whether nobody sleeps who must not: on a closed channel nobody does; on an open one no receive beside messages and no
+    /// send beside free places for which others are not woken, and no stream beside a message.
+    pub fn is_right(self) -> bool {
+        match self.look {
+            None => true,
+            Some(look) if look.shut => self.nobody_sleeps(),
+            Some(look) => self.is_fed(look),
+        }
+    }
 }

@@ -1,6 +1,6 @@
 //! Threads that sleep when no call is under way, where they may and where they must not.
 
-use history_checker::rest::{Look, is_restful};
+use history_checker::rest::{Look, Rest};
 use std::test::Fail;
 
 /// Nothing waits beside one message of two places.
@@ -65,14 +65,20 @@ fn one_that_waits(rt: HostRuntime) -> Result<(), Fail> {
         (awaits_closing(true), false),
     ];
     for (one, want) in rows {
-        assert_eq!(rt; is_restful(&[one]), want, "{one:?}");
+        assert_eq!(rt; Rest::unseen().with(one).is_right(), want, "{one:?}");
     }
     Ok(())
 }
 
 #[test]
 fn one_that_is_woken_answers_for_one_message(rt: HostRuntime) -> Result<(), Fail> {
-    assert!(rt; is_restful(&[receives(false, 1), receives(true, 1)]));
-    assert!(rt; !is_restful(&[receives(false, 2), receives(true, 2)]));
+    let one = Rest::unseen()
+        .with(receives(false, 1))
+        .with(receives(true, 1));
+    let two = Rest::unseen()
+        .with(receives(false, 2))
+        .with(receives(true, 2));
+    assert!(rt; one.is_right());
+    assert!(rt; !two.is_right());
     Ok(())
 }
