@@ -117,7 +117,7 @@ impl State {
         let mut first = None;
         for thread in 0..logs.len() {
             if let Some(moment) = self.choice(logs, thread, limit) {
-                if moment.end == limit {
+                if moment.end == limit && first.is_none() {
                     first = Some((moment, thread));
                 } else {
                     let mut after = self.again()?;

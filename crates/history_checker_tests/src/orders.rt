@@ -144,3 +144,26 @@ fn open_after_the_last_drop(rt: HostRuntime) -> Result<(), Fail> {
     );
     Ok(())
 }
+
+/// A log of an append, and of many handles that are made while it is under way.
+fn busy(alloc: Global, message: u64, end: u64, side: Side) -> Log {
+    let mut log = Log::new(alloc);
+    log.note(0, end, appends(message));
+    for _ in 0..12 {
+        log.note(0, end, Did::Once(Point::Raise(side)));
+    }
+    log
+}
+
+#[test]
+fn an_order_that_is_told_late(rt: HostRuntime) -> Result<(), Fail> {
+    let alloc = rt.alloc();
+    let logs = [
+        busy(alloc, 1, 100, Side::Senders),
+        busy(alloc, 2, 99, Side::Receivers),
+        log(alloc, &[(101, 102, takes(1)), (103, 104, takes(2))]),
+    ];
+    let plain = Plain::new(Some(2), 1, 1, alloc);
+    assert_eq!(rt; judge(plain, &logs, alloc), Verdict::Fits);
+    Ok(())
+}
