@@ -1,0 +1,138 @@
+//! One thread of a history over handles.
+
+use crate::acts::Act;
+use crate::random::Random;
+use async_channel::{Closed, Receiver, Recv, Send, Sender, WeakReceiver, WeakSender};
+use futures::test::MockTask;
+use history_checker::log::{Log, Stamps};
+use history_checker::point::Did;
+use std::alloc::{AllocGlobal, Global};
+use std::random::RandomSource;
+use std::sync::Wait;
+use std::{io, thread};
+
+/// The tasks that poll: one for each kind of operation.
+#[derive(Drop)]
+pub struct Tasks {
+    pub send: MockTask,
+    pub recv: MockTask,
+    pub closed: MockTask,
+    pub stream: MockTask,
+}
+
+impl Tasks {
+    /// Tasks that were not woken; refused where memory or random bits are.
+    pub fn new<R: RandomSource + AllocGlobal>(rt: &R) -> io::Result<Tasks> {
+        Ok(Tasks {
+            send: MockTask::new(rt)?,
+            recv: MockTask::new(rt)?,
+            closed: MockTask::new(rt)?,
+            stream: MockTask::new(rt)?,
+        })
+    }
+}
+
+/// The handles that a thread begins with, beside the receiver that it polls as a stream.
+#[derive(Drop)]
+pub struct Hands<R: Wait + Copy> {
+    pub sender: Sender<u64, R>,
+    pub receiver: Receiver<u64, R>,
+    pub weak_sender: WeakSender<u64, R>,
+    pub weak_receiver: WeakReceiver<u64, R>,
+}
+
+impl<R: Wait + Copy> Hands<R> {
+    /// One more of each; None where one was refused.
+    pub fn of(sender: &Sender<u64, R>, receiver: &Receiver<u64, R>) -> Option<Hands<R>> {
+        Some(Hands {
+            sender: sender.try_clone().ok()?,
+            receiver: receiver.try_clone().ok()?,
+            weak_sender: sender.downgrade().ok()?,
+            weak_receiver: receiver.downgrade().ok()?,
+        })
+    }
+}
+
+/// A thread's handles, operations and log.
+#[derive(Drop)]
+pub struct Party<'a, R: Wait + Copy> {
+    pub hands: &'a Hands<R>,
+    pub stream: &'a mut Receiver<u64, R>,
+    pub tasks: &'a Tasks,
+    pub stamps: &'a Stamps,
+    pub random: Random,
+    /// The last new message.
+    pub message: u64,
+    /// The message of the send that waits.
+    pub sending: u64,
+    pub send: Option<Send<'a, u64, R>>,
+    pub recv: Option<Recv<'a, u64, R>>,
+    pub closed: Option<Closed<'a, u64, R>>,
+    /// Whether the stream's last poll was pending.
+    pub streams: bool,
+    pub senders: Vec<Sender<u64, R>>,
+    pub receivers: Vec<Receiver<u64, R>>,
+    pub log: Log,
+}
+
+impl<'a, R: Wait + Copy> Party<'a, R> {
+    /// A thread that has made no call. Its messages are those above this number.
+    pub fn new(
+        hands: &'a Hands<R>,
+        stream: &'a mut Receiver<u64, R>,
+        tasks: &'a Tasks,
+        stamps: &'a Stamps,
+        random: Random,
+        message: u64,
+        alloc: Global,
+    ) -> Party<'a, R> {
+        Party {
+            hands,
+            stream,
+            tasks,
+            stamps,
+            random,
+            message,
+            sending: message,
+            send: None,
+            recv: None,
+            closed: None,
+            streams: false,
+            senders: Vec::new(alloc),
+            receivers: Vec::new(alloc),
+            log: Log::new(alloc),
+        }
+    }
+
+    /// The next new message.
+    pub fn next_message(&mut self) -> u64 {
+        self.message = self.message.wrapping_add(1);
+        self.message
+    }
+
+    /// A call that began at this stamp has ended, and did this.
+    pub fn note(&mut self, begin: u64, did: Did) {
+        let end = self.stamps.stamp();
+        self.log.note(begin, end, did);
+    }
+
+    /// Makes so many calls, with a yield before some of them. It blocks only where it may.
+    pub fn make_calls(&mut self, calls: u64, may_block: bool) {
+        for _ in 0..calls {
+            if self.random.once_in(3) {
+                thread::yield_now();
+            }
+            match Act::draw(&mut self.random) {
+                Act::SendBlocking if !may_block => self.try_send(),
+                Act::RecvBlocking if !may_block => self.try_recv(),
+                act => self.act(act),
+            }
+        }
+    }
+
+    /// Its log, its operations and further handles being gone.
+    pub fn into_log(self) -> Log {
+        let Party { log, .. } = self;
+        log
+    }
+}

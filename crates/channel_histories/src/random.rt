@@ -1,0 +1,42 @@
+//! Random numbers, the same at each run.
+
+use rand_core::utils::NextWord;
+use rand_pcg::Pcg32;
+
+/// A generator that was started from a seed and a stream of its own.
+#[derive(Drop)]
+pub struct Random {
+    words: Pcg32,
+}
+
+impl Random {
+    /// The generator of this seed, for this thread.
+    pub fn new(seed: u64, thread: usize) -> Random {
+        Random {
+            words: Pcg32::new(seed, thread as u64),
+        }
+    }
+
+    /// A number below this one; 0 where this one is 0.
+    pub fn below(&mut self, bound: usize) -> usize {
+        let word = self.words.next_word() as usize;
+        word.checked_rem(bound).unwrap_or(0)
+    }
+
+    /// True one time in so many.
+    pub fn once_in(&mut self, times: usize) -> bool {
+        self.below(times) == 0
+    }
+
+    /// One of these, by their weights, whose sum is `all`.
+    pub fn pick<A: Copy>(&mut self, weights: &[(A, usize)], all: usize) -> Option<A> {
+        let mut left = self.below(all);
+        for (one, weight) in weights {
+            if left < *weight {
+                return Some(*one);
+            }
+            left = left.saturating_sub(*weight);
+        }
+        None
+    }
+}

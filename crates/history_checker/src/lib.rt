@@ -1,0 +1,16 @@
+//! Whether what threads did to a channel together is what a plain closable channel does: a list of messages, a flag, two
+//! counts of handles.
+//!
+//! Each thread keeps a [`Log`](log::Log): for each call two stamps of one counter, taken before and after it, and what happened
+//! to the channel at moments between, as the call's answer says. [`judge`](order::judge) looks for an order of all moments in
+//! which the plain channel does just that, and in which a call that had ended comes before one that began later.
+//! A displacing send has two moments: between them the oldest message has left and the new one is on its way, nothing else comes
+//! in, and nobody is told that the channel is empty.
+#![tactic(auto)]
+
+pub mod history;
+pub mod log;
+pub mod order;
+pub mod plain;
+pub mod point;
+pub mod rest;

@@ -1,0 +1,8 @@
+//! Tests of `history_checker`: what it must refuse, and what it must not. A crate of their own, so that what they prove is proved
+//! once.
+#![tactic(auto)]
+
+#[cfg(test)]
+mod orders;
+#[cfg(test)]
+mod rests;

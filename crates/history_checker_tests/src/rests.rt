@@ -1,0 +1,84 @@
+//! Threads that sleep when no call is under way, where they may and where they must not.
+
+use history_checker::rest::{Look, Rest};
+use std::test::Fail;
+
+/// Nothing waits beside one message of two places.
+const NOBODY: Look = Look {
+    send: None,
+    recv: None,
+    closed: None,
+    stream: None,
+    messages: 1,
+    capacity: Some(2),
+    shut: false,
+};
+
+/// A send that is pending, beside so many messages.
+fn sends(woken: bool, messages: usize) -> Look {
+    Look {
+        send: Some(woken),
+        messages,
+        ..NOBODY
+    }
+}
+
+/// A receive that is pending, beside so many messages.
+fn receives(woken: bool, messages: usize) -> Look {
+    Look {
+        recv: Some(woken),
+        messages,
+        ..NOBODY
+    }
+}
+
+/// A stream whose last poll was pending, and that was not woken since, beside so many messages.
+fn streams(messages: usize) -> Look {
+    Look {
+        stream: Some(false),
+        messages,
+        ..NOBODY
+    }
+}
+
+/// A wait for the closing of a channel that is closed or not; it was not woken.
+fn awaits_closing(shut: bool) -> Look {
+    Look {
+        closed: Some(false),
+        shut,
+        ..NOBODY
+    }
+}
+
+#[test]
+fn one_that_waits(rt: HostRuntime) -> Result<(), Fail> {
+    let rows = [
+        (NOBODY, true),
+        (receives(false, 1), false),
+        (receives(true, 1), true),
+        (receives(false, 0), true),
+        (sends(false, 1), false),
+        (sends(false, 2), true),
+        (streams(1), false),
+        (streams(0), true),
+        (awaits_closing(false), true),
+        (awaits_closing(true), false),
+    ];
+    for (one, want) in rows {
+        assert_eq!(rt; Rest::unseen().with(one).is_right(), want, "{one:?}");
+    }
+    Ok(())
+}
+
+#[test]
+fn one_that_is_woken_answers_for_one_message(rt: HostRuntime) -> Result<(), Fail> {
+    let one = Rest::unseen()
+        .with(receives(false, 1))
+        .with(receives(true, 1));
+    let two = Rest::unseen()
+        .with(receives(false, 2))
+        .with(receives(true, 2));
+    assert!(rt; one.is_right());
+    assert!(rt; !two.is_right());
+    Ok(())
+}
