@@ -6,6 +6,7 @@
 
 mod decimal;
 mod event;
+mod handles;
 mod list;
 mod queue;
 mod recorded;
@@ -21,12 +22,13 @@ use std::thread::Threads;
 use std::{env, io};
 
 /// Measures what the word names. Locks and queues between threads are measured too, and may wait.
-fn measure<R: Clock + Print + Wait + Threads + Copy + Sync>(
+fn measure<R: Clock + Print + Wait + Threads + Copy + Sync + Send>(
     rt: R,
     alloc: Global,
     word: &str,
 ) -> io::Result<()> {
     match word {
+        "handles" => handles::measure_handles(rt, alloc),
         "list" => list::measure_lists(&rt, alloc),
         "event" => event::measure_events(rt, alloc),
         "pairs" => queue::make_pairs(&rt, alloc),
