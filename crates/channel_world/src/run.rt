@@ -7,7 +7,9 @@ impl<T: Drop> World<T> {
     ghost use Rattle.std.specs.Prelude.{◌≡◌, ◌<◌, IfSome, IfNone, vec_len, vec_capacity};
     ghost use Rattle.std.specs.Option.{option_map};
     ghost use Rattle.channel_model.specs.Run.{Runs, MayStop};
-    ghost use Rattle.channel_interleaving.specs.Floor.{IsQuiet, LeadsOn, Stands};
+    ghost use Rattle.channel_model.specs.declared.name.Waiter.{Waiter};
+    ghost use Rattle.channel_steps.specs.Scene.{Scene};
+    ghost use Rattle.channel_interleaving.specs.Floor.{IsQuiet, Led, LeadsOn, Stands};
     ghost use Rattle.channel_world.specs.World.{at_rest};
 
     /// Why the list of calls stops at this one, if it does; where it doesn't, there is room for what it answers.
@@ -37,6 +39,7 @@ impl<T: Drop> World<T> {
         ensures place { IfSome result.stopped (λ s. s.place ≡ vec_len result.done) }
         ensures quiet { IsQuiet self.new }
         ensures leads { LeadsOn self.old self.new }
+        ensures carries { (s : Scene T Waiter) → Led self.old s → Led self.new s }
         ensures stands { Stands self.new }
     {
         self.keeps();

@@ -83,7 +83,7 @@ impl<T: Drop> World<T> {
     ghost use Rattle.channel_interleaving.specs.Roll.{is_woken};
     ghost use Rattle.channel_interleaving.specs.Pending.{is_pending, how_many};
     ghost use Rattle.channel_interleaving.specs.Runs.{accepted_in, left_in};
-    ghost use Rattle.channel_interleaving.specs.Floor.{calls_in, messages_in, LeadsOn, Stands, StandsIn, TellsQuiet};
+    ghost use Rattle.channel_interleaving.specs.Floor.{calls_in, messages_in, Led, LeadsOn, Stands, StandsIn, TellsQuiet};
     ghost use Rattle.channel_world.specs.Headline.{Headline};
     ghost use Rattle.channel_world.specs.StepsLeft.{EndsInFront};
 
@@ -98,7 +98,8 @@ impl<T: Drop> World<T> {
     ///
     /// The promise is of every scene in which the world stood: a plain channel with the calls under way on it, each with its
     /// moments and marks so far. Some such scene there always is, and a run or a list of calls that comes after leads on from
-    /// the one to which this one came. The numbers of messages before and after it need none.
+    /// the one to which this one came: the accounts of all that was done since a scene are carried through each of them. The numbers
+    /// of messages before and after it need none.
     ///
     /// A step is refused for the first of these reasons that there is: the party that begins is at work; the one that steps
     /// isn't; a used name doesn't live; what lives there is of another kind; its operation or its receiver's stream is being
@@ -110,6 +111,7 @@ impl<T: Drop> World<T> {
             → Headline steps.old.items steps.new.items self.old result.trace.items result.stopped self.new s }
         ensures soon { EndsInFront self.old steps.old.items result.trace.items }
         ensures leads { LeadsOn self.old self.new }
+        ensures carries { (s : Scene T Waiter) → Led self.old s → Led self.new s }
         ensures stands { Stands self.new }
         ensures messages { messages_in self.new + left_in result.trace.items ≡ messages_in self.old + accepted_in result.trace.items }
     {

@@ -2,7 +2,7 @@ use Rattle.std.proofs.Common.{◌≡◌, Some, None, ◌∷◌, ◌++◌, [], ru
 use Rattle.std.specs.Option.{option_to_list}
 use Rattle.channel_model.specs.Refusal.{refusal}
 use Rattle.channel_model.proofs.RunLemmas.{goes_on_empty, stop_in_front, stop_at_end, run_ends, run_ends_full, goes_on_by}
-use Rattle.channel_interleaving.proofs.Interface.{leads_nowhere, leads_on, stands_led}
+use Rattle.channel_interleaving.proofs.Interface.{leads_nowhere, leads_on, led_further, stands_led}
 use Rattle.channel_world.specs.World.{at_rest}
 use Rattle.channel_world.proofs.world.World.run_calls.Goals as goal
 
@@ -15,6 +15,9 @@ loop-call-init g c = record {
 
 pub returns-in-Some-stop-clause-leads : goal.returns-in-Some-stop-clause-leads
 returns-in-Some-stop-clause-leads g c = c.loop-call.invariant.leads
+
+pub returns-in-Some-stop-clause-carries : goal.returns-in-Some-stop-clause-carries
+returns-in-Some-stop-clause-carries g c = λ s led. led_further c.args.self.now c.loop-call.self s led c.loop-call.invariant.leads
 
 pub returns-in-Some-stop-clause-stands : goal.returns-in-Some-stop-clause-stands
 returns-in-Some-stop-clause-stands g c = stands_led c.args.self.now c.loop-call.self c.keeps.ensures c.loop-call.invariant.leads
@@ -40,6 +43,9 @@ pub returns-in-Err-clause-leads : goal.returns-in-Err-clause-leads
 returns-in-Err-clause-leads g c =
     leads_on c.args.self.now c.loop-call.self c.answer.new.self c.loop-call.invariant.leads c.answer.ensures.leads
 
+pub returns-in-Err-clause-carries : goal.returns-in-Err-clause-carries
+returns-in-Err-clause-carries g c = λ s led. led_further c.args.self.now c.answer.new.self s led (returns-in-Err-clause-leads g c)
+
 pub returns-in-Err-clause-stands : goal.returns-in-Err-clause-stands
 returns-in-Err-clause-stands g c =
     stands_led c.args.self.now c.answer.new.self c.keeps.ensures
@@ -47,6 +53,9 @@ returns-in-Err-clause-stands g c =
 
 pub returns-clause-leads : goal.returns-clause-leads
 returns-clause-leads g c = c.loop-call.invariant.leads
+
+pub returns-clause-carries : goal.returns-clause-carries
+returns-clause-carries g c = λ s led. led_further c.args.self.now c.loop-call.self s led c.loop-call.invariant.leads
 
 pub returns-clause-stands : goal.returns-clause-stands
 returns-clause-stands g c = stands_led c.args.self.now c.loop-call.self c.keeps.ensures c.loop-call.invariant.leads

@@ -1,6 +1,7 @@
 use Rattle.std.proofs.Common.{subst}
 use Rattle.channel_interleaving.specs.Floor.{RanTo, Stands, book_of}
 use Rattle.channel_interleaving.specs.Run.{Stops}
+use Rattle.channel_interleaving.proofs.Interface.{led_further}
 use Rattle.channel_interleaving.specs.declared.floor.Floor.{Floor}
 use Rattle.channel_world.proofs.HeadlineFacts.{headline, leads, counted}
 use Rattle.channel_world.proofs.world.World.run_steps.Goals as goal
@@ -29,3 +30,6 @@ returns-clause-messages g c =
     c.self.view_is c.run_steps.ensures.ran in
     counted c.args.steps.now.items c.run_steps.new.steps.items c.args.self.now c.run_steps.result.trace.items c.run_steps.new.self ran
     (subst (λ (f : Floor g.row.T.Denot). Stands f) c.self.view_is c.keeps.ensures.stands)
+
+pub returns-clause-carries : goal.returns-clause-carries
+returns-clause-carries g c = λ s led. led_further c.args.self.now c.run_steps.new.self s led (returns-clause-leads g c)
