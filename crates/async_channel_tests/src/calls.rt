@@ -225,11 +225,7 @@ fn errors_are_told_apart(rt: HostRuntime) -> Result<(), Fail> {
 
 /// Whether it was full, whether it was closed, and the message that a refused send hands back.
 fn told(refused: Refused<TrySendError<u64>, u64>) -> (bool, bool, u64) {
-    (
-        refused.is_full(),
-        refused.is_closed(),
-        refused.into_inner(),
-    )
+    (refused.is_full(), refused.is_closed(), refused.into_inner())
 }
 
 /// Whether the channel's own refusal stays, and want of memory or of serials is none of the channel's.
@@ -245,7 +241,10 @@ fn refusals_hand_back_their_message(rt: HostRuntime) -> Result<(), Fail> {
     let full = told(Refused::Plain(TrySendError::Full(1)));
     let closed = told(Refused::Plain(TrySendError::Closed(2)));
     let memory = told(Refused::NoMemory(3));
-    assert_eq!(rt; [full, closed, memory], [(true, false, 1), (false, true, 2), (false, false, 3)]);
+    assert_eq!(rt;
+        [full, closed, memory],
+        [(true, false, 1), (false, true, 2), (false, false, 3)]
+    );
     assert!(rt; keeps_its_own());
     Ok(())
 }
