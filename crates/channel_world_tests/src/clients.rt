@@ -1,11 +1,9 @@
 //! Clients of a world that know nothing of it but that it is one. They are proved; nothing runs them.
 
 ghost use Rattle.std.specs.Prelude.{◌≡◌, ◌+◌};
-ghost use Rattle.channel_interleaving.specs.Floor.{IsQuiet, LeadsOn};
 ghost use Rattle.channel_interleaving.specs.Runs.{accepted_in, left_in};
 ghost use Rattle.channel_world.specs.StepsLeft.{EndsInFront};
 
-use channel_world::call::{Call, CallRun};
 use channel_world::step::{Run, Step};
 use channel_world::world::World;
 use std::collections::VecDeque;
@@ -38,40 +36,4 @@ pub fn ends_soon<T: Drop>(world: &mut World<T>, steps: &mut VecDeque<Step<T>>) -
     ensures { EndsInFront world.old steps.old.items result.trace.items }
 {
     world.run_steps(steps)
-}
-
-/// What calls, then steps, and then calls again did.
-#[derive(Drop)]
-pub struct Carried<T> {
-    /// What the first calls answered.
-    pub first: CallRun<T>,
-    /// What the steps did.
-    pub run: Run<T>,
-    /// What the last calls answered, where no call was under way after the steps.
-    pub last: Option<CallRun<T>>,
-}
-
-/// Makes calls in whatever world in which no call is under way, then steps, and then calls again: what left the channel in all of
-/// this, followed by what it holds at the end, is what it held before followed by what came in all of this, in order, from each scene
-/// in which the world stood.
-pub fn carry<T: Drop>(
-    world: &mut World<T>,
-    calls: &mut VecDeque<Call<T>>,
-    steps: &mut VecDeque<Step<T>>,
-    more: &mut VecDeque<Call<T>>,
-) -> Carried<T>
-    requires { IsQuiet world.old }
-    ensures { LeadsOn world.old world.new }
-{
-    let first = world.run_calls(calls);
-    let run = world.run_steps(steps);
-    if !world.is_quiet() {
-        return Carried {
-            first,
-            run,
-            last: None,
-        };
-    }
-    let last = Some(world.run_calls(more));
-    Carried { first, run, last }
 }
