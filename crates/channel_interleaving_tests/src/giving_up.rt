@@ -104,13 +104,13 @@ fn received_by(reply: &Reply<u64>) -> Option<u64> {
 
 impl Fixture {
     fn accept(&mut self, message: u64) {
-        let bit = 1u64.wrapping_shl(message as u32);
+        let bit = 1u64.wrapping_shl((message % 64) as u32);
         self.doubled = self.doubled || self.accepted & bit != 0;
         self.accepted |= bit;
     }
 
     fn receive(&mut self, message: u64) {
-        let bit = 1u64.wrapping_shl(message as u32);
+        let bit = 1u64.wrapping_shl((message % 64) as u32);
         self.doubled = self.doubled || self.received & bit != 0;
         self.received |= bit;
     }
