@@ -18,7 +18,7 @@ import tempfile
 HERE = os.path.dirname(os.path.abspath(__file__))
 SECONDS = 20
 # What a test says first whose preparation wants memory: an `expect` of these words, or an error that it hands on.
-PREPARING = ("memory", "error: AllocFailed", "error: AllocError", "error: NoMemory")
+PREPARING = ("memory", "error: AllocFailed", "error: Kind(OutOfMemory)")
 
 
 def build_library(room):
