@@ -143,18 +143,17 @@ impl Fixture {
 
     /// Makes so many steps of a party's call at most, up to its end: how many were made.
     fn go_on(&mut self, party: u32, most: usize) -> usize {
-        let mut made = 0;
-        while made < most {
+        for made in 0..most {
             let step = Step::Step {
                 party: PartyId(party),
             };
             match self.step(party, step) {
                 Made::Refused => return made,
-                Made::GoesOn => made += 1,
-                Made::Ended => return made + 1,
+                Made::GoesOn => {}
+                Made::Ended => return made.wrapping_add(1),
             }
         }
-        made
+        most
     }
 
     /// Does what a party does next, in so many entries at most: how many there were.
@@ -213,14 +212,18 @@ impl Fixture {
 
     /// Receives what is left, one message after another.
     fn drain(&mut self) -> bool {
-        let mut well = true;
-        while self.channel.messages() > 0 && well {
+        for _ in 0..8 {
+            if self.channel.messages() == 0 {
+                return true;
+            }
             let before = self.received;
             self.act(0, Act::TriesToReceive, 1);
             self.go_on(0, 64);
-            well = self.settle() && self.received != before;
+            if !self.settle() || self.received == before {
+                return false;
+            }
         }
-        well
+        false
     }
 }
 
