@@ -115,6 +115,7 @@ impl Fixture {
         self.received |= bit;
     }
 
+    /// Makes one step, and notes what it brought in and what was received.
     fn step(&mut self, party: u32, step: Step<u64>) -> Made {
         let _ = self.steps.push_back(step);
         let mut run = self.channel.run_steps(&mut self.steps);
