@@ -6,15 +6,14 @@ use Rattle.std.specs.Map.{lookup}
 use Rattle.slab.specs.Slab.{Slab, get, ContainsKey, slab_len}
 use Rattle.event_listener.specs.declared.node.Node.{Node}
 use Rattle.event_listener.specs.declared.node.Ends.{Ends}
-use Rattle.event_listener.specs.declared.node.Place.{Place}
 use Rattle.event_listener.specs.declared.node.State.{State}
 use Rattle.event_listener.specs.declared.node.State.TheVariants.{Waiting, Told}
 use Rattle.event_listener.specs.declared.list.List.TheInside as list
 use Rattle.event_listener.specs.declared.key.Key.{Key}
 use Rattle.event_listener.specs.Inside.{shown, IsSound, entries, forward, backward, told_after, told_before}
 use Rattle.event_listener.specs.Lists.{ListView, Lists, kind_of, told_as, waits_as, without, listened, with_task, notified, tasks_of, same_key}
-use Rattle.event_listener.specs.Nodes.{found, is_told, place_of}
-use Rattle.event_listener.specs.Chain.{Beside, lists_at, entry, entry_at, Entry, Sound, Among, Distinct, Unlinks, Links_last, fresh_entry, first_or, after_of, before_of, node_after, node_before, told_piece, waiting_piece, pieces, AtEach, IsWaiting, IsStateOf}
+use Rattle.event_listener.specs.Nodes.{found, is_told}
+use Rattle.event_listener.specs.Chain.{Beside, lists_at, entry, entry_at, Entry, Sound, Among, Distinct, Unlinks, Links_last, fresh_entry, first_or, after_of, before_of, told_piece, waiting_piece, pieces, AtEach, IsWaiting, IsStateOf}
 use Rattle.event_listener.specs.Order.{IsInOrder}
 use Rattle.event_listener.proofs.EntryLemmas.{same_key-self}
 use Rattle.event_listener.proofs.OrderLemmas.{in-order-listened, in-order-without, in-order-with_task, in-order-notified, in-order-at}
@@ -22,9 +21,10 @@ use Rattle.event_listener.proofs.ChainLemmas.{Distinct-parted, Linked-ends, last
 use Rattle.event_listener.proofs.SoundLemmas.{found_entry, found-some, found-told, chain-is, kind-chained, beside-in, all-live, last-of-live, among-told, among-waiting, AtEach-front, AtEach-back, Distinct-head, Distinct-tail, Sound-leave-told, Sound-leave-waiting, Sound-insert, Sound-store, Sound-tell, Apart-dead, lists-listened, lists-with_task, lists-told, lists-parts, length-told, length-waiting, lists-without, told_as-entry, waits_as-entry}
 
 -- a waiting state has such a task
-abbrev pub MatchWaiting : {T W : Type 0} → State T W → (Option W → Type 0) → Type 0
-MatchWaiting (Waiting task) P = P task
-MatchWaiting (Told additional tag) P = ⊥
+abbrev pub MatchWaiting : {T W : Type 0} → Option (State T W) → (Option W → Type 0) → Type 0
+MatchWaiting None P = ⊥
+MatchWaiting (Some (Waiting task)) P = P task
+MatchWaiting (Some (Told additional tag)) P = ⊥
 
 module _ {T W : Type 0} where
   pub found-entry : (o : Option (Node T W)) (serial : ℕ) → found o serial ≡ found_entry (entry o) serial
@@ -49,18 +49,6 @@ module _ {T W : Type 0} where
   live-all : (slab : Slab (Node T W)) (o : Option ℕ) → IfSome o (λ x. IsSome (entry_at slab x)) → IfSome o (λ x. ContainsKey slab x)
   live-all slab None h = tt
   live-all slab (Some x) h = live-present (get slab x) h
-
-  pub place-before : (o : Option (Node T W)) (p : Place) → IsSome o → IfSome o (λ node. p ≡ place_of node) → node_before o ≡ p.before
-  place-before None p i h = absurd (cc)
-  place-before (Some node) p i h = ap (λ (q : Place). q.before) (sym h)
-
-  pub place-after : (o : Option (Node T W)) (p : Place) → IsSome o → IfSome o (λ node. p ≡ place_of node) → node_after o ≡ p.after
-  place-after None p i h = absurd (cc)
-  place-after (Some node) p i h = ap (λ (q : Place). q.after) (sym h)
-
-  pub place-told : (o : Option (Node T W)) (p : Place) → IfSome o (λ node. p ≡ place_of node) → IfSome (entry o) (λ e. p.told ≡ is_told e.state)
-  place-told None p h = tt
-  place-told (Some node) p h = ap (λ (q : Place). q.told) h
 
   module _ (a : list.Inside T W) (h : IsSound a) (view : ListView T W) (v : shown a ≡ view) (key : Key) (known : IsSome (kind_of view.lists key)) where
     pub present : ContainsKey a.nodes.slab key.slot
@@ -365,12 +353,13 @@ module _ {T W : Type 0} where
   first-present a h k c = live-present (get a.nodes.slab k) (ap is_some (first-of a h k c).is)
 
   -- with someone waiting there is a first
-  pub first-there : (a : list.Inside T W) (h : IsSound a) (view : ListView T W) → shown a ≡ view → 0 < length view.lists.waiting → a.waiting.first ≡ None → ⊥
-  first-there a h view v some none = of h.1 (waiting-length a h view v) (sym none ∙ (Linked-ends (forward a) (backward a) None h.1 None h.2.sound.waiting_linked).0)
+  pub first-there : (a : list.Inside T W) (h : IsSound a) (view : ListView T W) → shown a ≡ view → 0 < length view.lists.waiting → ((x : ℕ) → a.waiting.first ≡ Some x → ⊥) → ⊥
+  first-there a h view v some none =
+      of h.1 (waiting-length a h view v) (λ x q. none x ((Linked-ends (forward a) (backward a) None h.1 None h.2.sound.waiting_linked).0 ∙ q))
     where
-      of : (ws : List ℕ) → length view.lists.waiting ≡ length ws → None ≡ first_or ws None → ⊥
+      of : (ws : List ℕ) → length view.lists.waiting ≡ length ws → ((x : ℕ) → first_or ws None ≡ Some x → ⊥) → ⊥
       of [] l c = omega arith
-      of (x ∷ ws) l c = cc
+      of (x ∷ ws) l c = c x refl
 
   -- what `bridge` and `attach_last` ask at the first waiting node
   pub first-beside : (a : list.Inside T W) (h : IsSound a) (k : ℕ) → a.waiting.first ≡ Some k → Beside (forward a) (backward a) (entries a) k
@@ -396,15 +385,15 @@ module _ {T W : Type 0} where
       some-entry None i = absurd (cc)
       some-entry (Some node) i = refl
 
-  pub record ToldFirst (a b : list.Inside T W) (view : ListView T W) (additional : Bool) (tag : T) (s : State T W) : Type 0 where
+  pub record ToldFirst (a b : list.Inside T W) (view : ListView T W) (additional : Bool) (tag : T) (s : Option (State T W)) : Type 0 where
     pub sound : IsSound b
     pub lists : (shown b).lists ≡ notified additional (tag ∷ []) view.lists
     pub task : MatchWaiting s (λ task. option_to_list task ≡ tasks_of (take 1 view.lists.waiting))
     pub fits : a.told_count + 1 < 2 ^ 64
 
-  pub told-first : (a b : list.Inside T W) (slab : Slab (Node T W)) (ends : Ends) (h : IsSound a) (view : ListView T W) (v : shown a ≡ view) (k : ℕ) (additional : Bool) (tag : T) (s : State T W) → a.waiting.first ≡ Some k → b.waiting ≡ ends
+  pub told-first : (a b : list.Inside T W) (slab : Slab (Node T W)) (ends : Ends) (h : IsSound a) (view : ListView T W) (v : shown a ≡ view) (k : ℕ) (additional : Bool) (tag : T) (s : Option (State T W)) → a.waiting.first ≡ Some k → b.waiting ≡ ends
       → Unlinks (forward a) (backward a) (after_of ends slab) (before_of ends slab) k → ((x : ℕ) → entry_at slab x ≡ entries a x)
-      → Links_last (after_of a.told slab) (before_of a.told slab) (told_after b) (told_before b) k → IfSome (entry_at slab k) (λ e. entries b k ≡ Some (record e { state = Told additional tag })) → ((x : ℕ) → x ≢ k → entries b x ≡ entry_at slab x) → IfSome (entry_at slab k) (λ e. s ≡ e.state)
+      → Links_last (after_of a.told slab) (before_of a.told slab) (told_after b) (told_before b) k → IfSome (entry_at slab k) (λ e. entries b k ≡ Some (record e { state = Told additional tag })) → ((x : ℕ) → x ≢ k → entries b x ≡ entry_at slab x) → IfSome (entry_at slab k) (λ e. s ≡ Some e.state)
       → slab_len b.nodes.slab ≡ slab_len a.nodes.slab → b.nodes.slab.capacity ≡ a.nodes.slab.capacity → b.nodes.visits ≡ 0 → b.told_count ≡ a.told_count + 1 → b.serials ≡ a.serials → ToldFirst a b view additional tag s
   told-first a b slab ends h view v k additional tag s cur we u same l mark others st len cap settled told serials =
       let f = first-of a h k cur in
@@ -429,7 +418,7 @@ module _ {T W : Type 0} where
           sound = subst (λ (x : ℕ × ℕ). Sound (told_after b) (told_before b) (forward b) (backward b) (entries b) x.0 b.told_count x.1 (h.0 ++ k ∷ []) f.back) (λ i. (sym len i, sym serials i)) sd;
         },
       ) in
-      let se : s ≡ Waiting f.task = subst (λ o. IfSome o (λ (x : Entry T W). s ≡ x.state)) is1 st ∙ f.was in
+      let se : s ≡ Some (Waiting f.task) = subst (λ o. IfSome o (λ (x : Entry T W). s ≡ Some x.state)) is1 st ∙ ap Some f.was in
       let l0 : length (h.0 ++ h.1) ≡ length h.0 + length h.1 = length-append h.0 h.1 in
       let l1 : length h.1 ≡ length (k ∷ f.back) = ap length f.split in
       let wl : view.lists.waiting ≡ (record { slot = k; serial = f.entry.serial }, f.task) ∷ pieces (λ x. waiting_piece x (entries a x)) f.back =

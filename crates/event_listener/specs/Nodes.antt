@@ -1,11 +1,13 @@
 -- What the private nodes hold.
-use Rattle.std.specs.Prelude.{ℕ, ◌+◌, ◌-◌, ◌^◌, min, Bool, true, false, ◌==◌, if◌then◌else◌, Option, Some, None}
+use Rattle.std.specs.Prelude.{ℕ, ◌≡◌, ◌≤◌, ◌+◌, ◌-◌, ◌^◌, min, Bool, true, false, ◌==◌, if◌then◌else◌, Option, Some, None}
+use Rattle.slab.specs.Slab.{slab_len}
 use Rattle.event_listener.specs.declared.key.Key.{Key}
 use Rattle.event_listener.specs.declared.node.State.{State}
 use Rattle.event_listener.specs.declared.node.State.TheVariants.{Waiting, Told}
 use Rattle.event_listener.specs.declared.node.Change.{Change}
 use Rattle.event_listener.specs.declared.node.Change.TheVariants as change
 use Rattle.event_listener.specs.declared.node.Node.{Node}
+use Rattle.event_listener.specs.declared.node.Nodes.{Nodes}
 use Rattle.event_listener.specs.declared.node.Place.{Place}
 use Rattle.event_listener.specs.Lists.{same_key}
 
@@ -53,3 +55,19 @@ module _ {T W : Type 0} where
   abbrev pub found : Option (Node T W) → ℕ → Option Bool
   found None serial = None
   found (Some node) serial = if node.serial == serial then Some (is_told node.state) else None
+
+  -- The nodes after a part of a call that makes none and takes none out: it visits and looks at most so often, and
+  -- settles nothing.
+  pub record Stays (old new : Nodes T W) (most : ℕ) : Type 0 where
+    pub len : slab_len new.slab ≡ slab_len old.slab
+    pub capacity : new.slab.capacity ≡ old.slab.capacity
+    pub own : new.own ≡ old.own
+    pub visits : new.visits ≤ old.visits + most
+    pub last : new.last ≡ old.last
+    pub looks : new.looks ≤ old.looks + most
+
+  -- The nodes after a part of a call that settles its visits: it visits and looks at most so often.
+  pub record Settles (old new : Nodes T W) (most : ℕ) : Type 0 where
+    pub settled : new.visits ≡ 0
+    pub number : new.last ≤ old.last + (old.visits + most)
+    pub looks : new.looks ≤ old.looks + most

@@ -44,7 +44,7 @@ impl<T: Drop, W: Drop> List<T, W> {
                 self.store(key, task);
                 Ok(Registered::Waiting)
             }
-            Some(true) => match self.leave_told(key, true) {
+            Some(true) => match self.leave(key, true, true) {
                 State::Told { tag, .. } => Ok(Registered::Told(tag)),
                 State::Waiting(_) => unreachable!(),
             },
@@ -68,7 +68,7 @@ impl<T: Drop, W: Drop> List<T, W> {
         match self.kind(key) {
             None => Err(UnknownListener),
             Some(false) => Ok(None),
-            Some(true) => match self.leave_told(key, false) {
+            Some(true) => match self.leave(key, true, false) {
                 State::Told { tag, .. } => Ok(Some(tag)),
                 State::Waiting(_) => unreachable!(),
             },
@@ -87,7 +87,7 @@ impl<T: Drop, W: Drop> List<T, W> {
         match self.poll(key) {
             Ok(Some(tag)) => Some(tag),
             Ok(None) => {
-                self.leave_waiting(key);
+                let _ = self.leave(key, false, true);
                 None
             }
             Err(UnknownListener) => None,
@@ -153,23 +153,16 @@ impl<T: Drop, W: Drop> List<T, W> {
         ensures visits { pass_on ≡ false → self.new.visits ≤ 5 }
         ensures looks { self.new.looks ≤ self.old.looks + (if pass_on then 10 else 5) }
     {
-        match self.begin(key) {
-            None => Err(UnknownListener),
-            Some(false) => {
-                self.leave_waiting(key);
-                Ok(false)
-            }
-            Some(true) => match self.leave_told(key, true) {
-                State::Told { additional, tag } => {
-                    if pass_on && self.to_move(additional, 1) > 0 {
-                        if let Some(next) = self.tell_first(additional, tag) {
-                            sink.wake(next);
-                        }
-                    }
-                    Ok(true)
+        let Some(told) = self.begin(key) else {
+            return Err(UnknownListener);
+        };
+        if let State::Told { additional, tag } = self.leave(key, told, true) {
+            if pass_on && self.to_move(additional, 1) > 0 {
+                if let Some(next) = self.tell_first(additional, tag) {
+                    sink.wake(next);
                 }
-                State::Waiting(_) => unreachable!(),
-            },
+            }
         }
+        Ok(told)
     }
 }

@@ -1,8 +1,8 @@
 //! The links between nodes. What comes after nobody is the first of a chain, and what stands before nobody its last.
-ghost use Rattle.std.specs.Prelude.{◌≡◌, ◌≢◌, ℕ, ◌+◌, ◌^◌, ◌<◌, ◌≤◌, false, Option, IsSome, IfSome, Some, None, IsOk, IfOk, OnOk, OnErr};
+ghost use Rattle.std.specs.Prelude.{◌≡◌, ◌≢◌, ℕ, ◌+◌, ◌^◌, ◌<◌, ◌≤◌, false, Option, IfSome, Some, None, IsOk, IfOk, OnOk, OnErr};
 ghost use Rattle.slab.specs.Slab.{get, slab_len, ContainsKey, HasRoomFor};
-ghost use Rattle.event_listener.specs.Chain.{after_of, before_of, entry_at, fresh_entry, node_after, node_before, Unlinks, Links_last, Beside};
-ghost use Rattle.event_listener.specs.Nodes.{found};
+ghost use Rattle.event_listener.specs.Chain.{after_of, before_of, entry_at, fresh_entry, Unlinks, Links_last, Beside};
+ghost use Rattle.event_listener.specs.Nodes.{found, Stays, Settles};
 
 use crate::error::NoMemory;
 use crate::key::Key;
@@ -10,6 +10,7 @@ use crate::node::{Change, Ends, Node, Nodes, State};
 
 /// Looks whether the key's node is there, and then whether it is told. The look belongs to its listener's call, or to a
 /// call without a number.
+#[inline(always)]
 pub(crate) fn find<T: Drop, W: Drop>(
     nodes: &mut Nodes<T, W>,
     key: Key,
@@ -17,9 +18,7 @@ pub(crate) fn find<T: Drop, W: Drop>(
 ) -> Option<bool>
     ensures answer { result ≡ found (get nodes.old.slab key.slot) key.serial }
     ensures slab { nodes.new.slab ≡ nodes.old.slab }
-    ensures settled { nodes.new.visits ≡ 0 }
-    ensures number { nodes.new.last ≤ nodes.old.last + (nodes.old.visits + 1) }
-    ensures looks { nodes.new.looks ≤ nodes.old.looks + 1 }
+    ensures settles { Settles nodes.old nodes.new 1 }
     ensures uncounted { counted ≡ false → nodes.new.last ≡ nodes.old.last }
 {
     nodes.begin(key);
@@ -32,6 +31,7 @@ pub(crate) fn find<T: Drop, W: Drop>(
 }
 
 /// Lets this node, or the end, be followed by another.
+#[inline(always)]
 pub(crate) fn set_after<T: Drop, W: Drop>(
     nodes: &mut Nodes<T, W>,
     ends: &mut Ends,
@@ -43,12 +43,7 @@ pub(crate) fn set_after<T: Drop, W: Drop>(
     ensures others { (x : Option ℕ) → x ≢ at → after_of ends.new nodes.new.slab x ≡ after_of ends.old nodes.old.slab x }
     ensures before { (x : Option ℕ) → before_of ends.new nodes.new.slab x ≡ before_of ends.old nodes.old.slab x }
     ensures entries { (k : ℕ) → entry_at nodes.new.slab k ≡ entry_at nodes.old.slab k }
-    ensures len { slab_len nodes.new.slab ≡ slab_len nodes.old.slab }
-    ensures capacity { nodes.new.slab.capacity ≡ nodes.old.slab.capacity }
-    ensures own { nodes.new.own ≡ nodes.old.own }
-    ensures visits { nodes.new.visits ≤ nodes.old.visits + 1 }
-    ensures last { nodes.new.last ≡ nodes.old.last }
-    ensures looks { nodes.new.looks ≤ nodes.old.looks + 1 }
+    ensures stays { Stays nodes.old nodes.new 1 }
 {
     match at {
         Some(k) => {
@@ -58,34 +53,8 @@ pub(crate) fn set_after<T: Drop, W: Drop>(
     }
 }
 
-/// Lets this node, or the end, stand behind another.
-pub(crate) fn set_before<T: Drop, W: Drop>(
-    nodes: &mut Nodes<T, W>,
-    ends: &mut Ends,
-    at: Option<usize>,
-    to: Option<usize>,
-)
-    requires present { IfSome at (λ k. ContainsKey nodes.old.slab k) }
-    ensures before { before_of ends.new nodes.new.slab at ≡ to }
-    ensures others { (x : Option ℕ) → x ≢ at → before_of ends.new nodes.new.slab x ≡ before_of ends.old nodes.old.slab x }
-    ensures after { (x : Option ℕ) → after_of ends.new nodes.new.slab x ≡ after_of ends.old nodes.old.slab x }
-    ensures entries { (k : ℕ) → entry_at nodes.new.slab k ≡ entry_at nodes.old.slab k }
-    ensures len { slab_len nodes.new.slab ≡ slab_len nodes.old.slab }
-    ensures capacity { nodes.new.slab.capacity ≡ nodes.old.slab.capacity }
-    ensures own { nodes.new.own ≡ nodes.old.own }
-    ensures visits { nodes.new.visits ≤ nodes.old.visits + 1 }
-    ensures last { nodes.new.last ≡ nodes.old.last }
-    ensures looks { nodes.new.looks ≤ nodes.old.looks + 1 }
-{
-    match at {
-        Some(k) => {
-            let _ = nodes.write(k, Change::Before(to));
-        }
-        None => ends.last = to,
-    }
-}
-
 /// Begins a call that has a node made, behind the last one of the chain.
+#[inline(always)]
 pub(crate) fn link_last<T: Drop, W: Drop>(
     nodes: &mut Nodes<T, W>,
     ends: &mut Ends,
@@ -123,29 +92,29 @@ pub(crate) fn link_last<T: Drop, W: Drop>(
 }
 
 /// Links the neighbours of a node to each other. The node itself keeps its links.
+#[inline(always)]
 pub(crate) fn bridge<T: Drop, W: Drop>(nodes: &mut Nodes<T, W>, ends: &mut Ends, at: usize)
     requires present { ContainsKey nodes.old.slab at }
     requires beside { Beside (after_of ends.old nodes.old.slab) (before_of ends.old nodes.old.slab) (entry_at nodes.old.slab) at }
     ensures links { Unlinks (after_of ends.old nodes.old.slab) (before_of ends.old nodes.old.slab) (after_of ends.new nodes.new.slab) (before_of ends.new nodes.new.slab) at }
     ensures entries { (k : ℕ) → entry_at nodes.new.slab k ≡ entry_at nodes.old.slab k }
-    ensures len { slab_len nodes.new.slab ≡ slab_len nodes.old.slab }
-    ensures capacity { nodes.new.slab.capacity ≡ nodes.old.slab.capacity }
-    ensures own { nodes.new.own ≡ nodes.old.own }
-    ensures visits { nodes.new.visits ≤ nodes.old.visits + 3 }
-    ensures last { nodes.new.last ≡ nodes.old.last }
-    ensures looks { nodes.new.looks ≤ nodes.old.looks + 3 }
+    ensures stays { Stays nodes.old nodes.new 3 }
 {
-    match nodes.read(at) {
-        Some(place) => {
-            set_after(nodes, ends, place.before, place.after);
-            set_before(nodes, ends, place.after, place.before);
+    let Some(place) = nodes.read(at) else {
+        unreachable!()
+    };
+    set_after(nodes, ends, place.before, place.after);
+    match place.after {
+        Some(next) => {
+            let _ = nodes.write(next, Change::Before(place.before));
         }
-        None => unreachable!(),
+        None => ends.last = place.before,
     }
 }
 
 /// Takes the node of a call's listener out of its chain. Its visits are those of the call, or of a poll, which has no
 /// number.
+#[inline(always)]
 pub(crate) fn unlink<T: Drop, W: Drop>(
     nodes: &mut Nodes<T, W>,
     ends: &mut Ends,
@@ -161,9 +130,7 @@ pub(crate) fn unlink<T: Drop, W: Drop>(
     ensures state { IfSome (entry_at nodes.old.slab own.slot) (λ e. result ≡ e.state) }
     ensures len { slab_len nodes.new.slab + 1 ≡ slab_len nodes.old.slab }
     ensures capacity { nodes.new.slab.capacity ≡ nodes.old.slab.capacity }
-    ensures settled { nodes.new.visits ≡ 0 }
-    ensures number { nodes.new.last ≤ nodes.old.last + (nodes.old.visits + 3) }
-    ensures looks { nodes.new.looks ≤ nodes.old.looks + 3 }
+    ensures settles { Settles nodes.old nodes.new 3 }
     ensures uncounted { counted ≡ false → nodes.new.last ≡ nodes.old.last }
 {
     nodes.begin(own);
@@ -182,9 +149,7 @@ pub(crate) fn store_task<T: Drop, W: Drop>(nodes: &mut Nodes<T, W>, own: Key, ta
     ensures others { (k : ℕ) → k ≢ own.slot → entry_at nodes.new.slab k ≡ entry_at nodes.old.slab k }
     ensures len { slab_len nodes.new.slab ≡ slab_len nodes.old.slab }
     ensures capacity { nodes.new.slab.capacity ≡ nodes.old.slab.capacity }
-    ensures settled { nodes.new.visits ≡ 0 }
-    ensures number { nodes.new.last ≤ nodes.old.last + (nodes.old.visits + 1) }
-    ensures looks { nodes.new.looks ≤ nodes.old.looks + 1 }
+    ensures settles { Settles nodes.old nodes.new 1 }
 {
     nodes.begin(own);
     let _ = nodes.write(own.slot, Change::State(State::Waiting(Some(task))));
@@ -192,55 +157,28 @@ pub(crate) fn store_task<T: Drop, W: Drop>(nodes: &mut Nodes<T, W>, own: Key, ta
 }
 
 /// Links a node behind the last of a chain with another state, gives the one it had, and settles the visits.
+#[inline(always)]
 pub(crate) fn attach_last<T: Drop, W: Drop>(
     nodes: &mut Nodes<T, W>,
     ends: &mut Ends,
     at: usize,
     state: State<T, W>,
-) -> State<T, W>
+) -> Option<State<T, W>>
     requires present { ContainsKey nodes.old.slab at }
     requires live { IfSome ends.old.last (λ k. ContainsKey nodes.old.slab k) }
     requires other { ends.old.last ≢ Some at }
     ensures links { Links_last (after_of ends.old nodes.old.slab) (before_of ends.old nodes.old.slab) (after_of ends.new nodes.new.slab) (before_of ends.new nodes.new.slab) at }
     ensures entry { IfSome (entry_at nodes.old.slab at) (λ e. entry_at nodes.new.slab at ≡ Some (record e { state = state })) }
     ensures others { (k : ℕ) → k ≢ at → entry_at nodes.new.slab k ≡ entry_at nodes.old.slab k }
-    ensures was { IfSome (entry_at nodes.old.slab at) (λ e. result ≡ e.state) }
+    ensures was { IfSome (entry_at nodes.old.slab at) (λ e. result ≡ Some e.state) }
     ensures len { slab_len nodes.new.slab ≡ slab_len nodes.old.slab }
     ensures capacity { nodes.new.slab.capacity ≡ nodes.old.slab.capacity }
-    ensures settled { nodes.new.visits ≡ 0 }
-    ensures number { nodes.new.last ≤ nodes.old.last + (nodes.old.visits + 2) }
-    ensures looks { nodes.new.looks ≤ nodes.old.looks + 2 }
+    ensures settles { Settles nodes.old nodes.new 2 }
 {
     let last = ends.last;
-    let was = write_last(nodes, at, last, state);
+    let was = nodes.write(at, Change::Last(last, state));
     set_after(nodes, ends, last, Some(at));
     ends.last = Some(at);
     nodes.settle(true);
     was
-}
-
-/// Gives a node this neighbour before it, none after it, and a state.
-fn write_last<T: Drop, W: Drop>(
-    nodes: &mut Nodes<T, W>,
-    at: usize,
-    before: Option<usize>,
-    state: State<T, W>,
-) -> State<T, W>
-    requires present { ContainsKey nodes.old.slab at }
-    ensures after { node_after (get nodes.new.slab at) ≡ None }
-    ensures before { node_before (get nodes.new.slab at) ≡ before }
-    ensures node { IsSome (get nodes.new.slab at) }
-    ensures rest { (k : ℕ) → k ≢ at → get nodes.new.slab k ≡ get nodes.old.slab k }
-    ensures entry { IfSome (entry_at nodes.old.slab at) (λ e. entry_at nodes.new.slab at ≡ Some (record e { state = state })) }
-    ensures was { IfSome (entry_at nodes.old.slab at) (λ e. result ≡ e.state) }
-    ensures len { slab_len nodes.new.slab ≡ slab_len nodes.old.slab }
-    ensures capacity { nodes.new.slab.capacity ≡ nodes.old.slab.capacity }
-    ensures visits { nodes.new.visits ≤ nodes.old.visits + 1 }
-    ensures last { nodes.new.last ≡ nodes.old.last }
-    ensures looks { nodes.new.looks ≤ nodes.old.looks + 1 }
-{
-    match nodes.write(at, Change::Last(before, state)) {
-        Some(was) => was,
-        None => unreachable!(),
-    }
 }

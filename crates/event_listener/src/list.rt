@@ -68,16 +68,14 @@ impl<T: Drop, W: Drop> List<T, W> {
         ensures visits { result.visits ≡ 0 }
         ensures looks { result.looks ≡ 0 }
     {
+        let nobody = Ends {
+            first: None,
+            last: None,
+        };
         List {
             nodes: Nodes::new(alloc),
-            told: Ends {
-                first: None,
-                last: None,
-            },
-            waiting: Ends {
-                first: None,
-                last: None,
-            },
+            told: nobody,
+            waiting: nobody,
             told_count: 0,
             serials: 0,
         }
@@ -106,9 +104,10 @@ impl<T: Drop, W: Drop> List<T, W> {
         find(&mut self.nodes, key, true)
     }
 
-    /// Takes a told listener off. A poll's visits aren't counted.
-    pub(crate) fn leave_told(&mut self, key: Key, counted: bool) -> State<T, W>
-        requires { kind_of self.old.lists key ≡ Some true }
+    /// Takes a listener off, told or waiting as it is said to be. A poll's visits aren't counted.
+    #[inline(always)]
+    pub(crate) fn leave(&mut self, key: Key, told: bool, counted: bool) -> State<T, W>
+        requires { kind_of self.old.lists key ≡ Some told }
         ensures lists { self.new.lists ≡ without key self.old.lists }
         ensures off { HasLeft self.new key }
         ensures left { (k : Key) → HasLeft self.old k → HasLeft self.new k }
@@ -119,23 +118,13 @@ impl<T: Drop, W: Drop> List<T, W> {
         ensures looks { self.new.looks ≤ self.old.looks + 3 }
         ensures uncounted { counted ≡ false → self.new.visits ≡ self.old.visits }
     {
-        let state = unlink(&mut self.nodes, &mut self.told, key, counted);
-        self.told_count -= 1;
-        state
-    }
-
-    /// Takes a waiting listener off, and drops its task.
-    pub(crate) fn leave_waiting(&mut self, key: Key)
-        requires { kind_of self.old.lists key ≡ Some false }
-        ensures lists { self.new.lists ≡ without key self.old.lists }
-        ensures off { HasLeft self.new key }
-        ensures left { (k : Key) → HasLeft self.old k → HasLeft self.new k }
-        ensures serials { self.new.serials ≡ self.old.serials }
-        ensures room { self.new.room ≡ self.old.room + 1 }
-        ensures visits { self.new.visits ≤ self.old.visits + 3 }
-        ensures looks { self.new.looks ≤ self.old.looks + 3 }
-    {
-        let _ = unlink(&mut self.nodes, &mut self.waiting, key, true);
+        if told {
+            let state = unlink(&mut self.nodes, &mut self.told, key, counted);
+            self.told_count -= 1;
+            state
+        } else {
+            unlink(&mut self.nodes, &mut self.waiting, key, counted)
+        }
     }
 
     /// Stores the task of a waiting listener.
@@ -175,20 +164,18 @@ impl<T: Drop, W: Drop> List<T, W> {
             self.nodes.start();
             return Err(ListenError::SerialsUsedUp);
         }
-        match link_last(&mut self.nodes, &mut self.waiting, self.serials) {
-            Ok(at) => {
-                let key = Key {
-                    slot: at,
-                    serial: self.serials,
-                };
+        let serial = self.serials;
+        match link_last(&mut self.nodes, &mut self.waiting, serial) {
+            Ok(slot) => {
                 self.serials += 1;
-                Ok(key)
+                Ok(Key { slot, serial })
             }
             Err(_) => Err(ListenError::NoMemory),
         }
     }
 
     /// Tells the first waiting listener, and gives its task.
+    #[inline(always)]
     pub(crate) fn tell_first(&mut self, additional: bool, tag: T) -> Option<W>
         requires waiting { 0 < length self.old.lists.waiting }
         ensures lists { self.new.lists ≡ notified additional (tag ∷ []) self.old.lists }
@@ -199,17 +186,16 @@ impl<T: Drop, W: Drop> List<T, W> {
         ensures visits { self.new.visits ≤ self.old.visits + 5 }
         ensures looks { self.new.looks ≤ self.old.looks + 5 }
     {
-        match self.waiting.first {
-            Some(at) => {
-                bridge(&mut self.nodes, &mut self.waiting, at);
-                let told = State::Told { additional, tag };
-                let was = attach_last(&mut self.nodes, &mut self.told, at, told);
-                self.told_count += 1;
-                match was {
-                    State::Waiting(task) => task,
-                    State::Told { .. } => unreachable!(),
-                }
-            }
+        let Some(at) = self.waiting.first else {
+            unreachable!()
+        };
+        bridge(&mut self.nodes, &mut self.waiting, at);
+        let told = State::Told { additional, tag };
+        let was = attach_last(&mut self.nodes, &mut self.told, at, told);
+        self.told_count += 1;
+        match was {
+            Some(State::Waiting(task)) => task,
+            Some(State::Told { .. }) => unreachable!(),
             None => unreachable!(),
         }
     }
@@ -271,11 +257,7 @@ impl<T: Drop, W: Drop> List<T, W> {
     {
         let told = self.told();
         let waiting = self.total() - told;
-        let more = if additional {
-            count
-        } else {
-            count.saturating_sub(told)
-        };
-        more.min(waiting)
+        let less = if additional { 0 } else { told };
+        count.saturating_sub(less).min(waiting)
     }
 }

@@ -1,7 +1,7 @@
 //! The nodes of a list. Each look at a node, and each change of one, is counted, the call's own node left out.
 ghost use Rattle.std.specs.Prelude.{◌≡◌, ◌+◌, ◌-◌, ◌^◌, ◌<◌, ◌≤◌, min, if◌then◌else◌, IsSome, IfSome, Some, None, [], IsOk, IfOk, OnOk, OnErr, ◌≢◌, ℕ};
 ghost use Rattle.slab.specs.Slab.{get, slab_len, Updates, HasRoomFor, ContainsKey, with_value};
-ghost use Rattle.event_listener.specs.Nodes.{visited, visited_at, looked_at, changed, given, place_at};
+ghost use Rattle.event_listener.specs.Nodes.{visited, visited_at, looked_at, changed, given, place_at, Stays};
 
 use crate::error::NoMemory;
 use crate::key::Key;
@@ -129,64 +129,54 @@ impl<T: Drop, W: Drop> Nodes<T, W> {
     }
 
     /// Looks at the node in a slot, if there is one.
+    #[inline(always)]
     pub(crate) fn read(&mut self, at: usize) -> Option<Place>
         ensures place { result ≡ place_at (get self.old.slab at) }
         ensures rest { self.new ≡ record self.old { visits = visited_at self.old.own at (get self.old.slab at) self.old.visits; looks = looked_at (get self.old.slab at) self.old.looks } }
-        ensures most { self.new.visits ≤ self.old.visits + 1 }
-        ensures most_looks { self.new.looks ≤ self.old.looks + 1 }
+        ensures stays { Stays self.old self.new 1 }
     {
-        let place = match self.slab.get(at) {
-            Some(node) => Place {
-                serial: node.serial,
-                before: node.before,
-                after: node.after,
-                told: match node.state {
-                    State::Told { .. } => true,
-                    State::Waiting(_) => false,
-                },
-            },
-            None => return None,
+        let node = self.slab.get(at)?;
+        let place = Place {
+            serial: node.serial,
+            before: node.before,
+            after: node.after,
+            told: matches!(node.state, State::Told { .. }),
         };
         self.count(at, place.serial);
         Some(place)
     }
 
     /// Writes a part of a node, and gives back what stood in a state's place.
+    #[inline(always)]
     pub(crate) fn write(&mut self, at: usize, change: Change<T, W>) -> Option<State<T, W>>
         requires present { ContainsKey self.old.slab at }
         ensures node { IfSome (get self.old.slab at) (λ node. self.new.slab ≡ with_value self.old.slab at (changed change node)) }
         ensures state { IfSome (get self.old.slab at) (λ node. result ≡ given change node) }
-        ensures own { self.new.own ≡ self.old.own }
-        ensures visits { self.new.visits ≡ visited_at self.old.own at (get self.old.slab at) self.old.visits }
-        ensures looks { self.new.looks ≡ looked_at (get self.old.slab at) self.old.looks }
-        ensures most { self.new.visits ≤ self.old.visits + 1 }
-        ensures most_looks { self.new.looks ≤ self.old.looks + 1 }
-        ensures last { self.new.last ≡ self.old.last }
+        ensures rest { self.new ≡ record self.old { slab = self.new.slab; visits = visited_at self.old.own at (get self.old.slab at) self.old.visits; looks = looked_at (get self.old.slab at) self.old.looks } }
+        ensures stays { Stays self.old self.new 1 }
     {
-        let serial = match self.slab.get(at) {
-            Some(node) => node.serial,
-            None => unreachable!(),
+        let Some(node) = self.slab.get_mut(at) else {
+            unreachable!()
+        };
+        let serial = node.serial;
+        let was = match change {
+            Change::Before(before) => {
+                node.before = before;
+                None
+            }
+            Change::After(after) => {
+                node.after = after;
+                None
+            }
+            Change::State(state) => Some(mem::replace(&mut node.state, state)),
+            Change::Last(before, state) => {
+                node.before = before;
+                node.after = None;
+                Some(mem::replace(&mut node.state, state))
+            }
         };
         self.count(at, serial);
-        match self.slab.get_mut(at) {
-            Some(node) => match change {
-                Change::Before(before) => {
-                    node.before = before;
-                    None
-                }
-                Change::After(after) => {
-                    node.after = after;
-                    None
-                }
-                Change::State(state) => Some(mem::replace(&mut node.state, state)),
-                Change::Last(before, state) => {
-                    node.before = before;
-                    node.after = None;
-                    Some(mem::replace(&mut node.state, state))
-                }
-            },
-            None => unreachable!(),
-        }
+        was
     }
 
     /// Begins the number of a call that has a node made, and makes the node, which is the call's own.
@@ -234,9 +224,7 @@ impl<T: Drop, W: Drop> Nodes<T, W> {
         ensures others { (k : ℕ) → k ≢ own.slot → get self.new.slab k ≡ get self.old.slab k }
         ensures len { slab_len self.new.slab + 1 ≡ slab_len self.old.slab }
         ensures capacity { self.new.slab.capacity ≡ self.old.slab.capacity }
-        ensures visits { self.new.visits ≡ self.old.visits }
-        ensures last { self.new.last ≡ self.old.last }
-        ensures looks { self.new.looks ≡ self.old.looks }
+        ensures rest { self.new ≡ record self.old { slab = self.new.slab } }
     {
         match self.slab.try_remove(own.slot) {
             Some(node) => node.state,

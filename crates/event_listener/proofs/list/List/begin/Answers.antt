@@ -11,7 +11,7 @@ pub invariant_of-self : goal.invariant_of-self
 invariant_of-self g c =
     (looked c.self.inside
     (record { nodes = c.find.new.nodes; told = c.self.inside.told; waiting = c.self.inside.waiting; told_count = c.self.inside.told_count; serials = c.self.inside.serials })
-    c.self.invariant (c.find.ensures.slab ∙ ap (λ (n : Nodes _ _). n.slab) c.start.ensures) refl refl refl refl c.find.ensures.settled).sound
+    c.self.invariant (c.find.ensures.slab ∙ ap (λ (n : Nodes _ _). n.slab) c.start.ensures) refl refl refl refl c.find.ensures.settles.settled).sound
 
 pub returns-clause-answer : goal.returns-clause-answer
 returns-clause-answer g c =
@@ -22,7 +22,7 @@ pub returns-clause-lists : goal.returns-clause-lists
 returns-clause-lists g c =
     (looked c.self.inside
     (record { nodes = c.find.new.nodes; told = c.self.inside.told; waiting = c.self.inside.waiting; told_count = c.self.inside.told_count; serials = c.self.inside.serials })
-    c.self.invariant (c.find.ensures.slab ∙ ap (λ (n : Nodes _ _). n.slab) c.start.ensures) refl refl refl refl c.find.ensures.settled).lists ∙ ap (λ (v : ListView _ _). v.lists) c.self.view_is
+    c.self.invariant (c.find.ensures.slab ∙ ap (λ (n : Nodes _ _). n.slab) c.start.ensures) refl refl refl refl c.find.ensures.settles.settled).lists ∙ ap (λ (v : ListView _ _). v.lists) c.self.view_is
 
 pub returns-clause-left : goal.returns-clause-left
 returns-clause-left g c = left-kept (returns-clause-lists g c) (ap (λ (v : ListView _ _). v.serials) c.self.view_is)
@@ -36,10 +36,10 @@ pub returns-clause-visits : goal.returns-clause-visits
 returns-clause-visits g c =
     let last : c.start.new.self.last ≡ 0 = ap (λ (n : Nodes _ _). n.last) c.start.ensures in
     let visits : c.start.new.self.visits ≡ c.self.inside.nodes.visits = ap (λ (n : Nodes _ _). n.visits) c.start.ensures in
-    omega (arith, c.find.ensures.number, c.self.invariant.2.settled, last, visits)
+    omega (arith, c.find.ensures.settles.number, c.self.invariant.2.settled, last, visits)
 
 pub returns-clause-looks : goal.returns-clause-looks
 returns-clause-looks g c =
     let looks : c.start.new.self.looks ≡ c.self.inside.nodes.looks = ap (λ (n : Nodes _ _). n.looks) c.start.ensures in
     let view = ap (λ (v : ListView _ _). v.looks) c.self.view_is in
-    omega (arith, c.find.ensures.looks, looks, view)
+    omega (arith, c.find.ensures.settles.looks, looks, view)

@@ -21,7 +21,7 @@ invariant_of-self g c =
       others = c.store_task.ensures.others;
       len = c.store_task.ensures.len;
       capacity = c.store_task.ensures.capacity;
-      settled = c.store_task.ensures.settled;
+      settled = c.store_task.ensures.settles.settled;
       told = refl;
       waiting = refl;
       serials = refl;
@@ -39,7 +39,7 @@ returns-clause-lists g c =
       others = c.store_task.ensures.others;
       len = c.store_task.ensures.len;
       capacity = c.store_task.ensures.capacity;
-      settled = c.store_task.ensures.settled;
+      settled = c.store_task.ensures.settles.settled;
       told = refl;
       waiting = refl;
       serials = refl;
@@ -50,7 +50,7 @@ returns-clause-left g c = left-with_task c.args.key c.args.task (returns-clause-
 
 pub returns-clause-visits : goal.returns-clause-visits
 returns-clause-visits g c =
-    let v = ap (λ (v : ListView _ _). v.visits) c.self.view_is in omega (arith, c.store_task.ensures.number, c.self.invariant.2.settled, v)
+    let v = ap (λ (v : ListView _ _). v.visits) c.self.view_is in omega (arith, c.store_task.ensures.settles.number, c.self.invariant.2.settled, v)
 
 pub returns-clause-looks : goal.returns-clause-looks
-returns-clause-looks g c = let v = ap (λ (v : ListView _ _). v.looks) c.self.view_is in omega (arith, c.store_task.ensures.looks, v)
+returns-clause-looks g c = let v = ap (λ (v : ListView _ _). v.looks) c.self.view_is in omega (arith, c.store_task.ensures.settles.looks, v)
