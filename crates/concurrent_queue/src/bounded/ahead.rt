@@ -1,8 +1,8 @@
 //! The steps of a push and of a pop of a ring made on end. They are the steps of the machine, each of them atomic; what is
 //! saved is the choice of the next action at each of them, so this is a matter of speed alone.
 
-ghost use Rattle.std.specs.Prelude.{ℕ, true, Ok, MatchResult};
-ghost use Rattle.concurrent_queue.specs.machine.Ahead.{GoesAhead, PopsOnEnd, PushesRing, PopsRing};
+ghost use Rattle.std.specs.Prelude.{ℕ, true, MatchResult};
+ghost use Rattle.concurrent_queue.specs.machine.Ahead.{PushesOnEnd, PopsOnEnd, PushesRing, PopsRing, PopsNothing};
 ghost use Rattle.concurrent_queue.specs.machine.RingWords.{ring_step};
 ghost use Rattle.concurrent_queue.specs.Replies.{MayRing, MayPush, MayPop};
 ghost use Rattle.concurrent_queue.specs.declared.call.QueueReply.{QueueReply};
@@ -10,30 +10,31 @@ ghost use Rattle.concurrent_queue.specs.declared.call.QueueReply.TheVariants as 
 
 use crate::bounded::{RingAction, Shape, WhenFull};
 use crate::cells::{Cells, Slot, Word};
+use crate::error::{PopError, PushError};
 
-/// Pushes, or answers the action at which the machine has to go on: its first where the queue has no free place or another
-/// call was quicker.
+/// Pushes or is refused, or answers the action at which the machine has to go on: its first where another call was quicker or
+/// is on its way, or where positions end.
 #[inline(always)]
 pub(crate) fn push_ahead<T: Drop, C: Cells<T>>(
     shape: Shape,
     value: T,
     cells: &mut C,
-) -> Result<(), RingAction<T>>
-    ensures steps { C.known → GoesAhead (ring_step shape.cap shape.mark) (C.contents cells.old)
-        (RingAction.Push WhenFull.Refuse value) (reply.Push (Ok tt)) result (C.contents cells.new) }
-    ensures answers { MatchResult result (λ _. Unit {0})
+) -> Result<Result<(), PushError<T>>, RingAction<T>>
+    ensures steps { C.known → PushesOnEnd (ring_step shape.cap shape.mark) (C.contents cells.old)
+        (RingAction.Push WhenFull.Refuse value) result (C.contents cells.new) }
+    ensures answers { MatchResult result (λ r. MayPush true value (reply.Push r))
         (λ a. (cap : ℕ) (r : QueueReply T) → MayRing cap a r → MayPush true value r) }
 {
     make_push(shape, value, cells)
 }
 
-/// Pops, or answers the action at which the machine has to go on: its first where no message is in or another call was
-/// quicker.
+/// Pops or is refused, or answers the action at which the machine has to go on: its first where another call was quicker or is on
+/// its way.
 #[inline(always)]
 pub(crate) fn pop_ahead<T: Drop, C: Cells<T>>(
     shape: Shape,
     cells: &mut C,
-) -> Result<T, RingAction<T>>
+) -> Result<Result<T, PopError>, RingAction<T>>
     ensures steps { C.known → PopsOnEnd (ring_step shape.cap shape.mark) (C.contents cells.old)
         RingAction.Pop result (C.contents cells.new) }
     ensures answers { MatchResult result (λ _. Unit {0})
@@ -48,16 +49,24 @@ fn make_push<T: Drop, C: Cells<T>>(
     shape: Shape,
     value: T,
     cells: &mut C,
-) -> Result<(), RingAction<T>>
+) -> Result<Result<(), PushError<T>>, RingAction<T>>
     ensures cells { C.known → PushesRing shape.cap shape.mark (C.contents cells.old) value result (C.contents cells.new) }
-    ensures answers { MatchResult result (λ _. Unit {0})
+    ensures answers { MatchResult result (λ r. MayPush true value (reply.Push r))
         (λ a. (cap : ℕ) (r : QueueReply T) → MayRing cap a r → MayPush true value r) }
 {
     let tail = cells.load(Word::Tail);
-    if shape.is_marked(tail) || u64::MAX - shape.lap() < tail {
+    if shape.is_marked(tail) {
+        return Ok(Err(PushError::Closed(value)));
+    }
+    if u64::MAX - shape.lap() < tail {
         return Err(RingAction::Push(WhenFull::Refuse, value));
     }
-    if cells.load(shape.stamp(tail)) != tail {
+    let stamp = cells.load(shape.stamp(tail));
+    if stamp != tail {
+        let lap = shape.lap();
+        if lap <= tail && stamp == tail - lap + 1 && cells.load(Word::Head) == tail - lap {
+            return Ok(Err(PushError::Full(value)));
+        }
         return Err(RingAction::Push(WhenFull::Refuse, value));
     }
     if cells
@@ -70,18 +79,25 @@ fn make_push<T: Drop, C: Cells<T>>(
         return Err(RingAction::PushPut(WhenFull::Refuse, value, tail));
     }
     cells.store(shape.stamp(tail), tail.wrapping_add(1));
-    Ok(())
+    Ok(Ok(()))
 }
 
 /// The steps of a pop, and what they do to the cells.
 #[inline(always)]
-fn make_pop<T: Drop, C: Cells<T>>(shape: Shape, cells: &mut C) -> Result<T, RingAction<T>>
+fn make_pop<T: Drop, C: Cells<T>>(
+    shape: Shape,
+    cells: &mut C,
+) -> Result<Result<T, PopError>, RingAction<T>>
     ensures cells { C.known → PopsRing shape.cap shape.mark (C.contents cells.old) result (C.contents cells.new) }
     ensures answers { MatchResult result (λ _. Unit {0})
         (λ a. (cap : ℕ) (r : QueueReply T) → MayRing cap a r → MayPop r) }
 {
     let head = cells.load(Word::Head);
-    if cells.load(shape.stamp(head)) != head.wrapping_add(1) {
+    let stamp = cells.load(shape.stamp(head));
+    if stamp != head.wrapping_add(1) {
+        if stamp == head {
+            return pop_empty(shape, head, cells);
+        }
         return Err(RingAction::Pop);
     }
     if cells
@@ -93,8 +109,29 @@ fn make_pop<T: Drop, C: Cells<T>>(shape: Shape, cells: &mut C) -> Result<T, Ring
     match cells.take(Slot::At(shape.index(head))) {
         Some(value) => {
             cells.store(shape.stamp(head), head.wrapping_add(shape.lap()));
-            Ok(value)
+            Ok(Ok(value))
         }
         None => Err(RingAction::PopTake(head)),
+    }
+}
+
+/// The last step of a pop that found no message at the head: the queue is empty where the tail stands there.
+#[inline(always)]
+fn pop_empty<T: Drop, C: Cells<T>>(
+    shape: Shape,
+    head: u64,
+    cells: &mut C,
+) -> Result<Result<T, PopError>, RingAction<T>>
+    ensures cells { C.known → PopsNothing shape.cap shape.mark (C.contents cells.old) head result (C.contents cells.new) }
+    ensures answers { MatchResult result (λ _. Unit {0})
+        (λ a. (cap : ℕ) (r : QueueReply T) → MayRing cap a r → MayPop r) }
+{
+    let tail = cells.load(Word::Tail);
+    if shape.unmarked(tail) != head {
+        Err(RingAction::Pop)
+    } else if shape.is_marked(tail) {
+        Ok(Err(PopError::Closed))
+    } else {
+        Ok(Err(PopError::Empty))
     }
 }

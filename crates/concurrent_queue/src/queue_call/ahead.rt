@@ -5,14 +5,17 @@ ghost use Rattle.concurrent_queue.specs.machine.Ahead.{PushesAhead, PopsAhead};
 ghost use Rattle.concurrent_queue.specs.Replies.{MayCall, MayAnswer};
 ghost use Rattle.concurrent_queue.specs.declared.call.QueueAsk.TheVariants as ask;
 ghost use Rattle.concurrent_queue.specs.declared.call.QueueReply.{QueueReply};
+ghost use Rattle.concurrent_queue.specs.declared.call.QueueReply.TheVariants as reply;
 ghost use Rattle.concurrent_queue.specs.declared.cells.QueueForm.{QueueForm};
 
 use crate::bounded::Shape;
-use crate::call::QueueMark;
+use crate::call::{QueueAsk, QueueMark, QueueReply};
 use crate::cells::{Cells, QueueForm};
+use crate::error::{PopError, PushError};
 use crate::queue_call::{CallState, QueueCall};
 use crate::unbounded::action::UnboundedCall;
 use crate::{bounded, single, unbounded};
+use std::mem;
 
 fn going_on<T: Drop>(state: CallState<T>) -> QueueCall<T>
     ensures { result.state ≡ state }
@@ -23,26 +26,29 @@ fn going_on<T: Drop>(state: CallState<T>) -> QueueCall<T>
     }
 }
 
-/// Pushes, or answers the call that has to be stepped on.
+/// Pushes or is refused, or answers the call that has to be stepped on.
 #[inline(always)]
-pub(crate) fn push_ahead<T: Drop, C: Cells<T>>(value: T, cells: &mut C) -> Result<(), QueueCall<T>>
+pub(crate) fn push_ahead<T: Drop, C: Cells<T>>(
+    value: T,
+    cells: &mut C,
+) -> Result<Result<(), PushError<T>>, QueueCall<T>>
     ensures steps { C.known → PushesAhead (C.contents cells.old).form (C.contents cells.old) value result (C.contents cells.new) }
-    ensures answers { MatchResult result (λ _. Unit {0}) (λ call. (f : QueueForm) (r : QueueReply T) → MayCall f call.state r →
+    ensures answers { MatchResult result (λ r. MayAnswer (C.form_of cells.old) (ask.Push value) (reply.Push r)) (λ call. (f : QueueForm) (r : QueueReply T) → MayCall f call.state r →
         MayAnswer (C.form_of cells.old) (ask.Push value) r) }
 {
     match cells.form() {
         QueueForm::Bounded(1) => match single::ahead::push_ahead(value, cells) {
-            Ok(()) => Ok(()),
+            Ok(answer) => Ok(answer),
             Err(action) => Err(going_on(CallState::Single(action))),
         },
         QueueForm::Bounded(capacity) => {
             match bounded::ahead::push_ahead(Shape::of(capacity), value, cells) {
-                Ok(()) => Ok(()),
+                Ok(answer) => Ok(answer),
                 Err(action) => Err(going_on(CallState::Ring(action))),
             }
         }
         QueueForm::Unbounded => match unbounded::ahead::push_ahead(value, cells) {
-            Ok(()) => Ok(()),
+            Ok(answer) => Ok(answer),
             Err(action) => Err(going_on(CallState::Blocks(UnboundedCall {
                 displacing: false,
                 action,
@@ -51,31 +57,56 @@ pub(crate) fn push_ahead<T: Drop, C: Cells<T>>(value: T, cells: &mut C) -> Resul
     }
 }
 
-/// Pops, or answers the call that has to be stepped on.
+/// Pops or is refused, or answers the call that has to be stepped on.
 #[inline(always)]
-pub(crate) fn pop_ahead<T: Drop, C: Cells<T>>(cells: &mut C) -> Result<T, QueueCall<T>>
+pub(crate) fn pop_ahead<T: Drop, C: Cells<T>>(
+    cells: &mut C,
+) -> Result<Result<T, PopError>, QueueCall<T>>
     ensures steps { C.known → PopsAhead (C.contents cells.old).form (C.contents cells.old) result (C.contents cells.new) }
     ensures answers { MatchResult result (λ _. Unit {0}) (λ call. (f : QueueForm) (r : QueueReply T) → MayCall f call.state r →
         MayAnswer (C.form_of cells.old) ask.Pop r) }
 {
     match cells.form() {
         QueueForm::Bounded(1) => match single::ahead::pop_ahead(cells) {
-            Ok(value) => Ok(value),
+            Ok(answer) => Ok(answer),
             Err(action) => Err(going_on(CallState::Single(action))),
         },
         QueueForm::Bounded(capacity) => match bounded::ahead::pop_ahead(
             Shape::of(capacity),
             cells,
         ) {
-            Ok(value) => Ok(value),
+            Ok(answer) => Ok(answer),
             Err(action) => Err(going_on(CallState::Ring(action))),
         },
         QueueForm::Unbounded => match unbounded::ahead::pop_ahead(cells) {
-            Ok(value) => Ok(value),
+            Ok(answer) => Ok(answer),
             Err(action) => Err(going_on(CallState::Blocks(UnboundedCall {
                 displacing: false,
                 action,
             }))),
         },
+    }
+}
+
+/// Makes a push or a pop that has made no step; or answers the call that has to be stepped on.
+#[inline(always)]
+pub(crate) fn call_ahead<T: Drop, C: Cells<T>>(
+    call: &mut QueueCall<T>,
+    cells: &mut C,
+) -> Result<QueueReply<T>, QueueCall<T>>
+    ensures answers { MatchResult result (λ r. MayCall (C.form_of cells.old) call.old.state r)
+        (λ rest. (r : QueueReply T) → MayCall (C.form_of cells.old) rest.state r → MayCall (C.form_of cells.old) call.old.state r) }
+{
+    let state = mem::replace(&mut call.state, CallState::Finished);
+    match state {
+        CallState::Asked(QueueAsk::Push(value)) => match push_ahead(value, cells) {
+            Ok(answer) => Ok(QueueReply::Push(answer)),
+            Err(rest) => Err(rest),
+        },
+        CallState::Asked(QueueAsk::Pop) => match pop_ahead(cells) {
+            Ok(answer) => Ok(QueueReply::Pop(answer)),
+            Err(rest) => Err(rest),
+        },
+        state => Err(going_on(state)),
     }
 }

@@ -8,7 +8,7 @@ use crate::call::{QueueAsk, QueueReply};
 use crate::cells::{Cells, QueueForm};
 use crate::error::{ForcePushError, NoMemory, PopError, PushError};
 use crate::queue_call::QueueCall;
-use crate::queue_call::ahead::{pop_ahead, push_ahead};
+use crate::queue_call::ahead::{call_ahead, pop_ahead, push_ahead};
 use crate::shared::blocks::Blocks;
 use crate::shared::cells::{STAMPS, SharedCells, WordCells};
 use crate::shared::iter::TryIter;
@@ -134,7 +134,7 @@ fn tell_on<T: Drop, C: Cells<T>>(ask: QueueAsk<T>, cells: &mut C) -> QueueReply<
 }
 
 impl<T: Drop> ConcurrentQueue<T> {
-    ghost use Rattle.std.specs.Prelude.{◌≡◌};
+    ghost use Rattle.std.specs.Prelude.{◌≡◌, Some};
     ghost use Rattle.concurrent_queue.specs.SharedQueue.{IsSharedStep, IsWordsAlone};
 
     /// The cells of words and slots, from a new seat.
@@ -167,6 +167,18 @@ impl<T: Drop> ConcurrentQueue<T> {
             thread::yield_now();
         }
         reply
+    }
+
+    /// Makes the steps of a call up to its answer. A push or a pop that has made no step is made at once where nothing stands
+    /// against it. It yields where the call has to make an action again, and may wait for the lock of the spare list. What it
+    /// answers is what this queue may answer to this call. Own to this project.
+    pub fn complete<R: Wait>(&self, rt: &R, call: &mut QueueCall<T>) -> QueueReply<T>
+        ensures { IsSharedStep self.now call.old call.new (Some result) }
+    {
+        match call_ahead(call, &mut self.cells(rt)) {
+            Ok(reply) => reply,
+            Err(rest) => self.finish(rt, rest),
+        }
     }
 
     /// One step of a call that is `close` or a question but for the length. It waits for nobody, and the second one answers
@@ -207,7 +219,7 @@ impl<T: Drop> ConcurrentQueue<T> {
         ensures reason { IfErr result (λ e. CanRefuse (limit self.now) e) }
     {
         match push_ahead(value, &mut self.cells(rt)) {
-            Ok(()) => Ok(()),
+            Ok(answer) => answer,
             Err(call) => match self.finish(rt, call) {
                 QueueReply::Push(result) => result,
                 _ => unreachable!(),
@@ -232,7 +244,7 @@ impl<T: Drop> ConcurrentQueue<T> {
     /// may wait.
     pub fn pop<R: Wait>(&self, rt: &R) -> Result<T, PopError> {
         match pop_ahead(&mut self.cells(rt)) {
-            Ok(value) => Ok(value),
+            Ok(answer) => answer,
             Err(call) => match self.finish(rt, call) {
                 QueueReply::Pop(result) => result,
                 _ => unreachable!(),

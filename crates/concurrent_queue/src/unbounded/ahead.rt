@@ -1,26 +1,31 @@
 //! The steps of a push and of a pop of an unbounded queue made on end, as `bounded::ahead` makes them of a ring.
 
-ghost use Rattle.std.specs.Prelude.{MatchResult};
-ghost use Rattle.concurrent_queue.specs.Replies.{MayEnd, Sends, Tells};
+ghost use Rattle.std.specs.Prelude.{false, MatchResult};
+ghost use Rattle.concurrent_queue.specs.Replies.{MayEnd, MayPush, Sends, Tells};
 ghost use Rattle.concurrent_queue.specs.declared.call.QueueAsk.TheVariants as ask;
+ghost use Rattle.concurrent_queue.specs.declared.call.QueueReply.TheVariants as reply;
 ghost use Rattle.concurrent_queue.specs.declared.unbounded.ending.Ending.{Ending};
 
 use crate::cells::{Cells, Slot, Word};
+use crate::error::{PopError, PushError};
 use crate::unbounded::action::UnboundedAction;
 use crate::unbounded::pop::number_of;
 
-/// Pushes, or answers the action at which the machine has to go on: its first where there is no block yet, where nothing more
-/// comes in, and where another call was quicker.
+/// Pushes or is refused, or answers the action at which the machine has to go on: its first where there is no block yet, where
+/// positions end, and where another call was quicker.
 #[inline(always)]
 pub(crate) fn push_ahead<T: Drop, C: Cells<T>>(
     value: T,
     cells: &mut C,
-) -> Result<(), UnboundedAction<T>>
-    ensures answers { MatchResult result (λ _. Unit {0}) (λ a. (e : Ending T) → MayEnd a e → Sends value e) }
+) -> Result<Result<(), PushError<T>>, UnboundedAction<T>>
+    ensures answers { MatchResult result (λ r. MayPush false value (reply.Push r)) (λ a. (e : Ending T) → MayEnd a e → Sends value e) }
 {
     let tail = cells.load(Word::Tail);
     let offset = tail / 2 % 32;
-    if tail % 2 == 1 || tail / 2 >= 9223372036854775744 || offset == 31 {
+    if tail % 2 == 1 {
+        return Ok(Err(PushError::Closed(value)));
+    }
+    if tail / 2 >= 9223372036854775744 || offset == 31 {
         return Err(UnboundedAction::Push(value, None));
     }
     let block = cells.load(Word::TailBlock);
@@ -40,7 +45,7 @@ pub(crate) fn push_ahead<T: Drop, C: Cells<T>>(
         return Err(UnboundedAction::PushPut(value, tail, block - 1, None));
     }
     cells.store(Word::Written(block - 1, offset), 1);
-    Ok(())
+    Ok(Ok(()))
 }
 
 /// Pushes into the last slot of a block, for which the next one is got first. Where there is no memory for it the machine is
@@ -51,8 +56,8 @@ fn push_last<T: Drop, C: Cells<T>>(
     tail: u64,
     block: u64,
     cells: &mut C,
-) -> Result<(), UnboundedAction<T>>
-    ensures answers { MatchResult result (λ _. Unit {0}) (λ a. (e : Ending T) → MayEnd a e → Sends value e) }
+) -> Result<Result<(), PushError<T>>, UnboundedAction<T>>
+    ensures answers { MatchResult result (λ r. MayPush false value (reply.Push r)) (λ a. (e : Ending T) → MayEnd a e → Sends value e) }
 {
     let Ok(next) = cells.spare() else {
         return Err(UnboundedAction::PushMore(value, tail, block));
@@ -70,20 +75,28 @@ fn push_last<T: Drop, C: Cells<T>>(
         return Err(UnboundedAction::PushPut(value, tail, block, None));
     }
     cells.store(Word::Written(block, 30), 1);
-    Ok(())
+    Ok(Ok(()))
 }
 
-/// Pops, or answers the action at which the machine has to go on: its first where there is no message and where another call
-/// was quicker, a later one where the message is not written yet or was the last of its block.
+/// Pops or is refused, or answers the action at which the machine has to go on: its first where another call was quicker or is on
+/// its way, a later one where the message is not written yet or was the last of its block.
 #[inline(always)]
-pub(crate) fn pop_ahead<T: Drop, C: Cells<T>>(cells: &mut C) -> Result<T, UnboundedAction<T>>
+pub(crate) fn pop_ahead<T: Drop, C: Cells<T>>(
+    cells: &mut C,
+) -> Result<Result<T, PopError>, UnboundedAction<T>>
     ensures answers { MatchResult result (λ _. Unit {0}) (λ a. (e : Ending T) → MayEnd a e → Tells ask.Pop e) }
 {
     let head = cells.load(Word::Head);
     let offset = head % 32;
+    if offset == 31 {
+        return Err(UnboundedAction::Pop);
+    }
     let block = cells.load(Word::HeadBlock);
     let tail = cells.load(Word::Tail);
-    if offset == 31 || block == 0 || number_of(tail / 2) == number_of(head) {
+    if number_of(tail / 2) == number_of(head) {
+        return Ok(Err(refusal(tail)));
+    }
+    if block == 0 {
         return Err(UnboundedAction::Pop);
     }
     if cells
@@ -103,13 +116,23 @@ pub(crate) fn pop_ahead<T: Drop, C: Cells<T>>(cells: &mut C) -> Result<T, Unboun
     pop_written(head, block - 1, cells)
 }
 
+/// What a pop from an empty queue answers where the tail is this.
+#[inline(always)]
+fn refusal(tail: u64) -> PopError {
+    if tail % 2 == 1 {
+        PopError::Closed
+    } else {
+        PopError::Empty
+    }
+}
+
 /// Takes the message at this position of a block, whose place the call has won.
 #[inline(always)]
 fn pop_written<T: Drop, C: Cells<T>>(
     head: u64,
     block: u64,
     cells: &mut C,
-) -> Result<T, UnboundedAction<T>>
+) -> Result<Result<T, PopError>, UnboundedAction<T>>
     ensures answers { MatchResult result (λ _. Unit {0}) (λ a. (e : Ending T) → MayEnd a e → Tells ask.Pop e) }
 {
     if cells.load(Word::Written(block, head % 32)) != 1 {
@@ -120,7 +143,7 @@ fn pop_written<T: Drop, C: Cells<T>>(
             if cells.fetch_add(Word::Reads(block), 1) == 30 {
                 cells.retire(block);
             }
-            Ok(value)
+            Ok(Ok(value))
         }
         None => Err(UnboundedAction::PopTake(head, block)),
     }
