@@ -18,7 +18,7 @@ import tempfile
 HERE = os.path.dirname(os.path.abspath(__file__))
 SECONDS = 20
 # What a test says first whose preparation wants memory: an `expect` of these words, or an error that it hands on.
-PREPARING = ("memory", "error: AllocFailed", "error: Kind(OutOfMemory)")
+PREPARING = ("memory", "error: NoMemory", "error: AllocError", "error: AllocFailed", "error: Kind(OutOfMemory)")
 
 
 def build_library(room):

@@ -34,12 +34,7 @@ impl<'a, T: Drop, R: Wait> ChannelCells<T, Task> for SharedCells<'a, T, R> {
     // The steps of the queue's call up to its answer, one after another: nothing else of the channel's call comes between
     // them, while the steps of other threads may.
     fn step_queue(&mut self, call: &mut QueueCall<T>) -> Option<QueueReply<T>> {
-        for _ in self.rt.forever() {
-            if let Some(reply) = self.shared.queue.step(self.rt, call) {
-                return Some(reply);
-            }
-        }
-        unreachable!()
+        Some(self.shared.queue.complete(self.rt, call))
     }
 
     fn insert(&mut self, line: Line) -> Result<Key, ListenError> {
@@ -56,6 +51,10 @@ impl<'a, T: Drop, R: Wait> ChannelCells<T, Task> for SharedCells<'a, T, R> {
 
     fn tell_one<S: Wakes<Task>>(&mut self, line: Line, sink: &mut S) {
         self.shared.waiters(line).tell_one(self.rt, sink);
+    }
+
+    fn tell_more<S: Wakes<Task>>(&mut self, line: Line, count: usize, sink: &mut S) {
+        self.shared.waiters(line).tell_more(self.rt, count, sink);
     }
 
     fn tell_all<S: Wakes<Task>>(&mut self, line: Line, sink: &mut S) {

@@ -31,7 +31,7 @@ impl<T: Drop, R: Wait + Copy> Model for Receiver<T, R> {
 }
 
 impl<T: Drop, R: Wait + Copy> Receiver<T, R> {
-    ghost use Rattle.std.specs.Prelude.{◌≡◌};
+    ghost use Rattle.std.specs.Prelude.{◌≡◌, ◌<◌, ◌≤◌, [], length, Err, IfOk, OnErr};
     ghost use Rattle.async_channel.specs.Handles.{handle_of};
 
     pub(crate) fn new(rt: R, counted: Counted<T>) -> Receiver<T, R>
@@ -50,6 +50,33 @@ impl<T: Drop, R: Wait + Copy> Receiver<T, R> {
     /// may wait for another call's end and for the locks of those who wait. As `async-channel` 2.5.0.
     pub fn try_recv(&self) -> Result<T, TryRecvError> {
         self.counted.link.shared.try_recv(&self.rt)
+    }
+
+    /// Takes the oldest messages, at most `limit`, in order: as many as there are, or as are wanted.
+    ///
+    /// Refused where there is none: as empty while the channel is open, as closed afterwards; and where there is no memory for
+    /// `limit` messages, which is asked for first, so that nothing is taken then. A limit of 0 asks for no memory and gives an
+    /// empty list. As many sends that wait are told as messages were taken. It never waits for a message, but may wait for
+    /// another call's end and for the locks of those who wait, as [`try_recv`](Receiver::try_recv) may. Who is to wait for the
+    /// first message receives that one by [`recv`](Receiver::recv), polled until it is ready, or by
+    /// [`recv_blocking`](Receiver::recv_blocking), and then takes the rest:
+    ///
+    /// ```text
+    /// let first = receiver.recv_blocking()?;
+    /// let rest = receiver.recv_many(15);
+    /// ```
+    ///
+    /// Own to this project.
+    pub fn recv_many(&self, limit: usize) -> Result<Vec<T>, Refused<TryRecvError>>
+        ensures most { IfOk result (λ messages. length messages.items ≤ limit) }
+        ensures none { IfOk result (λ messages. messages.items ≡ [] → limit ≡ 0) }
+        ensures wanted { OnErr result (0 < limit) }
+        ensures reason { result ≡ Err (Refused.SerialsUsedUp tt) → ⊥ }
+    {
+        match self.counted.link.shared.recv_many(&self.rt, limit) {
+            Ok(messages) => Ok(messages.into_vec()),
+            Err(error) => Err(error),
+        }
     }
 
     /// A receive that waits for a message: nothing is done until it is polled. As `async-channel` 2.5.0.

@@ -3,13 +3,14 @@
 ghost use Rattle.std.specs.Prelude.{◌≡◌, None, IfOk, IfErr};
 ghost use Rattle.concurrent_queue.specs.Replies.{room_of};
 ghost use Rattle.concurrent_queue.specs.Replies.{is_bounded};
-ghost use Rattle.channel_calls.specs.Replies.{RefusesTrySend, RefusesForceSend};
+ghost use Rattle.channel_calls.specs.Replies.{GivesUpTo, RefusesTrySend, RefusesForceSend};
 ghost use Rattle.async_channel.specs.Handles.{form_of};
 
 use crate::shared::{Given, Shared};
 use channel_calls::ask::ChannelAsk;
 use channel_calls::error::{Refused, SendError, TryRecvError, TrySendError};
 use channel_calls::reply::Reply;
+use channel_calls::several::{Limit, Messages};
 use std::sync::Wait;
 
 impl<T: Drop> Shared<T> {
@@ -46,6 +47,21 @@ impl<T: Drop> Shared<T> {
         let Given { reply, kept: _kept } = self.run(rt, ChannelAsk::TryRecv);
         match reply {
             Reply::TryRecv(result) => result,
+            _ => unreachable!(),
+        }
+    }
+
+    pub(crate) fn recv_many<R: Wait>(
+        &self,
+        rt: &R,
+        limit: usize,
+    ) -> Result<Messages<T>, Refused<TryRecvError>>
+        ensures { GivesUpTo limit (Reply.RecvMany result) }
+    {
+        let ask = ChannelAsk::RecvMany(Limit::new(limit, self.alloc));
+        let Given { reply, kept: _kept } = self.run(rt, ask);
+        match reply {
+            Reply::RecvMany(result) => result,
             _ => unreachable!(),
         }
     }

@@ -51,11 +51,18 @@ impl Waiters {
     }
 
     /// Tells one more of those who wait.
+    #[inline(always)]
     pub(crate) fn tell_one<R: Wait, S: Wakes<Task>>(&self, rt: &R, sink: &mut S) {
         notices::tell_one(&mut self.list.lock(rt), sink);
     }
 
+    /// Tells so many more of those who wait, in one section.
+    pub(crate) fn tell_more<R: Wait, S: Wakes<Task>>(&self, rt: &R, count: usize, sink: &mut S) {
+        notices::tell_more(&mut self.list.lock(rt), count, sink);
+    }
+
     /// Tells all who wait.
+    #[inline(always)]
     pub(crate) fn tell_all<R: Wait, S: Wakes<Task>>(&self, rt: &R, sink: &mut S) {
         notices::tell_all(&mut self.list.lock(rt), sink);
     }

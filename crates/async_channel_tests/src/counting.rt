@@ -45,6 +45,8 @@ impl ChannelCells<u64, u32> for Crowded {
 
     fn tell_one<S: Wakes<u32>>(&mut self, _line: Line, _sink: &mut S) {}
 
+    fn tell_more<S: Wakes<u32>>(&mut self, _line: Line, _count: usize, _sink: &mut S) {}
+
     fn tell_all<S: Wakes<u32>>(&mut self, _line: Line, _sink: &mut S) {}
 
     fn count(&mut self, _side: Side) -> usize {

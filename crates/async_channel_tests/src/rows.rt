@@ -16,6 +16,93 @@ fn is_full_for<R: Wait + Copy>(s: &Sender<u64, R>, message: u64) -> bool {
     s.try_send(message) == Err(Refused::Plain(TrySendError::Full(message)))
 }
 
+/// Whether these messages are what a receive of several takes.
+fn takes<R: Wait + Copy>(r: &Receiver<u64, R>, limit: usize, messages: &[u64]) -> bool {
+    match r.recv_many(limit) {
+        Ok(taken) => taken.as_slice() == messages,
+        Err(_) => false,
+    }
+}
+
+/// Whether a receive of several is refused so.
+fn takes_none<R: Wait + Copy>(
+    r: &Receiver<u64, R>,
+    limit: usize,
+    why: Refused<TryRecvError>,
+) -> bool {
+    match r.recv_many(limit) {
+        Ok(_) => false,
+        Err(error) => error == why,
+    }
+}
+
+/// Three sends wait. What their polls say, what is taken at once, and who was woken by the first taking, by the first send that
+/// then is done, and by the second taking.
+fn takes_several<R: Wait + Copy>(
+    s: &Sender<u64, R>,
+    r: &Receiver<u64, R>,
+    tasks: [&MockTask; 3],
+) -> ([Said; 7], [bool; 4], [bool; 5]) {
+    let filled = goes(s, 1) && goes(s, 2) && goes(s, 3);
+    let (mut a, mut b, mut c) = (s.send(4), s.send(5), s.send(6));
+    let first = sends(tasks[0], &mut a);
+    let second = sends(tasks[1], &mut b);
+    let third = sends(tasks[2], &mut c);
+    let two = takes(r, 2, [1, 2].as_slice());
+    let woken = [
+        tasks[0].is_woken(),
+        tasks[1].is_woken(),
+        tasks[2].is_woken(),
+    ];
+    let done = sends(tasks[0], &mut a);
+    let passed_on = tasks[2].is_woken();
+    let next = sends(tasks[1], &mut b);
+    let waits = sends(tasks[2], &mut c);
+    let rest = takes(r, 10, [3, 4, 5].as_slice());
+    let again = tasks[2].is_woken();
+    let last = sends(tasks[2], &mut c);
+    let six = takes(r, 10, [6].as_slice());
+    let said = [first, second, third, done, next, waits, last];
+    (
+        said,
+        [filled, two, rest, six],
+        [woken[0], woken[1], woken[2], passed_on, again],
+    )
+}
+
+#[test]
+fn several_at_once_wake_as_many_sends(rt: HostRuntime) -> Result<(), Fail> {
+    let (s, r) = opened(rt, rt.alloc(), 3).expect(&rt, "memory");
+    let (one, two, three) = (
+        MockTask::new(&rt)?,
+        MockTask::new(&rt)?,
+        MockTask::new(&rt)?,
+    );
+    let (said, taken, woken) = takes_several(&s, &r, [&one, &two, &three]);
+    let waiting = [Said::Pending, Said::Pending, Said::Pending];
+    let then = [Said::Done, Said::Done, Said::Pending, Said::Done];
+    assert_eq!(rt; [said[0], said[1], said[2]], waiting);
+    assert_eq!(rt; [said[3], said[4], said[5], said[6]], then);
+    assert_eq!(rt; taken, [true, true, true, true]);
+    assert_eq!(rt; woken, [true, true, false, true, true]);
+    Ok(())
+}
+
+#[test]
+fn several_at_once_of_none(rt: HostRuntime) -> Result<(), Fail> {
+    let (s, r) = opened(rt, rt.alloc(), 3).expect(&rt, "memory");
+    let empty = takes_none(&r, 10, Refused::Plain(TryRecvError::Empty));
+    let went = goes(&s, 1);
+    let roomless = takes_none(&r, usize::MAX, Refused::NoMemory(()));
+    let left = takes(&r, 1, [1].as_slice());
+    let closed = s.close();
+    let over = takes_none(&r, 1, Refused::Plain(TryRecvError::Closed));
+    let nothing = takes(&r, 0, [].as_slice());
+    assert_eq!(rt; [empty, went, roomless, left], [true, true, true, true]);
+    assert_eq!(rt; [closed, over, nothing], [true, true, true]);
+    Ok(())
+}
+
 fn one_place<R: Wait + Copy>(
     s: &Sender<u64, R>,
     r: &Receiver<u64, R>,

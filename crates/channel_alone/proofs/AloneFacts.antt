@@ -57,7 +57,7 @@ module _ {T W : Type 0} where
   At from f (Working w) now = now ≡ from
   At from f (Finished kept) now = ⊥
 
-  same_asked : (f g : Phase T) (x y : Aim W) → (let s : Stage (Phase T) T W = Trying f x in s) ≡ Trying g y → f ≡ g
+  same_asked : (f g : Phase T) (x y : Aim T W) → (let s : Stage (Phase T) T W = Trying f x in s) ≡ Trying g y → f ≡ g
   same_asked f g x y e = cc
 
   -- the stage after a turn that does not answer
@@ -221,7 +221,7 @@ module _ {T W : Type 0} where
 
     -- ---- a step of the queue's call
 
-    module _ (call : QueueCall T) (y : Aim W) (x : IsAlone a c0 parts (Trying call y) so_far)
+    module _ (call : QueueCall T) (y : Aim T W) (x : IsAlone a c0 parts (Trying call y) so_far)
         (made : Made parts (Trying call y) names parts' stage' m r x.now x.at [] []) where
       tried : Tried (channel x.now parts) x.at y (record { channel = channel made.queue parts'; mark = m; woken = names }) r
           (phase made.phase_now stage')
@@ -317,18 +317,18 @@ module _ {T W : Type 0} where
 
     -- ---- a step
 
-    same_try : (f g : Phase T) (y : Aim W) (s : Stage (QueueCall T) T W) → phase f s ≡ Trying g y
+    same_try : (f g : Phase T) (y : Aim T W) (s : Stage (QueueCall T) T W) → phase f s ≡ Trying g y
         → (call : QueueCall T) × (s ≡ Trying call y) × (f ≡ g)
     same_try f g y (Trying call z) e =
         let same : z ≡ y = (let e' : (let s : Stage (Phase T) T W = Trying f z in s) ≡ Trying g y = e in cc) in
-        (call, ap (λ (w : Aim W). let s : Stage (QueueCall T) T W = Trying call w in s) same, same_asked f g z y e)
+        (call, ap (λ (w : Aim T W). let s : Stage (QueueCall T) T W = Trying call w in s) same, same_asked f g z y e)
     same_try f g y (Working w) e = absurd (let no : (let s : Stage (Phase T) T W = Working w in s) ≡ Trying g y = e in cc)
     same_try f g y (Finished kept) e = absurd (let no : (let s : Stage (Phase T) T W = Finished kept in s) ≡ Trying g y = e in cc)
 
     abbrev Next : Type 0
     Next = (IsAlone a c0 parts' stage' (so_far ++ names) × (r ≡ None)) ⊎ Advances a c0 parts' stage' (so_far ++ names) r
 
-    by_how : (call : QueueCall T) (y : Aim W) (x : IsAlone a c0 parts (Trying call y) so_far)
+    by_how : (call : QueueCall T) (y : Aim T W) (x : IsAlone a c0 parts (Trying call y) so_far)
         (made : Made parts (Trying call y) names parts' stage' m r x.now x.at [] []) (mark : QueueMark)
         → mark ≡ (tried call y x made).mark
         → ((f' : Phase T) × Continues x.now x.at mark f' × (r ≡ None) × (phase made.phase_now stage' ≡ Trying f' y))
@@ -379,7 +379,7 @@ module _ {T W : Type 0} where
 
     -- ---- the end is nearer
 
-    hastened : (call : QueueCall T) (y : Aim W) (x : IsAlone a c0 parts (Trying call y) so_far)
+    hastened : (call : QueueCall T) (y : Aim T W) (x : IsAlone a c0 parts (Trying call y) so_far)
         (made : Made parts (Trying call y) names parts' stage' m r x.now x.at [] [])
         → Hastens parts.cells x.now x.at (Trying call y) parts'.cells r stage'
         → measure parts'.cells parts'.roster stage' < measure parts.cells parts.roster (Trying call y)

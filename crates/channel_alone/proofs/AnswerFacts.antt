@@ -1,5 +1,5 @@
 -- What comes after an answer of the queue to a call that is alone at work.
-use Rattle.std.proofs.Common.{◌≡◌, ℕ, ◌==◌, ◌&&◌, not, Bool, true, false, if◌then◌else◌, List, [], Option, None, Some, Ok, Err, inl, inr, refl, sym, ap, ◌∙◌, subst}
+use Rattle.std.proofs.Common.{◌≡◌, ℕ, zero, suc, drop, ◌∷◌, ◌++◌, ◌==◌, ◌&&◌, not, Bool, true, false, if◌then◌else◌, List, [], Option, None, Some, Ok, Err, inl, inr, refl, sym, ap, ◌∙◌, subst}
 use Rattle.std.specs.Prelude.{length, slice_get}
 use Rattle.concurrent_queue.specs.Queue.{Queue, is_filled, is_full_at}
 use Rattle.concurrent_queue.specs.declared.call.QueueAsk.{QueueAsk}
@@ -29,13 +29,14 @@ use Rattle.channel_calls.specs.declared.stage.Waiting.{Waiting}
 use Rattle.channel_calls.specs.declared.stage.Waiting.TheVariants as waiting
 use Rattle.channel_calls.specs.Parts.{Roster, Listeners, listeners, with_listeners, waits}
 use Rattle.channel_calls.specs.Turns.{says, line_of, ask_of, refused_next}
-use Rattle.channel_calls.specs.Answered.{over, sent_next, forced_next, received_next, send_next, receive_next, stream_next, closing_next, closed_next, asked_next, terminated_next, upgraded_next, answered_next}
+use Rattle.channel_calls.specs.Answered.{over, sent_next, forced_next, received_next, gathered_next, short_next, several_next, send_next, receive_next, stream_next, closing_next, closed_next, asked_next, terminated_next, upgraded_next, answered_next}
+use Rattle.channel_calls.specs.Several.{Gathered, with_last}
 use Rattle.channel_calls.specs.Moves.{Channel, listens, registers}
 use Rattle.channel_alone.specs.Alone as alone
 use Rattle.channel_alone.specs.Alone.{Outcome, Where, ends, receives_by, says_only, Waits, Listens, PollsFor}
 use Rattle.channel_alone.proofs.TryFacts.{left_by}
 use Rattle.channel_steps.proofs.Interface.{fresh_waits, same_line}
-use Rattle.channel_alone.proofs.Rest.{RestTry, RestTurn, RestWork, ends_rest}
+use Rattle.channel_alone.proofs.Rest.{gathers, RestTry, RestTurn, RestWork, ends_rest}
 
 -- ---- one of two
 
@@ -137,6 +138,27 @@ module _ {T W : Type 0} where
         subst (λ (xs : List T). o ≡ receives_by xs c) (sym g.1) (k ∙ ap (λ (x : TryRecvError). ends [] (says (reply.TryRecv (Err x))) c) e)
     received_rest y g k = absurd g
 
+    gathered_rest : (vs rest : List T) (n : ℕ) (m : T) → c.queue.items ≡ m ∷ rest → RestTurn (gathered_next (with_last (vs ++ m ∷ []) n)) (now_is c (alone.taken c.queue)) o
+        → o ≡ gathers (m ∷ rest) vs n c
+    gathered_rest vs rest zero m e k = k
+    gathered_rest vs rest (suc n) m e k =
+        subst (λ (xs : List T). o ≡ gathers xs (vs ++ m ∷ []) n (now_is c (alone.taken c.queue))) (ap (λ (xs : List T). drop 1 xs) e) k
+
+    short_rest : (vs : List T) (n : ℕ) (e : TryRecvError) → e ≡ (if c.queue.closed then try_recv_error.Closed else try_recv_error.Empty) → RestTurn (short_next vs e) c o → o ≡ gathers [] vs n c
+    short_rest [] n e same k = k ∙ ap (λ (x : TryRecvError). ends [] (says (reply.RecvMany (Err (refused.Plain x)))) c) same
+    short_rest (v ∷ vs) n e same k = k
+
+    several_rest : (g : Gathered T) (y : QueueReply T) → Finds ask.Pop c.queue y → RestTurn (several_next y g) (now_is c (left_by ask.Pop y c.queue)) o → RestTry ask.Pop (aim.RecvMany g) c o
+    several_rest z (answer.Pop (Ok m)) g k =
+        subst (λ (xs : List T). o ≡ gathers xs z.taken z.more c) (sym g.1) (gathered_rest z.taken g.0 z.more m g.1 k)
+    several_rest z (answer.Pop (Err pop_error.Empty)) g k =
+        subst (λ (xs : List T). o ≡ gathers xs z.taken z.more c) (sym g.1)
+        (short_rest z.taken z.more try_recv_error.Empty (pick_else c.queue.closed _ _ _ g.0 refl) k)
+    several_rest z (answer.Pop (Err pop_error.Closed)) g k =
+        subst (λ (xs : List T). o ≡ gathers xs z.taken z.more c) (sym g.1)
+        (short_rest z.taken z.more try_recv_error.Closed (pick_then c.queue.closed _ _ _ g.0 refl) k)
+    several_rest z y g k = absurd g
+
     closed_rest : (by : Closer) (y : QueueReply T) → Finds ask.Close c.queue y → RestTurn (closed_next y by) (now_is c (left_by ask.Close y c.queue)) o → RestTry ask.Close (aim.Close by) c o
     closed_rest by (answer.Close true) g k = pick_else c.queue.closed o _ _ (open_is c.queue.closed g) k
     closed_rest by (answer.Close false) g k = pick_then c.queue.closed o _ _ (shut_is c.queue.closed g) (ends_rest c o _ k)
@@ -232,10 +254,11 @@ module _ {T W : Type 0} where
       closing_rest y g k = absurd g
 
     -- what comes after the queue's answer is what comes of the whole try
-    pub answered_rest : (a : QueueAsk T) (x : Aim W) (y : QueueReply T) → Finds a c.queue y → RestTurn (answered_next x y) (now_is c (left_by a y c.queue)) o → RestTry a x c o
+    pub answered_rest : (a : QueueAsk T) (x : Aim T W) (y : QueueReply T) → Finds a c.queue y → RestTurn (answered_next x y) (now_is c (left_by a y c.queue)) o → RestTry a x c o
     answered_rest (ask.Push m) aim.TrySend y g k = sent_rest m y g k
     answered_rest (ask.ForcePush m) aim.ForceSend y g k = forced_rest m y g k
     answered_rest ask.Pop aim.TryRecv y g k = received_rest y g k
+    answered_rest ask.Pop (aim.RecvMany z) y g k = several_rest z y g k
     answered_rest ask.Close (aim.Close by) y g k = closed_rest by y g k
     answered_rest (ask.Push m) (aim.Poll Sends key task) y g k = send_rest key task m y g k
     answered_rest ask.Pop (aim.Poll Receives key task) y g k = receive_rest key task y g k

@@ -6,7 +6,7 @@ use Rattle.concurrent_queue.specs.Step.{Fits}
 use Rattle.concurrent_queue.specs.declared.call.QueueAsk.TheVariants as ask
 use Rattle.concurrent_queue.specs.declared.queue_call.QueueCall.{QueueCall}
 use Rattle.channel_calls.specs.declared.ask.ChannelAsk.{ChannelAsk}
-use Rattle.channel_calls.specs.declared.ask.ChannelAsk.TheVariants.{TrySend, ForceSend, TryRecv, Close, PollSend, PollFinishedSend, PollRecv, PollClosed, PollNext, RefusePoll, GiveUp, DropSender, DropReceiver, CloneHandle, Upgrade, HandleCount, IsClosed, IsEmpty, IsFull, Len, Capacity, IsTerminated, SendIsTerminated, SameChannel, Make, DropWeak}
+use Rattle.channel_calls.specs.declared.ask.ChannelAsk.TheVariants.{TrySend, ForceSend, TryRecv, RecvMany, Close, PollSend, PollFinishedSend, PollRecv, PollClosed, PollNext, RefusePoll, GiveUp, DropSender, DropReceiver, CloneHandle, Upgrade, HandleCount, IsClosed, IsEmpty, IsFull, Len, Capacity, IsTerminated, SendIsTerminated, SameChannel, Make, DropWeak}
 use Rattle.channel_calls.specs.declared.reply.Reply.{Reply}
 use Rattle.channel_calls.specs.declared.stage.Stage.{Stage}
 use Rattle.channel_calls.specs.declared.stage.Turn.{Turn}
@@ -22,6 +22,7 @@ module _ {T W : Type 0} where
   first_rest (TrySend m) c o k = k
   first_rest (ForceSend m) c o k = k
   first_rest TryRecv c o k = k
+  first_rest (RecvMany n) c o k = k
   first_rest Close c o k = k
   first_rest (PollSend m key task) c o k = k
   first_rest PollFinishedSend c o k = k
@@ -52,6 +53,7 @@ module _ {T W : Type 0} where
   first_goes_on (TrySend m) r s h = h.2
   first_goes_on (ForceSend m) r s h = h.2
   first_goes_on TryRecv r s h = h.2
+  first_goes_on (RecvMany n) r s h = h.0
   first_goes_on Close r s h = h.2
   first_goes_on (PollSend m key task) r s h = h.2
   first_goes_on PollFinishedSend r s h = h.0

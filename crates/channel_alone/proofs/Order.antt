@@ -1,5 +1,5 @@
 -- A measure of what a call that is alone at work still has to do.
-use Rattle.std.proofs.Common.{◌≡◌, ℕ, ◌+◌, ◌*◌, ◌<◌, Bool, true, false, if◌then◌else◌, [], ◌++◌, Option, None, Some, Ok, Err, refl, subst, arith}
+use Rattle.std.proofs.Common.{◌≡◌, ℕ, zero, suc, ◌+◌, ◌*◌, ◌<◌, Bool, true, false, if◌then◌else◌, List, [], ◌∷◌, ◌++◌, Option, None, Some, Ok, Err, refl, subst, arith}
 use Rattle.concurrent_queue.specs.Contents.{Contents}
 use Rattle.concurrent_queue.specs.Queue.{Queue, Phase}
 use Rattle.concurrent_queue.specs.Step.{Fits, rank}
@@ -27,10 +27,13 @@ use Rattle.channel_calls.specs.declared.stage.Turn.TheVariants.{Tries, Works, En
 use Rattle.channel_calls.specs.declared.stage.Waiting.{Waiting}
 use Rattle.channel_calls.specs.declared.stage.Waiting.TheVariants as waiting
 use Rattle.channel_calls.specs.declared.stage.Work.{Work}
-use Rattle.channel_calls.specs.declared.stage.Work.TheVariants.{TellReceive, TellStreams, TellSend, TellAll, Insert, Register, Leave, Lower, Count, Load, Raise}
+use Rattle.channel_calls.specs.declared.stage.Work.TheVariants.{TellReceive, TellStreams, TellSend, TellSends, TakeRoom, TellAll, Insert, Register, Leave, Lower, Count, Load, Raise}
 use Rattle.channel_calls.specs.Parts.{Roster, listeners, waits, is_raised}
 use Rattle.channel_calls.specs.Turns.{line_of, ends_by, refused_next, closer_ending}
-use Rattle.channel_calls.specs.Answered.{sent_next, forced_next, received_next, send_next, receive_next, stream_next, closing_next, polled_next, closed_next, asked_next, terminated_next, upgraded_next, answered_next}
+use Rattle.channel_calls.specs.Answered.{sent_next, forced_next, received_next, gathered_next, short_next, several_next, send_next, receive_next, stream_next, closing_next, polled_next, closed_next, asked_next, terminated_next, upgraded_next, answered_next}
+use Rattle.channel_calls.specs.Several.{Gathered, with_last}
+use Rattle.channel_calls.specs.declared.error.TryRecvError.{TryRecvError}
+use Rattle.channel_calls.specs.declared.error.TryRecvError.TheVariants as try_recv_error
 use Rattle.channel_calls.specs.Moves.{seats}
 use Rattle.channel_alone.proofs.TryFacts.{brought_by}
 
@@ -54,23 +57,25 @@ waits_or_told : (b : Bool) → (if b then 6 else 10) < (if b then 7 else 11)
 waits_or_told true = omega arith
 waits_or_told false = omega arith
 
-abbrev pub order_try : {W : Type 0} → Roster W → Aim W → ℕ
+abbrev pub order_try : {T W : Type 0} → Roster W → Aim T W → ℕ
 order_try a (aim.Poll line None task) = 9
 order_try a (aim.Poll line (Some key) task) = if waits key (listeners line a) then 7 else 11
+order_try a (aim.RecvMany g) = 6 + g.more
 order_try a aim.IsTerminated = 7
 order_try a (aim.Upgrade side) = 9
 order_try a _ = 6
 
 -- a message may come in only while more than telling is to be done
-pub try_is_late : {W : Type 0} (a : Roster W) (x : Aim W) → 5 < order_try a x
+pub try_is_late : {T W : Type 0} (a : Roster W) (x : Aim T W) → 5 < order_try a x
 try_is_late a (aim.Poll line None task) = omega arith
 try_is_late a (aim.Poll line (Some key) task) = among_orders (waits key (listeners line a)) 5 7 11 (omega arith) (omega arith)
+try_is_late a (aim.RecvMany g) = omega arith
 try_is_late a aim.IsTerminated = omega arith
 try_is_late a (aim.Upgrade side) = omega arith
 try_is_late a x = omega arith
 
-telling : {W : Type 0} (a : Roster W) (key : Option Key) (task : W) (line : Line) (n : ℕ) → n < 6 → n < order_try a (aim.Poll line key task)
-telling a key task line n h = let k = try_is_late a (aim.Poll line key task) in omega (arith, h, k)
+telling : (T : Type 0) {W : Type 0} (a : Roster W) (key : Option Key) (task : W) (line : Line) (n : ℕ) → n < 6 → n < order_try {T = T} a (aim.Poll line key task)
+telling T a key task line n h = let k = try_is_late {T = T} a (aim.Poll line key task) in omega (arith, h, k)
 
 module _ {T W : Type 0} where
   -- a listener that waits ends its poll; one that was told is used up, and the poll goes on without it
@@ -78,6 +83,8 @@ module _ {T W : Type 0} where
   order_work a (TellReceive x) = 3
   order_work a (TellStreams x) = 2
   order_work a (TellSend x) = 2
+  order_work a (TellSends n x) = 2
+  order_work a (TakeRoom n) = 7 + n
   order_work a (TellAll line c) = order_all line
   order_work a (Insert w task) = 8
   order_work a (Register w key task) = if waits key (listeners (line_of w) a) then 6 else 10
@@ -122,7 +129,7 @@ module _ {T W : Type 0} where
     pub ends_soon : (x : Ending T) → order_turn a (ends_by x) < 2
     ends_soon x = ended x.reply x.message x.held
 
-    refused_order : (w : Waiting T) (line : Line) (key : Option Key) (task : W) → line_of w ≡ line → order_turn a (refused_next w key task) < order_try a (aim.Poll line key task)
+    refused_order : (w : Waiting T) (line : Line) (key : Option Key) (task : W) → line_of w ≡ line → order_turn a (refused_next w key task) < order_try {T = T} a (aim.Poll line key task)
     refused_order w line None task e = omega arith
     refused_order w line (Some key) task e =
         subst (λ (l : Line). (if waits key (listeners (line_of w) a) then 6 else 10) < (if waits key (listeners l a) then 7 else 11)) e (waits_or_told (waits key (listeners (line_of w) a)))
@@ -146,35 +153,49 @@ module _ {T W : Type 0} where
     received_order (answer.Pop (Err pop_error.Closed)) = omega arith
     received_order x = omega arith
 
-    module _ (key : Option Key) (task : W) where
-      soon : (line : Line) (x : Ending T) → order_turn a (ends_by x) < order_try a (aim.Poll line key task)
-      soon line x = let h = ends_soon x in let k = try_is_late a (aim.Poll line key task) in omega (arith, h, k)
+    gathered_order : (vs : List T) (n : ℕ) → order_turn a (gathered_next (with_last vs n)) < 6 + n
+    gathered_order vs zero = omega arith
+    gathered_order vs (suc n) = omega arith
 
-      send_order : (x : QueueReply T) → order_turn a (send_next x key task) < order_try a (aim.Poll Sends key task)
-      send_order (answer.Push (Ok u)) = telling a key task Sends 3 (omega arith)
+    short_order : (vs : List T) (e : TryRecvError) → order_turn a (short_next vs e) < 6
+    short_order [] e = omega arith
+    short_order (v ∷ vs) e = omega arith
+
+    several_order : (x : QueueReply T) (g : Gathered T) → order_turn a (several_next x g) < 6 + g.more
+    several_order (answer.Pop (Ok m)) g = gathered_order (g.taken ++ m ∷ []) g.more
+    several_order (answer.Pop (Err pop_error.Empty)) g = let h = short_order g.taken try_recv_error.Empty in omega (arith, h)
+    several_order (answer.Pop (Err pop_error.Closed)) g = let h = short_order g.taken try_recv_error.Closed in omega (arith, h)
+    several_order x g = omega arith
+
+    module _ (key : Option Key) (task : W) where
+      soon : (line : Line) (x : Ending T) → order_turn a (ends_by x) < order_try {T = T} a (aim.Poll line key task)
+      soon line x = let h = ends_soon x in let k = try_is_late {T = T} a (aim.Poll line key task) in omega (arith, h, k)
+
+      send_order : (x : QueueReply T) → order_turn a (send_next x key task) < order_try {T = T} a (aim.Poll Sends key task)
+      send_order (answer.Push (Ok u)) = telling T a key task Sends 3 (omega arith)
       send_order (answer.Push (Err (push_error.Full m))) = refused_order (waiting.Send m) Sends key task refl
       send_order (answer.Push (Err (push_error.Closed m))) = soon Sends _
       send_order (answer.Push (Err (push_error.NoMemory m))) = soon Sends _
-      send_order x = telling a key task Sends 0 (omega arith)
+      send_order x = telling T a key task Sends 0 (omega arith)
 
-      receive_order : (x : QueueReply T) → order_turn a (receive_next x key task) < order_try a (aim.Poll Receives key task)
-      receive_order (answer.Pop (Ok m)) = telling a key task Receives 2 (omega arith)
+      receive_order : (x : QueueReply T) → order_turn a (receive_next x key task) < order_try {T = T} a (aim.Poll Receives key task)
+      receive_order (answer.Pop (Ok m)) = telling T a key task Receives 2 (omega arith)
       receive_order (answer.Pop (Err pop_error.Empty)) = refused_order waiting.Receive Receives key task refl
       receive_order (answer.Pop (Err pop_error.Closed)) = soon Receives _
-      receive_order x = telling a key task Receives 0 (omega arith)
+      receive_order x = telling T a key task Receives 0 (omega arith)
 
-      stream_order : (x : QueueReply T) → order_turn a (stream_next x key task) < order_try a (aim.Poll Streams key task)
-      stream_order (answer.Pop (Ok m)) = telling a key task Streams 2 (omega arith)
+      stream_order : (x : QueueReply T) → order_turn a (stream_next x key task) < order_try {T = T} a (aim.Poll Streams key task)
+      stream_order (answer.Pop (Ok m)) = telling T a key task Streams 2 (omega arith)
       stream_order (answer.Pop (Err pop_error.Empty)) = refused_order waiting.Stream Streams key task refl
       stream_order (answer.Pop (Err pop_error.Closed)) = soon Streams _
-      stream_order x = telling a key task Streams 0 (omega arith)
+      stream_order x = telling T a key task Streams 0 (omega arith)
 
-      closing_order : (x : QueueReply T) → order_turn a (closing_next x key task) < order_try a (aim.Poll Closings key task)
+      closing_order : (x : QueueReply T) → order_turn a (closing_next x key task) < order_try {T = T} a (aim.Poll Closings key task)
       closing_order (answer.Flag true) = soon Closings _
       closing_order (answer.Flag false) = refused_order waiting.Closing Closings key task refl
-      closing_order x = telling a key task Closings 0 (omega arith)
+      closing_order x = telling T a key task Closings 0 (omega arith)
 
-      polled_order : (line : Line) (x : QueueReply T) → order_turn a (polled_next line x key task) < order_try a (aim.Poll line key task)
+      polled_order : (line : Line) (x : QueueReply T) → order_turn a (polled_next line x key task) < order_try {T = T} a (aim.Poll line key task)
       polled_order Sends x = send_order x
       polled_order Receives x = receive_order x
       polled_order Streams x = stream_order x
@@ -202,10 +223,11 @@ module _ {T W : Type 0} where
     upgraded_order x side = omega arith
 
     -- what comes after an answer of the queue has less to do
-    pub answered_order : (x : Aim W) (y : QueueReply T) → order_turn a (answered_next x y) < order_try a x
+    pub answered_order : (x : Aim T W) (y : QueueReply T) → order_turn a (answered_next x y) < order_try a x
     answered_order aim.TrySend y = sent_order y
     answered_order aim.ForceSend y = forced_order y
     answered_order aim.TryRecv y = received_order y
+    answered_order (aim.RecvMany g) y = several_order y g
     answered_order (aim.Poll line key task) y = polled_order key task line y
     answered_order (aim.Close c) y = closed_order y c
     answered_order aim.Ask y = asked_order y
@@ -224,10 +246,13 @@ module _ {T W : Type 0} where
     polled_tells line y key task e = absurd cc
 
     -- once a message came in, none comes any more
-    pub telling_order : (x : Aim W) (y : QueueReply T) → brought_by y ≡ 1 → order_turn a (answered_next x y) < 6
+    pub telling_order : (x : Aim T W) (y : QueueReply T) → brought_by y ≡ 1 → order_turn a (answered_next x y) < 6
     telling_order aim.TrySend y e = sent_order y
     telling_order aim.ForceSend y e = forced_order y
     telling_order aim.TryRecv y e = received_order y
+    telling_order (aim.RecvMany g) (answer.Push (Ok u)) e = omega arith
+    telling_order (aim.RecvMany g) (answer.Force (Ok d)) e = omega arith
+    telling_order (aim.RecvMany g) y e = absurd cc
     telling_order (aim.Poll line key task) y e = polled_tells line y key task e
     telling_order (aim.Close c) y e = closed_order y c
     telling_order aim.Ask y e = asked_order y

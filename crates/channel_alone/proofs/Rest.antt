@@ -1,10 +1,12 @@
 -- What a call that is alone at work does from each of its stages on.
-use Rattle.std.proofs.Common.{◌≡◌, ◌==◌, true, if◌then◌else◌, List, [], ◌∷◌, Option, None, Some, ◌⊎◌, subst}
+use Rattle.std.proofs.Common.{◌≡◌, ℕ, zero, suc, ◌+◌, ◌==◌, true, if◌then◌else◌, List, [], ◌∷◌, ◌++◌, length, take, drop, Ok, Err, refl, sym, ap, ◌∙◌, arith, append-nil, append_assoc, Option, None, Some, ◌⊎◌, subst}
 use Rattle.concurrent_queue.specs.Queue.{Phase}
 use Rattle.concurrent_queue.specs.declared.call.QueueAsk.{QueueAsk}
 use Rattle.concurrent_queue.specs.declared.call.QueueAsk.TheVariants as ask
 use Rattle.event_listener.specs.declared.key.Key.{Key}
 use Rattle.channel_calls.specs.declared.ask.ChannelAsk.TheVariants as call
+use Rattle.channel_calls.specs.declared.error.Refused.TheVariants as refused
+use Rattle.channel_calls.specs.declared.error.TryRecvError.TheVariants as try_recv_error
 use Rattle.channel_calls.specs.declared.reply.Reply.{Reply}
 use Rattle.channel_calls.specs.declared.reply.Reply.TheVariants as reply
 use Rattle.channel_calls.specs.declared.stage.Aim.{Aim}
@@ -21,20 +23,59 @@ use Rattle.channel_calls.specs.declared.stage.Stage.TheVariants.{Trying, Working
 use Rattle.channel_calls.specs.declared.stage.Turn.{Turn}
 use Rattle.channel_calls.specs.declared.stage.Turn.TheVariants.{Tries, Works, Ends}
 use Rattle.channel_calls.specs.declared.stage.Work.{Work}
-use Rattle.channel_calls.specs.declared.stage.Work.TheVariants.{TellReceive, TellStreams, TellSend, TellAll, Insert, Register, Leave, Lower, Count, Load, Raise}
+use Rattle.channel_calls.specs.declared.stage.Work.TheVariants.{TellReceive, TellStreams, TellSend, TellSends, TakeRoom, TellAll, Insert, Register, Leave, Lower, Count, Load, Raise}
 use Rattle.event_listener.specs.Lists.{kind_of}
 use Rattle.event_listener.specs.declared.error.ListenError.{ListenError}
 use Rattle.channel_calls.specs.Parts.{listeners, count, is_raised}
-use Rattle.channel_calls.specs.Turns.{line_of, message_of, ask_of, leaving, nothing_kept, ends_by, refused_reply, closer_ending}
+use Rattle.channel_calls.specs.Turns.{says, line_of, message_of, ask_of, leaving, nothing_kept, ends_by, refused_reply, closer_ending}
 use Rattle.channel_calls.specs.Moves.{Channel, Effect, Turned, tells_all, listens, raises}
-use Rattle.channel_alone.specs.Alone.{Outcome, Where, answers, ends, of_message, of_room, of_closing, says_only, closes, Registers, PollsSend, PollsReceive, PollsStream, PollsClosing, drops, clones, Alone}
+use Rattle.channel_alone.specs.Alone.{Outcome, Where, answers, ends, over_queue, taken, of_message, of_room, of_rooms, of_closing, says_only, receives_these, receives_several, ReceivesSeveral, closes, Registers, PollsSend, PollsReceive, PollsStream, PollsClosing, drops, clones, Alone}
 
 module _ {T W : Type 0} where
+  -- several messages, some of which were taken: the others out of those that are there
+  abbrev pub gathers : List T → List T → ℕ → Channel T W → Outcome T W
+  gathers [] [] n c = ends [] (says (reply.RecvMany (Err (refused.Plain (if c.queue.closed then try_recv_error.Closed else try_recv_error.Empty))))) c
+  gathers [] (v ∷ vs) n c = ends (of_rooms (length (v ∷ vs))) (says (reply.RecvMany (Ok (v ∷ vs)))) c
+  gathers (m ∷ ms) vs zero c = ends (of_rooms (length (vs ++ m ∷ []))) (says (reply.RecvMany (Ok (vs ++ m ∷ [])))) (over_queue taken c)
+  gathers (m ∷ ms) vs (suc n) c = gathers ms (vs ++ m ∷ []) n (over_queue taken c)
+
+  -- a channel with these messages, of which so many more have left it
+  abbrev with_items : List T → ℕ → Channel T W → Channel T W
+  with_items ms n c = record c { queue = record c.queue { items = ms; removed = n } }
+
+  -- what was taken, and what is there still, in all
+  abbrev all_of_them : List T → List T → ℕ → Channel T W → Outcome T W
+  all_of_them ws rest n c = ends (of_rooms (length ws)) (says (reply.RecvMany (Ok ws))) (with_items rest n c)
+
+  gathers_on : (ms vs : List T) (v : T) (n k : ℕ) (c : Channel T W)
+      → gathers ms (v ∷ vs) n (with_items ms k c) ≡ all_of_them ((v ∷ vs) ++ take (suc n) ms) (drop (suc n) ms) (k + length (take (suc n) ms)) c
+  gathers_on [] vs v n k c =
+      let none : k ≡ k + 0 = omega arith in
+      ap (λ (i : ℕ). all_of_them (v ∷ vs) [] i c) none ∙ ap (λ (ws : List T). all_of_them ws [] (k + 0) c) (sym (append-nil (v ∷ vs)))
+  gathers_on (m ∷ ms) vs v zero k c = refl
+  gathers_on (m ∷ ms) vs v (suc n) k c =
+      let more : (k + 1) + length (take (suc n) ms) ≡ k + suc (length (take (suc n) ms)) = omega arith in
+      gathers_on ms (vs ++ m ∷ []) v n (k + 1) c
+      ∙ (ap (λ (i : ℕ). all_of_them ((v ∷ vs ++ m ∷ []) ++ take (suc n) ms) (drop (suc n) ms) i c) more
+      ∙ ap (λ (ws : List T). all_of_them ws (drop (suc n) ms) (k + suc (length (take (suc n) ms))) c) (append_assoc (v ∷ vs) (m ∷ []) (take (suc n) ms)))
+
+  gathers_first : (ms : List T) (n k : ℕ) (c : Channel T W) → gathers ms [] n (with_items ms k c) ≡ receives_these (suc n) (take (suc n) ms) (with_items ms k c)
+  gathers_first [] n k c = refl
+  gathers_first (m ∷ ms) zero k c = refl
+  gathers_first (m ∷ ms) (suc n) k c =
+      let more : (k + 1) + length (take (suc n) ms) ≡ k + suc (length (take (suc n) ms)) = omega arith in
+      gathers_on ms [] m n (k + 1) c ∙ ap (λ (i : ℕ). all_of_them (m ∷ take (suc n) ms) (drop (suc n) ms) i c) more
+
+  -- a call that has room takes them one after another
+  pub gathers_all : (n : ℕ) (c : Channel T W) → gathers c.queue.items [] n c ≡ receives_several (suc n) c
+  gathers_all n c = gathers_first c.queue.items n c.queue.removed c
+
   -- a try that begins, by what it asks of the queue and what for; no other asks are made for these
-  abbrev pub RestTry : QueueAsk T → Aim W → Channel T W → Outcome T W → Type 0
+  abbrev pub RestTry : QueueAsk T → Aim T W → Channel T W → Outcome T W → Type 0
   RestTry (ask.Push m) aim.TrySend c o = Alone (call.TrySend m) c o
   RestTry (ask.ForcePush m) aim.ForceSend c o = Alone (call.ForceSend m) c o
   RestTry ask.Pop aim.TryRecv c o = Alone call.TryRecv c o
+  RestTry ask.Pop (aim.RecvMany g) c o = o ≡ gathers c.queue.items g.taken g.more c
   RestTry ask.Close (aim.Close closer) c o = o ≡ closes closer c
   RestTry (ask.Push m) (aim.Poll Sends key task) c o = PollsSend m key task c o
   RestTry ask.Pop (aim.Poll Receives key task) c o = PollsReceive key task c o
@@ -64,6 +105,8 @@ module _ {T W : Type 0} where
   RestWork (TellReceive x) c o = o ≡ ends of_message x c
   RestWork (TellStreams x) c o = o ≡ ends (tells_all Streams ∷ []) x c
   RestWork (TellSend x) c o = o ≡ ends of_room x c
+  RestWork (TellSends n x) c o = o ≡ ends (of_rooms n) x c
+  RestWork (TakeRoom n) c o = ReceivesSeveral n c o
   RestWork (TellAll line closer) c o = o ≡ ends (of_closing_from line) (closer_ending closer true) c
   RestWork (Insert w task) c o =
       ((key : Key) × (kind_of (listeners (line_of w) c.roster) key ≡ None) × RestTry (ask_of w) (aim.Poll (line_of w) (Some key) task) (listens (line_of w) key c).channel o)

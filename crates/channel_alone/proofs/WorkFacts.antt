@@ -1,5 +1,5 @@
 -- A step on a list or on a count of a call that is alone at work.
-use Rattle.std.proofs.Common.{◌≡◌, ℕ, ◌+◌, ◌-◌, ◌<◌, ◌^◌, ◌==◌, ◌&&◌, nat_lt, Bool, true, false, if◌then◌else◌, [], Option, None, Some, inl, inr, refl, sym, ap, subst, arith}
+use Rattle.std.proofs.Common.{zero, suc, ◌∙◌, ◌≡◌, ℕ, ◌+◌, ◌-◌, ◌<◌, ◌^◌, ◌==◌, ◌&&◌, nat_lt, Bool, true, false, if◌then◌else◌, [], Option, None, Some, inl, inr, refl, sym, ap, subst, arith}
 use Rattle.std.proofs.lemmas.Bool.Decides.{nat_tests}
 use Rattle.concurrent_queue.specs.Queue.{Phase}
 use Rattle.concurrent_queue.specs.declared.call.QueueAsk.TheVariants as ask
@@ -22,14 +22,14 @@ use Rattle.channel_calls.specs.declared.stage.Turn.{Turn}
 use Rattle.channel_calls.specs.declared.stage.Turn.TheVariants.{Tries, Works, Ends}
 use Rattle.channel_calls.specs.declared.stage.Waiting.{Waiting}
 use Rattle.channel_calls.specs.declared.stage.Work.{Work}
-use Rattle.channel_calls.specs.declared.stage.Work.TheVariants.{TellReceive, TellStreams, TellSend, TellAll, Insert, Register, Leave, Lower, Count, Load, Raise}
+use Rattle.channel_calls.specs.declared.stage.Work.TheVariants.{TellReceive, TellStreams, TellSend, TellSends, TakeRoom, TellAll, Insert, Register, Leave, Lower, Count, Load, Raise}
 use Rattle.channel_calls.specs.Marks.{up}
 use Rattle.channel_calls.specs.Parts.{Roster, Listeners, listeners, with_listeners, waits, count, is_raised}
-use Rattle.channel_calls.specs.Turns.{most, line_of, message_of, ask_of, leaving, nothing_kept, ends_by, again, pends_by, pending_reply, unlistened, closer_ending, dropper, told_all_next, lowered_next, counted_next, loaded_next, raised_next}
-use Rattle.channel_calls.specs.Moves.{Channel, Effect, Turned, Worked, tells_one, tells_all, listens, registers, leaves, lowers, raises, untouched, on_count}
-use Rattle.channel_alone.specs.Alone.{Outcome, Where, after_waking, answers, ends, closes, clones}
+use Rattle.channel_calls.specs.Turns.{most, line_of, message_of, ask_of, leaving, nothing_kept, ends_by, again, pends_by, pending_reply, unlistened, closer_ending, dropper, told_all_next, room_next, roomless, lowered_next, counted_next, loaded_next, raised_next}
+use Rattle.channel_calls.specs.Moves.{Channel, Effect, Turned, Worked, TakesRoomFor, tells_one, tells_more, tells_all, listens, registers, leaves, lowers, raises, untouched, on_count}
+use Rattle.channel_alone.specs.Alone.{Outcome, Where, after_waking, answers, ends, receives_several, closes, clones}
 use Rattle.channel_alone.proofs.Order.{order_turn, order_work, ends_soon}
-use Rattle.channel_alone.proofs.Rest.{RestTry, RestWork, RestTurn, RestLoad, ends_rest}
+use Rattle.channel_alone.proofs.Rest.{RestTry, RestWork, RestTurn, RestLoad, ends_rest, gathers_all}
 use Rattle.channel_steps.proofs.Interface.{fresh_waits, same_line}
 use Rattle.channel_alone.proofs.AnswerFacts.{given_then}
 
@@ -72,6 +72,28 @@ module _ {T W : Type 0} where
           queue = refl;
           falls = ends_soon (tells_one Sends c).channel.roster x;
         }
+
+    tell_sends : (n : ℕ) (x : Ending T) → Turned (ends_by x) r s → Backs c (TellSends n x) (tells_more n Sends c) r s
+    tell_sends n x h =
+        record {
+          turn = ends_by x;
+          turned = h;
+          back = λ o k. ap (λ (p : Outcome T W). after_waking (tells_more n Sends c).woken p) (ends_rest (tells_more n Sends c).channel o x k);
+          queue = refl;
+          falls = ends_soon (tells_more n Sends c).channel.roster x;
+        }
+
+    room_back : (n : ℕ) (o : Outcome T W) → RestTurn (room_next n) c o → o ≡ receives_several n c
+    room_back zero o k = k
+    room_back (suc n) o k = k ∙ gathers_all n c
+
+    room_falls : (n : ℕ) → order_turn c.roster (let t : Turn T W = room_next n in t) < 7 + n
+    room_falls zero = omega arith
+    room_falls (suc n) = omega arith
+
+    take_room : (n : ℕ) → TakesRoomFor n r s → Backs c (TakeRoom n) (untouched c) r s
+    take_room n (inl t) = record { turn = room_next n; turned = t; back = λ o k. inr (room_back n o k); queue = refl; falls = room_falls n }
+    take_room n (inr t) = record { turn = roomless; turned = t.1; back = λ o k. inl (t.0, k); queue = refl; falls = omega arith }
 
     tell_all : (line : Line) (by : Closer) → Turned (told_all_next line by) r s → Backs c (TellAll line by) (tells_all line c) r s
     tell_all Sends by h =
@@ -248,6 +270,8 @@ module _ {T W : Type 0} where
   work_backs c (TellReceive x) e r s h = at_effect c _ e _ r s h.0 (tell_receive c r s x h.1)
   work_backs c (TellStreams x) e r s h = at_effect c _ e _ r s h.0 (tell_streams c r s x h.1)
   work_backs c (TellSend x) e r s h = at_effect c _ e _ r s h.0 (tell_send c r s x h.1)
+  work_backs c (TellSends n x) e r s h = at_effect c _ e _ r s h.0 (tell_sends c r s n x h.1)
+  work_backs c (TakeRoom n) e r s h = at_effect c _ e _ r s h.0 (take_room c r s n h.1)
   work_backs c (TellAll line by) e r s h = at_effect c _ e _ r s h.0 (tell_all c r s line by h.1)
   work_backs c (Insert w task) e r s (inl h) = at_effect c _ e _ r s h.2 (inserted c r s w task h.0 h.1 h.3)
   work_backs c (Insert w task) e r s (inr h) = at_effect c _ e _ r s h.1 (not_inserted c r s w task h.0 h.2)

@@ -1,13 +1,13 @@
 -- What a call of a channel does where nobody else is at work: what it answers, what it leaves to its operation, whom it
 -- wakes in order, and the channel after it.
-use Rattle.std.specs.Prelude.{◌≡◌, ◌+◌, ◌==◌, ◌&&◌, nat_lt, Bool, true, false, if◌then◌else◌, List, [], ◌∷◌, ◌++◌, drop, length, slice_get, Option, None, Some, Ok, Err, ◌⊎◌}
+use Rattle.std.specs.Prelude.{◌≡◌, ℕ, zero, suc, ◌+◌, ◌<◌, take, ◌==◌, ◌&&◌, nat_lt, Bool, true, false, if◌then◌else◌, List, [], ◌∷◌, ◌++◌, drop, length, slice_get, Option, None, Some, Ok, Err, ◌⊎◌}
 use Rattle.concurrent_queue.specs.Queue.{Queue, IsOpen, is_filled}
 use Rattle.event_listener.specs.Lists.{kind_of}
 use Rattle.event_listener.specs.declared.key.Key.{Key}
 use Rattle.event_listener.specs.declared.error.ListenError.{ListenError}
 use Rattle.futures.specs.declared.task.Poll.TheVariants as poll
 use Rattle.channel_calls.specs.declared.ask.ChannelAsk.{ChannelAsk}
-use Rattle.channel_calls.specs.declared.ask.ChannelAsk.TheVariants.{TrySend, ForceSend, TryRecv, Close, PollSend, PollFinishedSend, PollRecv, PollClosed, PollNext, RefusePoll, GiveUp, DropSender, DropReceiver, CloneHandle, Upgrade, HandleCount, IsClosed, IsEmpty, IsFull, Len, Capacity, IsTerminated, SendIsTerminated, SameChannel, Make, DropWeak}
+use Rattle.channel_calls.specs.declared.ask.ChannelAsk.TheVariants.{TrySend, ForceSend, TryRecv, RecvMany, Close, PollSend, PollFinishedSend, PollRecv, PollClosed, PollNext, RefusePoll, GiveUp, DropSender, DropReceiver, CloneHandle, Upgrade, HandleCount, IsClosed, IsEmpty, IsFull, Len, Capacity, IsTerminated, SendIsTerminated, SameChannel, Make, DropWeak}
 use Rattle.channel_calls.specs.declared.error.Refused.TheVariants as refused
 use Rattle.channel_calls.specs.declared.error.TrySendError.TheVariants as try_send_error
 use Rattle.channel_calls.specs.declared.error.TryRecvError.TheVariants as try_recv_error
@@ -26,7 +26,7 @@ use Rattle.channel_calls.specs.Parts.{listeners, count, waits}
 use Rattle.channel_calls.specs.Turns.{most, says, leaving, nothing_kept, line_of, message_of, pending_reply, refused_reply, closer_ending, dropper}
 use Rattle.channel_calls.specs.Answered.{over}
 use Rattle.channel_calls.specs.Asks.{is_refused, gives_up}
-use Rattle.channel_calls.specs.Moves.{Channel, Effect, tells_one, tells_all, listens, registers, leaves, lowers, raises}
+use Rattle.channel_calls.specs.Moves.{Channel, Effect, tells_one, tells_more, tells_all, listens, registers, leaves, lowers, raises}
 
 -- what a call leaves at its end
 pub record Outcome (T W : Type 0) : Type 0 where
@@ -51,6 +51,10 @@ module _ {T : Type 0} where
 
   abbrev pub taken : Queue T → Queue T
   taken q = record q { items = drop 1 q.items; removed = q.removed + 1 }
+
+  -- so many taken, or all that there are
+  abbrev pub taken_some : ℕ → Queue T → Queue T
+  taken_some n q = record q { items = drop n q.items; removed = q.removed + length (take n q.items) }
 
   abbrev pub shut : Queue T → Queue T
   shut q = record q { closed = true }
@@ -80,6 +84,10 @@ module _ {T W : Type 0} where
 
   abbrev pub of_room : List (Channel T W → Effect T W)
   of_room = tells_one Sends ∷ []
+
+  -- and several that are taken at once tell as many sends
+  abbrev pub of_rooms : ℕ → List (Channel T W → Effect T W)
+  of_rooms n = tells_more n Sends ∷ []
 
   abbrev pub of_closing : List (Channel T W → Effect T W)
   of_closing = tells_all Sends ∷ tells_all Receives ∷ tells_all Streams ∷ tells_all Closings ∷ []
@@ -114,6 +122,20 @@ module _ {T W : Type 0} where
   -- only the call that closes tells
   abbrev pub closes : Closer → Channel T W → Outcome T W
   closes by c = if c.queue.closed then ends [] (closer_ending by false) c else ends of_closing (closer_ending by true) (over_queue shut c)
+
+  -- several messages at most: as many as there are, which these are
+  abbrev pub receives_these : ℕ → List T → Channel T W → Outcome T W
+  receives_these zero ms c = ends [] (says (reply.RecvMany (Ok []))) c
+  receives_these (suc n) [] c =
+      ends [] (says (reply.RecvMany (Err (refused.Plain (if c.queue.closed then try_recv_error.Closed else try_recv_error.Empty))))) c
+  receives_these (suc n) (m ∷ ms) c = ends (of_rooms (length (m ∷ ms))) (says (reply.RecvMany (Ok (m ∷ ms)))) (over_queue (taken_some (suc n)) c)
+
+  abbrev pub receives_several : ℕ → Channel T W → Outcome T W
+  receives_several n c = receives_these n (take n c.queue.items) c
+
+  -- for which there may be no memory
+  abbrev pub ReceivesSeveral : ℕ → Channel T W → Outcome T W → Type 0
+  ReceivesSeveral n c o = ((0 < n) × (o ≡ ends [] (says (reply.RecvMany (Err (refused.NoMemory tt)))) c)) ⊎ (o ≡ receives_several n c)
 
   -- ---- polls
 
@@ -185,6 +207,7 @@ module _ {T W : Type 0} where
   Alone (TrySend m) c o = MayLackRoom (says (reply.TrySend (Err (refused.NoMemory m)))) c o ⊎ (o ≡ sends m c)
   Alone (ForceSend m) c o = MayLackRoom (says (reply.ForceSend (Err (refused.NoMemory m)))) c o ⊎ (o ≡ force_sends m c)
   Alone TryRecv c o = o ≡ receives c
+  Alone (RecvMany n) c o = ReceivesSeveral n c o
   Alone Close c o = o ≡ closes closer.Call c
   Alone (PollSend m key task) c o = PollsSend m key task c o
   Alone PollFinishedSend c o = o ≡ says_only (reply.SendPoll poll.Pending) c

@@ -12,6 +12,7 @@ mod queue;
 mod recorded;
 mod rounds;
 mod settle;
+mod several;
 mod shared;
 mod steps;
 
@@ -35,6 +36,7 @@ fn measure<R: Clock + Print + Wait + Threads + Copy + Sync + Send>(
         "queue" => queue::measure_queues(&rt, alloc),
         "recorded" => recorded::measure_recorded(&rt, alloc),
         "settle" => settle::measure_settling(&rt, alloc),
+        "several" => several::measure_several(rt, alloc),
         "shared" => shared::measure_shared(&rt, alloc),
         "steps" => steps::measure_steps(&rt, alloc),
         _ => println!(&rt; "nothing to measure is named {word}"),

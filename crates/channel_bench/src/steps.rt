@@ -115,16 +115,22 @@ impl Lengths {
 
 /// The listener that a call left with its last step.
 fn left_by(entry: Option<Entry<u64>>) -> Option<Key> {
-    match entry {
-        Some(
-            Entry {
-                mark: _,
-                reply: _,
-                kept: Some(kept),
-            },
-        ) => kept.key,
-        _ => None,
-    }
+    let Entry {
+        mark: _,
+        reply: _,
+        kept,
+    } = entry?;
+    kept.and_then(|kept| kept.key)
+}
+
+/// What a call answered with its last step.
+fn answered_by(entry: Entry<u64>) -> Option<Reply<u64>> {
+    let Entry {
+        mark: _,
+        reply,
+        kept: _,
+    } = entry;
+    reply
 }
 
 /// A channel with the steps that are to be made of it, and the cost of its best round.
@@ -168,7 +174,7 @@ impl Bench {
             &mut self.sink,
         );
         let reply = match run.trace.pop() {
-            Some(entry) => entry.reply,
+            Some(entry) => answered_by(entry),
             None => return (0, run.stopped, None),
         };
         (run.trace.len().saturating_add(1), run.stopped, reply)

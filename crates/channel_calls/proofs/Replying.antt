@@ -1,5 +1,6 @@
 -- What a call may answer after each turn, from what its queue may answer.
-use Rattle.std.proofs.Common.{◌≡◌, ℕ, if◌then◌else◌, ◌==◌, nat_lt, Bool, true, false, Option, None, Some, Ok, Err, refl, sym, ap, subst}
+use Rattle.std.proofs.Common.{◌≡◌, ℕ, zero, suc, ◌+◌, ◌-◌, ◌<◌, ◌≤◌, inl, inr, if◌then◌else◌, ◌==◌, nat_lt, Bool, true, false, List, [], ◌∷◌, ◌++◌, length, Option, None, Some, Ok, Err, refl, sym, ap, subst, arith}
+use Rattle.std.proofs.lemmas.List.{length-append}
 use Rattle.concurrent_queue.specs.Replies.{MayCall, MayAnswer, IsAsking}
 use Rattle.concurrent_queue.specs.declared.call.QueueAsk.{QueueAsk}
 use Rattle.concurrent_queue.specs.declared.call.QueueAsk.TheVariants as ask
@@ -10,6 +11,9 @@ use Rattle.concurrent_queue.specs.declared.error.ForcePushError.TheVariants as f
 use Rattle.concurrent_queue.specs.declared.error.PopError.TheVariants as pop_error
 use Rattle.concurrent_queue.specs.declared.queue_call.QueueCall.{QueueCall}
 use Rattle.event_listener.specs.declared.key.Key.{Key}
+use Rattle.channel_calls.specs.declared.error.Refused.TheVariants as refused
+use Rattle.channel_calls.specs.declared.error.TryRecvError.{TryRecvError}
+use Rattle.channel_calls.specs.Several.{Gathered, with_one}
 use Rattle.channel_calls.specs.declared.reply.Reply.{Reply}
 use Rattle.channel_calls.specs.declared.stage.Aim.{Aim}
 use Rattle.channel_calls.specs.declared.stage.Aim.TheVariants as aim
@@ -40,9 +44,9 @@ use Rattle.event_listener.specs.declared.error.ListenError.{ListenError}
 use Rattle.event_listener.specs.declared.error.ListenError.TheVariants as listen_error
 use Rattle.concurrent_queue.specs.Replies.{Follows, is_bounded}
 use Rattle.concurrent_queue.specs.declared.cells.QueueForm.{QueueForm}
-use Rattle.channel_calls.specs.Turns.{most, again, ends_by, closer_ending, nothing_kept, told_all_next, counted_next, loaded_next, raised_next, pends_by, unlistened}
-use Rattle.channel_calls.specs.Answered.{sent_next, forced_next, received_next, send_next, receive_next, stream_next, closing_next, polled_next, closed_next, asked_next, terminated_next, upgraded_next, answered_next}
-use Rattle.channel_calls.specs.Replies.{MayGive, EndsBy, MayEnd, FollowsTurn, FollowsStage, IsCount, SendsAtOnce, ForcesIn, IsTryRecv, IsFlag, IsClosing, IsMaking, MayPoll, MayTell, MayTry, MayTurn}
+use Rattle.channel_calls.specs.Turns.{most, again, ends_by, closer_ending, nothing_kept, told_all_next, room_next, TakesRoom, counted_next, loaded_next, raised_next, pends_by, unlistened}
+use Rattle.channel_calls.specs.Answered.{sent_next, forced_next, received_next, hands_out, gathered_next, short_next, several_next, send_next, receive_next, stream_next, closing_next, polled_next, closed_next, asked_next, terminated_next, upgraded_next, answered_next}
+use Rattle.channel_calls.specs.Replies.{MayGive, EndsBy, MayEnd, FollowsTurn, FollowsStage, IsCount, SendsAtOnce, ForcesIn, IsTryRecv, GivesUpTo, IsFlag, IsClosing, IsMaking, MayPoll, MayTell, MayTry, MayTurn}
 
 module _ {T : Type 0} where
   -- what holds of how a call ends holds of its reply and of the message that it leaves
@@ -57,6 +61,9 @@ module _ {T : Type 0} where
 
   abbrev pub Received : QueueForm → Reply T → Option T → Type 0
   Received b r m = IsTryRecv r × (m ≡ None)
+
+  abbrev pub Several : QueueForm → ℕ → Reply T → Option T → Type 0
+  Several b n r m = GivesUpTo n r × (m ≡ None)
 
   abbrev pub Closed : QueueForm → Closer → Reply T → Option T → Type 0
   Closed b c r m = IsClosing c r × (m ≡ None)
@@ -104,6 +111,52 @@ module _ {T : Type 0} (W : Type 0) (b : QueueForm) where
   received (Flag y) h r m t = absurd h
   received (Count y) h r m t = absurd h
   received (Cap y) h r m t = absurd h
+
+  handed : (n : ℕ) (vs : List T) → length vs ≤ n → (vs ≡ [] → n ≡ 0) → (r : Reply T) (m : Option T) → MayTurn {T = T} {W = W} b (hands_out vs) r m → Several b n r m
+  handed n vs few none r m t = at_end (Several b n) _ _ ((few, none), refl) r m t
+
+  nothing_after : (vs : List T) (v : T) → vs ++ v ∷ [] ≡ [] → ⊥
+  nothing_after vs v e =
+      let n : length (vs ++ v ∷ []) ≡ 0 = ap (λ (xs : List T). length xs) e in
+      let l = length-append vs (v ∷ []) in
+      omega arith
+
+  gathered : (vs : List T) (k : ℕ) (v : T) (r : Reply T) (m : Option T) → MayTurn {T = T} {W = W} b (gathered_next (with_one (record { taken = vs; more = k }) v)) r m → Several b (length vs + (k + 1)) r m
+  gathered vs zero v r m t =
+      let l = length-append vs (v ∷ []) in
+      let few : length (vs ++ v ∷ []) ≤ length vs + (0 + 1) = omega arith in
+      handed _ (vs ++ v ∷ []) few (λ none. absurd (nothing_after vs v none)) r m t
+  gathered vs (suc k) v r m t =
+      let l = length-append vs (v ∷ []) in
+      let same : length (vs ++ v ∷ []) + (k + 1) ≡ length vs + (suc k + 1) = omega arith in
+      subst (λ (n : ℕ). Several b n r m) same (t refl)
+
+  short : (n : ℕ) (vs : List T) → length vs < n → (e : TryRecvError) (r : Reply T) (m : Option T) → MayTurn {T = T} {W = W} b (short_next vs e) r m → Several b n r m
+  short n [] few e r m t = at_end (Several b n) _ _ (few, refl) r m t
+  short n (v ∷ vs) few e r m t = handed n (v ∷ vs) (omega arith) (λ none. absurd (let l : suc (length vs) ≡ 0 = ap (λ (xs : List T). length xs) none in omega arith)) r m t
+
+  several : (g : Gathered T) (y : QueueReply T) → MayAnswer b ask.Pop y → (r : Reply T) (m : Option T) → MayTurn {T = T} {W = W} b (several_next y g) r m → Several b (length g.taken + (g.more + 1)) r m
+  several g (Pop (Ok v)) h r m t = gathered g.taken g.more v r m t
+  several g (Pop (Err pop_error.Empty)) h r m t = short _ g.taken (omega arith) _ r m t
+  several g (Pop (Err pop_error.Closed)) h r m t = short _ g.taken (omega arith) _ r m t
+  several g (Push y) h r m t = absurd h
+  several g (Force y) h r m t = absurd h
+  several g (Close y) h r m t = absurd h
+  several g (Flag y) h r m t = absurd h
+  several g (Count y) h r m t = absurd h
+  several g (Cap y) h r m t = absurd h
+
+  -- room is taken, or refused
+  roomy : (n : ℕ) (r : Reply T) (m : Option T) → MayTurn {T = T} {W = W} b (room_next n) r m → Several b n r m
+  roomy zero r m t = at_end (Several b 0) _ _ ((omega arith, λ none. refl), refl) r m t
+  roomy (suc n) r m t =
+      let same : 0 + (n + 1) ≡ suc n = omega arith in
+      subst (λ (k : ℕ). Several b k r m) same (t refl)
+
+  pub room_taken : (n : ℕ) (turn : Turn T W) → TakesRoom n turn → (r : Reply T) (m : Option T) → MayTurn b turn r m → Several b n r m
+  room_taken n turn (inl e) r m t = roomy n r m (subst (λ (x : Turn T W). MayTurn b x r m) e t)
+  room_taken n turn (inr (some, e)) r m t =
+      at_end (Several b n) (reply.RecvMany (Err (refused.NoMemory tt))) None (some, refl) r m (subst (λ (x : Turn T W). MayTurn b x r m) e t)
 
   polled_send : (v : T) (key : Option Key) (task : W) (y : QueueReply T) → MayAnswer b (ask.Push v) y → (r : Reply T) (m : Option T) → MayTurn b (send_next y key task) r m → MayPoll (waiting.Send v) r m
   polled_send v key task (Push (Ok u)) h r m t = at_end (MayPoll (waiting.Send v)) _ _ refl r m t
@@ -266,10 +319,11 @@ module _ {T : Type 0} (W : Type 0) (b : QueueForm) where
   upgraded side (Count y) h r m t = absurd h
   upgraded side (Cap y) h r m t = absurd h
 
-  pub answered : (x : Aim W) (a : QueueAsk T) (y : QueueReply T) → MayAnswer b a y → (r : Reply T) (m : Option T) → MayTurn b (answered_next x y) r m → MayTry b x a r m
+  pub answered : (x : Aim T W) (a : QueueAsk T) (y : QueueReply T) → MayAnswer b a y → (r : Reply T) (m : Option T) → MayTurn b (answered_next x y) r m → MayTry b x a r m
   answered aim.TrySend a y h r m t = λ v e. sent v y (subst (λ (z : QueueAsk T). MayAnswer b z y) e h) r m t
   answered aim.ForceSend a y h r m t = λ v e. forced v y (subst (λ (z : QueueAsk T). MayAnswer b z y) e h) r m t
   answered aim.TryRecv a y h r m t = λ e. received y (subst (λ (z : QueueAsk T). MayAnswer b z y) e h) r m t
+  answered (aim.RecvMany g) a y h r m t = λ e. several g y (subst (λ (z : QueueAsk T). MayAnswer b z y) e h) r m t
   answered (aim.Poll Sends key task) a y h r m t = λ v e. polled_send v key task y (subst (λ (z : QueueAsk T). MayAnswer b z y) e h) r m t
   answered (aim.Poll Receives key task) a y h r m t = λ e. polled_receive key task y (subst (λ (z : QueueAsk T). MayAnswer b z y) e h) r m t
   answered (aim.Poll Streams key task) a y h r m t = λ e. polled_stream key task y (subst (λ (z : QueueAsk T). MayAnswer b z y) e h) r m t
@@ -340,6 +394,7 @@ module _ {T : Type 0} (W : Type 0) (b : QueueForm) where
   given (call.TrySend v) r m t = t v refl
   given (call.ForceSend v) r m t = t v refl
   given call.TryRecv r m t = t refl
+  given (call.RecvMany n) r m t = t
   given call.Close r m t = t refl
   given (call.PollSend v key task) r m t = t v refl
   given call.PollFinishedSend r m t = t
@@ -393,7 +448,7 @@ module _ {T : Type 0} (W : Type 0) (b : QueueForm) where
   pub at_work : (w w' : Work T W) → w ≡ w' → (s : Stage (QueueCall T) T W) (o : Option (Reply T)) → FollowsStage b (Working w') s o → FollowsStage b (Working w) s o
   at_work w w' e s o h = subst (λ (z : Work T W). FollowsStage b (Working z) s o) (sym e) h
 
-module _ {T W : Type 0} (f : QueueForm) (one one' : QueueCall T) (x : Aim W) where
+module _ {T W : Type 0} (f : QueueForm) (one one' : QueueCall T) (x : Aim T W) where
   -- the queue's one goes on
   pub goes_on : (o : Option (QueueReply T)) → o ≡ None → Follows f one one' o → FollowsStage {T = T} {W = W} f (Trying one x) (Trying one' x) None
   goes_on o e h =

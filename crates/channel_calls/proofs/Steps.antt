@@ -26,10 +26,10 @@ use Rattle.channel_calls.specs.declared.stage.Turn.{Turn}
 use Rattle.channel_calls.specs.declared.stage.Turn.TheVariants.{Tries, Works, Ends}
 use Rattle.channel_calls.specs.declared.stage.Waiting.{Waiting}
 use Rattle.channel_calls.specs.declared.stage.Work.{Work}
-use Rattle.channel_calls.specs.declared.stage.Work.TheVariants.{Insert, Register, Leave, Raise}
+use Rattle.channel_calls.specs.declared.stage.Work.TheVariants.{TakeRoom, Insert, Register, Leave, Raise}
 use Rattle.channel_calls.specs.Marks.{mark_of_queue, up}
 use Rattle.channel_calls.specs.Parts.{Parts, Roster, Listeners, with_cells, with_roster, listeners, with_listeners, with_count, is_raised, waits}
-use Rattle.channel_calls.specs.Turns.{line_of, leaving, nothing_kept, again, pends_by, unlistened, raised_next}
+use Rattle.channel_calls.specs.Turns.{line_of, leaving, nothing_kept, again, pends_by, unlistened, room_next, roomless, TakesRoom, raised_next}
 use Rattle.channel_calls.specs.Answered.{answered_next}
 use Rattle.channel_calls.specs.Moves.{Channel, Effect, channel, queued, untouched, on_line, on_count, leaves, Turned, Worked, seats, phase, OnePlace, IsTaken, IsStepOver, IsChannelStep}
 
@@ -67,7 +67,7 @@ module _ {T W : Type 0} where
     cells_only : parts'.roster ≡ parts.roster → parts' ≡ with_cells parts'.cells parts
     cells_only e = ap (λ (a : Roster W). let p : Parts T W = record { cells = parts'.cells; roster = a } in p) e
 
-    module _ (call call' : QueueCall T) (aim : Aim W) (roster : parts'.roster ≡ parts.roster) where
+    module _ (call call' : QueueCall T) (aim : Aim T W) (roster : parts'.roster ≡ parts.roster) where
       queue_effect : (q : Queue T) (f : Phase T)
           → (let e : Effect T W = record { channel = channel (after f (mark_of call') q) parts'; mark = mark_of_queue (mark_of call'); woken = [] } in e) ≡ queued f (mark_of call') (channel q parts)
       queue_effect q f =
@@ -170,6 +170,14 @@ module _ {T W : Type 0} where
           subst (λ (x : Mark). IsStepOver parts (Working work) [] parts' stage' x r) (sym no_mark)
           (beside work turn0 [] mark.Nothing r stage' (ap (λ (p : Parts T W). p.cells) e) (inr (inl (line.Sends, parts.roster.sends, e))) by_turn
           (λ q s turned. ok q _ s (no_effect q e) turned))
+
+    -- room is taken, or refused
+    pub takes_room : parts' ≡ parts → (n : ℕ) (turn : Turn T W) → TakesRoom n turn → (r : Option (Reply T)) (stage' : Stage (QueueCall T) T W) → IsTaken turn r stage' → (m : Mark) → m ≡ mark.Nothing
+        → IsStepOver parts (Working (TakeRoom n)) [] parts' stage' m r
+    takes_room same n turn (inl e) r stage' taken m no_mark =
+        on_nothing (TakeRoom n) turn (room_next n) e r stage' taken m no_mark same (λ q e s effect turned. (effect, inl turned))
+    takes_room same n turn (inr (some, e)) r stage' taken m no_mark =
+        on_nothing (TakeRoom n) turn roomless e r stage' taken m no_mark same (λ q e s effect turned. (effect, inr (some, turned)))
 
     -- a call that has answered
     pub rests : (kept : Kept T) → parts' ≡ parts → IsStepOver parts (Finished kept) [] parts' (Finished kept) mark.Nothing None

@@ -1,5 +1,5 @@
 -- What comes after each answer of a channel's queue.
-use Rattle.std.specs.Prelude.{true, false, Option, None, Some, Ok, Err}
+use Rattle.std.specs.Prelude.{true, false, List, [], ◌∷◌, length, Option, None, Some, Result, Ok, Err}
 use Rattle.concurrent_queue.specs.declared.call.QueueAsk.TheVariants as ask
 use Rattle.concurrent_queue.specs.declared.call.QueueReply.{QueueReply}
 use Rattle.concurrent_queue.specs.declared.call.QueueReply.TheVariants.{Push, Force, Pop, Close, Flag, Count, Cap}
@@ -10,6 +10,7 @@ use Rattle.event_listener.specs.declared.key.Key.{Key}
 use Rattle.futures.specs.declared.task.Poll.TheVariants.{Ready}
 use Rattle.channel_calls.specs.declared.error.Refused.TheVariants as refused
 use Rattle.channel_calls.specs.declared.error.TrySendError.TheVariants as try_send_error
+use Rattle.channel_calls.specs.declared.error.TryRecvError.{TryRecvError}
 use Rattle.channel_calls.specs.declared.error.TryRecvError.TheVariants as try_recv_error
 use Rattle.channel_calls.specs.declared.reply.Reply.{Reply}
 use Rattle.channel_calls.specs.declared.reply.Reply.TheVariants as reply
@@ -25,6 +26,7 @@ use Rattle.channel_calls.specs.declared.stage.Turn.{Turn}
 use Rattle.channel_calls.specs.declared.stage.Turn.TheVariants.{Tries, Works, Ends}
 use Rattle.channel_calls.specs.declared.stage.Waiting.TheVariants as waiting
 use Rattle.channel_calls.specs.declared.stage.Work.TheVariants as work
+use Rattle.channel_calls.specs.Several.{Gathered, with_one}
 use Rattle.channel_calls.specs.Turns.{says, held_on, ends_by, refused_next, closer_ending, nothing_kept}
 
 module _ {T : Type 0} where
@@ -55,6 +57,26 @@ module _ {T W : Type 0} where
   received_next (Pop (Err pop_error.Empty)) = ends_by (says (reply.TryRecv (Err try_recv_error.Empty)))
   received_next (Pop (Err pop_error.Closed)) = ends_by (says (reply.TryRecv (Err try_recv_error.Closed)))
   received_next _ = lost
+
+  -- several messages are handed out, and as many more sends are told
+  abbrev pub hands_out : List T → Turn T W
+  hands_out vs = Works (work.TellSends (length vs) (says (reply.RecvMany (Ok vs))))
+
+  -- the next one is tried for, or these are all
+  abbrev pub gathered_next : Result (Gathered T) (List T) → Turn T W
+  gathered_next (Ok g) = Tries ask.Pop (aim.RecvMany g)
+  gathered_next (Err vs) = hands_out vs
+
+  -- there is no further one after these
+  abbrev pub short_next : List T → TryRecvError → Turn T W
+  short_next [] e = ends_by (says (reply.RecvMany (Err (refused.Plain e))))
+  short_next (v ∷ vs) e = hands_out (v ∷ vs)
+
+  abbrev pub several_next : QueueReply T → Gathered T → Turn T W
+  several_next (Pop (Ok m)) g = gathered_next (with_one g m)
+  several_next (Pop (Err pop_error.Empty)) g = short_next g.taken try_recv_error.Empty
+  several_next (Pop (Err pop_error.Closed)) g = short_next g.taken try_recv_error.Closed
+  several_next _ g = lost
 
   -- a message for which there was no memory stays with its send
   abbrev pub send_next : QueueReply T → Option Key → W → Turn T W
@@ -109,10 +131,11 @@ module _ {T W : Type 0} where
   upgraded_next _ side = lost
 
   -- by what the call of the queue was made for
-  abbrev pub answered_next : Aim W → QueueReply T → Turn T W
+  abbrev pub answered_next : Aim T W → QueueReply T → Turn T W
   answered_next aim.TrySend x = sent_next x
   answered_next aim.ForceSend x = forced_next x
   answered_next aim.TryRecv x = received_next x
+  answered_next (aim.RecvMany g) x = several_next x g
   answered_next (aim.Poll line key task) x = polled_next line x key task
   answered_next (aim.Close c) x = closed_next x c
   answered_next aim.Ask x = asked_next x

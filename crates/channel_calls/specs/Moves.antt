@@ -26,10 +26,10 @@ use Rattle.channel_calls.specs.declared.stage.Turn.{Turn}
 use Rattle.channel_calls.specs.declared.stage.Turn.TheVariants.{Tries, Works, Ends}
 use Rattle.channel_calls.specs.declared.stage.Waiting.{Waiting}
 use Rattle.channel_calls.specs.declared.stage.Work.{Work}
-use Rattle.channel_calls.specs.declared.stage.Work.TheVariants.{TellReceive, TellStreams, TellSend, TellAll, Insert, Register, Leave, Lower, Count, Load, Raise}
+use Rattle.channel_calls.specs.declared.stage.Work.TheVariants.{TellReceive, TellStreams, TellSend, TellSends, TakeRoom, TellAll, Insert, Register, Leave, Lower, Count, Load, Raise}
 use Rattle.channel_calls.specs.Marks.{mark_of_queue, up, down}
-use Rattle.channel_calls.specs.Parts.{Parts, Roster, Listeners, new_roster, with_cells, with_roster, listeners, with_listeners, count, with_count, is_raised, told_one, told_one_wakes, told_all, told_all_wakes, waits}
-use Rattle.channel_calls.specs.Turns.{line_of, leaving, nothing_kept, ends_by, again, pends_by, unlistened, told_all_next, lowered_next, loaded_next, raised_next}
+use Rattle.channel_calls.specs.Parts.{Parts, Roster, Listeners, new_roster, with_cells, with_roster, listeners, with_listeners, count, with_count, is_raised, told_one, told_one_wakes, told_more, told_more_wakes, told_all, told_all_wakes, waits}
+use Rattle.channel_calls.specs.Turns.{line_of, leaving, nothing_kept, ends_by, again, pends_by, unlistened, told_all_next, room_next, roomless, lowered_next, loaded_next, raised_next}
 use Rattle.channel_calls.specs.Answered.{answered_next}
 
 -- a channel at one moment: its queue, its lists of listeners and its counts of handles
@@ -72,6 +72,9 @@ module _ {T W : Type 0} where
   abbrev pub tells_one : Line → Channel T W → Effect T W
   tells_one line c = on_line line (told_one (listeners line c.roster)) (told_one_wakes (listeners line c.roster)) c
 
+  abbrev pub tells_more : ℕ → Line → Channel T W → Effect T W
+  tells_more n line c = on_line line (told_more n (listeners line c.roster)) (told_more_wakes n (listeners line c.roster)) c
+
   abbrev pub tells_all : Line → Channel T W → Effect T W
   tells_all line c = on_line line (told_all (listeners line c.roster)) (told_all_wakes (listeners line c.roster)) c
 
@@ -104,7 +107,7 @@ module _ {T W : Type 0} where
   Turned (Ends x kept) r s = (r ≡ Some x) × (s ≡ Finished kept)
 
   -- a step of the queue's call: it goes on, or it answers and the turn is taken that its aim gives
-  pub record Tried (c : Channel T W) (f : Phase T) (aim : Aim W) (e : Effect T W) (r : Option (Reply T)) (s : Stage (Phase T) T W) : Type 0 where
+  pub record Tried (c : Channel T W) (f : Phase T) (aim : Aim T W) (e : Effect T W) (r : Option (Reply T)) (s : Stage (Phase T) T W) : Type 0 where
     pub mark : QueueMark
     pub effect : e ≡ queued f mark c
     pub how :
@@ -117,11 +120,17 @@ module _ {T W : Type 0} where
       ((key : Key) × (kind_of (listeners (line_of w) c.roster) key ≡ None) × (e ≡ listens (line_of w) key c) × Turned (again w (Some key) task) r s)
       ⊎ ((error : ListenError) × (e ≡ untouched c) × Turned (unlistened w error) r s)
 
+  -- room for so many messages at most is taken, or refused
+  abbrev pub TakesRoomFor : ℕ → Option (Reply T) → Stage (Phase T) T W → Type 0
+  TakesRoomFor n r s = Turned (room_next n) r s ⊎ ((0 < n) × Turned roomless r s)
+
   -- a step on a list or a count: what it does, and what comes after
   abbrev pub Worked : Channel T W → Work T W → Effect T W → Option (Reply T) → Stage (Phase T) T W → Type 0
   Worked c (TellReceive x) e r s = (e ≡ tells_one Receives c) × Turned (Works (TellStreams x)) r s
   Worked c (TellStreams x) e r s = (e ≡ tells_all Streams c) × Turned (ends_by x) r s
   Worked c (TellSend x) e r s = (e ≡ tells_one Sends c) × Turned (ends_by x) r s
+  Worked c (TellSends n x) e r s = (e ≡ tells_more n Sends c) × Turned (ends_by x) r s
+  Worked c (TakeRoom n) e r s = (e ≡ untouched c) × TakesRoomFor n r s
   Worked c (TellAll line closer) e r s = (e ≡ tells_all line c) × Turned (told_all_next line closer) r s
   Worked c (Insert w task) e r s = Inserts w task c e r s
   Worked c (Register w key task) e r s =

@@ -1,5 +1,5 @@
 -- What a channel has beside its queue: four lists of listeners and two counts of handles.
-use Rattle.std.specs.Prelude.{◌≡◌, ℕ, ◌-◌, ◌^◌, ◌==◌, ◌&&◌, nat_lt, Bool, true, false, List, [], ◌++◌, map, not, Option, None, Some}
+use Rattle.std.specs.Prelude.{◌≡◌, ℕ, zero, suc, ◌-◌, ◌^◌, ◌==◌, ◌&&◌, nat_lt, Bool, true, false, List, [], ◌++◌, map, not, Option, None, Some}
 use Rattle.concurrent_queue.specs.Contents.{Contents}
 use Rattle.event_listener.specs.Lists.{Lists, kind_of, told_with, tasks_of, passed, passed_wakes}
 use Rattle.event_listener.specs.declared.key.Key.{Key}
@@ -72,6 +72,15 @@ module _ {W : Type 0} where
 
   abbrev pub told_one_wakes : Listeners W → List W
   told_one_wakes l = passed_wakes (record { additional = true; tag = tt }) l
+
+  -- so many more are told, one after another
+  abbrev pub told_more : ℕ → Listeners W → Listeners W
+  told_more zero l = l
+  told_more (suc n) l = told_more n (told_one l)
+
+  abbrev pub told_more_wakes : ℕ → Listeners W → List W
+  told_more_wakes zero l = []
+  told_more_wakes (suc n) l = told_one_wakes l ++ told_more_wakes n (told_one l)
 
   -- all who wait are told
   abbrev pub told_all : Listeners W → Listeners W

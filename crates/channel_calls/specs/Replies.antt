@@ -1,6 +1,6 @@
 -- What a call may answer, whatever its cells hold: a reply of its own kind, and a refused message is its own. Over cells that
 -- threads share this is all that is known of a step.
-use Rattle.std.specs.Prelude.{◌≡◌, ◌⊎◌, ℕ, Bool, true, false, Option, None, Some, Result, Ok, Err, MatchOption}
+use Rattle.std.specs.Prelude.{◌≡◌, ◌⊎◌, ℕ, ◌+◌, ◌<◌, ◌≤◌, [], length, Bool, true, false, Option, None, Some, Result, Ok, Err, MatchOption}
 use Rattle.concurrent_queue.specs.Replies.{is_bounded, MayCall, MayAnswer}
 use Rattle.concurrent_queue.specs.declared.call.QueueAsk.{QueueAsk}
 use Rattle.concurrent_queue.specs.declared.call.QueueAsk.TheVariants as ask
@@ -35,7 +35,7 @@ use Rattle.channel_calls.specs.declared.stage.Turn.TheVariants.{Tries, Works, En
 use Rattle.channel_calls.specs.declared.stage.Waiting.{Waiting}
 use Rattle.channel_calls.specs.declared.stage.Waiting.TheVariants as waiting
 use Rattle.channel_calls.specs.declared.stage.Work.{Work}
-use Rattle.channel_calls.specs.declared.stage.Work.TheVariants.{TellReceive, TellStreams, TellSend, TellAll, Insert, Register, Leave, Lower, Count, Load, Raise}
+use Rattle.channel_calls.specs.declared.stage.Work.TheVariants.{TellReceive, TellStreams, TellSend, TellSends, TakeRoom, TellAll, Insert, Register, Leave, Lower, Count, Load, Raise}
 use Rattle.channel_calls.specs.Asks.{kept_by}
 use Rattle.channel_calls.specs.Errors.{unsent}
 use Rattle.channel_calls.specs.Turns.{closer_ending, refused_reply}
@@ -69,6 +69,13 @@ module _ {T : Type 0} where
   abbrev pub IsTryRecv : Reply T → Type 0
   IsTryRecv (reply.TryRecv r) = Unit {0}
   IsTryRecv _ = ⊥
+
+  -- of a receive of at most so many: none only where none is wanted, where there is no refusal
+  abbrev pub GivesUpTo : ℕ → Reply T → Type 0
+  GivesUpTo n (reply.RecvMany (Ok vs)) = (length vs ≤ n) × (vs ≡ [] → n ≡ 0)
+  GivesUpTo n (reply.RecvMany (Err (refused.Plain e))) = 0 < n
+  GivesUpTo n (reply.RecvMany (Err (refused.NoMemory u))) = 0 < n
+  GivesUpTo n _ = ⊥
 
   abbrev pub IsFlag : Reply T → Type 0
   IsFlag (reply.Flag b) = Unit {0}
@@ -127,10 +134,11 @@ module _ {T : Type 0} where
   MayTell _ r = Unit {0}
 
   -- a call of the queue that is made for this, and asks that
-  abbrev pub MayTry : {W : Type 0} → QueueForm → Aim W → QueueAsk T → Reply T → Option T → Type 0
+  abbrev pub MayTry : {W : Type 0} → QueueForm → Aim T W → QueueAsk T → Reply T → Option T → Type 0
   MayTry b aim.TrySend a r m = (v : T) → a ≡ ask.Push v → SendsAtOnce (is_bounded b) v r × (m ≡ None)
   MayTry b aim.ForceSend a r m = (v : T) → a ≡ ask.ForcePush v → ForcesIn (is_bounded b) v r × (m ≡ None)
   MayTry b aim.TryRecv a r m = a ≡ ask.Pop → IsTryRecv r × (m ≡ None)
+  MayTry b (aim.RecvMany g) a r m = a ≡ ask.Pop → GivesUpTo (length g.taken + (g.more + 1)) r × (m ≡ None)
   MayTry b (aim.Poll Sends key task) a r m = (v : T) → a ≡ ask.Push v → MayPoll (waiting.Send v) r m
   MayTry b (aim.Poll Receives key task) a r m = a ≡ ask.Pop → MayPoll waiting.Receive r m
   MayTry b (aim.Poll Streams key task) a r m = a ≡ ask.Pop → MayPoll waiting.Stream r m
@@ -144,6 +152,8 @@ module _ {T : Type 0} where
   MayWork (TellReceive e) r m = EndsBy e r m
   MayWork (TellStreams e) r m = EndsBy e r m
   MayWork (TellSend e) r m = EndsBy e r m
+  MayWork (TellSends n e) r m = EndsBy e r m
+  MayWork (TakeRoom n) r m = GivesUpTo n r × (m ≡ None)
   MayWork (TellAll line c) r m = EndsBy (closer_ending c true) r m
   MayWork (Insert w task) r m = MayPoll w r m
   MayWork (Register w key task) r m = MayPoll w r m
@@ -178,6 +188,7 @@ module _ {T : Type 0} where
   MayGive b (call.TrySend v) r m = SendsAtOnce (is_bounded b) v r × (m ≡ None)
   MayGive b (call.ForceSend v) r m = ForcesIn (is_bounded b) v r × (m ≡ None)
   MayGive b call.TryRecv r m = IsTryRecv r × (m ≡ None)
+  MayGive b (call.RecvMany n) r m = GivesUpTo n r × (m ≡ None)
   MayGive b call.Close r m = IsClosing closer.Call r × (m ≡ None)
   MayGive b (call.PollSend v key task) r m = MayPoll (waiting.Send v) r m
   MayGive b call.PollFinishedSend r m = (r ≡ reply.SendPoll poll.Pending) × (m ≡ None)

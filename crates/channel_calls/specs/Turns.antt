@@ -1,5 +1,5 @@
 -- What comes after each step of a call on a list or on a count.
-use Rattle.std.specs.Prelude.{ℕ, ◌-◌, ◌/◌, ◌^◌, ◌==◌, Bool, true, false, if◌then◌else◌, nat_lt, Option, None, Some, Err}
+use Rattle.std.specs.Prelude.{◌≡◌, ◌⊎◌, ℕ, zero, suc, ◌<◌, ◌-◌, ◌/◌, ◌^◌, ◌==◌, Bool, true, false, if◌then◌else◌, nat_lt, [], Option, None, Some, Ok, Err}
 use Rattle.concurrent_queue.specs.declared.call.QueueAsk.{QueueAsk}
 use Rattle.concurrent_queue.specs.declared.call.QueueAsk.TheVariants as ask
 use Rattle.event_listener.specs.declared.key.Key.{Key}
@@ -27,6 +27,7 @@ use Rattle.channel_calls.specs.declared.stage.Turn.TheVariants.{Tries, Works, En
 use Rattle.channel_calls.specs.declared.stage.Waiting.{Waiting}
 use Rattle.channel_calls.specs.declared.stage.Waiting.TheVariants as waiting
 use Rattle.channel_calls.specs.declared.stage.Work.TheVariants as work
+use Rattle.channel_calls.specs.Several.{gathering}
 
 -- the greatest count that may be raised: half of the greatest number of the machine
 abbrev pub most : ℕ
@@ -132,6 +133,18 @@ module _ {T W : Type 0} where
   told_all_next Receives c = Works (work.TellAll Streams c)
   told_all_next Streams c = Works (work.TellAll Closings c)
   told_all_next Closings c = ends_by (closer_ending c true)
+
+  -- room is taken for so many messages at most, and the first one is tried for; where none is wanted, nothing is
+  abbrev pub room_next : ℕ → Turn T W
+  room_next zero = Ends (reply.RecvMany (Ok [])) nothing_kept
+  room_next (suc n) = Tries ask.Pop (aim.RecvMany (gathering n))
+
+  -- or there is no memory, which is taken for none
+  abbrev pub roomless : Turn T W
+  roomless = Ends (reply.RecvMany (Err (refused.NoMemory tt))) nothing_kept
+
+  abbrev pub TakesRoom : ℕ → Turn T W → Type 0
+  TakesRoom n turn = (turn ≡ room_next n) ⊎ ((0 < n) × (turn ≡ roomless))
 
   -- the drop of the last handle of its kind closes
   abbrev pub lowered_next : Side → Option Key → ℕ → Turn T W

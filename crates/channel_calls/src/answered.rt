@@ -1,10 +1,12 @@
 //! What comes after each answer of a channel's queue.
 
 ghost use Rattle.std.specs.Prelude.{◌≡◌};
-ghost use Rattle.channel_calls.specs.Answered.{lost, sent_next, forced_next, received_next, send_next, receive_next, stream_next, closing_next, polled_next, closed_next, asked_next, terminated_next, upgraded_next, answered_next};
+ghost use Rattle.channel_calls.specs.Several.{with_one};
+ghost use Rattle.channel_calls.specs.Answered.{lost, sent_next, forced_next, received_next, hands_out, gathered_next, short_next, several_next, send_next, receive_next, stream_next, closing_next, polled_next, closed_next, asked_next, terminated_next, upgraded_next, answered_next};
 
 use crate::error::{RecvError, Refused, SendError, TryRecvError, TrySendError};
 use crate::reply::Reply;
+use crate::several::{Gathering, Messages};
 use crate::stage::{Aim, Closer, Ending, Kept, Line, Making, Side, Turn, Waiting, Work};
 use crate::turn::{closer_ending, ends_by, held_on, refused_next, says};
 use concurrent_queue::call::{QueueAsk, QueueReply};
@@ -20,6 +22,7 @@ fn lost<T, W>() -> Turn<T, W>
 }
 
 /// A send that doesn't wait.
+#[inline(always)]
 fn sent_next<T: Drop, W>(answer: QueueReply<T>) -> Turn<T, W>
     ensures { result ≡ sent_next answer }
 {
@@ -60,6 +63,7 @@ fn forced_next<T: Drop, W>(answer: QueueReply<T>) -> Turn<T, W>
 }
 
 /// A receive that doesn't wait.
+#[inline(always)]
 fn received_next<T: Drop, W>(answer: QueueReply<T>) -> Turn<T, W>
     ensures { result ≡ received_next answer }
 {
@@ -73,6 +77,47 @@ fn received_next<T: Drop, W>(answer: QueueReply<T>) -> Turn<T, W>
         QueueReply::Pop(Err(PopError::Closed)) => {
             ends_by(says(Reply::TryRecv(Err(TryRecvError::Closed))))
         }
+        _ => lost(),
+    }
+}
+
+/// Several messages are handed out, and as many more sends are told.
+fn hands_out<T: Drop, W>(messages: Messages<T>) -> Turn<T, W>
+    ensures { result ≡ hands_out messages }
+{
+    let count = messages.as_slice().len();
+    Turn::Works(Work::TellSends(count, says(Reply::RecvMany(Ok(messages)))))
+}
+
+/// One more of several messages was taken: the next one is tried for, or all are handed out.
+fn gathered_next<T: Drop, W>(gathering: Gathering<T>, message: T) -> Turn<T, W>
+    ensures { result ≡ gathered_next (with_one gathering message) }
+{
+    match gathering.with(message) {
+        Ok(gathering) => Turn::Tries(QueueAsk::Pop, Aim::RecvMany(gathering)),
+        Err(messages) => hands_out(messages),
+    }
+}
+
+/// There is no further message: those that were taken are handed out, or this is the answer.
+fn short_next<T: Drop, W>(gathering: Gathering<T>, error: TryRecvError) -> Turn<T, W>
+    ensures { result ≡ short_next gathering.taken error }
+{
+    if gathering.is_empty() {
+        drop(gathering);
+        return ends_by(says(Reply::RecvMany(Err(Refused::Plain(error)))));
+    }
+    hands_out(gathering.into_messages())
+}
+
+/// A receive of several messages that doesn't wait.
+fn several_next<T: Drop, W>(answer: QueueReply<T>, gathering: Gathering<T>) -> Turn<T, W>
+    ensures { result ≡ several_next answer gathering }
+{
+    match answer {
+        QueueReply::Pop(Ok(message)) => gathered_next(gathering, message),
+        QueueReply::Pop(Err(PopError::Empty)) => short_next(gathering, TryRecvError::Empty),
+        QueueReply::Pop(Err(PopError::Closed)) => short_next(gathering, TryRecvError::Closed),
         _ => lost(),
     }
 }
@@ -227,13 +272,15 @@ fn upgraded_next<T: Drop, W>(answer: QueueReply<T>, side: Side) -> Turn<T, W>
 }
 
 /// What comes after the queue's answer to a call with this aim.
-pub(crate) fn answered_next<T: Drop, W: Drop>(aim: Aim<W>, answer: QueueReply<T>) -> Turn<T, W>
+#[inline(always)]
+pub(crate) fn answered_next<T: Drop, W: Drop>(aim: Aim<T, W>, answer: QueueReply<T>) -> Turn<T, W>
     ensures { result ≡ answered_next aim answer }
 {
     match aim {
         Aim::TrySend => sent_next(answer),
         Aim::ForceSend => forced_next(answer),
         Aim::TryRecv => received_next(answer),
+        Aim::RecvMany(gathering) => several_next(answer, gathering),
         Aim::Poll(line, key, task) => polled_next(line, answer, key, task),
         Aim::Close(closer) => closed_next(answer, closer),
         Aim::Ask => asked_next(answer),

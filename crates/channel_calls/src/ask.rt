@@ -5,6 +5,7 @@ ghost use Rattle.channel_calls.specs.Asks.{first, gives_up, is_refused};
 ghost use Rattle.channel_calls.specs.Turns.{says};
 
 use crate::reply::Reply;
+use crate::several::Limit;
 use crate::stage::{Aim, Closer, Ending, Line, Making, Side, Turn, Waiting, Work};
 use crate::turn::{again, held_on, refused_reply, says};
 use concurrent_queue::call::QueueAsk;
@@ -22,6 +23,8 @@ pub enum ChannelAsk<T, W> {
     ForceSend(T),
     /// A receive that doesn't wait.
     TryRecv,
+    /// A receive of several messages, at most so many, that doesn't wait for any.
+    RecvMany(Limit),
     /// A closing by hand.
     Close,
     /// A poll of an unfinished send.
@@ -112,6 +115,7 @@ impl<T, W> ChannelAsk<T, W> {
                 Turn::Tries(QueueAsk::ForcePush(message), Aim::ForceSend)
             }
             ChannelAsk::TryRecv => Turn::Tries(QueueAsk::Pop, Aim::TryRecv),
+            ChannelAsk::RecvMany(limit) => Turn::Works(Work::TakeRoom(limit)),
             ChannelAsk::Close => Turn::Tries(QueueAsk::Close, Aim::Close(Closer::Call)),
             ChannelAsk::PollSend(message, key, task) => again(Waiting::Send(message), key, task),
             ChannelAsk::PollFinishedSend => only_says(Reply::SendPoll(Poll::Pending)),

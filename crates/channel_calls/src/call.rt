@@ -48,6 +48,7 @@ impl<T: Drop, W: Drop> ChannelCall<T, W> {
     /// Over cells whose contents are unknown, what may be answered after the step, and what it answers, might have been
     /// answered before it. Over any cells a step that counts one handle more is its call's last, and answers that it was made:
     /// a clone or an upgrade that is refused has counted none.
+    #[inline(always)]
     pub fn step<C: ChannelCells<T, W>, S: Wakes<W>>(
         &mut self,
         cells: &mut C,
@@ -73,6 +74,7 @@ impl<T: Drop, W: Drop> ChannelCall<T, W> {
     ghost use Rattle.channel_calls.specs.declared.reply.Reply.{Reply};
 
     /// The call that is asked for. It has made no step.
+    #[inline(always)]
     pub fn new(ask: ChannelAsk<T, W>) -> ChannelCall<T, W>
         ensures begins { IsNewCall result (first ask) }
         ensures answers { (b : QueueForm) (r : Reply T) (m : Option T) → MayEnd b result.stage r m → MayGive b ask r m }
@@ -86,6 +88,7 @@ impl<T: Drop, W: Drop> ChannelCall<T, W> {
 
     /// What a call that has answered leaves to its operation: the listener of a pending one, the message of an unfinished
     /// send. A call that has not answered is let go, with what it holds.
+    #[inline(always)]
     pub fn into_kept(self) -> Kept<T>
         ensures { result ≡ kept_by self.stage }
     {

@@ -6,7 +6,7 @@ ghost use Rattle.event_listener.specs.Lists.{kind_of, listened, registration, re
 ghost use Rattle.event_listener.specs.Notices.{Woken};
 ghost use Rattle.concurrent_queue.specs.Step.{IsQueueStep};
 ghost use Rattle.concurrent_queue.specs.Replies.{Follows};
-ghost use Rattle.channel_calls.specs.Parts.{Parts, Roster, with_roster, listeners, with_listeners, count, with_count, is_raised, told_one, told_one_wakes, told_all, told_all_wakes, Registers};
+ghost use Rattle.channel_calls.specs.Parts.{Parts, Roster, with_roster, listeners, with_listeners, count, with_count, is_raised, told_one, told_one_wakes, told_more, told_more_wakes, told_all, told_all_wakes, Registers};
 
 use crate::stage::{Line, Side};
 use concurrent_queue::call::QueueReply;
@@ -63,6 +63,12 @@ pub trait ChannelCells<T, W> {
         ensures form { (f : QueueForm) → has_form self.old f → has_form self.new f }
         ensures lists { known → parts self.new ≡ with_roster (with_listeners line (told_one (listeners line (parts self.old).roster)) (parts self.old).roster) (parts self.old) }
         ensures woken { known → Woken S.wakes sink.old (told_one_wakes (listeners line (parts self.old).roster)) sink.new };
+
+    /// Tells so many more of those who wait, in one section.
+    fn tell_more<S: Wakes<W>>(&mut self, line: Line, count: usize, sink: &mut S)
+        ensures form { (f : QueueForm) → has_form self.old f → has_form self.new f }
+        ensures lists { known → parts self.new ≡ with_roster (with_listeners line (told_more count (listeners line (parts self.old).roster)) (parts self.old).roster) (parts self.old) }
+        ensures woken { known → Woken S.wakes sink.old (told_more_wakes count (listeners line (parts self.old).roster)) sink.new };
 
     /// Tells all who wait.
     fn tell_all<S: Wakes<W>>(&mut self, line: Line, sink: &mut S)

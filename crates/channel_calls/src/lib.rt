@@ -11,6 +11,7 @@ pub mod mark;
 pub mod notices;
 pub mod plain;
 pub mod reply;
+pub mod several;
 pub mod stage;
 mod step;
 mod turn;

@@ -3,7 +3,7 @@
 ghost use Rattle.std.specs.Prelude.{◌≡◌};
 ghost use Rattle.event_listener.specs.Notices.{Woken};
 ghost use Rattle.event_listener.specs.Lists.{registration};
-ghost use Rattle.channel_calls.specs.Parts.{told_one, told_one_wakes, told_all, told_all_wakes, Registers};
+ghost use Rattle.channel_calls.specs.Parts.{told_one, told_one_wakes, told_more, told_more_wakes, told_all, told_all_wakes, Registers};
 
 use event_listener::key::Key;
 use event_listener::list::List;
@@ -11,6 +11,7 @@ use event_listener::notify::{Additional, Notify};
 use event_listener::wakes::Wakes;
 
 /// Tells one more of those who wait, whoever is told already.
+#[inline(always)]
 pub fn tell_one<W: Drop, S: Wakes<W>>(list: &mut List<(), W>, sink: &mut S)
     ensures lists { list.new.lists ≡ told_one list.old.lists }
     ensures woken { Woken S.wakes sink.old (told_one_wakes list.old.lists) sink.new }
@@ -21,7 +22,19 @@ pub fn tell_one<W: Drop, S: Wakes<W>>(list: &mut List<(), W>, sink: &mut S)
     let _ = list.notify(notice, sink);
 }
 
+/// Tells so many more of those who wait, whoever is told already.
+pub fn tell_more<W: Drop, S: Wakes<W>>(list: &mut List<(), W>, count: usize, sink: &mut S)
+    ensures lists { list.new.lists ≡ told_more count list.old.lists }
+    ensures woken { Woken S.wakes sink.old (told_more_wakes count list.old.lists) sink.new }
+{
+    let notices = Additional {
+        inner: Notify { count },
+    };
+    let _ = list.notify(notices, sink);
+}
+
 /// Tells all who wait: a list never has as many listeners as this notice is for.
+#[inline(always)]
 pub fn tell_all<W: Drop, S: Wakes<W>>(list: &mut List<(), W>, sink: &mut S)
     ensures lists { list.new.lists ≡ told_all list.old.lists }
     ensures woken { Woken S.wakes sink.old (told_all_wakes list.old.lists) sink.new }

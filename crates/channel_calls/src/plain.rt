@@ -1,7 +1,7 @@
 //! The cells of a channel with one owner.
 
 use crate::cells::ChannelCells;
-use crate::notices::{register, tell_all, tell_one};
+use crate::notices::{register, tell_all, tell_more, tell_one};
 use crate::stage::{Line, Side};
 use concurrent_queue::call::QueueReply;
 use concurrent_queue::cells::QueueForm;
@@ -154,6 +154,15 @@ impl<T: Drop, W: Drop> ChannelCells<T, W> for PlainChannel<T, W> {
             Line::Receives => tell_one(&mut self.receives, sink),
             Line::Streams => tell_one(&mut self.streams, sink),
             Line::Closings => tell_one(&mut self.closings, sink),
+        }
+    }
+
+    fn tell_more<S: Wakes<W>>(&mut self, line: Line, count: usize, sink: &mut S) {
+        match line {
+            Line::Sends => tell_more(&mut self.sends, count, sink),
+            Line::Receives => tell_more(&mut self.receives, count, sink),
+            Line::Streams => tell_more(&mut self.streams, count, sink),
+            Line::Closings => tell_more(&mut self.closings, count, sink),
         }
     }
 

@@ -1,6 +1,7 @@
 //! What a call of a channel answers.
 
 use crate::error::{RecvError, Refused, SendError, TryRecvError, TrySendError};
+use crate::several::Messages;
 use event_listener::error::ListenError;
 use futures::task::Poll;
 
@@ -13,6 +14,8 @@ pub enum Reply<T> {
     ForceSend(Result<Option<T>, Refused<SendError<T>, T>>),
     /// Of a receive that doesn't wait.
     TryRecv(Result<T, TryRecvError>),
+    /// Of a receive of several messages that doesn't wait.
+    RecvMany(Result<Messages<T>, Refused<TryRecvError>>),
     /// Of a poll of a send. Unless it was sent, or is in the error, the message stays with the send.
     SendPoll(Poll<Result<(), Refused<SendError<T>>>>),
     /// Of a poll of a receive.

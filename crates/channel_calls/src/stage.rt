@@ -1,6 +1,7 @@
 //! How far a call of a channel has come. All of it is own to this project.
 
 use crate::reply::Reply;
+use crate::several::{Gathering, Limit};
 use concurrent_queue::call::QueueAsk;
 use event_listener::key::Key;
 
@@ -90,13 +91,15 @@ pub enum Making {
 
 /// What a call of the queue is made for.
 #[derive(Drop)]
-pub enum Aim<W> {
+pub enum Aim<T, W> {
     /// A send that doesn't wait.
     TrySend,
     /// A send that displaces.
     ForceSend,
     /// A receive that doesn't wait.
     TryRecv,
+    /// A receive of several messages that doesn't wait: those that it has, and how many more it may take.
+    RecvMany(Gathering<T>),
     /// A try of a polled operation of this kind, which may hold a listener, and its task.
     Poll(Line, Option<Key>, W),
     /// A closing.
@@ -118,6 +121,10 @@ pub enum Work<T, W> {
     TellStreams(Ending<T>),
     /// A message is taken: one more send is told.
     TellSend(Ending<T>),
+    /// So many messages are taken: as many more sends are told.
+    TellSends(usize, Ending<T>),
+    /// Room is taken for as many messages as are wanted at most.
+    TakeRoom(Limit),
     /// The channel is closed: all of this list are told, those of the later lists next.
     TellAll(Line, Closer),
     /// An operation that was refused listens, and tries again.
@@ -140,7 +147,7 @@ pub enum Work<T, W> {
 #[derive(Drop)]
 pub enum Stage<Q, T, W> {
     /// The queue's call has the next step.
-    Trying(Q, Aim<W>),
+    Trying(Q, Aim<T, W>),
     /// A list or a count has the next step.
     Working(Work<T, W>),
     /// The call has answered.
@@ -151,7 +158,7 @@ pub enum Stage<Q, T, W> {
 #[derive(Drop)]
 pub enum Turn<T, W> {
     /// A new call of the queue.
-    Tries(QueueAsk<T>, Aim<W>),
+    Tries(QueueAsk<T>, Aim<T, W>),
     /// A step on a list or a count.
     Works(Work<T, W>),
     /// The answer.

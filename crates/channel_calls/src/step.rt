@@ -16,7 +16,8 @@ use crate::mark::Mark;
 use crate::reply::Reply;
 use crate::stage::{Aim, Ending, Kept, Line, Making, Side, Stage, Turn, Waiting, Work};
 use crate::turn::{
-    again, ends_by, loaded_next, lowered_next, pends_by, raised_next, told_all_next, unlistened,
+    again, ends_by, loaded_next, lowered_next, pends_by, raised_next, room_next, told_all_next,
+    unlistened,
 };
 use concurrent_queue::queue_call::QueueCall;
 use event_listener::key::Key;
@@ -32,6 +33,7 @@ pub(crate) struct Stepped<T, W> {
 }
 
 /// Takes the turn after a step with this mark.
+#[inline(always)]
 pub(crate) fn takes<T: Drop, W: Drop>(turn: Turn<T, W>, mark: Mark) -> Stepped<T, W>
     requires raises { is_up mark ≡ true → is_made (answer_of turn) ≡ true }
     ensures taken { IsTaken turn result.reply result.stage }
@@ -58,6 +60,7 @@ pub(crate) fn takes<T: Drop, W: Drop>(turn: Turn<T, W>, mark: Mark) -> Stepped<T
 }
 
 /// The call stands at this stage after a step with this mark, and hasn't answered by it.
+#[inline(always)]
 fn goes_on<T, W>(stage: Stage<QueueCall<T>, T, W>, mark: Mark) -> Stepped<T, W>
     requires raises { is_up mark ≡ false }
     ensures stage { result.stage ≡ stage }
@@ -72,9 +75,10 @@ fn goes_on<T, W>(stage: Stage<QueueCall<T>, T, W>, mark: Mark) -> Stepped<T, W>
 }
 
 /// One step of the queue's call.
+#[inline(always)]
 fn try_step<T: Drop, W: Drop, C: ChannelCells<T, W>>(
     mut call: QueueCall<T>,
-    aim: Aim<W>,
+    aim: Aim<T, W>,
     cells: &mut C,
 ) -> Stepped<T, W>
     ensures steps { C.known → IsStepOver (C.parts cells.old) (Stage.Trying call aim) [] (C.parts cells.new) result.stage result.mark result.reply }
@@ -190,6 +194,7 @@ fn raise<T: Drop, W: Drop, C: ChannelCells<T, W>>(
 }
 
 /// One step on a list or a count.
+#[inline(always)]
 fn work_step<T: Drop, W: Drop, C: ChannelCells<T, W>, S: Wakes<W>>(
     work: Work<T, W>,
     cells: &mut C,
@@ -212,6 +217,11 @@ fn work_step<T: Drop, W: Drop, C: ChannelCells<T, W>, S: Wakes<W>>(
             cells.tell_one(Line::Sends, sink);
             takes(ends_by(ending), Mark::Nothing)
         }
+        Work::TellSends(count, ending) => {
+            cells.tell_more(Line::Sends, count, sink);
+            takes(ends_by(ending), Mark::Nothing)
+        }
+        Work::TakeRoom(limit) => takes(room_next(limit), Mark::Nothing),
         Work::TellAll(line, closer) => {
             cells.tell_all(line, sink);
             takes(told_all_next(line, closer), Mark::Nothing)
@@ -236,6 +246,7 @@ fn work_step<T: Drop, W: Drop, C: ChannelCells<T, W>, S: Wakes<W>>(
 }
 
 /// One step of a call at this stage.
+#[inline(always)]
 pub(crate) fn stage_step<T: Drop, W: Drop, C: ChannelCells<T, W>, S: Wakes<W>>(
     stage: Stage<QueueCall<T>, T, W>,
     cells: &mut C,

@@ -1,10 +1,11 @@
 //! What comes after each step of a call on a list or on a count.
 
 ghost use Rattle.std.specs.Prelude.{◌≡◌};
-ghost use Rattle.channel_calls.specs.Turns.{line_of, message_of, ask_of, nothing_kept, says, held_on, ends_by, again, refused_next, pending_reply, pends_by, want, refused_reply, unlistened, closer_ending, dropper, told_all_next, lowered_next, loaded_next, raised_next};
+ghost use Rattle.channel_calls.specs.Turns.{line_of, message_of, ask_of, nothing_kept, says, held_on, ends_by, again, refused_next, pending_reply, pends_by, want, refused_reply, unlistened, closer_ending, dropper, told_all_next, TakesRoom, lowered_next, loaded_next, raised_next};
 
 use crate::error::Refused;
 use crate::reply::Reply;
+use crate::several::Limit;
 use crate::stage::{Aim, Closer, Ending, Held, Kept, Line, Making, Side, Turn, Waiting, Work};
 use concurrent_queue::call::QueueAsk;
 use event_listener::error::ListenError;
@@ -65,6 +66,7 @@ impl<T> Kept<T> {
 }
 
 /// The end of a call that holds no listener and keeps no message.
+#[inline(always)]
 pub(crate) fn says<T>(reply: Reply<T>) -> Ending<T>
     ensures { result ≡ says reply }
 {
@@ -86,6 +88,7 @@ pub(crate) fn held_on(line: Line, key: Option<Key>) -> Option<Held>
 }
 
 /// The call answers, or drops the listener that it holds and answers then.
+#[inline(always)]
 pub(crate) fn ends_by<T, W>(ending: Ending<T>) -> Turn<T, W>
     ensures { result ≡ ends_by ending }
 {
@@ -227,6 +230,19 @@ pub(crate) fn lowered_next<T, W>(side: Side, key: Option<Key>, before: usize) ->
         Turn::Tries(QueueAsk::Close, Aim::Close(closer))
     } else {
         ends_by(closer_ending(closer, false))
+    }
+}
+
+/// Room is taken for as many messages as are wanted at most: the first one is tried for. Where none is wanted, none is taken.
+pub(crate) fn room_next<T: Drop, W>(limit: Limit) -> Turn<T, W>
+    ensures { TakesRoom limit result }
+{
+    if limit.is_zero() {
+        return ends_by(says(Reply::RecvMany(Ok(limit.nothing()))));
+    }
+    match limit.room() {
+        Some(gathering) => Turn::Tries(QueueAsk::Pop, Aim::RecvMany(gathering)),
+        None => ends_by(says(Reply::RecvMany(Err(Refused::NoMemory(()))))),
     }
 }
 

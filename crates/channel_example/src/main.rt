@@ -1,9 +1,10 @@
-//! Five small programs over channels between threads, a line of output each.
+//! Six small programs over channels between threads, a line of output each.
 #![tactic(auto)]
 
 mod back_pressure;
 mod closing;
 mod pool;
+mod several;
 mod stream;
 mod two_threads;
 
@@ -15,6 +16,7 @@ fn main(rt: HostRuntime) -> ExitCode {
         ("two threads", two_threads::sum(rt, alloc)),
         ("worker pool", pool::sum(rt, alloc)),
         ("stream", stream::sum(rt, alloc)),
+        ("several at once", several::sum(rt, alloc)),
         ("back-pressure", back_pressure::count(rt, alloc)),
         ("closing", closing::told(rt, alloc)),
     ];

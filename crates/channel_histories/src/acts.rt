@@ -12,6 +12,7 @@ pub enum Act {
     ForceSend,
     SendBlocking,
     TryRecv,
+    RecvMany,
     RecvBlocking,
     PollSend,
     PollRecv,
@@ -32,11 +33,12 @@ pub enum Act {
 }
 
 /// How often each call is drawn, of all drawn.
-static WEIGHTS: [(Act, usize); 29] = [
+static WEIGHTS: [(Act, usize); 30] = [
     (Act::TrySend, 14),
     (Act::ForceSend, 14),
     (Act::SendBlocking, 3),
     (Act::TryRecv, 14),
+    (Act::RecvMany, 14),
     (Act::RecvBlocking, 3),
     (Act::PollSend, 14),
     (Act::PollRecv, 14),
@@ -65,7 +67,7 @@ static WEIGHTS: [(Act, usize); 29] = [
 ];
 
 /// The sum of all weights.
-const ALL: usize = 135;
+const ALL: usize = 149;
 
 impl Act {
     /// The next call of a thread.
@@ -82,6 +84,7 @@ impl<'a, R: Wait + Copy> Party<'a, R> {
             Act::ForceSend => self.force_send(),
             Act::SendBlocking => self.send_blocking(),
             Act::TryRecv => self.try_recv(),
+            Act::RecvMany => self.recv_many(),
             Act::RecvBlocking => self.recv_blocking(),
             Act::PollSend => self.poll_send(),
             Act::PollRecv => self.poll_recv(),

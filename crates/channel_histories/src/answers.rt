@@ -73,6 +73,16 @@ pub fn tried_recv(answer: &Result<u64, TryRecvError>) -> Did {
     }
 }
 
+/// A receive of at most so many messages that took none. One that may take none is never refused.
+pub fn took_none(limit: usize, error: &Refused<TryRecvError>) -> Did {
+    match (limit, error) {
+        (0, _) => Did::Never,
+        (_, Refused::Plain(TryRecvError::Empty)) => Did::saw(Sight::Bare),
+        (_, Refused::Plain(TryRecvError::Closed)) => Did::saw(Sight::Spent),
+        _ => Did::Never,
+    }
+}
+
 /// A pop.
 pub fn popped(answer: &Result<u64, PopError>) -> Did {
     match answer {

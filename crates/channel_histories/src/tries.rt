@@ -1,6 +1,6 @@
 //! Calls that are made at once: sends and receives that try or block, and closings.
 
-use crate::answers::{closed, forced_send, received, sent, tried_recv, tried_send};
+use crate::answers::{closed, forced_send, received, sent, took_none, tried_recv, tried_send};
 use crate::party::Party;
 use std::sync::Wait;
 
@@ -35,6 +35,18 @@ impl<'a, R: Wait + Copy> Party<'a, R> {
         let begin = self.stamps.stamp();
         let answer = self.hands.receiver.try_recv();
         self.note(begin, tried_recv(&answer));
+    }
+
+    /// A receive of several, of three at most, that tries.
+    pub fn recv_many(&mut self) {
+        let limit = self.random.below(4);
+        let begin = self.stamps.stamp();
+        let answer = self.hands.receiver.recv_many(limit);
+        let end = self.stamps.stamp();
+        match &answer {
+            Ok(messages) => self.log.note_taken(begin, end, limit, messages.as_slice()),
+            Err(error) => self.log.note(begin, end, took_none(limit, error)),
+        }
     }
 
     /// A receive that blocks.

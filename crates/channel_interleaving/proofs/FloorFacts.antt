@@ -42,7 +42,7 @@ use Rattle.channel_steps.proofs.Interface.{few_left, messages_counted, messages_
 use Rattle.channel_interleaving.specs.Kept.{AllKept}
 use Rattle.channel_interleaving.proofs.AccountFacts.{no_accounts, next_accounts}
 use Rattle.channel_interleaving.proofs.AllKept.{kept_first, kept_next}
-use Rattle.channel_interleaving.proofs.LeftFacts.{comes_nearer, few_of}
+use Rattle.channel_interleaving.proofs.LeftFacts.{comes_nearer, few_of, parties_shown}
 use Rattle.channel_interleaving.proofs.OwedFacts.{owed}
 use Rattle.channel_interleaving.proofs.PlaceFacts.{brought_most, no_message}
 use Rattle.channel_interleaving.proofs.PositionFacts.{step_brings, begin_brings, yet_most}
@@ -267,7 +267,9 @@ module _ {T : Type 0} where
 
   -- few steps are left in what stands
   pub few_in : (f : Floor T) (s : Scene T Waiter) → StandsIn f s → FewLeft (moment_of f s)
-  few_in f s k party = few_of party (parts_in f) f.parties.items (few_left (parts_in f) f.parties.items s k.shown.shows)
+  few_in f s k party =
+      few_of party (parts_in f) f.parties.items s.under_way (parties_shown (parts_in f) f.parties.items s k.shown.shows)
+      (few_left (parts_in f) f.parties.items s k.shown.shows)
 
   -- a step that was made leads from a scene in which it stood to one in which it stands
   pub step_stands : (x : Step T) (f g : Floor T) (e : Entry T) (s : Scene T Waiter) (k : StandsIn f s) (t : Stepped x f e g s)

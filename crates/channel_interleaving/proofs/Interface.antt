@@ -48,7 +48,7 @@ module _ {T : Type 0} where
       let t = leads before.scene before.stands in
       record { scene = t.last; stands = t.stands }
 
-  -- no call has more than 197 steps left that nobody holds up
+  -- no call has more than 197 steps left that nobody holds up, and 64 for each message that it may take more than one
   pub few_in : (f : Floor T) (s : Scene T Waiter) → StandsIn f s → FewLeft (moment_of f s)
   few_in f s k = floor_facts.few_in f s k
 

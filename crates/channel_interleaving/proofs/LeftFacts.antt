@@ -1,19 +1,19 @@
 -- The steps that are left to a call, by its party and by its place.
-use Rattle.std.proofs.Common.{arith, ◌≡◌, ℕ, zero, suc, ◌≤◌, ◌<◌, ◌==◌, Bool, true, false, if◌then◌else◌, List, [], ◌∷◌, ◌++◌, map, length, slice_get, Option, None, Some, refl, sym, ap, ◌∙◌, subst}
+use Rattle.std.proofs.Common.{arith, ◌≡◌, ℕ, zero, suc, ◌+◌, ◌*◌, ◌≤◌, ◌<◌, ◌==◌, Bool, true, false, if◌then◌else◌, List, [], ◌∷◌, ◌++◌, map, length, slice_get, Option, None, Some, refl, sym, ap, ◌∙◌, subst}
 use Rattle.std.proofs.lemmas.Bool.Decides.{nat_tests}
 use Rattle.std.proofs.lemmas.List.{length-map}
 use Rattle.channel_calls.specs.Moves.{Channel}
 use Rattle.channel_calls.specs.Parts.{Parts}
 use Rattle.channel_calls.specs.declared.reply.Reply.{Reply}
 use Rattle.channel_model.specs.declared.name.Waiter.{Waiter}
-use Rattle.channel_steps.specs.Left.{party_left, all_left, left_at}
+use Rattle.channel_steps.specs.Left.{party_left, all_left, left_at, most_wanted}
 use Rattle.channel_steps.proofs.Interface.{hold_still}
-use Rattle.channel_steps.specs.Scene.{Under, Scene, Sitting, HoldNobodyUp, Shows, Steps, sees, does, under_of, unless_ended, parties_in}
+use Rattle.channel_steps.specs.Scene.{Under, Scene, Sitting, HoldNobodyUp, Shows, Steps, sees, does, under_of, unless_ended, wanted_at, parties_in}
 use Rattle.channel_steps.specs.declared.party.Entry.{Entry as ChannelEntry}
 use Rattle.channel_steps.specs.declared.party.Party.{Party}
 use Rattle.channel_interleaving.specs.Floor.{book_of, parts_in, moment_of, lefts_in, StandsIn, Stepped}
 use Rattle.channel_interleaving.specs.Kept.{AllKept}
-use Rattle.channel_interleaving.specs.Left.{others_of, left_of}
+use Rattle.channel_interleaving.specs.Left.{others_of, wanted_of, left_of}
 use Rattle.channel_interleaving.specs.Owners.{Post, post, All, AllDiffer, Differ, Owned, Together}
 use Rattle.channel_interleaving.specs.Run.{Book}
 use Rattle.channel_interleaving.specs.Runs.{Moment, ComesNearer, LeadsBy}
@@ -68,7 +68,7 @@ module _ {T : Type 0} where
   seated [] = refl
   seated (x ∷ xs) = ap (λ (l : List ℕ). x.party.id ∷ l) (seated xs)
 
-  parties_shown : (parts : Parts T Waiter) (ps : List (Party T Waiter)) (s : Scene T Waiter) → Shows parts ps s
+  pub parties_shown : (parts : Parts T Waiter) (ps : List (Party T Waiter)) (s : Scene T Waiter) → Shows parts ps s
       → parties_in ps ≡ map (λ (u : Under T Waiter). u.party) s.under_way
   parties_shown parts ps s sh =
       ap (λ (l : List (Party T Waiter)). parties_in l) sh.parties_are
@@ -88,12 +88,19 @@ module _ {T : Type 0} where
       let rest : parties_in xs ≡ map (λ (v : Under T Waiter). v.party) (us ++ (mine ∷ vs)) = cc e in
       rw (is_other x.id p (λ same. none.0 (sym first ∙ same))) (left_is p parts us mine vs xs rest none.1 his)
 
-  pub few_of : (p : ℕ) (parts : Parts T Waiter) (ps : List (Party T Waiter))
-      → ((k n : ℕ) → slice_get (all_left parts ps) k ≡ Some n → n ≤ 197) → left_of p parts ps ≤ 197
-  few_of p parts [] few = omega arith
-  few_of p parts (x ∷ xs) few = by (few_of p parts xs (λ k n e. few (suc k) n e)) (x.id == p)
+  pub few_of : (p : ℕ) (parts : Parts T Waiter) (ps : List (Party T Waiter)) (us : List (Under T Waiter))
+      → parties_in ps ≡ map (λ (u : Under T Waiter). u.party) us
+      → ((k n : ℕ) → slice_get (all_left parts ps) k ≡ Some n → n ≤ 197 + 64 * wanted_at k us) → left_of p parts ps ≤ 197 + 64 * wanted_of p us
+  few_of p parts [] us e few = omega arith
+  few_of p parts (x ∷ xs) [] e few = absurd cc
+  few_of p parts (x ∷ xs) (u ∷ us) e few =
+      let first : x.id ≡ u.party = cc e in
+      let rest : parties_in xs ≡ map (λ (v : Under T Waiter). v.party) us = cc e in
+      subst (λ (i : ℕ). left_of p parts (x ∷ xs) ≤ 197 + 64 * (if i == p then most_wanted u.ask else wanted_of p us)) first
+      (by (few_of p parts xs us rest (λ k n e. few (suc k) n e)) (x.id == p))
     where
-      by : left_of p parts xs ≤ 197 → (b : Bool) → (if b then party_left parts x else left_of p parts xs) ≤ 197
+      by : left_of p parts xs ≤ 197 + 64 * wanted_of p us → (b : Bool)
+          → (if b then party_left parts x else left_of p parts xs) ≤ 197 + 64 * (if b then most_wanted u.ask else wanted_of p us)
       by rest true = few 0 (party_left parts x) refl
       by rest false = rest
 

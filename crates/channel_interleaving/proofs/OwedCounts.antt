@@ -1,11 +1,16 @@
 -- How many are told: no more than those whose names are pending and woken, and the calls that have a listener in hand.
-use Rattle.std.proofs.Common.{arith, ◌≡◌, ℕ, suc, nat_eq, ◌+◌, ◌≤◌, Bool, true, false, cond, if◌then◌else◌, List, [], ◌∷◌, ◌++◌, map, length, length-append, Option, None, Some, inl, inr, refl, sym, ap, ◌∙◌, subst}
+use Rattle.std.proofs.Common.{◌⊎◌, zero, arith, ◌≡◌, ℕ, suc, nat_eq, ◌+◌, ◌≤◌, Bool, true, false, cond, if◌then◌else◌, List, [], ◌∷◌, ◌++◌, map, length, length-append, Option, None, Some, inl, inr, refl, sym, ap, ◌∙◌, subst}
 use Rattle.std.proofs.lemmas.Bool.Decides.{nat_tests}
 use Rattle.std.proofs.lemmas.List.Sums.{sum_by-cons}
 use Rattle.std.specs.List.{count_by}
 use Rattle.std.specs.Map.{lookup, keys_of}
 use Rattle.concurrent_queue.specs.Queue.{Phase, Stage, trying, displaced, appended, taken}
+use Rattle.concurrent_queue.specs.declared.call.QueueAsk.{QueueAsk}
+use Rattle.concurrent_queue.specs.declared.call.QueueAsk.TheVariants as queue
 use Rattle.event_listener.specs.declared.key.Key.{Key}
+use Rattle.channel_calls.specs.Moves.{Channel}
+use Rattle.channel_calls.specs.declared.mark.Mark.{Mark}
+use Rattle.channel_calls.specs.declared.mark.Mark.TheVariants.{Append, Replace, Close}
 use Rattle.channel_calls.specs.Parts.{listeners}
 use Rattle.channel_calls.specs.declared.ask.ChannelAsk.{ChannelAsk}
 use Rattle.channel_calls.specs.declared.ask.ChannelAsk.TheVariants as ask
@@ -15,23 +20,26 @@ use Rattle.channel_calls.specs.declared.stage.Line.{Line}
 use Rattle.channel_calls.specs.declared.stage.Line.TheVariants.{Sends, Receives, Streams, Closings}
 use Rattle.channel_calls.specs.declared.stage.Stage as stage
 use Rattle.channel_calls.specs.declared.stage.Stage.TheVariants.{Trying, Working}
-use Rattle.channel_calls.specs.declared.stage.Work.TheVariants.{TellReceive, TellSend}
+use Rattle.channel_calls.specs.declared.stage.Work.TheVariants.{TellReceive, TellSend, TellSends}
 use Rattle.channel_model.proofs.Awake.{line_sound, line_refl}
 use Rattle.channel_model.specs.Laws.{same_line}
 use Rattle.channel_model.specs.Names.{Directory}
 use Rattle.channel_model.specs.declared.name.Waiter.{Waiter}
 use Rattle.channel_model.specs.declared.name.Waiter.TheVariants.{Op, Stream}
-use Rattle.channel_steps.specs.Scene.{Under, Scene}
+use Rattle.channel_steps.specs.Known.{TryAt, HasTaken, StageAt, ToldAt}
+use Rattle.channel_steps.specs.Moments.{Deed, TookAll}
+use Rattle.channel_steps.specs.Scene.{Under, Scene, AllKnown}
+use Rattle.channel_steps.specs.Tellings.{Telling, one_of, more_of, all_of, owed_for, owed_takings, with_taking, takings, owed_besides}
 use Rattle.channel_laws.specs.Amounts.{is_trying, is_trying_anew, total}
 use Rattle.channel_laws.specs.Receives.{has_appended, is_to_tell_receive, counts_for_receives}
 use Rattle.channel_laws.specs.Sends.{has_taken, has_displaced, is_to_tell_send, is_on_its_way, counts_for_sends}
-use Rattle.channel_interleaving.specs.Owed.{is_woken_on, all_names, woken_on, is_sending, is_receiving, at_it}
+use Rattle.channel_interleaving.specs.Owed.{is_woken_on, all_names, woken_on, is_sending, is_receiving, at_it, unless_told, all_unannounced, to_send}
 use Rattle.channel_interleaving.specs.Owners.{IsAmong, NoneTwice, AnyOf, Post, free, vacant, amiss, rests, waits, polled, posted, post, holding, line_asked, Together, HoldsIn, Holder, named, calling, Owned}
 use Rattle.channel_interleaving.specs.OwnerOrder.{woken_key, woken_keys}
 use Rattle.channel_interleaving.specs.Run.{Book}
 use Rattle.channel_interleaving.specs.declared.names.Agent.{Agent}
 use Rattle.channel_interleaving.specs.declared.roll.Roll.{Roll}
-use Rattle.channel_interleaving.proofs.OwnerLists.{among_left, among_right, none_parts}
+use Rattle.channel_interleaving.proofs.OwnerLists.{among_left, among_right, among_of, none_parts}
 use Rattle.channel_interleaving.proofs.OwnerTogether.{HasIt}
 
 -- ---- keys without repeats that are among others are no more than these
@@ -144,6 +152,25 @@ no_hand line l (Some h) f g = by (same_line line h.line) refl
     by true e = absurd (g (f h refl ∙ ap (λ (x : Line). let o : Option Line = Some x in o) (sym (line_sound line h.line e))))
     by false e = ap one_if e
 
+-- ---- what was taken and not announced
+
+mark_never : (n : ℕ) (m : Mark) → IsAmong (more_of n Sends) (owed_for m) → ⊥
+mark_never n Append (inl e) = absurd (let no : one_of Receives ≡ more_of n Sends = e in cc)
+mark_never n Append (inr (inl e)) = absurd (let no : all_of Streams ≡ more_of n Sends = e in cc)
+mark_never n Append (inr (inr h)) = h
+mark_never n Replace (inl e) = absurd (let no : one_of Receives ≡ more_of n Sends = e in cc)
+mark_never n Replace (inr (inl e)) = absurd (let no : all_of Streams ≡ more_of n Sends = e in cc)
+mark_never n Replace (inr (inr h)) = h
+mark_never n Close (inl e) = absurd (let no : all_of Sends ≡ more_of n Sends = e in cc)
+mark_never n Close (inr (inl e)) = absurd (let no : all_of Receives ≡ more_of n Sends = e in cc)
+mark_never n Close (inr (inr (inl e))) = absurd (let no : all_of Streams ≡ more_of n Sends = e in cc)
+mark_never n Close (inr (inr (inr (inl e)))) = absurd (let no : all_of Closings ≡ more_of n Sends = e in cc)
+mark_never n Close (inr (inr (inr (inr h)))) = h
+mark_never n m h = h
+
+untold : (n k : ℕ) (told : List Telling) → told ≡ [] → n ≤ k → n ≤ unless_told told k
+untold n k told e h = subst (λ (ts : List Telling). n ≤ unless_told ts k) (sym e) h
+
 module _ {T : Type 0} where
   -- ---- calls under way
 
@@ -250,10 +277,6 @@ module _ {T : Type 0} where
   appended_most (appended o) = omega arith
   appended_most x = omega arith
 
-  taken_most : (x : Stage T) → has_taken x ≤ 1
-  taken_most (taken o) = omega arith
-  taken_most x = omega arith
-
   displaced_most : (x : Stage T) → has_displaced x ≤ 1
   displaced_most (displaced o) = omega arith
   displaced_most x = omega arith
@@ -262,11 +285,6 @@ module _ {T : Type 0} where
   tells_receive (Trying f a) = appended_most f.stage
   tells_receive (Working (TellReceive x)) = omega arith
   tells_receive at = omega arith
-
-  tells_send : (at : stage.Stage (Phase T) T Waiter) → is_to_tell_send at ≤ 1
-  tells_send (Trying f a) = taken_most f.stage
-  tells_send (Working (TellSend x)) = omega arith
-  tells_send at = omega arith
 
   on_way : (at : stage.Stage (Phase T) T Waiter) → is_on_its_way at ≤ 1
   on_way (Trying f a) = displaced_most f.stage
@@ -296,25 +314,81 @@ module _ {T : Type 0} where
   receive_weight (ask.DropReceiver key) at f = let h = no_hand Receives (Some Streams) (holding at) f (λ e. absurd (let no : Some Streams ≡ Some Receives = e in cc)) in omega (arith, h)
   receive_weight a at f = let h = no_hand Receives None (holding at) f (λ e. absurd (let no : None ≡ Some Receives = e in cc)) in omega (arith, h)
 
-  send_weight : (a : ChannelAsk T Waiter) (at : stage.Stage (Phase T) T Waiter) → Lined (line_asked a) (holding at) → counts_for_sends a at + in_hand Sends (holding at) ≤ May a
-  send_weight ask.TryRecv at f = let h = no_hand Sends None (holding at) f (λ e. absurd (let no : None ≡ Some Sends = e in cc)) in let k = tells_send at in omega (arith, h, k)
-  send_weight (ask.ForceSend m) at f = let h = no_hand Sends None (holding at) f (λ e. absurd (let no : None ≡ Some Sends = e in cc)) in let k = on_way at in omega (arith, h, k)
-  send_weight (ask.PollRecv key task) at f = let h = no_hand Sends (Some Receives) (holding at) f (λ e. absurd (let no : Some Receives ≡ Some Sends = e in cc)) in let k = tells_send at in omega (arith, h, k)
-  send_weight (ask.PollNext key task) at f = let h = no_hand Sends (Some Streams) (holding at) f (λ e. absurd (let no : Some Streams ≡ Some Sends = e in cc)) in let k = tells_send at in omega (arith, h, k)
-  send_weight (ask.PollSend m key task) at f = let k = anew Sends at in omega (arith, k)
-  send_weight (ask.TrySend m) at f = let h = hand_most Sends (holding at) in omega (arith, h)
-  send_weight ask.PollFinishedSend at f = let h = hand_most Sends (holding at) in omega (arith, h)
-  send_weight (ask.RefusePoll Sends m key) at f = let h = hand_most Sends (holding at) in omega (arith, h)
-  send_weight (ask.RefusePoll Receives m key) at f = let h = hand_most Sends (holding at) in omega (arith, h)
-  send_weight (ask.RefusePoll Streams m key) at f = let h = no_hand Sends (Some Streams) (holding at) f (λ e. absurd (let no : Some Streams ≡ Some Sends = e in cc)) in omega (arith, h)
-  send_weight (ask.RefusePoll Closings m key) at f = let h = no_hand Sends (Some Closings) (holding at) f (λ e. absurd (let no : Some Closings ≡ Some Sends = e in cc)) in omega (arith, h)
-  send_weight (ask.GiveUp Sends m key) at f = let h = hand_most Sends (holding at) in omega (arith, h)
-  send_weight (ask.GiveUp Receives m key) at f = let h = hand_most Sends (holding at) in omega (arith, h)
-  send_weight (ask.GiveUp Streams m key) at f = let h = no_hand Sends (Some Streams) (holding at) f (λ e. absurd (let no : Some Streams ≡ Some Sends = e in cc)) in omega (arith, h)
-  send_weight (ask.GiveUp Closings m key) at f = let h = no_hand Sends (Some Closings) (holding at) f (λ e. absurd (let no : Some Closings ≡ Some Sends = e in cc)) in omega (arith, h)
-  send_weight (ask.PollClosed key task) at f = let h = no_hand Sends (Some Closings) (holding at) f (λ e. absurd (let no : Some Closings ≡ Some Sends = e in cc)) in omega (arith, h)
-  send_weight (ask.DropReceiver key) at f = let h = no_hand Sends (Some Streams) (holding at) f (λ e. absurd (let no : Some Streams ≡ Some Sends = e in cc)) in omega (arith, h)
-  send_weight a at f = let h = no_hand Sends None (holding at) f (λ e. absurd (let no : None ≡ Some Sends = e in cc)) in omega (arith, h)
+  -- ---- what was taken and not announced
+
+  besides_never : (n : ℕ) (ds : List (Deed T Waiter)) → IsAmong (more_of n Sends) (owed_besides ds) → ⊥
+  besides_never n [] h = h
+  besides_never n (d ∷ ds) h = elim (among_of (more_of n Sends) (owed_for d.mark) (owed_besides ds) h) [
+    | inl i ↦ mark_never n d.mark i
+    | inr i ↦ besides_never n ds i
+  ]
+
+  never_last : (n : ℕ) (told : List Telling) (ds : List (Deed T Waiter)) → told ++ more_of n Sends ∷ [] ≡ owed_besides ds → ⊥
+  never_last n told ds e =
+      besides_never n ds (subst (λ (ts : List Telling). IsAmong (more_of n Sends) ts) e (among_right (more_of n Sends) told (more_of n Sends ∷ []) (inl refl)))
+
+  -- a call that is to tell so many sends has told nobody, and has taken as many messages
+  to_announce : (n k : ℕ) (told : List Telling) (ds : List (Deed T Waiter)) → told ++ more_of n Sends ∷ [] ≡ owed_takings k ++ owed_besides ds → n ≤ unless_told told k
+  to_announce n zero told ds e = absurd (never_last n told ds e)
+  to_announce n (suc k) [] ds e = let same : n ≡ suc k = cc e in omega (arith, same)
+  to_announce n (suc k) (t ∷ ts) ds e = absurd (let rest : ts ++ more_of n Sends ∷ [] ≡ owed_besides ds = cc e in never_last n ts ds rest)
+
+  takings_both : (before mine : List (Deed T Waiter)) (taken : List T) → TookAll before taken → takings (before ++ mine) ≡ length taken + takings mine
+  takings_both [] mine [] h = omega arith
+  takings_both [] mine (v ∷ vs) h = absurd h
+  takings_both (d ∷ before) mine [] h = absurd h
+  takings_both (d ∷ before) mine (v ∷ vs) h =
+      let one : takings ((d ∷ before) ++ mine) ≡ suc (takings (before ++ mine)) = ap (λ (m : Mark). with_taking m (takings (before ++ mine))) h.0 in
+      let rest = takings_both before mine vs h.2 in
+      omega (arith, one, rest)
+
+  try_takes : (now : Channel T Waiter) (a : QueueAsk T) (x : Stage T) (ds : List (Deed T Waiter)) (seen : List (Channel T Waiter)) → TryAt now a x ds seen → has_taken x ≤ takings ds
+  try_takes now queue.Pop (taken v) [] seen h = absurd h
+  try_takes now queue.Pop (taken v) (d ∷ []) seen h = let one : with_taking d.mark 0 ≡ 1 = ap (λ (m : Mark). with_taking m 0) h.0 in omega (arith, one)
+  try_takes now queue.Pop (taken v) (d ∷ e ∷ ds) seen h = absurd h
+  try_takes now a (taken v) ds seen h = absurd h
+  try_takes now a x ds seen h = omega arith
+
+  tries_take : (now : Channel T Waiter) (vs : List T) (a : QueueAsk T) (x : Stage T) (ds mine : List (Deed T Waiter)) (seen : List (Channel T Waiter)) → HasTaken vs ds mine seen
+      → TryAt now a x mine seen → length vs + has_taken x ≤ takings ds
+  tries_take now vs a x ds mine seen t h =
+      let all : takings ds ≡ takings (t.before ++ mine) = ap (λ (xs : List (Deed T Waiter)). takings xs) t.all in
+      let both = takings_both t.before mine vs t.took in
+      let one = try_takes now a x mine seen h in
+      omega (arith, all, both, one)
+
+  -- no more are to be told than were taken and not announced
+  announces : (now : Channel T Waiter) (a : ChannelAsk T Waiter) (at : stage.Stage (Phase T) T Waiter) (told : List Telling) (ds : List (Deed T Waiter)) (seen : List (Channel T Waiter))
+      → StageAt now a at ds seen → ToldAt told at ds → is_to_tell_send at ≤ unless_told told (takings ds)
+  announces now a (Trying f (aim.RecvMany g)) told ds seen h k = untold _ (takings ds) told k (let t = h.1 in tries_take now g.taken f.ask f.stage ds t.0 seen t.1 t.2)
+  announces now a (Trying f y) told ds seen h k = untold _ (takings ds) told k (try_takes now f.ask f.stage ds seen h.1)
+  announces now a (Working (TellSend x)) told ds seen h k = to_announce 1 (takings ds) told ds k
+  announces now a (Working (TellSends n x)) told ds seen h k = to_announce n (takings ds) told ds k
+  announces now a at told ds seen h k = omega arith
+
+  module _ (now : Channel T Waiter) (at : stage.Stage (Phase T) T Waiter) (told : List Telling) (ds : List (Deed T Waiter)) (seen : List (Channel T Waiter)) where
+    -- beside the told sends a sending call counts for no more than one, and any other for what it has not announced
+    send_weight : (a : ChannelAsk T Waiter) → StageAt now a at ds seen → ToldAt told at ds → Lined (line_asked a) (holding at)
+        → counts_for_sends a at + in_hand Sends (holding at) ≤ one_if (is_sending a) + unless_told told (takings ds)
+    send_weight ask.TryRecv s t f = let h = no_hand Sends None (holding at) f (λ e. absurd (let no : None ≡ Some Sends = e in cc)) in let k = announces now ask.TryRecv at told ds seen s t in omega (arith, h, k)
+    send_weight (ask.RecvMany n) s t f = let h = no_hand Sends None (holding at) f (λ e. absurd (let no : None ≡ Some Sends = e in cc)) in let k = announces now (ask.RecvMany n) at told ds seen s t in omega (arith, h, k)
+    send_weight (ask.ForceSend m) s t f = let h = no_hand Sends None (holding at) f (λ e. absurd (let no : None ≡ Some Sends = e in cc)) in let k = on_way at in omega (arith, h, k)
+    send_weight (ask.PollRecv key task) s t f = let h = no_hand Sends (Some Receives) (holding at) f (λ e. absurd (let no : Some Receives ≡ Some Sends = e in cc)) in let k = announces now (ask.PollRecv key task) at told ds seen s t in omega (arith, h, k)
+    send_weight (ask.PollNext key task) s t f = let h = no_hand Sends (Some Streams) (holding at) f (λ e. absurd (let no : Some Streams ≡ Some Sends = e in cc)) in let k = announces now (ask.PollNext key task) at told ds seen s t in omega (arith, h, k)
+    send_weight (ask.PollSend m key task) s t f = let k = anew Sends at in omega (arith, k)
+    send_weight (ask.TrySend m) s t f = let h = hand_most Sends (holding at) in omega (arith, h)
+    send_weight ask.PollFinishedSend s t f = let h = hand_most Sends (holding at) in omega (arith, h)
+    send_weight (ask.RefusePoll Sends m key) s t f = let h = hand_most Sends (holding at) in omega (arith, h)
+    send_weight (ask.RefusePoll Receives m key) s t f = let h = no_hand Sends (Some Receives) (holding at) f (λ e. absurd (let no : Some Receives ≡ Some Sends = e in cc)) in omega (arith, h)
+    send_weight (ask.RefusePoll Streams m key) s t f = let h = no_hand Sends (Some Streams) (holding at) f (λ e. absurd (let no : Some Streams ≡ Some Sends = e in cc)) in omega (arith, h)
+    send_weight (ask.RefusePoll Closings m key) s t f = let h = no_hand Sends (Some Closings) (holding at) f (λ e. absurd (let no : Some Closings ≡ Some Sends = e in cc)) in omega (arith, h)
+    send_weight (ask.GiveUp Sends m key) s t f = let h = hand_most Sends (holding at) in omega (arith, h)
+    send_weight (ask.GiveUp Receives m key) s t f = let h = no_hand Sends (Some Receives) (holding at) f (λ e. absurd (let no : Some Receives ≡ Some Sends = e in cc)) in omega (arith, h)
+    send_weight (ask.GiveUp Streams m key) s t f = let h = no_hand Sends (Some Streams) (holding at) f (λ e. absurd (let no : Some Streams ≡ Some Sends = e in cc)) in omega (arith, h)
+    send_weight (ask.GiveUp Closings m key) s t f = let h = no_hand Sends (Some Closings) (holding at) f (λ e. absurd (let no : Some Closings ≡ Some Sends = e in cc)) in omega (arith, h)
+    send_weight (ask.PollClosed key task) s t f = let h = no_hand Sends (Some Closings) (holding at) f (λ e. absurd (let no : Some Closings ≡ Some Sends = e in cc)) in omega (arith, h)
+    send_weight (ask.DropReceiver key) s t f = let h = no_hand Sends (Some Streams) (holding at) f (λ e. absurd (let no : Some Streams ≡ Some Sends = e in cc)) in omega (arith, h)
+    send_weight a s t f = let h = no_hand Sends None (holding at) f (λ e. absurd (let no : None ≡ Some Sends = e in cc)) in omega (arith, h)
 
   -- all calls under way
   abbrev Weighs : Line → (ChannelAsk T Waiter → stage.Stage (Phase T) T Waiter → ℕ) → Type 0
@@ -337,5 +411,18 @@ module _ {T : Type 0} where
   pub receives_weigh : (b : Book T) (s : Scene T Waiter) → Owned b s → total counts_for_receives s.under_way + hands Receives s.under_way ≤ at_it s
   receives_weigh b s o = all_weigh Receives counts_for_receives receive_weight (post b.roll) b.agents s.under_way o.together
 
-  pub sends_weigh : (b : Book T) (s : Scene T Waiter) → Owned b s → total counts_for_sends s.under_way + hands Sends s.under_way ≤ at_it s
-  sends_weigh b s o = all_weigh Sends counts_for_sends send_weight (post b.roll) b.agents s.under_way o.together
+  all_send : (now : Channel T Waiter) (p : Waiter → Post) (agents : List (Agent T)) (us : List (Under T Waiter)) → Together p agents us → AllKnown now us
+      → total counts_for_sends us + hands Sends us ≤ count_by (λ (u : Under T Waiter). is_sending u.ask) us + all_unannounced us
+  all_send now p [] [] t k = omega arith
+  all_send now p (a ∷ more) (u ∷ us) t k =
+      let own = let l = t.0 in l.lines in
+      let known = k.0 in
+      let one = send_weight now u.at u.told u.deeds u.seen u.ask known.stands known.tells own in
+      let rest = all_send now p more us t.1 k.1 in
+      let sending = count_first (λ (v : Under T Waiter). is_sending v.ask) u us in
+      omega (arith, one, rest, sending)
+  all_send now p [] (u ∷ us) t k = absurd t
+  all_send now p (a ∷ more) [] t k = absurd t
+
+  pub sends_weigh : (b : Book T) (s : Scene T Waiter) → Owned b s → AllKnown s.now s.under_way → total counts_for_sends s.under_way + hands Sends s.under_way ≤ to_send s
+  sends_weigh b s o k = all_send s.now (post b.roll) b.agents s.under_way o.together k

@@ -22,7 +22,7 @@ use Rattle.channel_laws.specs.Sends.{HasPlaces, counts_for_sends, PlacesAreFew}
 use Rattle.channel_laws.specs.Sound.{AllSound}
 use Rattle.channel_laws.specs.Streams.{IsSending, HasInHand, AnswersFor}
 use Rattle.channel_laws.specs.Waits.{IsIn, Waits, Any}
-use Rattle.channel_interleaving.specs.Owed.{woken_on, is_sending, at_it, Owed}
+use Rattle.channel_interleaving.specs.Owed.{woken_on, is_sending, at_it, to_send, Owed}
 use Rattle.channel_interleaving.specs.Owners.{IsAmong, AnyOf, waits, post, holding, named, calling, Owned}
 use Rattle.channel_interleaving.specs.Run.{Book}
 use Rattle.channel_interleaving.proofs.OwedCounts.{told_few, receives_weigh, sends_weigh}
@@ -112,15 +112,15 @@ module _ {T : Type 0} where
             omega (arith, few, told, weigh)
         by (inr i) = absurd (in_no_hand (λ u. HoldsListener Receives key u.at) Receives w key e (λ u h. listener_held Receives key u.at h) i)
 
-    sends : (w : Waiter) (key : Key) → post b.roll w ≡ waits (this Sends key) false → Open s.now → HasPlaces s.now.queue.capacity (length s.now.queue.items + (woken_on Sends b.roll + at_it s))
+    sends : (w : Waiter) (key : Key) → post b.roll w ≡ waits (this Sends key) false → Open s.now → HasPlaces s.now.queue.capacity (length s.now.queue.items + (woken_on Sends b.roll + to_send s))
     sends w key e open_now = by (let r = sound.sends in r.owed key (waiting Sends w key e))
       where
-        by : PlacesAreFew s.now (total counts_for_sends s.under_way) ⊎ Any (λ u. HoldsListener Sends key u.at) s.under_way → HasPlaces s.now.queue.capacity (length s.now.queue.items + (woken_on Sends b.roll + at_it s))
+        by : PlacesAreFew s.now (total counts_for_sends s.under_way) ⊎ Any (λ u. HoldsListener Sends key u.at) s.under_way → HasPlaces s.now.queue.capacity (length s.now.queue.items + (woken_on Sends b.roll + to_send s))
         by (inl (inl shut)) = absurd (let never : true ≡ false = sym shut ∙ open_now in cc)
         by (inl (inr few)) =
             let told = told_few b s Sends o in
-            let weigh = sends_weigh b s o in
-            places s.now.queue.capacity _ (length s.now.queue.items + (woken_on Sends b.roll + at_it s)) (omega (arith, told, weigh)) few
+            let weigh = sends_weigh b s o (let r = sound.sends in let t = r.tellings in t.known) in
+            places s.now.queue.capacity _ (length s.now.queue.items + (woken_on Sends b.roll + to_send s)) (omega (arith, told, weigh)) few
         by (inr i) = absurd (in_no_hand (λ u. HoldsListener Sends key u.at) Sends w key e (λ u h. listener_held Sends key u.at h) i)
 
     streams : (w : Waiter) (key : Key) → post b.roll w ≡ waits (this Streams key) false → (s.now.queue.items ≡ []) ⊎ AnyOf (λ u. is_sending u.ask ≡ true) s.under_way

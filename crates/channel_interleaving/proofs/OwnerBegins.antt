@@ -122,6 +122,7 @@ module _ {T W : Type 0} where
   first_turn (ask.TrySend m) = λ p. (refl, tt)
   first_turn (ask.ForceSend m) = λ p. (refl, tt)
   first_turn ask.TryRecv = λ p. (refl, tt)
+  first_turn (ask.RecvMany n) = (refl, tt)
   first_turn ask.Close = λ p. (refl, tt)
   first_turn (ask.PollSend m key task) = λ p. (refl, (Sends, refl))
   first_turn ask.PollFinishedSend = (refl, tt)

@@ -369,6 +369,7 @@ module _ {T : Type 0} where
   begins_so r (call.TrySend sender msg) sane a = inl (through r sender _ refl refl)
   begins_so r (call.ForceSend sender msg) sane a = inl (through r sender _ refl refl)
   begins_so r (call.TryRecv receiver) sane a = inl (through r receiver _ refl refl)
+  begins_so r (call.RecvMany receiver limit) sane a = inl (through r receiver _ refl refl)
   begins_so r (call.Close handle) sane a = inl (through r handle _ refl refl)
   begins_so r (call.IsClosed handle) sane a = inl (through r handle _ refl refl)
   begins_so r (call.IsEmpty handle) sane a = inl (through r handle _ refl refl)

@@ -4,7 +4,7 @@ use Rattle.std.specs.Map.{lookup, keys_of}
 use Rattle.std.proofs.lemmas.Map.{keys-set_value}
 use Rattle.event_listener.specs.Lists.{Notice, same_key, told_as, waits_as, kind_of, without, with_task, told_with, moved, notified, listened, passed, passed_wakes, registration, removed, removed_wakes}
 use Rattle.event_listener.specs.declared.key.Key.{Key}
-use Rattle.channel_calls.specs.Parts.{Listeners, told_one, told_one_wakes, told_all, told_all_wakes, waits}
+use Rattle.channel_calls.specs.Parts.{Listeners, told_one, told_one_wakes, told_more, told_more_wakes, told_all, told_all_wakes, waits}
 use Rattle.channel_calls.specs.declared.stage.Held.{Held}
 use Rattle.channel_calls.specs.declared.stage.Line.{Line}
 use Rattle.channel_interleaving.specs.Owners.{IsAmong, NoneTwice, keys}
@@ -171,6 +171,32 @@ module _ {W : Type 0} where
   one_told line l had =
       let n : Notice Unit = record { additional = true; tag = tt } in
       same_keys line l (told_one l) (told_one_wakes l) had (passed_keys n l) (λ key w other h. passed_waiting n l key w h)
+
+  -- several, one after another
+  more_keys : (n : ℕ) (l : Listeners W) → keys (told_more n l) ≡ keys l
+  more_keys zero l = refl
+  more_keys (suc n) l = more_keys n (told_one l) ∙ passed_keys (record { additional = true; tag = tt }) l
+
+  more_waiting : (n : ℕ) (l : Listeners W) (key : Key) (w : W) → IsAmong (key, Some w) l.waiting
+      → IsAmong (key, Some w) (told_more n l).waiting ⊎ IsAmong w (told_more_wakes n l)
+  more_waiting zero l key w h = inl h
+  more_waiting (suc n) l key w h =
+      first (λ i. more_waiting n (told_one l) key w i) (passed_waiting (record { additional = true; tag = tt }) l key w h)
+    where
+      rest : IsAmong (key, Some w) (told_more n (told_one l)).waiting ⊎ IsAmong w (told_more_wakes n (told_one l))
+          → IsAmong (key, Some w) (told_more n (told_one l)).waiting ⊎ IsAmong w (told_one_wakes l ++ told_more_wakes n (told_one l))
+      rest (inl i) = inl i
+      rest (inr i) = inr (among_right w (told_one_wakes l) (told_more_wakes n (told_one l)) i)
+
+      first : (IsAmong (key, Some w) (told_one l).waiting → IsAmong (key, Some w) (told_more n (told_one l)).waiting ⊎ IsAmong w (told_more_wakes n (told_one l)))
+          → IsAmong (key, Some w) (told_one l).waiting ⊎ IsAmong w (told_one_wakes l)
+          → IsAmong (key, Some w) (told_more n (told_one l)).waiting ⊎ IsAmong w (told_one_wakes l ++ told_more_wakes n (told_one l))
+      first more (inl i) = rest (more i)
+      first more (inr i) = inr (among_left w (told_one_wakes l) (told_more_wakes n (told_one l)) i)
+
+  pub more_told : (line : Line) (n : ℕ) (l : Listeners W) (had : Option Held) → Turned line l (told_more n l) (told_more_wakes n l) had had
+  more_told line n l had =
+      same_keys line l (told_more n l) (told_more_wakes n l) had (more_keys n l) (λ key w other h. more_waiting n l key w h)
 
   pub all_told : (line : Line) (l : Listeners W) (had : Option Held) → Turned line l (told_all l) (told_all_wakes l) had had
   all_told line l had =

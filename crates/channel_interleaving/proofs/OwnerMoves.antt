@@ -7,9 +7,9 @@ use Rattle.channel_calls.specs.declared.stage.Aim.{Aim}
 use Rattle.event_listener.specs.Lists.{listened, registration, removed, removed_wakes}
 use Rattle.event_listener.specs.declared.key.Key.{Key}
 use Rattle.channel_calls.specs.Marks.{up}
-use Rattle.channel_calls.specs.Moves.{Channel, Effect, queued, untouched, on_line, on_count, leaves, Turned, Inserts, Worked, Moves}
-use Rattle.channel_calls.specs.Parts.{Roster, Listeners, listeners, with_listeners, with_count, count, is_raised, told_one, told_one_wakes, told_all, told_all_wakes, waits}
-use Rattle.channel_calls.specs.Turns.{line_of, leaving, again, pends_by, unlistened, lowered_next}
+use Rattle.channel_calls.specs.Moves.{Channel, Effect, queued, untouched, on_line, on_count, leaves, Turned, TakesRoomFor, Inserts, Worked, Moves}
+use Rattle.channel_calls.specs.Parts.{Roster, Listeners, listeners, with_listeners, with_count, count, is_raised, told_one, told_one_wakes, told_more, told_more_wakes, told_all, told_all_wakes, waits}
+use Rattle.channel_calls.specs.Turns.{line_of, leaving, again, pends_by, unlistened, room_next, roomless, lowered_next}
 use Rattle.channel_calls.specs.declared.ask.ChannelAsk.{ChannelAsk}
 use Rattle.channel_calls.specs.declared.ask.ChannelAsk.TheVariants as ask
 use Rattle.channel_calls.specs.declared.reply.Reply.{Reply}
@@ -28,13 +28,13 @@ use Rattle.channel_calls.specs.declared.stage.Turn.TheVariants.{Tries, Works, En
 use Rattle.channel_calls.specs.declared.stage.Waiting.{Waiting}
 use Rattle.channel_calls.specs.declared.stage.Waiting.TheVariants as waiting
 use Rattle.channel_calls.specs.declared.stage.Work.{Work}
-use Rattle.channel_calls.specs.declared.stage.Work.TheVariants.{TellReceive, TellStreams, TellSend, TellAll, Insert, Register, Leave, Lower, Count, Load, Raise}
+use Rattle.channel_calls.specs.declared.stage.Work.TheVariants.{TellReceive, TellStreams, TellSend, TellSends, TakeRoom, TellAll, Insert, Register, Leave, Lower, Count, Load, Raise}
 use Rattle.channel_steps.specs.Moments.{Deed}
 use Rattle.channel_steps.specs.Known.{IsFor, StageAt}
 use Rattle.channel_interleaving.specs.Owners.{IsAmong, holding, task_at, work_holds, work_task, wait_of, Bears, WaitsFor}
 use Rattle.channel_interleaving.proofs.OwnerKeys.{on}
 use Rattle.channel_interleaving.proofs.OwnerKeys as list
-use Rattle.channel_interleaving.proofs.OwnerTurns.{MayBear, Has, ends_has, told_all_has, lowered_has, loaded_has, raised_has, answered_has}
+use Rattle.channel_interleaving.proofs.OwnerTurns.{MayBear, Has, ends_has, told_all_has, room_has, lowered_has, loaded_has, raised_has, answered_has}
 
 -- ---- the four lists
 
@@ -310,6 +310,10 @@ module _ (T W : Type 0) where
     lowers Senders key n = lowered_has T W Senders key n None
     lowers Receivers key n = lowered_has T W Receivers key n None
 
+    roomed : (n : ℕ) (r : Option (Reply T)) (s : Stage (Phase T) T W) → TakesRoomFor n r s → Out (Working (TakeRoom n)) r s (untouched c)
+    roomed n r s (inl t) = on_it_goes (Working (TakeRoom n)) r s (untouched c) (room_next n) (still c.roster [] None) t (room_has T W n)
+    roomed n r s (inr t) = on_it_goes (Working (TakeRoom n)) r s (untouched c) roomless (still c.roster [] None) t.1 (refl, refl)
+
     works : (w : Work T W) (e : Effect T W) (r : Option (Reply T)) (s : Stage (Phase T) T W) (ds : List (Deed T W))
         (seen : List (Channel T W)) → StageAt c x (Working w) ds seen → Bears (work_task w) (wait_of x) → Worked c w e r s
         → Out (Working w) r s e
@@ -328,6 +332,12 @@ module _ (T W : Type 0) where
         (on_it_goes (Working (TellSend y)) r s _ _
         (tells Sends (told_one (listeners Sends c.roster)) (told_one_wakes (listeners Sends c.roster)) c.roster y.held
         (list.one_told Sends (listeners Sends c.roster) y.held)) h.1 (ends_has T W y None))
+    works (TellSends n y) e r s ds seen k b h =
+        as_it (Working (TellSends n y)) r s e _ h.0
+        (on_it_goes (Working (TellSends n y)) r s _ _
+        (tells Sends (told_more n (listeners Sends c.roster)) (told_more_wakes n (listeners Sends c.roster)) c.roster y.held
+        (list.more_told Sends n (listeners Sends c.roster) y.held)) h.1 (ends_has T W y None))
+    works (TakeRoom n) e r s ds seen k b h = as_it (Working (TakeRoom n)) r s e _ h.0 (roomed n r s h.1)
     works (TellAll line closer) e r s ds seen k b h =
         as_it (Working (TellAll line closer)) r s e _ h.0
         (on_it_goes (Working (TellAll line closer)) r s _ _
@@ -355,7 +365,7 @@ module _ (T W : Type 0) where
         (on_it_goes (Working (Raise side n making)) r s _ _ (raised (is_raised side n c.roster) side n None) h.1
         (raised_has T W side making (is_raised side n c.roster)))
 
-    goes_on : (f f' : Phase T) (aim : Aim W) (r : Option (Reply T)) (s : Stage (Phase T) T W) (d : Channel T W) → r ≡ None
+    goes_on : (f f' : Phase T) (aim : Aim T W) (r : Option (Reply T)) (s : Stage (Phase T) T W) (d : Channel T W) → r ≡ None
         → s ≡ Trying f' aim → Then x (Trying f aim) r s (holding (Trying f aim)) d
     goes_on f f' aim None s d e same = subst (λ (z : Stage (Phase T) T W). (holding z ≡ holding (Trying f aim))
         × MayBear (task_at z) (task_at (Trying f aim))) (sym same) (refl, inr refl)

@@ -3,9 +3,10 @@ use Rattle.std.proofs.Common.{◌≡◌, ℕ, zero, suc, ◌≤◌, Bool, true, 
 use Rattle.std.specs.Map.{remove_entry, keys_of}
 use Rattle.event_listener.specs.Lists.{Notice, same_key, tasks_of, told_as, waits_as, told_with, without, with_task, moved, passed, passed_wakes, listened, registration, removed, removed_wakes}
 use Rattle.event_listener.specs.declared.key.Key.{Key}
-use Rattle.channel_calls.specs.Parts.{Listeners, told_all, told_all_wakes}
+use Rattle.channel_calls.specs.Parts.{Listeners, told_more, told_more_wakes, told_all, told_all_wakes}
 use Rattle.channel_calls.specs.declared.stage.Held.{Held}
 use Rattle.channel_calls.specs.declared.stage.Line.{Line}
+use Rattle.channel_calls.proofs.Interface.{told_firsts, woken_firsts}
 use Rattle.channel_interleaving.specs.Owners.{IsAmong, NoneTwice}
 use Rattle.channel_interleaving.proofs.OwnerKeys.{on, told_both, few, one_tag, same_many, units, told_keys}
 use Rattle.channel_interleaving.proofs.OwnerLists.{fewer_keys}
@@ -83,6 +84,22 @@ module _ {W : Type 0} where
     told = passed_told n l;
     woken = refl;
   }
+
+  pub more_passed : (line : Line) (n : ℕ) (l : Listeners W) (had : Option Held)
+      → InTurn line l (told_more n l) (told_more_wakes n l) had
+  more_passed line n l had =
+      let first = take n l.waiting in
+      record {
+        first = keys_of l.told;
+        more = first;
+        stay = inl refl;
+        waited = λ e i. among_take n e l.waiting i;
+        once = λ h. once_take n l.waiting h;
+        told = ap (λ (x : Listeners W). keys_of x.told) (told_firsts n l)
+            ∙ (told_both l.told (told_with true first (units first))
+            ∙ ap (λ (ks : List Key). keys_of l.told ++ ks) (told_keys true first (units first) (same_many first)));
+        woken = woken_firsts n l;
+      }
 
   pub all_passed : (line : Line) (l : Listeners W) (had : Option Held) → InTurn line l (told_all l) (told_all_wakes l) had
   all_passed line l had = record {

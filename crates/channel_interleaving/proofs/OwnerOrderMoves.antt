@@ -5,7 +5,7 @@ use Rattle.concurrent_queue.specs.Queue.{Phase}
 use Rattle.event_listener.specs.Lists.{listened, registration, removed, removed_wakes}
 use Rattle.channel_calls.specs.Marks.{up, down}
 use Rattle.channel_calls.specs.Moves.{Channel, Effect, queued, untouched, on_line, on_count, leaves, Inserts, Worked, Moves}
-use Rattle.channel_calls.specs.Parts.{Listeners, listeners, count, is_raised, told_one, told_one_wakes, told_all, told_all_wakes}
+use Rattle.channel_calls.specs.Parts.{Listeners, listeners, count, is_raised, told_one, told_one_wakes, told_more, told_more_wakes, told_all, told_all_wakes}
 use Rattle.channel_calls.specs.Turns.{line_of}
 use Rattle.channel_calls.specs.declared.mark.Mark.{Mark}
 use Rattle.channel_calls.specs.declared.reply.Reply.{Reply}
@@ -18,11 +18,11 @@ use Rattle.channel_calls.specs.declared.stage.Stage.{Stage}
 use Rattle.channel_calls.specs.declared.stage.Stage.TheVariants.{Trying, Working, Finished}
 use Rattle.channel_calls.specs.declared.stage.Waiting.{Waiting}
 use Rattle.channel_calls.specs.declared.stage.Work.{Work}
-use Rattle.channel_calls.specs.declared.stage.Work.TheVariants.{TellReceive, TellStreams, TellSend, TellAll, Insert, Register, Leave, Lower, Count, Load, Raise}
+use Rattle.channel_calls.specs.declared.stage.Work.TheVariants.{TellReceive, TellStreams, TellSend, TellSends, TakeRoom, TellAll, Insert, Register, Leave, Lower, Count, Load, Raise}
 use Rattle.channel_interleaving.specs.Owners.{holding}
 use Rattle.channel_interleaving.proofs.OwnerKeys.{on}
 use Rattle.channel_interleaving.proofs.OwnerMoves.{same_list, other_list, counted_list}
-use Rattle.channel_interleaving.proofs.OwnerOrderLists.{InTurn, none_told, one_passed, all_passed, one_left, one_came, one_asked}
+use Rattle.channel_interleaving.proofs.OwnerOrderLists.{InTurn, none_told, one_passed, more_passed, all_passed, one_left, one_came, one_asked}
 
 module _ {T W : Type 0} where
   -- a step that wakes these, by a call with this listener in hand, tells on one list, in its order, and on no other
@@ -61,6 +61,12 @@ module _ {T W : Type 0} where
     tells_one_more at had = on_one at (told_one (listeners at c.roster)) (told_one_wakes (listeners at c.roster)) c had
         (one_passed at (record { additional = true; tag = tt }) (listeners at c.roster) had)
 
+    tells_several : (at : Line) (n : ℕ) (had : Option Held)
+        → Tells c (on_line at (told_more n (listeners at c.roster)) (told_more_wakes n (listeners at c.roster)) c).channel
+        (told_more_wakes n (listeners at c.roster)) had
+    tells_several at n had = on_one at (told_more n (listeners at c.roster)) (told_more_wakes n (listeners at c.roster)) c had
+        (more_passed at n (listeners at c.roster) had)
+
     tells_them_all : (at : Line) (had : Option Held)
         → Tells c (on_line at (told_all (listeners at c.roster)) (told_all_wakes (listeners at c.roster)) c).channel
         (told_all_wakes (listeners at c.roster)) had
@@ -92,6 +98,8 @@ module _ {T W : Type 0} where
     works (TellReceive y) e r s h = as_it y.held e _ h.0 (tells_one_more Receives y.held)
     works (TellStreams y) e r s h = as_it y.held e _ h.0 (tells_them_all Streams y.held)
     works (TellSend y) e r s h = as_it y.held e _ h.0 (tells_one_more Sends y.held)
+    works (TellSends n y) e r s h = as_it y.held e _ h.0 (tells_several Sends n y.held)
+    works (TakeRoom n) e r s h = as_it None e _ h.0 (as_before c c None (λ line. refl))
     works (TellAll line closer) e r s h = as_it _ e _ h.0 (tells_them_all line _)
     works (Insert w task) e r s h = inserts w task e r s h
     works (Register w key task) e r s h =

@@ -238,6 +238,7 @@ module _ {T : Type 0} where
     begins_sorted (call.TrySend sender msg) a = ease (call.TrySend sender msg) (lent_eased r sender)
     begins_sorted (call.ForceSend sender msg) a = ease (call.ForceSend sender msg) (lent_eased r sender)
     begins_sorted (call.TryRecv receiver) a = ease (call.TryRecv receiver) (lent_eased r receiver)
+    begins_sorted (call.RecvMany receiver limit) a = ease (call.RecvMany receiver limit) (lent_eased r receiver)
     begins_sorted (call.Close handle) a = ease (call.Close handle) (lent_eased r handle)
     begins_sorted (call.Drop handle) a = drops r (names_begun r (call.Drop handle)) ws d (Stream handle) (dropped r handle a) h
     begins_sorted (call.TryClone handle new) a = ease (call.TryClone handle new) (handle_eased r new handle)

@@ -1,5 +1,8 @@
 -- What a call has in hand after it takes a turn.
-use Rattle.std.proofs.Common.{◌≡◌, ℕ, ◌==◌, Bool, true, false, if◌then◌else◌, nat_lt, Option, None, Some, Ok, Err, ◌⊎◌, inl, inr, refl}
+use Rattle.channel_calls.specs.Several.{Gathered, with_last}
+use Rattle.channel_calls.specs.declared.error.TryRecvError.{TryRecvError}
+use Rattle.channel_calls.specs.declared.error.TryRecvError.TheVariants as try_recv_error
+use Rattle.std.proofs.Common.{◌≡◌, ℕ, zero, suc, List, [], ◌∷◌, ◌++◌, ◌==◌, Bool, true, false, if◌then◌else◌, nat_lt, Option, None, Some, Ok, Err, ◌⊎◌, inl, inr, refl}
 use Rattle.concurrent_queue.specs.Queue.{Queue, Stage, AnswersPush, AnswersPop, AnswersClose, AnswersShut, AnswersTo}
 use Rattle.concurrent_queue.specs.declared.call.QueueAsk.{QueueAsk}
 use Rattle.concurrent_queue.specs.declared.call.QueueAsk.TheVariants as queue
@@ -11,8 +14,8 @@ use Rattle.concurrent_queue.specs.declared.error.PushError.TheVariants as push_e
 use Rattle.concurrent_queue.specs.declared.error.ForcePushError.TheVariants as force_error
 use Rattle.concurrent_queue.specs.declared.error.PopError.TheVariants as pop_error
 use Rattle.event_listener.specs.declared.key.Key.{Key}
-use Rattle.channel_calls.specs.Answered.{over, answered_next, send_next, receive_next, stream_next, closing_next, closed_next, asked_next, terminated_next, upgraded_next, sent_next, forced_next, received_next}
-use Rattle.channel_calls.specs.Turns.{held_on, line_of, dropper, leaving, closer_ending, ends_by, again, refused_next, told_all_next, lowered_next, counted_next, loaded_next, raised_next, most}
+use Rattle.channel_calls.specs.Answered.{over, answered_next, send_next, receive_next, stream_next, closing_next, closed_next, asked_next, terminated_next, upgraded_next, sent_next, forced_next, received_next, gathered_next, short_next, several_next}
+use Rattle.channel_calls.specs.Turns.{held_on, line_of, dropper, leaving, closer_ending, ends_by, again, refused_next, told_all_next, room_next, lowered_next, counted_next, loaded_next, raised_next, most}
 use Rattle.channel_calls.specs.declared.ask.ChannelAsk.{ChannelAsk}
 use Rattle.channel_calls.specs.declared.ask.ChannelAsk.TheVariants as ask
 use Rattle.channel_calls.specs.declared.reply.Reply.{Reply}
@@ -206,12 +209,31 @@ module _ (T W : Type 0) where
   closed_has (answer.Close false) c h = closer_has c false None
   closed_has x c h = absurd h
 
+  pub room_has : (n : ℕ) → Has None None (room_next n)
+  room_has zero = (refl, refl)
+  room_has (suc n) = (refl, inl refl)
+
+  gathered_has : (vs : List T) (n : ℕ) → Has None None (gathered_next (with_last vs n))
+  gathered_has vs zero = (refl, inl refl)
+  gathered_has vs (suc n) = (refl, inl refl)
+
+  short_has : (vs : List T) (e : TryRecvError) → Has None None (short_next vs e)
+  short_has [] e = (refl, refl)
+  short_has (v ∷ vs) e = (refl, inl refl)
+
+  several_has : (x : QueueReply T) (g : Gathered T) → Has None None (several_next x g)
+  several_has (answer.Pop (Ok m)) g = gathered_has (g.taken ++ m ∷ []) g.more
+  several_has (answer.Pop (Err pop_error.Empty)) g = short_has g.taken try_recv_error.Empty
+  several_has (answer.Pop (Err pop_error.Closed)) g = short_has g.taken try_recv_error.Closed
+  several_has x g = (refl, refl)
+
   -- a call of the channel goes on with what it has in hand
-  pub answered_has : (q : Queue T) (x : ChannelAsk T W) (y : Aim W) (a : QueueAsk T) (m : QueueMark) (r : QueueReply T) (s : Stage T) (ds : _) (seen : _)
+  pub answered_has : (q : Queue T) (x : ChannelAsk T W) (y : Aim T W) (a : QueueAsk T) (m : QueueMark) (r : QueueReply T) (s : Stage T) (ds : _) (seen : _)
       → TriesFor x y a ds seen → AnswersTo q a m r s → Has (aim_holds y) (aim_task y) (answered_next y r)
   answered_has q x aim.TrySend a m r s ds seen t h = sent_has r
   answered_has q x aim.ForceSend a m r s ds seen t h = forced_has r
   answered_has q x aim.TryRecv a m r s ds seen t h = received_has r
+  answered_has q x (aim.RecvMany g) a m r s ds seen t h = several_has r g
   answered_has q x aim.Ask a m r s ds seen t h = asked_has r
   answered_has q x aim.IsTerminated a m r s ds seen t h = terminated_has r
   answered_has q x (aim.Upgrade side) a m r s ds seen t h = upgraded_has r side

@@ -3,7 +3,7 @@ use Rattle.std.proofs.Common.{◌≡◌, ◌≤◌, ℕ, zero, suc, Bool, true, 
 use Rattle.std.specs.Map.{remove_entry, set_value, keys_of}
 use Rattle.event_listener.specs.Lists.{Notice, same_key, tasks_of, told_as, waits_as, told_with, without, with_task, moved, passed, passed_wakes, listened, registration, removed, removed_wakes}
 use Rattle.event_listener.specs.declared.key.Key.{Key}
-use Rattle.channel_calls.specs.Parts.{Listeners, told_all, told_all_wakes}
+use Rattle.channel_calls.specs.Parts.{Listeners, told_one, told_one_wakes, told_more, told_more_wakes, told_all, told_all_wakes}
 use Rattle.channel_calls.specs.declared.stage.Held.{Held}
 use Rattle.channel_calls.specs.declared.stage.Line.{Line}
 use Rattle.channel_interleaving.specs.Owners.{IsAmong}
@@ -147,6 +147,38 @@ module _ {W : Type 0} where
                   (few (length (tags n l)) l.waiting)
                   (key_of_entry (who.0, Some w) (take (length (tags n l)) l.waiting) first)),
             )
+
+    -- several, one after another: whoever was told is told still
+    still_told : (n : ℕ) (l : Listeners W) (key : Key) → IsAmong key (keys_of l.told) → IsAmong key (keys_of (told_more n l).told)
+    still_told zero l key h = h
+    still_told (suc n) l key h = still_told n (told_one l) key (keys_left key l.told (new (record { additional = true; tag = tt }) l) h)
+
+    pub more_pass : (n : ℕ) (l : Listeners W) → Tells line l (told_more n l) (told_more_wakes n l) had task
+    more_pass zero l = same_list line l had task
+    more_pass (suc n) l =
+        let rest = more_pass n (told_one l) in
+        record {
+          told = λ key other h. still_told (suc n) l key h;
+          tasks = λ key w h. tasks key w (rest.tasks key w h);
+          woken = λ w h. woken rest w (among_of w (told_one_wakes l) (told_more_wakes n (told_one l)) h);
+        }
+      where
+        one : Tells line l (told_one l) (told_one_wakes l) had task
+        one = passes (record { additional = true; tag = tt }) l
+
+        back : (key : Key) (w : W) → IsAmong (key, Some w) (told_one l).waiting → IsAmong (key, Some w) l.waiting
+        back key w h = among_drop (length (tags (record { additional = true; tag = tt }) l)) (key, Some w) l.waiting h
+
+        tasks : (key : Key) (w : W) → IsAmong (key, Some w) (told_one l).waiting ⊎ ((had ≡ on line key) × (task ≡ Some w))
+            → IsAmong (key, Some w) l.waiting ⊎ ((had ≡ on line key) × (task ≡ Some w))
+        tasks key w (inl h) = one.tasks key w h
+        tasks key w (inr h) = inr h
+
+        woken : Tells line (told_one l) (told_more n (told_one l)) (told_more_wakes n (told_one l)) had task
+            → (w : W) → IsAmong w (told_one_wakes l) ⊎ IsAmong w (told_more_wakes n (told_one l))
+            → (key : Key) × IsAmong (key, Some w) l.waiting × IsAmong key (keys_of (told_more n (told_one l)).told)
+        woken rest w (inl h) = let who = one.woken w h in (who.0, who.1, still_told n (told_one l) who.0 who.2)
+        woken rest w (inr h) = let who = rest.woken w h in (who.0, back who.0 w who.1, who.2)
 
     pub all_pass : (l : Listeners W) → Tells line l (told_all l) (told_all_wakes l) had task
     all_pass l =

@@ -6,7 +6,7 @@ use Rattle.event_listener.specs.Lists.{listened, registration, removed, removed_
 use Rattle.event_listener.specs.declared.key.Key.{Key}
 use Rattle.channel_calls.specs.Marks.{up, down}
 use Rattle.channel_calls.specs.Moves.{Channel, Effect, queued, untouched, on_line, on_count, leaves, Inserts, Worked, Moves}
-use Rattle.channel_calls.specs.Parts.{Roster, Listeners, listeners, with_listeners, with_count, count, is_raised, told_one, told_one_wakes, told_all, told_all_wakes}
+use Rattle.channel_calls.specs.Parts.{Roster, Listeners, listeners, with_listeners, with_count, count, is_raised, told_one, told_one_wakes, told_more, told_more_wakes, told_all, told_all_wakes}
 use Rattle.channel_calls.specs.Turns.{line_of}
 use Rattle.channel_calls.specs.declared.mark.Mark.{Mark}
 use Rattle.channel_calls.specs.declared.reply.Reply.{Reply}
@@ -19,11 +19,11 @@ use Rattle.channel_calls.specs.declared.stage.Stage.{Stage}
 use Rattle.channel_calls.specs.declared.stage.Stage.TheVariants.{Trying, Working, Finished}
 use Rattle.channel_calls.specs.declared.stage.Waiting.{Waiting}
 use Rattle.channel_calls.specs.declared.stage.Work.{Work}
-use Rattle.channel_calls.specs.declared.stage.Work.TheVariants.{TellReceive, TellStreams, TellSend, TellAll, Insert, Register, Leave, Lower, Count, Load, Raise}
+use Rattle.channel_calls.specs.declared.stage.Work.TheVariants.{TellReceive, TellStreams, TellSend, TellSends, TakeRoom, TellAll, Insert, Register, Leave, Lower, Count, Load, Raise}
 use Rattle.channel_interleaving.specs.Owners.{IsAmong, holding, task_at, WaitsFor}
 use Rattle.channel_interleaving.specs.OwnerWoken.{IsTold}
 use Rattle.channel_interleaving.proofs.OwnerKeys.{on}
-use Rattle.channel_interleaving.proofs.OwnerWokenLists.{Tells, passes, all_pass, leaves_list, comes_in, registers_on}
+use Rattle.channel_interleaving.proofs.OwnerWokenLists.{Tells, passes, more_pass, all_pass, leaves_list, comes_in, registers_on}
 
 module _ {W : Type 0} where
   told_on : (line at : Line) (l : Listeners W) (names : List W) (r : Roster W) (had : Option Held) (task : Option W)
@@ -114,6 +114,12 @@ module _ {T W : Type 0} where
     tells_one_more at had = on_one at (told_one (listeners at c.roster)) (told_one_wakes (listeners at c.roster)) c had None
         (passes at had None (record { additional = true; tag = tt }) (listeners at c.roster))
 
+    tells_several : (at : Line) (n : ℕ) (had : Option Held)
+        → Follows c (on_line at (told_more n (listeners at c.roster)) (told_more_wakes n (listeners at c.roster)) c).channel
+        (told_more_wakes n (listeners at c.roster)) had None
+    tells_several at n had = on_one at (told_more n (listeners at c.roster)) (told_more_wakes n (listeners at c.roster)) c had None
+        (more_pass at had None n (listeners at c.roster))
+
     tells_them_all : (at : Line) (had : Option Held)
         → Follows c (on_line at (told_all (listeners at c.roster)) (told_all_wakes (listeners at c.roster)) c).channel
         (told_all_wakes (listeners at c.roster)) had None
@@ -146,6 +152,8 @@ module _ {T W : Type 0} where
     works (TellReceive y) e r s h = as_it y.held None e _ h.0 (tells_one_more Receives y.held)
     works (TellStreams y) e r s h = as_it y.held None e _ h.0 (tells_them_all Streams y.held)
     works (TellSend y) e r s h = as_it y.held None e _ h.0 (tells_one_more Sends y.held)
+    works (TellSends n y) e r s h = as_it y.held None e _ h.0 (tells_several Sends n y.held)
+    works (TakeRoom n) e r s h = as_it None None e _ h.0 (as_before c c None None (λ line. refl))
     works (TellAll line closer) e r s h = as_it _ None e _ h.0 (tells_them_all line _)
     works (Insert w task) e r s h = inserts w task e r s h
     works (Register w key task) e r s h =

@@ -1,5 +1,8 @@
 -- Messages that come in, and those that calls under way may yet bring, over steps, over beginnings and over a call made alone.
-use Rattle.std.proofs.Common.{arith, ◌≡◌, ℕ, ◌+◌, ◌≤◌, ◌==◌, nat_lt, Bool, true, false, if◌then◌else◌, List, [], ◌∷◌, ◌++◌, map, length, Option, None, Some, Ok, Err, inl, inr, ◌⊎◌, refl, sym, ap, ◌∙◌, subst}
+use Rattle.channel_calls.specs.Several.{Gathered, with_last}
+use Rattle.channel_calls.specs.declared.error.TryRecvError.{TryRecvError}
+use Rattle.channel_calls.specs.declared.error.TryRecvError.TheVariants as try_recv_error
+use Rattle.std.proofs.Common.{zero, suc, arith, ◌≡◌, ℕ, ◌+◌, ◌≤◌, ◌==◌, nat_lt, Bool, true, false, if◌then◌else◌, List, [], ◌∷◌, ◌++◌, map, length, Option, None, Some, Ok, Err, inl, inr, ◌⊎◌, refl, sym, ap, ◌∙◌, subst}
 use Rattle.std.specs.Option.{option_map, option_map_or}
 use Rattle.concurrent_queue.specs.Queue.{Queue, Phase, trying, displaced, appended, taken, read, measured, ContinuesBy, AnswersTo, Continues, Answers, after}
 use Rattle.concurrent_queue.specs.Queue as queue
@@ -13,12 +16,12 @@ use Rattle.concurrent_queue.specs.declared.error.PushError.TheVariants as push_e
 use Rattle.concurrent_queue.specs.declared.error.ForcePushError.TheVariants as force_error
 use Rattle.concurrent_queue.specs.declared.error.PopError.TheVariants as pop_error
 use Rattle.event_listener.specs.declared.key.Key.{Key}
-use Rattle.channel_calls.specs.Answered.{sent_next, forced_next, received_next, send_next, receive_next, stream_next, closing_next, polled_next, closed_next, asked_next, terminated_next, upgraded_next, answered_next}
+use Rattle.channel_calls.specs.Answered.{sent_next, forced_next, received_next, gathered_next, short_next, several_next, send_next, receive_next, stream_next, closing_next, polled_next, closed_next, asked_next, terminated_next, upgraded_next, answered_next}
 use Rattle.channel_calls.specs.Asks.{first}
 use Rattle.channel_calls.specs.Marks.{mark_of_queue, up}
-use Rattle.channel_calls.specs.Moves.{Channel, Effect, untouched, on_count, tells_one, tells_all, listens, registers, leaves, lowers, raises, Turned, Worked, Moves}
+use Rattle.channel_calls.specs.Moves.{Channel, Effect, untouched, on_count, tells_one, tells_more, tells_all, listens, registers, leaves, lowers, raises, Turned, Worked, Moves}
 use Rattle.channel_calls.specs.Parts.{listeners, count, is_raised, waits}
-use Rattle.channel_calls.specs.Turns.{most, leaving, nothing_kept, line_of, ask_of, closer_ending, dropper, ends_by, again, refused_next, pends_by, unlistened, told_all_next, lowered_next, counted_next, loaded_next, raised_next}
+use Rattle.channel_calls.specs.Turns.{most, leaving, nothing_kept, line_of, ask_of, closer_ending, dropper, ends_by, again, refused_next, pends_by, unlistened, told_all_next, room_next, roomless, lowered_next, counted_next, loaded_next, raised_next}
 use Rattle.channel_calls.specs.declared.ask.ChannelAsk.{ChannelAsk}
 use Rattle.channel_calls.specs.declared.ask.ChannelAsk.TheVariants as channel
 use Rattle.channel_calls.specs.declared.mark.Mark.{Mark}
@@ -43,7 +46,7 @@ use Rattle.channel_calls.specs.declared.stage.Turn.TheVariants.{Tries, Works, En
 use Rattle.channel_calls.specs.declared.stage.Waiting.{Waiting}
 use Rattle.channel_calls.specs.declared.stage.Waiting.TheVariants as waiting
 use Rattle.channel_calls.specs.declared.stage.Work.{Work}
-use Rattle.channel_calls.specs.declared.stage.Work.TheVariants.{TellReceive, TellStreams, TellSend, TellAll, Insert, Register, Leave, Lower, Count, Load, Raise}
+use Rattle.channel_calls.specs.declared.stage.Work.TheVariants.{TellReceive, TellStreams, TellSend, TellSends, TakeRoom, TellAll, Insert, Register, Leave, Lower, Count, Load, Raise}
 use Rattle.channel_steps.specs.Count.{brought_in}
 use Rattle.channel_steps.specs.Run.{Begins, begun}
 use Rattle.channel_steps.specs.Scene.{Under, Scene, Steps, sees, does, unless_ended, brought}
@@ -219,6 +222,20 @@ module _ {T : Type 0} (W : Type 0) where
   received_yet (answer.Pop (Err pop_error.Closed)) = omega arith
   received_yet r = omega arith
 
+  gathered_yet : (vs : List T) (n : ℕ) → yet_after (let t : Turn T W = gathered_next (with_last vs n) in t) ≡ 0
+  gathered_yet vs zero = refl
+  gathered_yet vs (suc n) = refl
+
+  short_yet : (vs : List T) (e : TryRecvError) → yet_after (let t : Turn T W = short_next vs e in t) ≡ 0
+  short_yet [] e = refl
+  short_yet (v ∷ vs) e = refl
+
+  several_yet : (r : QueueReply T) (g : Gathered T) → FewYet (let t : Turn T W = several_next r g in t) r
+  several_yet (answer.Pop (Ok m)) g = let none = gathered_yet (g.taken ++ m ∷ []) g.more in omega (arith, none)
+  several_yet (answer.Pop (Err pop_error.Empty)) g = let none = short_yet g.taken try_recv_error.Empty in omega (arith, none)
+  several_yet (answer.Pop (Err pop_error.Closed)) g = let none = short_yet g.taken try_recv_error.Closed in omega (arith, none)
+  several_yet r g = omega arith
+
   closed_yet : (r : QueueReply T) (c : Closer) → FewYet (let t : Turn T W = closed_next r c in t) r
   closed_yet (answer.Close true) c = omega arith
   closed_yet (answer.Close false) c = let none : yet_after (let t : Turn T W = ends_by (closer_ending c false) in t) ≡ 0 = ended_yet (closer_ending c false) in omega (arith, none)
@@ -274,10 +291,11 @@ no_more : (n m : ℕ) → n ≡ 0 → n ≤ m
 no_more n m e = omega (arith, e)
 
 module _ {T W : Type 0} where
-  answered_yet : (a : Aim W) (r : QueueReply T) → FewYet (answered_next a r) r
+  answered_yet : (a : Aim T W) (r : QueueReply T) → FewYet (answered_next a r) r
   answered_yet aim.TrySend r = sent_yet W r
   answered_yet aim.ForceSend r = forced_yet W r
   answered_yet aim.TryRecv r = received_yet W r
+  answered_yet (aim.RecvMany g) r = several_yet W r g
   answered_yet (aim.Poll line key task) r = polled_yet line r key task
   answered_yet (aim.Close c) r = closed_yet W r c
   answered_yet aim.Ask r = asked_yet W r
@@ -343,6 +361,10 @@ module _ {T W : Type 0} where
   registered_yet false waiting.Stream key task = omega arith
   registered_yet false waiting.Closing key task = omega arith
 
+  room_yet : (n : ℕ) (t : Turn T W) → t ≡ room_next n → yet_after t ≤ 0
+  room_yet zero t e = subst (λ (x : Turn T W). yet_after x ≤ 0) (sym e) (omega arith)
+  room_yet (suc n) t e = subst (λ (x : Turn T W). yet_after x ≤ 0) (sym e) (omega arith)
+
   worked : (c : Channel T W) (w : Work T W) (e : Effect T W) (r : Option (Reply T)) (s : Stage (Phase T) T W) → Worked c w e r s
       → Brings c (Working w) e s
   worked c (TellReceive x) e r s h =
@@ -350,6 +372,9 @@ module _ {T W : Type 0} where
   worked c (TellStreams x) e r s h =
       works c (TellStreams x) e (tells_all Streams c) r s (ends_by x) h.0 refl refl h.1 (no_more _ 0 (ended_yet W x))
   worked c (TellSend x) e r s h = works c (TellSend x) e (tells_one Sends c) r s (ends_by x) h.0 refl refl h.1 (no_more _ 0 (ended_yet W x))
+  worked c (TellSends n x) e r s h = works c (TellSends n x) e (tells_more n Sends c) r s (ends_by x) h.0 refl refl h.1 (no_more _ 0 (ended_yet W x))
+  worked c (TakeRoom n) e r s (h, inl t) = works c (TakeRoom n) e (untouched c) r s (room_next n) h refl refl t (room_yet n (room_next n) refl)
+  worked c (TakeRoom n) e r s (h, inr t) = works c (TakeRoom n) e (untouched c) r s roomless h refl refl t.1 (omega arith)
   worked c (TellAll line y) e r s h =
       works c (TellAll line y) e (tells_all line c) r s (told_all_next line y) h.0 refl refl h.1 (no_more _ 0 (told_yet T W line y))
   worked c (Insert w task) e r s (inl h) =

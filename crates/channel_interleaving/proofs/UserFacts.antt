@@ -250,6 +250,7 @@ module _ {T : Type 0} where
     begun_few (call.TrySend sender msg) = once sender
     begun_few (call.ForceSend sender msg) = once sender
     begun_few (call.TryRecv receiver) = once receiver
+    begun_few (call.RecvMany receiver limit) = once receiver
     begun_few (call.Close handle) = once handle
     begun_few (call.Drop handle) =
         more_few now (λ name. length r.operations + (n name + 0)) (without handle.0 r.handles) (λ name. omega arith)

@@ -5,11 +5,12 @@ use Rattle.event_listener.specs.Lists.{Notice, same_key, tasks_of, told_as, move
 use Rattle.event_listener.specs.Notices.{Woken}
 use Rattle.event_listener.specs.declared.key.Key.{Key}
 use Rattle.channel_calls.specs.Moves.{Channel}
-use Rattle.channel_calls.specs.Parts.{Listeners, listeners}
+use Rattle.channel_calls.specs.Parts.{Listeners, listeners, told_more_wakes}
+use Rattle.channel_calls.proofs.Interface.{woken_firsts}
 use Rattle.channel_calls.specs.declared.stage.Held.{Held}
 use Rattle.channel_calls.specs.declared.stage.Line.{Line}
 use Rattle.channel_model.specs.declared.name.Waiter.{Waiter}
-use Rattle.channel_steps.specs.Tellings.{Telling, one_of, all_of, Names}
+use Rattle.channel_steps.specs.Tellings.{Telling, more_of, all_of, Names}
 use Rattle.channel_interleaving.specs.Woken.{Hears}
 use Rattle.channel_interleaving.specs.declared.woken.Woken.{Woken as Sink}
 
@@ -79,6 +80,11 @@ module _ {W : Type 0} where
   few_passed : (notice : Notice Unit) (l : Listeners W) → length (passed_wakes notice l) ≤ length l.waiting
   few_passed notice l = omega (arith, few_tasks (take (moved notice.additional 1 l) l.waiting), few_taken (moved notice.additional 1 l) l.waiting)
 
+  few_more : (n : ℕ) (l : Listeners W) → length (told_more_wakes n l) ≤ length l.waiting
+  few_more n l =
+      let woken : length (told_more_wakes n l) ≡ length (tasks_of (take n l.waiting)) = ap (λ (ws : List W). length ws) (woken_firsts n l) in
+      omega (arith, woken, few_tasks (take n l.waiting), few_taken n l.waiting)
+
   few_removed : (key : Key) (l : Listeners W) → length (removed_wakes key true l) ≤ length l.waiting
   few_removed key l = by (told_as l key) where
     by : (o : Option (Notice Unit)) → length {A = W} (elim o [ Some notice ↦ passed_wakes notice (without key l) | None ↦ [] ]) ≤ length l.waiting
@@ -88,7 +94,7 @@ module _ {W : Type 0} where
 -- no step wakes more than listen on the longest list
 module _ {T W : Type 0} (n : ℕ) (c : Channel T W) (most : (line : Line) → length (listeners line c.roster).waiting ≤ n) where
   pub few_woken : (ts : List Telling) (h : Option Held) (names : List W) → Names ts h c names → length names ≤ n
-  few_woken (one_of line ∷ ts) h names e = let len = ap length e in omega (arith, len, few_passed (record { additional = true; tag = tt }) (listeners line c.roster), most line)
+  few_woken (more_of k line ∷ ts) h names e = let len = ap length e in omega (arith, len, few_more k (listeners line c.roster), most line)
   few_woken (all_of line ∷ ts) h names e = let len = ap length e in omega (arith, len, few_tasks (listeners line c.roster).waiting, most line)
   few_woken [] (Some h) names e = let len = ap length e in omega (arith, len, few_removed h.key (listeners h.line c.roster), most h.line)
   few_woken [] None names e = let len = ap length e in omega (arith, len)

@@ -72,6 +72,7 @@ module _ {T : Type 0} where
   errand_of r (call.TrySend sender msg) = Leave sender
   errand_of r (call.ForceSend sender msg) = Leave sender
   errand_of r (call.TryRecv receiver) = Leave receiver
+  errand_of r (call.RecvMany receiver limit) = Leave receiver
   errand_of r (call.Close handle) = Leave handle
   errand_of r (call.Drop handle) = Nothing
   errand_of r (call.TryClone handle new) = new_from handle new (λ k. k) (handle_at handle r)
@@ -121,6 +122,7 @@ module _ {T : Type 0} where
   names_begun r (call.TrySend sender msg) = with_lent sender r
   names_begun r (call.ForceSend sender msg) = with_lent sender r
   names_begun r (call.TryRecv receiver) = with_lent receiver r
+  names_begun r (call.RecvMany receiver limit) = with_lent receiver r
   names_begun r (call.Close handle) = with_lent handle r
   names_begun r (call.Drop handle) = record r { handles = without handle.0 r.handles }
   names_begun r (call.TryClone handle new) = with_lent handle (handle_named new r)

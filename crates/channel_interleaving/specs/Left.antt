@@ -2,7 +2,7 @@
 use Rattle.std.specs.Prelude.{ℕ, ◌==◌, List, [], ◌∷◌, if◌then◌else◌}
 use Rattle.channel_calls.specs.Parts.{Parts}
 use Rattle.channel_model.specs.declared.name.Waiter.{Waiter}
-use Rattle.channel_steps.specs.Left.{party_left}
+use Rattle.channel_steps.specs.Left.{party_left, most_wanted}
 use Rattle.channel_steps.specs.Scene.{Under}
 use Rattle.channel_steps.specs.declared.party.Party.{Party}
 
@@ -11,6 +11,11 @@ module _ {T : Type 0} where
   abbrev pub others_of : ℕ → List (Under T Waiter) → List (Under T Waiter)
   others_of p [] = []
   others_of p (u ∷ us) = if u.party == p then us else u ∷ others_of p us
+
+  -- how many messages the call of this party may take more than one
+  abbrev pub wanted_of : ℕ → List (Under T Waiter) → ℕ
+  wanted_of p [] = 0
+  wanted_of p (u ∷ us) = if u.party == p then most_wanted u.ask else wanted_of p us
 
   -- the steps that are left to the call of this party; none where it has none under way
   abbrev pub left_of : ℕ → Parts T Waiter → List (Party T Waiter) → ℕ

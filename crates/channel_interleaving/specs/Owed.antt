@@ -1,5 +1,5 @@
 -- The wake-ups owed to those who are pending and were not woken since their last poll, by names.
-use Rattle.std.specs.Prelude.{◌≡◌, ℕ, ◌+◌, ◌≤◌, Bool, true, false, ◌&&◌, List, [], ◌++◌, map, length, ◌⊎◌}
+use Rattle.std.specs.Prelude.{◌≡◌, ℕ, ◌+◌, ◌≤◌, Bool, true, false, ◌&&◌, List, [], ◌∷◌, ◌++◌, map, length, ◌⊎◌}
 use Rattle.std.specs.List.{count_by}
 use Rattle.std.specs.Map.{keys_of}
 use Rattle.event_listener.specs.declared.key.Key.{Key}
@@ -13,6 +13,7 @@ use Rattle.channel_model.specs.declared.name.Waiter.{Waiter}
 use Rattle.channel_model.specs.declared.name.Waiter.TheVariants.{Op, Stream}
 use Rattle.channel_steps.specs.Moments.{Open, Shut}
 use Rattle.channel_steps.specs.Scene.{Under, Scene}
+use Rattle.channel_steps.specs.Tellings.{Telling, takings}
 use Rattle.channel_laws.specs.Closings.{HasClosed}
 use Rattle.channel_laws.specs.Sends.{HasPlaces}
 use Rattle.channel_interleaving.specs.Owners.{Post, free, vacant, amiss, rests, waits, polled, post, AnyOf}
@@ -27,6 +28,11 @@ is_woken_on line vacant = false
 is_woken_on line amiss = false
 is_woken_on line (rests l) = false
 is_woken_on line (polled l) = false
+
+-- nothing, once the call has told somebody
+abbrev pub unless_told : List Telling → ℕ → ℕ
+unless_told [] n = n
+unless_told (t ∷ ts) n = 0
 
 module _ {T : Type 0} where
   -- the names that were ever taken
@@ -47,14 +53,23 @@ module _ {T : Type 0} where
   is_sending (ask.GiveUp Sends message key) = true
   is_sending a = false
 
-  -- a receive, a poll of a stream, and a poll or the giving up of a receive
+  -- a receive of one message or of several, a poll of a stream, and a poll or the giving up of a receive
   abbrev pub is_receiving : ChannelAsk T Waiter → Bool
   is_receiving ask.TryRecv = true
+  is_receiving (ask.RecvMany n) = true
   is_receiving (ask.PollNext key task) = true
   is_receiving (ask.PollRecv key task) = true
   is_receiving (ask.RefusePoll Receives message key) = true
   is_receiving (ask.GiveUp Receives message key) = true
   is_receiving a = false
+
+  -- the places that a call has freed by takings, while it has not run its section on the sends' list
+  abbrev pub unannounced : Under T Waiter → ℕ
+  unannounced u = unless_told u.told (takings u.deeds)
+
+  abbrev pub all_unannounced : List (Under T Waiter) → ℕ
+  all_unannounced [] = 0
+  all_unannounced (u ∷ us) = unannounced u + all_unannounced us
 
   -- the sending and the receiving calls under way
   abbrev pub at_it : Scene T Waiter → ℕ
@@ -62,15 +77,19 @@ module _ {T : Type 0} where
       count_by (λ (u : Under T Waiter). is_sending u.ask) s.under_way
       + count_by (λ (u : Under T Waiter). is_receiving u.ask) s.under_way
 
+  -- the sending calls under way, and the places that calls under way have freed and not announced yet
+  abbrev pub to_send : Scene T Waiter → ℕ
+  to_send s = count_by (λ (u : Under T Waiter). is_sending u.ask) s.under_way + all_unannounced s.under_way
+
   -- Where one is pending that was not woken since its last poll: of a receive, there are no more messages than woken pending
-  -- receives and sending and receiving calls under way; of a send, where the channel is open, it has a bound, and no more
-  -- places than messages, woken pending sends and those calls; of a stream, there is no message, or a sending call is under
-  -- way; of any, where the channel is closed, the call that closed it is under way.
+  -- receives and sending and receiving calls under way; of a send, where the channel is open, it has a bound, and no more places
+  -- than messages, woken pending sends, sending calls under way, and places that were freed and not announced yet; of a stream,
+  -- there is no message, or a sending call is under way; of any, where the channel is closed, the call that closed it is under way.
   pub record Owed (b : Book T) (s : Scene T Waiter) : Type 0 where
     pub receives : (w : Waiter) (key : Key) → post b.roll w ≡ waits (record { line = Receives; key = key }) false → length s.now.queue.items ≤ woken_on Receives b.roll + at_it s
     pub sends :
         (w : Waiter) (key : Key) → post b.roll w ≡ waits (record { line = Sends; key = key }) false → Open s.now
-        → HasPlaces s.now.queue.capacity (length s.now.queue.items + (woken_on Sends b.roll + at_it s))
+        → HasPlaces s.now.queue.capacity (length s.now.queue.items + (woken_on Sends b.roll + to_send s))
     pub streams :
         (w : Waiter) (key : Key) → post b.roll w ≡ waits (record { line = Streams; key = key }) false
         → (s.now.queue.items ≡ []) ⊎ AnyOf (λ u. is_sending u.ask ≡ true) s.under_way

@@ -19,7 +19,7 @@ use Rattle.channel_calls.specs.declared.stage.Side.TheVariants.{Senders, Receive
 use Rattle.channel_calls.specs.declared.stage.Stage.{Stage}
 use Rattle.channel_calls.specs.declared.stage.Stage.TheVariants.{Trying, Working, Finished}
 use Rattle.channel_calls.specs.declared.stage.Work.{Work}
-use Rattle.channel_calls.specs.declared.stage.Work.TheVariants.{TellReceive, TellStreams, TellSend, TellAll, Insert, Register, Leave, Lower, Count, Load, Raise}
+use Rattle.channel_calls.specs.declared.stage.Work.TheVariants.{TellReceive, TellStreams, TellSend, TellSends, TakeRoom, TellAll, Insert, Register, Leave, Lower, Count, Load, Raise}
 use Rattle.channel_model.specs.declared.name.HandleKind.{HandleKind}
 use Rattle.channel_model.specs.declared.name.HandleKind.TheVariants as handle_kind
 use Rattle.channel_model.specs.declared.name.Waiter.{Waiter}
@@ -109,27 +109,30 @@ closer_holds closer.Call = None
 closer_holds closer.Sender = None
 closer_holds (closer.Receiver key) = held_on Streams key
 
-module _ {W : Type 0} where
-  abbrev pub aim_holds : Aim W → Option Held
+module _ {T W : Type 0} where
+  abbrev pub aim_holds : Aim T W → Option Held
   aim_holds (aim.Poll line key task) = held_on line key
   aim_holds (aim.Close c) = closer_holds c
   aim_holds aim.TrySend = None
   aim_holds aim.ForceSend = None
   aim_holds aim.TryRecv = None
+  aim_holds (aim.RecvMany g) = None
   aim_holds aim.Ask = None
   aim_holds aim.IsTerminated = None
   aim_holds (aim.Upgrade side) = None
 
-  abbrev pub aim_task : Aim W → Option W
+  abbrev pub aim_task : Aim T W → Option W
   aim_task (aim.Poll line key task) = Some task
   aim_task (aim.Close c) = None
   aim_task aim.TrySend = None
   aim_task aim.ForceSend = None
   aim_task aim.TryRecv = None
+  aim_task (aim.RecvMany g) = None
   aim_task aim.Ask = None
   aim_task aim.IsTerminated = None
   aim_task (aim.Upgrade side) = None
 
+module _ {W : Type 0} where
   -- the task of its listener is that of its operation
   abbrev pub Bears : Option W → Option (Line × W) → Type 0
   Bears None wait = Unit {0}
@@ -140,6 +143,8 @@ module _ {T W : Type 0} where
   work_holds (TellReceive x) = x.held
   work_holds (TellStreams x) = x.held
   work_holds (TellSend x) = x.held
+  work_holds (TellSends n x) = x.held
+  work_holds (TakeRoom n) = None
   work_holds (TellAll line c) = closer_holds c
   work_holds (Insert w task) = None
   work_holds (Register w key task) = Some (record { line = line_of w; key = key })
@@ -162,6 +167,8 @@ module _ {T W : Type 0} where
   work_task (TellReceive x) = None
   work_task (TellStreams x) = None
   work_task (TellSend x) = None
+  work_task (TellSends n x) = None
+  work_task (TakeRoom n) = None
   work_task (TellAll line c) = None
   work_task (Leave x) = None
   work_task (Lower side key) = None

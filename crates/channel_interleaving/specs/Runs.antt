@@ -1,12 +1,12 @@
 -- Runs: what may follow from steps of many parties in any order, by names, and what holds at each moment of them.
-use Rattle.std.specs.Prelude.{◌≡◌, ℕ, ◌+◌, ◌<◌, ◌≤◌, List, [], ◌∷◌, None}
+use Rattle.std.specs.Prelude.{◌≡◌, ℕ, ◌+◌, ◌*◌, ◌<◌, ◌≤◌, List, [], ◌∷◌, None}
 use Rattle.channel_calls.specs.Parts.{Parts}
 use Rattle.channel_model.specs.declared.name.Waiter.{Waiter}
 use Rattle.channel_steps.specs.Count.{brought_in, taken_out}
 use Rattle.channel_steps.specs.Run.{Touches}
 use Rattle.channel_steps.specs.Scene.{Scene, HoldNobodyUp}
 use Rattle.channel_interleaving.specs.Kept.{AllKept}
-use Rattle.channel_interleaving.specs.Left.{others_of}
+use Rattle.channel_interleaving.specs.Left.{others_of, wanted_of}
 use Rattle.channel_interleaving.specs.Owed.{Owed}
 use Rattle.channel_interleaving.specs.Run.{Book, Made, channel_step}
 use Rattle.channel_interleaving.specs.declared.step.Entry.{Entry}
@@ -22,9 +22,10 @@ pub record Moment (T : Type 0) : Type 0 where
   pub left : ℕ → ℕ
 
 module _ {T : Type 0} where
-  -- no call has more steps of its own left than these, where nobody holds it up
+  -- no call has more steps of its own left than these, where nobody holds it up: 64 more for each message that it may take more
+  -- than one
   abbrev pub FewLeft : Moment T → Type 0
-  FewLeft m = (party : ℕ) → m.left party ≤ 197
+  FewLeft m = (party : ℕ) → m.left party ≤ 197 + 64 * wanted_of party m.scene.under_way
 
   -- what holds at every moment: all that is kept, the wake-ups that are owed, and how few steps are left
   pub record Holds (m : Moment T) : Type 0 where

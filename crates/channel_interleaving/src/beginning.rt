@@ -8,10 +8,12 @@ ghost use Rattle.channel_interleaving.specs.Bookkeeping.{polled_ask, own_message
 use crate::names::{Errand, Operation, OperationKind, Standing};
 use crate::roll::Roll;
 use channel_calls::ask::ChannelAsk;
+use channel_calls::several::Limit;
 use channel_calls::stage::{Line, Side};
 use channel_model::call::Call;
 use channel_model::name::{Handle, HandleId, HandleKind, OpId, Waiter};
 use event_listener::key::Key;
+use std::alloc::Global;
 
 /// What a call that begins asks of the channel, and what it will have to write back.
 #[derive(Drop)]
@@ -328,8 +330,8 @@ impl<T: Drop> Roll<T> {
     }
 
     /// A call that is not refused begins; or it comes back where its new name found no room, with nothing changed. One that
-    /// comes back gives and takes no place.
-    pub(crate) fn begin(&mut self, call: Call<T>) -> Result<Begun<T>, Call<T>>
+    /// comes back gives and takes no place. A receive of several messages takes its room from `alloc`, at its first step.
+    pub(crate) fn begin(&mut self, call: Call<T>, alloc: Global) -> Result<Begun<T>, Call<T>>
         requires { names_taken self.old call ≡ false }
         ensures ok { IfOk result (λ b. Begins self.old call b self.new) }
         ensures err { OnErr result (self.new ≡ self.old) }
@@ -380,6 +382,9 @@ impl<T: Drop> Roll<T> {
                 Ok(self.through(sender, ChannelAsk::ForceSend(msg)))
             }
             Call::TryRecv { receiver } => Ok(self.through(receiver, ChannelAsk::TryRecv)),
+            Call::RecvMany { receiver, limit } => {
+                Ok(self.through(receiver, ChannelAsk::RecvMany(Limit::new(limit, alloc))))
+            }
             Call::StreamIsTerminated { receiver } => {
                 Ok(self.through(receiver, ChannelAsk::IsTerminated))
             }

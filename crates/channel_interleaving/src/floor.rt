@@ -131,7 +131,7 @@ impl<T: Drop> Floor<T> {
         let Ok(()) = self.order.begin(&call) else {
             return Err(call);
         };
-        let Begun { ask, errand } = self.roll.begin(call)?;
+        let Begun { ask, errand } = self.roll.begin(call, self.alloc)?;
         append(
             &mut self.agents,
             Agent {

@@ -38,7 +38,7 @@ impl<T: Drop> Floor<T> {
         let Ok(()) = self.order.begin(&call) else {
             return Err(call);
         };
-        let Begun { ask, errand } = self.roll.begin(call)?;
+        let Begun { ask, errand } = self.roll.begin(call, self.alloc)?;
         let Ended { reply, kept } = run_alone(
             ask,
             &mut self.channel,

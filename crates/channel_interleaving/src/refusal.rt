@@ -140,6 +140,10 @@ impl<T> Roll<T> {
             | Call::PollNext { receiver: handle }
             | Call::StreamIsTerminated { receiver: handle }
             | Call::TryRecv { receiver: handle }
+            | Call::RecvMany {
+                receiver: handle,
+                ..
+            }
             | Call::Close { handle }
             | Call::Drop { handle }
             | Call::TryClone { handle, .. }
@@ -173,7 +177,8 @@ impl<T> Roll<T> {
             Call::NewRecv { receiver, .. }
             | Call::PollNext { receiver }
             | Call::StreamIsTerminated { receiver }
-            | Call::TryRecv { receiver } => self.is_receiver(*receiver),
+            | Call::TryRecv { receiver }
+            | Call::RecvMany { receiver, .. } => self.is_receiver(*receiver),
             Call::Close { handle }
             | Call::Downgrade { handle, .. }
             | Call::IsClosed { handle }
@@ -230,6 +235,10 @@ impl<T> Roll<T> {
             | Call::PollNext { receiver: handle }
             | Call::StreamIsTerminated { receiver: handle }
             | Call::TryRecv { receiver: handle }
+            | Call::RecvMany {
+                receiver: handle,
+                ..
+            }
             | Call::Close { handle }
             | Call::Drop { handle }
             | Call::TryClone { handle, .. }

@@ -126,9 +126,9 @@ impl Fixture {
         if entry.mark == Mark::Append {
             self.accept(self.brings[party as usize % 5]);
         }
-        match entry.reply {
+        match &entry.reply {
             Some(reply) => {
-                self.note(&reply);
+                self.note(reply);
                 Made::Ended
             }
             None => Made::GoesOn,

@@ -7,4 +7,6 @@ mod giving_up;
 #[cfg(test)]
 mod many;
 #[cfg(test)]
+mod refused;
+#[cfg(test)]
 mod rows;

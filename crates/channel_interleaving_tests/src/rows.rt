@@ -39,6 +39,8 @@ enum Said {
     SendClosed(u64),
     /// This message was received.
     Received(u64),
+    /// These two messages were received at once.
+    Two(u64, u64),
     /// The stream gave this message.
     Next(u64),
     /// The channel is closed and has no message.
@@ -55,6 +57,13 @@ enum Said {
     Else,
 }
 
+fn several_say(mut messages: Vec<u64>) -> Said {
+    match (messages.pop(), messages.pop()) {
+        (Some(last), Some(first)) => Said::Two(first, last),
+        _ => Said::Else,
+    }
+}
+
 fn reply_says(reply: Reply<u64>) -> Said {
     match reply {
         Reply::Made => Said::Made,
@@ -65,6 +74,7 @@ fn reply_says(reply: Reply<u64>) -> Said {
         Reply::ForceSend(Ok(displaced)) => Said::Displaced(displaced),
         Reply::TryRecv(Ok(message)) => Said::Received(message),
         Reply::TryRecv(Err(TryRecvError::Closed)) => Said::ReceiveClosed,
+        Reply::RecvMany(Ok(messages)) => several_say(messages.into_vec()),
         Reply::SendPoll(Poll::Ready(Ok(()))) => Said::Sent,
         Reply::SendPoll(Poll::Pending) => Said::Pending,
         Reply::RecvPoll(Poll::Ready(Ok(message))) => Said::Received(message),
@@ -81,10 +91,17 @@ fn reply_says(reply: Reply<u64>) -> Said {
 fn entry_says(entry: Option<Entry<u64>>) -> Said {
     match entry {
         None => Said::Missing,
-        Some(entry) => match entry.reply {
-            None => Said::GoesOn,
-            Some(reply) => reply_says(reply),
-        },
+        Some(entry) => {
+            let Entry {
+                mark: _,
+                reply,
+                woken: _,
+            } = entry;
+            match reply {
+                None => Said::GoesOn,
+                Some(reply) => reply_says(reply),
+            }
+        }
     }
 }
 
@@ -172,6 +189,23 @@ impl Fixture {
         self.run(&mut list)
     }
 
+    /// A party begins a call and makes its steps up to its reply, 65 of them at most.
+    fn whole(&mut self, party: u32, call: Call<u64>) -> Said {
+        let said = self.begin(party, call, 1);
+        self.ended(party, said)
+    }
+
+    /// What the call of a party says at its end, if it goes on, or what it said. It makes 64 steps at most.
+    fn ended(&mut self, party: u32, said: Said) -> Said {
+        let mut said = said;
+        for _ in 0..64 {
+            if said == Said::GoesOn {
+                said = self.go_on(party, 1);
+            }
+        }
+        said
+    }
+
     fn numbers(&self) -> Numbers {
         Numbers {
             messages: self.channel.messages(),
@@ -214,6 +248,20 @@ fn try_send(msg: u64) -> Call<u64> {
 
 fn try_recv() -> Call<u64> {
     Call::TryRecv { receiver: RECEIVER }
+}
+
+fn recv_many(limit: usize) -> Call<u64> {
+    Call::RecvMany {
+        receiver: RECEIVER,
+        limit,
+    }
+}
+
+fn force_send(msg: u64) -> Call<u64> {
+    Call::ForceSend {
+        sender: SENDER,
+        msg,
+    }
 }
 
 fn poll_next() -> Call<u64> {
@@ -277,6 +325,133 @@ fn a_taking_wakes_the_send_that_still_waits(rt: HostRuntime) -> Result<(), Fail>
     assert_eq!(rt; all.woken.as_slice(), [Waiter::Op(OpId(1))].as_slice());
     assert_eq!(rt; all.begin(2, poll(1), 6), Said::Sent);
     assert!(rt; all.channel.is_quiet());
+    Ok(())
+}
+
+/// Where a receive of several stands beside a send that displaces.
+#[derive(Clone, Copy, PartialEq, Eq, Debug)]
+enum Beside {
+    Before,
+    After,
+    /// A message was lost, or left out of turn.
+    Wrong,
+}
+
+/// A full channel of two places: a send that displaces makes so many steps, several are received at once, and the send goes on.
+fn several_beside_a_displacing_send(steps: usize, alloc: Global) -> Result<Beside, Fail> {
+    let mut all = bounded(2, alloc)?;
+    let filled = [all.whole(0, try_send(1)), all.whole(0, try_send(2))];
+    let mut forced = all.begin(0, force_send(3), 1);
+    for _ in 0..steps {
+        if forced == Said::GoesOn {
+            forced = all.go_on(0, 1);
+        }
+    }
+    let several = all.whole(1, recv_many(5));
+    let forced = all.ended(0, forced);
+    let several = all.ended(1, several);
+    let rest = all.whole(1, try_recv());
+    Ok(match (filled, several, forced, rest) {
+        ([Said::Sent, Said::Sent], Said::Two(1, 2), Said::Displaced(None), Said::Received(3)) => {
+            Beside::Before
+        }
+        ([Said::Sent, Said::Sent], Said::Two(2, 3), Said::Displaced(Some(1)), Said::Else) => {
+            Beside::After
+        }
+        _ => Beside::Wrong,
+    })
+}
+
+/// What is displaced, what is received at once and what is left are the three messages, each once and in order, wherever the one
+/// call stands between the other's steps. Once the oldest is displaced, several are received with the message that is on its way.
+#[test]
+fn several_at_once_beside_a_displacing_send(rt: HostRuntime) -> Result<(), Fail> {
+    let (mut before, mut after) = (false, false);
+    for steps in 0..12 {
+        let stands = several_beside_a_displacing_send(steps, rt.alloc())?;
+        assert!(rt; stands != Beside::Wrong);
+        before = before || stands == Beside::Before;
+        after = after || stands == Beside::After;
+    }
+    assert!(rt; before && after);
+    Ok(())
+}
+
+/// What is seen while a receive of two messages goes on beside two sends that wait.
+#[derive(Clone, Copy)]
+struct Freed {
+    /// How the channel came to be full, with two sends that wait.
+    filled: [Said; 6],
+    /// After its first taking, after its second, before its telling, and at its end.
+    said: [Said; 4],
+    /// After its first taking, and after its second.
+    numbers: [Numbers; 2],
+    /// How many were woken before its telling, and then.
+    woken: [usize; 2],
+    /// Whether both sends were woken, in order.
+    in_order: bool,
+}
+
+fn free_places(alloc: Global) -> Result<Freed, Fail> {
+    let mut all = bounded(2, alloc)?;
+    let filled = [
+        all.whole(0, try_send(1)),
+        all.whole(0, try_send(2)),
+        all.whole(0, new_send(0, 3)),
+        all.whole(0, poll(0)),
+        all.whole(0, new_send(1, 4)),
+        all.whole(0, poll(1)),
+    ];
+    let first = all.begin(3, recv_many(2), 4);
+    let one_free = all.numbers();
+    let second = all.go_on(3, 5);
+    let two_free = all.numbers();
+    let third = all.go_on(3, 2);
+    let before = all.woken.len();
+    let last = all.go_on(3, 1);
+    let in_order = all.woken.as_slice() == [Waiter::Op(OpId(0)), Waiter::Op(OpId(1))].as_slice();
+    Ok(Freed {
+        filled,
+        said: [first, second, third, last],
+        numbers: [one_free, two_free],
+        woken: [before, all.numbers().woken],
+        in_order,
+    })
+}
+
+/// Two places are free beside two sends that wait, with one call under way and nobody woken: the places that it has not
+/// announced answer for them, and no number of calls does.
+#[test]
+fn several_at_once_free_places_before_they_announce_them(rt: HostRuntime) -> Result<(), Fail> {
+    let freed = free_places(rt.alloc())?;
+    let filled = [
+        Said::Sent,
+        Said::Sent,
+        Said::Made,
+        Said::Pending,
+        Said::Made,
+        Said::Pending,
+    ];
+    let one_free = Numbers {
+        messages: 1,
+        pending: 2,
+        woken: 0,
+        under_way: 1,
+    };
+    let two_free = Numbers {
+        messages: 0,
+        pending: 2,
+        woken: 0,
+        under_way: 1,
+    };
+    assert_eq!(rt; freed.filled, filled);
+    assert_eq!(rt;
+        freed.said,
+        [Said::GoesOn, Said::GoesOn, Said::GoesOn, Said::Two(1, 2)]
+    );
+    assert_eq!(rt; freed.numbers, [one_free, two_free]);
+    assert_eq!(rt; freed.woken, [0, 2]);
+    assert!(rt; freed.in_order);
     Ok(())
 }
 

@@ -63,7 +63,7 @@ module _ {T W : Type 0} where
   abbrev pub Does : Channel T W → Stage (Phase T) T W → Effect T W → Type 0
   Does c at e = Keeps c.queue e.channel.queue × MayStillDo e.mark c at
 
-  may_mark : (c : Channel T W) (f : Phase T) (aim : Aim W) (m : QueueMark) → MayMark m f.stage c.queue → MayStillDo (let e : Effect T W = queued f m c in e.mark) c (Trying f aim)
+  may_mark : (c : Channel T W) (f : Phase T) (aim : Aim T W) (m : QueueMark) → MayMark m f.stage c.queue → MayStillDo (let e : Effect T W = queued f m c in e.mark) c (Trying f aim)
   may_mark c f aim queue.Nothing h = tt
   may_mark c f aim queue.Append h = h
   may_mark c f aim queue.Take h = tt

@@ -18,7 +18,7 @@ use Rattle.channel_calls.specs.declared.stage.Side.TheVariants.{Senders, Receive
 use Rattle.channel_calls.specs.declared.stage.Stage.{Stage}
 use Rattle.channel_calls.specs.declared.stage.Stage.TheVariants.{Trying, Working, Finished}
 use Rattle.channel_calls.specs.declared.stage.Work.{Work}
-use Rattle.channel_calls.specs.declared.stage.Work.TheVariants.{TellReceive, TellStreams, TellSend, TellAll, Insert, Register, Leave, Lower, Count, Load, Raise}
+use Rattle.channel_calls.specs.declared.stage.Work.TheVariants.{TellReceive, TellStreams, TellSend, TellSends, TakeRoom, TellAll, Insert, Register, Leave, Lower, Count, Load, Raise}
 use Rattle.channel_steps.specs.Moments.{Spent}
 use Rattle.channel_laws.specs.Ends.{IsStill}
 
@@ -116,6 +116,8 @@ module _ {T W : Type 0} where
   worked_spares c (TellReceive x) e r s h = spares_as c e _ h.0 (refl, tt)
   worked_spares c (TellStreams x) e r s h = spares_as c e _ h.0 (refl, tt)
   worked_spares c (TellSend x) e r s h = spares_as c e _ h.0 (refl, tt)
+  worked_spares c (TellSends n x) e r s h = spares_as c e _ h.0 (refl, tt)
+  worked_spares c (TakeRoom n) e r s h = spares_as c e _ h.0 (refl, tt)
   worked_spares c (TellAll line closer) e r s h = spares_as c e _ h.0 (refl, tt)
   worked_spares c (Insert w task) e r s (inl h) = spares_as c e _ h.2 (refl, tt)
   worked_spares c (Insert w task) e r s (inr h) = spares_as c e _ h.1 (refl, tt)

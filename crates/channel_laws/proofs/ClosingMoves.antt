@@ -270,10 +270,11 @@ module _ {T W : Type 0} where
   TellsFirst (Works (TellAll Sends closer)) = Unit {0}
   TellsFirst turn = ⊥
 
-  close_next : (x : ChannelAsk T W) (y : Aim W) (ds : List (Deed T W)) (seen : List (Channel T W)) → TriesFor x y ask.Close ds seen → TellsFirst (answered_next y (let r : QueueReply T = answer.Close true in r))
+  close_next : (x : ChannelAsk T W) (y : Aim T W) (ds : List (Deed T W)) (seen : List (Channel T W)) → TriesFor x y ask.Close ds seen → TellsFirst (answered_next y (let r : QueueReply T = answer.Close true in r))
   close_next (channel.TrySend m) aim.TrySend ds seen h = absurd h
   close_next (channel.ForceSend m) aim.ForceSend ds seen h = absurd h
   close_next channel.TryRecv aim.TryRecv ds seen h = absurd h
+  close_next (channel.RecvMany n) (aim.RecvMany g) ds seen h = absurd h
   close_next channel.Close (aim.Close closer.Call) ds seen h = tt
   close_next (channel.PollSend m k t) (aim.Poll Sends key task) ds seen h = absurd h
   close_next (channel.PollRecv k t) (aim.Poll Receives key task) ds seen h = absurd h
@@ -295,7 +296,7 @@ module _ {T W : Type 0} where
   turned_first done (Works (TellAll Sends closer)) line key r s closed h t = goes_to done Sends line closer key r s closed tt t
   turned_first done turn line key r s closed h t = absurd h
 
-  closed_by : (done : List (Deed T W)) (c : Channel T W) (x : ChannelAsk T W) (f : Phase T) (y : Aim W) (ds : List (Deed T W)) (seen : List (Channel T W)) (r : Option (Reply T)) (s : Stage (Phase T) T W) (line : Line) (key : Key) (reply : QueueReply T) (m : QueueMark)
+  closed_by : (done : List (Deed T W)) (c : Channel T W) (x : ChannelAsk T W) (f : Phase T) (y : Aim T W) (ds : List (Deed T W)) (seen : List (Channel T W)) (r : Option (Reply T)) (s : Stage (Phase T) T W) (line : Line) (key : Key) (reply : QueueReply T) (m : QueueMark)
       → (m ≡ Close → HasClosed done) → TriesFor x y f.ask ds seen → Turned (answered_next y reply) r s → IsShut c.queue ⊎ ((f.ask ≡ ask.Close) × (reply ≡ answer.Close true) × (m ≡ Close)) → Shut c ⊎ GoesOnFor done line key r s
   closed_by done c x f y ds seen r s line key reply m closes h turned (inl shut) = inl shut
   closed_by done c x f y ds seen r s line key reply m closes h turned (inr (asks, says, now)) =
@@ -303,7 +304,7 @@ module _ {T W : Type 0} where
       (close_next x y ds seen (subst (λ (a : QueueAsk T). TriesFor x y a ds seen) asks h))
       (subst (λ (z : QueueReply T). Turned (answered_next y z) r s) says turned))
 
-  tried_shut : (done : List (Deed T W)) (c : Channel T W) (x : ChannelAsk T W) (f : Phase T) (y : Aim W) (m : QueueMark) (ds : List (Deed T W)) (seen : List (Channel T W)) (r : Option (Reply T)) (s : Stage (Phase T) T W) (line : Line) (key : Key)
+  tried_shut : (done : List (Deed T W)) (c : Channel T W) (x : ChannelAsk T W) (f : Phase T) (y : Aim T W) (m : QueueMark) (ds : List (Deed T W)) (seen : List (Channel T W)) (r : Option (Reply T)) (s : Stage (Phase T) T W) (line : Line) (key : Key)
       → (m ≡ Close → HasClosed done) → TriesFor x y f.ask ds seen → How c f y m r s → IsShut (marked f.ask (is_displaced f.stage) m c.queue) → Shut c ⊎ GoesOnFor done line key r s
   tried_shut done c x f y m ds seen r s line key closes h (inl (f', goes, none, there)) shut = inl (goes_same c.queue f.ask (is_displaced f.stage) m f.stage f'.stage goes.1 shut)
   tried_shut done c x f y m ds seen r s line key closes h (inr (reply, ans, turned)) shut =

@@ -4,7 +4,7 @@ use Rattle.std.proofs.lemmas.Bool.Decides.{nat_tests}
 use Rattle.std.specs.Map.{lookup, remove_entry, set_value}
 use Rattle.event_listener.specs.Lists.{Notice, same_key, told_as, waits_as, kind_of, without, with_task, moved, passed, registration, removed}
 use Rattle.event_listener.specs.declared.key.Key.{Key}
-use Rattle.channel_calls.specs.Parts.{Listeners, told_one, told_all}
+use Rattle.channel_calls.specs.Parts.{Listeners, told_one, told_more, told_all}
 use Rattle.channel_laws.specs.Waits.{IsIn, Apart}
 use mathlib.Core.Bool.{cond}
 
@@ -119,6 +119,13 @@ module _ {W : Type 0} where
 
   pub thin_told_one : (l : Listeners W) → Thinner l.waiting (told_one l).waiting
   thin_told_one l = thin_drop (length (take (moved true 1 l) (tt ∷ []))) l.waiting
+
+  pub thin_told_more : (n : ℕ) (l : Listeners W) → Thinner l.waiting (told_more n l).waiting
+  thin_told_more zero l = thin_same l.waiting
+  thin_told_more (suc n) l =
+      let f = thin_told_one l in
+      let g = thin_told_more n (told_one l) in
+      (λ key h. f.0 key (g.0 key h), λ h. g.1 (f.1 h))
 
   pub thin_told_all : (l : Listeners W) → Thinner l.waiting (told_all l).waiting
   thin_told_all l = thin_none l.waiting

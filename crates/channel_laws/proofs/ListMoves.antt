@@ -5,7 +5,7 @@ use Rattle.event_listener.specs.Lists.{listened, removed_wakes}
 use Rattle.event_listener.specs.declared.key.Key.{Key}
 use Rattle.channel_calls.specs.Marks.{up, down}
 use Rattle.channel_calls.specs.Moves.{Channel, Effect, queued, untouched, on_line, on_count, listens, leaves, Turned, Worked, Moves}
-use Rattle.channel_calls.specs.Parts.{Listeners, listeners, count, is_raised, told_one_wakes, told_all_wakes}
+use Rattle.channel_calls.specs.Parts.{Listeners, listeners, count, is_raised, told_one_wakes, told_more_wakes, told_all_wakes}
 use Rattle.channel_calls.specs.Turns.{line_of, again}
 use Rattle.channel_calls.specs.declared.mark.Mark.{Mark}
 use Rattle.channel_calls.specs.declared.reply.Reply.{Reply}
@@ -18,9 +18,9 @@ use Rattle.channel_calls.specs.declared.stage.Stage.{Stage}
 use Rattle.channel_calls.specs.declared.stage.Stage.TheVariants.{Trying, Working, Finished}
 use Rattle.channel_calls.specs.declared.stage.Waiting.{Waiting}
 use Rattle.channel_calls.specs.declared.stage.Work.{Work}
-use Rattle.channel_calls.specs.declared.stage.Work.TheVariants.{TellReceive, TellStreams, TellSend, TellAll, Insert, Register, Leave, Lower, Count, Load, Raise}
+use Rattle.channel_calls.specs.declared.stage.Work.TheVariants.{TellReceive, TellStreams, TellSend, TellSends, TakeRoom, TellAll, Insert, Register, Leave, Lower, Count, Load, Raise}
 use Rattle.channel_laws.specs.Waits.{IsIn, Apart, Waits, WaitApart}
-use Rattle.channel_laws.proofs.ListFacts.{Thinner, thin_same, thin_told_one, thin_told_all, thin_registration, thin_removed, newcomer, in_more, apart_more}
+use Rattle.channel_laws.proofs.ListFacts.{Thinner, thin_same, thin_told_one, thin_told_more, thin_told_all, thin_registration, thin_removed, newcomer, in_more, apart_more}
 
 module _ {T W : Type 0} where
   -- nobody came in on this list
@@ -87,6 +87,8 @@ module _ {T W : Type 0} where
   worked_lists line c (TellReceive x) e r s h = inl (thins_as line c e _ h.0 (thins_line line Receives _ (told_one_wakes (listeners Receives c.roster)) c (thin_told_one (listeners Receives c.roster))))
   worked_lists line c (TellStreams x) e r s h = inl (thins_as line c e _ h.0 (thins_line line Streams _ (told_all_wakes (listeners Streams c.roster)) c (thin_told_all (listeners Streams c.roster))))
   worked_lists line c (TellSend x) e r s h = inl (thins_as line c e _ h.0 (thins_line line Sends _ (told_one_wakes (listeners Sends c.roster)) c (thin_told_one (listeners Sends c.roster))))
+  worked_lists line c (TellSends n x) e r s h = inl (thins_as line c e _ h.0 (thins_line line Sends _ (told_more_wakes n (listeners Sends c.roster)) c (thin_told_more n (listeners Sends c.roster))))
+  worked_lists line c (TakeRoom n) e r s h = inl (thins_as line c e _ h.0 (thin_same _))
   worked_lists line c (TellAll at closer) e r s h = inl (thins_as line c e _ h.0 (thins_line line at _ (told_all_wakes (listeners at c.roster)) c (thin_told_all (listeners at c.roster))))
   worked_lists line c (Insert w task) e r s (inl h) =
       subst (λ (x : Effect T W). Either line c r s x) (sym h.2) (comes line (line_of w) w task h.0 c r s refl (newcomer h.0 (listeners (line_of w) c.roster) h.1) h.3)

@@ -10,7 +10,7 @@ use Rattle.channel_calls.specs.declared.stage.Line.{Line}
 use Rattle.channel_calls.specs.declared.stage.Line.TheVariants.{Sends, Receives, Streams, Closings}
 use Rattle.channel_calls.specs.declared.stage.Stage.{Stage}
 use Rattle.channel_calls.specs.declared.stage.Stage.TheVariants.{Working}
-use Rattle.channel_calls.specs.declared.stage.Work.TheVariants.{TellReceive, TellStreams, TellSend, TellAll}
+use Rattle.channel_calls.specs.declared.stage.Work.TheVariants.{TellReceive, TellStreams, TellSend, TellSends, TellAll}
 use Rattle.channel_steps.specs.Known.{ToldAt}
 use Rattle.channel_steps.specs.Moments.{Deed, Open, Shut}
 use Rattle.channel_steps.specs.Scene.{Scene, Steps, Known}
@@ -49,6 +49,7 @@ module _ {T W : Type 0} where
   tells_as line b told (Working (TellReceive x)) ds k h = inl (at_line (λ (z : Line). MayBeTold z b) line Receives h.0 (sym h.1))
   tells_as line b told (Working (TellStreams x)) ds k h = inl (at_line (λ (z : Line). MayBeTold z b) line Streams h.0 (sym h.1))
   tells_as line b told (Working (TellSend x)) ds k h = inl (at_line (λ (z : Line). MayBeTold z b) line Sends h.0 (sym h.1))
+  tells_as line b told (Working (TellSends n x)) ds k h = inl (at_line (λ (z : Line). MayBeTold z b) line Sends h.0 (sym h.1))
   tells_as line b told (Working (TellAll at closer)) ds k h = inr (teller_has_closed told at closer ds k)
   tells_as line b told at ds k h = absurd h
 
@@ -59,6 +60,7 @@ module _ {T W : Type 0} where
   by_default_as line one told c (Working (TellReceive x)) e r s ds k g h = absurd (let never : true ≡ false = h.1 in cc)
   by_default_as line one told c (Working (TellStreams x)) e r s ds k g h = absurd (subst IsOneByOne h.0 one)
   by_default_as line one told c (Working (TellSend x)) e r s ds k g h = absurd (let never : true ≡ false = h.1 in cc)
+  by_default_as line one told c (Working (TellSends n x)) e r s ds k g h = absurd (let never : true ≡ false = h.1 in cc)
   by_default_as line one told c (Working (TellAll at closer)) e r s ds k g h = (
     teller_has_closed told at closer ds k,
     λ key w. nobody_left at key c

@@ -42,7 +42,7 @@ use Rattle.channel_laws.proofs.TotalFacts.{left_over}
 
 module _ {T W : Type 0} where
   -- what a call of this queue's call counts for
-  abbrev counted : ChannelAsk T W → Aim W → QueueAsk T → queue.Stage T → ℕ
+  abbrev counted : ChannelAsk T W → Aim T W → QueueAsk T → queue.Stage T → ℕ
   counted x y a s = counts_for_receives x (Trying (record { ask = a; stage = s }) y)
 
   module _ (q : Queue T) (ds : List (Deed T W)) (seen : List (Channel T W)) where
@@ -53,7 +53,7 @@ module _ {T W : Type 0} where
     popping k (Some key) t' task m s t g = let n = pop_takes q m s t g in let f = n.1 in omega (arith, f)
 
     -- as it goes on
-    goes_pays : (x : ChannelAsk T W) (y : Aim W) (a : QueueAsk T) (m : QueueMark) (s t : queue.Stage T) → TriesFor x y a ds seen
+    goes_pays : (x : ChannelAsk T W) (y : Aim T W) (a : QueueAsk T) (m : QueueMark) (s t : queue.Stage T) → TriesFor x y a ds seen
         → ContinuesBy q a m s t
         → number a s m q + counted x y a s ≤ length q.items + counted x y a t
     goes_pays (channel.TrySend v) aim.TrySend (ask.Push w) m s t h g = push_brings q w m s t g
@@ -67,7 +67,7 @@ module _ {T W : Type 0} where
     goes_pays x y a m s t h g = let n = goes_no_more q a m s t (λ p. push_sends x y a ds seen h p) g in omega (arith, n)
 
     -- as it answers, or it found nothing
-    abbrev Answered : ChannelAsk T W → Aim W → QueueAsk T → QueueMark → QueueReply T → queue.Stage T → Type 0
+    abbrev Answered : ChannelAsk T W → Aim T W → QueueAsk T → QueueMark → QueueReply T → queue.Stage T → Type 0
     Answered x y a m r s =
         (number a s m q + counted x y a s ≤ length q.items + weigh_turn counts_for_receives x (answered_next y r))
         ⊎ ((marked a (is_displaced s) m q).items ≡ [])
@@ -104,7 +104,7 @@ module _ {T W : Type 0} where
     popped k key t' task Nothing (answer.Pop (Err pop_error.Closed)) (trying b) h = inr h.1.0
     popped k key t' task m r s h = absurd h
 
-    answers_pay : (x : ChannelAsk T W) (y : Aim W) (a : QueueAsk T) (m : QueueMark) (r : QueueReply T) (s : queue.Stage T)
+    answers_pay : (x : ChannelAsk T W) (y : Aim T W) (a : QueueAsk T) (m : QueueMark) (r : QueueReply T) (s : queue.Stage T)
         → TriesFor x y a ds seen → AnswersTo q a m r s → Answered x y a m r s
     answers_pay (channel.TrySend v) aim.TrySend (ask.Push w) m r s h g = pushed_try v w m r s g
     answers_pay (channel.TrySend v) y a m r s h g = absurd h
@@ -121,7 +121,7 @@ module _ {T W : Type 0} where
   abbrev Paid : Channel T W → ChannelAsk T W → Stage (Phase T) T W → Effect T W → Option (Reply T) → Stage (Phase T) T W → Type 0
   Paid c x at e r s = Pays Receives tt MessagesAreFew counts_for_receives c x at e r s
 
-  tried_pays : (c : Channel T W) (x : ChannelAsk T W) (f : Phase T) (y : Aim W) (m : QueueMark) (ds : List (Deed T W))
+  tried_pays : (c : Channel T W) (x : ChannelAsk T W) (f : Phase T) (y : Aim T W) (m : QueueMark) (ds : List (Deed T W))
       (seen : List (Channel T W)) (r : Option (Reply T)) (s : Stage (Phase T) T W)
       → TriesFor x y f.ask ds seen → How c f y m r s → Paid c x (Trying f y) (queued f m c) r s
   tried_pays c x f y m ds seen r s h (inl (f', goes, none, there)) n enough =

@@ -6,7 +6,7 @@ use Rattle.channel_calls.specs.Moves.{Channel}
 use Rattle.channel_calls.specs.Parts.{count}
 use Rattle.channel_calls.specs.Turns.{refused_reply}
 use Rattle.channel_calls.specs.declared.ask.ChannelAsk.{ChannelAsk}
-use Rattle.channel_calls.specs.declared.ask.ChannelAsk.TheVariants.{TrySend, ForceSend, TryRecv, Close, PollSend, PollFinishedSend, PollRecv, PollClosed, PollNext, RefusePoll, GiveUp, DropSender, DropReceiver, CloneHandle, Upgrade, HandleCount, IsClosed, IsEmpty, IsFull, Len, Capacity, IsTerminated, SendIsTerminated, SameChannel, Make, DropWeak}
+use Rattle.channel_calls.specs.declared.ask.ChannelAsk.TheVariants.{TrySend, ForceSend, TryRecv, RecvMany, Close, PollSend, PollFinishedSend, PollRecv, PollClosed, PollNext, RefusePoll, GiveUp, DropSender, DropReceiver, CloneHandle, Upgrade, HandleCount, IsClosed, IsEmpty, IsFull, Len, Capacity, IsTerminated, SendIsTerminated, SameChannel, Make, DropWeak}
 use Rattle.channel_calls.specs.declared.error.Refused.TheVariants as refused
 use Rattle.channel_calls.specs.declared.error.TryRecvError.TheVariants as try_recv_error
 use Rattle.channel_calls.specs.declared.error.RecvError.{RecvError}
@@ -17,8 +17,8 @@ use Rattle.channel_calls.specs.declared.reply.Reply.TheVariants as reply
 use Rattle.channel_calls.specs.declared.stage.Kept.{Kept}
 use Rattle.channel_calls.specs.declared.stage.Line.{Line}
 use Rattle.channel_calls.specs.declared.stage.Line.TheVariants.{Sends, Receives, Streams, Closings}
-use Rattle.channel_steps.specs.Moments.{Deed, with_deed, Spent, Once, Took, Replaced, Displaced}
-use Rattle.channel_steps.specs.Answers.{TrySendRow, ForceSendRow, TryRecvRow, SendPollRow, RecvPollRow, ClosedPollRow, NextRow, CloseRow, CloneRow, UpgradeRow, FlagRow, CountRow, CapacityRow, TerminatedRow, is_closed, is_full, held, Row}
+use Rattle.channel_steps.specs.Moments.{Deed, with_deed, Spent, Once, Took, TookAll, Replaced, Displaced}
+use Rattle.channel_steps.specs.Answers.{TrySendRow, ForceSendRow, TryRecvRow, SeveralRow, SendPollRow, RecvPollRow, ClosedPollRow, NextRow, CloseRow, CloneRow, UpgradeRow, FlagRow, CountRow, CapacityRow, TerminatedRow, is_closed, is_full, held, Row}
 use Rattle.channel_steps.specs.Moments.{is_empty}
 use Rattle.channel_steps.specs.Scene.{Under, MayFinish}
 use Rattle.channel_laws.specs.Over.{StillDeeds}
@@ -30,22 +30,24 @@ moved m n e h = subst (λ (x : Mark). IsStill x) e h
 module _ {T : Type 0} where
   -- ---- replies that give a message
 
-  -- four shapes
+  -- five shapes
   given : (P : Reply T → Type 0) → ((v : T) → P (reply.TryRecv (Ok v))) → ((v : T) → P (reply.RecvPoll (Ready (Ok v)))) → ((v : T) → P (reply.Next (Ready (Some (Ok v))))) → ((v : T) → P (reply.ForceSend (Ok (Some v))))
-      → (r : Reply T) → GivesMessage r → P r
-  given P a b c d (reply.TryRecv (Ok v)) g = a v
-  given P a b c d (reply.RecvPoll (Ready (Ok v))) g = b v
-  given P a b c d (reply.Next (Ready (Some (Ok v)))) g = c v
-  given P a b c d (reply.ForceSend (Ok (Some v))) g = d v
-  given P a b c d r g = absurd g
+      → ((v : T) (vs : List T) → P (reply.RecvMany (Ok (v ∷ vs)))) → (r : Reply T) → GivesMessage r → P r
+  given P a b c d e (reply.TryRecv (Ok v)) g = a v
+  given P a b c d e (reply.RecvPoll (Ready (Ok v))) g = b v
+  given P a b c d e (reply.Next (Ready (Some (Ok v)))) g = c v
+  given P a b c d e (reply.ForceSend (Ok (Some v))) g = d v
+  given P a b c d e (reply.RecvMany (Ok (v ∷ vs))) g = e v vs
+  given P a b c d e r g = absurd g
 
-  -- three shapes
+  -- four shapes
   ended : (P : Reply T → Type 0) → P (reply.TryRecv (Err try_recv_error.Closed)) → ((e : RecvError) → P (reply.RecvPoll (Ready (Err (refused.Plain e))))) → P (reply.Next (Ready None))
-      → (r : Reply T) → SaysTheEnd r → P r
-  ended P a b c (reply.TryRecv (Err try_recv_error.Closed)) g = a
-  ended P a b c (reply.RecvPoll (Ready (Err (refused.Plain e)))) g = b e
-  ended P a b c (reply.Next (Ready None)) g = c
-  ended P a b c r g = absurd g
+      → P (reply.RecvMany (Err (refused.Plain try_recv_error.Closed))) → (r : Reply T) → SaysTheEnd r → P r
+  ended P a b c d (reply.TryRecv (Err try_recv_error.Closed)) g = a
+  ended P a b c d (reply.RecvPoll (Ready (Err (refused.Plain e)))) g = b e
+  ended P a b c d (reply.Next (Ready None)) g = c
+  ended P a b c d (reply.RecvMany (Err (refused.Plain try_recv_error.Closed))) g = d
+  ended P a b c d r g = absurd g
 
 module _ {T W : Type 0} where
   -- ---- the marks of a call to which nothing moved
@@ -65,6 +67,10 @@ module _ {T W : Type 0} where
   took_moves : (ds : List (Deed T W)) (v : T) → Took ds v → StillDeeds ds → ⊥
   took_moves (d ∷ []) v h k = moved d.mark Take h.0 k.0
   took_moves ds v h k = absurd h
+
+  several_moves : (ds : List (Deed T W)) (v : T) (vs : List T) → TookAll ds (v ∷ vs) → StillDeeds ds → ⊥
+  several_moves [] v vs h k = h
+  several_moves (d ∷ ds) v vs h k = moved d.mark Take h.0 k.0
 
   replaced_moves : (ds : List (Deed T W)) (v : T) → Replaced ds v → StillDeeds ds → ⊥
   replaced_moves (d ∷ []) v h k = moved d.mark Replace h.0 k.0
@@ -104,28 +110,29 @@ module _ {T W : Type 0} where
     Moved R r = R r → StillDeeds ds → ⊥
 
     row_gives : (ask : ChannelAsk T W) (r : Reply T) → GivesMessage r → Moved (λ x. Row ask ds seen x) r
-    row_gives (TrySend m) r g = given (Moved (TrySendRow m ds seen)) (λ v h k. h) (λ v h k. h) (λ v h k. h) (λ v h k. h) r g
-    row_gives (ForceSend m) r g = given (Moved (ForceSendRow m ds seen)) (λ v h k. h) (λ v h k. h) (λ v h k. h) (λ v h k. displacing_moves ds v h k) r g
-    row_gives TryRecv r g = given (Moved (TryRecvRow ds seen)) (λ v h k. took_moves ds v h k) (λ v h k. h) (λ v h k. h) (λ v h k. h) r g
-    row_gives Close r g = given (Moved (CloseRow ds seen)) (λ v h k. h) (λ v h k. h) (λ v h k. h) (λ v h k. h) r g
-    row_gives (PollSend m key task) r g = given (Moved (SendPollRow m ds seen)) (λ v h k. h) (λ v h k. h) (λ v h k. h) (λ v h k. h) r g
+    row_gives (TrySend m) r g = given (Moved (TrySendRow m ds seen)) (λ v h k. h) (λ v h k. h) (λ v h k. h) (λ v h k. h) (λ v vs h k. h) r g
+    row_gives (ForceSend m) r g = given (Moved (ForceSendRow m ds seen)) (λ v h k. h) (λ v h k. h) (λ v h k. h) (λ v h k. displacing_moves ds v h k) (λ v vs h k. h) r g
+    row_gives TryRecv r g = given (Moved (TryRecvRow ds seen)) (λ v h k. took_moves ds v h k) (λ v h k. h) (λ v h k. h) (λ v h k. h) (λ v vs h k. h) r g
+    row_gives (RecvMany n) r g = given (Moved (SeveralRow n ds seen)) (λ v h k. h) (λ v h k. h) (λ v h k. h) (λ v h k. h) (λ v vs h k. several_moves ds v vs h.0 k) r g
+    row_gives Close r g = given (Moved (CloseRow ds seen)) (λ v h k. h) (λ v h k. h) (λ v h k. h) (λ v h k. h) (λ v vs h k. h) r g
+    row_gives (PollSend m key task) r g = given (Moved (SendPollRow m ds seen)) (λ v h k. h) (λ v h k. h) (λ v h k. h) (λ v h k. h) (λ v vs h k. h) r g
     row_gives PollFinishedSend r g = λ h k. only _ r GivesMessage (λ x. x) g h.1
-    row_gives (PollRecv key task) r g = given (Moved (RecvPollRow ds seen)) (λ v h k. h) (λ v h k. took_moves ds v h k) (λ v h k. h) (λ v h k. h) r g
-    row_gives (PollClosed key task) r g = given (Moved (ClosedPollRow ds seen)) (λ v h k. h) (λ v h k. h) (λ v h k. h) (λ v h k. h) r g
-    row_gives (PollNext key task) r g = given (Moved (NextRow ds seen)) (λ v h k. h) (λ v h k. h) (λ v h k. took_moves ds v h k) (λ v h k. h) r g
+    row_gives (PollRecv key task) r g = given (Moved (RecvPollRow ds seen)) (λ v h k. h) (λ v h k. took_moves ds v h k) (λ v h k. h) (λ v h k. h) (λ v vs h k. h) r g
+    row_gives (PollClosed key task) r g = given (Moved (ClosedPollRow ds seen)) (λ v h k. h) (λ v h k. h) (λ v h k. h) (λ v h k. h) (λ v vs h k. h) r g
+    row_gives (PollNext key task) r g = given (Moved (NextRow ds seen)) (λ v h k. h) (λ v h k. h) (λ v h k. took_moves ds v h k) (λ v h k. h) (λ v vs h k. h) r g
     row_gives (RefusePoll line message key) r g = λ h k. only _ r GivesMessage (no_refusal_gives line) g h.1
     row_gives (GiveUp line message key) r g = λ h k. only _ r GivesMessage (λ x. x) g h.1
     row_gives DropSender r g = λ h k. only _ r GivesMessage (λ x. x) g h.1
     row_gives (DropReceiver key) r g = λ h k. only _ r GivesMessage (λ x. x) g h.1
-    row_gives (CloneHandle side) r g = given (Moved (CloneRow side ds seen)) (λ v h k. h) (λ v h k. h) (λ v h k. h) (λ v h k. h) r g
-    row_gives (Upgrade side) r g = given (Moved (UpgradeRow side ds seen)) (λ v h k. h) (λ v h k. h) (λ v h k. h) (λ v h k. h) r g
-    row_gives (HandleCount side) r g = given (Moved (CountRow (λ c. count side c.roster) ds seen)) (λ v h k. h) (λ v h k. h) (λ v h k. h) (λ v h k. h) r g
-    row_gives IsClosed r g = given (Moved (FlagRow is_closed ds seen)) (λ v h k. h) (λ v h k. h) (λ v h k. h) (λ v h k. h) r g
-    row_gives IsEmpty r g = given (Moved (FlagRow is_empty ds seen)) (λ v h k. h) (λ v h k. h) (λ v h k. h) (λ v h k. h) r g
-    row_gives IsFull r g = given (Moved (FlagRow is_full ds seen)) (λ v h k. h) (λ v h k. h) (λ v h k. h) (λ v h k. h) r g
-    row_gives Len r g = given (Moved (CountRow held ds seen)) (λ v h k. h) (λ v h k. h) (λ v h k. h) (λ v h k. h) r g
-    row_gives Capacity r g = given (Moved (CapacityRow ds seen)) (λ v h k. h) (λ v h k. h) (λ v h k. h) (λ v h k. h) r g
-    row_gives IsTerminated r g = given (Moved (TerminatedRow ds seen)) (λ v h k. h) (λ v h k. h) (λ v h k. h) (λ v h k. h) r g
+    row_gives (CloneHandle side) r g = given (Moved (CloneRow side ds seen)) (λ v h k. h) (λ v h k. h) (λ v h k. h) (λ v h k. h) (λ v vs h k. h) r g
+    row_gives (Upgrade side) r g = given (Moved (UpgradeRow side ds seen)) (λ v h k. h) (λ v h k. h) (λ v h k. h) (λ v h k. h) (λ v vs h k. h) r g
+    row_gives (HandleCount side) r g = given (Moved (CountRow (λ c. count side c.roster) ds seen)) (λ v h k. h) (λ v h k. h) (λ v h k. h) (λ v h k. h) (λ v vs h k. h) r g
+    row_gives IsClosed r g = given (Moved (FlagRow is_closed ds seen)) (λ v h k. h) (λ v h k. h) (λ v h k. h) (λ v h k. h) (λ v vs h k. h) r g
+    row_gives IsEmpty r g = given (Moved (FlagRow is_empty ds seen)) (λ v h k. h) (λ v h k. h) (λ v h k. h) (λ v h k. h) (λ v vs h k. h) r g
+    row_gives IsFull r g = given (Moved (FlagRow is_full ds seen)) (λ v h k. h) (λ v h k. h) (λ v h k. h) (λ v h k. h) (λ v vs h k. h) r g
+    row_gives Len r g = given (Moved (CountRow held ds seen)) (λ v h k. h) (λ v h k. h) (λ v h k. h) (λ v h k. h) (λ v vs h k. h) r g
+    row_gives Capacity r g = given (Moved (CapacityRow ds seen)) (λ v h k. h) (λ v h k. h) (λ v h k. h) (λ v h k. h) (λ v vs h k. h) r g
+    row_gives IsTerminated r g = given (Moved (TerminatedRow ds seen)) (λ v h k. h) (λ v h k. h) (λ v h k. h) (λ v h k. h) (λ v vs h k. h) r g
     row_gives (SendIsTerminated b) r g = λ h k. only _ r GivesMessage (λ x. x) g h.1
     row_gives (SameChannel b) r g = λ h k. only _ r GivesMessage (λ x. x) g h.1
     row_gives Make r g = λ h k. only _ r GivesMessage (λ x. x) g h.1
@@ -139,28 +146,29 @@ module _ {T W : Type 0} where
     Seen = Once Spent seen
 
     row_ends : (ask : ChannelAsk T W) (r : Reply T) → SaysTheEnd r → Over (λ x. Row ask ds seen x) r
-    row_ends (TrySend m) r g = ended (Over (TrySendRow m ds seen)) (λ h. absurd h) (λ e h. absurd h) (λ h. absurd h) r g
-    row_ends (ForceSend m) r g = ended (Over (ForceSendRow m ds seen)) (λ h. absurd h) (λ e h. absurd h) (λ h. absurd h) r g
-    row_ends TryRecv r g = ended (Over (TryRecvRow ds seen)) (λ h. h.1) (λ e h. absurd h) (λ h. absurd h) r g
-    row_ends Close r g = ended (Over (CloseRow ds seen)) (λ h. absurd h) (λ e h. absurd h) (λ h. absurd h) r g
-    row_ends (PollSend m key task) r g = ended (Over (SendPollRow m ds seen)) (λ h. absurd h) (λ e h. absurd h) (λ h. absurd h) r g
+    row_ends (TrySend m) r g = ended (Over (TrySendRow m ds seen)) (λ h. absurd h) (λ e h. absurd h) (λ h. absurd h) (λ h. absurd h) r g
+    row_ends (ForceSend m) r g = ended (Over (ForceSendRow m ds seen)) (λ h. absurd h) (λ e h. absurd h) (λ h. absurd h) (λ h. absurd h) r g
+    row_ends TryRecv r g = ended (Over (TryRecvRow ds seen)) (λ h. h.1) (λ e h. absurd h) (λ h. absurd h) (λ h. absurd h) r g
+    row_ends (RecvMany n) r g = ended (Over (SeveralRow n ds seen)) (λ h. absurd h) (λ e h. absurd h) (λ h. absurd h) (λ h. h.2) r g
+    row_ends Close r g = ended (Over (CloseRow ds seen)) (λ h. absurd h) (λ e h. absurd h) (λ h. absurd h) (λ h. absurd h) r g
+    row_ends (PollSend m key task) r g = ended (Over (SendPollRow m ds seen)) (λ h. absurd h) (λ e h. absurd h) (λ h. absurd h) (λ h. absurd h) r g
     row_ends PollFinishedSend r g = λ h. absurd (only _ r SaysTheEnd (λ x. x) g h.1)
-    row_ends (PollRecv key task) r g = ended (Over (RecvPollRow ds seen)) (λ h. absurd h) (λ e h. h.1) (λ h. absurd h) r g
-    row_ends (PollClosed key task) r g = ended (Over (ClosedPollRow ds seen)) (λ h. absurd h) (λ e h. absurd h) (λ h. absurd h) r g
-    row_ends (PollNext key task) r g = ended (Over (NextRow ds seen)) (λ h. absurd h) (λ e h. absurd h) (λ h. h.1) r g
+    row_ends (PollRecv key task) r g = ended (Over (RecvPollRow ds seen)) (λ h. absurd h) (λ e h. h.1) (λ h. absurd h) (λ h. absurd h) r g
+    row_ends (PollClosed key task) r g = ended (Over (ClosedPollRow ds seen)) (λ h. absurd h) (λ e h. absurd h) (λ h. absurd h) (λ h. absurd h) r g
+    row_ends (PollNext key task) r g = ended (Over (NextRow ds seen)) (λ h. absurd h) (λ e h. absurd h) (λ h. h.1) (λ h. absurd h) r g
     row_ends (RefusePoll line message key) r g = λ h. absurd (only _ r SaysTheEnd (no_refusal_ends line) g h.1)
     row_ends (GiveUp line message key) r g = λ h. absurd (only _ r SaysTheEnd (λ x. x) g h.1)
     row_ends DropSender r g = λ h. absurd (only _ r SaysTheEnd (λ x. x) g h.1)
     row_ends (DropReceiver key) r g = λ h. absurd (only _ r SaysTheEnd (λ x. x) g h.1)
-    row_ends (CloneHandle side) r g = ended (Over (CloneRow side ds seen)) (λ h. absurd h) (λ e h. absurd h) (λ h. absurd h) r g
-    row_ends (Upgrade side) r g = ended (Over (UpgradeRow side ds seen)) (λ h. absurd h) (λ e h. absurd h) (λ h. absurd h) r g
-    row_ends (HandleCount side) r g = ended (Over (CountRow (λ c. count side c.roster) ds seen)) (λ h. absurd h) (λ e h. absurd h) (λ h. absurd h) r g
-    row_ends IsClosed r g = ended (Over (FlagRow is_closed ds seen)) (λ h. absurd h) (λ e h. absurd h) (λ h. absurd h) r g
-    row_ends IsEmpty r g = ended (Over (FlagRow is_empty ds seen)) (λ h. absurd h) (λ e h. absurd h) (λ h. absurd h) r g
-    row_ends IsFull r g = ended (Over (FlagRow is_full ds seen)) (λ h. absurd h) (λ e h. absurd h) (λ h. absurd h) r g
-    row_ends Len r g = ended (Over (CountRow held ds seen)) (λ h. absurd h) (λ e h. absurd h) (λ h. absurd h) r g
-    row_ends Capacity r g = ended (Over (CapacityRow ds seen)) (λ h. absurd h) (λ e h. absurd h) (λ h. absurd h) r g
-    row_ends IsTerminated r g = ended (Over (TerminatedRow ds seen)) (λ h. absurd h) (λ e h. absurd h) (λ h. absurd h) r g
+    row_ends (CloneHandle side) r g = ended (Over (CloneRow side ds seen)) (λ h. absurd h) (λ e h. absurd h) (λ h. absurd h) (λ h. absurd h) r g
+    row_ends (Upgrade side) r g = ended (Over (UpgradeRow side ds seen)) (λ h. absurd h) (λ e h. absurd h) (λ h. absurd h) (λ h. absurd h) r g
+    row_ends (HandleCount side) r g = ended (Over (CountRow (λ c. count side c.roster) ds seen)) (λ h. absurd h) (λ e h. absurd h) (λ h. absurd h) (λ h. absurd h) r g
+    row_ends IsClosed r g = ended (Over (FlagRow is_closed ds seen)) (λ h. absurd h) (λ e h. absurd h) (λ h. absurd h) (λ h. absurd h) r g
+    row_ends IsEmpty r g = ended (Over (FlagRow is_empty ds seen)) (λ h. absurd h) (λ e h. absurd h) (λ h. absurd h) (λ h. absurd h) r g
+    row_ends IsFull r g = ended (Over (FlagRow is_full ds seen)) (λ h. absurd h) (λ e h. absurd h) (λ h. absurd h) (λ h. absurd h) r g
+    row_ends Len r g = ended (Over (CountRow held ds seen)) (λ h. absurd h) (λ e h. absurd h) (λ h. absurd h) (λ h. absurd h) r g
+    row_ends Capacity r g = ended (Over (CapacityRow ds seen)) (λ h. absurd h) (λ e h. absurd h) (λ h. absurd h) (λ h. absurd h) r g
+    row_ends IsTerminated r g = ended (Over (TerminatedRow ds seen)) (λ h. absurd h) (λ e h. absurd h) (λ h. absurd h) (λ h. absurd h) r g
     row_ends (SendIsTerminated b) r g = λ h. absurd (only _ r SaysTheEnd (λ x. x) g h.1)
     row_ends (SameChannel b) r g = λ h. absurd (only _ r SaysTheEnd (λ x. x) g h.1)
     row_ends Make r g = λ h. absurd (only _ r SaysTheEnd (λ x. x) g h.1)

@@ -1,5 +1,9 @@
 -- Each step pays for what it takes or uses up, as those count it who wait for a free place.
-use Rattle.std.proofs.Common.{◌≡◌, ℕ, ◌+◌, ◌≤◌, true, false, List, length, Option, None, Some, Ok, Err, ◌⊎◌, inl, inr, refl, sym, ap, subst, arith}
+use Rattle.std.proofs.lemmas.List.{length-append}
+use Rattle.channel_calls.specs.Several.{Gathered, with_last}
+use Rattle.channel_calls.specs.declared.error.TryRecvError.{TryRecvError}
+use Rattle.channel_calls.specs.declared.error.TryRecvError.TheVariants as try_recv_error
+use Rattle.std.proofs.Common.{◌≡◌, ℕ, zero, suc, ◌+◌, ◌≤◌, true, false, List, [], ◌∷◌, ◌++◌, length, Option, None, Some, Ok, Err, ◌⊎◌, inl, inr, refl, sym, ap, subst, arith}
 use Rattle.std.proofs.lemmas.Bool.Decides.{nat_tests}
 use Rattle.concurrent_queue.specs.Queue.{Queue, Phase, IsShut, trying, appended, taken, marked, is_displaced, is_full_at, is_filled, AnswersPush, AnswersForce, AnswersPop, AnswersTo, ContinuesBy}
 use Rattle.concurrent_queue.specs.Queue as queue
@@ -13,7 +17,7 @@ use Rattle.concurrent_queue.specs.declared.error.PopError.TheVariants as pop_err
 use Rattle.concurrent_queue.specs.declared.error.PushError.TheVariants as push_error
 use Rattle.concurrent_queue.specs.declared.error.ForcePushError.TheVariants as force_error
 use Rattle.event_listener.specs.declared.key.Key.{Key}
-use Rattle.channel_calls.specs.Answered.{answered_next}
+use Rattle.channel_calls.specs.Answered.{answered_next, gathered_next, short_next}
 use Rattle.channel_calls.specs.Moves.{Channel, Effect, queued, Turned, Moves}
 use Rattle.channel_calls.specs.Turns.{line_of, again}
 use Rattle.channel_calls.specs.declared.ask.ChannelAsk.{ChannelAsk}
@@ -28,7 +32,7 @@ use Rattle.channel_calls.specs.declared.stage.Stage.TheVariants.{Trying, Working
 use Rattle.channel_calls.specs.declared.stage.Waiting.{Waiting}
 use Rattle.channel_calls.specs.declared.stage.Waiting.TheVariants as waiting
 use Rattle.channel_calls.specs.declared.stage.Work.{Work}
-use Rattle.channel_calls.specs.declared.stage.Work.TheVariants.{TellSend, Register}
+use Rattle.channel_calls.specs.declared.stage.Work.TheVariants.{TellSend, TellSends, Register}
 use Rattle.channel_steps.specs.Known.{TriesFor, IsFor, WorkAt, StageAt}
 use Rattle.channel_steps.specs.Moments.{Deed, Shut}
 use Rattle.channel_laws.specs.Notices.{AnyTold, told_of}
@@ -60,14 +64,16 @@ module _ {T W : Type 0} where
 
   abbrev Takes : ChannelAsk T W → Type 0
   Takes channel.TryRecv = Unit {0}
+  Takes (channel.RecvMany n) = Unit {0}
   Takes (channel.PollRecv k t) = Unit {0}
   Takes (channel.PollNext k t) = Unit {0}
   Takes (channel.ForceSend m) = Unit {0}
   Takes x = ⊥
 
-  takes_as : (x : ChannelAsk T W) (y : Aim W) (a : QueueAsk T) (ds : List (Deed T W)) (seen : List (Channel T W))
+  takes_as : (x : ChannelAsk T W) (y : Aim T W) (a : QueueAsk T) (ds : List (Deed T W)) (seen : List (Channel T W))
       → TriesFor x y a ds seen → MayTake a → Takes x
   takes_as channel.TryRecv y a ds seen h p = tt
+  takes_as (channel.RecvMany n) y a ds seen h p = tt
   takes_as (channel.PollRecv k t) y a ds seen h p = tt
   takes_as (channel.PollNext k t) y a ds seen h p = tt
   takes_as (channel.ForceSend m) y a ds seen h p = tt
@@ -88,7 +94,7 @@ module _ {T W : Type 0} where
   takes_as x y a ds seen h p = absurd h
 
   -- what a call of this queue's call counts for
-  abbrev counted : ChannelAsk T W → Aim W → QueueAsk T → queue.Stage T → ℕ
+  abbrev counted : ChannelAsk T W → Aim T W → QueueAsk T → queue.Stage T → ℕ
   counted x y a s = counts_for_sends x (Trying (record { ask = a; stage = s }) y)
 
   module _ (q : Queue T) (ds : List (Deed T W)) (seen : List (Channel T W)) where
@@ -99,11 +105,13 @@ module _ {T W : Type 0} where
     pushing v w k (Some key) t' task m s t g = let n = push_fills q w m s t g in let f = n.1 in omega (arith, f)
 
     -- as it goes on
-    goes_pays : (x : ChannelAsk T W) (y : Aim W) (a : QueueAsk T) (m : QueueMark) (s t : queue.Stage T) → TriesFor x y a ds seen
+    goes_pays : (x : ChannelAsk T W) (y : Aim T W) (a : QueueAsk T) (m : QueueMark) (s t : queue.Stage T) → TriesFor x y a ds seen
         → ContinuesBy q a m s t
         → length q.items + counted x y a s ≤ number a s m q + counted x y a t
     goes_pays channel.TryRecv aim.TryRecv ask.Pop m s t h g = pop_frees q m s t g
     goes_pays channel.TryRecv y a m s t h g = absurd h
+    goes_pays (channel.RecvMany n) (aim.RecvMany z) ask.Pop m s t h g = let k = pop_frees q m s t g in omega (arith, k)
+    goes_pays (channel.RecvMany n) y a m s t h g = absurd h
     goes_pays (channel.PollRecv k t') (aim.Poll Receives key task) ask.Pop m s t h g = pop_frees q m s t g
     goes_pays (channel.PollRecv k t') y a m s t h g = absurd h
     goes_pays (channel.PollNext k t') (aim.Poll Streams key task) ask.Pop m s t h g = pop_frees q m s t g
@@ -115,7 +123,7 @@ module _ {T W : Type 0} where
     goes_pays x y a m s t h g = let n = goes_no_fewer q a m s t (λ p. takes_as x y a ds seen h p) g in omega (arith, n)
 
     -- as it answers, or by such a refusal
-    abbrev Answered : ChannelAsk T W → Aim W → QueueAsk T → QueueMark → QueueReply T → queue.Stage T → Type 0
+    abbrev Answered : ChannelAsk T W → Aim T W → QueueAsk T → QueueMark → QueueReply T → queue.Stage T → Type 0
     Answered x y a m r s =
         (length q.items + counted x y a s ≤ number a s m q + weigh_turn counts_for_sends x (answered_next y r))
         ⊎ ((m ≡ Nothing) × Refuses q)
@@ -145,6 +153,22 @@ module _ {T W : Type 0} where
     popped_try Nothing (answer.Pop (Err pop_error.Closed)) (trying b) h = inl (omega arith)
     popped_try m r s h = absurd h
 
+    -- one more of several is in hand
+    gathers : (n k : ℕ) (vs : List T) (v : T) → length vs + 1 ≤ weigh_turn {W = W} counts_for_sends (channel.RecvMany n) (gathered_next (with_last (vs ++ v ∷ []) k))
+    gathers n zero vs v = let l = length-append vs (v ∷ []) in omega (arith, l)
+    gathers n (suc k) vs v = let l = length-append vs (v ∷ []) in omega (arith, l)
+
+    stops : (n : ℕ) (vs : List T) (e : TryRecvError) → length vs ≤ weigh_turn {W = W} counts_for_sends (channel.RecvMany n) (short_next vs e)
+    stops n [] e = omega arith
+    stops n (v ∷ vs) e = omega arith
+
+    popped_several : (n : ℕ) (z : Gathered T) (m : QueueMark) (r : QueueReply T) (s : queue.Stage T) → AnswersPop q m r s
+        → Answered (channel.RecvMany n) (aim.RecvMany z) ask.Pop m r s
+    popped_several n z Nothing (answer.Pop (Ok w)) (taken v) h = let k = gathers n z.more z.taken w in inl (omega (arith, k))
+    popped_several n z Nothing (answer.Pop (Err pop_error.Empty)) (trying b) h = let k = stops n z.taken try_recv_error.Empty in inl (omega (arith, k))
+    popped_several n z Nothing (answer.Pop (Err pop_error.Closed)) (trying b) h = let k = stops n z.taken try_recv_error.Closed in inl (omega (arith, k))
+    popped_several n z m r s h = absurd h
+
     popped_poll : (k key : Option Key) (t' task : W) (m : QueueMark) (r : QueueReply T) (s : queue.Stage T) → AnswersPop q m r s
         → Answered (channel.PollRecv k t') (aim.Poll Receives key task) ask.Pop m r s
     popped_poll k key t' task Nothing (answer.Pop (Ok w)) (taken v) h = inl (omega arith)
@@ -159,10 +183,12 @@ module _ {T W : Type 0} where
     popped_next k key t' task Nothing (answer.Pop (Err pop_error.Closed)) (trying b) h = inl (omega arith)
     popped_next k key t' task m r s h = absurd h
 
-    answers_pay : (x : ChannelAsk T W) (y : Aim W) (a : QueueAsk T) (m : QueueMark) (r : QueueReply T) (s : queue.Stage T)
+    answers_pay : (x : ChannelAsk T W) (y : Aim T W) (a : QueueAsk T) (m : QueueMark) (r : QueueReply T) (s : queue.Stage T)
         → TriesFor x y a ds seen → AnswersTo q a m r s → Answered x y a m r s
     answers_pay channel.TryRecv aim.TryRecv ask.Pop m r s h g = popped_try m r s g
     answers_pay channel.TryRecv y a m r s h g = absurd h
+    answers_pay (channel.RecvMany n) (aim.RecvMany z) ask.Pop m r s h g = popped_several n z m r s g
+    answers_pay (channel.RecvMany n) y a m r s h g = absurd h
     answers_pay (channel.PollRecv k t') (aim.Poll Receives key task) ask.Pop m r s h g = popped_poll k key t' task m r s g
     answers_pay (channel.PollRecv k t') y a m r s h g = absurd h
     answers_pay (channel.PollNext k t') (aim.Poll Streams key task) ask.Pop m r s h g = popped_next k key t' task m r s g
@@ -201,7 +227,7 @@ module _ {T W : Type 0} where
   refused_places c n k (inr (inr none)) (inr h) =
       absurd (subst (λ (o : Option ℕ). HasPlaces o (length c.queue.items + length (told_of Sends c) + n)) none h)
 
-  module _ (c : Channel T W) (x : ChannelAsk T W) (f : Phase T) (y : Aim W) (m : QueueMark) (ds : List (Deed T W))
+  module _ (c : Channel T W) (x : ChannelAsk T W) (f : Phase T) (y : Aim T W) (m : QueueMark) (ds : List (Deed T W))
       (seen : List (Channel T W)) (r : Option (Reply T)) (s : Stage (Phase T) T W)
       (shut : Shut c → Shut (let e : Effect T W = queued f m c in e.channel)) where
     abbrev now : Channel T W
@@ -234,10 +260,12 @@ module _ {T W : Type 0} where
 
   tells_at_most : (w : Work T W) → is_to_tell_send (let at : Stage (Phase T) T W = Working w in at) ≤ tells_now w Sends
   tells_at_most (TellSend x) = omega arith
+  tells_at_most (TellSends n x) = omega arith
   tells_at_most w = omega arith
 
   work_counts : (x : ChannelAsk T W) (w : Work T W) → counts_for_sends x (Working w) ≤ tells_now w Sends
   work_counts channel.TryRecv w = tells_at_most w
+  work_counts (channel.RecvMany n) w = tells_at_most w
   work_counts (channel.PollRecv k t) w = tells_at_most w
   work_counts (channel.PollNext k t) w = tells_at_most w
   work_counts x w = omega arith

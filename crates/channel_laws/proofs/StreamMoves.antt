@@ -200,10 +200,11 @@ module _ {T W : Type 0} where
   Brings (Works (TellReceive x)) = Unit {0}
   Brings turn = ⊥
 
-  push_next : (x : ChannelAsk T W) (y : Aim W) (v : T) (ds : List (Deed T W)) (seen : List (Channel T W)) → TriesFor x y (ask.Push v) ds seen → Brings (answered_next y (let r : QueueReply T = answer.Push (Ok tt) in r))
+  push_next : (x : ChannelAsk T W) (y : Aim T W) (v : T) (ds : List (Deed T W)) (seen : List (Channel T W)) → TriesFor x y (ask.Push v) ds seen → Brings (answered_next y (let r : QueueReply T = answer.Push (Ok tt) in r))
   push_next (channel.TrySend m) aim.TrySend v ds seen h = tt
   push_next (channel.ForceSend m) aim.ForceSend v ds seen h = absurd h
   push_next channel.TryRecv aim.TryRecv v ds seen h = absurd h
+  push_next (channel.RecvMany n) (aim.RecvMany g) v ds seen h = absurd h
   push_next channel.Close (aim.Close closer.Call) v ds seen h = absurd h
   push_next (channel.PollSend m k t) (aim.Poll Sends key task) v ds seen h = tt
   push_next (channel.PollRecv k t) (aim.Poll Receives key task) v ds seen h = absurd h
@@ -221,10 +222,11 @@ module _ {T W : Type 0} where
   push_next channel.IsTerminated aim.Ask v ds seen h = absurd h
   push_next x y v ds seen h = absurd h
 
-  force_next : (x : ChannelAsk T W) (y : Aim W) (v : T) (ds : List (Deed T W)) (seen : List (Channel T W)) → TriesFor x y (ask.ForcePush v) ds seen → (d : Option T) → Brings (answered_next y (let r : QueueReply T = answer.Force (Ok d) in r))
+  force_next : (x : ChannelAsk T W) (y : Aim T W) (v : T) (ds : List (Deed T W)) (seen : List (Channel T W)) → TriesFor x y (ask.ForcePush v) ds seen → (d : Option T) → Brings (answered_next y (let r : QueueReply T = answer.Force (Ok d) in r))
   force_next (channel.TrySend m) aim.TrySend v ds seen h d = absurd h
   force_next (channel.ForceSend m) aim.ForceSend v ds seen h d = tt
   force_next channel.TryRecv aim.TryRecv v ds seen h d = absurd h
+  force_next (channel.RecvMany n) (aim.RecvMany g) v ds seen h d = absurd h
   force_next channel.Close (aim.Close closer.Call) v ds seen h d = absurd h
   force_next (channel.PollSend m k t) (aim.Poll Sends key task) v ds seen h d = absurd h
   force_next (channel.PollRecv k t) (aim.Poll Receives key task) v ds seen h d = absurd h
@@ -242,7 +244,7 @@ module _ {T W : Type 0} where
   force_next channel.IsTerminated aim.Ask v ds seen h d = absurd h
   force_next x y v ds seen h d = absurd h
 
-  appended_next : (q : Queue T) (x : ChannelAsk T W) (y : Aim W) (a : QueueAsk T) (m : QueueMark) (r : QueueReply T) (s : queue.Stage T) (ds : List (Deed T W)) (seen : List (Channel T W))
+  appended_next : (q : Queue T) (x : ChannelAsk T W) (y : Aim T W) (a : QueueAsk T) (m : QueueMark) (r : QueueReply T) (s : queue.Stage T) (ds : List (Deed T W)) (seen : List (Channel T W))
       → TriesFor x y a ds seen → AnswersTo q a m r s → HasAppended s → Brings (answered_next y r)
   appended_next q x y (ask.Push v) m r s ds seen h ans k = subst (λ (z : QueueReply T). Brings (answered_next y z)) (sym (push_says q v m r s ans k)) (push_next x y v ds seen h)
   appended_next q x y (ask.ForcePush v) m r s ds seen h ans k =
@@ -254,11 +256,12 @@ module _ {T W : Type 0} where
   turned_brings turn r s b t = absurd b
 
   -- who pushes is a sending call
-  pub push_sends : (x : ChannelAsk T W) (y : Aim W) (a : QueueAsk T) (ds : List (Deed T W)) (seen : List (Channel T W)) → TriesFor x y a ds seen → IsPush a → IsSending x
+  pub push_sends : (x : ChannelAsk T W) (y : Aim T W) (a : QueueAsk T) (ds : List (Deed T W)) (seen : List (Channel T W)) → TriesFor x y a ds seen → IsPush a → IsSending x
   push_sends (channel.TrySend m) y a ds seen h p = tt
   push_sends (channel.ForceSend m) y a ds seen h p = tt
   push_sends (channel.PollSend m k t) y a ds seen h p = tt
   push_sends channel.TryRecv aim.TryRecv ask.Pop ds seen h p = absurd p
+  push_sends (channel.RecvMany n) (aim.RecvMany g) ask.Pop ds seen h p = absurd p
   push_sends channel.Close (aim.Close closer.Call) ask.Close ds seen h p = absurd p
   push_sends (channel.PollRecv k t) (aim.Poll Receives key task) ask.Pop ds seen h p = absurd p
   push_sends (channel.PollClosed k t) (aim.Poll Closings key task) ask.IsClosed ds seen h p = absurd p
@@ -286,14 +289,14 @@ module _ {T W : Type 0} where
   Settled x key e r s = (e.channel.queue.items ≡ []) ⊎ Going x key r s
 
   -- the two ways of a step of the queue's call
-  abbrev pub How : Channel T W → Phase T → Aim W → QueueMark → Option (Reply T) → Stage (Phase T) T W → Type 0
+  abbrev pub How : Channel T W → Phase T → Aim T W → QueueMark → Option (Reply T) → Stage (Phase T) T W → Type 0
   How c f y m r s =
       ((f' : Phase T) × Continues c.queue f m f' × (r ≡ None) × (s ≡ Trying f' y)) ⊎ ((x : QueueReply T) × Answers c.queue f m x × Turned (answered_next y x) r s)
 
   no_items : (c : Channel T W) (f : Phase T) (m : QueueMark) (e : Effect T W) → e ≡ queued f m c → Empties f.ask f.stage m c.queue → e.channel.queue.items ≡ []
   no_items c f m e same h = ap (λ (z : Effect T W). z.channel.queue.items) same ∙ h
 
-  bringing_tried : (c : Channel T W) (x : ChannelAsk T W) (f : Phase T) (y : Aim W) (m : QueueMark) (ds : List (Deed T W)) (seen : List (Channel T W)) (key : Key) (r : Option (Reply T)) (s : Stage (Phase T) T W)
+  bringing_tried : (c : Channel T W) (x : ChannelAsk T W) (f : Phase T) (y : Aim T W) (m : QueueMark) (ds : List (Deed T W)) (seen : List (Channel T W)) (key : Key) (r : Option (Reply T)) (s : Stage (Phase T) T W)
       → TriesFor x y f.ask ds seen → IsSending x → HasAppended f.stage → How c f y m r s → Going x key r s
   bringing_tried c x f y m ds seen key r s h sends k (inl (f', goes, none, there)) =
       (none, inl (sends, subst (λ (z : Stage (Phase T) T W). IsBringing z) (sym there) (goes_stays c.queue f.ask m f.stage f'.stage goes.1 k)))
@@ -347,7 +350,7 @@ module _ {T W : Type 0} where
 
   -- ---- messages
 
-  filled : (c : Channel T W) (x : ChannelAsk T W) (f : Phase T) (y : Aim W) (m : QueueMark) (ds : List (Deed T W)) (seen : List (Channel T W)) (e : Effect T W) (key : Key) (r : Option (Reply T)) (s : Stage (Phase T) T W) → TriesFor x y f.ask ds seen → e ≡ queued f m c → How c f y m r s → c.queue.items ≡ [] → Settled x key e r s
+  filled : (c : Channel T W) (x : ChannelAsk T W) (f : Phase T) (y : Aim T W) (m : QueueMark) (ds : List (Deed T W)) (seen : List (Channel T W)) (e : Effect T W) (key : Key) (r : Option (Reply T)) (s : Stage (Phase T) T W) → TriesFor x y f.ask ds seen → e ≡ queued f m c → How c f y m r s → c.queue.items ≡ [] → Settled x key e r s
   filled c x f y m ds seen e key r s tries effect (inl (f', goes, none, there)) empty = by_stage (goes_fills c.queue f.ask m f.stage f'.stage goes.1 empty)
     where
       by_stage : Empties f.ask f.stage m c.queue ⊎ (IsPush f.ask × HasAppended f'.stage) → Settled x key e r s

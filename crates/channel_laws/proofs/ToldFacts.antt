@@ -1,12 +1,12 @@
 -- How many are told after a section on a list, and how they were told.
-use Rattle.std.proofs.Common.{◌≡◌, ℕ, ◌+◌, ◌-◌, ◌≤◌, Bool, true, false, if◌then◌else◌, min, List, [], ◌∷◌, ◌++◌, length, take, map, Option, None, Some, is_some, not, ◌⊎◌, inl, inr, refl, sym, ap, ◌∙◌, subst, arith, length-append}
+use Rattle.std.proofs.Common.{zero, suc, ◌≡◌, ℕ, ◌+◌, ◌-◌, ◌≤◌, Bool, true, false, if◌then◌else◌, min, List, [], ◌∷◌, ◌++◌, length, take, map, Option, None, Some, is_some, not, ◌⊎◌, inl, inr, refl, sym, ap, ◌∙◌, subst, arith, length-append}
 use Rattle.std.specs.Map.{lookup, remove_entry}
 use Rattle.event_listener.specs.Lists.{Notice, same_key, told_as, waits_as, told_with, without, with_task, moved, passed, registration, removed}
 use Rattle.event_listener.specs.declared.key.Key.{Key}
-use Rattle.channel_calls.specs.Parts.{Listeners, told_one, told_all, waits}
+use Rattle.channel_calls.specs.Parts.{Listeners, told_one, told_more, told_all, waits}
 use Rattle.channel_laws.specs.Notices.{AnyTold, EachTold}
 use Rattle.channel_laws.specs.Waits.{IsIn}
-use Rattle.channel_laws.proofs.ListFacts.{removed_as, thin_drop}
+use Rattle.channel_laws.proofs.ListFacts.{removed_as, thin_drop, thin_told_more}
 use mathlib.Core.Bool.{cond}
 
 -- ---- one entry fewer
@@ -95,6 +95,13 @@ module _ (b : Bool) where
     pub any_told_one : (l : Listeners W) → AnyTold b (told_one l).told → AnyTold b l.told ⊎ (true ≡ b)
     any_told_one l h = any_passed (record { additional = true; tag = tt }) l h
 
+    pub any_told_more : (n : ℕ) (l : Listeners W) → AnyTold b (told_more n l).told → AnyTold b l.told ⊎ (true ≡ b)
+    any_told_more zero l h = inl h
+    any_told_more (suc n) l h = by (any_told_more n (told_one l) h) where
+      by : AnyTold b (told_one l).told ⊎ (true ≡ b) → AnyTold b l.told ⊎ (true ≡ b)
+      by (inl h) = any_told_one l h
+      by (inr e) = inr e
+
     pub any_told_all : (l : Listeners W) → AnyTold b (told_all l).told → AnyTold b l.told ⊎ (false ≡ b)
     any_told_all l h =
         or_so false l.waiting (map (λ w. tt) l.waiting) (any_join l.told (told_with false l.waiting (map (λ w. tt) l.waiting)) h)
@@ -165,6 +172,16 @@ module _ {W : Type 0} where
   pub told_one_counts : (key : Key) (l : Listeners W) → IsIn key (told_one l).waiting
       → length (told_one l).told ≡ length l.told + 1
   told_one_counts key l h = passed_one (record { additional = true; tag = tt }) key l refl h
+
+  -- and so many more
+  pub told_more_counts : (n : ℕ) (key : Key) (l : Listeners W) → IsIn key (told_more n l).waiting
+      → length (told_more n l).told ≡ length l.told + n
+  told_more_counts zero key l h = omega arith
+  told_more_counts (suc n) key l h =
+      let rest = told_more_counts n key (told_one l) h in
+      let thin = thin_told_more n (told_one l) in
+      let one = told_one_counts key l (thin.0 key h) in
+      omega (arith, rest, one)
 
   passed_counts : (b : Bool) (n : Notice Unit) (key k : Key) (l : Listeners W) → n.additional ≡ b → told_as l key ≡ Some n
       → IsIn k (passed n (without key l)).waiting

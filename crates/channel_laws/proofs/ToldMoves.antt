@@ -5,7 +5,7 @@ use Rattle.event_listener.specs.Lists.{listened, registration, removed, removed_
 use Rattle.event_listener.specs.declared.key.Key.{Key}
 use Rattle.channel_calls.specs.Marks.{up, down}
 use Rattle.channel_calls.specs.Moves.{Channel, Effect, queued, untouched, on_line, on_count, leaves, Turned, Worked, Moves}
-use Rattle.channel_calls.specs.Parts.{Listeners, listeners, count, is_raised, told_one, told_one_wakes, told_all, told_all_wakes, waits}
+use Rattle.channel_calls.specs.Parts.{Listeners, listeners, count, is_raised, told_one, told_one_wakes, told_more, told_more_wakes, told_all, told_all_wakes, waits}
 use Rattle.channel_calls.specs.Turns.{line_of, again, pends_by}
 use Rattle.channel_calls.specs.declared.mark.Mark.{Mark}
 use Rattle.channel_calls.specs.declared.reply.Reply.{Reply}
@@ -19,14 +19,18 @@ use Rattle.channel_calls.specs.declared.stage.Stage.TheVariants.{Trying, Working
 use Rattle.channel_calls.specs.declared.stage.Ending.{Ending}
 use Rattle.channel_calls.specs.declared.stage.Waiting.{Waiting}
 use Rattle.channel_calls.specs.declared.stage.Work.{Work}
-use Rattle.channel_calls.specs.declared.stage.Work.TheVariants.{TellReceive, TellStreams, TellSend, TellAll, Insert, Register, Leave, Lower, Count, Load, Raise}
+use Rattle.channel_calls.specs.declared.stage.Work.TheVariants.{TellReceive, TellStreams, TellSend, TellSends, TakeRoom, TellAll, Insert, Register, Leave, Lower, Count, Load, Raise}
 use Rattle.channel_laws.specs.Notices.{IsOneByOne, AnyTold, told_of}
 use Rattle.channel_laws.specs.Waits.{IsIn}
-use Rattle.channel_laws.proofs.ToldFacts.{any_told_one, any_told_all, any_after_removal, any_registration, told_one_counts, removed_counts, registered_counts}
+use Rattle.channel_laws.proofs.ToldFacts.{any_told_one, any_told_more, any_told_all, any_after_removal, any_registration, told_one_counts, told_more_counts, removed_counts, registered_counts}
 
 abbrev pub is_receives : Line → ℕ
 is_receives Receives = 1
 is_receives line = 0
+
+abbrev pub of_sends : ℕ → Line → ℕ
+of_sends n Sends = n
+of_sends n line = 0
 
 abbrev pub is_sends : Line → ℕ
 is_sends Sends = 1
@@ -90,6 +94,7 @@ module _ {T W : Type 0} where
   Tells line b (Working (TellReceive x)) = (line ≡ Receives) × (true ≡ b)
   Tells line b (Working (TellStreams x)) = (line ≡ Streams) × (false ≡ b)
   Tells line b (Working (TellSend x)) = (line ≡ Sends) × (true ≡ b)
+  Tells line b (Working (TellSends n x)) = (line ≡ Sends) × (true ≡ b)
   Tells line b (Working (TellAll at closer)) = (line ≡ at) × (false ≡ b)
   Tells line b at = ⊥
 
@@ -124,6 +129,13 @@ module _ {T W : Type 0} where
         (told_one_wakes (listeners Sends c.roster)) c
         (λ at h. and_at Sends c true at (any_told_one b (listeners Sends c.roster) h)) (λ h. inl h)
         )
+    worked_told c (TellSends n x) e r s g =
+        as_is (Keeps (Working (TellSends n x))) line c e _ g.0 (
+        by_line (Keeps (Working (TellSends n x))) line Sends (told_more n (listeners Sends c.roster))
+        (told_more_wakes n (listeners Sends c.roster)) c
+        (λ at h. and_at Sends c true at (any_told_more b n (listeners Sends c.roster) h)) (λ h. inl h)
+        )
+    worked_told c (TakeRoom n) e r s g = as_is (Keeps (Working (TakeRoom n))) line c e _ g.0 (λ h. inl h)
     worked_told c (TellAll at closer) e r s g =
         as_is (Keeps (Working (TellAll at closer))) line c e _ g.0 (
         by_line (Keeps (Working (TellAll at closer))) line at (told_all (listeners at c.roster))
@@ -171,6 +183,7 @@ module _ {T W : Type 0} where
   abbrev pub tells_now : Work T W → Line → ℕ
   tells_now (TellReceive x) line = is_receives line
   tells_now (TellSend x) line = is_sends line
+  tells_now (TellSends n x) line = of_sends n line
   tells_now w line = 0
 
   -- the poll found its listener told, and tries again without it
@@ -203,6 +216,14 @@ module _ {T W : Type 0} where
         (λ h. inl (let n = told_one_counts key (listeners Sends c.roster) h in omega (arith, n)))
     one_send Receives one c e x g = as_is (Counts Receives (TellSend x)) Receives c e _ g.0 (λ h. inl (omega arith))
     one_send line one c e x g = absurd one
+
+    more_sends : (line : Line) → IsOneByOne line → (c : Channel T W) (e : Effect T W) (n : ℕ) (x : Ending T) → Worked c (TellSends n x) e r s
+        → Counts line (TellSends n x) (listeners line c.roster) (listeners line e.channel.roster)
+    more_sends Sends one c e n x g =
+        as_is (Counts Sends (TellSends n x)) Sends c e _ g.0
+        (λ h. inl (let k = told_more_counts n key (listeners Sends c.roster) h in omega (arith, k)))
+    more_sends Receives one c e n x g = as_is (Counts Receives (TellSends n x)) Receives c e _ g.0 (λ h. inl (omega arith))
+    more_sends line one c e n x g = absurd one
 
     module _ (line : Line) (one : IsOneByOne line) (c : Channel T W) where
       same_number : (at : Line) → line ≡ at → length (told_of line c) ≡ length (told_of at c)
@@ -241,6 +262,8 @@ module _ {T W : Type 0} where
           (λ at h. absurd h) (λ h. inl (omega arith))
           )
       worked_counts (TellSend x) e g = one_send line one c e x g
+      worked_counts (TellSends n x) e g = more_sends line one c e n x g
+      worked_counts (TakeRoom n) e g = as_is (Counts line (TakeRoom n)) line c e _ g.0 (λ h. inl (omega arith))
       worked_counts (TellAll at closer) e g =
           as_is (Counts line (TellAll at closer)) line c e _ g.0 (
           by_line (Counts line (TellAll at closer)) line at (told_all (listeners at c.roster))

@@ -32,6 +32,7 @@ module _ {T : Type 0} where
   -- replies that say that no message will come any more
   abbrev pub SaysTheEnd : Reply T → Type 0
   SaysTheEnd (reply.TryRecv (Err try_recv_error.Closed)) = Unit {0}
+  SaysTheEnd (reply.RecvMany (Err (refused.Plain try_recv_error.Closed))) = Unit {0}
   SaysTheEnd (reply.RecvPoll (Ready (Err (refused.Plain e)))) = Unit {0}
   SaysTheEnd (reply.Next (Ready None)) = Unit {0}
   SaysTheEnd r = ⊥
@@ -39,6 +40,7 @@ module _ {T : Type 0} where
   -- replies with a message out of the channel: one that was received, or displaced
   abbrev pub GivesMessage : Reply T → Type 0
   GivesMessage (reply.TryRecv (Ok m)) = Unit {0}
+  GivesMessage (reply.RecvMany (Ok (m ∷ ms))) = Unit {0}
   GivesMessage (reply.RecvPoll (Ready (Ok m))) = Unit {0}
   GivesMessage (reply.Next (Ready (Some (Ok m)))) = Unit {0}
   GivesMessage (reply.ForceSend (Ok (Some m))) = Unit {0}

@@ -3,11 +3,12 @@ use Rattle.std.specs.Prelude.{ℕ, ◌+◌, ◌≤◌, List, length, Option, Non
 use Rattle.concurrent_queue.specs.Queue.{Phase, Stage, displaced, taken}
 use Rattle.channel_calls.specs.Moves.{Channel}
 use Rattle.channel_calls.specs.declared.ask.ChannelAsk.{ChannelAsk}
-use Rattle.channel_calls.specs.declared.ask.ChannelAsk.TheVariants.{ForceSend, TryRecv, PollSend, PollRecv, PollNext}
+use Rattle.channel_calls.specs.declared.ask.ChannelAsk.TheVariants.{ForceSend, TryRecv, RecvMany, PollSend, PollRecv, PollNext}
+use Rattle.channel_calls.specs.declared.stage.Aim.TheVariants as aim
 use Rattle.channel_calls.specs.declared.stage.Line.TheVariants.{Sends}
 use Rattle.channel_calls.specs.declared.stage.Stage as stage
 use Rattle.channel_calls.specs.declared.stage.Stage.TheVariants.{Trying, Working}
-use Rattle.channel_calls.specs.declared.stage.Work.TheVariants.{TellSend}
+use Rattle.channel_calls.specs.declared.stage.Work.TheVariants.{TellSend, TellSends}
 use Rattle.channel_steps.specs.Moments.{Shut}
 use Rattle.channel_steps.specs.Scene.{Scene}
 use Rattle.channel_steps.specs.Run.{new_scene}
@@ -32,10 +33,12 @@ HasPlaces None n = ⊥
 HasPlaces (Some cap) n = cap ≤ n
 
 module _ {T W : Type 0} where
-  -- 1 for a call that has taken a message and has not told a send yet
+  -- how many messages a call has taken for which it has not told a send yet
   abbrev pub is_to_tell_send : stage.Stage (Phase T) T W → ℕ
-  is_to_tell_send (Trying f aim) = has_taken f.stage
+  is_to_tell_send (Trying f (aim.RecvMany g)) = length g.taken + has_taken f.stage
+  is_to_tell_send (Trying f a) = has_taken f.stage
   is_to_tell_send (Working (TellSend x)) = 1
+  is_to_tell_send (Working (TellSends n x)) = n
   is_to_tell_send at = 0
 
   -- 1 for a displacing send that made room and has not brought its message yet
@@ -43,10 +46,11 @@ module _ {T W : Type 0} where
   is_on_its_way (Trying f aim) = has_displaced f.stage
   is_on_its_way at = 0
 
-  -- what a call under way counts for beside the messages and the told sends: a receiving one that is to tell a send for one,
+  -- what a call under way counts for beside the messages and the told sends: a receiving one for each send that it is to tell,
   -- and so a displacing send whose message is on its way, and a poll of a send that tries with no listener in hand
   abbrev pub counts_for_sends : ChannelAsk T W → stage.Stage (Phase T) T W → ℕ
   counts_for_sends TryRecv at = is_to_tell_send at
+  counts_for_sends (RecvMany n) at = is_to_tell_send at
   counts_for_sends (PollRecv key task) at = is_to_tell_send at
   counts_for_sends (PollNext key task) at = is_to_tell_send at
   counts_for_sends (ForceSend m) at = is_on_its_way at

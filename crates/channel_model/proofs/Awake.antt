@@ -1,7 +1,7 @@
 -- What keeps everybody awake, whatever the names are: how many messages and free places there are, and who waits.
-use Rattle.std.proofs.Common.{arith, ◌≡◌, ◌⊎◌, ◌≤◌, ◌+◌, ◌-◌, ℕ, List, [], ◌∷◌, ◌++◌, length, take, drop, Bool, true, false, cond, if◌then◌else◌, Option, None, Some, IsSome, refl, sym, ap, subst, ◌∙◌, inl, inr}
+use Rattle.std.proofs.Common.{zero, suc, arith, ◌≡◌, ◌⊎◌, ◌≤◌, ◌+◌, ◌-◌, ℕ, List, [], ◌∷◌, ◌++◌, length, take, drop, Bool, true, false, cond, if◌then◌else◌, Option, None, Some, IsSome, refl, sym, ap, subst, ◌∙◌, inl, inr}
 use Rattle.std.specs.List.{filter}
-use Rattle.channel_model.specs.Lines.{Waiting, same_waiter, is_among, untold, told_by, after_news, without, gone, passed_on, at_end, standing}
+use Rattle.channel_model.specs.Lines.{Waiting, same_waiter, is_among, untold, told_by, after_news, after_rooms, without, gone, passed_on, at_end, standing}
 use Rattle.channel_model.specs.Awake.{Kind, Enough, times, times_in, Placed, Awake}
 use Rattle.channel_model.specs.Laws.{same_line, is_line, count_of, free_places}
 use Rattle.channel_model.specs.declared.name.Waiter.{Waiter}
@@ -405,6 +405,12 @@ module _ (k : Kind) (capacity : Option ℕ) where
     streams = less_streams n m l.streams e a.streams;
     opened = λ o line. empty_news Room line l (a.opened o line);
   }
+
+  -- several were, at once
+  pub awake_rooms : (closed : Bool) (i n m : ℕ) (l : Waiting) → n ≡ m + i → Awake k capacity closed n l → Awake k capacity closed m (after_rooms i l)
+  awake_rooms closed zero n m l e a = let same : n ≡ m = omega (arith, e) in subst (λ (j : ℕ). Awake k capacity closed j l) same a
+  awake_rooms closed (suc i) n m l e a =
+      awake_rooms closed i (m + i) m (after_news Room l) refl (awake_room closed n (m + i) l (omega (arith, e)) a)
 
   all_empty : (line : Line) (l : Waiting) → untold line (after_news Closing l) ≡ []
   all_empty Sends l = refl

@@ -156,6 +156,7 @@ module _ {T : Type 0} where
     never_says (call.PollNext receiver) a e = refl
     never_says (call.StreamIsTerminated receiver) a e = refl
     never_says (call.TryRecv receiver) a e = refl
+    never_says (call.RecvMany receiver limit) a e = refl
     never_says (call.Close handle) a e = refl
     never_says (call.Drop handle) a e = refl
     never_says (call.TryClone handle new) a e = refl

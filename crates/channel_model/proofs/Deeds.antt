@@ -1,5 +1,6 @@
 -- What one call does to a channel and to the number of its handles.
-use Rattle.std.proofs.Common.{arith, ◌≡◌, ◌⊎◌, ◌+◌, ◌^◌, ◌-◌, ◌==◌, ℕ, nat_lt, List, [], ◌∷◌, ◌++◌, length, Bool, true, false, ◌||◌, if◌then◌else◌, Option, None, Some, is_none, Ok, Err, refl, sym, ap, subst, inl, inr, length-append}
+use Rattle.std.proofs.Common.{zero, suc, take, drop, arith, ◌≡◌, ◌⊎◌, ◌+◌, ◌^◌, ◌-◌, ◌==◌, ℕ, nat_lt, List, [], ◌∷◌, ◌++◌, length, Bool, true, false, ◌||◌, if◌then◌else◌, Option, None, Some, is_none, Ok, Err, refl, sym, ap, subst, inl, inr, length-append}
+use Rattle.std.proofs.lemmas.List.{take-append-drop}
 use Rattle.channel_model.specs.Bounds.{says_closed}
 use Rattle.channel_model.specs.Channel.{appended, holding}
 use Rattle.channel_model.specs.Handles.{live_of}
@@ -10,8 +11,8 @@ use Rattle.channel_model.specs.declared.call.Call.{Call}
 use Rattle.channel_model.specs.declared.call.Call.TheVariants as call
 use Rattle.channel_calls.specs.declared.reply.Reply.{Reply}
 use Rattle.channel_calls.specs.declared.reply.Reply.TheVariants as reply
-use Rattle.channel_model.specs.Answer.{Answer, replying, telling, leaving, pending, space_of, Found, first, none_yet, none_ever, found_in, found, try_send_answer, force_send_answer, displacing, send_poll_answer, try_recv_answer, recv_poll_answer, next_answer, poll_next_answer, close_answer, shut, closed_poll_answer, poll_answer, poll_refused_answer, give_up_answer, new_answer, drop_one, dropped, drop_answer, made, spent, weak_of, clone_answer, downgrade_answer, upgrade_answer, one_more, strong_of, count, with_count, without_one, answer}
-use Rattle.channel_model.specs.Refused.{Lack, memory, serials, refused, not_listening, not_standing, not_held, send_not_polled, recv_not_polled, not_polled, next_not_polled, answer_without, Answers}
+use Rattle.channel_model.specs.Answer.{Answer, replying, telling, leaving, pending, space_of, Found, first, none_yet, none_ever, found_in, found, try_send_answer, force_send_answer, displacing, send_poll_answer, try_recv_answer, recv_many_answer, recv_poll_answer, next_answer, poll_next_answer, close_answer, shut, closed_poll_answer, poll_answer, poll_refused_answer, give_up_answer, new_answer, drop_one, dropped, drop_answer, made, spent, weak_of, clone_answer, downgrade_answer, upgrade_answer, one_more, strong_of, count, with_count, without_one, answer}
+use Rattle.channel_model.specs.Refused.{Lack, memory, serials, refused, not_listening, not_standing, not_held, send_not_polled, recv_not_polled, not_polled, next_not_polled, not_received, answer_without, Answers}
 use Rattle.channel_calls.specs.declared.stage.Line.{Line}
 use Rattle.channel_calls.specs.declared.stage.Line.TheVariants.{Sends, Receives, Streams, Closings}
 use Rattle.channel_model.specs.declared.news.News.TheVariants.{Nothing, Closing}
@@ -78,6 +79,16 @@ module _ {T : Type 0} where
     try_recv (first m rest) e = holds rest 1 (one_less m rest (found_first s.channel.messages s.channel.closed m rest e)) refl (λ side. refl) refl
     try_recv none_yet e = stays refl (λ side. refl) refl
     try_recv none_ever e = stays refl (λ side. refl) refl
+
+    several_less : (ms rest : List T) → ms ++ rest ≡ s.channel.messages → length rest + length ms ≡ length s.channel.messages
+    several_less ms rest e =
+        let l : length (ms ++ rest) ≡ length s.channel.messages = ap (λ (xs : List T). length xs) e in
+        omega (arith, l, length-append ms rest)
+
+    recv_many : (n : ℕ) (ms rest : List T) → ms ++ rest ≡ s.channel.messages → Deed s (recv_many_answer s n ms rest)
+    recv_many zero ms rest e = stays refl (λ side. refl) refl
+    recv_many (suc n) [] rest e = stays refl (λ side. refl) refl
+    recv_many (suc n) (m ∷ ms) rest e = holds rest (length (m ∷ ms)) (several_less (m ∷ ms) rest e) refl (λ side. refl) refl
 
     -- ---- operations
 
@@ -191,6 +202,7 @@ module _ {T : Type 0} where
     answered (call.TrySend sender msg) = try_send msg (space_of s.channel) refl
     answered (call.ForceSend sender msg) = force_send msg (space_of s.channel) refl
     answered (call.TryRecv receiver) = try_recv (found s.channel) refl
+    answered (call.RecvMany receiver limit) = recv_many limit (take limit s.channel.messages) (drop limit s.channel.messages) (take-append-drop limit s.channel.messages)
     answered (call.Close handle) = close
     answered (call.Drop handle) = drop_handle handle (at handle.0 s.names.handles) refl
     answered (call.TryClone handle new) = clone_handle new (at handle.0 s.names.handles)
@@ -258,6 +270,11 @@ module _ {T : Type 0} where
     next_unpolled lack receiver none_yet = out_of_line Streams (Stream receiver) (reply.Next (Ready (Some (Err (not_listening lack))))) refl
     next_unpolled lack receiver none_ever = none_stays
 
+    unreceived : (lack : Lack) (limit : ℕ) → AllStay (not_received lack s limit)
+    unreceived memory zero = none_stays
+    unreceived memory (suc n) = one_stays (replying s (reply.RecvMany (Err (NoMemory tt)))) (stays refl (λ side. refl) refl)
+    unreceived serials n = none_stays
+
     unanswered : (lack : Lack) (c : Call T) → AllStay (answer_without lack s c)
     unanswered lack (call.TrySend sender msg) = no_room lack (space_of s.channel) (replying s (reply.TrySend (Err (NoMemory msg)))) (stays refl (λ side. refl) refl)
     unanswered lack (call.ForceSend sender msg) = no_room lack (space_of s.channel) (replying s (reply.ForceSend (Err (NoMemory msg)))) (stays refl (λ side. refl) refl)
@@ -271,6 +288,7 @@ module _ {T : Type 0} where
     unanswered lack (call.SendIsTerminated op) = none_stays
     unanswered lack (call.StreamIsTerminated receiver) = none_stays
     unanswered lack (call.TryRecv receiver) = none_stays
+    unanswered lack (call.RecvMany receiver limit) = unreceived lack limit
     unanswered lack (call.Close handle) = none_stays
     unanswered lack (call.Drop handle) = none_stays
     unanswered lack (call.TryClone handle new) = none_stays

@@ -1,5 +1,6 @@
 -- Each call, one at a time, keeps the accounts of messages and leaves nobody asleep.
-use Rattle.std.proofs.Common.{arith, ◌≡◌, ◌⊎◌, ◌≤◌, ◌+◌, ◌-◌, ◌^◌, ◌==◌, ℕ, nat_eq, nat_lt, List, [], ◌∷◌, ◌++◌, length, Bool, true, false, ◌||◌, ◌&&◌, not, cond, if◌then◌else◌, Option, None, Some, IsSome, is_some, is_none, Result, Ok, Err, IfOk, OnErr, refl, sym, ap, subst, ◌∙◌, inl, inr, append-nil, append_assoc, length-append}
+use Rattle.std.proofs.lemmas.List.{take-append-drop}
+use Rattle.std.proofs.Common.{zero, suc, take, drop, arith, ◌≡◌, ◌⊎◌, ◌≤◌, ◌+◌, ◌-◌, ◌^◌, ◌==◌, ℕ, nat_eq, nat_lt, List, [], ◌∷◌, ◌++◌, length, Bool, true, false, ◌||◌, ◌&&◌, not, cond, if◌then◌else◌, Option, None, Some, IsSome, is_some, is_none, Result, Ok, Err, IfOk, OnErr, refl, sym, ap, subst, ◌∙◌, inl, inr, append-nil, append_assoc, length-append}
 use Rattle.std.proofs.lemmas.Cmp.{nat_eq_equiv}
 use Rattle.std.specs.List.{list_all}
 use Rattle.std.specs.Option.{option_map_or, option_to_list}
@@ -13,8 +14,8 @@ use Rattle.channel_model.specs.declared.call.Call.{Call}
 use Rattle.channel_model.specs.declared.call.Call.TheVariants as call
 use Rattle.channel_calls.specs.declared.reply.Reply.{Reply}
 use Rattle.channel_calls.specs.declared.reply.Reply.TheVariants as reply
-use Rattle.channel_model.specs.Answer.{Answer, replying, telling, leaving, pending, space_of, Found, first, none_yet, none_ever, found_in, found, try_send_answer, force_send_answer, displacing, send_poll_answer, try_recv_answer, recv_poll_answer, next_answer, poll_next_answer, close_answer, shut, closed_poll_answer, poll_answer, poll_refused_answer, give_up_answer, given_up, new_answer, drop_one, dropped, drop_answer, made, spent, weak_of, clone_answer, downgrade_answer, upgrade_answer, one_more, strong_of, count, with_count, news_without_one, answer}
-use Rattle.channel_model.specs.Refused.{Lack, memory, serials, refused, not_listening, not_standing, not_held, send_not_polled, recv_not_polled, not_polled, next_not_polled, answer_without, Answers}
+use Rattle.channel_model.specs.Answer.{Answer, replying, telling, leaving, pending, space_of, Found, first, none_yet, none_ever, found_in, found, try_send_answer, force_send_answer, displacing, send_poll_answer, try_recv_answer, recv_many_answer, recv_poll_answer, next_answer, poll_next_answer, close_answer, shut, closed_poll_answer, poll_answer, poll_refused_answer, give_up_answer, given_up, new_answer, drop_one, dropped, drop_answer, made, spent, weak_of, clone_answer, downgrade_answer, upgrade_answer, one_more, strong_of, count, with_count, news_without_one, answer}
+use Rattle.channel_model.specs.Refused.{Lack, memory, serials, refused, not_listening, not_standing, not_held, send_not_polled, recv_not_polled, not_polled, next_not_polled, not_received, answer_without, Answers}
 use Rattle.channel_model.specs.Refusal.{refusal, is_live, uses, are_fit, takes_borrowed, names_taken}
 use Rattle.channel_model.specs.Laws.{removed_by, accepted_by, sends_after, removed, accepted, line_of_operation, line_of, free_places, NobodyIsLeft}
 use Rattle.channel_model.specs.Awake.{Awake, AwakeIn, times_in}
@@ -39,7 +40,7 @@ use Rattle.channel_calls.specs.declared.error.Refused.TheVariants.{NoMemory}
 use Rattle.event_listener.specs.declared.error.ListenError.TheVariants as listen
 use Rattle.futures.specs.declared.task.Poll.TheVariants.{Ready, Pending}
 use Rattle.channel_model.proofs.WaiterLemmas.{decided, same_number}
-use Rattle.channel_model.proofs.Awake.{awake_leave, awake_leave_spent, awake_nothing, awake_message, awake_room, awake_closing, awake_gone, awake_without_stream, awake_standing, Idle, awake_renamed, stands, left_nowhere}
+use Rattle.channel_model.proofs.Awake.{awake_leave, awake_leave_spent, awake_nothing, awake_message, awake_room, awake_rooms, awake_closing, awake_gone, awake_without_stream, awake_standing, Idle, awake_renamed, stands, left_nowhere}
 
 pub chosen_no : {A : Type 0} (b : Bool) (x y : A) → b ≡ false → cond b x y ≡ y
 chosen_no b x y e = rw e refl
@@ -235,6 +236,22 @@ module _ {T : Type 0} where
         good (call.TryRecv receiver) (try_recv_answer s (first m rest)) (awake_less m rest is_first) (taken m rest is_first) refl refl
     try_recv receiver none_yet e = stay (call.TryRecv receiver) (try_recv_answer s none_yet).reply refl refl refl
     try_recv receiver none_ever e = stay (call.TryRecv receiver) (try_recv_answer s none_ever).reply refl refl refl
+
+    several_lengths : (ms rest : List T) → ms ++ rest ≡ s.channel.messages → length s.channel.messages ≡ length rest + length ms
+    several_lengths ms rest e =
+        let l : length (ms ++ rest) ≡ length s.channel.messages = ap (λ (xs : List T). length xs) e in
+        let n = length-append ms rest in
+        omega (arith, l, n)
+
+    recv_many : (receiver : HandleId) (n limit : ℕ) (ms rest : List T) → ms ++ rest ≡ s.channel.messages
+        → Good sends s (call.RecvMany receiver limit) (recv_many_answer s n ms rest)
+    recv_many receiver zero limit ms rest e = stay (call.RecvMany receiver limit) (reply.RecvMany (Ok [])) refl refl refl
+    recv_many receiver (suc n) limit [] rest e = stay (call.RecvMany receiver limit) (recv_many_answer s (suc n) [] rest).reply refl refl refl
+    recv_many receiver (suc n) limit (m ∷ ms) rest e =
+        good (call.RecvMany receiver limit) (recv_many_answer s (suc n) (m ∷ ms) rest)
+        (awake_rooms (line_of s.names) s.channel.capacity s.channel.closed (length (m ∷ ms)) (length s.channel.messages) (length rest) s.waiting
+        (several_lengths (m ∷ ms) rest e) awake)
+        (e ∙ sym (append-nil s.channel.messages)) refl refl
 
     -- ---- operations
 
@@ -535,6 +552,8 @@ module _ {T : Type 0} where
     answered (call.TrySend sender msg) ok = try_send sender msg (space_of s.channel) refl
     answered (call.ForceSend sender msg) ok = force_send sender msg (space_of s.channel) refl
     answered (call.TryRecv receiver) ok = try_recv receiver (found s.channel) refl
+    answered (call.RecvMany receiver limit) ok =
+        recv_many receiver limit limit (take limit s.channel.messages) (drop limit s.channel.messages) (take-append-drop limit s.channel.messages)
     answered (call.Close handle) ok = close handle
     answered (call.Drop handle) ok = drop_handle handle (at handle.0 s.names.handles)
     answered (call.TryClone handle new) ok = clone_handle (call.TryClone handle new) refl (λ r. refl) new (at handle.0 s.names.handles)
@@ -613,6 +632,12 @@ module _ {T : Type 0} where
         out_of_line (call.PollNext receiver) Streams (Stream receiver) (reply.Next (Ready (Some (Err (not_listening lack))))) refl refl refl refl (no_message (found_yet s.channel.messages s.channel.closed e).0)
     next_unpolled lack receiver none_ever e = none_good (call.PollNext receiver)
 
+    unreceived : (lack : Lack) (receiver : HandleId) (n limit : ℕ) → AllGood (call.RecvMany receiver limit) (not_received lack s n)
+    unreceived memory receiver zero limit = none_good (call.RecvMany receiver limit)
+    unreceived memory receiver (suc n) limit =
+        one_good (call.RecvMany receiver limit) (replying s (reply.RecvMany (Err (NoMemory tt)))) (stay (call.RecvMany receiver limit) (reply.RecvMany (Err (NoMemory tt))) refl refl refl)
+    unreceived serials receiver n limit = none_good (call.RecvMany receiver limit)
+
     pub unanswered : (lack : Lack) (c : Call T) → AllGood c (answer_without lack s c)
     unanswered lack (call.TrySend sender msg) = no_room (call.TrySend sender msg) lack (space_of s.channel) (replying s (reply.TrySend (Err (NoMemory msg)))) (stay (call.TrySend sender msg) (reply.TrySend (Err (NoMemory msg))) refl refl refl)
     unanswered lack (call.ForceSend sender msg) = no_room (call.ForceSend sender msg) lack (space_of s.channel) (replying s (reply.ForceSend (Err (NoMemory msg)))) (stay (call.ForceSend sender msg) (reply.ForceSend (Err (NoMemory msg))) refl refl refl)
@@ -626,6 +651,7 @@ module _ {T : Type 0} where
     unanswered lack (call.SendIsTerminated op) = none_good (call.SendIsTerminated op)
     unanswered lack (call.StreamIsTerminated receiver) = none_good (call.StreamIsTerminated receiver)
     unanswered lack (call.TryRecv receiver) = none_good (call.TryRecv receiver)
+    unanswered lack (call.RecvMany receiver limit) = unreceived lack receiver limit limit
     unanswered lack (call.Close handle) = none_good (call.Close handle)
     unanswered lack (call.Drop handle) = none_good (call.Drop handle)
     unanswered lack (call.TryClone handle new) = none_good (call.TryClone handle new)

@@ -163,6 +163,7 @@ module _ {T : Type 0} where
     whole (call.PollNext receiver) a e = tt
     whole (call.StreamIsTerminated receiver) a e = tt
     whole (call.TryRecv receiver) a e = tt
+    whole (call.RecvMany receiver limit) a e = tt
     whole (call.Close handle) a e = tt
     whole (call.Drop handle) a e = tt
     whole (call.TryClone handle new) a e = tt

@@ -1,8 +1,8 @@
 -- What a call answers and leaves, when calls are made one at a time and memory is ample: a function of state and call.
-use Rattle.std.specs.Prelude.{ℕ, ◌+◌, ◌-◌, ◌^◌, ◌==◌, nat_lt, List, [], ◌∷◌, ◌++◌, length, ◌&&◌, ◌||◌, Bool, true, false, not, Option, None, Some, is_none, Ok, Err, if◌then◌else◌}
+use Rattle.std.specs.Prelude.{ℕ, zero, suc, take, drop, ◌+◌, ◌-◌, ◌^◌, ◌==◌, nat_lt, List, [], ◌∷◌, ◌++◌, length, ◌&&◌, ◌||◌, Bool, true, false, not, Option, None, Some, is_none, Ok, Err, if◌then◌else◌}
 use Rattle.channel_model.specs.Channel.{Channel, is_full, appended, holding}
 use Rattle.channel_model.specs.Names.{Operation, send, recv, closing, at, with_new, with_spent, without, with_handles, with_operation, with_operation_changed, without_operation}
-use Rattle.channel_model.specs.Lines.{is_among, told_by, after_news, gone, left_after, told_after, standing}
+use Rattle.channel_model.specs.Lines.{is_among, told_by, after_news, after_rooms, told_by_rooms, gone, left_after, told_after, standing}
 use Rattle.channel_model.specs.State.{State, with_channel, with_names, with_waiting}
 use Rattle.channel_model.specs.declared.call.Call.{Call}
 use Rattle.channel_model.specs.declared.call.Call.TheVariants as call
@@ -46,6 +46,10 @@ telling news s r = record { after = with_waiting (after_news news s.waiting) s; 
 -- these news are told, and then w leaves its line and passes on what it was told
 abbrev pub leaving : {T : Type 0} → News → Line → Waiter → State T → Reply T → Answer T
 leaving news line w s r = record { after = with_waiting (left_after news line w s.waiting) s; reply = r; woken = told_after news line w s.waiting }
+
+-- so many places became free at once
+abbrev pub telling_rooms : {T : Type 0} → ℕ → State T → Reply T → Answer T
+telling_rooms n s r = record { after = with_waiting (after_rooms n s.waiting) s; reply = r; woken = told_by_rooms n s.waiting }
 
 -- w stands in its line
 abbrev pub pending : {T : Type 0} → Line → Waiter → State T → Reply T → Answer T
@@ -104,6 +108,12 @@ abbrev pub try_recv_answer : {T : Type 0} → State T → Found T → Answer T
 try_recv_answer s (first m ms) = telling Room (with_channel (holding s.channel ms) s) (reply.TryRecv (Ok m))
 try_recv_answer s none_yet = replying s (reply.TryRecv (Err try_recv.Empty))
 try_recv_answer s none_ever = replying s (reply.TryRecv (Err try_recv.Closed))
+
+-- so many messages at most: these, out of the channel that holds the rest; none are none yet or never again
+abbrev pub recv_many_answer : {T : Type 0} → State T → ℕ → List T → List T → Answer T
+recv_many_answer s zero ms rest = replying s (reply.RecvMany (Ok []))
+recv_many_answer s (suc n) [] rest = replying s (reply.RecvMany (Err (Plain (if s.channel.closed then try_recv.Closed else try_recv.Empty))))
+recv_many_answer s (suc n) (m ∷ ms) rest = telling_rooms (length (m ∷ ms)) (with_channel (holding s.channel rest) s) (reply.RecvMany (Ok (m ∷ ms)))
 
 abbrev pub recv_poll_answer : {T : Type 0} → State T → OpId → Found T → Answer T
 recv_poll_answer s op (first m ms) = leaving Room Receives (Op op) (with_channel (holding s.channel ms) s) (reply.RecvPoll (Ready (Ok m)))
@@ -265,6 +275,7 @@ answer s (call.StreamIsTerminated receiver) = replying s (reply.Flag (s.channel.
 answer s (call.TrySend sender msg) = try_send_answer s msg (space_of s.channel)
 answer s (call.ForceSend sender msg) = force_send_answer s msg (space_of s.channel)
 answer s (call.TryRecv receiver) = try_recv_answer s (found s.channel)
+answer s (call.RecvMany receiver limit) = recv_many_answer s limit (take limit s.channel.messages) (drop limit s.channel.messages)
 answer s (call.Close handle) = close_answer s
 answer s (call.Drop handle) = drop_answer s handle (at handle.0 s.names.handles)
 answer s (call.TryClone handle new) = clone_answer s new (at handle.0 s.names.handles)

@@ -95,6 +95,7 @@ module _ {T : Type 0} where
   asked held names (call.TrySend sender msg) = ask.TrySend msg
   asked held names (call.ForceSend sender msg) = ask.ForceSend msg
   asked held names (call.TryRecv receiver) = ask.TryRecv
+  asked held names (call.RecvMany receiver limit) = ask.RecvMany limit
   asked held names (call.Close handle) = ask.Close
   asked held names (call.Drop handle) = drop_asked held handle (at handle.0 names.handles)
   asked held names (call.TryClone handle new) = clone_asked (at handle.0 names.handles)

@@ -21,9 +21,10 @@ use Rattle.futures.specs.declared.task.Poll.TheVariants.{Ready}
 
 -- ---- nothing is lost, doubled or reordered
 
--- what a call took out of the channel: a message that was received, or one that a send displaced
+-- what a call took out of the channel: messages that were received, or one that a send displaced
 abbrev pub removed_by : {T : Type 0} → Reply T → List T
 removed_by (reply.TryRecv (Ok m)) = m ∷ []
+removed_by (reply.RecvMany (Ok ms)) = ms
 removed_by (reply.RecvPoll (Ready (Ok m))) = m ∷ []
 removed_by (reply.Next (Ready (Some (Ok m)))) = m ∷ []
 removed_by (reply.ForceSend (Ok (Some m))) = m ∷ []

@@ -1,5 +1,5 @@
 -- Who waits, in four lines, and who of them was told.
-use Rattle.std.specs.Prelude.{◌==◌, ◌&&◌, List, [], ◌∷◌, ◌++◌, take, drop, Bool, true, false, not, if◌then◌else◌}
+use Rattle.std.specs.Prelude.{ℕ, zero, suc, ◌==◌, ◌&&◌, List, [], ◌∷◌, ◌++◌, take, drop, Bool, true, false, not, if◌then◌else◌}
 use Rattle.std.specs.List.{list_any, filter}
 use Rattle.channel_model.specs.declared.name.Waiter.{Waiter}
 use Rattle.channel_model.specs.declared.name.Waiter.TheVariants.{Op, Stream}
@@ -97,6 +97,16 @@ left_after news line w l = let told = after_news news l in after_news (passed_on
 -- who is told by that, in order
 abbrev pub told_after : News → Line → Waiter → Waiting → List Waiter
 told_after news line w l = let told = after_news news l in told_by news l ++ told_by (passed_on line w told) (gone w told)
+
+-- So many places became free at once: as many more sends are told, one after another.
+abbrev pub after_rooms : ℕ → Waiting → Waiting
+after_rooms zero l = l
+after_rooms (suc n) l = after_rooms n (after_news Room l)
+
+-- who is told by that, in order
+abbrev pub told_by_rooms : ℕ → Waiting → List Waiter
+told_by_rooms zero l = []
+told_by_rooms (suc n) l = told_by Room l ++ told_by_rooms n (after_news Room l)
 
 -- w stands at the end of its line, and nowhere else
 abbrev pub at_end : Line → Waiter → Waiting → Waiting

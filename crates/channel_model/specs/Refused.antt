@@ -1,5 +1,5 @@
 -- What a call answers where the one growth that it needs is refused; None where it needs none.
-use Rattle.std.specs.Prelude.{◌≡◌, ◌⊎◌, Option, None, Some, is_none, Err, if◌then◌else◌}
+use Rattle.std.specs.Prelude.{◌≡◌, ◌⊎◌, ℕ, zero, suc, Option, None, Some, is_none, Err, if◌then◌else◌}
 use Rattle.channel_model.specs.Channel.{Channel}
 use Rattle.channel_model.specs.Names.{Operation, send, recv, closing, at}
 use Rattle.channel_model.specs.Lines.{untold, is_among, gone}
@@ -71,9 +71,16 @@ next_not_polled lack s w none_yet = not_standing Streams w s (reply.Next (Ready 
 next_not_polled lack s w (first m ms) = None
 next_not_polled lack s w none_ever = None
 
+-- room for several messages is memory, and no memory is taken for none
+abbrev pub not_received : {T : Type 0} → Lack → State T → ℕ → Option (Answer T)
+not_received memory s zero = None
+not_received memory s (suc n) = Some (replying s (reply.RecvMany (Err (NoMemory tt))))
+not_received serials s n = None
+
 abbrev pub answer_without : {T : Type 0} → Lack → State T → Call T → Option (Answer T)
 answer_without lack s (call.TrySend sender msg) = not_held lack s.channel (space_of s.channel) (replying s (reply.TrySend (Err (NoMemory msg))))
 answer_without lack s (call.ForceSend sender msg) = not_held lack s.channel (space_of s.channel) (replying s (reply.ForceSend (Err (NoMemory msg))))
+answer_without lack s (call.RecvMany receiver limit) = not_received lack s limit
 answer_without lack s (call.Poll op) = not_polled lack s op (at op.0 s.names.operations)
 answer_without lack s (call.PollNext receiver) = next_not_polled lack s (Stream receiver) (found s.channel)
 answer_without lack s c = None

@@ -57,6 +57,20 @@ finished = reply.SendPoll (Ready (Ok tt))
 abbrev polled : ℕ → Call ℕ
 polled n = call.Poll (op n)
 
+abbrev took : List ℕ → Reply ℕ
+took ms = reply.RecvMany (Ok ms)
+
+abbrev many : ℕ → Call ℕ
+many n = call.RecvMany r n
+
+pub several_taken_at_once_tell_as_many : replies (start (Some 2)) (call.TrySend s 1 ∷ call.NewSend (op 0) s 2 ∷ call.NewSend (op 1) s 3 ∷ call.NewSend (op 2) s 4 ∷ polled 0 ∷ polled 1 ∷ polled 2 ∷ many 9 ∷ call.Close s ∷ many 0 ∷ many 9 ∷ [])
+    ≡ alone sent ∷ made ∷ made ∷ made ∷ alone finished ∷ no_place ∷ no_place ∷ (took (1 ∷ 2 ∷ []), Op (op 1) ∷ Op (op 2) ∷ []) ∷ alone (reply.Closed true) ∷ alone (took []) ∷ alone (reply.RecvMany (Err (Plain try_recv.Closed))) ∷ []
+several_taken_at_once_tell_as_many = refl
+
+pub as_many_are_told_as_were_taken : replies (start (Some 1)) (call.TrySend s 1 ∷ call.NewSend (op 0) s 2 ∷ call.NewSend (op 1) s 3 ∷ polled 0 ∷ polled 1 ∷ many 2 ∷ [])
+    ≡ alone sent ∷ made ∷ made ∷ no_place ∷ no_place ∷ (took (1 ∷ []), Op (op 0) ∷ []) ∷ []
+as_many_are_told_as_were_taken = refl
+
 pub one_place_filled_and_emptied : replies (start (Some 1)) (call.NewSend (op 0) s 10 ∷ polled 0 ∷ call.TrySend s 20 ∷ call.NewRecv (op 1) r ∷ polled 1 ∷ call.TryRecv r ∷ [])
     ≡ made ∷ alone finished ∷ full 20 ∷ made ∷ alone (got 10) ∷ alone (reply.TryRecv (Err try_recv.Empty)) ∷ []
 one_place_filled_and_emptied = refl

@@ -29,6 +29,8 @@ pub enum Call<T> {
     ForceSend { sender: HandleId, msg: T },
     /// A receive that doesn't wait.
     TryRecv { receiver: HandleId },
+    /// A receive of several messages, at most so many, that doesn't wait for any.
+    RecvMany { receiver: HandleId, limit: usize },
     /// The channel is closed through either strong handle.
     Close { handle: HandleId },
     /// The handle is dropped. The last strong one of its side closes the channel.

@@ -53,6 +53,10 @@ impl ChannelCells<u64, u32> for Cramped {
         self.channel.tell_one(line, sink)
     }
 
+    fn tell_more<S: Wakes<u32>>(&mut self, line: Line, count: usize, sink: &mut S) {
+        self.channel.tell_more(line, count, sink)
+    }
+
     fn tell_all<S: Wakes<u32>>(&mut self, line: Line, sink: &mut S) {
         self.channel.tell_all(line, sink)
     }
@@ -145,8 +149,13 @@ fn in_short(entry: Option<Entry<u64>>) -> (Said, Option<Key>) {
     match entry {
         None => (Said::Missing, None),
         Some(entry) => {
-            let key = entry.kept.and_then(|kept| kept.key);
-            match entry.reply {
+            let Entry {
+                mark: _,
+                reply,
+                kept,
+            } = entry;
+            let key = kept.and_then(|kept| kept.key);
+            match reply {
                 None => (Said::GoesOn, key),
                 Some(reply) => (answer_of(reply), key),
             }

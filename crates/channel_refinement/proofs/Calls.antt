@@ -44,7 +44,7 @@ use Rattle.channel_refinement.proofs.Receiving.{poll_recv}
 use Rattle.channel_refinement.proofs.Sending.{poll_send}
 use Rattle.channel_refinement.proofs.Streams.{poll_next}
 use Rattle.channel_refinement.proofs.Told.{same_names}
-use Rattle.channel_refinement.proofs.Trying.{filled_is, only_answers, try_send, try_send_lacks, force_send, force_send_lacks, try_recv, close}
+use Rattle.channel_refinement.proofs.Trying.{filled_is, only_answers, try_send, try_send_lacks, force_send, force_send_lacks, try_recv, recv_many, close}
 
 module _ {T : Type 0} (held : Held) (c : Channel T Waiter) (s : State T) (h : Shows held c s) (awake : AwakeIn s) (o : Outcome T Waiter) where
   -- a new name is free where the call is begun
@@ -187,6 +187,7 @@ module _ {T : Type 0} (held : Held) (c : Channel T Waiter) (s : State T) (h : Sh
   every (call.TrySend sender msg) ok does = tried sender msg does
   every (call.ForceSend sender msg) ok does = forced sender msg does
   every (call.TryRecv receiver) ok does = try_recv held c s h awake receiver o does
+  every (call.RecvMany receiver limit) ok does = recv_many held c s h awake receiver limit o does
   every (call.Close handle) ok does = close held c s h awake handle o does
   every (call.Drop handle) ok does = dropped_by handle (at handle.0 s.names.handles) refl ok does
   every (call.TryClone handle new) ok does = cloned_by handle new (at handle.0 s.names.handles) refl ok does

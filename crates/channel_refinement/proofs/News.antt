@@ -1,8 +1,8 @@
 -- News are told over the four lists as over the four lines, and those who are woken are the same, in order.
-use Rattle.std.proofs.Common.{arith, ◌≡◌, ◌≤◌, List, ◌++◌, take, Bool, true, refl, sym, ap, subst, ◌∙◌, append_assoc, append-nil}
-use Rattle.channel_calls.specs.Parts.{Roster, listeners, with_listeners, told_one, told_one_wakes, told_all, told_all_wakes}
+use Rattle.std.proofs.Common.{arith, ◌≡◌, ◌≤◌, ℕ, zero, suc, List, ◌++◌, take, Bool, true, refl, sym, ap, subst, ◌∙◌, append_assoc, append-nil}
+use Rattle.channel_calls.specs.Parts.{Roster, listeners, with_listeners, told_one, told_one_wakes, told_more, told_more_wakes, told_all, told_all_wakes}
 use Rattle.channel_calls.specs.declared.stage.Line.TheVariants as list
-use Rattle.channel_model.specs.Lines.{Waiting, told_by, after_news}
+use Rattle.channel_model.specs.Lines.{Waiting, told_by, after_news, after_rooms, told_by_rooms}
 use Rattle.channel_model.specs.Lines.{all_told}
 use Rattle.channel_model.specs.Awake.{Kind}
 use Rattle.channel_model.specs.declared.name.Waiter.{Waiter}
@@ -18,6 +18,9 @@ use Rattle.channel_refinement.proofs.Telling.{Lined, lined_all, lined_next, one_
 
 abbrev pub room_told : Roster Waiter → Roster Waiter
 room_told a = with_listeners list.Sends (told_one a.sends) a
+
+abbrev pub rooms_told : ℕ → Roster Waiter → Roster Waiter
+rooms_told n a = with_listeners list.Sends (told_more n a.sends) a
 
 abbrev pub receive_told : Roster Waiter → Roster Waiter
 receive_told a = with_listeners list.Receives (told_one a.receives) a
@@ -50,6 +53,17 @@ keys_news kind held news l h = record {
   apart = h.apart;
 }
 
+pub keys_rooms : (kind : Kind) (held : Held) (n : ℕ) (l : Waiting) → KeysFit kind held l → KeysFit kind held (after_rooms n l)
+keys_rooms kind held zero l h = h
+keys_rooms kind held (suc n) l h = keys_rooms kind held n (after_news Room l) (keys_news kind held Room l h)
+
+-- those who are told then are told after all that were before
+pub rooms_woken : (n : ℕ) (l : Waiting) → (after_rooms n l).woken ≡ l.woken ++ told_by_rooms n l
+rooms_woken zero l = sym (append-nil l.woken)
+rooms_woken (suc n) l =
+    let m : Waiting = after_news Room l in
+    rooms_woken n m ∙ append_assoc l.woken (told_by Room l) (told_by_rooms n m)
+
 module _ (kind : Kind) (held : Held) where
   pub nothing_lines : (closed : Bool) (a : Roster Waiter) (l : Waiting) → ShowsLines kind held closed a l → ShowsLines kind held closed a (after_news Nothing l)
   nothing_lines closed a l h =
@@ -61,6 +75,21 @@ module _ (kind : Kind) (held : Held) where
 
   pub room_wakes : (closed : Bool) (a : Roster Waiter) (l : Waiting) (rest : List Waiter) → ShowsLines kind held closed a l → told_one_wakes a.sends ++ rest ≡ told_by Room l ++ rest
   room_wakes closed a l rest h = ap (λ (ws : List Waiter). ws ++ rest) (one_woken kind held closed Sends a.sends l (h Sends))
+
+  -- several places became free, one after another
+  pub rooms_lines : (n : ℕ) (closed : Bool) (a : Roster Waiter) (l : Waiting) → Lined kind l → ShowsLines kind held closed a l
+      → ShowsLines kind held closed (rooms_told n a) (after_rooms n l)
+  rooms_lines zero closed a l lined h = h
+  rooms_lines (suc n) closed a l lined h =
+      rooms_lines n closed (room_told a) (after_news Room l) (lined_next kind Sends l lined) (room_lines closed a l lined h)
+
+  pub rooms_wakes : (n : ℕ) (closed : Bool) (a : Roster Waiter) (l : Waiting) → Lined kind l → ShowsLines kind held closed a l
+      → told_more_wakes n a.sends ≡ told_by_rooms n l
+  rooms_wakes zero closed a l lined h = refl
+  rooms_wakes (suc n) closed a l lined h =
+      ap (λ (ws : List Waiter). ws ++ told_more_wakes n (told_one a.sends)) (one_woken kind held closed Sends a.sends l (h Sends))
+      ∙ ap (λ (ws : List Waiter). take 1 l.sends ++ ws)
+      (rooms_wakes n closed (room_told a) (after_news Room l) (lined_next kind Sends l lined) (room_lines closed a l lined h))
 
   receive_lines : (closed : Bool) (a : Roster Waiter) (l : Waiting) → Lined kind l → ShowsLines kind held closed a l → ShowsLines kind held closed (receive_told a) (after_news (NextIn Receives) l)
   receive_lines closed a l lined h = one_told kind held closed Receives a l lined (λ c. refl) h

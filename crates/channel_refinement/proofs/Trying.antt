@@ -1,5 +1,5 @@
 -- Calls of handles that do not wait.
-use Rattle.std.proofs.Common.{◌≡◌, ℕ, List, [], ◌∷◌, ◌++◌, length, drop, slice_get, ◌==◌, Bool, true, false, Option, None, Some, Ok, Err, if◌then◌else◌, refl, sym, ap, subst, ◌∙◌, inl, inr, append-nil}
+use Rattle.std.proofs.Common.{arith, zero, suc, ◌<◌, take, ◌≡◌, ℕ, List, [], ◌∷◌, ◌++◌, length, drop, slice_get, ◌==◌, Bool, true, false, Option, None, Some, Ok, Err, if◌then◌else◌, refl, sym, ap, subst, ◌∙◌, inl, inr, append-nil}
 use Rattle.std.specs.Option.{option_map_or}
 use Rattle.concurrent_queue.specs.Queue.{Queue, is_full_at, is_filled}
 use Rattle.channel_calls.specs.Moves.{Channel}
@@ -11,8 +11,8 @@ use Rattle.channel_calls.specs.declared.reply.Reply.{Reply}
 use Rattle.channel_calls.specs.declared.reply.Reply.TheVariants as reply
 use Rattle.channel_calls.specs.declared.stage.Closer.TheVariants as closer
 use Rattle.channel_alone.specs.Alone as alone
-use Rattle.channel_alone.specs.Alone.{Outcome, ends, of_message, of_room, of_closing, over_queue, receives_by, receives, sends, force_sends, closes, MayLackRoom}
-use Rattle.channel_model.specs.Answer.{Found, first, none_yet, none_ever, found, try_recv_answer, try_send_answer, force_send_answer, displacing, space_of, replying, telling, shut}
+use Rattle.channel_alone.specs.Alone.{Outcome, ends, of_message, of_room, of_closing, over_queue, receives_by, receives, receives_these, receives_several, ReceivesSeveral, sends, force_sends, closes, MayLackRoom}
+use Rattle.channel_model.specs.Answer.{Found, first, none_yet, none_ever, found, try_recv_answer, recv_many_answer, try_send_answer, force_send_answer, displacing, space_of, replying, telling, shut}
 use Rattle.channel_model.specs.Awake.{AwakeIn}
 use Rattle.channel_model.specs.Channel.{is_full, holding}
 use Rattle.channel_model.specs.Laws.{line_of}
@@ -30,7 +30,7 @@ use Rattle.channel_refinement.specs.Over.{Matches, names_after}
 use Rattle.channel_model.specs.Asked.{Held}
 use Rattle.channel_refinement.specs.Shows.{Shows}
 use Rattle.channel_refinement.proofs.Matching.{matching}
-use Rattle.channel_refinement.proofs.News.{shut_lines, keys_news, room_lines, room_wakes, message_lines, message_wakes, closing_lines, closing_wakes}
+use Rattle.channel_refinement.proofs.News.{shut_lines, keys_news, keys_rooms, rooms_woken, room_lines, room_wakes, rooms_lines, rooms_wakes, message_lines, message_wakes, closing_lines, closing_wakes}
 use Rattle.channel_refinement.proofs.Telling.{Lined}
 
 pub full_as : {T : Type 0} → (cap : Option ℕ) (items : List T) → is_full_at cap items ≡ option_map_or (λ (n : ℕ). length items == n) cap false
@@ -114,6 +114,51 @@ module _ {T : Type 0} (held : Held) (c : Channel T Waiter) (s : State T) (h : Sh
 
     pub try_recv : (receiver : HandleId) (o : Outcome T Waiter) → o ≡ receives c → Matches held s (call.TryRecv receiver) o
     try_recv receiver o e = subst (λ (x : Outcome T Waiter). Matches held s (call.TryRecv receiver) x) (sym e) (receiving receiver c.queue.items c.queue.closed refl refl)
+
+    -- several at once
+
+    several_taken : (receiver : HandleId) (n : ℕ) (ms : List T) → take (suc n) c.queue.items ≡ ms → Matches held s (call.RecvMany receiver (suc n)) (receives_these (suc n) ms c)
+    several_taken receiver n [] e =
+        let none : take (suc n) s.channel.messages ≡ [] = ap (λ (xs : List T). take (suc n) xs) (sym h.messages) ∙ e in
+        only_answers (call.RecvMany receiver (suc n))
+        (reply.RecvMany (Err (unmade.Plain (if c.queue.closed then unreceived.Closed else unreceived.Empty)))) _ refl
+        (inl (ap (λ (b : Bool). replying s (reply.RecvMany (Err (unmade.Plain (if b then unreceived.Closed else unreceived.Empty))))) h.closed
+        ∙ sym (ap (λ (xs : List T). recv_many_answer s (suc n) xs (drop (suc n) s.channel.messages)) none))) refl refl
+    several_taken receiver n (m ∷ ms) e =
+        let some : take (suc n) s.channel.messages ≡ m ∷ ms = ap (λ (xs : List T). take (suc n) xs) (sym h.messages) ∙ e in
+        let k = length (m ∷ ms) in
+        let woken = append-nil _ ∙ rooms_wakes (line_of s.names) held k s.channel.closed c.roster s.waiting lined h.lines in
+        record {
+          answer = recv_many_answer s (suc n) (m ∷ ms) (drop (suc n) s.channel.messages);
+          allowed = inl (sym (ap (λ (xs : List T). recv_many_answer s (suc n) xs (drop (suc n) s.channel.messages)) some));
+          reply = refl;
+          woken = woken;
+          shows = record {
+            messages = ap (λ (xs : List T). drop (suc n) xs) h.messages;
+            closed = h.closed;
+            capacity = h.capacity;
+            senders = h.senders;
+            receivers = h.receivers;
+            lines = rooms_lines (line_of s.names) held k s.channel.closed c.roster s.waiting lined h.lines;
+            keys = keys_rooms (line_of s.names) held k s.waiting h.keys;
+          };
+          names = refl;
+          told = rooms_woken k s.waiting ∙ ap (λ (ws : List Waiter). s.waiting.woken ++ ws) (sym woken);
+        }
+
+    several : (receiver : HandleId) (limit : ℕ) → Matches held s (call.RecvMany receiver limit) (receives_several limit c)
+    several receiver zero = only_answers (call.RecvMany receiver zero) (reply.RecvMany (Ok [])) _ refl (inl refl) refl refl
+    several receiver (suc n) = several_taken receiver n (take (suc n) c.queue.items) refl
+
+    several_lack : (receiver : HandleId) (limit : ℕ) (o : Outcome T Waiter) → 0 < limit → o ≡ ends [] (says (reply.RecvMany (Err (unmade.NoMemory tt)))) c
+        → Matches held s (call.RecvMany receiver limit) o
+    several_lack receiver zero o some e = absurd (omega (arith, some))
+    several_lack receiver (suc n) o some e =
+        only_answers (call.RecvMany receiver (suc n)) (reply.RecvMany (Err (unmade.NoMemory tt))) o refl (inr (memory, refl)) refl e
+
+    pub recv_many : (receiver : HandleId) (limit : ℕ) (o : Outcome T Waiter) → ReceivesSeveral limit c o → Matches held s (call.RecvMany receiver limit) o
+    recv_many receiver limit o (inl (some, e)) = several_lack receiver limit o some e
+    recv_many receiver limit o (inr e) = subst (λ (x : Outcome T Waiter). Matches held s (call.RecvMany receiver limit) x) (sym e) (several receiver limit)
 
     -- ---- sending
 

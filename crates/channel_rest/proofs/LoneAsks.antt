@@ -118,6 +118,7 @@ module _ {T : Type 0} where
     asks_same (call.TrySend sender msg) = refl
     asks_same (call.ForceSend sender msg) = refl
     asks_same (call.TryRecv receiver) = refl
+    asks_same (call.RecvMany receiver limit) = refl
     asks_same (call.Close handle) = refl
     asks_same (call.Downgrade handle new) = refl
     asks_same (call.SameChannel a b) = refl
@@ -176,6 +177,7 @@ module _ {T : Type 0} where
       meets_none (call.TrySend sender msg) = streams_idle (call.TrySend sender msg)
       meets_none (call.ForceSend sender msg) = streams_idle (call.ForceSend sender msg)
       meets_none (call.TryRecv receiver) = streams_idle (call.TryRecv receiver)
+      meets_none (call.RecvMany receiver limit) = streams_idle (call.RecvMany receiver limit)
       meets_none (call.Close handle) = streams_idle (call.Close handle)
       meets_none (call.Downgrade handle new) = streams_idle (call.Downgrade handle new)
       meets_none (call.SameChannel a b) = streams_idle (call.SameChannel a b)
@@ -210,6 +212,7 @@ module _ {T : Type 0} where
       taken_same (call.TrySend sender msg) = refl
       taken_same (call.ForceSend sender msg) = refl
       taken_same (call.TryRecv receiver) = refl
+      taken_same (call.RecvMany receiver limit) = refl
       taken_same (call.Close handle) = refl
       taken_same (call.SameChannel a b) = refl
       taken_same (call.IsClosed handle) = refl

@@ -354,6 +354,8 @@ module _ {T : Type 0} where
       follow r s _ (λ n. n) same (through r few sender o.reply o.kept o.woken)
   names_follow r (call.TryRecv receiver) s channel o same few alone =
       follow r s _ (λ n. n) same (through r few receiver o.reply o.kept o.woken)
+  names_follow r (call.RecvMany receiver limit) s channel o same few alone =
+      follow r s _ (λ n. n) same (through r few receiver o.reply o.kept o.woken)
   names_follow r (call.Close handle) s channel o same few alone =
       follow r s _ (λ n. n) same (through r few handle o.reply o.kept o.woken)
   names_follow r (call.IsClosed handle) s channel o same few alone =

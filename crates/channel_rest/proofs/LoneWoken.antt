@@ -306,6 +306,7 @@ module _ {T : Type 0} where
     goes (call.TrySend sender msg) a = record { starts = lends r order sender; ends = leaves_through r order sender }
     goes (call.ForceSend sender msg) a = record { starts = lends r order sender; ends = leaves_through r order sender }
     goes (call.TryRecv receiver) a = record { starts = lends r order receiver; ends = leaves_through r order receiver }
+    goes (call.RecvMany receiver limit) a = record { starts = lends r order receiver; ends = leaves_through r order receiver }
     goes (call.Close handle) a = record { starts = lends r order handle; ends = leaves_through r order handle }
     goes (call.IsClosed handle) a = record { starts = lends r order handle; ends = leaves_through r order handle }
     goes (call.IsEmpty handle) a = record { starts = lends r order handle; ends = leaves_through r order handle }

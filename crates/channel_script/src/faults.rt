@@ -71,6 +71,25 @@ impl Read for Endless {
     }
 }
 
+/// A reader that is interrupted so often, and then ends with nothing given.
+#[derive(Drop)]
+struct Interrupted {
+    left: u32,
+}
+
+impl Read for Interrupted {
+    fn read(&mut self, buf: &mut [u8]) -> io::Result<usize> {
+        let _ = buf;
+        match self.left.checked_sub(1) {
+            Some(left) => {
+                self.left = left;
+                Err(io::Error::from(ErrorKind::Interrupted))
+            }
+            None => Ok(0),
+        }
+    }
+}
+
 /// A writer that takes one byte at a time, up to its limit, and then fails by this error, or takes none.
 #[derive(Drop)]
 struct Limited {
@@ -149,6 +168,27 @@ fn endless_reader_is_a_read_fault(rt: HostRuntime) -> Result<(), Fail> {
             end,
             ScriptEnd::Fault,
             "an endless reader",
+        )?;
+    }
+    Ok(())
+}
+
+#[test]
+fn a_reader_is_asked_33554432_times_at_most(rt: HostRuntime) -> Result<(), Fail> {
+    let rows: [(u32, &[u8], ScriptEnd); 2] = [
+        (33_554_431, b"", ScriptEnd::Done),
+        (33_554_432, READ_FAULT, ScriptEnd::Fault),
+    ];
+    for (left, text, end) in rows {
+        let mut out = writer(rt.alloc(), text)?;
+        let ended = run_script(rt.alloc(), &mut Interrupted { left }, &mut out);
+        check(
+            &rt,
+            out.as_slice(),
+            text,
+            ended,
+            end,
+            "a reader that ends late",
         )?;
     }
     Ok(())

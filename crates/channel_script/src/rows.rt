@@ -279,6 +279,56 @@ fn polled_operations(rt: HostRuntime) -> Result<(), Fail> {
 }
 
 #[test]
+fn several_at_once(rt: HostRuntime) -> Result<(), Fail> {
+    // as many sends are told as messages were taken
+    show(
+        &rt,
+        "bounded 3\ntry_send s 1\ntry_send s 2\ntry_send s 3\nsend a s 4\nsend b s 5\nsend c s 6\npoll a\npoll b\npoll c\nrecv_many r 2\npoll a\npoll b\npoll c\nrecv_many r 10\npoll c\nrecv_many r 10\nrecv_many r 10\nclose s\nrecv_many r 1\nrecv_many r 0\n",
+        "ok\nok\nok\nok\nok\nok\nok\npending\npending\npending\nok 1 2 wakes a b\nok wakes c\nok\npending\nok 3 4 5 wakes c\nok\nok 6\nempty\ntrue\nclosed\nok\n",
+        ScriptEnd::Done,
+    )?;
+    // both who wait are told
+    show(
+        &rt,
+        "bounded 2\ntry_send s 1\nsend a s 2\nsend b s 3\nsend c s 4\npoll a\npoll b\npoll c\nrecv_many r 9\nclose s\nrecv_many r 0\nrecv_many r 9\n",
+        "ok\nok\nok\nok\nok\nok\npending\npending\nok 1 2 wakes b c\ntrue\nok\nclosed\n",
+        ScriptEnd::Done,
+    )?;
+    // told is what was taken, not what was wanted
+    show(
+        &rt,
+        "bounded 1\ntry_send s 1\nsend a s 2\nsend b s 3\npoll a\npoll b\nrecv_many r 2\n",
+        "ok\nok\nok\nok\npending\npending\nok 1 wakes a\n",
+        ScriptEnd::Done,
+    )?;
+    // after a message was displaced
+    show(
+        &rt,
+        "bounded 2\ntry_send s 1\ntry_send s 2\nsend a s 4\npoll a\nforce_send s 3\nrecv_many r 5\npoll a\nrecv_many r 5\n",
+        "ok\nok\nok\nok\npending\nok displaced 1\nok 2 3 wakes a\nok\nok 4\n",
+        ScriptEnd::Done,
+    )?;
+    // more than memory has room for
+    show(
+        &rt,
+        "unbounded\ntry_send s 1\nrecv_many s 1\nrecv_many r 18446744073709551615\ntry_recv r\n",
+        "ok\nok\nrefused 7\nwant of memory\n",
+        ScriptEnd::Memory,
+    )?;
+    Ok(())
+}
+
+#[test]
+fn several_at_once_over_the_end_of_a_block(rt: HostRuntime) -> Result<(), Fail> {
+    show(
+        &rt,
+        "unbounded\ntry_send s 1\ntry_send s 2\ntry_send s 3\ntry_send s 4\ntry_send s 5\ntry_send s 6\ntry_send s 7\ntry_send s 8\ntry_send s 9\ntry_send s 10\ntry_send s 11\ntry_send s 12\ntry_send s 13\ntry_send s 14\ntry_send s 15\ntry_send s 16\ntry_send s 17\ntry_send s 18\ntry_send s 19\ntry_send s 20\ntry_send s 21\ntry_send s 22\ntry_send s 23\ntry_send s 24\ntry_send s 25\ntry_send s 26\ntry_send s 27\ntry_send s 28\ntry_send s 29\ntry_send s 30\ntry_send s 31\ntry_send s 32\ntry_send s 33\ntry_send s 34\ntry_send s 35\ntry_send s 36\ntry_send s 37\ntry_send s 38\ntry_send s 39\ntry_send s 40\nrecv_many r 35\nrecv_many r 35\nrecv_many r 35\n",
+        "ok\nok\nok\nok\nok\nok\nok\nok\nok\nok\nok\nok\nok\nok\nok\nok\nok\nok\nok\nok\nok\nok\nok\nok\nok\nok\nok\nok\nok\nok\nok\nok\nok\nok\nok\nok\nok\nok\nok\nok\nok\nok 1 2 3 4 5 6 7 8 9 10 11 12 13 14 15 16 17 18 19 20 21 22 23 24 25 26 27 28 29 30 31 32 33 34 35\nok 36 37 38 39 40\nempty\n",
+        ScriptEnd::Done,
+    )
+}
+
+#[test]
 fn streams_and_notices_of_the_closing(rt: HostRuntime) -> Result<(), Fail> {
     // closing wakes a receive, a stream and a notice
     show(

@@ -1,5 +1,6 @@
 -- The queue answers, and what is known of the call after that.
-use Rattle.std.proofs.Common.{◌≡◌, ℕ, ◌+◌, ◌<◌, ◌≤◌, ◌==◌, true, false, List, [], ◌∷◌, ◌++◌, length, Option, None, Some, Ok, Err, ◌⊎◌, ⊎_elim, inl, inr, refl, sym, ap, ◌∙◌, subst, arith}
+use Rattle.std.proofs.lemmas.List.{length-append}
+use Rattle.std.proofs.Common.{append-nil, zero, suc, ◌≡◌, ℕ, ◌+◌, ◌<◌, ◌≤◌, ◌==◌, true, false, List, [], ◌∷◌, ◌++◌, length, Option, None, Some, Ok, Err, ◌⊎◌, ⊎_elim, inl, inr, refl, sym, ap, ◌∙◌, subst, arith}
 use Rattle.concurrent_queue.specs.Queue.{trying, displaced, appended, taken, read, measured, is_filled, is_full_at, AnswersTo, AnswersPush, AnswersForce, AnswersPop, AnswersClose, AnswersShut, AnswersEmpty, AnswersFull, AnswersLen, AnswersCapacity}
 use Rattle.concurrent_queue.specs.Queue as queue
 use Rattle.concurrent_queue.specs.declared.call.QueueAsk.{QueueAsk}
@@ -13,7 +14,7 @@ use Rattle.concurrent_queue.specs.declared.error.PushError.TheVariants as push_e
 use Rattle.concurrent_queue.specs.declared.error.ForcePushError.TheVariants as force_error
 use Rattle.concurrent_queue.specs.declared.error.PopError.TheVariants as pop_error
 use Rattle.event_listener.specs.declared.key.Key.{Key}
-use Rattle.channel_calls.specs.Answered.{over, sent_next, forced_next, received_next, send_next, receive_next, stream_next, closing_next, closed_next, asked_next, terminated_next, upgraded_next, answered_next}
+use Rattle.channel_calls.specs.Answered.{over, sent_next, forced_next, received_next, hands_out, gathered_next, short_next, several_next, send_next, receive_next, stream_next, closing_next, closed_next, asked_next, terminated_next, upgraded_next, answered_next}
 use Rattle.channel_calls.specs.Marks.{mark_of_queue, down}
 use Rattle.channel_calls.specs.Moves.{Channel}
 use Rattle.channel_calls.specs.Turns.{leaving, closer_ending}
@@ -21,6 +22,10 @@ use Rattle.channel_calls.specs.declared.ask.ChannelAsk.{ChannelAsk}
 use Rattle.channel_calls.specs.declared.ask.ChannelAsk.TheVariants as channel
 use Rattle.channel_calls.specs.declared.mark.Mark.{Mark}
 use Rattle.channel_calls.specs.declared.error.Refused.TheVariants as refused
+use Rattle.channel_calls.specs.declared.error.TryRecvError.{TryRecvError}
+use Rattle.channel_calls.specs.declared.error.TryRecvError.TheVariants as try_recv_error
+use Rattle.channel_calls.specs.Several.{Gathered, with_last}
+use Rattle.channel_steps.specs.Answers.{SeveralRow}
 use Rattle.channel_calls.specs.declared.reply.Reply.TheVariants as reply
 use Rattle.channel_calls.specs.declared.stage.Aim.{Aim}
 use Rattle.channel_calls.specs.declared.stage.Aim.TheVariants as aim
@@ -31,11 +36,11 @@ use Rattle.channel_calls.specs.declared.stage.Side.{Side}
 use Rattle.channel_calls.specs.declared.stage.Side.TheVariants.{Senders, Receivers}
 use Rattle.channel_calls.specs.declared.stage.Turn.{Turn}
 use Rattle.futures.specs.declared.task.Poll.TheVariants.{Ready}
-use Rattle.channel_steps.specs.Moments.{Deed, with_deed, Open, Shut, HasRoom, HasMessage, is_empty, Once, Appended, Took, Replaced, Displaced, LeftLast}
-use Rattle.channel_steps.specs.Known.{TriesFor, TryAt, all_from}
+use Rattle.channel_steps.specs.Moments.{Deed, with_deed, Open, Shut, HasRoom, HasMessage, is_empty, Once, Appended, Took, TookAll, RanOut, Drained, Replaced, Displaced, LeftLast}
+use Rattle.channel_steps.specs.Known.{TriesFor, TryAt, HasTaken, AreBehind, TriesAt, all_from}
 use Rattle.channel_steps.specs.Scene.{IsBalanced}
-use Rattle.channel_steps.specs.Tellings.{Telling, one_of, all_of, owed_for, owed}
-use Rattle.channel_steps.proofs.TryFacts.{ne_of, refusal_seen, full_once, unbounded_once, open_once, next_channel}
+use Rattle.channel_steps.specs.Tellings.{Telling, one_of, more_of, all_of, owed_for, owed_takings, with_taking, takings, owed_besides, owed}
+use Rattle.channel_steps.proofs.TryFacts.{ne_of, refusal_seen, full_once, unbounded_once, open_once, next_channel, behind_more}
 use Rattle.channel_steps.proofs.TurnFacts.{TurnAt, owes_nothing, ended}
 
 -- what a message owes
@@ -47,24 +52,63 @@ module _ {T W : Type 0} where
 
   owed_appended : (ds : List (Deed T W)) → Appended ds → news ≡ owed ds
   owed_appended [] h = absurd h
-  owed_appended (d ∷ []) h = sym (ap (λ m. owed_for m ++ []) h.0)
+  owed_appended (d ∷ []) h = sym (ap (λ m. owed_takings (with_taking m 0) ++ (owed_for m ++ [])) h.0)
   owed_appended (d ∷ e ∷ ds) h = absurd h
 
   owed_replaced : (ds : List (Deed T W)) (v : T) → Replaced ds v → news ≡ owed ds
   owed_replaced [] v h = absurd h
-  owed_replaced (d ∷ []) v h = sym (ap (λ m. owed_for m ++ []) h.0)
+  owed_replaced (d ∷ []) v h = sym (ap (λ m. owed_takings (with_taking m 0) ++ (owed_for m ++ [])) h.0)
   owed_replaced (d ∷ e ∷ ds) v h = absurd h
 
   owed_displaced : (ds : List (Deed T W)) (v : T) → Displaced ds v → news ≡ owed ds
   owed_displaced [] v h = absurd h
   owed_displaced (d ∷ []) v h = absurd h
-  owed_displaced (d ∷ e ∷ []) v h = sym (ap (λ m. owed_for m ++ (owed_for e.mark ++ [])) h.0.0 ∙ ap (λ m. owed_for m ++ []) h.1)
+  owed_displaced (d ∷ e ∷ []) v h =
+      sym (ap (λ m. owed_takings (with_taking m (with_taking e.mark 0)) ++ (owed_for m ++ (owed_for e.mark ++ []))) h.0.0 ∙ ap (λ m. owed_takings (with_taking m 0) ++ (owed_for m ++ [])) h.1)
   owed_displaced (d ∷ e ∷ f ∷ ds) v h = absurd h
 
   owed_took : (ds : List (Deed T W)) (v : T) → Took ds v → (let one : List Telling = one_of Sends ∷ [] in one) ≡ owed ds
   owed_took [] v h = absurd h
-  owed_took (d ∷ []) v h = sym (ap (λ m. owed_for m ++ []) h.0)
+  owed_took (d ∷ []) v h = sym (ap (λ m. owed_takings (with_taking m 0) ++ (owed_for m ++ [])) h.0)
   owed_took (d ∷ e ∷ ds) v h = absurd h
+
+  -- several takings, one after another
+  took_more : (ds : List (Deed T W)) (vs : List T) (mine : List (Deed T W)) (v : T) → TookAll ds vs → Took mine v → TookAll (ds ++ mine) (vs ++ v ∷ [])
+  took_more [] [] [] v h k = absurd k
+  took_more [] [] (d ∷ []) v h k = (k.0, k.1, tt)
+  took_more [] [] (d ∷ e ∷ ds) v h k = absurd k
+  took_more [] (w ∷ ws) mine v h k = absurd h
+  took_more (d ∷ ds) [] mine v h k = absurd h
+  took_more (d ∷ ds) (w ∷ ws) mine v h k = (h.0, h.1, took_more ds ws mine v h.2 k)
+
+  took_none : (ds : List (Deed T W)) → TookAll ds [] → ds ≡ []
+  took_none [] h = refl
+  took_none (d ∷ ds) h = absurd h
+
+  takings_all : (ds : List (Deed T W)) (vs : List T) → TookAll ds vs → takings ds ≡ length vs
+  takings_all [] [] h = refl
+  takings_all [] (v ∷ vs) h = absurd h
+  takings_all (d ∷ ds) [] h = absurd h
+  takings_all (d ∷ ds) (v ∷ vs) h = ap (λ m. with_taking m (takings ds)) h.0 ∙ ap (λ n. suc n) (takings_all ds vs h.2)
+
+  besides_all : (ds : List (Deed T W)) (vs : List T) → TookAll ds vs → owed_besides ds ≡ []
+  besides_all [] [] h = refl
+  besides_all [] (v ∷ vs) h = absurd h
+  besides_all (d ∷ ds) [] h = absurd h
+  besides_all (d ∷ ds) (v ∷ vs) h = ap (λ m. owed_for m ++ owed_besides ds) h.0 ∙ besides_all ds vs h.2
+
+  owed_all : (ds : List (Deed T W)) (vs : List T) → 0 < length vs → TookAll ds vs → more_of (length vs) Sends ∷ [] ≡ owed ds
+  owed_all ds [] some h = absurd (omega arith)
+  owed_all ds (v ∷ vs) some h =
+      sym (ap (λ n. owed_takings n ++ owed_besides ds) (takings_all ds (v ∷ vs) h) ∙ ap (λ ts. owed_takings (length (v ∷ vs)) ++ ts) (besides_all ds (v ∷ vs) h))
+
+  ran_out : (d : Deed T W) (ds : List (Deed T W)) (c : Channel T W) (seen : List (Channel T W)) → AreBehind (d ∷ ds) seen → Drained c → RanOut (d ∷ ds) (c ∷ seen)
+  ran_out d [] c seen b h = (c ∷ b.0.0, ap (λ (cs : List (Channel T W)). c ∷ cs) b.0.1, inl h)
+  ran_out d (e ∷ ds) c seen b h = ran_out e ds c seen b.1 h
+
+  ran_out_of : (ds : List (Deed T W)) (v : T) (vs : List T) (c : Channel T W) (seen : List (Channel T W)) → TookAll ds (v ∷ vs) → AreBehind ds seen → Drained c → RanOut ds (c ∷ seen)
+  ran_out_of [] v vs c seen t b h = absurd t
+  ran_out_of (d ∷ ds) v vs c seen t b h = ran_out d ds c seen b h
 
   once_map : (P Q : Channel T W → Type 0) → ((c : Channel T W) → P c → Q c) → (seen : List (Channel T W)) → Once P seen → Once Q seen
   once_map P Q f [] h = absurd h
@@ -121,6 +165,45 @@ module _ {T W : Type 0} where
     received ds Nothing (Pop (Err pop_error.Closed)) (trying b) h ev = ((([], c ∷ seen, refl, (ev, inl h)), refl), owes_nothing ds ev)
     received ds m r st h ev = absurd h
 
+    -- several at once
+
+    handed : (n : ℕ) (ds : List (Deed T W)) (vs : List T) → 0 < length vs → TookAll ds vs → (length vs ≡ n) ⊎ ((length vs < n) × RanOut ds (c ∷ seen))
+        → TurnAt c (channel.RecvMany n) [] ds (c ∷ seen) (hands_out vs)
+    handed n ds vs some took full = ((([], c ∷ seen, refl, (took, full)), refl), owed_all ds vs some took)
+
+    gathered : (n k : ℕ) (vs : List T) (v : T) (ds mine : List (Deed T W)) → n ≡ length vs + (k + 1) → HasTaken vs ds mine seen → Took mine v
+        → TurnAt c (channel.RecvMany n) [] ds (c ∷ seen) (gathered_next (with_last (vs ++ v ∷ []) k))
+    gathered n k vs v ds mine e t took = by k e where
+      all : TookAll ds (vs ++ v ∷ [])
+      all = subst (λ (xs : List (Deed T W)). TookAll xs (vs ++ v ∷ [])) (sym t.all) (took_more t.before vs mine v t.took took)
+
+      by : (k : ℕ) → n ≡ length vs + (k + 1) → TurnAt c (channel.RecvMany n) [] ds (c ∷ seen) (gathered_next (with_last (vs ++ v ∷ []) k))
+      by zero e =
+          let l = length-append vs (v ∷ []) in
+          handed n ds (vs ++ v ∷ []) (omega (arith, l)) all (inl (omega (arith, l, e)))
+      by (suc k) e =
+          let l = length-append vs (v ∷ []) in
+          ((omega (arith, l, e), ([], record { before = ds; all = sym (append-nil ds); took = all; behind = behind_more ds seen c t.behind }, refl)), refl)
+
+    short : (n k : ℕ) (vs : List T) (ds mine : List (Deed T W)) → n ≡ length vs + (k + 1) → HasTaken vs ds mine seen → mine ≡ [] → (e : TryRecvError) → Drained c
+        → (ds ≡ [] → SeveralRow n ds (c ∷ seen) (reply.RecvMany (Err (refused.Plain e)))) → TurnAt c (channel.RecvMany n) [] ds (c ∷ seen) (short_next vs e)
+    short n k vs ds mine e t none error gone row = by vs e t.took where
+      same : ds ≡ t.before
+      same = t.all ∙ (ap (λ (xs : List (Deed T W)). t.before ++ xs) none ∙ append-nil t.before)
+
+      by : (vs : List T) → n ≡ length vs + (k + 1) → TookAll t.before vs → TurnAt c (channel.RecvMany n) [] ds (c ∷ seen) (short_next vs error)
+      by [] e took = let empty : ds ≡ [] = same ∙ took_none t.before took in ((([], c ∷ seen, refl, row empty), refl), owes_nothing ds empty)
+      by (v ∷ vs) e took =
+          let all : TookAll ds (v ∷ vs) = subst (λ (xs : List (Deed T W)). TookAll xs (v ∷ vs)) (sym same) took in
+          handed n ds (v ∷ vs) (omega arith) all (inr (omega (arith, e), ran_out_of ds v vs c seen all t.behind gone))
+
+    several : (n : ℕ) (g : Gathered T) (ds : List (Deed T W)) → n ≡ length g.taken + (g.more + 1) → (m : QueueMark) (r : QueueReply T) (st : queue.Stage T) → AnswersPop c.queue m r st
+        → TriesAt c (aim.RecvMany g) ask.Pop st ds seen → Then (channel.RecvMany n) ask.Pop st m ds (several_next r g)
+    several n g ds e Nothing (Pop (Ok w)) (taken v) h ev = gathered n g.more g.taken w ds ev.0 e ev.1 (subst (λ (z : T). Took ev.0 z) (sym h) ev.2)
+    several n g ds e Nothing (Pop (Err pop_error.Empty)) (trying b) h ev = short n g.more g.taken ds ev.0 e ev.1 ev.2 try_recv_error.Empty h.1 (λ none. (none, omega (arith, e), inl h))
+    several n g ds e Nothing (Pop (Err pop_error.Closed)) (trying b) h ev = short n g.more g.taken ds ev.0 e ev.1 ev.2 try_recv_error.Closed h.1 (λ none. (none, omega (arith, e), inl h))
+    several n g ds e m r st h ev = absurd h
+
     poll_received : (k : Option Key) (t : W) (key : Option Key) (task : W) (ds : List (Deed T W)) (m : QueueMark) (r : QueueReply T) (st : queue.Stage T) → AnswersPop c.queue m r st → TryAt c ask.Pop st ds seen
         → Then (channel.PollRecv k t) ask.Pop st m ds (receive_next r key task)
     poll_received k t key task ds Nothing (Pop (Ok w)) (taken v) h ev = ((([], c ∷ seen, refl, subst (λ (z : T). Took ds z) (sym h) ev), refl), owed_took ds v ev)
@@ -157,9 +240,9 @@ module _ {T W : Type 0} where
     closed_by : (ds : List (Deed T W)) → ds ≡ [] → (m : QueueMark) (r : QueueReply T) (st : queue.Stage T) → AnswersClose c.queue m r st → Then channel.Close ask.Close st m ds (closed_next r closer.Call)
     closed_by ds e m r st h = subst (λ (xs : List (Deed T W)). Then channel.Close ask.Close st m xs (closed_next r closer.Call)) (sym e) (closed_none m r st h)
 
-    owed_last : (side : Side) (m : Mark) → m ≡ down side → (ts : List Telling) → ts ≡ owed_for m ++ ts
-    owed_last Senders m e ts = sym (ap (λ x. owed_for x ++ ts) e)
-    owed_last Receivers m e ts = sym (ap (λ x. owed_for x ++ ts) e)
+    owed_last : (side : Side) (m : Mark) → m ≡ down side → (ts : List Telling) → ts ≡ owed_takings (with_taking m 0) ++ (owed_for m ++ ts)
+    owed_last Senders m e ts = sym (ap (λ x. owed_takings (with_taking x 0) ++ (owed_for x ++ ts)) e)
+    owed_last Receivers m e ts = sym (ap (λ x. owed_takings (with_taking x 0) ++ (owed_for x ++ ts)) e)
 
     sender_left : (ds : List (Deed T W)) → LeftLast Senders ds seen → (m : QueueMark) (r : QueueReply T) (st : queue.Stage T) → AnswersClose c.queue m r st → Then channel.DropSender ask.Close st m ds (closed_next r closer.Sender)
     sender_left [] l m r st h = absurd l
@@ -242,11 +325,12 @@ module _ {T W : Type 0} where
 
     -- ---- by what the call asks, and what its queue's call is made for
 
-    pub answered : (ds : List (Deed T W)) → IsBalanced c.queue → (x : ChannelAsk T W) (y : Aim W) (a : QueueAsk T) (st : queue.Stage T) (m : QueueMark) (r : QueueReply T)
-        → TriesFor x y a ds seen → TryAt c a st ds seen → AnswersTo c.queue a m r st → Then x a st m ds (answered_next y r)
+    pub answered : (ds : List (Deed T W)) → IsBalanced c.queue → (x : ChannelAsk T W) (y : Aim T W) (a : QueueAsk T) (st : queue.Stage T) (m : QueueMark) (r : QueueReply T)
+        → TriesFor x y a ds seen → TriesAt c y a st ds seen → AnswersTo c.queue a m r st → Then x a st m ds (answered_next y r)
     answered ds b (channel.TrySend msg) aim.TrySend (ask.Push v) st m r f ev h = sent msg v ds f m r st h ev
     answered ds b (channel.ForceSend msg) aim.ForceSend (ask.ForcePush v) st m r f ev h = forced msg v ds f m r st h ev
     answered ds b channel.TryRecv aim.TryRecv ask.Pop st m r f ev h = received ds m r st h ev
+    answered ds b (channel.RecvMany n) (aim.RecvMany g) ask.Pop st m r f ev h = several n g ds f m r st h ev
     answered ds b channel.Close (aim.Close closer.Call) ask.Close st m r f ev h = closed_by ds f m r st h
     answered ds b (channel.PollSend msg k t) (aim.Poll Sends key task) (ask.Push v) st m r f ev h = poll_sent msg v k t key task ds f m r st h ev
     answered ds b (channel.PollRecv k t) (aim.Poll Receives key task) ask.Pop st m r f ev h = poll_received k t key task ds m r st h ev

@@ -15,7 +15,7 @@ use Rattle.channel_calls.specs.declared.stage.Held.{Held}
 use Rattle.channel_calls.specs.declared.stage.Stage.{Stage}
 use Rattle.channel_calls.specs.declared.stage.Stage.TheVariants.{Trying, Working, Finished}
 use Rattle.channel_calls.specs.declared.stage.Work.{Work}
-use Rattle.channel_calls.specs.declared.stage.Work.TheVariants.{TellReceive, TellStreams, TellSend, TellAll, Insert, Register, Leave, Lower, Count, Load, Raise}
+use Rattle.channel_calls.specs.declared.stage.Work.TheVariants.{TellReceive, TellStreams, TellSend, TellSends, TakeRoom, TellAll, Insert, Register, Leave, Lower, Count, Load, Raise}
 use Rattle.channel_steps.specs.Scene.{IsBalanced}
 use Rattle.channel_steps.specs.Count.{counted, brought_in, taken_out}
 
@@ -65,6 +65,8 @@ module _ {T W : Type 0} where
   worked c (TellReceive x) e r s h = as_it c e _ h.0 (plain c.queue mark.Nothing (refl, refl))
   worked c (TellStreams x) e r s h = as_it c e _ h.0 (plain c.queue mark.Nothing (refl, refl))
   worked c (TellSend x) e r s h = as_it c e _ h.0 (plain c.queue mark.Nothing (refl, refl))
+  worked c (TellSends n x) e r s h = as_it c e _ h.0 (plain c.queue mark.Nothing (refl, refl))
+  worked c (TakeRoom n) e r s h = as_it c e _ h.0 (plain c.queue mark.Nothing (refl, refl))
   worked c (TellAll line closer) e r s h = as_it c e _ h.0 (plain c.queue mark.Nothing (refl, refl))
   worked c (Insert w task) e r s (inl h) = as_it c e _ h.2 (plain c.queue mark.Nothing (refl, refl))
   worked c (Insert w task) e r s (inr h) = as_it c e _ h.1 (plain c.queue mark.Nothing (refl, refl))

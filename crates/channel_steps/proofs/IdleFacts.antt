@@ -10,7 +10,9 @@ use Rattle.channel_calls.specs.Moves.{Channel, phase, seats}
 use Rattle.channel_calls.specs.declared.ask.ChannelAsk.{ChannelAsk}
 use Rattle.channel_calls.specs.declared.stage.Stage.{Stage}
 use Rattle.channel_calls.specs.declared.stage.Stage.TheVariants.{Trying, Working, Finished}
-use Rattle.channel_steps.specs.Known.{TryAt, StageAt}
+use Rattle.channel_calls.specs.declared.stage.Aim.{Aim}
+use Rattle.channel_calls.specs.declared.stage.Aim.TheVariants as aim
+use Rattle.channel_steps.specs.Known.{TryAt, TriesAt, StageAt}
 use Rattle.channel_steps.specs.Moments.{Deed}
 use Rattle.channel_steps.specs.Scene.{Under, Scene, Steps, Sitting, sees, under_of, seats_of, all_seats, AllKnown, AreIdle, HoldNobodyUp}
 use Rattle.channel_steps.specs.declared.party.Entry.{Entry}
@@ -33,9 +35,18 @@ module _ {T W : Type 0} where
   idle_try now ask.Pop (taken v) seen h = absurd h
   idle_try now a s seen h = absurd h
 
+  none_mine : (before mine : List (Deed T W)) → [] ≡ before ++ mine → mine ≡ []
+  none_mine [] mine e = sym e
+  none_mine (d ∷ before) mine e = absurd cc
+
+  idle_at : (now : Channel T W) (y : Aim T W) (a : QueueAsk T) (s : queue.Stage T) (seen : List (Channel T W)) → TriesAt now y a s [] seen → IsQuiet s
+  idle_at now (aim.RecvMany r) a s seen h =
+      idle_try now a s seen (subst (λ (ds : List (Deed T W)). TryAt now a s ds seen) (none_mine h.1.before h.0 h.1.all) h.2)
+  idle_at now y a s seen h = idle_try now a s seen h
+
   idle_stage : (now : Channel T W) (x : ChannelAsk T W) (f : Phase T) (s : Stage (QueueCall T) T W) (seen : List (Channel T W))
       → StageAt now x (phase f s) [] seen → AllQuiet (phases (seats f s))
-  idle_stage now x f (Trying call aim) seen h = (idle_try now f.ask f.stage seen h.1, tt)
+  idle_stage now x f (Trying call y) seen h = (idle_at now y f.ask f.stage seen h.1, tt)
   idle_stage now x f (Working w) seen h = tt
   idle_stage now x f (Finished kept) seen h = tt
 

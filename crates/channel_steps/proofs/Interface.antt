@@ -1,7 +1,7 @@
 -- What a layer above may use: what is known of the calls under way stays known over every entry of a run; a step of the
 -- only call under way; how a step changes the number of messages; that no call has more than 197 steps left that nobody holds
 -- up; and that a listener which was just added waits.
-use Rattle.std.proofs.Common.{◌≡◌, ℕ, ◌+◌, ◌^◌, ◌≤◌, ◌<◌, true, List, [], ◌∷◌, ◌++◌, map, length, slice_get, Option, None, Some, sym, subst}
+use Rattle.std.proofs.Common.{◌≡◌, ℕ, ◌+◌, ◌*◌, ◌^◌, ◌≤◌, ◌<◌, true, List, [], ◌∷◌, ◌++◌, map, length, slice_get, Option, None, Some, sym, subst}
 use Rattle.concurrent_queue.specs.Queue.{Phase}
 use Rattle.event_listener.specs.Lists.{kind_of, listened}
 use Rattle.event_listener.specs.declared.key.Key.{Key}
@@ -15,7 +15,7 @@ use Rattle.channel_calls.specs.declared.stage.Stage.{Stage}
 use Rattle.channel_calls.specs.declared.stage.Stage.TheVariants.{Finished}
 use Rattle.channel_steps.specs.Count.{counted, brought_in, taken_out}
 use Rattle.channel_steps.specs.Left.{all_left}
-use Rattle.channel_steps.specs.Scene.{Under, Scene, sees, does, unless_ended, Known, AllKnown, IsBalanced, HoldNobodyUp, Steps, Shows}
+use Rattle.channel_steps.specs.Scene.{Under, Scene, sees, does, unless_ended, Known, AllKnown, IsBalanced, HoldNobodyUp, wanted_at, Steps, Shows}
 use Rattle.channel_steps.specs.Run.{Next, begun}
 use Rattle.channel_steps.specs.declared.party.Entry.{Entry}
 use Rattle.channel_steps.specs.declared.party.Party.{Party}
@@ -111,9 +111,9 @@ module _ {T W : Type 0} where
 
   -- ---- how many steps are left
 
-  -- no call under way has more than 197 that nobody holds up
+  -- no call under way has more than 197 that nobody holds up, and 64 for each message that it may take more than one
   pub few_left : (parts : Parts T W) (parties : List (Party T W)) (s : Scene T W) → Shows parts parties s
-      → (k n : ℕ) → slice_get (all_left parts parties) k ≡ Some n → n ≤ 197
+      → (k n : ℕ) → slice_get (all_left parts parties) k ≡ Some n → n ≤ 197 + 64 * wanted_at k s.under_way
   few_left parts parties s sh k n there = few_facts.few_left parts parties s sh k n there
 
   -- where the others hold a call up no more, they still do so after a step of its own

@@ -1,5 +1,5 @@
 -- How many steps a call still makes at most that nobody holds up, beside others.
-use Rattle.std.proofs.Common.{◌≡◌, ◌≤◌, ◌<◌, ◌+◌, ◌-◌, ◌^◌, ◌==◌, ◌&&◌, nat_lt, ℕ, Bool, true, false, if◌then◌else◌, List, ◌++◌, Option, None, Some, Ok, Err, inl, inr, refl, sym, ap, ◌∙◌, subst, arith}
+use Rattle.std.proofs.Common.{◌≡◌, ◌≤◌, ◌<◌, ◌+◌, ◌-◌, ◌*◌, ◌^◌, ◌==◌, ◌&&◌, nat_lt, ℕ, zero, suc, Bool, true, false, if◌then◌else◌, List, [], ◌∷◌, ◌++◌, Option, None, Some, Ok, Err, inl, inr, refl, sym, ap, ◌∙◌, subst, arith}
 use Rattle.std.proofs.lemmas.Bool.Decides.{nat_tests}
 use Rattle.concurrent_queue.specs.Contents.{Contents}
 use Rattle.concurrent_queue.specs.Queue.{Queue, Phase, asked}
@@ -15,6 +15,9 @@ use Rattle.concurrent_queue.proofs.Interface.{ranks}
 use Rattle.event_listener.specs.declared.key.Key.{Key}
 use Rattle.event_listener.specs.declared.error.ListenError.{ListenError}
 use Rattle.event_listener.specs.Lists.{kind_of, listened}
+use Rattle.channel_calls.specs.Several.{Gathered, with_last}
+use Rattle.channel_calls.specs.declared.error.TryRecvError.{TryRecvError}
+use Rattle.channel_calls.specs.declared.error.TryRecvError.TheVariants as try_recv_error
 use Rattle.channel_calls.specs.declared.mark.Mark.{Mark}
 use Rattle.channel_calls.specs.declared.reply.Reply.{Reply}
 use Rattle.channel_calls.specs.declared.reply.Reply.TheVariants as reply
@@ -36,10 +39,10 @@ use Rattle.channel_calls.specs.declared.stage.Turn.TheVariants.{Tries, Works, En
 use Rattle.channel_calls.specs.declared.stage.Waiting.{Waiting}
 use Rattle.channel_calls.specs.declared.stage.Waiting.TheVariants as waiting
 use Rattle.channel_calls.specs.declared.stage.Work.{Work}
-use Rattle.channel_calls.specs.declared.stage.Work.TheVariants.{TellReceive, TellStreams, TellSend, TellAll, Insert, Register, Leave, Lower, Count, Load, Raise}
+use Rattle.channel_calls.specs.declared.stage.Work.TheVariants.{TellReceive, TellStreams, TellSend, TellSends, TakeRoom, TellAll, Insert, Register, Leave, Lower, Count, Load, Raise}
 use Rattle.channel_calls.specs.Parts.{Parts, Roster, Listeners, listeners, with_listeners, waits, count, is_raised}
-use Rattle.channel_calls.specs.Turns.{most, line_of, leaving, nothing_kept, ends_by, again, pends_by, unlistened, refused_next, closer_ending, dropper, told_all_next, lowered_next, counted_next, loaded_next, raised_next}
-use Rattle.channel_calls.specs.Answered.{sent_next, forced_next, received_next, send_next, receive_next, stream_next, closing_next, polled_next, closed_next, asked_next, terminated_next, upgraded_next, answered_next}
+use Rattle.channel_calls.specs.Turns.{most, line_of, leaving, nothing_kept, ends_by, again, pends_by, unlistened, refused_next, closer_ending, dropper, told_all_next, room_next, roomless, lowered_next, counted_next, loaded_next, raised_next}
+use Rattle.channel_calls.specs.Answered.{sent_next, forced_next, received_next, gathered_next, short_next, several_next, send_next, receive_next, stream_next, closing_next, polled_next, closed_next, asked_next, terminated_next, upgraded_next, answered_next}
 use Rattle.channel_calls.specs.Moves.{Channel, Effect, channel, Turned, Worked, Tried, Moves, seats, phase, IsTaken, Hastens, Made}
 use Rattle.channel_steps.specs.Known.{left_to_tell}
 use Rattle.channel_steps.specs.Left.{left_after, left_to_work, steps_left}
@@ -64,21 +67,36 @@ few_to_tell Receives = omega arith
 few_to_tell Streams = omega arith
 few_to_tell Closings = omega arith
 
-few_after : {W : Type 0} (a : Roster W) (x : Aim W) → left_after a x ≤ 133
+-- how many more messages a call may take after the next one
+abbrev pub wanted_after : {T W : Type 0} → Aim T W → ℕ
+wanted_after (aim.RecvMany g) = g.more
+wanted_after x = 0
+
+few_after : {T W : Type 0} (a : Roster W) (x : Aim T W) → left_after a x ≤ 133 + 64 * wanted_after x
 few_after a (aim.Poll line None task) = omega arith
 few_after a (aim.Poll line (Some key) task) = few_or (waits key (listeners line a)) 133 3 133 (omega arith) (omega arith)
 few_after a x = omega arith
 
 module _ {T W : Type 0} where
-  few_to_work : (a : Roster W) (w : Work T W) → left_to_work a w ≤ 133
+  abbrev pub wanted_by : Work T W → ℕ
+  wanted_by (TakeRoom n) = n
+  wanted_by w = 0
+
+  -- how many more messages a call may take after the next one
+  abbrev pub wanted : {Q : Type 0} → Stage Q T W → ℕ
+  wanted (Trying call aim) = wanted_after aim
+  wanted (Working w) = wanted_by w
+  wanted (Finished kept) = 0
+
+  few_to_work : (a : Roster W) (w : Work T W) → left_to_work a w ≤ 133 + 64 * wanted_by w
   few_to_work a (TellAll line c) = let h = few_to_tell line in omega (arith, h)
   few_to_work a (Register w key task) = few_or (waits key (listeners (line_of w) a)) 133 1 133 (omega arith) (omega arith)
   few_to_work a (Raise side n m) = few_or (is_raised side n a) 133 1 3 (omega arith) (omega arith)
   few_to_work a w = omega arith
 
-  -- no call makes more than 197 steps that nobody holds up
+  -- no call makes more than 197 steps that nobody holds up, and 64 for each further message that it may take
   pub few_left : (c : Contents T) (a : Roster W) (q : Queue T) (f : Phase T) (s : Stage (QueueCall T) T W) (l r : List (Seat T))
-      → Fits c q (l ++ (seats f s ++ r)) → steps_left c a s ≤ 197
+      → Fits c q (l ++ (seats f s ++ r)) → steps_left c a s ≤ 197 + 64 * wanted s
   few_left c a q f (Trying call aim) l r fits =
       let h = ranks c q f call l r fits in
       let k = few_after a aim in
@@ -96,8 +114,8 @@ at_least : (b : Bool) (n i j : ℕ) → n ≤ i → n ≤ j → n ≤ (if b then
 at_least true n i j h k = h
 at_least false n i j h k = k
 
-module _ {W : Type 0} (a : Roster W) where
-  some_to_poll : (line : Line) (key : Option Key) (task : W) (n : ℕ) → n ≤ 3 → n ≤ left_after a (aim.Poll line key task)
+module _ (T : Type 0) {W : Type 0} (a : Roster W) where
+  some_to_poll : (line : Line) (key : Option Key) (task : W) (n : ℕ) → n ≤ 3 → n ≤ left_after {T = T} a (aim.Poll line key task)
   some_to_poll line None task n h = omega (arith, h)
   some_to_poll line (Some key) task n h = at_least (waits key (listeners line a)) n 3 133 h (omega (arith, h))
 
@@ -111,7 +129,7 @@ module _ {T W : Type 0} (a : Roster W) where
   ends_soon x = ended x.reply x.message x.held
 
   refused_left : (w : Waiting T) (line : Line) (key : Option Key) (task : W) → line_of w ≡ line
-      → left_to_turn a (refused_next w key task) ≤ left_after a (aim.Poll line key task)
+      → left_to_turn a (refused_next w key task) ≤ left_after {T = T} a (aim.Poll line key task)
   refused_left w line None task e = omega arith
   refused_left w line (Some key) task e =
       subst (λ (l : Line). (if waits key (listeners (line_of w) a) then 1 else 133) ≤ (if waits key (listeners l a) then 3 else 133)) e
@@ -136,35 +154,49 @@ module _ {T W : Type 0} (a : Roster W) where
   received_left (answer.Pop (Err pop_error.Closed)) = omega arith
   received_left x = omega arith
 
-  module _ (key : Option Key) (task : W) where
-    soon : (line : Line) (x : Ending T) → left_to_turn a (let t : Turn T W = ends_by x in t) ≤ left_after a (aim.Poll line key task)
-    soon line x = let h = ends_soon x in let k = some_to_poll a line key task 1 (omega arith) in omega (arith, h, k)
+  gathered_left : (vs : List T) (k : ℕ) → left_to_turn a (let t : Turn T W = gathered_next (with_last vs k) in t) ≤ 2 + 64 * k
+  gathered_left vs zero = omega arith
+  gathered_left vs (suc k) = omega arith
 
-    send_left : (x : QueueReply T) → left_to_turn a (send_next x key task) ≤ left_after a (aim.Poll Sends key task)
-    send_left (answer.Push (Ok u)) = some_to_poll a Sends key task 3 (omega arith)
+  short_left : (vs : List T) (e : TryRecvError) → left_to_turn a (let t : Turn T W = short_next vs e in t) ≤ 2
+  short_left [] e = omega arith
+  short_left (v ∷ vs) e = omega arith
+
+  several_left : (x : QueueReply T) (g : Gathered T) → left_to_turn a (let t : Turn T W = several_next x g in t) ≤ 2 + 64 * g.more
+  several_left (answer.Pop (Ok m)) g = gathered_left (g.taken ++ m ∷ []) g.more
+  several_left (answer.Pop (Err pop_error.Empty)) g = let h = short_left g.taken try_recv_error.Empty in omega (arith, h)
+  several_left (answer.Pop (Err pop_error.Closed)) g = let h = short_left g.taken try_recv_error.Closed in omega (arith, h)
+  several_left x g = omega arith
+
+  module _ (key : Option Key) (task : W) where
+    soon : (line : Line) (x : Ending T) → left_to_turn a (let t : Turn T W = ends_by x in t) ≤ left_after {T = T} a (aim.Poll line key task)
+    soon line x = let h = ends_soon x in let k = some_to_poll T a line key task 1 (omega arith) in omega (arith, h, k)
+
+    send_left : (x : QueueReply T) → left_to_turn a (send_next x key task) ≤ left_after {T = T} a (aim.Poll Sends key task)
+    send_left (answer.Push (Ok u)) = some_to_poll T a Sends key task 3 (omega arith)
     send_left (answer.Push (Err (push_error.Full m))) = refused_left (waiting.Send m) Sends key task refl
     send_left (answer.Push (Err (push_error.Closed m))) = soon Sends _
     send_left (answer.Push (Err (push_error.NoMemory m))) = soon Sends _
-    send_left x = some_to_poll a Sends key task 0 (omega arith)
+    send_left x = some_to_poll T a Sends key task 0 (omega arith)
 
-    receive_left : (x : QueueReply T) → left_to_turn a (receive_next x key task) ≤ left_after a (aim.Poll Receives key task)
-    receive_left (answer.Pop (Ok m)) = some_to_poll a Receives key task 2 (omega arith)
+    receive_left : (x : QueueReply T) → left_to_turn a (receive_next x key task) ≤ left_after {T = T} a (aim.Poll Receives key task)
+    receive_left (answer.Pop (Ok m)) = some_to_poll T a Receives key task 2 (omega arith)
     receive_left (answer.Pop (Err pop_error.Empty)) = refused_left waiting.Receive Receives key task refl
     receive_left (answer.Pop (Err pop_error.Closed)) = soon Receives _
-    receive_left x = some_to_poll a Receives key task 0 (omega arith)
+    receive_left x = some_to_poll T a Receives key task 0 (omega arith)
 
-    stream_left : (x : QueueReply T) → left_to_turn a (stream_next x key task) ≤ left_after a (aim.Poll Streams key task)
-    stream_left (answer.Pop (Ok m)) = some_to_poll a Streams key task 2 (omega arith)
+    stream_left : (x : QueueReply T) → left_to_turn a (stream_next x key task) ≤ left_after {T = T} a (aim.Poll Streams key task)
+    stream_left (answer.Pop (Ok m)) = some_to_poll T a Streams key task 2 (omega arith)
     stream_left (answer.Pop (Err pop_error.Empty)) = refused_left waiting.Stream Streams key task refl
     stream_left (answer.Pop (Err pop_error.Closed)) = soon Streams _
-    stream_left x = some_to_poll a Streams key task 0 (omega arith)
+    stream_left x = some_to_poll T a Streams key task 0 (omega arith)
 
-    closing_left : (x : QueueReply T) → left_to_turn a (closing_next x key task) ≤ left_after a (aim.Poll Closings key task)
+    closing_left : (x : QueueReply T) → left_to_turn a (closing_next x key task) ≤ left_after {T = T} a (aim.Poll Closings key task)
     closing_left (answer.Flag true) = soon Closings _
     closing_left (answer.Flag false) = refused_left waiting.Closing Closings key task refl
-    closing_left x = some_to_poll a Closings key task 0 (omega arith)
+    closing_left x = some_to_poll T a Closings key task 0 (omega arith)
 
-    polled_left : (line : Line) (x : QueueReply T) → left_to_turn a (polled_next line x key task) ≤ left_after a (aim.Poll line key task)
+    polled_left : (line : Line) (x : QueueReply T) → left_to_turn a (polled_next line x key task) ≤ left_after {T = T} a (aim.Poll line key task)
     polled_left Sends x = send_left x
     polled_left Receives x = receive_left x
     polled_left Streams x = stream_left x
@@ -191,10 +223,11 @@ module _ {T W : Type 0} (a : Roster W) where
   upgraded_left (answer.Flag false) side = omega arith
   upgraded_left x side = omega arith
 
-  pub answered_left : (x : Aim W) (y : QueueReply T) → left_to_turn a (answered_next x y) ≤ left_after a x
+  pub answered_left : (x : Aim T W) (y : QueueReply T) → left_to_turn a (answered_next x y) ≤ left_after a x
   answered_left aim.TrySend y = sent_left y
   answered_left aim.ForceSend y = forced_left y
   answered_left aim.TryRecv y = received_left y
+  answered_left (aim.RecvMany g) y = several_left y g
   answered_left (aim.Poll line key task) y = polled_left key task line y
   answered_left (aim.Close c) y = closed_left y c
   answered_left aim.Ask y = asked_left y
@@ -265,6 +298,10 @@ module _ {T W : Type 0} where
     raised_less true side m = omega arith
     raised_less false side m = omega arith
 
+    roomed_less : (n : ℕ) → left_to_turn e.channel.roster (let t : Turn T W = room_next n in t) < 3 + 64 * n
+    roomed_less zero = omega arith
+    roomed_less (suc n) = omega arith
+
     roster_of : {e0 : Effect T W} → e ≡ e0 → e.channel.roster ≡ e0.channel.roster
     roster_of h = ap (λ (x : Effect T W). x.channel.roster) h
 
@@ -272,6 +309,9 @@ module _ {T W : Type 0} where
     work_lessens (TellReceive x) h = record { turn = Works (TellStreams x); turned = h.1; less = omega arith }
     work_lessens (TellStreams x) h = record { turn = ends_by x; turned = h.1; less = (let k = ends_soon {W = W} e.channel.roster x in omega (arith, k)) }
     work_lessens (TellSend x) h = record { turn = ends_by x; turned = h.1; less = (let k = ends_soon {W = W} e.channel.roster x in omega (arith, k)) }
+    work_lessens (TellSends n x) h = record { turn = ends_by x; turned = h.1; less = (let k = ends_soon {W = W} e.channel.roster x in omega (arith, k)) }
+    work_lessens (TakeRoom n) (h, inl t) = record { turn = room_next n; turned = t; less = roomed_less n }
+    work_lessens (TakeRoom n) (h, inr t) = record { turn = roomless; turned = t.1; less = omega arith }
     work_lessens (TellAll line by) h = record { turn = told_all_next line by; turned = h.1; less = told_left line by }
     work_lessens (Insert w task) (inl h) =
         record { turn = again w (Some h.0) task; turned = h.3; less = inserted_less w task h.0 (listeners (line_of w) c.roster) h.1 (roster_of h.2) }
@@ -299,11 +339,11 @@ module _ {T W : Type 0} where
   taken_left : (c : Contents T) (a : Roster W) (q : Queue T) (f : Phase T) (l r : List (Seat T)) (turn : Turn T W) (x : Option (Reply T)) (s : Stage (QueueCall T) T W)
       → Fits c q (l ++ (seats f s ++ r)) → IsTaken turn x s → steps_left c a s ≤ left_to_turn a turn
   taken_left c a q f l r (Tries y aim) x (Trying call z) fits (call', starts, none, same) =
-      let aims : left_after a z ≡ left_after a aim = ap (λ (w : Aim W). left_after a w) (same_aim call call' z aim same) in
+      let aims : left_after a z ≡ left_after a aim = ap (λ (w : Aim T W). left_after a w) (same_aim call call' z aim same) in
       let h = ranks c q f call l r fits in
       omega (arith, h, aims)
     where
-      same_aim : (u v : QueueCall T) (y z : Aim W) → (let s : Stage (QueueCall T) T W = Trying u y in s) ≡ Trying v z → y ≡ z
+      same_aim : (u v : QueueCall T) (y z : Aim T W) → (let s : Stage (QueueCall T) T W = Trying u y in s) ≡ Trying v z → y ≡ z
       same_aim u v y z e = cc e
   taken_left c a q f l r (Tries y aim) x (Working w) fits (call', starts, none, same) =
       absurd (let no : (let s : Stage (QueueCall T) T W = Working w in s) ≡ Trying call' aim = same in cc)
@@ -314,11 +354,11 @@ module _ {T W : Type 0} where
   turned_left : (c : Contents T) (a : Roster W) (q : Queue T) (f : Phase T) (l r : List (Seat T)) (turn : Turn T W) (x : Option (Reply T)) (s : Stage (QueueCall T) T W)
       → Fits c q (l ++ (seats f s ++ r)) → Turned turn x (phase f s) → steps_left c a s ≤ left_to_turn a turn
   turned_left c a q f l r (Tries y aim) x (Trying call z) fits (none, same) =
-      let aims : left_after a z ≡ left_after a aim = ap (λ (w : Aim W). left_after a w) (same_aim f (asked y) z aim same) in
+      let aims : left_after a z ≡ left_after a aim = ap (λ (w : Aim T W). left_after a w) (same_aim f (asked y) z aim same) in
       let h = ranks c q f call l r fits in
       omega (arith, h, aims)
     where
-      same_aim : (u v : Phase T) (y z : Aim W) → (let s : Stage (Phase T) T W = Trying u y in s) ≡ Trying v z → y ≡ z
+      same_aim : (u v : Phase T) (y z : Aim T W) → (let s : Stage (Phase T) T W = Trying u y in s) ≡ Trying v z → y ≡ z
       same_aim u v y z e = cc e
   turned_left c a q f l r (Tries y aim) x (Working w) fits (none, same) =
       absurd (let no : (let s : Stage (Phase T) T W = Working w in s) ≡ Trying (asked y) aim = same in cc)
@@ -342,7 +382,7 @@ module _ {T W : Type 0} where
 
   module _ (parts parts' : Parts T W) (names : List W) (stage' : Stage (QueueCall T) T W) (m : Mark) (x : Option (Reply T))
       (q : Queue T) (f : Phase T) (l r : List (Seat T)) where
-    tried_less : (call : QueueCall T) (y : Aim W) (made : Made parts (Trying call y) names parts' stage' m x q f l r)
+    tried_less : (call : QueueCall T) (y : Aim T W) (made : Made parts (Trying call y) names parts' stage' m x q f l r)
         → Hastens parts.cells q f (Trying call y) parts'.cells x stage'
         → steps_left parts'.cells parts'.roster stage' < steps_left parts.cells parts.roster (Trying call y)
     tried_less call y made (inl (call', same, less)) =

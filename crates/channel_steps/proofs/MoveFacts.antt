@@ -13,11 +13,11 @@ use Rattle.channel_calls.specs.declared.stage.Stage.TheVariants.{Trying, Working
 use Rattle.channel_calls.specs.declared.stage.Turn.{Turn}
 use Rattle.channel_calls.specs.declared.stage.Turn.TheVariants.{Tries, Works, Ends}
 use Rattle.channel_calls.specs.declared.stage.Work.{Work}
-use Rattle.channel_calls.specs.declared.stage.Work.TheVariants.{TellReceive, TellStreams, TellSend, TellAll, Insert, Register, Leave, Lower, Count, Load, Raise}
+use Rattle.channel_calls.specs.declared.stage.Work.TheVariants.{TellReceive, TellStreams, TellSend, TellSends, TakeRoom, TellAll, Insert, Register, Leave, Lower, Count, Load, Raise}
 use Rattle.channel_calls.specs.Asks.{kept_by}
 use Rattle.channel_calls.specs.Marks.{up}
 use Rattle.channel_calls.specs.Parts.{listeners, count, is_raised, waits}
-use Rattle.channel_calls.specs.Turns.{line_of, leaving, nothing_kept, ends_by, again, pends_by, unlistened, told_all_next, lowered_next, loaded_next, raised_next}
+use Rattle.channel_calls.specs.Turns.{line_of, leaving, nothing_kept, ends_by, again, pends_by, unlistened, told_all_next, room_next, roomless, lowered_next, loaded_next, raised_next}
 use Rattle.channel_calls.specs.declared.reply.Reply.TheVariants as reply
 use Rattle.channel_calls.specs.Moves.{Channel, Effect, untouched, on_count, leaves, Turned, Worked, Moves, seats, phase}
 use Rattle.channel_steps.specs.Run.{HasRange}
@@ -59,6 +59,8 @@ module _ {T W : Type 0} where
   worked_queue c (TellReceive x) e r s h = queue_of e _ h.0
   worked_queue c (TellStreams x) e r s h = queue_of e _ h.0
   worked_queue c (TellSend x) e r s h = queue_of e _ h.0
+  worked_queue c (TellSends n x) e r s h = queue_of e _ h.0
+  worked_queue c (TakeRoom n) e r s h = queue_of e _ h.0
   worked_queue c (TellAll line closer) e r s h = queue_of e _ h.0
   worked_queue c (Insert w task) e r s (inl h) = queue_of e _ h.2
   worked_queue c (Insert w task) e r s (inr h) = queue_of e _ h.1
@@ -86,6 +88,9 @@ module _ {T W : Type 0} where
   worked_ends c (TellReceive x) e y s h = turned_ends (Works (TellStreams x)) y s h.1
   worked_ends c (TellStreams x) e y s h = turned_ends (ends_by x) y s h.1
   worked_ends c (TellSend x) e y s h = turned_ends (ends_by x) y s h.1
+  worked_ends c (TellSends n x) e y s h = turned_ends (ends_by x) y s h.1
+  worked_ends c (TakeRoom n) e y s (h, inl t) = turned_ends (room_next n) y s t
+  worked_ends c (TakeRoom n) e y s (h, inr t) = turned_ends roomless y s t.1
   worked_ends c (TellAll line closer) e y s h = turned_ends (told_all_next line closer) y s h.1
   worked_ends c (Insert w task) e y s (inl h) = turned_ends (again w (Some h.0) task) y s h.3
   worked_ends c (Insert w task) e y s (inr h) = turned_ends (unlistened w h.0) y s h.2

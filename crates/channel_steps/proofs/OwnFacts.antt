@@ -11,7 +11,7 @@ use Rattle.channel_calls.specs.Answered.{answered_next}
 use Rattle.channel_calls.specs.Asks.{first}
 use Rattle.channel_calls.specs.Marks.{mark_of_queue, up, down}
 use Rattle.channel_calls.specs.Moves.{Channel, Effect, untouched, on_count, leaves, Turned, Tried, Worked, Moves}
-use Rattle.channel_calls.specs.Parts.{is_raised}
+use Rattle.channel_calls.specs.Parts.{listeners, told_one_wakes, is_raised}
 use Rattle.channel_calls.specs.declared.ask.ChannelAsk.{ChannelAsk}
 use Rattle.channel_calls.specs.declared.ask.ChannelAsk.TheVariants as channel
 use Rattle.channel_calls.specs.declared.mark.Mark.{Mark}
@@ -30,14 +30,14 @@ use Rattle.channel_calls.specs.declared.stage.Stage.TheVariants.{Trying, Working
 use Rattle.channel_calls.specs.declared.stage.Turn.{Turn}
 use Rattle.channel_calls.specs.declared.stage.Turn.TheVariants.{Tries, Works, Ends}
 use Rattle.channel_calls.specs.declared.stage.Work.{Work}
-use Rattle.channel_calls.specs.declared.stage.Work.TheVariants.{TellReceive, TellStreams, TellSend, TellAll, Insert, Register, Leave, Lower, Count, Load, Raise}
+use Rattle.channel_calls.specs.declared.stage.Work.TheVariants.{TellReceive, TellStreams, TellSend, TellSends, TakeRoom, TellAll, Insert, Register, Leave, Lower, Count, Load, Raise}
 use Rattle.channel_steps.specs.Moments.{Deed, with_deed}
-use Rattle.channel_steps.specs.Known.{TriesFor, TryAt, StageAt, ToldAt, IsQuick, steps_left}
+use Rattle.channel_steps.specs.Known.{TriesFor, TriesAt, StageAt, ToldAt, IsQuick, steps_left}
 use Rattle.channel_steps.specs.Run.{begun}
 use Rattle.channel_steps.specs.Scene.{Under, sees, does, Finishes, EndsInTime, brought, gone_by, came_by, Known, AllKnown, IsBalanced}
 use Rattle.channel_steps.specs.Tellings.{Telling, telling, dropping, Names}
 use Rattle.channel_steps.proofs.MoveFacts.{worked_queue}
-use Rattle.channel_steps.proofs.TryFacts.{Progress, still, progress, answer_progress, next_channel, goes, IsClosing, tries_more, try_stays}
+use Rattle.channel_steps.proofs.TryFacts.{Progress, still, progress, answer_progress, next_channel, goes_at, IsClosing, tries_more, tries_stay}
 use Rattle.channel_steps.proofs.TurnFacts.{TurnAt, After, turned_at}
 use Rattle.channel_steps.proofs.AnswerFacts.{answered}
 use Rattle.channel_steps.proofs.WorkFacts.{work_more, worked}
@@ -73,17 +73,17 @@ module _ {T W : Type 0} where
   -- ---- what is known of the call after its step
 
   module _ (c : Channel T W) (x : ChannelAsk T W) (told : List Telling) (ds : List (Deed T W)) (seen : List (Channel T W)) (bal : IsBalanced c.queue) where
-    went : (f f' : Phase T) (y : Aim W) (m : QueueMark) → TriesFor x y f.ask ds seen → TryAt c f.ask f.stage ds seen → Continues c.queue f m f'
+    went : (f f' : Phase T) (y : Aim T W) (m : QueueMark) → TriesFor x y f.ask ds seen → TriesAt c y f.ask f.stage ds seen → Continues c.queue f m f'
         → After (next_channel f.ask f.stage m c) x [] (with_deed ds (mark_of_queue m) c seen) (next_channel f.ask f.stage m c ∷ seen) None (Trying f' y)
     went f f' y m tf ta g =
         let d : Channel T W = next_channel f.ask f.stage m c in
         let es : List (Deed T W) = with_deed ds (mark_of_queue m) c seen in (
-          subst (λ (a : QueueAsk T). TriesFor x y a es (d ∷ seen) × TryAt d a f'.stage es (d ∷ seen)) (sym g.0)
-              (tries_more d ds es seen x y f.ask (λ h. absurd (never_closes c.queue f.ask m f.stage f'.stage g.1 h)) tf, goes c seen f.ask m f.stage f'.stage ds g.1 bal ta),
+          subst (λ (a : QueueAsk T). TriesFor x y a es (d ∷ seen) × TriesAt d y a f'.stage es (d ∷ seen)) (sym g.0)
+              (tries_more d ds es seen x y f.ask (λ h. absurd (never_closes c.queue f.ask m f.stage f'.stage g.1 h)) tf, goes_at c seen y f.ask m f.stage f'.stage ds g.1 bal ta),
           refl,
         )
 
-    tried_by : (f : Phase T) (y : Aim W) (m : QueueMark) (r : Option (Reply T)) (s : Stage (Phase T) T W) → TriesFor x y f.ask ds seen → TryAt c f.ask f.stage ds seen
+    tried_by : (f : Phase T) (y : Aim T W) (m : QueueMark) (r : Option (Reply T)) (s : Stage (Phase T) T W) → TriesFor x y f.ask ds seen → TriesAt c y f.ask f.stage ds seen
         → ((f' : Phase T) × Continues c.queue f m f' × (r ≡ None) × (s ≡ Trying f' y)) ⊎ ((z : QueueReply T) × Answers c.queue f m z × Turned (answered_next y z) r s)
         → After (next_channel f.ask f.stage m c) x [] (with_deed ds (mark_of_queue m) c seen) (next_channel f.ask f.stage m c ∷ seen) r s
     tried_by f y m r s tf ta (inl h) =
@@ -95,7 +95,7 @@ module _ {T W : Type 0} where
         let d : Channel T W = next_channel f.ask f.stage m c in
         turned_at d x [] (with_deed ds (mark_of_queue m) c seen) (d ∷ seen) (answered_next y h.0) r s h.2 (answered c seen ds bal x y f.ask f.stage m h.0 tf ta h.1)
 
-    tried : (f : Phase T) (y : Aim W) (e : Effect T W) (r : Option (Reply T)) (s : Stage (Phase T) T W) → TriesFor x y f.ask ds seen → TryAt c f.ask f.stage ds seen → told ≡ [] → Tried c f y e r s
+    tried : (f : Phase T) (y : Aim T W) (e : Effect T W) (r : Option (Reply T)) (s : Stage (Phase T) T W) → TriesFor x y f.ask ds seen → TriesAt c y f.ask f.stage ds seen → told ≡ [] → Tried c f y e r s
         → After e.channel x (told ++ []) (with_deed ds e.mark c seen) (e.channel ∷ seen) r s
     tried f y e r s tf ta none h =
         subst (λ (z : Effect T W). After z.channel x (told ++ []) (with_deed ds z.mark c seen) (z.channel ∷ seen) r s) (sym h.effect)
@@ -110,7 +110,7 @@ module _ {T W : Type 0} where
 
   -- ---- how it changes the queue
 
-  tried_on : (c : Channel T W) (f : Phase T) (m : QueueMark) (y : Aim W) (r : Option (Reply T)) (s : Stage (Phase T) T W)
+  tried_on : (c : Channel T W) (f : Phase T) (m : QueueMark) (y : Aim T W) (r : Option (Reply T)) (s : Stage (Phase T) T W)
       → ((f' : Phase T) × Continues c.queue f m f' × (r ≡ None) × (s ≡ Trying f' y)) ⊎ ((z : QueueReply T) × Answers c.queue f m z × Turned (answered_next y z) r s)
       → Progress c.queue (after f m c.queue)
   tried_on c f m y r s (inl h) = progress c.queue f.ask m f.stage h.0.stage h.1.1
@@ -135,9 +135,11 @@ module _ {T W : Type 0} where
   raised_names false side n c e h = ap (λ (z : Effect T W). z.woken) h
 
   work_names : (c : Channel T W) (w : Work T W) (e : Effect T W) (r : Option (Reply T)) (s : Stage (Phase T) T W) → Worked c w e r s → Names (telling (Working w)) (dropping (Working w)) c e.woken
-  work_names c (TellReceive y) e r s h = ap (λ (z : Effect T W). z.woken) h.0
+  work_names c (TellReceive y) e r s h = ap (λ (z : Effect T W). z.woken) h.0 ∙ sym (append-nil (told_one_wakes (listeners Receives c.roster)))
   work_names c (TellStreams y) e r s h = ap (λ (z : Effect T W). z.woken) h.0
-  work_names c (TellSend y) e r s h = ap (λ (z : Effect T W). z.woken) h.0
+  work_names c (TellSend y) e r s h = ap (λ (z : Effect T W). z.woken) h.0 ∙ sym (append-nil (told_one_wakes (listeners Sends c.roster)))
+  work_names c (TellSends n y) e r s h = ap (λ (z : Effect T W). z.woken) h.0
+  work_names c (TakeRoom n) e r s h = ap (λ (z : Effect T W). z.woken) h.0
   work_names c (TellAll line y) e r s h = ap (λ (z : Effect T W). z.woken) h.0
   work_names c (Insert w task) e r s (inl h) = ap (λ (z : Effect T W). z.woken) h.2
   work_names c (Insert w task) e r s (inr h) = ap (λ (z : Effect T W). z.woken) h.1
@@ -155,11 +157,12 @@ module _ {T W : Type 0} where
 
   -- ---- what it takes and brings
 
-  brings_own : (x : ChannelAsk T W) (y : Aim W) (a : QueueAsk T) (ds : List (Deed T W)) (seen : List (Channel T W)) → TriesFor x y a ds seen → message a ≡ brought x
+  brings_own : (x : ChannelAsk T W) (y : Aim T W) (a : QueueAsk T) (ds : List (Deed T W)) (seen : List (Channel T W)) → TriesFor x y a ds seen → message a ≡ brought x
   brings_own (channel.TrySend m) aim.TrySend (ask.Push v) ds seen h = ap (λ (z : T). z ∷ []) h
   brings_own (channel.ForceSend m) aim.ForceSend (ask.ForcePush v) ds seen h = ap (λ (z : T). z ∷ []) h
   brings_own (channel.PollSend m k t) (aim.Poll Sends key task) (ask.Push v) ds seen h = ap (λ (z : T). z ∷ []) h
   brings_own channel.TryRecv aim.TryRecv ask.Pop ds seen h = refl
+  brings_own (channel.RecvMany n) (aim.RecvMany g) ask.Pop ds seen h = refl
   brings_own channel.Close (aim.Close closer.Call) ask.Close ds seen h = refl
   brings_own (channel.PollRecv k t) (aim.Poll Receives key task) ask.Pop ds seen h = refl
   brings_own (channel.PollClosed k t) (aim.Poll Closings key task) ask.IsClosed ds seen h = refl
@@ -212,6 +215,8 @@ module _ {T W : Type 0} where
   work_other c (TellReceive y) e r s h = other_mark e _ h.0 tt
   work_other c (TellStreams y) e r s h = other_mark e _ h.0 tt
   work_other c (TellSend y) e r s h = other_mark e _ h.0 tt
+  work_other c (TellSends n y) e r s h = other_mark e _ h.0 tt
+  work_other c (TakeRoom n) e r s h = other_mark e _ h.0 tt
   work_other c (TellAll line y) e r s h = other_mark e _ h.0 tt
   work_other c (Insert w task) e r s (inl h) = other_mark e _ h.2 tt
   work_other c (Insert w task) e r s (inr h) = other_mark e _ h.1 tt
@@ -238,7 +243,7 @@ module _ {T W : Type 0} where
       record { older = u.seen; latest = refl; stands = stays u.at k.stands; tells = k.tells; quick = k.quick }
     where
       stays : (at : Stage (Phase T) T W) → StageAt c u.ask at u.deeds u.seen → StageAt d u.ask at u.deeds (d ∷ u.seen)
-      stays (Trying f y) h = (tries_more d u.deeds u.deeds u.seen u.ask y f.ask (λ z. refl) h.0, try_stays c d p k.older u.seen k.latest f.ask f.stage u.deeds h.1)
+      stays (Trying f y) h = (tries_more d u.deeds u.deeds u.seen u.ask y f.ask (λ z. refl) h.0, tries_stay c d p k.older u.seen k.latest y f.ask f.stage u.deeds h.1)
       stays (Working w) h = work_more u.ask w d u.deeds u.seen h
       stays (Finished kept) h = h
 
@@ -284,6 +289,7 @@ module _ {T W : Type 0} where
   begins_at c (channel.TrySend m) = (((refl, (refl, λ e. absurd (let no : false ≡ true = e in cc))), refl), tt)
   begins_at c (channel.ForceSend m) = (((refl, (refl, λ e. absurd (let no : false ≡ true = e in cc))), refl), tt)
   begins_at c channel.TryRecv = (((tt, refl), refl), tt)
+  begins_at c (channel.RecvMany n) = (((refl, refl), refl), tt)
   begins_at c channel.Close = (((refl, tt), refl), tt)
   begins_at c (channel.PollSend m k t) = (((refl, (refl, λ e. absurd (let no : false ≡ true = e in cc))), refl), tt)
   begins_at c channel.PollFinishedSend = (((([], c ∷ [], refl, (refl, refl)), refl), refl), tt)

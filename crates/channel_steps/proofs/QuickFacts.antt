@@ -32,7 +32,7 @@ use Rattle.channel_calls.specs.declared.stage.Turn.{Turn}
 use Rattle.channel_calls.specs.declared.stage.Turn.TheVariants.{Tries, Works, Ends}
 use Rattle.channel_calls.specs.declared.stage.Waiting.{Waiting}
 use Rattle.channel_calls.specs.declared.stage.Work.{Work}
-use Rattle.channel_calls.specs.declared.stage.Work.TheVariants.{TellReceive, TellStreams, TellSend, TellAll, Insert, Register, Leave, Lower, Count, Load, Raise}
+use Rattle.channel_calls.specs.declared.stage.Work.TheVariants.{TellReceive, TellStreams, TellSend, TellSends, TakeRoom, TellAll, Insert, Register, Leave, Lower, Count, Load, Raise}
 use Rattle.channel_steps.specs.Moments.{Deed}
 use Rattle.channel_steps.specs.Known.{TriesFor, IsFor, Makes, WorkAt, StageAt, IsQuick, left_to_try, left_to_tell, left_to_work, steps_left}
 
@@ -130,7 +130,7 @@ few_to_tell Streams = omega arith
 few_to_tell Closings = omega arith
 
 module _ {T W : Type 0} where
-  quick_try : (x : ChannelAsk T W) (y : Aim W) (a : QueueAsk T) (ds : List (Deed T W)) (seen : List (Channel T W)) → TriesFor x y a ds seen → IsQuick x → IsQuickTry a
+  quick_try : (x : ChannelAsk T W) (y : Aim T W) (a : QueueAsk T) (ds : List (Deed T W)) (seen : List (Channel T W)) → TriesFor x y a ds seen → IsQuick x → IsQuickTry a
   quick_try channel.Close (aim.Close closer.Call) ask.Close ds seen h q = tt
   quick_try channel.DropSender (aim.Close closer.Sender) ask.Close ds seen h q = tt
   quick_try (channel.DropReceiver k) (aim.Close (closer.Receiver key)) ask.Close ds seen h q = tt
@@ -143,6 +143,7 @@ module _ {T W : Type 0} where
   quick_try (channel.TrySend m) y a ds seen h q = absurd q
   quick_try (channel.ForceSend m) y a ds seen h q = absurd q
   quick_try channel.TryRecv y a ds seen h q = absurd q
+  quick_try (channel.RecvMany n) y a ds seen h q = absurd q
   quick_try (channel.PollSend m k t) y a ds seen h q = absurd q
   quick_try (channel.PollRecv k t) y a ds seen h q = absurd q
   quick_try (channel.PollClosed k t) y a ds seen h q = absurd q
@@ -151,7 +152,7 @@ module _ {T W : Type 0} where
   quick_try channel.Len y a ds seen h q = absurd q
   quick_try x y a ds seen h q = absurd h
 
-  quick_answers : (x : ChannelAsk T W) (y : Aim W) (a : QueueAsk T) (s : queue.Stage T) (r : QueueReply T) (ds : List (Deed T W)) (seen : List (Channel T W)) → TriesFor x y a ds seen → IsQuick x
+  quick_answers : (x : ChannelAsk T W) (y : Aim T W) (a : QueueAsk T) (s : queue.Stage T) (r : QueueReply T) (ds : List (Deed T W)) (seen : List (Channel T W)) → TriesFor x y a ds seen → IsQuick x
       → left_after (answered_next y r) < left_to_try a s
   quick_answers channel.Close (aim.Close closer.Call) ask.Close s r ds seen h q = closed_left W r closer.Call
   quick_answers channel.DropSender (aim.Close closer.Sender) ask.Close s r ds seen h q = closed_left W r closer.Sender
@@ -165,6 +166,7 @@ module _ {T W : Type 0} where
   quick_answers (channel.TrySend m) y a s r ds seen h q = absurd q
   quick_answers (channel.ForceSend m) y a s r ds seen h q = absurd q
   quick_answers channel.TryRecv y a s r ds seen h q = absurd q
+  quick_answers (channel.RecvMany n) y a s r ds seen h q = absurd q
   quick_answers (channel.PollSend m k t) y a s r ds seen h q = absurd q
   quick_answers (channel.PollRecv k t) y a s r ds seen h q = absurd q
   quick_answers (channel.PollClosed k t) y a s r ds seen h q = absurd q
@@ -199,6 +201,8 @@ module _ {T W : Type 0} where
   quick_works c x (TellReceive y) e s ds seen h q g = step_less (TellReceive y) (Works (TellStreams y)) s g.1 (omega arith)
   quick_works c x (TellStreams y) e s ds seen h q g = step_less (TellStreams y) (ends_by y) s g.1 (ends_less (TellStreams y) y (omega arith))
   quick_works c x (TellSend y) e s ds seen h q g = step_less (TellSend y) (ends_by y) s g.1 (ends_less (TellSend y) y (omega arith))
+  quick_works c x (TellSends n y) e s ds seen h q g = step_less (TellSends n y) (ends_by y) s g.1 (ends_less (TellSends n y) y (omega arith))
+  quick_works c x (TakeRoom n) e s ds seen h q g = absurd (subst (λ (z : ChannelAsk T W). IsQuick z) h.0 q)
   quick_works c x (TellAll line y) e s ds seen h q g = step_less (TellAll line y) (told_all_next line y) s g.1 (told_left T W line y)
   quick_works c x (Insert w task) e s ds seen h q g = absurd (never_for x w h.0 q)
   quick_works c x (Register w key task) e s ds seen h q g = absurd (never_for x w h.0 q)

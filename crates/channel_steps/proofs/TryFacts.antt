@@ -1,5 +1,5 @@
 -- A step of the queue's call that goes on, and what is known of the channel's call after it.
-use Rattle.std.proofs.Common.{◌≡◌, ℕ, zero, suc, ◌+◌, ◌≤◌, ◌==◌, Bool, true, false, if◌then◌else◌, List, [], ◌∷◌, ◌++◌, length, drop, Option, None, Some, ◌⊎◌, ⊎_elim, inl, inr, refl, sym, ap, ◌∙◌, subst, arith, length-append}
+use Rattle.std.proofs.Common.{append_assoc, ◌≡◌, ℕ, zero, suc, ◌+◌, ◌≤◌, ◌==◌, Bool, true, false, if◌then◌else◌, List, [], ◌∷◌, ◌++◌, length, drop, Option, None, Some, ◌⊎◌, ⊎_elim, inl, inr, refl, sym, ap, ◌∙◌, subst, arith, length-append}
 use Rattle.std.proofs.lemmas.Bool.Decides.{nat_tests}
 use Rattle.concurrent_queue.specs.Queue.{Queue, trying, displaced, appended, taken, read, measured, is_filled, is_full_at, IsOpen, IsOldest, message, marked, is_displaced, may_refuse_at, seen_after, ContinuesPush, ContinuesForce, ContinuesPop, ContinuesBy, AnswersTo}
 use Rattle.concurrent_queue.specs.Queue as queue
@@ -19,7 +19,9 @@ use Rattle.channel_calls.specs.declared.stage.Line.TheVariants.{Sends, Receives,
 use Rattle.channel_calls.specs.declared.stage.Side.{Side}
 use Rattle.channel_calls.specs.declared.stage.Side.TheVariants.{Senders, Receivers}
 use Rattle.channel_steps.specs.Moments.{Deed, with_deed, Open, HasRoom, Crowded, Unbounded, Refuses, HasMessage, Once, MadeRoom, Displaced, LeftLast}
-use Rattle.channel_steps.specs.Known.{TriesFor, TryAt}
+use Rattle.channel_calls.specs.declared.mark.Mark.{Mark}
+use Rattle.channel_calls.specs.declared.mark.Mark.TheVariants as mark
+use Rattle.channel_steps.specs.Known.{TriesFor, TryAt, HasTaken, AreBehind, TriesAt}
 use Rattle.channel_steps.specs.Scene.{IsBalanced}
 
 pub eq_of : (m n : ℕ) → (m == n) ≡ true → m ≡ n
@@ -231,6 +233,41 @@ module _ {T W : Type 0} where
     goes ask.Len m s t ds g h ev = goes_len m s t ds g ev
     goes ask.Capacity m s t ds g h ev = absurd g
 
+  -- ---- what a call has taken before
+
+  pub behind_more : (ds : List (Deed T W)) (seen : List (Channel T W)) (d : Channel T W) → AreBehind ds seen → AreBehind ds (d ∷ seen)
+  behind_more [] seen d h = tt
+  behind_more (x ∷ ds) seen d h = ((d ∷ h.0.0, ap (λ (cs : List (Channel T W)). d ∷ cs) h.0.1), behind_more ds seen d h.1)
+
+  behind_last : (ds : List (Deed T W)) (x : Deed T W) (d : Channel T W) → AreBehind ds x.seen → AreBehind (ds ++ x ∷ []) (d ∷ x.seen)
+  behind_last [] x d h = ((d ∷ [], refl), tt)
+  behind_last (y ∷ ds) x d h = ((d ∷ h.0.0, ap (λ (cs : List (Channel T W)). d ∷ cs) h.0.1), behind_last ds x d h.1)
+
+  behind_next : (ds : List (Deed T W)) (m : Mark) (c : Channel T W) (seen : List (Channel T W)) (d : Channel T W) → AreBehind ds seen → AreBehind (with_deed ds m c seen) (d ∷ seen)
+  behind_next ds mark.Nothing c seen d h = behind_more ds seen d h
+  behind_next ds m c seen d h = behind_last ds (record { mark = m; before = c; seen = seen }) d h
+
+  deed_after : (before mine : List (Deed T W)) (m : Mark) (c : Channel T W) (seen : List (Channel T W)) → with_deed (before ++ mine) m c seen ≡ before ++ with_deed mine m c seen
+  deed_after before mine mark.Nothing c seen = refl
+  deed_after before mine m c seen = append_assoc before mine (record { mark = m; before = c; seen = seen } ∷ [])
+
+  taken_on : (vs : List T) (ds mine : List (Deed T W)) (m : Mark) (c : Channel T W) (seen : List (Channel T W)) (d : Channel T W) → HasTaken vs ds mine seen
+      → HasTaken vs (with_deed ds m c seen) (with_deed mine m c seen) (d ∷ seen)
+  taken_on vs ds mine m c seen d t =
+      record {
+        before = t.before;
+        all = ap (λ (xs : List (Deed T W)). with_deed xs m c seen) t.all ∙ deed_after t.before mine m c seen;
+        took = t.took;
+        behind = behind_next ds m c seen d t.behind;
+      }
+
+  pub goes_at : (c : Channel T W) (seen : List (Channel T W)) (y : Aim T W) (a : QueueAsk T) (m : QueueMark) (s t : queue.Stage T) (ds : List (Deed T W))
+      → ContinuesBy c.queue a m s t → IsBalanced c.queue → TriesAt c y a s ds seen
+      → TriesAt (next_channel a s m c) y a t (with_deed ds (mark_of_queue m) c seen) (next_channel a s m c ∷ seen)
+  goes_at c seen (aim.RecvMany r) a m s t ds g h ev =
+      (with_deed ev.0 (mark_of_queue m) c seen, taken_on r.taken ds ev.0 (mark_of_queue m) c seen (next_channel a s m c) ev.1, goes c seen a m s t ev.0 g h ev.2)
+  goes_at c seen y a m s t ds g h ev = goes c seen a m s t ds g h ev
+
   -- ---- a new moment leaves the queue's call one of this call
 
   last_left : (side : Side) (c : Channel T W) (ds es : List (Deed T W)) (seen : List (Channel T W)) → es ≡ ds → LeftLast side ds seen → LeftLast side es (c ∷ seen)
@@ -239,10 +276,11 @@ module _ {T W : Type 0} where
       subst (λ (xs : List (Deed T W)). LeftLast side xs (c ∷ seen)) (sym e) (h.0, h.1, c ∷ h.2, ap (λ (cs : List (Channel T W)). c ∷ cs) h.3)
   last_left side c (d ∷ f ∷ ds) es seen e h = absurd h
 
-  pub tries_more : (c : Channel T W) (ds es : List (Deed T W)) (seen : List (Channel T W)) (x : ChannelAsk T W) (y : Aim W) (a : QueueAsk T) → (IsClosing a → es ≡ ds) → TriesFor x y a ds seen → TriesFor x y a es (c ∷ seen)
+  pub tries_more : (c : Channel T W) (ds es : List (Deed T W)) (seen : List (Channel T W)) (x : ChannelAsk T W) (y : Aim T W) (a : QueueAsk T) → (IsClosing a → es ≡ ds) → TriesFor x y a ds seen → TriesFor x y a es (c ∷ seen)
   tries_more c ds es seen (channel.TrySend m) aim.TrySend (ask.Push v) e h = h
   tries_more c ds es seen (channel.ForceSend m) aim.ForceSend (ask.ForcePush v) e h = h
   tries_more c ds es seen channel.TryRecv aim.TryRecv ask.Pop e h = h
+  tries_more c ds es seen (channel.RecvMany n) (aim.RecvMany g) ask.Pop e h = h
   tries_more c ds es seen channel.Close (aim.Close closer.Call) ask.Close e h = e tt ∙ h
   tries_more c ds es seen (channel.PollSend m k t) (aim.Poll Sends key task) (ask.Push v) e h = h
   tries_more c ds es seen (channel.PollRecv k t) (aim.Poll Receives key task) ask.Pop e h = h
@@ -298,3 +336,9 @@ module _ {T W : Type 0} where
     try_stays ask.Len (measured n k) ds ev = (ev.0, inr ev.1)
     try_stays ask.Capacity (trying b) ds ev = ev
     try_stays a s ds ev = absurd ev
+
+    pub tries_stay : (y : Aim T W) (a : QueueAsk T) (s : queue.Stage T) (ds : List (Deed T W)) → TriesAt c y a s ds seen → TriesAt c' y a s ds (c' ∷ seen)
+    tries_stay (aim.RecvMany r) a s ds ev =
+        let t = ev.1 in
+        (ev.0, record { before = t.before; all = t.all; took = t.took; behind = behind_more ds seen c' t.behind }, try_stays a s ev.0 ev.2)
+    tries_stay y a s ds ev = try_stays a s ds ev

@@ -19,14 +19,14 @@ use Rattle.channel_calls.specs.declared.stage.Work.TheVariants.{Leave}
 use Rattle.event_listener.specs.declared.key.Key.{Key}
 use Rattle.channel_steps.specs.Moments.{Deed}
 use Rattle.channel_steps.specs.Answers.{Keeps, Row, Met}
-use Rattle.channel_steps.specs.Known.{TriesFor, TryAt, IsFor, Answered, WorkAt, StageAt, to_tell, ToldAt}
+use Rattle.channel_steps.specs.Known.{TriesFor, TriesAt, IsFor, Answered, WorkAt, StageAt, to_tell, ToldAt}
 use Rattle.channel_steps.specs.Tellings.{Telling, owed}
 
 module _ {T W : Type 0} where
   module _ (c : Channel T W) (x : ChannelAsk T W) (told : List Telling) (ds : List (Deed T W)) (seen : List (Channel T W)) where
     -- what is known of a call that takes this turn
     abbrev pub TurnAt : Turn T W → Type 0
-    TurnAt (Tries a aim) = (TriesFor x aim a ds seen × TryAt c a (trying false) ds seen) × (told ≡ [])
+    TurnAt (Tries a aim) = (TriesFor x aim a ds seen × TriesAt c aim a (trying false) ds seen) × (told ≡ [])
     TurnAt (Works w) = WorkAt x w ds seen × (told ++ to_tell w ≡ owed ds)
     TurnAt (Ends y kept) = (Met x ds seen y × Keeps x y kept) × (told ++ [] ≡ owed ds)
 

@@ -1,5 +1,5 @@
 -- A step on a list or on a count, and what is known of the call after it.
-use Rattle.std.proofs.Common.{◌≡◌, ℕ, ◌+◌, ◌<◌, ◌≤◌, ◌==◌, ◌&&◌, nat_lt, ◌^◌, ◌-◌, Bool, true, false, if◌then◌else◌, List, [], ◌∷◌, ◌++◌, Option, None, Some, inl, inr, refl, sym, ap, ◌∙◌, subst, arith, append-nil, append_assoc}
+use Rattle.std.proofs.Common.{zero, suc, ◌≡◌, ℕ, ◌+◌, ◌<◌, ◌≤◌, ◌==◌, ◌&&◌, nat_lt, ◌^◌, ◌-◌, Bool, true, false, if◌then◌else◌, List, [], ◌∷◌, ◌++◌, Option, None, Some, inl, inr, refl, sym, ap, ◌∙◌, subst, arith, append-nil, append_assoc}
 use Rattle.std.proofs.lemmas.Bool.Decides.{nat_tests}
 use Rattle.concurrent_queue.specs.Queue.{Phase}
 use Rattle.concurrent_queue.specs.declared.call.QueueAsk.TheVariants as ask
@@ -7,9 +7,9 @@ use Rattle.event_listener.specs.declared.key.Key.{Key}
 use Rattle.event_listener.specs.declared.error.ListenError.{ListenError}
 use Rattle.event_listener.specs.declared.error.ListenError.TheVariants as listen_error
 use Rattle.channel_calls.specs.Marks.{up, down}
-use Rattle.channel_calls.specs.Moves.{Channel, Effect, untouched, on_count, leaves, Turned, Worked}
+use Rattle.channel_calls.specs.Moves.{Channel, Effect, untouched, on_count, leaves, Turned, TakesRoomFor, Worked}
 use Rattle.channel_calls.specs.Parts.{Roster, listeners, count, is_raised, waits}
-use Rattle.channel_calls.specs.Turns.{most, line_of, leaving, nothing_kept, closer_ending, dropper, ends_by, again, pends_by, unlistened, told_all_next, lowered_next, counted_next, loaded_next, raised_next}
+use Rattle.channel_calls.specs.Turns.{most, line_of, leaving, nothing_kept, closer_ending, dropper, ends_by, again, pends_by, unlistened, told_all_next, room_next, roomless, lowered_next, counted_next, loaded_next, raised_next}
 use Rattle.channel_calls.specs.declared.ask.ChannelAsk.{ChannelAsk}
 use Rattle.channel_calls.specs.declared.ask.ChannelAsk.TheVariants as channel
 use Rattle.channel_calls.specs.declared.mark.Mark.{Mark}
@@ -34,11 +34,11 @@ use Rattle.channel_calls.specs.declared.stage.Turn.TheVariants.{Tries, Works, En
 use Rattle.channel_calls.specs.declared.stage.Waiting.{Waiting}
 use Rattle.channel_calls.specs.declared.stage.Waiting.TheVariants as waiting
 use Rattle.channel_calls.specs.declared.stage.Work.{Work}
-use Rattle.channel_calls.specs.declared.stage.Work.TheVariants.{TellReceive, TellStreams, TellSend, TellAll, Insert, Register, Leave, Lower, Count, Load, Raise}
-use Rattle.channel_steps.specs.Moments.{Deed, with_deed, Open, Once}
+use Rattle.channel_calls.specs.declared.stage.Work.TheVariants.{TellReceive, TellStreams, TellSend, TellSends, TakeRoom, TellAll, Insert, Register, Leave, Lower, Count, Load, Raise}
+use Rattle.channel_steps.specs.Moments.{Deed, with_deed, Open, Once, TookAll}
 use Rattle.channel_steps.specs.Answers.{WaitsFor}
-use Rattle.channel_steps.specs.Known.{IsFor, Makes, Drops, MayRaise, Answered, WorkAt, to_tell}
-use Rattle.channel_steps.specs.Tellings.{Telling, one_of, all_of, owed, telling}
+use Rattle.channel_steps.specs.Known.{AreBehind, IsFor, Makes, Drops, MayRaise, Answered, WorkAt, to_tell}
+use Rattle.channel_steps.specs.Tellings.{Telling, one_of, more_of, all_of, owed, telling}
 use Rattle.channel_steps.proofs.TryFacts.{eq_of, open_once}
 use Rattle.channel_steps.proofs.TurnFacts.{TurnAt, After, turned_at, ended, met_more, owes_nothing, told_nobody, tries_again}
 
@@ -76,6 +76,8 @@ module _ {T W : Type 0} where
   work_more x (TellReceive e) c ds seen h = answered_more x e c ds seen h
   work_more x (TellStreams e) c ds seen h = answered_more x e c ds seen h
   work_more x (TellSend e) c ds seen h = answered_more x e c ds seen h
+  work_more x (TellSends n e) c ds seen h = answered_more x e c ds seen h
+  work_more x (TakeRoom n) c ds seen h = h
   work_more x (TellAll line closer) c ds seen h = answered_more x (closer_ending closer true) c ds seen h
   work_more x (Insert w task) c ds seen h = (h.0, h.1, waits_more (line_of w) c seen h.2)
   work_more x (Register w key task) c ds seen h = (h.0, h.1, waits_more (line_of w) c seen h.2)
@@ -237,6 +239,19 @@ module _ {T W : Type 0} where
     raising side n m false e r s is f t h k may none =
         first_step Nothing e r s (Works (Load side m)) (mark_is e _ f) none t ((makes_more x side m e.channel seen h, k), owes_nothing ds k)
 
+    room_at : (n : ℕ) (d : Channel T W) → ds ≡ [] → TurnAt d (channel.RecvMany n) [] ds (d ∷ seen) (room_next n)
+    room_at zero d e = ((([], d ∷ seen, refl, (subst (λ (xs : List (Deed T W)). TookAll xs []) (sym e) tt, inl refl)), refl), owes_nothing ds e)
+    room_at (suc n) d e =
+        ((omega arith, ([], record { before = []; all = e; took = tt; behind = subst (λ (xs : List (Deed T W)). AreBehind xs (d ∷ seen)) (sym e) tt }, refl)), refl)
+
+    roomed : (n : ℕ) (e : Effect T W) (r : Option (Reply T)) (s : Stage (Phase T) T W) → e.mark ≡ Nothing → x ≡ channel.RecvMany n → ds ≡ [] → told ≡ [] → TakesRoomFor n r s → AfterWork [] e r s
+    roomed n e r s m is k none (inl t) =
+        first_step Nothing e r s (room_next n) m none t
+        (subst (λ (y : ChannelAsk T W). TurnAt e.channel y [] ds (e.channel ∷ seen) (room_next n)) (sym is) (room_at n e.channel k))
+    roomed n e r s m is k none (inr t) =
+        first_step Nothing e r s roomless m none t.1
+        (subst (λ (y : ChannelAsk T W). TurnAt e.channel y [] ds (e.channel ∷ seen) roomless) (sym is) ((([], e.channel ∷ seen, refl, (k, t.0)), refl), owes_nothing ds k))
+
     pub worked : (w : Work T W) (e : Effect T W) (r : Option (Reply T)) (s : Stage (Phase T) T W) → WorkAt x w ds seen → told ++ to_tell w ≡ owed ds → Worked c w e r s → AfterWork (telling (Working w)) e r s
     worked (TellReceive y) e r s h k g =
         telling_step _ e r s (Works (TellStreams y)) (mark_is e _ g.0) g.1 (answered_more x y e.channel ds seen h, then_tell _ _ k)
@@ -246,6 +261,10 @@ module _ {T W : Type 0} where
     worked (TellSend y) e r s h k g =
         telling_step _ e r s (ends_by y) (mark_is e _ g.0) g.1
         (ended e.channel x (told ++ one_of Sends ∷ []) ds (e.channel ∷ seen) y (answered_more x y e.channel ds seen h) (then_tell _ [] k))
+    worked (TellSends n y) e r s h k g =
+        telling_step _ e r s (ends_by y) (mark_is e _ g.0) g.1
+        (ended e.channel x (told ++ more_of n Sends ∷ []) ds (e.channel ∷ seen) y (answered_more x y e.channel ds seen h) (then_tell _ [] k))
+    worked (TakeRoom n) e r s h k g = roomed n e r s (mark_is e _ g.0) h.0 h.1 (told_nobody told ds k h.1) g.1
     worked (TellAll line closer) e r s h k g = told_all line closer e r s (mark_is e _ g.0) g.1 h k
     worked (Insert w task) e r s h k (inl g) =
         let none : told ≡ [] = told_nobody told ds k h.1 in

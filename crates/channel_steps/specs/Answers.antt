@@ -1,5 +1,5 @@
 -- What each reply of a call says of the call's marks and moments, and what a call leaves to its operation.
-use Rattle.std.specs.Prelude.{◌≡◌, ℕ, ◌++◌, Bool, true, false, List, [], length, Option, None, Some, IsSome, Ok, Err, ◌⊎◌}
+use Rattle.std.specs.Prelude.{◌≡◌, ℕ, ◌<◌, ◌++◌, Bool, true, false, List, [], length, Option, None, Some, IsSome, Ok, Err, ◌⊎◌}
 use Rattle.concurrent_queue.specs.Queue.{is_filled}
 use Rattle.event_listener.specs.declared.error.ListenError.TheVariants as listen_error
 use Rattle.futures.specs.declared.task.Poll.TheVariants.{Ready, Pending}
@@ -7,7 +7,7 @@ use Rattle.channel_calls.specs.Moves.{Channel}
 use Rattle.channel_calls.specs.Parts.{count}
 use Rattle.channel_calls.specs.Turns.{leaving, nothing_kept, refused_reply}
 use Rattle.channel_calls.specs.declared.ask.ChannelAsk.{ChannelAsk}
-use Rattle.channel_calls.specs.declared.ask.ChannelAsk.TheVariants.{TrySend, ForceSend, TryRecv, Close, PollSend, PollFinishedSend, PollRecv, PollClosed, PollNext, RefusePoll, GiveUp, DropSender, DropReceiver, CloneHandle, Upgrade, HandleCount, IsClosed, IsEmpty, IsFull, Len, Capacity, IsTerminated, SendIsTerminated, SameChannel, Make, DropWeak}
+use Rattle.channel_calls.specs.declared.ask.ChannelAsk.TheVariants.{TrySend, ForceSend, TryRecv, RecvMany, Close, PollSend, PollFinishedSend, PollRecv, PollClosed, PollNext, RefusePoll, GiveUp, DropSender, DropReceiver, CloneHandle, Upgrade, HandleCount, IsClosed, IsEmpty, IsFull, Len, Capacity, IsTerminated, SendIsTerminated, SameChannel, Make, DropWeak}
 use Rattle.channel_calls.specs.declared.error.Refused.TheVariants as refused
 use Rattle.channel_calls.specs.declared.error.TrySendError.TheVariants as try_send_error
 use Rattle.channel_calls.specs.declared.error.TryRecvError.TheVariants as try_recv_error
@@ -18,7 +18,7 @@ use Rattle.channel_calls.specs.declared.stage.Line.{Line}
 use Rattle.channel_calls.specs.declared.stage.Line.TheVariants.{Sends, Receives, Streams, Closings}
 use Rattle.channel_calls.specs.declared.stage.Side.{Side}
 use Rattle.channel_calls.specs.declared.stage.Side.TheVariants.{Senders, Receivers}
-use Rattle.channel_steps.specs.Moments.{Deed, Open, Shut, Crowded, Bare, Spent, Unbounded, is_empty, HasMessage, TooManyOf, Once, Since, Appended, Took, Replaced, Displaced, ClosedIt, Raised, Upgraded, Dropped}
+use Rattle.channel_steps.specs.Moments.{Deed, Open, Shut, Crowded, Bare, Spent, Unbounded, is_empty, HasMessage, TooManyOf, Once, Since, Appended, Took, Replaced, Displaced, TookAll, RanOut, ClosedIt, Raised, Upgraded, Dropped}
 
 module _ {T : Type 0} where
   -- what a finished poll leaves to its operation, whose message is m
@@ -61,6 +61,15 @@ module _ {T W : Type 0} where
   TryRecvRow ds seen (reply.TryRecv (Err try_recv_error.Empty)) = (ds ≡ []) × Once Bare seen
   TryRecvRow ds seen (reply.TryRecv (Err try_recv_error.Closed)) = (ds ≡ []) × Once Spent seen
   TryRecvRow ds seen _ = ⊥
+
+  -- at most so many messages, each the oldest one when it was taken; fewer only where the channel held no more at a moment after
+  -- the last one
+  abbrev pub SeveralRow : ℕ → List (Deed T W) → List (Channel T W) → Reply T → Type 0
+  SeveralRow n ds seen (reply.RecvMany (Ok vs)) = TookAll ds vs × ((length vs ≡ n) ⊎ ((length vs < n) × RanOut ds seen))
+  SeveralRow n ds seen (reply.RecvMany (Err (refused.Plain try_recv_error.Empty))) = (ds ≡ []) × (0 < n) × Once Bare seen
+  SeveralRow n ds seen (reply.RecvMany (Err (refused.Plain try_recv_error.Closed))) = (ds ≡ []) × (0 < n) × Once Spent seen
+  SeveralRow n ds seen (reply.RecvMany (Err (refused.NoMemory u))) = (ds ≡ []) × (0 < n)
+  SeveralRow n ds seen _ = ⊥
 
   abbrev pub SendPollRow : T → List (Deed T W) → List (Channel T W) → Reply T → Type 0
   SendPollRow m ds seen (reply.SendPoll (Ready (Ok u))) = Appended ds
@@ -143,6 +152,7 @@ module _ {T W : Type 0} where
   Row (TrySend m) ds seen r = TrySendRow m ds seen r
   Row (ForceSend m) ds seen r = ForceSendRow m ds seen r
   Row TryRecv ds seen r = TryRecvRow ds seen r
+  Row (RecvMany n) ds seen r = SeveralRow n ds seen r
   Row Close ds seen r = CloseRow ds seen r
   Row (PollSend m key task) ds seen r = SendPollRow m ds seen r
   Row PollFinishedSend ds seen r = OnlyRow (reply.SendPoll Pending) ds r

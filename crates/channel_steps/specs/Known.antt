@@ -1,5 +1,5 @@
 -- What is known of a call under way by how far it has come.
-use Rattle.std.specs.Prelude.{◌≡◌, ℕ, ◌<◌, ◌≤◌, true, List, [], ◌∷◌, ◌++◌, length, None, Some, ◌⊎◌}
+use Rattle.std.specs.Prelude.{◌≡◌, ℕ, ◌+◌, ◌<◌, ◌≤◌, true, List, [], ◌∷◌, ◌++◌, length, None, Some, ◌⊎◌}
 use Rattle.concurrent_queue.specs.Queue.{Phase, trying, displaced, appended, taken, read, measured}
 use Rattle.concurrent_queue.specs.Queue as queue
 use Rattle.concurrent_queue.specs.declared.call.QueueAsk.{QueueAsk}
@@ -7,7 +7,7 @@ use Rattle.concurrent_queue.specs.declared.call.QueueAsk.TheVariants as ask
 use Rattle.channel_calls.specs.Moves.{Channel}
 use Rattle.channel_calls.specs.Turns.{most, line_of, leaving, closer_ending}
 use Rattle.channel_calls.specs.declared.ask.ChannelAsk.{ChannelAsk}
-use Rattle.channel_calls.specs.declared.ask.ChannelAsk.TheVariants.{TrySend, ForceSend, TryRecv, Close, PollSend, PollFinishedSend, PollRecv, PollClosed, PollNext, RefusePoll, GiveUp, DropSender, DropReceiver, CloneHandle, Upgrade, HandleCount, IsClosed, IsEmpty, IsFull, Len, Capacity, IsTerminated, SendIsTerminated, SameChannel, Make, DropWeak}
+use Rattle.channel_calls.specs.declared.ask.ChannelAsk.TheVariants.{TrySend, ForceSend, TryRecv, RecvMany, Close, PollSend, PollFinishedSend, PollRecv, PollClosed, PollNext, RefusePoll, GiveUp, DropSender, DropReceiver, CloneHandle, Upgrade, HandleCount, IsClosed, IsEmpty, IsFull, Len, Capacity, IsTerminated, SendIsTerminated, SameChannel, Make, DropWeak}
 use Rattle.channel_calls.specs.declared.stage.Aim.{Aim}
 use Rattle.channel_calls.specs.declared.stage.Aim.TheVariants as aim
 use Rattle.channel_calls.specs.declared.stage.Closer.TheVariants as closer
@@ -23,10 +23,10 @@ use Rattle.channel_calls.specs.declared.stage.Stage.TheVariants.{Trying, Working
 use Rattle.channel_calls.specs.declared.stage.Waiting.{Waiting}
 use Rattle.channel_calls.specs.declared.stage.Waiting.TheVariants as waiting
 use Rattle.channel_calls.specs.declared.stage.Work.{Work}
-use Rattle.channel_calls.specs.declared.stage.Work.TheVariants.{TellReceive, TellStreams, TellSend, TellAll, Insert, Register, Leave, Lower, Count, Load, Raise}
-use Rattle.channel_steps.specs.Moments.{Deed, Open, Shut, HasRoom, Refuses, HasMessage, Once, Appended, Took, Replaced, MadeRoom, Displaced, LeftLast}
+use Rattle.channel_calls.specs.declared.stage.Work.TheVariants.{TellReceive, TellStreams, TellSend, TellSends, TakeRoom, TellAll, Insert, Register, Leave, Lower, Count, Load, Raise}
+use Rattle.channel_steps.specs.Moments.{Deed, Open, Shut, HasRoom, Refuses, HasMessage, Once, Appended, Took, TookAll, Replaced, MadeRoom, Displaced, LeftLast}
 use Rattle.channel_steps.specs.Answers.{WaitsFor, Keeps, Met}
-use Rattle.channel_steps.specs.Tellings.{Telling, one_of, all_of, owed}
+use Rattle.channel_steps.specs.Tellings.{Telling, one_of, more_of, all_of, owed}
 
 -- how many handles a count may be raised from
 abbrev pub MayRaise : Making → ℕ → Type 0
@@ -62,10 +62,11 @@ module _ {T W : Type 0} where
   -- ---- while the queue has the next step
 
   -- the queue's call is one of this call, made for this
-  abbrev pub TriesFor : ChannelAsk T W → Aim W → QueueAsk T → List (Deed T W) → List (Channel T W) → Type 0
+  abbrev pub TriesFor : ChannelAsk T W → Aim T W → QueueAsk T → List (Deed T W) → List (Channel T W) → Type 0
   TriesFor (TrySend m) aim.TrySend (ask.Push v) ds seen = v ≡ m
   TriesFor (ForceSend m) aim.ForceSend (ask.ForcePush v) ds seen = v ≡ m
   TriesFor TryRecv aim.TryRecv ask.Pop ds seen = Unit {0}
+  TriesFor (RecvMany n) (aim.RecvMany g) ask.Pop ds seen = n ≡ length g.taken + (g.more + 1)
   TriesFor Close (aim.Close closer.Call) ask.Close ds seen = ds ≡ []
   TriesFor (PollSend m k t) (aim.Poll Sends key task) (ask.Push v) ds seen = v ≡ m
   TriesFor (PollRecv k t) (aim.Poll Receives key task) ask.Pop ds seen = Unit {0}
@@ -105,6 +106,22 @@ module _ {T W : Type 0} where
   TryAt now ask.Capacity (trying b) ds seen = ds ≡ []
   TryAt now _ _ ds seen = ⊥
 
+  -- these marks were made at moments of this call
+  abbrev pub AreBehind : List (Deed T W) → List (Channel T W) → Type 0
+  AreBehind [] seen = Unit {0}
+  AreBehind (d ∷ ds) seen = ((newer : List (Channel T W)) × (seen ≡ newer ++ d.seen)) × AreBehind ds seen
+
+  -- a call that takes several messages has those that it took at earlier tries
+  pub record HasTaken (taken : List T) (ds mine : List (Deed T W)) (seen : List (Channel T W)) : Type 0 where
+    pub before : List (Deed T W)
+    pub all : ds ≡ before ++ mine
+    pub took : TookAll before taken
+    pub behind : AreBehind ds seen
+
+  abbrev pub TriesAt : Channel T W → Aim T W → QueueAsk T → queue.Stage T → List (Deed T W) → List (Channel T W) → Type 0
+  TriesAt now (aim.RecvMany g) a s ds seen = (mine : List (Deed T W)) × HasTaken g.taken ds mine seen × TryAt now a s mine seen
+  TriesAt now _ a s ds seen = TryAt now a s ds seen
+
   -- ---- while a list or a count has the next step
 
   -- the waiting operation is the one that is polled
@@ -135,6 +152,8 @@ module _ {T W : Type 0} where
   WorkAt ask (TellReceive x) ds seen = Answered ask x ds seen
   WorkAt ask (TellStreams x) ds seen = Answered ask x ds seen
   WorkAt ask (TellSend x) ds seen = Answered ask x ds seen
+  WorkAt ask (TellSends n x) ds seen = Answered ask x ds seen
+  WorkAt ask (TakeRoom n) ds seen = (ask ≡ RecvMany n) × (ds ≡ [])
   WorkAt ask (TellAll line closer) ds seen = Answered ask (closer_ending closer true) ds seen
   WorkAt ask (Insert w task) ds seen = IsFor ask w × (ds ≡ []) × WaitsFor (line_of w) seen
   WorkAt ask (Register w key task) ds seen = IsFor ask w × (ds ≡ []) × WaitsFor (line_of w) seen
@@ -146,7 +165,7 @@ module _ {T W : Type 0} where
 
   -- by the stage of a call; one that has answered is under way no more
   abbrev pub StageAt : Channel T W → ChannelAsk T W → Stage (Phase T) T W → List (Deed T W) → List (Channel T W) → Type 0
-  StageAt now ask (Trying f aim) ds seen = TriesFor ask aim f.ask ds seen × TryAt now f.ask f.stage ds seen
+  StageAt now ask (Trying f aim) ds seen = TriesFor ask aim f.ask ds seen × TriesAt now aim f.ask f.stage ds seen
   StageAt now ask (Working w) ds seen = WorkAt ask w ds seen
   StageAt now ask (Finished kept) ds seen = ⊥
 
@@ -156,6 +175,7 @@ module _ {T W : Type 0} where
   to_tell (TellReceive x) = one_of Receives ∷ all_of Streams ∷ []
   to_tell (TellStreams x) = all_of Streams ∷ []
   to_tell (TellSend x) = one_of Sends ∷ []
+  to_tell (TellSends n x) = more_of n Sends ∷ []
   to_tell (TellAll line closer) = all_from line
   to_tell _ = []
 
@@ -191,6 +211,7 @@ module _ {T W : Type 0} where
   left_to_work (TellReceive x) = 3
   left_to_work (TellStreams x) = 2
   left_to_work (TellSend x) = 2
+  left_to_work (TellSends n x) = 2
   left_to_work (TellAll line closer) = left_to_tell line
   left_to_work (Lower side key) = 7
   left_to_work _ = 1

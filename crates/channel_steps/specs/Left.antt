@@ -1,27 +1,30 @@
 -- How many more steps of its own a call under way makes at most, where nobody holds it up.
-use Rattle.std.specs.Prelude.{ℕ, ◌+◌, if◌then◌else◌, List, map, slice_get, unwrap_or, Option, None, Some}
+use Rattle.std.specs.Prelude.{ℕ, ◌+◌, ◌*◌, if◌then◌else◌, List, map, slice_get, unwrap_or, Option, None, Some}
 use Rattle.concurrent_queue.specs.Contents.{Contents}
 use Rattle.concurrent_queue.specs.Step.{rank}
 use Rattle.concurrent_queue.specs.declared.queue_call.QueueCall.{QueueCall}
 use Rattle.channel_calls.specs.Parts.{Parts, Roster, listeners, waits, is_raised}
 use Rattle.channel_calls.specs.Turns.{line_of}
+use Rattle.channel_calls.specs.declared.ask.ChannelAsk.{ChannelAsk}
+use Rattle.channel_calls.specs.declared.ask.ChannelAsk.TheVariants.{RecvMany}
 use Rattle.channel_calls.specs.declared.stage.Aim.{Aim}
 use Rattle.channel_calls.specs.declared.stage.Aim.TheVariants as aim
 use Rattle.channel_calls.specs.declared.stage.Stage.{Stage}
 use Rattle.channel_calls.specs.declared.stage.Stage.TheVariants.{Trying, Working, Finished}
 use Rattle.channel_calls.specs.declared.stage.Work.{Work}
-use Rattle.channel_calls.specs.declared.stage.Work.TheVariants.{TellReceive, TellStreams, TellSend, TellAll, Insert, Register, Leave, Lower, Count, Load, Raise}
+use Rattle.channel_calls.specs.declared.stage.Work.TheVariants.{TellReceive, TellStreams, TellSend, TellSends, TakeRoom, TellAll, Insert, Register, Leave, Lower, Count, Load, Raise}
 use Rattle.channel_steps.specs.Known.{left_to_tell}
 use Rattle.channel_steps.specs.declared.party.Party.{Party}
 
 -- after a call of the queue, by what that is for: a poll that holds no listener listens and tries once more; one whose listener
--- waits ends pending; one whose listener was told goes on without it
-abbrev pub left_after : {W : Type 0} → Roster W → Aim W → ℕ
+-- waits ends pending; one whose listener was told goes on without it. For each further message there is one more call of the queue
+abbrev pub left_after : {T W : Type 0} → Roster W → Aim T W → ℕ
 left_after a (aim.Poll line None task) = 68
 left_after a (aim.Poll line (Some key) task) = if waits key (listeners line a) then 3 else 133
 left_after a aim.TrySend = 3
 left_after a aim.ForceSend = 3
 left_after a aim.TryRecv = 2
+left_after a (aim.RecvMany g) = 2 + 64 * g.more
 left_after a aim.Ask = 0
 left_after a (aim.Close c) = 5
 left_after a aim.IsTerminated = 64
@@ -33,6 +36,8 @@ module _ {T W : Type 0} where
   left_to_work a (TellReceive x) = 3
   left_to_work a (TellStreams x) = 2
   left_to_work a (TellSend x) = 2
+  left_to_work a (TellSends n x) = 2
+  left_to_work a (TakeRoom n) = 3 + 64 * n
   left_to_work a (TellAll line c) = left_to_tell line
   left_to_work a (Insert w task) = 68
   left_to_work a (Register w key task) = if waits key (listeners (line_of w) a) then 1 else 133
@@ -55,6 +60,12 @@ module _ {T W : Type 0} where
   -- all calls under way, in the order in which they began
   abbrev pub all_left : Parts T W → List (Party T W) → List ℕ
   all_left parts parties = map (party_left parts) parties
+
+module _ {T W : Type 0} where
+  -- how many messages a call may take more than one
+  abbrev pub most_wanted : ChannelAsk T W → ℕ
+  most_wanted (RecvMany n) = n
+  most_wanted ask = 0
 
 -- the k-th of them; none is left to a call that has ended
 abbrev pub left_at : ℕ → List ℕ → ℕ

@@ -36,6 +36,10 @@ module _ {T W : Type 0} where
   abbrev pub Crowded : Channel T W → Type 0
   Crowded c = IsOpen c.queue × (is_filled c.queue ≡ true)
 
+  -- with nothing there and nothing on its way
+  abbrev pub Drained : Channel T W → Type 0
+  Drained c = IsDrained c.queue
+
   -- open, with nothing there and nothing on its way
   abbrev pub Bare : Channel T W → Type 0
   Bare c = IsOpen c.queue × IsDrained c.queue
@@ -90,6 +94,18 @@ module _ {T W : Type 0} where
   abbrev pub Took : List (Deed T W) → T → Type 0
   Took (d ∷ []) v = (d.mark ≡ Take) × IsOldest v d.before.queue
   Took _ v = ⊥
+
+  -- these were the oldest ones, and were taken one after another
+  abbrev pub TookAll : List (Deed T W) → List T → Type 0
+  TookAll [] [] = Unit {0}
+  TookAll (d ∷ ds) (v ∷ vs) = (d.mark ≡ Take) × IsOldest v d.before.queue × TookAll ds vs
+  TookAll _ vs = ⊥
+
+  -- at a moment after the last of these marks there was nothing, and nothing on its way
+  abbrev pub RanOut : List (Deed T W) → List (Channel T W) → Type 0
+  RanOut [] seen = ⊥
+  RanOut (d ∷ []) seen = OnceBehind Drained d seen
+  RanOut (d ∷ e ∷ ds) seen = RanOut (e ∷ ds) seen
 
   -- the message of a full open channel of capacity one was replaced
   abbrev pub Replaced : List (Deed T W) → T → Type 0

@@ -18,7 +18,7 @@ use Rattle.channel_calls.specs.declared.stage.Stage.{Stage}
 use Rattle.channel_calls.specs.declared.stage.Stage.TheVariants.{Finished}
 use Rattle.channel_steps.specs.Answers.{Met, Keeps}
 use Rattle.channel_steps.specs.Known.{StageAt, ToldAt, IsQuick, steps_left}
-use Rattle.channel_steps.specs.Left.{all_left, left_at}
+use Rattle.channel_steps.specs.Left.{all_left, left_at, most_wanted}
 use Rattle.channel_steps.specs.Moments.{Deed, with_deed}
 use Rattle.channel_steps.specs.Tellings.{Telling, owed, telling, dropping, Names}
 use Rattle.channel_steps.specs.declared.party.Party.{Party}
@@ -169,6 +169,10 @@ module _ {T W : Type 0} where
   -- call
   abbrev pub HoldNobodyUp : Channel T W → List (Under T W) → Type 0
   HoldNobodyUp c others = AreIdle others × (c.queue.capacity ≡ None → (0 < c.queue.removed) ⊎ (others ≡ []))
+
+  -- how many messages the k-th of these calls may take more than one
+  abbrev pub wanted_at : ℕ → List (Under T W) → ℕ
+  wanted_at k us = left_at k (map (λ (u : Under T W). most_wanted u.ask) us)
 
   -- ---- what the cells and the parties show
 

@@ -1,9 +1,9 @@
 -- Whom a call tells, and when.
-use Rattle.std.specs.Prelude.{◌≡◌, true, List, [], ◌∷◌, ◌++◌, Option, None, Some}
+use Rattle.std.specs.Prelude.{◌≡◌, ℕ, zero, suc, true, List, [], ◌∷◌, ◌++◌, Option, None, Some}
 use Rattle.concurrent_queue.specs.Queue.{Phase}
 use Rattle.event_listener.specs.Lists.{removed_wakes}
 use Rattle.channel_calls.specs.Moves.{Channel}
-use Rattle.channel_calls.specs.Parts.{listeners, told_one_wakes, told_all_wakes}
+use Rattle.channel_calls.specs.Parts.{listeners, told_more_wakes, told_all_wakes}
 use Rattle.channel_calls.specs.declared.mark.Mark.{Mark}
 use Rattle.channel_calls.specs.declared.mark.Mark.TheVariants.{Append, Take, Replace, Close}
 use Rattle.channel_calls.specs.declared.stage.Held.{Held}
@@ -11,33 +11,54 @@ use Rattle.channel_calls.specs.declared.stage.Line.{Line}
 use Rattle.channel_calls.specs.declared.stage.Line.TheVariants.{Sends, Receives, Streams, Closings}
 use Rattle.channel_calls.specs.declared.stage.Stage.{Stage}
 use Rattle.channel_calls.specs.declared.stage.Stage.TheVariants.{Working}
-use Rattle.channel_calls.specs.declared.stage.Work.TheVariants.{TellReceive, TellStreams, TellSend, TellAll, Leave}
+use Rattle.channel_calls.specs.declared.stage.Work.TheVariants.{TellReceive, TellStreams, TellSend, TellSends, TellAll, Leave}
 use Rattle.channel_steps.specs.Moments.{Deed}
 
--- a telling: one more of a list, or all of it
+-- a telling: so many more of a list, or all of it
 pub data Telling : Type 0 where
-  one_of : Line → Telling
+  more_of : ℕ → Line → Telling
   all_of : Line → Telling
 
--- what a mark has to be followed by: a message tells one more receive and then all streams, a taking one more send, a
--- closing all of each list in this order. What makes room for another message tells nobody
+abbrev pub one_of : Line → Telling
+one_of line = more_of 1 line
+
+-- what a mark has to be followed by: a message tells one more receive and then all streams, a closing all of each list in this
+-- order. What makes room for another message tells nobody
 abbrev pub owed_for : Mark → List Telling
 owed_for Append = one_of Receives ∷ all_of Streams ∷ []
 owed_for Replace = one_of Receives ∷ all_of Streams ∷ []
-owed_for Take = one_of Sends ∷ []
 owed_for Close = all_of Sends ∷ all_of Receives ∷ all_of Streams ∷ all_of Closings ∷ []
 owed_for _ = []
 
+-- so many takings together tell as many more sends, at once
+abbrev pub owed_takings : ℕ → List Telling
+owed_takings zero = []
+owed_takings (suc n) = more_of (suc n) Sends ∷ []
+
+abbrev pub with_taking : Mark → ℕ → ℕ
+with_taking Take n = suc n
+with_taking _ n = n
+
 module _ {T W : Type 0} where
+  -- how many of these marks are takings
+  abbrev pub takings : List (Deed T W) → ℕ
+  takings [] = 0
+  takings (d ∷ ds) = with_taking d.mark (takings ds)
+
+  -- what the others have to be followed by
+  abbrev pub owed_besides : List (Deed T W) → List Telling
+  owed_besides [] = []
+  owed_besides (d ∷ ds) = owed_for d.mark ++ owed_besides ds
+
   abbrev pub owed : List (Deed T W) → List Telling
-  owed [] = []
-  owed (d ∷ ds) = owed_for d.mark ++ owed ds
+  owed ds = owed_takings (takings ds) ++ owed_besides ds
 
   -- what the next step of a call tells
   abbrev pub telling : Stage (Phase T) T W → List Telling
   telling (Working (TellReceive x)) = one_of Receives ∷ []
   telling (Working (TellStreams x)) = all_of Streams ∷ []
   telling (Working (TellSend x)) = one_of Sends ∷ []
+  telling (Working (TellSends n x)) = more_of n Sends ∷ []
   telling (Working (TellAll line closer)) = all_of line ∷ []
   telling _ = []
 
@@ -49,7 +70,7 @@ module _ {T W : Type 0} where
   -- whom a step wakes: those whom its telling finds waiting, in order, or him to whom the listener that it drops passes its
   -- notice on; any other step wakes nobody
   abbrev pub Names : List Telling → Option Held → Channel T W → List W → Type 0
-  Names (one_of line ∷ ts) h c names = names ≡ told_one_wakes (listeners line c.roster)
+  Names (more_of n line ∷ ts) h c names = names ≡ told_more_wakes n (listeners line c.roster)
   Names (all_of line ∷ ts) h c names = names ≡ told_all_wakes (listeners line c.roster)
   Names [] (Some h) c names = names ≡ removed_wakes h.key true (listeners h.line c.roster)
   Names [] None c names = names ≡ []

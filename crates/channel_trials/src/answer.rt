@@ -2,6 +2,7 @@
 
 use crate::plan::Kind;
 use channel_calls::error::{RecvError, Refused, SendError, TryRecvError, TrySendError};
+use channel_calls::several::Messages;
 use channel_calls::stage::Line;
 use channel_world::call::Reply;
 use event_listener::error::ListenError;
@@ -13,6 +14,8 @@ pub enum Form {
     TrySend,
     ForceSend,
     TryRecv,
+    /// A receive of several.
+    Several,
     /// A poll of an operation, or of a stream, on this line.
     Poll(Line),
     Closed,
@@ -37,6 +40,8 @@ pub enum Answer {
     SendClosed(u64),
     /// This message was received.
     Received(u64),
+    /// So many messages were received by one call.
+    Several(usize),
     /// The channel is empty.
     Empty,
     /// The channel is closed and empty.
@@ -73,6 +78,7 @@ pub fn form_of(kind: Kind, line: Line) -> Form {
         Kind::TrySend => Form::TrySend,
         Kind::ForceSend => Form::ForceSend,
         Kind::TryRecv => Form::TryRecv,
+        Kind::RecvMany => Form::Several,
         Kind::Poll | Kind::PollRefused | Kind::PollNext => Form::Poll(line),
         Kind::Close => Form::Closed,
         Kind::SendIsTerminated | Kind::StreamIsTerminated | Kind::SameChannel => Form::Flag,
@@ -108,6 +114,16 @@ fn try_recv(answer: &Result<u64, TryRecvError>) -> Answer {
         Ok(message) => Answer::Received(*message),
         Err(TryRecvError::Empty) => Answer::Empty,
         Err(TryRecvError::Closed) => Answer::ReceiveClosed,
+    }
+}
+
+fn recv_many(answer: &Result<Messages<u64>, Refused<TryRecvError>>) -> Answer {
+    match answer {
+        Ok(messages) => Answer::Several(messages.as_slice().len()),
+        Err(Refused::Plain(TryRecvError::Empty)) => Answer::Empty,
+        Err(Refused::Plain(TryRecvError::Closed)) => Answer::ReceiveClosed,
+        Err(Refused::NoMemory(())) => Answer::NoMemory,
+        Err(_) => Answer::Other,
     }
 }
 
@@ -155,6 +171,7 @@ pub fn read(reply: &Reply<u64>) -> (Form, Answer) {
         Reply::TrySend(answer) => (Form::TrySend, try_send(answer)),
         Reply::ForceSend(answer) => (Form::ForceSend, force_send(answer)),
         Reply::TryRecv(answer) => (Form::TryRecv, try_recv(answer)),
+        Reply::RecvMany(answer) => (Form::Several, recv_many(answer)),
         Reply::SendPoll(poll) => (Form::Poll(Line::Sends), send_poll(poll)),
         Reply::RecvPoll(poll) => (Form::Poll(Line::Receives), recv_poll(poll)),
         Reply::ClosedPoll(poll) => (Form::Poll(Line::Closings), closed_poll(poll)),

@@ -6,7 +6,8 @@ use crate::count::Count;
 use crate::differs::Differs;
 use crate::due::is_due;
 use crate::names::{Names, is_fit};
-use crate::plan::{Kind, Plan, Target};
+use crate::plan::{Kind, LARGE, Plan, Target};
+use crate::takings::Takings;
 use crate::under_way::UnderWay;
 use crate::waiting::{Came, Waiting};
 use channel_calls::mark::Mark;
@@ -33,6 +34,8 @@ pub struct Book {
     pub waiting: Waiting,
     /// The calls under way, in no order.
     pub calls: Vec<UnderWay>,
+    /// What receives of several have taken.
+    takings: Takings,
     /// How many messages were handed out.
     handed: usize,
     /// How many moments there were.
@@ -47,6 +50,7 @@ impl Book {
             names: Names::first(alloc)?,
             waiting: Waiting::nobody(alloc),
             calls: Vec::new(alloc),
+            takings: Takings::nothing(alloc),
             handed: 0,
             moment: 0,
         })
@@ -146,6 +150,9 @@ impl Book {
             self.waiting.take_in_hand(name);
         }
         self.names.begin(plan);
+        for call in &mut self.calls {
+            call.is_joined();
+        }
         let mut call = UnderWay::new(party, plan, subject);
         call.begun = self.moment;
         match self.calls.push(call) {
@@ -154,20 +161,45 @@ impl Book {
         }
     }
 
+    /// The party's call takes the oldest message, where it is a receive of several.
+    fn note_taking(&mut self, party: u32) -> Result<(), Differs> {
+        let kind = self.call_of(party).map(|call| call.plan.kind);
+        match self.count.oldest() {
+            Some(message) if kind == Some(Kind::RecvMany) => self.takings.add(party, message),
+            _ => Ok(()),
+        }
+    }
+
     /// The party's call made a step with this mark.
     pub fn step(&mut self, party: u32, mark: Mark) -> Result<(), Differs> {
+        if mark == Mark::Take {
+            self.note_taking(party)?;
+        }
+        let is_alone = self.calls.len() == 1;
         for call in &mut self.calls {
             if call.party == party {
+                call.go_on(is_alone)?;
                 return call.step(mark, &mut self.count);
             }
         }
         Err(Differs::Refusal)
     }
 
-    /// These were woken.
-    pub fn wake(&mut self, woken: &Vec<Waiter>) -> Result<(), Differs> {
+    /// The party's call woke a send.
+    fn note_telling(&mut self, party: u32) {
+        for call in &mut self.calls {
+            if call.party == party {
+                call.has_told = call.received > 0;
+            }
+        }
+    }
+
+    /// These were woken, by a step of the party's call.
+    pub fn wake(&mut self, party: u32, woken: &Vec<Waiter>) -> Result<(), Differs> {
         for name in woken {
-            self.waiting.wake(*name)?;
+            if self.waiting.wake(*name)? == Line::Sends {
+                self.note_telling(party);
+            }
         }
         Ok(())
     }
@@ -180,19 +212,27 @@ impl Book {
         let (form, answer) = read(reply);
         if form != form_of(call.plan.kind, call.subject.line)
             || !is_due(&call, answer, &self.count)
+            || !self.hands_out(party, reply)
         {
             return Err(Differs::Reply);
         }
+        self.takings.hand_out(party);
         self.calls.retain(|call| call.party != party);
         self.names.end(call.plan, &call.subject, answer)?;
-        if call.has_taken() {
-            self.handed = self.handed.saturating_add(1);
-        }
+        self.handed = self.handed.saturating_add(call.takings());
         self.leave(&call, answer)
     }
 
+    /// Whether the party's call hands out what it took, in order, where it is a receive of several.
+    fn hands_out(&self, party: u32, reply: &Reply<u64>) -> bool {
+        match reply {
+            Reply::RecvMany(Ok(messages)) => self.takings.are(party, messages.as_slice()),
+            _ => true,
+        }
+    }
+
     /// A call that isn't refused was made alone, from its begin to its end: it woke these, and answered so. It did what its
-    /// answer says, and what held at its begin is all that it saw.
+    /// answer says, and what held at its begin is all that it saw, and what a receive of several left.
     pub fn make(&mut self, party: u32, plan: Plan, done: &Done<u64>) -> Result<(), Differs> {
         self.begin(party, plan)?;
         self.see();
@@ -200,11 +240,25 @@ impl Book {
             return Err(Differs::Refusal);
         };
         let (_, answer) = read(&done.reply);
-        let (first, second) = marks(&call, answer, &self.count);
-        self.wake(&done.woken)?;
-        self.step(party, first)?;
-        self.step(party, second)?;
+        self.wake(party, &done.woken)?;
+        match answer {
+            Answer::Several(count) => self.take_several(party, count)?,
+            _ => {
+                let (first, second) = marks(&call, answer, &self.count);
+                self.step(party, first)?;
+                self.step(party, second)?;
+            }
+        }
         self.end(party, &done.reply)
+    }
+
+    /// The party's call takes so many messages, and sees what is left.
+    fn take_several(&mut self, party: u32, count: usize) -> Result<(), Differs> {
+        for _ in 0..count {
+            self.step(party, Mark::Take)?;
+        }
+        self.see();
+        Ok(())
     }
 
     /// Whom the call had in hand waits no more, or again where its poll ended pending. A finished send doesn't wait.
@@ -231,6 +285,15 @@ impl Book {
         for call in &mut self.calls {
             call.saw = call.saw.with(&self.count);
         }
+    }
+
+    /// How many messages the calls under way may receive at most, one by one aside.
+    pub fn wanted(&self) -> usize {
+        let mut wanted = 0usize;
+        for call in &self.calls {
+            wanted = wanted.saturating_add(call.plan.limit.min(LARGE));
+        }
+        wanted
     }
 
     /// A live receiver.

@@ -57,6 +57,11 @@ impl Count {
         self.gone
     }
 
+    /// The oldest message that is held.
+    pub fn oldest(&self) -> Option<u64> {
+        self.came.get(self.gone).copied()
+    }
+
     /// Whether this is the message that came at this place.
     pub fn came_as(&self, place: usize, message: u64) -> bool {
         self.came.get(place) == Some(&message)

@@ -2,11 +2,11 @@
 
 use crate::book::Book;
 use crate::names::Names;
-use crate::plan::{Kind, Plan, Target};
+use crate::plan::{Kind, LARGE, Plan, TOO_LARGE, Target};
 use crate::random::Random;
 
 /// How often each kind of call is drawn, of all drawn.
-static WEIGHTS: [(Kind, usize); 25] = [
+static WEIGHTS: [(Kind, usize); 26] = [
     (Kind::NewSend, 14),
     (Kind::NewRecv, 14),
     (Kind::NewClosed, 4),
@@ -19,6 +19,7 @@ static WEIGHTS: [(Kind, usize); 25] = [
     (Kind::TrySend, 26),
     (Kind::ForceSend, 12),
     (Kind::TryRecv, 24),
+    (Kind::RecvMany, 20),
     (Kind::Close, 1),
     (Kind::Drop, 6),
     (Kind::TryClone, 5),
@@ -35,7 +36,7 @@ static WEIGHTS: [(Kind, usize); 25] = [
 ];
 
 /// The sum of all weights.
-const ALL: usize = 250;
+const ALL: usize = 270;
 
 /// How many calls are drawn at most until one is that isn't refused.
 const TRIES: usize = 8;
@@ -49,6 +50,16 @@ fn draw_kind(random: &mut Random) -> Kind {
         left = left.saturating_sub(*weight);
     }
     Kind::TryRecv
+}
+
+/// What sends in the place of what receives one message.
+fn sending(kind: Kind) -> Kind {
+    match kind {
+        Kind::NewRecv => Kind::NewSend,
+        Kind::TryRecv => Kind::TrySend,
+        Kind::PollNext => Kind::Poll,
+        _ => kind,
+    }
 }
 
 /// The name of a live handle, or now and then one that may be taken or not.
@@ -84,32 +95,51 @@ fn draw_new(random: &mut Random, next: u32) -> u32 {
     }
 }
 
-/// A call, refused or not.
-fn draw_any(random: &mut Random, names: &Names, message: u64) -> Plan {
-    let kind = draw_kind(random);
+/// How many messages a receive of several takes at most: mostly few, now and then all that there are, or more than there can be.
+fn draw_limit(random: &mut Random) -> usize {
+    match random.below(16) {
+        0 => 0,
+        1..4 => 1,
+        4..9 => 2,
+        9..14 => 3,
+        14 => LARGE,
+        _ => TOO_LARGE,
+    }
+}
+
+/// A call, refused or not. In a flood nobody receives messages one by one.
+fn draw_any(random: &mut Random, names: &Names, message: u64, is_flood: bool) -> Plan {
+    let drawn = draw_kind(random);
+    let kind = if is_flood { sending(drawn) } else { drawn };
     let name = match kind.target() {
         Target::Operation => draw_operation(random, names),
         Target::Two => draw_handle(random, names),
         _ if kind.makes_operation() => draw_new(random, names.next_operation),
         _ => draw_new(random, names.next_handle),
     };
+    let limit = match kind {
+        Kind::RecvMany => draw_limit(random),
+        _ => 0,
+    };
     Plan {
         kind,
         handle: draw_handle(random, names),
         name,
         message,
+        limit,
     }
 }
 
-/// What a party begins: mostly a call that isn't refused. A new message is this one.
-pub fn draw(random: &mut Random, book: &Book, party: u32, message: u64) -> Plan {
-    let mut plan = draw_any(random, &book.names, message);
+/// What a party begins: mostly a call that isn't refused. A new message is this one. In a flood most calls send, and many sends
+/// wait.
+pub fn draw(random: &mut Random, book: &Book, party: u32, message: u64, is_flood: bool) -> Plan {
+    let mut plan = draw_any(random, &book.names, message, is_flood);
     let tries = if random.once_in(16) { 0 } else { TRIES };
     for _ in 0..tries {
         if book.refusal(party, plan).is_none() {
             return plan;
         }
-        plan = draw_any(random, &book.names, message);
+        plan = draw_any(random, &book.names, message, is_flood);
     }
     plan
 }

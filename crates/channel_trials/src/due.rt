@@ -3,6 +3,7 @@
 use crate::answer::Answer;
 use crate::count::Count;
 use crate::plan::Kind;
+use crate::several::several_is_due;
 use crate::under_way::UnderWay;
 use channel_calls::mark::Mark;
 use channel_calls::stage::{Line, Side};
@@ -121,8 +122,12 @@ fn markedly_due(call: &UnderWay, answer: Answer, count: &Count) -> bool {
     }
 }
 
-/// Whether this call may answer so. A poll that is refused its waker, and no other call, answers that memory was refused.
+/// Whether this call may answer so. A poll that is refused its waker, and no other call but a receive of several, answers that
+/// memory was refused.
 pub fn is_due(call: &UnderWay, answer: Answer, count: &Count) -> bool {
+    if call.plan.kind == Kind::RecvMany {
+        return several_is_due(call, answer);
+    }
     if (call.plan.kind == Kind::PollRefused) != (answer == Answer::NoMemory) {
         return false;
     }

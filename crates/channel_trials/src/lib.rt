@@ -20,6 +20,8 @@ pub mod plan;
 mod random;
 pub mod saw;
 pub mod settling;
+pub mod several;
+pub mod takings;
 pub mod trial;
 pub mod under_way;
 pub mod waiting;

@@ -9,6 +9,9 @@ pub struct Made {
     pub begun: u64,
     /// How many calls were made alone, each from its begin to its end.
     pub alone: u64,
+    /// How many interleavings came to a moment at which a call had received more messages than it had told sends of, so that one
+    /// free place for each call under way was not all of them.
+    pub several_free: u64,
 }
 
 impl Made {
@@ -18,6 +21,7 @@ impl Made {
             steps: 0,
             begun: 0,
             alone: 0,
+            several_free: 0,
         }
     }
 
@@ -45,12 +49,21 @@ impl Made {
         }
     }
 
+    /// With such a moment in this interleaving.
+    pub fn with_several_free(self) -> Self {
+        Made {
+            several_free: 1,
+            ..self
+        }
+    }
+
     /// These and those.
     pub fn with(self, more: Self) -> Self {
         Made {
             steps: self.steps.wrapping_add(more.steps),
             begun: self.begun.wrapping_add(more.begun),
             alone: self.alone.wrapping_add(more.alone),
+            several_free: self.several_free.wrapping_add(more.several_free),
         }
     }
 }

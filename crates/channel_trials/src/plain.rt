@@ -23,6 +23,8 @@ pub struct Plain {
     is_closed: bool,
     untold: Vec<Sleeper>,
     woken: Vec<Sleeper>,
+    /// What the last receive of several took.
+    pub taken: Vec<u64>,
 }
 
 impl Plain {
@@ -34,6 +36,7 @@ impl Plain {
             is_closed: false,
             untold: Vec::new(alloc),
             woken: Vec::new(alloc),
+            taken: Vec::new(alloc),
         }
     }
 
@@ -101,18 +104,48 @@ impl Plain {
         Ok(Answer::Sent)
     }
 
+    /// Why no message leaves where none is held.
+    fn why_none(&self) -> Answer {
+        if self.is_closed {
+            Answer::ReceiveClosed
+        } else {
+            Answer::Empty
+        }
+    }
+
     /// The oldest message leaves, or why none does.
     pub fn receive(&mut self) -> Result<Answer, Differs> {
         if self.held.is_empty() {
-            return Ok(if self.is_closed {
-                Answer::ReceiveClosed
-            } else {
-                Answer::Empty
-            });
+            return Ok(self.why_none());
         }
         let message = self.held.remove(0);
         self.tell_one(Line::Sends)?;
         Ok(Answer::Received(message))
+    }
+
+    /// The oldest messages leave, at most so many, and as many sends are told; or why none leaves that may.
+    pub fn receive_several(&mut self, limit: usize) -> Result<Answer, Differs> {
+        let count = self.held.len().min(limit);
+        self.taken.clear();
+        if count == 0 && limit > 0 {
+            return Ok(self.why_none());
+        }
+        for _ in 0..count {
+            self.take_one()?;
+        }
+        Ok(Answer::Several(count))
+    }
+
+    /// The oldest message is one more that a receive of several takes, and a send is told.
+    fn take_one(&mut self) -> Result<(), Differs> {
+        if self.held.is_empty() {
+            return Err(Differs::Reply);
+        }
+        let message = self.held.remove(0);
+        if self.taken.push(message).is_err() {
+            return Err(Differs::NoMemory);
+        }
+        self.tell_one(Line::Sends)
     }
 
     /// It is closed, if it was not.

@@ -3,6 +3,12 @@
 use channel_world::call::Call;
 use channel_world::name::{HandleId, HandleKind, OpId};
 
+/// A limit above all that a trial's channel ever holds.
+pub const LARGE: usize = 200;
+
+/// A limit for which no memory has room.
+pub const TOO_LARGE: usize = usize::MAX;
+
 /// What is called, names aside.
 #[derive(Clone, Copy, PartialEq, Eq)]
 pub enum Kind {
@@ -18,6 +24,7 @@ pub enum Kind {
     TrySend,
     ForceSend,
     TryRecv,
+    RecvMany,
     Close,
     Drop,
     TryClone,
@@ -60,9 +67,8 @@ impl Kind {
                 Target::Operation
             }
             Kind::NewSend | Kind::NewClosed | Kind::TrySend | Kind::ForceSend => Target::Sender,
-            Kind::NewRecv | Kind::TryRecv | Kind::PollNext | Kind::StreamIsTerminated => {
-                Target::Receiver
-            }
+            Kind::NewRecv | Kind::PollNext | Kind::StreamIsTerminated => Target::Receiver,
+            Kind::TryRecv | Kind::RecvMany => Target::Receiver,
             Kind::Upgrade => Target::Weak,
             Kind::Drop | Kind::TryClone => Target::Handle,
             Kind::SameChannel => Target::Two,
@@ -129,6 +135,8 @@ pub struct Plan {
     pub name: u32,
     /// What a new send or a send that doesn't wait brings.
     pub message: u64,
+    /// How many messages a receive of several takes at most.
+    pub limit: usize,
 }
 
 impl Plan {
@@ -184,6 +192,10 @@ impl Plan {
                 msg,
             },
             Kind::TryRecv => Call::TryRecv { receiver: handle },
+            Kind::RecvMany => Call::RecvMany {
+                receiver: handle,
+                limit: self.limit,
+            },
             Kind::PollNext => Call::PollNext { receiver: handle },
             Kind::StreamIsTerminated => Call::StreamIsTerminated { receiver: handle },
             Kind::Close => Call::Close { handle },

@@ -51,6 +51,8 @@ pub struct Saw {
     pub ended: bool,
     /// Closed and empty, with nothing on its way.
     pub spent: bool,
+    /// Empty, with nothing on its way, since the call took a message.
+    pub over: bool,
     /// The number of messages.
     pub messages: Range,
     /// The number of free places.
@@ -69,6 +71,7 @@ impl Saw {
             bare: false,
             ended: false,
             spent: false,
+            over: false,
             messages: Range::never(),
             places: Range::never(),
             senders: Range::never(),
@@ -89,10 +92,19 @@ impl Saw {
             bare: self.bare || (!closed && over),
             ended: self.ended || (closed && empty),
             spent: self.spent || (closed && over),
+            over: self.over || over,
             messages: self.messages.with(count.messages()),
             places: self.places.with(count.free_places()),
             senders: self.senders.with(count.handles(Side::Senders)),
             receivers: self.receivers.with(count.handles(Side::Receivers)),
+        }
+    }
+
+    /// The call takes a message.
+    pub fn at_taking(self) -> Self {
+        Saw {
+            over: false,
+            ..self
         }
     }
 

@@ -6,7 +6,7 @@ use crate::form::Form;
 use crate::plain::Plain;
 use crate::random::Random;
 use channel_calls::stage::Line;
-use channel_world::call::Call;
+use channel_world::call::{Call, Reply};
 use channel_world::name::{HandleId, OpId, Waiter};
 use channel_world::settle::Settled;
 use channel_world::world::World;
@@ -39,6 +39,17 @@ struct Twin {
 }
 
 impl Twin {
+    /// Whether the call answered so, with what the plain channel gave, where it received several.
+    fn is_answer(&self, reply: &Reply<u64>, want: Answer) -> bool {
+        let is_same = read(reply).1 == want;
+        match reply {
+            Reply::RecvMany(Ok(messages)) => {
+                is_same && messages.as_slice() == self.plain.taken.as_slice()
+            }
+            _ => is_same,
+        }
+    }
+
     /// Makes a call, which answers so.
     fn call(&mut self, call: Call<u64>, want: Answer) -> Result<(), Differs> {
         if self.calls.push_back(call).is_err() {
@@ -49,7 +60,7 @@ impl Twin {
         }
         let mut run = self.world.run_calls(&mut self.calls);
         match run.done.pop() {
-            Some(done) if read(&done.reply).1 == want => Ok(()),
+            Some(done) if self.is_answer(&done.reply, want) => Ok(()),
             Some(_) => Err(Differs::Reply),
             None => Err(Differs::Refusal),
         }
@@ -114,12 +125,23 @@ impl Twin {
                 let sender = HandleId(0);
                 self.call(Call::TrySend { sender, msg }, want)
             }
-            _ => {
+            20..32 => {
                 let want = self.plain.receive()?;
                 let receiver = HandleId(1);
                 self.call(Call::TryRecv { receiver }, want)
             }
+            _ => {
+                let limit = self.random.below(5);
+                self.receive_several(limit)
+            }
         }
+    }
+
+    /// At most so many messages are received at once.
+    fn receive_several(&mut self, limit: usize) -> Result<(), Differs> {
+        let want = self.plain.receive_several(limit)?;
+        let receiver = HandleId(1);
+        self.call(Call::RecvMany { receiver, limit }, want)
     }
 
     /// A poll or a call without waiting.

@@ -4,7 +4,7 @@ use crate::book::{Book, Numbers};
 use crate::differs::Differs;
 use crate::draw::draw;
 use crate::made::Made;
-use crate::owed::is_nothing_owed;
+use crate::owed::{is_nothing_owed, one_place_each_is_enough};
 use crate::plan::{Kind, Plan};
 use crate::random::Random;
 use channel_calls::mark::Mark;
@@ -14,15 +14,21 @@ use channel_world::world::World;
 use std::alloc::Global;
 use std::collections::VecDeque;
 
-/// How many turns an interleaving has at least, how many more it may have, and how many rounds its calls have to end in.
+/// How many turns an interleaving has at least, how many more it may have, and how many rounds its calls have to end in, with
+/// more for each message that a receive of several may take.
 const TURNS: usize = 40;
 
 const MORE: usize = 80;
 
 const ROUNDS: usize = 400;
 
+const ROUNDS_EACH: usize = 64;
+
 /// One time in so many turns all calls under way are first let end.
 const PAUSE: usize = 30;
+
+/// In one of so many interleavings most calls send.
+const FLOODS: usize = 4;
 
 /// How a run stops where memory was refused.
 const NO_MEMORY: Stopped = Stopped {
@@ -44,6 +50,8 @@ pub struct Trial {
     random: Random,
     /// How many parties there are.
     parties: usize,
+    /// Whether most of their calls send.
+    is_flood: bool,
     /// The last new message.
     message: u64,
     made: Made,
@@ -57,13 +65,16 @@ impl Trial {
         seed: u64,
         alloc: Global,
     ) -> Result<Self, Differs> {
+        let mut random = Random::new(seed);
+        let is_flood = random.once_in(FLOODS);
         Ok(Trial {
             world,
             steps: VecDeque::new(alloc),
             calls: VecDeque::new(alloc),
             book: Book::new(capacity, alloc)?,
-            random: Random::new(seed),
+            random,
             parties: 1,
+            is_flood,
             message: 0,
             made: Made::nothing(),
         })
@@ -92,6 +103,9 @@ impl Trial {
         }
         if !is_nothing_owed(&self.book) {
             return Err(Differs::Owed);
+        }
+        if !one_place_each_is_enough(&self.book) {
+            self.made = self.made.with_several_free();
         }
         self.book.see();
         Ok(())
@@ -183,7 +197,7 @@ impl Trial {
             party: PartyId(party),
         };
         if let Some(entry) = self.run(step, idle.then_some(WorldRefusal::Idle))? {
-            self.book.wake(&entry.woken)?;
+            self.book.wake(party, &entry.woken)?;
             self.book.step(party, entry.mark)?;
             if let Some(reply) = &entry.reply {
                 self.book.end(party, reply)?;
@@ -203,7 +217,13 @@ impl Trial {
             return self.step(*party);
         }
         self.message = self.message.wrapping_add(1);
-        let plan = draw(&mut self.random, &self.book, *party, self.message);
+        let plan = draw(
+            &mut self.random,
+            &self.book,
+            *party,
+            self.message,
+            self.is_flood,
+        );
         self.call(*party, plan)
     }
 
@@ -219,7 +239,8 @@ impl Trial {
 
     /// Lets all calls end.
     pub fn settle(&mut self) -> Result<(), Differs> {
-        for _ in 0..ROUNDS {
+        let more = self.book.wanted().saturating_mul(ROUNDS_EACH);
+        for _ in 0..ROUNDS.saturating_add(more) {
             if self.world.is_quiet() {
                 return Ok(());
             }
@@ -235,6 +256,7 @@ impl Trial {
             handle,
             name: self.book.names.next_handle,
             message: 0,
+            limit: 0,
         };
         self.call(11, plan)?;
         self.settle()

@@ -47,7 +47,13 @@ pub struct UnderWay {
     pub saw: Saw,
     /// The moment at which it began.
     pub begun: u64,
+    /// How many messages it has received.
+    pub received: usize,
+    /// Whether it has woken a send since it received them.
+    pub has_told: bool,
     steps: u32,
+    /// How many of its steps it has made while no other call was under way, one after another.
+    in_a_row: usize,
 }
 
 impl UnderWay {
@@ -63,7 +69,10 @@ impl UnderWay {
             was_last: false,
             saw: Saw::nothing(),
             begun: 0,
+            received: 0,
+            has_told: false,
             steps: 0,
+            in_a_row: 0,
         }
     }
 
@@ -77,11 +86,42 @@ impl UnderWay {
         self.first == Mark::Close || self.second == Mark::Close
     }
 
-    /// Whether it took a message out.
-    pub fn has_taken(&self) -> bool {
+    /// How many messages it took out.
+    pub fn takings(&self) -> usize {
         match self.first {
-            Mark::Take | Mark::TakeDisplaced | Mark::Replace => true,
-            _ => false,
+            Mark::TakeDisplaced | Mark::Replace => 1,
+            _ => self.received,
+        }
+    }
+
+    /// How many free places it answers for that it made: those of the messages that it received, until it has told the sends.
+    /// To tell is the last thing that it does, but for a poll: of that the telling is seen where it woke a send.
+    pub fn untold(&self) -> usize {
+        if self.has_told { 0 } else { self.received }
+    }
+
+    /// How many steps it makes at most, one after another, while no other call is under way.
+    fn most_in_a_row(&self) -> usize {
+        let more = self.plan.limit.saturating_mul(64);
+        more.saturating_add(197)
+    }
+
+    /// Another call begins.
+    pub fn is_joined(&mut self) {
+        self.in_a_row = 0;
+    }
+
+    /// One more step of it, while no other call is under way or while one is.
+    pub fn go_on(&mut self, is_alone: bool) -> Result<(), Differs> {
+        if is_alone {
+            self.in_a_row = self.in_a_row.saturating_add(1);
+        } else {
+            self.in_a_row = 0;
+        }
+        if self.in_a_row > self.most_in_a_row() {
+            Err(Differs::Endless)
+        } else {
+            Ok(())
         }
     }
 
@@ -99,11 +139,21 @@ impl UnderWay {
     pub fn part(&self) -> Part {
         match (self.plan.kind, self.subject.line) {
             (Kind::TrySend | Kind::ForceSend, _) => Part::Sending,
-            (Kind::TryRecv | Kind::PollNext, _) => Part::Receiving,
+            (Kind::TryRecv | Kind::RecvMany | Kind::PollNext, _) => Part::Receiving,
             (Kind::Poll | Kind::PollRefused | Kind::GiveUp, Line::Sends) => Part::Sending,
             (Kind::Poll | Kind::PollRefused | Kind::GiveUp, Line::Receives) => Part::Receiving,
             _ => Part::Neither,
         }
+    }
+
+    /// A receive of several takes the oldest message, as it may do as often as messages are wanted.
+    fn receive_one_more(&mut self, mark: Mark, count: &mut Count) -> Result<(), Differs> {
+        if mark != Mark::Take || self.received >= self.plan.limit {
+            return Err(Differs::Mark);
+        }
+        self.received = self.received.saturating_add(1);
+        self.saw = self.saw.at_taking();
+        count.apply(mark, None, false)
     }
 
     /// One more step of it.
@@ -115,8 +165,14 @@ impl UnderWay {
         if mark == Mark::Nothing {
             return Ok(());
         }
+        if self.plan.kind == Kind::RecvMany {
+            return self.receive_one_more(mark, count);
+        }
         if self.second != Mark::Nothing {
             return Err(Differs::Mark);
+        }
+        if mark == Mark::Take {
+            self.received = 1;
         }
         let made_room = self.first == Mark::TakeDisplaced;
         if !made_room {

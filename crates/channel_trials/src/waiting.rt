@@ -92,8 +92,9 @@ impl Waiting {
         unwoken.map(|sleeper| sleeper.came)
     }
 
-    /// It was woken, as nobody is who doesn't wait, was woken before, or came to its line after one who waits there unwoken.
-    pub fn wake(&mut self, name: Waiter) -> Result<(), Differs> {
+    /// It was woken, as nobody is who doesn't wait, was woken before, or came to its line after one who waits there unwoken. The
+    /// line on which it waits.
+    pub fn wake(&mut self, name: Waiter) -> Result<Line, Differs> {
         let Some(woken) = self.unwoken(name) else {
             return Err(Differs::Woken);
         };
@@ -107,7 +108,7 @@ impl Waiting {
                 sleeper.is_woken = true;
             }
         }
-        Ok(())
+        Ok(woken.line)
     }
 
     /// How many are pending on this line that were woken, or that were not.

@@ -23,6 +23,7 @@ fn call_of(kind: Kind, handle: u32, message: Option<u64>) -> UnderWay {
         handle,
         name: 0,
         message: 0,
+        limit: 0,
     };
     let subject = Subject {
         line: Line::Closings,
@@ -102,7 +103,8 @@ fn owes(line: Line, kind: Kind, alloc: Global) -> Option<(bool, bool, bool)> {
 #[test]
 fn one_who_sleeps_is_owed(rt: HostRuntime) {
     let rows = [
-        (Line::Sends, Kind::TryRecv, Some((false, true, false))),
+        (Line::Sends, Kind::TrySend, Some((false, true, false))),
+        (Line::Sends, Kind::TryRecv, Some((false, false, false))),
         (Line::Receives, Kind::TrySend, Some((false, true, false))),
         (Line::Streams, Kind::ForceSend, Some((false, true, false))),
         (Line::Streams, Kind::TryRecv, Some((false, false, false))),
@@ -122,7 +124,7 @@ fn wakes_second(from: u64, to: u64, alloc: Global) -> Option<Result<(), Differs>
     let came = Came { from: 2, to: 4 };
     waiting.add(first, Line::Sends, came).ok()?;
     waiting.add(second, Line::Sends, Came { from, to }).ok()?;
-    Some(waiting.wake(second))
+    Some(waiting.wake(second).map(|_| ()))
 }
 
 #[test]

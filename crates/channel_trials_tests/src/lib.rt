@@ -5,4 +5,6 @@
 #[cfg(test)]
 mod count;
 #[cfg(test)]
+mod several;
+#[cfg(test)]
 mod trial;

@@ -30,6 +30,7 @@ fn plan(kind: Kind, handle: u32) -> Plan {
         handle,
         name: 2,
         message: 5,
+        limit: 2,
     }
 }
 
@@ -110,7 +111,7 @@ fn differs_alone(wrong: Wrong, kind: Kind, alloc: Global) -> Option<Result<(), D
     trial.count_alone(11, plan(Kind::TrySend, 0), first?).ok()?;
     spoil(&mut trial.book, wrong);
     let handle = match kind {
-        Kind::TryRecv => 1,
+        Kind::TryRecv | Kind::RecvMany => 1,
         _ => 0,
     };
     let run = trial.run_alone(plan(kind, handle)).ok()?;
@@ -123,10 +124,16 @@ fn a_wrong_count_is_refused_of_a_call_made_alone(rt: HostRuntime) {
     let refusal = Some(Err(Differs::Refusal));
     let rows = [
         (Wrong::Nothing, Kind::TryRecv, Some(Ok(()))),
+        (Wrong::Nothing, Kind::RecvMany, Some(Ok(()))),
         (Wrong::Nothing, Kind::Drop, Some(Ok(()))),
         (Wrong::MessageMore, Kind::TrySend, Some(Err(Differs::Mark))),
         (Wrong::MessageMore, Kind::Len, Some(Err(Differs::Reply))),
         (Wrong::MessageMore, Kind::TryRecv, numbers),
+        (
+            Wrong::MessageMore,
+            Kind::RecvMany,
+            Some(Err(Differs::Reply)),
+        ),
         (Wrong::SleeperMore, Kind::TryRecv, numbers),
         (Wrong::CallMore, Kind::Capacity, numbers),
         (Wrong::HandleFewer, Kind::TrySend, refusal),

@@ -1,12 +1,13 @@
 -- How many names a call wakes at most.
-use Rattle.std.proofs.Common.{arith, ◌≡◌, ◌≤◌, ◌+◌, ℕ, List, [], ◌∷◌, ◌++◌, length, take, Bool, true, false, ◌&&◌, ◌||◌, ◌==◌, ◌^◌, ◌-◌, nat_lt, if◌then◌else◌, not, Option, None, Some, is_none, refl, sym, subst, inl, inr, length-append}
+use Rattle.std.proofs.Common.{arith, ◌≡◌, ◌≤◌, ◌+◌, ℕ, List, [], ◌∷◌, ◌++◌, length, take, drop, zero, suc, Err, Bool, true, false, ◌&&◌, ◌||◌, ◌==◌, ◌^◌, ◌-◌, nat_lt, if◌then◌else◌, not, Option, None, Some, is_none, refl, sym, subst, inl, inr, length-append}
 use Rattle.std.specs.List.{list_any}
+use Rattle.channel_calls.specs.declared.error.Refused.TheVariants.{NoMemory}
 use Rattle.channel_calls.specs.declared.reply.Reply.TheVariants as reply
 use Rattle.channel_calls.specs.declared.stage.Line.{Line}
 use Rattle.channel_calls.specs.declared.stage.Line.TheVariants.{Sends, Receives, Streams, Closings}
-use Rattle.channel_model.specs.Answer.{Answer, answer, replying, telling, space_of, Found, first, none_yet, none_ever, found, displacing, next_answer, count, dropped, one_more, news_without_one, drop_one, drop_answer, poll_answer, poll_refused_answer, give_up_answer, send_poll_answer, recv_poll_answer, try_send_answer, force_send_answer, try_recv_answer, clone_answer, downgrade_answer, upgrade_answer, close_answer, shut, strong_of}
+use Rattle.channel_model.specs.Answer.{Answer, answer, replying, telling, space_of, Found, first, none_yet, none_ever, found, displacing, next_answer, count, dropped, one_more, news_without_one, drop_one, drop_answer, poll_answer, poll_refused_answer, give_up_answer, send_poll_answer, recv_poll_answer, try_send_answer, force_send_answer, try_recv_answer, recv_many_answer, clone_answer, downgrade_answer, upgrade_answer, close_answer, shut, strong_of}
 use Rattle.channel_model.specs.Channel.{Channel}
-use Rattle.channel_model.specs.Lines.{Waiting, untold, told_by, after_news, gone, passed_on, told_after, is_among, is_stream, without}
+use Rattle.channel_model.specs.Lines.{Waiting, untold, told_by, after_news, after_rooms, told_by_rooms, gone, passed_on, told_after, is_among, is_stream, without}
 use Rattle.channel_model.specs.Names.{Operation, send, recv, closing, at}
 use Rattle.channel_model.specs.Refused.{Answers, Lack, memory, serials, answer_without, not_held, send_not_polled, recv_not_polled, not_polled, next_not_polled}
 use Rattle.channel_model.specs.State.{State, with_channel, with_waiting}
@@ -81,6 +82,19 @@ few_left_closing false w l = next (is_among w (after_news Nothing l).woken && no
   next true = let a = left in omega (arith, a)
   next false = omega arith
 
+-- one send for each message, of those that wait
+few_rooms : (n : ℕ) (l : Waiting) → length (told_by_rooms n l) ≤ length l.sends
+few_rooms zero l = omega arith
+few_rooms (suc n) l =
+    let rest = few_rooms n (after_news Room l) in
+    let one = shared l.sends in
+    let e = length-append (told_by Room l) (told_by_rooms n (after_news Room l)) in
+    omega (arith, rest, one, e)
+  where
+    shared : (ws : List Waiter) → length (take 1 ws) + length (drop 1 ws) ≡ length ws
+    shared [] = refl
+    shared (w ∷ ws) = omega arith
+
 module _ {T : Type 0} where
   -- ---- answers
 
@@ -138,6 +152,11 @@ module _ {T : Type 0} where
   few_force_send s m Open = few_tell_message s
   few_force_send s m Filled = few_displacing s m s.channel.messages
   few_force_send s m Shut = none s
+
+  few_recv_many : (s : State T) (n : ℕ) (ms rest : List T) → length (recv_many_answer s n ms rest).woken ≤ length s.waiting.sends
+  few_recv_many s zero ms rest = omega arith
+  few_recv_many s (suc n) [] rest = omega arith
+  few_recv_many s (suc n) (m ∷ ms) rest = few_rooms (length (m ∷ ms)) s.waiting
 
   few_try_recv : (s : State T) (f : Found T) → Few s (try_recv_answer s f)
   few_try_recv s (first m ms) = few_tell_room s s.waiting
@@ -222,6 +241,7 @@ module _ {T : Type 0} where
   few_ample s (call.TrySend sender msg) = few_try_send s msg (space_of s.channel)
   few_ample s (call.ForceSend sender msg) = few_force_send s msg (space_of s.channel)
   few_ample s (call.TryRecv receiver) = few_try_recv s (found s.channel)
+  few_ample s (call.RecvMany receiver limit) = few_recv_many s limit (take limit s.channel.messages) (drop limit s.channel.messages)
   few_ample s (call.Close handle) = few_close s
   few_ample s (call.Drop handle) = few_drop s handle (at handle.0 s.names.handles)
   few_ample s (call.TryClone handle new) = few_clone s new (at handle.0 s.names.handles)
@@ -290,6 +310,11 @@ module _ {T : Type 0} where
   few_lacking lack s (call.ForceSend sender msg) a e = taken s _ a e (few_held lack s s.channel (space_of s.channel) _ (none s))
   few_lacking lack s (call.Poll op) a e = taken s _ a e (few_poll_lacks lack s op (at op.0 s.names.operations))
   few_lacking lack s (call.PollNext receiver) a e = taken s _ a e (few_next_lacks lack s (Stream receiver) (found s.channel))
+  few_lacking memory s (call.RecvMany receiver zero) a e = cc e
+  few_lacking memory s (call.RecvMany receiver (suc n)) a e =
+      let same : replying s (reply.RecvMany (Err (NoMemory tt))) ≡ a = cc e in
+      subst (λ (x : Answer T). length x.woken ≤ length s.waiting.sends) same (omega arith)
+  few_lacking serials s (call.RecvMany receiver limit) a e = cc e
   few_lacking lack s (call.NewSend op sender msg) a e = cc e
   few_lacking lack s (call.NewRecv op receiver) a e = cc e
   few_lacking lack s (call.NewClosed op sender) a e = cc e

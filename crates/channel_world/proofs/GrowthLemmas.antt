@@ -1,11 +1,13 @@
 -- An answer that is not ample says so in its reply.
-use Rattle.std.proofs.Common.{◌≡◌, inl, inr, ℕ, Bool, true, false, cond, Option, Some, None, is_none, refl, subst}
+use Rattle.std.proofs.Common.{◌≡◌, inl, inr, ℕ, zero, suc, Err, Bool, true, false, cond, Option, Some, None, is_none, refl, subst}
+use Rattle.channel_calls.specs.declared.error.Refused.TheVariants.{NoMemory}
+use Rattle.channel_calls.specs.declared.reply.Reply.TheVariants as reply
 use Rattle.channel_model.specs.Names.{Operation, send, recv, closing, at}
 use Rattle.channel_model.specs.Channel.{Channel}
 use Rattle.channel_model.specs.State.{State}
 use Rattle.channel_model.specs.Lines.{is_among}
-use Rattle.channel_model.specs.Answer.{Answer, answer, Found, first, none_yet, none_ever, found, space_of}
-use Rattle.channel_model.specs.Refused.{Lack, memory, serials, Answers, answer_without, not_held, not_polled, send_not_polled, recv_not_polled, next_not_polled}
+use Rattle.channel_model.specs.Answer.{Answer, answer, replying, Found, first, none_yet, none_ever, found, space_of}
+use Rattle.channel_model.specs.Refused.{Lack, memory, serials, Answers, answer_without, not_held, not_received, not_polled, send_not_polled, recv_not_polled, next_not_polled}
 use Rattle.channel_model.specs.declared.call.Call.{Call}
 use Rattle.channel_model.specs.declared.call.Call.TheVariants as call
 use Rattle.channel_world.specs.Text.{wants_growth}
@@ -60,9 +62,16 @@ next_polled serials s w none_yet x e = where_false (is_among w s.waiting.streams
 next_polled lack s w (first m ms) x e = cc
 next_polled lack s w none_ever x e = cc
 
+several : (lack : Lack) (s : State ℕ) (limit : ℕ) (x : Answer ℕ) → not_received lack s limit ≡ Some x → wants_growth x.reply ≡ true
+several memory s zero x e = cc e
+several memory s (suc n) x e =
+    let same : replying s (reply.RecvMany (Err (NoMemory tt))) ≡ x = cc e in subst (λ (y : Answer ℕ). wants_growth y.reply ≡ true) same refl
+several serials s limit x e = cc e
+
 lacking : (lack : Lack) (s : State ℕ) (c : Call ℕ) (x : Answer ℕ) → answer_without lack s c ≡ Some x → wants_growth x.reply ≡ true
 lacking lack s (call.TrySend sender msg) x e = held lack s.channel (space_of s.channel) _ x refl e
 lacking lack s (call.ForceSend sender msg) x e = held lack s.channel (space_of s.channel) _ x refl e
+lacking lack s (call.RecvMany receiver limit) x e = several lack s limit x e
 lacking lack s (call.Poll op) x e = polled lack s op (at op.0 s.names.operations) x e
 lacking lack s (call.PollNext receiver) x e = next_polled lack s (Stream receiver) (found s.channel) x e
 lacking lack s c x e = cc

@@ -99,6 +99,7 @@ module _ {T : Type 0} where
       → Row a ds seen r → Keeps a r k → LeavesNothing a ds r k
   leaves (ask.TrySend m) ds seen (reply.TrySend (Err (refused.NoMemory v))) k h keeps = (h.1, h.0, keeps)
   leaves (ask.ForceSend m) ds seen (reply.ForceSend (Err (refused.NoMemory v))) k h keeps = (h.1, h.0, keeps)
+  leaves (ask.RecvMany n) ds seen (reply.RecvMany (Err (refused.NoMemory u))) k h keeps = (h.0, keeps)
   leaves (ask.PollSend m key task) ds seen (reply.SendPoll (Ready (Err (refused.NoMemory u)))) k h keeps = (h.0, keeps)
   leaves (ask.PollSend m key task) ds seen (reply.SendPoll (Ready (Err (refused.SerialsUsedUp u)))) k h keeps = (h.0, keeps)
   leaves (ask.PollRecv key task) ds seen (reply.RecvPoll (Ready (Err (refused.NoMemory u)))) k h keeps = (h.0, keeps)

@@ -1,4 +1,5 @@
 pub mod Few
+pub mod FewListed
 pub mod Opening
 pub mod Carried
 pub mod SoonFacts

@@ -1,5 +1,5 @@
 -- Of what is known of a call under way follows which marks it has made.
-use Rattle.std.proofs.Common.{◌≡◌, Bool, true, false, List, [], ◌∷◌, ◌++◌, Option, None, Some, Ok, Err, inl, inr, ◌⊎◌, refl, sym, ap, ◌∙◌, subst, append-nil}
+use Rattle.std.proofs.Common.{arith, ◌≡◌, ◌≤◌, ◌+◌, ℕ, length, Bool, true, false, List, [], ◌∷◌, ◌++◌, Option, None, Some, Ok, Err, inl, inr, ◌⊎◌, refl, sym, ap, ◌∙◌, subst, append-nil}
 use Rattle.concurrent_queue.specs.Queue.{trying, displaced, appended, taken, read, measured}
 use Rattle.concurrent_queue.specs.Queue as queue
 use Rattle.concurrent_queue.specs.declared.call.QueueAsk.{QueueAsk}
@@ -25,17 +25,25 @@ use Rattle.channel_calls.specs.declared.stage.Side.TheVariants.{Senders, Receive
 use Rattle.channel_calls.specs.declared.stage.Stage.{Stage}
 use Rattle.channel_calls.specs.declared.stage.Stage.TheVariants.{Trying, Working, Finished}
 use Rattle.channel_calls.specs.declared.stage.Work.{Work}
-use Rattle.channel_calls.specs.declared.stage.Work.TheVariants.{TellReceive, TellStreams, TellSend, TellAll, Insert, Register, Leave, Lower, Count, Load, Raise}
+use Rattle.channel_calls.specs.declared.stage.Work.TheVariants.{TellReceive, TellStreams, TellSend, TellSends, TakeRoom, TellAll, Insert, Register, Leave, Lower, Count, Load, Raise}
 use Rattle.channel_calls.specs.declared.stage.Ending.{Ending}
 use Rattle.channel_calls.specs.Turns.{closer_ending}
 use Rattle.concurrent_queue.specs.Queue.{Phase}
 use Rattle.channel_model.specs.declared.name.Waiter.{Waiter}
 use Rattle.channel_steps.specs.Answers.{Row}
-use Rattle.channel_steps.specs.Known.{TriesFor, TryAt, WorkAt, StageAt, Answered}
-use Rattle.channel_steps.specs.Moments.{Deed, Appended, Took, Replaced, MadeRoom, Displaced, ClosedIt, Raised, Upgraded, LeftLast, Dropped}
+use Rattle.channel_steps.specs.Known.{TriesFor, TryAt, TriesAt, HasTaken, WorkAt, StageAt, Answered}
+use Rattle.channel_steps.specs.Moments.{Deed, Appended, Took, TookAll, Replaced, MadeRoom, Displaced, ClosedIt, Raised, Upgraded, LeftLast, Dropped}
 use Rattle.channel_steps.specs.Scene.{Under, Known, AllKnown}
 use Rattle.channel_interleaving.specs.Owners.{All}
 use Rattle.channel_world.specs.Marks.{AreMarksOf, marks_of, BeginsItsMarks}
+
+-- takings, so many at most
+abbrev FewTakings : ℕ → List Mark → Type 0
+FewTakings n ms = All (λ (m : Mark). m ≡ Take) ms × (length ms ≤ n)
+
+one_taking : (ms : List Mark) → (ms ≡ []) ⊎ (ms ≡ Take ∷ []) → FewTakings 1 ms
+one_taking ms (inl e) = subst (λ (xs : List Mark). FewTakings 1 xs) (sym e) (tt, omega arith)
+one_taking ms (inr e) = subst (λ (xs : List Mark). FewTakings 1 xs) (sym e) ((refl, tt), omega arith)
 
 module _ {T : Type 0} where
   -- a question marks nothing
@@ -65,6 +73,25 @@ module _ {T W : Type 0} where
   took_marks [] v h = absurd h
   took_marks (d ∷ []) v h = ap (λ (m : Mark). m ∷ []) h.0
   took_marks (d ∷ e ∷ ds) v h = absurd h
+
+  no_takings : (n : ℕ) (ds : List (Deed T W)) → ds ≡ [] → FewTakings n (marks_of ds)
+  no_takings n ds e = subst (λ (ms : List Mark). FewTakings n ms) (sym (no_marks ds e)) (tt, omega arith)
+
+  all_takings : (n : ℕ) (ds : List (Deed T W)) (vs : List T) → TookAll ds vs → length vs ≤ n → FewTakings n (marks_of ds)
+  all_takings n [] [] h few = (tt, few)
+  all_takings n [] (v ∷ vs) h few = absurd h
+  all_takings n (d ∷ ds) [] h few = absurd h
+  all_takings n (d ∷ ds) (v ∷ vs) h few =
+      let rest = all_takings (length vs) ds vs h.2 (omega arith) in ((h.0, rest.0), let less = rest.1 in omega (arith, less, few))
+
+  more_takings : (n : ℕ) (before mine : List (Deed T W)) (vs : List T) → TookAll before vs → FewTakings 1 (marks_of mine) → length vs + 1 ≤ n
+      → FewTakings n (marks_of (before ++ mine))
+  more_takings n [] mine [] h one few = (one.0, let less = one.1 in omega (arith, less, few))
+  more_takings n [] mine (v ∷ vs) h one few = absurd h
+  more_takings n (d ∷ before) mine [] h one few = absurd h
+  more_takings n (d ∷ before) mine (v ∷ vs) h one few =
+      let rest = more_takings (length vs + 1) before mine vs h.2 one (omega arith) in
+      ((h.0, rest.0), let less = rest.1 in omega (arith, less, few))
 
   replaced_marks : (ds : List (Deed T W)) (v : T) → Replaced ds v → marks_of ds ≡ Replace ∷ []
   replaced_marks [] v h = absurd h
@@ -125,6 +152,11 @@ module _ {T W : Type 0} where
   row_marks ask.TryRecv ds seen (reply.TryRecv (Ok v)) h = inr (took_marks ds v h)
   row_marks ask.TryRecv ds seen (reply.TryRecv (Err try_recv_error.Empty)) h = inl (no_marks ds h.0)
   row_marks ask.TryRecv ds seen (reply.TryRecv (Err try_recv_error.Closed)) h = inl (no_marks ds h.0)
+  row_marks (ask.RecvMany n) ds seen (reply.RecvMany (Ok vs)) (took, inl all) = all_takings n ds vs took (omega (arith, all))
+  row_marks (ask.RecvMany n) ds seen (reply.RecvMany (Ok vs)) (took, inr fewer) = all_takings n ds vs took (let less = fewer.0 in omega (arith, less))
+  row_marks (ask.RecvMany n) ds seen (reply.RecvMany (Err (refused.Plain try_recv_error.Empty))) h = no_takings n ds h.0
+  row_marks (ask.RecvMany n) ds seen (reply.RecvMany (Err (refused.Plain try_recv_error.Closed))) h = no_takings n ds h.0
+  row_marks (ask.RecvMany n) ds seen (reply.RecvMany (Err (refused.NoMemory u))) h = no_takings n ds h.0
   row_marks ask.Close ds seen (reply.Closed true) h = inr (closed_marks ds h)
   row_marks ask.Close ds seen (reply.Closed false) h = inl (no_marks ds h.0)
   row_marks (ask.PollSend m key task) ds seen (reply.SendPoll (Ready (Ok u))) h = inr (appended_marks ds h)
@@ -180,6 +212,7 @@ module _ {T W : Type 0} where
   none_made (ask.PollSend m key task) = ([], inl refl)
   none_made (ask.ForceSend m) = ([], inl refl)
   none_made ask.TryRecv = ([], inl refl)
+  none_made (ask.RecvMany n) = ([], (tt, omega arith))
   none_made (ask.PollRecv key task) = ([], inl refl)
   none_made (ask.PollNext key task) = ([], inl refl)
   none_made ask.Close = ([], inl refl)
@@ -232,11 +265,18 @@ module _ {T W : Type 0} where
   questioned now q.Close s ds seen i h = absurd i
   questioned now a s ds seen i h = absurd h
 
-  tries : (now : Channel T W) (a : ChannelAsk T W) (y : Aim W) (x : QueueAsk T) (s : queue.Stage T) (ds : List (Deed T W))
-      (seen : List (Channel T W)) → TriesFor a y x ds seen → TryAt now x s ds seen → Begun a ds
+  several : (now : Channel T W) (n : ℕ) (vs : List T) (ds mine : List (Deed T W)) (s : queue.Stage T) (seen : List (Channel T W))
+      → HasTaken vs ds mine seen → TryAt now q.Pop s mine seen → length vs + 1 ≤ n → FewTakings n (marks_of ds)
+  several now n vs ds mine s seen t h few =
+      subst (λ (xs : List (Deed T W)). FewTakings n (marks_of xs)) (sym t.all)
+      (more_takings n t.before mine vs t.took (one_taking (marks_of mine) (popped now s mine seen h)) few)
+
+  tries : (now : Channel T W) (a : ChannelAsk T W) (y : Aim T W) (x : QueueAsk T) (s : queue.Stage T) (ds : List (Deed T W))
+      (seen : List (Channel T W)) → TriesFor a y x ds seen → TriesAt now y x s ds seen → Begun a ds
   tries now (ask.TrySend m) aim.TrySend (q.Push v) s ds seen t h = whole (ask.TrySend m) ds (pushed now v s ds seen h)
   tries now (ask.ForceSend m) aim.ForceSend (q.ForcePush v) s ds seen t h = forced now m v s ds seen h
   tries now ask.TryRecv aim.TryRecv q.Pop s ds seen t h = whole ask.TryRecv ds (popped now s ds seen h)
+  tries now (ask.RecvMany n) (aim.RecvMany g) q.Pop s ds seen t h = whole (ask.RecvMany n) ds (several now n g.taken ds h.0 s seen h.1 h.2 (omega (arith, t)))
   tries now ask.Close (aim.Close closer.Call) q.Close s ds seen t h = nothing ask.Close ds t
   tries now (ask.PollSend m k w) (aim.Poll Sends key task) (q.Push v) s ds seen t h = whole (ask.PollSend m k w) ds (pushed now v s ds seen h)
   tries now (ask.PollRecv k w) (aim.Poll Receives key task) q.Pop s ds seen t h = whole (ask.PollRecv k w) ds (popped now s ds seen h)
@@ -263,6 +303,8 @@ module _ {T W : Type 0} where
   works a (TellReceive x) ds seen h = answered a x ds seen h
   works a (TellStreams x) ds seen h = answered a x ds seen h
   works a (TellSend x) ds seen h = answered a x ds seen h
+  works a (TellSends n x) ds seen h = answered a x ds seen h
+  works a (TakeRoom n) ds seen h = nothing a ds h.1
   works a (TellAll line y) ds seen h = answered a (closer_ending y true) ds seen h
   works a (Insert w task) ds seen h = nothing a ds h.1
   works a (Register w key task) ds seen h = nothing a ds h.1

@@ -5,7 +5,7 @@ use Rattle.channel_model.specs.Names.{Names, at}
 use Rattle.channel_model.specs.declared.call.Call.{Call}
 use Rattle.channel_model.specs.declared.call.Call.TheVariants as call
 use Rattle.channel_world.specs.Words.{Name}
-use Rattle.channel_world.specs.Command.{Command, Question, try_send, force_send, try_recv, send, recv, closed, poll, next, drop, close, clone, downgrade, upgrade, same_channel, is_terminated, ask, settle, is_closed, is_empty, is_full, len, capacity, sender_count, receiver_count}
+use Rattle.channel_world.specs.Command.{Command, Question, try_send, force_send, try_recv, recv_many, send, recv, closed, poll, next, drop, close, clone, downgrade, upgrade, same_channel, is_terminated, ask, settle, is_closed, is_empty, is_full, len, capacity, sender_count, receiver_count}
 use Rattle.channel_world.specs.Table.{Table, named_in, number_in}
 use Rattle.channel_world.specs.declared.script.table.Sort.{Sort}
 use Rattle.channel_world.specs.declared.script.table.Sort.TheVariants as sort
@@ -21,6 +21,7 @@ abbrev pub used : Command → List Name
 used (try_send s m) = s ∷ []
 used (force_send s m) = s ∷ []
 used (try_recv r) = r ∷ []
+used (recv_many r n) = r ∷ []
 used (send o s m) = s ∷ []
 used (recv o r) = r ∷ []
 used (closed o s) = s ∷ []
@@ -108,6 +109,7 @@ abbrev pub call_of : Table → Command → Option (Call ℕ)
 call_of t (try_send s m) = of_handle t s (λ h. call.TrySend h m)
 call_of t (force_send s m) = of_handle t s (λ h. call.ForceSend h m)
 call_of t (try_recv r) = of_handle t r (λ h. call.TryRecv h)
+call_of t (recv_many r n) = of_handle t r (λ h. call.RecvMany h n)
 call_of t (send o s m) = of_handle t s (λ h. call.NewSend (new_op t) h m)
 call_of t (recv o r) = of_handle t r (λ h. call.NewRecv (new_op t) h)
 call_of t (closed o s) = of_handle t s (λ h. call.NewClosed (new_op t) h)

@@ -18,6 +18,7 @@ pub data Command : Type 0 where
   try_send : Name → ℕ → Command
   force_send : Name → ℕ → Command
   try_recv : Name → Command
+  recv_many : Name → ℕ → Command
   send : Name → Name → ℕ → Command
   recv : Name → Name → Command
   closed : Name → Name → Command
@@ -69,6 +70,7 @@ message_commands =
     (codes "try_send", a_name (λ s. a_number (λ m. that_is (try_send s m))))
     ∷ (codes "force_send", a_name (λ s. a_number (λ m. that_is (force_send s m))))
     ∷ (codes "try_recv", a_name (λ r. that_is (try_recv r)))
+    ∷ (codes "recv_many", a_name (λ r. a_number (λ n. that_is (recv_many r n))))
     ∷ (codes "next", a_name (λ r. that_is (next r)))
     ∷ []
 

@@ -95,3 +95,8 @@ pub stream_has_not_ended_beside_a_message : ran today (codes "unbounded" ∷ cod
     ≡ (codes "ok" ∷ codes "ok" ∷ codes "true" ∷ codes "false" ∷ codes "ok 1" ∷ codes "true" ∷ [], 0)
 unfolding digits
 stream_has_not_ended_beside_a_message = refl
+
+pub several_at_once_tell_as_many_sends : ran today (codes "bounded 3" ∷ codes "try_send s 1" ∷ codes "try_send s 2" ∷ codes "try_send s 3" ∷ codes "send a s 4" ∷ codes "send b s 5" ∷ codes "send c s 6" ∷ codes "poll a" ∷ codes "poll b" ∷ codes "poll c" ∷ codes "recv_many r 2" ∷ codes "poll a" ∷ codes "poll b" ∷ codes "poll c" ∷ codes "recv_many r 10" ∷ codes "poll c" ∷ codes "recv_many r 10" ∷ codes "recv_many r 10" ∷ codes "close s" ∷ codes "recv_many r 1" ∷ codes "recv_many r 0" ∷ [])
+    ≡ (codes "ok" ∷ codes "ok" ∷ codes "ok" ∷ codes "ok" ∷ codes "ok" ∷ codes "ok" ∷ codes "ok" ∷ codes "pending" ∷ codes "pending" ∷ codes "pending" ∷ codes "ok 1 2 wakes a b" ∷ codes "ok wakes c" ∷ codes "ok" ∷ codes "pending" ∷ codes "ok 3 4 5 wakes c" ∷ codes "ok" ∷ codes "ok 6" ∷ codes "empty" ∷ codes "true" ∷ codes "closed" ∷ codes "ok" ∷ [], 0)
+unfolding digits
+several_at_once_tell_as_many_sends = refl

@@ -21,3 +21,4 @@ pub mod RecordSeat
 pub mod RecordReplay
 pub mod RecordLaws
 pub mod Recording
+pub mod Listed

@@ -64,6 +64,7 @@ made_by making.Upgrade n w = say.upgrade n w
 
 abbrev pub said : Parsed → Command
 said (parsed.Message how sender msg) = sent_by how sender.now msg
+said (parsed.RecvMany receiver limit) = say.recv_many receiver.now limit
 said (parsed.Send op sender msg) = say.send op.now sender.now msg
 said (parsed.New what new handle) = made_by what new.now handle.now
 said (parsed.One what name) = done_to what name.now
@@ -114,6 +115,7 @@ op_call what op = None
 -- how the words after a command's first word are read
 abbrev pub form_of : Verb → Form Command
 form_of (verb.Message how) = a_name (λ s. a_number (λ m. that_is (sent_by how s m)))
+form_of verb.RecvMany = a_name (λ r. a_number (λ n. that_is (say.recv_many r n)))
 form_of verb.Send = a_name (λ o. a_name (λ s. a_number (λ m. that_is (say.send o s m))))
 form_of (verb.New what) = a_name (λ n. a_name (λ h. that_is (made_by what n h)))
 form_of (verb.One what) = a_name (λ x. that_is (done_to what x))

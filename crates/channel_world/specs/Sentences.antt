@@ -87,6 +87,7 @@ module _ {T : Type 0} where
   abbrev pub LeavesNothing : ChannelAsk T Waiter → List (Deed T Waiter) → Reply T → Kept T → Type 0
   LeavesNothing (ask.TrySend m) ds (reply.TrySend (Err (refused.NoMemory v))) k = (ds ≡ []) × (v ≡ m) × (k ≡ nothing_kept)
   LeavesNothing (ask.ForceSend m) ds (reply.ForceSend (Err (refused.NoMemory v))) k = (ds ≡ []) × (v ≡ m) × (k ≡ nothing_kept)
+  LeavesNothing (ask.RecvMany n) ds (reply.RecvMany (Err (refused.NoMemory u))) k = (ds ≡ []) × (k ≡ nothing_kept)
   LeavesNothing (ask.PollSend m key task) ds (reply.SendPoll (Ready (Err (refused.NoMemory u)))) k = (ds ≡ []) × (k ≡ leaving None (Some m))
   LeavesNothing (ask.PollSend m key task) ds (reply.SendPoll (Ready (Err (refused.SerialsUsedUp u)))) k = (ds ≡ []) × (k ≡ leaving None (Some m))
   LeavesNothing (ask.PollRecv key task) ds (reply.RecvPoll (Ready (Err (refused.NoMemory u)))) k = (ds ≡ []) × (k ≡ nothing_kept)

@@ -1,9 +1,9 @@
 -- How soon a call ends that nobody holds up: the number of steps of its own that are left to it at each moment of a run.
-use Rattle.std.specs.Prelude.{◌≡◌, ℕ, suc, ◌≤◌, ◌==◌, ◌&&◌, if◌then◌else◌, is_none, List, [], ◌∷◌}
+use Rattle.std.specs.Prelude.{◌≡◌, ℕ, suc, ◌+◌, ◌*◌, ◌≤◌, ◌==◌, ◌&&◌, if◌then◌else◌, is_none, List, [], ◌∷◌}
 use Rattle.channel_model.specs.declared.name.Waiter.{Waiter}
 use Rattle.channel_steps.specs.Scene.{Scene, HoldNobodyUp}
 use Rattle.channel_interleaving.specs.Floor.{moment_of, StandsIn}
-use Rattle.channel_interleaving.specs.Left.{others_of}
+use Rattle.channel_interleaving.specs.Left.{others_of, wanted_of}
 use Rattle.channel_interleaving.specs.Runs.{Moment, EachStep, FewLeft, ComesNearer}
 use Rattle.channel_interleaving.specs.declared.floor.Floor.{Floor}
 use Rattle.channel_interleaving.specs.declared.step.Entry.{Entry}
@@ -22,24 +22,31 @@ module _ {T : Type 0} where
   abbrev pub NobodyHoldsUp : ℕ → Moment T → Type 0
   NobodyHoldsUp p m = HoldNobodyUp m.scene.now (others_of p m.scene.under_way)
 
-  -- at each moment, where the others hold a party's call up no more, it ends among its next 198 steps, if these are the next
+  -- how many steps at most a party's call has left: 197, and 64 more for each message that it may take more than one
+  abbrev pub most_left : ℕ → Moment T → ℕ
+  most_left p m = 197 + 64 * wanted_of p m.scene.under_way
+
+  -- at each moment, where the others hold a party's call up no more, it makes no more steps than these before it ends, if its are
+  -- the next
   abbrev pub EndInARow : Moment T → List (Step T) → List (Entry T) → List (Moment T) → Type 0
   EndInARow m [] [] [] = Unit {0}
   EndInARow m (x ∷ xs) (e ∷ es) (n ∷ ns) =
-      ((p : ℕ) → NobodyHoldsUp p m → in_a_row p (x ∷ xs) (e ∷ es) ≤ 197) × EndInARow n xs es ns
+      ((p : ℕ) → NobodyHoldsUp p m → in_a_row p (x ∷ xs) (e ∷ es) ≤ most_left p m) × EndInARow n xs es ns
   EndInARow m _ _ _ = ⊥
 
-  -- From the moment m on by the first steps xs of this list, to these moments: at most 197 steps of its own are left to each call at
-  -- each moment, and each step that does not end its call, where the others hold it up no more, leaves it fewer. So it ends among
-  -- its next 198, if these are the next: those in front of the list, and from each later moment on.
+  -- From the moment m on by the first steps xs of this list, to these moments: at each moment no more steps of its own are left to
+  -- each call than these, and each step that does not end its call, where the others hold it up no more, leaves it fewer. So it ends
+  -- soon, if its steps are the next: those in front of the list, and from each later moment on.
   pub record EndSoon (steps : List (Step T)) (m : Moment T) (xs : List (Step T)) (es : List (Entry T)) (ns : List (Moment T)) : Type 0 where
     pub first : FewLeft m
     pub few : EachStep (λ m x e n. FewLeft n) m xs es ns
     pub nearer : EachStep ComesNearer m xs es ns
-    pub in_front : (party : ℕ) → NobodyHoldsUp party m → in_a_row party steps es ≤ 197
+    pub in_front : (party : ℕ) → NobodyHoldsUp party m → in_a_row party steps es ≤ most_left party m
     pub later : EndInARow m xs es ns
 
-  -- from whatever scene the world stood in: a call that the others hold up no more does not make 198 steps in front of the list
+  -- from whatever scene the world stood in: a call that the others hold up no more makes no more steps than these in front of the
+  -- list
   abbrev pub EndsInFront : Floor T → List (Step T) → List (Entry T) → Type 0
   EndsInFront old steps trace =
-      (s : Scene T Waiter) → StandsIn old s → (party : ℕ) → NobodyHoldsUp party (moment_of old s) → in_a_row party steps trace ≤ 197
+      (s : Scene T Waiter) → StandsIn old s → (party : ℕ) → NobodyHoldsUp party (moment_of old s)
+      → in_a_row party steps trace ≤ most_left party (moment_of old s)

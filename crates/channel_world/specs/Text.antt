@@ -33,6 +33,10 @@ short_text (reply.GivenUp m) = codes "ok"
 short_text reply.Unit = codes "ok"
 short_text wanting = []
 
+-- messages in order, each after a space
+abbrev pub several_text : List ℕ → List ℕ
+several_text ms = codes "ok" ++ flat_map (λ m. 32 ∷ decimal m) ms
+
 abbrev pub reply_text : Reply ℕ → List ℕ
 reply_text (reply.TrySend (Ok u)) = codes "ok"
 reply_text (reply.TrySend (Err (Plain (send_error.Full m)))) = codes "full " ++ decimal m
@@ -43,6 +47,9 @@ reply_text (reply.ForceSend (Err (Plain e))) = codes "closed " ++ decimal e.0
 reply_text (reply.TryRecv (Ok m)) = codes "ok " ++ decimal m
 reply_text (reply.TryRecv (Err recv_error.Empty)) = codes "empty"
 reply_text (reply.TryRecv (Err recv_error.Closed)) = codes "closed"
+reply_text (reply.RecvMany (Ok ms)) = several_text ms
+reply_text (reply.RecvMany (Err (Plain recv_error.Empty))) = codes "empty"
+reply_text (reply.RecvMany (Err (Plain recv_error.Closed))) = codes "closed"
 reply_text (reply.SendPoll Pending) = codes "pending"
 reply_text (reply.SendPoll (Ready (Ok u))) = codes "ok"
 reply_text (reply.SendPoll (Ready (Err (Plain e)))) = codes "closed " ++ decimal e.0
@@ -61,6 +68,7 @@ abbrev pub IsTry : Reply ℕ → Type 0
 IsTry (reply.TrySend r) = Unit {0}
 IsTry (reply.ForceSend r) = Unit {0}
 IsTry (reply.TryRecv r) = Unit {0}
+IsTry (reply.RecvMany r) = Unit {0}
 IsTry r = ⊥
 
 abbrev pub IsPoll : Reply ℕ → Type 0
@@ -101,6 +109,8 @@ wants_growth (reply.TrySend (Err (NoMemory m))) = true
 wants_growth (reply.TrySend (Err (SerialsUsedUp m))) = true
 wants_growth (reply.ForceSend (Err (NoMemory m))) = true
 wants_growth (reply.ForceSend (Err (SerialsUsedUp m))) = true
+wants_growth (reply.RecvMany (Err (NoMemory u))) = true
+wants_growth (reply.RecvMany (Err (SerialsUsedUp u))) = true
 wants_growth (reply.SendPoll (Ready (Err (NoMemory u)))) = true
 wants_growth (reply.SendPoll (Ready (Err (SerialsUsedUp u)))) = true
 wants_growth (reply.RecvPoll (Ready (Err (NoMemory u)))) = true

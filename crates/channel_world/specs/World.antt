@@ -52,4 +52,5 @@ module _ {T : Type 0} where
   abbrev pub most_woken : Call T → Waiting → ℕ
   most_woken (call.Close handle) l = untold_count l
   most_woken (call.Drop handle) l = untold_count l
+  most_woken (call.RecvMany receiver limit) l = length l.sends
   most_woken c l = 2 + length l.streams

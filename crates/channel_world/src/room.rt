@@ -26,6 +26,7 @@ impl<T: Drop> World<T> {
     {
         match call {
             Call::Close { .. } | Call::Drop { .. } => self.untold_count(),
+            Call::RecvMany { .. } => Some(self.steps.waiting(Line::Sends)),
             _ => self.steps.waiting(Line::Streams).checked_add(2),
         }
     }

@@ -1,9 +1,13 @@
 //! Clients of a world that know nothing of it but that it is one. They are proved; nothing runs them.
 
 ghost use Rattle.std.specs.Prelude.{◌≡◌, ◌+◌};
+ghost use Rattle.channel_interleaving.specs.Floor.{IsQuiet, Led};
 ghost use Rattle.channel_interleaving.specs.Runs.{accepted_in, left_in};
+ghost use Rattle.channel_model.specs.declared.name.Waiter.{Waiter};
+ghost use Rattle.channel_steps.specs.Scene.{Scene};
 ghost use Rattle.channel_world.specs.StepsLeft.{EndsInFront};
 
+use channel_world::call::{Call, CallRun};
 use channel_world::step::{Run, Step};
 use channel_world::world::World;
 use std::collections::VecDeque;
@@ -36,4 +40,57 @@ pub fn ends_soon<T: Drop>(world: &mut World<T>, steps: &mut VecDeque<Step<T>>) -
     ensures { EndsInFront world.old steps.old.items result.trace.items }
 {
     world.run_steps(steps)
+}
+
+/// Makes steps: the accounts that were kept since whatever scene are kept on.
+fn step_on<T: Drop>(world: &mut World<T>, steps: &mut VecDeque<Step<T>>) -> Run<T>
+    ensures { (s : Scene T Waiter) → Led world.old s → Led world.new s }
+{
+    world.run_steps(steps)
+}
+
+/// Makes calls one at a time, where none is under way: the accounts are kept on.
+fn call_on<T: Drop>(world: &mut World<T>, calls: &mut VecDeque<Call<T>>) -> CallRun<T>
+    requires { IsQuiet world.old }
+    ensures { (s : Scene T Waiter) → Led world.old s → Led world.new s }
+{
+    world.run_calls(calls)
+}
+
+/// Makes calls one at a time, if none is under way.
+fn call_if_quiet<T: Drop>(world: &mut World<T>, calls: &mut VecDeque<Call<T>>) -> Option<CallRun<T>>
+    ensures { (s : Scene T Waiter) → Led world.old s → Led world.new s }
+{
+    if world.is_quiet() {
+        Some(call_on(world, calls))
+    } else {
+        None
+    }
+}
+
+/// What was done in three parts.
+#[derive(Drop)]
+pub struct Parts<T> {
+    /// The calls before the steps, if none was under way.
+    pub before: Option<CallRun<T>>,
+    /// The steps.
+    pub run: Run<T>,
+    /// The calls after them, if none was under way then.
+    pub after: Option<CallRun<T>>,
+}
+
+/// Makes calls, then steps, then calls again, in whatever world: what left since a scene that it came from, followed by what it
+/// holds at the end, is what it held in that scene, followed by what came, in order.
+pub fn carry<T: Drop>(
+    world: &mut World<T>,
+    before: &mut VecDeque<Call<T>>,
+    steps: &mut VecDeque<Step<T>>,
+    after: &mut VecDeque<Call<T>>,
+) -> Parts<T>
+    ensures { (s : Scene T Waiter) → Led world.old s → Led world.new s }
+{
+    let before = call_if_quiet(world, before);
+    let run = step_on(world, steps);
+    let after = call_if_quiet(world, after);
+    Parts { before, run, after }
 }

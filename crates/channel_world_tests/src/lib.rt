@@ -20,6 +20,10 @@ mod row;
 #[cfg(test)]
 mod said;
 #[cfg(test)]
+mod scarce;
+#[cfg(test)]
+mod scarce_steps;
+#[cfg(test)]
 mod sends;
 #[cfg(test)]
 mod settle;

@@ -1,6 +1,6 @@
 //! What the calls of one thread did, with the stamps between which they did it.
 
-use crate::point::{Did, Point};
+use crate::point::{Did, Point, Sight};
 use crate::rest::Look;
 use std::alloc::Global;
 use std::sync::atomic::{AtomicU64, Ordering};
@@ -79,6 +79,22 @@ impl Log {
                 self.add(begin, end, third);
             }
             Did::Never => self.spoiled = true,
+        }
+    }
+
+    /// A call that may take so many messages took these between these stamps, in this order. It took each at a moment of its
+    /// own, so others may come between; where it took fewer than it may, it found nothing there after the last one, and nothing
+    /// on its way. No call takes more, or none where it may take some.
+    pub fn note_taken(&mut self, begin: u64, end: u64, limit: usize, taken: &[u64]) {
+        let count = taken.len();
+        if count > limit || (count == 0 && limit > 0) {
+            self.spoiled = true;
+        }
+        for message in taken {
+            self.add(begin, end, Point::Take(*message));
+        }
+        if count < limit {
+            self.add(begin, end, Point::Sees(Sight::Over));
         }
     }
 }

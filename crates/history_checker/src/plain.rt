@@ -96,6 +96,7 @@ impl Plain {
             Sight::Crowded => !self.closed && self.is_full(),
             Sight::Bare => !self.closed && self.is_over(),
             Sight::Spent => self.closed && self.is_over(),
+            Sight::Over => self.is_over(),
             Sight::Ended(ended) => ended == (self.closed && self.messages.is_empty()),
             Sight::Empty(empty) => empty == self.messages.is_empty(),
             Sight::Full(full) => full == self.is_full(),

@@ -22,6 +22,8 @@ pub enum Sight {
     Bare,
     /// It is closed; nothing is there, and nothing on its way.
     Spent,
+    /// Nothing is there, and nothing on its way, whether it is open or closed.
+    Over,
     /// It is closed and nothing is there, or not so.
     Ended(bool),
     /// Nothing is there, or something.

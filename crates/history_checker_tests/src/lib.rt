@@ -6,3 +6,5 @@
 mod orders;
 #[cfg(test)]
 mod rests;
+#[cfg(test)]
+mod several;

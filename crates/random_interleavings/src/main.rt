@@ -1,6 +1,7 @@
-//! Ten thousand random interleavings over a world of each form, beside a plain count. One line for each form, or one that says
-//! which interleaving differs, at which step and after how many calls made alone. Then random worlds of each form that are settled,
-//! each beside a plain channel, with a line for each form.
+//! Ten thousand random interleavings over a world of each form, beside a plain count. Two lines for each form, of which the second
+//! says how many of them came to a moment at which one free place for each call under way, and for each send that was woken, were
+//! not all; or one line that says which interleaving differs, at which step and after how many calls made alone. Then random worlds
+//! of each form that are settled, each beside a plain channel, with a line for each form.
 #![tactic(auto)]
 
 use channel_trials::form::Form;
@@ -40,9 +41,13 @@ fn compare<R: Print>(rt: &R, form: Form, alloc: Global) -> io::Result<bool> {
         steps,
         begun,
         alone,
+        several_free,
     } = all;
     println!(rt;
         "{name}: {done} interleavings, {steps} steps of {begun} calls, {alone} calls alone, agree"
+    )?;
+    println!(rt;
+        "{name}: in {several_free} of these more places were free beside a sleeping send than calls under way"
     )?;
     Ok(true)
 }

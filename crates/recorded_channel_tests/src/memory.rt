@@ -155,3 +155,74 @@ fn a_refused_growth_changes_nothing(rt: HostRuntime) -> Result<(), Fail> {
     assert_eq!(rt; passed.in_order, COUNT);
     Ok(())
 }
+
+/// A send of 4.
+const SEND: Call<u64> = Call::TrySend {
+    sender: HandleId(0),
+    msg: 4,
+};
+
+/// Opens a channel of one place; once more where memory was refused.
+fn open_one<L: Ledger>(
+    alloc: Global,
+    ids: &mut EventIds,
+    blank: Blank,
+) -> Option<RecordedChannel<u64, L>>
+    requires name { blank.name ≡ L.name }
+    requires parts { (blank.parts ≡ L.parts) × (blank.parts ≡ 2) }
+{
+    match RecordedChannel::bounded(alloc, 1, ids, blank, PARTS) {
+        Ok(channel) => Some(channel),
+        Err((OpenError::NoMemory, blank)) => RecordedChannel::bounded(
+            alloc, 1, ids, blank, PARTS,
+        ).ok(),
+        Err(_) => None,
+    }
+}
+
+/// Whether the call was answered with its message in the channel.
+fn is_sent(receipt: &Receipt<u64>) -> bool {
+    matches!(&receipt.reply, Reply::TrySend(Ok(()))) && receipt.call == SEND
+}
+
+/// Whether a send is accepted, at the latest when it is made once more after the same call came back.
+fn goes<L: Ledger, R: Wait>(
+    rt: &R,
+    channel: &RecordedChannel<u64, L>,
+    seat: &mut RecordSeat<L>,
+) -> bool {
+    match channel.call(rt, seat, SEND) {
+        Ok(receipt) => is_sent(&receipt),
+        Err(error) => match back(error) {
+            Some(call) if call == SEND => match channel.call(rt, seat, SEND) {
+                Ok(receipt) => is_sent(&receipt),
+                Err(_) => false,
+            },
+            _ => false,
+        },
+    }
+}
+
+/// How many entries the record of one send has, if it goes.
+fn record_one<L: Ledger, R: Wait>(rt: &R, alloc: Global, blank: Blank) -> Option<usize>
+    requires name { blank.name ≡ L.name }
+    requires parts { (blank.parts ≡ L.parts) × (blank.parts ≡ 2) }
+{
+    let mut ids = EventIds::new();
+    let channel = open_one::<L>(alloc, &mut ids, blank)?;
+    let mut seat = channel.seat(rt).ok()?;
+    if !goes(rt, &channel, &mut seat) {
+        return None;
+    }
+    let record = channel.finish(gathered(alloc, seat)?).ok()?;
+    Some(record.len())
+}
+
+/// A send that gets no room in the record comes back; made once more it is accepted, and the record has one entry. As a test it
+/// runs with ample memory; `tools/refuse_growths.py recorded_channel_tests memory` refuses each of its requests in turn.
+#[test]
+fn a_send_without_room_comes_back(rt: HostRuntime) -> Result<(), Fail> {
+    let entries = record_one::<Brand, HostRuntime>(&rt, rt.alloc(), Blank::new(PARTS));
+    assert_eq!(rt; entries, Some(1));
+    Ok(())
+}

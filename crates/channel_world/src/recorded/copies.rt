@@ -2,10 +2,12 @@
 //!
 //! A poll's answer of the kit has no `Clone`, so each kind of answer is taken apart here.
 
-ghost use Rattle.std.specs.Prelude.{◌≡◌};
+ghost use Rattle.std.specs.Prelude.{◌≡◌, ◌≤◌, [], length, vec_capacity, IfOk};
+ghost use Rattle.channel_world.specs.Listed.{listed, most_listed};
 
 use crate::call::{Call, Reply};
-use channel_calls::error::Refused;
+use channel_calls::error::{Refused, TryRecvError};
+use channel_calls::several::Messages;
 use futures::task::Poll;
 
 /// A copy of a refusal.
@@ -53,14 +55,48 @@ fn plainly<X: Copy>(poll: &Poll<X>) -> Poll<X>
     }
 }
 
-/// A copy of a reply.
-pub(crate) fn copied_reply<T: Copy>(reply: &Reply<T>) -> Reply<T>
+/// A copy of an answer that may hold several messages, in the room that was taken for them.
+fn several<T: Copy>(
+    answer: &Result<Messages<T>, Refused<TryRecvError>>,
+    room: Vec<T>,
+) -> Result<Messages<T>, Refused<TryRecvError>>
+    requires empty { room.items ≡ [] }
+    requires room { IfOk answer.now (λ messages. length messages ≤ vec_capacity room) }
+    ensures { result ≡ answer.now }
+{
+    match answer {
+        Ok(messages) => {
+            let mut items = room;
+            let Ok(()) = items.extend_from_slice(messages.as_slice()) else {
+                unreachable!()
+            };
+            Ok(Messages::new(items))
+        }
+        Err(error) => Err(refused(error)),
+    }
+}
+
+/// How many messages the reply of a call lists at most.
+pub(crate) fn most_listed<T: Copy>(call: &Call<T>) -> usize
+    ensures { result ≡ most_listed call.now }
+{
+    match call {
+        Call::RecvMany { limit, .. } => *limit,
+        _ => 0,
+    }
+}
+
+/// A copy of a reply, whose list lies in the room that was taken for it.
+pub(crate) fn copied_reply<T: Copy>(reply: &Reply<T>, room: Vec<T>) -> Reply<T>
+    requires empty { room.items ≡ [] }
+    requires room { length (listed reply.now) ≤ vec_capacity room }
     ensures { result ≡ reply.now }
 {
     match reply {
         Reply::TrySend(answer) => Reply::TrySend(answered(answer)),
         Reply::ForceSend(answer) => Reply::ForceSend(answered(answer)),
         Reply::TryRecv(answer) => Reply::TryRecv(*answer),
+        Reply::RecvMany(answer) => Reply::RecvMany(several(answer, room)),
         Reply::SendPoll(poll) => Reply::SendPoll(polled(poll)),
         Reply::RecvPoll(poll) => Reply::RecvPoll(polled(poll)),
         Reply::ClosedPoll(poll) => Reply::ClosedPoll(plainly(poll)),
@@ -94,6 +130,7 @@ pub(crate) fn copied_call<T: Copy>(call: &Call<T>) -> Call<T>
         Call::TrySend { sender, msg } => Call::TrySend { sender, msg },
         Call::ForceSend { sender, msg } => Call::ForceSend { sender, msg },
         Call::TryRecv { receiver } => Call::TryRecv { receiver },
+        Call::RecvMany { receiver, limit } => Call::RecvMany { receiver, limit },
         Call::Close { handle } => Call::Close { handle },
         Call::Drop { handle } => Call::Drop { handle },
         Call::TryClone { handle, new } => Call::TryClone { handle, new },

@@ -2,9 +2,10 @@
 
 ghost use Rattle.std.specs.Prelude.{◌≡◌, ◌≢◌, ◌⊎◌, ◌<◌, ◌≤◌, ◌+◌, ◌^◌, ◌∷◌, ◌++◌, [], IfSome, IfNone, IfOk, IfErr, OnOk, OnErr, length, vec_len, vec_capacity};
 ghost use Rattle.std.specs.VecDeque.{deque_len, deque_capacity};
+ghost use Rattle.channel_world.specs.Listed.{listed, most_listed};
 ghost use Rattle.channel_world.specs.World.{at_rest, most_woken};
 
-use super::copies::{copied_call, copied_reply};
+use super::copies::{copied_call, copied_reply, most_listed};
 use super::error::{RecordError, SeatsUsedUp};
 use super::names::Names;
 use super::receipt::Receipt;
@@ -127,7 +128,7 @@ impl<T: Copy, L: Ledger> Recording<T, L> {
             &mut self.entries,
             &call,
         );
-        let Some(names) = room else {
+        let Some(lists) = room else {
             return Err(RecordError::NoRoom { call });
         };
         let CallRun { mut done, stopped } = self.world.run_calls(&mut self.asked);
@@ -135,7 +136,7 @@ impl<T: Copy, L: Ledger> Recording<T, L> {
         match done.pop() {
             Some(done) => {
                 let place = self.entries.len();
-                let (entry, receipt) = twice(place, seat.number, call, done, names);
+                let (entry, receipt) = twice(place, seat.number, call, done, lists);
                 self.entries.push_reserved(entry);
                 self.book.add(&mut seat.mine, 1);
                 Ok(receipt)
@@ -183,51 +184,62 @@ impl<T: Copy, L: Ledger> Recording<T, L> {
     }
 }
 
-/// Hands a copy of the call to the world's list, once there is room for it, for its entry and for the names of its receipt.
-/// That for the names is what comes back; None where room is refused.
+/// Room for the lists that a receipt holds.
+#[derive(Drop)]
+struct Lists<T> {
+    names: Vec<Waiter>,
+    messages: Vec<T>,
+}
+
+/// Hands a copy of the call to the world's list, once there is room for it, for its entry and for the lists of its receipt.
+/// That for the lists is what comes back; None where room is refused.
 fn ask<T: Copy>(
     alloc: Global,
     world: &World<T>,
     asked: &mut VecDeque<Call<T>>,
     entries: &mut Vec<Receipt<T>>,
     call: &Call<T>,
-) -> Option<Vec<Waiter>>
+) -> Option<Lists<T>>
     requires { asked.old.items ≡ [] }
-    ensures asked { IfSome result (λ names. asked.new.items ≡ call.now ∷ []) }
-    ensures names { IfSome result (λ names. (names.items ≡ []) × (most_woken call.now (at_rest world.now).waiting ≤ vec_capacity names)) }
-    ensures room { IfSome result (λ names. vec_len entries.new < vec_capacity entries.new) }
+    ensures asked { IfSome result (λ lists. asked.new.items ≡ call.now ∷ []) }
+    ensures names { IfSome result (λ lists. (lists.names.items ≡ []) × (most_woken call.now (at_rest world.now).waiting ≤ vec_capacity lists.names)) }
+    ensures messages { IfSome result (λ lists. (lists.messages.items ≡ []) × (most_listed call.now ≤ vec_capacity lists.messages)) }
+    ensures room { IfSome result (λ lists. vec_len entries.new < vec_capacity entries.new) }
     ensures entries { (entries.new.items ≡ entries.old.items) × (vec_len entries.new ≡ vec_len entries.old) }
     ensures refused { IfNone result (asked.new.items ≡ []) }
 {
     let most = world.room_for(call)?;
     let names = Vec::with_capacity(alloc, most).ok()?;
+    let messages = Vec::with_capacity(alloc, most_listed(call)).ok()?;
     entries.reserve(1).ok()?;
     asked.reserve(1).ok()?;
     asked.push_back_reserved(copied_call(call));
-    Some(names)
+    Some(Lists { names, messages })
 }
 
-/// The entry of a call that was made, and its receipt, whose names lie in the room that was taken for them.
+/// The entry of a call that was made, and its receipt, whose lists lie in the room that was taken for them.
 fn twice<T: Copy>(
     place: usize,
     seat: u32,
     call: Call<T>,
     done: Done<T>,
-    room: Vec<Waiter>,
+    lists: Lists<T>,
 ) -> (Receipt<T>, Receipt<T>)
-    requires empty { room.items ≡ [] }
-    requires room { length done.woken.items ≤ vec_capacity room }
+    requires empty { (lists.names.items ≡ []) × (lists.messages.items ≡ []) }
+    requires names { length done.woken.items ≤ vec_capacity lists.names }
+    requires messages { length (listed done.reply) ≤ vec_capacity lists.messages }
     ensures entry { result.0 ≡ record { place = place; seat = seat; call = call; reply = done.reply; woken = done.woken.items } }
     ensures same { result.1 ≡ result.0 }
 {
     let Done { reply, woken } = done;
+    let Lists { names, messages } = lists;
     let woken = Names::new(woken);
     let receipt = Receipt {
         place,
         seat,
         call: copied_call(&call),
-        reply: copied_reply(&reply),
-        woken: woken.copied(room),
+        reply: copied_reply(&reply, messages),
+        woken: woken.copied(names),
     };
     let entry = Receipt {
         place,

@@ -4,7 +4,7 @@ ghost use Rattle.std.specs.Option.{option_map};
 ghost use Rattle.channel_world.specs.Words.{words_after};
 ghost use Rattle.channel_world.specs.Command.{openings, parse, parsed, read, that_is, for_word, call_commands, message_commands, operation_commands, handle_commands, question_commands};
 ghost use Rattle.channel_world.specs.Language.{today};
-ghost use Rattle.channel_world.specs.Said.{said, said_line, said_first, form_of};
+ghost use Rattle.channel_world.specs.Said.{said, said_line, said_first, sent_by, made_by, form_of};
 
 use super::words::{first_word, next_name, next_number};
 
@@ -77,6 +77,11 @@ pub enum Command<'a> {
         sender: &'a [u8],
         msg: u64,
     },
+    /// Several messages at once, at most `limit`.
+    RecvMany {
+        receiver: &'a [u8],
+        limit: u64,
+    },
     /// A new send `op`.
     Send {
         op: &'a [u8],
@@ -114,6 +119,7 @@ pub enum Line<'a> {
 #[derive(Clone, Copy)]
 enum Verb {
     Message(Sending),
+    RecvMany,
     Send,
     New(Making),
     One(Doing),
@@ -132,6 +138,9 @@ fn message_verb(word: &[u8]) -> Option<Verb>
     }
     if word == b"try_recv".as_slice() {
         return Some(Verb::One(Doing::TryRecv));
+    }
+    if word == b"recv_many".as_slice() {
+        return Some(Verb::RecvMany);
     }
     if word == b"next".as_slice() {
         return Some(Verb::One(Doing::Next));
@@ -250,6 +259,28 @@ fn whole<'a>(command: Command<'a>, rest: Option<&[u8]>) -> Option<Command<'a>>
     if is_end(rest) { Some(command) } else { None }
 }
 
+/// A send of this message, which doesn't wait.
+fn message_sent<'a>(sending: Sending, sender: &'a [u8], msg: u64) -> Command<'a>
+    ensures { said result ≡ sent_by sending sender.now msg }
+{
+    Command::Message {
+        sending,
+        sender,
+        msg,
+    }
+}
+
+/// What is made under this name, through this handle.
+fn made_new<'a>(making: Making, new: &'a [u8], handle: &'a [u8]) -> Command<'a>
+    ensures { said result ≡ made_by making new.now handle.now }
+{
+    Command::New {
+        making,
+        new,
+        handle,
+    }
+}
+
 /// The command of a verb and what stands after it on its line.
 fn complete<'a>(verb: Verb, rest: Option<&'a [u8]>) -> Option<Command<'a>>
     ensures { option_map said result ≡ read (form_of verb) (words_after (option_copied rest.entry)) }
@@ -259,27 +290,16 @@ fn complete<'a>(verb: Verb, rest: Option<&'a [u8]>) -> Option<Command<'a>>
         Verb::One(doing) => whole(Command::One { doing, name }, rest),
         Verb::Message(sending) => {
             let (msg, rest) = next_number(rest)?;
-            let sender = name;
-            whole(
-                Command::Message {
-                    sending,
-                    sender,
-                    msg,
-                },
-                rest,
-            )
+            whole(message_sent(sending, name, msg), rest)
+        }
+        Verb::RecvMany => {
+            let (limit, rest) = next_number(rest)?;
+            let receiver = name;
+            whole(Command::RecvMany { receiver, limit }, rest)
         }
         Verb::New(making) => {
             let (handle, rest) = next_name(rest)?;
-            let new = name;
-            whole(
-                Command::New {
-                    making,
-                    new,
-                    handle,
-                },
-                rest,
-            )
+            whole(made_new(making, name, handle), rest)
         }
         Verb::Send => {
             let (sender, rest) = next_name(rest)?;

@@ -32,6 +32,7 @@ fn used<'a>(command: &Command<'a>) -> (&'a [u8], Option<&'a [u8]>)
 {
     match command {
         Command::Message { sender, .. } | Command::Send { sender, .. } => (sender, None),
+        Command::RecvMany { receiver, .. } => (receiver, None),
         Command::New { handle, .. } => (handle, None),
         Command::One { name, .. } => (name, None),
         Command::SameChannel { a, b } => (a, Some(*b)),
@@ -166,14 +167,15 @@ fn call_of(table: &Table<'_>, command: &Command<'_>) -> Option<Call<u64>>
             let sender = handle_named(table, sender)?;
             Some(sending_call(*sending, sender, *msg))
         }
+        Command::RecvMany { receiver, limit } => {
+            let receiver = handle_named(table, receiver)?;
+            let limit = *limit as usize;
+            Some(Call::RecvMany { receiver, limit })
+        }
         Command::Send { op: _, sender, msg } => {
             let sender = handle_named(table, sender)?;
-            let op = OpId(table.next());
-            Some(Call::NewSend {
-                op,
-                sender,
-                msg: *msg,
-            })
+            let (op, msg) = (OpId(table.next()), *msg);
+            Some(Call::NewSend { op, sender, msg })
         }
         Command::New {
             making,

@@ -1,6 +1,6 @@
 //! Reply lines.
 ghost use Rattle.std.specs.Prelude.{◌≡◌, ◌++◌, false, IfOk, OnOk, string_bytes};
-ghost use Rattle.channel_world.specs.Text.{reply_text, wakes_text, refused_text, wants_growth, IsTry, IsPoll, poll_text, part_before, settle_text, AreAmple};
+ghost use Rattle.channel_world.specs.Text.{reply_text, several_text, wakes_text, refused_text, wants_growth, IsTry, IsPoll, poll_text, part_before, settle_text, AreAmple};
 ghost use Rattle.channel_world.specs.Settled.{polls_in};
 
 use super::table::Table;
@@ -12,6 +12,18 @@ use channel_model::refusal::WorldRefusal;
 use channel_model::run::Done;
 use futures::task::Poll;
 use std::alloc::{AllocError, Global};
+
+/// The text of messages in order, each after a space.
+fn several_text(alloc: Global, messages: &[u64]) -> Result<String, AllocError>
+    ensures { IfOk result (λ line. string_bytes line ≡ several_text messages.now) }
+{
+    let mut line = String::from_str(alloc, "ok")?;
+    for message in messages {
+        let text = format!(in alloc; " {message}")?;
+        line.push_str(text.as_str())?;
+    }
+    Ok(line)
+}
 
 /// The text of a try to send, or to receive.
 fn try_text(alloc: Global, reply: &Reply<u64>) -> Result<String, AllocError>
@@ -32,6 +44,13 @@ fn try_text(alloc: Global, reply: &Reply<u64>) -> Result<String, AllocError>
         Reply::TryRecv(Ok(msg)) => format!(in alloc; "ok {msg}"),
         Reply::TryRecv(Err(TryRecvError::Empty)) => String::from_str(alloc, "empty"),
         Reply::TryRecv(Err(TryRecvError::Closed)) => String::from_str(alloc, "closed"),
+        Reply::RecvMany(Ok(messages)) => several_text(alloc, messages.as_slice()),
+        Reply::RecvMany(Err(Refused::Plain(TryRecvError::Empty))) => {
+            String::from_str(alloc, "empty")
+        }
+        Reply::RecvMany(Err(Refused::Plain(TryRecvError::Closed))) => {
+            String::from_str(alloc, "closed")
+        }
         _ => Err(AllocError),
     }
 }
@@ -68,7 +87,8 @@ fn reply_text(alloc: Global, reply: &Reply<u64>) -> Result<String, AllocError>
     ensures whole { OnOk result (wants_growth reply.now ≡ false) }
 {
     match reply {
-        Reply::TrySend(_) | Reply::ForceSend(_) | Reply::TryRecv(_) => try_text(alloc, reply),
+        Reply::TrySend(_) | Reply::ForceSend(_) => try_text(alloc, reply),
+        Reply::TryRecv(_) | Reply::RecvMany(_) => try_text(alloc, reply),
         Reply::SendPoll(_) | Reply::RecvPoll(_) => poll_text(alloc, reply),
         Reply::ClosedPoll(_) | Reply::Next(_) => poll_text(alloc, reply),
         Reply::Closed(true) | Reply::Flag(true) => String::from_str(alloc, "true"),

@@ -4,10 +4,10 @@ use Rattle.channel_calls.specs.declared.reply.Reply.TheVariants as reply
 use Rattle.channel_calls.specs.declared.stage.Kept.{Kept}
 use Rattle.channel_calls.specs.declared.stage.Line.TheVariants.{Sends, Receives, Streams}
 use Rattle.channel_calls.specs.declared.stage.Turn.TheVariants.{Works, Ends}
-use Rattle.channel_calls.specs.declared.stage.Work.TheVariants.{TellReceive, TellStreams, TellSend, TellAll, Insert, Register, Leave, Lower, Count, Load, Raise}
-use Rattle.channel_calls.specs.Parts.{listeners, count, told_one, told_one_wakes, told_all, told_all_wakes}
+use Rattle.channel_calls.specs.declared.stage.Work.TheVariants.{TellReceive, TellStreams, TellSend, TellSends, TakeRoom, TellAll, Insert, Register, Leave, Lower, Count, Load, Raise}
+use Rattle.channel_calls.specs.Parts.{listeners, count, told_one, told_one_wakes, told_more, told_more_wakes, told_all, told_all_wakes}
 use Rattle.channel_calls.specs.Turns.{nothing_kept, ends_by, told_all_next, loaded_next}
-use Rattle.channel_calls.proofs.Steps.{on_list, on_nothing, at_work, counted_as}
+use Rattle.channel_calls.proofs.Steps.{on_list, on_nothing, takes_room, at_work, counted_as}
 use Rattle.channel_calls.specs.declared.stage.Stage.TheVariants.{Working}
 use Rattle.channel_calls.proofs.Replying as replying
 use Rattle.channel_calls.proofs.step.work_step.Goals as goal
@@ -41,6 +41,22 @@ returns-in-TellSend-clause-steps g c known =
       on_list p _ (TellSend c.in-TellSend.ending) _ (ends_by c.in-TellSend.ending) c.ends_by-in-TellSend.ensures _ _ c.takes-in-TellSend.ensures.taken Sends (told_one p.roster.sends) (told_one_wakes p.roster.sends) _ c.takes-in-TellSend.ensures.mark (c.tell_one-in-TellSend.ensures.lists known)
           (λ q e s effect turned. (effect, turned)),
     )
+
+pub returns-in-TellSends-clause-steps : goal.returns-in-TellSends-clause-steps
+returns-in-TellSends-clause-steps g c known =
+    let p = g.C.ChannelCells.parts c.args.cells.now in
+    let n = c.in-TellSends.count in
+    at_work _ _ _ _ _ _ _ _ (TellSends n c.in-TellSends.ending) _ c.in-TellSends.is (
+      _,
+      c.tell_more.ensures.woken known,
+      on_list p _ (TellSends n c.in-TellSends.ending) _ (ends_by c.in-TellSends.ending) c.ends_by-in-TellSends.ensures _ _ c.takes-in-TellSends.ensures.taken Sends (told_more n p.roster.sends) (told_more_wakes n p.roster.sends) _ c.takes-in-TellSends.ensures.mark (c.tell_more.ensures.lists known)
+          (λ q e s effect turned. (effect, turned)),
+    )
+
+pub returns-in-TakeRoom-clause-steps : goal.returns-in-TakeRoom-clause-steps
+returns-in-TakeRoom-clause-steps g c known =
+    let p = g.C.ChannelCells.parts c.args.cells.now in
+    at_work _ _ _ _ _ _ _ _ (TakeRoom c.in-TakeRoom.limit) _ c.in-TakeRoom.is ([], refl, takes_room p p refl c.in-TakeRoom.limit _ c.room_next.ensures _ _ c.takes-in-TakeRoom.ensures.taken _ c.takes-in-TakeRoom.ensures.mark)
 
 pub returns-in-TellAll-clause-steps : goal.returns-in-TellAll-clause-steps
 returns-in-TellAll-clause-steps g c known =
@@ -101,6 +117,12 @@ returns-in-TellStreams-clause-answers g c b = replying.at_work _ b _ (TellStream
 
 pub returns-in-TellSend-clause-answers : goal.returns-in-TellSend-clause-answers
 returns-in-TellSend-clause-answers g c b = replying.at_work _ b _ (TellSend c.in-TellSend.ending) c.in-TellSend.is _ _ (replying.through _ b _ _ c.ends_by-in-TellSend.ensures (Working (TellSend c.in-TellSend.ending)) _ _ (c.takes-in-TellSend.ensures.follows b) (λ r m t. replying.ended _ b c.in-TellSend.ending r m t))
+
+pub returns-in-TellSends-clause-answers : goal.returns-in-TellSends-clause-answers
+returns-in-TellSends-clause-answers g c b = replying.at_work _ b _ (TellSends c.in-TellSends.count c.in-TellSends.ending) c.in-TellSends.is _ _ (replying.through _ b _ _ c.ends_by-in-TellSends.ensures (Working (TellSends c.in-TellSends.count c.in-TellSends.ending)) _ _ (c.takes-in-TellSends.ensures.follows b) (λ r m t. replying.ended _ b c.in-TellSends.ending r m t))
+
+pub returns-in-TakeRoom-clause-answers : goal.returns-in-TakeRoom-clause-answers
+returns-in-TakeRoom-clause-answers g c b = replying.at_work _ b _ (TakeRoom c.in-TakeRoom.limit) c.in-TakeRoom.is _ _ (replying.through _ b _ _ refl (Working (TakeRoom c.in-TakeRoom.limit)) _ _ (c.takes-in-TakeRoom.ensures.follows b) (λ r m t. replying.room_taken _ b c.in-TakeRoom.limit _ c.room_next.ensures r m t))
 
 pub returns-in-TellAll-clause-answers : goal.returns-in-TellAll-clause-answers
 returns-in-TellAll-clause-answers g c b = replying.at_work _ b _ (TellAll c.in-TellAll.line c.in-TellAll.closer) c.in-TellAll.is _ _ (replying.through _ b _ _ c.told_all_next.ensures (Working (TellAll c.in-TellAll.line c.in-TellAll.closer)) _ _ (c.takes-in-TellAll.ensures.follows b) (λ r m t. replying.told_all _ b c.in-TellAll.line c.in-TellAll.closer r m t))

@@ -2,6 +2,7 @@ use Rattle.std.proofs.Common.{arith, ◌≡◌, ◌∙◌, ◌∷◌, ◌++◌, 
 use Rattle.channel_model.specs.Answer.{Answer}
 use Rattle.channel_model.specs.Run.{Does, MayStop}
 use Rattle.channel_world.proofs.Few.{few_woken}
+use Rattle.channel_world.proofs.FewListed.{few_listed}
 use Rattle.channel_world.proofs.RecordLemmas.{one_done, made_so, none_done, one_recorded, still_recording}
 use Rattle.channel_world.specs.RecordReplay.{Made}
 use Rattle.channel_world.specs.Recording.{RecordingView, IsRecording}
@@ -9,8 +10,8 @@ use Rattle.channel_world.specs.World.{at_rest}
 use Rattle.channel_world.specs.declared.recorded.receipt.Receipt.{Receipt}
 use Rattle.channel_world.proofs.recorded.recording.Recording.call.Goals as goal
 
-pub twice-entry-requires-clause-room : goal.twice-entry-requires-clause-room
-twice-entry-requires-clause-room g c =
+pub twice-entry-requires-clause-names : goal.twice-entry-requires-clause-names
+twice-entry-requires-clause-names g c =
     let before = at_rest c.self.inside.world in
     let after = at_rest c.run_calls-done.new.self in
     let done = c.in-Some-pop.done in
@@ -20,6 +21,19 @@ twice-entry-requires-clause-room g c =
     let a : Answer g.row.T.Denot = record { after = after; reply = done.reply; woken = done.woken.items } in
     let few = few_woken before c.args.call a does.1 in
     let room = c.in-Some.ensures.names.1 in
+    omega (arith, few, room)
+
+pub twice-entry-requires-clause-messages : goal.twice-entry-requires-clause-messages
+twice-entry-requires-clause-messages g c =
+    let before = at_rest c.self.inside.world in
+    let after = at_rest c.run_calls-done.new.self in
+    let done = c.in-Some-pop.done in
+    let does : Does before c.args.call done after =
+    one_done before after c.args.call c.ask-room.new.asked.items c.run_calls-done.new.calls.items c.pop.new.self.items c.run_calls-done.result.done.items done _
+    c.run_calls-done.ensures.run c.in-Some.ensures.asked c.in-Some-pop.ensures.items in
+    let a : Answer g.row.T.Denot = record { after = after; reply = done.reply; woken = done.woken.items } in
+    let few = few_listed before c.args.call a does.1 in
+    let room = c.in-Some.ensures.messages.1 in
     omega (arith, few, room)
 
 pub invariant_of-self-in-Some-pop : goal.invariant_of-self-in-Some-pop

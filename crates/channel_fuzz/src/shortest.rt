@@ -1,0 +1,53 @@
+//! The shortest input that is at fault.
+
+use crate::Fault;
+use crate::kind::Kind;
+use std::alloc::{AllocError, Global};
+
+/// The input without some bytes from this place on.
+fn without(input: &[u8], at: usize, count: usize, alloc: Global) -> Result<Vec<u8>, AllocError> {
+    let mut rest = Vec::new(alloc);
+    rest.extend_from_slice(input.get(..at).unwrap_or(input))?;
+    rest.extend_from_slice(input.get(at.saturating_add(count)..).unwrap_or(&[]))?;
+    Ok(rest)
+}
+
+/// The input without each part of so many bytes that isn't needed for a fault.
+fn leave_out(kind: Kind, input: Vec<u8>, part: usize, seed: u64, alloc: Global) -> Vec<u8> {
+    let mut kept = input;
+    let mut at = 0usize;
+    for _ in 0..kept.len() {
+        if at >= kept.len() {
+            return kept;
+        }
+        match without(kept.as_slice(), at, part, alloc) {
+            Ok(rest) if kind.check(rest.as_slice(), seed, alloc).is_err() => kept = rest,
+            _ => at = at.saturating_add(part),
+        }
+    }
+    kept
+}
+
+/// The shortest input at fault that is found by leaving out its halves, the halves of these, and so on down to single bytes; and
+/// its fault.
+pub fn shorten(
+    kind: Kind,
+    input: Vec<u8>,
+    fault: Fault,
+    seed: u64,
+    alloc: Global,
+) -> (Vec<u8>, Fault) {
+    let mut shortest = input;
+    let mut part = shortest.len() / 2;
+    for _ in 0..32 {
+        if part > 0 {
+            shortest = leave_out(kind, shortest, part, seed, alloc);
+            part /= 2;
+        }
+    }
+    let fault = kind
+        .check(shortest.as_slice(), seed, alloc)
+        .err()
+        .unwrap_or(fault);
+    (shortest, fault)
+}

@@ -1,0 +1,281 @@
+//! What can be seen of a world's steps with no second account of the channel.
+
+use crate::Fault;
+use crate::decode::{Names, PARTIES};
+use crate::messages::HandedOut;
+use channel_calls::mark::Mark;
+use channel_calls::reply::Reply;
+use channel_world::call::WorldRefusal;
+use channel_world::settle::Settled;
+use channel_world::step::{Entry, PartyId, Run, Step};
+use channel_world::world::World;
+use event_listener::id::EventIds;
+use futures::task::Poll;
+use std::alloc::Global;
+use std::collections::VecDeque;
+
+/// How many bytes the steps of a list are, and how many rounds of steps the calls have to end in.
+const LIST: usize = 32;
+
+const ROUNDS: usize = 400;
+
+const NO_MEMORY: Fault = "want of memory";
+
+/// The numbers that a world says of itself.
+#[derive(Clone, Copy, PartialEq, Eq)]
+struct Numbers {
+    messages: u64,
+    pending: usize,
+    woken: usize,
+    under_way: usize,
+}
+
+/// A world, the steps that are left of a list, what was handed out, and how many steps were made.
+#[derive(Drop)]
+struct Trial {
+    world: World<u64>,
+    names: Names,
+    steps: VecDeque<Step<u64>>,
+    handed: HandedOut,
+    made: u64,
+}
+
+/// How many messages a world of the form that this byte says holds at most, 0 for any number.
+fn capacity(form: u8) -> u64 {
+    match form % 3 {
+        0 => 1,
+        1 => 3,
+        _ => 0,
+    }
+}
+
+fn open(form: u8, alloc: Global) -> Option<World<u64>> {
+    let mut ids = EventIds::new();
+    match capacity(form) {
+        1 => World::bounded(alloc, 1, &mut ids).ok(),
+        3 => World::bounded(alloc, 3, &mut ids).ok(),
+        _ => World::unbounded(alloc, &mut ids).ok(),
+    }
+}
+
+/// How many of these steps begin a call.
+fn begins(steps: &VecDeque<Step<u64>>) -> usize {
+    steps
+        .iter()
+        .filter(|step| matches!(step, Step::Begin { .. }))
+        .count()
+}
+
+/// How many of these entries have one of these marks.
+fn marked(trace: &[Entry<u64>], marks: &[Mark]) -> u64 {
+    trace
+        .iter()
+        .filter(|entry| marks.contains(&entry.mark))
+        .count() as u64
+}
+
+fn ended(trace: &[Entry<u64>]) -> usize {
+    trace.iter().filter(|entry| entry.reply.is_some()).count()
+}
+
+/// How many of these polls sent a message, or received one.
+fn passed(polls: &[Settled<u64>], is_sent: bool) -> u64 {
+    polls
+        .iter()
+        .filter(|poll| match &poll.reply {
+            Reply::SendPoll(Poll::Ready(Ok(()))) => is_sent,
+            Reply::RecvPoll(Poll::Ready(Ok(_))) => !is_sent,
+            Reply::Next(Poll::Ready(Some(Ok(_)))) => !is_sent,
+            _ => false,
+        })
+        .count() as u64
+}
+
+/// This fault, if it isn't so.
+fn so(is_so: bool, fault: Fault) -> Result<(), Fault> {
+    if is_so { Ok(()) } else { Err(fault) }
+}
+
+impl Trial {
+    fn numbers(&self) -> Numbers {
+        Numbers {
+            messages: self.world.messages(),
+            pending: self.world.pending(),
+            woken: self.world.woken(),
+            under_way: self.world.under_way(),
+        }
+    }
+
+    /// The numbers fit one another, and those before with what was done since.
+    fn fits(&self, before: Numbers, came: u64, left: u64) -> Result<(), Fault> {
+        let now = self.numbers();
+        let names = self.names.handles.saturating_add(self.names.operations);
+        so(
+            now.messages.wrapping_add(left) == before.messages.wrapping_add(came),
+            "the messages are not those that came less those that left",
+        )?;
+        so(
+            now.woken <= now.pending && now.pending <= names as usize,
+            "more are woken than pending, or more pending than there are",
+        )?;
+        so(
+            now.under_way <= usize::from(PARTIES) && self.world.is_quiet() == (now.under_way == 0),
+            "more calls are under way than there are parties, or none and it isn't quiet",
+        )
+    }
+
+    /// Compares what a run did, which began so many calls and left so many steps.
+    fn compare(&mut self, before: Numbers, run: &Run<u64>, begun: usize) -> Result<(), Fault> {
+        let trace = run.trace.as_slice();
+        let came = marked(trace, &[Mark::Append, Mark::Replace]);
+        let left = marked(trace, &[Mark::Take, Mark::TakeDisplaced, Mark::Replace]);
+        self.fits(before, came, left)?;
+        let under_way = before.under_way.wrapping_add(begun);
+        so(
+            self.world.under_way().wrapping_add(ended(trace)) == under_way,
+            "the calls under way are not those that began less those that ended",
+        )?;
+        let mut right = true;
+        for entry in trace {
+            if let Some(reply) = &entry.reply {
+                right = self.handed.add(reply) && right;
+            }
+        }
+        so(right, "a message left twice, or never came")
+    }
+
+    /// Runs the steps that are left, up to the first that is refused: why it is.
+    fn run(&mut self) -> Result<Option<WorldRefusal>, Fault> {
+        let before = self.numbers();
+        let (given, beginning) = (self.steps.len(), begins(&self.steps));
+        let run = self.world.run_steps(&mut self.steps);
+        let made = run.trace.len();
+        self.made = self.made.wrapping_add(made as u64);
+        let begun = beginning.saturating_sub(begins(&self.steps));
+        self.compare(before, &run, begun)?;
+        let place = run.stopped.map(|stopped| stopped.place);
+        let due = (made < given).then_some(made);
+        so(
+            place == due && self.steps.len() == given.saturating_sub(made),
+            "a refused step doesn't stay in front",
+        )?;
+        Ok(run.stopped.map(|stopped| stopped.why))
+    }
+
+    /// A step that was refused is refused again for the same reason, nothing changes, and it is left out.
+    fn leave_out(&mut self, why: WorldRefusal) -> Result<(), Fault> {
+        so(why != WorldRefusal::NoMemory, NO_MEMORY)?;
+        let before = self.numbers();
+        let again = self.run()?;
+        so(
+            again == Some(why) && self.numbers() == before,
+            "a refused step changed something",
+        )?;
+        let _ = self.steps.pop_front();
+        Ok(())
+    }
+
+    /// Runs the list, each step of it that is refused left out.
+    fn run_list(&mut self) -> Result<(), Fault> {
+        for _ in 0..LIST {
+            if let Some(why) = self.run()? {
+                self.leave_out(why)?;
+            }
+        }
+        so(self.steps.is_empty(), "a list doesn't end")
+    }
+
+    /// Runs the list that these bytes say.
+    fn run_bytes(&mut self, bytes: &[u8]) -> Result<(), Fault> {
+        for four in bytes.chunks_exact(4) {
+            if let [who, what, name, handle] = four {
+                let message = self.handed.next;
+                self.handed.next = message.wrapping_add(1);
+                let step = self.names.step([*who, *what, *name, *handle], message);
+                so(self.steps.push_back(step).is_ok(), NO_MEMORY)?;
+            }
+        }
+        self.run_list()
+    }
+
+    /// Settles where no call is under way: nobody is woken then, and of w pending ones at most w(w+1)/2 were polled.
+    fn settle(&mut self) -> Result<(), Fault> {
+        if !self.world.is_quiet() {
+            return Ok(());
+        }
+        let before = self.numbers();
+        let Ok(polls) = self.world.settle() else {
+            return Err(NO_MEMORY);
+        };
+        let (came, left) = (
+            passed(polls.as_slice(), true),
+            passed(polls.as_slice(), false),
+        );
+        self.fits(before, came, left)?;
+        let most = before
+            .pending
+            .saturating_mul(before.pending.saturating_add(1))
+            / 2;
+        so(
+            self.world.woken() == 0 && before.woken <= polls.len() && polls.len() <= most,
+            "settling left somebody woken, or polled too often",
+        )?;
+        let mut right = true;
+        for poll in &polls {
+            right = self.handed.add(&poll.reply) && right;
+        }
+        so(right, "a message left twice, or never came")
+    }
+
+    /// Lets all calls end.
+    fn finish(&mut self) -> Result<(), Fault> {
+        for round in 0..ROUNDS {
+            if self.world.is_quiet() {
+                return Ok(());
+            }
+            let party = PartyId((round % 4) as u32);
+            so(
+                self.steps.push_back(Step::Step { party }).is_ok(),
+                NO_MEMORY,
+            )?;
+            self.run_list()?;
+        }
+        Err("a call doesn't end")
+    }
+}
+
+/// Runs the steps that bytes say on a world of the form that the first one says, settling where no call is under way after a list;
+/// then lets all calls end, and settles. How many steps were made.
+pub fn check_steps(bytes: &[u8], alloc: Global) -> Result<u64, Fault> {
+    let Some((form, rest)) = bytes.split_first() else {
+        return Ok(0);
+    };
+    let Some(world) = open(*form, alloc) else {
+        return Err(NO_MEMORY);
+    };
+    let mut trial = Trial {
+        world,
+        names: Names {
+            handles: 2,
+            operations: 0,
+        },
+        steps: VecDeque::new(alloc),
+        handed: HandedOut {
+            messages: Vec::new(alloc),
+            next: 0,
+        },
+        made: 0,
+    };
+    let most = capacity(*form);
+    for list in rest.chunks(LIST) {
+        trial.run_bytes(list)?;
+        so(
+            most == 0 || trial.world.messages() <= most,
+            "more messages than fit",
+        )?;
+        trial.settle()?;
+    }
+    trial.finish()?;
+    trial.settle()?;
+    Ok(trial.made)
+}

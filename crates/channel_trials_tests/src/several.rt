@@ -1,0 +1,178 @@
+//! What the plain count refuses of receives of several messages.
+
+use channel_calls::mark::Mark;
+use channel_calls::stage::Line;
+use channel_trials::answer::Answer;
+use channel_trials::book::Book;
+use channel_trials::differs::Differs;
+use channel_trials::due::is_due;
+use channel_trials::owed::{is_nothing_owed, one_place_each_is_enough};
+use channel_trials::plan::{Kind, Plan, TOO_LARGE};
+use channel_trials::takings::Takings;
+use channel_trials::under_way::UnderWay;
+use channel_trials::waiting::Came;
+use channel_world::name::{OpId, Waiter};
+use std::alloc::Global;
+
+/// A receive of at most so many messages through the first receiver.
+fn plan(limit: usize) -> Plan {
+    Plan {
+        kind: Kind::RecvMany,
+        handle: 1,
+        name: 0,
+        message: 0,
+        limit,
+    }
+}
+
+/// A plain count of two places that hold 1 and 2.
+fn full_book(alloc: Global) -> Option<Book> {
+    let mut book = Book::new(Some(2), alloc).ok()?;
+    book.count.apply(Mark::Append, Some(1), false).ok()?;
+    book.count.apply(Mark::Append, Some(2), false).ok()?;
+    Some(book)
+}
+
+/// The call of a party that began over this count and has made so many takings, with a moment after each.
+fn after_takings(book: &mut Book, limit: usize, takings: usize) -> Result<UnderWay, Differs> {
+    book.begin(3, plan(limit))?;
+    book.see();
+    for _ in 0..takings {
+        book.step(3, Mark::Take)?;
+        book.see();
+    }
+    match book.call_of(3) {
+        Some(call) => Ok(call),
+        None => Err(Differs::Refusal),
+    }
+}
+
+/// Whether a receive of at most so many, which took so many of two, may answer so.
+fn may_answer(limit: usize, takings: usize, answer: Answer, alloc: Global) -> Option<bool> {
+    let mut book = full_book(alloc)?;
+    let call = after_takings(&mut book, limit, takings).ok()?;
+    Some(is_due(&call, answer, &book.count))
+}
+
+#[test]
+fn several_are_as_many_as_were_taken(rt: HostRuntime) {
+    let rows = [
+        (2, 2, Answer::Several(2), true),
+        (2, 2, Answer::Several(1), false),
+        (1, 1, Answer::Several(1), true),
+        (0, 0, Answer::Several(0), true),
+        (1, 0, Answer::Several(0), false),
+        (2, 1, Answer::Several(1), false),
+        (3, 2, Answer::Several(2), true),
+        (3, 1, Answer::Several(1), false),
+        (2, 0, Answer::Empty, false),
+        (0, 0, Answer::Empty, false),
+        (2, 2, Answer::Empty, false),
+        (2, 0, Answer::NoMemory, false),
+        (TOO_LARGE, 0, Answer::NoMemory, true),
+        (TOO_LARGE, 1, Answer::NoMemory, false),
+        (TOO_LARGE, 2, Answer::Several(2), false),
+    ];
+    for (limit, takings, answer, want) in rows {
+        let found = may_answer(limit, takings, answer, rt.alloc());
+        assert_eq!(rt; found, Some(want), "{limit}, {takings}");
+    }
+}
+
+/// Whether a receive of at most two of an empty channel, which is closed or not, may answer so.
+fn may_find_nothing(is_closed: bool, answer: Answer, alloc: Global) -> Option<bool> {
+    let mut book = Book::new(Some(2), alloc).ok()?;
+    if is_closed {
+        book.count.apply(Mark::Close, None, false).ok()?;
+    }
+    let call = after_takings(&mut book, 2, 0).ok()?;
+    Some(is_due(&call, answer, &book.count))
+}
+
+#[test]
+fn none_are_for_a_reason(rt: HostRuntime) {
+    let rows = [
+        (false, Answer::Empty, true),
+        (false, Answer::ReceiveClosed, false),
+        (false, Answer::Several(0), false),
+        (true, Answer::Empty, false),
+        (true, Answer::ReceiveClosed, true),
+        (true, Answer::Several(0), false),
+    ];
+    for (is_closed, answer, want) in rows {
+        let found = may_find_nothing(is_closed, answer, rt.alloc());
+        assert_eq!(rt; found, Some(want), "{is_closed}");
+    }
+}
+
+#[test]
+fn none_is_taken_past_the_limit(rt: HostRuntime) {
+    let rows = [
+        (1, Mark::Take, Ok(())),
+        (0, Mark::Take, Err(Differs::Mark)),
+        (1, Mark::Append, Err(Differs::Mark)),
+        (1, Mark::Close, Err(Differs::Mark)),
+    ];
+    for (limit, mark, want) in rows {
+        let found = match full_book(rt.alloc()) {
+            Some(mut book) => match after_takings(&mut book, limit, 0) {
+                Ok(_) => book.step(3, mark),
+                Err(differs) => Err(differs),
+            },
+            None => Err(Differs::NoMemory),
+        };
+        assert_eq!(rt; found, want, "{limit}");
+    }
+}
+
+/// Whether of what two parties' calls took in turns these are the ones of the first.
+fn are(messages: &[u64], alloc: Global) -> Option<bool> {
+    let mut takings = Takings::nothing(alloc);
+    takings.add(3, 1).ok()?;
+    takings.add(4, 2).ok()?;
+    takings.add(3, 5).ok()?;
+    Some(takings.are(3, messages))
+}
+
+#[test]
+fn messages_are_handed_out_in_order(rt: HostRuntime) {
+    let alloc = rt.alloc();
+    assert_eq!(rt; are(&[1, 5], alloc), Some(true));
+    assert_eq!(rt; are(&[5, 1], alloc), Some(false));
+    assert_eq!(rt; are(&[1], alloc), Some(false));
+    assert_eq!(rt; are(&[1, 2, 5], alloc), Some(false));
+    assert_eq!(rt; are(&[], alloc), Some(false));
+}
+
+/// Whether nothing is owed to two sends that sleep, where a receive of two has taken so many, and whether one place for each call
+/// were enough; the same once it has woken the first of them.
+fn owes(takings: usize, wakes: bool, alloc: Global) -> Option<(bool, bool)> {
+    let mut book = full_book(alloc)?;
+    let came = Came { from: 0, to: 0 };
+    let first = Waiter::Op(OpId(0));
+    book.waiting.add(first, Line::Sends, came).ok()?;
+    let second = Waiter::Op(OpId(1));
+    book.waiting.add(second, Line::Sends, came).ok()?;
+    after_takings(&mut book, 2, takings).ok()?;
+    if wakes {
+        let mut woken = Vec::new(alloc);
+        woken.push(first).ok()?;
+        book.wake(3, &woken).ok()?;
+    }
+    Some((is_nothing_owed(&book), one_place_each_is_enough(&book)))
+}
+
+#[test]
+fn several_places_are_answered_for_until_they_are_told(rt: HostRuntime) {
+    let rows = [
+        (0, false, Some((true, true))),
+        (1, false, Some((true, true))),
+        (2, false, Some((true, false))),
+        (1, true, Some((true, true))),
+        (2, true, Some((false, true))),
+    ];
+    for (takings, wakes, want) in rows {
+        let found = owes(takings, wakes, rt.alloc());
+        assert_eq!(rt; found, want, "{takings}");
+    }
+}
