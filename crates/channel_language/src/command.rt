@@ -32,24 +32,38 @@ pub enum Sending {
 /// A question to a strong handle.
 #[derive(Clone, Copy)]
 pub enum Question {
+    /// Whether the channel is closed.
     IsClosed,
+    /// Whether it holds no message.
     IsEmpty,
+    /// Whether it holds as many messages as it may.
     IsFull,
+    /// How many messages it holds.
     Len,
+    /// How many it may hold, if there is a bound.
     Capacity,
+    /// How many senders live.
     SenderCount,
+    /// How many receivers live.
     ReceiverCount,
 }
 
 /// What is done to the one name that a command gives.
 #[derive(Clone, Copy)]
 pub enum Doing {
+    /// A receive that doesn't wait.
     TryRecv,
+    /// A poll of a receiver as a stream.
     Next,
+    /// A poll of an operation.
     Poll,
+    /// A handle is dropped, or an operation given up.
     Drop,
+    /// The channel is closed.
     Close,
+    /// Whether a stream or a send has ended.
     IsTerminated,
+    /// A question to a strong handle.
     Ask(Question),
 }
 
