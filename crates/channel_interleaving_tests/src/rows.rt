@@ -12,6 +12,7 @@ use event_listener::id::EventIds;
 use futures::task::Poll;
 use std::alloc::Global;
 use std::collections::VecDeque;
+use std::process::Abort;
 use std::test::Fail;
 
 const SENDER: HandleId = HandleId(0);
@@ -272,9 +273,8 @@ fn give_up(op: u32) -> Call<u64> {
     Call::GiveUp { op: OpId(op) }
 }
 
-#[test]
-fn a_message_between_two_tries_is_taken(rt: HostRuntime) -> Result<(), Fail> {
-    let mut all = bounded(1, rt.alloc())?;
+/// A send makes its push between the two tries of a receive. The channel is lent, so that it is let go at one place.
+fn is_taken_between_tries(rt: &impl Abort, all: &mut Fixture) {
     assert_eq!(rt; all.begin(0, new_recv(0), 1), Said::Made);
     assert_eq!(rt; all.begin(0, poll(0), 2), Said::GoesOn);
     assert_eq!(rt; all.begin(1, try_send(5), 3), Said::GoesOn);
@@ -282,12 +282,17 @@ fn a_message_between_two_tries_is_taken(rt: HostRuntime) -> Result<(), Fail> {
     assert_eq!(rt; all.go_on(1, 2), Said::Sent);
     assert_eq!(rt; all.woken.len(), 0);
     assert!(rt; all.channel.is_quiet());
-    Ok(())
 }
 
 #[test]
-fn a_pending_receive_is_woken_after_the_push(rt: HostRuntime) -> Result<(), Fail> {
+fn a_message_between_two_tries_is_taken(rt: HostRuntime) -> Result<(), Fail> {
     let mut all = bounded(1, rt.alloc())?;
+    is_taken_between_tries(&rt, &mut all);
+    Ok(())
+}
+
+/// A send makes its push beside a receive that pends, and tells it some steps later.
+fn is_woken_after_the_push(rt: &impl Abort, all: &mut Fixture) {
     let before = Numbers {
         messages: 1,
         pending: 1,
@@ -307,12 +312,17 @@ fn a_pending_receive_is_woken_after_the_push(rt: HostRuntime) -> Result<(), Fail
     assert_eq!(rt; all.numbers().woken, 1);
     assert_eq!(rt; all.numbers().pending, 1);
     assert_eq!(rt; all.go_on(1, 1), Said::Sent);
-    Ok(())
 }
 
 #[test]
-fn a_taking_wakes_the_send_that_still_waits(rt: HostRuntime) -> Result<(), Fail> {
+fn a_pending_receive_is_woken_after_the_push(rt: HostRuntime) -> Result<(), Fail> {
     let mut all = bounded(1, rt.alloc())?;
+    is_woken_after_the_push(&rt, &mut all);
+    Ok(())
+}
+
+/// Two sends wait for a place; the first is given up between a taking and its telling.
+fn wakes_who_still_waits(rt: &impl Abort, all: &mut Fixture) {
     assert_eq!(rt; all.begin(0, try_send(1), 5), Said::Sent);
     assert_eq!(rt; all.begin(0, new_send(0, 2), 1), Said::Made);
     assert_eq!(rt; all.begin(0, poll(0), 4), Said::Pending);
@@ -325,6 +335,12 @@ fn a_taking_wakes_the_send_that_still_waits(rt: HostRuntime) -> Result<(), Fail>
     assert_eq!(rt; all.woken.as_slice(), [Waiter::Op(OpId(1))].as_slice());
     assert_eq!(rt; all.begin(2, poll(1), 6), Said::Sent);
     assert!(rt; all.channel.is_quiet());
+}
+
+#[test]
+fn a_taking_wakes_the_send_that_still_waits(rt: HostRuntime) -> Result<(), Fail> {
+    let mut all = bounded(1, rt.alloc())?;
+    wakes_who_still_waits(&rt, &mut all);
     Ok(())
 }
 
@@ -455,9 +471,8 @@ fn several_at_once_free_places_before_they_announce_them(rt: HostRuntime) -> Res
     Ok(())
 }
 
-#[test]
-fn a_stream_is_pending_beside_a_message_that_is_not_told_yet(rt: HostRuntime) -> Result<(), Fail> {
-    let mut all = unbounded(rt.alloc())?;
+/// A stream is polled beside a message that was pushed and is not told.
+fn is_pending_until_told(rt: &impl Abort, all: &mut Fixture) {
     assert_eq!(rt; all.begin(0, poll_next(), 8), Said::Pending);
     assert_eq!(rt; all.begin(1, try_send(7), 8), Said::GoesOn);
     assert_eq!(rt; all.begin(0, poll_next(), 1), Said::Pending);
@@ -467,6 +482,12 @@ fn a_stream_is_pending_beside_a_message_that_is_not_told_yet(rt: HostRuntime) ->
     assert_eq!(rt; all.go_on(1, 1), Said::Sent);
     assert_eq!(rt; all.woken.as_slice(), [Waiter::Stream(RECEIVER)].as_slice());
     assert_eq!(rt; all.begin(0, poll_next(), 9), Said::Next(7));
+}
+
+#[test]
+fn a_stream_is_pending_beside_a_message_that_is_not_told_yet(rt: HostRuntime) -> Result<(), Fail> {
+    let mut all = unbounded(rt.alloc())?;
+    is_pending_until_told(&rt, &mut all);
     Ok(())
 }
 
@@ -610,25 +631,35 @@ fn calls_are_refused_by_names(rt: HostRuntime) -> Result<(), Fail> {
     Ok(())
 }
 
-#[test]
-fn a_polled_stream_is_not_used(rt: HostRuntime) -> Result<(), Fail> {
-    let mut all = bounded(1, rt.alloc())?;
+/// A receive of a receiver that is polled as a stream.
+fn is_under_way(rt: &impl Abort, all: &mut Fixture) {
     assert_eq!(rt; all.begin(0, poll_next(), 0), Said::GoesOn);
     assert_eq!(rt;
         all.begin(1, try_recv(), 0),
         stopped(0, WorldRefusal::OpUnderWay)
     );
-    Ok(())
 }
 
 #[test]
-fn a_used_receiver_is_not_polled_as_a_stream(rt: HostRuntime) -> Result<(), Fail> {
+fn a_polled_stream_is_not_used(rt: HostRuntime) -> Result<(), Fail> {
     let mut all = bounded(1, rt.alloc())?;
+    is_under_way(&rt, &mut all);
+    Ok(())
+}
+
+/// A poll as a stream of a receiver that is used; and a step of a party that is not at work.
+fn is_borrowed(rt: &impl Abort, all: &mut Fixture) {
     assert_eq!(rt; all.begin(0, try_recv(), 0), Said::GoesOn);
     assert_eq!(rt;
         all.begin(1, poll_next(), 0),
         stopped(0, WorldRefusal::Borrowed)
     );
     assert_eq!(rt; all.go_on(7, 1), stopped(0, WorldRefusal::Idle));
+}
+
+#[test]
+fn a_used_receiver_is_not_polled_as_a_stream(rt: HostRuntime) -> Result<(), Fail> {
+    let mut all = bounded(1, rt.alloc())?;
+    is_borrowed(&rt, &mut all);
     Ok(())
 }
