@@ -8,6 +8,7 @@ use event_listener::notify::Notification;
 use event_listener::run::{ListCall, ListReply, Target};
 use event_listener::wakes::Wakes;
 use std::collections::VecDeque;
+use std::process::Abort;
 use std::test::Fail;
 
 /// A notice with the tags `first`, `first + 1` and so on.
@@ -74,22 +75,57 @@ impl Wakes<u32> for Names {
     }
 }
 
+/// Three notices over three listeners.
+fn tells_more_or_as_many(
+    rt: &impl Abort,
+    list: &mut List<u32, u32>,
+    sink: &mut Names,
+) -> Result<(), Fail> {
+    let first = list.insert()?;
+    let second = list.insert()?;
+    let third = list.insert()?;
+    assert_eq!(rt; list.notify(more(1, 10), sink), Ok(1));
+    assert_eq!(rt; list.notify(at_least(1, 20), sink), Ok(0));
+    assert_eq!(rt; list.notify(more(1, 30), sink), Ok(1));
+    assert_eq!(rt; list.poll(first), Ok(Some(10)));
+    assert_eq!(rt; list.poll(second), Ok(Some(30)));
+    assert_eq!(rt; list.poll(third), Ok(None));
+    assert_eq!(rt; sink.woken.len(), 0);
+    Ok(())
+}
+
 #[test]
 fn additional_notices_tell_more_and_others_count_the_told(rt: HostRuntime) -> Result<(), Fail> {
     let mut list: List<u32, u32> = List::new(rt.alloc());
     let mut sink = Names {
         woken: Vec::new(rt.alloc()),
     };
+    tells_more_or_as_many(&rt, &mut list, &mut sink)?;
+    Ok(())
+}
+
+/// A told listener of four leaves; who is told, and with which tag.
+fn passes_its_notice_on(
+    rt: &impl Abort,
+    list: &mut List<u32, u32>,
+    sink: &mut Names,
+) -> Result<(), Fail> {
     let first = list.insert()?;
     let second = list.insert()?;
     let third = list.insert()?;
-    assert_eq!(rt; list.notify(more(1, 10), &mut sink), Ok(1));
-    assert_eq!(rt; list.notify(at_least(1, 20), &mut sink), Ok(0));
-    assert_eq!(rt; list.notify(more(1, 30), &mut sink), Ok(1));
-    assert_eq!(rt; list.poll(first), Ok(Some(10)));
-    assert_eq!(rt; list.poll(second), Ok(Some(30)));
-    assert_eq!(rt; list.poll(third), Ok(None));
-    assert_eq!(rt; sink.woken.len(), 0);
+    let fourth = list.insert()?;
+    for (key, name) in [(first, 1), (second, 2), (third, 3), (fourth, 4)] {
+        assert!(rt; matches!(list.register(key, name), Ok(Registered::Waiting)));
+    }
+    assert_eq!(rt; list.notify(more(1, 10), sink), Ok(1));
+    assert_eq!(rt; list.notify(at_least(2, 20), sink), Ok(1));
+    assert_eq!(rt; list.remove(first, true, sink), Ok(true));
+    assert_eq!(rt; sink.woken.as_slice(), [1, 2, 3].as_slice());
+    assert_eq!(rt; list.told(), 2);
+    assert_eq!(rt; list.total(), 3);
+    assert_eq!(rt; list.poll(second), Ok(Some(20)));
+    assert_eq!(rt; list.poll(third), Ok(Some(10)));
+    assert_eq!(rt; list.poll(fourth), Ok(None));
     Ok(())
 }
 
@@ -99,22 +135,7 @@ fn a_told_listener_that_leaves_passes_its_notice_on(rt: HostRuntime) -> Result<(
     let mut sink = Names {
         woken: Vec::new(rt.alloc()),
     };
-    let first = list.insert()?;
-    let second = list.insert()?;
-    let third = list.insert()?;
-    let fourth = list.insert()?;
-    for (key, name) in [(first, 1), (second, 2), (third, 3), (fourth, 4)] {
-        assert!(rt; matches!(list.register(key, name), Ok(Registered::Waiting)));
-    }
-    assert_eq!(rt; list.notify(more(1, 10), &mut sink), Ok(1));
-    assert_eq!(rt; list.notify(at_least(2, 20), &mut sink), Ok(1));
-    assert_eq!(rt; list.remove(first, true, &mut sink), Ok(true));
-    assert_eq!(rt; sink.woken.as_slice(), [1, 2, 3].as_slice());
-    assert_eq!(rt; list.told(), 2);
-    assert_eq!(rt; list.total(), 3);
-    assert_eq!(rt; list.poll(second), Ok(Some(20)));
-    assert_eq!(rt; list.poll(third), Ok(Some(10)));
-    assert_eq!(rt; list.poll(fourth), Ok(None));
+    passes_its_notice_on(&rt, &mut list, &mut sink)?;
     Ok(())
 }
 
@@ -217,20 +238,30 @@ fn a_run_tells_no_more_than_it_has_tags(rt: HostRuntime) -> Result<(), Fail> {
     Ok(())
 }
 
+/// Two tags over three listeners.
+fn gives_tags_in_order(
+    rt: &impl Abort,
+    list: &mut List<u32, u32>,
+    sink: &mut Names,
+) -> Result<(), Fail> {
+    let first = list.insert()?;
+    let second = list.insert()?;
+    let third = list.insert()?;
+    assert_eq!(rt; list.notify(at_least(2, 10), sink), Ok(2));
+    assert_eq!(rt; list.poll(first), Ok(Some(10)));
+    assert_eq!(rt; list.poll(second), Ok(Some(11)));
+    assert_eq!(rt; list.poll(third), Ok(None));
+    assert_eq!(rt; list.poll(second), Err(UnknownListener));
+    Ok(())
+}
+
 #[test]
 fn tags_are_given_in_the_order_of_listening(rt: HostRuntime) -> Result<(), Fail> {
     let mut list: List<u32, u32> = List::new(rt.alloc());
     let mut sink = Names {
         woken: Vec::new(rt.alloc()),
     };
-    let first = list.insert()?;
-    let second = list.insert()?;
-    let third = list.insert()?;
-    assert_eq!(rt; list.notify(at_least(2, 10), &mut sink), Ok(2));
-    assert_eq!(rt; list.poll(first), Ok(Some(10)));
-    assert_eq!(rt; list.poll(second), Ok(Some(11)));
-    assert_eq!(rt; list.poll(third), Ok(None));
-    assert_eq!(rt; list.poll(second), Err(UnknownListener));
+    gives_tags_in_order(&rt, &mut list, &mut sink)?;
     Ok(())
 }
 
@@ -248,19 +279,25 @@ fn a_passed_notice_keeps_its_tag(rt: HostRuntime) -> Result<(), Fail> {
     Ok(())
 }
 
+/// A told listener is taken off.
+fn is_taken_off(rt: &impl Abort, list: &mut List<u32, u32>, sink: &mut Names) -> Result<(), Fail> {
+    let first = list.insert()?;
+    let second = list.insert()?;
+    assert_eq!(rt; list.notify(at_least(1, 7), sink), Ok(1));
+    assert_eq!(rt; list.remove(first, false, sink), Ok(true));
+    assert_eq!(rt; list.poll(second), Ok(None));
+    assert_eq!(rt; list.remove(second, false, sink), Ok(false));
+    assert_eq!(rt; list.total(), 0);
+    Ok(())
+}
+
 #[test]
 fn a_listener_taken_off_without_passing_on_tells_nobody(rt: HostRuntime) -> Result<(), Fail> {
     let mut list: List<u32, u32> = List::new(rt.alloc());
     let mut sink = Names {
         woken: Vec::new(rt.alloc()),
     };
-    let first = list.insert()?;
-    let second = list.insert()?;
-    assert_eq!(rt; list.notify(at_least(1, 7), &mut sink), Ok(1));
-    assert_eq!(rt; list.remove(first, false, &mut sink), Ok(true));
-    assert_eq!(rt; list.poll(second), Ok(None));
-    assert_eq!(rt; list.remove(second, false, &mut sink), Ok(false));
-    assert_eq!(rt; list.total(), 0);
+    is_taken_off(&rt, &mut list, &mut sink)?;
     Ok(())
 }
 
@@ -327,14 +364,14 @@ fn reserved_room_takes_as_many_insertions(rt: HostRuntime) -> Result<(), Fail> {
     Ok(())
 }
 
-#[test]
-fn no_call_visits_more_than_five_others(rt: HostRuntime) -> Result<(), Fail> {
-    let mut list: List<u32, u32> = List::new(rt.alloc());
-    let mut sink = Names {
-        woken: Vec::new(rt.alloc()),
-    };
+/// Ten thousand listeners, of which every second is removed and every other one told.
+fn visits_few(
+    rt: &impl Abort,
+    list: &mut List<u32, u32>,
+    sink: &mut Names,
+    keys: &mut Vec<Key>,
+) -> Result<(), Fail> {
     assert_eq!(rt; list.last_visits(), 0);
-    let mut keys: Vec<Key> = Vec::new(rt.alloc());
     for name in 0u32..10_000 {
         let key = list.insert()?;
         assert!(rt; list.last_visits() <= 5);
@@ -344,16 +381,16 @@ fn no_call_visits_more_than_five_others(rt: HostRuntime) -> Result<(), Fail> {
     }
     for (place, key) in keys.iter().enumerate() {
         if place % 2 == 0 {
-            assert_eq!(rt; list.remove(*key, false, &mut sink), Ok(false));
+            assert_eq!(rt; list.remove(*key, false, sink), Ok(false));
             assert!(rt; list.last_visits() <= 5);
         }
     }
     assert_eq!(rt; list.total(), 5_000);
     for _ in 0..5_000 {
-        assert_eq!(rt; list.notify(more(1, 7), &mut sink), Ok(1));
+        assert_eq!(rt; list.notify(more(1, 7), sink), Ok(1));
         assert!(rt; list.last_visits() <= 5);
     }
-    assert_eq!(rt; list.notify(more(1, 7), &mut sink), Ok(0));
+    assert_eq!(rt; list.notify(more(1, 7), sink), Ok(0));
     assert_eq!(rt; list.last_visits(), 0);
     assert_eq!(rt; list.told(), 5_000);
     assert_eq!(rt; sink.woken.len(), 5_000);
@@ -364,23 +401,34 @@ fn no_call_visits_more_than_five_others(rt: HostRuntime) -> Result<(), Fail> {
 }
 
 #[test]
-fn no_call_visits_more_than_five_others_where_half_are_told(rt: HostRuntime) -> Result<(), Fail> {
+fn no_call_visits_more_than_five_others(rt: HostRuntime) -> Result<(), Fail> {
     let mut list: List<u32, u32> = List::new(rt.alloc());
     let mut sink = Names {
         woken: Vec::new(rt.alloc()),
     };
     let mut keys: Vec<Key> = Vec::new(rt.alloc());
+    visits_few(&rt, &mut list, &mut sink, &mut keys)?;
+    Ok(())
+}
+
+/// Ten thousand listeners, half of them told, of which every second is removed.
+fn visits_few_of_told_ones(
+    rt: &impl Abort,
+    list: &mut List<u32, u32>,
+    sink: &mut Names,
+    keys: &mut Vec<Key>,
+) -> Result<(), Fail> {
     for _ in 0..10_000 {
         keys.push(list.insert()?)?;
     }
     for _ in 0..5_000 {
-        assert_eq!(rt; list.notify(more(1, 7), &mut sink), Ok(1));
+        assert_eq!(rt; list.notify(more(1, 7), sink), Ok(1));
         assert!(rt; list.last_visits() <= 5);
     }
     // A key of one that left stands for nobody, though another listener may have its place.
     for (place, key) in keys.iter().enumerate() {
         if place % 2 == 0 {
-            assert_eq!(rt; list.remove(*key, false, &mut sink), Ok(place < 5_000));
+            assert_eq!(rt; list.remove(*key, false, sink), Ok(place < 5_000));
             assert!(rt; list.last_visits() <= 5);
             assert!(rt; list.insert().is_ok());
             assert!(rt; list.last_visits() <= 5);
@@ -396,6 +444,17 @@ fn no_call_visits_more_than_five_others_where_half_are_told(rt: HostRuntime) -> 
         }
     }
     assert_eq!(rt; (list.told(), list.total()), (0, 7_500));
+    Ok(())
+}
+
+#[test]
+fn no_call_visits_more_than_five_others_where_half_are_told(rt: HostRuntime) -> Result<(), Fail> {
+    let mut list: List<u32, u32> = List::new(rt.alloc());
+    let mut sink = Names {
+        woken: Vec::new(rt.alloc()),
+    };
+    let mut keys: Vec<Key> = Vec::new(rt.alloc());
+    visits_few_of_told_ones(&rt, &mut list, &mut sink, &mut keys)?;
     Ok(())
 }
 
@@ -423,12 +482,12 @@ fn a_refused_growth_leaves_the_list_as_it_was(rt: HostRuntime) -> Result<(), Fai
     Ok(())
 }
 
-#[test]
-fn each_visit_of_another_node_is_counted_once(rt: HostRuntime) -> Result<(), Fail> {
-    let mut list: List<u32, u32> = List::new(rt.alloc());
-    let mut sink = Names {
-        woken: Vec::new(rt.alloc()),
-    };
+/// What the list says of each call's visits. It is lent, so that it is let go at one place.
+fn counts_each_visit(
+    rt: &impl Abort,
+    list: &mut List<u32, u32>,
+    sink: &mut Names,
+) -> Result<(), Fail> {
     let l1 = list.insert()?;
     assert_eq!(rt; list.last_visits(), 0);
     let l2 = list.insert()?;
@@ -438,29 +497,39 @@ fn each_visit_of_another_node_is_counted_once(rt: HostRuntime) -> Result<(), Fai
     // The call's own node is not counted, and what asks, polls or makes room leaves the number as it was.
     assert!(rt; list.register(l2, 2).is_ok());
     assert_eq!(rt; list.last_visits(), 0);
-    assert_eq!(rt; list.notify(more(1, 10), &mut sink), Ok(1));
+    assert_eq!(rt; list.notify(more(1, 10), sink), Ok(1));
     assert_eq!(rt; list.last_visits(), 3);
     assert_eq!(rt; list.poll(l1), Ok(Some(10)));
     list.reserve(100)?;
     assert_eq!(rt; (list.told(), list.total()), (0, 3));
     assert_eq!(rt; list.last_visits(), 3);
     // A node between two others has both neighbours written, the last one its neighbour.
-    assert_eq!(rt; list.remove(l3, false, &mut sink), Ok(false));
+    assert_eq!(rt; list.remove(l3, false, sink), Ok(false));
     assert_eq!(rt; list.last_visits(), 2);
-    assert_eq!(rt; list.remove(l4, false, &mut sink), Ok(false));
+    assert_eq!(rt; list.remove(l4, false, sink), Ok(false));
     assert_eq!(rt; list.last_visits(), 1);
     // One behind another told one: its own node is read and written, and the neighbours on both chains are written.
     let l5 = list.insert()?;
     let l6 = list.insert()?;
-    assert_eq!(rt; list.notify(more(1, 20), &mut sink), Ok(1));
+    assert_eq!(rt; list.notify(more(1, 20), sink), Ok(1));
     assert_eq!(rt; list.last_visits(), 3);
-    assert_eq!(rt; list.notify(more(1, 30), &mut sink), Ok(1));
+    assert_eq!(rt; list.notify(more(1, 30), sink), Ok(1));
     assert_eq!(rt; list.last_visits(), 4);
     // A told one that passes its notice on tells the next, which counts as in a notice.
-    assert_eq!(rt; list.remove(l5, true, &mut sink), Ok(true));
+    assert_eq!(rt; list.remove(l5, true, sink), Ok(true));
     assert_eq!(rt; list.last_visits(), 4);
     assert_eq!(rt; list.poll(l6), Ok(Some(30)));
     assert_eq!(rt; list.poll(l2), Ok(Some(20)));
     assert_eq!(rt; list.last_visits(), 4);
+    Ok(())
+}
+
+#[test]
+fn each_visit_of_another_node_is_counted_once(rt: HostRuntime) -> Result<(), Fail> {
+    let mut list: List<u32, u32> = List::new(rt.alloc());
+    let mut sink = Names {
+        woken: Vec::new(rt.alloc()),
+    };
+    counts_each_visit(&rt, &mut list, &mut sink)?;
     Ok(())
 }
