@@ -135,10 +135,17 @@ fn run_of_them(alloc: Global) -> Result<QueueRun<u64>, AllocError> {
 
 #[test]
 fn steps_are_compared_and_shown(rt: HostRuntime) -> std::result::Result<(), Fail> {
-    let steps = pop_of_two_steps(rt.alloc())?;
-    let compared = steps[1] == steps[2] && steps[0] != steps[1];
-    let text = format!(in rt.alloc(); "{:?}", steps[0])?;
-    drop(steps);
+    let begin: QueueStep<u64> = QueueStep::Begin {
+        party: 1,
+        call: QueueAsk::Pop,
+    };
+    let step: QueueStep<u64> = QueueStep::Step { party: 1 };
+    let same: QueueStep<u64> = QueueStep::Step { party: 1 };
+    let compared = step == same && begin != step;
+    let text = format!(in rt.alloc(); "{begin:?}")?;
+    drop(begin);
+    drop(step);
+    drop(same);
     assert!(rt; compared);
     assert_eq!(rt; text.as_str(), "Begin { party: 1, call: Pop }");
     Ok(())
