@@ -19,6 +19,10 @@ fn takes_one(rt: &impl Abort, queue: &mut Exclusive<u64>) {
     assert!(rt; matches!(queue.force_push(30), Ok(Some(10))));
     assert!(rt; matches!(queue.pop(), Ok(30)));
     assert!(rt; matches!(queue.pop(), Err(PopError::Empty)));
+}
+
+/// What it answers with one message more, and closed.
+fn takes_none_once_closed(rt: &impl Abort, queue: &mut Exclusive<u64>) {
     assert!(rt; matches!(queue.force_push(40), Ok(None)));
     assert!(rt; queue.close());
     assert!(rt; !queue.close());
@@ -33,6 +37,7 @@ fn takes_one(rt: &impl Abort, queue: &mut Exclusive<u64>) {
 fn one_slot_one_at_a_time(rt: HostRuntime) -> Result<(), Fail> {
     let mut queue = Exclusive::bounded(rt.alloc(), 1)?;
     takes_one(&rt, &mut queue);
+    takes_none_once_closed(&rt, &mut queue);
     Ok(())
 }
 

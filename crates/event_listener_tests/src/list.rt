@@ -104,29 +104,42 @@ fn additional_notices_tell_more_and_others_count_the_told(rt: HostRuntime) -> Re
     Ok(())
 }
 
-/// A told listener of four leaves; who is told, and with which tag.
+/// Four that wait, under the names 1 to 4.
+fn four_wait(rt: &impl Abort, list: &mut List<u32, u32>) -> Result<[Key; 4], Fail> {
+    let keys = [
+        list.insert()?,
+        list.insert()?,
+        list.insert()?,
+        list.insert()?,
+    ];
+    let mut name = 0;
+    for key in keys {
+        name += 1;
+        assert!(rt; matches!(list.register(key, name), Ok(Registered::Waiting)));
+    }
+    Ok(keys)
+}
+
+/// The told one of four leaves; who is told, and with which tag.
 fn passes_its_notice_on(
     rt: &impl Abort,
     list: &mut List<u32, u32>,
     sink: &mut Names,
-) -> Result<(), Fail> {
-    let first = list.insert()?;
-    let second = list.insert()?;
-    let third = list.insert()?;
-    let fourth = list.insert()?;
-    for (key, name) in [(first, 1), (second, 2), (third, 3), (fourth, 4)] {
-        assert!(rt; matches!(list.register(key, name), Ok(Registered::Waiting)));
-    }
-    assert_eq!(rt; list.notify(more(1, 10), sink), Ok(1));
-    assert_eq!(rt; list.notify(at_least(2, 20), sink), Ok(1));
-    assert_eq!(rt; list.remove(first, true, sink), Ok(true));
+    keys: [Key; 4],
+) {
+    let [first, second, third, fourth] = keys;
+    let told = [
+        list.notify(more(1, 10), sink),
+        list.notify(at_least(2, 20), sink),
+    ];
+    let left = list.remove(first, true, sink);
+    let numbers = (list.told(), list.total());
+    let tags = [list.poll(second), list.poll(third), list.poll(fourth)];
+    assert_eq!(rt; told, [Ok(1), Ok(1)]);
+    assert_eq!(rt; left, Ok(true));
     assert_eq!(rt; sink.woken.as_slice(), [1, 2, 3].as_slice());
-    assert_eq!(rt; list.told(), 2);
-    assert_eq!(rt; list.total(), 3);
-    assert_eq!(rt; list.poll(second), Ok(Some(20)));
-    assert_eq!(rt; list.poll(third), Ok(Some(10)));
-    assert_eq!(rt; list.poll(fourth), Ok(None));
-    Ok(())
+    assert_eq!(rt; numbers, (2, 3));
+    assert_eq!(rt; tags, [Ok(Some(20)), Ok(Some(10)), Ok(None)]);
 }
 
 #[test]
@@ -135,7 +148,8 @@ fn a_told_listener_that_leaves_passes_its_notice_on(rt: HostRuntime) -> Result<(
     let mut sink = Names {
         woken: Vec::new(rt.alloc()),
     };
-    passes_its_notice_on(&rt, &mut list, &mut sink)?;
+    let keys = four_wait(&rt, &mut list)?;
+    passes_its_notice_on(&rt, &mut list, &mut sink, keys);
     Ok(())
 }
 
@@ -482,44 +496,62 @@ fn a_refused_growth_leaves_the_list_as_it_was(rt: HostRuntime) -> Result<(), Fai
     Ok(())
 }
 
-/// What the list says of each call's visits. It is lent, so that it is let go at one place.
-fn counts_each_visit(
+/// Four listen, and the first is told: its own node is not counted, and what asks, polls or makes room leaves the number as it was.
+/// The keys of those that are left.
+fn counts_insertions(
     rt: &impl Abort,
     list: &mut List<u32, u32>,
     sink: &mut Names,
-) -> Result<(), Fail> {
-    let l1 = list.insert()?;
+) -> Result<[Key; 3], Fail> {
+    let first = list.insert()?;
     assert_eq!(rt; list.last_visits(), 0);
-    let l2 = list.insert()?;
+    let second = list.insert()?;
     assert_eq!(rt; list.last_visits(), 1);
-    let l3 = list.insert()?;
-    let l4 = list.insert()?;
-    // The call's own node is not counted, and what asks, polls or makes room leaves the number as it was.
-    assert!(rt; list.register(l2, 2).is_ok());
+    let third = list.insert()?;
+    let fourth = list.insert()?;
+    assert!(rt; list.register(second, 2).is_ok());
     assert_eq!(rt; list.last_visits(), 0);
     assert_eq!(rt; list.notify(more(1, 10), sink), Ok(1));
     assert_eq!(rt; list.last_visits(), 3);
-    assert_eq!(rt; list.poll(l1), Ok(Some(10)));
+    assert_eq!(rt; list.poll(first), Ok(Some(10)));
     list.reserve(100)?;
     assert_eq!(rt; (list.told(), list.total()), (0, 3));
     assert_eq!(rt; list.last_visits(), 3);
-    // A node between two others has both neighbours written, the last one its neighbour.
-    assert_eq!(rt; list.remove(l3, false, sink), Ok(false));
+    Ok([second, third, fourth])
+}
+
+/// A node between two others has both neighbours written, the last one its neighbour.
+fn counts_removals(
+    rt: &impl Abort,
+    list: &mut List<u32, u32>,
+    sink: &mut Names,
+    third: Key,
+    fourth: Key,
+) {
+    assert_eq!(rt; list.remove(third, false, sink), Ok(false));
     assert_eq!(rt; list.last_visits(), 2);
-    assert_eq!(rt; list.remove(l4, false, sink), Ok(false));
+    assert_eq!(rt; list.remove(fourth, false, sink), Ok(false));
     assert_eq!(rt; list.last_visits(), 1);
-    // One behind another told one: its own node is read and written, and the neighbours on both chains are written.
-    let l5 = list.insert()?;
-    let l6 = list.insert()?;
+}
+
+/// One behind another told one: its own node is read and written, and the neighbours on both chains are written. A told one that
+/// passes its notice on tells the next, which counts as in a notice.
+fn counts_told_ones(
+    rt: &impl Abort,
+    list: &mut List<u32, u32>,
+    sink: &mut Names,
+    first: Key,
+) -> Result<(), Fail> {
+    let second = list.insert()?;
+    let third = list.insert()?;
     assert_eq!(rt; list.notify(more(1, 20), sink), Ok(1));
     assert_eq!(rt; list.last_visits(), 3);
     assert_eq!(rt; list.notify(more(1, 30), sink), Ok(1));
     assert_eq!(rt; list.last_visits(), 4);
-    // A told one that passes its notice on tells the next, which counts as in a notice.
-    assert_eq!(rt; list.remove(l5, true, sink), Ok(true));
+    assert_eq!(rt; list.remove(second, true, sink), Ok(true));
     assert_eq!(rt; list.last_visits(), 4);
-    assert_eq!(rt; list.poll(l6), Ok(Some(30)));
-    assert_eq!(rt; list.poll(l2), Ok(Some(20)));
+    assert_eq!(rt; list.poll(third), Ok(Some(30)));
+    assert_eq!(rt; list.poll(first), Ok(Some(20)));
     assert_eq!(rt; list.last_visits(), 4);
     Ok(())
 }
@@ -530,6 +562,8 @@ fn each_visit_of_another_node_is_counted_once(rt: HostRuntime) -> Result<(), Fai
     let mut sink = Names {
         woken: Vec::new(rt.alloc()),
     };
-    counts_each_visit(&rt, &mut list, &mut sink)?;
+    let [second, third, fourth] = counts_insertions(&rt, &mut list, &mut sink)?;
+    counts_removals(&rt, &mut list, &mut sink, third, fourth);
+    counts_told_ones(&rt, &mut list, &mut sink, second)?;
     Ok(())
 }
