@@ -1,7 +1,7 @@
 //! What lists do, by worked examples.
 
 use event_listener::calls::Registered;
-use event_listener::error::{NoMemory, UnknownListener};
+use event_listener::error::{ListenError, NoMemory, UnknownListener};
 use event_listener::key::Key;
 use event_listener::list::List;
 use event_listener::notify::Notification;
@@ -298,6 +298,41 @@ fn a_key_of_one_that_left_is_refused(rt: HostRuntime) -> Result<(), Fail> {
     assert_eq!(rt; list.remove(old, true, &mut sink), Err(UnknownListener));
     assert!(rt; matches!(list.register(new, 3), Ok(Registered::Told(7))));
     assert_eq!(rt; list.total(), 0);
+    Ok(())
+}
+
+/// A listener is told, leaves, and another one takes its slot: what the calls with the old key answer, whom a notice told beside it, and
+/// how many listen.
+fn stale_after_telling(
+    list: &mut List<u32, u32>,
+    sink: &mut Names,
+) -> Result<([bool; 4], [u32; 2], usize), ListenError> {
+    let old = list.insert()?;
+    let told = list.notify(at_least(1, 7), sink) == Ok(1);
+    let left = told && list.poll(old) == Ok(Some(7));
+    let new = list.insert()?;
+    let waits = matches!(list.register(new, 2), Ok(Registered::Waiting));
+    let stale = [
+        left && waits && old != new,
+        matches!(list.register(old, 1), Err(UnknownListener)),
+        list.poll(old) == Err(UnknownListener),
+        list.remove(old, true, sink) == Err(UnknownListener),
+    ];
+    let next = list.notify(at_least(1, 8), sink).unwrap_or(0) as u32;
+    let tag = list.poll(new).unwrap_or(None).unwrap_or(0);
+    Ok((stale, [next, tag], list.total()))
+}
+
+#[test]
+fn a_key_of_one_that_was_told_and_left_is_refused(rt: HostRuntime) -> Result<(), Fail> {
+    let mut list: List<u32, u32> = List::new(rt.alloc());
+    let mut sink = Names {
+        woken: Vec::new(rt.alloc()),
+    };
+    let seen = stale_after_telling(&mut list, &mut sink)?;
+    drop(list);
+    assert_eq!(rt; seen, ([true, true, true, true], [1, 8], 0));
+    assert_eq!(rt; sink.woken.as_slice(), [2].as_slice());
     Ok(())
 }
 
