@@ -10,7 +10,7 @@ use Rattle.channel_model.specs.Answer.{Answer, answer, replying, Found, first, n
 use Rattle.channel_model.specs.Refused.{Lack, memory, serials, Answers, answer_without, not_held, not_received, not_polled, send_not_polled, recv_not_polled, next_not_polled}
 use Rattle.channel_model.specs.declared.call.Call.{Call}
 use Rattle.channel_model.specs.declared.call.Call.TheVariants as call
-use Rattle.channel_world.specs.Text.{wants_growth}
+use Rattle.channel_language.specs.Text.{wants_growth}
 use Rattle.channel_model.specs.declared.space.Space.{Space}
 use Rattle.channel_model.specs.declared.space.Space.TheVariants.{Open, Filled, Shut}
 use Rattle.channel_model.specs.declared.name.OpId.{OpId}

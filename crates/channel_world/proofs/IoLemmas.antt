@@ -1,16 +1,15 @@
 -- What is known of the bytes of a reader and of a writer, over several calls.
 use Rattle.std.proofs.Common.{arith, ◌≡◌, ℕ, ◌-◌, List, [], ◌∷◌, ◌++◌, take, drop, length, Option, Some, None, IfSome, refl, sym, subst, ap, ◌∙◌, append_assoc, append-nil, nat_lt, false, ◌≤◌}
 use Rattle.std.specs.Io.KnownBytes.{Appends, Keeps, Consumes, IsAtEnd}
-use Rattle.std.proofs.lemmas.List.{take-append-drop}
+use Rattle.std.proofs.lemmas.List.{take-append-drop, take_all, length-drop}
 use Rattle.channel_world.specs.Script.{Script, script, script_of_lines}
-use Rattle.channel_world.specs.Language.{today}
-use Rattle.channel_world.specs.Words.{lines_of}
+use Rattle.channel_language.specs.Language.{today}
+use Rattle.channel_language.specs.Words.{lines_of}
 use Rattle.std.proofs.lemmas.Bool.Decides.{nat_tests}
 use Rattle.channel_world.specs.Added.{Extends}
 use Rattle.channel_world.specs.Output.{AppendsFront, IsText, IsReadEnd, late_line, last_lines, text_of_lines}
 use Rattle.channel_world.specs.declared.script.end.ScriptEnd.{ScriptEnd}
 use Rattle.channel_world.specs.declared.script.end.ScriptEnd.TheVariants.{Done, Unreadable, Capacity, Memory, Fault}
-use Rattle.channel_world.proofs.WordLemmas.{from_place}
 
 pub consumes_none : (known : Option (List ℕ)) → Consumes known known []
 consumes_none None = tt
@@ -58,7 +57,7 @@ pub more_written : {a b c : Option (List ℕ)} {text rest : List ℕ} (n : ℕ) 
 more_written {a} {b} {c} {text} {rest} n w k = record {
   out = w.out ++ take n rest;
   appends = appends_more a b c w.out (take n rest) w.appends k;
-  parts = w.parts ∙ (ap (λ zs. w.out ++ zs) (sym (take-append-drop n rest)) ∙ (sym (append_assoc w.out (take n rest) (drop n rest)) ∙ ap (λ zs. (w.out ++ take n rest) ++ zs) (sym (from_place n rest))));
+  parts = w.parts ∙ (ap (λ zs. w.out ++ zs) (sym (take-append-drop n rest)) ∙ (sym (append_assoc w.out (take n rest) (drop n rest)) ∙ ap (λ zs. (w.out ++ take n rest) ++ zs) (sym (take_all (length rest - n) (drop n rest) (omega (arith, length-drop n rest))))));
 }
 
 pub front_written : {a b : Option (List ℕ)} {text rest : List ℕ} → IsWritten a b text rest → AppendsFront a b text

@@ -9,9 +9,6 @@ pub mod Whole
 pub mod Tasks
 pub mod Polls
 pub mod SettleFacts
-pub mod WordLemmas
-pub mod CommandLemmas
-pub mod TableLemmas
 pub mod ScriptLemmas
 pub mod IoLemmas
 pub mod GrowthLemmas

@@ -11,8 +11,9 @@ use Rattle.channel_model.specs.State.{State}
 use Rattle.channel_model.specs.declared.name.Waiter.{Waiter}
 use Rattle.channel_world.specs.Script.{Scene, Obeyed, settled, settles, waiting_count}
 use Rattle.channel_world.specs.Settled.{polls_in}
-use Rattle.channel_world.specs.Table.{Table}
-use Rattle.channel_world.specs.Text.{poll_text, parted, settle_text, part_before, wants_growth, AreAmple}
+use Rattle.channel_language.specs.Table.{Table}
+use Rattle.channel_language.specs.Text.{poll_text, parted, settle_text, part_before, wants_growth}
+use Rattle.channel_world.specs.Settled.{AreAmple}
 use Rattle.channel_world.specs.declared.settle.Settled.{Settled}
 use Rattle.channel_world.proofs.GrowthLemmas.{is_ample}
 

@@ -1,7 +1,7 @@
 -- More worked scripts, computed.
 use Rattle.std.specs.Prelude.{◌≡◌, ℕ, List, [], ◌∷◌, ◌++◌, codes, refl}
 use Rattle.std.specs.Fmt.{digits}
-use Rattle.channel_world.specs.Language.{Language, today}
+use Rattle.channel_language.specs.Language.{Language, today}
 use Rattle.channel_world.specs.Script.{script_in}
 use Rattle.channel_world.specs.Output.{text_of_lines, last_lines, status_of}
 

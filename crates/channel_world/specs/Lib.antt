@@ -5,13 +5,7 @@ pub mod StepsLeft
 pub mod Headline
 pub mod Settled
 pub mod Carried
-pub mod Words
-pub mod Command
-pub mod Said
-pub mod Language
-pub mod Table
-pub mod Asked
-pub mod Text
+pub mod Staged
 pub mod Script
 pub mod Output
 pub mod Added

@@ -8,13 +8,13 @@ use Rattle.channel_model.specs.Answer.{answer}
 use Rattle.channel_model.specs.Settling.{poll_of}
 use Rattle.channel_model.specs.declared.call.Call.{Call}
 use Rattle.channel_calls.specs.declared.reply.Reply.{Reply}
-use Rattle.channel_world.specs.Words.{lines_of}
-use Rattle.channel_world.specs.Command.{Command, settle, Opening, bounded, unbounded, parse, openings}
-use Rattle.channel_world.specs.Language.{Language, today}
-use Rattle.channel_world.specs.Table.{Table}
-use Rattle.channel_world.specs.Asked.{used, is_known, is_given_before, with_given, call_of}
-use Rattle.channel_world.specs.Text.{reply_text, wakes_text, refused_text, settle_text}
-use Rattle.channel_world.specs.declared.script.table.Sort.TheVariants as sort
+use Rattle.channel_language.specs.Words.{lines_of}
+use Rattle.channel_language.specs.Command.{Command, settle, Opening, bounded, unbounded, parse, openings}
+use Rattle.channel_language.specs.Language.{Language, today}
+use Rattle.channel_language.specs.Table.{Table}
+use Rattle.channel_language.specs.Asked.{used, is_known, is_given_before, with_given, call_of}
+use Rattle.channel_language.specs.Text.{reply_text, wakes_text, refused_text, settle_text}
+use Rattle.channel_language.specs.declared.table.Sort.TheVariants as sort
 use Rattle.channel_world.specs.declared.script.end.ScriptEnd.{ScriptEnd}
 use Rattle.channel_world.specs.declared.script.end.ScriptEnd.TheVariants.{Done, Unreadable, Capacity, Memory, Fault}
 use Rattle.channel_model.specs.declared.name.Waiter.{Waiter}

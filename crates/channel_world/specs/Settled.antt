@@ -1,6 +1,7 @@
 -- What settling answers, and whom it leaves pending.
 use Rattle.std.specs.Prelude.{◌≡◌, ◌⊎◌, ◌+◌, ◌*◌, ◌++◌, ℕ, List, [], length, map, true, false, None}
-use Rattle.std.specs.List.{filter}
+use Rattle.std.specs.List.{filter, list_any}
+use Rattle.channel_language.specs.Text.{wants_growth}
 use Rattle.channel_calls.specs.declared.reply.Reply.{Reply}
 use Rattle.channel_calls.specs.declared.stage.Line.{Line}
 use Rattle.channel_model.specs.Laws.{free_places}
@@ -50,3 +51,7 @@ most_streams l = length l.streams + length (filter is_stream l.woken)
 -- settling makes no more polls: one for each who is woken, and as many for each who is pending as a poll wakes at most
 abbrev pub most_polls : Waiting → ℕ
 most_polls l = length l.woken + (2 + most_streams l) * pending_count l
+
+-- no poll of these was refused memory or serials
+abbrev pub AreAmple : List (Settled ℕ) → Type 0
+AreAmple polls = list_any (λ (p : Settled ℕ). wants_growth p.reply) polls ≡ false

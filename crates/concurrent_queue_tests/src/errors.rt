@@ -5,6 +5,7 @@ use concurrent_queue::{
     QueueAsk, QueueEntry, QueueForm, QueueMark, QueueRefusal, QueueReply, QueueRun, QueueStep,
     Stopped, run_queue_steps,
 };
+use std::alloc::{AllocError, Global};
 use std::collections::VecDeque;
 use std::test::Fail;
 
@@ -48,48 +49,45 @@ fn refusals_are_compared_and_copied(rt: HostRuntime) -> std::result::Result<(), 
     Ok(())
 }
 
+/// Whether a refused push is shown and written so.
+fn push_says(alloc: Global, error: PushError<u64>, text: &str) -> Result<bool, AllocError> {
+    Ok(format!(in alloc; "{error} {error:?}")?.as_str() == text)
+}
+
 #[test]
 fn texts_of_a_push(rt: HostRuntime) -> std::result::Result<(), Fail> {
-    let full = PushError::Full(1u64);
-    let closed = PushError::Closed(1u64);
-    let no_memory = PushError::NoMemory(1u64);
-    assert_eq!(rt;
-        format!(in rt.alloc(); "{full} {full:?}")?.as_str(),
-        "Full Full(..)"
-    );
-    assert_eq!(rt;
-        format!(in rt.alloc(); "{closed} {closed:?}")?.as_str(),
-        "Closed Closed(..)"
-    );
-    assert_eq!(rt;
-        format!(in rt.alloc(); "{no_memory} {no_memory:?}")?.as_str(),
-        "NoMemory NoMemory(..)"
-    );
+    assert!(rt; push_says(rt.alloc(), PushError::Full(1), "Full Full(..)")?);
+    assert!(rt; push_says(rt.alloc(), PushError::Closed(1), "Closed Closed(..)")?);
+    assert!(rt; push_says(rt.alloc(), PushError::NoMemory(1), "NoMemory NoMemory(..)")?);
     Ok(())
+}
+
+/// Whether a refused displacing push is shown and written so.
+fn force_push_says(
+    alloc: Global,
+    error: ForcePushError<u64>,
+    text: &str,
+) -> Result<bool, AllocError> {
+    Ok(format!(in alloc; "{error} {error:?}")?.as_str() == text)
+}
+
+/// Whether a refused pop is shown and written so.
+fn pop_says(alloc: Global, error: PopError, text: &str) -> Result<bool, AllocError> {
+    Ok(format!(in alloc; "{error} {error:?}")?.as_str() == text)
 }
 
 #[test]
 fn texts_of_a_displacing_push_and_of_a_pop(rt: HostRuntime) -> std::result::Result<(), Fail> {
-    let closed = ForcePushError::Closed(1u64);
-    let no_memory = ForcePushError::NoMemory(1u64);
-    assert_eq!(rt;
-        format!(in rt.alloc(); "{closed} {closed:?}")?.as_str(),
-        "Closed Closed(..)"
+    assert!(rt; force_push_says(rt.alloc(), ForcePushError::Closed(1), "Closed Closed(..)")?);
+    assert!(rt;
+        force_push_says(
+            rt.alloc(),
+            ForcePushError::NoMemory(1),
+            "NoMemory NoMemory(..)"
+        )?
     );
-    assert_eq!(rt;
-        format!(in rt.alloc(); "{no_memory} {no_memory:?}")?.as_str(),
-        "NoMemory NoMemory(..)"
-    );
-    let empty = PopError::Empty;
-    let shut = PopError::Closed;
-    assert_eq!(rt;
-        format!(in rt.alloc(); "{empty} {empty:?}")?.as_str(),
-        "Empty Empty"
-    );
-    assert_eq!(rt;
-        format!(in rt.alloc(); "{shut} {shut:?}")?.as_str(),
-        "Closed Closed"
-    );
+    assert!(rt; pop_says(rt.alloc(), PopError::Empty, "Empty Empty")?);
+    assert!(rt; pop_says(rt.alloc(), PopError::Closed, "Closed Closed")?);
     Ok(())
 }
 
@@ -102,25 +100,22 @@ fn want_of_memory_says_so(rt: HostRuntime) -> std::result::Result<(), Fail> {
     Ok(())
 }
 
-#[test]
-fn runs_are_compared_and_shown(rt: HostRuntime) -> std::result::Result<(), Fail> {
-    let mut steps: VecDeque<QueueStep<u64>> = VecDeque::new(rt.alloc());
+/// A pop that begins, and two steps of it.
+fn pop_of_two_steps(alloc: Global) -> Result<VecDeque<QueueStep<u64>>, AllocError> {
+    let mut steps: VecDeque<QueueStep<u64>> = VecDeque::new(alloc);
+    steps.reserve(3)?;
     steps.push_back(QueueStep::Begin {
         party: 1,
         call: QueueAsk::Pop,
     })?;
     steps.push_back(QueueStep::Step { party: 1 })?;
     steps.push_back(QueueStep::Step { party: 1 })?;
-    assert!(rt; steps[1] == steps[2] && steps[0] != steps[1]);
-    assert_eq!(rt;
-        format!(in rt.alloc(); "{:?}", steps[0])?.as_str(),
-        "Begin { party: 1, call: Pop }"
-    );
-    let form = QueueForm::Bounded(1);
-    assert!(rt; form != QueueForm::Unbounded);
-    assert_eq!(rt; format!(in rt.alloc(); "{form:?}")?.as_str(), "Bounded(1)");
-    let run = run_queue_steps(rt.alloc(), form, &mut steps);
-    let mut trace: Vec<QueueEntry<u64>> = Vec::new(rt.alloc());
+    Ok(steps)
+}
+
+/// The run of these steps over one slot: the pop finds nothing at its one step, and then nobody is at work.
+fn run_of_them(alloc: Global) -> Result<QueueRun<u64>, AllocError> {
+    let mut trace: Vec<QueueEntry<u64>> = Vec::with_capacity(alloc, 2)?;
     trace.push(QueueEntry {
         mark: QueueMark::Nothing,
         reply: None,
@@ -129,21 +124,56 @@ fn runs_are_compared_and_shown(rt: HostRuntime) -> std::result::Result<(), Fail>
         mark: QueueMark::Nothing,
         reply: Some(QueueReply::Pop(Err(PopError::Empty))),
     })?;
-    assert_eq!(rt;
-        format!(in rt.alloc(); "{:?}", trace[1])?.as_str(),
-        "QueueEntry { mark: Nothing, reply: Some(Pop(Err(Empty))) }"
-    );
-    let same = QueueRun {
+    Ok(QueueRun {
         trace,
         stopped: Some(Stopped {
             place: 2,
             why: QueueRefusal::Idle,
         }),
-    };
-    assert!(rt; run == same);
+    })
+}
+
+#[test]
+fn steps_are_compared_and_shown(rt: HostRuntime) -> std::result::Result<(), Fail> {
+    let steps = pop_of_two_steps(rt.alloc())?;
+    let compared = steps[1] == steps[2] && steps[0] != steps[1];
+    let text = format!(in rt.alloc(); "{:?}", steps[0])?;
+    drop(steps);
+    assert!(rt; compared);
+    assert_eq!(rt; text.as_str(), "Begin { party: 1, call: Pop }");
+    Ok(())
+}
+
+#[test]
+fn forms_are_compared_and_shown(rt: HostRuntime) -> std::result::Result<(), Fail> {
+    let form = QueueForm::Bounded(1);
+    assert!(rt; form != QueueForm::Unbounded);
+    assert_eq!(rt; format!(in rt.alloc(); "{form:?}")?.as_str(), "Bounded(1)");
+    Ok(())
+}
+
+/// The texts of an entry and of a stop, each on a line.
+fn texts_of(alloc: Global, run: &QueueRun<u64>) -> Result<String, AllocError> {
+    match run.trace.get(1) {
+        Some(entry) => format!(in alloc; "{entry:?}\n{:?}", run.stopped),
+        None => Ok(String::new(alloc)),
+    }
+}
+
+#[test]
+fn runs_are_compared_and_shown(rt: HostRuntime) -> std::result::Result<(), Fail> {
+    let mut steps = pop_of_two_steps(rt.alloc())?;
+    let run = run_queue_steps(rt.alloc(), QueueForm::Bounded(1), &mut steps);
+    drop(steps);
+    let same = run_of_them(rt.alloc())?;
+    let are_same = run == same;
+    drop(same);
+    let text = texts_of(rt.alloc(), &run)?;
+    drop(run);
+    assert!(rt; are_same);
     assert_eq!(rt;
-        format!(in rt.alloc(); "{:?}", run.stopped)?.as_str(),
-        "Some(Stopped { place: 2, why: Idle })"
+        text.as_str(),
+        "QueueEntry { mark: Nothing, reply: Some(Pop(Err(Empty))) }\nSome(Stopped { place: 2, why: Idle })"
     );
     Ok(())
 }

@@ -4,18 +4,19 @@ ghost use Rattle.std.specs.Option.{option_map};
 ghost use Rattle.channel_model.specs.State.{start};
 ghost use Rattle.channel_interleaving.specs.Floor.{IsQuiet};
 ghost use Rattle.channel_world.specs.World.{at_rest};
-ghost use Rattle.channel_world.specs.Words.{lines_of};
-ghost use Rattle.channel_world.specs.Language.{today};
-ghost use Rattle.channel_world.specs.Said.{said_line, scene_of};
+ghost use Rattle.channel_language.specs.Words.{lines_of};
+ghost use Rattle.channel_language.specs.Language.{today};
+ghost use Rattle.channel_language.specs.Said.{said_line};
+ghost use Rattle.channel_world.specs.Staged.{scene_of};
 ghost use Rattle.channel_world.specs.Script.{readable, ending, followed, first_names, opened, script_of_lines};
 ghost use Rattle.channel_world.specs.Added.{Extends};
 
-use super::command::{Line, Opening, parse_line, parse_opening};
 use super::end::ScriptEnd;
 use super::scene::Scene;
-use super::table::{Sort, Table};
-use super::words::first_line;
 use crate::world::World;
+use channel_language::command::{Line, Opening, parse_line, parse_opening};
+use channel_language::table::{Sort, Table};
+use channel_language::words::first_line;
 use event_listener::id::EventIds;
 use std::alloc::{AllocError, Global};
 

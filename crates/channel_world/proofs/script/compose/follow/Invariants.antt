@@ -1,8 +1,8 @@
 use Rattle.std.proofs.Common.{◌≤◌, length}
 use Rattle.channel_interleaving.specs.Floor.{IsQuiet}
-use Rattle.channel_world.specs.Words.{lines_of}
-use Rattle.channel_world.specs.Language.{today}
-use Rattle.channel_world.specs.Said.{scene_of}
+use Rattle.channel_language.specs.Words.{lines_of}
+use Rattle.channel_language.specs.Language.{today}
+use Rattle.channel_world.specs.Staged.{scene_of}
 use Rattle.channel_world.specs.Script.{followed}
 use Rattle.channel_world.proofs.ScriptLemmas.{GoesOn}
 use Rattle.channel_world.proofs.script.compose.follow.Given as goal

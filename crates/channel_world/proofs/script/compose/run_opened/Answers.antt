@@ -1,7 +1,7 @@
 use Rattle.std.proofs.Common.{◌≡◌, ◌++◌, ◌∷◌, [], List, ℕ, codes, refl, subst, sym, append_assoc}
-use Rattle.channel_world.specs.Words.{lines_of}
-use Rattle.channel_world.specs.Language.{today}
-use Rattle.channel_world.specs.Said.{scene_of}
+use Rattle.channel_language.specs.Words.{lines_of}
+use Rattle.channel_language.specs.Language.{today}
+use Rattle.channel_world.specs.Staged.{scene_of}
 use Rattle.channel_world.specs.Script.{Script, Scene, opened, followed, first_scene}
 use Rattle.channel_world.specs.Added.{Extends}
 use Rattle.channel_world.proofs.ScriptLemmas.{stays_by, extends_line, opened_fits}

@@ -1,7 +1,8 @@
 use Rattle.std.proofs.Common.{◌≡◌, ◌++◌, take, length, codes, false}
 use Rattle.std.specs.Fmt.{decimal}
 use Rattle.channel_world.specs.Settled.{polls_in}
-use Rattle.channel_world.specs.Text.{parted, AreAmple}
+use Rattle.channel_language.specs.Text.{parted}
+use Rattle.channel_world.specs.Settled.{AreAmple}
 use Rattle.channel_world.proofs.script.text.settle_line.Given as goal
 
 abbrev pub invariant-loop-k : goal.invariant-loop-k
