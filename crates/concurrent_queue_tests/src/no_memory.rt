@@ -1,4 +1,4 @@
-//! Calls of a queue of one owner that take no memory. `tools/refuse_growths.py --from concurrent_queue_tests no_memory` refuses all
+//! Calls of a queue of one owner that take no memory. `tools/refuse_growths.py --from concurrent_queue_tests no_memory::` refuses all
 //! requests from each one on: whatever was prepared before it, these calls answer as ever.
 
 use concurrent_queue::error::{ForcePushError, PopError, PushError};
