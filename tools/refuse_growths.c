@@ -1,8 +1,8 @@
-/* Refuses one request for memory of a program: preloaded before it, by refuse_growths.py.
+/* Refuses one request for memory of a program, or all from one on: preloaded before it, by refuse_growths.py.
  *
  * The program's own requests alone are counted, from 1 on, not those of the C library or of its loader. The one whose number
- * REFUSED_REQUEST says is answered with no memory. The count stands in the file that REFUSED_REQUEST_COUNT names, as it goes, since a
- * program may end without a word. */
+ * REFUSED_REQUEST says is answered with no memory, and each one from the number on that REFUSED_FROM says. The count stands in the file
+ * that REFUSED_REQUEST_COUNT names, as it goes, since a program may end without a word. */
 #define _GNU_SOURCE
 #include <errno.h>
 #include <fcntl.h>
@@ -15,6 +15,7 @@
 static atomic_ulong uncounted;
 static atomic_ulong *requests = &uncounted;
 static unsigned long refused;
+static unsigned long refused_from;
 static unsigned long program_begin;
 static unsigned long program_end;
 
@@ -33,9 +34,15 @@ static int find_program(struct dl_phdr_info *object, size_t size, void *unused)
     return 1;
 }
 
+/* The number that a variable says, or 0, which no request has. */
+static unsigned long number_in(const char *variable)
+{
+    const char *number = getenv(variable);
+    return number ? strtoul(number, NULL, 10) : 0;
+}
+
 __attribute__((constructor)) static void begin(void)
 {
-    const char *number = getenv("REFUSED_REQUEST");
     const char *path = getenv("REFUSED_REQUEST_COUNT");
     int file = path ? open(path, O_RDWR) : -1;
     if (file >= 0) {
@@ -44,17 +51,19 @@ __attribute__((constructor)) static void begin(void)
             requests = shared;
         close(file);
     }
-    refused = number ? strtoul(number, NULL, 10) : 0;
+    refused = number_in("REFUSED_REQUEST");
+    refused_from = number_in("REFUSED_FROM");
     dl_iterate_phdr(find_program, NULL);
 }
 
-/* Whether this request, which returns to `caller`, is the one to refuse. */
+/* Whether this request, which returns to `caller`, is one to refuse. */
 static int is_refused(void *caller)
 {
     unsigned long from = (unsigned long)caller;
     if (from < program_begin || from >= program_end)
         return 0;
-    return atomic_fetch_add(requests, 1) + 1 == refused;
+    unsigned long number = atomic_fetch_add(requests, 1) + 1;
+    return number == refused || (refused_from && number >= refused_from);
 }
 
 /* The C library's own, under the names that it gives them for such a use. */

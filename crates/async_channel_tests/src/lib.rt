@@ -21,6 +21,8 @@ mod forgotten;
 #[cfg(test)]
 mod gates;
 #[cfg(test)]
+mod no_memory;
+#[cfg(test)]
 mod order;
 #[cfg(test)]
 mod pairs;
@@ -32,6 +34,8 @@ mod rest;
 mod rows;
 #[cfg(test)]
 mod said;
+#[cfg(test)]
+mod scarce;
 #[cfg(test)]
 mod smoke;
 #[cfg(test)]

@@ -1,11 +1,13 @@
 //! What is answered where a growth is refused. `tools/refuse_growths.py async_channel_tests refus` refuses each request for memory in
 //! turn: nothing is lost or doubled then, and what was refused goes when it is asked again.
 
-use crate::said::{Ends, Said, closes, opened, streams};
+use crate::said::{Ends, Said, closes, opened, receives, streams};
 use async_channel::{
-    OpenError, Receiver, Refused, Sender, TrySendError, WeakReceiver, WeakSender, bounded,
-    unbounded,
+    OpenError, Receiver, Refused, Sender, TryRecvError, TrySendError, WeakReceiver, WeakSender,
+    bounded, unbounded,
 };
+use channel_calls::plain::PlainChannel;
+use concurrent_queue::cells::QueueForm;
 use event_listener::id::EventIds;
 use futures::task::Poll;
 use futures::test::MockTask;
@@ -58,6 +60,34 @@ fn sends<R: Wait + Copy>(s: &Sender<u64, R>, r: &Receiver<u64, R>) -> Seen {
     make_seen(refused, right && r.is_empty())
 }
 
+/// Whether these are the three messages that were sent.
+fn are_three(taken: Result<Vec<u64>, Refused<TryRecvError>>) -> bool {
+    match taken {
+        Ok(messages) => messages.as_slice() == [1, 2, 3].as_slice(),
+        Err(_) => false,
+    }
+}
+
+/// Receives several at once, of which memory takes their room: where that is refused all are left, and come the next time.
+fn takes_several<R: Wait + Copy>(s: &Sender<u64, R>, r: &Receiver<u64, R>) -> Seen {
+    let sent = s.try_send(1).is_ok() && s.try_send(2).is_ok() && s.try_send(3).is_ok();
+    let first = r.recv_many(5);
+    let refused = matches!(&first, Err(Refused::NoMemory(())));
+    let held = !refused || r.len() == 3;
+    let got = are_three(first) || refused && are_three(r.recv_many(5));
+    make_seen(refused, sent && held && got && r.is_empty())
+}
+
+/// Makes the cells of a channel for its calls by steps, at the latest when they are asked for again.
+fn opens_by_steps(alloc: Global) -> Seen {
+    let ring = PlainChannel::<u64, u32>::new(QueueForm::Bounded(3), alloc).is_ok();
+    let blocks = PlainChannel::<u64, u32>::new(QueueForm::Unbounded, alloc).is_ok();
+    let again = PlainChannel::<u64, u32>::new(QueueForm::Bounded(3), alloc).is_ok()
+        && PlainChannel::<u64, u32>::new(QueueForm::Unbounded, alloc).is_ok();
+    let refused = !ring || !blocks || !again;
+    make_seen(refused, again || ring && blocks)
+}
+
 /// A receive waits: where it is refused it isn't pending, and nobody is woken by the message that comes then.
 fn waits<R: Wait + Copy>(s: &Sender<u64, R>, r: &Receiver<u64, R>, task: &MockTask) -> Seen {
     let mut recv = r.recv();
@@ -68,6 +98,24 @@ fn waits<R: Wait + Copy>(s: &Sender<u64, R>, r: &Receiver<u64, R>, task: &MockTa
     let woken = refused || task.is_woken();
     let got = r.try_recv() == Ok(5);
     make_seen(refused, (refused || pending) && went && woken && got)
+}
+
+/// Two receives wait, and the first, which a message told, is polled again. Where that is refused it passes its notice on.
+fn passes_on<R: Wait + Copy>(
+    s: &Sender<u64, R>,
+    r: &Receiver<u64, R>,
+    tasks: [&MockTask; 2],
+) -> Seen {
+    let (mut r1, mut r2) = (r.recv(), r.recv());
+    let waiting = [receives(tasks[0], &mut r1), receives(tasks[1], &mut r2)];
+    let went = s.try_send(5) == Ok(());
+    let again = receives(tasks[0], &mut r1);
+    let right = match again {
+        Said::Wanted => tasks[1].is_woken() && r.try_recv() == Ok(5),
+        _ => again == Said::Got(5),
+    };
+    let refused = again == Said::Wanted || waiting.contains(&Said::Wanted);
+    make_seen(refused, went && right)
 }
 
 /// A send waits: where it is refused it keeps its message, and else the next taking wakes it.
@@ -213,14 +261,18 @@ fn refused_growths(rt: HostRuntime) -> Result<(), Fail> {
     let alloc = rt.alloc();
     let (one, two) = (MockTask::new(&rt)?, MockTask::new(&rt)?);
     let (three, four) = (MockTask::new(&rt)?, MockTask::new(&rt)?);
+    let (five, six) = (MockTask::new(&rt)?, MockTask::new(&rt)?);
     let mut ends = opened(rt, alloc, 1).expect(&rt, "memory");
     let (us, ur) = opened(rt, alloc, 0).expect(&rt, "memory");
     let all = [
         opens(rt, alloc),
+        opens_by_steps(alloc),
         sends(&us, &ur),
+        takes_several(&us, &ur),
         counts(&ends.0, &ends.1),
         waits(&ends.0, &ends.1, &one),
         keeps(&ends.0, &ends.1, &two),
+        passes_on(&ends.0, &ends.1, [&five, &six]),
         streams_and_closings(&mut ends, [&three, &four]),
     ];
     assert!(rt; all_right(all.as_slice()).is_some_and(|refused| refused <= 1));

@@ -5,7 +5,8 @@ use crate::decode::{Names, PARTIES};
 use crate::messages::HandedOut;
 use channel_calls::mark::Mark;
 use channel_calls::reply::Reply;
-use channel_world::call::WorldRefusal;
+use channel_world::call::{Call, WorldRefusal};
+use channel_world::name::{HandleId, OpId};
 use channel_world::settle::Settled;
 use channel_world::step::{Entry, PartyId, Run, Step};
 use channel_world::world::World;
@@ -33,10 +34,13 @@ struct Numbers {
 /// A world, the steps that are left of a list, what was handed out, and how many steps were made.
 #[derive(Drop)]
 struct Trial {
+    alloc: Global,
     world: World<u64>,
     names: Names,
     steps: VecDeque<Step<u64>>,
     handed: HandedOut,
+    /// How many messages left the channel.
+    left: u64,
     made: u64,
 }
 
@@ -78,16 +82,21 @@ fn ended(trace: &[Entry<u64>]) -> usize {
     trace.iter().filter(|entry| entry.reply.is_some()).count()
 }
 
-/// How many of these polls sent a message, or received one.
+/// Whether a poll with this reply sent a message, or received one.
+fn passes(reply: &Reply<u64>, is_sent: bool) -> bool {
+    match reply {
+        Reply::SendPoll(Poll::Ready(Ok(()))) => is_sent,
+        Reply::RecvPoll(Poll::Ready(Ok(_))) => !is_sent,
+        Reply::Next(Poll::Ready(Some(Ok(_)))) => !is_sent,
+        _ => false,
+    }
+}
+
+/// How many of these polls did.
 fn passed(polls: &[Settled<u64>], is_sent: bool) -> u64 {
     polls
         .iter()
-        .filter(|poll| match &poll.reply {
-            Reply::SendPoll(Poll::Ready(Ok(()))) => is_sent,
-            Reply::RecvPoll(Poll::Ready(Ok(_))) => !is_sent,
-            Reply::Next(Poll::Ready(Some(Ok(_)))) => !is_sent,
-            _ => false,
-        })
+        .filter(|poll| passes(&poll.reply, is_sent))
         .count() as u64
 }
 
@@ -130,6 +139,7 @@ impl Trial {
         let came = marked(trace, &[Mark::Append, Mark::Replace]);
         let left = marked(trace, &[Mark::Take, Mark::TakeDisplaced, Mark::Replace]);
         self.fits(before, came, left)?;
+        self.left = self.left.wrapping_add(left);
         let under_way = before.under_way.wrapping_add(begun);
         so(
             self.world.under_way().wrapping_add(ended(trace)) == under_way,
@@ -224,7 +234,52 @@ impl Trial {
         for poll in &polls {
             right = self.handed.add(&poll.reply) && right;
         }
-        so(right, "a message left twice, or never came")
+        so(right, "a message left twice, or never came")?;
+        self.left = self.left.wrapping_add(left);
+        so(
+            self.handed.left == self.left,
+            "a message left and was not handed out",
+        )
+    }
+
+    /// Polls somebody alone who wasn't woken, after a settling: whoever is pending stays so. What doesn't live is refused.
+    fn poll_sleeper(&mut self, poll: Call<u64>) -> Result<(), Fault> {
+        self.settle()?;
+        if !self.world.is_quiet() {
+            return Ok(());
+        }
+        let before = self.numbers();
+        let mut calls = VecDeque::new(self.alloc);
+        so(calls.push_back(poll).is_ok(), NO_MEMORY)?;
+        let run = self.world.run_calls(&mut calls);
+        let Some(done) = run.done.first() else {
+            return Ok(());
+        };
+        let (came, left) = (
+            u64::from(passes(&done.reply, true)),
+            u64::from(passes(&done.reply, false)),
+        );
+        self.fits(before, came, left)?;
+        self.left = self.left.wrapping_add(left);
+        let is_first = self.handed.add(&done.reply);
+        so(is_first, "a message left twice, or never came")?;
+        so(
+            before.pending <= self.world.pending(),
+            "somebody slept who could go on",
+        )
+    }
+
+    /// Polls every operation and every receiver.
+    fn poll_sleepers(&mut self) -> Result<(), Fault> {
+        for number in 0..self.names.operations {
+            self.poll_sleeper(Call::Poll { op: OpId(number) })?;
+        }
+        for number in 0..self.names.handles {
+            self.poll_sleeper(Call::PollNext {
+                receiver: HandleId(number),
+            })?;
+        }
+        Ok(())
     }
 
     /// Lets all calls end.
@@ -245,7 +300,7 @@ impl Trial {
 }
 
 /// Runs the steps that bytes say on a world of the form that the first one says, settling where no call is under way after a list;
-/// then lets all calls end, and settles. How many steps were made.
+/// then lets all calls end, settles, and polls everybody who wasn't woken. How many steps were made.
 pub fn check_steps(bytes: &[u8], alloc: Global) -> Result<u64, Fault> {
     let Some((form, rest)) = bytes.split_first() else {
         return Ok(0);
@@ -254,6 +309,7 @@ pub fn check_steps(bytes: &[u8], alloc: Global) -> Result<u64, Fault> {
         return Err(NO_MEMORY);
     };
     let mut trial = Trial {
+        alloc,
         world,
         names: Names {
             handles: 2,
@@ -263,7 +319,9 @@ pub fn check_steps(bytes: &[u8], alloc: Global) -> Result<u64, Fault> {
         handed: HandedOut {
             messages: Vec::new(alloc),
             next: 0,
+            left: 0,
         },
+        left: 0,
         made: 0,
     };
     let most = capacity(*form);
@@ -276,6 +334,7 @@ pub fn check_steps(bytes: &[u8], alloc: Global) -> Result<u64, Fault> {
         trial.settle()?;
     }
     trial.finish()?;
+    trial.poll_sleepers()?;
     trial.settle()?;
     Ok(trial.made)
 }

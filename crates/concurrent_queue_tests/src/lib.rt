@@ -10,6 +10,8 @@ mod errors;
 #[cfg(test)]
 mod exclusive;
 #[cfg(test)]
+mod no_memory;
+#[cfg(test)]
 mod one_slot;
 #[cfg(test)]
 mod ring;

@@ -197,6 +197,60 @@ fn a_refused_block_after_the_first_changes_nothing(rt: HostRuntime) -> Result<()
     Ok(())
 }
 
+/// What a push came to.
+#[derive(Clone, Copy, PartialEq, Eq)]
+enum Pushed {
+    In,
+    /// Its message came back, for want of memory.
+    Refused,
+    Else,
+}
+
+fn push(cells: &mut Scarce, value: u64) -> Pushed {
+    match run(cells, QueueAsk::Push(value)) {
+        Some(QueueReply::Push(Ok(()))) => Pushed::In,
+        Some(QueueReply::Push(Err(PushError::NoMemory(back)))) if back == value => Pushed::Refused,
+        _ => Pushed::Else,
+    }
+}
+
+/// Pushes a hundred messages where so many blocks are had before one is refused, and pops them: how many pushes were refused, each of
+/// which is made once more with memory, and whether they changed nothing and all messages came out in order.
+fn pushes_refused(alloc: Global, blocks: u32) -> Result<(u32, bool), AllocError> {
+    let mut cells = cells_with(alloc, blocks)?;
+    let (mut refused, mut right) = (0u32, true);
+    for value in 0..100u64 {
+        let mut pushed = push(&mut cells, value);
+        if pushed == Pushed::Refused {
+            refused = refused.wrapping_add(1);
+            right = right && has_length(&mut cells, value as usize);
+            cells.left = 9;
+            pushed = push(&mut cells, value);
+        }
+        right = right && pushed == Pushed::In;
+    }
+    for value in 0..100u64 {
+        right = right && pops(&mut cells, value);
+    }
+    Ok((refused, right))
+}
+
+/// Each of the blocks that a hundred messages take is refused once, and then none.
+#[test]
+fn each_block_refused_once_loses_nothing(rt: HostRuntime) -> Result<(), Fail> {
+    let alloc = rt.alloc();
+    let seen = [
+        pushes_refused(alloc, 0)?,
+        pushes_refused(alloc, 1)?,
+        pushes_refused(alloc, 2)?,
+        pushes_refused(alloc, 3)?,
+        pushes_refused(alloc, 4)?,
+    ];
+    let one = (1, true);
+    assert_eq!(rt; seen, [one, one, one, one, (0, true)]);
+    Ok(())
+}
+
 #[test]
 fn positions_at_their_end_close_the_queue(rt: HostRuntime) -> Result<(), Fail> {
     let mut cells = cells_with(rt.alloc(), 1)?;

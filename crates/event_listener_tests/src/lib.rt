@@ -13,6 +13,8 @@ mod list;
 #[cfg(test)]
 mod listener;
 #[cfg(test)]
+mod no_memory;
+#[cfg(test)]
 mod recorded;
 #[cfg(test)]
 mod refusals;

@@ -1,7 +1,7 @@
 //! What lists do, by worked examples.
 
 use event_listener::calls::Registered;
-use event_listener::error::{NoMemory, UnknownListener};
+use event_listener::error::{ListenError, NoMemory, UnknownListener};
 use event_listener::key::Key;
 use event_listener::list::List;
 use event_listener::notify::Notification;
@@ -327,28 +327,47 @@ fn a_notice_for_nobody_is_not_kept(rt: HostRuntime) -> Result<(), Fail> {
     Ok(())
 }
 
+/// Whether each call that names a listener is refused by this key.
+fn is_stale(list: &mut List<u32, u32>, key: Key, sink: &mut Names) -> bool {
+    matches!(list.register(key, 1), Err(UnknownListener))
+        && list.poll(key) == Err(UnknownListener)
+        && list.remove(key, true, sink) == Err(UnknownListener)
+}
+
+/// A listener leaves, told or not, and another one takes its slot: whether the old key is refused while that one waits and once it is
+/// told, which changes nothing; how many listen and are told then, and whether the new one has its tag.
+fn left_and_replaced(
+    list: &mut List<u32, u32>,
+    sink: &mut Names,
+    is_told: bool,
+) -> Result<([bool; 4], [usize; 2], bool), ListenError> {
+    let old = list.insert()?;
+    let told = !is_told || list.notify(at_least(1, 6), sink) == Ok(1);
+    let left = told && list.remove(old, true, sink) == Ok(is_told);
+    let new = list.insert()?;
+    let waits = old != new && matches!(list.register(new, 2), Ok(Registered::Waiting));
+    let first = is_stale(list, old, sink);
+    let listed = list.total();
+    let next = list.notify(at_least(1, 7), sink).unwrap_or(0);
+    let second = is_stale(list, old, sink);
+    let tagged = matches!(list.register(new, 3), Ok(Registered::Told(7)));
+    Ok(([left, waits, first, second], [listed, next], tagged))
+}
+
 #[test]
 fn a_key_of_one_that_left_is_refused(rt: HostRuntime) -> Result<(), Fail> {
     let mut list: List<u32, u32> = List::new(rt.alloc());
     let mut sink = Names {
         woken: Vec::new(rt.alloc()),
     };
-    let old = list.insert()?;
-    assert_eq!(rt; list.remove(old, true, &mut sink), Ok(false));
-    let new = list.insert()?;
-    assert!(rt; old != new);
-    assert!(rt; matches!(list.register(new, 2), Ok(Registered::Waiting)));
-    assert!(rt; matches!(list.register(old, 1), Err(UnknownListener)));
-    assert_eq!(rt; list.poll(old), Err(UnknownListener));
-    assert_eq!(rt; list.remove(old, true, &mut sink), Err(UnknownListener));
-    assert_eq!(rt; list.total(), 1);
-    assert_eq!(rt; list.notify(at_least(1, 7), &mut sink), Ok(1));
-    assert_eq!(rt; sink.woken.as_slice(), [2].as_slice());
-    assert!(rt; matches!(list.register(old, 1), Err(UnknownListener)));
-    assert_eq!(rt; list.poll(old), Err(UnknownListener));
-    assert_eq!(rt; list.remove(old, true, &mut sink), Err(UnknownListener));
-    assert!(rt; matches!(list.register(new, 3), Ok(Registered::Told(7))));
-    assert_eq!(rt; list.total(), 0);
+    let untold = left_and_replaced(&mut list, &mut sink, false)?;
+    let told = left_and_replaced(&mut list, &mut sink, true)?;
+    let left = list.total();
+    drop(list);
+    assert_eq!(rt; untold, ([true, true, true, true], [1, 1], true));
+    assert_eq!(rt; told, ([true, true, true, true], [1, 1], true));
+    assert_eq!(rt; left, 0);
+    assert_eq!(rt; sink.woken.as_slice(), [2, 2].as_slice());
     Ok(())
 }
 
