@@ -112,9 +112,9 @@ fn four_wait(rt: &impl Abort, list: &mut List<u32, u32>) -> Result<[Key; 4], Fai
         list.insert()?,
         list.insert()?,
     ];
-    let mut name = 0;
+    let mut name = 0u32;
     for key in keys {
-        name += 1;
+        name = name.wrapping_add(1);
         assert!(rt; matches!(list.register(key, name), Ok(Registered::Waiting)));
     }
     Ok(keys)
