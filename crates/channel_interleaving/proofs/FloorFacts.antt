@@ -17,11 +17,14 @@ use Rattle.channel_steps.specs.Run.{new_scene, HasBegun, Begins}
 use Rattle.channel_steps.specs.Tellings.{telling, dropping}
 use Rattle.channel_steps.specs.Left.{left_at}
 use Rattle.channel_steps.specs.Scene.{Scene, Sitting, under_of, IsBalanced, Shows, StepsAt, StepsNearer, parties_in, unless_answered, brought}
+use Rattle.channel_steps.specs.Scene.{Steps as ChannelSteps}
 use Rattle.channel_steps.specs.declared.party.Entry.{Entry as ChannelEntry}
 use Rattle.channel_steps.specs.declared.party.Party.{Party}
 use Rattle.channel_interleaving.specs.Bookkeeping.{asks}
+use Rattle.channel_interleaving.specs.Doing.{doing_begun, doing_of, noted}
 use Rattle.channel_interleaving.specs.Left.{left_of}
-use Rattle.channel_interleaving.specs.Floor.{parts_in, book_of, moment_of, lefts_in, Shown, StandsIn, Stands, AreAtWork, AreOwned, IsSame, Stepped, Steps, RanTo, HasPosition}
+use Rattle.channel_interleaving.specs.Owed.{Sight, Owed}
+use Rattle.channel_interleaving.specs.Floor.{parts_in, book_of, lefts_in, Shown, StandsIn, Stands, AreAtWork, AreOwned, IsSame, Stepped, Steps, HasPosition}
 use Rattle.channel_interleaving.specs.Positions.{brings, yet_in}
 use Rattle.channel_model.specs.declared.refusal.WorldRefusal.{WorldRefusal}
 use Rattle.channel_model.specs.declared.run.Stopped.{Stopped}
@@ -29,8 +32,9 @@ use Rattle.std.proofs.lemmas.Bool.Decides.{nat_tests}
 use Rattle.channel_interleaving.specs.Refusal.{step_refusal}
 use Rattle.channel_interleaving.specs.Roll.{first_roll, IsAgent}
 use Rattle.channel_interleaving.specs.Run.{Book, Made, MayRefuse, Stops, begun, ended, with_woken}
-use Rattle.channel_interleaving.specs.Runs.{Moment, FewLeft, LeadsBy, IsRun, end_of, accepted_in, left_in}
+use Rattle.channel_interleaving.specs.Runs.{Moment, FewLeft, LeadsBy, IsRun, end_of, accepted_in, left_in, moment_of, RanTo}
 use Rattle.channel_interleaving.specs.Woken.{Hears}
+use Rattle.channel_interleaving.specs.declared.doing.Doing.{Doing}
 use Rattle.channel_interleaving.specs.declared.floor.Floor.{Floor}
 use Rattle.channel_interleaving.specs.declared.names.Agent.{Agent}
 use Rattle.channel_interleaving.specs.declared.step.PartyId.{PartyId}
@@ -43,7 +47,9 @@ use Rattle.channel_interleaving.specs.Kept.{AllKept}
 use Rattle.channel_interleaving.proofs.AccountFacts.{no_accounts, next_accounts}
 use Rattle.channel_interleaving.proofs.AllKept.{kept_first, kept_next}
 use Rattle.channel_interleaving.proofs.LeftFacts.{comes_nearer, few_of, parties_shown}
+use Rattle.channel_interleaving.proofs.DoingFacts.{begun_noted, begun_few, stepped_at, stepped_noted, stepped_few}
 use Rattle.channel_interleaving.proofs.OwedFacts.{owed}
+use Rattle.channel_interleaving.proofs.SightFacts.{sight_owed, sight_same}
 use Rattle.channel_interleaving.proofs.PlaceFacts.{brought_most, no_message}
 use Rattle.channel_interleaving.proofs.PositionFacts.{step_brings, begin_brings, yet_most}
 use Rattle.channel_interleaving.proofs.WokenFacts.{all_heard, few_woken}
@@ -76,9 +82,15 @@ module _ {T : Type 0} where
     none (x ∷ xs) e = absurd cc
 
   pub new_shown : (f : Floor T) (cap : Option ℕ) → Shows (parts_in f) f.parties.items (new_scene cap) → f.messages ≡ 0
-      → f.accepted ≡ 0 → Shown f (new_scene cap)
-  new_shown f cap sh none nothing =
-      record { shows = sh; accepted = omega arith; within = omega (arith, nothing); messages = none }
+      → f.accepted ≡ 0 → f.doings.items ≡ [] → Shown f (new_scene cap)
+  new_shown f cap sh none nothing nobody = record {
+    shows = sh;
+    accepted = omega arith;
+    within = omega (arith, nothing);
+    messages = none;
+    doings = nobody;
+    few = tt;
+  }
 
   pub new_at_work : (f : Floor T) (cap : Option ℕ) → Shows (parts_in f) f.parties.items (new_scene cap)
       → f.agents.items ≡ [] → AreAtWork f
@@ -126,9 +138,10 @@ module _ {T : Type 0} where
       → HasBegun p.0 (asks old.roll c) old.parties.items entry new.parties.items
       → e.mark ≡ Nothing → e.reply ≡ None → e.woken.items ≡ []
       → new.channel ≡ old.channel → book_of new ≡ begun p c (book_of old) → new.messages ≡ old.messages → new.accepted ≡ old.accepted
+      → new.doings.items ≡ old.doings.items ++ (doing_begun (asks old.roll c) ∷ [])
       → HasPosition c old → step_refusal old.roll old.agents.items (step.Begin p c) ≡ None
       → Steps (step.Begin p c) old e new
-  has_begun p c old new e entry h mark reply woken same book messages counts place fine s sh =
+  has_begun p c old new e entry h mark reply woken same book messages counts doings place fine s sh =
       let b = h (parts_in old) s sh.shows in
       let parts : parts_in new ≡ parts_in old = ap parts_of same in
       record {
@@ -147,6 +160,8 @@ module _ {T : Type 0} where
           accepted = rw (counts, ap (λ (x : Channel T Waiter). x.queue.accepted) b.begins.now) sh.accepted;
           within = rw counts (begun_within p c old s b.after entry place sh b.begins);
           messages = messages ∙ (sh.messages ∙ sym (ap (λ (x : Channel T Waiter). length x.queue.items) b.begins.now));
+          doings = doings ∙ begun_noted s p.0 (asks old.roll c) entry b.after old.doings.items b.begins sh.doings;
+          few = begun_few s p.0 (asks old.roll c) entry b.after b.begins sh.few;
         };
       }
 
@@ -186,6 +201,20 @@ module _ {T : Type 0} where
   balanced_in parts parties s sh =
       subst (λ (q : Queue T). IsBalanced q) (sym (ap (λ (c : Channel T Waiter). c.queue) sh.now)) sh.balanced
 
+  -- what is noted of the calls under way after it
+  doings_now : (k : ℕ) (old new : Floor T) (entry : ChannelEntry T) (s : Scene T Waiter) (p : ℕ) (names : List Waiter)
+      (t : Scene T Waiter) (n : ChannelSteps s p entry names t) → length n.before ≡ k → IsBalanced s.now.queue
+      → s.now.queue.accepted < 2 ^ 61 → Shown old s
+      → ((d : Doing) → slice_get old.doings.items k ≡ Some d
+      → new.doings.items ≡ noted k d entry.mark entry.reply old.doings.items)
+      → new.doings.items ≡ map doing_of t.under_way
+  doings_now k old new entry s p names t n place balanced low sh doings =
+      let his = ap (λ (ds : List Doing). slice_get ds k) sh.doings ∙ stepped_at s p entry names t n k place in
+      let removed : s.now.queue.removed < 2 ^ 64 - 1 = omega (arith, balanced, low) in
+      doings (doing_of n.mine) his
+      ∙ (ap (λ (ds : List Doing). noted k (doing_of n.mine) entry.mark entry.reply ds) sh.doings
+      ∙ stepped_noted s p entry names t n k place removed sh.few)
+
   pub has_stepped : (p : PartyId) (k n came : ℕ) (a : Agent T) (x : Party T Waiter) (old new : Floor T) (empty full : Sink)
       (e : Entry T) (entry : ChannelEntry T)
       → slice_get old.parties.items k ≡ Some x → x.id ≡ p.0 → slice_get old.agents.items k ≡ Some a → a.party ≡ p.0
@@ -196,10 +225,12 @@ module _ {T : Type 0} where
       → book_of new ≡ ended k a entry.reply entry.kept (with_woken full.names.items (book_of old))
       → new.messages ≡ counted old.messages entry.mark → came ≡ brought_in entry.mark
       → new.accepted ≡ min (old.accepted + came) (2 ^ 64 - 1)
+      → ((d : Doing) → slice_get old.doings.items k ≡ Some d
+      → new.doings.items ≡ noted k d entry.mark entry.reply old.doings.items)
       → step_refusal old.roll old.agents.items (step.Step p) ≡ None
       → Steps (step.Step p) old e new
   has_stepped p k n came a x old new empty full e entry there whose agent own steps none most room mark reply woken book messages
-      brought counts fine s sh =
+      brought counts doings fine s sh =
       let accepted = sh.accepted in
       let within = sh.within in
       let range : IsInRange s.now.queue = inr (omega (arith, accepted, within)) in
@@ -235,6 +266,10 @@ module _ {T : Type 0} where
           accepted = omega (arith, accepted, within, grown, fewer, brought, counts);
           within = omega (arith, within, fewer, brought, counts);
           messages = messages ∙ (ap (λ m. counted m entry.mark) sh.messages ∙ messages_now);
+          doings = doings_now k old new entry s x.id h.names h.after h.steps.step h.steps.place
+              (balanced_in _ _ s sh.shows) (omega (arith, accepted, within)) sh doings;
+          few = stepped_few s x.id entry h.names h.after h.steps.step (balanced_in _ _ s sh.shows)
+              (balanced_in _ _ h.after h.shown) sh.few;
         };
       }
 
@@ -257,7 +292,7 @@ module _ {T : Type 0} where
 
   -- all that holds where all is kept
   pub stands_in : (f : Floor T) (s : Scene T Waiter) → Shown f s → AllKept (book_of f) s → StandsIn f s
-  stands_in f s sh k = record { shown = sh; kept = k; owed = owed (book_of f) s k.owned k.sound }
+  stands_in f s sh k = record { shown = sh; kept = k; owed = sight_owed f s sh (owed (book_of f) s k.owned k.sound) }
 
   pub stands : (f : Floor T) → AreOwned f → Stands f
   stands f o = record { scene = o.scene; stands = stands_in f o.scene o.shown o.kept }
@@ -286,8 +321,9 @@ module _ {T : Type 0} where
         made = t.made;
         nearer = comes_nearer x f g e s k t;
         holds = record {
+          floor = g;
+          is = record { moment = refl; stands = after };
           kept = after.kept;
-          owed = after.owed;
           few = few_in g t.after after;
         };
       }
@@ -389,13 +425,15 @@ module _ {T : Type 0} where
         accepted = rw same.accepted sh.accepted;
         within = rw same.accepted sh.within;
         messages = rw same.messages sh.messages;
+        doings = same.doings ∙ sh.doings;
+        few = sh.few;
       }
 
   pub stands_same : (g h : Floor T) (s : Scene T Waiter) → IsSame g h → StandsIn g s → StandsIn h s
   stands_same g h s same k = record {
     shown = shown_same g h s same k.shown;
     kept = rw same.book k.kept;
-    owed = rw same.book k.owed;
+    owed = subst (λ (w : Sight T). Owed w) (sym (sight_same g h same)) k.owed;
   }
 
   moment_same : (g h : Floor T) (s : Scene T Waiter) → IsSame g h → moment_of h s ≡ moment_of g s

@@ -3,10 +3,10 @@
 use Rattle.std.proofs.Common.{◌≡◌, [], None}
 use Rattle.channel_model.specs.declared.name.Waiter.{Waiter}
 use Rattle.channel_steps.specs.Scene.{Scene, HoldNobodyUp}
-use Rattle.channel_interleaving.specs.Floor.{moment_of, Shown, AreAtWork, IsQuiet, Led, LeadsOn, Stands, StandsIn}
+use Rattle.channel_interleaving.specs.Floor.{Shown, AreAtWork, IsQuiet, Led, LeadsOn, Stands, StandsIn}
 use Rattle.channel_interleaving.specs.Kept.{AllKept}
 use Rattle.channel_interleaving.specs.Left.{others_of}
-use Rattle.channel_interleaving.specs.Runs.{Moment, FewLeft, LeadsBy}
+use Rattle.channel_interleaving.specs.Runs.{Moment, FewLeft, LeadsBy, moment_of}
 use Rattle.channel_interleaving.specs.declared.step.Entry.{Entry}
 use Rattle.channel_interleaving.specs.declared.step.PartyId.{PartyId}
 use Rattle.channel_interleaving.specs.declared.step.Step.TheVariants as step

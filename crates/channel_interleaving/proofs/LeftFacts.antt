@@ -11,12 +11,12 @@ use Rattle.channel_steps.proofs.Interface.{hold_still}
 use Rattle.channel_steps.specs.Scene.{Under, Scene, Sitting, HoldNobodyUp, Shows, Steps, sees, does, under_of, unless_ended, wanted_at, parties_in}
 use Rattle.channel_steps.specs.declared.party.Entry.{Entry as ChannelEntry}
 use Rattle.channel_steps.specs.declared.party.Party.{Party}
-use Rattle.channel_interleaving.specs.Floor.{book_of, parts_in, moment_of, lefts_in, StandsIn, Stepped}
+use Rattle.channel_interleaving.specs.Floor.{book_of, parts_in, lefts_in, StandsIn, Stepped}
 use Rattle.channel_interleaving.specs.Kept.{AllKept}
 use Rattle.channel_interleaving.specs.Left.{others_of, wanted_of, left_of}
 use Rattle.channel_interleaving.specs.Owners.{Post, post, All, AllDiffer, Differ, Owned, Together}
 use Rattle.channel_interleaving.specs.Run.{Book}
-use Rattle.channel_interleaving.specs.Runs.{Moment, ComesNearer, LeadsBy}
+use Rattle.channel_interleaving.specs.Runs.{Moment, ComesNearer, LeadsBy, moment_of}
 use Rattle.channel_interleaving.specs.declared.floor.Floor.{Floor}
 use Rattle.channel_interleaving.specs.declared.names.Agent.{Agent}
 use Rattle.channel_interleaving.specs.declared.step.Entry.{Entry}

@@ -23,9 +23,12 @@ pub mod AccountFacts
 pub mod AllKept
 pub mod LoneFacts
 pub mod Interface
+pub mod OwedScenes
 pub mod OwedCounts
 pub mod OwedFacts
 mod OwedRows
+pub mod SightFacts
+pub mod DoingFacts
 pub mod UserFacts
 pub mod PositionFacts
 pub mod PlaceFacts

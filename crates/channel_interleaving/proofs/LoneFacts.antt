@@ -11,12 +11,14 @@ use Rattle.channel_model.specs.declared.call.Call.{Call}
 use Rattle.channel_model.specs.declared.name.Waiter.{Waiter}
 use Rattle.channel_model.specs.declared.run.Done.{Done as Answered}
 use Rattle.concurrent_queue.specs.Step.{Fits}
-use Rattle.channel_steps.specs.Scene.{Scene, Sitting, under_of, all_seats, Shows, parties_in}
+use Rattle.channel_steps.specs.Scene.{Under, Scene, Sitting, under_of, all_seats, Shows, parties_in}
 use Rattle.channel_steps.specs.Start.{TellsQuiet as Tells}
 use Rattle.channel_interleaving.specs.Bookkeeping.{asks}
 use Rattle.channel_interleaving.specs.Floor.{parts_in, book_of, Shown, AreAtWork, AreOwned, IsKept, IsQuiet, IsSame, LeadsOn, TellsQuiet}
 use Rattle.channel_interleaving.specs.Floor as place
+use Rattle.channel_interleaving.specs.Doing.{doing_of}
 use Rattle.channel_interleaving.specs.Kept.{AllKept}
+use Rattle.channel_interleaving.specs.Owners.{All}
 use Rattle.channel_interleaving.specs.Lone.{names_alone, order_alone, CallsAlone, WakesAtMost}
 use Rattle.channel_interleaving.specs.Positions.{brings, accepted_by, yet_in}
 use Rattle.channel_interleaving.specs.Refusal.{refusal}
@@ -27,6 +29,7 @@ use Rattle.channel_interleaving.specs.declared.names.Agent.{Agent}
 use Rattle.channel_interleaving.specs.declared.woken.Woken.{Woken as Sink}
 use Rattle.channel_interleaving.proofs.AllKept.{kept_alone}
 use Rattle.channel_interleaving.proofs.AccountFacts.{no_accounts, lone_accounts}
+use Rattle.channel_interleaving.proofs.DoingFacts.{TookFew}
 use Rattle.channel_interleaving.proofs.OwnerBegins.{Admitted, admitted}
 use Rattle.channel_interleaving.proofs.FloorFacts.{no_parties, owned_same, owned_where, stands_in, stands_same}
 use Rattle.channel_interleaving.proofs.PlaceFacts.{Counted, counted_alone}
@@ -102,14 +105,14 @@ module _ {T : Type 0} where
       → a ≡ asks old.roll c → IsQuiet old → IsQuiet new → place.HasPosition c old → came ≡ accepted_by (brings old.roll c) d.reply
       → new.accepted ≡ min (old.accepted + came) (2 ^ 64 - 1)
       → drop (length empty.names.items) full.names.items ≡ fresh → length empty.names.items + room ≤ vec_capacity empty.names
-      → WakesAtMost room c old
+      → WakesAtMost room c old → new.doings.items ≡ old.doings.items
       → book_of new ≡ record {
         roll = names_alone old.roll c d.reply d.kept fresh;
         order = order_alone old.roll c d.kept fresh old.order;
         agents = [];
       }
       → CallsAlone c old d.reply fresh new
-  is_called c old new a d empty full fresh room came ran asked quiet still place_left brought counts behind enough few book s sh all =
+  is_called c old new a d empty full fresh room came ran asked quiet still place_left brought counts behind enough few doings book s sh all =
       let r = ran s 0 (has_position old s sh) (subst (λ ps. Shows (parts_in old) ps s) quiet sh.shows) in
       let alone : Alone (asks old.roll c) s.now r.outcome =
       subst (λ (x : ChannelAsk T Waiter). Alone x s.now r.outcome) asked r.does in
@@ -139,6 +142,9 @@ module _ {T : Type 0} where
           accepted = left.0;
           within = left.1;
           messages = r.counted sh.messages (omega (arith, least, within));
+          doings = doings ∙ (sh.doings ∙ (ap (λ (us : List (Under T Waiter)). map doing_of us) (none_under_way old s quiet sh)
+              ∙ sym (ap (λ (us : List (Under T Waiter)). map doing_of us) run.over)));
+          few = subst (λ (us : List (Under T Waiter)). All (TookFew r.after.now.queue.removed) us) (sym run.over) tt;
         };
         book = book ∙ rw (r.reply, r.kept, heard) refl;
       }

@@ -33,12 +33,13 @@ use Rattle.channel_steps.specs.Tellings.{Telling, one_of, more_of, all_of, owed_
 use Rattle.channel_laws.specs.Amounts.{is_trying, is_trying_anew, total}
 use Rattle.channel_laws.specs.Receives.{has_appended, is_to_tell_receive, counts_for_receives}
 use Rattle.channel_laws.specs.Sends.{has_taken, has_displaced, is_to_tell_send, is_on_its_way, counts_for_sends}
-use Rattle.channel_interleaving.specs.Owed.{is_woken_on, all_names, woken_on, is_sending, is_receiving, at_it, unless_told, all_unannounced, to_send}
+use Rattle.channel_interleaving.specs.Owed.{is_woken_on, all_names, woken_on}
 use Rattle.channel_interleaving.specs.Owners.{IsAmong, NoneTwice, AnyOf, Post, free, vacant, amiss, rests, waits, polled, posted, post, holding, line_asked, Together, HoldsIn, Holder, named, calling, Owned}
 use Rattle.channel_interleaving.specs.OwnerOrder.{woken_key, woken_keys}
 use Rattle.channel_interleaving.specs.Run.{Book}
 use Rattle.channel_interleaving.specs.declared.names.Agent.{Agent}
 use Rattle.channel_interleaving.specs.declared.roll.Roll.{Roll}
+use Rattle.channel_interleaving.proofs.OwedScenes.{is_sending, is_receiving, at_it, unless_told, all_unannounced, to_send}
 use Rattle.channel_interleaving.proofs.OwnerLists.{among_left, among_right, among_of, none_parts}
 use Rattle.channel_interleaving.proofs.OwnerTogether.{HasIt}
 
@@ -75,11 +76,11 @@ no_more (k ∷ ks) ls once f =
 
 -- ---- how many pass a test
 
-abbrev one_if : Bool → ℕ
+abbrev pub one_if : Bool → ℕ
 one_if b = cond b 1 0
 
 -- of a list with a first element: that one, if it passes, and those behind it
-count_first : {A : Type 0} (test : A → Bool) (x : A) (xs : List A) → count_by test (x ∷ xs) ≡ one_if (test x) + count_by test xs
+pub count_first : {A : Type 0} (test : A → Bool) (x : A) (xs : List A) → count_by test (x ∷ xs) ≡ one_if (test x) + count_by test xs
 count_first test x xs = sum_by-cons (λ y. one_if (test y)) x xs
 
 -- ---- the keys of those who are woken, and of calls

@@ -1,4 +1,4 @@
--- What is owed to those who are pending, by what is owed to those who wait and by who owns whose listener.
+-- What is owed in a scene to those who are pending, by what is owed to those who wait and by who owns whose listener.
 use Rattle.std.proofs.Common.{arith, ◌≡◌, ℕ, ◌+◌, ◌≤◌, true, false, List, [], ◌∷◌, length, Option, None, Some, ◌⊎◌, inl, inr, refl, sym, ap, ◌∙◌}
 use Rattle.concurrent_queue.specs.Queue.{Phase}
 use Rattle.event_listener.specs.declared.key.Key.{Key}
@@ -22,9 +22,10 @@ use Rattle.channel_laws.specs.Sends.{HasPlaces, counts_for_sends, PlacesAreFew}
 use Rattle.channel_laws.specs.Sound.{AllSound}
 use Rattle.channel_laws.specs.Streams.{IsSending, HasInHand, AnswersFor}
 use Rattle.channel_laws.specs.Waits.{IsIn, Waits, Any}
-use Rattle.channel_interleaving.specs.Owed.{woken_on, is_sending, at_it, to_send, Owed}
+use Rattle.channel_interleaving.specs.Owed.{woken_on}
 use Rattle.channel_interleaving.specs.Owners.{IsAmong, AnyOf, waits, post, holding, named, calling, Owned}
 use Rattle.channel_interleaving.specs.Run.{Book}
+use Rattle.channel_interleaving.proofs.OwedScenes.{is_sending, at_it, to_send, OwedIn}
 use Rattle.channel_interleaving.proofs.OwedCounts.{told_few, receives_weigh, sends_weigh}
 use Rattle.channel_interleaving.proofs.OwnerSteps.{apart}
 use Rattle.channel_interleaving.proofs.OwnerTogether.{HasIt}
@@ -40,7 +41,7 @@ is_in key w [] i = i
 is_in key w (x ∷ ws) (inl e) = inl (ap (λ (y : Key × Option Waiter). y.0) e)
 is_in key w (x ∷ ws) (inr i) = inr (is_in key w ws i)
 
-places : (cap : Option ℕ) (m n : ℕ) → m ≤ n → HasPlaces cap m → HasPlaces cap n
+pub places : (cap : Option ℕ) (m n : ℕ) → m ≤ n → HasPlaces cap m → HasPlaces cap n
 places None m n e h = absurd h
 places (Some c) m n e h = omega (arith, e, h)
 
@@ -149,5 +150,5 @@ module _ {T : Type 0} where
         last (inl i) = i
         last (inr i) = absurd (in_no_hand (λ u. LooksAgain h.line h.key u.at) h.line w h.key e (λ u k. looks_held h.line h.key u.at k) i)
 
-    pub owed : Owed b s
+    pub owed : OwedIn b s
     owed = record { receives = receives; sends = sends; streams = streams; closing = closing }

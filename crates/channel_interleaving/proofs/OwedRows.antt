@@ -1,54 +1,150 @@
--- What a wrong body would lead to, and the owed lines say no of: worked moments at which no call is under way.
-use Rattle.std.proofs.Common.{arith, ◌≤◌, ℕ, Bool, true, false, List, [], ◌∷◌, length, Option, None, Some, refl}
+-- What wrong bodies would do, step by step from the opening of a channel of five places, and the owed lines say no of.
+use Rattle.std.proofs.Common.{arith, ◌≤◌, ◌<◌, ◌||◌, ℕ, Bool, true, false, List, [], ◌∷◌, ◌++◌, slice_set, slice_index_or, Option, None, Some, Ok, refl}
+use Rattle.std.specs.List.{count_by, remove, sum_by}
 use Rattle.event_listener.specs.declared.key.Key.{Key}
-use Rattle.channel_calls.specs.Parts.{new_roster}
+use Rattle.futures.specs.declared.task.Poll.TheVariants.{Pending}
+use Rattle.channel_calls.specs.Turns.{leaving}
+use Rattle.channel_calls.specs.declared.mark.Mark.{Mark}
+use Rattle.channel_calls.specs.declared.mark.Mark.TheVariants.{Nothing, Append, Close}
+use Rattle.channel_calls.specs.declared.reply.Reply.{Reply}
+use Rattle.channel_calls.specs.declared.reply.Reply.TheVariants as reply
 use Rattle.channel_calls.specs.declared.stage.Line.TheVariants.{Receives}
+use Rattle.channel_model.specs.declared.call.Call.{Call}
+use Rattle.channel_model.specs.declared.call.Call.TheVariants as call
 use Rattle.channel_model.specs.declared.name.HandleId.{HandleId}
 use Rattle.channel_model.specs.declared.name.OpId.{OpId}
 use Rattle.channel_model.specs.declared.name.Waiter.{Waiter}
 use Rattle.channel_model.specs.declared.name.Waiter.TheVariants.{Op}
-use Rattle.channel_steps.specs.Scene.{Scene}
-use Rattle.channel_interleaving.specs.Owed.{Owed}
-use Rattle.channel_interleaving.specs.Roll.{first_handles}
-use Rattle.channel_interleaving.specs.Run.{Book}
-use Rattle.channel_interleaving.specs.declared.names.Operation.{Operation}
-use Rattle.channel_interleaving.specs.declared.names.OperationKind.TheVariants.{Receive}
-use Rattle.channel_interleaving.specs.declared.names.Standing.TheVariants.{Waits}
+use Rattle.channel_steps.specs.Count.{counted}
+use Rattle.channel_interleaving.specs.Bookkeeping.{asks}
+use Rattle.channel_interleaving.specs.Doing.{is_close, doing_begun, doing_after}
+use Rattle.channel_interleaving.specs.Owed.{Sight, Owed, is_sending, is_receiving}
+use Rattle.channel_interleaving.specs.Roll.{first_roll}
+use Rattle.channel_interleaving.specs.Run.{Book, begun, ended, with_woken}
+use Rattle.channel_interleaving.specs.declared.doing.Doing.{Doing}
+use Rattle.channel_interleaving.specs.declared.doing.Role.TheVariants.{Other}
+use Rattle.channel_interleaving.specs.declared.names.Agent.{Agent}
+use Rattle.channel_interleaving.specs.declared.names.Errand.TheVariants as errand
+
+-- ---- steps
+
+-- A party begins a call; the k-th call under way makes a step with this mark, which wakes these; or it answers, and leaves this
+-- listener to what it polled.
+data Act : Type 0 where
+  begins : ℕ → Call ℕ → Act
+  steps : ℕ → Mark → List Waiter → Act
+  ends : ℕ → Reply ℕ → Option Key → Act
+
+-- the names and the parties at work, what is noted of their calls, how many messages there are, and whether the channel is closed
+record Played : Type 0 where
+  book : Book ℕ
+  doings : List Doing
+  messages : ℕ
+  closed : Bool
+
+abbrev opened : Played
+opened = record { book = record { roll = first_roll; order = []; agents = [] }; doings = []; messages = 0; closed = false }
+
+abbrev nobody : Agent ℕ
+nobody = record { party = 0; errand = errand.Nothing }
+
+abbrev idle : Doing
+idle = record { role = Other; has_closed = false; taken = 0 }
+
+abbrev after : Act → Played → Played
+after (begins p c) w = record {
+  book = begun (record { 0 = p }) c w.book;
+  doings = w.doings ++ (doing_begun (asks w.book.roll c) ∷ []);
+  messages = w.messages;
+  closed = w.closed;
+}
+after (steps k m names) w = record {
+  book = with_woken names w.book;
+  doings = slice_set w.doings k (doing_after m (slice_index_or w.doings k idle));
+  messages = counted w.messages m;
+  closed = w.closed || is_close m;
+}
+after (ends k x key) w = record {
+  book = ended k (slice_index_or w.book.agents k nobody) (Some x) (Some (leaving key None)) w.book;
+  doings = remove w.doings k;
+  messages = w.messages;
+  closed = w.closed;
+}
+
+abbrev play : List Act → Played → Played
+play [] w = w
+play (x ∷ xs) w = play xs (after x w)
+
+-- what the world shows after these
+abbrev shown : Played → Sight ℕ
+shown w = record {
+  roll = w.book.roll;
+  messages = w.messages;
+  capacity = Some 5;
+  closed = w.closed;
+  sending = count_by (λ (d : Doing). is_sending d.role) w.doings;
+  receiving = count_by (λ (d : Doing). is_receiving d.role) w.doings;
+  closers = count_by (λ (d : Doing). d.has_closed) w.doings;
+  freed = sum_by (λ (d : Doing). d.taken) w.doings;
+}
+
+-- ---- calls
 
 abbrev op : ℕ → OpId
 op n = record { 0 = n }
 
--- a pending receive, woken or not
-abbrev receive : Key → Bool → Option (Operation ℕ)
-receive key is_woken = Some (record { kind = Receive; handle = (let h : HandleId = record { 0 = 1 } in h); message = None; standing = Waits key is_woken })
+abbrev handle : ℕ → HandleId
+handle n = record { 0 = n }
 
--- these operations live, and nobody is at work
-abbrev names : List (ℕ × Option (Operation ℕ)) → Book ℕ
-names ops = record { roll = record { handles = first_handles; operations = ops }; order = []; agents = [] }
+-- a receive is made
+abbrev made : ℕ → List Act
+made n = begins 0 (call.NewRecv (op n) (handle 1)) ∷ ends 0 reply.Made None ∷ []
 
--- a channel of five places with these messages
-abbrev channel : List ℕ → Bool → Scene ℕ Waiter
-channel messages closed = record {
-  now = record {
-    queue = record { items = messages; closed = closed; coming = false; accepted = length messages; removed = 0; capacity = Some 5 };
-    roster = new_roster;
-  };
-  under_way = [];
-  gone = [];
-  came = messages;
-}
+-- and polled with nobody beside it, finds nothing, and is pending
+abbrev pends : ℕ → Key → List Act
+pends n key = begins 0 (call.Poll (op n)) ∷ steps 0 Nothing [] ∷ ends 0 (reply.RecvPoll Pending) (Some key) ∷ []
 
--- A send that tells before it pushes: the receive that it woke polled, found nothing and pends again, and then the message came.
--- A receive that listens and pends without a second try: the message and its notice came before the listening. A woken
--- receive that was given up and dropped its notice: the other one still waits.
-untold_beside_a_message : (key : Key) → Owed (names ((0, receive key false) ∷ [])) (channel (7 ∷ []) false) → ⊥
-untold_beside_a_message key owed = let few : 1 ≤ 0 = owed.receives (Op (op 0)) key refl in omega (arith, few)
+-- a send with nobody beside it, which tells these
+abbrev sends : ℕ → List Waiter → List Act
+sends m names =
+    begins 0 (call.TrySend (handle 0) m) ∷ steps 0 Append [] ∷ steps 0 Nothing names ∷ ends 0 (reply.TrySend (Ok tt)) None ∷ []
+
+-- ---- what they lead to
+
+-- A send that tells before it pushes: the receive that it woke is polled, finds nothing and pends again, and then the message comes.
+tells_before_it_pushes : (a b : Key)
+    → Owed (shown (play
+    (made 0 ++ (pends 0 a ++ (begins 0 (call.TrySend (handle 0) 7) ∷ steps 0 Nothing (Op (op 0) ∷ []) ∷
+    begins 1 (call.Poll (op 0)) ∷ steps 1 Nothing [] ∷ ends 1 (reply.RecvPoll Pending) (Some b) ∷
+    steps 0 Append [] ∷ ends 0 (reply.TrySend (Ok tt)) None ∷ []))) opened)) → ⊥
+tells_before_it_pushes a b owed = let few : 1 ≤ 0 = owed.receives (Op (op 0)) (b, refl) in omega (arith, few)
 
 -- A send that tells by the default, which counts those already told: three pend, and two messages woke one.
-told_by_the_default : (a b c : Key)
-    → Owed (names ((2, receive c false) ∷ (1, receive b false) ∷ (0, receive a true) ∷ [])) (channel (7 ∷ 8 ∷ []) false) → ⊥
-told_by_the_default a b c owed = let few : 2 ≤ 1 = owed.receives (Op (op 1)) b refl in omega (arith, few)
+tells_by_the_default : (a b c : Key)
+    → Owed (shown (play
+    (made 0 ++ (pends 0 a ++ (made 1 ++ (pends 1 b ++ (made 2 ++ (pends 2 c ++
+    (sends 7 (Op (op 0) ∷ []) ++ sends 8 []))))))) opened)) → ⊥
+tells_by_the_default a b c owed = let few : 2 ≤ 1 = owed.receives (Op (op 1)) (b, refl) in omega (arith, few)
 
--- A close that tells first and marks afterwards: one that began to pend in between was told by nobody.
-closed_untold : (key : Key) → Owed (names ((0, receive key false) ∷ [])) (channel [] true) → ⊥
-closed_untold key owed = owed.closing (Op (op 0)) (record { line = Receives; key = key }) refl refl
+-- A receive that listens and pends without a second try: the message and its notice came before the listening.
+pends_without_a_second_try : (a : Key)
+    → Owed (shown (play
+    (made 0 ++ (begins 0 (call.Poll (op 0)) ∷ steps 0 Nothing [] ∷
+    begins 1 (call.TrySend (handle 0) 7) ∷ steps 1 Append [] ∷ steps 1 Nothing [] ∷ ends 1 (reply.TrySend (Ok tt)) None ∷
+    steps 0 Nothing [] ∷ ends 0 (reply.RecvPoll Pending) (Some a) ∷ [])) opened)) → ⊥
+pends_without_a_second_try a owed = let few : 1 ≤ 0 = owed.receives (Op (op 0)) (a, refl) in omega (arith, few)
+
+-- A woken receive that is given up and drops its notice: the other one still waits beside the message.
+drops_its_notice : (a b : Key)
+    → Owed (shown (play
+    (made 0 ++ (pends 0 a ++ (made 1 ++ (pends 1 b ++ (sends 7 (Op (op 0) ∷ []) ++
+    (begins 0 (call.GiveUp (op 0)) ∷ steps 0 Nothing [] ∷ ends 0 (reply.GivenUp None) None ∷ [])))))) opened)) → ⊥
+drops_its_notice a b owed = let few : 1 ≤ 0 = owed.receives (Op (op 1)) (b, refl) in omega (arith, few)
+
+-- A close that tells first and marks afterwards: a receive that begins to pend in between is told by nobody.
+closes_after_it_told : (a : Key)
+    → Owed (shown (play
+    (made 0 ++ (begins 0 (call.Close (handle 0)) ∷ steps 0 Nothing [] ∷
+    begins 1 (call.Poll (op 0)) ∷ steps 1 Nothing [] ∷ ends 1 (reply.RecvPoll Pending) (Some a) ∷
+    steps 0 Close [] ∷ ends 0 (reply.Closed true) None ∷ [])) opened)) → ⊥
+closes_after_it_told a owed = let some : 0 < 0 = owed.closing Receives (Op (op 0)) (a, refl) refl in omega (arith, some)

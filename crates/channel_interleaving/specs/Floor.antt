@@ -1,19 +1,24 @@
 -- What the parts of an interleaved channel stand for.
-use Rattle.std.specs.Prelude.{◌≡◌, ℕ, Bool, true, false, ◌+◌, ◌≤◌, ◌<◌, List, [], ◌++◌, map, length, Option, None, Some, ◌^◌}
+use Rattle.std.specs.Prelude.{◌≡◌, ℕ, Bool, true, false, ◌+◌, ◌≤◌, ◌<◌, List, [], ◌++◌, map, length, Option, None, ◌^◌}
+use Rattle.std.specs.List.{count_by}
+use Rattle.concurrent_queue.specs.Capacity.{capacity_of}
+use Rattle.concurrent_queue.specs.Step.{closed_in}
 use Rattle.channel_calls.specs.Parts.{Parts}
 use Rattle.channel_calls.specs.Plain.{parts_of}
 use Rattle.channel_model.specs.declared.call.Call.{Call}
 use Rattle.channel_model.specs.declared.name.Waiter.{Waiter}
 use Rattle.channel_steps.specs.Left.{all_left, left_at}
 use Rattle.channel_steps.specs.Run.{new_scene, Accounts, Touches}
-use Rattle.channel_steps.specs.Scene.{Scene, Shows, HoldNobodyUp, parties_in}
-use Rattle.channel_interleaving.specs.Owed.{Owed}
+use Rattle.channel_steps.specs.Scene.{Under, Scene, Shows, HoldNobodyUp, parties_in}
+use Rattle.channel_steps.specs.Tellings.{takings}
+use Rattle.channel_interleaving.specs.Doing.{doing_of}
+use Rattle.channel_interleaving.specs.Owed.{Sight, Owed, is_sending, is_receiving, all_unannounced}
+use Rattle.channel_interleaving.specs.Owners.{All}
 use Rattle.channel_interleaving.specs.Kept.{AllKept}
-use Rattle.channel_interleaving.specs.Left.{left_of}
 use Rattle.channel_interleaving.specs.Positions.{brings, yet_in}
 use Rattle.channel_interleaving.specs.Roll.{first_roll}
 use Rattle.channel_interleaving.specs.Run.{Book, Made, channel_step}
-use Rattle.channel_interleaving.specs.Runs.{Moment, IsRun, end_of, accepted_in, left_in}
+use Rattle.channel_interleaving.specs.declared.doing.Doing.{Doing}
 use Rattle.channel_interleaving.specs.declared.floor.Floor.{Floor}
 use Rattle.channel_interleaving.specs.declared.names.Agent.{Agent}
 use Rattle.channel_interleaving.specs.declared.step.Entry.{Entry}
@@ -27,13 +32,29 @@ module _ {T : Type 0} where
   abbrev pub parts_in : Floor T → Parts T Waiter
   parts_in f = parts_of f.channel
 
+  -- what it shows as it is, of no scene
+  abbrev pub sight_of : Floor T → Sight T
+  sight_of f = record {
+    roll = f.roll;
+    messages = f.messages;
+    capacity = capacity_of (parts_in f).cells.form;
+    closed = closed_in (parts_in f).cells;
+    sending = count_by (λ (d : Doing). is_sending d.role) f.doings.items;
+    receiving = count_by (λ (d : Doing). is_receiving d.role) f.doings.items;
+    closers = count_by (λ (d : Doing). d.has_closed) f.doings.items;
+    freed = all_unannounced f.parties.items f.doings.items;
+  }
+
   -- The cells and the calls under way stand for this scene, which has accepted no more messages than are counted, and holds as
-  -- many as are counted. With those that the calls under way may yet bring, they are within the positions of a queue.
+  -- many as are counted. With those that the calls under way may yet bring, they are within the positions of a queue. What is
+  -- noted of each call under way is what it is and has done there; none has taken more than were removed.
   pub record Shown (f : Floor T) (s : Scene T Waiter) : Type 0 where
     pub shows : Shows (parts_in f) f.parties.items s
     pub accepted : s.now.queue.accepted ≤ f.accepted
     pub within : f.accepted + yet_in s.under_way < 2 ^ 61
     pub messages : f.messages ≡ length s.now.queue.items
+    pub doings : f.doings.items ≡ map doing_of s.under_way
+    pub few : All (λ (u : Under T Waiter). takings u.deeds ≤ s.now.queue.removed) s.under_way
 
   -- the parties at work are those whose calls are under way, in the same order
   abbrev pub AreAtWork : Floor T → Type 0
@@ -67,6 +88,7 @@ module _ {T : Type 0} where
     pub book : book_of g ≡ book_of f
     pub messages : g.messages ≡ f.messages
     pub accepted : g.accepted ≡ f.accepted
+    pub doings : g.doings.items ≡ f.doings.items
 
   -- each listener has its owner, those who were woken are told, in the order of their waking, and nobody who waits is forgotten,
   -- in a scene that is shown
@@ -80,16 +102,12 @@ module _ {T : Type 0} where
   pub record StandsIn (f : Floor T) (s : Scene T Waiter) : Type 0 where
     pub shown : Shown f s
     pub kept : AllKept (book_of f) s
-    pub owed : Owed (book_of f) s
+    pub owed : Owed (sight_of f)
 
   -- it stands in some scene
   pub record Stands (f : Floor T) : Type 0 where
     pub scene : Scene T Waiter
     pub stands : StandsIn f scene
-
-  abbrev pub moment_of : Floor T → Scene T Waiter → Moment T
-  moment_of f s =
-      record { parts = parts_in f; scene = s; book = book_of f; left = λ party. left_of party (parts_in f) f.parties.items }
 
   -- what is always so
   pub record IsKept (f : Floor T) : Type 0 where
@@ -122,23 +140,6 @@ module _ {T : Type 0} where
 
   abbrev pub Steps : Step T → Floor T → Entry T → Floor T → Type 0
   Steps x old e new = (s : Scene T Waiter) → Shown old s → Stepped x old e new s
-
-  -- a run of the first steps of a list, from a scene in which it stood, to one in which it stands
-  pub record Ran (steps left : List (Step T)) (old : Floor T) (trace : List (Entry T)) (new : Floor T)
-      (s : Scene T Waiter) : Type 0 where
-    pub made : List (Step T)
-    pub moments : List (Moment T)
-    pub last : Scene T Waiter
-    pub first : steps ≡ made ++ left
-    pub run : IsRun (moment_of old s) made trace moments
-    pub ends : end_of (moment_of old s) moments ≡ moment_of new last
-    pub stands : StandsIn new last
-    pub accounts : Accounts s last
-    pub numbers : length last.now.queue.items + left_in trace ≡ length s.now.queue.items + accepted_in trace
-
-  -- so it is from each scene in which it stood
-  abbrev pub RanTo : List (Step T) → List (Step T) → Floor T → List (Entry T) → Floor T → Type 0
-  RanTo steps left old trace new = (s : Scene T Waiter) → StandsIn old s → Ran steps left old trace new s
 
   -- From a scene in which it stood it came to one in which it stands; what left it, followed by what it holds, is what it held
   -- followed by what came, in order.

@@ -6,6 +6,7 @@ pub mod Woken
 pub mod Order
 pub mod Run
 pub mod Owners
+pub mod Doing
 pub mod Owed
 pub mod OwnerWoken
 pub mod OwnerOrder
@@ -14,7 +15,7 @@ pub mod Users
 pub mod Kept
 pub mod Left
 pub mod Positions
-pub mod Runs
 pub mod Floor
+pub mod Runs
 pub mod Lone
 pub mod Settle

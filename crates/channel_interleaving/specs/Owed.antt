@@ -1,23 +1,23 @@
--- The wake-ups owed to those who are pending and were not woken since their last poll, by names.
-use Rattle.std.specs.Prelude.{◌≡◌, ℕ, ◌+◌, ◌≤◌, Bool, true, false, ◌&&◌, List, [], ◌∷◌, ◌++◌, map, length, ◌⊎◌}
+-- The wake-ups owed to those who are pending and were not woken since their last poll, of a world as it is.
+use Rattle.std.specs.Prelude.{◌≡◌, ℕ, ◌+◌, ◌≤◌, ◌<◌, Bool, true, false, ◌&&◌, List, ◌∷◌, ◌++◌, map, Option}
 use Rattle.std.specs.List.{count_by}
 use Rattle.std.specs.Map.{keys_of}
+use Rattle.concurrent_queue.specs.declared.queue_call.QueueCall.{QueueCall}
 use Rattle.event_listener.specs.declared.key.Key.{Key}
-use Rattle.channel_calls.specs.declared.ask.ChannelAsk.{ChannelAsk}
-use Rattle.channel_calls.specs.declared.ask.ChannelAsk.TheVariants as ask
-use Rattle.channel_calls.specs.declared.stage.Held.{Held}
 use Rattle.channel_calls.specs.declared.stage.Line.{Line}
 use Rattle.channel_calls.specs.declared.stage.Line.TheVariants.{Sends, Receives, Streams}
+use Rattle.channel_calls.specs.declared.stage.Stage.{Stage}
+use Rattle.channel_calls.specs.declared.stage.Stage.TheVariants.{Working}
+use Rattle.channel_calls.specs.declared.stage.Work.TheVariants.{Leave}
 use Rattle.channel_model.specs.Laws.{same_line}
 use Rattle.channel_model.specs.declared.name.Waiter.{Waiter}
 use Rattle.channel_model.specs.declared.name.Waiter.TheVariants.{Op, Stream}
-use Rattle.channel_steps.specs.Moments.{Open, Shut}
-use Rattle.channel_steps.specs.Scene.{Under, Scene}
-use Rattle.channel_steps.specs.Tellings.{Telling, takings}
-use Rattle.channel_laws.specs.Closings.{HasClosed}
+use Rattle.channel_steps.specs.declared.party.Party.{Party}
 use Rattle.channel_laws.specs.Sends.{HasPlaces}
-use Rattle.channel_interleaving.specs.Owners.{Post, free, vacant, amiss, rests, waits, polled, post, AnyOf}
-use Rattle.channel_interleaving.specs.Run.{Book}
+use Rattle.channel_interleaving.specs.Owners.{Post, free, vacant, amiss, rests, waits, polled, post}
+use Rattle.channel_interleaving.specs.declared.doing.Doing.{Doing}
+use Rattle.channel_interleaving.specs.declared.doing.Role.{Role}
+use Rattle.channel_interleaving.specs.declared.doing.Role.TheVariants.{Sending, Receiving}
 use Rattle.channel_interleaving.specs.declared.roll.Roll.{Roll}
 
 -- whether one that stands so is pending on this line, and was woken
@@ -29,10 +29,40 @@ is_woken_on line amiss = false
 is_woken_on line (rests l) = false
 is_woken_on line (polled l) = false
 
--- nothing, once the call has told somebody
-abbrev pub unless_told : List Telling → ℕ → ℕ
-unless_told [] n = n
-unless_told (t ∷ ts) n = 0
+-- ---- the calls under way
+
+abbrev pub is_sending : Role → Bool
+is_sending Sending = true
+is_sending r = false
+
+abbrev pub is_receiving : Role → Bool
+is_receiving Receiving = true
+is_receiving r = false
+
+module _ {T : Type 0} where
+  -- a call that has nothing left but to drop its listener has announced the places that it has freed
+  abbrev pub unannounced : Stage (QueueCall T) T Waiter → Doing → ℕ
+  unannounced (Working (Leave x)) d = 0
+  unannounced at d = d.taken
+
+  abbrev pub all_unannounced : List (Party T Waiter) → List Doing → ℕ
+  all_unannounced (p ∷ ps) (d ∷ ds) = unannounced p.call.stage d + all_unannounced ps ds
+  all_unannounced ps ds = 0
+
+-- ---- what is owed
+
+-- What a world shows at a moment: what lives under which name, how many messages it holds, at most so many, and whether it is
+-- closed; and of the calls under way how many are sending and how many receiving, how many have closed it, and how many places
+-- they have freed by taking messages and not announced yet to those who wait to send.
+pub record Sight (T : Type 0) : Type 0 where
+  pub roll : Roll T
+  pub messages : ℕ
+  pub capacity : Option ℕ
+  pub closed : Bool
+  pub sending : ℕ
+  pub receiving : ℕ
+  pub closers : ℕ
+  pub freed : ℕ
 
 module _ {T : Type 0} where
   -- the names that were ever taken
@@ -43,54 +73,19 @@ module _ {T : Type 0} where
   abbrev pub woken_on : Line → Roll T → ℕ
   woken_on line r = count_by (λ w. is_woken_on line (post r w)) (all_names r)
 
-  -- a send, a displacing send, and a poll or the giving up of a send
-  abbrev pub is_sending : ChannelAsk T Waiter → Bool
-  is_sending (ask.TrySend m) = true
-  is_sending (ask.ForceSend m) = true
-  is_sending (ask.PollSend m key task) = true
-  is_sending ask.PollFinishedSend = true
-  is_sending (ask.RefusePoll Sends message key) = true
-  is_sending (ask.GiveUp Sends message key) = true
-  is_sending a = false
-
-  -- a receive of one message or of several, a poll of a stream, and a poll or the giving up of a receive
-  abbrev pub is_receiving : ChannelAsk T Waiter → Bool
-  is_receiving ask.TryRecv = true
-  is_receiving (ask.RecvMany n) = true
-  is_receiving (ask.PollNext key task) = true
-  is_receiving (ask.PollRecv key task) = true
-  is_receiving (ask.RefusePoll Receives message key) = true
-  is_receiving (ask.GiveUp Receives message key) = true
-  is_receiving a = false
-
-  -- the places that a call has freed by takings, while it has not run its section on the sends' list
-  abbrev pub unannounced : Under T Waiter → ℕ
-  unannounced u = unless_told u.told (takings u.deeds)
-
-  abbrev pub all_unannounced : List (Under T Waiter) → ℕ
-  all_unannounced [] = 0
-  all_unannounced (u ∷ us) = unannounced u + all_unannounced us
-
-  -- the sending and the receiving calls under way
-  abbrev pub at_it : Scene T Waiter → ℕ
-  at_it s =
-      count_by (λ (u : Under T Waiter). is_sending u.ask) s.under_way
-      + count_by (λ (u : Under T Waiter). is_receiving u.ask) s.under_way
-
-  -- the sending calls under way, and the places that calls under way have freed and not announced yet
-  abbrev pub to_send : Scene T Waiter → ℕ
-  to_send s = count_by (λ (u : Under T Waiter). is_sending u.ask) s.under_way + all_unannounced s.under_way
+  -- it is pending on this line, and was not woken since its last poll
+  abbrev pub IsUnwoken : Line → Waiter → Roll T → Type 0
+  IsUnwoken line name r = (key : Key) × (post r name ≡ waits (record { line = line; key = key }) false)
 
   -- Where one is pending that was not woken since its last poll: of a receive, there are no more messages than woken pending
-  -- receives and sending and receiving calls under way; of a send, where the channel is open, it has a bound, and no more places
+  -- receives, and sending and receiving calls under way; of a send, where the channel is open, it has a bound, and no more places
   -- than messages, woken pending sends, sending calls under way, and places that were freed and not announced yet; of a stream,
-  -- there is no message, or a sending call is under way; of any, where the channel is closed, the call that closed it is under way.
-  pub record Owed (b : Book T) (s : Scene T Waiter) : Type 0 where
-    pub receives : (w : Waiter) (key : Key) → post b.roll w ≡ waits (record { line = Receives; key = key }) false → length s.now.queue.items ≤ woken_on Receives b.roll + at_it s
+  -- where there is a message, a sending call is under way; of any, where the channel is closed, the call that closed it is under
+  -- way.
+  pub record Owed (w : Sight T) : Type 0 where
+    pub receives : (name : Waiter) → IsUnwoken Receives name w.roll → w.messages ≤ woken_on Receives w.roll + (w.sending + w.receiving)
     pub sends :
-        (w : Waiter) (key : Key) → post b.roll w ≡ waits (record { line = Sends; key = key }) false → Open s.now
-        → HasPlaces s.now.queue.capacity (length s.now.queue.items + (woken_on Sends b.roll + to_send s))
-    pub streams :
-        (w : Waiter) (key : Key) → post b.roll w ≡ waits (record { line = Streams; key = key }) false
-        → (s.now.queue.items ≡ []) ⊎ AnyOf (λ u. is_sending u.ask ≡ true) s.under_way
-    pub closing : (w : Waiter) (h : Held) → post b.roll w ≡ waits h false → Shut s.now → AnyOf (λ u. HasClosed u.deeds) s.under_way
+        (name : Waiter) → IsUnwoken Sends name w.roll → w.closed ≡ false
+        → HasPlaces w.capacity (w.messages + (woken_on Sends w.roll + (w.sending + w.freed)))
+    pub streams : (name : Waiter) → IsUnwoken Streams name w.roll → 0 < w.messages → 0 < w.sending
+    pub closing : (line : Line) (name : Waiter) → IsUnwoken line name w.roll → w.closed ≡ true → 0 < w.closers

@@ -1,14 +1,15 @@
 -- Runs: what may follow from steps of many parties in any order, by names, and what holds at each moment of them.
-use Rattle.std.specs.Prelude.{◌≡◌, ℕ, ◌+◌, ◌*◌, ◌<◌, ◌≤◌, List, [], ◌∷◌, None}
+use Rattle.std.specs.Prelude.{◌≡◌, ℕ, ◌+◌, ◌*◌, ◌<◌, ◌≤◌, List, [], ◌∷◌, ◌++◌, length, None}
 use Rattle.channel_calls.specs.Parts.{Parts}
 use Rattle.channel_model.specs.declared.name.Waiter.{Waiter}
 use Rattle.channel_steps.specs.Count.{brought_in, taken_out}
-use Rattle.channel_steps.specs.Run.{Touches}
+use Rattle.channel_steps.specs.Run.{Accounts, Touches}
 use Rattle.channel_steps.specs.Scene.{Scene, HoldNobodyUp}
+use Rattle.channel_interleaving.specs.Floor.{parts_in, book_of, StandsIn}
 use Rattle.channel_interleaving.specs.Kept.{AllKept}
-use Rattle.channel_interleaving.specs.Left.{others_of, wanted_of}
-use Rattle.channel_interleaving.specs.Owed.{Owed}
+use Rattle.channel_interleaving.specs.Left.{left_of, others_of, wanted_of}
 use Rattle.channel_interleaving.specs.Run.{Book, Made, channel_step}
+use Rattle.channel_interleaving.specs.declared.floor.Floor.{Floor}
 use Rattle.channel_interleaving.specs.declared.step.Entry.{Entry}
 use Rattle.channel_interleaving.specs.declared.step.Step.{Step}
 use Rattle.channel_interleaving.specs.declared.step.Step.TheVariants as step
@@ -22,15 +23,26 @@ pub record Moment (T : Type 0) : Type 0 where
   pub left : ℕ → ℕ
 
 module _ {T : Type 0} where
+  -- that of a channel by names, in a scene
+  abbrev pub moment_of : Floor T → Scene T Waiter → Moment T
+  moment_of f s =
+      record { parts = parts_in f; scene = s; book = book_of f; left = λ party. left_of party (parts_in f) f.parties.items }
+
+  -- it is the moment of this channel, which stands in its scene
+  pub record IsOf (f : Floor T) (m : Moment T) : Type 0 where
+    pub moment : m ≡ moment_of f m.scene
+    pub stands : StandsIn f m.scene
+
   -- no call has more steps of its own left than these, where nobody holds it up: 64 more for each message that it may take more
   -- than one
   abbrev pub FewLeft : Moment T → Type 0
   FewLeft m = (party : ℕ) → m.left party ≤ 197 + 64 * wanted_of party m.scene.under_way
 
-  -- what holds at every moment: all that is kept, the wake-ups that are owed, and how few steps are left
+  -- what holds at every moment: it is one of a channel that stands in its scene, all is kept, and few steps are left
   pub record Holds (m : Moment T) : Type 0 where
+    pub floor : Floor T
+    pub is : IsOf floor m
     pub kept : AllKept m.book m.scene
-    pub owed : Owed m.book m.scene
     pub few : FewLeft m
 
   -- a step of a call that the others do not hold up, and that does not end it, leaves it fewer
@@ -73,3 +85,22 @@ module _ {T : Type 0} where
   abbrev pub left_in : List (Entry T) → ℕ
   left_in [] = 0
   left_in (e ∷ es) = taken_out e.mark + left_in es
+
+  -- ---- a list of steps
+
+  -- a run of the first steps of a list, from a scene in which it stood, to one in which it stands
+  pub record Ran (steps left : List (Step T)) (old : Floor T) (trace : List (Entry T)) (new : Floor T)
+      (s : Scene T Waiter) : Type 0 where
+    pub made : List (Step T)
+    pub moments : List (Moment T)
+    pub last : Scene T Waiter
+    pub first : steps ≡ made ++ left
+    pub run : IsRun (moment_of old s) made trace moments
+    pub ends : end_of (moment_of old s) moments ≡ moment_of new last
+    pub stands : StandsIn new last
+    pub accounts : Accounts s last
+    pub numbers : length last.now.queue.items + left_in trace ≡ length s.now.queue.items + accepted_in trace
+
+  -- so it is from each scene in which it stood
+  abbrev pub RanTo : List (Step T) → List (Step T) → Floor T → List (Entry T) → Floor T → Type 0
+  RanTo steps left old trace new = (s : Scene T Waiter) → StandsIn old s → Ran steps left old trace new s

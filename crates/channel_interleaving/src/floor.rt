@@ -1,6 +1,7 @@
 //! The parts of an interleaved channel, and one step of it.
 
 use crate::beginning::Begun;
+use crate::doing::{Doing, note};
 use crate::ending::write_back;
 use crate::names::{Agent, find_agent, is_at_work};
 use crate::order::Order;
@@ -33,6 +34,8 @@ pub struct Floor<T> {
     pub order: Order,
     /// The parties with a call under way, in the same order.
     pub agents: Vec<Agent<T>>,
+    /// What each of these calls is to those who wait, and has done, in the same order.
+    pub doings: Vec<Doing>,
     /// How many messages the channel holds.
     pub messages: u64,
     /// How many messages the channel has accepted.
@@ -49,6 +52,22 @@ fn has_room<X: Drop>(items: &mut Vec<X>) -> bool
     ensures room { IsTrue result → vec_len items.new < vec_capacity items.new }
 {
     items.reserve(1).is_ok()
+}
+
+/// Room for one more call under way.
+fn have_room<T: Drop>(
+    parties: &mut Vec<Party<T, Waiter>>,
+    agents: &mut Vec<Agent<T>>,
+    doings: &mut Vec<Doing>,
+) -> bool
+    ensures parties { parties.new.items ≡ parties.old.items }
+    ensures agents { agents.new.items ≡ agents.old.items }
+    ensures doings { doings.new.items ≡ doings.old.items }
+    ensures of_parties { IsTrue result → vec_len parties.new < vec_capacity parties.new }
+    ensures of_agents { IsTrue result → vec_len agents.new < vec_capacity agents.new }
+    ensures of_doings { IsTrue result → vec_len doings.new < vec_capacity doings.new }
+{
+    has_room(parties) && has_room(agents) && has_room(doings)
 }
 
 /// Appends within the room that was taken.
@@ -88,6 +107,7 @@ impl<T: Drop> Floor<T> {
             roll,
             order,
             agents: Vec::new(alloc),
+            doings: Vec::new(alloc),
             messages: 0,
             accepted: 0,
             alloc,
@@ -123,8 +143,7 @@ impl<T: Drop> Floor<T> {
         ensures back { IfErr result (λ c. c ≡ call) }
     {
         if !self.has_position(&call)
-            || !has_room(&mut self.parties)
-            || !has_room(&mut self.agents)
+            || !have_room(&mut self.parties, &mut self.agents, &mut self.doings)
         {
             return Err(call);
         }
@@ -132,6 +151,7 @@ impl<T: Drop> Floor<T> {
             return Err(call);
         };
         let Begun { ask, errand } = self.roll.begin(call, self.alloc)?;
+        append(&mut self.doings, Doing::begun(&ask));
         append(
             &mut self.agents,
             Agent {
@@ -168,6 +188,7 @@ impl<T: Drop> Floor<T> {
         );
         self.accepted = self.accepted.saturating_add(brought_in(mark));
         self.messages = counted(self.messages, mark);
+        note(&mut self.doings, k, mark, &reply);
         let Woken { names } = sink;
         self.roll.wake_all(&names);
         self.order.wake_all(&names);

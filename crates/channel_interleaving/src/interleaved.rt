@@ -42,7 +42,8 @@ impl<T: Drop> Interleaved<T> {
     ghost use Rattle.channel_interleaving.specs.Run.{Stops};
     ghost use Rattle.channel_interleaving.specs.Roll.{is_woken};
     ghost use Rattle.channel_interleaving.specs.Pending.{is_pending, how_many};
-    ghost use Rattle.channel_interleaving.specs.Floor.{book_of, calls_in, messages_in, Stands, IsOpen, IsQuiet, RanTo, TellsQuiet};
+    ghost use Rattle.channel_interleaving.specs.Floor.{book_of, calls_in, messages_in, Stands, IsOpen, IsQuiet, TellsQuiet};
+    ghost use Rattle.channel_interleaving.specs.Runs.{RanTo};
 
     /// An open channel of this capacity, without a message, and nobody at work.
     ///

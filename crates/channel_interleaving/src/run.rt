@@ -23,7 +23,8 @@ fn stopped<T: Drop>(trace: Vec<Entry<T>>, why: WorldRefusal) -> Run<T>
 impl<T: Drop> Floor<T> {
     ghost use Rattle.std.specs.Prelude.{◌≡◌, ◌<◌, IfNone, vec_len, vec_capacity};
     ghost use Rattle.channel_interleaving.specs.Run.{MayStop, Stops};
-    ghost use Rattle.channel_interleaving.specs.Floor.{book_of, AreAtWork, RanTo};
+    ghost use Rattle.channel_interleaving.specs.Floor.{book_of, AreAtWork};
+    ghost use Rattle.channel_interleaving.specs.Runs.{RanTo};
 
     /// Why a run stops at this step, if it does; where it doesn't, there is room for an entry.
     fn stop(&self, step: &Step<T>, trace: &mut Vec<Entry<T>>) -> Option<WorldRefusal>

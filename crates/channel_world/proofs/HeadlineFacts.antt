@@ -21,9 +21,9 @@ use Rattle.channel_steps.specs.declared.party.Entry.{Entry as ChannelEntry}
 use Rattle.channel_steps.specs.declared.run.Step.{Step as ChannelStep}
 use Rattle.channel_steps.specs.declared.run.Step.TheVariants as channel
 use Rattle.channel_interleaving.specs.Kept.{AllKept}
-use Rattle.channel_interleaving.specs.Floor.{book_of, moment_of, messages_in, LeadsOn, StandsIn, Stands, RanTo}
+use Rattle.channel_interleaving.specs.Floor.{book_of, messages_in, LeadsOn, StandsIn, Stands}
 use Rattle.channel_interleaving.specs.Run.{Stops, channel_step}
-use Rattle.channel_interleaving.specs.Runs.{Moment, LeadsBy, EachStep, accepted_in, left_in}
+use Rattle.channel_interleaving.specs.Runs.{Moment, LeadsBy, EachStep, accepted_in, left_in, moment_of, RanTo}
 use Rattle.channel_interleaving.specs.declared.floor.Floor.{Floor}
 use Rattle.channel_interleaving.specs.declared.step.Entry.{Entry}
 use Rattle.channel_interleaving.specs.declared.step.PartyId.{PartyId}
@@ -53,7 +53,11 @@ module _ {T : Type 0} where
   cells m x e n l = l.touches
 
   owes : (m : Moment T) (x : Step T) (e : Entry T) (n : Moment T) → LeadsBy m x e n → OwesWhoWaits m x e n
-  owes m x e n l = l.holds.owed
+  owes m x e n l =
+      let h = l.holds in
+      let is = h.is in
+      let stands = is.stands in
+      (h.floor, is, stands.owed)
 
   -- the call that makes the step
   abbrev own : (m : Moment T) (p : PartyId) (e : Entry T) (n : Moment T) → LeadsBy m (step.Step p) e n → Own m p e n

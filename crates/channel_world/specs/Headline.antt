@@ -1,8 +1,8 @@
 -- The headline: what every run of steps promises, of every list of steps, from any world, wherever the list ends.
 use Rattle.std.specs.Prelude.{◌≡◌, List, ◌++◌, length, Option}
-use Rattle.channel_interleaving.specs.Floor.{book_of, moment_of, StandsIn}
+use Rattle.channel_interleaving.specs.Floor.{book_of, StandsIn}
 use Rattle.channel_interleaving.specs.Run.{Stops}
-use Rattle.channel_interleaving.specs.Runs.{Moment, IsRun, EachStep, end_of}
+use Rattle.channel_interleaving.specs.Runs.{Moment, IsRun, EachStep, end_of, moment_of}
 use Rattle.channel_interleaving.specs.declared.floor.Floor.{Floor}
 use Rattle.channel_interleaving.specs.declared.step.Entry.{Entry}
 use Rattle.channel_interleaving.specs.declared.step.Step.{Step}
@@ -47,8 +47,8 @@ module _ {T : Type 0} where
     pub ends_soon : EndSoon steps (moment_of old from) made trace moments
     -- the run stops at the first step that is refused, which stays in front, for the first reason that there is
     pub stops : Stops (book_of new) left (length trace) stopped
-    -- at each moment, beside one who is pending and was not woken, there is no message, free place or closing but such as a
-    -- woken one or a call under way answers for
+    -- at each moment the world, as it is: beside one who is pending and was not woken, there is no message, free place or closing
+    -- but such as a woken one or a call under way answers for
     pub owed : EachStep OwesWhoWaits (moment_of old from) made trace moments
     -- closed stays closed; and once a receive answered closed, or a stream ended, no receive that begins later gives a message
     pub for_good : EachStep EndsForGood (moment_of old from) made trace moments

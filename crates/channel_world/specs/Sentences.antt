@@ -17,11 +17,13 @@ use Rattle.channel_steps.specs.Moments.{Deed, Shut, Spent, with_deed}
 use Rattle.channel_steps.specs.Run.{Touches}
 use Rattle.channel_steps.specs.Scene.{Under, EndsInTime}
 use Rattle.channel_steps.specs.Tellings.{owed, telling, dropping, Names}
+use Rattle.channel_interleaving.specs.Floor.{sight_of}
 use Rattle.channel_interleaving.specs.Owed.{Owed}
 use Rattle.channel_interleaving.specs.Owners.{All}
 use Rattle.channel_interleaving.specs.Refusal.{step_refusal}
 use Rattle.channel_interleaving.specs.Run.{IsBookAfter, channel_step}
-use Rattle.channel_interleaving.specs.Runs.{Moment}
+use Rattle.channel_interleaving.specs.Runs.{Moment, IsOf}
+use Rattle.channel_interleaving.specs.declared.floor.Floor.{Floor}
 use Rattle.channel_interleaving.specs.declared.step.Entry.{Entry}
 use Rattle.channel_interleaving.specs.declared.step.PartyId.{PartyId}
 use Rattle.channel_interleaving.specs.declared.step.Step.{Step}
@@ -114,6 +116,6 @@ module _ {T : Type 0} where
       × (Replies SaysTheEnd e.reply → Spent n.scene.now)
       × OfItsCall (λ m p e n own. AllSpent own.call.seen → Replies GivesMessage e.reply → ⊥) m x e n
 
-  -- each who is pending and was not woken is owed no more than is to come
+  -- the world at the moment after it, as it is: each who is pending and was not woken is owed no more than is to come
   abbrev pub OwesWhoWaits : Moment T → Step T → Entry T → Moment T → Type 0
-  OwesWhoWaits m x e n = Owed n.book n.scene
+  OwesWhoWaits m x e n = (w : Floor T) × IsOf w n × Owed (sight_of w)

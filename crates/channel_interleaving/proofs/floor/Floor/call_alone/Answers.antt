@@ -25,6 +25,7 @@ returns-clause-ok g c =
       roll = c.settle-2.new.self;
       order = c.settle.new.self;
       agents = c.args.self.now.agents;
+      doings = c.args.self.now.doings;
       messages = c.run_alone-reply.new.messages;
       accepted = c.saturating_add-self.result;
       alloc = c.args.self.now.alloc;
@@ -34,7 +35,7 @@ returns-clause-ok g c =
     (c.accepted_by.ensures ∙ ap (λ (b : Bool). accepted_by b c.run_alone-reply.result.reply) c.brings-brings.ensures) c.saturating_add-self.ensures
     (ap (λ (ws : List Waiter). drop (length ws) full) c.in-Ok.ensures.none)
     (let start = ap (λ (ws : List Waiter). length ws) c.in-Ok.ensures.none in omega (arith, start, c.in-Ok.ensures.room))
-    c.requires.room
+    c.requires.room refl
     (rw (
       c.settle-2.ensures,
       c.settle.ensures,

@@ -73,6 +73,7 @@ returns-clause-polled g c =
             roll = c.settle-2.new.self;
             order = c.settle.new.self;
             agents = old.agents;
+            doings = old.doings;
             messages = c.run_alone-reply.new.messages;
             accepted = c.saturating_add-self.result;
             alloc = old.alloc;
@@ -81,7 +82,7 @@ returns-clause-polled g c =
           (vec_capacity c.args.names - vec_len c.args.names) c.accepted_by.result c.run_alone-reply.ensures.scenes b.ask c.requires.quiet
           c.requires.quiet (λ e. let nobody = ap length c.requires.quiet in omega (arith, nobody, c.requires.limit))
           (c.accepted_by.ensures ∙ ap (λ (b : Bool). accepted_by b c.run_alone-reply.result.reply) c.brings_polled-brings.ensures)
-          c.saturating_add-self.ensures refl (omega (arith, start)) c.requires.room
+          c.saturating_add-self.ensures refl (omega (arith, start)) c.requires.room refl
           (rw (
             c.settle-2.ensures,
             c.settle.ensures,

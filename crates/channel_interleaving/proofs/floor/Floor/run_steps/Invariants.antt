@@ -1,5 +1,6 @@
 use Rattle.std.specs.VecDeque.{deque_len}
-use Rattle.channel_interleaving.specs.Floor.{AreAtWork, RanTo}
+use Rattle.channel_interleaving.specs.Floor.{AreAtWork}
+use Rattle.channel_interleaving.specs.Runs.{RanTo}
 use Rattle.channel_interleaving.proofs.floor.Floor.run_steps.Given as goal
 
 abbrev pub invariant-loop-step : goal.invariant-loop-step

@@ -6,7 +6,8 @@ pub returns-clause-ok : goal.returns-clause-ok
 returns-clause-ok g c =
     let b = c.in_ok-ask.ensures.ok in
     has_begun c.args.party c.args.call c.args.self.now _ _ c.begin-3.result
-    (rw (← c.has_room.ensures.items, ← b.ask) c.begin-3.ensures.begins)
+    (rw (← c.have_room.ensures.parties, ← b.ask) c.begin-3.ensures.begins)
     refl refl c.new.ensures.items refl
-    (rw (c.append.ensures, c.has_room-else-not-has_room.ensures.items, ← b.errand, b.names, c.in-Ok.ensures.ok) refl)
-    refl refl (c.if-not-has_position.ensures refl) c.requires.accepted
+    (rw (c.append-2.ensures, c.have_room.ensures.agents, ← b.errand, b.names, c.in-Ok.ensures.ok) refl)
+    refl refl (rw (c.append.ensures, c.have_room.ensures.doings, c.begun.ensures, b.ask) refl)
+    (c.if-not-has_position.ensures refl) c.requires.accepted

@@ -1,5 +1,5 @@
 use Rattle.std.proofs.Common.{subst}
-use Rattle.channel_interleaving.specs.Floor.{RanTo}
+use Rattle.channel_interleaving.specs.Runs.{RanTo}
 use Rattle.channel_interleaving.proofs.FloorFacts.{stands, owned_where}
 use Rattle.channel_interleaving.proofs.interleaved.Interleaved.run_steps.Goals as goal
 

@@ -1,5 +1,6 @@
 use Rattle.std.proofs.Common.{subst}
-use Rattle.channel_interleaving.specs.Floor.{RanTo, Stands, book_of}
+use Rattle.channel_interleaving.specs.Floor.{Stands, book_of}
+use Rattle.channel_interleaving.specs.Runs.{RanTo}
 use Rattle.channel_interleaving.specs.Run.{Stops}
 use Rattle.channel_interleaving.proofs.Interface.{led_further}
 use Rattle.channel_interleaving.specs.declared.floor.Floor.{Floor}

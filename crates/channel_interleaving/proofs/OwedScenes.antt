@@ -1,0 +1,59 @@
+-- What is owed, said of a scene: that is proved first, and of the world by it.
+use Rattle.std.specs.Prelude.{◌≡◌, ℕ, ◌+◌, ◌≤◌, Bool, true, false, List, [], ◌∷◌, length, ◌⊎◌}
+use Rattle.std.specs.List.{count_by}
+use Rattle.event_listener.specs.declared.key.Key.{Key}
+use Rattle.channel_calls.specs.declared.ask.ChannelAsk.{ChannelAsk}
+use Rattle.channel_calls.specs.declared.stage.Held.{Held}
+use Rattle.channel_calls.specs.declared.stage.Line.TheVariants.{Sends, Receives, Streams}
+use Rattle.channel_model.specs.declared.name.Waiter.{Waiter}
+use Rattle.channel_steps.specs.Moments.{Open, Shut}
+use Rattle.channel_steps.specs.Scene.{Under, Scene}
+use Rattle.channel_steps.specs.Tellings.{Telling, takings}
+use Rattle.channel_laws.specs.Closings.{HasClosed}
+use Rattle.channel_laws.specs.Sends.{HasPlaces}
+use Rattle.channel_interleaving.specs.Doing.{role_of}
+use Rattle.channel_interleaving.specs.Owed.{woken_on}
+use Rattle.channel_interleaving.specs.Owed as world
+use Rattle.channel_interleaving.specs.Owners.{waits, post, AnyOf}
+use Rattle.channel_interleaving.specs.Run.{Book}
+
+-- nothing, once the call has told somebody
+abbrev pub unless_told : List Telling → ℕ → ℕ
+unless_told [] n = n
+unless_told (t ∷ ts) n = 0
+
+module _ {T : Type 0} where
+  abbrev pub is_sending : ChannelAsk T Waiter → Bool
+  is_sending a = world.is_sending (role_of a)
+
+  abbrev pub is_receiving : ChannelAsk T Waiter → Bool
+  is_receiving a = world.is_receiving (role_of a)
+
+  -- the places that a call has freed by takings, while it has not run its section on the sends' list
+  abbrev pub unannounced : Under T Waiter → ℕ
+  unannounced u = unless_told u.told (takings u.deeds)
+
+  abbrev pub all_unannounced : List (Under T Waiter) → ℕ
+  all_unannounced [] = 0
+  all_unannounced (u ∷ us) = unannounced u + all_unannounced us
+
+  -- the sending and the receiving calls under way
+  abbrev pub at_it : Scene T Waiter → ℕ
+  at_it s =
+      count_by (λ (u : Under T Waiter). is_sending u.ask) s.under_way
+      + count_by (λ (u : Under T Waiter). is_receiving u.ask) s.under_way
+
+  -- the sending calls under way, and the places that calls under way have freed and not announced yet
+  abbrev pub to_send : Scene T Waiter → ℕ
+  to_send s = count_by (λ (u : Under T Waiter). is_sending u.ask) s.under_way + all_unannounced s.under_way
+
+  -- the four lines
+  pub record OwedIn (b : Book T) (s : Scene T Waiter) : Type 0 where
+    pub receives : (w : Waiter) (key : Key) → post b.roll w ≡ waits (record { line = Receives; key = key }) false → length s.now.queue.items ≤ woken_on Receives b.roll + at_it s
+    pub sends :
+        (w : Waiter) (key : Key) → post b.roll w ≡ waits (record { line = Sends; key = key }) false → Open s.now
+        → HasPlaces s.now.queue.capacity (length s.now.queue.items + (woken_on Sends b.roll + to_send s))
+    pub streams :
+        (w : Waiter) (key : Key) → post b.roll w ≡ waits (record { line = Streams; key = key }) false
+        → (s.now.queue.items ≡ []) ⊎ AnyOf (λ u. is_sending u.ask ≡ true) s.under_way
+    pub closing : (w : Waiter) (h : Held) → post b.roll w ≡ waits h false → Shut s.now → AnyOf (λ u. HasClosed u.deeds) s.under_way

@@ -1,0 +1,174 @@
+-- What is owed in a scene that is shown, a world owes as it is.
+use Rattle.std.proofs.Common.{arith, ◌≡◌, ℕ, zero, suc, ◌+◌, ◌≤◌, ◌<◌, Bool, true, false, ◌||◌, List, [], ◌∷◌, ◌++◌, map, length, Option, ◌⊎◌, inl, inr, refl, sym, ap, ◌∙◌, subst}
+use Rattle.std.specs.List.{count_by}
+use Rattle.concurrent_queue.proofs.Interface.{shows}
+use Rattle.concurrent_queue.specs.Capacity.{capacity_of}
+use Rattle.concurrent_queue.specs.Queue.{Queue, Phase}
+use Rattle.concurrent_queue.specs.Step.{closed_in}
+use Rattle.concurrent_queue.specs.declared.queue_call.QueueCall.{QueueCall}
+use Rattle.channel_calls.specs.Moves.{Channel, phase}
+use Rattle.channel_calls.specs.declared.mark.Mark.{Mark}
+use Rattle.channel_calls.specs.declared.mark.Mark.TheVariants.{Close}
+use Rattle.channel_calls.specs.declared.plain.PlainChannel.{PlainChannel}
+use Rattle.channel_calls.specs.Plain.{parts_of}
+use Rattle.channel_calls.specs.declared.stage.Line.TheVariants.{Sends}
+use Rattle.channel_calls.specs.declared.stage.Stage.{Stage}
+use Rattle.channel_calls.specs.declared.stage.Stage.TheVariants.{Working}
+use Rattle.channel_calls.specs.declared.stage.Work.TheVariants.{Leave}
+use Rattle.channel_laws.specs.Closings.{HasClosed}
+use Rattle.channel_laws.specs.Sends.{HasPlaces}
+use Rattle.channel_model.specs.declared.name.Waiter.{Waiter}
+use Rattle.channel_steps.specs.Known.{ToldAt}
+use Rattle.channel_steps.specs.Moments.{Deed}
+use Rattle.channel_steps.specs.Scene.{Under, Scene, Sitting, AllKnown, under_of, all_seats}
+use Rattle.channel_steps.specs.Tellings.{Telling, takings, owed_takings, owed_besides}
+use Rattle.channel_steps.specs.declared.party.Party.{Party}
+use Rattle.channel_interleaving.specs.Doing.{is_close, any_close, doing_of}
+use Rattle.channel_interleaving.specs.Floor.{book_of, parts_in, sight_of, Shown, IsSame}
+use Rattle.channel_interleaving.specs.Owed.{Sight, Owed, is_sending, is_receiving, unannounced, all_unannounced, woken_on}
+use Rattle.channel_interleaving.specs.Owners.{AnyOf}
+use Rattle.channel_interleaving.specs.Run.{Book}
+use Rattle.channel_interleaving.specs.declared.doing.Doing.{Doing}
+use Rattle.channel_interleaving.specs.declared.floor.Floor.{Floor}
+use Rattle.channel_interleaving.specs.declared.roll.Roll.{Roll}
+use Rattle.channel_interleaving.proofs.OwedCounts.{one_if, count_first}
+use Rattle.channel_interleaving.proofs.OwedFacts.{places}
+use Rattle.channel_interleaving.proofs.OwedScenes.{unless_told, OwedIn}
+use Rattle.channel_interleaving.proofs.OwedScenes as scenes
+
+-- ---- what was told
+
+unless_most : (told : List Telling) (n : ℕ) → unless_told told n ≤ n
+unless_most [] n = omega arith
+unless_most (t ∷ ts) n = omega arith
+
+-- who has nothing left to tell has announced all that it took
+all_announced : (told : List Telling) (n : ℕ) (besides : List Telling) → told ++ [] ≡ owed_takings n ++ besides → unless_told told n ≤ 0
+all_announced [] zero besides e = omega arith
+all_announced [] (suc n) besides e = absurd cc
+all_announced (t ∷ ts) n besides e = omega arith
+
+is_closing : (m : Mark) → m ≡ Close → is_close m ≡ true
+is_closing m e = ap is_close e
+
+module _ {T : Type 0} where
+  -- ---- numbers
+
+  counted : (test : Doing → Bool) (us : List (Under T Waiter))
+      → count_by test (map doing_of us) ≡ count_by (λ (u : Under T Waiter). test (doing_of u)) us
+  counted test [] = refl
+  counted test (u ∷ us) =
+      let here = count_first test (doing_of u) (map doing_of us) in
+      let there = count_first (λ (v : Under T Waiter). test (doing_of v)) u us in
+      let rest = counted test us in
+      omega (arith, here, there, rest)
+
+  some_counts : (P : Under T Waiter → Type 0) (test : Under T Waiter → Bool) → ((u : Under T Waiter) → P u → test u ≡ true)
+      → (us : List (Under T Waiter)) → AnyOf P us → 0 < count_by test us
+  some_counts P test f [] i = absurd i
+  some_counts P test f (u ∷ us) (inl h) =
+      let first = count_first test u us in
+      let one : one_if (test u) ≡ 1 = ap one_if (f u h) in
+      omega (arith, first, one)
+  some_counts P test f (u ∷ us) (inr i) =
+      let first = count_first test u us in
+      let rest = some_counts P test f us i in
+      omega (arith, first, rest)
+
+  closed_is : (ds : List (Deed T Waiter)) → HasClosed ds → any_close ds ≡ true
+  closed_is [] h = absurd h
+  closed_is (d ∷ ds) (inl e) = ap (λ (b : Bool). b || any_close ds) (is_closing d.mark e)
+  closed_is (d ∷ ds) (inr h) = ap (λ (b : Bool). is_close d.mark || b) (closed_is ds h) ∙ or_true (is_close d.mark) where
+    or_true : (b : Bool) → (b || true) ≡ true
+    or_true true = refl
+    or_true false = refl
+
+  -- ---- what was freed
+
+  no_more : (f : Phase T) (at : Stage (QueueCall T) T Waiter) (u : Under T Waiter) → ToldAt u.told (phase f at) u.deeds
+      → scenes.unannounced u ≤ unannounced at (doing_of u)
+  no_more f (Working (Leave x)) u h = all_announced u.told (takings u.deeds) (owed_besides u.deeds) h
+  no_more f at u h = unless_most u.told (takings u.deeds)
+
+  all_no_more : (now : Channel T Waiter) (xs : List (Sitting T Waiter)) → AllKnown now (map under_of xs)
+      → scenes.all_unannounced (map under_of xs)
+      ≤ all_unannounced (map (λ (x : Sitting T Waiter). x.party) xs) (map doing_of (map under_of xs))
+  all_no_more now [] k = omega arith
+  all_no_more now (x ∷ xs) k =
+      let known = k.0 in
+      let one = no_more x.inner x.party.call.stage (under_of x) known.tells in
+      let rest = all_no_more now xs k.1 in
+      omega (arith, one, rest)
+
+  -- ---- a world as it is
+
+  module _ (f : Floor T) (s : Scene T Waiter) (sh : Shown f s) where
+    shown_queue : s.now.queue ≡ sh.shows.queue
+    shown_queue = ap (λ (c : Channel T Waiter). c.queue) sh.shows.now
+
+    capacity_is : s.now.queue.capacity ≡ capacity_of (parts_in f).cells.form
+    capacity_is =
+        let shown = shows (parts_in f).cells sh.shows.queue (all_seats sh.shows.sittings) sh.shows.fits in
+        ap (λ (q : Queue T). q.capacity) shown_queue ∙ shown.limit
+
+    closed_is_so : s.now.queue.closed ≡ closed_in (parts_in f).cells
+    closed_is_so =
+        let shown = shows (parts_in f).cells sh.shows.queue (all_seats sh.shows.sittings) sh.shows.fits in
+        ap (λ (q : Queue T). q.closed) shown_queue ∙ sym shown.flag
+
+    by_role : (test : Doing → Bool) → count_by test f.doings.items ≡ count_by (λ (u : Under T Waiter). test (doing_of u)) s.under_way
+    by_role test = ap (λ (ds : List Doing). count_by test ds) sh.doings ∙ counted test s.under_way
+
+    freed : scenes.all_unannounced s.under_way ≤ all_unannounced f.parties.items f.doings.items
+    freed =
+        let k = subst (λ (us : List (Under T Waiter)). AllKnown s.now us) sh.shows.under_way sh.shows.known in
+        let least = all_no_more s.now sh.shows.sittings k in
+        let here = ap (λ (us : List (Under T Waiter)). scenes.all_unannounced us) sh.shows.under_way in
+        let doings : f.doings.items ≡ map doing_of (map under_of sh.shows.sittings) =
+        sh.doings ∙ ap (λ (us : List (Under T Waiter)). map doing_of us) sh.shows.under_way in
+        let there = ap (λ (ps : List (Party T Waiter)). all_unannounced ps f.doings.items) sh.shows.parties_are in
+        let noted = ap (λ (ds : List Doing). all_unannounced (map (λ (x : Sitting T Waiter). x.party) sh.shows.sittings) ds) doings in
+        omega (arith, least, here, there, noted)
+
+    pub sight_owed : OwedIn (book_of f) s → Owed (sight_of f)
+    sight_owed o = record {
+      receives = λ name i.
+          let h = o.receives name i.0 i.1 in
+          omega (arith, h, sh.messages, by_role (λ (d : Doing). is_sending d.role), by_role (λ (d : Doing). is_receiving d.role));
+      sends = λ name i is_open.
+          let h = o.sends name i.0 i.1 (closed_is_so ∙ is_open) in
+          subst (λ (c : Option ℕ). HasPlaces c ((sight_of f).messages + (woken_on Sends f.roll + ((sight_of f).sending + (sight_of f).freed)))) capacity_is
+          (places s.now.queue.capacity _ _ (omega (arith, sh.messages, by_role (λ (d : Doing). is_sending d.role), freed)) h);
+      streams = λ name i some. stream (o.streams name i.0 i.1) some;
+      closing = λ line name i shut.
+          let h = o.closing name (record { line = line; key = i.0 }) i.1 (closed_is_so ∙ shut) in
+          let one = some_counts (λ (u : Under T Waiter). HasClosed u.deeds) (λ (u : Under T Waiter). any_close u.deeds) (λ u k. closed_is u.deeds k) s.under_way h in
+          omega (arith, one, by_role (λ (d : Doing). d.has_closed));
+    } where
+      stream : (s.now.queue.items ≡ []) ⊎ AnyOf (λ u. scenes.is_sending u.ask ≡ true) s.under_way → 0 < f.messages → 0 < (sight_of f).sending
+      stream (inl none) some = let empty = ap length none in omega (arith, empty, some, sh.messages)
+      stream (inr i) some =
+          let one = some_counts (λ (u : Under T Waiter). scenes.is_sending u.ask ≡ true) (λ (u : Under T Waiter). scenes.is_sending u.ask) (λ u k. k) s.under_way i in
+          omega (arith, one, by_role (λ (d : Doing). is_sending d.role))
+
+  -- ---- room that was taken changes nothing
+
+  abbrev sight_with : Roll T → ℕ → PlainChannel T Waiter → List (Party T Waiter) → List Doing → Sight T
+  sight_with r n c ps ds = record {
+    roll = r;
+    messages = n;
+    capacity = capacity_of (parts_of c).cells.form;
+    closed = closed_in (parts_of c).cells;
+    sending = count_by (λ (d : Doing). is_sending d.role) ds;
+    receiving = count_by (λ (d : Doing). is_receiving d.role) ds;
+    closers = count_by (λ (d : Doing). d.has_closed) ds;
+    freed = all_unannounced ps ds;
+  }
+
+  pub sight_same : (g h : Floor T) → IsSame g h → sight_of h ≡ sight_of g
+  sight_same g h same =
+      ap (λ (b : Book T). sight_with b.roll h.messages h.channel h.parties.items h.doings.items) same.book
+      ∙ (ap (λ (n : ℕ). sight_with g.roll n h.channel h.parties.items h.doings.items) same.messages
+      ∙ (ap (λ (c : PlainChannel T Waiter). sight_with g.roll g.messages c h.parties.items h.doings.items) same.channel
+      ∙ (ap (λ (ps : List (Party T Waiter)). sight_with g.roll g.messages g.channel ps h.doings.items) same.parties
+      ∙ ap (λ (ds : List Doing). sight_with g.roll g.messages g.channel g.parties.items ds) same.doings)))
