@@ -12,7 +12,6 @@ use event_listener::id::EventIds;
 use futures::task::Poll;
 use std::alloc::Global;
 use std::collections::VecDeque;
-use std::process::Abort;
 use std::test::Fail;
 
 const SENDER: HandleId = HandleId(0);
@@ -207,6 +206,12 @@ impl Fixture {
         said
     }
 
+    /// A party makes one more step: what it says, and the numbers after it.
+    fn step(&mut self, party: u32) -> (Said, Numbers) {
+        let said = self.go_on(party, 1);
+        (said, self.numbers())
+    }
+
     fn numbers(&self) -> Numbers {
         Numbers {
             messages: self.channel.messages(),
@@ -273,74 +278,88 @@ fn give_up(op: u32) -> Call<u64> {
     Call::GiveUp { op: OpId(op) }
 }
 
-/// A send makes its push between the two tries of a receive. The channel is lent, so that it is let go at one place.
-fn is_taken_between_tries(rt: &impl Abort, all: &mut Fixture) {
-    assert_eq!(rt; all.begin(0, new_recv(0), 1), Said::Made);
-    assert_eq!(rt; all.begin(0, poll(0), 2), Said::GoesOn);
-    assert_eq!(rt; all.begin(1, try_send(5), 3), Said::GoesOn);
-    assert_eq!(rt; all.go_on(0, 5), Said::Received(5));
-    assert_eq!(rt; all.go_on(1, 2), Said::Sent);
-    assert_eq!(rt; all.woken.len(), 0);
-    assert!(rt; all.channel.is_quiet());
-}
-
 #[test]
 fn a_message_between_two_tries_is_taken(rt: HostRuntime) -> Result<(), Fail> {
     let mut all = bounded(1, rt.alloc())?;
-    is_taken_between_tries(&rt, &mut all);
+    let said = [
+        all.begin(0, new_recv(0), 1),
+        all.begin(0, poll(0), 2),
+        all.begin(1, try_send(5), 3),
+        all.go_on(0, 5),
+        all.go_on(1, 2),
+    ];
+    let rest = (all.woken.len(), all.channel.is_quiet());
+    drop(all);
+    let expected = [
+        Said::Made,
+        Said::GoesOn,
+        Said::GoesOn,
+        Said::Received(5),
+        Said::Sent,
+    ];
+    assert_eq!(rt; said, expected);
+    assert_eq!(rt; rest, (0, true));
     Ok(())
 }
 
-/// A send makes its push beside a receive that pends, and tells it some steps later.
-fn is_woken_after_the_push(rt: &impl Abort, all: &mut Fixture) {
+#[test]
+fn a_pending_receive_is_woken_after_the_push(rt: HostRuntime) -> Result<(), Fail> {
+    let mut all = bounded(1, rt.alloc())?;
+    let begun = [
+        all.begin(0, new_recv(0), 1),
+        all.begin(0, poll(0), 4),
+        all.begin(1, try_send(5), 1),
+    ];
+    let pushed = (Said::GoesOn, all.numbers());
+    let not_told = [pushed, all.step(1), all.step(1)];
+    let told = all.step(1);
+    let woken = all.woken.as_slice() == [Waiter::Op(OpId(0))].as_slice();
+    let last = all.go_on(1, 1);
+    drop(all);
     let before = Numbers {
         messages: 1,
         pending: 1,
         woken: 0,
         under_way: 1,
     };
-    assert_eq!(rt; all.begin(0, new_recv(0), 1), Said::Made);
-    assert_eq!(rt; all.begin(0, poll(0), 4), Said::Pending);
-    assert_eq!(rt; all.begin(1, try_send(5), 1), Said::GoesOn);
-    assert_eq!(rt; all.numbers(), before);
-    assert_eq!(rt; all.go_on(1, 1), Said::GoesOn);
-    assert_eq!(rt; all.numbers(), before);
-    assert_eq!(rt; all.go_on(1, 1), Said::GoesOn);
-    assert_eq!(rt; all.numbers(), before);
-    assert_eq!(rt; all.go_on(1, 1), Said::GoesOn);
-    assert_eq!(rt; all.woken.as_slice(), [Waiter::Op(OpId(0))].as_slice());
-    assert_eq!(rt; all.numbers().woken, 1);
-    assert_eq!(rt; all.numbers().pending, 1);
-    assert_eq!(rt; all.go_on(1, 1), Said::Sent);
-}
-
-#[test]
-fn a_pending_receive_is_woken_after_the_push(rt: HostRuntime) -> Result<(), Fail> {
-    let mut all = bounded(1, rt.alloc())?;
-    is_woken_after_the_push(&rt, &mut all);
+    let after = Numbers { woken: 1, ..before };
+    assert_eq!(rt; begun, [Said::Made, Said::Pending, Said::GoesOn]);
+    assert_eq!(rt; not_told, [(Said::GoesOn, before); 3]);
+    assert_eq!(rt; told, (Said::GoesOn, after));
+    assert!(rt; woken && last == Said::Sent);
     Ok(())
-}
-
-/// Two sends wait for a place; the first is given up between a taking and its telling.
-fn wakes_who_still_waits(rt: &impl Abort, all: &mut Fixture) {
-    assert_eq!(rt; all.begin(0, try_send(1), 5), Said::Sent);
-    assert_eq!(rt; all.begin(0, new_send(0, 2), 1), Said::Made);
-    assert_eq!(rt; all.begin(0, poll(0), 4), Said::Pending);
-    assert_eq!(rt; all.begin(0, new_send(1, 3), 1), Said::Made);
-    assert_eq!(rt; all.begin(0, poll(1), 4), Said::Pending);
-    assert_eq!(rt; all.begin(3, try_recv(), 3), Said::GoesOn);
-    assert_eq!(rt; all.begin(1, give_up(0), 1), Said::GivenUp(Some(2)));
-    assert_eq!(rt; all.woken.len(), 0);
-    assert_eq!(rt; all.go_on(3, 1), Said::Received(1));
-    assert_eq!(rt; all.woken.as_slice(), [Waiter::Op(OpId(1))].as_slice());
-    assert_eq!(rt; all.begin(2, poll(1), 6), Said::Sent);
-    assert!(rt; all.channel.is_quiet());
 }
 
 #[test]
 fn a_taking_wakes_the_send_that_still_waits(rt: HostRuntime) -> Result<(), Fail> {
     let mut all = bounded(1, rt.alloc())?;
-    wakes_who_still_waits(&rt, &mut all);
+    let said = [
+        all.begin(0, try_send(1), 5),
+        all.begin(0, new_send(0, 2), 1),
+        all.begin(0, poll(0), 4),
+        all.begin(0, new_send(1, 3), 1),
+        all.begin(0, poll(1), 4),
+        all.begin(3, try_recv(), 3),
+        all.begin(1, give_up(0), 1),
+    ];
+    let nobody = all.woken.is_empty();
+    let received = all.go_on(3, 1);
+    let woken = all.woken.as_slice() == [Waiter::Op(OpId(1))].as_slice();
+    let sent = all.begin(2, poll(1), 6);
+    let quiet = all.channel.is_quiet();
+    drop(all);
+    let expected = [
+        Said::Sent,
+        Said::Made,
+        Said::Pending,
+        Said::Made,
+        Said::Pending,
+        Said::GoesOn,
+        Said::GivenUp(Some(2)),
+    ];
+    assert_eq!(rt; said, expected);
+    assert_eq!(rt; [received, sent], [Said::Received(1), Said::Sent]);
+    assert!(rt; nobody && woken && quiet);
     Ok(())
 }
 
@@ -471,23 +490,29 @@ fn several_at_once_free_places_before_they_announce_them(rt: HostRuntime) -> Res
     Ok(())
 }
 
-/// A stream is polled beside a message that was pushed and is not told.
-fn is_pending_until_told(rt: &impl Abort, all: &mut Fixture) {
-    assert_eq!(rt; all.begin(0, poll_next(), 8), Said::Pending);
-    assert_eq!(rt; all.begin(1, try_send(7), 8), Said::GoesOn);
-    assert_eq!(rt; all.begin(0, poll_next(), 1), Said::Pending);
-    assert_eq!(rt; all.channel.messages(), 1);
-    assert_eq!(rt; all.go_on(1, 1), Said::GoesOn);
-    assert_eq!(rt; all.woken.len(), 0);
-    assert_eq!(rt; all.go_on(1, 1), Said::Sent);
-    assert_eq!(rt; all.woken.as_slice(), [Waiter::Stream(RECEIVER)].as_slice());
-    assert_eq!(rt; all.begin(0, poll_next(), 9), Said::Next(7));
-}
-
 #[test]
 fn a_stream_is_pending_beside_a_message_that_is_not_told_yet(rt: HostRuntime) -> Result<(), Fail> {
     let mut all = unbounded(rt.alloc())?;
-    is_pending_until_told(&rt, &mut all);
+    let polled = all.begin(0, poll_next(), 8);
+    let pushed = all.begin(1, try_send(7), 8);
+    let again = all.begin(0, poll_next(), 1);
+    let messages = all.channel.messages();
+    let not_told = all.go_on(1, 1);
+    let nobody = all.woken.is_empty();
+    let told = all.go_on(1, 1);
+    let woken = all.woken.as_slice() == [Waiter::Stream(RECEIVER)].as_slice();
+    let next = all.begin(0, poll_next(), 9);
+    drop(all);
+    let expected = [
+        Said::Pending,
+        Said::GoesOn,
+        Said::Pending,
+        Said::GoesOn,
+        Said::Sent,
+        Said::Next(7),
+    ];
+    assert_eq!(rt; [polled, pushed, again, not_told, told, next], expected);
+    assert!(rt; messages == 1 && nobody && woken);
     Ok(())
 }
 
@@ -631,35 +656,29 @@ fn calls_are_refused_by_names(rt: HostRuntime) -> Result<(), Fail> {
     Ok(())
 }
 
-/// A receive of a receiver that is polled as a stream.
-fn is_under_way(rt: &impl Abort, all: &mut Fixture) {
-    assert_eq!(rt; all.begin(0, poll_next(), 0), Said::GoesOn);
-    assert_eq!(rt;
-        all.begin(1, try_recv(), 0),
-        stopped(0, WorldRefusal::OpUnderWay)
-    );
-}
-
 #[test]
 fn a_polled_stream_is_not_used(rt: HostRuntime) -> Result<(), Fail> {
     let mut all = bounded(1, rt.alloc())?;
-    is_under_way(&rt, &mut all);
+    let said = [all.begin(0, poll_next(), 0), all.begin(1, try_recv(), 0)];
+    drop(all);
+    assert_eq!(rt; said, [Said::GoesOn, stopped(0, WorldRefusal::OpUnderWay)]);
     Ok(())
-}
-
-/// A poll as a stream of a receiver that is used; and a step of a party that is not at work.
-fn is_borrowed(rt: &impl Abort, all: &mut Fixture) {
-    assert_eq!(rt; all.begin(0, try_recv(), 0), Said::GoesOn);
-    assert_eq!(rt;
-        all.begin(1, poll_next(), 0),
-        stopped(0, WorldRefusal::Borrowed)
-    );
-    assert_eq!(rt; all.go_on(7, 1), stopped(0, WorldRefusal::Idle));
 }
 
 #[test]
 fn a_used_receiver_is_not_polled_as_a_stream(rt: HostRuntime) -> Result<(), Fail> {
     let mut all = bounded(1, rt.alloc())?;
-    is_borrowed(&rt, &mut all);
+    let said = [
+        all.begin(0, try_recv(), 0),
+        all.begin(1, poll_next(), 0),
+        all.go_on(7, 1),
+    ];
+    drop(all);
+    let expected = [
+        Said::GoesOn,
+        stopped(0, WorldRefusal::Borrowed),
+        stopped(0, WorldRefusal::Idle),
+    ];
+    assert_eq!(rt; said, expected);
     Ok(())
 }
