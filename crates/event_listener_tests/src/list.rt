@@ -81,15 +81,15 @@ fn tells_more_or_as_many(
     list: &mut List<u32, u32>,
     sink: &mut Names,
 ) -> Result<(), Fail> {
-    let first = list.insert()?;
-    let second = list.insert()?;
-    let third = list.insert()?;
-    assert_eq!(rt; list.notify(more(1, 10), sink), Ok(1));
-    assert_eq!(rt; list.notify(at_least(1, 20), sink), Ok(0));
-    assert_eq!(rt; list.notify(more(1, 30), sink), Ok(1));
-    assert_eq!(rt; list.poll(first), Ok(Some(10)));
-    assert_eq!(rt; list.poll(second), Ok(Some(30)));
-    assert_eq!(rt; list.poll(third), Ok(None));
+    let keys = [list.insert()?, list.insert()?, list.insert()?];
+    let told = [
+        list.notify(more(1, 10), sink),
+        list.notify(at_least(1, 20), sink),
+        list.notify(more(1, 30), sink),
+    ];
+    let polled = [list.poll(keys[0]), list.poll(keys[1]), list.poll(keys[2])];
+    assert_eq!(rt; told, [Ok(1), Ok(0), Ok(1)]);
+    assert_eq!(rt; polled, [Ok(Some(10)), Ok(Some(30)), Ok(None)]);
     assert_eq!(rt; sink.woken.len(), 0);
     Ok(())
 }
@@ -397,6 +397,50 @@ fn reserved_room_takes_as_many_insertions(rt: HostRuntime) -> Result<(), Fail> {
     Ok(())
 }
 
+/// Ten thousand that wait, under the numbers from 0. Whether no call visited more than five others.
+fn all_wait(list: &mut List<u32, u32>, keys: &mut Vec<Key>) -> Result<bool, Fail> {
+    let mut few = list.last_visits() == 0;
+    for name in 0u32..10_000 {
+        let key = list.insert()?;
+        few = few & (list.last_visits() <= 5);
+        few = few & list.register(key, name).is_ok();
+        few = few & (list.last_visits() <= 5);
+        keys.push(key)?;
+    }
+    Ok(few)
+}
+
+/// Every second one leaves. Whether each had waited, and no call visited more than five others.
+fn every_second_leaves(list: &mut List<u32, u32>, sink: &mut Names, keys: &Vec<Key>) -> bool {
+    let mut few = true;
+    for (place, key) in keys.iter().enumerate() {
+        if place % 2 == 0 {
+            few = few & (list.remove(*key, false, sink) == Ok(false));
+            few = few & (list.last_visits() <= 5);
+        }
+    }
+    few
+}
+
+/// So many are told. Whether each notice told one, and visited no more than five.
+fn tell_each(list: &mut List<u32, u32>, sink: &mut Names, count: u32) -> bool {
+    let mut few = true;
+    for _ in 0..count {
+        few = few & (list.notify(more(1, 7), sink) == Ok(1));
+        few = few & (list.last_visits() <= 5);
+    }
+    few
+}
+
+/// Whether those with odd numbers were woken, in order.
+fn odd_ones_woken(sink: &Names) -> bool {
+    let mut odd = true;
+    for (place, name) in sink.woken.iter().enumerate() {
+        odd = odd & (*name as usize == place.wrapping_mul(2).wrapping_add(1));
+    }
+    odd
+}
+
 /// Ten thousand listeners, of which every second is removed and every other one told.
 fn visits_few(
     rt: &impl Abort,
@@ -404,32 +448,16 @@ fn visits_few(
     sink: &mut Names,
     keys: &mut Vec<Key>,
 ) -> Result<(), Fail> {
-    assert_eq!(rt; list.last_visits(), 0);
-    for name in 0u32..10_000 {
-        let key = list.insert()?;
-        assert!(rt; list.last_visits() <= 5);
-        assert!(rt; list.register(key, name).is_ok());
-        assert!(rt; list.last_visits() <= 5);
-        keys.push(key)?;
-    }
-    for (place, key) in keys.iter().enumerate() {
-        if place % 2 == 0 {
-            assert_eq!(rt; list.remove(*key, false, sink), Ok(false));
-            assert!(rt; list.last_visits() <= 5);
-        }
-    }
-    assert_eq!(rt; list.total(), 5_000);
-    for _ in 0..5_000 {
-        assert_eq!(rt; list.notify(more(1, 7), sink), Ok(1));
-        assert!(rt; list.last_visits() <= 5);
-    }
-    assert_eq!(rt; list.notify(more(1, 7), sink), Ok(0));
-    assert_eq!(rt; list.last_visits(), 0);
-    assert_eq!(rt; list.told(), 5_000);
-    assert_eq!(rt; sink.woken.len(), 5_000);
-    for (place, name) in sink.woken.iter().enumerate() {
-        assert!(rt; *name as usize == place.wrapping_mul(2).wrapping_add(1));
-    }
+    let waits = all_wait(list, keys)?;
+    let left = every_second_leaves(list, sink, keys);
+    let total = list.total();
+    let told = tell_each(list, sink, 5_000);
+    let none = list.notify(more(1, 7), sink);
+    let visits = list.last_visits();
+    let numbers = (list.told(), sink.woken.len());
+    assert!(rt; waits && left && told && odd_ones_woken(sink));
+    assert_eq!(rt; (none, visits), (Ok(0), 0));
+    assert_eq!(rt; (total, numbers), (5_000, (5_000, 5_000)));
     Ok(())
 }
 
@@ -444,6 +472,35 @@ fn no_call_visits_more_than_five_others(rt: HostRuntime) -> Result<(), Fail> {
     Ok(())
 }
 
+/// Every second one leaves, told or not, and another takes its place: a key of one that left stands for nobody. Whether each call
+/// answers so and visits no more than five others, and the stale one its place alone.
+fn every_second_is_replaced(list: &mut List<u32, u32>, sink: &mut Names, keys: &Vec<Key>) -> bool {
+    let mut few = true;
+    for (place, key) in keys.iter().enumerate() {
+        if place % 2 == 0 {
+            few = few & (list.remove(*key, false, sink) == Ok(place < 5_000));
+            few = few & (list.last_visits() <= 5);
+            few = few & list.insert().is_ok();
+            few = few & (list.last_visits() <= 5);
+            few = few & list.register(*key, 0).is_err();
+            few = few & (list.last_visits() == 1);
+        }
+    }
+    few
+}
+
+/// Those that are left register. Whether no call visits more than five others.
+fn others_register(list: &mut List<u32, u32>, keys: &Vec<Key>) -> bool {
+    let mut few = true;
+    for (place, key) in keys.iter().enumerate() {
+        if place % 2 == 1 {
+            few = few & list.register(*key, 0).is_ok();
+            few = few & (list.last_visits() <= 5);
+        }
+    }
+    few
+}
+
 /// Ten thousand listeners, half of them told, of which every second is removed.
 fn visits_few_of_told_ones(
     rt: &impl Abort,
@@ -454,29 +511,13 @@ fn visits_few_of_told_ones(
     for _ in 0..10_000 {
         keys.push(list.insert()?)?;
     }
-    for _ in 0..5_000 {
-        assert_eq!(rt; list.notify(more(1, 7), sink), Ok(1));
-        assert!(rt; list.last_visits() <= 5);
-    }
-    // A key of one that left stands for nobody, though another listener may have its place.
-    for (place, key) in keys.iter().enumerate() {
-        if place % 2 == 0 {
-            assert_eq!(rt; list.remove(*key, false, sink), Ok(place < 5_000));
-            assert!(rt; list.last_visits() <= 5);
-            assert!(rt; list.insert().is_ok());
-            assert!(rt; list.last_visits() <= 5);
-            assert!(rt; list.register(*key, 0).is_err());
-            assert_eq!(rt; list.last_visits(), 1);
-        }
-    }
-    assert_eq!(rt; (list.told(), list.total()), (2_500, 10_000));
-    for (place, key) in keys.iter().enumerate() {
-        if place % 2 == 1 {
-            assert!(rt; list.register(*key, 0).is_ok());
-            assert!(rt; list.last_visits() <= 5);
-        }
-    }
-    assert_eq!(rt; (list.told(), list.total()), (0, 7_500));
+    let told = tell_each(list, sink, 5_000);
+    let replaced = every_second_is_replaced(list, sink, keys);
+    let half = (list.told(), list.total());
+    let registered = others_register(list, keys);
+    let last = (list.told(), list.total());
+    assert!(rt; told && replaced && registered);
+    assert_eq!(rt; [half, last], [(2_500, 10_000), (0, 7_500)]);
     Ok(())
 }
 
@@ -523,19 +564,24 @@ fn counts_insertions(
     sink: &mut Names,
 ) -> Result<[Key; 3], Fail> {
     let first = list.insert()?;
-    assert_eq!(rt; list.last_visits(), 0);
+    let alone = list.last_visits();
     let second = list.insert()?;
-    assert_eq!(rt; list.last_visits(), 1);
+    let behind = list.last_visits();
     let third = list.insert()?;
     let fourth = list.insert()?;
-    assert!(rt; list.register(second, 2).is_ok());
-    assert_eq!(rt; list.last_visits(), 0);
-    assert_eq!(rt; list.notify(more(1, 10), sink), Ok(1));
-    assert_eq!(rt; list.last_visits(), 3);
-    assert_eq!(rt; list.poll(first), Ok(Some(10)));
+    let registered = list.register(second, 2).is_ok();
+    let own = list.last_visits();
+    let told = list.notify(more(1, 10), sink);
+    let moved = list.last_visits();
+    let polled = list.poll(first);
     list.reserve(100)?;
-    assert_eq!(rt; (list.told(), list.total()), (0, 3));
-    assert_eq!(rt; list.last_visits(), 3);
+    let numbers = (list.told(), list.total());
+    assert!(rt; registered && told == Ok(1) && polled == Ok(Some(10)));
+    assert_eq!(rt;
+        [alone, behind, own, moved, list.last_visits()],
+        [0, 1, 0, 3, 3]
+    );
+    assert_eq!(rt; numbers, (0, 3));
     Ok([second, third, fourth])
 }
 
@@ -563,15 +609,17 @@ fn counts_told_ones(
 ) -> Result<(), Fail> {
     let second = list.insert()?;
     let third = list.insert()?;
-    assert_eq!(rt; list.notify(more(1, 20), sink), Ok(1));
-    assert_eq!(rt; list.last_visits(), 3);
-    assert_eq!(rt; list.notify(more(1, 30), sink), Ok(1));
-    assert_eq!(rt; list.last_visits(), 4);
-    assert_eq!(rt; list.remove(second, true, sink), Ok(true));
-    assert_eq!(rt; list.last_visits(), 4);
-    assert_eq!(rt; list.poll(third), Ok(Some(30)));
-    assert_eq!(rt; list.poll(first), Ok(Some(20)));
-    assert_eq!(rt; list.last_visits(), 4);
+    let told = list.notify(more(1, 20), sink);
+    let one = list.last_visits();
+    let told_next = list.notify(more(1, 30), sink);
+    let behind = list.last_visits();
+    let left = list.remove(second, true, sink);
+    let passed = list.last_visits();
+    let polled = [list.poll(third), list.poll(first)];
+    assert_eq!(rt; [told, told_next], [Ok(1), Ok(1)]);
+    assert_eq!(rt; left, Ok(true));
+    assert_eq!(rt; polled, [Ok(Some(30)), Ok(Some(20))]);
+    assert_eq!(rt; [one, behind, passed, list.last_visits()], [3, 4, 4, 4]);
     Ok(())
 }
 
