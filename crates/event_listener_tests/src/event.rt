@@ -320,24 +320,30 @@ fn a_refused_tag_leaves_those_before_it_told(rt: HostRuntime) -> Result<(), Fail
 fn rows(rt: HostRuntime) -> Result<(), Fail> {
     let task = MockTask::new(&rt)?;
     let alloc = rt.alloc();
-    let (told, polled) = additional_and_default(&rt, alloc, &task).expect(&rt, "memory");
-    assert_eq!(rt; told, [1, 0, 1]);
-    assert_eq!(rt; polled, [Polled::Tag(()), Polled::Tag(()), Polled::Pending]);
-    let (told, polled) = a_told_one_leaves(&rt, alloc, &task).expect(&rt, "memory");
-    assert_eq!(rt; told, [1, 1]);
-    assert_eq!(rt; polled, [Polled::Tag(()), Polled::Tag(()), Polled::Pending]);
-    let (told, polled) = made_tags(&rt, alloc, &task).expect(&rt, "memory");
-    assert_eq!(rt; told, 2);
-    assert_eq!(rt; polled, [Polled::Tag(10), Polled::Tag(11), Polled::Pending]);
-    assert_eq!(rt;
-        a_tag_is_passed_on(&rt, alloc, &task).expect(&rt, "memory"),
-        Polled::Tag(7)
-    );
+    let both = additional_and_default(&rt, alloc, &task).expect(&rt, "memory");
+    let left = a_told_one_leaves(&rt, alloc, &task).expect(&rt, "memory");
+    let tags = made_tags(&rt, alloc, &task).expect(&rt, "memory");
+    let passed = a_tag_is_passed_on(&rt, alloc, &task).expect(&rt, "memory");
     let (told, was_told, polled, late) = discarded(&rt, alloc, &task).expect(&rt, "memory");
+    let nobody = a_notice_for_nobody(&rt, alloc, &task).expect(&rt, "memory");
+    drop(task);
+    assert_eq!(rt;
+        both,
+        (
+            [1, 0, 1],
+            [Polled::Tag(()), Polled::Tag(()), Polled::Pending]
+        )
+    );
+    assert_eq!(rt;
+        left,
+        ([1, 1], [Polled::Tag(()), Polled::Tag(()), Polled::Pending])
+    );
+    assert_eq!(rt;
+        tags,
+        (2, [Polled::Tag(10), Polled::Tag(11), Polled::Pending])
+    );
+    assert_eq!(rt; passed, Polled::Tag(7));
     assert_eq!(rt; (told, was_told, late), (1, true, false));
-    assert_eq!(rt; polled, Polled::Pending);
-    let (told, polled) = a_notice_for_nobody(&rt, alloc, &task).expect(&rt, "memory");
-    assert_eq!(rt; told, 0);
-    assert_eq!(rt; polled, Polled::Pending);
+    assert_eq!(rt; (polled, nobody), (Polled::Pending, (0, Polled::Pending)));
     Ok(())
 }

@@ -8,6 +8,7 @@ use event_listener::listener::{PollFault, WaitError};
 use event_listener::recorded::{RecordedCall, RecordedEvent, RegisterError};
 use event_listener::run::{ListCall, ListReply, ListRun, Target};
 use event_listener::wakes::Wakes;
+use std::alloc::{AllocError, Global};
 use std::collections::VecDeque;
 use std::fmt;
 use std::test::Fail;
@@ -79,39 +80,59 @@ impl Wakes<u8> for Nobody {
 }
 
 #[test]
-fn runs_are_compared_and_shown(rt: HostRuntime) -> Result<(), Fail> {
-    let mut list: List<u8, u8> = List::new(rt.alloc());
-    let mut calls: VecDeque<ListCall<u8, u8>> = VecDeque::new(rt.alloc());
+fn calls_are_compared_and_shown(rt: HostRuntime) -> Result<(), Fail> {
+    let insert: ListCall<u8, u8> = ListCall::Insert;
+    let poll: ListCall<u8, u8> = ListCall::Poll {
+        listener: Target::Place(0),
+    };
+    let compared = insert == ListCall::Insert && insert != ListCall::Reserve { extra: 1 };
+    let text = format!(in rt.alloc(); "{poll:?}")?;
+    drop(insert);
+    drop(poll);
+    assert!(rt; compared);
+    assert_eq!(rt; text.as_str(), "Poll { listener: Place(0) }");
+    Ok(())
+}
+
+/// An insertion, and a poll of the listener that it gave.
+fn listen_and_poll(alloc: Global) -> Result<ListRun<u8>, AllocError> {
+    let mut list: List<u8, u8> = List::new(alloc);
+    let mut calls: VecDeque<ListCall<u8, u8>> = VecDeque::new(alloc);
     calls.push_back(ListCall::Insert)?;
     calls.push_back(ListCall::Poll {
         listener: Target::Place(0),
     })?;
-    assert!(rt; calls[0] == ListCall::Insert && calls[0] != ListCall::Reserve { extra: 1 });
-    assert_eq!(rt;
-        format!(in rt.alloc(); "{:?}", calls[1])?.as_str(),
-        "Poll { listener: Place(0) }"
-    );
-    let run = list.run(rt.alloc(), &mut calls, &mut Nobody);
-    let mut replies: Vec<ListReply<u8>> = Vec::new(rt.alloc());
-    replies.push(ListReply::Insert(Ok(first_key(&rt)?)))?;
+    Ok(list.run(alloc, &mut calls, &mut Nobody))
+}
+
+/// What that run is to answer.
+fn run_of_them(alloc: Global, key: Key) -> Result<ListRun<u8>, AllocError> {
+    let mut replies: Vec<ListReply<u8>> = Vec::new(alloc);
+    replies.push(ListReply::Insert(Ok(key)))?;
     replies.push(ListReply::Poll(Ok(None)))?;
-    assert_eq!(rt;
-        format!(in rt.alloc(); "{:?}", run.replies)?.as_str(),
-        "[Insert(Ok(Key { slot: 0, serial: 0 })), Poll(Ok(None))]"
-    );
-    let same = ListRun {
+    Ok(ListRun {
         replies,
         stopped: None,
-    };
-    assert!(rt; run == same);
+    })
+}
+
+#[test]
+fn runs_are_compared_and_shown(rt: HostRuntime) -> Result<(), Fail> {
+    let run = listen_and_poll(rt.alloc())?;
+    let same = run_of_them(rt.alloc(), first_key(&rt)?)?;
     let stopped = ListRun {
         replies: Vec::new(rt.alloc()),
         stopped: Some(NoMemory),
     };
-    assert!(rt; run != stopped);
+    let compared = (run == same, run != stopped);
+    let text = format!(in rt.alloc(); "{:?} {stopped:?}", run.replies)?;
+    drop(run);
+    drop(same);
+    drop(stopped);
+    assert_eq!(rt; compared, (true, true));
     assert_eq!(rt;
-        format!(in rt.alloc(); "{stopped:?}")?.as_str(),
-        "ListRun { replies: [], stopped: Some(NoMemory) }"
+        text.as_str(),
+        "[Insert(Ok(Key { slot: 0, serial: 0 })), Poll(Ok(None))] ListRun { replies: [], stopped: Some(NoMemory) }"
     );
     Ok(())
 }
