@@ -5,7 +5,6 @@ use concurrent_queue::call::{QueueAsk, QueueMark, QueueReply};
 use concurrent_queue::cells::QueueForm;
 use concurrent_queue::run::{QueueRun, QueueStep, run_queue_steps};
 use std::collections::VecDeque;
-use std::process::Abort;
 use std::test::Fail;
 
 /// Thirty messages go in and out again: the first push takes 8 steps, each other one 5, each pop 7.
@@ -48,27 +47,6 @@ fn replies(run: &QueueRun<u64>) -> u32 {
     count
 }
 
-/// The numbers, marks and replies of that run.
-fn waits_for_the_link(rt: &impl Abort, run: &QueueRun<u64>) {
-    assert!(rt; run.stopped.is_none());
-    // 9 + 29 * 6 + 30 * 8 entries of the first thirty messages
-    assert_eq!(rt; run.trace.len(), 423 + 34);
-    assert_eq!(rt; replies(run), 60 + 4);
-    assert!(rt;
-        matches!(run.trace.get(427), Some(entry) if matches!(entry.mark, QueueMark::Append))
-    );
-    assert!(rt; matches!(run.trace.get(434), Some(entry) if matches!(entry.mark, QueueMark::Take)));
-    assert!(rt;
-        matches!(run.trace.get(437), Some(entry) if matches!(entry.reply, Some(QueueReply::Flag(true))))
-    );
-    assert!(rt; pushed_at(run, 447));
-    assert!(rt; popped_at(run, 451, 31));
-    assert!(rt;
-        matches!(run.trace.get(454), Some(entry) if matches!(entry.mark, QueueMark::Append))
-    );
-    assert!(rt; pushed_at(run, 456));
-}
-
 #[test]
 fn a_pop_waits_for_the_link_at_the_end_of_a_block(rt: HostRuntime) -> Result<(), Fail> {
     let mut steps = VecDeque::new(rt.alloc());
@@ -84,6 +62,22 @@ fn a_pop_waits_for_the_link_at_the_end_of_a_block(rt: HostRuntime) -> Result<(),
     more(&mut steps, 3, 4)?;
     more(&mut steps, 2, 5)?;
     let run = run_queue_steps(rt.alloc(), QueueForm::Unbounded, &mut steps);
-    waits_for_the_link(&rt, &run);
+    assert!(rt; run.stopped.is_none());
+    // 9 + 29 * 6 + 30 * 8 entries of the first thirty messages
+    assert_eq!(rt; run.trace.len(), 423 + 34);
+    assert_eq!(rt; replies(&run), 60 + 4);
+    assert!(rt;
+        matches!(run.trace.get(427), Some(entry) if matches!(entry.mark, QueueMark::Append))
+    );
+    assert!(rt; matches!(run.trace.get(434), Some(entry) if matches!(entry.mark, QueueMark::Take)));
+    assert!(rt;
+        matches!(run.trace.get(437), Some(entry) if matches!(entry.reply, Some(QueueReply::Flag(true))))
+    );
+    assert!(rt; pushed_at(&run, 447));
+    assert!(rt; popped_at(&run, 451, 31));
+    assert!(rt;
+        matches!(run.trace.get(454), Some(entry) if matches!(entry.mark, QueueMark::Append))
+    );
+    assert!(rt; pushed_at(&run, 456));
     Ok(())
 }

@@ -4,12 +4,12 @@ use crate::walks::{walk_to_the_end, walk_unread};
 use concurrent_queue::error::{ForcePushError, NoMemory, PopError, PushError};
 use concurrent_queue::exclusive::Exclusive;
 use std::alloc::Global;
-use std::process::Abort;
 use std::rc::Rc;
 use std::test::Fail;
 
-/// What a queue of one slot answers. It is lent, so that it is let go at one place.
-fn takes_one(rt: &impl Abort, queue: &mut Exclusive<u64>) {
+#[test]
+fn one_slot_one_at_a_time(rt: HostRuntime) -> Result<(), Fail> {
+    let mut queue = Exclusive::bounded(rt.alloc(), 1)?;
     assert_eq!(rt; queue.capacity(), Some(1));
     assert!(rt; queue.is_empty());
     assert!(rt; queue.push(10u64).is_ok());
@@ -19,10 +19,6 @@ fn takes_one(rt: &impl Abort, queue: &mut Exclusive<u64>) {
     assert!(rt; matches!(queue.force_push(30), Ok(Some(10))));
     assert!(rt; matches!(queue.pop(), Ok(30)));
     assert!(rt; matches!(queue.pop(), Err(PopError::Empty)));
-}
-
-/// What it answers with one message more, and closed.
-fn takes_none_once_closed(rt: &impl Abort, queue: &mut Exclusive<u64>) {
     assert!(rt; matches!(queue.force_push(40), Ok(None)));
     assert!(rt; queue.close());
     assert!(rt; !queue.close());
@@ -31,18 +27,12 @@ fn takes_none_once_closed(rt: &impl Abort, queue: &mut Exclusive<u64>) {
     assert!(rt; matches!(queue.force_push(60), Err(ForcePushError::Closed(60))));
     assert!(rt; matches!(queue.pop(), Ok(40)));
     assert!(rt; matches!(queue.pop(), Err(PopError::Closed)));
-}
-
-#[test]
-fn one_slot_one_at_a_time(rt: HostRuntime) -> Result<(), Fail> {
-    let mut queue = Exclusive::bounded(rt.alloc(), 1)?;
-    takes_one(&rt, &mut queue);
-    takes_none_once_closed(&rt, &mut queue);
     Ok(())
 }
 
-/// What a ring of three answers.
-fn displaces_the_oldest(rt: &impl Abort, queue: &mut Exclusive<u64>) {
+#[test]
+fn a_ring_displaces_its_oldest(rt: HostRuntime) -> Result<(), Fail> {
+    let mut queue = Exclusive::bounded(rt.alloc(), 3)?;
     for value in 1..4u64 {
         assert!(rt; matches!(queue.force_push(value), Ok(None)));
     }
@@ -57,12 +47,6 @@ fn displaces_the_oldest(rt: &impl Abort, queue: &mut Exclusive<u64>) {
     assert!(rt; matches!(queue.pop(), Ok(5)));
     assert!(rt; matches!(queue.pop(), Ok(6)));
     assert!(rt; matches!(queue.pop(), Err(PopError::Closed)));
-}
-
-#[test]
-fn a_ring_displaces_its_oldest(rt: HostRuntime) -> Result<(), Fail> {
-    let mut queue = Exclusive::bounded(rt.alloc(), 3)?;
-    displaces_the_oldest(&rt, &mut queue);
     Ok(())
 }
 
@@ -99,8 +83,9 @@ fn walked_to_its_end_or_dropped_early(rt: HostRuntime) -> Result<(), Fail> {
     Ok(())
 }
 
-/// What a walk over a hundred messages gives.
-fn walks_in_order(rt: &impl Abort, queue: &mut Exclusive<u64>) {
+#[test]
+fn a_walk_gives_the_messages_in_order(rt: HostRuntime) -> Result<(), Fail> {
+    let mut queue = Exclusive::unbounded(rt.alloc());
     for value in 0..100u64 {
         assert!(rt; queue.push(value).is_ok());
     }
@@ -111,12 +96,6 @@ fn walks_in_order(rt: &impl Abort, queue: &mut Exclusive<u64>) {
     }
     assert_eq!(rt; next, 100);
     assert!(rt; queue.is_empty());
-}
-
-#[test]
-fn a_walk_gives_the_messages_in_order(rt: HostRuntime) -> Result<(), Fail> {
-    let mut queue = Exclusive::unbounded(rt.alloc());
-    walks_in_order(&rt, &mut queue);
     Ok(())
 }
 
@@ -146,48 +125,34 @@ fn one_at_a_time_takes_no_more_memory(rt: HostRuntime) -> Result<(), Fail> {
     Ok(())
 }
 
-/// Three queues of one owner that hold copies.
-#[derive(Drop)]
-struct Filled {
-    slot: Exclusive<Rc<u64>>,
-    ring: Exclusive<Rc<u64>>,
-    blocks: Exclusive<Rc<u64>>,
-}
-
-/// Pushes copies into all three: one, two and 37 are left in them.
-fn fill(rt: &impl Abort, filled: &mut Filled, counted: &Rc<u64>) -> Result<(), Fail> {
-    assert!(rt; filled.slot.push(counted.clone()?).is_ok());
-    assert!(rt; matches!(filled.slot.force_push(counted.clone()?), Ok(Some(_))));
-    for _ in 0..3 {
-        assert!(rt; filled.ring.force_push(counted.clone()?).is_ok());
-    }
-    for _ in 0..40 {
-        assert!(rt; filled.blocks.push(counted.clone()?).is_ok());
-    }
-    for _ in 0..3 {
-        assert!(rt; filled.blocks.pop().is_ok());
-    }
-    Ok(())
-}
-
 #[test]
 fn what_is_left_is_dropped_once(rt: HostRuntime) -> Result<(), Fail> {
     let counted = Rc::new(rt.alloc(), 7u64)?;
-    let mut filled = Filled {
-        slot: Exclusive::bounded(rt.alloc(), 1)?,
-        ring: Exclusive::bounded(rt.alloc(), 2)?,
-        blocks: Exclusive::unbounded(rt.alloc()),
-    };
-    fill(&rt, &mut filled, &counted)?;
-    let held = Rc::strong_count(&counted);
-    drop(filled);
-    assert_eq!(rt; held, 1 + 1 + 2 + 37);
+    let mut slot = Exclusive::bounded(rt.alloc(), 1)?;
+    let mut ring = Exclusive::bounded(rt.alloc(), 2)?;
+    let mut blocks = Exclusive::unbounded(rt.alloc());
+    assert!(rt; slot.push(counted.clone()?).is_ok());
+    assert!(rt; matches!(slot.force_push(counted.clone()?), Ok(Some(_))));
+    for _ in 0..3 {
+        assert!(rt; ring.force_push(counted.clone()?).is_ok());
+    }
+    for _ in 0..40 {
+        assert!(rt; blocks.push(counted.clone()?).is_ok());
+    }
+    for _ in 0..3 {
+        assert!(rt; blocks.pop().is_ok());
+    }
+    assert_eq!(rt; Rc::strong_count(&counted), 1 + 1 + 2 + 37);
+    drop(slot);
+    drop(ring);
+    drop(blocks);
     assert_eq!(rt; Rc::strong_count(&counted), 1);
     Ok(())
 }
 
-/// What a queue of blocks answers.
-fn goes_over_a_block(rt: &impl Abort, queue: &mut Exclusive<u64>) {
+#[test]
+fn messages_go_over_the_end_of_a_block_and_back(rt: HostRuntime) -> Result<(), Fail> {
+    let mut queue = Exclusive::unbounded(rt.alloc());
     assert!(rt; queue.capacity().is_none());
     for value in 0..32u64 {
         assert!(rt; queue.push(value).is_ok());
@@ -203,11 +168,5 @@ fn goes_over_a_block(rt: &impl Abort, queue: &mut Exclusive<u64>) {
     assert!(rt; queue.close());
     assert!(rt; matches!(queue.push(7), Err(PushError::Closed(7))));
     assert!(rt; matches!(queue.pop(), Err(PopError::Closed)));
-}
-
-#[test]
-fn messages_go_over_the_end_of_a_block_and_back(rt: HostRuntime) -> Result<(), Fail> {
-    let mut queue = Exclusive::unbounded(rt.alloc());
-    goes_over_a_block(&rt, &mut queue);
     Ok(())
 }

@@ -4,7 +4,7 @@ use crate::turns::{begin, more};
 use concurrent_queue::call::{QueueAsk, QueueEntry, QueueMark, QueueReply};
 use concurrent_queue::cells::QueueForm;
 use concurrent_queue::error::{PopError, PushError};
-use concurrent_queue::run::{QueueRun, QueueStep, run_queue_steps};
+use concurrent_queue::run::{QueueStep, run_queue_steps};
 use std::alloc::Global;
 use std::collections::VecDeque;
 use std::process::Abort;
@@ -40,13 +40,18 @@ fn reply_of(entry: &QueueEntry<u64>) -> (&'static str, u64) {
     }
 }
 
-/// The entries of a run that have a mark or a reply, each with its place.
-fn check_entries(
+/// The marks and replies of a run, each with its place, where there is one.
+fn check(
     rt: &impl Abort,
-    run: &QueueRun<u64>,
+    alloc: Global,
+    steps: &mut VecDeque<QueueStep<u64>>,
+    entries: usize,
     marks: &[(usize, &'static str)],
     replies: &[(usize, &'static str, u64)],
-) {
+) -> Result<(), Fail> {
+    let run = run_queue_steps(alloc, QueueForm::Bounded(2), steps);
+    assert!(rt; run.stopped.is_none());
+    assert_eq!(rt; run.trace.len(), entries);
     let mut marked = 0;
     let mut replied = 0;
     for (place, entry) in run.trace.iter().enumerate() {
@@ -67,20 +72,6 @@ fn check_entries(
     }
     assert_eq!(rt; marked, marks.len());
     assert_eq!(rt; replied, replies.len());
-}
-
-/// The marks and replies of a run of all these steps, each with its place, where there is one.
-fn check(
-    rt: &impl Abort,
-    alloc: Global,
-    steps: &mut VecDeque<QueueStep<u64>>,
-    entries: usize,
-    marks: &[(usize, &'static str)],
-    replies: &[(usize, &'static str, u64)],
-) -> Result<(), Fail> {
-    let run = run_queue_steps(alloc, QueueForm::Bounded(2), steps);
-    assert!(rt; run.stopped.is_none() && run.trace.len() == entries);
-    check_entries(rt, &run, marks, replies);
     Ok(())
 }
 

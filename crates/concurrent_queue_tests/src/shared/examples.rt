@@ -7,7 +7,6 @@ use concurrent_queue::call::QueueReply;
 use concurrent_queue::error::{ForcePushError, PopError, PushError};
 use concurrent_queue::queue_call::QueueCall;
 use concurrent_queue::shared::queue::ConcurrentQueue;
-use std::process::Abort;
 use std::sync::{Arc, Wait};
 use std::test::Fail;
 
@@ -39,49 +38,39 @@ fn messages_come_in_order(rt: HostRuntime) -> Result<(), Fail> {
     Ok(())
 }
 
-/// What a full queue of this capacity answers. It is lent, so that it is let go at one place.
-fn refuses_or_displaces<R: Abort + Wait>(rt: &R, queue: &ConcurrentQueue<u64>, capacity: u64) {
-    for message in 0..capacity {
-        assert!(rt; queue.force_push(rt, message) == Ok(None));
-    }
-    assert!(rt; queue.is_full());
-    assert!(rt; queue.len(rt) == capacity as usize);
-    assert!(rt; queue.push(rt, 7) == Err(PushError::Full(7)));
-    assert!(rt; queue.force_push(rt, 8) == Ok(Some(0)));
-    assert!(rt; queue.close() && !queue.close() && queue.is_closed());
-    assert!(rt; queue.push(rt, 9) == Err(PushError::Closed(9)));
-    assert!(rt; queue.force_push(rt, 9) == Err(ForcePushError::Closed(9)));
-    assert!(rt; queue.len(rt) == capacity as usize);
-    assert!(rt; queue.capacity() == Some(capacity as usize));
-}
-
 #[test]
 fn a_full_queue_refuses_or_displaces(rt: HostRuntime) -> Result<(), Fail> {
     for capacity in 1..4u64 {
         let queue = ConcurrentQueue::bounded(rt.alloc(), capacity as usize)?;
-        refuses_or_displaces(&rt, &queue, capacity);
+        for message in 0..capacity {
+            assert!(rt; queue.force_push(&rt, message) == Ok(None));
+        }
+        assert!(rt; queue.is_full());
+        assert!(rt; queue.len(&rt) == capacity as usize);
+        assert!(rt; queue.push(&rt, 7) == Err(PushError::Full(7)));
+        assert!(rt; queue.force_push(&rt, 8) == Ok(Some(0)));
+        assert!(rt; queue.close() && !queue.close() && queue.is_closed());
+        assert!(rt; queue.push(&rt, 9) == Err(PushError::Closed(9)));
+        assert!(rt; queue.force_push(&rt, 9) == Err(ForcePushError::Closed(9)));
+        assert!(rt; queue.len(&rt) == capacity as usize);
+        assert!(rt; queue.capacity() == Some(capacity as usize));
     }
     Ok(())
-}
-
-/// What a queue without a bound answers.
-fn is_never_full<R: Abort + Wait>(rt: &R, queue: &ConcurrentQueue<u64>) {
-    for message in 0..100u64 {
-        assert!(rt; queue.force_push(rt, message) == Ok(None));
-        assert!(rt; !queue.is_full());
-    }
-    assert!(rt; queue.len(rt) == 100);
-    assert!(rt; queue.capacity().is_none());
-    assert!(rt; queue.close() && !queue.close() && queue.is_closed());
-    assert!(rt; queue.push(rt, 9) == Err(PushError::Closed(9)));
-    assert!(rt; queue.force_push(rt, 9) == Err(ForcePushError::Closed(9)));
-    assert!(rt; queue.pop(rt) == Ok(0));
 }
 
 #[test]
 fn an_unbounded_queue_is_never_full(rt: HostRuntime) -> Result<(), Fail> {
     let queue = ConcurrentQueue::unbounded(rt.alloc())?;
-    is_never_full(&rt, &queue);
+    for message in 0..100u64 {
+        assert!(rt; queue.force_push(&rt, message) == Ok(None));
+        assert!(rt; !queue.is_full());
+    }
+    assert!(rt; queue.len(&rt) == 100);
+    assert!(rt; queue.capacity().is_none());
+    assert!(rt; queue.close() && !queue.close() && queue.is_closed());
+    assert!(rt; queue.push(&rt, 9) == Err(PushError::Closed(9)));
+    assert!(rt; queue.force_push(&rt, 9) == Err(ForcePushError::Closed(9)));
+    assert!(rt; queue.pop(&rt) == Ok(0));
     Ok(())
 }
 
@@ -95,23 +84,17 @@ fn capacities_too_great_are_refused(rt: HostRuntime) -> Result<(), Fail> {
     Ok(())
 }
 
-/// A walk and its clone go on after each has given none.
-fn walks_go_on<R: Abort + Wait>(rt: &R, queue: &ConcurrentQueue<u64>) -> Result<(), Fail> {
-    let mut walk = queue.try_iter(rt);
-    assert!(rt; walk.next().is_none());
-    assert!(rt; queue.push(rt, 7u64) == Ok(()));
-    let mut other = walk.clone()?;
-    assert!(rt; walk.next() == Some(7));
-    assert!(rt; other.next().is_none());
-    assert!(rt; queue.push(rt, 8) == Ok(()));
-    assert!(rt; other.next() == Some(8));
-    Ok(())
-}
-
 #[test]
 fn a_walk_goes_on_after_none(rt: HostRuntime) -> Result<(), Fail> {
     let queue = ConcurrentQueue::bounded(rt.alloc(), 3)?;
-    walks_go_on(&rt, &queue)?;
+    let mut walk = queue.try_iter(&rt);
+    assert!(rt; walk.next().is_none());
+    assert!(rt; queue.push(&rt, 7u64) == Ok(()));
+    let mut other = walk.clone()?;
+    assert!(rt; walk.next() == Some(7));
+    assert!(rt; other.next().is_none());
+    assert!(rt; queue.push(&rt, 8) == Ok(()));
+    assert!(rt; other.next() == Some(8));
     Ok(())
 }
 
@@ -140,24 +123,17 @@ fn what_is_left_is_dropped_once(rt: HostRuntime) -> Result<(), Fail> {
     Ok(())
 }
 
-/// A push and a closing by steps, one step at a time.
-fn go_by_steps<R: Abort + Wait>(rt: &R, queue: &ConcurrentQueue<u64>) {
-    let mut push = QueueCall::push(7u64);
-    let early = queue.step(rt, &mut push).is_some() || queue.step(rt, &mut push).is_some();
-    let pushed = matches!(queue.step(rt, &mut push), Some(QueueReply::Push(Ok(()))));
-    drop(push);
-    let mut close = QueueCall::close();
-    let closed = matches!(queue.step_words(&mut close), Some(QueueReply::Close(true)));
-    drop(close);
-    assert!(rt; !early && pushed && closed);
-    assert!(rt; queue.is_closed());
-    assert!(rt; capacity_by_steps(queue) == Some(1));
-}
-
 #[test]
 fn calls_go_by_steps(rt: HostRuntime) -> Result<(), Fail> {
     let queue = ConcurrentQueue::bounded(rt.alloc(), 1)?;
-    go_by_steps(&rt, &queue);
+    let mut push = QueueCall::push(7u64);
+    assert!(rt; queue.step(&rt, &mut push).is_none());
+    assert!(rt; queue.step(&rt, &mut push).is_none());
+    assert!(rt; matches!(queue.step(&rt, &mut push), Some(QueueReply::Push(Ok(())))));
+    let mut close = QueueCall::close();
+    assert!(rt; matches!(queue.step_words(&mut close), Some(QueueReply::Close(true))));
+    assert!(rt; queue.is_closed());
+    assert!(rt; capacity_by_steps(&queue) == Some(1));
     Ok(())
 }
 
