@@ -30,6 +30,9 @@ mod OwedRows
 pub mod SightFacts
 pub mod DoingFacts
 pub mod UserFacts
+pub mod CountNames
+pub mod CountTurns
+pub mod CountBegins
 pub mod PositionFacts
 pub mod PlaceFacts
 pub mod OwnerOrderWithin
