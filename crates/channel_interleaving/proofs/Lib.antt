@@ -33,6 +33,8 @@ pub mod UserFacts
 pub mod CountNames
 pub mod CountTurns
 pub mod CountBegins
+pub mod CountClosings
+pub mod CountFacts
 pub mod PositionFacts
 pub mod PlaceFacts
 pub mod OwnerOrderWithin

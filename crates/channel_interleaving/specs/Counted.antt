@@ -2,6 +2,7 @@
 use Rattle.std.specs.Prelude.{◌≡◌, ◌⊎◌, ℕ, ◌+◌, ◌≤◌, Bool, true, false, cond, List, [], ◌∷◌, map, Option, None, Some}
 use Rattle.channel_calls.specs.Parts.{count}
 use Rattle.channel_calls.specs.declared.stage.Aim.TheVariants as aim
+use Rattle.channel_calls.specs.declared.stage.Closer.{Closer}
 use Rattle.channel_calls.specs.declared.stage.Closer.TheVariants as closer
 use Rattle.channel_calls.specs.declared.stage.Side.{Side}
 use Rattle.channel_calls.specs.declared.stage.Side.TheVariants.{Senders, Receivers}
@@ -49,6 +50,12 @@ same_side Senders Senders = true
 same_side Receivers Receivers = true
 same_side a b = false
 
+-- the drop of the last handle of this side closes, and not another call
+abbrev pub is_last_of : Side → Closer → Bool
+is_last_of Senders closer.Sender = true
+is_last_of Receivers (closer.Receiver key) = true
+is_last_of side c = false
+
 module _ {Q T W : Type 0} where
   -- the drop of a strong handle of this side that is to lower the count: its next step does so
   abbrev pub is_lowering : Side → Stage Q T W → Bool
@@ -57,8 +64,7 @@ module _ {Q T W : Type 0} where
 
   -- the drop of the last one, which has lowered the count to nothing and is to close the channel
   abbrev pub is_closing : Side → Stage Q T W → Bool
-  is_closing Senders (Trying q (aim.Close closer.Sender)) = true
-  is_closing Receivers (Trying q (aim.Close (closer.Receiver key))) = true
+  is_closing side (Trying q (aim.Close c)) = is_last_of side c
   is_closing side at = false
 
   -- a clone or an upgrade that may yet raise the count, in the step that ends it
