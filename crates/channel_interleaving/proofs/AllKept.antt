@@ -1,5 +1,5 @@
 -- What every step keeps of those who wait, and what a call made alone keeps.
-use Rattle.std.proofs.Common.{◌≡◌, ℕ, false, List, [], ◌∷◌, ◌++◌, slice_get, Option, None, Some, refl, sym, ap, ◌∙◌, subst}
+use Rattle.std.proofs.Common.{◌≡◌, ℕ, false, List, [], ◌∷◌, ◌++◌, slice_get, Option, Some, refl, sym, ap, ◌∙◌, subst}
 use Rattle.channel_calls.specs.declared.reply.Reply.{Reply}
 use Rattle.channel_calls.specs.declared.stage.Kept.{Kept}
 use Rattle.channel_alone.specs.Alone.{Outcome}
@@ -15,7 +15,6 @@ use Rattle.channel_interleaving.specs.Bookkeeping.{asks, errand_of, all_woken}
 use Rattle.channel_interleaving.specs.Kept.{AllKept}
 use Rattle.channel_interleaving.specs.Lone.{book_alone}
 use Rattle.channel_interleaving.specs.Order.{all_moved_last}
-use Rattle.channel_interleaving.specs.Refusal.{refusal}
 use Rattle.channel_interleaving.specs.Roll.{first_roll, is_at_work}
 use Rattle.channel_interleaving.specs.Run.{Book, Made, begun, ended, with_woken}
 use Rattle.channel_interleaving.specs.Users.{FewUsers}

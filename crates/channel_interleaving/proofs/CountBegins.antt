@@ -1,5 +1,5 @@
 -- What a call that begins is to do to the counts, and what it does to the names.
-use Rattle.std.proofs.Common.{arith, ◌≡◌, ℕ, ◌+◌, ◌≤◌, Bool, true, false, List, [], ◌∷◌, Option, None, Some, refl, sym, ap, ◌∙◌, subst}
+use Rattle.std.proofs.Common.{arith, ◌≡◌, ℕ, ◌+◌, Bool, false, Option, None, Some, refl, sym, ap, ◌∙◌, subst}
 use Rattle.std.specs.Option.{option_map}
 use Rattle.concurrent_queue.specs.Queue.{Phase, asked}
 use Rattle.channel_calls.specs.Asks.{first}
@@ -27,7 +27,7 @@ use Rattle.channel_model.specs.declared.name.OpId.{OpId}
 use Rattle.channel_model.specs.declared.name.Waiter.{Waiter}
 use Rattle.channel_interleaving.specs.Bookkeeping.{asks, errand_of, names_begun, lent_by, leave_handle_of, new_from, operation_named, handle_named}
 use Rattle.channel_interleaving.specs.Counted.{is_strong, strong_lives, live_on, same_side, is_lowering, is_raising, makes_strong}
-use Rattle.channel_interleaving.specs.Roll.{handle_at, operation_at, held_of, with_lent, with_standing}
+use Rattle.channel_interleaving.specs.Roll.{operation_at, held_of, with_lent, with_standing}
 use Rattle.channel_interleaving.specs.declared.names.Errand.{Errand}
 use Rattle.channel_interleaving.specs.declared.names.Hold.{Hold}
 use Rattle.channel_interleaving.specs.declared.names.Operation.{Operation}

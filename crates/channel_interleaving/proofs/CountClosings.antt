@@ -22,12 +22,12 @@ use Rattle.channel_calls.specs.declared.stage.Closer.TheVariants as closer
 use Rattle.channel_calls.specs.declared.stage.Side.{Side}
 use Rattle.channel_calls.specs.declared.stage.Side.TheVariants.{Senders, Receivers}
 use Rattle.channel_calls.specs.declared.stage.Stage.{Stage}
-use Rattle.channel_calls.specs.declared.stage.Stage.TheVariants.{Trying, Working, Finished}
+use Rattle.channel_calls.specs.declared.stage.Stage.TheVariants.{Trying, Working}
 use Rattle.channel_calls.specs.declared.stage.Turn.TheVariants.{Tries}
 use Rattle.channel_calls.specs.declared.stage.Work.TheVariants.{Lower}
 use Rattle.channel_steps.specs.Known.{TriesFor, StageAt}
 use Rattle.channel_steps.specs.Moments.{Deed, Shut}
-use Rattle.channel_interleaving.specs.Counted.{is_last_of, same_side, is_lowering, is_closing}
+use Rattle.channel_interleaving.specs.Counted.{is_last_of, is_lowering, is_closing}
 
 not_one : (n : ℕ) → (n == 1) ≡ false → 1 ≤ n → 1 ≤ n - 1
 not_one zero t h = absurd (omega (arith, h))

@@ -1,11 +1,10 @@
 -- What the counts count, from one step to the next.
 use Rattle.std.specs.List.{remove}
-use Rattle.std.proofs.Common.{arith, ◌≡◌, ℕ, ◌+◌, ◌≤◌, Bool, true, false, ◌&&◌, List, [], ◌∷◌, ◌++◌, map, slice_get, unwrap_or, Option, None, Some, ◌⊎◌, inl, inr, refl, sym, ap, ◌∙◌, subst}
+use Rattle.std.proofs.Common.{arith, ◌≡◌, ℕ, ◌+◌, ◌≤◌, Bool, true, false, ◌&&◌, List, [], ◌∷◌, ◌++◌, map, slice_get, Option, None, Some, ◌⊎◌, inl, inr, refl, sym, ap, ◌∙◌, subst}
 use Rattle.concurrent_queue.specs.Queue.{Phase}
 use Rattle.channel_calls.specs.Marks.{is_made}
 use Rattle.channel_calls.specs.Moves.{Channel, Effect}
 use Rattle.channel_calls.specs.Parts.{count}
-use Rattle.channel_calls.specs.Turns.{nothing_kept}
 use Rattle.channel_calls.specs.declared.mark.Mark.{Mark}
 use Rattle.channel_calls.specs.declared.reply.Reply.{Reply}
 use Rattle.channel_calls.specs.declared.stage.Kept.{Kept}
@@ -19,8 +18,8 @@ use Rattle.channel_steps.specs.Run.{new_scene, Begins}
 use Rattle.channel_steps.specs.Run as start
 use Rattle.channel_steps.specs.Scene.{Under, Scene, Steps, Known, AllKnown, sees, does, unless_ended}
 use Rattle.channel_steps.specs.declared.party.Entry.{Entry}
-use Rattle.channel_interleaving.specs.Bookkeeping.{asks, errand_of, names_begun, settled, all_woken}
-use Rattle.channel_interleaving.specs.Counted.{tally, live_on, is_lowering, is_closing, is_raising, makes_strong, CountsSide, Counted}
+use Rattle.channel_interleaving.specs.Bookkeeping.{asks, errand_of, settled, all_woken}
+use Rattle.channel_interleaving.specs.Counted.{tally, is_lowering, is_closing, is_raising, makes_strong, CountsSide, Counted}
 use Rattle.channel_interleaving.specs.Owners.{Post, post, wait_of, Suits, Together, AllDiffer, Owned}
 use Rattle.channel_interleaving.specs.Roll.{first_roll}
 use Rattle.channel_interleaving.specs.Run.{Book, begun, ended, with_woken}

@@ -1,27 +1,22 @@
 -- What one step of a call does to the counts.
 use Rattle.std.proofs.Common.{arith, ◌≡◌, ℕ, zero, suc, ◌+◌, ◌-◌, ◌^◌, ◌≤◌, ◌==◌, Bool, true, false, ◌&&◌, if◌then◌else◌, nat_lt, List, [], ◌∷◌, ◌++◌, Option, None, Some, Ok, Err, ◌⊎◌, inl, inr, refl, sym, ap, ◌∙◌, subst}
 use Rattle.std.proofs.lemmas.Bool.Decides.{nat_tests}
-use Rattle.concurrent_queue.specs.Queue.{Queue, Phase, asked, is_displaced, marked, Continues, ContinuesBy, Answers, AnswersClose, AnswersTo}
-use Rattle.concurrent_queue.specs.Queue as stages
+use Rattle.concurrent_queue.specs.Queue.{Phase, asked, Continues, Answers}
 use Rattle.concurrent_queue.specs.declared.call.QueueAsk.{QueueAsk}
 use Rattle.concurrent_queue.specs.declared.call.QueueAsk.TheVariants as queue
-use Rattle.concurrent_queue.specs.declared.call.QueueMark.{QueueMark}
-use Rattle.concurrent_queue.specs.declared.call.QueueMark.TheVariants as queue_mark
 use Rattle.concurrent_queue.specs.declared.call.QueueReply.{QueueReply}
 use Rattle.concurrent_queue.specs.declared.call.QueueReply.TheVariants as answer
 use Rattle.concurrent_queue.specs.declared.error.PushError.TheVariants as push_error
 use Rattle.concurrent_queue.specs.declared.error.ForcePushError.TheVariants as force_error
 use Rattle.concurrent_queue.specs.declared.error.PopError.TheVariants as pop_error
-use Rattle.event_listener.specs.Lists.{listened, registration, removed, removed_wakes}
+use Rattle.event_listener.specs.Lists.{listened, registration, removed}
 use Rattle.event_listener.specs.declared.key.Key.{Key}
-use Rattle.channel_calls.specs.Answered.{over, answered_next, sent_next, forced_next, received_next, gathered_next, short_next, several_next, send_next, receive_next, stream_next, closing_next, polled_next, closed_next, asked_next, terminated_next, upgraded_next}
+use Rattle.channel_calls.specs.Answered.{answered_next, sent_next, forced_next, received_next, gathered_next, short_next, several_next, send_next, receive_next, stream_next, closing_next, polled_next, closed_next, asked_next, terminated_next, upgraded_next}
 use Rattle.channel_calls.specs.Marks.{up, is_made}
-use Rattle.channel_calls.specs.Moves.{Channel, Effect, queued, untouched, on_line, on_count, leaves, raises, Turned, TakesRoomFor, Inserts, Worked, Moves}
-use Rattle.channel_calls.specs.Parts.{Roster, Listeners, listeners, with_listeners, with_count, count, is_raised, told_one, told_more, told_all, waits}
+use Rattle.channel_calls.specs.Moves.{Channel, Effect, queued, untouched, on_line, on_count, leaves, Turned, TakesRoomFor, Inserts, Worked, Moves}
+use Rattle.channel_calls.specs.Parts.{Roster, Listeners, listeners, with_listeners, with_count, count, is_raised, waits}
 use Rattle.channel_calls.specs.Several.{Gathered, with_last}
 use Rattle.channel_calls.specs.Turns.{line_of, dropper, most, leaving, nothing_kept, closer_ending, ends_by, again, refused_next, pends_by, unlistened, told_all_next, room_next, roomless, lowered_next, counted_next, loaded_next, raised_next}
-use Rattle.channel_calls.specs.declared.ask.ChannelAsk.{ChannelAsk}
-use Rattle.channel_calls.specs.declared.ask.ChannelAsk.TheVariants as ask
 use Rattle.channel_calls.specs.declared.error.TryRecvError.{TryRecvError}
 use Rattle.channel_calls.specs.declared.error.TryRecvError.TheVariants as try_recv_error
 use Rattle.channel_calls.specs.declared.reply.Reply.{Reply}
@@ -29,7 +24,6 @@ use Rattle.channel_calls.specs.declared.reply.Reply.TheVariants as reply
 use Rattle.channel_calls.specs.declared.stage.Aim.{Aim}
 use Rattle.channel_calls.specs.declared.stage.Aim.TheVariants as aim
 use Rattle.channel_calls.specs.declared.stage.Closer.{Closer}
-use Rattle.channel_calls.specs.declared.stage.Closer.TheVariants as closer
 use Rattle.channel_calls.specs.declared.stage.Ending.{Ending}
 use Rattle.channel_calls.specs.declared.stage.Held.{Held}
 use Rattle.channel_calls.specs.declared.stage.Line.{Line}
@@ -47,7 +41,7 @@ use Rattle.channel_calls.specs.declared.stage.Waiting.TheVariants as waiting
 use Rattle.channel_calls.specs.declared.stage.Work.{Work}
 use Rattle.channel_calls.specs.declared.stage.Work.TheVariants.{TellReceive, TellStreams, TellSend, TellSends, TakeRoom, TellAll, Insert, Register, Leave, Lower, Count, Load, Raise}
 use Rattle.channel_calls.specs.declared.stage.Work.TheVariants as work
-use Rattle.channel_interleaving.specs.Counted.{same_side, is_lowering, is_closing, is_raising}
+use Rattle.channel_interleaving.specs.Counted.{same_side, is_lowering, is_raising}
 use Rattle.channel_interleaving.proofs.CountNames.{bit, and_false}
 
 -- ---- a count

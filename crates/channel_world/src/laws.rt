@@ -4,9 +4,8 @@
 ghost use Rattle.channel_world.specs.Carried.{HoldsWhatFits, LeadsFurther, LeadsOnInTurn, StaysWhereItIs};
 ghost use Rattle.channel_world.specs.Counts.{AreByDrops, CountsAtRest, CountsLive, OpenHasBoth};
 
-use crate::world::World;
-
 pub use crate::recorded::laws::{a_record_leaves_nobody_asleep, a_record_loses_nothing};
+use crate::world::World;
 pub use channel_model::laws::{
     a_refused_message_is_not_held, an_unbounded_channel_is_never_full, at_most_one_closes,
     counts_are_handles, length_is_within, messages_leave_in_turn, nobody_is_left_asleep,
