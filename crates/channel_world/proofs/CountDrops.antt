@@ -1,5 +1,5 @@
 -- Which calls under way are to lower a count, and which are at closing.
-use Rattle.std.proofs.Common.{◌≡◌, ℕ, true, false, List, [], ◌∷◌, refl, sym, ap, ◌∙◌, subst}
+use Rattle.std.proofs.Common.{◌≡◌, ℕ, true, false, List, [], ◌∷◌, refl, subst}
 use Rattle.concurrent_queue.specs.Queue.{Phase}
 use Rattle.concurrent_queue.specs.declared.call.QueueAsk.{QueueAsk}
 use Rattle.concurrent_queue.specs.declared.call.QueueAsk.TheVariants as queue
@@ -26,7 +26,7 @@ use Rattle.channel_steps.specs.Answers.{Met}
 use Rattle.channel_steps.specs.Known.{TriesFor, WorkAt, StageAt, IsFor, Makes}
 use Rattle.channel_steps.specs.Known as known
 use Rattle.channel_steps.specs.Moments.{Deed, LeftLast, Dropped}
-use Rattle.channel_steps.specs.Scene.{Under, Known, AllKnown}
+use Rattle.channel_steps.specs.Scene.{Under, AllKnown}
 use Rattle.channel_interleaving.specs.Counted.{same_side, is_last_of, is_lowering, is_closing}
 use Rattle.channel_interleaving.specs.Owners.{All}
 use Rattle.channel_world.specs.Counts.{Drops, IsByDrops}

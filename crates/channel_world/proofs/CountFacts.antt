@@ -1,8 +1,8 @@
 -- What the counts of a world count.
 use Rattle.std.specs.List.{filter}
-use Rattle.std.proofs.Common.{arith, ◌≡◌, ◌⊎◌, ℕ, ◌+◌, ◌≤◌, Bool, true, false, cond, List, [], ◌∷◌, map, length, Option, None, Some, inl, inr, refl, sym, ap, ◌∙◌, subst}
+use Rattle.std.proofs.Common.{arith, ◌≡◌, ◌⊎◌, ℕ, ◌+◌, ◌≤◌, Bool, true, false, cond, List, [], ◌∷◌, map, length, Option, None, Some, inl, inr, refl, sym, ap, ◌∙◌}
 use Rattle.std.specs.Option.{option_map}
-use Rattle.concurrent_queue.specs.Queue.{Queue, Phase}
+use Rattle.concurrent_queue.specs.Queue.{Phase}
 use Rattle.concurrent_queue.specs.Step.{closed_in}
 use Rattle.concurrent_queue.specs.declared.queue_call.QueueCall.{QueueCall}
 use Rattle.concurrent_queue.proofs.Interface.{shows}
@@ -14,7 +14,7 @@ use Rattle.channel_calls.specs.declared.stage.Side.TheVariants.{Senders, Receive
 use Rattle.channel_calls.specs.declared.stage.Stage.{Stage}
 use Rattle.channel_calls.specs.declared.stage.Stage.TheVariants.{Trying, Working, Finished}
 use Rattle.channel_calls.specs.declared.stage.Work.TheVariants.{Lower}
-use Rattle.channel_model.specs.Handles.{is_of, live_of, HandlesAreCounted}
+use Rattle.channel_model.specs.Handles.{is_of, live_of}
 use Rattle.channel_model.specs.Names.{Directory}
 use Rattle.channel_model.specs.Refusal.{are_alike}
 use Rattle.channel_model.specs.declared.name.Handle.{Handle}
@@ -28,7 +28,6 @@ use Rattle.channel_interleaving.specs.Floor.{parts_in, Shown, IsQuiet, Stands}
 use Rattle.channel_interleaving.specs.declared.floor.Floor.{Floor}
 use Rattle.channel_interleaving.specs.declared.names.Hold.{Hold}
 use Rattle.channel_world.specs.Counts.{strong_of, counted, live, to_lower, to_close, CountsLive, OpenHasBoth, AreByDrops, CountsAtRest}
-use Rattle.channel_world.specs.World.{at_rest}
 use Rattle.channel_world.proofs.CountDrops.{by_drops}
 
 -- ---- handles
