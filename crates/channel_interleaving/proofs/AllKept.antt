@@ -1,10 +1,10 @@
 -- What every step keeps of those who wait, and what a call made alone keeps.
-use Rattle.std.proofs.Common.{◌≡◌, ℕ, false, List, [], ◌∷◌, ◌++◌, slice_get, Option, None, Some, refl, sym, ap, ◌∙◌, subst}
+use Rattle.std.proofs.Common.{◌≡◌, ℕ, false, List, [], ◌∷◌, ◌++◌, slice_get, Option, Some, refl, sym, ap, ◌∙◌, subst}
 use Rattle.channel_calls.specs.declared.reply.Reply.{Reply}
 use Rattle.channel_calls.specs.declared.stage.Kept.{Kept}
 use Rattle.channel_alone.specs.Alone.{Outcome}
 use Rattle.channel_alone.specs.Scenes.{Goes, names_of_all, LoneRun}
-use Rattle.channel_laws.proofs.Interface.{all_sound_new, all_sound_next}
+use Rattle.channel_laws.proofs.Interface.{all_sound_new, all_sound_next, stays_closed}
 use Rattle.channel_model.specs.declared.call.Call.{Call}
 use Rattle.channel_model.specs.declared.name.Waiter.{Waiter}
 use Rattle.channel_steps.specs.Run.{new_scene, Begins}
@@ -15,7 +15,6 @@ use Rattle.channel_interleaving.specs.Bookkeeping.{asks, errand_of, all_woken}
 use Rattle.channel_interleaving.specs.Kept.{AllKept}
 use Rattle.channel_interleaving.specs.Lone.{book_alone}
 use Rattle.channel_interleaving.specs.Order.{all_moved_last}
-use Rattle.channel_interleaving.specs.Refusal.{refusal}
 use Rattle.channel_interleaving.specs.Roll.{first_roll, is_at_work}
 use Rattle.channel_interleaving.specs.Run.{Book, Made, begun, ended, with_woken}
 use Rattle.channel_interleaving.specs.Users.{FewUsers}
@@ -25,6 +24,7 @@ use Rattle.channel_interleaving.specs.declared.step.Entry.{Entry}
 use Rattle.channel_interleaving.specs.declared.step.PartyId.{PartyId}
 use Rattle.channel_interleaving.specs.declared.step.Step.{Step}
 use Rattle.channel_interleaving.specs.declared.step.Step.TheVariants as step
+use Rattle.channel_interleaving.proofs.CountFacts.{counted_first, counted_begun, counted_step}
 use Rattle.channel_interleaving.proofs.OwnerOrder.{stepped_order}
 use Rattle.channel_interleaving.proofs.OwnerOrderRuns.{order_first, begins_order}
 use Rattle.channel_interleaving.proofs.OwnerPolled.{polled_first, polled_begun, polled_step}
@@ -50,6 +50,7 @@ module _ {T : Type 0} where
         sound = all_sound_new cap;
         polled = polled_first (record { roll = first_roll; order = []; agents = [] }) refl;
         users = users_first T;
+        counted = counted_first cap;
       }
 
   -- a call begins
@@ -64,6 +65,7 @@ module _ {T : Type 0} where
         sound = all_sound_next s (channel.Begin q.0 (asks b.roll c)) e [] t k.sound (n, refl);
         polled = polled_begun q c b s k.owned fine k.polled;
         users = users_begun q c b k.users;
+        counted = counted_begun q c b s t e n k.counted;
       }
 
   -- the book after a step of a party
@@ -85,6 +87,8 @@ module _ {T : Type 0} where
         polled = polled_step b c s t q e.mark e.reply e.kept names k.owned known st after.0 after.1 after.2 after.3
             after.4 k.polled;
         users = subst (λ (d : Book T). FewUsers d) (sym after.4) (users_ended after.0 after.1 e.reply e.kept names b after.2 k.users);
+        counted = counted_step b c s t q e.mark e.reply e.kept names k.owned known st after
+            (stays_closed s (channel.Step q.0) e names t st) k.counted;
       }
 
   -- a step that was made

@@ -30,6 +30,11 @@ mod OwedRows
 pub mod SightFacts
 pub mod DoingFacts
 pub mod UserFacts
+pub mod CountNames
+pub mod CountTurns
+pub mod CountBegins
+pub mod CountClosings
+pub mod CountFacts
 pub mod PositionFacts
 pub mod PlaceFacts
 pub mod OwnerOrderWithin

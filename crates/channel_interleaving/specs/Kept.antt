@@ -2,6 +2,7 @@
 use Rattle.channel_laws.specs.Sound.{AllSound}
 use Rattle.channel_model.specs.declared.name.Waiter.{Waiter}
 use Rattle.channel_steps.specs.Scene.{Scene}
+use Rattle.channel_interleaving.specs.Counted.{Counted}
 use Rattle.channel_interleaving.specs.OwnerOrder.{InOrder}
 use Rattle.channel_interleaving.specs.OwnerPolled.{PolledAtWork}
 use Rattle.channel_interleaving.specs.OwnerWoken.{WokenSound}
@@ -11,7 +12,7 @@ use Rattle.channel_interleaving.specs.Users.{FewUsers}
 
 module _ {T : Type 0} where
   -- Each listener has its owner; whoever was woken is told, in the order of waking; nobody who waits is forgotten; where a poll
-  -- of a name is under way, a party works there; and no handle is used by more than use it.
+  -- of a name is under way, a party works there; no handle is used by more than use it; and the counts count the strong handles.
   pub record AllKept (b : Book T) (s : Scene T Waiter) : Type 0 where
     pub owned : Owned b s
     pub woken : WokenSound b s
@@ -19,3 +20,4 @@ module _ {T : Type 0} where
     pub sound : AllSound s
     pub polled : PolledAtWork b
     pub users : FewUsers b
+    pub counted : Counted b s

@@ -12,6 +12,7 @@ pub mod OwnerWoken
 pub mod OwnerOrder
 pub mod OwnerPolled
 pub mod Users
+pub mod Counted
 pub mod Kept
 pub mod Left
 pub mod Positions

@@ -2,6 +2,8 @@ pub mod Few
 pub mod FewListed
 pub mod Opening
 pub mod Carried
+pub mod CountDrops
+pub mod CountFacts
 pub mod SoonFacts
 pub mod MarkFacts
 pub mod HeadlineFacts

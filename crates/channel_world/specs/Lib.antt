@@ -5,6 +5,7 @@ pub mod StepsLeft
 pub mod Headline
 pub mod Settled
 pub mod Carried
+pub mod Counts
 pub mod Staged
 pub mod Script
 pub mod Output

@@ -2,8 +2,10 @@
 //! of a function that does nothing; who wants to use one calls it.
 
 ghost use Rattle.channel_world.specs.Carried.{HoldsWhatFits, LeadsFurther, LeadsOnInTurn, StaysWhereItIs};
+ghost use Rattle.channel_world.specs.Counts.{AreByDrops, CountsAtRest, CountsLive, OpenHasBoth};
 
 pub use crate::recorded::laws::{a_record_leaves_nobody_asleep, a_record_loses_nothing};
+use crate::world::World;
 pub use channel_model::laws::{
     a_refused_message_is_not_held, an_unbounded_channel_is_never_full, at_most_one_closes,
     counts_are_handles, length_is_within, messages_leave_in_turn, nobody_is_left_asleep,
@@ -31,3 +33,21 @@ pub fn what_is_done_in_turn_leads_on<T>()
 pub fn a_world_holds_what_fits<T>()
     ensures within { HoldsWhatFits T }
 {}
+
+/// What the counts of senders and receivers count, in whatever world, after any runs of steps and lists of calls.
+///
+/// A count is the number of strong handles of its side that live, with those whose drops are under way and have not lowered it yet.
+/// On an open channel it is one at least, or the drop of the last handle is at closing the channel. Which calls those are, their
+/// marks say: a drop is to lower its count as long as it has no mark; and one that is at closing has lowered it from one. A clone
+/// or an upgrade raises a count in the step that ends it, with which its handle lives. So with no call under way a count is the
+/// number of live strong handles of its side, and while the channel is open each side has one.
+///
+/// Own to this project.
+pub fn counts_are_live_handles<T: Drop>(world: &World<T>)
+    ensures counts { CountsLive world.now }
+    ensures while_open { OpenHasBoth world.now }
+    ensures drops { AreByDrops world.now }
+    ensures at_rest { CountsAtRest world.now }
+{
+    world.keeps();
+}

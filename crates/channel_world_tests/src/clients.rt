@@ -3,11 +3,14 @@
 ghost use Rattle.std.specs.Prelude.{◌≡◌, ◌+◌};
 ghost use Rattle.channel_interleaving.specs.Floor.{IsQuiet, Led};
 ghost use Rattle.channel_interleaving.specs.Runs.{accepted_in, left_in};
+ghost use Rattle.channel_model.specs.Handles.{HandlesAreCounted};
 ghost use Rattle.channel_model.specs.declared.name.Waiter.{Waiter};
 ghost use Rattle.channel_steps.specs.Scene.{Scene};
 ghost use Rattle.channel_world.specs.StepsLeft.{EndsInFront};
+ghost use Rattle.channel_world.specs.World.{at_rest};
 
 use channel_world::call::{Call, CallRun};
+use channel_world::laws::counts_are_live_handles;
 use channel_world::step::{Run, Step};
 use channel_world::world::World;
 use std::collections::VecDeque;
@@ -93,4 +96,13 @@ pub fn carry<T: Drop>(
     let run = step_on(world, steps);
     let after = call_if_quiet(world, after);
     Parts { before, run, after }
+}
+
+/// Looks at whatever world has no call under way: each count is the number of live strong handles of its side, and while the
+/// channel is open each side has one at least.
+pub fn counts_at_rest<T: Drop>(world: &World<T>)
+    requires { IsQuiet world.now }
+    ensures { HandlesAreCounted (at_rest world.now).channel (at_rest world.now).names.handles }
+{
+    counts_are_live_handles(world);
 }

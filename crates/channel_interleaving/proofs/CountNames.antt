@@ -1,0 +1,184 @@
+-- How many strong handles live, after what calls do to the names.
+use Rattle.std.proofs.Common.{arith, ◌≡◌, ℕ, ◌+◌, nat_eq, Bool, true, false, ◌&&◌, cond, List, [], ◌∷◌, Option, None, Some, refl, sym, ap, ◌∙◌, subst}
+use Rattle.std.specs.Map.{lookup, set_value}
+use Rattle.std.specs.Option.{option_map_or}
+use Rattle.channel_calls.specs.Marks.{is_made}
+use Rattle.channel_calls.specs.declared.reply.Reply.{Reply}
+use Rattle.channel_calls.specs.declared.reply.Reply.TheVariants as reply
+use Rattle.channel_calls.specs.declared.stage.Kept.{Kept}
+use Rattle.channel_calls.specs.declared.stage.Line.{Line}
+use Rattle.channel_calls.specs.declared.stage.Side.{Side}
+use Rattle.channel_model.specs.Names.{Directory, at, with_spent, with_changed, without}
+use Rattle.channel_model.specs.declared.name.HandleId.{HandleId}
+use Rattle.channel_model.specs.declared.name.HandleKind.{HandleKind}
+use Rattle.channel_model.specs.declared.name.HandleKind.TheVariants as handle_kind
+use Rattle.channel_model.specs.declared.name.Waiter.{Waiter}
+use Rattle.channel_model.specs.declared.name.Waiter.TheVariants.{Op, Stream}
+use Rattle.channel_interleaving.specs.Bookkeeping.{settled, installed, woken, all_woken}
+use Rattle.channel_interleaving.specs.Counted.{is_strong, strong_lives, live_on, makes_strong}
+use Rattle.channel_interleaving.specs.Owners.{Post, free, vacant, no_stream_post, stream_post, post, posted, Suits}
+use Rattle.channel_interleaving.specs.Roll.{standing_with, used_more, used_less, with_handle, with_lent, with_given_back, with_standing}
+use Rattle.channel_interleaving.specs.declared.names.Errand.{Errand}
+use Rattle.channel_interleaving.specs.declared.names.Errand.TheVariants as errand
+use Rattle.channel_interleaving.specs.declared.names.Hold.{Hold}
+use Rattle.channel_interleaving.specs.declared.names.Standing.{Standing}
+use Rattle.channel_interleaving.specs.declared.names.Standing.TheVariants.{Rests, Waits, IsPolled}
+use Rattle.channel_interleaving.specs.declared.roll.Roll.{Roll}
+use Rattle.channel_interleaving.proofs.OwnerNames.{found, hold_post, given_back_same}
+
+-- one where it passes
+abbrev pub bit : Bool → ℕ
+bit b = cond b 1 0
+
+-- ---- a directory
+
+abbrev lives_in : Side → Option (Option Hold) → Bool
+lives_in side None = false
+lives_in side (Some x) = strong_lives side x
+
+-- a value in the place of another
+set_at : (side : Side) (t : Bool) (n : ℕ) (f : ℕ × Option Hold) (d : Directory Hold) (v : Option Hold) (m : ℕ)
+    → (((x : Option Hold) → lookup (nat_eq n) d ≡ Some x
+    → live_on side (set_value (nat_eq n) d v) + bit (strong_lives side x) ≡ live_on side d + bit (strong_lives side v)))
+    → (x : Option Hold) → cond t (Some f.1) (lookup (nat_eq n) d) ≡ Some x
+    → live_on side (cond t ((f.0, v) ∷ d) (f ∷ set_value (nat_eq n) d v)) + bit (strong_lives side x)
+    ≡ live_on side (f ∷ d) + bit (strong_lives side v)
+set_at side true n f d v m on x e =
+    let same : f.1 ≡ x = ap (λ (o : Option (Option Hold)). elim o [ None ↦ x | Some y ↦ y ]) e in
+    subst (λ (y : Option Hold). bit (strong_lives side v) + live_on side d + bit (strong_lives side y) ≡ bit (strong_lives side f.1) + live_on side d + bit (strong_lives side v))
+    same (omega arith)
+set_at side false n f d v m on x e = let rest = on x e in omega (arith, rest)
+
+set_live : (side : Side) (n : ℕ) (d : Directory Hold) (v x : Option Hold) → lookup (nat_eq n) d ≡ Some x
+    → live_on side (set_value (nat_eq n) d v) + bit (strong_lives side x) ≡ live_on side d + bit (strong_lives side v)
+set_live side n [] v x e = absurd (let no : None ≡ Some x = e in cc)
+set_live side n (f ∷ d) v x e = set_at side (nat_eq n f.0) n f d v n (λ y g. set_live side n d v y g) x e
+
+unset_at : (t : Bool) (n : ℕ) (f : ℕ × Option Hold) (d : Directory Hold) (v : Option Hold)
+    → (lookup (nat_eq n) d ≡ None → set_value (nat_eq n) d v ≡ d) → cond t (Some f.1) (lookup (nat_eq n) d) ≡ None
+    → cond t ((f.0, v) ∷ d) (f ∷ set_value (nat_eq n) d v) ≡ f ∷ d
+unset_at true n f d v on e = absurd (let no : Some f.1 ≡ None = e in cc)
+unset_at false n f d v on e = ap (λ (l : Directory Hold). f ∷ l) (on e)
+
+-- under a name that was never taken nothing is set
+unset : (n : ℕ) (d : Directory Hold) (v : Option Hold) → lookup (nat_eq n) d ≡ None → set_value (nat_eq n) d v ≡ d
+unset n [] v e = refl
+unset n (f ∷ d) v e = unset_at (nat_eq n f.0) n f d v (unset n d v) e
+
+-- what lived under a name lives no more
+pub without_live : (side : Side) (n : ℕ) (d : Directory Hold)
+    → live_on side (without n d) + bit (strong_lives side (at n d)) ≡ live_on side d
+without_live side n d = by (lookup (nat_eq n) d) refl where
+  by : (o : Option (Option Hold)) → lookup (nat_eq n) d ≡ o
+      → live_on side (without n d) + bit (strong_lives side (option_map_or (λ (x : Option Hold). x) o None)) ≡ live_on side d
+  by None e = let same = ap (λ (l : Directory Hold). live_on side l) (unset n d None e) in omega (arith, same)
+  by (Some x) e = let same = set_live side n d None x e in omega (arith, same)
+
+-- a name that is taken, and under which nothing lives yet
+pub spent_live : (side : Side) (n : ℕ) (d : Directory Hold) → live_on side (with_spent n d) ≡ live_on side d
+spent_live side n d = omega arith
+
+-- ---- what is vacant
+
+abbrev IsVacant : Post → Type 0
+IsVacant vacant = Unit {0}
+IsVacant x = ⊥
+
+none_vacant : (s : Standing) → IsVacant (no_stream_post s) → ⊥
+none_vacant Rests h = h
+none_vacant (Waits key is_woken) h = h
+none_vacant (IsPolled brings) h = h
+
+not_vacant : (k : HandleKind) (s : Standing) → IsVacant (stream_post k s) → ⊥
+not_vacant handle_kind.Receiver Rests h = h
+not_vacant handle_kind.Receiver (Waits key is_woken) h = h
+not_vacant handle_kind.Receiver (IsPolled brings) h = h
+not_vacant handle_kind.Sender s h = none_vacant s h
+not_vacant handle_kind.WeakSender s h = none_vacant s h
+not_vacant handle_kind.WeakReceiver s h = none_vacant s h
+
+is_vacant : (x : Post) → x ≡ vacant → IsVacant x
+is_vacant x e = subst (λ (y : Post). IsVacant y) (sym e) tt
+
+-- what stands so was taken, and nothing lives there
+vacant_is : (o : Option (Option Hold)) → posted hold_post o ≡ vacant
+    → (x : Option Hold) × (o ≡ Some x) × ((side : Side) → strong_lives side x ≡ false)
+vacant_is None e = absurd (is_vacant free e)
+vacant_is (Some None) e = (None, refl, λ side. refl)
+vacant_is (Some (Some h)) e = absurd (not_vacant h.handle.kind h.standing (is_vacant (hold_post h) e))
+
+and_true : (b : Bool) → (b && true) ≡ b
+and_true true = refl
+and_true false = refl
+
+pub and_false : (b : Bool) → (b && false) ≡ false
+and_false true = refl
+and_false false = refl
+
+module _ {T : Type 0} where
+  -- a handle that is changed is of the same kind
+  pub handle_live : (side : Side) (change : Hold → Hold) (handle : HandleId) (r : Roll T)
+      → ((h : Hold) → (change h).handle.kind ≡ h.handle.kind)
+      → live_on side (with_handle change handle r).handles ≡ live_on side r.handles
+  handle_live side change handle r keeps = by (at handle.0 r.handles) refl where
+    by : (o : Option Hold) → at handle.0 r.handles ≡ o
+        → live_on side (option_map_or (λ (h : Hold). with_changed handle.0 (change h) r.handles) o r.handles) ≡ live_on side r.handles
+    by None e = refl
+    by (Some h) e =
+        let set = set_live side handle.0 r.handles (Some (change h)) (Some h) (found handle.0 r.handles h e) in
+        let same : bit (is_strong side (change h).handle.kind) ≡ bit (is_strong side h.handle.kind) =
+        ap (λ (k : HandleKind). bit (is_strong side k)) (keeps h) in
+        omega (arith, set, same)
+
+  pub lent_live : (side : Side) (handle : HandleId) (r : Roll T) → live_on side (with_lent handle r).handles ≡ live_on side r.handles
+  lent_live side handle r = handle_live side used_more handle r (λ h. refl)
+
+  pub back_live : (side : Side) (handle : HandleId) (r : Roll T)
+      → live_on side (with_given_back handle r).handles ≡ live_on side r.handles
+  back_live side handle r = handle_live side used_less handle r (λ h. refl)
+
+  pub standing_live : (side : Side) (s : Standing) (handle : HandleId) (r : Roll T)
+      → live_on side (with_standing s handle r).handles ≡ live_on side r.handles
+  standing_live side s handle r = handle_live side (λ (h : Hold). record h { standing = s }) handle r (λ h. refl)
+
+  -- ---- wakes
+
+  pub woken_live : (side : Side) (names : List Waiter) (r : Roll T) → live_on side (all_woken names r).handles ≡ live_on side r.handles
+  woken_live side [] r = refl
+  woken_live side (Op op ∷ names) r = woken_live side names (woken (Op op) r)
+  woken_live side (Stream handle ∷ names) r =
+      woken_live side names (woken (Stream handle) r) ∙ handle_live side _ handle r (λ h. refl)
+
+  -- ---- the end of a call
+
+  pub installed_live : (side : Side) (new : HandleId) (kind : HandleKind) (y : Reply T) (r : Roll T) → post r (Stream new) ≡ vacant
+      → live_on side (installed new kind y r).handles ≡ live_on side r.handles + bit (is_strong side kind && is_made (Some y))
+  installed_live side new kind reply.Made r e =
+      let there = vacant_is (lookup (nat_eq new.0) r.handles) e in
+      let set = set_live side new.0 r.handles (Some (record { handle = record { kind = kind; borrowers = 0 }; standing = Rests })) there.0 there.1 in
+      let none : bit (strong_lives side there.0) ≡ 0 = ap bit (there.2 side) in
+      let all : bit (is_strong side kind && true) ≡ bit (is_strong side kind) = ap bit (and_true (is_strong side kind)) in
+      omega (arith, set, none, all)
+  installed_live side new kind y r e =
+      let none : bit (is_strong side kind && false) ≡ 0 = ap bit (and_false (is_strong side kind)) in
+      omega (arith, none)
+
+  pub settled_live : (side : Side) (e : Errand T) (y : Reply T) (kept : Kept T) (wait : Option (Line × Waiter)) (r : Roll T)
+      → Suits (post r) e wait
+      → live_on side (settled e y kept r).handles ≡ live_on side r.handles + bit (makes_strong side e && is_made (Some y))
+  settled_live side errand.Nothing y kept wait r f = omega arith
+  settled_live side (errand.Leave handle) y kept wait r f = let same = back_live side handle r in omega (arith, same)
+  settled_live side (errand.LeaveBoth a b) y kept wait r f =
+      let first = back_live side a r in
+      let second = back_live side b (with_given_back a r) in
+      omega (arith, first, second)
+  settled_live side (errand.Make op operation) y kept wait r f = omega arith
+  settled_live side (errand.Poll op) y kept wait r f = omega arith
+  settled_live side (errand.PollNext receiver) y kept wait r f =
+      let first = standing_live side (standing_with kept.key) receiver r in
+      let second = back_live side receiver (with_standing (standing_with kept.key) receiver r) in
+      omega (arith, first, second)
+  settled_live side (errand.New from new kind) y kept wait r f =
+      let back = back_live side from r in
+      let made = installed_live side new kind y (with_given_back from r) (given_back_same r from (Stream new) ∙ f.0) in
+      omega (arith, back, made)

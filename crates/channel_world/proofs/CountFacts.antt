@@ -1,0 +1,153 @@
+-- What the counts of a world count.
+use Rattle.std.specs.List.{filter}
+use Rattle.std.proofs.Common.{arith, ◌≡◌, ◌⊎◌, ℕ, ◌+◌, ◌≤◌, Bool, true, false, cond, List, [], ◌∷◌, map, length, Option, None, Some, inl, inr, refl, sym, ap, ◌∙◌}
+use Rattle.std.specs.Option.{option_map}
+use Rattle.concurrent_queue.specs.Queue.{Phase}
+use Rattle.concurrent_queue.specs.Step.{closed_in}
+use Rattle.concurrent_queue.specs.declared.queue_call.QueueCall.{QueueCall}
+use Rattle.concurrent_queue.proofs.Interface.{shows}
+use Rattle.channel_calls.specs.Moves.{Channel, phase}
+use Rattle.channel_calls.specs.Parts.{count}
+use Rattle.channel_calls.specs.declared.stage.Aim.TheVariants as aim
+use Rattle.channel_calls.specs.declared.stage.Side.{Side}
+use Rattle.channel_calls.specs.declared.stage.Side.TheVariants.{Senders, Receivers}
+use Rattle.channel_calls.specs.declared.stage.Stage.{Stage}
+use Rattle.channel_calls.specs.declared.stage.Stage.TheVariants.{Trying, Working, Finished}
+use Rattle.channel_calls.specs.declared.stage.Work.TheVariants.{Lower}
+use Rattle.channel_model.specs.Handles.{is_of, live_of}
+use Rattle.channel_model.specs.Names.{Directory}
+use Rattle.channel_model.specs.Refusal.{are_alike}
+use Rattle.channel_model.specs.declared.name.Handle.{Handle}
+use Rattle.channel_model.specs.declared.name.HandleKind.{HandleKind}
+use Rattle.channel_model.specs.declared.name.HandleKind.TheVariants.{Sender, Receiver, WeakSender, WeakReceiver}
+use Rattle.channel_model.specs.declared.name.Waiter.{Waiter}
+use Rattle.channel_steps.specs.Scene.{Under, Scene, Sitting, under_of, all_seats}
+use Rattle.channel_steps.specs.declared.party.Party.{Party}
+use Rattle.channel_interleaving.specs.Counted.{tally, is_strong, strong_lives, live_on, is_lowering, is_closing}
+use Rattle.channel_interleaving.specs.Floor.{parts_in, Shown, IsQuiet, Stands}
+use Rattle.channel_interleaving.specs.declared.floor.Floor.{Floor}
+use Rattle.channel_interleaving.specs.declared.names.Hold.{Hold}
+use Rattle.channel_world.specs.Counts.{strong_of, counted, live, to_lower, to_close, CountsLive, OpenHasBoth, AreByDrops, CountsAtRest}
+use Rattle.channel_world.proofs.CountDrops.{by_drops}
+
+-- ---- handles
+
+same_kind : (side : Side) (k : HandleKind) → are_alike (strong_of side) k ≡ is_strong side k
+same_kind Senders Sender = refl
+same_kind Senders Receiver = refl
+same_kind Senders WeakSender = refl
+same_kind Senders WeakReceiver = refl
+same_kind Receivers Sender = refl
+same_kind Receivers Receiver = refl
+same_kind Receivers WeakSender = refl
+same_kind Receivers WeakReceiver = refl
+
+same_there : (side : Side) (o : Option Hold) → is_of (strong_of side) (option_map (λ (h : Hold). h.handle) o) ≡ strong_lives side o
+same_there side None = refl
+same_there side (Some h) = same_kind side h.handle.kind
+
+one_more : {X : Type 0} (b c : Bool) (x : X) (xs : List X) → b ≡ c → length (cond b (x ∷ xs) xs) ≡ cond c 1 0 + length xs
+one_more true true x xs e = omega arith
+one_more false false x xs e = omega arith
+one_more true false x xs e = cc e
+one_more false true x xs e = cc e
+
+same_live : (side : Side) (d : Directory Hold)
+    → live_of (strong_of side) (map (λ (e : ℕ × Option Hold). (e.0, option_map (λ (h : Hold). h.handle) e.1)) d) ≡ live_on side d
+same_live side [] = refl
+same_live side (e ∷ d) =
+    let rest = same_live side d in
+    let kinds : List (ℕ × Option Handle) = map (λ (f : ℕ × Option Hold). (f.0, option_map (λ (h : Hold). h.handle) f.1)) d in
+    let own = one_more (is_of (strong_of side) (option_map (λ (h : Hold). h.handle) e.1)) (strong_lives side e.1)
+    (let x : ℕ × Option Handle = (e.0, option_map (λ (h : Hold). h.handle) e.1) in x)
+    (filter (λ (f : ℕ × Option Handle). is_of (strong_of side) f.1) kinds) (same_there side e.1) in
+    omega (arith, rest, own)
+
+-- ---- calls under way
+
+module _ {T : Type 0} where
+  low_so : (side : Side) (f : Phase T) (s : Stage (QueueCall T) T Waiter) → is_lowering side (phase f s) ≡ is_lowering side s
+  low_so side f (Working (Lower z key)) = refl
+  low_so side f (Working w) = refl
+  low_so side f (Trying q a) = refl
+  low_so side f (Finished kept) = refl
+
+  close_so : (side : Side) (f : Phase T) (s : Stage (QueueCall T) T Waiter) → is_closing side (phase f s) ≡ is_closing side s
+  close_so side f (Trying q (aim.Close c)) = refl
+  close_so side f (Trying q a) = refl
+  close_so side f (Working w) = refl
+  close_so side f (Finished kept) = refl
+
+  same_tally : (p : Stage (Phase T) T Waiter → Bool) (q : Stage (QueueCall T) T Waiter → Bool)
+      → ((f : Phase T) (s : Stage (QueueCall T) T Waiter) → p (phase f s) ≡ q s) → (xs : List (Sitting T Waiter))
+      → tally (λ (u : Under T Waiter). p u.at) (map under_of xs)
+      ≡ tally (λ (x : Party T Waiter). q x.call.stage) (map (λ (x : Sitting T Waiter). x.party) xs)
+  same_tally p q same [] = refl
+  same_tally p q same (x ∷ xs) =
+      let rest = same_tally p q same xs in
+      let own : cond (p (phase x.inner x.party.call.stage)) 1 0 ≡ cond (q x.party.call.stage) 1 0 =
+      ap (λ (b : Bool). let n : ℕ = cond b 1 0 in n) (same x.inner x.party.call.stage) in
+      omega (arith, rest, own)
+
+  module _ (w : Floor T) (s : Scene T Waiter) (sh : Shown w s) where
+    shown_tally : (p : Stage (Phase T) T Waiter → Bool) (q : Stage (QueueCall T) T Waiter → Bool)
+        → ((f : Phase T) (z : Stage (QueueCall T) T Waiter) → p (phase f z) ≡ q z)
+        → tally (λ (u : Under T Waiter). p u.at) s.under_way ≡ tally (λ (x : Party T Waiter). q x.call.stage) w.parties.items
+    shown_tally p q same =
+        ap (λ (us : List (Under T Waiter)). tally (λ (u : Under T Waiter). p u.at) us) sh.shows.under_way
+        ∙ (same_tally p q same sh.shows.sittings
+        ∙ ap (λ (ps : List (Party T Waiter)). tally (λ (x : Party T Waiter). q x.call.stage) ps) (sym sh.shows.parties_are))
+
+    count_shown : (side : Side) → count side s.now.roster ≡ counted side w
+    count_shown side = ap (λ (c : Channel T Waiter). count side c.roster) sh.shows.now
+
+    closed_shown : s.now.queue.closed ≡ closed_in (parts_in w).cells
+    closed_shown =
+        let shown = shows (parts_in w).cells sh.shows.queue (all_seats sh.shows.sittings) sh.shows.fits in
+        ap (λ (c : Channel T Waiter). c.queue.closed) sh.shows.now ∙ sym shown.flag
+
+  -- ---- a world
+
+  module _ (w : Floor T) (k : Stands w) where
+    pub counts_live : CountsLive w
+    counts_live side =
+        let c = (k.stands.kept.counted side).counts in
+        let now = count_shown w k.scene k.stands.shown side in
+        let low = shown_tally w k.scene k.stands.shown (λ at. is_lowering side at) (λ at. is_lowering side at) (low_so side) in
+        let lives = same_live side w.roll.handles in
+        omega (arith, c, now, low, lives)
+
+    pub open_has_both : OpenHasBoth w
+    open_has_both is_open side = by ((k.stands.kept.counted side).opened (closed_shown w k.scene k.stands.shown ∙ is_open)) where
+      by : (1 ≤ count side k.scene.now.roster) ⊎ (1 ≤ tally (λ (u : Under T Waiter). is_closing side u.at) k.scene.under_way)
+          → (1 ≤ counted side w) ⊎ (1 ≤ to_close side w)
+      by (inl h) = let now = count_shown w k.scene k.stands.shown side in inl (omega (arith, h, now))
+      by (inr h) =
+          let close = shown_tally w k.scene k.stands.shown (λ at. is_closing side at) (λ at. is_closing side at) (close_so side) in
+          inr (omega (arith, h, close))
+
+    none_lowers : IsQuiet w → (side : Side) → to_lower side w ≡ 0
+    none_lowers quiet side = ap (λ (ps : List (Party T Waiter)). tally (λ (p : Party T Waiter). is_lowering side p.call.stage) ps) quiet
+
+    none_closes : IsQuiet w → (side : Side) → to_close side w ≡ 0
+    none_closes quiet side = ap (λ (ps : List (Party T Waiter)). tally (λ (p : Party T Waiter). is_closing side p.call.stage) ps) quiet
+
+    all_live : IsQuiet w → (side : Side) → counted side w ≡ live side w
+    all_live quiet side = let c = counts_live side in let none = none_lowers quiet side in omega (arith, c, none)
+
+    has_one : IsQuiet w → closed_in (parts_in w).cells ≡ false → (side : Side) → 1 ≤ counted side w
+    has_one quiet is_open side = by (open_has_both is_open side) where
+      by : (1 ≤ counted side w) ⊎ (1 ≤ to_close side w) → 1 ≤ counted side w
+      by (inl h) = h
+      by (inr h) = absurd (let none = none_closes quiet side in omega (arith, h, none))
+
+    pub counts_at_rest : CountsAtRest w
+    counts_at_rest quiet = record {
+      senders = all_live quiet Senders;
+      receivers = all_live quiet Receivers;
+      sending = λ is_open. has_one quiet is_open Senders;
+      receiving = λ is_open. has_one quiet is_open Receivers;
+    }
+
+  pub are_by_drops : (w : Floor T) → AreByDrops w
+  are_by_drops w s k side = by_drops T side s.now s.under_way (let streams = k.kept.sound.streams in streams.known)
