@@ -1,6 +1,7 @@
 -- The steps that a push and a pop make on end over blocks are those of their machine: what each operation on a cell says of the
 -- cells before it and after it is one step.
-use Rattle.std.proofs.Common.{◌≡◌, ◌∙◌, ℕ, suc, ◌+◌, ◌-◌, ◌/◌, ◌%◌, ◌^◌, ◌==◌, ◌<◌, length, Bool, true, false, nat_le, if◌then◌else◌, None, Some, Result, Ok, Err, slice_index, MatchResult, is_err, refl, sym, subst, ap, inl}
+use Rattle.std.proofs.Common.{◌≡◌, ◌∙◌, ℕ, suc, ◌+◌, ◌-◌, ◌/◌, ◌%◌, ◌^◌, ◌==◌, ◌<◌, length, Bool, true, false, nat_le, if◌then◌else◌, None, Some, Result, Ok, Err, slice_index, MatchResult, is_err, refl, sym, subst, ap, inl, arith}
+use Rattle.std.proofs.lemmas.Bool.Decides.{nat_tests}
 use Rattle.concurrent_queue.specs.Contents.{Contents, SpareGives, PutGives, read, block_at, slot_at, can_put, write, write_slot, with_retired, spare_of, without_spare}
 use Rattle.concurrent_queue.specs.machine.Ahead.{ActionStep, IsStep, PushesOnEnd, PopsOnEnd, plainly}
 use Rattle.concurrent_queue.specs.machine.BlocksMoves.{answer_as}
@@ -23,6 +24,9 @@ use Rattle.concurrent_queue.specs.declared.unbounded.ending.Ending.TheVariants a
 use Rattle.concurrent_queue.proofs.AtOnce.{itself}
 use Rattle.concurrent_queue.proofs.BlocksYields.{eq_is, eq_not}
 
+far_from : (m n : ℕ) → n < m → nat_le m n ≡ false
+far_from m n less = grind (arith, nat_tests)
+
 module _ {T : Type 0} where
   abbrev going : UnboundedAction T → QueueMark → Progress T
   going a m = record { action = a; mark = m; ending = None }
@@ -44,25 +48,24 @@ module _ {T : Type 0} where
 
   -- ---- whether an exchange was made
 
-  module _ (at : Word) (c d : Contents T) (t n : ℕ) where
-    abbrev pub Gives : Result ℕ ℕ → Type 0
-    Gives r = MatchResult r (λ w. (w ≡ t) × (read c at ≡ t) × (d ≡ write c at n)) (λ w. (w ≡ read c at) × (w ≡ t → ⊥) × (d ≡ c))
+  abbrev pub Exchanges : Word → Contents T → Contents T → ℕ → ℕ → Result ℕ ℕ → Type 0
+  Exchanges at c d t n r = MatchResult r (λ w. (w ≡ t) × (read c at ≡ t) × (d ≡ write c at n)) (λ w. (w ≡ read c at) × (w ≡ t → ⊥) × (d ≡ c))
 
-  pub exchanged : {at : Word} {c d : Contents T} {t n : ℕ} (r : Result ℕ ℕ) → is_err r ≡ false → Gives at c d t n r → (read c at ≡ t) × (d ≡ write c at n)
-  exchanged (Ok w) e (was, here, left) = (here, left)
-  exchanged (Err w) e h = absurd e
+  pub exchanged : (at : Word) (c d : Contents T) (t n : ℕ) (r : Result ℕ ℕ) → is_err r ≡ false → Exchanges at c d t n r → (read c at ≡ t) × (d ≡ write c at n)
+  exchanged at c d t n (Ok w) e (was, here, left) = (here, left)
+  exchanged at c d t n (Err w) e h = absurd cc
 
-  pub not_exchanged : {at : Word} {c d : Contents T} {t n : ℕ} (r : Result ℕ ℕ) → is_err r ≡ true → Gives at c d t n r → (read c at ≡ t → ⊥) × (d ≡ c)
-  not_exchanged (Ok w) e h = absurd e
-  not_exchanged (Err w) e (was, other, left) = ((λ same. other (was ∙ same)), left)
+  pub not_exchanged : (at : Word) (c d : Contents T) (t n : ℕ) (r : Result ℕ ℕ) → is_err r ≡ true → Exchanges at c d t n r → (read c at ≡ t → ⊥) × (d ≡ c)
+  not_exchanged at c d t n (Ok w) e h = absurd cc
+  not_exchanged at c d t n (Err w) e (was, other, left) = (λ same. other (was ∙ same), left)
 
   -- ---- a push
 
   module _ (c d : Contents T) (v : T) (t : ℕ) where
-    pub tail_loaded : t ≡ c.tail → d ≡ c → (t % 2 ≡ 1 → ⊥) → nat_le 9223372036854775744 (t / 2) ≡ false → (t / 2 % 32 ≡ 31 → ⊥) → IsStep ActionStep c (act.Push v None) d (act.PushLook v t None)
+    pub tail_loaded : t ≡ c.tail → d ≡ c → (t % 2 ≡ 1 → ⊥) → t / 2 < 9223372036854775744 → (t / 2 % 32 ≡ 31 → ⊥) → IsStep ActionStep c (act.Push v None) d (act.PushLook v t None)
     tail_loaded found left unshut room rests =
         let e1 : (c.tail % 2 == 1) ≡ false = subst (λ (n : ℕ). (n % 2 == 1) ≡ false) found (eq_not (t % 2) 1 unshut) in
-        let e2 : nat_le 9223372036854775744 (c.tail / 2) ≡ false = subst (λ (n : ℕ). nat_le 9223372036854775744 (n / 2) ≡ false) found room in
+        let e2 : nat_le 9223372036854775744 (c.tail / 2) ≡ false = subst (λ (n : ℕ). nat_le 9223372036854775744 (n / 2) ≡ false) found (far_from _ _ room) in
         let e3 : (c.tail / 2 % 32 == 31) ≡ false = subst (λ (n : ℕ). (n / 2 % 32 == 31) ≡ false) found (eq_not (t / 2 % 32) 31 rests) in
         let e4 : (c, stays (act.PushLook v c.tail None)) ≡ load_tail c v None = rw (e1, e2, e3) refl in
         let e5 : (d, stays (act.PushLook v t None)) ≡ (c, stays (act.PushLook v c.tail None)) =

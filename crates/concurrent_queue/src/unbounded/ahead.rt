@@ -60,7 +60,7 @@ fn push_last<T: Drop, C: Cells<T>>(
     block: u64,
     cells: &mut C,
 ) -> Result<Result<(), PushError<T>>, UnboundedAction<T>>
-    ensures steps { C.known → (tail / 2 % 32 == 30) ≡ true → PushesOnEnd ActionStep (C.contents cells.old)
+    ensures steps { C.known → tail / 2 % 32 ≡ 30 → PushesOnEnd ActionStep (C.contents cells.old)
         (UnboundedAction.PushMore value tail block) result (C.contents cells.new) }
     ensures answers { MatchResult result (λ r. MayPush false value (reply.Push r)) (λ a. (e : Ending T) → MayEnd a e → Sends value e) }
 {
