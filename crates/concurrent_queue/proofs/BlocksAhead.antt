@@ -3,7 +3,7 @@
 use Rattle.std.proofs.Common.{◌≡◌, ◌∙◌, ℕ, suc, ◌+◌, ◌-◌, ◌/◌, ◌%◌, ◌^◌, ◌==◌, ◌<◌, length, Bool, true, false, nat_le, if◌then◌else◌, None, Some, Result, Ok, Err, slice_index, MatchResult, is_err, refl, sym, subst, ap, inl, arith}
 use Rattle.std.proofs.lemmas.Bool.Decides.{nat_tests}
 use Rattle.concurrent_queue.specs.Contents.{Contents, SpareGives, PutGives, read, block_at, slot_at, can_put, write, write_slot, with_retired, spare_of, without_spare}
-use Rattle.concurrent_queue.specs.machine.Ahead.{ActionStep, IsStep, PushesOnEnd, PopsOnEnd, plainly}
+use Rattle.concurrent_queue.specs.machine.Ahead.{ActionStep, IsStep, PushesOnEnd, PopsOnEnd}
 use Rattle.concurrent_queue.specs.machine.BlocksMoves.{answer_as}
 use Rattle.concurrent_queue.specs.machine.BlocksState.{number}
 use Rattle.concurrent_queue.specs.machine.BlocksWords.{IsUnboundedStep, stays, finishes, load_tail, look_tail_block, swap_tail, put_message, look_tail, swap_head, load_head, load_next, wait_written, take_message, count_read}
@@ -19,9 +19,7 @@ use Rattle.concurrent_queue.specs.declared.error.PushError.{PushError}
 use Rattle.concurrent_queue.specs.declared.unbounded.action.Progress.{Progress}
 use Rattle.concurrent_queue.specs.declared.unbounded.action.UnboundedAction.{UnboundedAction}
 use Rattle.concurrent_queue.specs.declared.unbounded.action.UnboundedAction.TheVariants as act
-use Rattle.concurrent_queue.specs.declared.unbounded.ending.Ending.{Ending}
 use Rattle.concurrent_queue.specs.declared.unbounded.ending.Ending.TheVariants as ending
-use Rattle.concurrent_queue.proofs.AtOnce.{itself}
 use Rattle.concurrent_queue.proofs.BlocksYields.{eq_is, eq_not}
 
 far_from : (m n : ℕ) → n < m → nat_le m n ≡ false

@@ -1,4 +1,4 @@
-use Rattle.std.proofs.Common.{◌+◌, ◌-◌, ◌/◌, ◌%◌, ◌^◌, ◌∙◌, sym, ap, refl, Ok, Err}
+use Rattle.std.proofs.Common.{◌+◌, ◌-◌, ◌%◌, ◌^◌, ◌∙◌, sym, ap, refl, Ok, Err}
 use Rattle.concurrent_queue.specs.declared.cells.Word.TheVariants.{Head}
 use Rattle.concurrent_queue.specs.declared.unbounded.action.UnboundedAction.TheVariants as act
 use Rattle.concurrent_queue.proofs.BlocksAhead.{exchanged, pop_after, head_loaded, head_block, message_there, nothing_there, message_won, last_taken, next_found, block_left, head_moved}
@@ -58,7 +58,7 @@ returns-clause-steps g c known =
     (pop_after c1 (act.PopLook p) c2 (act.PopTail p w) d r (head_block c1 c2 p w (c.load-block.ensures.found known) (c.load-block.ensures.left known))
     (pop_after c2 (act.PopTail p w) c3 (act.PopSwap p b) d r (message_there c2 c3 p w t (c.load-tail.ensures.found known) (c.load-tail.ensures.left known) (λ e. c.if-number_of.false (c.number_of.ensures ∙ e ∙ sym c.number_of-2.ensures)) c.if-block-eq0.false)
     (elim c.if-offset-eq30.branch [
-      then-offset-eq30+else-next-eq0 x ↦
+      | then-offset-eq30+else-next-eq0 x ↦
           pop_after c3 (act.PopSwap p b) c4 (act.PopNext p b) d r (last_taken c3 c4 p b x.if-offset-eq30.true won.0 won.1)
           (pop_after c4 (act.PopNext p b) (holds x.load-next.new.self) (act.PopBlock p b x.load-next.result) d r
           (next_found c4 (holds x.load-next.new.self) p b x.load-next.result (x.load-next.ensures.found known) (x.load-next.ensures.left known) x.if-next-eq0.false)

@@ -20,7 +20,7 @@ returns-after-fetch_add-eq30-clause-steps g c known =
     pop_after c0 (act.PopWait p b) c1 (act.PopTake p b) d (Ok (Ok v)) (written_found c0 c1 p b c.load.result (c.load.ensures.found known) (c.load.ensures.left known) c.if-load-ne1.false)
     (pop_after c1 (act.PopTake p b) c2 (act.PopCount p b v) d (Ok (Ok v)) (message_taken c1 c2 p b v (c.in-Some.ensures.found known) (c.take.ensures.left known))
     (elim c.if-fetch_add-eq30.branch [
-      then-fetch_add-eq30 w ↦
+      | then-fetch_add-eq30 w ↦
           pop_after c2 (act.PopCount p b v) c3 (act.PopRetire p b v) d (Ok (Ok v)) (last_counted c2 c3 p b v c.fetch_add.result found left w.if-fetch_add-eq30.true)
           (block_retired c3 d p b v (ap holds w.cells-is ∙ w.retire.ensures.left known))
       | else-fetch_add-eq30 w ↦ read_counted c2 d p b v c.fetch_add.result found (ap holds w.cells-is ∙ left) w.if-fetch_add-eq30.false

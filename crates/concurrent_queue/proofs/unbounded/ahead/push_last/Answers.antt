@@ -1,4 +1,4 @@
-use Rattle.std.proofs.Common.{◌+◌, ◌-◌, ◌/◌, ◌%◌, ◌^◌, ◌≡◌, ◌∙◌, sym, ap, refl, Ok, Err, Some, None}
+use Rattle.std.proofs.Common.{◌+◌, ◌%◌, ◌^◌, ◌∙◌, sym, ap, refl, Ok, Err, Some, None}
 use Rattle.concurrent_queue.specs.declared.cells.Word.TheVariants.{Tail}
 use Rattle.concurrent_queue.specs.declared.unbounded.action.UnboundedAction.TheVariants as act
 use Rattle.concurrent_queue.proofs.BlocksAhead.{exchanged, not_exchanged, push_after, block_got, last_won, last_lost, turned, added, linked, brought, told}
