@@ -2,7 +2,7 @@
 use Rattle.std.proofs.Common.{◌≡◌, ◌∙◌, ℕ, ◌+◌, ◌-◌, ◌*◌, ◌%◌, ◌^◌, ◌==◌, Bool, true, false, nat_le, arith, slice_index, None, Some, Result, Ok, Err, ⊎_elim, refl, sym, subst, ap}
 use Rattle.std.proofs.lemmas.Bool.Decides.{nat_tests}
 use Rattle.concurrent_queue.specs.Contents.{Contents, write_slot, slot_at}
-use Rattle.concurrent_queue.specs.machine.Ahead.{IsStep, PushesSingle, PopsSingle, PushesRing, PopsRing, RefusesPush, RefusesPop, IsBehind, CanWin, PushesOnEnd, PopsOnEnd, PushesAhead, PushesAheadIn, PopsAhead, PopsAheadIn}
+use Rattle.concurrent_queue.specs.machine.Ahead.{MadeBy, IsStep, PushesSingle, PopsSingle, PushesRing, PopsRing, RefusesPush, RefusesPop, IsBehind, CanWin, PushesOnEnd, PopsOnEnd, PushesAhead, PushesAheadIn, PopsAhead, PopsAheadIn}
 use Rattle.concurrent_queue.specs.machine.RingWords.{cap_of, ring_mark, index, is_marked, next_word, set_tail, set_head, ring_step}
 use Rattle.concurrent_queue.specs.machine.RingWords as words
 use Rattle.concurrent_queue.specs.machine.Single.{set_state, single_step}
@@ -27,12 +27,12 @@ itself n = grind (arith, nat_tests)
 module _ {T : Type 0} where
   -- ---- one slot
 
-  won_slot : (c : Contents T) (v : T) → c.state ≡ 0 → IsStep single_step c (single.Push v) (set_state c 3) (single.PushPut v)
+  won_slot : (c : Contents T) (v : T) → c.state ≡ 0 → IsStep (MadeBy single_step) c (single.Push v) (set_state c 3) (single.PushPut v)
   won_slot c v free =
       let e : (c.state == 0) ≡ true = ap (λ (n : ℕ). n == 0) free in
       let made : (set_state c 3, one.marks (single.PushPut v) Append) ≡ single_step c (single.Push v) = rw e refl in (Append, made)
 
-  pub single_pushes : (c : Contents T) (v : T) (r : Result (Result Unit (PushError T)) (SingleAction T)) (d : Contents T) → PushesSingle c v r d → PushesOnEnd single_step c (single.Push v) r d
+  pub single_pushes : (c : Contents T) (v : T) (r : Result (Result Unit (PushError T)) (SingleAction T)) (d : Contents T) → PushesSingle c v r d → PushesOnEnd (MadeBy single_step) c (single.Push v) r d
   single_pushes c v (Ok (Err e)) d made = (0, (c, single.Push v, single.Finished, Nothing, (refl, refl), made))
   single_pushes c v (Ok (Ok u)) d (free, vacant, left) =
       let c1 : Contents T = set_state c 3 in
@@ -45,12 +45,12 @@ module _ {T : Type 0} where
       (λ (x : (c.state ≡ 0) × (a ≡ single.PushPut v) × (d ≡ set_state c 3)). (1, (set_state c 3, single.PushPut v, won_slot c v x.0, (x.2, x.1))))
       h
 
-  won_message : (c : Contents T) → c.state ≡ 2 → IsStep single_step c (single.Pop 2) (set_state c 1) single.PopTake
+  won_message : (c : Contents T) → c.state ≡ 2 → IsStep (MadeBy single_step) c (single.Pop 2) (set_state c 1) single.PopTake
   won_message c there =
       let e : (c.state == 2) ≡ true = ap (λ (n : ℕ). n == 2) there in
       let made : (set_state c 1, one.marks single.PopTake Take) ≡ single_step c (single.Pop 2) = rw e refl in (Take, made)
 
-  pub single_pops : (c : Contents T) (r : Result (Result T PopError) (SingleAction T)) (d : Contents T) → PopsSingle c r d → PopsOnEnd single_step c (single.Pop 2) r d
+  pub single_pops : (c : Contents T) (r : Result (Result T PopError) (SingleAction T)) (d : Contents T) → PopsSingle c r d → PopsOnEnd (MadeBy single_step) c (single.Pop 2) r d
   single_pops c (Ok (Err e)) d made = (0, (c, single.Pop 2, single.Finished, Nothing, (refl, refl), made))
   single_pops c (Ok (Ok v)) d (there, full, left) =
       let c1 : Contents T = set_state c 1 in
@@ -70,13 +70,13 @@ module _ {T : Type 0} where
   -- ---- a ring
 
   module _ (cap m : ℕ) (c : Contents T) where
-    refuses_closed : (v : T) (d : Contents T) → is_marked m c.tail ≡ true → d ≡ c → PushesOnEnd (ring_step cap m) c (ring.Push Refuse v) (Ok (Err (push_error.Closed v))) d
+    refuses_closed : (v : T) (d : Contents T) → is_marked m c.tail ≡ true → d ≡ c → PushesOnEnd (MadeBy (ring_step cap m)) c (ring.Push Refuse v) (Ok (Err (push_error.Closed v))) d
     refuses_closed v d closed left =
         let e1 : (c, words.finishes (reply.Push (Err (push_error.Closed v)))) ≡ ring_step cap m c (ring.Push Refuse v) = rw closed refl in
         let made : (d, words.finishes (reply.Push (Err (push_error.Closed v)))) ≡ ring_step cap m c (ring.Push Refuse v) = ap (λ (x : Contents T). (x, words.finishes (reply.Push (Err (push_error.Closed v))))) left ∙ e1 in
         (0, (c, ring.Push Refuse v, ring.Finished, Nothing, (refl, refl), made))
 
-    refuses_full : (v : T) (d : Contents T) → is_marked m c.tail ≡ false → nat_le (2 ^ 64 - 2 * m) c.tail ≡ false → IsBehind cap m c → d ≡ c → PushesOnEnd (ring_step cap m) c (ring.Push Refuse v) (Ok (Err (push_error.Full v))) d
+    refuses_full : (v : T) (d : Contents T) → is_marked m c.tail ≡ false → nat_le (2 ^ 64 - 2 * m) c.tail ≡ false → IsBehind cap m c → d ≡ c → PushesOnEnd (MadeBy (ring_step cap m)) c (ring.Push Refuse v) (Ok (Err (push_error.Full v))) d
     refuses_full v d unmarked far (other, behind, oldest) left =
         let t = c.tail in
         let answer = words.finishes (reply.Push (Err (push_error.Full v))) in
@@ -86,14 +86,14 @@ module _ {T : Type 0} where
         let made : (d, answer) ≡ ring_step cap m c (ring.PushHead v (t - 2 * m)) = ap (λ (x : Contents T). (x, answer)) left ∙ e3 in
         (2, (c, ring.PushHead v (t - 2 * m), ring.Finished, Nothing, (c, ring.PushStamp Refuse v t, (Nothing, e1), (c, ring.PushHead v (t - 2 * m), (Nothing, e2), (refl, refl))), made))
 
-    ring_refuses : (v : T) (e : PushError T) (d : Contents T) → RefusesPush cap m c v e → d ≡ c → PushesOnEnd (ring_step cap m) c (ring.Push Refuse v) (Ok (Err e)) d
+    ring_refuses : (v : T) (e : PushError T) (d : Contents T) → RefusesPush cap m c v e → d ≡ c → PushesOnEnd (MadeBy (ring_step cap m)) c (ring.Push Refuse v) (Ok (Err e)) d
     ring_refuses v (push_error.Closed w) d (same, closed) left =
-        subst (λ (x : T). PushesOnEnd (ring_step cap m) c (ring.Push Refuse v) (Ok (Err (push_error.Closed x))) d) (sym same) (refuses_closed v d closed left)
+        subst (λ (x : T). PushesOnEnd (MadeBy (ring_step cap m)) c (ring.Push Refuse v) (Ok (Err (push_error.Closed x))) d) (sym same) (refuses_closed v d closed left)
     ring_refuses v (push_error.Full w) d (same, unmarked, far, behind) left =
-        subst (λ (x : T). PushesOnEnd (ring_step cap m) c (ring.Push Refuse v) (Ok (Err (push_error.Full x))) d) (sym same) (refuses_full v d unmarked far behind left)
+        subst (λ (x : T). PushesOnEnd (MadeBy (ring_step cap m)) c (ring.Push Refuse v) (Ok (Err (push_error.Full x))) d) (sym same) (refuses_full v d unmarked far behind left)
     ring_refuses v (push_error.NoMemory w) d refused left = elim refused [ ]
 
-    pub ring_pushes : (v : T) (r : Result (Result Unit (PushError T)) (RingAction T)) (d : Contents T) → PushesRing cap m c v r d → PushesOnEnd (ring_step cap m) c (ring.Push Refuse v) r d
+    pub ring_pushes : (v : T) (r : Result (Result Unit (PushError T)) (RingAction T)) (d : Contents T) → PushesRing cap m c v r d → PushesOnEnd (MadeBy (ring_step cap m)) c (ring.Push Refuse v) r d
     ring_pushes v (Ok (Err e)) d (refused, left) = ring_refuses v e d refused left
     ring_pushes v (Ok (Ok u)) d (free, left) =
         let t = c.tail in
@@ -125,7 +125,7 @@ module _ {T : Type 0} where
         (3, (c, ring.PushStamp Refuse v t, (Nothing, e1), (c, ring.PushSwap Refuse v t, (Nothing, e2), (c1, ring.PushPut Refuse v t, (Append, e3), (x.2, x.1))))))
         h
 
-    ring_empty : (e : PopError) (d : Contents T) → RefusesPop cap m c e → d ≡ c → PopsOnEnd (ring_step cap m) c ring.Pop (Ok (Err e)) d
+    ring_empty : (e : PopError) (d : Contents T) → RefusesPop cap m c e → d ≡ c → PopsOnEnd (MadeBy (ring_step cap m)) c ring.Pop (Ok (Err e)) d
     ring_empty e d (absent, waits, (at_tail, said)) left =
         let h = c.head in
         let answer = words.finishes (reply.Pop (Err e)) in
@@ -135,7 +135,7 @@ module _ {T : Type 0} where
         let made : (d, answer) ≡ ring_step cap m c (ring.PopTail h) = ap (λ (x : Contents T). (x, answer)) left ∙ e3 in
         (2, (c, ring.PopTail h, ring.Finished, Nothing, (c, ring.PopStamp h, (Nothing, e1), (c, ring.PopTail h, (Nothing, e2), (refl, refl))), made))
 
-    pub ring_pops : (r : Result (Result T PopError) (RingAction T)) (d : Contents T) → PopsRing cap m c r d → PopsOnEnd (ring_step cap m) c ring.Pop r d
+    pub ring_pops : (r : Result (Result T PopError) (RingAction T)) (d : Contents T) → PopsRing cap m c r d → PopsOnEnd (MadeBy (ring_step cap m)) c ring.Pop r d
     ring_pops (Ok (Err e)) d (refused, left) = ring_empty e d refused left
     ring_pops (Ok (Ok v)) d (there, left) =
         let h = c.head in
@@ -172,18 +172,18 @@ module _ {T : Type 0} where
   -- ---- by the form of the queue
 
   module _ (f : QueueForm) (cap k m : ℕ) (c d : Contents T) (form : f ≡ Bounded cap) (more : (cap == 1) ≡ false) (same : k ≡ cap_of cap) (marked : m ≡ ring_mark (cap_of cap)) where
-    pub ring_push_ahead : (v : T) (r : Result Unit (PushError T)) → PushesOnEnd (ring_step k m) c (ring.Push Refuse v) (Ok r) d → PushesAhead f c v (Ok r) d
+    pub ring_push_ahead : (v : T) (r : Result Unit (PushError T)) → PushesOnEnd (MadeBy (ring_step k m)) c (ring.Push Refuse v) (Ok r) d → PushesAhead f c v (Ok r) d
     ring_push_ahead v r went =
-        let measured : PushesOnEnd (ring_step k (ring_mark (cap_of cap))) c (ring.Push Refuse v) (Ok r) d =
-        subst (λ (x : ℕ). PushesOnEnd (ring_step k x) c (ring.Push Refuse v) (Ok r) d) marked went in
-        let made : PushesOnEnd (ring_step (cap_of cap) (ring_mark (cap_of cap))) c (ring.Push Refuse v) (Ok r) d =
-        subst (λ (x : ℕ). PushesOnEnd (ring_step x (ring_mark (cap_of cap))) c (ring.Push Refuse v) (Ok r) d) same measured in
+        let measured : PushesOnEnd (MadeBy (ring_step k (ring_mark (cap_of cap)))) c (ring.Push Refuse v) (Ok r) d =
+        subst (λ (x : ℕ). PushesOnEnd (MadeBy (ring_step k x)) c (ring.Push Refuse v) (Ok r) d) marked went in
+        let made : PushesOnEnd (MadeBy (ring_step (cap_of cap) (ring_mark (cap_of cap)))) c (ring.Push Refuse v) (Ok r) d =
+        subst (λ (x : ℕ). PushesOnEnd (MadeBy (ring_step x (ring_mark (cap_of cap)))) c (ring.Push Refuse v) (Ok r) d) same measured in
         subst (λ (x : QueueForm). PushesAhead x c v (Ok r) d) (sym form) (subst (λ (b : Bool). PushesAheadIn b (cap_of cap) c v (Ok r) d) (sym more) (Ok r, made, refl))
 
-    pub ring_pop_ahead : (r : Result T PopError) → PopsOnEnd (ring_step k m) c ring.Pop (Ok r) d → PopsAhead f c (Ok r) d
+    pub ring_pop_ahead : (r : Result T PopError) → PopsOnEnd (MadeBy (ring_step k m)) c ring.Pop (Ok r) d → PopsAhead f c (Ok r) d
     ring_pop_ahead r went =
-        let measured : PopsOnEnd (ring_step k (ring_mark (cap_of cap))) c ring.Pop (Ok r) d =
-        subst (λ (x : ℕ). PopsOnEnd (ring_step k x) c ring.Pop (Ok r) d) marked went in
-        let made : PopsOnEnd (ring_step (cap_of cap) (ring_mark (cap_of cap))) c ring.Pop (Ok r) d =
-        subst (λ (x : ℕ). PopsOnEnd (ring_step x (ring_mark (cap_of cap))) c ring.Pop (Ok r) d) same measured in
+        let measured : PopsOnEnd (MadeBy (ring_step k (ring_mark (cap_of cap)))) c ring.Pop (Ok r) d =
+        subst (λ (x : ℕ). PopsOnEnd (MadeBy (ring_step k x)) c ring.Pop (Ok r) d) marked went in
+        let made : PopsOnEnd (MadeBy (ring_step (cap_of cap) (ring_mark (cap_of cap)))) c ring.Pop (Ok r) d =
+        subst (λ (x : ℕ). PopsOnEnd (MadeBy (ring_step x (ring_mark (cap_of cap)))) c ring.Pop (Ok r) d) same measured in
         subst (λ (x : QueueForm). PopsAhead x c (Ok r) d) (sym form) (subst (λ (b : Bool). PopsAheadIn b (cap_of cap) c (Ok r) d) (sym more) (Ok r, made, refl))

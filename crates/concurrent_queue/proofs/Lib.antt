@@ -58,3 +58,4 @@ pub mod Interface
 pub mod Guards
 mod ReplyFacts
 mod AheadFacts
+mod BlocksAhead

@@ -2,6 +2,7 @@
 use Rattle.std.specs.Prelude.{◌≡◌, ◌⊎◌, ℕ, ◌+◌, ◌-◌, ◌*◌, ◌%◌, ◌^◌, ◌==◌, ◌&&◌, if◌then◌else◌, Bool, true, false, nat_le, None, Some, Result, Ok, Err, slice_index, MatchResult}
 use Rattle.std.proofs.Common.{zero, suc}
 use Rattle.concurrent_queue.specs.Contents.{Contents, write_slot, slot_at, can_put}
+use Rattle.concurrent_queue.specs.machine.BlocksWords.{IsBlocksStep}
 use Rattle.concurrent_queue.specs.machine.RingAtOnce.{IsFree, pushed, IsThere, popped}
 use Rattle.concurrent_queue.specs.machine.RingWords.{cap_of, ring_mark, ring_step, index, is_marked, unmarked, next_word, set_tail, set_head}
 use Rattle.concurrent_queue.specs.machine.Single.{single_step, push_step, pop_step, set_state, unlocked}
@@ -21,15 +22,31 @@ use Rattle.concurrent_queue.specs.declared.cells.QueueForm.{QueueForm}
 use Rattle.concurrent_queue.specs.declared.cells.QueueForm.TheVariants.{Bounded, Unbounded}
 use Rattle.concurrent_queue.specs.declared.cells.Slot.TheVariants.{At}
 use Rattle.concurrent_queue.specs.declared.queue_call.CallState.{CallState}
-use Rattle.concurrent_queue.specs.declared.queue_call.CallState.TheVariants.{Single, Ring}
+use Rattle.concurrent_queue.specs.declared.queue_call.CallState.TheVariants.{Single, Ring, Blocks}
 use Rattle.concurrent_queue.specs.declared.queue_call.QueueCall.{QueueCall}
 use Rattle.concurrent_queue.specs.declared.single.SingleAction.{SingleAction}
 use Rattle.concurrent_queue.specs.declared.single.SingleAction.TheVariants as single
+use Rattle.concurrent_queue.specs.declared.unbounded.action.UnboundedAction.{UnboundedAction}
+use Rattle.concurrent_queue.specs.declared.unbounded.action.UnboundedAction.TheVariants as act
+use Rattle.concurrent_queue.specs.declared.unbounded.action.UnboundedCall.{UnboundedCall}
 
-module _ {T A : Type 0} (step : Contents T → A → Contents T × Stepped A T) where
+-- a step that a function makes
+abbrev pub MadeBy : {T A : Type 0} → (Contents T → A → Contents T × Stepped A T) → Contents T → A → Contents T → Stepped A T → Type 0
+MadeBy step c a d s = (d, s) ≡ step c a
+
+module _ {T : Type 0} where
+  -- a call over blocks that stands at this action and displaces nothing
+  abbrev pub plainly : UnboundedAction T → UnboundedCall T
+  plainly a = record { displacing = false; action = a }
+
+  -- a step over blocks that such a call makes at one action, and what it leaves
+  abbrev pub ActionStep : Contents T → UnboundedAction T → Contents T → Stepped (UnboundedAction T) T → Type 0
+  ActionStep c a d s = IsBlocksStep c (plainly a) d (record { action = plainly s.action; mark = s.mark; reply = s.reply })
+
+module _ {T A : Type 0} (Step : Contents T → A → Contents T → Stepped A T → Type 0) where
   -- a step that answers nothing leads from the one action to the other
   abbrev pub IsStep : Contents T → A → Contents T → A → Type 0
-  IsStep c a d b = (m : QueueMark) × ((d, record { action = b; mark = m; reply = None }) ≡ step c a)
+  IsStep c a d b = (m : QueueMark) × Step c a d (record { action = b; mark = m; reply = None })
 
   -- so many such steps do
   abbrev pub Leads : ℕ → Contents T → A → Contents T → A → Type 0
@@ -39,18 +56,18 @@ module _ {T A : Type 0} (step : Contents T → A → Contents T × Stepped A T) 
   -- so many such steps lead to one that answers r
   abbrev pub Ends : ℕ → Contents T → A → Contents T → QueueReply T → Type 0
   Ends n c a d r =
-      (x : Contents T) × (y : A) × (z : A) × (m : QueueMark) × Leads n c a x y × ((d, record { action = z; mark = m; reply = Some r }) ≡ step x y)
+      (x : Contents T) × (y : A) × (z : A) × (m : QueueMark) × Leads n c a x y × Step x y d (record { action = z; mark = m; reply = Some r })
 
-module _ {T A : Type 0} (step : Contents T → A → Contents T × Stepped A T) where
+module _ {T A : Type 0} (Step : Contents T → A → Contents T → Stepped A T → Type 0) where
   -- steps of the machine lead to this answer of a push, or to the action that is left
   abbrev pub PushesOnEnd : Contents T → A → Result (Result Unit (PushError T)) A → Contents T → Type 0
   PushesOnEnd c a result d =
-      MatchResult result (λ r. (n : ℕ) × Ends step n c a d (reply.Push r)) (λ b. (n : ℕ) × Leads step n c a d b)
+      MatchResult result (λ r. (n : ℕ) × Ends Step n c a d (reply.Push r)) (λ b. (n : ℕ) × Leads Step n c a d b)
 
   -- the same of a pop
   abbrev pub PopsOnEnd : Contents T → A → Result (Result T PopError) A → Contents T → Type 0
   PopsOnEnd c a result d =
-      MatchResult result (λ r. (n : ℕ) × Ends step n c a d (reply.Pop r)) (λ b. (n : ℕ) × Leads step n c a d b)
+      MatchResult result (λ r. (n : ℕ) × Ends Step n c a d (reply.Pop r)) (λ b. (n : ℕ) × Leads Step n c a d b)
 
 -- ---- what the steps that are made on end do to the cells
 
@@ -121,7 +138,7 @@ module _ {T : Type 0} (cap m : ℕ) (c : Contents T) where
       ⊎ (((slice_index c.stamps (index m c.head) == (c.head + 1) % 2 ^ 64) ≡ true) × (slot_at c (At (index m c.head)) ≡ None) × (a ≡ ring.PopTake c.head)
       × (d ≡ write_slot (set_head c (next_word cap m c.head)) (At (index m c.head)) None))
 
--- ---- by the form of the queue; of blocks nothing is said
+-- ---- by the form of the queue
 
 module _ {T : Type 0} where
   -- a call stands at the action that is left
@@ -132,22 +149,24 @@ module _ {T : Type 0} where
 
   abbrev pub PushesAheadIn : Bool → ℕ → Contents T → T → Result (Result Unit (PushError T)) (QueueCall T) → Contents T → Type 0
   PushesAheadIn true cap c v r d =
-      (x : Result (Result Unit (PushError T)) (SingleAction T)) × PushesOnEnd single_step c (single.Push v) x d × IsLeftAt Single x r
+      (x : Result (Result Unit (PushError T)) (SingleAction T)) × PushesOnEnd (MadeBy single_step) c (single.Push v) x d × IsLeftAt Single x r
   PushesAheadIn false cap c v r d =
-      (x : Result (Result Unit (PushError T)) (RingAction T)) × PushesOnEnd (ring_step cap (ring_mark cap)) c (ring.Push Refuse v) x d × IsLeftAt Ring x r
+      (x : Result (Result Unit (PushError T)) (RingAction T)) × PushesOnEnd (MadeBy (ring_step cap (ring_mark cap))) c (ring.Push Refuse v) x d × IsLeftAt Ring x r
 
   -- a push made on end
   abbrev pub PushesAhead : QueueForm → Contents T → T → Result (Result Unit (PushError T)) (QueueCall T) → Contents T → Type 0
   PushesAhead (Bounded cap) c v r d = PushesAheadIn (cap == 1) (cap_of cap) c v r d
-  PushesAhead Unbounded c v r d = Unit {0}
+  PushesAhead Unbounded c v r d =
+      (x : Result (Result Unit (PushError T)) (UnboundedAction T)) × PushesOnEnd ActionStep c (act.Push v None) x d × IsLeftAt (λ a. Blocks (plainly a)) x r
 
   abbrev pub PopsAheadIn : Bool → ℕ → Contents T → Result (Result T PopError) (QueueCall T) → Contents T → Type 0
   PopsAheadIn true cap c r d =
-      (x : Result (Result T PopError) (SingleAction T)) × PopsOnEnd single_step c (single.Pop 2) x d × IsLeftAt Single x r
+      (x : Result (Result T PopError) (SingleAction T)) × PopsOnEnd (MadeBy single_step) c (single.Pop 2) x d × IsLeftAt Single x r
   PopsAheadIn false cap c r d =
-      (x : Result (Result T PopError) (RingAction T)) × PopsOnEnd (ring_step cap (ring_mark cap)) c ring.Pop x d × IsLeftAt Ring x r
+      (x : Result (Result T PopError) (RingAction T)) × PopsOnEnd (MadeBy (ring_step cap (ring_mark cap))) c ring.Pop x d × IsLeftAt Ring x r
 
   -- a pop made on end
   abbrev pub PopsAhead : QueueForm → Contents T → Result (Result T PopError) (QueueCall T) → Contents T → Type 0
   PopsAhead (Bounded cap) c r d = PopsAheadIn (cap == 1) (cap_of cap) c r d
-  PopsAhead Unbounded c r d = Unit {0}
+  PopsAhead Unbounded c r d =
+      (x : Result (Result T PopError) (UnboundedAction T)) × PopsOnEnd ActionStep c act.Pop x d × IsLeftAt (λ a. Blocks (plainly a)) x r

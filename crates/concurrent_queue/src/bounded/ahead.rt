@@ -2,7 +2,7 @@
 //! saved is the choice of the next action at each of them, so this is a matter of speed alone.
 
 ghost use Rattle.std.specs.Prelude.{ℕ, true, MatchResult};
-ghost use Rattle.concurrent_queue.specs.machine.Ahead.{PushesOnEnd, PopsOnEnd, PushesRing, PopsRing, PopsNothing};
+ghost use Rattle.concurrent_queue.specs.machine.Ahead.{MadeBy, PushesOnEnd, PopsOnEnd, PushesRing, PopsRing, PopsNothing};
 ghost use Rattle.concurrent_queue.specs.machine.RingWords.{ring_step};
 ghost use Rattle.concurrent_queue.specs.Replies.{MayRing, MayPush, MayPop};
 ghost use Rattle.concurrent_queue.specs.declared.call.QueueReply.{QueueReply};
@@ -20,7 +20,7 @@ pub(crate) fn push_ahead<T: Drop, C: Cells<T>>(
     value: T,
     cells: &mut C,
 ) -> Result<Result<(), PushError<T>>, RingAction<T>>
-    ensures steps { C.known → PushesOnEnd (ring_step shape.cap shape.mark) (C.contents cells.old)
+    ensures steps { C.known → PushesOnEnd (MadeBy (ring_step shape.cap shape.mark)) (C.contents cells.old)
         (RingAction.Push WhenFull.Refuse value) result (C.contents cells.new) }
     ensures answers { MatchResult result (λ r. MayPush true value (reply.Push r))
         (λ a. (cap : ℕ) (r : QueueReply T) → MayRing cap a r → MayPush true value r) }
@@ -35,7 +35,7 @@ pub(crate) fn pop_ahead<T: Drop, C: Cells<T>>(
     shape: Shape,
     cells: &mut C,
 ) -> Result<Result<T, PopError>, RingAction<T>>
-    ensures steps { C.known → PopsOnEnd (ring_step shape.cap shape.mark) (C.contents cells.old)
+    ensures steps { C.known → PopsOnEnd (MadeBy (ring_step shape.cap shape.mark)) (C.contents cells.old)
         RingAction.Pop result (C.contents cells.new) }
     ensures answers { MatchResult result (λ _. Unit {0})
         (λ a. (cap : ℕ) (r : QueueReply T) → MayRing cap a r → MayPop r) }

@@ -1,7 +1,7 @@
 //! The steps of a push and of a pop of one slot made on end, as `bounded::ahead` makes them of a ring.
 
 ghost use Rattle.std.specs.Prelude.{true, MatchResult};
-ghost use Rattle.concurrent_queue.specs.machine.Ahead.{PushesOnEnd, PopsOnEnd, PushesSingle, PopsSingle};
+ghost use Rattle.concurrent_queue.specs.machine.Ahead.{MadeBy, PushesOnEnd, PopsOnEnd, PushesSingle, PopsSingle};
 ghost use Rattle.concurrent_queue.specs.machine.Single.{single_step};
 ghost use Rattle.concurrent_queue.specs.Replies.{MaySingle, MayPush, MayPop};
 ghost use Rattle.concurrent_queue.specs.declared.call.QueueReply.{QueueReply};
@@ -17,7 +17,7 @@ pub(crate) fn push_ahead<T: Drop, C: Cells<T>>(
     value: T,
     cells: &mut C,
 ) -> Result<Result<(), PushError<T>>, SingleAction<T>>
-    ensures steps { C.known → PushesOnEnd single_step (C.contents cells.old) (SingleAction.Push value) result (C.contents cells.new) }
+    ensures steps { C.known → PushesOnEnd (MadeBy single_step) (C.contents cells.old) (SingleAction.Push value) result (C.contents cells.new) }
     ensures answers { MatchResult result (λ r. MayPush true value (reply.Push r))
         (λ a. (r : QueueReply T) → MaySingle a r → MayPush true value r) }
 {
@@ -30,7 +30,7 @@ pub(crate) fn push_ahead<T: Drop, C: Cells<T>>(
 pub(crate) fn pop_ahead<T: Drop, C: Cells<T>>(
     cells: &mut C,
 ) -> Result<Result<T, PopError>, SingleAction<T>>
-    ensures steps { C.known → PopsOnEnd single_step (C.contents cells.old) (SingleAction.Pop 2) result (C.contents cells.new) }
+    ensures steps { C.known → PopsOnEnd (MadeBy single_step) (C.contents cells.old) (SingleAction.Pop 2) result (C.contents cells.new) }
     ensures answers { MatchResult result (λ _. Unit {0})
         (λ a. (r : QueueReply T) → MaySingle a r → MayPop r) }
 {

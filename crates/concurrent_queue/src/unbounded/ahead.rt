@@ -1,6 +1,7 @@
 //! The steps of a push and of a pop of an unbounded queue made on end, as `bounded::ahead` makes them of a ring.
 
-ghost use Rattle.std.specs.Prelude.{false, MatchResult};
+ghost use Rattle.std.specs.Prelude.{◌≡◌, ◌/◌, ◌%◌, ◌==◌, if◌then◌else◌, false, true, None, MatchResult};
+ghost use Rattle.concurrent_queue.specs.machine.Ahead.{ActionStep, PushesOnEnd, PopsOnEnd};
 ghost use Rattle.concurrent_queue.specs.Replies.{MayEnd, MayPush, Sends, Tells};
 ghost use Rattle.concurrent_queue.specs.declared.call.QueueAsk.TheVariants as ask;
 ghost use Rattle.concurrent_queue.specs.declared.call.QueueReply.TheVariants as reply;
@@ -18,6 +19,8 @@ pub(crate) fn push_ahead<T: Drop, C: Cells<T>>(
     value: T,
     cells: &mut C,
 ) -> Result<Result<(), PushError<T>>, UnboundedAction<T>>
+    ensures steps { C.known → PushesOnEnd ActionStep (C.contents cells.old)
+        (UnboundedAction.Push value None) result (C.contents cells.new) }
     ensures answers { MatchResult result (λ r. MayPush false value (reply.Push r)) (λ a. (e : Ending T) → MayEnd a e → Sends value e) }
 {
     let tail = cells.load(Word::Tail);
@@ -57,6 +60,8 @@ fn push_last<T: Drop, C: Cells<T>>(
     block: u64,
     cells: &mut C,
 ) -> Result<Result<(), PushError<T>>, UnboundedAction<T>>
+    ensures steps { C.known → tail / 2 % 32 ≡ 30 → PushesOnEnd ActionStep (C.contents cells.old)
+        (UnboundedAction.PushMore value tail block) result (C.contents cells.new) }
     ensures answers { MatchResult result (λ r. MayPush false value (reply.Push r)) (λ a. (e : Ending T) → MayEnd a e → Sends value e) }
 {
     let Ok(next) = cells.spare() else {
@@ -84,6 +89,8 @@ fn push_last<T: Drop, C: Cells<T>>(
 pub(crate) fn pop_ahead<T: Drop, C: Cells<T>>(
     cells: &mut C,
 ) -> Result<Result<T, PopError>, UnboundedAction<T>>
+    ensures steps { C.known → PopsOnEnd ActionStep (C.contents cells.old)
+        UnboundedAction.Pop result (C.contents cells.new) }
     ensures answers { MatchResult result (λ _. Unit {0}) (λ a. (e : Ending T) → MayEnd a e → Tells ask.Pop e) }
 {
     let head = cells.load(Word::Head);
@@ -118,7 +125,9 @@ pub(crate) fn pop_ahead<T: Drop, C: Cells<T>>(
 
 /// What a pop from an empty queue answers where the tail is this.
 #[inline(always)]
-fn refusal(tail: u64) -> PopError {
+fn refusal(tail: u64) -> PopError
+    ensures { result ≡ (if tail % 2 == 1 then PopError.Closed else PopError.Empty) }
+{
     if tail % 2 == 1 {
         PopError::Closed
     } else {
@@ -133,6 +142,8 @@ fn pop_written<T: Drop, C: Cells<T>>(
     block: u64,
     cells: &mut C,
 ) -> Result<Result<T, PopError>, UnboundedAction<T>>
+    ensures steps { C.known → PopsOnEnd ActionStep (C.contents cells.old)
+        (UnboundedAction.PopWait head block) result (C.contents cells.new) }
     ensures answers { MatchResult result (λ _. Unit {0}) (λ a. (e : Ending T) → MayEnd a e → Tells ask.Pop e) }
 {
     if cells.load(Word::Written(block, head % 32)) != 1 {
