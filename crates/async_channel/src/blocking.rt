@@ -7,6 +7,7 @@ ghost use Rattle.async_channel.specs.Handles.{Unsent, TryUnsent};
 use crate::shared::Shared;
 use channel_calls::error::{RecvError, Refused, SendError, TryRecvError, TrySendError};
 use channel_calls::stage::Line;
+use crossbeam_utils::Backoff;
 use event_listener::error::ListenError;
 use event_listener::key::Key;
 use event_listener::parker::Parker;
@@ -35,6 +36,16 @@ fn unlistened<E, K>(error: ListenError, back: K) -> Refused<E, K>
     }
 }
 
+/// Lets a little time pass before a try is made again, some times in a call: what it waits for mostly comes sooner than a listener
+/// would be in.
+fn looks_again(backoff: &Backoff) -> bool {
+    if backoff.is_completed() {
+        return false;
+    }
+    backoff.snooze();
+    true
+}
+
 impl<T: Drop> Shared<T> {
     /// Sends, and sleeps while there is no place.
     pub(crate) fn send_blocking<R: Wait>(
@@ -46,6 +57,7 @@ impl<T: Drop> Shared<T> {
     {
         let mut message = message;
         let mut held = None;
+        let backoff = Backoff::new();
         for _ in rt.forever() {
             message = match self.try_send(rt, message) {
                 Ok(()) => {
@@ -58,6 +70,9 @@ impl<T: Drop> Shared<T> {
                     return Err(refusal(refused));
                 }
             };
+            if looks_again(&backoff) {
+                continue;
+            }
             held = match self.listen_or_sleep(rt, Line::Sends, held) {
                 Ok(next) => next,
                 Err(error) => return Err(unlistened(error, message)),
@@ -69,6 +84,7 @@ impl<T: Drop> Shared<T> {
     /// Receives, and sleeps while there is no message.
     pub(crate) fn recv_blocking<R: Wait>(&self, rt: &R) -> Result<T, Refused<RecvError>> {
         let mut held = None;
+        let backoff = Backoff::new();
         for _ in rt.forever() {
             match self.try_recv(rt) {
                 Ok(message) => {
@@ -80,6 +96,9 @@ impl<T: Drop> Shared<T> {
                     return Err(Refused::Plain(RecvError));
                 }
                 Err(TryRecvError::Empty) => {}
+            }
+            if looks_again(&backoff) {
+                continue;
             }
             held = match self.listen_or_sleep(rt, Line::Receives, held) {
                 Ok(next) => next,

@@ -33,6 +33,7 @@ impl<'a, T: Drop, R: Wait> ChannelCells<T, Task> for SharedCells<'a, T, R> {
 
     // The steps of the queue's call up to its answer, one after another: nothing else of the channel's call comes between
     // them, while the steps of other threads may.
+    #[inline(always)]
     fn step_queue(&mut self, call: &mut QueueCall<T>) -> Option<QueueReply<T>> {
         Some(self.shared.queue.complete(self.rt, call))
     }

@@ -3,11 +3,14 @@
 ghost use Rattle.std.specs.Prelude.{◌≡◌, None, false};
 ghost use Rattle.concurrent_queue.specs.Replies.{room_of};
 ghost use Rattle.concurrent_queue.specs.Replies.{is_bounded};
-ghost use Rattle.channel_calls.specs.Replies.{MayGive};
+ghost use Rattle.channel_calls.specs.Replies.{MayEnd, MayGive};
+ghost use Rattle.channel_calls.specs.declared.ask.ChannelAsk.TheVariants as ask;
+ghost use Rattle.event_listener.specs.declared.waking.Task.{Task};
 ghost use Rattle.async_channel.specs.Handles.{form_of};
 
 use crate::cells::SharedCells;
 use crate::waiters::Waiters;
+use channel_calls::ahead::{receive_ahead, send_ahead};
 use channel_calls::ask::ChannelAsk;
 use channel_calls::call::ChannelCall;
 use channel_calls::reply::Reply;
@@ -78,9 +81,16 @@ impl<T: Drop> Shared<T> {
     pub(crate) fn run<R: Wait>(&self, rt: &R, ask: ChannelAsk<T, Task>) -> Given<T>
         ensures { MayGive (form_of self.now) ask result.reply result.kept.message }
     {
+        self.finish(rt, ChannelCall::new(ask))
+    }
+
+    /// Steps a call to its end.
+    pub(crate) fn finish<R: Wait>(&self, rt: &R, call: ChannelCall<T, Task>) -> Given<T>
+        ensures { MayEnd (form_of self.now) call.stage result.reply result.kept.message }
+    {
         let mut cells = SharedCells { shared: self, rt };
         let mut sink = WakeNow { rt };
-        let mut call = ChannelCall::new(ask);
+        let mut call = call;
         for _ in rt.forever() {
             if let Some(reply) = call.step(&mut cells, &mut sink) {
                 let kept = call.into_kept();
@@ -88,6 +98,30 @@ impl<T: Drop> Shared<T> {
             }
         }
         unreachable!()
+    }
+
+    /// Sends without waiting, its steps made on end.
+    #[inline(always)]
+    pub(crate) fn send_now<R: Wait>(&self, rt: &R, message: T) -> Reply<T>
+        ensures { MayGive {W = Task} (form_of self.now) (ask.TrySend message) result None }
+    {
+        let mut cells = SharedCells { shared: self, rt };
+        match send_ahead(message, &mut cells, &mut WakeNow { rt }) {
+            Ok(reply) => reply,
+            Err(call) => self.finish(rt, call).reply,
+        }
+    }
+
+    /// Receives without waiting likewise.
+    #[inline(always)]
+    pub(crate) fn receive_now<R: Wait>(&self, rt: &R) -> Reply<T>
+        ensures { MayGive {W = Task} (form_of self.now) ask.TryRecv result None }
+    {
+        let mut cells = SharedCells { shared: self, rt };
+        match receive_ahead(&mut cells, &mut WakeNow { rt }) {
+            Ok(reply) => reply,
+            Err(call) => self.finish(rt, call).reply,
+        }
     }
 }
 

@@ -21,8 +21,7 @@ impl<T: Drop> Shared<T> {
     ) -> Result<(), Refused<TrySendError<T>, T>>
         ensures { IfErr result (λ e. RefusesTrySend (is_bounded (form_of self.now)) message e) }
     {
-        let Given { reply, kept: _kept } = self.run(rt, ChannelAsk::TrySend(message));
-        match reply {
+        match self.send_now(rt, message) {
             Reply::TrySend(result) => result,
             _ => unreachable!(),
         }
@@ -44,8 +43,7 @@ impl<T: Drop> Shared<T> {
     }
 
     pub(crate) fn try_recv<R: Wait>(&self, rt: &R) -> Result<T, TryRecvError> {
-        let Given { reply, kept: _kept } = self.run(rt, ChannelAsk::TryRecv);
-        match reply {
+        match self.receive_now(rt) {
             Reply::TryRecv(result) => result,
             _ => unreachable!(),
         }

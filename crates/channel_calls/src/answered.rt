@@ -23,7 +23,7 @@ fn lost<T, W>() -> Turn<T, W>
 
 /// A send that doesn't wait.
 #[inline(always)]
-fn sent_next<T: Drop, W>(answer: QueueReply<T>) -> Turn<T, W>
+pub(crate) fn sent_next<T: Drop, W>(answer: QueueReply<T>) -> Turn<T, W>
     ensures { result ≡ sent_next answer }
 {
     match answer {
@@ -64,7 +64,7 @@ fn forced_next<T: Drop, W>(answer: QueueReply<T>) -> Turn<T, W>
 
 /// A receive that doesn't wait.
 #[inline(always)]
-fn received_next<T: Drop, W>(answer: QueueReply<T>) -> Turn<T, W>
+pub(crate) fn received_next<T: Drop, W>(answer: QueueReply<T>) -> Turn<T, W>
     ensures { result ≡ received_next answer }
 {
     match answer {

@@ -22,8 +22,8 @@ use std::mem;
 /// Each [`step`](ChannelCall::step) does one thing to the channel's cells: one step of a call of the queue, one section on
 /// one list of listeners, one operation on one count, or nothing. Own to this project.
 pub struct ChannelCall<T, W> {
-    stage: Stage<QueueCall<T>, T, W>,
-    mark: Mark,
+    pub(crate) stage: Stage<QueueCall<T>, T, W>,
+    pub(crate) mark: Mark,
 }
 
 /// By hand, so that what a crate above proves of a call that it lets go doesn't go into its stages.

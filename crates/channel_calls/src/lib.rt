@@ -2,6 +2,7 @@
 //! are under way. Their tests stand in `async_channel_tests`.
 #![tactic(auto)]
 
+pub mod ahead;
 mod answered;
 pub mod ask;
 pub mod call;

@@ -1,0 +1,102 @@
+-- Steps of a channel's call that are made on end, from what the queue and the lists promise of each.
+use Rattle.std.proofs.Common.{◌≡◌, refl, subst, [], Option, None, Some, Ok, Err, Result, MatchResult}
+use Rattle.concurrent_queue.specs.Replies.{IsAsking, MayCall}
+use Rattle.concurrent_queue.specs.Step.{Starts}
+use Rattle.concurrent_queue.specs.declared.cells.QueueForm.{QueueForm}
+use Rattle.concurrent_queue.specs.declared.call.QueueAsk.{QueueAsk}
+use Rattle.concurrent_queue.specs.declared.call.QueueAsk.TheVariants as ask
+use Rattle.concurrent_queue.specs.declared.call.QueueReply.{QueueReply}
+use Rattle.concurrent_queue.specs.declared.call.QueueReply.TheVariants.{Push, Force, Pop, Close, Flag, Count, Cap}
+use Rattle.concurrent_queue.specs.declared.error.PushError.TheVariants as push_error
+use Rattle.concurrent_queue.specs.declared.error.PopError.TheVariants as pop_error
+use Rattle.concurrent_queue.specs.declared.queue_call.CallState.{CallState}
+use Rattle.concurrent_queue.specs.declared.queue_call.QueueCall.{QueueCall}
+use Rattle.channel_calls.specs.declared.ask.ChannelAsk.{ChannelAsk}
+use Rattle.channel_calls.specs.declared.ask.ChannelAsk.TheVariants as call
+use Rattle.channel_calls.specs.declared.call.ChannelCall.{ChannelCall}
+use Rattle.channel_calls.specs.declared.mark.Mark.{Mark}
+use Rattle.channel_calls.specs.declared.reply.Reply.{Reply}
+use Rattle.channel_calls.specs.declared.stage.Aim.{Aim}
+use Rattle.channel_calls.specs.declared.stage.Aim.TheVariants as aim
+use Rattle.channel_calls.specs.declared.stage.Stage.{Stage}
+use Rattle.channel_calls.specs.declared.stage.Stage.TheVariants.{Trying, Finished}
+use Rattle.channel_calls.specs.declared.stage.Turn.{Turn}
+use Rattle.channel_calls.specs.declared.stage.Turn.TheVariants.{Tries}
+use Rattle.channel_calls.specs.Ahead.{IsMadeOnEnd}
+use Rattle.channel_calls.specs.Asks.{kept_by}
+use Rattle.channel_calls.specs.Answered.{sent_next, received_next}
+use Rattle.channel_calls.specs.Moves.{IsTaken, IsStepOver}
+use Rattle.channel_calls.specs.Parts.{Parts}
+use Rattle.channel_calls.specs.Replies.{FollowsTurn, FollowsStage, MayEnd, MayGive}
+use Rattle.channel_calls.specs.Turns.{nothing_kept}
+
+module _ {T : Type 0} (W : Type 0) (f : QueueForm) (one : QueueCall T) where
+  pub sends : (v : T) → IsAsking one (ask.Push v) → (r : Reply T) (m : Option T) → MayEnd {W = W} f (Trying one aim.TrySend) r m → MayGive {W = W} f (call.TrySend v) r m
+  sends v asks r m h = h (ask.Push v) (λ y may. subst (λ (z : CallState T). MayCall f z y) asks may) v refl
+
+  pub receives : IsAsking one ask.Pop → (r : Reply T) (m : Option T) → MayEnd {W = W} f (Trying one aim.TryRecv) r m → MayGive {W = W} f call.TryRecv r m
+  receives asks r m h = h ask.Pop (λ y may. subst (λ (z : CallState T). MayCall f z y) asks may) refl
+
+module _ {T W : Type 0} where
+  -- a turn that answers leaves nothing
+  abbrev pub KeepsNothing : Turn T W → Type 0
+  KeepsNothing turn = (r : Reply T) (s : Stage (QueueCall T) T W) → IsTaken turn (Some r) s → s ≡ Finished nothing_kept
+
+  pub sent_keeps : (y : QueueReply T) → KeepsNothing (sent_next y)
+  sent_keeps (Push (Ok u)) r s t = let e = t.0 in cc
+  sent_keeps (Push (Err (push_error.Full m))) r s t = t.1
+  sent_keeps (Push (Err (push_error.Closed m))) r s t = t.1
+  sent_keeps (Push (Err (push_error.NoMemory m))) r s t = t.1
+  sent_keeps (Force y) r s t = t.1
+  sent_keeps (Pop y) r s t = t.1
+  sent_keeps (Close y) r s t = t.1
+  sent_keeps (Flag y) r s t = t.1
+  sent_keeps (Count y) r s t = t.1
+  sent_keeps (Cap y) r s t = t.1
+
+  pub received_keeps : (y : QueueReply T) → KeepsNothing (received_next y)
+  received_keeps (Pop (Ok m)) r s t = let e = t.0 in cc
+  received_keeps (Pop (Err pop_error.Empty)) r s t = t.1
+  received_keeps (Pop (Err pop_error.Closed)) r s t = t.1
+  received_keeps (Push y) r s t = t.1
+  received_keeps (Force y) r s t = t.1
+  received_keeps (Close y) r s t = t.1
+  received_keeps (Flag y) r s t = t.1
+  received_keeps (Count y) r s t = t.1
+  received_keeps (Cap y) r s t = t.1
+
+  pub keeps_by : (turn turn0 : Turn T W) → turn ≡ turn0 → KeepsNothing turn0 → KeepsNothing turn
+  keeps_by turn turn0 e h r s t = h r s (subst (λ (x : Turn T W). IsTaken x (Some r) s) e t)
+
+  -- what `turned` says of a call after its turn
+  abbrev pub Turned : Turn T W → Result (Reply T) (ChannelCall T W) → Type 0
+  Turned turn result =
+      MatchResult result (λ r. (s : Stage (QueueCall T) T W) × IsTaken turn (Some r) s × ((b : QueueForm) → FollowsTurn b turn s (Some r)))
+      (λ call. IsTaken turn None call.stage × ((b : QueueForm) → FollowsTurn b turn call.stage None))
+
+  -- what may be given to a call that is made on end
+  abbrev pub GivesOnEnd : QueueForm → ChannelAsk T W → Result (Reply T) (ChannelCall T W) → Type 0
+  GivesOnEnd f asked result =
+      MatchResult result (λ r. MayGive f asked r None) (λ call. (r : Reply T) (m : Option T) → MayEnd f call.stage r m → MayGive f asked r m)
+
+  module _ (f : QueueForm) (one : QueueCall T) (x : Aim T W) (asked : ChannelAsk T W) (gives : (r : Reply T) (m : Option T) → MayEnd f (Trying one x) r m → MayGive f asked r m) where
+    pub gives_by : (turn : Turn T W) (result : Result (Reply T) (ChannelCall T W)) → Turned turn result → KeepsNothing turn
+        → ((s : Stage (QueueCall T) T W) (r : Option (Reply T)) → FollowsTurn f turn s r → FollowsStage f (Trying one x) s r) → GivesOnEnd f asked result
+    gives_by turn (Ok r) (s, taken, follows) keeps through =
+        gives r None (subst (λ (t : Stage (QueueCall T) T W). MayEnd f (Trying one x) r (kept_by t).message) (keeps r s taken) (through s (Some r) (follows f)))
+    gives_by turn (Err left) (taken, follows) keeps through = λ r m may. gives r m (through left.stage None (follows f) r m may)
+
+module _ {T W S : Type 0} (wakes : S → W → S → Type 0) (p p' : Parts T W) (k : S) (a : QueueAsk T) (x : Aim T W) (one : QueueCall T) (starts : Starts one a) (m : Mark) where
+  -- the queue's call goes on
+  pub goes_on : (left : ChannelCall T W) → IsStepOver p (Trying one x) [] p' left.stage m None → IsMadeOnEnd wakes (Tries a x) p k (Err left) p' k
+  goes_on left step = (Trying one x, (one, starts, refl, refl), (1, (p', left.stage, k, m, ([], refl, step), (refl, refl, refl))))
+
+  -- it answers, and the call answers with it or goes on
+  pub answers_by : (turn : Turn T W) (result : Result (Reply T) (ChannelCall T W)) → Turned turn result → KeepsNothing turn
+      → ((r : Option (Reply T)) (s : Stage (QueueCall T) T W) → IsTaken turn r s → IsStepOver p (Trying one x) [] p' s m r) → IsMadeOnEnd wakes (Tries a x) p k result p' k
+  answers_by turn (Ok r) (s, taken, follows) keeps step =
+      let last : IsStepOver p (Trying one x) [] p' (Finished nothing_kept) m (Some r) =
+      subst (λ (t : Stage (QueueCall T) T W). IsStepOver p (Trying one x) [] p' t m (Some r)) (keeps r s taken) (step (Some r) s taken)
+      in
+      (Trying one x, (one, starts, refl, refl), (0, (p, Trying one x, k, m, (refl, refl, refl), ([], refl, last))))
+  answers_by turn (Err left) (taken, follows) keeps step = goes_on left (step None left.stage taken)

@@ -1,0 +1,16 @@
+use Rattle.std.proofs.Common.{Option, subst}
+use Rattle.concurrent_queue.specs.declared.queue_call.QueueCall.{QueueCall}
+use Rattle.channel_calls.specs.Moves.{IsTaken}
+use Rattle.channel_calls.specs.Replies.{FollowsTurn}
+use Rattle.channel_calls.specs.declared.reply.Reply.{Reply}
+use Rattle.channel_calls.proofs.ahead.turned.Goals as goal
+
+pub returns-in-None : goal.returns-in-None
+returns-in-None g c =
+    let s = c.takes-stage.result.stage in
+    record {
+      taken = (
+        subst (λ (o : Option (Reply g.row.T.Denot)). IsTaken c.args.turn o s) c.in-None.is c.takes-stage.ensures.taken,
+        λ b. subst (λ (o : Option (Reply g.row.T.Denot)). FollowsTurn b c.args.turn s o) c.in-None.is (c.takes-stage.ensures.follows b),
+      );
+    }
