@@ -1,5 +1,5 @@
 -- What a layer above may use: whom a section tells that tells so many more, and whom it wakes.
-use Rattle.std.proofs.Common.{◌≡◌, ℕ, true, List, ◌++◌, map, take, drop}
+use Rattle.std.proofs.Common.{◌≡◌, ℕ, true, ◌++◌, map, take, drop}
 use Rattle.event_listener.specs.Lists.{told_with, tasks_of}
 use Rattle.channel_calls.specs.Parts.{Listeners, told_more, told_more_wakes}
 use Rattle.channel_calls.proofs.NoticeFacts as facts

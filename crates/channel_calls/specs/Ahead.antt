@@ -1,5 +1,5 @@
 -- Steps of a channel's call that are made on end.
-use Rattle.std.specs.Prelude.{◌≡◌, ℕ, Option, None, Some, Result, MatchResult}
+use Rattle.std.specs.Prelude.{◌≡◌, ℕ, None, Some, Result, MatchResult}
 use Rattle.std.proofs.Common.{zero, suc}
 use Rattle.concurrent_queue.specs.declared.queue_call.QueueCall.{QueueCall}
 use Rattle.channel_calls.specs.declared.call.ChannelCall.{ChannelCall}

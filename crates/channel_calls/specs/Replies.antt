@@ -1,23 +1,20 @@
 -- What a call may answer, whatever its cells hold: a reply of its own kind, and a refused message is its own. Over cells that
 -- threads share this is all that is known of a step.
-use Rattle.std.specs.Prelude.{◌≡◌, ◌⊎◌, ℕ, ◌+◌, ◌<◌, ◌≤◌, [], length, Bool, true, false, Option, None, Some, Result, Ok, Err, MatchOption}
+use Rattle.std.specs.Prelude.{◌≡◌, ℕ, ◌+◌, ◌<◌, ◌≤◌, [], length, Bool, true, false, Option, None, Some, Result, Ok, Err, MatchOption}
 use Rattle.concurrent_queue.specs.Replies.{is_bounded, MayCall, MayAnswer}
 use Rattle.concurrent_queue.specs.declared.call.QueueAsk.{QueueAsk}
 use Rattle.concurrent_queue.specs.declared.call.QueueAsk.TheVariants as ask
 use Rattle.concurrent_queue.specs.declared.call.QueueReply.{QueueReply}
 use Rattle.concurrent_queue.specs.declared.cells.QueueForm.{QueueForm}
 use Rattle.concurrent_queue.specs.declared.queue_call.QueueCall.{QueueCall}
-use Rattle.event_listener.specs.declared.error.ListenError.{ListenError}
 use Rattle.futures.specs.declared.task.Poll.{Poll}
 use Rattle.futures.specs.declared.task.Poll.TheVariants as poll
 use Rattle.channel_calls.specs.declared.ask.ChannelAsk.{ChannelAsk}
 use Rattle.channel_calls.specs.declared.ask.ChannelAsk.TheVariants as call
 use Rattle.event_listener.specs.declared.error.ListenError.TheVariants as listen_error
-use Rattle.channel_calls.specs.declared.error.RecvError.{RecvError}
 use Rattle.channel_calls.specs.declared.error.Refused.{Refused}
 use Rattle.channel_calls.specs.declared.error.Refused.TheVariants as refused
 use Rattle.channel_calls.specs.declared.error.SendError.{SendError}
-use Rattle.channel_calls.specs.declared.error.TryRecvError.{TryRecvError}
 use Rattle.channel_calls.specs.declared.error.TrySendError.{TrySendError}
 use Rattle.channel_calls.specs.declared.error.TrySendError.TheVariants as try_send_error
 use Rattle.channel_calls.specs.declared.reply.Reply.{Reply}

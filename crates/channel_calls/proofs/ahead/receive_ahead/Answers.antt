@@ -1,10 +1,8 @@
-use Rattle.std.proofs.Common.{◌≡◌, refl, ap, ◌∙◌, Option, None, Some, Ok, []}
+use Rattle.std.proofs.Common.{◌≡◌, refl, ap, ◌∙◌, None, Some, Ok, []}
 use Rattle.concurrent_queue.specs.Step.{mark_of}
 use Rattle.concurrent_queue.specs.declared.call.QueueAsk.TheVariants as queue_ask
-use Rattle.concurrent_queue.specs.declared.call.QueueMark.{QueueMark}
 use Rattle.concurrent_queue.specs.declared.call.QueueReply.{QueueReply}
 use Rattle.concurrent_queue.specs.declared.call.QueueReply.TheVariants.{Pop}
-use Rattle.channel_calls.specs.Answered.{received_next}
 use Rattle.channel_calls.specs.Marks.{mark_of_queue}
 use Rattle.channel_calls.specs.Moves.{IsStepOver}
 use Rattle.channel_calls.specs.Parts.{told_one, told_one_wakes}
@@ -14,8 +12,7 @@ use Rattle.channel_calls.specs.declared.mark.Mark.TheVariants as mark
 use Rattle.channel_calls.specs.declared.reply.Reply.TheVariants as reply
 use Rattle.channel_calls.specs.declared.stage.Aim.TheVariants as aim
 use Rattle.channel_calls.specs.declared.stage.Line.TheVariants.{Sends}
-use Rattle.channel_calls.specs.declared.stage.Stage.TheVariants.{Trying, Working, Finished}
-use Rattle.channel_calls.specs.declared.stage.Turn.TheVariants.{Works}
+use Rattle.channel_calls.specs.declared.stage.Stage.TheVariants.{Trying, Working}
 use Rattle.channel_calls.specs.declared.stage.Work.TheVariants.{TellSend}
 use Rattle.channel_calls.proofs.Replying as replying
 use Rattle.channel_calls.proofs.Steps.{queue_goes, queue_answers, at_reply, at_turn, on_list}
@@ -51,19 +48,21 @@ returns-in-Ok-clause-steps g c known =
     (at_reply _ _ _ _ _ _ is (c.step_queue-answer.ensures.queue known)) (refl, refl)
     in
     let ends = on_list p1 _ (TellSend ending) _ (ends_by ending) refl (Some (reply.TryRecv (Ok v))) _ (refl, refl) Sends (told_one p1.roster.sends) (told_one_wakes p1.roster.sends) mark.Nothing refl (c.tell_one.ensures.lists known)
-        (λ q e s effect turned. (effect, turned))
-    in
-    (
+    (λ q e s effect turned. (effect, turned))
+    in (
       Trying one aim.TryRecv,
       (one, c.pop-call.ensures.starts, refl, refl),
-      (1, (
-        p1,
-        Working (TellSend ending),
-        c.args.sink.now,
-        mark.Nothing,
-        (p1, Working (TellSend ending), c.args.sink.now, mark_of_queue (mark_of two), ([], refl, asks), (refl, refl, refl)),
-        (_, c.tell_one.ensures.woken known, ends),
-      )),
+      (
+        1,
+        (
+          p1,
+          Working (TellSend ending),
+          c.args.sink.now,
+          mark.Nothing,
+          (p1, Working (TellSend ending), c.args.sink.now, mark_of_queue (mark_of two), ([], refl, asks), (refl, refl, refl)),
+          (_, c.tell_one.ensures.woken known, ends),
+        ),
+      ),
     )
 
 pub returns-in-Err-clause-steps : goal.returns-in-Err-clause-steps

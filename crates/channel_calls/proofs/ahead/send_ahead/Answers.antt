@@ -1,10 +1,8 @@
-use Rattle.std.proofs.Common.{◌≡◌, refl, ap, ◌∙◌, Option, None, Some, Ok, []}
+use Rattle.std.proofs.Common.{◌≡◌, refl, ap, ◌∙◌, None, Some, Ok, []}
 use Rattle.concurrent_queue.specs.Step.{mark_of}
 use Rattle.concurrent_queue.specs.declared.call.QueueAsk.TheVariants as queue_ask
-use Rattle.concurrent_queue.specs.declared.call.QueueMark.{QueueMark}
 use Rattle.concurrent_queue.specs.declared.call.QueueReply.{QueueReply}
 use Rattle.concurrent_queue.specs.declared.call.QueueReply.TheVariants.{Push}
-use Rattle.channel_calls.specs.Answered.{sent_next}
 use Rattle.channel_calls.specs.Marks.{mark_of_queue}
 use Rattle.channel_calls.specs.Moves.{IsStepOver}
 use Rattle.channel_calls.specs.Parts.{told_one, told_one_wakes, told_all, told_all_wakes}
@@ -14,7 +12,7 @@ use Rattle.channel_calls.specs.declared.mark.Mark.TheVariants as mark
 use Rattle.channel_calls.specs.declared.reply.Reply.TheVariants as reply
 use Rattle.channel_calls.specs.declared.stage.Aim.TheVariants as aim
 use Rattle.channel_calls.specs.declared.stage.Line.TheVariants.{Receives, Streams}
-use Rattle.channel_calls.specs.declared.stage.Stage.TheVariants.{Trying, Working, Finished}
+use Rattle.channel_calls.specs.declared.stage.Stage.TheVariants.{Trying, Working}
 use Rattle.channel_calls.specs.declared.stage.Turn.TheVariants.{Works}
 use Rattle.channel_calls.specs.declared.stage.Work.TheVariants.{TellReceive, TellStreams}
 use Rattle.channel_calls.proofs.Replying as replying
@@ -51,22 +49,24 @@ returns-in-Ok-clause-steps g c known =
     (at_reply _ _ _ _ _ _ is (c.step_queue-answer.ensures.queue known)) (refl, refl)
     in
     let tells = on_list p1 p2 (TellReceive ending) _ (Works (TellStreams ending)) refl None (Working (TellStreams ending)) (refl, refl) Receives (told_one p1.roster.receives) (told_one_wakes p1.roster.receives) mark.Nothing refl (c.tell_one.ensures.lists known)
-        (λ q e s effect turned. (effect, turned))
+    (λ q e s effect turned. (effect, turned))
     in
     let ends = on_list p2 _ (TellStreams ending) _ (ends_by ending) refl (Some (reply.TrySend (Ok tt))) _ (refl, refl) Streams (told_all p2.roster.streams) (told_all_wakes p2.roster.streams) mark.Nothing refl (c.tell_all.ensures.lists known)
-        (λ q e s effect turned. (effect, turned))
-    in
-    (
+    (λ q e s effect turned. (effect, turned))
+    in (
       Trying one aim.TrySend,
       (one, c.push-call.ensures.starts, refl, refl),
-      (2, (
-        p2,
-        Working (TellStreams ending),
-        c.tell_one.new.sink,
-        mark.Nothing,
-        (p1, Working (TellReceive ending), c.args.sink.now, mark_of_queue (mark_of two), ([], refl, asks), (p2, Working (TellStreams ending), c.tell_one.new.sink, mark.Nothing, (_, c.tell_one.ensures.woken known, tells), (refl, refl, refl))),
-        (_, c.tell_all.ensures.woken known, ends),
-      )),
+      (
+        2,
+        (
+          p2,
+          Working (TellStreams ending),
+          c.tell_one.new.sink,
+          mark.Nothing,
+          (p1, Working (TellReceive ending), c.args.sink.now, mark_of_queue (mark_of two), ([], refl, asks), (p2, Working (TellStreams ending), c.tell_one.new.sink, mark.Nothing, (_, c.tell_one.ensures.woken known, tells), (refl, refl, refl))),
+          (_, c.tell_all.ensures.woken known, ends),
+        ),
+      ),
     )
 
 pub returns-in-Err-clause-steps : goal.returns-in-Err-clause-steps

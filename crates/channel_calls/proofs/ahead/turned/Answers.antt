@@ -1,5 +1,4 @@
 use Rattle.std.proofs.Common.{Option, subst}
-use Rattle.concurrent_queue.specs.declared.queue_call.QueueCall.{QueueCall}
 use Rattle.channel_calls.specs.Moves.{IsTaken}
 use Rattle.channel_calls.specs.Replies.{FollowsTurn}
 use Rattle.channel_calls.specs.declared.reply.Reply.{Reply}

@@ -1,4 +1,4 @@
-use Rattle.std.proofs.Common.{◌≡◌, ℕ, length, Result, Ok, Err}
+use Rattle.std.proofs.Common.{◌≡◌, ℕ, length, Result, Ok}
 use Rattle.event_listener.specs.Notices.{IsAnswer}
 use Rattle.event_listener.specs.declared.error.NoMemory.{NoMemory}
 use Rattle.event_listener.specs.declared.error.NotifyError.{NotifyError}

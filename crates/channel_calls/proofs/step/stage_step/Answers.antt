@@ -1,7 +1,6 @@
 use Rattle.std.proofs.Common.{[], refl, None}
 use Rattle.channel_calls.specs.declared.stage.Stage.TheVariants.{Trying, Working, Finished}
 use Rattle.channel_calls.proofs.Steps.{rests, at_next, at_stage}
-use Rattle.concurrent_queue.specs.Replies.{is_bounded}
 use Rattle.channel_calls.specs.Replies.{FollowsStage}
 use Rattle.channel_calls.proofs.Replying as replying
 use Rattle.channel_calls.proofs.step.stage_step.Goals as goal

@@ -3,7 +3,6 @@ use Rattle.concurrent_queue.specs.Step.{mark_of}
 use Rattle.concurrent_queue.specs.declared.call.QueueMark.{QueueMark}
 use Rattle.channel_calls.specs.Marks.{mark_of_queue}
 use Rattle.channel_calls.proofs.Steps.{queue_goes, queue_answers, at_mark, at_next, at_reply, at_turn}
-use Rattle.concurrent_queue.specs.Replies.{is_bounded}
 use Rattle.channel_calls.specs.declared.stage.Stage.TheVariants.{Trying}
 use Rattle.channel_calls.proofs.Replying as replying
 use Rattle.channel_calls.proofs.step.try_step.Goals as goal

@@ -1,6 +1,5 @@
 use Rattle.std.proofs.Common.{◌≡◌, rules, sym}
 use Rattle.channel_calls.proofs.Steps.{at_stage}
-use Rattle.concurrent_queue.specs.Replies.{is_bounded}
 use Rattle.channel_calls.proofs.Replying as replying
 use Rattle.channel_calls.proofs.call.ChannelCall.step.Goals as goal
 
