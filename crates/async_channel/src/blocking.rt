@@ -1,5 +1,5 @@
 //! The calls that block the thread. They try, listen, try again, and wait on the listener between further tries, as the
-//! blocking calls of `async-channel` 2.5.0 do.
+//! blocking calls of `async-channel` 2.5.0 do. That the first try is made some times before they listen is own to this project.
 
 ghost use Rattle.std.specs.Prelude.{◌≡◌, IfErr};
 ghost use Rattle.async_channel.specs.Handles.{Unsent, TryUnsent};
