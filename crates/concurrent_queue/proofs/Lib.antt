@@ -43,6 +43,7 @@ mod BlocksStep
 mod BlocksChain
 mod BlocksFacts
 mod BlocksShows
+pub mod PlainRings
 pub mod Slots
 pub mod Evidence
 pub mod Runs

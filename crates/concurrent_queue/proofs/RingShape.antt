@@ -1,9 +1,11 @@
 -- The mark of a ring is the least power of two above its capacity, and small.
-use Rattle.std.proofs.Common.{◌≡◌, ℕ, suc, ◌-◌, ◌*◌, ◌%◌, ◌^◌, ◌<◌, ◌≤◌, ⊎_elim, refl, sym, subst, arith}
+use Rattle.std.proofs.Common.{◌≡◌, ℕ, suc, ◌-◌, ◌*◌, ◌%◌, ◌^◌, ◌<◌, ◌≤◌, ⊎_elim, refl, sym, ap, ◌∙◌, subst, arith}
 use Rattle.std.proofs.lemmas.Bool.{cases_lt}
 use Rattle.std.proofs.lemmas.Bool.Decides.{nat_tests}
-use Rattle.std.proofs.lemmas.Nat.{leading_length, leading_top}
+use Rattle.std.proofs.lemmas.Nat.{leading_length, leading_top, and_mask}
+use Rattle.std.proofs.Math.Nat.{pow-succ'}
 use Rattle.std.proofs.Math.Pow.{pow_mono}
+use lib.Bits.{bit_and}
 use lib.Count.{count_leading_zeros}
 use Rattle.concurrent_queue.specs.machine.RingWords.{cap_of, ring_mark}
 
@@ -27,6 +29,14 @@ mark_bits cap h = let w = width_small cap h in omega (arith, w.1)
 pub mark_small : (cap : ℕ) → cap ≤ 2 ^ 58 → (ring_mark cap < 2 ^ 60) × (0 < ring_mark cap)
 unfolding ring_mark
 mark_small cap h = let w = width_small cap h in (w.1, w.2)
+
+-- a lap less one is a mask
+pub lap_masks : (cap m : ℕ) → m ≡ ring_mark cap → (n : ℕ) → bit_and n (2 * m - 1) ≡ n % (2 * m)
+unfolding ring_mark
+lap_masks cap m e n =
+    let w = 64 - count_leading_zeros 64 cap in
+    let lap : 2 ^ suc w ≡ 2 * m = pow-succ' 2 w ∙ ap (λ (k : ℕ). 2 * k) (sym e) in
+    subst (λ (k : ℕ). bit_and n (k - 1) ≡ n % k) lap (and_mask n (suc w))
 
 -- what the mark of a ring is
 pub record IsMark (cap m : ℕ) : Type 0 where

@@ -10,7 +10,7 @@
 //! The places where the machine meets others' steps are those of `concurrent-queue` 2.5.0; the displacing push in two
 //! steps keeps the mark, since it adds to the tail and never stores it.
 
-ghost use Rattle.std.specs.Prelude.{◌≡◌, ℕ, ◌<◌, ◌^◌, ◌*◌, ◌+◌, ◌-◌, ◌%◌, None, Some, if◌then◌else◌};
+ghost use Rattle.std.specs.Prelude.{◌≡◌, ℕ, ◌<◌, ◌^◌, ◌*◌, ◌+◌, ◌-◌, ◌%◌, None, Some, if◌then◌else◌, bit_and};
 ghost use Rattle.concurrent_queue.specs.machine.RingWords.{cap_of, ring_mark, index, is_marked, unmarked, stride, next_word, count_of, between, shut_reply, pushed_reply, behind, stays, marks, finishes, push_load, push_shut, push_look, push_swap, push_put, push_store, push_head, force_head, force_add, force_take, force_put, force_store, pop_load, pop_look, pop_swap, pop_tail, pop_take, pop_store, close_step, ring_start, ask_is_closed, empty_load, empty_look, full_load, full_look, len_load, len_look, len_again, ring_step};
 ghost use Rattle.concurrent_queue.specs.machine.Dispatch.{IsRingStep, ring_cap};
 ghost use Rattle.concurrent_queue.specs.Replies.{RingFollows, MaySend};
@@ -97,13 +97,15 @@ pub(crate) enum RingAction<T> {
     Finished,
 }
 
-/// The measures of a ring: its capacity and its mark.
+/// The measures of a ring: its capacity, its mark, and a lap less one, which is a mask since a lap is a power of two.
 #[derive(Clone, Copy)]
 pub(crate) struct Shape {
     cap: u64,
     mark: u64,
+    mask: u64,
     ghost small: { mark < 2 ^ 60 },
     ghost some: { 0 < mark },
+    ghost masks: { (n : ℕ) → bit_and n mask ≡ n % (2 * mark) },
 }
 
 /// The capacity of a ring; one above 2^58, which no queue has, counts as 2^58.
@@ -127,12 +129,15 @@ impl Shape {
         ensures mark { result.mark ≡ ring_mark (cap_of capacity) }
     {
         let cap = at_most_greatest(capacity);
+        let mark = 1 << (64 - cap.leading_zeros());
         Shape {
             cap,
-            mark: 1 << (64 - cap.leading_zeros()),
+            mark,
+            mask: 2 * mark - 1,
         }
     }
 
+    #[inline(always)]
     fn lap(self) -> u64
         ensures { result ≡ 2 * self.mark }
     {
@@ -140,13 +145,15 @@ impl Shape {
     }
 
     /// The index of a position.
+    #[inline(always)]
     fn index(self, position: u64) -> u64
         ensures { result ≡ index self.mark position }
     {
-        position % self.lap()
+        position & self.mask
     }
 
     /// The name of the stamp that belongs to a position.
+    #[inline(always)]
     fn stamp(self, position: u64) -> Word
         ensures { result ≡ Word.Stamp (index self.mark position) }
     {
@@ -154,13 +161,15 @@ impl Shape {
     }
 
     /// Whether the mark is set in a word.
+    #[inline(always)]
     fn is_marked(self, word: u64) -> bool
         ensures { result ≡ is_marked self.mark word }
     {
-        self.mark <= word % self.lap()
+        self.mark <= self.index(word)
     }
 
     /// The position in a word.
+    #[inline(always)]
     fn unmarked(self, word: u64) -> u64
         ensures { result ≡ unmarked self.mark word }
     {
@@ -172,6 +181,7 @@ impl Shape {
     }
 
     /// How far it is from a position to the next one.
+    #[inline(always)]
     fn stride(self, position: u64) -> u64
         ensures { result ≡ stride self.cap self.mark position }
     {
@@ -184,6 +194,7 @@ impl Shape {
     }
 
     /// The position after this one.
+    #[inline(always)]
     fn next(self, position: u64) -> u64
         ensures { result ≡ next_word self.cap self.mark position }
     {

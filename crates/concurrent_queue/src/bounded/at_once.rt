@@ -3,61 +3,59 @@
 
 ghost use Rattle.std.specs.Prelude.{◌≡◌};
 ghost use Rattle.concurrent_queue.specs.machine.RingAtOnce.{PushesFree, PushesAtOnce, PopsThere, PopsAtOnce};
+ghost use Rattle.concurrent_queue.specs.Plain.{contents_of};
 
-use crate::bounded::Shape;
-use crate::cells::{Cells, QueueForm, Slot, Word};
+use crate::cells::{Cells, QueueForm};
+use crate::plain::PlainCells;
 
 /// Pushes into a ring where the place at the tail is free. `Err` hands the message back, and nothing is changed.
 #[inline(always)]
-pub(crate) fn push_at_once<T: Drop, C: Cells<T>>(value: T, cells: &mut C) -> Result<(), T>
-    ensures { C.known → PushesAtOnce (C.contents cells.old).form (C.contents cells.old) value result (C.contents cells.new) }
+pub(crate) fn push_at_once<T: Drop>(value: T, cells: &mut PlainCells<T>) -> Result<(), T>
+    ensures { PushesAtOnce (contents_of cells.old).form (contents_of cells.old) value result (contents_of cells.new) }
 {
     match cells.form() {
         QueueForm::Bounded(1) => Err(value),
-        QueueForm::Bounded(capacity) => push_free(Shape::of(capacity), value, cells),
+        QueueForm::Bounded(_) => push_free(value, cells),
         QueueForm::Unbounded => Err(value),
     }
 }
 
 #[inline(always)]
-fn push_free<T: Drop, C: Cells<T>>(shape: Shape, value: T, cells: &mut C) -> Result<(), T>
-    ensures { C.known → PushesFree shape.cap shape.mark (C.contents cells.old) value result (C.contents cells.new) }
+fn push_free<T: Drop>(value: T, cells: &mut PlainCells<T>) -> Result<(), T>
+    ensures { PushesFree cells.old.shape.cap cells.old.shape.mark (contents_of cells.old) value result (contents_of cells.new) }
 {
-    let tail = cells.load(Word::Tail);
+    let shape = cells.shape;
+    let tail = cells.tail;
     if shape.is_marked(tail) || u64::MAX - shape.lap() < tail {
         return Err(value);
     }
-    if cells.load(shape.stamp(tail)) != tail {
-        return Err(value);
-    }
-    cells.put(Slot::At(shape.index(tail)), value)?;
-    cells.store(Word::Tail, shape.next(tail));
-    cells.store(shape.stamp(tail), tail.wrapping_add(1));
+    cells.ring.fill(shape.index(tail), tail, value)?;
+    cells.tail = shape.next(tail);
     Ok(())
 }
 
 /// Pops from a ring where the message at the head is in. At `None` nothing is changed.
 #[inline(always)]
-pub(crate) fn pop_at_once<T: Drop, C: Cells<T>>(cells: &mut C) -> Option<T>
-    ensures { C.known → PopsAtOnce (C.contents cells.old).form (C.contents cells.old) result (C.contents cells.new) }
+pub(crate) fn pop_at_once<T: Drop>(cells: &mut PlainCells<T>) -> Option<T>
+    ensures { PopsAtOnce (contents_of cells.old).form (contents_of cells.old) result (contents_of cells.new) }
 {
     match cells.form() {
         QueueForm::Bounded(1) => None,
-        QueueForm::Bounded(capacity) => pop_there(Shape::of(capacity), cells),
+        QueueForm::Bounded(_) => pop_there(cells),
         QueueForm::Unbounded => None,
     }
 }
 
 #[inline(always)]
-fn pop_there<T: Drop, C: Cells<T>>(shape: Shape, cells: &mut C) -> Option<T>
-    ensures { C.known → PopsThere shape.cap shape.mark (C.contents cells.old) result (C.contents cells.new) }
+fn pop_there<T: Drop>(cells: &mut PlainCells<T>) -> Option<T>
+    ensures { PopsThere cells.old.shape.cap cells.old.shape.mark (contents_of cells.old) result (contents_of cells.new) }
 {
-    let head = cells.load(Word::Head);
-    if cells.load(shape.stamp(head)) != head.wrapping_add(1) {
-        return None;
-    }
-    let value = cells.take(Slot::At(shape.index(head)))?;
-    cells.store(Word::Head, shape.next(head));
-    cells.store(shape.stamp(head), head.wrapping_add(shape.lap()));
+    let shape = cells.shape;
+    let head = cells.head;
+    let next = head.wrapping_add(shape.lap());
+    let value = cells
+        .ring
+        .draw(shape.index(head), head.wrapping_add(1), next)?;
+    cells.head = shape.next(head);
     Some(value)
 }
