@@ -1,6 +1,7 @@
 -- How a chain changes where its links do.
 use Rattle.std.proofs.Common.{◌≡◌, ◌≢◌, ◌⊎◌, inl, inr, ℕ, List, [], ◌∷◌, ◌++◌, length, Option, Some, None, refl, sym, ap, subst, ◌∙◌, append_assoc}
 use Rattle.std.proofs.lemmas.Bool.{cases_eq}
+use Rattle.std.proofs.lemmas.List.{append-nil}
 use Rattle.event_listener.specs.Chain.{Link, Linked, Apart, Distinct, Among, walk, first_or, last_or, Unlinks, Links_last}
 
 -- two links agree at each of these slots
@@ -58,10 +59,21 @@ Linked-bend after before after' before' p [] n m l a d am bm fs bs = (am, bm)
 Linked-bend after before after' before' p (k ∷ ks) n m l a d am bm fs bs =
     (fs p (inl refl) (last_or-apart p (Some k) ks a.0 a.1) ∙ l.0, bs.0 ∙ l.1, Linked-bend after before after' before' (Some k) ks n m l.2 d.0 d.1 am bm (λ x h ne. fs x (inr h) ne) bs.1)
 
--- the links lead through the chain's slots
-pub walk-linked : (after before : Link) (p : Option ℕ) (ks : List ℕ) → Linked after before p ks None → walk after (length ks) p ≡ ks
-walk-linked after before p [] l = refl
-walk-linked after before p (k ∷ ks) l = rw l.0 (ap (λ r. k ∷ r) (walk-linked after before (Some k) ks l.2))
+-- the links lead through the slots of the first part of a chain
+pub walk-front : (after before : Link) (p : Option ℕ) (ks ws : List ℕ) → Linked after before p (ks ++ ws) None → walk after (length ks) (after p) ≡ ks
+walk-front after before p [] ws l = refl
+walk-front after before p (k ∷ ks) ws l = rw l.0 (ap (λ r. k ∷ r) (walk-front after before (Some k) ks ws l.2))
+
+-- and from the last of it on through those of the second
+pub walk-back : (after before : Link) (p : Option ℕ) (ks ws : List ℕ) → Linked after before p (ks ++ ws) None → walk after (length ws) (first_or ws None) ≡ ws
+walk-back after before p [] [] l = refl
+walk-back after before p [] (w ∷ ws) l =
+    ap (λ r. w ∷ r) (walk-front after before (Some w) ws [] (subst (λ r. Linked after before (Some w) r None) (sym (append-nil ws)) l.2))
+walk-back after before p (k ∷ ks) ws l = walk-back after before (Some k) ks ws l.2
+
+pub last_or-append : (p : Option ℕ) (xs ys : List ℕ) → last_or p (xs ++ ys) ≡ last_or (last_or p xs) ys
+last_or-append p [] ys = refl
+last_or-append p (x ∷ xs) ys = last_or-append (Some x) xs ys
 
 -- each of the first list is none of the second
 abbrev pub AllApart : List ℕ → List ℕ → Type 0

@@ -1,5 +1,5 @@
 -- The fields of a list and its two lists.
-use Rattle.std.proofs.Common.{◌≡◌, ◌≢◌, ℕ, ◌+◌, ◌^◌, ◌<◌, ◌≤◌, Bool, true, false, List, [], ◌++◌, ◌∷◌, length, Option, Some, None, is_some, IsSome, IfSome, refl, sym, ap, subst, ◌∙◌, arith, append_assoc, length-append, take}
+use Rattle.std.proofs.Common.{◌≡◌, ◌≢◌, ℕ, ◌+◌, ◌^◌, ◌<◌, ◌≤◌, Bool, true, false, cond, List, [], ◌++◌, ◌∷◌, length, Option, Some, None, is_some, IsSome, IfSome, refl, sym, ap, subst, ◌∙◌, arith, append_assoc, length-append, take}
 use Rattle.std.proofs.lemmas.List.{append-nil}
 use Rattle.std.specs.Option.{option_to_list}
 use Rattle.std.specs.Map.{lookup}
@@ -10,21 +10,19 @@ use Rattle.event_listener.specs.declared.node.State.{State}
 use Rattle.event_listener.specs.declared.node.State.TheVariants.{Waiting, Told}
 use Rattle.event_listener.specs.declared.list.List.TheInside as list
 use Rattle.event_listener.specs.declared.key.Key.{Key}
-use Rattle.event_listener.specs.Inside.{shown, IsSound, entries, forward, backward, told_after, told_before}
+use Rattle.event_listener.specs.Inside.{shown, IsSound, entries, forward, backward}
 use Rattle.event_listener.specs.Lists.{ListView, Lists, kind_of, told_as, waits_as, without, listened, with_task, notified, tasks_of, same_key}
 use Rattle.event_listener.specs.Nodes.{found, is_told}
-use Rattle.event_listener.specs.Chain.{Beside, lists_at, entry, entry_at, Entry, Sound, Among, Distinct, Unlinks, Links_last, fresh_entry, first_or, after_of, before_of, told_piece, waiting_piece, pieces, AtEach, IsWaiting, IsStateOf}
+use Rattle.event_listener.specs.Chain.{Beside, lists_at, entry, entry_at, Entry, Sound, Distinct, Unlinks, Links_last, fresh_entry, first_or, after_of, before_of, told_piece, waiting_piece, pieces, AtEach, IsWaiting, IsStateOf}
 use Rattle.event_listener.specs.Order.{IsInOrder}
 use Rattle.event_listener.proofs.EntryLemmas.{same_key-self}
 use Rattle.event_listener.proofs.OrderLemmas.{in-order-listened, in-order-without, in-order-with_task, in-order-notified, in-order-at}
-use Rattle.event_listener.proofs.ChainLemmas.{Distinct-parted, Linked-ends, last_or-apart}
-use Rattle.event_listener.proofs.SoundLemmas.{found_entry, found-some, found-told, chain-is, kind-chained, beside-in, all-live, last-of-live, among-told, among-waiting, AtEach-front, AtEach-back, Distinct-head, Distinct-tail, Sound-leave-told, Sound-leave-waiting, Sound-insert, Sound-store, Sound-tell, Apart-dead, lists-listened, lists-with_task, lists-told, lists-parts, length-told, length-waiting, lists-without, told_as-entry, waits_as-entry}
+use Rattle.event_listener.proofs.SoundLemmas.{found_entry, found-some, found-told, chain-is, kind-chained, beside, all-live, end-live, told-fits, Sound-leave, Sound-insert, Sound-store, Sound-tell, Apart-dead, lists-listened, lists-with_task, lists-told, lists-parts, length-told, length-waiting, lists-without, told_as-entry, waits_as-entry}
 
 -- a waiting state has such a task
-abbrev pub MatchWaiting : {T W : Type 0} → Option (State T W) → (Option W → Type 0) → Type 0
-MatchWaiting None P = ⊥
-MatchWaiting (Some (Waiting task)) P = P task
-MatchWaiting (Some (Told additional tag)) P = ⊥
+abbrev pub MatchWaiting : {T W : Type 0} → State T W → (Option W → Type 0) → Type 0
+MatchWaiting (Waiting task) P = P task
+MatchWaiting (Told additional tag) P = ⊥
 
 module _ {T W : Type 0} where
   pub found-entry : (o : Option (Node T W)) (serial : ℕ) → found o serial ≡ found_entry (entry o) serial
@@ -36,7 +34,7 @@ module _ {T W : Type 0} where
 
   pub kind-inside : (a : list.Inside T W) → IsSound a → (view : ListView T W) → shown a ≡ view → (key : Key) → kind_of view.lists key ≡ found_entry (entries a key.slot) key.serial
   kind-inside a h view e key =
-      ap (λ (v : ListView T W). kind_of v.lists key) (sym e) ∙ ap (λ l. kind_of l key) (lists-are a h) ∙ kind-chained (entries a) (h.0 ++ h.1) h.2.sound.distinct h.2.sound.covered key
+      ap (λ (v : ListView T W). kind_of v.lists key) (sym e) ∙ ap (λ l. kind_of l key) (lists-are a h) ∙ kind-chained (entries a) (h.0 ++ h.1) h.2.sound.chained.distinct h.2.sound.chained.covered key
 
   -- the entry of a listed key
   pub named : (a : list.Inside T W) → IsSound a → (view : ListView T W) → shown a ≡ view → (key : Key) → IsSome (kind_of view.lists key) → (e : Entry T W) × (entries a key.slot ≡ Some e) × (e.serial ≡ key.serial)
@@ -54,13 +52,13 @@ module _ {T W : Type 0} where
     pub present : ContainsKey a.nodes.slab key.slot
     present = live-present (get a.nodes.slab key.slot) (ap is_some (named a h view v key known).1)
 
-    pub named-serial : IfSome (entries a key.slot) (λ e. e.serial ≡ key.serial)
-    named-serial = let n = named a h view v key known in subst (λ o. IfSome o (λ (e : Entry T W). e.serial ≡ key.serial)) (sym n.1) n.2
+    pub listed-beside : Beside (forward a) (backward a) (entries a) key.slot
+    listed-beside = beside h.2.sound key.slot (ap is_some (named a h view v key known).1)
 
     state-of : (e : Entry T W) → entries a key.slot ≡ Some e → e.serial ≡ key.serial → (s : State T W) → s ≡ e.state → IsStateOf s (told_as view.lists key) (waits_as view.lists key)
     state-of e is serial s q =
         let l : view.lists ≡ lists_at (entries a) (h.0 ++ h.1) = ap (λ (w : ListView T W). w.lists) (sym v) ∙ lists-are a h in
-        let c = h.2.sound in
+        let c = h.2.sound.chained in
         let piece : entries a key.slot ≡ Some (record { serial = key.serial; state = s }) = is ∙ ap Some (λ i. record { serial = serial i; state = sym q i }) in
         let t : told_as view.lists key ≡ lookup (same_key key) (told_piece key.slot (Some (record { serial = key.serial; state = s }))) =
         ap (λ w. told_as w key) l ∙ told_as-entry (entries a) (h.0 ++ h.1) c.distinct c.covered key ∙ ap (λ o. lookup (same_key key) (told_piece key.slot o)) piece in
@@ -79,100 +77,55 @@ module _ {T W : Type 0} where
       pub state : IsStateOf s (told_as view.lists key) (waits_as view.lists key)
       pub room : (shown b).room ≡ (shown a).room + 1
 
-    module _ (is : kind_of view.lists key ≡ Some true) where
-      told-slot : Among key.slot h.0
-      told-slot =
-          let n = named a h view v key known in
-          let f = ap (λ o. found_entry o key.serial) (sym n.1) ∙ sym (kind-inside a h view v key) ∙ is in
-          among-told (entries a) h.0 h.1 key.slot n.0 h.2.sound.waits (h.2.sound.covered key.slot (ap is_some n.1)) n.1 (found-told n.0 key.serial true n.2 f)
+    -- whether the listener is told, as its entry says
+    told-as : (told : Bool) → kind_of view.lists key ≡ Some told → is_told (named a h view v key known).0.state ≡ told
+    told-as told is =
+        let n = named a h view v key known in
+        found-told n.0 key.serial told n.2 (ap (λ o. found_entry o key.serial) (sym n.1) ∙ sym (kind-inside a h view v key) ∙ is)
 
-      pub told-beside : Beside (told_after a) (told_before a) (entries a) key.slot
-      told-beside = beside-in (told_after a) (told_before a) (entries a) h.0 h.2.sound.told_linked (Distinct-head h.0 h.1 h.2.sound.distinct) (AtEach-front (λ x. IsSome (entries a x)) h.0 h.1 (all-live (entries a) h.0 h.1 h.2.sound.tolds h.2.sound.waits)) key.slot told-slot
+    -- a told listener is counted
+    pub told-counted : (told : Bool) → kind_of view.lists key ≡ Some told → cond told 1 0 ≤ a.told_count
+    told-counted told is =
+        let n = named a h view v key known in
+        subst (λ b. cond b 1 0 ≤ a.told_count) (told-as told is) (told-fits h.2.sound key.slot n.0 n.1)
 
-      pub told-counted : 1 ≤ a.told_count
-      told-counted = let m = told-slot in let l : length h.0 ≡ length m.0 + length (key.slot ∷ m.1) = ap length m.2 ∙ length-append m.0 (key.slot ∷ m.1) in omega (arith, h.2.sound.told_is)
-
-      pub left-told : (b : list.Inside T W) (s : State T W) → b.waiting ≡ a.waiting → Unlinks (told_after a) (told_before a) (told_after b) (told_before b) key.slot → entries b key.slot ≡ None → ((x : ℕ) → x ≢ key.slot → entries b x ≡ entries a x) → IfSome (entries a key.slot) (λ e. s ≡ e.state) → slab_len b.nodes.slab + 1 ≡ slab_len a.nodes.slab → b.nodes.slab.capacity ≡ a.nodes.slab.capacity → b.nodes.visits ≡ 0 → b.told_count + 1 ≡ a.told_count → b.serials ≡ a.serials → Left b s
-      left-told b s ends u gone others st len cap settled told serials =
-          let n = named a h view v key known in
-          let e = n.0 in
-          let se : s ≡ e.state = subst (λ o. IfSome o (λ (x : Entry T W). s ≡ x.state)) n.1 st in
-          let r = Sound-leave-told h.2.sound (told_after b) (told_before b) (forward b) (backward b) (entries b) key.slot gone others told-slot u (ap (λ (x : Ends). x.first) ends) (ap (λ (x : Ends). x.last) ends) (λ x. refl) (λ x. refl) (λ x. refl) (λ x. refl) (slab_len b.nodes.slab) b.told_count len told in
-          let was : h.0 ++ h.1 ≡ r.0 ++ key.slot ∷ (r.1 ++ h.1) = ap (λ l. l ++ h.1) r.2 ∙ append_assoc r.0 (key.slot ∷ r.1) h.1 in
-          let d : Distinct (r.0 ++ key.slot ∷ (r.1 ++ h.1)) = subst Distinct was h.2.sound.distinct in
-          let change : lists_at (entries b) ((r.0 ++ r.1) ++ h.1) ≡ without key (lists_at (entries a) (h.0 ++ h.1)) =
-          ap (lists_at (entries b)) (append_assoc r.0 r.1 h.1)
-          ∙ lists-without (entries a) (entries b) key e r.0 (r.1 ++ h.1) d n.1 n.2 others
-          ∙ ap (λ l. without key (lists_at (entries a) l)) (sym was) in
-          let sound : IsSound b = (
-            r.0 ++ r.1,
-            h.1,
-            record {
-              within = omega (arith, h.2.within);
-              fits = omega (arith, h.2.fits);
-              settled = settled;
-              in_order = in-order-at (in-order-without (lists_at (entries a) (h.0 ++ h.1)) a.serials key h.2.in_order) change serials;
-              sound = subst (λ x. Sound (told_after b) (told_before b) (forward b) (backward b) (entries b) (slab_len b.nodes.slab) b.told_count x (r.0 ++ r.1) h.1) (sym serials) r.3;
-            },
-          ) in
+    pub left : (b : list.Inside T W) (node : Node T W) (told : Bool) → kind_of view.lists key ≡ Some told → Unlinks (forward a) (backward a) (forward b) (backward b) key.slot → entries b key.slot ≡ None → ((x : ℕ) → x ≢ key.slot → entries b x ≡ entries a x) → backward a (Some key.slot) ≡ node.before → forward a (Some key.slot) ≡ node.after → IfSome (entries a key.slot) (λ e. node.state ≡ e.state) → slab_len b.nodes.slab + 1 ≡ slab_len a.nodes.slab → b.nodes.slab.capacity ≡ a.nodes.slab.capacity → (a.told.last ≡ Some key.slot → b.told.last ≡ node.before) → (a.told.last ≢ Some key.slot → b.told.last ≡ a.told.last) → (a.waiting.first ≡ Some key.slot → b.waiting.first ≡ node.after) → (a.waiting.first ≢ Some key.slot → b.waiting.first ≡ a.waiting.first) → b.told_count + cond told 1 0 ≡ a.told_count → b.serials ≡ a.serials → Left b node.state
+    left b node told is u gone others bk fw st len cap moved_last stays_last moved stays counted serials =
+        let n = named a h view v key known in
+        let e = n.0 in
+        let se : node.state ≡ e.state = subst (λ o. IfSome o (λ (x : Entry T W). node.state ≡ x.state)) n.1 st in
+        let r = Sound-leave (forward a) (backward a) (forward b) (backward b) (entries a) (entries b) key.slot gone others e (slab_len a.nodes.slab) (slab_len b.nodes.slab) a.told.last b.told.last a.waiting.first b.waiting.first a.told_count b.told_count a.serials h.0 h.1 h.2.sound n.1 u len (λ q. moved_last q ∙ sym bk) stays_last (λ q. moved q ∙ sym fw) stays (subst (λ x. b.told_count + cond x 1 0 ≡ a.told_count) (sym (told-as told is)) counted) in
+        let d : Distinct (r.front ++ key.slot ∷ r.back) = subst Distinct r.was h.2.sound.chained.distinct in
+        let change : lists_at (entries b) (r.told_slots ++ r.waiting_slots) ≡ without key (lists_at (entries a) (h.0 ++ h.1)) =
+        ap (lists_at (entries b)) r.now
+        ∙ lists-without (entries a) (entries b) key e r.front r.back d n.1 n.2 others
+        ∙ ap (λ l. without key (lists_at (entries a) l)) (sym r.was) in
+        let sound : IsSound b = (
+          r.told_slots,
+          r.waiting_slots,
           record {
-            sound = sound;
-            lists = lists-are b sound ∙ change
-                ∙ ap (without key) (sym (lists-are a h))
-                ∙ ap (λ (w : ListView T W). without key w.lists) v;
-            state = state-of e n.1 n.2 s se;
-            room = omega (arith, h.2.within);
-          }
-
-    module _ (is : kind_of view.lists key ≡ Some false) where
-      waiting-slot : Among key.slot h.1
-      waiting-slot =
-          let n = named a h view v key known in
-          let f = ap (λ o. found_entry o key.serial) (sym n.1) ∙ sym (kind-inside a h view v key) ∙ is in
-          among-waiting (entries a) h.0 h.1 key.slot n.0 h.2.sound.tolds (h.2.sound.covered key.slot (ap is_some n.1)) n.1 (found-told n.0 key.serial false n.2 f)
-
-      pub waiting-beside : Beside (forward a) (backward a) (entries a) key.slot
-      waiting-beside = beside-in (forward a) (backward a) (entries a) h.1 h.2.sound.waiting_linked (Distinct-tail h.0 h.1 h.2.sound.distinct) (AtEach-back (λ x. IsSome (entries a x)) h.0 h.1 (all-live (entries a) h.0 h.1 h.2.sound.tolds h.2.sound.waits)) key.slot waiting-slot
-
-      pub left-waiting : (b : list.Inside T W) (s : State T W) → b.told ≡ a.told → Unlinks (forward a) (backward a) (forward b) (backward b) key.slot → entries b key.slot ≡ None → ((x : ℕ) → x ≢ key.slot → entries b x ≡ entries a x) → IfSome (entries a key.slot) (λ e. s ≡ e.state) → slab_len b.nodes.slab + 1 ≡ slab_len a.nodes.slab → b.nodes.slab.capacity ≡ a.nodes.slab.capacity → b.nodes.visits ≡ 0 → b.told_count ≡ a.told_count → b.serials ≡ a.serials → Left b s
-      left-waiting b s ends u gone others st len cap settled told serials =
-          let n = named a h view v key known in
-          let e = n.0 in
-          let se : s ≡ e.state = subst (λ o. IfSome o (λ (x : Entry T W). s ≡ x.state)) n.1 st in
-          let r = Sound-leave-waiting h.2.sound (told_after b) (told_before b) (forward b) (backward b) (entries b) key.slot gone others waiting-slot u (ap (λ (x : Ends). x.first) ends) (ap (λ (x : Ends). x.last) ends) (λ x. refl) (λ x. refl) (λ x. refl) (λ x. refl) (slab_len b.nodes.slab) len in
-          let was : h.0 ++ h.1 ≡ (h.0 ++ r.0) ++ key.slot ∷ r.1 = ap (λ l. h.0 ++ l) r.2 ∙ sym (append_assoc h.0 r.0 (key.slot ∷ r.1)) in
-          let d : Distinct ((h.0 ++ r.0) ++ key.slot ∷ r.1) = subst Distinct was h.2.sound.distinct in
-          let change : lists_at (entries b) (h.0 ++ (r.0 ++ r.1)) ≡ without key (lists_at (entries a) (h.0 ++ h.1)) =
-          ap (lists_at (entries b)) (sym (append_assoc h.0 r.0 r.1))
-          ∙ lists-without (entries a) (entries b) key e (h.0 ++ r.0) r.1 d n.1 n.2 others
-          ∙ ap (λ l. without key (lists_at (entries a) l)) (sym was) in
-          let sound : IsSound b = (
-            h.0,
-            r.0 ++ r.1,
-            record {
-              within = omega (arith, h.2.within);
-              fits = omega (arith, h.2.fits);
-              settled = settled;
-              in_order = in-order-at (in-order-without (lists_at (entries a) (h.0 ++ h.1)) a.serials key h.2.in_order) change serials;
-              sound = subst (λ (x : ℕ × ℕ). Sound (told_after b) (told_before b) (forward b) (backward b) (entries b) (slab_len b.nodes.slab) x.0 x.1 h.0 (r.0 ++ r.1)) (λ i. (sym told i, sym serials i)) r.3;
-            },
-          ) in
-          record {
-            sound = sound;
-            lists = lists-are b sound ∙ change
-                ∙ ap (without key) (sym (lists-are a h))
-                ∙ ap (λ (w : ListView T W). without key w.lists) v;
-            state = state-of e n.1 n.2 s se;
-            room = omega (arith, h.2.within);
-          }
+            within = omega (arith, h.2.within);
+            fits = omega (arith, h.2.fits);
+            in_order = in-order-at (in-order-without (lists_at (entries a) (h.0 ++ h.1)) a.serials key h.2.in_order) change serials;
+            sound = subst (λ x. Sound (forward b) (backward b) (entries b) (slab_len b.nodes.slab) b.told.last b.waiting.first b.told_count x r.told_slots r.waiting_slots) (sym serials) r.sound;
+          },
+        ) in
+        record {
+          sound = sound;
+          lists = lists-are b sound ∙ change
+              ∙ ap (without key) (sym (lists-are a h))
+              ∙ ap (λ (w : ListView T W). without key w.lists) v;
+          state = state-of e n.1 n.2 node.state se;
+          room = omega (arith, h.2.within);
+        }
 
   -- fields that hold the same nodes
   pub record Kept (a b : list.Inside T W) : Type 0 where
     pub sound : IsSound b
     pub lists : (shown b).lists ≡ (shown a).lists
 
-  pub kept : (a b : list.Inside T W) → IsSound a → b.nodes.slab.slots ≡ a.nodes.slab.slots → b.told ≡ a.told → b.waiting ≡ a.waiting → b.told_count ≡ a.told_count → b.serials ≡ a.serials → b.nodes.visits ≡ 0 → slab_len b.nodes.slab ≤ b.nodes.slab.capacity → b.nodes.slab.capacity < 2 ^ 64 → Kept a b
-  kept a b h s e c t n settled within fits =
+  pub kept : (a b : list.Inside T W) → IsSound a → b.nodes.slab.slots ≡ a.nodes.slab.slots → b.told ≡ a.told → b.waiting ≡ a.waiting → b.told_count ≡ a.told_count → b.serials ≡ a.serials → slab_len b.nodes.slab ≤ b.nodes.slab.capacity → b.nodes.slab.capacity < 2 ^ 64 → Kept a b
+  kept a b h s e c t n within fits =
       let of : List (Option (Node T W)) → Slab (Node T W) = λ l. record { slots = l; vacant_key = 0; capacity = 0 } in
       let sound : IsSound b = (
         h.0,
@@ -180,9 +133,8 @@ module _ {T W : Type 0} where
         record {
           within = within;
           fits = fits;
-          settled = settled;
           in_order = in-order-at h.2.in_order (ap (λ (l : List (Option (Node T W))). lists_at (entry_at (of l)) (h.0 ++ h.1)) s) n;
-          sound = subst (λ (x : List (Option (Node T W)) × Ends × Ends × ℕ × ℕ). Sound (after_of x.1 (of x.0)) (before_of x.1 (of x.0)) (after_of x.2 (of x.0)) (before_of x.2 (of x.0)) (entry_at (of x.0)) (slab_len (of x.0)) x.3 x.4 h.0 h.1)
+          sound = subst (λ (x : List (Option (Node T W)) × Ends × Ends × ℕ × ℕ). Sound (after_of x.1 (of x.0)) (before_of x.2 (of x.0)) (entry_at (of x.0)) (slab_len (of x.0)) x.1.last x.2.first x.3 x.4 h.0 h.1)
               (λ i. (sym s i, sym e i, sym c i, sym t i, sym n i)) h.2.sound;
         },
       ) in
@@ -192,42 +144,35 @@ module _ {T W : Type 0} where
       }
 
   -- fields after a look, which changes no node
-  pub looked : (a b : list.Inside T W) → IsSound a → b.nodes.slab ≡ a.nodes.slab → b.told ≡ a.told → b.waiting ≡ a.waiting → b.told_count ≡ a.told_count → b.serials ≡ a.serials → b.nodes.visits ≡ 0 → Kept a b
-  looked a b h s e w t n settled =
-      kept a b h (ap (λ (x : Slab (Node T W)). x.slots) s) e w t n settled
+  pub looked : (a b : list.Inside T W) → IsSound a → b.nodes.slab ≡ a.nodes.slab → b.told ≡ a.told → b.waiting ≡ a.waiting → b.told_count ≡ a.told_count → b.serials ≡ a.serials → Kept a b
+  looked a b h s e w t n =
+      kept a b h (ap (λ (x : Slab (Node T W)). x.slots) s) e w t n
       (subst (λ (x : Slab (Node T W)). slab_len x ≤ x.capacity) (sym s) h.2.within) (subst (λ (x : Slab (Node T W)). x.capacity < 2 ^ 64) (sym s) h.2.fits)
-
-  waits-live : (a : list.Inside T W) (h : IsSound a) → AtEach (λ x. IsSome (entries a x)) h.1
-  waits-live a h = AtEach-back (λ x. IsSome (entries a x)) h.0 h.1 (all-live (entries a) h.0 h.1 h.2.sound.tolds h.2.sound.waits)
-
-  tolds-live : (a : list.Inside T W) (h : IsSound a) → AtEach (λ x. IsSome (entries a x)) h.0
-  tolds-live a h = AtEach-front (λ x. IsSome (entries a x)) h.0 h.1 (all-live (entries a) h.0 h.1 h.2.sound.tolds h.2.sound.waits)
 
   -- the last node is there
   pub last-present : (a : list.Inside T W) → IsSound a → IfSome (before_of a.waiting a.nodes.slab None) (λ k. ContainsKey a.nodes.slab k)
-  last-present a h = live-all a.nodes.slab a.waiting.last (last-of-live (forward a) (backward a) (entries a) h.1 h.2.sound.waiting_linked (waits-live a h))
+  last-present a h = live-all a.nodes.slab a.waiting.last (end-live h.2.sound)
 
   pub record Inserted (a b : list.Inside T W) (view : ListView T W) (key : Key) : Type 0 where
     pub sound : IsSound b
     pub lists : (shown b).lists ≡ listened key view.lists
     pub unknown : kind_of view.lists key ≡ None
 
-  pub inserted : (a b : list.Inside T W) (h : IsSound a) (view : ListView T W) (v : shown a ≡ view) (at : ℕ) → entries a at ≡ None → Links_last (forward a) (backward a) (forward b) (backward b) at → entries b at ≡ Some (fresh_entry a.serials) → ((x : ℕ) → x ≢ at → entries b x ≡ entries a x) → slab_len b.nodes.slab ≡ slab_len a.nodes.slab + 1 → slab_len b.nodes.slab ≤ b.nodes.slab.capacity → b.nodes.slab.capacity < 2 ^ 64 → b.nodes.visits ≡ 0 → b.told ≡ a.told → b.told_count ≡ a.told_count → b.serials ≡ a.serials + 1 → Inserted a b view (record { slot = at; serial = a.serials })
-  inserted a b h view v at dead u made others len within fits settled ends told serials =
+  pub inserted : (a b : list.Inside T W) (h : IsSound a) (view : ListView T W) (v : shown a ≡ view) (at : ℕ) → entries a at ≡ None → Links_last (forward a) (backward a) (forward b) (backward b) at → entries b at ≡ Some (fresh_entry a.serials) → ((x : ℕ) → x ≢ at → entries b x ≡ entries a x) → slab_len b.nodes.slab ≡ slab_len a.nodes.slab + 1 → slab_len b.nodes.slab ≤ b.nodes.slab.capacity → b.nodes.slab.capacity < 2 ^ 64 → b.told.last ≡ a.told.last → b.waiting.first ≡ first_or (option_to_list a.waiting.first) (Some at) → b.told_count ≡ a.told_count → b.serials ≡ a.serials + 1 → Inserted a b view (record { slot = at; serial = a.serials })
+  inserted a b h view v at dead u made others len within fits last first told serials =
       let key : Key = record { slot = at; serial = a.serials } in
-      let s = Sound-insert h.2.sound (told_after b) (told_before b) (forward b) (backward b) (entries b) (slab_len b.nodes.slab) b.serials at dead u (ap (λ (x : Ends). x.first) ends) (ap (λ (x : Ends). x.last) ends) (λ x. refl) (λ x. refl) (λ x. refl) (λ x. refl) made others len serials in
+      let s = Sound-insert h.2.sound (forward b) (backward b) (entries b) (slab_len b.nodes.slab) b.waiting.first b.serials at dead u made others len first serials in
       let change : lists_at (entries b) (h.0 ++ (h.1 ++ at ∷ [])) ≡ listened key (lists_at (entries a) (h.0 ++ h.1)) =
       ap (lists_at (entries b)) (sym (append_assoc h.0 h.1 (at ∷ [])))
-      ∙ lists-listened (entries a) (entries b) at a.serials (h.0 ++ h.1) (Apart-dead (entries a) at (h.0 ++ h.1) (all-live (entries a) h.0 h.1 h.2.sound.tolds h.2.sound.waits) dead) made others in
+      ∙ lists-listened (entries a) (entries b) at a.serials (h.0 ++ h.1) (Apart-dead (entries a) at (h.0 ++ h.1) (all-live h.2.sound) dead) made others in
       let sound : IsSound b = (
         h.0,
         h.1 ++ at ∷ [],
         record {
           within = within;
           fits = fits;
-          settled = settled;
           in_order = in-order-at (in-order-listened (lists_at (entries a) (h.0 ++ h.1)) key h.2.in_order) change serials;
-          sound = subst (λ x. Sound (told_after b) (told_before b) (forward b) (backward b) (entries b) (slab_len b.nodes.slab) x b.serials h.0 (h.1 ++ at ∷ [])) (sym told) s;
+          sound = subst (λ (x : Option ℕ × ℕ). Sound (forward b) (backward b) (entries b) (slab_len b.nodes.slab) x.0 b.waiting.first x.1 b.serials h.0 (h.1 ++ at ∷ [])) (λ i. (sym last i, sym told i)) s;
         },
       ) in
       record {
@@ -246,16 +191,17 @@ module _ {T W : Type 0} where
     pub others : (x : ℕ) → x ≢ k → entries b x ≡ entries a x
     pub len : slab_len b.nodes.slab ≡ slab_len a.nodes.slab
     pub capacity : b.nodes.slab.capacity ≡ a.nodes.slab.capacity
-    pub settled : b.nodes.visits ≡ 0
-    pub told : b.told ≡ a.told
-    pub waiting : b.waiting ≡ a.waiting
+    pub first : b.told.first ≡ a.told.first
+    pub last : b.waiting.last ≡ a.waiting.last
     pub serials : b.serials ≡ a.serials
 
-  restated-link : (e e' : Ends) (slab slab' : Slab (Node T W)) → e' ≡ e → ((ends : Ends) (x : Option ℕ) → after_of ends slab' x ≡ after_of ends slab x) → (x : Option ℕ) → after_of e' slab' x ≡ after_of e slab x
-  restated-link e e' slab slab' q h x = ap (λ v. after_of v slab' x) q ∙ h e x
+  restated-after : {a b : list.Inside T W} {k : ℕ} {state : State T W} → Restated a b k state → (x : Option ℕ) → forward b x ≡ forward a x
+  restated-after r None = r.first
+  restated-after {a} {b} r (Some x) = r.after a.told (Some x)
 
-  restated-back : (e e' : Ends) (slab slab' : Slab (Node T W)) → e' ≡ e → ((ends : Ends) (x : Option ℕ) → before_of ends slab' x ≡ before_of ends slab x) → (x : Option ℕ) → before_of e' slab' x ≡ before_of e slab x
-  restated-back e e' slab slab' q h x = ap (λ v. before_of v slab' x) q ∙ h e x
+  restated-before : {a b : list.Inside T W} {k : ℕ} {state : State T W} → Restated a b k state → (x : Option ℕ) → backward b x ≡ backward a x
+  restated-before r None = r.last
+  restated-before {a} {b} r (Some x) = r.before a.waiting (Some x)
 
   waiting-state : (o : Option (Entry T W)) (e : Entry T W) → o ≡ Some e → IsWaiting o → (task : Option W) × (e.state ≡ Waiting task)
   waiting-state o e h w = of e.state (subst IsWaiting h w)
@@ -272,16 +218,16 @@ module _ {T W : Type 0} where
     pub sound : IsSound b
     pub lists : (shown b).lists ≡ with_task key task view.lists
 
-  pub stored : (a b : list.Inside T W) (h : IsSound a) (view : ListView T W) (v : shown a ≡ view) (key : Key) (task : W) → kind_of view.lists key ≡ Some false → Restated a b key.slot (Waiting (Some task)) → b.told_count ≡ a.told_count → Stored a b view key task
-  stored a b h view v key task kind r told =
+  pub stored : (a b : list.Inside T W) (h : IsSound a) (view : ListView T W) (v : shown a ≡ view) (key : Key) (task : W) → kind_of view.lists key ≡ Some false → Restated a b key.slot (Waiting (Some task)) → b.told.last ≡ a.told.last → b.waiting.first ≡ a.waiting.first → b.told_count ≡ a.told_count → Stored a b view key task
+  stored a b h view v key task kind r last first told =
       let n = named a h view v key (ap is_some kind) in
       let e = n.0 in
       let now : entries b key.slot ≡ Some (record { serial = e.serial; state = Waiting (Some task) }) = subst (λ o. IfSome o (λ (x : Entry T W). entries b key.slot ≡ Some (record x { state = Waiting (Some task) }))) n.1 r.now in
       let fk : found_entry (Some e) key.serial ≡ Some false = ap (λ o. found_entry o key.serial) (sym n.1) ∙ sym (kind-inside a h view v key) ∙ kind in
       let old = not-told e.state (found-told e key.serial false n.2 fk) in
-      let s = Sound-store h.2.sound (told_after b) (told_before b) (forward b) (backward b) (entries b) key.slot e (restated-link a.told b.told a.nodes.slab b.nodes.slab r.told r.after) (restated-back a.told b.told a.nodes.slab b.nodes.slab r.told r.before) (restated-link a.waiting b.waiting a.nodes.slab b.nodes.slab r.waiting r.after) (restated-back a.waiting b.waiting a.nodes.slab b.nodes.slab r.waiting r.before) n.1 old.0 old.1 (Some task) now r.others in
-      let m = h.2.sound.covered key.slot (ap is_some n.1) in
-      let d : Distinct (m.0 ++ key.slot ∷ m.1) = subst Distinct m.2 h.2.sound.distinct in
+      let s = Sound-store h.2.sound (forward b) (backward b) (entries b) key.slot e n.1 (restated-after r) (restated-before r) (Waiting (Some task)) now r.others old.0 old.1 (Some task) refl in
+      let m = h.2.sound.chained.covered key.slot (ap is_some n.1) in
+      let d : Distinct (m.0 ++ key.slot ∷ m.1) = subst Distinct m.2 h.2.sound.chained.distinct in
       let change : lists_at (entries b) (h.0 ++ h.1) ≡ with_task key task (lists_at (entries a) (h.0 ++ h.1)) =
       ap (lists_at (entries b)) m.2
       ∙ lists-with_task (entries a) (entries b) key e task old.0 m.0 m.1 d n.1 n.2 old.1 now r.others
@@ -292,9 +238,8 @@ module _ {T W : Type 0} where
         record {
           within = omega (arith, h.2.within, r.len, r.capacity);
           fits = omega (arith, h.2.fits, r.capacity);
-          settled = r.settled;
           in_order = in-order-at (in-order-with_task (lists_at (entries a) (h.0 ++ h.1)) a.serials key task h.2.in_order) change r.serials;
-          sound = subst (λ (x : ℕ × ℕ × ℕ). Sound (told_after b) (told_before b) (forward b) (backward b) (entries b) x.0 x.1 x.2 h.0 h.1) (λ i. (sym r.len i, sym told i, sym r.serials i)) s;
+          sound = subst (λ (x : ℕ × Option ℕ × Option ℕ × ℕ × ℕ). Sound (forward b) (backward b) (entries b) x.0 x.1 x.2 x.3 x.4 h.0 h.1) (λ i. (sym r.len i, sym last i, sym first i, sym told i, sym r.serials i)) s;
         },
       ) in
       record {
@@ -347,7 +292,7 @@ module _ {T W : Type 0} where
       entry-of (Some e) w = (e, refl)
 
   pub first-of : (a : list.Inside T W) (h : IsSound a) (k : ℕ) → a.waiting.first ≡ Some k → First a h.1 k
-  first-of a h k c = first-node a h k h.1 refl (sym c ∙ (Linked-ends (forward a) (backward a) None h.1 None h.2.sound.waiting_linked).0)
+  first-of a h k c = first-node a h k h.1 refl (sym c ∙ h.2.sound.first_is)
 
   pub first-present : (a : list.Inside T W) (h : IsSound a) (k : ℕ) → a.waiting.first ≡ Some k → ContainsKey a.nodes.slab k
   first-present a h k c = live-present (get a.nodes.slab k) (ap is_some (first-of a h k c).is)
@@ -355,70 +300,40 @@ module _ {T W : Type 0} where
   -- with someone waiting there is a first
   pub first-there : (a : list.Inside T W) (h : IsSound a) (view : ListView T W) → shown a ≡ view → 0 < length view.lists.waiting → ((x : ℕ) → a.waiting.first ≡ Some x → ⊥) → ⊥
   first-there a h view v some none =
-      of h.1 (waiting-length a h view v) (λ x q. none x ((Linked-ends (forward a) (backward a) None h.1 None h.2.sound.waiting_linked).0 ∙ q))
+      of h.1 (waiting-length a h view v) (λ x q. none x (h.2.sound.first_is ∙ q))
     where
       of : (ws : List ℕ) → length view.lists.waiting ≡ length ws → ((x : ℕ) → first_or ws None ≡ Some x → ⊥) → ⊥
       of [] l c = omega arith
       of (x ∷ ws) l c = c x refl
 
-  -- what `bridge` and `attach_last` ask at the first waiting node
-  pub first-beside : (a : list.Inside T W) (h : IsSound a) (k : ℕ) → a.waiting.first ≡ Some k → Beside (forward a) (backward a) (entries a) k
-  first-beside a h k c =
-      let f = first-of a h k c in
-      beside-in (forward a) (backward a) (entries a) h.1 h.2.sound.waiting_linked (Distinct-tail h.0 h.1 h.2.sound.distinct) (waits-live a h) k ([], f.back, f.split)
-
-  pub told-last-live : (a : list.Inside T W) (h : IsSound a) → IfSome a.told.last (λ k. ContainsKey a.nodes.slab k)
-  told-last-live a h = live-all a.nodes.slab a.told.last (last-of-live (told_after a) (told_before a) (entries a) h.0 h.2.sound.told_linked (tolds-live a h))
-
-  pub told-last-other : (a : list.Inside T W) (h : IsSound a) (k : ℕ) → a.waiting.first ≡ Some k → a.told.last ≢ Some k
-  told-last-other a h k c q =
-      let f = first-of a h k c in
-      let d : Distinct (h.0 ++ k ∷ f.back) = subst (λ x. Distinct (h.0 ++ x)) f.split h.2.sound.distinct in
-      let parts = Distinct-parted h.0 k f.back d in
-      last_or-apart (Some k) None h.0 (λ z. cc) parts.front_apart (sym q ∙ (Linked-ends (told_after a) (told_before a) None h.0 None h.2.sound.told_linked).1)
-
-  pub kept-live : (slab slab' : Slab (Node T W)) → ((k : ℕ) → entry_at slab' k ≡ entry_at slab k) → (o : Option ℕ) → IfSome o (λ k. ContainsKey slab k) → IfSome o (λ k. ContainsKey slab' k)
-  kept-live slab slab' h None i = tt
-  kept-live slab slab' h (Some k) i = live-present (get slab' k) (ap is_some (h k) ∙ some-entry (get slab k) i)
-    where
-      some-entry : (o : Option (Node T W)) → IsSome o → IsSome (entry o)
-      some-entry None i = absurd (cc)
-      some-entry (Some node) i = refl
-
-  pub record ToldFirst (a b : list.Inside T W) (view : ListView T W) (additional : Bool) (tag : T) (s : Option (State T W)) : Type 0 where
+  pub record ToldFirst (a b : list.Inside T W) (view : ListView T W) (additional : Bool) (tag : T) (s : State T W) : Type 0 where
     pub sound : IsSound b
     pub lists : (shown b).lists ≡ notified additional (tag ∷ []) view.lists
     pub task : MatchWaiting s (λ task. option_to_list task ≡ tasks_of (take 1 view.lists.waiting))
     pub fits : a.told_count + 1 < 2 ^ 64
 
-  pub told-first : (a b : list.Inside T W) (slab : Slab (Node T W)) (ends : Ends) (h : IsSound a) (view : ListView T W) (v : shown a ≡ view) (k : ℕ) (additional : Bool) (tag : T) (s : Option (State T W)) → a.waiting.first ≡ Some k → b.waiting ≡ ends
-      → Unlinks (forward a) (backward a) (after_of ends slab) (before_of ends slab) k → ((x : ℕ) → entry_at slab x ≡ entries a x)
-      → Links_last (after_of a.told slab) (before_of a.told slab) (told_after b) (told_before b) k → IfSome (entry_at slab k) (λ e. entries b k ≡ Some (record e { state = Told additional tag })) → ((x : ℕ) → x ≢ k → entries b x ≡ entry_at slab x) → IfSome (entry_at slab k) (λ e. s ≡ Some e.state)
-      → slab_len b.nodes.slab ≡ slab_len a.nodes.slab → b.nodes.slab.capacity ≡ a.nodes.slab.capacity → b.nodes.visits ≡ 0 → b.told_count ≡ a.told_count + 1 → b.serials ≡ a.serials → ToldFirst a b view additional tag s
-  told-first a b slab ends h view v k additional tag s cur we u same l mark others st len cap settled told serials =
+  pub told-first : (a b : list.Inside T W) (h : IsSound a) (view : ListView T W) (v : shown a ≡ view) (k : ℕ) (additional : Bool) (tag : T) (s : State T W) → a.waiting.first ≡ Some k → Restated a b k (Told additional tag) → b.told.last ≡ Some k → b.waiting.first ≡ forward a (Some k) → b.told_count ≡ a.told_count + 1 → IfSome (entries a k) (λ e. s ≡ e.state) → ToldFirst a b view additional tag s
+  told-first a b h view v k additional tag s cur r last next told st =
       let f = first-of a h k cur in
-      let is1 : entry_at slab k ≡ Some f.entry = same k ∙ f.is in
-      let now : entries b k ≡ Some (record { serial = f.entry.serial; state = Told additional tag }) = subst (λ o. IfSome o (λ (x : Entry T W). entries b k ≡ Some (record x { state = Told additional tag }))) is1 mark in
-      let rest : (x : ℕ) → x ≢ k → entries b x ≡ entries a x = λ x ne. others x ne ∙ same x in
-      let sd = Sound-tell h.2.sound (after_of a.told slab) (before_of a.told slab) (after_of ends slab) (before_of ends slab) (told_after b) (told_before b) (forward b) (backward b) (entries b) k f.entry f.back f.split u l refl refl (λ x. refl) (λ x. refl) (λ x. refl) (λ x. refl) (ap (λ (x : Ends). x.first) we) (ap (λ (x : Ends). x.last) we) (λ x. refl) (λ x. refl) additional tag f.is now rest b.told_count told in
-      let d : Distinct (h.0 ++ k ∷ f.back) = subst (λ x. Distinct (h.0 ++ x)) f.split h.2.sound.distinct in
+      let now : entries b k ≡ Some (record { serial = f.entry.serial; state = Told additional tag }) = subst (λ o. IfSome o (λ (x : Entry T W). entries b k ≡ Some (record x { state = Told additional tag }))) f.is r.now in
+      let sd = Sound-tell h.2.sound (forward b) (backward b) (entries b) k f.entry f.is (restated-after r) (restated-before r) (Told additional tag) now r.others f.back f.split additional tag refl b.told.last b.waiting.first last next b.told_count told in
+      let d : Distinct (h.0 ++ k ∷ f.back) = subst (λ x. Distinct (h.0 ++ x)) f.split h.2.sound.chained.distinct in
       let w : AtEach (λ x. IsWaiting (entries a x)) (k ∷ f.back) = subst (AtEach (λ x. IsWaiting (entries a x))) f.split h.2.sound.waits in
       let ea : entries a k ≡ Some (record { serial = f.entry.serial; state = Waiting f.task }) = f.is ∙ ap Some (λ i. record { serial = f.entry.serial; state = f.was i }) in
       let change : lists_at (entries b) ((h.0 ++ k ∷ []) ++ f.back) ≡ notified additional (tag ∷ []) (lists_at (entries a) (h.0 ++ h.1)) =
-      lists-told (entries a) (entries b) h.0 f.back k f.entry.serial f.task additional tag d h.2.sound.tolds w ea now rest
+      lists-told (entries a) (entries b) h.0 f.back k f.entry.serial f.task additional tag d h.2.sound.tolds w ea now r.others
       ∙ ap (λ x. notified additional (tag ∷ []) (lists_at (entries a) (h.0 ++ x))) (sym f.split) in
       let sound : IsSound b = (
         h.0 ++ k ∷ [],
         f.back,
         record {
-          within = omega (arith, h.2.within, len, cap);
-          fits = omega (arith, h.2.fits, cap);
-          settled = settled;
-          in_order = in-order-at (in-order-notified (lists_at (entries a) (h.0 ++ h.1)) a.serials additional (tag ∷ []) h.2.in_order) change serials;
-          sound = subst (λ (x : ℕ × ℕ). Sound (told_after b) (told_before b) (forward b) (backward b) (entries b) x.0 b.told_count x.1 (h.0 ++ k ∷ []) f.back) (λ i. (sym len i, sym serials i)) sd;
+          within = omega (arith, h.2.within, r.len, r.capacity);
+          fits = omega (arith, h.2.fits, r.capacity);
+          in_order = in-order-at (in-order-notified (lists_at (entries a) (h.0 ++ h.1)) a.serials additional (tag ∷ []) h.2.in_order) change r.serials;
+          sound = subst (λ (x : ℕ × ℕ). Sound (forward b) (backward b) (entries b) x.0 b.told.last b.waiting.first b.told_count x.1 (h.0 ++ k ∷ []) f.back) (λ i. (sym r.len i, sym r.serials i)) sd;
         },
       ) in
-      let se : s ≡ Some (Waiting f.task) = subst (λ o. IfSome o (λ (x : Entry T W). s ≡ Some x.state)) is1 st ∙ ap Some f.was in
+      let se : s ≡ Waiting f.task = subst (λ o. IfSome o (λ (x : Entry T W). s ≡ x.state)) f.is st ∙ f.was in
       let l0 : length (h.0 ++ h.1) ≡ length h.0 + length h.1 = length-append h.0 h.1 in
       let l1 : length h.1 ≡ length (k ∷ f.back) = ap length f.split in
       let wl : view.lists.waiting ≡ (record { slot = k; serial = f.entry.serial }, f.task) ∷ pieces (λ x. waiting_piece x (entries a x)) f.back =
@@ -433,8 +348,8 @@ module _ {T W : Type 0} where
         fits = omega (arith, h.2.fits, h.2.within, h.2.sound.count_is, h.2.sound.told_is);
       }
 
-  pub empty-sound : (a : list.Inside T W) → a.nodes.slab.slots ≡ [] → a.nodes.slab.capacity ≡ 0 → a.told ≡ record { first = None; last = None } → a.waiting ≡ record { first = None; last = None } → a.told_count ≡ 0 → a.nodes.visits ≡ 0 → IsSound a
-  empty-sound a s c e w t settled =
+  pub empty-sound : (a : list.Inside T W) → a.nodes.slab.slots ≡ [] → a.nodes.slab.capacity ≡ 0 → a.told ≡ record { first = None; last = None } → a.waiting ≡ record { first = None; last = None } → a.told_count ≡ 0 → IsSound a
+  empty-sound a s c e w t =
       let n : slab_len a.nodes.slab ≡ 0 = rw s refl in
       let gone : (k : ℕ) → entries a k ≡ None = λ k. rw s refl in (
         [],
@@ -442,13 +357,15 @@ module _ {T W : Type 0} where
         record {
           within = omega arith;
           fits = omega arith;
-          settled = settled;
           in_order = (tt, tt);
           sound = record {
-            told_linked = (ap (λ (x : Ends). x.first) e, ap (λ (x : Ends). x.last) e);
-            waiting_linked = (ap (λ (x : Ends). x.first) w, ap (λ (x : Ends). x.last) w);
-            distinct = tt;
-            covered = λ k i. let z : is_some (entries a k) ≡ false = ap is_some (gone k) in absurd (cc);
+            chained = record {
+              linked = (ap (λ (x : Ends). x.first) e, ap (λ (x : Ends). x.last) w);
+              distinct = tt;
+              covered = λ k i. let z : is_some (entries a k) ≡ false = ap is_some (gone k) in absurd (cc);
+            };
+            last_is = ap (λ (x : Ends). x.last) e;
+            first_is = ap (λ (x : Ends). x.first) w;
             tolds = tt;
             waits = tt;
             count_is = sym n;

@@ -1,23 +1,20 @@
 -- What a write of one node leaves of the links and of what the nodes say.
-use Rattle.std.proofs.Common.{◌≡◌, ◌≢◌, inl, inr, ℕ, Option, Some, None, IsSome, IfSome, refl, sym, ap, subst, ◌∙◌, ◌+◌, arith}
+use Rattle.std.proofs.Common.{◌≡◌, ◌≢◌, inl, inr, ℕ, Option, Some, None, IsSome, IfSome, refl, sym, ap, subst, ◌∙◌, is_some}
 use Rattle.std.proofs.lemmas.Bool.{cases_eq}
 use Rattle.slab.specs.Slab.{Slab, get, ContainsKey, with_value, Updates}
 use Rattle.slab.proofs.SlabLemmas.{Updates-with_value}
 use Rattle.event_listener.specs.declared.node.Ends.{Ends}
 use Rattle.event_listener.specs.declared.node.Node.{Node}
-use Rattle.event_listener.specs.declared.node.Nodes.{Nodes}
-use Rattle.event_listener.specs.declared.node.Place.{Place}
-use Rattle.event_listener.specs.Nodes.{place_at, place_of, Stays}
-use Rattle.event_listener.specs.Chain.{Link, after_of, before_of, node_after, node_before, Unlinks, Links_last}
+use Rattle.event_listener.specs.Chain.{Link, after_of, before_of, node_after, node_before, entry, entry_at, Unlinks, Links_last}
 
--- the neighbours of a node lead to each other, first (1) forward and then (2) backward
-Unlinks-by : (A B A1 B1 A2 B2 : Link) (k : ℕ) (b a : Option ℕ) → B (Some k) ≡ b → A (Some k) ≡ a → A1 b ≡ a → ((x : Option ℕ) → x ≢ b → A1 x ≡ A x) → ((x : Option ℕ) → B1 x ≡ B x) → ((x : Option ℕ) → A2 x ≡ A1 x) → B2 a ≡ b → ((x : Option ℕ) → x ≢ a → B2 x ≡ B1 x) → Unlinks A B A2 B2 k
-Unlinks-by A B A1 B1 A2 B2 k b a at_b at_a f fo bk same g go =
+-- the neighbours of a node lead to each other, where it was taken out (1), then forward (2) and then backward (3)
+pub Unlinks-by : (A B A1 B1 A2 B2 A3 B3 : Link) (k : ℕ) (b a : Option ℕ) → B (Some k) ≡ b → A (Some k) ≡ a → ((x : Option ℕ) → x ≢ Some k → A1 x ≡ A x) → ((x : Option ℕ) → x ≢ Some k → B1 x ≡ B x) → A2 b ≡ a → ((x : Option ℕ) → x ≢ b → A2 x ≡ A1 x) → ((x : Option ℕ) → B2 x ≡ B1 x) → ((x : Option ℕ) → A3 x ≡ A2 x) → B3 a ≡ b → ((x : Option ℕ) → x ≢ a → B3 x ≡ B2 x) → Unlinks A B A3 B3 k
+Unlinks-by A B A1 B1 A2 B2 A3 B3 k b a at_b at_a oa ob f fo bk same g go =
     record {
-      forward = ap A2 at_b ∙ same b ∙ f ∙ sym at_a;
-      forward_rest = λ x ne nk. same x ∙ fo x (λ q. ne (q ∙ sym at_b));
-      backward = ap B2 at_a ∙ g ∙ sym at_b;
-      backward_rest = λ x ne nk. go x (λ q. ne (q ∙ sym at_a)) ∙ bk x;
+      forward = ap A3 at_b ∙ same b ∙ f ∙ sym at_a;
+      forward_rest = λ x ne nk. same x ∙ fo x (λ q. ne (q ∙ sym at_b)) ∙ oa x nk;
+      backward = ap B3 at_a ∙ g ∙ sym at_b;
+      backward_rest = λ x ne nk. go x (λ q. ne (q ∙ sym at_a)) ∙ bk x ∙ ob x nk;
     }
 
 module _ {T W : Type 0} where
@@ -65,90 +62,31 @@ module _ {T W : Type 0} where
   after-kept ends slab slab' h None = refl
   after-kept ends slab slab' h (Some x) = h x
 
-  after-same_first : (e e' : Ends) (slab : Slab (Node T W)) (x : Option ℕ) → e'.first ≡ e.first → after_of e' slab x ≡ after_of e slab x
-  after-same_first e e' slab None h = h
-  after-same_first e e' slab (Some x) h = refl
-
   -- what stands after and before all other nodes, where one node was changed
-  after-others : (e : Ends) (slab slab' : Slab (Node T W)) (k : ℕ) → ((x : ℕ) → x ≢ k → get slab' x ≡ get slab x) → (x : Option ℕ) → x ≢ Some k → after_of e slab' x ≡ after_of e slab x
+  pub after-others : (e : Ends) (slab slab' : Slab (Node T W)) (k : ℕ) → ((x : ℕ) → x ≢ k → get slab' x ≡ get slab x) → (x : Option ℕ) → x ≢ Some k → after_of e slab' x ≡ after_of e slab x
   after-others e slab slab' k o None ne = refl
   after-others e slab slab' k o (Some x) ne = ap node_after (o x (λ q. ne (ap Some q)))
 
-  before-others : (e : Ends) (slab slab' : Slab (Node T W)) (k : ℕ) → ((x : ℕ) → x ≢ k → get slab' x ≡ get slab x) → (x : Option ℕ) → x ≢ Some k → before_of e slab' x ≡ before_of e slab x
+  pub before-others : (e : Ends) (slab slab' : Slab (Node T W)) (k : ℕ) → ((x : ℕ) → x ≢ k → get slab' x ≡ get slab x) → (x : Option ℕ) → x ≢ Some k → before_of e slab' x ≡ before_of e slab x
   before-others e slab slab' k o None ne = refl
   before-others e slab slab' k o (Some x) ne = ap node_before (o x (λ q. ne (ap Some q)))
 
-  -- a node whose neighbours were linked to each other, where another node stands after it
-  pub Unlinks-before : (e e1 : Ends) (slab slab1 slab2 : Slab (Node T W)) (k next : ℕ) (b a : Option ℕ) → before_of e slab (Some k) ≡ b → after_of e slab (Some k) ≡ a → a ≡ Some next → after_of e1 slab1 b ≡ a → ((x : Option ℕ) → x ≢ b → after_of e1 slab1 x ≡ after_of e slab x) → ((x : Option ℕ) → before_of e1 slab1 x ≡ before_of e slab x) → Changed slab1 slab2 next (λ node. record node { before = b }) → Unlinks (after_of e slab) (before_of e slab) (after_of e1 slab2) (before_of e1 slab2) k
-  Unlinks-before e e1 slab slab1 slab2 k next b a at_b at_a is f fo bk w =
-      Unlinks-by (after_of e slab) (before_of e slab) (after_of e1 slab1) (before_of e1 slab1) (after_of e1 slab2) (before_of e1 slab2) k b a at_b at_a f fo bk same
-      (ap (before_of e1 slab2) is ∙ ap node_before w.now) (λ x ne. before-others e1 slab1 slab2 next w.others x (λ q. ne (q ∙ sym is)))
-    where
-      same : (x : Option ℕ) → after_of e1 slab2 x ≡ after_of e1 slab1 x
-      same None = refl
-      same (Some x) =
-          elim (cases_eq x next) [
-            | inl q ↦ ap (λ y. node_after (get slab2 y)) q ∙ ap node_after w.now ∙ sym (ap node_after w.was) ∙ sym (ap (λ y. node_after (get slab1 y)) q)
-            | inr ne ↦ ap node_after (w.others x ne)
-          ]
-
-  -- a node whose neighbours were linked to each other, where it was the last
-  pub Unlinks-last : (e e1 e2 : Ends) (slab slab1 : Slab (Node T W)) (k : ℕ) (b a : Option ℕ) → before_of e slab (Some k) ≡ b → after_of e slab (Some k) ≡ a → a ≡ None → after_of e1 slab1 b ≡ a → ((x : Option ℕ) → x ≢ b → after_of e1 slab1 x ≡ after_of e slab x) → ((x : Option ℕ) → before_of e1 slab1 x ≡ before_of e slab x) → e2.first ≡ e1.first → e2.last ≡ b → Unlinks (after_of e slab) (before_of e slab) (after_of e2 slab1) (before_of e2 slab1) k
-  Unlinks-last e e1 e2 slab slab1 k b a at_b at_a is f fo bk first last =
-      Unlinks-by (after_of e slab) (before_of e slab) (after_of e1 slab1) (before_of e1 slab1) (after_of e2 slab1) (before_of e2 slab1) k b a at_b at_a f fo bk (λ x. after-same_first e1 e2 slab1 x first)
-      (ap (before_of e2 slab1) is ∙ last) rest
-    where
-      rest : (x : Option ℕ) → x ≢ a → before_of e2 slab1 x ≡ before_of e1 slab1 x
-      rest None ne = absurd (ne (sym is))
-      rest (Some x) ne = refl
-
-  -- a node that is out of its chain leaves no other link behind
-  pub Unlinks-taken : (A B : Link) (e : Ends) (slab slab' : Slab (Node T W)) (k : ℕ) → ((x : ℕ) → x ≢ k → get slab' x ≡ get slab x) → Unlinks A B (after_of e slab) (before_of e slab) k → B (Some k) ≢ Some k → A (Some k) ≢ Some k → Unlinks A B (after_of e slab') (before_of e slab') k
-  Unlinks-taken A B e slab slab' k o u b a =
+  -- a node that was made behind the last one, which then leads to it
+  pub Links_last-made : (e e2 : Ends) (w w3 : Ends) (slab slab1 slab2 : Slab (Node T W)) (at : ℕ) (node : Node T W) → node.before ≡ w.last → node.after ≡ None → Updates slab slab1 at (Some node) → get slab at ≡ None → IfSome w.last (λ k. ContainsKey slab k) → w3.last ≡ Some at → after_of e2 slab2 w.last ≡ Some at → ((x : Option ℕ) → x ≢ w.last → after_of e2 slab2 x ≡ after_of e slab1 x) → ((ends : Ends) (x : Option ℕ) → before_of ends slab2 x ≡ before_of ends slab1 x) → Links_last (after_of e slab) (before_of w slab) (after_of e2 slab2) (before_of w3 slab2) at
+  Links_last-made e e2 w w3 slab slab1 slab2 at node nb na u absent live l3 fa fo bk =
       record {
-        forward = after-others e slab slab' k o (B (Some k)) b ∙ u.forward;
-        forward_rest = λ x ne nk. after-others e slab slab' k o x nk ∙ u.forward_rest x ne nk;
-        backward = before-others e slab slab' k o (A (Some k)) a ∙ u.backward;
-        backward_rest = λ x ne nk. before-others e slab slab' k o x nk ∙ u.backward_rest x ne nk;
-      }
-
-  -- what a read gives of a node's links
-  pub read-links : (o : Option (Node T W)) (p : Place) → place_at o ≡ Some p → (node_before o ≡ p.before) × (node_after o ≡ p.after)
-  read-links None p h = absurd (cc)
-  read-links (Some node) p h = let e : place_of node ≡ p = cc in (ap (λ (q : Place). q.before) e, ap (λ (q : Place). q.after) e)
-
-  pub Stays-joined : {a b c : Nodes T W} {m n : ℕ} → Stays a b m → Stays b c n → Stays a c (m + n)
-  Stays-joined {a} {b} {c} {m} {n} first next =
-      record {
-        len = next.len ∙ first.len;
-        capacity = next.capacity ∙ first.capacity;
-        own = next.own ∙ first.own;
-        visits = omega (arith, first.visits, next.visits);
-        last = next.last ∙ first.last;
-        looks = omega (arith, first.looks, next.looks);
-      }
-
-  -- a node that was moved behind the last one, which then leads to it
-  pub Links_last-moved : (e e2 e3 : Ends) (slab slab1 slab2 : Slab (Node T W)) (at : ℕ) → node_before (get slab1 at) ≡ e.last → node_after (get slab1 at) ≡ None → ((x : ℕ) → x ≢ at → get slab1 x ≡ get slab x) → e.last ≢ Some at → e3.first ≡ e2.first → e3.last ≡ Some at → after_of e2 slab2 e.last ≡ Some at → ((x : Option ℕ) → x ≢ e.last → after_of e2 slab2 x ≡ after_of e slab1 x) → ((x : Option ℕ) → before_of e2 slab2 x ≡ before_of e slab1 x) → Links_last (after_of e slab) (before_of e slab) (after_of e3 slab2) (before_of e3 slab2) at
-  Links_last-moved e e2 e3 slab slab1 slab2 at nb na u other h3 l3 fa fo bk =
-      record {
-        forward = after-same_first e2 e3 slab2 e.last h3 ∙ fa;
-        forward_new = fo (Some at) (λ q. other (sym q)) ∙ na;
-        forward_rest = λ x ne nk. after-same_first e2 e3 slab2 x h3 ∙ fo x ne ∙ after-others e slab slab1 at u x nk;
+        forward = fa;
+        forward_new = fo (Some at) (λ q. not_last w.last live (sym q)) ∙ ap node_after u.changed ∙ na;
+        forward_rest = λ x ne nk. fo x ne ∙ after-others e slab slab1 at u.others x nk;
         backward = l3;
-        backward_new = bk (Some at) ∙ nb;
+        backward_new = bk w (Some at) ∙ ap node_before u.changed ∙ nb;
         backward_rest = rest;
       }
-    where
-      rest : (x : Option ℕ) → x ≢ None → x ≢ Some at → before_of e3 slab2 x ≡ before_of e slab x
-      rest None ne nk = absurd (ne refl)
-      rest (Some x) ne nk = bk (Some x) ∙ ap node_before (u x (λ q. nk (ap Some q)))
-
-  -- a node that was made behind the last one, which then leads to it
-  pub Links_last-made : (e e2 e3 : Ends) (slab slab1 slab2 : Slab (Node T W)) (at : ℕ) (node : Node T W) → node.before ≡ e.last → node.after ≡ None → Updates slab slab1 at (Some node) → get slab at ≡ None → IfSome e.last (λ k. ContainsKey slab k) → e3.first ≡ e2.first → e3.last ≡ Some at → after_of e2 slab2 e.last ≡ Some at → ((x : Option ℕ) → x ≢ e.last → after_of e2 slab2 x ≡ after_of e slab1 x) → ((x : Option ℕ) → before_of e2 slab2 x ≡ before_of e slab1 x) → Links_last (after_of e slab) (before_of e slab) (after_of e3 slab2) (before_of e3 slab2) at
-  Links_last-made e e2 e3 slab slab1 slab2 at node nb na u absent live =
-      Links_last-moved e e2 e3 slab slab1 slab2 at (ap node_before u.changed ∙ nb) (ap node_after u.changed ∙ na) u.others (not_last e.last live)
     where
       not_last : (o : Option ℕ) → IfSome o (λ k. ContainsKey slab k) → o ≢ Some at
       not_last None h eq = cc
       not_last (Some k) h eq = let f : k ≡ at = cc in let g : get slab k ≡ None = ap (get slab) f ∙ absent in let i : IsSome (get slab k) = h in absurd (cc)
+
+      rest : (x : Option ℕ) → x ≢ None → x ≢ Some at → before_of w3 slab2 x ≡ before_of w slab x
+      rest None ne nk = absurd (ne refl)
+      rest (Some x) ne nk = bk w (Some x) ∙ ap node_before (u.others x (λ q. nk (ap Some q)))

@@ -1,17 +1,18 @@
 //! The type of lists, with the calls that touch its fields.
 //!
-//! The told listeners stand in one chain and the waiting ones in another, each in the order of listening; one that is
-//! told moves from the front of the second to the end of the first. The list keeps how many are told.
+//! The told listeners stand in one chain and the waiting ones in another, each in the order of listening. The first chain's
+//! last node leads to the second's first, so one that is told moves to the end of the first chain with its links as they
+//! are: only the ends of the chains change. The list keeps how many are told.
 ghost use Rattle.std.specs.Prelude.{◌≡◌, ◌+◌, ◌-◌, ◌^◌, ◌<◌, ◌≤◌, [], ◌++◌, length, is_some, IsOk, IfOk, OnOk, OnErr, IfErr, MatchResult, Err};
-ghost use Rattle.std.specs.Prelude.{ℕ, if◌then◌else◌, ◌∷◌, take, Some, None, true, false};
+ghost use Rattle.std.specs.Prelude.{ℕ, ◌≢◌, if◌then◌else◌, ◌∷◌, take, Some, None, true, false};
 ghost use Rattle.std.specs.Option.{option_to_list};
 ghost use Rattle.event_listener.specs.Lists.{serial_of, kind_of, told_as, waits_as, listened, without, with_task, notified, tasks_of, moved, IsListenRefusal};
 ghost use Rattle.event_listener.specs.Order.{IsInOrder, HasLeft};
-ghost use Rattle.event_listener.specs.Chain.{IsStateOf};
+ghost use Rattle.event_listener.specs.Chain.{IsStateOf, first_or};
 
 use crate::error::{ListenError, NoMemory};
 use crate::key::Key;
-use crate::links::{attach_last, bridge, find, link_last, store_task, unlink};
+use crate::links::{link_last, restate, unlink};
 use crate::node::{Ends, Nodes, State};
 use std::alloc::Global;
 use std::marker::Model;
@@ -26,10 +27,39 @@ use std::marker::Model;
 /// Own to this project: in `event-listener` 5.4.2 the list is private to its event.
 pub struct List<T, W> {
     nodes: Nodes<T, W>,
+    /// Its first is the first of all: where nobody is told it has no last, and its first is that of the waiting ones.
     told: Ends,
+    /// Its last is the last of all: where nobody waits it has no first, and its last is that of the told ones.
     waiting: Ends,
     told_count: usize,
     serials: u64,
+}
+
+/// An end of a chain once the node at `at` is out of it, where this one stood beside that.
+fn end_without(end: Option<usize>, at: usize, beside: Option<usize>) -> Option<usize>
+    ensures moved { end ≡ Some at → result ≡ beside }
+    ensures stays { end ≢ Some at → result ≡ end }
+{
+    match end {
+        Some(node) if node == at => beside,
+        _ => end,
+    }
+}
+
+fn one_if(told: bool) -> usize
+    ensures { result ≡ (if told then 1 else 0) }
+{
+    if told { 1 } else { 0 }
+}
+
+/// The first of a chain, where this node came in behind all.
+fn first_with(first: Option<usize>, at: usize) -> usize
+    ensures { Some result ≡ first_or (option_to_list first) (Some at) }
+{
+    match first {
+        Some(node) => node,
+        None => at,
+    }
 }
 
 /// By hand, so that what a crate above proves of a list that it lets go doesn't go into its nodes.
@@ -87,7 +117,7 @@ impl<T: Drop, W: Drop> List<T, W> {
         ensures same { self.new ≡ record self.old { looks = self.new.looks } }
         ensures looks { self.new.looks ≤ self.old.looks + 1 }
     {
-        find(&mut self.nodes, key, false)
+        self.nodes.find(key, false)
     }
 
     /// Begins a call whose visits are counted with the same look.
@@ -101,7 +131,7 @@ impl<T: Drop, W: Drop> List<T, W> {
         ensures looks { self.new.looks ≤ self.old.looks + 1 }
     {
         self.nodes.start();
-        find(&mut self.nodes, key, true)
+        self.nodes.find(key, true)
     }
 
     /// Takes a listener off, told or waiting as it is said to be. A poll's visits aren't counted.
@@ -118,13 +148,18 @@ impl<T: Drop, W: Drop> List<T, W> {
         ensures looks { self.new.looks ≤ self.old.looks + 3 }
         ensures uncounted { counted ≡ false → self.new.visits ≡ self.old.visits }
     {
-        if told {
-            let state = unlink(&mut self.nodes, &mut self.told, key, counted);
-            self.told_count -= 1;
-            state
-        } else {
-            unlink(&mut self.nodes, &mut self.waiting, key, counted)
-        }
+        let at = key.slot;
+        let node = unlink(
+            &mut self.nodes,
+            &mut self.told,
+            &mut self.waiting,
+            at,
+            counted,
+        );
+        self.told.last = end_without(self.told.last, at, node.before);
+        self.waiting.first = end_without(self.waiting.first, at, node.after);
+        self.told_count -= one_if(told);
+        node.state
     }
 
     /// Stores the task of a waiting listener.
@@ -134,10 +169,11 @@ impl<T: Drop, W: Drop> List<T, W> {
         ensures left { (k : Key) → HasLeft self.old k → HasLeft self.new k }
         ensures serials { self.new.serials ≡ self.old.serials }
         ensures room { self.new.room ≡ self.old.room }
-        ensures visits { self.new.visits ≤ self.old.visits + 1 }
-        ensures looks { self.new.looks ≤ self.old.looks + 1 }
+        ensures visits { self.new.visits ≡ self.old.visits }
+        ensures looks { self.new.looks ≤ self.old.looks + 2 }
     {
-        store_task(&mut self.nodes, key, task);
+        let state = State::Waiting(Some(task));
+        let _ = restate(&mut self.nodes, key.slot, state, false);
     }
 
     /// Adds a listener, which waits behind all others and without a task.
@@ -165,8 +201,9 @@ impl<T: Drop, W: Drop> List<T, W> {
             return Err(ListenError::SerialsUsedUp);
         }
         let serial = self.serials;
-        match link_last(&mut self.nodes, &mut self.waiting, serial) {
+        match link_last(&mut self.nodes, &mut self.told, &mut self.waiting, serial) {
             Ok(slot) => {
+                self.waiting.first = Some(first_with(self.waiting.first, slot));
                 self.serials += 1;
                 Ok(Key { slot, serial })
             }
@@ -189,14 +226,14 @@ impl<T: Drop, W: Drop> List<T, W> {
         let Some(at) = self.waiting.first else {
             unreachable!()
         };
-        bridge(&mut self.nodes, &mut self.waiting, at);
         let told = State::Told { additional, tag };
-        let was = attach_last(&mut self.nodes, &mut self.told, at, told);
+        let (was, after) = restate(&mut self.nodes, at, told, true);
+        self.told.last = Some(at);
+        self.waiting.first = after;
         self.told_count += 1;
         match was {
-            Some(State::Waiting(task)) => task,
-            Some(State::Told { .. }) => unreachable!(),
-            None => unreachable!(),
+            State::Waiting(task) => task,
+            State::Told { .. } => unreachable!(),
         }
     }
 

@@ -1,7 +1,7 @@
-//! The nodes of a list. Each look at a node, and each change of one, is counted, the call's own node left out.
-ghost use Rattle.std.specs.Prelude.{◌≡◌, ◌+◌, ◌-◌, ◌^◌, ◌<◌, ◌≤◌, min, if◌then◌else◌, IsSome, IfSome, Some, None, [], IsOk, IfOk, OnOk, OnErr, ◌≢◌, ℕ};
+//! The nodes of a list. Each look at a node, and each change of one, is counted.
+ghost use Rattle.std.specs.Prelude.{◌≡◌, ◌+◌, ◌^◌, ◌<◌, ◌≤◌, IfSome, [], IsOk, IfOk, OnOk, OnErr, ◌≢◌, ℕ, None, Some, false};
 ghost use Rattle.slab.specs.Slab.{get, slab_len, Updates, HasRoomFor, ContainsKey, with_value};
-ghost use Rattle.event_listener.specs.Nodes.{visited, visited_at, looked_at, changed, given, place_at, Stays};
+ghost use Rattle.event_listener.specs.Nodes.{found, found_looks, found_visits, more, more_if};
 
 use crate::error::NoMemory;
 use crate::key::Key;
@@ -16,7 +16,7 @@ pub(crate) enum State<T, W> {
     Told { additional: bool, tag: T },
 }
 
-/// One listener, between its neighbours in its chain.
+/// One listener, between its neighbours in the order of listening.
 #[derive(Drop)]
 pub(crate) struct Node<T, W> {
     pub(crate) serial: u64,
@@ -32,36 +32,14 @@ pub(crate) struct Ends {
     pub(crate) last: Option<usize>,
 }
 
-/// What a read of a node gives.
-#[derive(Clone, Copy)]
-pub(crate) struct Place {
-    pub(crate) serial: u64,
-    pub(crate) before: Option<usize>,
-    pub(crate) after: Option<usize>,
-    pub(crate) told: bool,
-}
-
-/// What a write does to a node.
-#[derive(Drop)]
-pub(crate) enum Change<T, W> {
-    Before(Option<usize>),
-    After(Option<usize>),
-    State(State<T, W>),
-    /// The node becomes the last of a chain, behind this one, with this state.
-    Last(Option<usize>, State<T, W>),
-}
-
-/// The nodes, and how often nodes other than those of the call's own listener were read or written.
+/// The nodes, and how often they were read or written.
 ///
-/// [`Nodes::read`] and [`Nodes::write`] are the only ways to a node that is not the call's own. What they count is in
-/// `visits` until [`Nodes::settle`] adds it to the number of the call under way; a poll's belongs to no number. Either
-/// counts in `looks` besides, whosever the node is, and no call sets that back: so the bound on it holds of what was
-/// really looked at, whatever a call does with its number.
+/// There is no other way to a node than the calls below. Each counts in `looks`, whosever the node is, and no call sets
+/// that back: so the bound on it holds of what was really looked at. Those that are said to be counted, which are the
+/// visits of a call with a number to nodes that are not its own, count in `last` besides, which each such call begins.
 #[derive(Drop)]
 pub(crate) struct Nodes<T, W> {
     slab: Slab<Node<T, W>>,
-    own: Option<Key>,
-    visits: u64,
     last: u64,
     looks: u64,
 }
@@ -70,43 +48,21 @@ impl<T: Drop, W: Drop> Nodes<T, W> {
     pub(crate) fn new(alloc: Global) -> Self
         ensures slots { result.slab.slots ≡ [] }
         ensures capacity { result.slab.capacity ≡ 0 }
-        ensures visits { result.visits ≡ 0 }
         ensures last { result.last ≡ 0 }
         ensures looks { result.looks ≡ 0 }
     {
         Nodes {
             slab: Slab::new(alloc),
-            own: None,
-            visits: 0,
             last: 0,
             looks: 0,
         }
     }
 
-    /// Begins the number of a call. Visits that were not settled stay, and are part of it.
+    /// Begins the number of a call.
     pub(crate) fn start(&mut self)
-        ensures { self.new ≡ record self.old { own = None; last = 0 } }
+        ensures { self.new ≡ record self.old { last = 0 } }
     {
-        self.own = None;
         self.last = 0;
-    }
-
-    /// The listener whose call this is.
-    pub(crate) fn begin(&mut self, own: Key)
-        ensures { self.new ≡ record self.old { own = Some own } }
-    {
-        self.own = Some(own);
-    }
-
-    /// Adds the visits to the number of the call under way, or lets a poll's go.
-    pub(crate) fn settle(&mut self, counted: bool)
-        ensures { self.new ≡ record self.old { own = None; visits = 0; last = (if counted then min (self.old.last + self.old.visits) (2 ^ 64 - 1) else self.old.last) } }
-    {
-        if counted {
-            self.last = self.last.saturating_add(self.visits);
-        }
-        self.own = None;
-        self.visits = 0;
     }
 
     /// The number of the last call.
@@ -116,82 +72,95 @@ impl<T: Drop, W: Drop> Nodes<T, W> {
         self.last
     }
 
-    fn count(&mut self, at: usize, serial: u64)
-        ensures rest { self.new ≡ record self.old { visits = visited self.old.own (record { slot = at; serial = serial }) self.old.visits; looks = min (self.old.looks + 1) (2 ^ 64 - 1) } }
-        ensures most { self.new.visits ≤ self.old.visits + 1 }
-        ensures most_looks { self.new.looks ≤ self.old.looks + 1 }
+    /// Counts a look, which may be a visit of the call under way.
+    #[inline(always)]
+    fn count(&mut self, counted: bool)
+        ensures { self.new ≡ record self.old { last = more_if counted self.old.last; looks = more self.old.looks } }
     {
         self.looks = self.looks.saturating_add(1);
-        match self.own {
-            Some(own) if own.slot == at && own.serial == serial => {}
-            _ => self.visits = self.visits.saturating_add(1),
+        if counted {
+            self.last = self.last.saturating_add(1);
         }
     }
 
-    /// Looks at the node in a slot, if there is one.
+    /// Looks whether the key's node is there, and then whether it is told.
+    ///
+    /// The node in its place is the call's own, or that of another listener, whose number the look may count in.
     #[inline(always)]
-    pub(crate) fn read(&mut self, at: usize) -> Option<Place>
-        ensures place { result ≡ place_at (get self.old.slab at) }
-        ensures rest { self.new ≡ record self.old { visits = visited_at self.old.own at (get self.old.slab at) self.old.visits; looks = looked_at (get self.old.slab at) self.old.looks } }
-        ensures stays { Stays self.old self.new 1 }
+    pub(crate) fn find(&mut self, key: Key, counted: bool) -> Option<bool>
+        ensures answer { result ≡ found (get self.old.slab key.slot) key.serial }
+        ensures uncounted { counted ≡ false → self.new.last ≡ self.old.last }
+        ensures most { self.new.last ≤ self.old.last + 1 }
+        ensures most_looks { self.new.looks ≤ self.old.looks + 1 }
+        ensures rest { self.new ≡ record self.old { last = found_visits counted (get self.old.slab key.slot) key.serial self.old.last; looks = found_looks (get self.old.slab key.slot) self.old.looks } }
     {
-        let node = self.slab.get(at)?;
-        let place = Place {
-            serial: node.serial,
-            before: node.before,
-            after: node.after,
-            told: matches!(node.state, State::Told { .. }),
-        };
-        self.count(at, place.serial);
-        Some(place)
+        let node = self.slab.get(key.slot)?;
+        let is_own = node.serial == key.serial;
+        let told = matches!(node.state, State::Told { .. });
+        self.count(counted && !is_own);
+        if is_own { Some(told) } else { None }
     }
 
-    /// Writes a part of a node, and gives back what stood in a state's place.
+    /// Lets a node be followed by another.
     #[inline(always)]
-    pub(crate) fn write(&mut self, at: usize, change: Change<T, W>) -> Option<State<T, W>>
+    pub(crate) fn set_after(&mut self, at: usize, to: Option<usize>, counted: bool)
         requires present { ContainsKey self.old.slab at }
-        ensures node { IfSome (get self.old.slab at) (λ node. self.new.slab ≡ with_value self.old.slab at (changed change node)) }
-        ensures state { IfSome (get self.old.slab at) (λ node. result ≡ given change node) }
-        ensures rest { self.new ≡ record self.old { slab = self.new.slab; visits = visited_at self.old.own at (get self.old.slab at) self.old.visits; looks = looked_at (get self.old.slab at) self.old.looks } }
-        ensures stays { Stays self.old self.new 1 }
+        ensures node { IfSome (get self.old.slab at) (λ node. self.new.slab ≡ with_value self.old.slab at (record node { after = to })) }
+        ensures last { self.new.last ≡ more_if counted self.old.last }
+        ensures looks { self.new.looks ≡ more self.old.looks }
     {
-        let Some(node) = self.slab.get_mut(at) else {
-            unreachable!()
+        match self.slab.get_mut(at) {
+            Some(node) => node.after = to,
+            None => unreachable!(),
+        }
+        self.count(counted);
+    }
+
+    /// Lets a node stand behind another.
+    #[inline(always)]
+    pub(crate) fn set_before(&mut self, at: usize, to: Option<usize>, counted: bool)
+        requires present { ContainsKey self.old.slab at }
+        ensures node { IfSome (get self.old.slab at) (λ node. self.new.slab ≡ with_value self.old.slab at (record node { before = to })) }
+        ensures last { self.new.last ≡ more_if counted self.old.last }
+        ensures looks { self.new.looks ≡ more self.old.looks }
+    {
+        match self.slab.get_mut(at) {
+            Some(node) => node.before = to,
+            None => unreachable!(),
+        }
+        self.count(counted);
+    }
+
+    /// Gives a node another state, and gives back the one that it had and the node behind it: a read and a write.
+    #[inline(always)]
+    pub(crate) fn restate(
+        &mut self,
+        at: usize,
+        state: State<T, W>,
+        counted: bool,
+    ) -> (State<T, W>, Option<usize>)
+        requires present { ContainsKey self.old.slab at }
+        ensures node { IfSome (get self.old.slab at) (λ node. self.new.slab ≡ with_value self.old.slab at (record node { state = state })) }
+        ensures was { IfSome (get self.old.slab at) (λ node. result ≡ (node.state, node.after)) }
+        ensures last { self.new.last ≡ more_if counted (more_if counted self.old.last) }
+        ensures looks { self.new.looks ≡ more (more self.old.looks) }
+    {
+        let was = match self.slab.get_mut(at) {
+            Some(node) => (mem::replace(&mut node.state, state), node.after),
+            None => unreachable!(),
         };
-        let serial = node.serial;
-        let was = match change {
-            Change::Before(before) => {
-                node.before = before;
-                None
-            }
-            Change::After(after) => {
-                node.after = after;
-                None
-            }
-            Change::State(state) => Some(mem::replace(&mut node.state, state)),
-            Change::Last(before, state) => {
-                node.before = before;
-                node.after = None;
-                Some(mem::replace(&mut node.state, state))
-            }
-        };
-        self.count(at, serial);
+        self.count(counted);
+        self.count(counted);
         was
     }
 
     /// Begins the number of a call that has a node made, and makes the node, which is the call's own.
-    ///
-    /// A call that is refused ends here, so its visits are settled.
     pub(crate) fn insert(&mut self, node: Node<T, W>) -> Result<usize, NoMemory>
         ensures absent { IfOk result (λ at. get self.old.slab at ≡ None) }
         ensures updates { IfOk result (λ at. Updates self.old.slab self.new.slab at (Some node)) }
         ensures len { OnOk result (slab_len self.new.slab ≡ slab_len self.old.slab + 1) }
-        ensures own { IfOk result (λ at. self.new.own ≡ Some (record { slot = at; serial = node.serial })) }
-        ensures visits { OnOk result (self.new.visits ≡ self.old.visits) }
-        ensures last { OnOk result (self.new.last ≡ 0) }
+        ensures last { self.new.last ≡ 0 }
         ensures looks { self.new.looks ≡ self.old.looks }
-        ensures settled { OnErr result (self.new.visits ≡ 0) }
-        ensures number { OnErr result (self.new.last ≤ self.old.visits) }
         ensures succeeds { HasRoomFor self.old.slab 1 → IsOk result }
         ensures room { HasRoomFor self.old.slab 1 → self.new.slab.capacity ≡ self.old.slab.capacity }
         ensures err { OnErr result (self.new.slab ≡ record self.old.slab { capacity = self.new.slab.capacity }) }
@@ -199,35 +168,30 @@ impl<T: Drop, W: Drop> Nodes<T, W> {
         ensures within { slab_len self.new.slab ≤ self.new.slab.capacity }
         ensures fits { self.new.slab.capacity < 2 ^ 64 }
     {
-        let serial = node.serial;
         let made = self.slab.insert(node);
         let _capacity = self.slab.capacity();
         self.start();
         match made {
-            Ok(at) => {
-                self.own = Some(Key { slot: at, serial });
-                Ok(at)
-            }
-            Err(_) => {
-                self.settle(true);
-                Err(NoMemory)
-            }
+            Ok(at) => Ok(at),
+            Err(_) => Err(NoMemory),
         }
     }
 
     /// Takes the call's own node out.
-    pub(crate) fn take(&mut self, own: Key) -> State<T, W>
-        requires own { self.old.own ≡ Some own }
-        requires present { IfSome (get self.old.slab own.slot) (λ node. node.serial ≡ own.serial) × ContainsKey self.old.slab own.slot }
-        ensures state { IfSome (get self.old.slab own.slot) (λ node. result ≡ node.state) }
-        ensures gone { get self.new.slab own.slot ≡ None }
-        ensures others { (k : ℕ) → k ≢ own.slot → get self.new.slab k ≡ get self.old.slab k }
+    #[inline(always)]
+    pub(crate) fn take(&mut self, at: usize) -> Node<T, W>
+        requires present { ContainsKey self.old.slab at }
+        ensures node { get self.old.slab at ≡ Some result }
+        ensures gone { get self.new.slab at ≡ None }
+        ensures others { (k : ℕ) → k ≢ at → get self.new.slab k ≡ get self.old.slab k }
         ensures len { slab_len self.new.slab + 1 ≡ slab_len self.old.slab }
         ensures capacity { self.new.slab.capacity ≡ self.old.slab.capacity }
-        ensures rest { self.new ≡ record self.old { slab = self.new.slab } }
+        ensures last { self.new.last ≡ self.old.last }
+        ensures looks { self.new.looks ≡ more self.old.looks }
     {
-        match self.slab.try_remove(own.slot) {
-            Some(node) => node.state,
+        self.count(false);
+        match self.slab.try_remove(at) {
+            Some(node) => node,
             None => unreachable!(),
         }
     }

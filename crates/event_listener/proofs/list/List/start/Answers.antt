@@ -9,7 +9,7 @@ pub invariant_of-self : goal.invariant_of-self
 invariant_of-self g c =
     (kept c.self.inside
     (record { nodes = c.start.new.self; told = c.self.inside.told; waiting = c.self.inside.waiting; told_count = c.self.inside.told_count; serials = c.self.inside.serials })
-    c.self.invariant (ap (λ (n : Nodes _ _). n.slab.slots) c.start.ensures) refl refl refl refl (ap (λ (n : Nodes _ _). n.visits) c.start.ensures ∙ c.self.invariant.2.settled) (rw c.start.ensures c.self.invariant.2.within) (rw c.start.ensures c.self.invariant.2.fits)).sound
+    c.self.invariant (ap (λ (n : Nodes _ _). n.slab.slots) c.start.ensures) refl refl refl refl (rw c.start.ensures c.self.invariant.2.within) (rw c.start.ensures c.self.invariant.2.fits)).sound
 
 pub returns : goal.returns
 returns g c =
