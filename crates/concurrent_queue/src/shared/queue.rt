@@ -136,6 +136,9 @@ fn tell_on<T: Drop, C: Cells<T>>(ask: QueueAsk<T>, cells: &mut C) -> QueueReply<
 impl<T: Drop> ConcurrentQueue<T> {
     ghost use Rattle.std.specs.Prelude.{◌≡◌, Some};
     ghost use Rattle.concurrent_queue.specs.SharedQueue.{IsSharedStep, IsWordsAlone};
+    ghost use Rattle.concurrent_queue.specs.Replies.{IsPushReply, MayPop};
+    ghost use Rattle.concurrent_queue.specs.declared.call.QueueReply.{QueueReply};
+    ghost use Rattle.concurrent_queue.specs.declared.call.QueueReply.TheVariants as reply;
 
     /// The cells of words and slots, from a new seat.
     #[inline(always)]
@@ -198,6 +201,31 @@ impl<T: Drop> ConcurrentQueue<T> {
         finish_on(rt, call, &mut self.cells(rt))
     }
 
+    /// The answer of a push that goes on from here. It stands apart, so that a push at once has no room to make for it.
+    #[cold]
+    #[inline(never)]
+    fn push_on<R: Wait>(&self, rt: &R, call: QueueCall<T>) -> Result<(), PushError<T>>
+        requires { (r : QueueReply T) → MayCall self.now.form call.state r → IsPushReply r }
+        ensures { MayCall self.now.form call.state (reply.Push result) }
+    {
+        match self.finish(rt, call) {
+            QueueReply::Push(result) => result,
+            _ => unreachable!(),
+        }
+    }
+
+    /// The same of a pop.
+    #[cold]
+    #[inline(never)]
+    fn pop_on<R: Wait>(&self, rt: &R, call: QueueCall<T>) -> Result<T, PopError>
+        requires { (r : QueueReply T) → MayCall self.now.form call.state r → MayPop r }
+    {
+        match self.finish(rt, call) {
+            QueueReply::Pop(result) => result,
+            _ => unreachable!(),
+        }
+    }
+
     /// The same for one that waits for nobody: its second step answers at the latest.
     fn tell(&self, ask: QueueAsk<T>) -> QueueReply<T>
         requires { AsksWords ask }
@@ -221,10 +249,7 @@ impl<T: Drop> ConcurrentQueue<T> {
     {
         match push_ahead(value, &mut self.cells(rt)) {
             Ok(answer) => answer,
-            Err(call) => match self.finish(rt, call) {
-                QueueReply::Push(result) => result,
-                _ => unreachable!(),
-            },
+            Err(call) => self.push_on(rt, call),
         }
     }
 
@@ -246,10 +271,7 @@ impl<T: Drop> ConcurrentQueue<T> {
     pub fn pop<R: Wait>(&self, rt: &R) -> Result<T, PopError> {
         match pop_ahead(&mut self.cells(rt)) {
             Ok(answer) => answer,
-            Err(call) => match self.finish(rt, call) {
-                QueueReply::Pop(result) => result,
-                _ => unreachable!(),
-            },
+            Err(call) => self.pop_on(rt, call),
         }
     }
 

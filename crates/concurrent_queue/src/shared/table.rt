@@ -100,8 +100,11 @@ impl<'a, T> SeatedTable<'a, T> {
         if word < LEAST {
             return Some(first + word);
         }
-        let place = first.checked_add(word)?;
-        if place < end { Some(place) } else { None }
+        if word < end - first {
+            Some(first + word)
+        } else {
+            None
+        }
     }
 
     /// What the word holds; 0 where there is none.
