@@ -135,7 +135,9 @@ impl<T: Drop, W: Drop> List<T, W> {
     }
 
     /// Takes a listener off, told or waiting as it is said to be. A poll's visits aren't counted.
-    #[inline(always)]
+    ///
+    /// It stands out of line, so that a call which takes nobody off is short.
+    #[inline(never)]
     pub(crate) fn leave(&mut self, key: Key, told: bool, counted: bool) -> State<T, W>
         requires { kind_of self.old.lists key ≡ Some told }
         ensures lists { self.new.lists ≡ without key self.old.lists }
