@@ -35,14 +35,16 @@ pub struct List<T, W> {
     serials: u64,
 }
 
-/// An end of a chain once the node at `at` is out of it, where this one stood beside that.
-fn end_without(end: Option<usize>, at: usize, beside: Option<usize>) -> Option<usize>
-    ensures moved { end ≡ Some at → result ≡ beside }
-    ensures stays { end ≢ Some at → result ≡ end }
+/// Lets an end of a chain be the node beside this one, where it was this one.
+#[inline(always)]
+fn end_without(end: &mut Option<usize>, at: usize, beside: Option<usize>)
+    ensures moved { end.old ≡ Some at → end.new ≡ beside }
+    ensures stays { end.old ≢ Some at → end.new ≡ end.old }
 {
-    match end {
-        Some(node) if node == at => beside,
-        _ => end,
+    if let Some(node) = *end {
+        if node == at {
+            *end = beside;
+        }
     }
 }
 
@@ -135,7 +137,9 @@ impl<T: Drop, W: Drop> List<T, W> {
     }
 
     /// Takes a listener off, told or waiting as it is said to be. A poll's visits aren't counted.
-    #[inline(always)]
+    ///
+    /// It stands out of line, so that a call which takes nobody off is short.
+    #[inline(never)]
     pub(crate) fn leave(&mut self, key: Key, told: bool, counted: bool) -> State<T, W>
         requires { kind_of self.old.lists key ≡ Some told }
         ensures lists { self.new.lists ≡ without key self.old.lists }
@@ -156,8 +160,8 @@ impl<T: Drop, W: Drop> List<T, W> {
             at,
             counted,
         );
-        self.told.last = end_without(self.told.last, at, node.before);
-        self.waiting.first = end_without(self.waiting.first, at, node.after);
+        end_without(&mut self.told.last, at, node.before);
+        end_without(&mut self.waiting.first, at, node.after);
         self.told_count -= one_if(told);
         node.state
     }

@@ -109,11 +109,11 @@ impl<T: Drop, W: Drop> Nodes<T, W> {
         ensures last { self.new.last ≡ more_if counted self.old.last }
         ensures looks { self.new.looks ≡ more self.old.looks }
     {
+        self.count(counted);
         match self.slab.get_mut(at) {
             Some(node) => node.after = to,
             None => unreachable!(),
         }
-        self.count(counted);
     }
 
     /// Lets a node stand behind another.
@@ -124,11 +124,11 @@ impl<T: Drop, W: Drop> Nodes<T, W> {
         ensures last { self.new.last ≡ more_if counted self.old.last }
         ensures looks { self.new.looks ≡ more self.old.looks }
     {
+        self.count(counted);
         match self.slab.get_mut(at) {
             Some(node) => node.before = to,
             None => unreachable!(),
         }
-        self.count(counted);
     }
 
     /// Gives a node another state, and gives back the one that it had and the node behind it: a read and a write.
@@ -145,13 +145,12 @@ impl<T: Drop, W: Drop> Nodes<T, W> {
         ensures last { self.new.last ≡ more_if counted (more_if counted self.old.last) }
         ensures looks { self.new.looks ≡ more (more self.old.looks) }
     {
-        let was = match self.slab.get_mut(at) {
+        self.count(counted);
+        self.count(counted);
+        match self.slab.get_mut(at) {
             Some(node) => (mem::replace(&mut node.state, state), node.after),
             None => unreachable!(),
-        };
-        self.count(counted);
-        self.count(counted);
-        was
+        }
     }
 
     /// Begins the number of a call that has a node made, and makes the node, which is the call's own.

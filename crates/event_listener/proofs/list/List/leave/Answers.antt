@@ -23,10 +23,10 @@ invariant_of-self g c =
     let h = told-counted c.self.inside c.self.invariant c.args.self.now c.self.view_is c.args.key (ap is_some c.requires) c.args.told c.requires in
     let n : (c.self.inside.told_count - c.one_if.result) + cond c.args.told 1 0 ≡ c.self.inside.told_count = omega (arith, h, c.one_if.ensures) in
     (left c.self.inside c.self.invariant c.args.self.now c.self.view_is c.args.key (ap is_some c.requires)
-    (record { nodes = c.unlink-node.new.nodes; told = record c.unlink-node.new.told { last = c.end_without-self-inside.result }; waiting = record c.unlink-node.new.waiting { first = c.end_without-self-inside-2.result }; told_count = c.self.inside.told_count - c.one_if.result; serials = c.self.inside.serials })
+    (record { nodes = c.unlink-node.new.nodes; told = record c.unlink-node.new.told { last = c.end_without.new.end }; waiting = record c.unlink-node.new.waiting { first = c.end_without-2.new.end }; told_count = c.self.inside.told_count - c.one_if.result; serials = c.self.inside.serials })
     c.unlink-node.result c.args.told c.requires c.unlink-node.ensures.links c.unlink-node.ensures.gone c.unlink-node.ensures.others c.unlink-node.ensures.before c.unlink-node.ensures.after c.unlink-node.ensures.state c.unlink-node.ensures.len c.unlink-node.ensures.capacity
-    (λ q. c.end_without-self-inside.ensures.moved (c.unlink-node.ensures.told_last ∙ q)) (λ q. c.end_without-self-inside.ensures.stays (λ e. q (sym c.unlink-node.ensures.told_last ∙ e)) ∙ c.unlink-node.ensures.told_last)
-    (λ q. c.end_without-self-inside-2.ensures.moved (c.unlink-node.ensures.waiting_first ∙ q)) (λ q. c.end_without-self-inside-2.ensures.stays (λ e. q (sym c.unlink-node.ensures.waiting_first ∙ e)) ∙ c.unlink-node.ensures.waiting_first)
+    (λ q. c.end_without.ensures.moved (c.unlink-node.ensures.told_last ∙ q)) (λ q. c.end_without.ensures.stays (λ e. q (sym c.unlink-node.ensures.told_last ∙ e)) ∙ c.unlink-node.ensures.told_last)
+    (λ q. c.end_without-2.ensures.moved (c.unlink-node.ensures.waiting_first ∙ q)) (λ q. c.end_without-2.ensures.stays (λ e. q (sym c.unlink-node.ensures.waiting_first ∙ e)) ∙ c.unlink-node.ensures.waiting_first)
     n refl).sound
 
 pub returns-clause-lists : goal.returns-clause-lists
@@ -34,10 +34,10 @@ returns-clause-lists g c =
     let h = told-counted c.self.inside c.self.invariant c.args.self.now c.self.view_is c.args.key (ap is_some c.requires) c.args.told c.requires in
     let n : (c.self.inside.told_count - c.one_if.result) + cond c.args.told 1 0 ≡ c.self.inside.told_count = omega (arith, h, c.one_if.ensures) in
     (left c.self.inside c.self.invariant c.args.self.now c.self.view_is c.args.key (ap is_some c.requires)
-    (record { nodes = c.unlink-node.new.nodes; told = record c.unlink-node.new.told { last = c.end_without-self-inside.result }; waiting = record c.unlink-node.new.waiting { first = c.end_without-self-inside-2.result }; told_count = c.self.inside.told_count - c.one_if.result; serials = c.self.inside.serials })
+    (record { nodes = c.unlink-node.new.nodes; told = record c.unlink-node.new.told { last = c.end_without.new.end }; waiting = record c.unlink-node.new.waiting { first = c.end_without-2.new.end }; told_count = c.self.inside.told_count - c.one_if.result; serials = c.self.inside.serials })
     c.unlink-node.result c.args.told c.requires c.unlink-node.ensures.links c.unlink-node.ensures.gone c.unlink-node.ensures.others c.unlink-node.ensures.before c.unlink-node.ensures.after c.unlink-node.ensures.state c.unlink-node.ensures.len c.unlink-node.ensures.capacity
-    (λ q. c.end_without-self-inside.ensures.moved (c.unlink-node.ensures.told_last ∙ q)) (λ q. c.end_without-self-inside.ensures.stays (λ e. q (sym c.unlink-node.ensures.told_last ∙ e)) ∙ c.unlink-node.ensures.told_last)
-    (λ q. c.end_without-self-inside-2.ensures.moved (c.unlink-node.ensures.waiting_first ∙ q)) (λ q. c.end_without-self-inside-2.ensures.stays (λ e. q (sym c.unlink-node.ensures.waiting_first ∙ e)) ∙ c.unlink-node.ensures.waiting_first)
+    (λ q. c.end_without.ensures.moved (c.unlink-node.ensures.told_last ∙ q)) (λ q. c.end_without.ensures.stays (λ e. q (sym c.unlink-node.ensures.told_last ∙ e)) ∙ c.unlink-node.ensures.told_last)
+    (λ q. c.end_without-2.ensures.moved (c.unlink-node.ensures.waiting_first ∙ q)) (λ q. c.end_without-2.ensures.stays (λ e. q (sym c.unlink-node.ensures.waiting_first ∙ e)) ∙ c.unlink-node.ensures.waiting_first)
     n refl).lists
 
 pub returns-clause-state : goal.returns-clause-state
@@ -45,10 +45,10 @@ returns-clause-state g c =
     let h = told-counted c.self.inside c.self.invariant c.args.self.now c.self.view_is c.args.key (ap is_some c.requires) c.args.told c.requires in
     let n : (c.self.inside.told_count - c.one_if.result) + cond c.args.told 1 0 ≡ c.self.inside.told_count = omega (arith, h, c.one_if.ensures) in
     (left c.self.inside c.self.invariant c.args.self.now c.self.view_is c.args.key (ap is_some c.requires)
-    (record { nodes = c.unlink-node.new.nodes; told = record c.unlink-node.new.told { last = c.end_without-self-inside.result }; waiting = record c.unlink-node.new.waiting { first = c.end_without-self-inside-2.result }; told_count = c.self.inside.told_count - c.one_if.result; serials = c.self.inside.serials })
+    (record { nodes = c.unlink-node.new.nodes; told = record c.unlink-node.new.told { last = c.end_without.new.end }; waiting = record c.unlink-node.new.waiting { first = c.end_without-2.new.end }; told_count = c.self.inside.told_count - c.one_if.result; serials = c.self.inside.serials })
     c.unlink-node.result c.args.told c.requires c.unlink-node.ensures.links c.unlink-node.ensures.gone c.unlink-node.ensures.others c.unlink-node.ensures.before c.unlink-node.ensures.after c.unlink-node.ensures.state c.unlink-node.ensures.len c.unlink-node.ensures.capacity
-    (λ q. c.end_without-self-inside.ensures.moved (c.unlink-node.ensures.told_last ∙ q)) (λ q. c.end_without-self-inside.ensures.stays (λ e. q (sym c.unlink-node.ensures.told_last ∙ e)) ∙ c.unlink-node.ensures.told_last)
-    (λ q. c.end_without-self-inside-2.ensures.moved (c.unlink-node.ensures.waiting_first ∙ q)) (λ q. c.end_without-self-inside-2.ensures.stays (λ e. q (sym c.unlink-node.ensures.waiting_first ∙ e)) ∙ c.unlink-node.ensures.waiting_first)
+    (λ q. c.end_without.ensures.moved (c.unlink-node.ensures.told_last ∙ q)) (λ q. c.end_without.ensures.stays (λ e. q (sym c.unlink-node.ensures.told_last ∙ e)) ∙ c.unlink-node.ensures.told_last)
+    (λ q. c.end_without-2.ensures.moved (c.unlink-node.ensures.waiting_first ∙ q)) (λ q. c.end_without-2.ensures.stays (λ e. q (sym c.unlink-node.ensures.waiting_first ∙ e)) ∙ c.unlink-node.ensures.waiting_first)
     n refl).state
 
 pub returns-clause-off : goal.returns-clause-off
