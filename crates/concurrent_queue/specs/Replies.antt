@@ -76,10 +76,6 @@ module _ {T : Type 0} where
   MayPush bounded v (reply.Push r) = IfErr r (λ e. HandsBack bounded v e)
   MayPush bounded v _ = ⊥
 
-  abbrev pub IsPushReply : QueueReply T → Type 0
-  IsPushReply (reply.Push r) = Unit {0}
-  IsPushReply _ = ⊥
-
   abbrev pub MayForce : Bool → T → QueueReply T → Type 0
   MayForce bounded v (reply.Force r) = MatchResult r (λ o. bounded ≡ false → o ≡ None) (λ e. HandsForceBack bounded v e)
   MayForce bounded v _ = ⊥

@@ -135,8 +135,8 @@ fn tell_on<T: Drop, C: Cells<T>>(ask: QueueAsk<T>, cells: &mut C) -> QueueReply<
 
 impl<T: Drop> ConcurrentQueue<T> {
     ghost use Rattle.std.specs.Prelude.{◌≡◌, Some};
-    ghost use Rattle.concurrent_queue.specs.SharedQueue.{IsSharedStep, IsWordsAlone};
-    ghost use Rattle.concurrent_queue.specs.Replies.{IsPushReply, MayPop};
+    ghost use Rattle.concurrent_queue.specs.SharedQueue.{IsPushReply, IsSharedStep, IsWordsAlone};
+    ghost use Rattle.concurrent_queue.specs.Replies.{MayPop};
     ghost use Rattle.concurrent_queue.specs.declared.call.QueueReply.{QueueReply};
     ghost use Rattle.concurrent_queue.specs.declared.call.QueueReply.TheVariants as reply;
 
