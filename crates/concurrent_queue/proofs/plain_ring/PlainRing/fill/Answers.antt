@@ -1,6 +1,6 @@
-use Rattle.std.proofs.Common.{◌≡◌, ◌==◌, true, false, Some, None, refl, rules, arith}
+use Rattle.std.proofs.Common.{◌≡◌, true, rules, arith}
 use Rattle.std.proofs.lemmas.Option.{slice_get_read}
-use Rattle.std.specs.Option.{is_some, is_none}
+use Rattle.std.specs.Option.{is_none}
 use Rattle.concurrent_queue.proofs.PlainRings.{stamp_seen, vacant_there, stamps_set, slot_put}
 use Rattle.concurrent_queue.proofs.plain_ring.PlainRing.fill.Goals as goal
 

@@ -1,6 +1,5 @@
-use Rattle.std.proofs.Common.{◌≡◌, ◌==◌, true, false, Some, None, refl, rules, arith}
+use Rattle.std.proofs.Common.{refl, rules, arith}
 use Rattle.std.proofs.lemmas.Option.{slice_get_read}
-use Rattle.std.specs.Option.{is_some, is_none}
 use Rattle.concurrent_queue.proofs.PlainRings.{slot_put, stamps_kept}
 use Rattle.concurrent_queue.proofs.plain_ring.PlainRing.take.Goals as goal
 
