@@ -267,10 +267,10 @@ impl<R: Wait + Copy> Attempt for PollsStream<'_, R> {
 }
 
 /// Two receives wait; then who is woken by a message, and by the next one, and what both get.
-fn wait_two<R: Wait + Copy>(
+fn wait_two<'a, R: Wait + Copy>(
     alloc: Global,
-    ends: &Ends<R>,
-    tasks: [&MockTask; 2],
+    ends: &'a Ends<R>,
+    tasks: [&'a MockTask; 2],
 ) -> (Seen, [bool; 6]) {
     let mut first = PollsRecv {
         task: tasks[0],
@@ -308,10 +308,10 @@ fn receives_that_wait(rt: HostRuntime) -> Result<(), Fail> {
 }
 
 /// Two sends wait on a full channel; then who is woken when a message is taken, and what the sends come to.
-fn send_two<R: Wait + Copy>(
+fn send_two<'a, R: Wait + Copy>(
     alloc: Global,
-    ends: &Ends<R>,
-    tasks: [&MockTask; 2],
+    ends: &'a Ends<R>,
+    tasks: [&'a MockTask; 2],
 ) -> (Seen, [bool; 5]) {
     let filled = ends.0.try_send(1) == Ok(());
     let mut first = PollsSend {
@@ -357,26 +357,27 @@ fn sends_that_wait(rt: HostRuntime) -> Result<(), Fail> {
 }
 
 /// A stream and a wait for the closing wait; then who is woken by a message and by the closing.
-fn stream_and_close<R: Wait + Copy>(
+fn stream_and_close<'a, R: Wait + Copy>(
     alloc: Global,
-    ends: Ends<R>,
-    tasks: [&MockTask; 2],
+    sender: &'a Sender<u64, R>,
+    receiver: Receiver<u64, R>,
+    tasks: [&'a MockTask; 2],
 ) -> (Seen, [bool; 5]) {
     let mut streams = PollsStream {
         task: tasks[0],
-        stream: ends.1,
+        stream: receiver,
     };
     let mut closes = PollsClosed {
         task: tasks[1],
-        closed: ends.0.closed(),
+        closed: sender.closed(),
     };
     let mut scarcity = Scarcity::new(alloc);
     scarcity.refuse_each(&mut streams);
     scarcity.refuse_each(&mut closes);
     let seen = scarcity.end();
-    let sent = ends.0.try_send(5) == Ok(());
+    let sent = sender.try_send(5) == Ok(());
     let woken = [tasks[0].is_woken(), tasks[1].is_woken()];
-    let closed = ends.0.close() && tasks[1].is_woken();
+    let closed = sender.close() && tasks[1].is_woken();
     let got = streams.stream.try_recv() == Ok(5);
     (seen, [sent, woken[0], woken[1], closed, got])
 }
@@ -384,8 +385,9 @@ fn stream_and_close<R: Wait + Copy>(
 #[test]
 fn streams_and_closings_that_wait(rt: HostRuntime) -> Result<(), Fail> {
     let (one, two) = (MockTask::new(&rt)?, MockTask::new(&rt)?);
-    let ends = opened(rt, rt.alloc(), 1).expect(&rt, "memory");
-    let (seen, right) = stream_and_close(rt.alloc(), ends, [&one, &two]);
+    let (sender, receiver) = opened(rt, rt.alloc(), 1).expect(&rt, "memory");
+    let (seen, right) = stream_and_close(rt.alloc(), &sender, receiver, [&one, &two]);
+    drop(sender);
     println!(rt; "{:?}", seen)?;
     assert!(rt; seen.right);
     assert_eq!(rt; seen.calls, 2);

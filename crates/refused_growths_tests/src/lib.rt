@@ -11,7 +11,13 @@ mod handles;
 #[cfg(test)]
 mod queues;
 #[cfg(test)]
+mod records;
+#[cfg(test)]
 mod scarcity;
+#[cfg(test)]
+mod scripts;
+#[cfg(test)]
+mod settling;
 #[cfg(test)]
 mod steps;
 #[cfg(test)]

@@ -38,7 +38,7 @@ const LARGEST: usize = 1_032;
 /// All blocks have lengths that are multiples of this.
 const GRAIN: usize = 16;
 
-/// How many holes are tried for a call, at most.
+/// How many sizes of a hole are tried for a call, at most.
 const HOLES: usize = 3_500;
 
 type Blocks = Vec<Vec<u8>>;
@@ -159,9 +159,8 @@ impl Scarcity {
     pub fn refuse_each<A: Attempt>(&mut self, call: &mut A) -> u32 {
         let mut count = 0u32;
         let mut last = Tried::Wrong;
-        let most = if self.seen.right { HOLES } else { 0 };
-        for number in 0..most {
-            self.leave(GRAIN.wrapping_mul(number));
+        for number in 0..self.holes() {
+            self.leave(number);
             last = call.make();
             if last != Tried::Refused {
                 break;
@@ -181,7 +180,13 @@ impl Scarcity {
         }
     }
 
-    fn note(&mut self, count: u32, right: bool) {
+    /// How many holes are tried for a call, at most: none once something was wrong.
+    pub fn holes(&self) -> usize {
+        if self.seen.right { HOLES } else { 0 }
+    }
+
+    /// Notes a call that was refused so often, and then made rightly or not.
+    pub fn note(&mut self, count: u32, right: bool) {
         self.seen = Seen {
             calls: self.seen.calls.wrapping_add(u32::from(count > 0)),
             refusals: self.seen.refusals.wrapping_add(count),
@@ -189,19 +194,23 @@ impl Scarcity {
         };
     }
 
-    /// Takes what there is, and then leaves so many bytes.
-    fn leave(&mut self, hole: usize) {
+    /// Takes what there is, and then leaves a hole of so many times 16 bytes.
+    pub fn leave(&mut self, number: usize) {
         drop(self.plug.take());
         take_blocks(self.alloc, &mut self.fillers, FILLER, FILLERS);
         self.take_scraps();
-        if hole == 0 {
+        if number == 0 {
             return;
         }
         match self.fillers.pop() {
             Some(filler) => drop(filler),
             None => self.note(0, false),
         }
-        self.plug = Vec::with_capacity(self.alloc, FILLER.saturating_sub(hole)).ok();
+        self.plug = Vec::with_capacity(
+            self.alloc,
+            FILLER.saturating_sub(GRAIN.wrapping_mul(number)),
+        )
+        .ok();
     }
 
     /// Takes what is left in blocks of every size.

@@ -41,7 +41,7 @@ enum Stepped {
 }
 
 /// What the list of one step came to.
-fn stepped(run: &Run<u64>) -> Stepped {
+fn step_of(run: &Run<u64>) -> Stepped {
     match run.trace.first() {
         Some(entry) => match &entry.reply {
             Some(reply) => Stepped::Ended(says(reply)),
@@ -67,12 +67,21 @@ impl Steps {
         }
     }
 
+    /// Puts the next step into the list, unless one was left there. The list has room for it.
+    fn put(&mut self) -> bool {
+        if !self.steps.is_empty() {
+            return true;
+        }
+        let next = self.next();
+        self.steps.push_back(next).is_ok()
+    }
+
     /// Makes one step. One that is refused stays, and changes nothing.
     fn step(&mut self) -> Stepped {
-        let put = !self.steps.is_empty() || self.steps.push_back(self.next()).is_ok();
+        let put = self.put();
         let before = numbers_of(&self.world);
         let run = self.world.run_steps(&mut self.steps);
-        let came = stepped(&run);
+        let came = step_of(&run);
         drop(run);
         let left = self.steps.len();
         let right = if came == Stepped::Refused {
