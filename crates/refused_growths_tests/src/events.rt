@@ -2,7 +2,6 @@
 
 ghost use Rattle.std.specs.Prelude.{◌≡◌};
 
-use crate::scarcity::{Attempt, Scarcity, Seen, Tried, made, refused};
 use event_listener::calls::Registered;
 use event_listener::error::{ListenError, NoMemory, NotifyError};
 use event_listener::event::Event;
@@ -13,7 +12,9 @@ use event_listener::list::List;
 use event_listener::listener::{EventListener, Listener};
 use event_listener::recorded::{RecordedEvent, RegisterError};
 use event_listener::wakes::Wakes;
+use scarcity::{Attempt, Scarcity, Seen, Tried, made, refused};
 use std::alloc::{AllocError, Global};
+use std::marker::Model;
 use std::sync::Wait;
 use std::test::Fail;
 
@@ -171,6 +172,14 @@ fn insertions(rt: HostRuntime) -> Result<(), Fail> {
 struct Costly {
     alloc: Global,
     number: Box<u32>,
+}
+
+impl Model for Costly {
+    ghost use Rattle.std.specs.Prelude.{ℕ};
+
+    ghost Value = { ℕ };
+
+    ghost view = { λ tag. tag.number.value };
 }
 
 impl Clone for Costly {

@@ -1,12 +1,12 @@
 //! A channel's handles and polled operations.
 
-use crate::scarcity::{Attempt, Scarcity, Seen, Tried, made, refused};
 use async_channel::{Closed, OpenError, Receiver, Recv, Refused, Send, Sender, bounded, unbounded};
 use event_listener::error::ListenError;
 use event_listener::id::EventIds;
 use futures::Stream;
 use futures::task::Poll;
 use futures::test::MockTask;
+use scarcity::{Attempt, Scarcity, Seen, Tried, made, refused};
 use std::alloc::Global;
 use std::sync::Wait;
 use std::test::Fail;

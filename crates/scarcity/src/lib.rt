@@ -1,11 +1,17 @@
-//! A process without memory. `Scarcity` holds all that there is, and `refuse_each` makes a call with none at hand, then with 32 bytes,
-//! with 48, with 64, until it is refused no more. So each request of the call is refused at least once, unless it asks for no more
-//! than what the call had before it gave back in between.
+//! A process without memory, for tests of what stands after a growth is refused. [`Scarcity`] holds all that there is, and
+//! [`Scarcity::refuse_each`] makes a call with none at hand, then with 32 bytes, with 48, with 64, until it is refused no more. So each
+//! request of the call is refused at least once, unless it needs no more than what the call gave back before it.
 //!
-//! What is held is never written to: the C library asks the system for addresses, and the system counts memory only where it
-//! is written. A block costs the page that its length stands in, so some ten thousand blocks of gigabytes cost some tens of megabytes.
-//! Each test is a process of its own in the gate, and takes nothing from another, nor from what runs beside it: addresses are a
-//! process's own.
+//! What holds memory asks [`Global`] for it, of which no two values differ, and which asks the C library: so nothing less than the whole
+//! process can be out of memory. What is held is never written to. The C library asks the system for addresses, and the system counts
+//! memory where it is written: a block of gigabytes costs the page that its length stands in. Each test is a process of its
+//! own in the gate, and addresses are a process's own: so a test takes nothing from another, nor from what runs beside it. (But
+//! for a system that counts what is asked for, Linux where `vm.overcommit_memory` is 2: there others are refused too, as long as a
+//! test runs.)
+//!
+//! A process that has started a thread gets memory from more than one heap, and what a hole leaves may stand in another one than the
+//! call asks: the tests start none. `rt try` has an allocator of its own, which doesn't run out so.
+#![tactic(auto)]
 
 use std::alloc::Global;
 
@@ -39,7 +45,7 @@ const LARGEST: usize = 1_032;
 const GRAIN: usize = 16;
 
 /// How many sizes of a hole are tried for a call, at most.
-const HOLES: usize = 3_500;
+const HOLES: u32 = 3_500;
 
 type Blocks = Vec<Vec<u8>>;
 
@@ -181,7 +187,7 @@ impl Scarcity {
     }
 
     /// How many holes are tried for a call, at most: none once something was wrong.
-    pub fn holes(&self) -> usize {
+    pub fn holes(&self) -> u32 {
         if self.seen.right { HOLES } else { 0 }
     }
 
@@ -195,7 +201,7 @@ impl Scarcity {
     }
 
     /// Takes what there is, and then leaves a hole of so many times 16 bytes.
-    pub fn leave(&mut self, number: usize) {
+    pub fn leave(&mut self, number: u32) {
         drop(self.plug.take());
         take_blocks(self.alloc, &mut self.fillers, FILLER, FILLERS);
         self.take_scraps();
@@ -208,7 +214,7 @@ impl Scarcity {
         }
         self.plug = Vec::with_capacity(
             self.alloc,
-            FILLER.saturating_sub(GRAIN.wrapping_mul(number)),
+            FILLER.saturating_sub(GRAIN.wrapping_mul(number as usize)),
         )
         .ok();
     }

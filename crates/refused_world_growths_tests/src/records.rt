@@ -1,13 +1,13 @@
 //! Recorded channels.
 
-ghost use Rattle.std.specs.Prelude.{◌≡◌, ◌×◌};
+ghost use Rattle.std.specs.Prelude.{◌≡◌};
 
-use crate::scarcity::{Attempt, Scarcity, Seen, Tried, made, refused};
 use channel_calls::error::{OpenError, Refused};
 use channel_world::call::{Call, Reply, WorldRefusal};
 use channel_world::name::HandleId;
 use channel_world::{Receipt, RecordError, RecordSeat, RecordedChannel};
 use event_listener::id::EventIds;
+use scarcity::{Attempt, Scarcity, Seen, Tried, made, refused};
 use std::alloc::Global;
 use std::marker::Brand;
 use std::sync::Wait;
@@ -35,7 +35,7 @@ fn open<L: Ledger>(
         scarcity.leave(number);
         match RecordedChannel::unbounded(alloc, ids, blank, PARTS) {
             Ok(channel) => {
-                scarcity.note(number as u32, true);
+                scarcity.note(number, true);
                 return Some(channel);
             }
             Err((OpenError::NoMemory, back)) => blank = back,

@@ -1,12 +1,12 @@
 //! Calls of a world, one at a time.
 
-use crate::scarcity::{Attempt, Scarcity, Seen, Tried, made, refused};
 use channel_calls::error::{OpenError, Refused};
 use channel_world::call::{Call, CallRun, Reply, Stopped, WorldRefusal};
 use channel_world::name::{HandleId, OpId};
 use channel_world::world::World;
 use event_listener::id::EventIds;
 use futures::task::Poll;
+use scarcity::{Attempt, Scarcity, Seen, Tried, made, refused};
 use std::alloc::Global;
 use std::collections::VecDeque;
 use std::test::Fail;

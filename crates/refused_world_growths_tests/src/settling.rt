@@ -1,10 +1,10 @@
 //! Settling a world.
 
-use crate::scarcity::{Attempt, Scarcity, Seen, Tried, made, refused};
 use crate::worlds::{Ask, Calls, Numbers, Said, numbers_of, says};
 use channel_world::name::{OpId, Waiter};
 use channel_world::settle::Settled;
 use event_listener::error::NoMemory;
+use scarcity::{Attempt, Scarcity, Seen, Tried, made, refused};
 use std::alloc::Global;
 use std::test::Fail;
 

@@ -1,7 +1,7 @@
 //! Scripts.
 
-use crate::scarcity::{Attempt, Scarcity, Seen, Tried, made, refused};
 use channel_world::script::{ScriptEnd, run_script};
+use scarcity::{Attempt, Scarcity, Seen, Tried, made, refused};
 use std::alloc::Global;
 use std::test::Fail;
 

@@ -1,10 +1,10 @@
 //! Calls of a world made step by step.
 
-use crate::scarcity::{Attempt, Scarcity, Seen, Tried, made, refused};
 use crate::worlds::{Ask, NO_ROOM, Numbers, Said, call, is_refusal, numbers_of, says};
 use channel_world::step::{PartyId, Run, Step};
 use channel_world::world::World;
 use event_listener::id::EventIds;
+use scarcity::{Attempt, Scarcity, Seen, Tried, made, refused};
 use std::alloc::Global;
 use std::collections::VecDeque;
 use std::test::Fail;
