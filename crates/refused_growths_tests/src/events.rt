@@ -80,9 +80,7 @@ fn listen_all<R: Wait + Copy>(rt: R, alloc: Global) -> Option<(Seen, [usize; 3])
 #[test]
 fn listening(rt: HostRuntime) -> Result<(), Fail> {
     let (seen, counts) = listen_all(rt, rt.alloc()).expect(&rt, "memory");
-    println!(rt; "{:?}", seen)?;
-    assert!(rt; seen.right);
-    assert_eq!(rt; seen.calls, 40);
+    assert!(rt; seen.right && seen.calls == 40 && seen.refusals >= 45, "{seen:?}");
     assert_eq!(rt; counts, [40, 10, 10]);
     Ok(())
 }
@@ -160,9 +158,7 @@ fn insert_all(alloc: Global) -> (Seen, [usize; 2]) {
 #[test]
 fn insertions(rt: HostRuntime) -> Result<(), Fail> {
     let (seen, counts) = insert_all(rt.alloc());
-    println!(rt; "{:?}", seen)?;
-    assert!(rt; seen.right);
-    assert!(rt; seen.calls >= 2);
+    assert!(rt; seen.right && seen.calls == 6 && seen.refusals >= 6, "{seen:?}");
     assert_eq!(rt; counts, [140, 5]);
     Ok(())
 }
@@ -259,9 +255,7 @@ fn notify_all<R: Wait + Copy>(rt: R, alloc: Global) -> Option<(Seen, [bool; 3])>
 #[test]
 fn notices_with_costly_tags(rt: HostRuntime) -> Result<(), Fail> {
     let (seen, tagged) = notify_all(rt, rt.alloc()).expect(&rt, "memory");
-    println!(rt; "{:?}", seen)?;
-    assert!(rt; seen.right);
-    assert_eq!(rt; seen.calls, 1);
+    assert!(rt; seen.right && seen.calls == 1 && seen.refusals >= 3, "{seen:?}");
     assert_eq!(rt; tagged, [true, true, true]);
     Ok(())
 }
@@ -396,9 +390,7 @@ fn record_all<R: Wait + Copy>(rt: R, alloc: Global) -> (Seen, [usize; 3]) {
 #[test]
 fn recorded_events(rt: HostRuntime) -> Result<(), Fail> {
     let (seen, counts) = record_all(rt, rt.alloc());
-    println!(rt; "{:?} {:?}", seen, counts)?;
-    assert!(rt; seen.right);
-    assert!(rt; seen.calls >= 3);
+    assert!(rt; seen.right && seen.calls == 27 && seen.refusals >= 47, "{seen:?}");
     assert_eq!(rt; counts, [20, 20, 120]);
     Ok(())
 }

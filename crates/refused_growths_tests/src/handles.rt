@@ -73,9 +73,7 @@ fn open_all<R: Wait + Copy>(rt: R, alloc: Global) -> (Seen, u64) {
 #[test]
 fn openings_of_channels(rt: HostRuntime) -> Result<(), Fail> {
     let (seen, next) = open_all(rt, rt.alloc());
-    println!(rt; "{:?}", seen)?;
-    assert!(rt; seen.right);
-    assert_eq!(rt; seen.calls, 3);
+    assert!(rt; seen.right && seen.calls == 3 && seen.refusals >= 17, "{seen:?}");
     assert_eq!(rt; next, 12);
     Ok(())
 }
@@ -129,9 +127,7 @@ fn send_all<R: Wait + Copy>(rt: R, alloc: Global) -> Option<(Seen, bool)> {
 #[test]
 fn sends_without_a_bound(rt: HostRuntime) -> Result<(), Fail> {
     let (seen, in_order) = send_all(rt, rt.alloc()).expect(&rt, "memory");
-    println!(rt; "{:?}", seen)?;
-    assert!(rt; seen.right && in_order);
-    assert_eq!(rt; seen.calls, 4);
+    assert!(rt; seen.right && in_order && seen.calls == 4 && seen.refusals >= 17, "{seen:?}");
     Ok(())
 }
 
@@ -188,9 +184,7 @@ fn receive_several<R: Wait + Copy>(rt: R, alloc: Global) -> Option<(Seen, bool)>
 #[test]
 fn receives_of_several(rt: HostRuntime) -> Result<(), Fail> {
     let (seen, right) = receive_several(rt, rt.alloc()).expect(&rt, "memory");
-    println!(rt; "{:?}", seen)?;
-    assert!(rt; seen.right && right);
-    assert_eq!(rt; seen.calls, 1);
+    assert!(rt; seen.right && right && seen.calls == 1 && seen.refusals >= 1, "{seen:?}");
     Ok(())
 }
 
@@ -299,10 +293,8 @@ fn receives_that_wait(rt: HostRuntime) -> Result<(), Fail> {
     let (one, two) = (MockTask::new(&rt)?, MockTask::new(&rt)?);
     let ends = opened(rt, rt.alloc(), 2).expect(&rt, "memory");
     let (seen, right) = wait_two(rt.alloc(), &ends, [&one, &two]);
-    println!(rt; "{:?}", seen)?;
     drop(ends);
-    assert!(rt; seen.right);
-    assert_eq!(rt; seen.calls, 2);
+    assert!(rt; seen.right && seen.calls == 2 && seen.refusals >= 2, "{seen:?}");
     assert_eq!(rt; right, [true, true, false, true, true, true]);
     Ok(())
 }
@@ -348,10 +340,8 @@ fn sends_that_wait(rt: HostRuntime) -> Result<(), Fail> {
     let (one, two) = (MockTask::new(&rt)?, MockTask::new(&rt)?);
     let ends = opened(rt, rt.alloc(), 1).expect(&rt, "memory");
     let (seen, right) = send_two(rt.alloc(), &ends, [&one, &two]);
-    println!(rt; "{:?}", seen)?;
     drop(ends);
-    assert!(rt; seen.right);
-    assert_eq!(rt; seen.calls, 2);
+    assert!(rt; seen.right && seen.calls == 2 && seen.refusals >= 2, "{seen:?}");
     assert_eq!(rt; right, [true, true, false, true, true]);
     Ok(())
 }
@@ -388,9 +378,7 @@ fn streams_and_closings_that_wait(rt: HostRuntime) -> Result<(), Fail> {
     let (sender, receiver) = opened(rt, rt.alloc(), 1).expect(&rt, "memory");
     let (seen, right) = stream_and_close(rt.alloc(), &sender, receiver, [&one, &two]);
     drop(sender);
-    println!(rt; "{:?}", seen)?;
-    assert!(rt; seen.right);
-    assert_eq!(rt; seen.calls, 2);
+    assert!(rt; seen.right && seen.calls == 2 && seen.refusals >= 2, "{seen:?}");
     assert_eq!(rt; right, [true, true, false, true, true]);
     Ok(())
 }

@@ -79,9 +79,7 @@ fn push_all(alloc: Global) -> (Seen, bool) {
 #[test]
 fn pushes_of_one_owner(rt: HostRuntime) -> Result<(), Fail> {
     let (seen, in_order) = push_all(rt.alloc());
-    println!(rt; "{:?}", seen)?;
-    assert!(rt; seen.right && in_order);
-    assert_eq!(rt; seen.calls, 4);
+    assert!(rt; seen.right && in_order && seen.calls == 4 && seen.refusals >= 5, "{seen:?}");
     Ok(())
 }
 
@@ -155,9 +153,7 @@ fn push_all_shared<R: Wait + Copy>(rt: R, alloc: Global) -> Option<(Seen, bool)>
 #[test]
 fn pushes_of_a_shared_queue(rt: HostRuntime) -> Result<(), Fail> {
     let (seen, in_order) = push_all_shared(rt, rt.alloc()).expect(&rt, "memory");
-    println!(rt; "{:?}", seen)?;
-    assert!(rt; seen.right && in_order);
-    assert_eq!(rt; seen.calls, 4);
+    assert!(rt; seen.right && in_order && seen.calls == 4 && seen.refusals >= 17, "{seen:?}");
     Ok(())
 }
 
@@ -239,8 +235,6 @@ fn open_all(alloc: Global) -> Seen {
 #[test]
 fn openings_of_queues(rt: HostRuntime) -> Result<(), Fail> {
     let seen = open_all(rt.alloc());
-    println!(rt; "{:?}", seen)?;
-    assert!(rt; seen.right);
-    assert_eq!(rt; seen.calls, 5);
+    assert!(rt; seen.right && seen.calls == 5 && seen.refusals >= 18, "{seen:?}");
     Ok(())
 }
