@@ -9,8 +9,9 @@ use event_listener::id::EventIds;
 use event_listener::into_notification::IntoNotification;
 use event_listener::key::Key;
 use event_listener::list::List;
-use event_listener::listener::{EventListener, Listener};
+use event_listener::listener::{EventListener, Listener, WaitError};
 use event_listener::recorded::{RecordedEvent, RegisterError};
+use event_listener::stack::StackSlot;
 use event_listener::wakes::Wakes;
 use scarcity::{Attempt, Scarcity, Seen, Tried, made, refused};
 use std::alloc::{AllocError, Global};
@@ -80,8 +81,108 @@ fn listen_all<R: Wait + Copy>(rt: R, alloc: Global) -> Option<(Seen, [usize; 3])
 #[test]
 fn listening(rt: HostRuntime) -> Result<(), Fail> {
     let (seen, counts) = listen_all(rt, rt.alloc()).expect(&rt, "memory");
-    assert!(rt; seen.right && seen.calls == 40 && seen.refusals >= 45, "{seen:?}");
+    assert!(rt;
+        seen.right && seen.calls == 40 && seen.refusals >= 45,
+        "{seen:?}"
+    );
     assert_eq!(rt; counts, [40, 10, 10]);
+    Ok(())
+}
+
+/// A told listener that waits. Where what it would sleep on is refused it comes back, told as before.
+#[derive(Drop)]
+struct Waits<R: Wait + Copy> {
+    rt: R,
+    event: Event<()>,
+    listener: Option<EventListener<(), R>>,
+}
+
+impl<R: Wait + Copy> Attempt for Waits<R> {
+    fn make(&mut self) -> Tried {
+        let Some(listener) = self.listener.take() else {
+            return Tried::Wrong;
+        };
+        match listener.wait() {
+            Ok(()) => made(self.event.total_listeners(&self.rt) == 0),
+            Err(WaitError::NoMemory(back)) => {
+                self.listener = Some(back);
+                refused(self.event.is_notified(&self.rt))
+            }
+            Err(_) => Tried::Wrong,
+        }
+    }
+}
+
+fn wait_once<R: Wait + Copy>(rt: R, alloc: Global) -> Option<Seen> {
+    let event = Event::new(alloc, EventIds::new().next().ok()?);
+    let listener = event.listen(&rt).ok()?;
+    event.notify_additional(&rt, 1);
+    let mut waits = Waits {
+        rt,
+        event,
+        listener: Some(listener),
+    };
+    let mut scarcity = Scarcity::new(alloc);
+    scarcity.refuse_each(&mut waits);
+    Some(scarcity.end())
+}
+
+/// A refused wait hands its listener back.
+#[test]
+fn a_told_listener_waits(rt: HostRuntime) -> Result<(), Fail> {
+    let seen = wait_once(rt, rt.alloc()).expect(&rt, "memory");
+    assert!(rt;
+        seen.right && seen.calls == 1 && seen.refusals >= 1,
+        "{seen:?}"
+    );
+    Ok(())
+}
+
+/// A slot of an event that is made and listens.
+#[derive(Drop)]
+struct Slots<R: Wait + Copy> {
+    rt: R,
+    alloc: Global,
+    event: Event<()>,
+}
+
+impl<R: Wait + Copy> Attempt for Slots<R> {
+    fn make(&mut self) -> Tried {
+        let Ok(mut slot) = StackSlot::new(self.rt, self.alloc, &self.event) else {
+            return refused(self.event.total_listeners(&self.rt) == 0);
+        };
+        match slot.listen() {
+            Ok(listener) => {
+                let total = self.event.total_listeners(&self.rt);
+                drop(listener);
+                made(total == 1)
+            }
+            Err(ListenError::NoMemory) => refused(self.event.total_listeners(&self.rt) == 0),
+            Err(_) => Tried::Wrong,
+        }
+    }
+}
+
+fn listen_in_a_slot<R: Wait + Copy>(rt: R, alloc: Global) -> Option<(Seen, usize)> {
+    let mut slots = Slots {
+        rt,
+        alloc,
+        event: Event::new(alloc, EventIds::new().next().ok()?),
+    };
+    let mut scarcity = Scarcity::new(alloc);
+    scarcity.refuse_each(&mut slots);
+    let seen = scarcity.end();
+    Some((seen, slots.event.total_listeners(&rt)))
+}
+
+/// A slot that is refused, or refused a listener, leaves nobody on the event.
+#[test]
+fn slots_that_listen(rt: HostRuntime) -> Result<(), Fail> {
+    let (seen, left) = listen_in_a_slot(rt, rt.alloc()).expect(&rt, "memory");
+    assert!(rt;
+        seen.right && left == 0 && seen.calls == 1 && seen.refusals >= 2,
+        "{seen:?}"
+    );
     Ok(())
 }
 
@@ -158,7 +259,10 @@ fn insert_all(alloc: Global) -> (Seen, [usize; 2]) {
 #[test]
 fn insertions(rt: HostRuntime) -> Result<(), Fail> {
     let (seen, counts) = insert_all(rt.alloc());
-    assert!(rt; seen.right && seen.calls == 6 && seen.refusals >= 6, "{seen:?}");
+    assert!(rt;
+        seen.right && seen.calls == 6 && seen.refusals >= 6,
+        "{seen:?}"
+    );
     assert_eq!(rt; counts, [140, 5]);
     Ok(())
 }
@@ -255,7 +359,10 @@ fn notify_all<R: Wait + Copy>(rt: R, alloc: Global) -> Option<(Seen, [bool; 3])>
 #[test]
 fn notices_with_costly_tags(rt: HostRuntime) -> Result<(), Fail> {
     let (seen, tagged) = notify_all(rt, rt.alloc()).expect(&rt, "memory");
-    assert!(rt; seen.right && seen.calls == 1 && seen.refusals >= 3, "{seen:?}");
+    assert!(rt;
+        seen.right && seen.calls == 1 && seen.refusals >= 3,
+        "{seen:?}"
+    );
     assert_eq!(rt; tagged, [true, true, true]);
     Ok(())
 }
@@ -390,7 +497,10 @@ fn record_all<R: Wait + Copy>(rt: R, alloc: Global) -> (Seen, [usize; 3]) {
 #[test]
 fn recorded_events(rt: HostRuntime) -> Result<(), Fail> {
     let (seen, counts) = record_all(rt, rt.alloc());
-    assert!(rt; seen.right && seen.calls == 27 && seen.refusals >= 47, "{seen:?}");
+    assert!(rt;
+        seen.right && seen.calls == 27 && seen.refusals >= 47,
+        "{seen:?}"
+    );
     assert_eq!(rt; counts, [20, 20, 120]);
     Ok(())
 }

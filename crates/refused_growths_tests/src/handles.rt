@@ -73,7 +73,10 @@ fn open_all<R: Wait + Copy>(rt: R, alloc: Global) -> (Seen, u64) {
 #[test]
 fn openings_of_channels(rt: HostRuntime) -> Result<(), Fail> {
     let (seen, next) = open_all(rt, rt.alloc());
-    assert!(rt; seen.right && seen.calls == 3 && seen.refusals >= 17, "{seen:?}");
+    assert!(rt;
+        seen.right && seen.calls == 3 && seen.refusals >= 17,
+        "{seen:?}"
+    );
     assert_eq!(rt; next, 12);
     Ok(())
 }
@@ -127,7 +130,10 @@ fn send_all<R: Wait + Copy>(rt: R, alloc: Global) -> Option<(Seen, bool)> {
 #[test]
 fn sends_without_a_bound(rt: HostRuntime) -> Result<(), Fail> {
     let (seen, in_order) = send_all(rt, rt.alloc()).expect(&rt, "memory");
-    assert!(rt; seen.right && in_order && seen.calls == 4 && seen.refusals >= 17, "{seen:?}");
+    assert!(rt;
+        seen.right && in_order && seen.calls == 4 && seen.refusals >= 17,
+        "{seen:?}"
+    );
     Ok(())
 }
 
@@ -184,7 +190,10 @@ fn receive_several<R: Wait + Copy>(rt: R, alloc: Global) -> Option<(Seen, bool)>
 #[test]
 fn receives_of_several(rt: HostRuntime) -> Result<(), Fail> {
     let (seen, right) = receive_several(rt, rt.alloc()).expect(&rt, "memory");
-    assert!(rt; seen.right && right && seen.calls == 1 && seen.refusals >= 1, "{seen:?}");
+    assert!(rt;
+        seen.right && right && seen.calls == 1 && seen.refusals >= 1,
+        "{seen:?}"
+    );
     Ok(())
 }
 
@@ -294,7 +303,10 @@ fn receives_that_wait(rt: HostRuntime) -> Result<(), Fail> {
     let ends = opened(rt, rt.alloc(), 2).expect(&rt, "memory");
     let (seen, right) = wait_two(rt.alloc(), &ends, [&one, &two]);
     drop(ends);
-    assert!(rt; seen.right && seen.calls == 2 && seen.refusals >= 2, "{seen:?}");
+    assert!(rt;
+        seen.right && seen.calls == 2 && seen.refusals >= 2,
+        "{seen:?}"
+    );
     assert_eq!(rt; right, [true, true, false, true, true, true]);
     Ok(())
 }
@@ -341,7 +353,10 @@ fn sends_that_wait(rt: HostRuntime) -> Result<(), Fail> {
     let ends = opened(rt, rt.alloc(), 1).expect(&rt, "memory");
     let (seen, right) = send_two(rt.alloc(), &ends, [&one, &two]);
     drop(ends);
-    assert!(rt; seen.right && seen.calls == 2 && seen.refusals >= 2, "{seen:?}");
+    assert!(rt;
+        seen.right && seen.calls == 2 && seen.refusals >= 2,
+        "{seen:?}"
+    );
     assert_eq!(rt; right, [true, true, false, true, true]);
     Ok(())
 }
@@ -378,7 +393,10 @@ fn streams_and_closings_that_wait(rt: HostRuntime) -> Result<(), Fail> {
     let (sender, receiver) = opened(rt, rt.alloc(), 1).expect(&rt, "memory");
     let (seen, right) = stream_and_close(rt.alloc(), &sender, receiver, [&one, &two]);
     drop(sender);
-    assert!(rt; seen.right && seen.calls == 2 && seen.refusals >= 2, "{seen:?}");
+    assert!(rt;
+        seen.right && seen.calls == 2 && seen.refusals >= 2,
+        "{seen:?}"
+    );
     assert_eq!(rt; right, [true, true, false, true, true]);
     Ok(())
 }

@@ -79,7 +79,10 @@ fn push_all(alloc: Global) -> (Seen, bool) {
 #[test]
 fn pushes_of_one_owner(rt: HostRuntime) -> Result<(), Fail> {
     let (seen, in_order) = push_all(rt.alloc());
-    assert!(rt; seen.right && in_order && seen.calls == 4 && seen.refusals >= 5, "{seen:?}");
+    assert!(rt;
+        seen.right && in_order && seen.calls == 4 && seen.refusals >= 5,
+        "{seen:?}"
+    );
     Ok(())
 }
 
@@ -153,7 +156,10 @@ fn push_all_shared<R: Wait + Copy>(rt: R, alloc: Global) -> Option<(Seen, bool)>
 #[test]
 fn pushes_of_a_shared_queue(rt: HostRuntime) -> Result<(), Fail> {
     let (seen, in_order) = push_all_shared(rt, rt.alloc()).expect(&rt, "memory");
-    assert!(rt; seen.right && in_order && seen.calls == 4 && seen.refusals >= 17, "{seen:?}");
+    assert!(rt;
+        seen.right && in_order && seen.calls == 4 && seen.refusals >= 17,
+        "{seen:?}"
+    );
     Ok(())
 }
 
@@ -235,6 +241,9 @@ fn open_all(alloc: Global) -> Seen {
 #[test]
 fn openings_of_queues(rt: HostRuntime) -> Result<(), Fail> {
     let seen = open_all(rt.alloc());
-    assert!(rt; seen.right && seen.calls == 5 && seen.refusals >= 18, "{seen:?}");
+    assert!(rt;
+        seen.right && seen.calls == 5 && seen.refusals >= 18,
+        "{seen:?}"
+    );
     Ok(())
 }

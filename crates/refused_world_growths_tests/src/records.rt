@@ -167,9 +167,11 @@ fn pass<L: Ledger, R: Wait>(rt: &R, alloc: Global, blank: Blank) -> Option<Passe
 fn recorded_channels(rt: HostRuntime) -> Result<(), Fail> {
     let passed = pass::<Brand, HostRuntime>(&rt, rt.alloc(), Blank::new(PARTS));
     let passed = passed.expect(&rt, "memory");
-    println!(rt; "{:?} {}", passed.seen, passed.receipts)?;
-    assert!(rt; passed.seen.right);
-    assert!(rt; passed.seen.calls >= 41);
+    let seen = passed.seen;
+    assert!(rt;
+        seen.right && seen.calls == 81 && seen.refusals >= 254,
+        "{seen:?}"
+    );
     assert_eq!(rt; passed.receipts, passed.entries);
     Ok(())
 }

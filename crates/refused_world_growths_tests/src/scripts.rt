@@ -67,9 +67,10 @@ fn run_until_done(alloc: Global) -> Option<(Seen, usize)> {
 #[test]
 fn scripts(rt: HostRuntime) -> Result<(), Fail> {
     let (seen, written) = run_until_done(rt.alloc()).expect(&rt, "memory");
-    println!(rt; "{:?} {:?}", seen, written)?;
-    assert!(rt; seen.right);
-    assert_eq!(rt; seen.calls, 1);
+    assert!(rt;
+        seen.right && seen.calls == 1 && seen.refusals >= 48,
+        "{seen:?}"
+    );
     assert!(rt; written > 0);
     Ok(())
 }

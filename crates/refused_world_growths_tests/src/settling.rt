@@ -77,9 +77,10 @@ fn settle_three(alloc: Global) -> Option<(Seen, Numbers)> {
 #[test]
 fn settlings(rt: HostRuntime) -> Result<(), Fail> {
     let (seen, numbers) = settle_three(rt.alloc()).expect(&rt, "memory");
-    println!(rt; "{:?}", seen)?;
-    assert!(rt; seen.right);
-    assert_eq!(rt; seen.calls, 8);
+    assert!(rt;
+        seen.right && seen.calls == 8 && seen.refusals >= 28,
+        "{seen:?}"
+    );
     assert_eq!(rt; numbers, AFTER);
     Ok(())
 }

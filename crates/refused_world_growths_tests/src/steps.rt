@@ -4,7 +4,7 @@ use crate::worlds::{Ask, NO_ROOM, Numbers, Said, call, is_refusal, numbers_of, s
 use channel_world::step::{PartyId, Run, Step};
 use channel_world::world::World;
 use event_listener::id::EventIds;
-use scarcity::{Attempt, Scarcity, Seen, Tried, made, refused};
+use scarcity::{Attempt, Scarcity, Seen, Tried, refused};
 use std::alloc::Global;
 use std::collections::VecDeque;
 use std::test::Fail;
@@ -15,8 +15,8 @@ const MOST: u32 = 200;
 /// The party that makes all calls.
 const PARTY: PartyId = PartyId(3);
 
-/// A world, the list of steps, with room for one, the next call and what it is to say. A call that was begun before a step of it
-/// was refused goes on where it stopped.
+/// A world, the list of steps, with room for one, the next call and what it is to say. An attempt is one step, at which none of the memory
+/// stands that the steps before it let go. A call that was answered with its refusal is begun again, and comes to the same step.
 #[derive(Drop)]
 struct Steps {
     world: World<u64>,
@@ -25,7 +25,11 @@ struct Steps {
     said: Said,
     /// What the world said before the call began.
     before: Numbers,
-    is_begun: bool,
+    /// How many steps of the call were made.
+    made: u32,
+    /// How many were made at most, whether or not the call was begun again.
+    most: u32,
+    is_done: bool,
 }
 
 /// What one step came to.
@@ -57,7 +61,7 @@ fn step_of(run: &Run<u64>) -> Stepped {
 
 impl Steps {
     fn next(&self) -> Step<u64> {
-        if self.is_begun {
+        if self.made > 0 {
             Step::Step { party: PARTY }
         } else {
             Step::Begin {
@@ -89,14 +93,22 @@ impl Steps {
         } else {
             left == 0
         };
-        self.is_begun = self.is_begun || came == Stepped::On;
         if put && right { came } else { Stepped::Wrong }
+    }
+
+    /// Notes a step that was made; whether the call came farther by it than ever.
+    fn goes_on(&mut self) -> bool {
+        self.made = self.made.wrapping_add(1);
+        let farther = self.made > self.most;
+        self.most = if farther { self.made } else { self.most };
+        farther
     }
 
     /// What a call came to that ended so. One that was refused changed nothing.
     fn ended(&mut self, said: Said) -> Tried {
-        self.is_begun = false;
-        if said == self.said {
+        self.made = 0;
+        self.is_done = said == self.said;
+        if self.is_done {
             return Tried::Made;
         }
         refused(is_refusal(self.ask, said) && numbers_of(&self.world) == self.before)
@@ -107,7 +119,9 @@ impl Attempt for Steps {
     fn make(&mut self) -> Tried {
         for _ in 0..MOST {
             match self.step() {
-                Stepped::On => {}
+                Stepped::On => if self.goes_on() {
+                    return Tried::Made;
+                },
                 Stepped::Ended(said) => return self.ended(said),
                 Stepped::Refused => return Tried::Refused,
                 Stepped::Wrong => return Tried::Wrong,
@@ -118,12 +132,18 @@ impl Attempt for Steps {
 }
 
 impl Steps {
-    /// Makes a call until it isn't refused.
+    /// Makes a call, each step of it until that isn't refused.
     fn make_call(&mut self, scarcity: &mut Scarcity, ask: Ask, said: Said) {
         self.before = numbers_of(&self.world);
         self.ask = ask;
         self.said = said;
-        scarcity.refuse_each(self);
+        self.most = 0;
+        self.is_done = false;
+        for _ in 0..MOST {
+            if !self.is_done {
+                scarcity.refuse_each(self);
+            }
+        }
     }
 }
 
@@ -166,7 +186,9 @@ fn step_all(alloc: Global) -> Option<(Seen, Numbers)> {
         ask: Ask::TryRecv,
         said: Said::Else,
         before: NOTHING,
-        is_begun: false,
+        made: 0,
+        most: 0,
+        is_done: true,
     };
     let mut scarcity = Scarcity::new(alloc);
     fill(&mut scarcity, &mut steps);
@@ -175,13 +197,14 @@ fn step_all(alloc: Global) -> Option<(Seen, Numbers)> {
     Some((seen, numbers_of(&steps.world)))
 }
 
-/// Each step takes room for what it says, so each call is refused at least once.
+/// Each step takes room for what it says, so each is refused at least once.
 #[test]
 fn steps_of_a_world(rt: HostRuntime) -> Result<(), Fail> {
     let (seen, numbers) = step_all(rt.alloc()).expect(&rt, "memory");
-    println!(rt; "{:?}", seen)?;
-    assert!(rt; seen.right);
-    assert_eq!(rt; seen.calls, 68);
+    assert!(rt;
+        seen.right && seen.calls >= 400 && seen.refusals >= 770,
+        "{seen:?}"
+    );
     assert_eq!(rt; numbers, NOTHING);
     Ok(())
 }

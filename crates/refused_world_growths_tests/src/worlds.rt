@@ -57,9 +57,10 @@ fn open_all(alloc: Global) -> (Seen, u64) {
 #[test]
 fn openings_of_worlds(rt: HostRuntime) -> Result<(), Fail> {
     let (seen, next) = open_all(rt.alloc());
-    println!(rt; "{:?}", seen)?;
-    assert!(rt; seen.right);
-    assert_eq!(rt; seen.calls, 2);
+    assert!(rt;
+        seen.right && seen.calls == 2 && seen.refusals >= 26,
+        "{seen:?}"
+    );
     assert_eq!(rt; next, 8);
     Ok(())
 }
@@ -316,9 +317,10 @@ fn call_all(alloc: Global) -> Option<(Seen, Numbers)> {
 #[test]
 fn calls_of_a_world(rt: HostRuntime) -> Result<(), Fail> {
     let (seen, numbers) = call_all(rt.alloc()).expect(&rt, "memory");
-    println!(rt; "{:?}", seen)?;
-    assert!(rt; seen.right);
-    assert_eq!(rt; seen.calls, 112);
+    assert!(rt;
+        seen.right && seen.calls == 112 && seen.refusals >= 311,
+        "{seen:?}"
+    );
     assert_eq!(rt;
         numbers,
         Numbers {

@@ -18,7 +18,7 @@ use std::alloc::Global;
 /// The largest block that is asked for: half of what a process may address.
 const GREATEST: usize = 1 << 46;
 
-/// How often a size is lowered by a quarter, from the largest to about 80 KB.
+/// How many sizes of a block are tried, each three quarters of the one before: the last has some 120 KB.
 const SIZES: usize = 71;
 
 /// Room for this many of these blocks. A system gives at most about its memory at once: for one of 2 GB this is enough.
