@@ -1,0 +1,506 @@
+//! Events, lists of listeners and their records.
+
+ghost use Rattle.std.specs.Prelude.{◌≡◌};
+
+use event_listener::calls::Registered;
+use event_listener::error::{ListenError, NoMemory, NotifyError};
+use event_listener::event::Event;
+use event_listener::id::EventIds;
+use event_listener::into_notification::IntoNotification;
+use event_listener::key::Key;
+use event_listener::list::List;
+use event_listener::listener::{EventListener, Listener, WaitError};
+use event_listener::recorded::{RecordedEvent, RegisterError};
+use event_listener::stack::StackSlot;
+use event_listener::wakes::Wakes;
+use scarcity::{Attempt, Scarcity, Seen, Tried, made, refused};
+use std::alloc::{AllocError, Global};
+use std::marker::Model;
+use std::sync::Wait;
+use std::test::Fail;
+
+/// How many listen.
+const COUNT: usize = 40;
+
+/// The next listener of an event.
+#[derive(Drop)]
+struct Listens<R: Wait + Copy> {
+    rt: R,
+    event: Event<()>,
+    listeners: Vec<EventListener<(), R>>,
+}
+
+impl<R: Wait + Copy> Listens<R> {
+    /// Whether nobody else listens, and nobody was told.
+    fn is_as_before(&self) -> bool {
+        self.event.total_listeners(&self.rt) == self.listeners.len()
+            && !self.event.is_notified(&self.rt)
+    }
+}
+
+impl<R: Wait + Copy> Attempt for Listens<R> {
+    fn make(&mut self) -> Tried {
+        match self.event.listen(&self.rt) {
+            Ok(listener) => {
+                let kept = self.listeners.push(listener).is_ok();
+                made(kept && self.is_as_before())
+            }
+            Err(ListenError::NoMemory) => refused(self.is_as_before()),
+            Err(_) => Tried::Wrong,
+        }
+    }
+}
+
+/// How many of these were told, each of which leaves.
+fn count_told<R: Wait + Copy>(listeners: Vec<EventListener<(), R>>) -> usize {
+    let mut told = 0usize;
+    for listener in listeners {
+        told = told.wrapping_add(usize::from(listener.discard()));
+    }
+    told
+}
+
+/// All listen; then how many a notice for ten told, by its answer and by the listeners.
+fn listen_all<R: Wait + Copy>(rt: R, alloc: Global) -> Option<(Seen, [usize; 3])> {
+    let mut listens = Listens {
+        rt,
+        event: Event::new(alloc, EventIds::new().next().ok()?),
+        listeners: Vec::with_capacity(alloc, COUNT).ok()?,
+    };
+    let mut scarcity = Scarcity::new(alloc);
+    for _ in 0..COUNT {
+        scarcity.refuse_each(&mut listens);
+    }
+    let seen = scarcity.end();
+    let listed = listens.event.total_listeners(&rt);
+    let told = listens.event.notify(&rt, 10u8).unwrap_or(0);
+    Some((seen, [listed, told, count_told(listens.listeners)]))
+}
+
+/// Each listener takes a cell of its own, so each is refused at least once.
+#[test]
+fn listening(rt: HostRuntime) -> Result<(), Fail> {
+    let (seen, counts) = listen_all(rt, rt.alloc()).expect(&rt, "memory");
+    assert!(rt;
+        seen.right && seen.calls == 40 && seen.refusals >= 45,
+        "{seen:?}"
+    );
+    assert_eq!(rt; counts, [40, 10, 10]);
+    Ok(())
+}
+
+/// A told listener that waits. Where what it would sleep on is refused it comes back, told as before.
+#[derive(Drop)]
+struct Waits<R: Wait + Copy> {
+    rt: R,
+    event: Event<()>,
+    listener: Option<EventListener<(), R>>,
+}
+
+impl<R: Wait + Copy> Attempt for Waits<R> {
+    fn make(&mut self) -> Tried {
+        let Some(listener) = self.listener.take() else {
+            return Tried::Wrong;
+        };
+        match listener.wait() {
+            Ok(()) => made(self.event.total_listeners(&self.rt) == 0),
+            Err(WaitError::NoMemory(back)) => {
+                self.listener = Some(back);
+                refused(self.event.is_notified(&self.rt))
+            }
+            Err(_) => Tried::Wrong,
+        }
+    }
+}
+
+fn wait_once<R: Wait + Copy>(rt: R, alloc: Global) -> Option<Seen> {
+    let event = Event::new(alloc, EventIds::new().next().ok()?);
+    let listener = event.listen(&rt).ok()?;
+    event.notify_additional(&rt, 1);
+    let mut waits = Waits {
+        rt,
+        event,
+        listener: Some(listener),
+    };
+    let mut scarcity = Scarcity::new(alloc);
+    scarcity.refuse_each(&mut waits);
+    Some(scarcity.end())
+}
+
+/// A refused wait hands its listener back.
+#[test]
+fn a_told_listener_waits(rt: HostRuntime) -> Result<(), Fail> {
+    let seen = wait_once(rt, rt.alloc()).expect(&rt, "memory");
+    assert!(rt;
+        seen.right && seen.calls == 1 && seen.refusals >= 1,
+        "{seen:?}"
+    );
+    Ok(())
+}
+
+/// A slot of an event that is made and listens.
+#[derive(Drop)]
+struct Slots<R: Wait + Copy> {
+    rt: R,
+    alloc: Global,
+    event: Event<()>,
+}
+
+impl<R: Wait + Copy> Attempt for Slots<R> {
+    fn make(&mut self) -> Tried {
+        let Ok(mut slot) = StackSlot::new(self.rt, self.alloc, &self.event) else {
+            return refused(self.event.total_listeners(&self.rt) == 0);
+        };
+        match slot.listen() {
+            Ok(listener) => {
+                let total = self.event.total_listeners(&self.rt);
+                drop(listener);
+                made(total == 1)
+            }
+            Err(ListenError::NoMemory) => refused(self.event.total_listeners(&self.rt) == 0),
+            Err(_) => Tried::Wrong,
+        }
+    }
+}
+
+fn listen_in_a_slot<R: Wait + Copy>(rt: R, alloc: Global) -> Option<(Seen, usize)> {
+    let mut slots = Slots {
+        rt,
+        alloc,
+        event: Event::new(alloc, EventIds::new().next().ok()?),
+    };
+    let mut scarcity = Scarcity::new(alloc);
+    scarcity.refuse_each(&mut slots);
+    let seen = scarcity.end();
+    Some((seen, slots.event.total_listeners(&rt)))
+}
+
+/// A slot that is refused, or refused a listener, leaves nobody on the event.
+#[test]
+fn slots_that_listen(rt: HostRuntime) -> Result<(), Fail> {
+    let (seen, left) = listen_in_a_slot(rt, rt.alloc()).expect(&rt, "memory");
+    assert!(rt;
+        seen.right && left == 0 && seen.calls == 1 && seen.refusals >= 2,
+        "{seen:?}"
+    );
+    Ok(())
+}
+
+/// A sink for tasks that nobody reads.
+#[derive(Drop)]
+struct Nowhere;
+
+impl Wakes<u32> for Nowhere {
+    ghost wakes = { λ s t u. Unit {0} };
+
+    fn wake(&mut self, _task: u32) {}
+}
+
+/// The next listener of a list, with its task.
+#[derive(Drop)]
+struct Inserts {
+    list: List<(), u32>,
+    count: usize,
+}
+
+impl Attempt for Inserts {
+    fn make(&mut self) -> Tried {
+        match self.list.insert() {
+            Ok(key) => {
+                self.count = self.count.wrapping_add(1);
+                let waits = matches!(self.list.register(key, 7), Ok(Registered::Waiting));
+                made(waits && self.list.total() == self.count)
+            }
+            Err(ListenError::NoMemory) => refused(self.list.total() == self.count),
+            Err(_) => Tried::Wrong,
+        }
+    }
+}
+
+/// Room for a hundred more.
+#[derive(Drop)]
+struct Reserves {
+    inserts: Inserts,
+}
+
+impl Attempt for Reserves {
+    fn make(&mut self) -> Tried {
+        let is_made = self.inserts.list.reserve(100) == Ok(());
+        let right = self.inserts.list.total() == self.inserts.count;
+        if is_made { made(right) } else { refused(right) }
+    }
+}
+
+/// So many are inserted, room for a hundred more is made, and a hundred are inserted with no memory at hand. Then how many there are,
+/// and how many a notice for five told.
+fn insert_all(alloc: Global) -> (Seen, [usize; 2]) {
+    let mut inserts = Inserts {
+        list: List::new(alloc),
+        count: 0,
+    };
+    let mut scarcity = Scarcity::new(alloc);
+    for _ in 0..COUNT {
+        scarcity.refuse_each(&mut inserts);
+    }
+    let mut reserves = Reserves { inserts };
+    scarcity.refuse_each(&mut reserves);
+    let Reserves { mut inserts } = reserves;
+    for _ in 0..100 {
+        scarcity.refuse_none(&mut inserts);
+    }
+    let seen = scarcity.end();
+    let told = inserts
+        .list
+        .notify(5usize.into_notification(), &mut Nowhere);
+    (seen, [inserts.list.total(), told.unwrap_or(0)])
+}
+
+/// A list grows by doubling: some of the insertions are refused, and the making of room is.
+#[test]
+fn insertions(rt: HostRuntime) -> Result<(), Fail> {
+    let (seen, counts) = insert_all(rt.alloc());
+    assert!(rt;
+        seen.right && seen.calls == 6 && seen.refusals >= 6,
+        "{seen:?}"
+    );
+    assert_eq!(rt; counts, [140, 5]);
+    Ok(())
+}
+
+/// A tag whose copies take memory, and keep it.
+#[derive(Debug, Drop)]
+struct Costly {
+    alloc: Global,
+    number: Box<u32>,
+}
+
+impl Model for Costly {
+    ghost use Rattle.std.specs.Prelude.{ℕ};
+
+    ghost Value = { ℕ };
+
+    ghost view = { λ tag. tag.number.value };
+}
+
+impl Clone for Costly {
+    ghost is_clone = { λ x y. y ≡ x };
+
+    fn clone(&self) -> Result<Costly, AllocError> {
+        Ok(Costly {
+            alloc: self.alloc,
+            number: Box::new(self.alloc, *self.number)?,
+        })
+    }
+}
+
+/// A notice for three, whose tag is cloned for each but the last.
+#[derive(Drop)]
+struct Notices<R: Wait + Copy> {
+    rt: R,
+    event: Event<Costly>,
+    /// The tags, one for each attempt.
+    tags: Vec<Costly>,
+    told: usize,
+}
+
+impl<R: Wait + Copy> Attempt for Notices<R> {
+    fn make(&mut self) -> Tried {
+        let Some(tag) = self.tags.pop() else {
+            return Tried::Wrong;
+        };
+        match self.event.notify(&self.rt, 3u8.tag(tag)) {
+            Ok(told) => made(self.told.wrapping_add(told) == 3),
+            Err(NotifyError { told }) => {
+                self.told = self.told.wrapping_add(told);
+                refused(self.told < 3)
+            }
+        }
+    }
+}
+
+/// Whether a listener was told with this tag.
+fn has_tag<R: Wait + Copy>(listener: EventListener<Costly, R>) -> bool {
+    match listener.wait() {
+        Ok(tag) => *tag.number == 7,
+        Err(_) => false,
+    }
+}
+
+fn make_tags(alloc: Global) -> Option<Vec<Costly>> {
+    let mut tags = Vec::with_capacity(alloc, 100).ok()?;
+    for _ in 0..100 {
+        tags.push(Costly {
+            alloc,
+            number: Box::new(alloc, 7u32).ok()?,
+        })
+        .ok()?;
+    }
+    Some(tags)
+}
+
+/// Three listen, and are told. Then whether each has the tag.
+fn notify_all<R: Wait + Copy>(rt: R, alloc: Global) -> Option<(Seen, [bool; 3])> {
+    let mut notices = Notices {
+        rt,
+        event: Event::with_tag(alloc, EventIds::new().next().ok()?),
+        tags: make_tags(alloc)?,
+        told: 0,
+    };
+    let first = notices.event.listen(&rt).ok()?;
+    let second = notices.event.listen(&rt).ok()?;
+    let third = notices.event.listen(&rt).ok()?;
+    let mut scarcity = Scarcity::new(alloc);
+    scarcity.refuse_each(&mut notices);
+    let seen = scarcity.end();
+    Some((seen, [has_tag(first), has_tag(second), has_tag(third)]))
+}
+
+/// Who was told before a tag was refused stays told, and the next notice tells the others.
+#[test]
+fn notices_with_costly_tags(rt: HostRuntime) -> Result<(), Fail> {
+    let (seen, tagged) = notify_all(rt, rt.alloc()).expect(&rt, "memory");
+    assert!(rt;
+        seen.right && seen.calls == 1 && seen.refusals >= 3,
+        "{seen:?}"
+    );
+    assert_eq!(rt; tagged, [true, true, true]);
+    Ok(())
+}
+
+/// What is done to a recorded event.
+#[derive(Clone, Copy, PartialEq, Eq)]
+enum Deed {
+    Reserve,
+    Insert,
+    Register,
+    Notify,
+    Remove,
+}
+
+/// A recorded event, and what was done to it.
+#[derive(Drop)]
+struct Recorded<R: Wait + Copy> {
+    rt: R,
+    event: RecordedEvent<u32, u32>,
+    deed: Deed,
+    /// The last listener.
+    key: Option<Key>,
+    total: usize,
+    told: usize,
+}
+
+impl<R: Wait + Copy> Recorded<R> {
+    fn is_as_before(&self) -> bool {
+        self.event.total(&self.rt) == self.total && self.event.told(&self.rt) == self.told
+    }
+
+    fn reserve(&self) -> Tried {
+        match self.event.reserve(&self.rt, 8) {
+            Ok(()) => made(self.is_as_before()),
+            Err(NoMemory) => refused(self.is_as_before()),
+        }
+    }
+
+    fn insert(&mut self) -> Tried {
+        match self.event.insert(&self.rt) {
+            Ok(key) => {
+                self.key = Some(key);
+                self.total = self.total.wrapping_add(1);
+                made(self.is_as_before())
+            }
+            Err(ListenError::NoMemory) => refused(self.is_as_before()),
+            Err(_) => Tried::Wrong,
+        }
+    }
+
+    fn register(&self, key: Key) -> Tried {
+        match self.event.register(&self.rt, key, 9) {
+            Ok(Registered::Waiting) => made(self.is_as_before()),
+            Err(RegisterError::NoMemory) => refused(self.is_as_before()),
+            _ => Tried::Wrong,
+        }
+    }
+
+    fn notify(&mut self) -> Tried {
+        match self
+            .event
+            .notify(&self.rt, 1u8.tag(5u32).additional(), &mut Nowhere)
+        {
+            Ok(told) => {
+                self.told = self.told.wrapping_add(told);
+                made(told == 1 && self.is_as_before())
+            }
+            Err(NotifyError { told }) => refused(told == 0 && self.is_as_before()),
+        }
+    }
+
+    /// Takes the last listener off, which was not told if this is made before it is.
+    fn remove(&mut self, key: Key) -> Tried {
+        match self.event.remove(&self.rt, key, true, &mut Nowhere) {
+            Ok(was_told) => {
+                self.total = self.total.wrapping_sub(1);
+                self.told = self.told.wrapping_sub(usize::from(was_told));
+                made(self.is_as_before())
+            }
+            Err(_) => Tried::Wrong,
+        }
+    }
+}
+
+impl<R: Wait + Copy> Attempt for Recorded<R> {
+    fn make(&mut self) -> Tried {
+        match (self.deed, self.key) {
+            (Deed::Reserve, _) => self.reserve(),
+            (Deed::Insert, _) => self.insert(),
+            (Deed::Notify, _) => self.notify(),
+            (Deed::Register, Some(key)) => self.register(key),
+            (Deed::Remove, Some(key)) => self.remove(key),
+            _ => Tried::Wrong,
+        }
+    }
+}
+
+/// How often two listeners come, the first is told and the last leaves.
+const ROUNDS: usize = 20;
+
+fn record_all<R: Wait + Copy>(rt: R, alloc: Global) -> (Seen, [usize; 3]) {
+    let mut recorded = Recorded {
+        rt,
+        event: RecordedEvent::new(alloc),
+        deed: Deed::Reserve,
+        key: None,
+        total: 0,
+        told: 0,
+    };
+    let mut scarcity = Scarcity::new(alloc);
+    scarcity.refuse_each(&mut recorded);
+    for _ in 0..ROUNDS {
+        for deed in [
+            Deed::Insert,
+            Deed::Register,
+            Deed::Insert,
+            Deed::Register,
+            Deed::Notify,
+        ] {
+            recorded.deed = deed;
+            scarcity.refuse_each(&mut recorded);
+        }
+        recorded.deed = Deed::Remove;
+        scarcity.refuse_none(&mut recorded);
+    }
+    let seen = scarcity.end();
+    let (list, calls) = recorded.event.into_parts();
+    (seen, [list.total(), list.told(), calls.len()])
+}
+
+/// After a refusal the record has as many entries as calls changed something, and the end of a listener needs no memory.
+#[test]
+fn recorded_events(rt: HostRuntime) -> Result<(), Fail> {
+    let (seen, counts) = record_all(rt, rt.alloc());
+    assert!(rt;
+        seen.right && seen.calls == 27 && seen.refusals >= 47,
+        "{seen:?}"
+    );
+    assert_eq!(rt; counts, [20, 20, 120]);
+    Ok(())
+}

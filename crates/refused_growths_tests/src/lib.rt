@@ -1,0 +1,11 @@
+//! What stands where a growth is refused, of queues, events and a channel's handles. Each test takes all memory that the process can
+//! get, and makes each call with none at hand, then with a little, then with a little more, until it is refused no more
+//! (`scarcity`). Under `rt try`, whose allocator doesn't run out so, these tests fail at once.
+#![tactic(auto)]
+
+#[cfg(test)]
+mod events;
+#[cfg(test)]
+mod handles;
+#[cfg(test)]
+mod queues;

@@ -1,0 +1,177 @@
+//! Recorded channels.
+
+ghost use Rattle.std.specs.Prelude.{◌≡◌};
+
+use channel_calls::error::{OpenError, Refused};
+use channel_world::call::{Call, Reply, WorldRefusal};
+use channel_world::name::HandleId;
+use channel_world::{Receipt, RecordError, RecordSeat, RecordedChannel};
+use event_listener::id::EventIds;
+use scarcity::{Attempt, Scarcity, Seen, Tried, made, refused};
+use std::alloc::Global;
+use std::marker::Brand;
+use std::sync::Wait;
+use std::sync::ledger::{Blank, Ledger};
+use std::test::Fail;
+
+/// A seat, and the channel's own part of the ledger.
+const PARTS: u64 = 2;
+
+/// How many messages are sent, and then received: more than a first room of the record has.
+const COUNT: u64 = 40;
+
+/// Opens a channel with more and more memory at hand. Where that is refused the blank comes back.
+fn open<L: Ledger>(
+    scarcity: &mut Scarcity,
+    alloc: Global,
+    ids: &mut EventIds,
+    first: Blank,
+) -> Option<RecordedChannel<u64, L>>
+    requires name { first.name ≡ L.name }
+    requires parts { (first.parts ≡ L.parts) × (first.parts ≡ 2) }
+{
+    let mut blank = first;
+    for number in 0..scarcity.holes() {
+        scarcity.leave(number);
+        match RecordedChannel::unbounded(alloc, ids, blank, PARTS) {
+            Ok(channel) => {
+                scarcity.note(number, true);
+                return Some(channel);
+            }
+            Err((OpenError::NoMemory, back)) => blank = back,
+            Err(_) => return None,
+        }
+    }
+    None
+}
+
+/// The next call on a recorded channel: a send of each message, then a receive of each.
+#[derive(Drop)]
+struct RecordedCalls<'a, L: Ledger, R: Wait> {
+    rt: &'a R,
+    channel: &'a RecordedChannel<u64, L>,
+    seat: RecordSeat<L>,
+    message: u64,
+    is_sent: bool,
+    /// How many receipts there were.
+    receipts: usize,
+}
+
+impl<L: Ledger, R: Wait> RecordedCalls<'_, L, R> {
+    fn asked(&self) -> Call<u64> {
+        if self.is_sent {
+            Call::TryRecv {
+                receiver: HandleId(1),
+            }
+        } else {
+            Call::TrySend {
+                sender: HandleId(0),
+                msg: self.message,
+            }
+        }
+    }
+
+    /// Whether a refused call is the one that was asked.
+    fn is_refused(&self, error: &RecordError<u64>) -> bool {
+        match error {
+            RecordError::NoRoom { call } => *call == self.asked(),
+            RecordError::World { why, call } => {
+                *why == WorldRefusal::NoMemory && *call == self.asked()
+            }
+        }
+    }
+
+    /// What a receipt says. It has the place that is next, whether or not its call was refused memory.
+    fn judge(&self, receipt: &Receipt<u64>) -> Tried {
+        let stands = receipt.place == self.receipts && receipt.call == self.asked();
+        match &receipt.reply {
+            Reply::TrySend(Ok(())) => made(stands && !self.is_sent),
+            Reply::TrySend(Err(Refused::NoMemory(back))) => refused(
+                stands && *back == self.message,
+            ),
+            Reply::TryRecv(Ok(got)) => made(stands && *got == self.message),
+            _ => Tried::Wrong,
+        }
+    }
+}
+
+impl<L: Ledger, R: Wait> Attempt for RecordedCalls<'_, L, R> {
+    fn make(&mut self) -> Tried {
+        let asked = self.asked();
+        match self.channel.call(self.rt, &mut self.seat, asked) {
+            Ok(receipt) => {
+                let tried = self.judge(&receipt);
+                self.receipts = self.receipts.wrapping_add(1);
+                tried
+            }
+            Err(error) => refused(self.is_refused(&error)),
+        }
+    }
+}
+
+/// Sends all messages, and receives them.
+fn call_all<L: Ledger, R: Wait>(scarcity: &mut Scarcity, calls: &mut RecordedCalls<'_, L, R>) {
+    for is_sent in [false, true] {
+        calls.is_sent = is_sent;
+        for message in 0..COUNT {
+            calls.message = message;
+            scarcity.refuse_each(calls);
+        }
+    }
+}
+
+/// A list with room for one seat.
+fn room<L: Ledger>(alloc: Global) -> Option<Vec<RecordSeat<L>>> {
+    Vec::with_capacity(alloc, 1).ok()
+}
+
+/// What came of a channel's opening and its calls: how many receipts there were, and how many entries its record has.
+#[derive(Clone, Copy)]
+struct Passed {
+    seen: Seen,
+    receipts: usize,
+    entries: usize,
+}
+
+fn pass<L: Ledger, R: Wait>(rt: &R, alloc: Global, blank: Blank) -> Option<Passed>
+    requires name { blank.name ≡ L.name }
+    requires parts { (blank.parts ≡ L.parts) × (blank.parts ≡ 2) }
+{
+    let mut ids = EventIds::new();
+    let mut scarcity = Scarcity::new(alloc);
+    let channel = open::<L>(&mut scarcity, alloc, &mut ids, blank)?;
+    let mut calls = RecordedCalls {
+        rt,
+        channel: &channel,
+        seat: channel.seat(rt).ok()?,
+        message: 0,
+        is_sent: false,
+        receipts: 0,
+    };
+    call_all(&mut scarcity, &mut calls);
+    let seen = scarcity.end();
+    let RecordedCalls { seat, receipts, .. } = calls;
+    let mut seats = room(alloc)?;
+    seats.push(seat).ok()?;
+    let record = channel.finish(seats).ok()?;
+    Some(Passed {
+        seen,
+        receipts,
+        entries: record.len(),
+    })
+}
+
+/// A refused opening hands the blank back. Each call takes room for its receipt, so each is refused at least once, and the record has
+/// an entry for each receipt.
+#[test]
+fn recorded_channels(rt: HostRuntime) -> Result<(), Fail> {
+    let passed = pass::<Brand, HostRuntime>(&rt, rt.alloc(), Blank::new(PARTS));
+    let passed = passed.expect(&rt, "memory");
+    let seen = passed.seen;
+    assert!(rt;
+        seen.right && seen.calls == 81 && seen.refusals >= 254,
+        "{seen:?}"
+    );
+    assert_eq!(rt; passed.receipts, passed.entries);
+    Ok(())
+}

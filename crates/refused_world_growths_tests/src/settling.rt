@@ -1,0 +1,86 @@
+//! Settling a world.
+
+use crate::worlds::{Ask, Calls, Numbers, Said, numbers_of, says};
+use channel_world::name::{OpId, Waiter};
+use channel_world::settle::Settled;
+use event_listener::error::NoMemory;
+use scarcity::{Attempt, Scarcity, Seen, Tried, made, refused};
+use std::alloc::Global;
+use std::test::Fail;
+
+/// A settling of a world in which one of three receives was woken by a message.
+#[derive(Drop)]
+struct Settles {
+    calls: Calls,
+}
+
+/// One message, and three receives, of which one was woken.
+const BEFORE: Numbers = Numbers {
+    messages: 1,
+    under_way: 0,
+    pending: 3,
+    woken: 1,
+};
+
+/// The one that was woken has the message, and the others wait.
+const AFTER: Numbers = Numbers {
+    messages: 0,
+    under_way: 0,
+    pending: 2,
+    woken: 0,
+};
+
+/// Whether these are the two polls: the first gets the message, and the next, to which it hands its notice, waits on.
+fn are_two(polls: &[Settled<u64>]) -> bool {
+    let [first, second] = polls else {
+        return false;
+    };
+    let names = [first.name, second.name];
+    let said = [says(&first.reply), says(&second.reply)];
+    names == [Waiter::Op(OpId(1)), Waiter::Op(OpId(2))] && said == [Said::Got(9), Said::Pending]
+}
+
+impl Attempt for Settles {
+    fn make(&mut self) -> Tried {
+        if !self.calls.world.is_quiet() {
+            return Tried::Wrong;
+        }
+        match self.calls.world.settle() {
+            Ok(polls) => {
+                let right = are_two(polls.as_slice());
+                drop(polls);
+                made(right && numbers_of(&self.calls.world) == AFTER)
+            }
+            Err(NoMemory) => refused(numbers_of(&self.calls.world) == BEFORE),
+        }
+    }
+}
+
+/// Three receives wait, a message wakes the first, and the world is settled.
+fn settle_three(alloc: Global) -> Option<(Seen, Numbers)> {
+    let mut calls = Calls::unbounded(alloc)?;
+    let mut scarcity = Scarcity::new(alloc);
+    for number in 1..4u32 {
+        calls.make_call(&mut scarcity, Ask::Recv(number), Said::Made);
+    }
+    for number in 1..4u32 {
+        calls.make_call(&mut scarcity, Ask::Poll(number), Said::Pending);
+    }
+    calls.make_call(&mut scarcity, Ask::TrySend(9), Said::Sent);
+    let mut settles = Settles { calls };
+    scarcity.refuse_each(&mut settles);
+    let seen = scarcity.end();
+    Some((seen, numbers_of(&settles.calls.world)))
+}
+
+/// A settling that is refused changes nothing, and polls the same when it is made again.
+#[test]
+fn settlings(rt: HostRuntime) -> Result<(), Fail> {
+    let (seen, numbers) = settle_three(rt.alloc()).expect(&rt, "memory");
+    assert!(rt;
+        seen.right && seen.calls == 8 && seen.refusals >= 28,
+        "{seen:?}"
+    );
+    assert_eq!(rt; numbers, AFTER);
+    Ok(())
+}

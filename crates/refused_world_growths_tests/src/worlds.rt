@@ -1,0 +1,334 @@
+//! Calls of a world, one at a time.
+
+use channel_calls::error::{OpenError, Refused};
+use channel_world::call::{Call, CallRun, Reply, Stopped, WorldRefusal};
+use channel_world::name::{HandleId, OpId};
+use channel_world::world::World;
+use event_listener::id::EventIds;
+use futures::task::Poll;
+use scarcity::{Attempt, Scarcity, Seen, Tried, made, refused};
+use std::alloc::Global;
+use std::collections::VecDeque;
+use std::test::Fail;
+
+/// The opening of a world, with a bound or without.
+#[derive(Drop)]
+struct Openings {
+    alloc: Global,
+    ids: EventIds,
+    is_bounded: bool,
+}
+
+impl Attempt for Openings {
+    fn make(&mut self) -> Tried {
+        let world: Result<World<u64>, OpenError> = if self.is_bounded {
+            World::bounded(self.alloc, 100, &mut self.ids)
+        } else {
+            World::unbounded(self.alloc, &mut self.ids)
+        };
+        match world {
+            Ok(world) => made(world.is_quiet() && world.messages() == 0),
+            Err(OpenError::NoMemory) => Tried::Refused,
+            Err(_) => Tried::Wrong,
+        }
+    }
+}
+
+/// Opens two worlds; then the number of the next identity.
+fn open_all(alloc: Global) -> (Seen, u64) {
+    let mut openings = Openings {
+        alloc,
+        ids: EventIds::new(),
+        is_bounded: true,
+    };
+    let mut scarcity = Scarcity::new(alloc);
+    scarcity.refuse_each(&mut openings);
+    openings.is_bounded = false;
+    scarcity.refuse_each(&mut openings);
+    let seen = scarcity.end();
+    let next = match openings.ids.next() {
+        Ok(id) => id.number(),
+        Err(_) => 0,
+    };
+    (seen, next)
+}
+
+/// An opening that is refused takes no identities: each of the two takes four.
+#[test]
+fn openings_of_worlds(rt: HostRuntime) -> Result<(), Fail> {
+    let (seen, next) = open_all(rt.alloc());
+    assert!(rt;
+        seen.right && seen.calls == 2 && seen.refusals >= 26,
+        "{seen:?}"
+    );
+    assert_eq!(rt; next, 8);
+    Ok(())
+}
+
+/// The first sender.
+pub const S: HandleId = HandleId(0);
+
+/// The first receiver.
+pub const R: HandleId = HandleId(1);
+
+/// A call that can be made again.
+#[derive(Clone, Copy, PartialEq, Eq, Debug)]
+pub enum Ask {
+    Recv(u32),
+    Send(u32, u64),
+    Poll(u32),
+    GiveUp(u32),
+    TrySend(u64),
+    TryRecv,
+    RecvMany(usize),
+    Clone(u32),
+    Downgrade(u32),
+}
+
+/// The call itself.
+pub fn call(ask: Ask) -> Call<u64> {
+    match ask {
+        Ask::Recv(number) => Call::NewRecv {
+            op: OpId(number),
+            receiver: R,
+        },
+        Ask::Send(number, msg) => Call::NewSend {
+            op: OpId(number),
+            sender: S,
+            msg,
+        },
+        Ask::Poll(number) => Call::Poll { op: OpId(number) },
+        Ask::GiveUp(number) => Call::GiveUp { op: OpId(number) },
+        Ask::TrySend(msg) => Call::TrySend { sender: S, msg },
+        Ask::TryRecv => Call::TryRecv { receiver: R },
+        Ask::RecvMany(limit) => Call::RecvMany { receiver: R, limit },
+        Ask::Clone(new) => Call::TryClone {
+            handle: S,
+            new: HandleId(new),
+        },
+        Ask::Downgrade(new) => Call::Downgrade {
+            handle: R,
+            new: HandleId(new),
+        },
+    }
+}
+
+/// What a reply says, in short.
+#[derive(Clone, Copy, PartialEq, Eq, Debug)]
+pub enum Said {
+    /// A handle or an operation was made.
+    Made,
+    /// The message was accepted.
+    Sent,
+    /// This message was received.
+    Got(u64),
+    /// So many messages were received, the numbers from this one on in order.
+    GotFrom(u64, usize),
+    /// The poll is pending.
+    Pending,
+    /// The operation was given up, and handed this back.
+    GivenUp(Option<u64>),
+    /// Memory was refused.
+    NoMemory,
+    /// Memory was refused, and this message comes back.
+    Back(u64),
+    /// Something else.
+    Else,
+}
+
+/// Several messages that were received.
+fn several_say(messages: &[u64]) -> Said {
+    let Some(first) = messages.first() else {
+        return Said::Else;
+    };
+    let mut in_order = true;
+    for (place, message) in messages.iter().enumerate() {
+        in_order = in_order & (*message == first.wrapping_add(place as u64));
+    }
+    if in_order {
+        Said::GotFrom(*first, messages.len())
+    } else {
+        Said::Else
+    }
+}
+
+fn poll_says(reply: &Reply<u64>) -> Said {
+    match reply {
+        Reply::SendPoll(Poll::Ready(Ok(()))) => Said::Sent,
+        Reply::SendPoll(Poll::Ready(Err(Refused::NoMemory(())))) => Said::NoMemory,
+        Reply::SendPoll(Poll::Pending) => Said::Pending,
+        Reply::RecvPoll(Poll::Ready(Ok(msg))) => Said::Got(*msg),
+        Reply::RecvPoll(Poll::Ready(Err(Refused::NoMemory(())))) => Said::NoMemory,
+        Reply::RecvPoll(Poll::Pending) => Said::Pending,
+        _ => Said::Else,
+    }
+}
+
+pub fn says(reply: &Reply<u64>) -> Said {
+    match reply {
+        Reply::Made => Said::Made,
+        Reply::GivenUp(msg) => Said::GivenUp(*msg),
+        Reply::TrySend(Ok(())) => Said::Sent,
+        Reply::TrySend(Err(Refused::NoMemory(msg))) => Said::Back(*msg),
+        Reply::TryRecv(Ok(msg)) => Said::Got(*msg),
+        Reply::RecvMany(Ok(messages)) => several_say(messages.as_slice()),
+        Reply::RecvMany(Err(Refused::NoMemory(()))) => Said::NoMemory,
+        reply => poll_says(reply),
+    }
+}
+
+/// Whether this is the refusal of that call for memory.
+pub fn is_refusal(ask: Ask, said: Said) -> bool {
+    match ask {
+        Ask::TrySend(msg) => said == Said::Back(msg),
+        _ => said == Said::NoMemory,
+    }
+}
+
+/// The numbers that a world says of itself: messages, calls under way, who is pending, and who of these was woken.
+#[derive(Clone, Copy, PartialEq, Eq, Debug)]
+pub struct Numbers {
+    pub messages: u64,
+    pub under_way: usize,
+    pub pending: usize,
+    pub woken: usize,
+}
+
+pub fn numbers_of(world: &World<u64>) -> Numbers {
+    Numbers {
+        messages: world.messages(),
+        under_way: world.under_way(),
+        pending: world.pending(),
+        woken: world.woken(),
+    }
+}
+
+/// How a list of one call or step stops whose answer gets no room.
+pub const NO_ROOM: Option<Stopped> = Some(Stopped {
+    place: 0,
+    why: WorldRefusal::NoMemory,
+});
+
+/// A world, the list of calls, with room for one, the next call and what it is to say.
+#[derive(Drop)]
+pub struct Calls {
+    pub world: World<u64>,
+    calls: VecDeque<Call<u64>>,
+    ask: Ask,
+    said: Said,
+}
+
+/// What was said of the one call of a list, and how many it woke.
+fn said_of(run: &CallRun<u64>) -> Option<(Said, usize)> {
+    match run.done.first() {
+        Some(done) => Some((says(&done.reply), done.woken.len())),
+        None => None,
+    }
+}
+
+impl Attempt for Calls {
+    fn make(&mut self) -> Tried {
+        if !self.world.is_quiet() {
+            return Tried::Wrong;
+        }
+        let put = !self.calls.is_empty() || self.calls.push_back(call(self.ask)).is_ok();
+        let before = numbers_of(&self.world);
+        let run = self.world.run_calls(&mut self.calls);
+        let stopped = run.stopped;
+        let said = said_of(&run);
+        drop(run);
+        let is_as_before = numbers_of(&self.world) == before;
+        match said {
+            Some((said, _)) if said == self.said => made(put && self.calls.is_empty()),
+            Some((said, woken)) => {
+                let named = is_refusal(self.ask, said) && woken == 0;
+                refused(named && is_as_before && self.calls.is_empty())
+            }
+            None => refused(stopped == NO_ROOM && is_as_before && self.calls.len() == 1),
+        }
+    }
+}
+
+impl Calls {
+    pub fn unbounded(alloc: Global) -> Option<Calls> {
+        Some(Calls {
+            world: World::unbounded(alloc, &mut EventIds::new()).ok()?,
+            calls: VecDeque::with_capacity(alloc, 1).ok()?,
+            ask: Ask::TryRecv,
+            said: Said::Else,
+        })
+    }
+
+    /// Makes a call until it isn't refused.
+    pub fn make_call(&mut self, scarcity: &mut Scarcity, ask: Ask, said: Said) {
+        self.ask = ask;
+        self.said = said;
+        scarcity.refuse_each(self);
+    }
+}
+
+/// How many receives wait at once.
+const COUNT: u32 = 12;
+
+/// Receives wait, one after the other, and messages come for all of them.
+fn fill(scarcity: &mut Scarcity, calls: &mut Calls) {
+    for number in 0..COUNT {
+        calls.make_call(scarcity, Ask::Recv(number), Said::Made);
+        calls.make_call(scarcity, Ask::Poll(number), Said::Pending);
+    }
+    for number in 0..COUNT {
+        calls.make_call(scarcity, Ask::TrySend(u64::from(number)), Said::Sent);
+    }
+    for number in 0..COUNT {
+        calls.make_call(scarcity, Ask::Poll(number), Said::Got(u64::from(number)));
+    }
+}
+
+/// Sends are made, finished and given up, and their messages received: the first three alone, and then the others at once.
+fn empty(scarcity: &mut Scarcity, calls: &mut Calls) {
+    for number in COUNT..2 * COUNT {
+        calls.make_call(scarcity, Ask::Send(number, u64::from(number)), Said::Made);
+        calls.make_call(scarcity, Ask::Poll(number), Said::Sent);
+        calls.make_call(scarcity, Ask::GiveUp(number), Said::GivenUp(None));
+        calls.make_call(scarcity, Ask::Clone(number), Said::Made);
+        calls.make_call(
+            scarcity,
+            Ask::Downgrade(number.wrapping_add(COUNT)),
+            Said::Made,
+        );
+    }
+    for number in COUNT..COUNT + 3 {
+        calls.make_call(scarcity, Ask::TryRecv, Said::Got(u64::from(number)));
+    }
+    calls.make_call(scarcity, Ask::RecvMany(100), Said::GotFrom(15, 9));
+}
+
+/// Makes all calls; then the numbers.
+fn call_all(alloc: Global) -> Option<(Seen, Numbers)> {
+    let mut calls = Calls::unbounded(alloc)?;
+    let mut scarcity = Scarcity::new(alloc);
+    fill(&mut scarcity, &mut calls);
+    empty(&mut scarcity, &mut calls);
+    let seen = scarcity.end();
+    Some((seen, numbers_of(&calls.world)))
+}
+
+/// Each call takes room for its answer, so each is refused at least once.
+#[test]
+fn calls_of_a_world(rt: HostRuntime) -> Result<(), Fail> {
+    let (seen, numbers) = call_all(rt.alloc()).expect(&rt, "memory");
+    assert!(rt;
+        seen.right && seen.calls == 112 && seen.refusals >= 311,
+        "{seen:?}"
+    );
+    assert_eq!(rt;
+        numbers,
+        Numbers {
+            messages: 0,
+            under_way: 0,
+            pending: 0,
+            woken: 0,
+        }
+    );
+    Ok(())
+}
