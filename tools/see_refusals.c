@@ -1,9 +1,10 @@
 /* Says which requests for memory of a call are refused: preloaded before tests over `scarcity`, by see_refusals.py.
  *
- * Those tests take all memory before each attempt of a call, in blocks of falling sizes: the first that is asked for has 65,536 or 32,768 bytes, and
- * the last 24, which is refused. What comes then, up to the next of these or to the end, is the attempt; before it the rest of a
- * block of 65,536 may be taken, which leaves a hole. For each attempt a line is written to the file that SEEN_REFUSALS names: how large
- * the hole was, how many requests there were, and the number of the first one that was refused, or 0. */
+ * Those tests take all memory before each attempt of a call, in blocks of falling sizes: the first that is asked for has 65,536 or
+ * 32,768 bytes, and the last 24, which is refused. What comes then, up to the next of these or to the end, is the attempt; before
+ * it the rest of a block of 65,536 may be taken, which leaves a hole. For each attempt a line is written to the file that
+ * SEEN_REFUSALS names: how large the hole was, how many requests there were, and the number of the first one that was refused, or
+ * 0. */
 #define _GNU_SOURCE
 #include <fcntl.h>
 #include <malloc.h>

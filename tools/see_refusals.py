@@ -3,10 +3,11 @@
 
 usage, at the top of the repository: tools/see_refusals.py CRATE [WORD]
 
-`rt test` in crates/CRATE, one whose tests stand over `scarcity`, leaves the built tests there. Each test whose name contains WORD is run, and has a
-line: how many calls it made that asked for memory, how many requests they made in all, how many of these were refused at least once, and how often
-calls were refused. A call's requests are those of its last attempt, which was granted all of them; each that no attempt of the call was
-refused has a line of its own. A call that goes on where it was refused has fewer in its last attempt. It needs a C compiler: `cc`, or what CC names.
+`rt test` in crates/CRATE, one whose tests stand over `scarcity`, leaves the built tests there. Each test whose name contains WORD
+is run, and has a line: how many calls it made that asked for memory, how many requests they made in all, how many of these were
+refused at least once, and how often calls were refused. A call's requests are those of its last attempt, which was granted all of
+them; each that no attempt of the call was refused has a line of its own. A call that goes on where it was refused has fewer in its
+last attempt. It needs a C compiler: `cc`, or what CC names.
 """
 import os
 import subprocess
