@@ -38,11 +38,12 @@ pub(crate) struct Ends {
 /// There is no other way to a node than the calls below. Each counts in `looks`, whosever the node is, and no call sets
 /// that back: so the bound on it holds of what was really looked at. Those that are said to be counted, which are the
 /// visits of a call with a number to nodes that are not its own, count in `last` besides, which each such call begins.
-/// Both count modulo 2^64, which takes centuries to come round: a count so is one addition in memory.
+/// Both count modulo 2^64, which takes centuries to come round: so to count is one addition in memory. They stand apart,
+/// since side by side they are added to as a pair, and such a read waits until the writes of each by itself are done.
 #[derive(Drop)]
 pub(crate) struct Nodes<T, W> {
-    slab: Slab<Node<T, W>>,
     last: u64,
+    slab: Slab<Node<T, W>>,
     looks: u64,
 }
 
@@ -54,8 +55,8 @@ impl<T: Drop, W: Drop> Nodes<T, W> {
         ensures looks { result.looks ≡ 0 }
     {
         Nodes {
-            slab: Slab::new(alloc),
             last: 0,
+            slab: Slab::new(alloc),
             looks: 0,
         }
     }
