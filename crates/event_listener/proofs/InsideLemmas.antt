@@ -1,9 +1,9 @@
 -- The fields of a list and its two lists.
-use Rattle.std.proofs.Common.{◌≡◌, ◌≢◌, ℕ, ◌+◌, ◌^◌, ◌<◌, ◌≤◌, Bool, true, false, cond, List, [], ◌++◌, ◌∷◌, length, Option, Some, None, is_some, IsSome, IfSome, refl, sym, ap, subst, ◌∙◌, arith, append_assoc, length-append, take}
+use Rattle.std.proofs.Common.{◌≡◌, ◌≢◌, ◌⊎◌, inl, inr, ℕ, ◌+◌, ◌^◌, ◌<◌, ◌≤◌, Bool, true, false, cond, List, [], ◌++◌, ◌∷◌, length, Option, Some, None, is_some, IsSome, IfSome, refl, sym, ap, subst, ◌∙◌, arith, append_assoc, length-append, take}
 use Rattle.std.proofs.lemmas.List.{append-nil}
 use Rattle.std.specs.Option.{option_to_list}
 use Rattle.std.specs.Map.{lookup}
-use Rattle.slab.specs.Slab.{Slab, get, ContainsKey, slab_len}
+use Rattle.slab.specs.Slab.{Slab, get, ContainsKey, slab_len, with_value}
 use Rattle.event_listener.specs.declared.node.Node.{Node}
 use Rattle.event_listener.specs.declared.node.Ends.{Ends}
 use Rattle.event_listener.specs.declared.node.State.{State}
@@ -13,9 +13,10 @@ use Rattle.event_listener.specs.declared.key.Key.{Key}
 use Rattle.event_listener.specs.Inside.{shown, IsSound, entries, forward, backward}
 use Rattle.event_listener.specs.Lists.{ListView, Lists, kind_of, told_as, waits_as, without, listened, with_task, notified, tasks_of, same_key}
 use Rattle.event_listener.specs.Nodes.{found, is_told}
-use Rattle.event_listener.specs.Chain.{Beside, lists_at, entry, entry_at, Entry, Sound, Distinct, Unlinks, Links_last, fresh_entry, first_or, after_of, before_of, told_piece, waiting_piece, pieces, AtEach, IsWaiting, IsStateOf}
+use Rattle.event_listener.specs.Chain.{Beside, lists_at, entry, entry_at, Entry, Sound, Distinct, Unlinks, Links_last, fresh_entry, first_or, after_of, before_of, node_after, node_before, told_piece, waiting_piece, pieces, AtEach, IsWaiting, IsStateOf}
 use Rattle.event_listener.specs.Order.{IsInOrder}
 use Rattle.event_listener.proofs.EntryLemmas.{same_key-self}
+use Rattle.event_listener.proofs.WriteLemmas.{changes, kept_by_write, after-kept, before-kept}
 use Rattle.event_listener.proofs.OrderLemmas.{in-order-listened, in-order-without, in-order-with_task, in-order-notified, in-order-at}
 use Rattle.event_listener.proofs.SoundLemmas.{found_entry, found-some, found-told, chain-is, kind-chained, beside, all-live, end-live, told-fits, Sound-leave, Sound-insert, Sound-store, Sound-tell, Apart-dead, lists-listened, lists-with_task, lists-told, lists-parts, length-told, length-waiting, lists-without, told_as-entry, waits_as-entry}
 
@@ -23,6 +24,12 @@ use Rattle.event_listener.proofs.SoundLemmas.{found_entry, found-some, found-tol
 abbrev pub MatchWaiting : {T W : Type 0} → State T W → (Option W → Type 0) → Type 0
 MatchWaiting (Waiting task) P = P task
 MatchWaiting (Told additional tag) P = ⊥
+
+-- whether a found listener waits
+pub is-waiting : (o : Option Bool) → (o ≡ Some false) ⊎ (o ≢ Some false)
+is-waiting None = inr (λ q. absurd (cc))
+is-waiting (Some true) = inr (λ q. absurd (cc))
+is-waiting (Some false) = inl refl
 
 module _ {T W : Type 0} where
   pub found-entry : (o : Option (Node T W)) (serial : ℕ) → found o serial ≡ found_entry (entry o) serial
@@ -248,6 +255,38 @@ module _ {T W : Type 0} where
             ∙ ap (with_task key task) (sym (lists-are a h))
             ∙ ap (λ (w : ListView T W). with_task key task w.lists) v;
       }
+
+  -- the same where the node of a waiting listener was written
+  stored-at : (a b : list.Inside T W) (h : IsSound a) (view : ListView T W) (v : shown a ≡ view) (key : Key) (task : W) → kind_of view.lists key ≡ Some false → IfSome (get a.nodes.slab key.slot) (λ node. b.nodes.slab ≡ with_value a.nodes.slab key.slot (record node { state = Waiting (Some task) })) → slab_len b.nodes.slab ≡ slab_len a.nodes.slab → b.nodes.slab.capacity ≡ a.nodes.slab.capacity → b.told ≡ a.told → b.waiting ≡ a.waiting → b.told_count ≡ a.told_count → b.serials ≡ a.serials → Stored a b view key task
+  stored-at a b h view v key task kind written len capacity told waiting count serials =
+      let p = present a h view v key (ap is_some kind) in
+      let change : Node T W → Node T W = λ node. record node { state = Waiting (Some task) } in
+      let c = changes change a.nodes.slab b.nodes.slab key.slot p written in
+      stored a b h view v key task kind
+      (record {
+        after = λ ends. after-kept ends a.nodes.slab b.nodes.slab (kept_by_write node_after change (λ _. refl) a.nodes.slab b.nodes.slab key.slot p written);
+        before = λ ends. before-kept ends a.nodes.slab b.nodes.slab (kept_by_write node_before change (λ _. refl) a.nodes.slab b.nodes.slab key.slot p written);
+        now = subst (λ o. IfSome (entry o) (λ (e : Entry T W). entry_at b.nodes.slab key.slot ≡ Some (record e { state = Waiting (Some task) }))) (sym c.was) (ap entry c.now);
+        others = λ x ne. ap entry (c.others x ne);
+        len = len;
+        capacity = capacity;
+        first = ap (λ (e : Ends). e.first) told;
+        last = ap (λ (e : Ends). e.last) waiting;
+        serials = serials;
+      }) (ap (λ (e : Ends). e.last) told) (ap (λ (e : Ends). e.first) waiting) count
+
+  -- the fields after a registration began, which writes the node of a waiting listener alone
+  pub record Begun (b : list.Inside T W) (view : ListView T W) (key : Key) (task : W) (kind : Option Bool) : Type 0 where
+    pub sound : IsSound b
+    pub stored : kind ≡ Some false → (shown b).lists ≡ with_task key task view.lists
+    pub kept : kind ≢ Some false → (shown b).lists ≡ view.lists
+
+  pub begun : (a b : list.Inside T W) (h : IsSound a) (view : ListView T W) (v : shown a ≡ view) (key : Key) (task : W) (kind : Option Bool) → kind ≡ kind_of view.lists key → (kind ≡ Some false → IfSome (get a.nodes.slab key.slot) (λ node. b.nodes.slab ≡ with_value a.nodes.slab key.slot (record node { state = Waiting (Some task) }))) → (kind ≢ Some false → b.nodes.slab ≡ a.nodes.slab) → slab_len b.nodes.slab ≡ slab_len a.nodes.slab → b.nodes.slab.capacity ≡ a.nodes.slab.capacity → b.told ≡ a.told → b.waiting ≡ a.waiting → b.told_count ≡ a.told_count → b.serials ≡ a.serials → Begun b view key task kind
+  begun a b h view v key task kind is written same len capacity told waiting count serials =
+      elim (is-waiting kind) [
+        | inl q ↦ (let s = stored-at a b h view v key task (sym is ∙ q) (written q) len capacity told waiting count serials in record { sound = s.sound; stored = λ _. s.lists; kept = λ ne. absurd (ne q) })
+        | inr ne ↦ (let s = looked a b h (same ne) told waiting count serials in record { sound = s.sound; stored = λ q. absurd (ne q); kept = λ _. s.lists ∙ ap (λ (w : ListView T W). w.lists) v })
+      ]
 
   -- the lists by their parts
   pub lists-by-parts : (a : list.Inside T W) (h : IsSound a) → (shown a).lists ≡ record { told = pieces (λ k. told_piece k (entries a k)) h.0; waiting = pieces (λ k. waiting_piece k (entries a k)) h.1 }

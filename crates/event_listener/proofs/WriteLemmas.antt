@@ -1,11 +1,11 @@
 -- What a write of one node leaves of the links and of what the nodes say.
-use Rattle.std.proofs.Common.{◌≡◌, ◌≢◌, inl, inr, ℕ, Option, Some, None, IsSome, IfSome, refl, sym, ap, subst, ◌∙◌, is_some}
+use Rattle.std.proofs.Common.{◌≡◌, ◌≢◌, inl, inr, ℕ, Option, Some, None, IsSome, IfSome, refl, sym, ap, subst, ◌∙◌}
 use Rattle.std.proofs.lemmas.Bool.{cases_eq}
 use Rattle.slab.specs.Slab.{Slab, get, ContainsKey, with_value, Updates}
 use Rattle.slab.proofs.SlabLemmas.{Updates-with_value}
 use Rattle.event_listener.specs.declared.node.Ends.{Ends}
 use Rattle.event_listener.specs.declared.node.Node.{Node}
-use Rattle.event_listener.specs.Chain.{Link, after_of, before_of, node_after, node_before, entry, entry_at, Unlinks, Links_last}
+use Rattle.event_listener.specs.Chain.{Link, after_of, before_of, node_after, node_before, Unlinks, Links_last}
 
 -- the neighbours of a node lead to each other, where it was taken out (1), then forward (2) and then backward (3)
 pub Unlinks-by : (A B A1 B1 A2 B2 A3 B3 : Link) (k : ℕ) (b a : Option ℕ) → B (Some k) ≡ b → A (Some k) ≡ a → ((x : Option ℕ) → x ≢ Some k → A1 x ≡ A x) → ((x : Option ℕ) → x ≢ Some k → B1 x ≡ B x) → A2 b ≡ a → ((x : Option ℕ) → x ≢ b → A2 x ≡ A1 x) → ((x : Option ℕ) → B2 x ≡ B1 x) → ((x : Option ℕ) → A3 x ≡ A2 x) → B3 a ≡ b → ((x : Option ℕ) → x ≢ a → B3 x ≡ B2 x) → Unlinks A B A3 B3 k

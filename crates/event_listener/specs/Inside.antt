@@ -1,5 +1,5 @@
 -- The fields of a list, seen as its two lists.
-use Rattle.std.specs.Prelude.{◌≡◌, ℕ, ◌-◌, ◌^◌, ◌<◌, ◌≤◌, List, ◌++◌, Option}
+use Rattle.std.specs.Prelude.{ℕ, ◌-◌, ◌^◌, ◌<◌, ◌≤◌, List, ◌++◌, Option}
 use Rattle.slab.specs.Slab.{slab_len}
 use Rattle.event_listener.specs.declared.list.List.TheInside as list
 use Rattle.event_listener.specs.Chain.{Link, Entry, Sound, after_of, before_of, entry_at, lists_at, walk}

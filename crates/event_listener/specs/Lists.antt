@@ -21,7 +21,7 @@ pub record Lists (T W : Type 0) : Type 0 where
   pub waiting : List (Key × Option W)
 
 -- The lists, the visits of the last call to nodes of others, the serials given, and the room for more listeners. The
--- looks are all reads and writes of nodes that any call ever made, of its own node too.
+-- looks are all reads and writes of nodes that any call ever made, of its own node too, modulo 2 ^ 64.
 pub record ListView (T W : Type 0) : Type 0 where
   pub lists : Lists T W
   pub visits : ℕ

@@ -1,14 +1,14 @@
 -- What the private nodes hold.
-use Rattle.std.specs.Prelude.{ℕ, ◌≡◌, ◌≤◌, ◌+◌, ◌-◌, ◌^◌, min, Bool, true, false, ◌==◌, ◌&&◌, not, if◌then◌else◌, Option, Some, None}
+use Rattle.std.specs.Prelude.{ℕ, ◌≡◌, ◌≤◌, ◌+◌, ◌^◌, ◌%◌, Bool, true, false, ◌==◌, ◌&&◌, not, if◌then◌else◌, Option, Some, None}
 use Rattle.slab.specs.Slab.{slab_len}
 use Rattle.event_listener.specs.declared.node.State.{State}
 use Rattle.event_listener.specs.declared.node.State.TheVariants.{Waiting, Told}
 use Rattle.event_listener.specs.declared.node.Node.{Node}
 use Rattle.event_listener.specs.declared.node.Nodes.{Nodes}
 
--- a number after one more
+-- a number of 64 bits after one more, which is 0 after the greatest
 abbrev pub more : ℕ → ℕ
-more n = min (n + 1) (2 ^ 64 - 1)
+more n = (n + 1) % 2 ^ 64
 
 abbrev pub more_if : Bool → ℕ → ℕ
 more_if counted n = if counted then more n else n
@@ -28,7 +28,12 @@ module _ {T W : Type 0} where
   found_looks None looks = looks
   found_looks (Some node) looks = more looks
 
-  -- the visits after it, where the listener's own node counts for nothing either
+  -- the looks after one for a listener whose task is stored where it waits, which is a read and a write besides
+  abbrev pub stored_looks : Option (Node T W) → ℕ → ℕ → ℕ
+  stored_looks None serial looks = looks
+  stored_looks (Some node) serial looks = if (node.serial == serial) && not (is_told node.state) then more (more (more looks)) else more looks
+
+  -- the visits after a look, where the listener's own node counts for nothing either
   abbrev pub found_visits : Bool → Option (Node T W) → ℕ → ℕ → ℕ
   found_visits counted None serial visits = visits
   found_visits counted (Some node) serial visits = more_if (counted && not (node.serial == serial)) visits

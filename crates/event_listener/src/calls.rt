@@ -38,12 +38,9 @@ impl<T: Drop, W: Drop> List<T, W> {
         ensures visits { self.new.visits ≤ 5 }
         ensures looks { self.new.looks ≤ self.old.looks + 5 }
     {
-        match self.begin(key) {
+        match self.store(key, task) {
             None => Err(UnknownListener),
-            Some(false) => {
-                self.store(key, task);
-                Ok(Registered::Waiting)
-            }
+            Some(false) => Ok(Registered::Waiting),
             Some(true) => match self.leave(key, true, true) {
                 State::Told { tag, .. } => Ok(Registered::Told(tag)),
                 State::Waiting(_) => unreachable!(),

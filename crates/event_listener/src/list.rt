@@ -23,7 +23,7 @@ use std::marker::Model;
 /// ones, each perhaps with a task. Both keep the order of listening. Besides, it has the number of serials that it
 /// gave, the room for listeners that takes no more memory, the visits of its last call, and the looks of all its calls:
 /// each read and each write of a node ever, that of a call's own listener too. What a call adds to them is bounded, and
-/// nothing takes from them.
+/// nothing takes from them; they are counted modulo 2^64, which takes centuries to come round.
 /// Own to this project: in `event-listener` 5.4.2 the list is private to its event.
 pub struct List<T, W> {
     nodes: Nodes<T, W>,
@@ -166,18 +166,21 @@ impl<T: Drop, W: Drop> List<T, W> {
         node.state
     }
 
-    /// Stores the task of a waiting listener.
-    pub(crate) fn store(&mut self, key: Key, task: W)
-        requires { kind_of self.old.lists key ≡ Some false }
-        ensures lists { self.new.lists ≡ with_task key task self.old.lists }
+    /// Begins a registration: stores the task where the listener waits.
+    ///
+    /// It says whether the key is listed, and then whether it is told.
+    pub(crate) fn store(&mut self, key: Key, task: W) -> Option<bool>
+        ensures answer { result ≡ kind_of self.old.lists key }
+        ensures stored { result ≡ Some false → self.new.lists ≡ with_task key task self.old.lists }
+        ensures kept { result ≢ Some false → self.new.lists ≡ self.old.lists }
         ensures left { (k : Key) → HasLeft self.old k → HasLeft self.new k }
         ensures serials { self.new.serials ≡ self.old.serials }
         ensures room { self.new.room ≡ self.old.room }
-        ensures visits { self.new.visits ≡ self.old.visits }
-        ensures looks { self.new.looks ≤ self.old.looks + 2 }
+        ensures visits { self.new.visits ≤ 1 }
+        ensures looks { self.new.looks ≤ self.old.looks + 3 }
+        ensures looks_kept { result ≢ Some false → self.new.looks ≤ self.old.looks + 1 }
     {
-        let state = State::Waiting(Some(task));
-        let _ = restate(&mut self.nodes, key.slot, state, false);
+        self.nodes.store(key, task)
     }
 
     /// Adds a listener, which waits behind all others and without a task.

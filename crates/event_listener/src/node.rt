@@ -1,7 +1,8 @@
 //! The nodes of a list. Each look at a node, and each change of one, is counted.
-ghost use Rattle.std.specs.Prelude.{◌≡◌, ◌+◌, ◌^◌, ◌<◌, ◌≤◌, IfSome, [], IsOk, IfOk, OnOk, OnErr, ◌≢◌, ℕ, None, Some, false};
+ghost use Rattle.std.specs.Prelude.{◌≡◌, ◌+◌, ◌^◌, ◌<◌, ◌≤◌, IfSome, [], IsOk, IfOk, OnOk, OnErr, ◌≢◌, ℕ, None, Some, true, false};
 ghost use Rattle.slab.specs.Slab.{get, slab_len, Updates, HasRoomFor, ContainsKey, with_value};
-ghost use Rattle.event_listener.specs.Nodes.{found, found_looks, found_visits, more, more_if};
+ghost use Rattle.event_listener.specs.Nodes.{found, found_looks, found_visits, stored_looks, more, more_if};
+ghost use Rattle.event_listener.specs.declared.node.State.TheVariants.{Waiting};
 
 use crate::error::NoMemory;
 use crate::key::Key;
@@ -37,10 +38,12 @@ pub(crate) struct Ends {
 /// There is no other way to a node than the calls below. Each counts in `looks`, whosever the node is, and no call sets
 /// that back: so the bound on it holds of what was really looked at. Those that are said to be counted, which are the
 /// visits of a call with a number to nodes that are not its own, count in `last` besides, which each such call begins.
+/// Both count modulo 2^64, which takes centuries to come round: so to count is one addition in memory. They stand apart,
+/// since side by side they are added to as a pair, and such a read waits until the writes of each by itself are done.
 #[derive(Drop)]
 pub(crate) struct Nodes<T, W> {
-    slab: Slab<Node<T, W>>,
     last: u64,
+    slab: Slab<Node<T, W>>,
     looks: u64,
 }
 
@@ -52,8 +55,8 @@ impl<T: Drop, W: Drop> Nodes<T, W> {
         ensures looks { result.looks ≡ 0 }
     {
         Nodes {
-            slab: Slab::new(alloc),
             last: 0,
+            slab: Slab::new(alloc),
             looks: 0,
         }
     }
@@ -77,9 +80,9 @@ impl<T: Drop, W: Drop> Nodes<T, W> {
     fn count(&mut self, counted: bool)
         ensures { self.new ≡ record self.old { last = more_if counted self.old.last; looks = more self.old.looks } }
     {
-        self.looks = self.looks.saturating_add(1);
+        self.looks = self.looks.wrapping_add(1);
         if counted {
-            self.last = self.last.saturating_add(1);
+            self.last = self.last.wrapping_add(1);
         }
     }
 
@@ -99,6 +102,43 @@ impl<T: Drop, W: Drop> Nodes<T, W> {
         let told = matches!(node.state, State::Told { .. });
         self.count(counted && !is_own);
         if is_own { Some(told) } else { None }
+    }
+
+    /// Begins the number of a call that stores a task, and stores it where the key's node is there and waits.
+    ///
+    /// Answers as [`Nodes::find`] does. The node is sought once, and its state is tested once; yet to store counts as a
+    /// look, and then as a read and a write of the state. The older task is dropped.
+    #[inline(always)]
+    pub(crate) fn store(&mut self, key: Key, task: W) -> Option<bool>
+        ensures answer { result ≡ found (get self.old.slab key.slot) key.serial }
+        ensures stored { result ≡ Some false → IfSome (get self.old.slab key.slot) (λ node. self.new.slab ≡ with_value self.old.slab key.slot (record node { state = Waiting (Some task) })) }
+        ensures kept { result ≢ Some false → self.new.slab ≡ self.old.slab }
+        ensures len { slab_len self.new.slab ≡ slab_len self.old.slab }
+        ensures capacity { self.new.slab.capacity ≡ self.old.slab.capacity }
+        ensures last { self.new.last ≡ found_visits true (get self.old.slab key.slot) key.serial 0 }
+        ensures looks { self.new.looks ≡ stored_looks (get self.old.slab key.slot) key.serial self.old.looks }
+    {
+        self.start();
+        let Some(node) = self.slab.get_mut(key.slot) else {
+            return None;
+        };
+        if node.serial != key.serial {
+            self.count(true);
+            return None;
+        }
+        match &mut node.state {
+            State::Waiting(held) => {
+                *held = Some(task);
+                self.count(false);
+                self.count(false);
+                self.count(false);
+                Some(false)
+            }
+            State::Told { .. } => {
+                self.count(false);
+                Some(true)
+            }
+        }
     }
 
     /// Lets a node be followed by another.

@@ -1,7 +1,4 @@
 use Rattle.event_listener.proofs.list.List.register.Goals as goal
 
 pub returns-in-Told-clause-left : goal.returns-in-Told-clause-left
-returns-in-Told-clause-left g c = λ key h. c.leave.ensures.left key (c.begin.ensures.left key h)
-
-pub returns-in-Some-false-clause-left : goal.returns-in-Some-false-clause-left
-returns-in-Some-false-clause-left g c = λ key h. c.store.ensures.left key (c.begin.ensures.left key h)
+returns-in-Told-clause-left g c = λ key h. c.leave.ensures.left key (c.store.ensures.left key h)
