@@ -164,6 +164,7 @@ fn poll_says(reply: &Reply<u64>) -> Said {
     }
 }
 
+/// What a reply says, without its parts that no scenario asks for.
 pub fn says(reply: &Reply<u64>) -> Said {
     match reply {
         Reply::Made => Said::Made,
@@ -194,6 +195,7 @@ pub struct Numbers {
     pub woken: usize,
 }
 
+/// The numbers that a refusal has to leave as they are.
 pub fn numbers_of(world: &World<u64>) -> Numbers {
     Numbers {
         messages: world.messages(),
@@ -250,6 +252,7 @@ impl Attempt for Calls {
 }
 
 impl Calls {
+    /// A world without a bound, of which nothing has been asked yet; none where it was refused memory.
     pub fn unbounded(alloc: Global) -> Option<Calls> {
         Some(Calls {
             world: World::unbounded(alloc, &mut EventIds::new()).ok()?,
