@@ -1,4 +1,4 @@
-use Rattle.std.proofs.Common.{◌≡◌, ◌+◌, ◌<◌, ◌^◌, Some, [], ◌∷◌, refl, ap, arith, subst, take, ◌∙◌}
+use Rattle.std.proofs.Common.{◌≡◌, ◌+◌, ◌<◌, ◌^◌, Some, [], ◌∷◌, refl, ap, arith, subst, take}
 use Rattle.std.specs.Option.{option_to_list}
 use Rattle.event_listener.specs.Lists.{ListView, tasks_of}
 use Rattle.event_listener.proofs.InsideLemmas.{MatchWaiting, told-first, first-there, first-present}
