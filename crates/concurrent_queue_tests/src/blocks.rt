@@ -1,7 +1,8 @@
 //! What calls of an unbounded queue do, step by step.
 
+use crate::said::{Said, replied};
 use crate::turns::{begin, more};
-use concurrent_queue::call::{QueueAsk, QueueMark, QueueReply};
+use concurrent_queue::call::{QueueAsk, QueueMark};
 use concurrent_queue::cells::QueueForm;
 use concurrent_queue::run::{QueueRun, QueueStep, run_queue_steps};
 use std::collections::VecDeque;
@@ -19,20 +20,21 @@ fn thirty_before(steps: &mut VecDeque<QueueStep<u64>>) -> Result<(), Fail> {
     Ok(())
 }
 
-/// Whether the k-th entry has this reply of a pop.
-fn popped_at(run: &QueueRun<u64>, k: usize, value: u64) -> bool {
+/// What the k-th entry replied.
+fn said_at(run: &QueueRun<u64>, k: usize) -> Said {
     match run.trace.get(k) {
         Some(entry) => match &entry.reply {
-            Some(QueueReply::Pop(Ok(popped))) => *popped == value,
-            _ => false,
+            Some(reply) => replied(reply),
+            None => ("", 0),
         },
-        None => false,
+        None => ("", 0),
     }
 }
 
-fn pushed_at(run: &QueueRun<u64>, k: usize) -> bool {
+/// Whether the k-th entry has this mark.
+fn has_mark(run: &QueueRun<u64>, k: usize, mark: QueueMark) -> bool {
     match run.trace.get(k) {
-        Some(entry) => matches!(&entry.reply, Some(QueueReply::Push(Ok(())))),
+        Some(entry) => entry.mark == mark,
         None => false,
     }
 }
@@ -62,22 +64,26 @@ fn a_pop_waits_for_the_link_at_the_end_of_a_block(rt: HostRuntime) -> Result<(),
     more(&mut steps, 3, 4)?;
     more(&mut steps, 2, 5)?;
     let run = run_queue_steps(rt.alloc(), QueueForm::Unbounded, &mut steps);
-    assert!(rt; run.stopped.is_none());
+    drop(steps);
+    let all = (run.stopped.is_none(), run.trace.len(), replies(&run));
+    let marks = [
+        has_mark(&run, 427, QueueMark::Append),
+        has_mark(&run, 434, QueueMark::Take),
+        has_mark(&run, 454, QueueMark::Append),
+    ];
+    let said = [
+        said_at(&run, 437),
+        said_at(&run, 447),
+        said_at(&run, 451),
+        said_at(&run, 456),
+    ];
+    drop(run);
     // 9 + 29 * 6 + 30 * 8 entries of the first thirty messages
-    assert_eq!(rt; run.trace.len(), 423 + 34);
-    assert_eq!(rt; replies(&run), 60 + 4);
-    assert!(rt;
-        matches!(run.trace.get(427), Some(entry) if matches!(entry.mark, QueueMark::Append))
+    assert_eq!(rt; all, (true, 423 + 34, 60 + 4));
+    assert_eq!(rt; marks, [true, true, true]);
+    assert_eq!(rt;
+        said,
+        [("yes", 0), ("pushed", 0), ("popped", 31), ("pushed", 0)]
     );
-    assert!(rt; matches!(run.trace.get(434), Some(entry) if matches!(entry.mark, QueueMark::Take)));
-    assert!(rt;
-        matches!(run.trace.get(437), Some(entry) if matches!(entry.reply, Some(QueueReply::Flag(true))))
-    );
-    assert!(rt; pushed_at(&run, 447));
-    assert!(rt; popped_at(&run, 451, 31));
-    assert!(rt;
-        matches!(run.trace.get(454), Some(entry) if matches!(entry.mark, QueueMark::Append))
-    );
-    assert!(rt; pushed_at(&run, 456));
     Ok(())
 }

@@ -7,6 +7,7 @@ use concurrent_queue::{
 };
 use std::alloc::{AllocError, Global};
 use std::collections::VecDeque;
+use std::fmt::{Debug, Display};
 use std::test::Fail;
 
 #[test]
@@ -19,16 +20,23 @@ fn refusals_hand_the_message_back(rt: HostRuntime) -> std::result::Result<(), Fa
     Ok(())
 }
 
+/// Whether a refused push says that the queue was full, and that it was closed.
+fn why(error: PushError<u64>) -> [bool; 2] {
+    [error.is_full(), error.is_closed()]
+}
+
+/// Whether a refused pop says that the queue was empty, and that it was closed.
+fn why_none(error: PopError) -> [bool; 2] {
+    [error.is_empty(), error.is_closed()]
+}
+
 #[test]
 fn refusals_say_why(rt: HostRuntime) -> std::result::Result<(), Fail> {
-    let full = PushError::Full(1u64);
-    let closed = PushError::Closed(1u64);
-    let no_memory = PushError::NoMemory(1u64);
-    assert!(rt; full.is_full() && !full.is_closed());
-    assert!(rt; closed.is_closed() && !closed.is_full());
-    assert!(rt; !no_memory.is_full() && !no_memory.is_closed());
-    assert!(rt; PopError::Empty.is_empty() && !PopError::Empty.is_closed());
-    assert!(rt; PopError::Closed.is_closed() && !PopError::Closed.is_empty());
+    assert_eq!(rt; why(PushError::Full(1)), [true, false]);
+    assert_eq!(rt; why(PushError::Closed(1)), [false, true]);
+    assert_eq!(rt; why(PushError::NoMemory(1)), [false, false]);
+    assert_eq!(rt; why_none(PopError::Empty), [true, false]);
+    assert_eq!(rt; why_none(PopError::Closed), [false, true]);
     Ok(())
 }
 
@@ -49,54 +57,43 @@ fn refusals_are_compared_and_copied(rt: HostRuntime) -> std::result::Result<(), 
     Ok(())
 }
 
-/// Whether a refused push is shown and written so.
-fn push_says(alloc: Global, error: PushError<u64>, text: &str) -> Result<bool, AllocError> {
+/// Whether a refusal is shown and written so.
+fn says<E: Display + Debug>(alloc: Global, error: &E, text: &str) -> Result<bool, AllocError> {
     Ok(format!(in alloc; "{error} {error:?}")?.as_str() == text)
 }
 
 #[test]
 fn texts_of_a_push(rt: HostRuntime) -> std::result::Result<(), Fail> {
-    assert!(rt; push_says(rt.alloc(), PushError::Full(1), "Full Full(..)")?);
-    assert!(rt; push_says(rt.alloc(), PushError::Closed(1), "Closed Closed(..)")?);
-    assert!(rt; push_says(rt.alloc(), PushError::NoMemory(1), "NoMemory NoMemory(..)")?);
+    let alloc = rt.alloc();
+    let said = [
+        says(alloc, &PushError::Full(1u64), "Full Full(..)")?,
+        says(alloc, &PushError::Closed(1u64), "Closed Closed(..)")?,
+        says(alloc, &PushError::NoMemory(1u64), "NoMemory NoMemory(..)")?,
+    ];
+    assert_eq!(rt; said, [true; 3]);
     Ok(())
-}
-
-/// Whether a refused displacing push is shown and written so.
-fn force_push_says(
-    alloc: Global,
-    error: ForcePushError<u64>,
-    text: &str,
-) -> Result<bool, AllocError> {
-    Ok(format!(in alloc; "{error} {error:?}")?.as_str() == text)
-}
-
-/// Whether a refused pop is shown and written so.
-fn pop_says(alloc: Global, error: PopError, text: &str) -> Result<bool, AllocError> {
-    Ok(format!(in alloc; "{error} {error:?}")?.as_str() == text)
 }
 
 #[test]
 fn texts_of_a_displacing_push_and_of_a_pop(rt: HostRuntime) -> std::result::Result<(), Fail> {
-    assert!(rt; force_push_says(rt.alloc(), ForcePushError::Closed(1), "Closed Closed(..)")?);
-    assert!(rt;
-        force_push_says(
-            rt.alloc(),
-            ForcePushError::NoMemory(1),
-            "NoMemory NoMemory(..)"
-        )?
-    );
-    assert!(rt; pop_says(rt.alloc(), PopError::Empty, "Empty Empty")?);
-    assert!(rt; pop_says(rt.alloc(), PopError::Closed, "Closed Closed")?);
+    let alloc = rt.alloc();
+    let said = [
+        says(alloc, &ForcePushError::Closed(1u64), "Closed Closed(..)")?,
+        says(
+            alloc,
+            &ForcePushError::NoMemory(1u64),
+            "NoMemory NoMemory(..)",
+        )?,
+        says(alloc, &PopError::Empty, "Empty Empty")?,
+        says(alloc, &PopError::Closed, "Closed Closed")?,
+    ];
+    assert_eq!(rt; said, [true; 4]);
     Ok(())
 }
 
 #[test]
 fn want_of_memory_says_so(rt: HostRuntime) -> std::result::Result<(), Fail> {
-    assert_eq!(rt;
-        format!(in rt.alloc(); "{NoMemory} {NoMemory:?}")?.as_str(),
-        "want of memory NoMemory"
-    );
+    assert!(rt; says(rt.alloc(), &NoMemory, "want of memory NoMemory")?);
     Ok(())
 }
 
@@ -133,6 +130,11 @@ fn run_of_them(alloc: Global) -> Result<QueueRun<u64>, AllocError> {
     })
 }
 
+/// Whether what is shown of this is this text.
+fn shows<T: Debug>(alloc: Global, value: &T, text: &str) -> Result<bool, AllocError> {
+    Ok(format!(in alloc; "{value:?}")?.as_str() == text)
+}
+
 #[test]
 fn steps_are_compared_and_shown(rt: HostRuntime) -> std::result::Result<(), Fail> {
     let begin: QueueStep<u64> = QueueStep::Begin {
@@ -140,14 +142,11 @@ fn steps_are_compared_and_shown(rt: HostRuntime) -> std::result::Result<(), Fail
         call: QueueAsk::Pop,
     };
     let step: QueueStep<u64> = QueueStep::Step { party: 1 };
-    let same: QueueStep<u64> = QueueStep::Step { party: 1 };
-    let compared = step == same && begin != step;
-    let text = format!(in rt.alloc(); "{begin:?}")?;
-    drop(begin);
+    let compared = step == QueueStep::Step { party: 1 } && begin != step;
     drop(step);
-    drop(same);
-    assert!(rt; compared);
-    assert_eq!(rt; text.as_str(), "Begin { party: 1, call: Pop }");
+    let shown = shows(rt.alloc(), &begin, "Begin { party: 1, call: Pop }");
+    drop(begin);
+    assert_eq!(rt; (compared, shown?), (true, true));
     Ok(())
 }
 
@@ -155,7 +154,7 @@ fn steps_are_compared_and_shown(rt: HostRuntime) -> std::result::Result<(), Fail
 fn forms_are_compared_and_shown(rt: HostRuntime) -> std::result::Result<(), Fail> {
     let form = QueueForm::Bounded(1);
     assert!(rt; form != QueueForm::Unbounded);
-    assert_eq!(rt; format!(in rt.alloc(); "{form:?}")?.as_str(), "Bounded(1)");
+    assert!(rt; shows(rt.alloc(), &form, "Bounded(1)")?);
     Ok(())
 }
 

@@ -1,52 +1,99 @@
 //! What a queue of one owner answers, by worked examples.
 
+use crate::said::{forced, popped, pushed};
 use crate::walks::{walk_to_the_end, walk_unread};
-use concurrent_queue::error::{ForcePushError, NoMemory, PopError, PushError};
+use concurrent_queue::error::NoMemory;
 use concurrent_queue::exclusive::Exclusive;
-use std::alloc::Global;
+use std::alloc::{AllocError, Global};
 use std::rc::Rc;
 use std::test::Fail;
 
 #[test]
 fn one_slot_one_at_a_time(rt: HostRuntime) -> Result<(), Fail> {
     let mut queue = Exclusive::bounded(rt.alloc(), 1)?;
-    assert_eq!(rt; queue.capacity(), Some(1));
-    assert!(rt; queue.is_empty());
-    assert!(rt; queue.push(10u64).is_ok());
-    assert!(rt; queue.is_full());
-    assert_eq!(rt; queue.len(), 1);
-    assert!(rt; matches!(queue.push(20), Err(PushError::Full(20))));
-    assert!(rt; matches!(queue.force_push(30), Ok(Some(10))));
-    assert!(rt; matches!(queue.pop(), Ok(30)));
-    assert!(rt; matches!(queue.pop(), Err(PopError::Empty)));
-    assert!(rt; matches!(queue.force_push(40), Ok(None)));
-    assert!(rt; queue.close());
-    assert!(rt; !queue.close());
-    assert!(rt; queue.is_closed());
-    assert!(rt; matches!(queue.push(50), Err(PushError::Closed(50))));
-    assert!(rt; matches!(queue.force_push(60), Err(ForcePushError::Closed(60))));
-    assert!(rt; matches!(queue.pop(), Ok(40)));
-    assert!(rt; matches!(queue.pop(), Err(PopError::Closed)));
+    let new = (queue.capacity(), queue.is_empty());
+    let first = pushed(&queue.push(10));
+    let held = (queue.is_full(), queue.len());
+    let then = [
+        pushed(&queue.push(20)),
+        forced(&queue.force_push(30)),
+        popped(&queue.pop()),
+        popped(&queue.pop()),
+        forced(&queue.force_push(40)),
+    ];
+    let closing = [queue.close(), queue.close(), queue.is_closed()];
+    let after = [
+        pushed(&queue.push(50)),
+        forced(&queue.force_push(60)),
+        popped(&queue.pop()),
+        popped(&queue.pop()),
+    ];
+    drop(queue);
+    assert_eq!(rt;
+        (new, first, held),
+        ((Some(1), true), ("pushed", 0), (true, 1))
+    );
+    assert_eq!(rt;
+        then,
+        [
+            ("full", 20),
+            ("displaced", 10),
+            ("popped", 30),
+            ("empty", 0),
+            ("forced", 0)
+        ]
+    );
+    assert_eq!(rt; closing, [true, false, true]);
+    assert_eq!(rt;
+        after,
+        [("closed", 50), ("closed", 60), ("popped", 40), ("shut", 0)]
+    );
     Ok(())
 }
 
 #[test]
 fn a_ring_displaces_its_oldest(rt: HostRuntime) -> Result<(), Fail> {
     let mut queue = Exclusive::bounded(rt.alloc(), 3)?;
-    for value in 1..4u64 {
-        assert!(rt; matches!(queue.force_push(value), Ok(None)));
-    }
-    assert!(rt; matches!(queue.push(4), Err(PushError::Full(4))));
-    assert!(rt; matches!(queue.force_push(5), Ok(Some(1))));
-    assert!(rt; matches!(queue.force_push(6), Ok(Some(2))));
-    assert!(rt; queue.is_full());
-    assert_eq!(rt; queue.len(), 3);
-    assert!(rt; queue.close());
-    assert!(rt; matches!(queue.force_push(7), Err(ForcePushError::Closed(7))));
-    assert!(rt; matches!(queue.pop(), Ok(3)));
-    assert!(rt; matches!(queue.pop(), Ok(5)));
-    assert!(rt; matches!(queue.pop(), Ok(6)));
-    assert!(rt; matches!(queue.pop(), Err(PopError::Closed)));
+    let filled = [
+        forced(&queue.force_push(1)),
+        forced(&queue.force_push(2)),
+        forced(&queue.force_push(3)),
+        pushed(&queue.push(4)),
+        forced(&queue.force_push(5)),
+        forced(&queue.force_push(6)),
+    ];
+    let held = (queue.is_full(), queue.len(), queue.close());
+    let after = [
+        forced(&queue.force_push(7)),
+        popped(&queue.pop()),
+        popped(&queue.pop()),
+        popped(&queue.pop()),
+        popped(&queue.pop()),
+    ];
+    drop(queue);
+    let none = ("forced", 0);
+    assert_eq!(rt;
+        filled,
+        [
+            none,
+            none,
+            none,
+            ("full", 4),
+            ("displaced", 1),
+            ("displaced", 2)
+        ]
+    );
+    assert_eq!(rt; held, (true, 3, true));
+    assert_eq!(rt;
+        after,
+        [
+            ("closed", 7),
+            ("popped", 3),
+            ("popped", 5),
+            ("popped", 6),
+            ("shut", 0)
+        ]
+    );
     Ok(())
 }
 
@@ -86,16 +133,18 @@ fn walked_to_its_end_or_dropped_early(rt: HostRuntime) -> Result<(), Fail> {
 #[test]
 fn a_walk_gives_the_messages_in_order(rt: HostRuntime) -> Result<(), Fail> {
     let mut queue = Exclusive::unbounded(rt.alloc());
+    let mut right = true;
     for value in 0..100u64 {
-        assert!(rt; queue.push(value).is_ok());
+        right = right && queue.push(value).is_ok();
     }
     let mut next = 0u64;
     for value in queue.try_iter() {
-        assert_eq!(rt; value, next);
+        right = right && value == next;
         next = next.wrapping_add(1);
     }
-    assert_eq!(rt; next, 100);
-    assert!(rt; queue.is_empty());
+    right = right && queue.is_empty();
+    drop(queue);
+    assert_eq!(rt; (right, next), (true, 100));
     Ok(())
 }
 
@@ -104,12 +153,18 @@ fn a_walk_gives_the_messages_in_order(rt: HostRuntime) -> Result<(), Fail> {
 #[test]
 fn a_push_refused_for_memory_is_made_again(rt: HostRuntime) -> Result<(), Fail> {
     let mut queue = Exclusive::unbounded(rt.alloc());
-    if let Err(refused) = queue.push(5u64) {
-        assert!(rt; matches!(refused, PushError::NoMemory(5)));
-        assert_eq!(rt; queue.len(), 0);
-        assert!(rt; queue.push(5).is_ok());
-    }
-    assert!(rt; matches!(queue.pop(), Ok(5)));
+    let first = pushed(&queue.push(5));
+    let refused = first == ("no memory", 5);
+    let untouched = !refused || queue.len() == 0;
+    let last = if refused {
+        pushed(&queue.push(5))
+    } else {
+        first
+    };
+    let left = popped(&queue.pop());
+    drop(queue);
+    assert!(rt; untouched);
+    assert_eq!(rt; [last, left], [("pushed", 0), ("popped", 5)]);
     Ok(())
 }
 
@@ -118,55 +173,69 @@ fn a_push_refused_for_memory_is_made_again(rt: HostRuntime) -> Result<(), Fail> 
 #[test]
 fn one_at_a_time_takes_no_more_memory(rt: HostRuntime) -> Result<(), Fail> {
     let mut queue = Exclusive::unbounded(rt.alloc());
+    let mut right = true;
     for value in 1..1001u64 {
-        assert!(rt; queue.push(value).is_ok());
-        assert!(rt; matches!(queue.pop(), Ok(popped) if popped == value));
+        right = right && queue.push(value).is_ok() && popped(&queue.pop()) == ("popped", value);
     }
+    drop(queue);
+    assert!(rt; right);
     Ok(())
+}
+
+/// So many copies are pushed, so many displace, and so many leave: how many there are then, and once the queue is gone.
+fn copies_held(
+    mut queue: Exclusive<Rc<u64>>,
+    counted: &Rc<u64>,
+    [pushes, displacing, pops]: [u32; 3],
+) -> Result<[usize; 2], AllocError> {
+    for _ in 0..pushes {
+        drop(queue.push(counted.clone()?));
+    }
+    for _ in 0..displacing {
+        drop(queue.force_push(counted.clone()?));
+    }
+    for _ in 0..pops {
+        drop(queue.pop());
+    }
+    let held = Rc::strong_count(counted);
+    drop(queue);
+    Ok([held, Rc::strong_count(counted)])
 }
 
 #[test]
 fn what_is_left_is_dropped_once(rt: HostRuntime) -> Result<(), Fail> {
-    let counted = Rc::new(rt.alloc(), 7u64)?;
-    let mut slot = Exclusive::bounded(rt.alloc(), 1)?;
-    let mut ring = Exclusive::bounded(rt.alloc(), 2)?;
-    let mut blocks = Exclusive::unbounded(rt.alloc());
-    assert!(rt; slot.push(counted.clone()?).is_ok());
-    assert!(rt; matches!(slot.force_push(counted.clone()?), Ok(Some(_))));
-    for _ in 0..3 {
-        assert!(rt; ring.force_push(counted.clone()?).is_ok());
-    }
-    for _ in 0..40 {
-        assert!(rt; blocks.push(counted.clone()?).is_ok());
-    }
-    for _ in 0..3 {
-        assert!(rt; blocks.pop().is_ok());
-    }
-    assert_eq!(rt; Rc::strong_count(&counted), 1 + 1 + 2 + 37);
-    drop(slot);
-    drop(ring);
-    drop(blocks);
-    assert_eq!(rt; Rc::strong_count(&counted), 1);
+    let alloc = rt.alloc();
+    let counted = Rc::new(alloc, 7u64)?;
+    let held = [
+        copies_held(Exclusive::bounded(alloc, 1)?, &counted, [1, 1, 0])?,
+        copies_held(Exclusive::bounded(alloc, 2)?, &counted, [0, 3, 0])?,
+        copies_held(Exclusive::unbounded(alloc), &counted, [40, 0, 3])?,
+    ];
+    drop(counted);
+    assert_eq!(rt; held, [[1 + 1, 1], [1 + 2, 1], [1 + 37, 1]]);
     Ok(())
 }
 
 #[test]
 fn messages_go_over_the_end_of_a_block_and_back(rt: HostRuntime) -> Result<(), Fail> {
     let mut queue = Exclusive::unbounded(rt.alloc());
-    assert!(rt; queue.capacity().is_none());
+    let mut right = queue.capacity().is_none();
     for value in 0..32u64 {
-        assert!(rt; queue.push(value).is_ok());
+        right = right && queue.push(value).is_ok();
     }
-    assert_eq!(rt; queue.len(), 32);
-    assert!(rt; matches!(queue.force_push(32), Ok(None)));
-    assert!(rt; !queue.is_full());
+    right = right && queue.len() == 32;
+    let one_more = forced(&queue.force_push(32));
+    right = right && !queue.is_full();
     for value in 0..33u64 {
-        assert!(rt; matches!(queue.pop(), Ok(popped) if popped == value));
+        right = right && popped(&queue.pop()) == ("popped", value);
     }
-    assert!(rt; queue.is_empty());
-    assert!(rt; matches!(queue.pop(), Err(PopError::Empty)));
-    assert!(rt; queue.close());
-    assert!(rt; matches!(queue.push(7), Err(PushError::Closed(7))));
-    assert!(rt; matches!(queue.pop(), Err(PopError::Closed)));
+    right = right && queue.is_empty();
+    let none = popped(&queue.pop());
+    right = right && queue.close();
+    let after = [pushed(&queue.push(7)), popped(&queue.pop())];
+    drop(queue);
+    assert!(rt; right);
+    assert_eq!(rt; [one_more, none], [("forced", 0), ("empty", 0)]);
+    assert_eq!(rt; after, [("closed", 7), ("shut", 0)]);
     Ok(())
 }

@@ -16,6 +16,8 @@ mod one_slot;
 #[cfg(test)]
 mod ring;
 #[cfg(test)]
+mod said;
+#[cfg(test)]
 mod scarce;
 #[cfg(test)]
 mod shared;

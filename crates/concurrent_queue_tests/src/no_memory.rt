@@ -1,42 +1,57 @@
 //! Calls of a queue of one owner that take no memory. `tools/refuse_growths.py --from concurrent_queue_tests no_memory::` refuses all
 //! requests from each one on: whatever was prepared before it, these calls answer as ever.
 
-use concurrent_queue::error::{ForcePushError, PopError, PushError};
+use crate::said::{Said, forced, popped, pushed};
 use concurrent_queue::exclusive::Exclusive;
-use std::alloc::{AllocError, Global};
+use std::alloc::AllocError;
 use std::test::Fail;
 
-/// A queue without a bound is made, asked, popped, closed and pushed into: none of it takes a block.
-fn empty_answers(alloc: Global) -> [bool; 4] {
-    let mut queue: Exclusive<u64> = Exclusive::unbounded(alloc);
-    let asked = queue.is_empty() && !queue.is_full() && queue.len() == 0;
-    let none = queue.capacity().is_none() && matches!(queue.pop(), Err(PopError::Empty));
-    let closed = queue.close() && queue.is_closed() && !queue.close();
-    let over = matches!(queue.push(5), Err(PushError::Closed(5)))
-        && matches!(queue.force_push(6), Err(ForcePushError::Closed(6)))
-        && matches!(queue.pop(), Err(PopError::Closed));
-    [asked, none, closed, over]
+/// A queue without a bound is asked, popped, closed and pushed into: none of it takes a block.
+fn empty_answers(queue: &mut Exclusive<u64>) -> ([bool; 6], [Said; 4]) {
+    let asked = [
+        queue.is_empty() && queue.len() == 0,
+        queue.is_full(),
+        queue.capacity().is_none(),
+    ];
+    let none = popped(&queue.pop());
+    let closing = [queue.close(), queue.is_closed(), queue.close()];
+    let over = [
+        pushed(&queue.push(5)),
+        forced(&queue.force_push(6)),
+        popped(&queue.pop()),
+    ];
+    (
+        [
+            asked[0], asked[1], asked[2], closing[0], closing[1], closing[2],
+        ],
+        [none, over[0], over[1], over[2]],
+    )
 }
 
 #[test]
 fn a_new_queue_without_a_bound_takes_no_memory(rt: HostRuntime) -> Result<(), Fail> {
-    assert_eq!(rt; empty_answers(rt.alloc()), [true, true, true, true]);
+    let (answers, said) = empty_answers(&mut Exclusive::unbounded(rt.alloc()));
+    assert_eq!(rt; answers, [true, false, true, true, true, false]);
+    assert_eq!(rt;
+        said,
+        [("empty", 0), ("closed", 5), ("closed", 6), ("shut", 0)]
+    );
     Ok(())
 }
 
-/// A queue with so many places is filled and past it, and emptied.
-fn filled_answers(queue: &mut Exclusive<u64>, places: u64) -> [bool; 4] {
-    let mut pushed = true;
+/// A queue with so many places is filled and past it, and emptied: what was said at its end, and whether all else was as in a list.
+fn filled_answers(queue: &mut Exclusive<u64>, places: u64) -> ([Said; 2], bool) {
+    let mut right = true;
     for message in 0..places {
-        pushed = pushed && queue.push(message).is_ok();
+        right = right && queue.push(message).is_ok();
     }
-    let full = queue.is_full() && matches!(queue.push(8), Err(PushError::Full(8)));
-    let forced = matches!(queue.force_push(9), Ok(Some(0)));
+    right = right && queue.is_full();
+    let said = [pushed(&queue.push(8)), forced(&queue.force_push(9))];
     let mut last = 0;
     for _ in 0..places {
         last = queue.pop().unwrap_or(7);
     }
-    [pushed, full, forced, last == 9 && queue.is_empty()]
+    (said, right && last == 9 && queue.is_empty())
 }
 
 #[test]
@@ -46,7 +61,8 @@ fn a_queue_with_a_bound_takes_no_memory(rt: HostRuntime) -> Result<(), Fail> {
     let answers = [filled_answers(&mut slot, 1), filled_answers(&mut ring, 3)];
     drop(slot);
     drop(ring);
-    assert_eq!(rt; answers, [[true; 4]; 2]);
+    let said = [("full", 8), ("displaced", 0)];
+    assert_eq!(rt; answers, [(said, true), (said, true)]);
     Ok(())
 }
 

@@ -1,8 +1,9 @@
 //! What calls of an unbounded queue do where memory is wanted or positions come to their end, over cells of these tests' own.
 
-use concurrent_queue::call::{QueueAsk, QueueMark, QueueReply};
+use crate::said::{Said, replied};
+use concurrent_queue::call::{QueueAsk, QueueMark};
 use concurrent_queue::cells::{Cells, QueueForm, Slot, Word};
-use concurrent_queue::error::{ForcePushError, NoMemory, PopError, PushError};
+use concurrent_queue::error::NoMemory;
 use concurrent_queue::plain::PlainCells;
 use concurrent_queue::queue_call::QueueCall;
 use std::alloc::{AllocError, Global};
@@ -88,67 +89,73 @@ fn cells_with(alloc: Global, left: u32) -> Result<Scarce, AllocError> {
     })
 }
 
-/// Makes the steps of a call up to its reply.
-fn run(cells: &mut Scarce, ask: QueueAsk<u64>) -> Option<QueueReply<u64>> {
-    let mut call = QueueCall::new(ask);
+/// Makes the steps that a call has left, and says what it answers.
+fn ended(cells: &mut Scarce, call: &mut QueueCall<u64>) -> Said {
+    let mut said = ("nothing", 0);
     for _ in 0..64 {
-        match call.step(cells) {
-            Some(reply) => return Some(reply),
-            None => {}
+        if let Some(reply) = call.step(cells) {
+            said = replied(&reply);
+            break;
         }
     }
-    None
+    said
 }
 
-fn pushes(cells: &mut Scarce, value: u64) -> bool {
-    matches!(
-        run(cells, QueueAsk::Push(value)),
-        Some(QueueReply::Push(Ok(())))
-    )
+/// What a call answers.
+fn asked(cells: &mut Scarce, ask: QueueAsk<u64>) -> Said {
+    ended(cells, &mut QueueCall::new(ask))
 }
 
-fn pops(cells: &mut Scarce, value: u64) -> bool {
-    match run(cells, QueueAsk::Pop) {
-        Some(QueueReply::Pop(Ok(popped))) => popped == value,
-        _ => false,
+/// Whether the messages from this one up to another are pushed.
+fn pushes(cells: &mut Scarce, first: u64, end: u64) -> bool {
+    let mut right = true;
+    for message in first..end {
+        right = right && asked(cells, QueueAsk::Push(message)) == ("pushed", 0);
     }
+    right
 }
 
-fn refuses(cells: &mut Scarce, value: u64) -> bool {
-    match run(cells, QueueAsk::Push(value)) {
-        Some(QueueReply::Push(Err(PushError::NoMemory(back)))) => back == value,
-        _ => false,
+/// Whether they are popped.
+fn pops(cells: &mut Scarce, first: u64, end: u64) -> bool {
+    let mut right = true;
+    for message in first..end {
+        right = right && asked(cells, QueueAsk::Pop) == ("popped", message);
     }
+    right
 }
 
-fn has_length(cells: &mut Scarce, length: usize) -> bool {
-    match run(cells, QueueAsk::Len) {
-        Some(QueueReply::Count(count)) => count == length,
-        _ => false,
+/// Whether they are pushed and popped, one at a time.
+fn passes(cells: &mut Scarce, first: u64, end: u64) -> bool {
+    let mut right = true;
+    for message in first..end {
+        right = right
+            && asked(cells, QueueAsk::Push(message)) == ("pushed", 0)
+            && asked(cells, QueueAsk::Pop) == ("popped", message);
     }
+    right
 }
 
 #[test]
 fn a_refused_push_changes_nothing(rt: HostRuntime) -> Result<(), Fail> {
     let mut cells = cells_with(rt.alloc(), 0)?;
-    assert!(rt; refuses(&mut cells, 5));
-    assert!(rt; has_length(&mut cells, 0));
+    let refused = asked(&mut cells, QueueAsk::Push(5));
+    let length = asked(&mut cells, QueueAsk::Len);
     cells.left = 1;
-    assert!(rt; pushes(&mut cells, 5));
-    assert!(rt; pops(&mut cells, 5));
+    let passed = passes(&mut cells, 5, 6);
+    drop(cells);
+    assert_eq!(rt; [refused, length], [("no memory", 5), ("holds", 0)]);
+    assert!(rt; passed);
     Ok(())
 }
 
 #[test]
 fn two_blocks_serve_one_message_at_a_time(rt: HostRuntime) -> Result<(), Fail> {
     let mut cells = cells_with(rt.alloc(), 2)?;
-    for value in 1..1001u64 {
-        if value == 32 {
-            cells.left = 0;
-        }
-        assert!(rt; pushes(&mut cells, value));
-        assert!(rt; pops(&mut cells, value));
-    }
+    let prepared = passes(&mut cells, 1, 32);
+    cells.left = 0;
+    let served = passes(&mut cells, 32, 1_001);
+    drop(cells);
+    assert_eq!(rt; [prepared, served], [true, true]);
     Ok(())
 }
 
@@ -156,62 +163,36 @@ fn two_blocks_serve_one_message_at_a_time(rt: HostRuntime) -> Result<(), Fail> {
 #[test]
 fn blocks_that_were_given_back_take_no_memory(rt: HostRuntime) -> Result<(), Fail> {
     let mut cells = cells_with(rt.alloc(), 4)?;
-    for value in 0..100u64 {
-        assert!(rt; pushes(&mut cells, value));
-    }
-    for value in 0..100u64 {
-        assert!(rt; pops(&mut cells, value));
-    }
+    let made = pushes(&mut cells, 0, 100) && pops(&mut cells, 0, 100);
     cells.left = 0;
-    for value in 100..216u64 {
-        assert!(rt; pushes(&mut cells, value));
-    }
-    assert!(rt; refuses(&mut cells, 216));
-    for value in 100..216u64 {
-        assert!(rt; pops(&mut cells, value));
-    }
+    let served = pushes(&mut cells, 100, 216);
+    let wanted = asked(&mut cells, QueueAsk::Push(216));
+    let left = pops(&mut cells, 100, 216);
+    drop(cells);
+    assert_eq!(rt; [made, served, left], [true, true, true]);
+    assert_eq!(rt; wanted, ("no memory", 216));
     Ok(())
 }
 
 #[test]
 fn a_refused_block_after_the_first_changes_nothing(rt: HostRuntime) -> Result<(), Fail> {
     let mut cells = cells_with(rt.alloc(), 1)?;
-    for value in 0..30u64 {
-        assert!(rt; pushes(&mut cells, value));
-    }
-    assert!(rt; refuses(&mut cells, 30));
-    assert!(rt; has_length(&mut cells, 30));
-    match run(&mut cells, QueueAsk::ForcePush(31)) {
-        Some(QueueReply::Force(Err(ForcePushError::NoMemory(back)))) => assert_eq!(rt; back, 31),
-        _ => assert!(rt; false),
-    }
+    let filled = pushes(&mut cells, 0, 30);
+    let refused = [
+        asked(&mut cells, QueueAsk::Push(30)),
+        asked(&mut cells, QueueAsk::Len),
+        asked(&mut cells, QueueAsk::ForcePush(31)),
+    ];
     cells.left = 1;
-    match run(&mut cells, QueueAsk::ForcePush(31)) {
-        Some(QueueReply::Force(Ok(None))) => {}
-        _ => assert!(rt; false),
-    }
-    for value in 0..30u64 {
-        assert!(rt; pops(&mut cells, value));
-    }
-    assert!(rt; pops(&mut cells, 31));
+    let again = asked(&mut cells, QueueAsk::ForcePush(31));
+    let left = pops(&mut cells, 0, 30) && pops(&mut cells, 31, 32);
+    drop(cells);
+    assert_eq!(rt;
+        refused,
+        [("no memory", 30), ("holds", 30), ("no memory", 31)]
+    );
+    assert_eq!(rt; (filled, again, left), (true, ("forced", 0), true));
     Ok(())
-}
-
-/// What a push came to.
-#[derive(Clone, Copy, PartialEq, Eq)]
-enum Pushed {
-    In,
-    /// Its message came back, for want of memory.
-    Refused,
-    Else,
-}
-
-fn push(cells: &mut Scarce, value: u64) -> Pushed {
-    match run(cells, QueueAsk::Push(value)) {
-        Some(QueueReply::Push(Ok(()))) => Pushed::In,
-        Some(QueueReply::Push(Err(PushError::NoMemory(back)))) if back == value => Pushed::Refused,
-        _ => Pushed::Else,
-    }
 }
 
 /// Pushes a hundred messages where so many blocks are had before one is refused, and pops them: how many pushes were refused, each of
@@ -219,33 +200,27 @@ fn push(cells: &mut Scarce, value: u64) -> Pushed {
 fn pushes_refused(alloc: Global, blocks: u32) -> Result<(u32, bool), AllocError> {
     let mut cells = cells_with(alloc, blocks)?;
     let (mut refused, mut right) = (0u32, true);
-    for value in 0..100u64 {
-        let mut pushed = push(&mut cells, value);
-        if pushed == Pushed::Refused {
+    for message in 0..100u64 {
+        let mut pushed = asked(&mut cells, QueueAsk::Push(message));
+        if pushed == ("no memory", message) {
             refused = refused.wrapping_add(1);
-            right = right && has_length(&mut cells, value as usize);
+            right = right && asked(&mut cells, QueueAsk::Len) == ("holds", message);
             cells.left = 9;
-            pushed = push(&mut cells, value);
+            pushed = asked(&mut cells, QueueAsk::Push(message));
         }
-        right = right && pushed == Pushed::In;
+        right = right && pushed == ("pushed", 0);
     }
-    for value in 0..100u64 {
-        right = right && pops(&mut cells, value);
-    }
+    right = right && pops(&mut cells, 0, 100);
     Ok((refused, right))
 }
 
 /// Each of the blocks that a hundred messages take is refused once, and then none.
 #[test]
 fn each_block_refused_once_loses_nothing(rt: HostRuntime) -> Result<(), Fail> {
-    let alloc = rt.alloc();
-    let seen = [
-        pushes_refused(alloc, 0)?,
-        pushes_refused(alloc, 1)?,
-        pushes_refused(alloc, 2)?,
-        pushes_refused(alloc, 3)?,
-        pushes_refused(alloc, 4)?,
-    ];
+    let mut seen = [(0, false); 5];
+    for (blocks, found) in seen.iter_mut().enumerate() {
+        *found = pushes_refused(rt.alloc(), blocks as u32)?;
+    }
     let one = (1, true);
     assert_eq!(rt; seen, [one, one, one, one, (0, true)]);
     Ok(())
@@ -256,78 +231,58 @@ fn positions_at_their_end_close_the_queue(rt: HostRuntime) -> Result<(), Fail> {
     let mut cells = cells_with(rt.alloc(), 1)?;
     cells.store(Word::Tail, 0xffff_ffff_ffff_ff80);
     let mut call = QueueCall::new(QueueAsk::Push(7));
-    assert!(rt; call.step(&mut cells).is_none());
-    match call.step(&mut cells) {
-        Some(QueueReply::Push(Err(PushError::Closed(back)))) => assert_eq!(rt; back, 7),
-        _ => assert!(rt; false),
-    }
-    assert!(rt; matches!(call.last_mark(), QueueMark::Close));
-    assert!(rt;
-        matches!(
-            run(&mut cells, QueueAsk::IsClosed),
-            Some(QueueReply::Flag(true))
-        )
-    );
-    assert!(rt;
-        matches!(
-            run(&mut cells, QueueAsk::Close),
-            Some(QueueReply::Close(false))
-        )
-    );
+    let goes_on = call.step(&mut cells).is_none();
+    let refused = match call.step(&mut cells) {
+        Some(reply) => replied(&reply),
+        None => ("nothing", 0),
+    };
+    let closed_it = matches!(call.last_mark(), QueueMark::Close);
+    drop(call);
+    let after = [
+        asked(&mut cells, QueueAsk::IsClosed),
+        asked(&mut cells, QueueAsk::Close),
+    ];
+    drop(cells);
+    assert_eq!(rt; (goes_on, refused, closed_it), (true, ("closed", 7), true));
+    assert_eq!(rt; after, [("yes", 0), ("was closed", 0)]);
     Ok(())
 }
 
 #[test]
 fn questions_and_closing(rt: HostRuntime) -> Result<(), Fail> {
     let mut cells = cells_with(rt.alloc(), 9)?;
-    assert!(rt;
-        matches!(
-            run(&mut cells, QueueAsk::IsEmpty),
-            Some(QueueReply::Flag(true))
-        )
+    let new = [
+        asked(&mut cells, QueueAsk::IsEmpty),
+        asked(&mut cells, QueueAsk::Pop),
+    ];
+    let filled = [
+        asked(&mut cells, QueueAsk::Push(1)),
+        asked(&mut cells, QueueAsk::IsEmpty),
+        asked(&mut cells, QueueAsk::IsFull),
+        asked(&mut cells, QueueAsk::Capacity),
+        asked(&mut cells, QueueAsk::Len),
+    ];
+    let closed = [
+        asked(&mut cells, QueueAsk::Close),
+        asked(&mut cells, QueueAsk::Push(2)),
+        asked(&mut cells, QueueAsk::Pop),
+        asked(&mut cells, QueueAsk::Pop),
+    ];
+    drop(cells);
+    assert_eq!(rt; new, [("yes", 0), ("empty", 0)]);
+    assert_eq!(rt;
+        filled,
+        [
+            ("pushed", 0),
+            ("no", 0),
+            ("no", 0),
+            ("no bound", 0),
+            ("holds", 1)
+        ]
     );
-    assert!(rt;
-        matches!(
-            run(&mut cells, QueueAsk::Pop),
-            Some(QueueReply::Pop(Err(PopError::Empty)))
-        )
-    );
-    assert!(rt; pushes(&mut cells, 1));
-    assert!(rt;
-        matches!(
-            run(&mut cells, QueueAsk::IsEmpty),
-            Some(QueueReply::Flag(false))
-        )
-    );
-    assert!(rt;
-        matches!(
-            run(&mut cells, QueueAsk::IsFull),
-            Some(QueueReply::Flag(false))
-        )
-    );
-    assert!(rt;
-        matches!(
-            run(&mut cells, QueueAsk::Capacity),
-            Some(QueueReply::Cap(None))
-        )
-    );
-    assert!(rt; has_length(&mut cells, 1));
-    assert!(rt;
-        matches!(
-            run(&mut cells, QueueAsk::Close),
-            Some(QueueReply::Close(true))
-        )
-    );
-    match run(&mut cells, QueueAsk::Push(2)) {
-        Some(QueueReply::Push(Err(PushError::Closed(back)))) => assert_eq!(rt; back, 2),
-        _ => assert!(rt; false),
-    }
-    assert!(rt; pops(&mut cells, 1));
-    assert!(rt;
-        matches!(
-            run(&mut cells, QueueAsk::Pop),
-            Some(QueueReply::Pop(Err(PopError::Closed)))
-        )
+    assert_eq!(rt;
+        closed,
+        [("closed it", 0), ("closed", 2), ("popped", 1), ("shut", 0)]
     );
     Ok(())
 }

@@ -1,8 +1,12 @@
-//! Steps of a run.
+//! Steps of a run, and what it makes of them.
 
-use concurrent_queue::call::QueueAsk;
-use concurrent_queue::run::QueueStep;
+use crate::said::{Said, replied};
+use concurrent_queue::call::{QueueAsk, QueueEntry, QueueMark};
+use concurrent_queue::cells::QueueForm;
+use concurrent_queue::run::{QueueRun, QueueStep, run_queue_steps};
+use std::alloc::AllocGlobal;
 use std::collections::VecDeque;
+use std::process::Abort;
 use std::test::Fail;
 
 /// One call's Begin and some steps of it.
@@ -25,5 +29,66 @@ pub(crate) fn more(
     for _ in 0..count {
         steps.push_back(QueueStep::Step { party })?;
     }
+    Ok(())
+}
+
+fn mark_of(entry: &QueueEntry<u64>) -> &'static str {
+    match entry.mark {
+        QueueMark::Nothing => "",
+        QueueMark::Append => "append",
+        QueueMark::Take => "take",
+        QueueMark::TakeDisplaced => "displace",
+        QueueMark::Replace => "replace",
+        QueueMark::Close => "close",
+    }
+}
+
+/// Whether these are the marks of a run, each with its place.
+fn has_marks(run: &QueueRun<u64>, marks: &[(usize, &'static str)]) -> bool {
+    let mut found = 0usize;
+    let mut right = true;
+    for (place, entry) in run.trace.iter().enumerate() {
+        let mark = mark_of(entry);
+        if mark != "" {
+            right = right && marks.get(found) == Some(&(place, mark));
+            found = found.wrapping_add(1);
+        }
+    }
+    right && found == marks.len()
+}
+
+/// Whether these are its replies, each with its place.
+fn has_replies(run: &QueueRun<u64>, replies: &[(usize, Said)]) -> bool {
+    let mut found = 0usize;
+    let mut right = true;
+    for (place, entry) in run.trace.iter().enumerate() {
+        if let Some(reply) = &entry.reply {
+            right = right && replies.get(found) == Some(&(place, replied(reply)));
+            found = found.wrapping_add(1);
+        }
+    }
+    right && found == replies.len()
+}
+
+/// Runs all steps, which leave so many entries with these marks and replies, each with its place.
+pub(crate) fn check<R: AllocGlobal + Abort>(
+    rt: &R,
+    form: QueueForm,
+    mut steps: VecDeque<QueueStep<u64>>,
+    entries: usize,
+    marks: &[(usize, &'static str)],
+    replies: &[(usize, Said)],
+) -> Result<(), Fail> {
+    let run = run_queue_steps(rt.alloc(), form, &mut steps);
+    drop(steps);
+    let length = run.trace.len();
+    let right = [
+        run.stopped.is_none(),
+        has_marks(&run, marks),
+        has_replies(&run, replies),
+    ];
+    drop(run);
+    assert_eq!(rt; length, entries);
+    assert_eq!(rt; right, [true, true, true]);
     Ok(())
 }

@@ -58,11 +58,12 @@ fn gives_the_rest<R: Threads + Wait + Sync>(
 
 #[test]
 fn a_closed_queue_gives_the_rest_and_then_closed(rt: HostRuntime) -> Result<(), Fail> {
+    let alloc = rt.alloc();
+    let mut right = true;
     for capacity in 1..4 {
-        let queue = ConcurrentQueue::bounded(rt.alloc(), capacity)?;
-        assert!(rt; gives_the_rest(&rt, rt.alloc(), &queue));
+        right = right && gives_the_rest(&rt, alloc, &ConcurrentQueue::bounded(alloc, capacity)?);
     }
-    let queue = ConcurrentQueue::unbounded(rt.alloc())?;
-    assert!(rt; gives_the_rest(&rt, rt.alloc(), &queue));
+    right = right && gives_the_rest(&rt, alloc, &ConcurrentQueue::unbounded(alloc)?);
+    assert!(rt; right);
     Ok(())
 }

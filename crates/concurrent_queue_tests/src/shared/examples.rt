@@ -3,74 +3,88 @@
 ghost use Rattle.std.specs.Prelude.{◌≡◌, ◌%◌, ◌≤◌, IfOk, true};
 
 use crate::by_steps::capacity_by_steps;
+use crate::said::{Said, forced, popped, pushed, replied};
 use concurrent_queue::call::QueueReply;
-use concurrent_queue::error::{ForcePushError, PopError, PushError};
+use concurrent_queue::error::PopError;
 use concurrent_queue::queue_call::QueueCall;
 use concurrent_queue::shared::queue::ConcurrentQueue;
+use std::alloc::AllocError;
 use std::sync::{Arc, Wait};
 use std::test::Fail;
 
 /// Whether pushes and pops of so many messages answer as a list would, again and again.
 fn goes_round<R: Wait>(rt: &R, queue: &ConcurrentQueue<u64>, messages: u64) -> bool {
+    let mut right = true;
     for _ in 0..10 {
         for message in 0..messages {
-            if queue.push(rt, message) != Ok(()) {
-                return false;
-            }
+            right = right && pushed(&queue.push(rt, message)) == ("pushed", 0);
         }
         for message in 0..messages {
-            if queue.pop(rt) != Ok(message) {
-                return false;
-            }
+            right = right && popped(&queue.pop(rt)) == ("popped", message);
         }
     }
-    queue.pop(rt) == Err(PopError::Empty) && queue.is_empty()
+    right && popped(&queue.pop(rt)) == ("empty", 0) && queue.is_empty()
 }
 
 #[test]
 fn messages_come_in_order(rt: HostRuntime) -> Result<(), Fail> {
+    let mut right = true;
     for capacity in 1..6 {
         let queue = ConcurrentQueue::bounded(rt.alloc(), capacity)?;
-        assert!(rt; goes_round(&rt, &queue, capacity as u64));
+        right = right && goes_round(&rt, &queue, capacity as u64);
     }
-    let queue = ConcurrentQueue::unbounded(rt.alloc())?;
-    assert!(rt; goes_round(&rt, &queue, 100));
+    right = right && goes_round(&rt, &ConcurrentQueue::unbounded(rt.alloc())?, 100);
+    assert!(rt; right);
     Ok(())
+}
+
+/// Closes a queue, and says what the closing, a question, a second closing and two pushes answer then.
+fn closed_answers<R: Wait>(rt: &R, queue: &ConcurrentQueue<u64>) -> ([bool; 3], [Said; 2]) {
+    let closing = [queue.close(), queue.close(), queue.is_closed()];
+    let refused = [pushed(&queue.push(rt, 9)), forced(&queue.force_push(rt, 9))];
+    (closing, refused)
+}
+
+/// What they answer.
+const CLOSED: ([bool; 3], [Said; 2]) = ([true, false, true], [("closed", 9), ("closed", 9)]);
+
+/// Fills a queue of so many places by displacing pushes, and pushes once more by each kind: whether all answered as a list would.
+fn is_full_then<R: Wait>(rt: &R, queue: &ConcurrentQueue<u64>, places: usize) -> bool {
+    let mut right = true;
+    for message in 0..places as u64 {
+        right = right && forced(&queue.force_push(rt, message)) == ("forced", 0);
+    }
+    right = right && queue.is_full() && queue.len(rt) == places;
+    right = right && pushed(&queue.push(rt, 7)) == ("full", 7);
+    right && forced(&queue.force_push(rt, 8)) == ("displaced", 0)
 }
 
 #[test]
 fn a_full_queue_refuses_or_displaces(rt: HostRuntime) -> Result<(), Fail> {
-    for capacity in 1..4u64 {
-        let queue = ConcurrentQueue::bounded(rt.alloc(), capacity as usize)?;
-        for message in 0..capacity {
-            assert!(rt; queue.force_push(&rt, message) == Ok(None));
-        }
-        assert!(rt; queue.is_full());
-        assert!(rt; queue.len(&rt) == capacity as usize);
-        assert!(rt; queue.push(&rt, 7) == Err(PushError::Full(7)));
-        assert!(rt; queue.force_push(&rt, 8) == Ok(Some(0)));
-        assert!(rt; queue.close() && !queue.close() && queue.is_closed());
-        assert!(rt; queue.push(&rt, 9) == Err(PushError::Closed(9)));
-        assert!(rt; queue.force_push(&rt, 9) == Err(ForcePushError::Closed(9)));
-        assert!(rt; queue.len(&rt) == capacity as usize);
-        assert!(rt; queue.capacity() == Some(capacity as usize));
+    let mut right = true;
+    for places in 1..4usize {
+        let queue = ConcurrentQueue::bounded(rt.alloc(), places)?;
+        right = right && is_full_then(&rt, &queue, places) && closed_answers(&rt, &queue) == CLOSED;
+        right = right && queue.len(&rt) == places && queue.capacity() == Some(places);
     }
+    assert!(rt; right);
     Ok(())
 }
 
 #[test]
 fn an_unbounded_queue_is_never_full(rt: HostRuntime) -> Result<(), Fail> {
     let queue = ConcurrentQueue::unbounded(rt.alloc())?;
+    let mut right = true;
     for message in 0..100u64 {
-        assert!(rt; queue.force_push(&rt, message) == Ok(None));
-        assert!(rt; !queue.is_full());
+        right = right && forced(&queue.force_push(&rt, message)) == ("forced", 0);
+        right = right && !queue.is_full();
     }
-    assert!(rt; queue.len(&rt) == 100);
-    assert!(rt; queue.capacity().is_none());
-    assert!(rt; queue.close() && !queue.close() && queue.is_closed());
-    assert!(rt; queue.push(&rt, 9) == Err(PushError::Closed(9)));
-    assert!(rt; queue.force_push(&rt, 9) == Err(ForcePushError::Closed(9)));
-    assert!(rt; queue.pop(&rt) == Ok(0));
+    right = right && queue.len(&rt) == 100 && queue.capacity().is_none();
+    let closed = closed_answers(&rt, &queue);
+    let left = popped(&queue.pop(&rt));
+    drop(queue);
+    assert!(rt; right && closed == CLOSED);
+    assert_eq!(rt; left, ("popped", 0));
     Ok(())
 }
 
@@ -84,17 +98,27 @@ fn capacities_too_great_are_refused(rt: HostRuntime) -> Result<(), Fail> {
     Ok(())
 }
 
+/// What a walk and a copy of it give of a queue into which messages come between.
+fn walked_by_turns<R: Wait>(
+    rt: &R,
+    queue: &ConcurrentQueue<u64>,
+) -> Result<[Option<u64>; 4], AllocError> {
+    let mut walk = queue.try_iter(rt);
+    let nothing = walk.next();
+    drop(queue.push(rt, 7));
+    let mut other = walk.clone()?;
+    let first = walk.next();
+    let none = other.next();
+    drop(queue.push(rt, 8));
+    Ok([nothing, first, none, other.next()])
+}
+
 #[test]
 fn a_walk_goes_on_after_none(rt: HostRuntime) -> Result<(), Fail> {
     let queue = ConcurrentQueue::bounded(rt.alloc(), 3)?;
-    let mut walk = queue.try_iter(&rt);
-    assert!(rt; walk.next().is_none());
-    assert!(rt; queue.push(&rt, 7u64) == Ok(()));
-    let mut other = walk.clone()?;
-    assert!(rt; walk.next() == Some(7));
-    assert!(rt; other.next().is_none());
-    assert!(rt; queue.push(&rt, 8) == Ok(()));
-    assert!(rt; other.next() == Some(8));
+    let given = walked_by_turns(&rt, &queue)?;
+    drop(queue);
+    assert_eq!(rt; given, [None, Some(7), None, Some(8)]);
     Ok(())
 }
 
@@ -112,28 +136,45 @@ fn dropped_with<R: Wait>(rt: &R, queue: ConcurrentQueue<Arc<u8>>, shared: &Arc<u
 
 #[test]
 fn what_is_left_is_dropped_once(rt: HostRuntime) -> Result<(), Fail> {
-    let shared = Arc::new(rt.alloc(), 7u8)?;
-    for capacity in 1..4 {
-        let queue = ConcurrentQueue::bounded(rt.alloc(), capacity)?;
-        assert!(rt; dropped_with(&rt, queue, &shared) == capacity);
-    }
-    let queue = ConcurrentQueue::unbounded(rt.alloc())?;
-    assert!(rt; dropped_with(&rt, queue, &shared) == 40);
-    assert!(rt; Arc::strong_count(&shared) == 1);
+    let alloc = rt.alloc();
+    let shared = Arc::new(alloc, 7u8)?;
+    let left = [
+        dropped_with(&rt, ConcurrentQueue::bounded(alloc, 1)?, &shared),
+        dropped_with(&rt, ConcurrentQueue::bounded(alloc, 2)?, &shared),
+        dropped_with(&rt, ConcurrentQueue::bounded(alloc, 3)?, &shared),
+        dropped_with(&rt, ConcurrentQueue::unbounded(alloc)?, &shared),
+    ];
+    let count = Arc::strong_count(&shared);
+    drop(shared);
+    assert_eq!(rt; (left, count), ([1, 2, 3, 40], 1));
     Ok(())
+}
+
+/// What a step of a call over a shared queue answers.
+fn answer_of(reply: Option<QueueReply<u64>>) -> Said {
+    match &reply {
+        Some(reply) => replied(reply),
+        None => ("", 0),
+    }
 }
 
 #[test]
 fn calls_go_by_steps(rt: HostRuntime) -> Result<(), Fail> {
     let queue = ConcurrentQueue::bounded(rt.alloc(), 1)?;
     let mut push = QueueCall::push(7u64);
-    assert!(rt; queue.step(&rt, &mut push).is_none());
-    assert!(rt; queue.step(&rt, &mut push).is_none());
-    assert!(rt; matches!(queue.step(&rt, &mut push), Some(QueueReply::Push(Ok(())))));
+    let pushing = [
+        answer_of(queue.step(&rt, &mut push)),
+        answer_of(queue.step(&rt, &mut push)),
+        answer_of(queue.step(&rt, &mut push)),
+    ];
+    drop(push);
     let mut close = QueueCall::close();
-    assert!(rt; matches!(queue.step_words(&mut close), Some(QueueReply::Close(true))));
-    assert!(rt; queue.is_closed());
-    assert!(rt; capacity_by_steps(&queue) == Some(1));
+    let closing = answer_of(queue.step_words(&mut close));
+    drop(close);
+    let then = (queue.is_closed(), capacity_by_steps(&queue));
+    drop(queue);
+    assert_eq!(rt; pushing, [("", 0), ("", 0), ("pushed", 0)]);
+    assert_eq!(rt; (closing, then), (("closed it", 0), (true, Some(1))));
     Ok(())
 }
 
@@ -155,7 +196,9 @@ fn doubles<R: Wait>(rt: &R, queue: &ConcurrentQueue<Even>) -> Result<bool, PopEr
 #[test]
 fn what_messages_keep_holds_of_popped_ones(rt: HostRuntime) -> Result<(), Fail> {
     let queue = ConcurrentQueue::bounded(rt.alloc(), 2)?;
-    assert!(rt; queue.push(&rt, Even { number: 8 }).is_ok());
-    assert!(rt; doubles(&rt, &queue) == Ok(true));
+    let went = queue.push(&rt, Even { number: 8 }).is_ok();
+    let doubled = doubles(&rt, &queue).is_ok_and(|doubles| doubles);
+    drop(queue);
+    assert_eq!(rt; (went, doubled), (true, true));
     Ok(())
 }

@@ -1,6 +1,7 @@
 //! Want of memory.
 
-use concurrent_queue::error::{PopError, PushError};
+use crate::said::popped;
+use concurrent_queue::error::PushError;
 use concurrent_queue::shared::queue::ConcurrentQueue;
 use std::sync::Wait;
 use std::test::Fail;
@@ -29,10 +30,12 @@ fn a_refused_push_comes_back_and_loses_nothing(rt: HostRuntime) -> Result<(), Fa
     let Ok(queue) = ConcurrentQueue::unbounded(rt.alloc()) else {
         return Ok(());
     };
-    assert!(rt; pushes_again(&rt, &queue).is_some_and(|refused| refused <= 1));
+    let mut right = pushes_again(&rt, &queue).is_some_and(|refused| refused <= 1);
     for message in 0..70 {
-        assert!(rt; queue.pop(&rt) == Ok(message));
+        right = right && popped(&queue.pop(&rt)) == ("popped", message);
     }
-    assert!(rt; queue.pop(&rt) == Err(PopError::Empty));
+    right = right && popped(&queue.pop(&rt)) == ("empty", 0);
+    drop(queue);
+    assert!(rt; right);
     Ok(())
 }
