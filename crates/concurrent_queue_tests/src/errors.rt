@@ -12,11 +12,14 @@ use std::test::Fail;
 
 #[test]
 fn refusals_hand_the_message_back(rt: HostRuntime) -> std::result::Result<(), Fail> {
-    assert_eq!(rt; PushError::Full(1u64).into_inner(), 1);
-    assert_eq!(rt; PushError::Closed(2u64).into_inner(), 2);
-    assert_eq!(rt; PushError::NoMemory(3u64).into_inner(), 3);
-    assert_eq!(rt; ForcePushError::Closed(4u64).into_inner(), 4);
-    assert_eq!(rt; ForcePushError::NoMemory(5u64).into_inner(), 5);
+    let back = [
+        PushError::Full(1u64).into_inner(),
+        PushError::Closed(2).into_inner(),
+        PushError::NoMemory(3).into_inner(),
+        ForcePushError::Closed(4).into_inner(),
+        ForcePushError::NoMemory(5).into_inner(),
+    ];
+    assert_eq!(rt; back, [1, 2, 3, 4, 5]);
     Ok(())
 }
 
@@ -40,20 +43,21 @@ fn refusals_say_why(rt: HostRuntime) -> std::result::Result<(), Fail> {
     Ok(())
 }
 
+/// Whether a refusal is equal to its copies and to no other.
+fn is_itself<E: Copy + Clone + Drop + PartialEq>(error: E, other: E) -> Result<bool, AllocError> {
+    let copy = error;
+    Ok(error == copy && error != other && error.clone()? == error)
+}
+
 #[test]
 fn refusals_are_compared_and_copied(rt: HostRuntime) -> std::result::Result<(), Fail> {
-    let full = PushError::Full(1u64);
-    let copy = full;
-    assert!(rt; full == copy && full != PushError::Full(2) && full != PushError::Closed(1));
-    assert!(rt; full.clone()? == full);
-    let closed = ForcePushError::Closed(1u64);
-    let copy = closed;
-    assert!(rt; closed == copy && closed != ForcePushError::NoMemory(1));
-    assert!(rt; closed.clone()? == closed);
-    let empty = PopError::Empty;
-    let copy = empty;
-    assert!(rt; empty == copy && empty != PopError::Closed);
-    assert!(rt; empty.clone()? == empty);
+    let told_apart = [
+        is_itself(PushError::Full(1u64), PushError::Full(2))?,
+        is_itself(PushError::Full(1u64), PushError::Closed(1))?,
+        is_itself(ForcePushError::Closed(1u64), ForcePushError::NoMemory(1))?,
+        is_itself(PopError::Empty, PopError::Closed)?,
+    ];
+    assert_eq!(rt; told_apart, [true; 4]);
     Ok(())
 }
 

@@ -1,5 +1,6 @@
 //! What calls of a ring do, step by step, by worked examples.
 
+use crate::said::Said;
 use crate::turns::{begin, check, more};
 use concurrent_queue::call::QueueAsk;
 use concurrent_queue::cells::QueueForm;
@@ -25,26 +26,32 @@ fn a_pop_waits_for_a_displacing_push(rt: HostRuntime) -> Result<(), Fail> {
         QueueForm::Bounded(2),
         steps,
         40,
-        &[
-            (3, "append"),
-            (9, "append"),
-            (15, "displace"),
-            (17, "close"),
-            (21, "take"),
-            (27, "append"),
-            (33, "take"),
-        ],
-        &[
-            (5, ("pushed", 0)),
-            (11, ("pushed", 0)),
-            (17, ("closed it", 0)),
-            (23, ("popped", 2)),
-            (30, ("displaced", 1)),
-            (35, ("popped", 3)),
-            (39, ("shut", 0)),
-        ],
+        DISPLACED_MARKS.as_slice(),
+        DISPLACED_REPLIES.as_slice(),
     )
 }
+
+/// The marks of that run, each with its place.
+const DISPLACED_MARKS: [(usize, &'static str); 7] = [
+    (3, "append"),
+    (9, "append"),
+    (15, "displace"),
+    (17, "close"),
+    (21, "take"),
+    (27, "append"),
+    (33, "take"),
+];
+
+/// Its replies, each with its place.
+const DISPLACED_REPLIES: [(usize, Said); 7] = [
+    (5, ("pushed", 0)),
+    (11, ("pushed", 0)),
+    (17, ("closed it", 0)),
+    (23, ("popped", 2)),
+    (30, ("displaced", 1)),
+    (35, ("popped", 3)),
+    (39, ("shut", 0)),
+];
 
 /// The same, with questions: between its two steps the displacing push leaves the queue closed and empty, and yet no pop
 /// says so.
@@ -68,26 +75,32 @@ fn a_closed_queue_stays_closed_under_a_displacing_push(rt: HostRuntime) -> Resul
         QueueForm::Bounded(2),
         steps,
         47,
-        &[
-            (3, "append"),
-            (9, "append"),
-            (15, "displace"),
-            (17, "close"),
-            (21, "take"),
-            (32, "append"),
-            (38, "take"),
-        ],
-        &[
-            (5, ("pushed", 0)),
-            (11, ("pushed", 0)),
-            (17, ("closed it", 0)),
-            (23, ("popped", 2)),
-            (25, ("yes", 0)),
-            (28, ("yes", 0)),
-            (35, ("displaced", 1)),
-            (40, ("popped", 3)),
-            (44, ("shut", 0)),
-            (46, ("closed", 4)),
-        ],
+        CLOSED_MARKS.as_slice(),
+        CLOSED_REPLIES.as_slice(),
     )
 }
+
+/// The marks of that run, each with its place.
+const CLOSED_MARKS: [(usize, &'static str); 7] = [
+    (3, "append"),
+    (9, "append"),
+    (15, "displace"),
+    (17, "close"),
+    (21, "take"),
+    (32, "append"),
+    (38, "take"),
+];
+
+/// Its replies, each with its place.
+const CLOSED_REPLIES: [(usize, Said); 10] = [
+    (5, ("pushed", 0)),
+    (11, ("pushed", 0)),
+    (17, ("closed it", 0)),
+    (23, ("popped", 2)),
+    (25, ("yes", 0)),
+    (28, ("yes", 0)),
+    (35, ("displaced", 1)),
+    (40, ("popped", 3)),
+    (44, ("shut", 0)),
+    (46, ("closed", 4)),
+];
