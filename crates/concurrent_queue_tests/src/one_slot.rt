@@ -16,10 +16,10 @@ fn a_push_waits_while_a_pop_reads(rt: HostRuntime) -> Result<(), Fail> {
     begin(&mut steps, 3, QueueAsk::Push(2), 1)?;
     more(&mut steps, 2, 2)?;
     more(&mut steps, 3, 3)?;
+    let run = run_queue_steps(rt.alloc(), QueueForm::Bounded(1), &mut steps);
     check(
         &rt,
-        QueueForm::Bounded(1),
-        steps,
+        run,
         13,
         &[(1, "append"), (5, "take"), (10, "append")],
         &[(3, ("pushed", 0)), (9, ("popped", 1)), (12, ("pushed", 0))],

@@ -4,6 +4,7 @@ use crate::said::Said;
 use crate::turns::{begin, check, more};
 use concurrent_queue::call::QueueAsk;
 use concurrent_queue::cells::QueueForm;
+use concurrent_queue::run::run_queue_steps;
 use std::collections::VecDeque;
 use std::test::Fail;
 
@@ -21,10 +22,10 @@ fn a_pop_waits_for_a_displacing_push(rt: HostRuntime) -> Result<(), Fail> {
     more(&mut steps, 2, 4)?;
     more(&mut steps, 5, 5)?;
     begin(&mut steps, 6, QueueAsk::Pop, 3)?;
+    let run = run_queue_steps(rt.alloc(), QueueForm::Bounded(2), &mut steps);
     check(
         &rt,
-        QueueForm::Bounded(2),
-        steps,
+        run,
         40,
         DISPLACED_MARKS.as_slice(),
         DISPLACED_REPLIES.as_slice(),
@@ -70,10 +71,10 @@ fn a_closed_queue_stays_closed_under_a_displacing_push(rt: HostRuntime) -> Resul
     more(&mut steps, 5, 5)?;
     begin(&mut steps, 4, QueueAsk::Pop, 3)?;
     begin(&mut steps, 0, QueueAsk::Push(4), 1)?;
+    let run = run_queue_steps(rt.alloc(), QueueForm::Bounded(2), &mut steps);
     check(
         &rt,
-        QueueForm::Bounded(2),
-        steps,
+        run,
         47,
         CLOSED_MARKS.as_slice(),
         CLOSED_REPLIES.as_slice(),

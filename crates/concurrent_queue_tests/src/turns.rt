@@ -2,9 +2,7 @@
 
 use crate::said::{Said, replied};
 use concurrent_queue::call::{QueueAsk, QueueEntry, QueueMark};
-use concurrent_queue::cells::QueueForm;
-use concurrent_queue::run::{QueueRun, QueueStep, run_queue_steps};
-use std::alloc::AllocGlobal;
+use concurrent_queue::run::{QueueRun, QueueStep};
 use std::collections::VecDeque;
 use std::process::Abort;
 use std::test::Fail;
@@ -70,17 +68,14 @@ fn has_replies(run: &QueueRun<u64>, replies: &[(usize, Said)]) -> bool {
     right && found == replies.len()
 }
 
-/// Runs all steps, which leave so many entries with these marks and replies, each with its place.
-pub(crate) fn check<R: AllocGlobal + Abort>(
-    rt: &R,
-    form: QueueForm,
-    mut steps: VecDeque<QueueStep<u64>>,
+/// Whether a run made all its steps, so many, with these marks and replies, each with its place.
+pub(crate) fn check(
+    rt: &impl Abort,
+    run: QueueRun<u64>,
     entries: usize,
     marks: &[(usize, &'static str)],
     replies: &[(usize, Said)],
 ) -> Result<(), Fail> {
-    let run = run_queue_steps(rt.alloc(), form, &mut steps);
-    drop(steps);
     let length = run.trace.len();
     let right = [
         run.stopped.is_none(),
