@@ -9,15 +9,14 @@ use std::collections::VecDeque;
 use std::test::Fail;
 
 /// Thirty messages go in and out again: the first push takes 8 steps, each other one 5, each pop 7.
-fn thirty_before(steps: &mut VecDeque<QueueStep<u64>>) -> Result<(), Fail> {
-    begin(steps, 0, QueueAsk::Push(0), 8)?;
+fn thirty_before(steps: &mut VecDeque<QueueStep<u64>>) {
+    begin(steps, 0, QueueAsk::Push(0), 8);
     for value in 1..30u64 {
-        begin(steps, 0, QueueAsk::Push(value), 5)?;
+        begin(steps, 0, QueueAsk::Push(value), 5);
     }
     for _ in 0..30u32 {
-        begin(steps, 0, QueueAsk::Pop, 7)?;
+        begin(steps, 0, QueueAsk::Pop, 7);
     }
-    Ok(())
 }
 
 /// What the k-th entry replied.
@@ -52,17 +51,17 @@ fn replies(run: &QueueRun<u64>) -> u32 {
 #[test]
 fn a_pop_waits_for_the_link_at_the_end_of_a_block(rt: HostRuntime) -> Result<(), Fail> {
     let mut steps = VecDeque::new(rt.alloc());
-    thirty_before(&mut steps)?;
-    begin(&mut steps, 1, QueueAsk::Push(31), 4)?;
-    begin(&mut steps, 2, QueueAsk::Push(32), 1)?;
-    begin(&mut steps, 3, QueueAsk::Pop, 4)?;
-    begin(&mut steps, 4, QueueAsk::IsEmpty, 2)?;
-    more(&mut steps, 3, 1)?;
-    more(&mut steps, 1, 3)?;
-    more(&mut steps, 3, 4)?;
-    more(&mut steps, 1, 2)?;
-    more(&mut steps, 3, 4)?;
-    more(&mut steps, 2, 5)?;
+    thirty_before(&mut steps);
+    begin(&mut steps, 1, QueueAsk::Push(31), 4);
+    begin(&mut steps, 2, QueueAsk::Push(32), 1);
+    begin(&mut steps, 3, QueueAsk::Pop, 4);
+    begin(&mut steps, 4, QueueAsk::IsEmpty, 2);
+    more(&mut steps, 3, 1);
+    more(&mut steps, 1, 3);
+    more(&mut steps, 3, 4);
+    more(&mut steps, 1, 2);
+    more(&mut steps, 3, 4);
+    more(&mut steps, 2, 5);
     let run = run_queue_steps(rt.alloc(), QueueForm::Unbounded, &mut steps);
     drop(steps);
     let all = (run.stopped.is_none(), run.trace.len(), replies(&run));

@@ -11,11 +11,11 @@ use std::test::Fail;
 #[test]
 fn a_push_waits_while_a_pop_reads(rt: HostRuntime) -> Result<(), Fail> {
     let mut steps = VecDeque::new(rt.alloc());
-    begin(&mut steps, 1, QueueAsk::Push(1), 3)?;
-    begin(&mut steps, 2, QueueAsk::Pop, 1)?;
-    begin(&mut steps, 3, QueueAsk::Push(2), 1)?;
-    more(&mut steps, 2, 2)?;
-    more(&mut steps, 3, 3)?;
+    begin(&mut steps, 1, QueueAsk::Push(1), 3);
+    begin(&mut steps, 2, QueueAsk::Pop, 1);
+    begin(&mut steps, 3, QueueAsk::Push(2), 1);
+    more(&mut steps, 2, 2);
+    more(&mut steps, 3, 3);
     let run = run_queue_steps(rt.alloc(), QueueForm::Bounded(1), &mut steps);
     check(
         &rt,
@@ -37,11 +37,11 @@ fn stopped_at(alloc: Global, mut steps: VecDeque<QueueStep<u64>>) -> (Option<Sto
 #[test]
 fn a_refused_step_stays_in_front(rt: HostRuntime) -> Result<(), Fail> {
     let mut steps = VecDeque::new(rt.alloc());
-    begin(&mut steps, 1, QueueAsk::Push(1), 1)?;
-    begin(&mut steps, 1, QueueAsk::Push(2), 0)?;
+    begin(&mut steps, 1, QueueAsk::Push(1), 1);
+    begin(&mut steps, 1, QueueAsk::Push(2), 0);
     let busy = stopped_at(rt.alloc(), steps);
     let mut steps = VecDeque::new(rt.alloc());
-    more(&mut steps, 7, 1)?;
+    more(&mut steps, 7, 1);
     let idle = stopped_at(rt.alloc(), steps);
     let place = 2;
     let why = QueueRefusal::Busy;

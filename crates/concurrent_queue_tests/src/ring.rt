@@ -13,15 +13,15 @@ use std::test::Fail;
 #[test]
 fn a_pop_waits_for_a_displacing_push(rt: HostRuntime) -> Result<(), Fail> {
     let mut steps = VecDeque::new(rt.alloc());
-    begin(&mut steps, 0, QueueAsk::Push(1), 5)?;
-    begin(&mut steps, 1, QueueAsk::Push(2), 5)?;
-    begin(&mut steps, 2, QueueAsk::ForcePush(3), 3)?;
-    begin(&mut steps, 3, QueueAsk::Close, 1)?;
-    begin(&mut steps, 4, QueueAsk::Pop, 5)?;
-    begin(&mut steps, 5, QueueAsk::Pop, 2)?;
-    more(&mut steps, 2, 4)?;
-    more(&mut steps, 5, 5)?;
-    begin(&mut steps, 6, QueueAsk::Pop, 3)?;
+    begin(&mut steps, 0, QueueAsk::Push(1), 5);
+    begin(&mut steps, 1, QueueAsk::Push(2), 5);
+    begin(&mut steps, 2, QueueAsk::ForcePush(3), 3);
+    begin(&mut steps, 3, QueueAsk::Close, 1);
+    begin(&mut steps, 4, QueueAsk::Pop, 5);
+    begin(&mut steps, 5, QueueAsk::Pop, 2);
+    more(&mut steps, 2, 4);
+    more(&mut steps, 5, 5);
+    begin(&mut steps, 6, QueueAsk::Pop, 3);
     let run = run_queue_steps(rt.alloc(), QueueForm::Bounded(2), &mut steps);
     check(
         &rt,
@@ -59,18 +59,18 @@ const DISPLACED_REPLIES: [(usize, Said); 7] = [
 #[test]
 fn a_closed_queue_stays_closed_under_a_displacing_push(rt: HostRuntime) -> Result<(), Fail> {
     let mut steps = VecDeque::new(rt.alloc());
-    begin(&mut steps, 0, QueueAsk::Push(1), 5)?;
-    begin(&mut steps, 0, QueueAsk::Push(2), 5)?;
-    begin(&mut steps, 2, QueueAsk::ForcePush(3), 3)?;
-    begin(&mut steps, 3, QueueAsk::Close, 1)?;
-    begin(&mut steps, 4, QueueAsk::Pop, 5)?;
-    begin(&mut steps, 4, QueueAsk::IsClosed, 1)?;
-    begin(&mut steps, 4, QueueAsk::IsEmpty, 2)?;
-    begin(&mut steps, 5, QueueAsk::Pop, 2)?;
-    more(&mut steps, 2, 4)?;
-    more(&mut steps, 5, 5)?;
-    begin(&mut steps, 4, QueueAsk::Pop, 3)?;
-    begin(&mut steps, 0, QueueAsk::Push(4), 1)?;
+    begin(&mut steps, 0, QueueAsk::Push(1), 5);
+    begin(&mut steps, 0, QueueAsk::Push(2), 5);
+    begin(&mut steps, 2, QueueAsk::ForcePush(3), 3);
+    begin(&mut steps, 3, QueueAsk::Close, 1);
+    begin(&mut steps, 4, QueueAsk::Pop, 5);
+    begin(&mut steps, 4, QueueAsk::IsClosed, 1);
+    begin(&mut steps, 4, QueueAsk::IsEmpty, 2);
+    begin(&mut steps, 5, QueueAsk::Pop, 2);
+    more(&mut steps, 2, 4);
+    more(&mut steps, 5, 5);
+    begin(&mut steps, 4, QueueAsk::Pop, 3);
+    begin(&mut steps, 0, QueueAsk::Push(4), 1);
     let run = run_queue_steps(rt.alloc(), QueueForm::Bounded(2), &mut steps);
     check(
         &rt,
