@@ -8,9 +8,10 @@
 //! The channel is closed by [`close`](Sender::close), by the drop of the last sender and by that of the last receiver. What
 //! was sent before can still be received. [`WeakSender`] and [`WeakReceiver`] don't keep it open.
 //!
-//! Every call of a handle is a [`ChannelCall`] of `channel_calls`, stepped on cells that threads share: a queue, four lists of
-//! listeners behind a lock each, two counts. So threads run the very steps whose every interleaving `channel_world` is proved
-//! for; a blocking call makes its tries so, and listens and leaves by the same sections of the lists.
+//! A call of a handle that changes the channel is a [`ChannelCall`] of `channel_calls`, stepped on cells that threads share: a
+//! queue, four lists of listeners behind a lock each, two counts. So threads run the very steps whose every interleaving
+//! `channel_world` is proved for; tries make them on end in straight code, a blocking call makes its tries so and listens and leaves
+//! by the same sections of the lists, and a question asks the queue or a count.
 //! Since other threads may step in between, a handle's contract says what holds whatever they do: a refused message is
 //! the one that was handed in, a pending poll has armed its context and kept its message, the capacity is as given.
 //!

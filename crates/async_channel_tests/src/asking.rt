@@ -11,13 +11,17 @@ fn crosses<T: Send + Sync>() -> bool {
     true
 }
 
-/// Each of these is `Send` and `Sync` where its messages are `Send`.
-fn all_cross<'a, R: Wait + Copy + Send + Sync + 'a>() -> bool {
-    crosses::<Sender<u64, R>>()
-        && crosses::<Receiver<u64, R>>()
-        && crosses::<WeakSender<u64, R>>()
-        && crosses::<WeakReceiver<u64, R>>()
-        && crosses::<Sending<'a, u64, R>>()
+/// Handles are `Send` and `Sync` where their messages are `Send`.
+fn handles_cross<T: Drop + Send, R: Wait + Copy + Send + Sync>() -> bool {
+    crosses::<Sender<T, R>>()
+        && crosses::<Receiver<T, R>>()
+        && crosses::<WeakSender<T, R>>()
+        && crosses::<WeakReceiver<T, R>>()
+}
+
+/// So are operations where their messages are `Sync` besides, since a send holds one.
+fn operations_cross<'a, R: Wait + Copy + Send + Sync + 'a>() -> bool {
+    crosses::<Sending<'a, u64, R>>()
         && crosses::<Recv<'a, u64, R>>()
         && crosses::<Closed<'a, u64, R>>()
 }
@@ -36,6 +40,6 @@ fn handles_of_one_channel(rt: HostRuntime) -> Result<(), Fail> {
     let again = weak.expect(&rt, "an open channel");
     assert!(rt; s.same_channel(&more) && r.same_channel(&again));
     assert!(rt; !s.same_channel(&other));
-    assert!(rt; all_cross::<HostRuntime>());
+    assert!(rt; handles_cross::<u64, HostRuntime>() && operations_cross::<HostRuntime>());
     Ok(())
 }

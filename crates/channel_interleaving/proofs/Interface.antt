@@ -1,20 +1,25 @@
 -- What layers above may use: of a channel with no call under way, of what leads on from one scene to another, and how few steps
 -- are left to the calls under way.
-use Rattle.std.proofs.Common.{◌≡◌, [], None}
+use Rattle.std.proofs.Common.{◌≡◌, List, [], ◌++◌, None}
+use Rattle.channel_calls.specs.declared.reply.Reply.{Reply}
 use Rattle.channel_model.specs.declared.name.Waiter.{Waiter}
 use Rattle.channel_steps.specs.Scene.{Scene, HoldNobodyUp}
 use Rattle.channel_interleaving.specs.Floor.{Shown, AreAtWork, IsQuiet, Led, LeadsOn, Stands, StandsIn}
 use Rattle.channel_interleaving.specs.Kept.{AllKept}
 use Rattle.channel_interleaving.specs.Left.{others_of}
-use Rattle.channel_interleaving.specs.Runs.{Moment, FewLeft, LeadsBy, moment_of}
+use Rattle.channel_interleaving.specs.Runs.{Moment, FewLeft, LeadsBy, RanTo, moment_of}
+use Rattle.channel_interleaving.specs.Way.{replies_in}
 use Rattle.channel_interleaving.specs.declared.step.Entry.{Entry}
 use Rattle.channel_interleaving.specs.declared.step.PartyId.{PartyId}
+use Rattle.channel_interleaving.specs.declared.step.Step.{Step}
 use Rattle.channel_interleaving.specs.declared.step.Step.TheVariants as step
 use Rattle.channel_interleaving.specs.declared.floor.Floor.{Floor}
 use Rattle.channel_interleaving.proofs.AccountFacts.{no_accounts, accounts_both}
 use Rattle.channel_interleaving.proofs.FloorFacts as floor_facts
 use Rattle.channel_interleaving.proofs.LeftFacts as left_facts
 use Rattle.channel_interleaving.proofs.LoneFacts as facts
+use Rattle.channel_interleaving.proofs.WayFacts as way_facts
+use Rattle.channel_interleaving.proofs.WayFacts.{no_way, ways_on}
 
 module _ {T : Type 0} where
   -- no scene that it shows has one
@@ -26,25 +31,32 @@ module _ {T : Type 0} where
   no_agents f at_work quiet = facts.no_agents f at_work quiet
 
   -- nothing done leads on
-  pub leads_nowhere : (f : Floor T) → LeadsOn f f
-  leads_nowhere f s k = record { last = s; stands = k; accounts = no_accounts s }
+  pub leads_nowhere : (f : Floor T) → LeadsOn f [] f
+  leads_nowhere f s k = record { last = s; way = no_way s; stands = k; accounts = no_accounts s }
 
-  -- and so does one thing done after another
-  pub leads_on : (f g h : Floor T) → LeadsOn f g → LeadsOn g h → LeadsOn f h
-  leads_on f g h first second s k =
-      let m = first s k in
+  -- and so does, from one scene, one thing done after another
+  pub led_further : (g h : Floor T) (s : Scene T Waiter) (rs ss : List (Reply T)) → Led s rs g → LeadsOn g ss h → Led s (rs ++ ss) h
+  led_further g h s rs ss m second =
       let t = second m.last m.stands in
-      record { last = t.last; stands = t.stands; accounts = accounts_both s m.last t.last m.accounts t.accounts }
+      record {
+        last = t.last;
+        way = ways_on s m.last t.last rs ss m.way t.way;
+        stands = t.stands;
+        accounts = accounts_both s m.last t.last m.accounts t.accounts;
+      }
 
-  -- from one scene too
-  pub led_further : (g h : Floor T) (s : Scene T Waiter) → Led g s → LeadsOn g h → Led h s
-  led_further g h s m second =
-      let t = second m.last m.stands in
-      record { last = t.last; stands = t.stands; accounts = accounts_both s m.last t.last m.accounts t.accounts }
+  -- so it is from each scene
+  pub leads_on : (f g h : Floor T) (rs ss : List (Reply T)) → LeadsOn f rs g → LeadsOn g ss h → LeadsOn f (rs ++ ss) h
+  leads_on f g h rs ss first second s k = led_further g h s rs ss (first s k) second
+
+  -- and a run
+  pub ran_leads : (steps left : List (Step T)) (old : Floor T) (trace : List (Entry T)) (new : Floor T) → RanTo steps left old trace new
+      → LeadsOn old (replies_in trace) new
+  ran_leads steps left old trace new ran = way_facts.ran_leads steps left old trace new ran
 
   -- what stood, stands
-  pub stands_led : (f g : Floor T) → Stands f → LeadsOn f g → Stands g
-  stands_led f g before leads =
+  pub stands_led : (f g : Floor T) (rs : List (Reply T)) → Stands f → LeadsOn f rs g → Stands g
+  stands_led f g rs before leads =
       let t = leads before.scene before.stands in
       record { scene = t.last; stands = t.stands }
 

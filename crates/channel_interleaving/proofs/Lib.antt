@@ -1,6 +1,7 @@
 pub mod LruLemmas
 pub mod RefusalLemmas
 pub mod WokenFacts
+mod WayFacts
 pub mod OwnerLists
 pub mod OwnerKeys
 pub mod OwnerTurns

@@ -23,6 +23,7 @@ use Rattle.channel_interleaving.specs.Lone.{names_alone, order_alone, CallsAlone
 use Rattle.channel_interleaving.specs.Positions.{brings, accepted_by, yet_in}
 use Rattle.channel_interleaving.specs.Refusal.{refusal}
 use Rattle.channel_interleaving.specs.Run.{Book}
+use Rattle.channel_interleaving.specs.Way.{Way, reply_of}
 use Rattle.channel_interleaving.specs.Woken.{Hears}
 use Rattle.channel_interleaving.specs.declared.floor.Floor.{Floor}
 use Rattle.channel_interleaving.specs.declared.names.Agent.{Agent}
@@ -33,6 +34,7 @@ use Rattle.channel_interleaving.proofs.DoingFacts.{TookFew}
 use Rattle.channel_interleaving.proofs.OwnerBegins.{Admitted, admitted}
 use Rattle.channel_interleaving.proofs.FloorFacts.{no_parties, owned_same, owned_where, stands_in, stands_same}
 use Rattle.channel_interleaving.proofs.PlaceFacts.{Counted, counted_alone}
+use Rattle.channel_interleaving.proofs.WayFacts.{no_way, lone_way}
 use Rattle.channel_interleaving.proofs.WokenFacts.{all_heard, drop_front}
 
 module _ {T : Type 0} where
@@ -151,7 +153,7 @@ module _ {T : Type 0} where
 
   -- a call made alone leads from a scene in which the channel stood to one in which it stands
   pub call_leads : (c : Call T) (old new : Floor T) (x : Reply T) (names : List Waiter) → AreAtWork old → IsQuiet old
-      → Admitted old.roll c → CallsAlone c old x names new → LeadsOn old new
+      → Admitted old.roll c → CallsAlone c old x names new → LeadsOn old (x ∷ []) new
   call_leads c old new x names at_work quiet fine called s k =
       let d = called s k.shown k.kept in
       let kept : AllKept (book_of new) d.after =
@@ -159,17 +161,19 @@ module _ {T : Type 0} where
       (kept_alone (book_of old) c s d.after d.outcome (no_agents old at_work quiet) fine d.run k.kept) in
       record {
         last = d.after;
+        way = subst (λ (y : Reply T). Way s (y ∷ []) d.after) (sym d.reply) (lone_way s d.after 0 (asks old.roll c) d.outcome d.run);
         stands = stands_in new d.after d.shown kept;
         accounts = lone_accounts s d.after 0 (asks old.roll c) d.outcome d.run;
       }
 
-  pub same_leads : (old new : Floor T) → IsSame old new → LeadsOn old new
-  same_leads old new same s k = record { last = s; stands = stands_same old new s same k; accounts = no_accounts s }
+  pub same_leads : (old new : Floor T) → IsSame old new → LeadsOn old [] new
+  same_leads old new same s k =
+      record { last = s; way = no_way s; stands = stands_same old new s same k; accounts = no_accounts s }
 
   pub leads_whatever : (c : Call T) (old new : Floor T) (result : Result (Answered T) (Call T)) → AreAtWork old → IsQuiet old
       → refusal old.roll c ≡ None
       → IfOk result (λ (d : Answered T). CallsAlone c old d.reply d.woken.items new)
-      → OnErr result (IsSame old new) → LeadsOn old new
+      → OnErr result (IsSame old new) → LeadsOn old (reply_of result) new
   leads_whatever c old new (Ok d) at_work quiet fine called same =
       call_leads c old new d.reply d.woken.items at_work quiet (admitted old.roll c fine) called
   leads_whatever c old new (Err x) at_work quiet fine called same = same_leads old new same

@@ -5,6 +5,7 @@ use Rattle.concurrent_queue.specs.Capacity.{capacity_of}
 use Rattle.concurrent_queue.specs.Step.{closed_in}
 use Rattle.channel_calls.specs.Parts.{Parts}
 use Rattle.channel_calls.specs.Plain.{parts_of}
+use Rattle.channel_calls.specs.declared.reply.Reply.{Reply}
 use Rattle.channel_model.specs.declared.call.Call.{Call}
 use Rattle.channel_model.specs.declared.name.Waiter.{Waiter}
 use Rattle.channel_steps.specs.Left.{all_left, left_at}
@@ -18,6 +19,7 @@ use Rattle.channel_interleaving.specs.Kept.{AllKept}
 use Rattle.channel_interleaving.specs.Positions.{brings, yet_in}
 use Rattle.channel_interleaving.specs.Roll.{first_roll}
 use Rattle.channel_interleaving.specs.Run.{Book, Made, channel_step}
+use Rattle.channel_interleaving.specs.Way.{Way}
 use Rattle.channel_interleaving.specs.declared.doing.Doing.{Doing}
 use Rattle.channel_interleaving.specs.declared.floor.Floor.{Floor}
 use Rattle.channel_interleaving.specs.declared.names.Agent.{Agent}
@@ -141,13 +143,14 @@ module _ {T : Type 0} where
   abbrev pub Steps : Step T → Floor T → Entry T → Floor T → Type 0
   Steps x old e new = (s : Scene T Waiter) → Shown old s → Stepped x old e new s
 
-  -- From a scene in which it stood it came to one in which it stands; what left it, followed by what it holds, is what it held
-  -- followed by what came, in order.
-  pub record Led (new : Floor T) (s : Scene T Waiter) : Type 0 where
+  -- From a scene in which it stood steps of parties, on which just these replies were given, led to one in which it stands; what
+  -- left it, followed by what it holds, is what it held followed by what came, in order.
+  pub record Led (s : Scene T Waiter) (replies : List (Reply T)) (new : Floor T) : Type 0 where
     pub last : Scene T Waiter
+    pub way : Way s replies last
     pub stands : StandsIn new last
     pub accounts : Accounts s last
 
   -- so it is from each scene in which it stood
-  abbrev pub LeadsOn : Floor T → Floor T → Type 0
-  LeadsOn old new = (s : Scene T Waiter) → StandsIn old s → Led new s
+  abbrev pub LeadsOn : Floor T → List (Reply T) → Floor T → Type 0
+  LeadsOn old replies new = (s : Scene T Waiter) → StandsIn old s → Led s replies new

@@ -16,6 +16,7 @@ pub mod Counted
 pub mod Kept
 pub mod Left
 pub mod Positions
+pub mod Way
 pub mod Floor
 pub mod Runs
 pub mod Lone

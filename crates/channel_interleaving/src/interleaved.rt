@@ -48,7 +48,8 @@ impl<T: Drop> Interleaved<T> {
     /// An open channel of this capacity, without a message, and nobody at work.
     ///
     /// Memory is taken first, and then four identities together or none. A capacity above 2^58 is want of memory,
-    /// without asking for any. As `channel_calls::bounded`, which takes no source of identities.
+    /// without asking for any. As `bounded` of `async-channel` 2.5.0, which takes no source of
+    /// identities.
     pub fn bounded(
         alloc: Global,
         capacity: usize,
@@ -77,8 +78,8 @@ impl<T: Drop> Interleaved<T> {
 
     /// An open channel for any number of messages, without a message, and nobody at work.
     ///
-    /// Memory is taken first, and then four identities together or none. As `channel_calls::unbounded`, which takes no
-    /// source of identities.
+    /// Memory is taken first, and then four identities together or none. As `unbounded` of `async-channel` 2.5.0,
+    /// which takes no source of identities.
     pub fn unbounded(alloc: Global, ids: &mut EventIds) -> Result<Interleaved<T>, OpenError>
         ensures open { IfOk result (λ world. IsOpen None world) }
         ensures quiet { IfOk result (λ world. IsQuiet world) }
@@ -161,7 +162,7 @@ impl<T: Drop> Interleaved<T> {
 }
 
 impl<T: Drop> Interleaved<T> {
-    ghost use Rattle.std.specs.Prelude.{◌≡◌, ◌≤◌, ◌<◌, ◌+◌, ◌-◌, ◌^◌, None, length, IfOk, IfErr, OnErr, IsTrue, vec_len, vec_capacity};
+    ghost use Rattle.std.specs.Prelude.{◌≡◌, ◌≤◌, ◌<◌, ◌+◌, ◌-◌, ◌^◌, [], ◌∷◌, None, length, IfOk, IfErr, OnErr, IsTrue, vec_len, vec_capacity};
     ghost use Rattle.channel_model.specs.Settling.{poll_of};
     ghost use Rattle.channel_calls.specs.Parts.{listeners};
     ghost use Rattle.channel_interleaving.specs.Refusal.{refusal};
@@ -169,6 +170,7 @@ impl<T: Drop> Interleaved<T> {
     ghost use Rattle.channel_interleaving.specs.Lone.{CallsAlone, WakesAtMost};
     ghost use Rattle.channel_interleaving.specs.OwnerOrder.{woken_in};
     ghost use Rattle.channel_interleaving.specs.Settle.{IsWoken, PollsAlone};
+    ghost use Rattle.channel_interleaving.specs.Way.{reply_of};
 
     /// Makes a call that is not refused, where no call is under way, from its beginning to its end; or hands it back where
     /// there was no room, with nothing changed.
@@ -182,7 +184,7 @@ impl<T: Drop> Interleaved<T> {
         requires room { WakesAtMost room call self.old }
         ensures ok { IfOk result (λ d. CallsAlone call self.old d.reply d.woken.items self.new) }
         ensures stands { Stands self.new }
-        ensures leads { LeadsOn self.old self.new }
+        ensures leads { LeadsOn self.old (reply_of result) self.new }
         ensures quiet { IsQuiet self.new }
         ensures err { OnErr result (IsSame self.old self.new) }
         ensures back { IfErr result (λ c. c ≡ call) }
@@ -203,7 +205,7 @@ impl<T: Drop> Interleaved<T> {
         requires room { WakesAtMost (vec_capacity names - vec_len names) (poll_of name) self.old }
         ensures polled { PollsAlone name self.old names.items result.reply result.names.items self.new }
         ensures stands { Stands self.new }
-        ensures leads { LeadsOn self.old self.new }
+        ensures leads { LeadsOn self.old (result.reply ∷ []) self.new }
         ensures quiet { IsQuiet self.new }
         ensures accepted { self.new.accepted ≤ self.old.accepted + 1 }
         ensures capacity { vec_capacity names ≤ vec_capacity result.names }

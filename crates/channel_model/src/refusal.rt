@@ -18,7 +18,7 @@ pub enum WorldRefusal {
     NameTaken,
     /// 5: the operation, or the stream, is being polled.
     OpUnderWay,
-    /// 6: a live operation borrows the handle.
+    /// 6: the handle is in use, by a live operation or by a call under way.
     Borrowed,
     /// 7: what lives under a used name is of another kind.
     WrongKind,

@@ -21,7 +21,7 @@ use Rattle.channel_steps.specs.declared.party.Entry.{Entry as ChannelEntry}
 use Rattle.channel_steps.specs.declared.run.Step.{Step as ChannelStep}
 use Rattle.channel_steps.specs.declared.run.Step.TheVariants as channel
 use Rattle.channel_interleaving.specs.Kept.{AllKept}
-use Rattle.channel_interleaving.specs.Floor.{book_of, messages_in, LeadsOn, StandsIn, Stands}
+use Rattle.channel_interleaving.specs.Floor.{book_of, messages_in, StandsIn, Stands}
 use Rattle.channel_interleaving.specs.Run.{Stops, channel_step}
 use Rattle.channel_interleaving.specs.Runs.{Moment, LeadsBy, EachStep, accepted_in, left_in, moment_of, RanTo}
 use Rattle.channel_interleaving.specs.declared.floor.Floor.{Floor}
@@ -33,7 +33,7 @@ use Rattle.channel_interleaving.proofs.Interface.{few_in}
 use Rattle.channel_world.proofs.SoonFacts.{end_soon}
 use Rattle.channel_world.proofs.MarkFacts.{all_begin}
 use Rattle.channel_world.specs.Headline.{Headline}
-use Rattle.channel_world.specs.Sentences.{IfBoth, Own, IsAccepted, TouchesOneCell, RepliesByItsRow, BeginsMarksOfARow, TellsWhatItOwes, LeavesNothing, RefusedLeavesNothing, WaitsForNobody, OwesWhoWaits, EndsForGood}
+use Rattle.channel_world.specs.Sentences.{Own, IsAccepted, TouchesOneCell, RepliesByItsRow, BeginsMarksOfARow, TellsWhatItOwes, LeavesNothing, RefusedLeavesNothing, WaitsForNobody, OwesWhoWaits, EndsForGood}
 
 module _ {T : Type 0} where
   -- what follows of each step follows of all
@@ -114,15 +114,9 @@ module _ {T : Type 0} where
   leaves a ds seen r k h keeps = tt
 
   finish_leaves : (u : Under T Waiter) (r : Option (Reply T)) (k : Option (Kept T)) → MayFinish u r k
-      → IfBoth (LeavesNothing u.ask u.deeds) r k
+      → IfSome r (λ x. (left : Kept T) × (k ≡ Some left) × LeavesNothing u.ask u.deeds x left)
   finish_leaves u None k f = tt
-  finish_leaves u (Some x) None f = tt
-  finish_leaves u (Some x) (Some k) f =
-      let same : f.kept ≡ k = inner f.kept k (sym f.given) in
-      leaves u.ask u.deeds f.met.1 x k f.met.3 (subst (λ (l : Kept T). Keeps u.ask x l) same f.keeps)
-    where
-      inner : (a b : Kept T) → Some a ≡ Some b → a ≡ b
-      inner a b e = cc
+  finish_leaves u (Some x) k f = (f.kept, f.given, leaves u.ask u.deeds f.met.1 x f.kept f.met.3 f.keeps)
 
   refuses : (m : Moment T) (x : Step T) (e : Entry T) (n : Moment T) → LeadsBy m x e n → RefusedLeavesNothing m x e n
   refuses m (step.Begin p c) e n l = tt
@@ -187,12 +181,6 @@ module _ {T : Type 0} where
         owed = each LeadsBy OwesWhoWaits owes start r.made trace r.moments r.run;
         for_good = all_end_well start r.made trace r.moments k.kept r.run;
       }
-
-  pub leads : (steps left : List (Step T)) (old : Floor T) (trace : List (Entry T)) (new : Floor T) → RanTo steps left old trace new
-      → LeadsOn old new
-  leads steps left old trace new ran s k =
-      let r = ran s k in
-      record { last = r.last; stands = r.stands; accounts = r.accounts }
 
   -- the number of messages
   pub counted : (steps left : List (Step T)) (old : Floor T) (trace : List (Entry T)) (new : Floor T) → RanTo steps left old trace new

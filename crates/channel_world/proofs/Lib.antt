@@ -2,6 +2,7 @@ pub mod Few
 pub mod FewListed
 pub mod Opening
 pub mod Carried
+mod Leading
 pub mod CountDrops
 pub mod CountFacts
 pub mod SoonFacts

@@ -42,7 +42,7 @@ module _ {T : Type 0} where
     pub refused : EachStep RefusedLeavesNothing (moment_of old from) made trace moments
     -- closing, dropping, giving up, refused polls and the questions end within eight steps of their own, whatever others do
     pub waits_for_nobody : EachStep WaitsForNobody (moment_of old from) made trace moments
-    -- at each moment each call has at most 197 steps of its own left, 64 more for each message that it may take more than one; and
+    -- at each moment each call has at most 197 steps of its own left, 64 more for each message that a receive of several may take; and
     -- where no other call under way has a mark but Nothing each of its steps leaves it fewer, or ends it
     pub ends_soon : EndSoon steps (moment_of old from) made trace moments
     -- the run stops at the first step that is refused, which stays in front, for the first reason that there is

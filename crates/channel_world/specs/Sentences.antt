@@ -30,10 +30,6 @@ use Rattle.channel_interleaving.specs.declared.step.Step.{Step}
 use Rattle.channel_interleaving.specs.declared.step.Step.TheVariants as step
 use Rattle.channel_world.specs.Marks.{BeginsItsMarks}
 
-abbrev pub IfBoth : {A B : Type 0} → (A → B → Type 0) → Option A → Option B → Type 0
-IfBoth P (Some a) (Some b) = P a b
-IfBoth P a b = Unit {0}
-
 module _ {T : Type 0} where
   -- the call of a party as it is under way at m, and as it is after this step of its own: one moment more, and the mark of the
   -- step, if it has one, with the moment at which it was made
@@ -104,7 +100,7 @@ module _ {T : Type 0} where
   RefusedLeavesNothing m x e n =
       OfItsCall
       (λ m p e n own. (left : Option (Kept T)) × IsBookAfter (step.Step p) e left m.book n.book
-      × IfBoth (LeavesNothing own.after.ask own.after.deeds) e.reply left)
+      × IfSome e.reply (λ r. (k : Kept T) × (left ≡ Some k) × LeavesNothing own.after.ask own.after.deeds r k))
       m x e n
 
   -- what is closed stays closed; what is over, closed with nothing there and nothing on its way, stays over, and no message

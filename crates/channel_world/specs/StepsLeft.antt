@@ -22,7 +22,7 @@ module _ {T : Type 0} where
   abbrev pub NobodyHoldsUp : ℕ → Moment T → Type 0
   NobodyHoldsUp p m = HoldNobodyUp m.scene.now (others_of p m.scene.under_way)
 
-  -- how many steps at most a party's call has left: 197, and 64 more for each message that it may take more than one
+  -- how many steps at most a party's call has left: 197, and 64 more for each message that a receive of several may take
   abbrev pub most_left : ℕ → Moment T → ℕ
   most_left p m = 197 + 64 * wanted_of p m.scene.under_way
 

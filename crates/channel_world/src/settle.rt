@@ -62,7 +62,7 @@ fn take_room<T: Drop>(mut names: Vec<Waiter>, most: usize, alloc: Global) -> Opt
 }
 
 impl<T: Drop> World<T> {
-    ghost use Rattle.std.specs.Prelude.{◌≡◌, ◌≤◌, ◌<◌, ◌+◌, ◌^◌, [], true, length, vec_len, vec_capacity, IfSome, OnSome, IsTrue};
+    ghost use Rattle.std.specs.Prelude.{◌≡◌, ◌≤◌, ◌<◌, ◌+◌, ◌^◌, [], ◌∷◌, true, length, vec_len, vec_capacity, IfSome, OnSome, IsTrue};
     ghost use Rattle.channel_interleaving.specs.Floor.{IsQuiet, LeadsOn};
     ghost use Rattle.channel_model.specs.Answer.{Answer};
     ghost use Rattle.channel_model.specs.Lines.{is_among};
@@ -119,7 +119,7 @@ impl<T: Drop> World<T> {
         requires room { (a : Answer T) → Answers (at_rest self.old) (poll_of name) a → vec_len names + length a.woken ≤ vec_capacity names }
         ensures polled { Polls name (at_rest self.old) names.items result.reply result.names.items (at_rest self.new) }
         ensures quiet { IsQuiet self.new }
-        ensures leads { LeadsOn self.old self.new }
+        ensures leads { LeadsOn self.old (result.reply ∷ []) self.new }
         ensures accepted { self.new.accepted ≤ self.old.accepted + 1 }
         ensures capacity { vec_capacity names ≤ vec_capacity result.names }
     {
@@ -133,6 +133,7 @@ impl<T: Drop> World<T> {
     ghost use Rattle.std.specs.Prelude.{◌≡◌, ◌≤◌, ◌+◌, ◌*◌, [], vec_len, IfOk, OnOk, OnErr};
     ghost use Rattle.channel_interleaving.specs.Floor.{IsQuiet, LeadsOn, Stands};
     ghost use Rattle.channel_model.specs.Settling.{Settles, pending_count};
+    ghost use Rattle.channel_world.specs.Carried.{polls_replied};
     ghost use Rattle.channel_world.specs.Settled.{polls_in, NoReceiveGoesOn, NoSendGoesOn, NoStreamGoesOn, NobodyMissesTheClosing};
     ghost use Rattle.channel_world.specs.World.{at_rest};
 
@@ -161,7 +162,7 @@ impl<T: Drop> World<T> {
         ensures closing { OnOk result (NobodyMissesTheClosing (at_rest self.new)) }
         ensures unchanged { OnErr result (self.new ≡ self.old) }
         ensures quiet { IsQuiet self.new }
-        ensures leads { LeadsOn self.old self.new }
+        ensures leads { IfOk result (λ polls. LeadsOn self.old (polls_replied polls.items) self.new) }
         ensures stands { Stands self.new }
     {
         a_channel_at_rest_is_a_world::<T>();

@@ -36,7 +36,8 @@ impl<T: Drop> World<T> {
     /// An open channel of this capacity, without a message, and nobody at work.
     ///
     /// Memory is taken first, and then four identities together or none. A capacity above 2^58 is want of memory,
-    /// without asking for any. As `channel_calls::bounded`, which takes no source of identities.
+    /// without asking for any. As `bounded` of `async-channel` 2.5.0, which takes no source of
+    /// identities.
     pub fn bounded(
         alloc: Global,
         capacity: usize,
@@ -59,8 +60,8 @@ impl<T: Drop> World<T> {
 
     /// An open channel for any number of messages, without a message, and nobody at work.
     ///
-    /// Memory is taken first, and then four identities together or none. As `channel_calls::unbounded`, which takes no
-    /// source of identities.
+    /// Memory is taken first, and then four identities together or none. As `unbounded` of `async-channel` 2.5.0,
+    /// which takes no source of identities.
     pub fn unbounded(alloc: Global, ids: &mut EventIds) -> Result<World<T>, OpenError>
         ensures open { IfOk result (λ world. at_rest world ≡ start None) }
         ensures shown { IfOk result (λ world. IsOpen None world) }
@@ -77,13 +78,15 @@ impl<T: Drop> World<T> {
 }
 
 impl<T: Drop> World<T> {
-    ghost use Rattle.std.specs.Prelude.{◌≡◌, ◌+◌};
+    ghost use Rattle.std.specs.Prelude.{◌≡◌, ◌+◌, List, ◌++◌};
+    ghost use Rattle.channel_calls.specs.declared.reply.Reply.{Reply};
     ghost use Rattle.channel_model.specs.declared.name.Waiter.{Waiter};
     ghost use Rattle.channel_steps.specs.Scene.{Scene};
     ghost use Rattle.channel_interleaving.specs.Roll.{is_woken};
     ghost use Rattle.channel_interleaving.specs.Pending.{is_pending, how_many};
     ghost use Rattle.channel_interleaving.specs.Runs.{accepted_in, left_in};
     ghost use Rattle.channel_interleaving.specs.Floor.{calls_in, messages_in, Led, LeadsOn, Stands, StandsIn, TellsQuiet};
+    ghost use Rattle.channel_interleaving.specs.Way.{replies_in};
     ghost use Rattle.channel_world.specs.Headline.{Headline};
     ghost use Rattle.channel_world.specs.StepsLeft.{EndsInFront};
 
@@ -110,8 +113,9 @@ impl<T: Drop> World<T> {
         ensures headline { (s : Scene T Waiter) → StandsIn self.old s
             → Headline steps.old.items steps.new.items self.old result.trace.items result.stopped self.new s }
         ensures soon { EndsInFront self.old steps.old.items result.trace.items }
-        ensures leads { LeadsOn self.old self.new }
-        ensures carries { (s : Scene T Waiter) → Led self.old s → Led self.new s }
+        ensures leads { LeadsOn self.old (replies_in result.trace.items) self.new }
+        ensures carries { (s : Scene T Waiter) (replies : List (Reply T)) → Led s replies self.old
+            → Led s (replies ++ replies_in result.trace.items) self.new }
         ensures stands { Stands self.new }
         ensures messages { messages_in self.new + left_in result.trace.items ≡ messages_in self.old + accepted_in result.trace.items }
     {
@@ -168,6 +172,7 @@ impl<T: Drop> World<T> {
     ghost use Rattle.channel_model.specs.Refusal.{refusal};
     ghost use Rattle.channel_model.specs.Refused.{Answers};
     ghost use Rattle.channel_interleaving.specs.Floor.{IsQuiet, LeadsOn, Stands};
+    ghost use Rattle.channel_interleaving.specs.Way.{reply_of};
     ghost use Rattle.channel_world.specs.World.{at_rest};
 
     /// Makes a call that is not refused, alone; or hands it back where its answer got no room, with nothing changed.
@@ -176,7 +181,7 @@ impl<T: Drop> World<T> {
         requires accepted { refusal (at_rest self.old) call ≡ None }
         ensures ok { IfOk result (λ d. Answers (at_rest self.old) call (record { after = at_rest self.new; reply = d.reply; woken = d.woken.items })) }
         ensures quiet { IsQuiet self.new }
-        ensures leads { LeadsOn self.old self.new }
+        ensures leads { LeadsOn self.old (reply_of result) self.new }
         ensures err { OnErr result (at_rest self.new ≡ at_rest self.old) }
         ensures back { IfErr result (λ c. c ≡ call) }
     {

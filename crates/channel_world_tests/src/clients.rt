@@ -1,13 +1,17 @@
 //! Clients of a world that know nothing of it but that it is one. They are proved; nothing runs them.
 
-ghost use Rattle.std.specs.Prelude.{◌≡◌, ◌+◌};
+ghost use Rattle.std.specs.Prelude.{◌≡◌, ◌+◌, List, ◌++◌};
+ghost use Rattle.channel_calls.specs.declared.reply.Reply.{Reply};
 ghost use Rattle.channel_interleaving.specs.Floor.{IsQuiet, Led};
 ghost use Rattle.channel_interleaving.specs.Runs.{accepted_in, left_in};
+ghost use Rattle.channel_interleaving.specs.Way.{replies_in};
 ghost use Rattle.channel_model.specs.Handles.{HandlesAreCounted};
 ghost use Rattle.channel_model.specs.declared.name.Waiter.{Waiter};
 ghost use Rattle.channel_steps.specs.Scene.{Scene};
+ghost use Rattle.channel_world.specs.Carried.{replied_in};
 ghost use Rattle.channel_world.specs.StepsLeft.{EndsInFront};
 ghost use Rattle.channel_world.specs.World.{at_rest};
+ghost use Rattle.channel_world_tests.specs.Carry.{replied_if};
 
 use channel_world::call::{Call, CallRun};
 use channel_world::laws::counts_are_live_handles;
@@ -38,31 +42,34 @@ pub fn count<T: Drop>(world: &mut World<T>, steps: &mut VecDeque<Step<T>>) -> Co
 }
 
 /// Makes steps in whatever world, calls begun before included: no party whose call the others hold up no more makes 198 steps in
-/// front of the list with no reply among them.
+/// front of the list with no reply among them, or, for a receive of several, 64 more for each message that it may take.
 pub fn ends_soon<T: Drop>(world: &mut World<T>, steps: &mut VecDeque<Step<T>>) -> Run<T>
     ensures { EndsInFront world.old steps.old.items result.trace.items }
 {
     world.run_steps(steps)
 }
 
-/// Makes steps: the accounts that were kept since whatever scene are kept on.
+/// Makes steps: the accounts that were kept since whatever scene are kept on, with the replies of the run.
 fn step_on<T: Drop>(world: &mut World<T>, steps: &mut VecDeque<Step<T>>) -> Run<T>
-    ensures { (s : Scene T Waiter) → Led world.old s → Led world.new s }
+    ensures { (s : Scene T Waiter) (replies : List (Reply T)) → Led s replies world.old
+        → Led s (replies ++ replies_in result.trace.items) world.new }
 {
     world.run_steps(steps)
 }
 
-/// Makes calls one at a time, where none is under way: the accounts are kept on.
+/// Makes calls one at a time, where none is under way: the accounts are kept on, with what the calls replied.
 fn call_on<T: Drop>(world: &mut World<T>, calls: &mut VecDeque<Call<T>>) -> CallRun<T>
     requires { IsQuiet world.old }
-    ensures { (s : Scene T Waiter) → Led world.old s → Led world.new s }
+    ensures { (s : Scene T Waiter) (replies : List (Reply T)) → Led s replies world.old
+        → Led s (replies ++ replied_in result.done.items) world.new }
 {
     world.run_calls(calls)
 }
 
 /// Makes calls one at a time, if none is under way.
 fn call_if_quiet<T: Drop>(world: &mut World<T>, calls: &mut VecDeque<Call<T>>) -> Option<CallRun<T>>
-    ensures { (s : Scene T Waiter) → Led world.old s → Led world.new s }
+    ensures { (s : Scene T Waiter) (replies : List (Reply T)) → Led s replies world.old
+        → Led s (replies ++ replied_if result) world.new }
 {
     if world.is_quiet() {
         Some(call_on(world, calls))
@@ -83,14 +90,16 @@ pub struct Parts<T> {
 }
 
 /// Makes calls, then steps, then calls again, in whatever world: what left since a scene that it came from, followed by what it
-/// holds at the end, is what it held in that scene, followed by what came, in order.
+/// holds at the end, is what it held in that scene, followed by what came, in order; and the replies that were given since are
+/// those before, and then just those of the three parts.
 pub fn carry<T: Drop>(
     world: &mut World<T>,
     before: &mut VecDeque<Call<T>>,
     steps: &mut VecDeque<Step<T>>,
     after: &mut VecDeque<Call<T>>,
 ) -> Parts<T>
-    ensures { (s : Scene T Waiter) → Led world.old s → Led world.new s }
+    ensures { (s : Scene T Waiter) (replies : List (Reply T)) → Led s replies world.old
+        → Led s (((replies ++ replied_if result.before) ++ replies_in result.run.trace.items) ++ replied_if result.after) world.new }
 {
     let before = call_if_quiet(world, before);
     let run = step_on(world, steps);

@@ -1,6 +1,7 @@
 -- From the law that a call made alone is the model's.
 use Rattle.std.proofs.Common.{◌≡◌, ◌≤◌, None, ◌∙◌, ap, subst, sym}
 use Rattle.channel_interleaving.specs.Floor.{IsQuiet, LeadsOn}
+use Rattle.channel_interleaving.specs.Way.{reply_of}
 use Rattle.channel_interleaving.specs.declared.floor.Floor.{Floor}
 use Rattle.channel_interleaving.proofs.Interface.{leads_nowhere}
 use Rattle.channel_model.specs.Refusal.{refusal}
@@ -42,4 +43,5 @@ returns-in_default-clause-leads g c = leads_nowhere c.args.self.now
 
 pub returns-clause-leads : goal.returns-clause-leads
 returns-clause-leads g c =
-    subst (λ (f : Floor g.row.T.Denot). LeadsOn f c.call_alone.new.self) c.self.view_is c.call_alone.ensures.leads
+    subst (λ (f : Floor g.row.T.Denot). LeadsOn f (reply_of c.call_alone.result) c.call_alone.new.self) c.self.view_is
+    c.call_alone.ensures.leads

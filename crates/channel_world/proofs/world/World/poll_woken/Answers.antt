@@ -1,5 +1,5 @@
 -- From the law that a poll of settling is the model's.
-use Rattle.std.proofs.Common.{subst, sym}
+use Rattle.std.proofs.Common.{[], ◌∷◌, subst, sym}
 use Rattle.channel_interleaving.specs.Floor.{IsQuiet, LeadsOn}
 use Rattle.channel_interleaving.specs.declared.floor.Floor.{Floor}
 use Rattle.channel_world.proofs.Polls.{poll_wakes_few, poll_answers}
@@ -23,4 +23,5 @@ returns-clause-polled g c =
 
 pub returns-clause-leads : goal.returns-clause-leads
 returns-clause-leads g c =
-    subst (λ (f : Floor g.row.T.Denot). LeadsOn f c.poll_alone.new.self) c.self.view_is c.poll_alone.ensures.leads
+    subst (λ (f : Floor g.row.T.Denot). LeadsOn f (c.poll_alone.result.reply ∷ []) c.poll_alone.new.self) c.self.view_is
+    c.poll_alone.ensures.leads

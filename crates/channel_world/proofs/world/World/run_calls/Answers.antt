@@ -2,25 +2,28 @@ use Rattle.std.proofs.Common.{◌≡◌, Some, None, ◌∷◌, ◌++◌, [], ru
 use Rattle.std.specs.Option.{option_to_list}
 use Rattle.channel_model.specs.Refusal.{refusal}
 use Rattle.channel_model.proofs.RunLemmas.{goes_on_empty, stop_in_front, stop_at_end, run_ends, run_ends_full, goes_on_by}
-use Rattle.channel_interleaving.proofs.Interface.{leads_nowhere, leads_on, led_further, stands_led}
+use Rattle.channel_interleaving.proofs.Interface.{leads_nowhere, led_further, stands_led}
 use Rattle.channel_world.specs.World.{at_rest}
+use Rattle.channel_world.proofs.Leading.{leads_same, leads_answered, leads_still}
 use Rattle.channel_world.proofs.world.World.run_calls.Goals as goal
 
 pub loop-call-init : goal.loop-call-init
 loop-call-init g c = record {
   run = goes_on_empty (at_rest c.args.self.now) c.args.calls.now.items c.new-done.result.items c.new-done.ensures.items;
   quiet = c.requires.quiet;
-  leads = leads_nowhere c.args.self.now;
+  leads = leads_same c.args.self.now c.args.self.now [] c.new-done.result.items c.new-done.ensures.items (leads_nowhere c.args.self.now);
 }
 
 pub returns-in-Some-stop-clause-leads : goal.returns-in-Some-stop-clause-leads
-returns-in-Some-stop-clause-leads g c = c.loop-call.invariant.leads
+returns-in-Some-stop-clause-leads g c =
+    leads_same c.args.self.now c.loop-call.self c.loop-call.done.items _ c.in-Some-stop.ensures.items c.loop-call.invariant.leads
 
 pub returns-in-Some-stop-clause-carries : goal.returns-in-Some-stop-clause-carries
-returns-in-Some-stop-clause-carries g c = λ s led. led_further c.args.self.now c.loop-call.self s led c.loop-call.invariant.leads
+returns-in-Some-stop-clause-carries g c =
+    λ s replies led. led_further c.args.self.now c.loop-call.self s replies _ led (returns-in-Some-stop-clause-leads g c)
 
 pub returns-in-Some-stop-clause-stands : goal.returns-in-Some-stop-clause-stands
-returns-in-Some-stop-clause-stands g c = stands_led c.args.self.now c.loop-call.self c.keeps.ensures c.loop-call.invariant.leads
+returns-in-Some-stop-clause-stands g c = stands_led c.args.self.now c.loop-call.self _ c.keeps.ensures c.loop-call.invariant.leads
 
 pub returns-in-Some-stop-clause-run : goal.returns-in-Some-stop-clause-run
 returns-in-Some-stop-clause-run g c =
@@ -36,29 +39,31 @@ loop-call-preserved g c =
       run = goes_on_by c.unwrap-call.result c.in-Ok.answer c.loop-call.invariant.run in_front accepted c.in-Ok.ensures.ok
           (c.push_reserved.ensures.items ∙ ap (λ ds. ds ++ c.in-Ok.answer ∷ []) c.stop.ensures.items);
       quiet = c.answer.ensures.quiet;
-      leads = leads_on c.args.self.now c.loop-call.self c.answer.new.self c.loop-call.invariant.leads c.answer.ensures.leads;
+      leads = leads_answered c.args.self.now c.loop-call.self c.answer.new.self c.loop-call.done.items _ c.in-Ok.answer
+          (c.push_reserved.ensures.items ∙ ap (λ ds. ds ++ c.in-Ok.answer ∷ []) c.stop.ensures.items) c.loop-call.invariant.leads c.in-Ok.ensures.leads;
     }
 
 pub returns-in-Err-clause-leads : goal.returns-in-Err-clause-leads
 returns-in-Err-clause-leads g c =
-    leads_on c.args.self.now c.loop-call.self c.answer.new.self c.loop-call.invariant.leads c.answer.ensures.leads
+    leads_still c.args.self.now c.loop-call.self c.answer.new.self c.loop-call.done.items _ c.stop.ensures.items c.loop-call.invariant.leads
+    c.in-Err.ensures.leads
 
 pub returns-in-Err-clause-carries : goal.returns-in-Err-clause-carries
-returns-in-Err-clause-carries g c = λ s led. led_further c.args.self.now c.answer.new.self s led (returns-in-Err-clause-leads g c)
+returns-in-Err-clause-carries g c =
+    λ s replies led. led_further c.args.self.now c.answer.new.self s replies _ led (returns-in-Err-clause-leads g c)
 
 pub returns-in-Err-clause-stands : goal.returns-in-Err-clause-stands
 returns-in-Err-clause-stands g c =
-    stands_led c.args.self.now c.answer.new.self c.keeps.ensures
-    (leads_on c.args.self.now c.loop-call.self c.answer.new.self c.loop-call.invariant.leads c.answer.ensures.leads)
+    stands_led c.args.self.now c.answer.new.self _ c.keeps.ensures (returns-in-Err-clause-leads g c)
 
 pub returns-clause-leads : goal.returns-clause-leads
 returns-clause-leads g c = c.loop-call.invariant.leads
 
 pub returns-clause-carries : goal.returns-clause-carries
-returns-clause-carries g c = λ s led. led_further c.args.self.now c.loop-call.self s led c.loop-call.invariant.leads
+returns-clause-carries g c = λ s replies led. led_further c.args.self.now c.loop-call.self s replies _ led c.loop-call.invariant.leads
 
 pub returns-clause-stands : goal.returns-clause-stands
-returns-clause-stands g c = stands_led c.args.self.now c.loop-call.self c.keeps.ensures c.loop-call.invariant.leads
+returns-clause-stands g c = stands_led c.args.self.now c.loop-call.self _ c.keeps.ensures c.loop-call.invariant.leads
 
 pub returns-in-Err-clause-run : goal.returns-in-Err-clause-run
 returns-in-Err-clause-run g c =

@@ -2,9 +2,10 @@ use Rattle.std.proofs.Common.{subst}
 use Rattle.channel_interleaving.specs.Floor.{Stands, book_of}
 use Rattle.channel_interleaving.specs.Runs.{RanTo}
 use Rattle.channel_interleaving.specs.Run.{Stops}
-use Rattle.channel_interleaving.proofs.Interface.{led_further}
+use Rattle.channel_interleaving.specs.Way.{replies_in}
+use Rattle.channel_interleaving.proofs.Interface.{led_further, ran_leads}
 use Rattle.channel_interleaving.specs.declared.floor.Floor.{Floor}
-use Rattle.channel_world.proofs.HeadlineFacts.{headline, leads, counted}
+use Rattle.channel_world.proofs.HeadlineFacts.{headline, counted}
 use Rattle.channel_world.proofs.world.World.run_steps.Goals as goal
 
 pub returns-clause-headline : goal.returns-clause-headline
@@ -23,7 +24,7 @@ pub returns-clause-leads : goal.returns-clause-leads
 returns-clause-leads g c =
     let ran = subst (λ (f : Floor g.row.T.Denot). RanTo c.args.steps.now.items c.run_steps.new.steps.items f c.run_steps.result.trace.items c.run_steps.new.self)
     c.self.view_is c.run_steps.ensures.ran in
-    leads c.args.steps.now.items c.run_steps.new.steps.items c.args.self.now c.run_steps.result.trace.items c.run_steps.new.self ran
+    ran_leads c.args.steps.now.items c.run_steps.new.steps.items c.args.self.now c.run_steps.result.trace.items c.run_steps.new.self ran
 
 pub returns-clause-messages : goal.returns-clause-messages
 returns-clause-messages g c =
@@ -33,4 +34,6 @@ returns-clause-messages g c =
     (subst (λ (f : Floor g.row.T.Denot). Stands f) c.self.view_is c.keeps.ensures.stands)
 
 pub returns-clause-carries : goal.returns-clause-carries
-returns-clause-carries g c = λ s led. led_further c.args.self.now c.run_steps.new.self s led (returns-clause-leads g c)
+returns-clause-carries g c =
+    λ s replies led.
+    led_further c.args.self.now c.run_steps.new.self s replies (replies_in c.run_steps.result.trace.items) led (returns-clause-leads g c)

@@ -1,12 +1,13 @@
 -- From the loop: the polls so far, and what is to come.
 use Rattle.std.proofs.Common.{arith, rules, ◌≡◌, ◌∙◌, length, slice_get, Some, vec_len, sym, subst}
 use Rattle.std.proofs.lemmas.Option.{slice_get_read}
-use Rattle.channel_interleaving.proofs.Interface.{leads_nowhere, leads_on, stands_led}
+use Rattle.channel_interleaving.proofs.Interface.{leads_nowhere, stands_led}
 use Rattle.channel_interleaving.specs.Floor.{IsQuiet, Stands}
 use Rattle.channel_interleaving.specs.declared.floor.Floor.{Floor}
 use Rattle.channel_model.specs.Awake.{AwakeIn}
 use Rattle.channel_world.specs.Settled.{polls_in}
 use Rattle.channel_world.specs.World.{at_rest}
+use Rattle.channel_world.proofs.Leading.{leads_polled}
 use Rattle.channel_world.proofs.Polls.{awake_at_rest}
 use Rattle.channel_world.proofs.SettleFacts.{goes_first, goes_on, goes_pushed, goes_end, next_poll}
 use Rattle.channel_world.proofs.world.World.settle.Goals as goal
@@ -24,7 +25,7 @@ loop-names-init g c =
     record {
       goes = rw r.polls (goes_first (at_rest now) c.in-Some.room.names.items awake r.names);
       quiet = c.requires.quiet;
-      leads = leads_nowhere now;
+      leads = rw r.polls (leads_nowhere now);
       names = r.room;
       polls = r.answers;
       places = omega (arith, places);
@@ -118,7 +119,7 @@ loop-names-preserved g c =
       goes = goes_pushed (at_rest c.args.self.now) u polls.items c.push_reserved.new.self.items name after.reply after.names.items pushed.items
           (goes_on (at_rest c.args.self.now) (at_rest c.loop-names.self) (polls_in polls.items) names.items name i.goes next.front u after.reply after.names.items e.polled);
       quiet = e.quiet;
-      leads = leads_on c.args.self.now c.loop-names.self c.poll_woken-reply.new.self i.leads e.leads;
+      leads = leads_polled c.args.self.now c.loop-names.self c.poll_woken-reply.new.self polls.items c.push_reserved.new.self.items _ pushed.items i.leads e.leads;
       names = omega (arith, more, a);
       polls = omega (arith, wider, b);
       places = omega (arith, accepted, longer, d);
@@ -206,8 +207,4 @@ returns-clause-leads g c =
 pub returns-clause-stands : goal.returns-clause-stands
 returns-clause-stands g c =
     let before = subst (λ (f : Floor g.row.T.Denot). Stands f) c.self.view_is c.keeps.ensures.stands in
-    stands_led c.args.self.now c.loop-names.self before c.loop-names.invariant.leads
-
-pub returns-in_default-clause-leads : goal.returns-in_default-clause-leads
-returns-in_default-clause-leads g c =
-    leads_nowhere c.args.self.now
+    stands_led c.args.self.now c.loop-names.self _ before c.loop-names.invariant.leads

@@ -1,6 +1,7 @@
 use Rattle.std.proofs.Common.{◌<◌, ◌≤◌, ◌+◌, ◌-◌, ◌^◌, vec_len, vec_capacity}
 use Rattle.channel_interleaving.specs.Floor.{IsQuiet, LeadsOn}
 use Rattle.channel_world.proofs.SettleFacts.{Goes}
+use Rattle.channel_world.specs.Carried.{polls_replied}
 use Rattle.channel_world.specs.Settled.{polls_in, most_polls}
 use Rattle.channel_world.specs.World.{at_rest}
 use Rattle.channel_world.proofs.world.World.settle.Given as goal
@@ -9,7 +10,7 @@ abbrev pub invariant-loop-names : goal.invariant-loop-names
 invariant-loop-names g l = record {
   goes : Goes (at_rest l.fn.self) (at_rest l.self) (polls_in l.polls.items) l.names.items;
   quiet : IsQuiet l.self;
-  leads : LeadsOn l.fn.self l.self;
+  leads : LeadsOn l.fn.self (polls_replied l.polls.items) l.self;
   names : most_polls (at_rest l.fn.self).waiting ≤ vec_capacity l.names;
   polls : most_polls (at_rest l.fn.self).waiting ≤ vec_capacity l.polls;
   places : l.self.accepted + most_polls (at_rest l.fn.self).waiting < 2 ^ 61 + vec_len l.polls;
