@@ -7,5 +7,6 @@ pub mod NoticeLemmas
 mod RunLemmas
 mod OrderLemmas
 mod TellingLemmas
+pub mod DrawingLemmas
 mod ReplayLemmas
 pub mod LeftLemmas

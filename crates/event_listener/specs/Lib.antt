@@ -8,4 +8,5 @@ pub mod Waits
 pub mod Runs
 pub mod Order
 pub mod Telling
+pub mod Drawing
 pub mod Replay

@@ -1,5 +1,6 @@
 //! An event that keeps a record of its calls.
 ghost use Rattle.std.specs.Prelude.{◌≤◌};
+ghost use Rattle.event_listener.specs.Drawing.{TellsOrNone};
 ghost use Rattle.event_listener.specs.Lists.{told_by};
 ghost use Rattle.event_listener.specs.Replay.{Replays, nobody};
 
@@ -147,6 +148,7 @@ impl<T: Copy, W: Copy> RecordedEvent<T, W> {
     ) -> Result<usize, NotifyError>
         requires { (n : N.Notify) → N.becomes notice n → N.Notify.can_give n }
         ensures at_most { (n : N.Notify) × N.becomes notice n × (told_by result ≤ N.Notify.size n) }
+        ensures tells { (n : N.Notify) × N.becomes notice n × TellsOrNone N.Notify.gives N.Notify.size n result }
     {
         let notice = notice.into_notification();
         self.inner.lock(rt).notify(self.alloc, notice, sink)

@@ -2,6 +2,7 @@
 ghost use Rattle.std.specs.Prelude.{◌≡◌, ◌+◌, ◌≤◌, ◌<◌, ◌↔◌, length, IfOk, OnErr, OnOk, IfErr, IsOk, Ok, Err, Some, None, true, false, [], vec_len};
 ghost use Rattle.std.specs.Vec.{vec_capacity};
 ghost use Rattle.event_listener.specs.Lists.{Lists, kind_of, register_answer, poll_answer, polled, remove_answer, removed_wakes, told_by, moved};
+ghost use Rattle.event_listener.specs.Drawing.{DrawsFirst, TellsOrNone};
 ghost use Rattle.event_listener.specs.Notices.{Woken};
 ghost use Rattle.event_listener.specs.Replay.{Replays, nobody, recorded, tag_found, total_of};
 
@@ -170,7 +171,9 @@ impl<T: Copy, W: Copy> Recording<T, W> {
         requires { N.can_give notice }
         ensures at_most { told_by result ≤ N.size notice }
         ensures answer { IfOk result (λ told. told ≡ moved (N.additional notice) (N.size notice) self.old.lists) }
-        ensures recorded { 0 < told_by result → (tags : _) × (self.new ≡ recorded (RecordedCall.Notified (N.size notice) (N.additional notice) tags result) self.old) }
+        ensures tells { TellsOrNone N.gives N.size notice result }
+        ensures recorded { 0 < told_by result → (tags : _) × (self.new ≡ recorded (RecordedCall.Notified (N.size notice) (N.additional notice) tags result) self.old)
+            × DrawsFirst N.gives (moved (N.additional notice) (N.size notice) self.old.lists) notice tags.items }
         ensures unchanged { told_by result ≡ 0 → self.new ≡ self.old }
     {
         let additional = notice.is_additional();
@@ -245,7 +248,8 @@ fn draw<N: Notification>(
 where
     N::Tag: Copy,
     requires { N.can_give notice.old }
-    ensures { IfOk result (λ drawn. drawn.1.items ≡ drawn.0.items) }
+    ensures same { IfOk result (λ drawn. drawn.1.items ≡ drawn.0.items) }
+    ensures first { IfOk result (λ drawn. DrawsFirst N.gives many notice.old drawn.0.items) }
 {
     let mut tags = Vec::new(alloc);
     let mut given = VecDeque::new(alloc);

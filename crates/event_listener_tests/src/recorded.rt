@@ -149,3 +149,42 @@ fn what_was_done_is_recorded(rt: HostRuntime) -> Result<(), Fail> {
     }
     Ok(())
 }
+
+/// What two polls give of three listeners, of which a notice with the tags 10 and 11 told two, whether the third one waits on, and what
+/// was recorded.
+fn told_in_turn<R: Wait>(
+    rt: &R,
+    alloc: Global,
+) -> Option<([Option<u32>; 2], bool, Vec<RecordedCall<u32, u8>>)> {
+    let event: RecordedEvent<u32, u8> = RecordedEvent::new(alloc);
+    let mut names = Names {
+        woken: Vec::new(alloc),
+    };
+    let [l1, l2, l3] = [
+        event.insert(rt).ok()?,
+        event.insert(rt).ok()?,
+        event.insert(rt).ok()?,
+    ];
+    let mut next = 9u32;
+    let notice = 2usize.tag_with(|| {
+        next = next.wrapping_add(1);
+        next
+    });
+    let told = event.notify(rt, notice, &mut names) == Ok(2);
+    let polled = [event.poll(rt, l1).ok()?, event.poll(rt, l2).ok()?];
+    let waits = told && event.poll(rt, l3) == Ok(None);
+    Some((polled, waits, event.into_parts().1))
+}
+
+#[test]
+fn tags_come_in_turn(rt: HostRuntime) -> Result<(), Fail> {
+    let (polled, waits, calls) = told_in_turn(&rt, rt.alloc()).expect(&rt, "memory");
+    let recorded = match calls.get(3) {
+        Some(RecordedCall::Notified { tags, .. }) => tags.as_slice() == [10, 11].as_slice(),
+        _ => false,
+    };
+    drop(calls);
+    assert_eq!(rt; polled, [Some(10), Some(11)]);
+    assert!(rt; waits && recorded);
+    Ok(())
+}

@@ -1,8 +1,10 @@
-use Rattle.std.proofs.Common.{◌≡◌, ◌<◌, ◌++◌, ◌∷◌, [], length, ap, sym, ◌∙◌, arith, rules, vec_len}
+use Rattle.std.proofs.Common.{◌≡◌, ◌<◌, ◌++◌, ◌∷◌, [], ℕ, nat_lt, Ok, Err, if◌then◌else◌, inl, length, ap, sym, subst, ◌∙◌, arith, rules, vec_len}
 use Rattle.event_listener.specs.declared.recorded.RecordedCall.TheVariants.{Notified}
+use Rattle.event_listener.specs.Drawing.{DrawsFirst}
 use Rattle.event_listener.specs.Lists.{notified, told_by, moved}
 use Rattle.event_listener.specs.Runs.{tags_given, tags_answer}
 use Rattle.event_listener.specs.Replay.{total_of}
+use Rattle.event_listener.proofs.DrawingLemmas.{tells_them}
 use Rattle.event_listener.proofs.TellingLemmas.{moved-at-most}
 use Rattle.event_listener.proofs.ReplayLemmas.{kept, total-notified, told-given, some-told, told-somebody, some-left, ok-moved, is-recorded}
 use Rattle.event_listener.proofs.recording.Recording.notify.Goals as goal
@@ -45,7 +47,28 @@ returns-clause-recorded g c =
     let call = Notified count additional tags c.notify_with-answer.result in
     let made = c.notify_with-answer.ensures.lists ∙ ap (λ ts. notified additional (tags_given additional count ts lists) lists) same in
     let grown = c.push_reserved.ensures.items ∙ ap (λ calls. calls ++ call ∷ []) c.in-Ok.ensures.items in
-    λ told. (tags, rw (sym c.self.view_is) (rw (sym c.is_additional-additional.ensures) (rw (sym c.count-count.ensures) (is-recorded call _ _ _ _ made c.notify_with-answer.ensures.serials grown))))
+    let first = subst (λ (k : ℕ). DrawsFirst g.N.Notification.gives k c.args.notice tags.items) c.to_move-many.ensures.value c.in-Ok-draw.ensures.first in
+    λ told. (
+      tags,
+      rw (sym c.self.view_is) (rw (sym c.is_additional-additional.ensures) (rw (sym c.count-count.ensures) (is-recorded call _ _ _ _ made c.notify_with-answer.ensures.serials grown))),
+      rw (sym c.self.view_is) (rw (sym c.is_additional-additional.ensures) (rw (sym c.count-count.ensures) first)),
+    )
+
+pub returns-clause-tells : goal.returns-clause-tells
+returns-clause-tells g c =
+    let lists = c.self.inside.list.lists in
+    let additional = c.is_additional-additional.result in
+    let count = c.count-count.result in
+    let tags = c.in-Ok-draw.tags.items in
+    let same : c.in-Ok-draw.given.items ≡ tags = search rules in
+    let value = c.to_move-many.ensures.value in
+    let most = moved-at-most additional count lists in
+    inl
+    (tells_them g.N.Notification.gives g.N.Notification.size c.to_move-many.result c.args.notice tags c.notify_with-answer.result
+    (omega (arith, most, value, c.count-count.ensures)) c.in-Ok-draw.ensures.first
+    (c.notify_with-answer.ensures.answer
+    ∙ (ap (λ ts. tags_answer additional count ts lists) same
+    ∙ ap (λ (k : ℕ). if nat_lt (length tags) k then Err (record { told = length tags }) else Ok k) (sym value))))
 
 pub returns-clause-unchanged : goal.returns-clause-unchanged
 returns-clause-unchanged g c =
