@@ -33,8 +33,9 @@ impl<T: Drop> World<T> {
     /// A refused call stays in front, with nothing of it done; `stopped` says at which place of the list, counted from
     /// 0, and why. The room for a call's answer is taken before it begins, and where that is refused the call is too.
     /// No call is under way when this begins, and none when it ends; however the world came about, by calls or by steps of
-    /// any parties. What left the channel, followed by what it holds, is what it held followed by what came, in order, from each
-    /// scene in which the world stood. Nothing here waits. Own to this project.
+    /// any parties. From each scene in which the world stood steps lead to one in which it stands, on which just those replies were
+    /// given, in order, that are answered here; and what left the channel, followed by what it holds, is what it held followed by
+    /// what came, in order. Nothing here waits. Own to this project.
     pub fn run_calls(&mut self, calls: &mut VecDeque<Call<T>>) -> CallRun<T>
         requires quiet { IsQuiet self.old }
         ensures run { Runs (at_rest self.old) calls.old.items result.done.items (option_map (λ s. s.why) result.stopped) calls.new.items (at_rest self.new) }

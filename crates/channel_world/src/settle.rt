@@ -147,9 +147,9 @@ impl<T: Drop> World<T> {
     /// Room for all answers, and for the names of those who are woken, is taken before the first poll. Where it is refused, or
     /// where so many messages were accepted that polls of sends could pass 2^61, it is `NoMemory`, and nothing is changed. Where a poll itself is refused
     /// memory or serials, for its listener or a block of the queue, its reply says so, and it is pending no more; all the rest
-    /// holds as before. No call is to be under way, and none is after it; what left the channel, followed by what it holds, is
-    /// what it held followed by what came, in order, from each scene in which the world stood. Nothing waits. Own to this
-    /// project.
+    /// holds as before. No call is to be under way, and none is after it; from each scene in which the world stood steps lead to one
+    /// in which it stands, on which just the replies of these polls were given, in order; and what left the channel, followed by
+    /// what it holds, is what it held followed by what came, in order. Nothing waits. Own to this project.
     pub fn settle(&mut self) -> Result<Vec<Settled<T>>, NoMemory>
         requires quiet { IsQuiet self.old }
         ensures polls { IfOk result (λ polls. Settles (at_rest self.old) (polls_in polls.items) (at_rest self.new)) }

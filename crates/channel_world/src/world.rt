@@ -101,8 +101,8 @@ impl<T: Drop> World<T> {
     ///
     /// The promise is of every scene in which the world stood: a plain channel with the calls under way on it, each with its
     /// moments and marks so far. Some such scene there always is, and a run or a list of calls that comes after leads on from
-    /// the one to which this one came: the accounts of all that was done since a scene are carried through each of them. The numbers
-    /// of messages before and after it need none.
+    /// the one to which this one came: the replies that were given since a scene, and the accounts of all that was done since, are
+    /// carried through each of them. The numbers of messages before and after it need none.
     ///
     /// A step is refused for the first of these reasons that there is: the party that begins is at work; the one that steps
     /// isn't; a used name doesn't live; what lives there is of another kind; its operation or its receiver's stream is being

@@ -1,4 +1,4 @@
-//! What calls of an unbounded queue do where memory is wanted or positions come to their end, over cells of these tests' own.
+//! What calls of a queue do where memory is wanted or positions come to their end, over cells of these tests' own.
 
 use crate::said::{Said, replied};
 use concurrent_queue::call::{QueueAsk, QueueMark};
@@ -226,25 +226,52 @@ fn each_block_refused_once_loses_nothing(rt: HostRuntime) -> Result<(), Fail> {
     Ok(())
 }
 
-#[test]
-fn positions_at_their_end_close_the_queue(rt: HostRuntime) -> Result<(), Fail> {
-    let mut cells = cells_with(rt.alloc(), 1)?;
-    cells.store(Word::Tail, 0xffff_ffff_ffff_ff80);
+/// A push into a queue whose tail stands here, the last that there is: whether its first step goes on, what its second one says, whether
+/// it has closed the queue, and what the queue says then.
+fn pushes_at_the_end(cells: &mut Scarce, tail: u64) -> (bool, Said, bool, [Said; 2]) {
+    cells.store(Word::Tail, tail);
     let mut call = QueueCall::new(QueueAsk::Push(7));
-    let goes_on = call.step(&mut cells).is_none();
-    let refused = match call.step(&mut cells) {
+    let goes_on = call.step(cells).is_none();
+    let refused = match call.step(cells) {
         Some(reply) => replied(&reply),
         None => ("nothing", 0),
     };
     let closed_it = matches!(call.last_mark(), QueueMark::Close);
     drop(call);
     let after = [
-        asked(&mut cells, QueueAsk::IsClosed),
-        asked(&mut cells, QueueAsk::Close),
+        asked(cells, QueueAsk::IsClosed),
+        asked(cells, QueueAsk::Close),
     ];
+    (goes_on, refused, closed_it, after)
+}
+
+/// What is seen there.
+const AT_THE_END: (bool, Said, bool, [Said; 2]) = (
+    true,
+    ("closed", 7),
+    true,
+    [("yes", 0), ("was closed", 0)],
+);
+
+#[test]
+fn positions_at_their_end_close_the_queue(rt: HostRuntime) -> Result<(), Fail> {
+    let mut cells = cells_with(rt.alloc(), 1)?;
+    let seen = pushes_at_the_end(&mut cells, 0xffff_ffff_ffff_ff80);
     drop(cells);
-    assert_eq!(rt; (goes_on, refused, closed_it), (true, ("closed", 7), true));
-    assert_eq!(rt; after, [("yes", 0), ("was closed", 0)]);
+    assert_eq!(rt; seen, AT_THE_END);
+    Ok(())
+}
+
+#[test]
+fn laps_at_their_end_close_a_ring(rt: HostRuntime) -> Result<(), Fail> {
+    let mut cells = Scarce {
+        cells: PlainCells::new(rt.alloc(), QueueForm::Bounded(2))?,
+        left: 0,
+        idle: 0,
+    };
+    let seen = pushes_at_the_end(&mut cells, 0xffff_ffff_ffff_fff8);
+    drop(cells);
+    assert_eq!(rt; seen, AT_THE_END);
     Ok(())
 }
 

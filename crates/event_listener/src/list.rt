@@ -22,7 +22,7 @@ use std::marker::Model;
 /// To its callers it is two lists: the told listeners, each with the kind of its notice and its tag, and the waiting
 /// ones, each perhaps with a task. Both keep the order of listening. Besides, it has the number of serials that it
 /// gave, the room for listeners that takes no more memory, the visits of its last call, and the looks of all its calls:
-/// each read and each write of a node ever, that of a call's own listener too. What a call adds to them is bounded, and
+/// each read and each write of a node ever but the making of one, that of a call's own listener too. What a call adds to them is bounded, and
 /// nothing takes from them; they are counted modulo 2^64, which takes centuries to come round.
 /// Own to this project: in `event-listener` 5.4.2 the list is private to its event.
 pub struct List<T, W> {

@@ -35,8 +35,8 @@ pub(crate) struct Ends {
 
 /// The nodes, and how often they were read or written.
 ///
-/// There is no other way to a node than the calls below. Each counts in `looks`, whosever the node is, and no call sets
-/// that back: so the bound on it holds of what was really looked at. Those that are said to be counted, which are the
+/// There is no other way to a node than the calls below. Each but the making of one counts in `looks`, whosever the node is, and no
+/// call sets that back: so the bound on it holds of what was really looked at. Those that are said to be counted, which are the
 /// visits of a call with a number to nodes that are not its own, count in `last` besides, which each such call begins.
 /// Both count modulo 2^64, which takes centuries to come round: so to count is one addition in memory. They stand apart,
 /// since side by side they are added to as a pair, and such a read waits until the writes of each by itself are done.

@@ -174,7 +174,8 @@ impl<T: Drop> ConcurrentQueue<T> {
 
     /// Makes the steps of a call up to its answer. A push or a pop that has made no step is made at once where nothing stands
     /// against it. It yields where the call has to make an action again, and may wait for the lock of the spare list. What it
-    /// answers is what this queue may answer to this call. Own to this project.
+    /// answers is what this queue may answer to this call. With a call that has answered before it never returns. Own to this
+    /// project.
     #[inline(always)]
     pub fn complete<R: Wait>(&self, rt: &R, call: &mut QueueCall<T>) -> QueueReply<T>
         ensures { IsSharedStep self.now call.old call.new (Some result) }
