@@ -17,7 +17,8 @@ pub use channel_rest::laws::{
 
 /// Runs of steps and lists of calls may follow each other as they like, from whatever world: what left the channel in all of
 /// them, followed by what it holds in the end, is what it held at first followed by what came in all of them, in order. For what
-/// leads on from a first world to a second, and then from the second to a third, leads on from the first to the third.
+/// leads on from a first world to a second, and then from the second to a third, leads on from the first to the third, and the
+/// replies that were given on the way are those of the one followed by those of the other.
 ///
 /// Own to this project.
 pub fn what_is_done_in_turn_leads_on<T>()
