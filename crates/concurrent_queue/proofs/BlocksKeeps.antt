@@ -198,10 +198,6 @@ module _ {T : Type 0} (r : Blocks T) (now : Queue T) (s : SoundBlocks r now.item
     leaves = (u, sent_goes v k.0.0 k.0.1, (k.0, k.1, omega (arith, k.4), k.5));
   })
 
-  and_no : (b : Bool) → (b && false) ≡ false
-  and_no false = refl
-  and_no true = refl
-
   abbrev link_to : ℕ → BlockState
   link_to k = record { linked = true; reads = (r.block k).reads; retired = (r.block k).retired }
 

@@ -10,12 +10,7 @@ use Rattle.concurrent_queue.specs.machine.RingMade.{numbers_below, vacant_slots}
 use Rattle.concurrent_queue.specs.declared.plain_ring.PlainPlace.{PlainPlace}
 use Rattle.concurrent_queue.proofs.RingMade.{next_number, next_slot}
 
--- a place beyond a list is not written
-pub past : {A : Type 0} (xs : List A) (i : ℕ) (a : A) → length xs ≤ i → slice_set xs i a ≡ xs
-past [] i a h = refl
-past (x ∷ xs) zero a h = absurd (omega arith)
-past (x ∷ xs) (suc i) a h = ap (λ ys. x ∷ ys) (past xs i a (omega arith))
-
+-- a place beyond a list is not there
 pub not_there : {A : Type 0} (xs : List A) (i : ℕ) → length xs ≤ i → slice_get xs i ≡ None
 not_there [] i h = refl
 not_there (x ∷ xs) zero h = absurd (omega arith)
@@ -79,12 +74,6 @@ module _ {T : Type 0} where
 
   pub slot_beyond : (lone : List (Option T)) (ps : List (PlainPlace T)) (i : ℕ) → 0 < length ps → length ps ≤ i → slice_get (slots_in lone ps) i ≡ None
   slot_beyond lone ps i some h = not_there (slots_in lone ps) i (let l = slots_long lone ps some in omega arith)
-
-  pub held_beyond : (lone : List (Option T)) (ps : List (PlainPlace T)) (i : ℕ) → 0 < length ps → length ps ≤ i → slice_index_or (slots_in lone ps) i None ≡ None
-  held_beyond lone ps i some h = or_past (slots_in lone ps) i None (let l = slots_long lone ps some in omega arith)
-
-  pub slots_past : (lone : List (Option T)) (ps : List (PlainPlace T)) (i : ℕ) (o : Option T) → 0 < length ps → length ps ≤ i → slice_set (slots_in lone ps) i o ≡ slots_in lone ps
-  slots_past lone ps i o some h = past (slots_in lone ps) i o (let l = slots_long lone ps some in omega arith)
 
   -- one place is written
   pub stamps_set : (ps : List (PlainPlace T)) (i : ℕ) (q : PlainPlace T) → stamps_in (slice_set ps i q) ≡ slice_set (stamps_in ps) i q.stamp

@@ -33,32 +33,6 @@ module _ {T : Type 0} where
 
   -- ---- the first action of a call may answer what was asked
 
-  may_single : (a : QueueAsk T) (r : QueueReply T) → MaySingle (start a) r → MayAnswer (Bounded 1) a r
-  may_single (ask.Push v) r h = h
-  may_single (ask.ForcePush v) r h = h
-  may_single ask.Pop r h = h
-  may_single ask.Close r h = h
-  may_single ask.IsClosed r h = h
-  may_single ask.IsEmpty r h = h
-  may_single ask.IsFull r h = h
-  may_single ask.Len r h = h
-  may_single ask.Capacity r h = h
-
-  soon_single : (a : QueueAsk T) → AsksWords a → IsLastSingle (start a)
-  soon_single (ask.Push v) h = absurd h
-  soon_single (ask.ForcePush v) h = absurd h
-  soon_single ask.Pop h = absurd h
-  soon_single ask.Close h = h
-  soon_single ask.IsClosed h = h
-  soon_single ask.IsEmpty h = h
-  soon_single ask.IsFull h = h
-  soon_single ask.Len h = absurd h
-  soon_single ask.Capacity h = h
-
-  pub single_first : (a : QueueAsk T) (a' : SingleAction T) (o : Option (QueueReply T)) → FollowsBy MaySingle IsLastSingle IsSoonSingle (start a) a' o → StateFollows (Bounded 1) (state.Asked a) (state.Single a') o
-  single_first a a' None h = ((λ b r m. may_single a r (h.0 r m)), (λ x. x), λ s. absurd (h.1 (soon_single a s)))
-  single_first a a' (Some r) h = may_single a r h
-
   may_ring : (cap : ℕ) (a : QueueAsk T) (r : QueueReply T) → MayRing (cap_of cap) (ring_start a) r → MayAnswer (Bounded cap) a r
   may_ring cap (ask.Push v) r h = h
   may_ring cap (ask.ForcePush v) r h = h

@@ -41,9 +41,6 @@ eq_false x y e f = grind (arith, nat_tests)
 pub eq_holds : (x y : ℕ) → x ≡ y → (x == y) ≡ true
 eq_holds x y e = grind (arith, nat_tests)
 
-pub eq_fails : (x y : ℕ) → (x ≡ y → ⊥) → (x == y) ≡ false
-eq_fails x y ne = by_bool (x == y) (λ e. e) (λ e. absurd (ne (eq_true x y e)))
-
 pub one_if : (b : Bool) (x : ℕ) → (if b then x else 0) ≤ x
 one_if false x = omega arith
 one_if true x = omega arith

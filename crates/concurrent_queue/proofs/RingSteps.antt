@@ -46,9 +46,6 @@ slot_of (y ∷ xs) (suc i) o e = slot_of xs i o e
 pub le_true : (x y : ℕ) → nat_le x y ≡ true → x ≤ y
 le_true x y e = grind (arith, nat_tests)
 
-pub le_false : (x y : ℕ) → nat_le x y ≡ false → y < x
-le_false x y e = grind (arith, nat_tests)
-
 pub both : (a b : Bool) → (a && b) ≡ true → (a ≡ true) × (b ≡ true)
 both true true e = (refl, refl)
 both true false e = absurd (false≢true e)

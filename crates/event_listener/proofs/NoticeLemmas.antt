@@ -53,10 +53,6 @@ module _ {W S : Type 0} (wakes : S → W → S → Type 0) where
   Woken-append s (x ∷ xs) ys t u a b = (a.0, a.1, Woken-append a.0 xs ys t u a.2 b)
 
 module _ {N T W S : Type 0} (gives : N → Result T NoMemory → N → Type 0) (wakes : S → W → S → Type 0) where
-  pub Sofar-none : (a : Bool) (n : N) (old new : Lists T W) (sink : S) → new ≡ old → Sofar gives wakes a 0 n n old new sink sink
-  Sofar-none a n old new sink e =
-      record { tags = []; count = refl; drawn = refl; lists = e ∙ sym (λ i. record { told = append-nil old.told i; waiting = old.waiting }); woken = refl }
-
   pub Sofar-more : (a : Bool) (i : ℕ) (n m k : N) (old new newer : Lists T W) (sink now later : S) (t : T) → Sofar gives wakes a i n m old new sink now → gives m (Ok t) k → newer ≡ notified a (t ∷ []) new → Woken wakes now (tasks_of (take 1 new.waiting)) later → Sofar gives wakes a (i + 1) n k old newer sink later
   Sofar-more a i n m k old new newer sink now later t s d l w =
       let c : length (s.tags ++ t ∷ []) ≡ length s.tags + 1 = length-append s.tags (t ∷ []) in
@@ -68,9 +64,3 @@ module _ {N T W S : Type 0} (gives : N → Result T NoMemory → N → Type 0) (
         lists = l ∙ ap (notified a (t ∷ [])) s.lists ∙ notified-more a old s.tags t;
         woken = subst (λ r. Woken wakes sink r later) (tasks-more old.waiting s.tags t) (Woken-append wakes sink _ (tasks_of (take 1 (drop (length s.tags) old.waiting))) now later s.woken w2);
       }
-
-  -- while fewer were told than waited, someone waits
-  pub Sofar-waiting : (a : Bool) (i many : ℕ) (n m : N) (old new : Lists T W) (sink now : S) → Sofar gives wakes a i n m old new sink now → i < many → many ≤ length old.waiting → 0 < length new.waiting
-  Sofar-waiting a i many n m old new sink now s lt le =
-      let e : length new.waiting ≡ length (drop (length s.tags) old.waiting) = ap (λ (r : Lists T W). length r.waiting) s.lists in
-      omega (arith, length-drop (length s.tags) old.waiting, s.count)
