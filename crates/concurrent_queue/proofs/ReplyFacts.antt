@@ -4,15 +4,13 @@ use Rattle.concurrent_queue.specs.machine.Dispatch.{in_ring, in_blocks, ring_cap
 use Rattle.concurrent_queue.specs.declared.call.Stepped.{Stepped}
 use Rattle.concurrent_queue.specs.declared.cells.QueueForm.{QueueForm}
 use Rattle.concurrent_queue.specs.declared.cells.QueueForm.TheVariants.{Bounded, Unbounded}
-use Rattle.concurrent_queue.specs.machine.Single.{start}
 use Rattle.concurrent_queue.specs.machine.RingWords.{cap_of, ring_start}
 use Rattle.concurrent_queue.specs.machine.BlocksMoves.{answer_as}
 use Rattle.concurrent_queue.specs.machine.BlocksWords.{begin, reply_of}
-use Rattle.concurrent_queue.specs.Replies.{MayAnswer, MaySingle, MayRing, MayEnd, MayBlocks, Tells, Sends, FollowsBy, FollowsIn, RingFollows, BlocksFollows, StateFollows, IsLastSingle, IsSoonSingle, IsLastRing, IsSoonRing, IsLastBlocks, IsSoonBlocks, AsksWords}
+use Rattle.concurrent_queue.specs.Replies.{MayAnswer, MayRing, MayEnd, MayBlocks, Tells, Sends, FollowsBy, FollowsIn, RingFollows, BlocksFollows, StateFollows, IsLastRing, IsSoonRing, IsLastBlocks, IsSoonBlocks, AsksWords}
 use Rattle.concurrent_queue.specs.declared.call.QueueAsk.{QueueAsk}
 use Rattle.concurrent_queue.specs.declared.call.QueueAsk.TheVariants as ask
 use Rattle.concurrent_queue.specs.declared.call.QueueReply.{QueueReply}
-use Rattle.concurrent_queue.specs.declared.single.SingleAction.{SingleAction}
 use Rattle.concurrent_queue.specs.declared.bounded.RingAction.{RingAction}
 use Rattle.concurrent_queue.specs.declared.unbounded.ending.Ending.{Ending}
 use Rattle.concurrent_queue.specs.declared.unbounded.ending.Ending.TheVariants as ending

@@ -13,7 +13,7 @@ use Rattle.concurrent_queue.specs.machine.RingMeans.{Denotes}
 use Rattle.concurrent_queue.specs.machine.RingWords.{is_marked, unmarked, index, stride, next_word, count_of, between, set_stamp}
 use Rattle.concurrent_queue.proofs.RingShape.{IsMark}
 use Rattle.concurrent_queue.proofs.RingPlaces.{pos-index, pos-same, pos-less, pos-turn, pos-next, pos-div, near_same}
-use Rattle.concurrent_queue.proofs.RingSound.{by_bool, by_eq, if_false, if_true}
+use Rattle.concurrent_queue.proofs.RingSound.{by_eq, if_false, if_true}
 
 pub set_same : {A : Type 0} (xs : List A) (i : ℕ) (x y : A) → slice_get xs i ≡ Some y → slice_get (slice_set xs i x) i ≡ Some x
 set_same [] i x y e = absurd cc

@@ -1,4 +1,4 @@
-use Rattle.std.proofs.Common.{List, ◌∷◌, ◌++◌, [], inr, sym, subst, arith, rules}
+use Rattle.std.proofs.Common.{List, inr, sym, subst, arith, rules}
 use Rattle.event_listener.specs.Notices.{Draws}
 use Rattle.event_listener.proofs.NoticeLemmas.{Draws-more}
 use Rattle.event_listener.proofs.recording.draw.Goals as goal
