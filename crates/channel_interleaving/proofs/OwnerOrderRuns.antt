@@ -21,7 +21,7 @@ use Rattle.channel_interleaving.specs.Order.{placed, order_begun}
 use Rattle.channel_interleaving.specs.Owners.{IsAmong, NoneTwice, Post, vacant, post, subject, Owned}
 use Rattle.channel_interleaving.specs.OwnerOrder.{woken_key, Within, NeedsPlace, InOrder}
 use Rattle.channel_interleaving.specs.OwnerWoken.{WokenSound}
-use Rattle.channel_interleaving.specs.Refusal.{refusal, step_refusal}
+use Rattle.channel_interleaving.specs.Refusal.{step_refusal}
 use Rattle.channel_interleaving.specs.Roll.{first_roll, with_lent}
 use Rattle.channel_interleaving.specs.Run.{Book, Made, begun}
 use Rattle.channel_interleaving.specs.declared.names.Operation.{Operation}

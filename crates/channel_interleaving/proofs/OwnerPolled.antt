@@ -12,7 +12,7 @@ use Rattle.channel_steps.specs.Scene.{Scene, Steps, AllKnown}
 use Rattle.channel_interleaving.specs.Bookkeeping.{names_begun, errand_of, asks, settled, all_woken}
 use Rattle.channel_interleaving.specs.OwnerPolled.{IsWorkedAt, PolledAtWork}
 use Rattle.channel_interleaving.specs.Owners.{IsAmong, Post, free, vacant, amiss, rests, waits, polled, post, subject, AllDiffer, Owned}
-use Rattle.channel_interleaving.specs.Refusal.{refusal, step_refusal}
+use Rattle.channel_interleaving.specs.Refusal.{step_refusal}
 use Rattle.channel_interleaving.specs.Roll.{first_roll}
 use Rattle.channel_interleaving.specs.Run.{Book, Made, begun, ended, with_woken}
 use Rattle.channel_interleaving.specs.declared.names.Agent.{Agent}

@@ -14,7 +14,6 @@ use Rattle.channel_steps.specs.Scene.{Under, Scene}
 use Rattle.channel_steps.specs.declared.party.Entry.{Entry as ChannelEntry}
 use Rattle.channel_interleaving.specs.Bookkeeping.{asks, errand_of, names_begun}
 use Rattle.channel_interleaving.specs.Owners.{All, AnyOf, Post, free, vacant, amiss, rests, waits, polled, posted, post, holding, task_at, wait_of, Bears, subject, Suits, Together, Differ, AllDiffer, IsListed, NoneListedTwice, Holder, named, calling, HoldsIn, Owned}
-use Rattle.channel_interleaving.specs.Refusal.{refusal}
 use Rattle.channel_interleaving.specs.Roll.{first_roll, unused, is_at_work}
 use Rattle.channel_interleaving.specs.Run.{Book, begun}
 use Rattle.channel_interleaving.specs.declared.names.Agent.{Agent}

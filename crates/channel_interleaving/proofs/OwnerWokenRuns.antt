@@ -13,7 +13,7 @@ use Rattle.channel_steps.specs.declared.party.Entry.{Entry as ChannelEntry}
 use Rattle.channel_interleaving.specs.Bookkeeping.{asks, errand_of, names_begun}
 use Rattle.channel_interleaving.specs.Owners.{Post, free, vacant, amiss, rests, waits, polled, post, holding, subject, Together, WaitsFor, Owned}
 use Rattle.channel_interleaving.specs.OwnerWoken.{IsAway, IsTold, NoneWorks, Works, IsOwn, WokenSound}
-use Rattle.channel_interleaving.specs.Refusal.{refusal, step_refusal}
+use Rattle.channel_interleaving.specs.Refusal.{step_refusal}
 use Rattle.channel_interleaving.specs.Roll.{first_roll}
 use Rattle.channel_interleaving.specs.Run.{Book, Made, begun}
 use Rattle.channel_interleaving.specs.declared.names.Agent.{Agent}

@@ -1,5 +1,5 @@
 -- A poll made alone puts those whom it wakes after the names that it was given.
-use Rattle.std.proofs.Common.{arith, ◌≡◌, ◌+◌, ◌≤◌, ◌<◌, ◌^◌, ℕ, List, [], ◌++◌, length, drop, sym, ap, ◌∙◌, subst, vec_len, vec_capacity, length-append}
+use Rattle.std.proofs.Common.{arith, ◌≡◌, ◌+◌, ◌≤◌, ℕ, List, ◌++◌, length, drop, sym, ap, ◌∙◌, subst, vec_len, vec_capacity, length-append}
 use Rattle.channel_calls.specs.Parts.{Parts}
 use Rattle.channel_calls.specs.declared.ask.ChannelAsk.{ChannelAsk}
 use Rattle.channel_alone.specs.Alone.{Alone}

@@ -3,7 +3,6 @@ use Rattle.channel_calls.specs.Several.{Gathered, with_last}
 use Rattle.channel_calls.specs.declared.error.TryRecvError.{TryRecvError}
 use Rattle.channel_calls.specs.declared.error.TryRecvError.TheVariants as try_recv_error
 use Rattle.std.proofs.Common.{zero, suc, arith, ◌≡◌, ℕ, ◌+◌, ◌≤◌, ◌==◌, nat_lt, Bool, true, false, if◌then◌else◌, List, [], ◌∷◌, ◌++◌, map, length, Option, None, Some, Ok, Err, inl, inr, ◌⊎◌, refl, sym, ap, ◌∙◌, subst}
-use Rattle.std.specs.Option.{option_map, option_map_or}
 use Rattle.concurrent_queue.specs.Queue.{Queue, Phase, trying, displaced, appended, taken, read, measured, ContinuesBy, AnswersTo, Continues, Answers, after}
 use Rattle.concurrent_queue.specs.Queue as queue
 use Rattle.concurrent_queue.specs.declared.call.QueueAsk.{QueueAsk}
@@ -21,11 +20,9 @@ use Rattle.channel_calls.specs.Asks.{first}
 use Rattle.channel_calls.specs.Marks.{mark_of_queue, up}
 use Rattle.channel_calls.specs.Moves.{Channel, Effect, untouched, on_count, tells_one, tells_more, tells_all, listens, registers, leaves, lowers, raises, Turned, Worked, Moves}
 use Rattle.channel_calls.specs.Parts.{listeners, count, is_raised, waits}
-use Rattle.channel_calls.specs.Turns.{most, leaving, nothing_kept, line_of, ask_of, closer_ending, dropper, ends_by, again, refused_next, pends_by, unlistened, told_all_next, room_next, roomless, lowered_next, counted_next, loaded_next, raised_next}
+use Rattle.channel_calls.specs.Turns.{most, leaving, nothing_kept, line_of, closer_ending, dropper, ends_by, again, refused_next, pends_by, unlistened, told_all_next, room_next, roomless, lowered_next, counted_next, loaded_next, raised_next}
 use Rattle.channel_calls.specs.declared.ask.ChannelAsk.{ChannelAsk}
 use Rattle.channel_calls.specs.declared.ask.ChannelAsk.TheVariants as channel
-use Rattle.channel_calls.specs.declared.mark.Mark.{Mark}
-use Rattle.channel_calls.specs.declared.mark.Mark.TheVariants as mark
 use Rattle.channel_calls.specs.declared.reply.Reply.{Reply}
 use Rattle.channel_calls.specs.declared.reply.Reply.TheVariants as reply
 use Rattle.channel_calls.specs.declared.stage.Aim.{Aim}

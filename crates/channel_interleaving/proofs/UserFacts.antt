@@ -19,8 +19,8 @@ use Rattle.channel_model.specs.declared.name.HandleKind.TheVariants as handle_ki
 use Rattle.channel_model.specs.declared.name.OpId.{OpId}
 use Rattle.channel_model.specs.declared.name.Waiter.{Waiter}
 use Rattle.channel_model.specs.declared.name.Waiter.TheVariants.{Op, Stream}
-use Rattle.channel_interleaving.specs.Bookkeeping.{names_begun, settled, installed, woken, all_woken, lent_by, lent_to_poll, with_operation, operation_named, handle_named, errand_of, leave_handle_of, new_from, unpolled}
-use Rattle.channel_interleaving.specs.Roll.{standing_with, used_more, used_less, with_handle, with_lent, with_given_back, with_standing, unused, first_handles, first_roll, handle_at}
+use Rattle.channel_interleaving.specs.Bookkeeping.{names_begun, settled, installed, woken, all_woken, lent_by, lent_to_poll, with_operation, operation_named, handle_named, errand_of, leave_handle_of, new_from}
+use Rattle.channel_interleaving.specs.Roll.{standing_with, used_more, used_less, with_handle, with_lent, with_given_back, with_standing, unused, first_roll, handle_at}
 use Rattle.channel_interleaving.specs.Run.{Book, begun, ended, with_woken}
 use Rattle.channel_interleaving.specs.Users.{one, uses, all_uses, FewUsers}
 use Rattle.channel_interleaving.specs.declared.names.Agent.{Agent}

@@ -1,5 +1,5 @@
 -- Ways: of no step, one after another, of a run, and of a call made alone.
-use Rattle.std.proofs.Common.{◌≡◌, ℕ, List, [], ◌∷◌, ◌++◌, Option, None, Some, refl, sym, ap, ◌∙◌, subst, append_assoc}
+use Rattle.std.proofs.Common.{◌≡◌, ℕ, List, [], ◌∷◌, ◌++◌, Option, None, refl, sym, ap, ◌∙◌, subst, append_assoc}
 use Rattle.std.specs.Option.{option_to_list}
 use Rattle.channel_alone.specs.Alone.{Outcome}
 use Rattle.channel_alone.specs.Scenes.{Goes, LoneRun}

@@ -22,7 +22,7 @@ use Rattle.channel_model.specs.declared.name.Waiter.{Waiter}
 use Rattle.channel_model.specs.declared.name.Waiter.TheVariants.{Op, Stream}
 use Rattle.channel_interleaving.specs.Order.{order_begun}
 use Rattle.channel_interleaving.specs.OwnerOrder.{was_woken, woken_in}
-use Rattle.channel_interleaving.specs.Owners.{Post, free, vacant, amiss, rests, waits, polled, post_on, no_stream_post, stream_post, send_post, operation_post, posted, post}
+use Rattle.channel_interleaving.specs.Owners.{Post, free, vacant, amiss, rests, waits, polled, no_stream_post, stream_post, operation_post, posted, post}
 use Rattle.channel_interleaving.specs.Refusal.{refusal}
 use Rattle.channel_interleaving.specs.Roll.{is_polled, is_woken, has_finished, operation_of, names_of}
 use Rattle.channel_interleaving.specs.declared.names.Hold.{Hold}

@@ -1,5 +1,5 @@
 -- Messages that are accepted, and those that calls under way may yet bring.
-use Rattle.std.specs.Prelude.{ℕ, ◌+◌, Bool, true, false, List, [], ◌∷◌, Option, None, Some, is_some, Ok}
+use Rattle.std.specs.Prelude.{ℕ, ◌+◌, Bool, true, false, List, [], ◌∷◌, Option, is_some, Ok}
 use Rattle.std.specs.Option.{option_map_or}
 use Rattle.futures.specs.declared.task.Poll.TheVariants.{Ready}
 use Rattle.concurrent_queue.specs.Queue.{Phase, trying, displaced}

@@ -1,4 +1,4 @@
-use Rattle.std.proofs.Common.{arith, ◌+◌, Bool, List, length, drop, refl, ap, ◌∙◌}
+use Rattle.std.proofs.Common.{arith, Bool, List, length, drop, refl, ap, ◌∙◌}
 use Rattle.channel_interleaving.specs.Positions.{accepted_by}
 use Rattle.channel_model.specs.declared.name.Waiter.{Waiter}
 use Rattle.channel_interleaving.proofs.LoneFacts.{no_agents, is_at_rest, is_called}

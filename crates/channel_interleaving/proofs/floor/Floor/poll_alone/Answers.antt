@@ -1,7 +1,6 @@
-use Rattle.std.proofs.Common.{arith, ◌≡◌, ◌+◌, ◌-◌, ◌≤◌, Bool, List, drop, length, vec_len, vec_capacity, refl, sym, ap, ◌∙◌}
+use Rattle.std.proofs.Common.{arith, ◌≡◌, ◌-◌, Bool, drop, length, vec_len, vec_capacity, refl, ap, ◌∙◌}
 use Rattle.channel_model.specs.Settling.{poll_of}
 use Rattle.channel_interleaving.specs.Positions.{accepted_by}
-use Rattle.channel_model.specs.declared.name.Waiter.{Waiter}
 use Rattle.channel_interleaving.proofs.LoneFacts.{no_agents, is_at_rest, is_called}
 use Rattle.channel_interleaving.proofs.PollFacts.{Heard, names_heard}
 use Rattle.channel_interleaving.proofs.PlaceFacts.{accepted_most}
