@@ -1,5 +1,5 @@
 -- A run has each of the headline's sentences.
-use Rattle.std.proofs.Common.{arith, ◌≡◌, ◌+◌, List, [], ◌∷◌, length, Option, None, Some, Err, refl, sym, ap, subst}
+use Rattle.std.proofs.Common.{arith, ◌≡◌, ◌+◌, List, [], ◌∷◌, length, Option, None, Some, Err, refl, ap, subst}
 use Rattle.std.specs.Prelude.{IfSome}
 use Rattle.futures.specs.declared.task.Poll.TheVariants.{Ready}
 use Rattle.channel_calls.specs.Moves.{Channel}

@@ -1,5 +1,5 @@
 -- What leads on, with one more reply and with none.
-use Rattle.std.proofs.Common.{◌≡◌, List, [], ◌∷◌, ◌++◌, map, refl, sym, ap, ◌∙◌, subst, append-nil}
+use Rattle.std.proofs.Common.{◌≡◌, List, [], ◌∷◌, ◌++◌, map, refl, sym, ap, subst, append-nil}
 use Rattle.channel_calls.specs.declared.reply.Reply.{Reply}
 use Rattle.channel_interleaving.specs.Floor.{LeadsOn}
 use Rattle.channel_interleaving.specs.declared.floor.Floor.{Floor}

@@ -1,5 +1,5 @@
 -- One poll of settling: what the channel did is an answer of the model.
-use Rattle.std.proofs.Common.{arith, ◌≡◌, ◌<◌, ◌≤◌, ◌+◌, ◌-◌, ◌^◌, ℕ, List, [], ◌++◌, length, true, refl, sym, ap, subst, ◌∙◌}
+use Rattle.std.proofs.Common.{arith, ◌≡◌, ◌<◌, ◌≤◌, ◌+◌, ◌-◌, ◌^◌, ℕ, List, length, true, refl, sym, ap, subst, ◌∙◌}
 use Rattle.channel_calls.specs.declared.reply.Reply.{Reply}
 use Rattle.channel_alone.specs.Alone.{Outcome, Alone}
 use Rattle.channel_interleaving.proofs.Interface.{none_under_way, no_agents}

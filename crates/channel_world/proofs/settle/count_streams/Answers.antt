@@ -1,1 +1,0 @@
-use Rattle.channel_world.proofs.settle.count_streams.Goals as goal

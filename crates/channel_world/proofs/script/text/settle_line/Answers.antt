@@ -1,9 +1,9 @@
 -- From the polls that are written one after another.
-use Rattle.std.proofs.Common.{rules, ◌∙◌, ◌++◌, ap, arith, codes, length}
+use Rattle.std.proofs.Common.{◌∙◌, ◌++◌, ap, arith, codes, length}
 use Rattle.std.proofs.lemmas.List.{take_all}
 use Rattle.std.specs.Fmt.{decimal}
 use Rattle.channel_world.specs.Settled.{polls_in}
-use Rattle.channel_world.proofs.SettleText.{written, written_more, ample_more}
+use Rattle.channel_world.proofs.SettleText.{written}
 use Rattle.channel_language.specs.Text.{parted}
 use Rattle.channel_world.proofs.script.text.settle_line.Goals as goal
 

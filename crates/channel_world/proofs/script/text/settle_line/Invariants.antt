@@ -1,4 +1,4 @@
-use Rattle.std.proofs.Common.{◌≡◌, ◌++◌, take, length, codes, false}
+use Rattle.std.proofs.Common.{◌≡◌, ◌++◌, take, length, codes}
 use Rattle.std.specs.Fmt.{decimal}
 use Rattle.channel_world.specs.Settled.{polls_in}
 use Rattle.channel_language.specs.Text.{parted}

@@ -1,11 +1,10 @@
 -- From the numbers of those who wait.
-use Rattle.std.proofs.Common.{arith, ◌+◌, ◌*◌, ◌≤◌, ◌≡◌, ◌∙◌, List, length, vec_len, IfSome, subst, ap}
+use Rattle.std.proofs.Common.{arith, ◌+◌, ◌*◌, ◌≤◌, ◌≡◌, ◌∙◌, List, length, vec_len, subst, ap}
 use Rattle.channel_interleaving.specs.Floor.{parts_in}
 use Rattle.channel_interleaving.specs.declared.floor.Floor.{Floor}
 use Rattle.channel_model.specs.Lines.{Waiting}
 use Rattle.channel_model.specs.declared.name.Waiter.{Waiter}
-use Rattle.channel_world.specs.Settled.{most_streams}
-use Rattle.channel_world.specs.World.{at_rest, untold_count}
+use Rattle.channel_world.specs.World.{at_rest}
 use Rattle.channel_world.proofs.SettleFacts.{enough_polls, count_is}
 use Rattle.channel_world.proofs.Tasks.{few_tasks, no_less}
 use Rattle.channel_world.proofs.world.World.most_polls.Goals as goal

@@ -1,5 +1,5 @@
 -- From the loop: the polls so far, and what is to come.
-use Rattle.std.proofs.Common.{arith, rules, ◌≡◌, ◌∙◌, length, slice_get, Some, vec_len, sym, subst}
+use Rattle.std.proofs.Common.{arith, rules, ◌≡◌, ◌∙◌, slice_get, Some, vec_len, sym, subst}
 use Rattle.std.proofs.lemmas.Option.{slice_get_read}
 use Rattle.channel_interleaving.proofs.Interface.{leads_nowhere, stands_led}
 use Rattle.channel_interleaving.specs.Floor.{IsQuiet, Stands}
