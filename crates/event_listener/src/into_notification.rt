@@ -41,9 +41,9 @@ pub trait IntoNotification: Sized {
         Relaxed { inner }
     }
 
-    /// The notice with a tag, of which each listener gets a clone. A clone of the tag must equal it.
+    /// The notice with a tag, of which each listener gets a clone. A clone of this tag must equal it.
     final fn tag<T: Clone>(self, tag: T) -> Tag<Self::Notify, T>
-        requires { (x : _) (y : _) → T.is_clone x y → y ≡ x }
+        requires { (y : _) → T.is_clone tag y → y ≡ tag }
         ensures notice { becomes self result.inner }
         ensures tag { result.tag ≡ tag }
     {

@@ -14,7 +14,7 @@ pub struct Tag<N, T: Clone> {
     pub inner: N,
     /// What each listener gets a clone of.
     pub tag: T,
-    pub ghost exact: { (x : _) (y : _) → T.is_clone x y → y ≡ x },
+    pub ghost exact: { (y : _) → T.is_clone tag y → y ≡ tag },
 }
 
 impl<N: Notification, T: Clone + Drop> Notification for Tag<N, T> {

@@ -55,6 +55,11 @@ fn blocks_place<T>(action: &UnboundedAction<T>) -> u8 {
 }
 
 impl<T: Drop> QueueCall<T> {
+    /// Whether it stands at an action of its machine.
+    pub(crate) fn has_begun(&self) -> bool {
+        !matches!(&self.state, CallState::Asked(_))
+    }
+
     /// The place of its next action; a call that has made no step stands at its first.
     pub(crate) fn place(&self) -> u8 {
         match &self.state {

@@ -195,10 +195,13 @@ impl<T: Drop> ConcurrentQueue<T> {
         call.step(&mut self.words())
     }
 
-    /// Steps a call to its end.
+    /// Steps a call to its end. What straight code hands on is to make an action again, so it yields first.
     fn finish<R: Wait>(&self, rt: &R, call: QueueCall<T>) -> QueueReply<T>
         ensures { MayCall self.now.form call.state result }
     {
+        if call.has_begun() {
+            thread::yield_now();
+        }
         finish_on(rt, call, &mut self.cells(rt))
     }
 
