@@ -1,5 +1,6 @@
 //! Which handles are of one channel, and which types cross threads.
 
+use crate::checks::expect_true;
 use async_channel::{
     Closed, Receiver, Recv, Send as Sending, Sender, WeakReceiver, WeakSender, unbounded,
 };
@@ -38,8 +39,8 @@ fn handles_of_one_channel(rt: HostRuntime) -> Result<(), Fail> {
         .upgrade()
         .expect(&rt, "handles");
     let again = weak.expect(&rt, "an open channel");
-    assert!(rt; s.same_channel(&more) && r.same_channel(&again));
-    assert!(rt; !s.same_channel(&other));
+    expect_true(&rt, s.same_channel(&more) && r.same_channel(&again));
+    expect_true(&rt, !s.same_channel(&other));
     assert!(rt; handles_cross::<u64, HostRuntime>() && operations_cross::<HostRuntime>());
     Ok(())
 }

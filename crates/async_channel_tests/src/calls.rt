@@ -1,5 +1,6 @@
 //! What calls of a channel do, by worked examples over one slot.
 
+use crate::checks::{expect_equal, expect_true};
 use channel_calls::ask::ChannelAsk;
 use channel_calls::call::ChannelCall;
 use channel_calls::error::{
@@ -203,9 +204,9 @@ fn shows_wants(alloc: Global) -> bool {
 #[test]
 fn errors_have_their_texts(rt: HostRuntime) -> Result<(), Fail> {
     let alloc = rt.alloc();
-    assert!(rt; shows_sends(alloc));
-    assert!(rt; shows_receives(alloc));
-    assert!(rt; shows_wants(alloc));
+    expect_true(&rt, shows_sends(alloc));
+    expect_true(&rt, shows_receives(alloc));
+    expect_true(&rt, shows_wants(alloc));
     Ok(())
 }
 
@@ -213,13 +214,13 @@ fn errors_have_their_texts(rt: HostRuntime) -> Result<(), Fail> {
 fn errors_are_told_apart(rt: HostRuntime) -> Result<(), Fail> {
     let full = TrySendError::Full(5);
     let closed = TrySendError::Closed(6);
-    assert_eq!(rt; (full.is_full(), full.is_closed()), (true, false));
-    assert_eq!(rt; (closed.is_full(), closed.is_closed()), (false, true));
-    assert_eq!(rt; (full.into_inner(), closed.into_inner()), (5, 6));
-    assert_eq!(rt; SendError(7).into_inner(), 7);
+    expect_equal(&rt, &(full.is_full(), full.is_closed()), &(true, false));
+    expect_equal(&rt, &(closed.is_full(), closed.is_closed()), &(false, true));
+    expect_equal(&rt, &(full.into_inner(), closed.into_inner()), &(5, 6));
+    expect_equal(&rt, &SendError(7).into_inner(), &7);
     let (empty, over) = (TryRecvError::Empty, TryRecvError::Closed);
-    assert_eq!(rt; (empty.is_empty(), empty.is_closed()), (true, false));
-    assert_eq!(rt; (over.is_empty(), over.is_closed()), (false, true));
+    expect_equal(&rt, &(empty.is_empty(), empty.is_closed()), &(true, false));
+    expect_equal(&rt, &(over.is_empty(), over.is_closed()), &(false, true));
     Ok(())
 }
 
@@ -241,11 +242,12 @@ fn refusals_hand_back_their_message(rt: HostRuntime) -> Result<(), Fail> {
     let full = told(Refused::Plain(TrySendError::Full(1)));
     let closed = told(Refused::Plain(TrySendError::Closed(2)));
     let memory = told(Refused::NoMemory(3));
-    assert_eq!(rt;
-        [full, closed, memory],
-        [(true, false, 1), (false, true, 2), (false, false, 3)]
+    expect_equal(
+        &rt,
+        &[full, closed, memory],
+        &[(true, false, 1), (false, true, 2), (false, false, 3)],
     );
-    assert!(rt; keeps_its_own());
+    expect_true(&rt, keeps_its_own());
     Ok(())
 }
 
@@ -264,12 +266,13 @@ fn a_message_that_comes_between_two_tries_is_taken(rt: HostRuntime) -> Result<()
     let said = takes_between_two_tries(&mut all);
     let woke_nobody = all.woke([].as_slice());
     drop(all);
-    assert_eq!(rt;
-        (said, woke_nobody),
-        (
+    expect_equal(
+        &rt,
+        &(said, woke_nobody),
+        &(
             [Said::GoesOn, Said::GoesOn, Said::Received(5), Said::Sent],
-            true
-        )
+            true,
+        ),
     );
     Ok(())
 }
@@ -293,7 +296,7 @@ fn a_pending_receive_is_woken_by_the_section_after_the_push(rt: HostRuntime) -> 
     let seen = wakes_after_the_push(&mut all);
     drop(all);
     let said = [Said::Pending, Said::GoesOn, Said::GoesOn, Said::Sent];
-    assert_eq!(rt; seen, (said, true, true));
+    expect_equal(&rt, &seen, &(said, true, true));
     Ok(())
 }
 
@@ -330,7 +333,7 @@ fn a_taking_wakes_the_send_that_still_waits(rt: HostRuntime) -> Result<(), Fail>
         Said::Received(1),
         Said::Sent,
     ];
-    assert_eq!(rt; seen, (said, true, true));
+    expect_equal(&rt, &seen, &(said, true, true));
     Ok(())
 }
 
@@ -380,9 +383,10 @@ fn a_refused_poll_passes_on_and_the_last_sender_closes(rt: HostRuntime) -> Resul
     let refused = refused_poll_passes_on(&mut all, [first, second]);
     let closed = last_sender_closes(&mut all, stream, closing);
     drop(all);
-    assert_eq!(rt;
-        refused,
-        ([Said::Displaced(None), Said::Refused], true, false)
+    expect_equal(
+        &rt,
+        &refused,
+        &([Said::Displaced(None), Said::Refused], true, false),
     );
     let said = [
         Said::Made,
@@ -395,7 +399,7 @@ fn a_refused_poll_passes_on_and_the_last_sender_closes(rt: HostRuntime) -> Resul
         Said::Closed(8),
         Said::Ready,
     ];
-    assert_eq!(rt; closed, (said, true));
-    assert!(rt; stream.is_some() && closing.is_some());
+    expect_equal(&rt, &closed, &(said, true));
+    expect_true(&rt, stream.is_some() && closing.is_some());
     Ok(())
 }

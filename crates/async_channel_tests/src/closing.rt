@@ -1,5 +1,6 @@
 //! What a closing by another thread's drop does to those who wait.
 
+use crate::checks::expect_true;
 use crate::gates::Gates;
 use crate::said::{Ends, Said, closes, opened, received, received_none, sent, sent_back};
 use async_channel::Sender;
@@ -82,9 +83,21 @@ where
 #[test]
 fn closings(rt: HostRuntime) -> Result<(), Fail> {
     let alloc = rt.alloc();
-    assert!(rt; is_told_of_closing(rt, opened(rt, alloc, 1).expect(&rt, "memory")));
-    assert!(rt; wakes_a_sender(rt, opened(rt, alloc, 1).expect(&rt, "memory")));
-    assert!(rt; wakes_a_receiver(rt, opened(rt, alloc, 1).expect(&rt, "memory")));
-    assert!(rt; wakes_a_receiver(rt, opened(rt, alloc, 0).expect(&rt, "memory")));
+    expect_true(
+        &rt,
+        is_told_of_closing(rt, opened(rt, alloc, 1).expect(&rt, "memory")),
+    );
+    expect_true(
+        &rt,
+        wakes_a_sender(rt, opened(rt, alloc, 1).expect(&rt, "memory")),
+    );
+    expect_true(
+        &rt,
+        wakes_a_receiver(rt, opened(rt, alloc, 1).expect(&rt, "memory")),
+    );
+    expect_true(
+        &rt,
+        wakes_a_receiver(rt, opened(rt, alloc, 0).expect(&rt, "memory")),
+    );
     Ok(())
 }

@@ -2,6 +2,7 @@
 
 ghost use Rattle.std.specs.Prelude.{◌≡◌, true};
 
+use crate::checks::expect_equal;
 use async_channel::{ChannelAsk, ChannelCall, ChannelCells, Mark, Reply};
 use channel_calls::stage::{Line, Side};
 use concurrent_queue::call::QueueReply;
@@ -135,18 +136,25 @@ const MOST: usize = usize::MAX / 2;
 #[test]
 fn one_more_handle_is_counted_once(rt: HostRuntime) -> Result<(), Fail> {
     for side in [Side::Senders, Side::Receivers] {
-        assert_eq!(rt;
-            asks(ChannelAsk::CloneHandle(side), 1, 0),
-            (Said::Made, 1, 0)
+        expect_equal(
+            &rt,
+            &asks(ChannelAsk::CloneHandle(side), 1, 0),
+            &(Said::Made, 1, 0),
         );
-        assert_eq!(rt;
-            asks(ChannelAsk::CloneHandle(side), MOST, 3),
-            (Said::Made, 1, 0)
+        expect_equal(
+            &rt,
+            &asks(ChannelAsk::CloneHandle(side), MOST, 3),
+            &(Said::Made, 1, 0),
         );
-        assert_eq!(rt; asks(ChannelAsk::Upgrade(side), 1, 3), (Said::Made, 1, 0));
-        assert_eq!(rt;
-            asks(ChannelAsk::Upgrade(side), MOST, 0),
-            (Said::Made, 1, 0)
+        expect_equal(
+            &rt,
+            &asks(ChannelAsk::Upgrade(side), 1, 3),
+            &(Said::Made, 1, 0),
+        );
+        expect_equal(
+            &rt,
+            &asks(ChannelAsk::Upgrade(side), MOST, 0),
+            &(Said::Made, 1, 0),
         );
     }
     Ok(())
@@ -155,17 +163,20 @@ fn one_more_handle_is_counted_once(rt: HostRuntime) -> Result<(), Fail> {
 #[test]
 fn one_that_is_refused_is_not_counted(rt: HostRuntime) -> Result<(), Fail> {
     for side in [Side::Senders, Side::Receivers] {
-        assert_eq!(rt;
-            asks(ChannelAsk::CloneHandle(side), MOST + 1, 0),
-            (Said::TooMany, 0, 0)
+        expect_equal(
+            &rt,
+            &asks(ChannelAsk::CloneHandle(side), MOST + 1, 0),
+            &(Said::TooMany, 0, 0),
         );
-        assert_eq!(rt;
-            asks(ChannelAsk::Upgrade(side), MOST + 1, 0),
-            (Said::TooMany, 0, 0)
+        expect_equal(
+            &rt,
+            &asks(ChannelAsk::Upgrade(side), MOST + 1, 0),
+            &(Said::TooMany, 0, 0),
         );
-        assert_eq!(rt;
-            asks(ChannelAsk::Upgrade(side), 0, 0),
-            (Said::NotMade, 0, 0)
+        expect_equal(
+            &rt,
+            &asks(ChannelAsk::Upgrade(side), 0, 0),
+            &(Said::NotMade, 0, 0),
         );
     }
     Ok(())

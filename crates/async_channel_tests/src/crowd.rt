@@ -1,5 +1,6 @@
 //! Four threads send and four receive, as the tests of `async-channel` 2.5.0 have them.
 
+use crate::checks::expect_true;
 use crate::said::{Ends, opened, sent};
 use crate::tally::Tally;
 use async_channel::{Receiver, Sender, TryRecvError};
@@ -82,8 +83,14 @@ where
 #[test]
 fn many_senders_many_receivers(rt: HostRuntime) -> Result<(), Fail> {
     let alloc = rt.alloc();
-    assert!(rt; each_four_times(rt, alloc, opened(rt, alloc, 3).expect(&rt, "memory")));
-    assert!(rt; each_four_times(rt, alloc, opened(rt, alloc, 0).expect(&rt, "memory")));
+    expect_true(
+        &rt,
+        each_four_times(rt, alloc, opened(rt, alloc, 3).expect(&rt, "memory")),
+    );
+    expect_true(
+        &rt,
+        each_four_times(rt, alloc, opened(rt, alloc, 0).expect(&rt, "memory")),
+    );
     Ok(())
 }
 
@@ -149,8 +156,8 @@ where
 fn many_senders_many_streams(rt: HostRuntime) -> Result<(), Fail> {
     let alloc = rt.alloc();
     let bounded = opened(rt, alloc, 3).expect(&rt, "memory");
-    assert!(rt; each_four_times_streamed(rt, alloc, bounded));
+    expect_true(&rt, each_four_times_streamed(rt, alloc, bounded));
     let unbounded = opened(rt, alloc, 0).expect(&rt, "memory");
-    assert!(rt; each_four_times_streamed(rt, alloc, unbounded));
+    expect_true(&rt, each_four_times_streamed(rt, alloc, unbounded));
     Ok(())
 }

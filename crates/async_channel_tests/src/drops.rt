@@ -1,5 +1,6 @@
 //! Each message is received, displaced or left, and let go once, wherever handles and operations are dropped.
 
+use crate::checks::{expect_equal, expect_true};
 use async_channel::{Receiver, Sender, bounded};
 use event_listener::id::EventIds;
 use futures::task::Poll;
@@ -136,10 +137,14 @@ where
 fn each_message_is_let_go_once(rt: HostRuntime) -> Result<(), Fail> {
     let token: Token = Arc::new(rt.alloc(), 7)?;
     let ends = opened(rt, rt.alloc()).expect(&rt, "memory");
-    assert!(rt; adds_up(rt, &ends, &token));
+    expect_true(&rt, adds_up(rt, &ends, &token));
     drop(ends);
-    assert_eq!(rt; Arc::strong_count(&token), 1);
+    expect_equal(&rt, &Arc::strong_count(&token), &1);
     let task = MockTask::new(&rt)?;
-    assert_eq!(rt; drops_elsewhere(rt, rt.alloc(), &token, &task), Some(true));
+    expect_equal(
+        &rt,
+        &drops_elsewhere(rt, rt.alloc(), &token, &task),
+        &Some(true),
+    );
     Ok(())
 }

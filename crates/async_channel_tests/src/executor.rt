@@ -1,5 +1,6 @@
 //! Ten tasks on each of two threads, run by an executor of `futures`.
 
+use crate::checks::expect_equal;
 use crate::said::{Ends, opened};
 use async_channel::{Receiver, Recv, Send as Sending, Sender};
 use futures::Future;
@@ -111,7 +112,7 @@ where
 fn tasks_of_two_executors(rt: HostRuntime) -> Result<(), Fail> {
     for capacity in [1, 3, 0] {
         let ends = opened(rt, rt.alloc(), capacity).expect(&rt, "memory");
-        assert_eq!(rt; runs_twenty(rt, ends), (10, 55));
+        expect_equal(&rt, &runs_twenty(rt, ends), &(10, 55));
     }
     Ok(())
 }

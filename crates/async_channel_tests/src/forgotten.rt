@@ -1,5 +1,6 @@
 //! An operation that was polled once and is then left alone keeps nobody else from going on.
 
+use crate::checks::expect_true;
 use crate::gates::Gates;
 use crate::said::{Ends, Said, opened, received, receives, sends, sent};
 use async_channel::{Receiver, Sender};
@@ -101,7 +102,13 @@ where
 #[test]
 fn forgotten_operations(rt: HostRuntime) -> Result<(), Fail> {
     let alloc = rt.alloc();
-    assert!(rt; blocked_sender(rt, opened(rt, alloc, 2).expect(&rt, "memory")));
-    assert!(rt; blocked_receiver(rt, opened(rt, alloc, 2).expect(&rt, "memory")));
+    expect_true(
+        &rt,
+        blocked_sender(rt, opened(rt, alloc, 2).expect(&rt, "memory")),
+    );
+    expect_true(
+        &rt,
+        blocked_receiver(rt, opened(rt, alloc, 2).expect(&rt, "memory")),
+    );
     Ok(())
 }

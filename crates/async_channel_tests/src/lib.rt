@@ -7,6 +7,8 @@ mod asking;
 #[cfg(test)]
 mod calls;
 #[cfg(test)]
+mod checks;
+#[cfg(test)]
 mod closing;
 #[cfg(test)]
 mod counting;

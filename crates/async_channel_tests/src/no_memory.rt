@@ -2,6 +2,7 @@
 //! no_memory` refuses all requests from each one on: whatever was prepared before it, these calls answer as ever. What an example
 //! prepares by a poll, or by a send without a bound, may want memory; it says so after what came before was compared.
 
+use crate::checks::{expect_equal, expect_true};
 use crate::said::{Said, closes, opened, receives, sends, streams};
 use async_channel::{Receiver, Refused, Sender, TryRecvError, TrySendError};
 use futures::test::MockTask;
@@ -48,7 +49,7 @@ fn one_place_takes_no_memory(rt: HostRuntime) -> Result<(), Fail> {
     let (s, r) = opened(rt, rt.alloc(), 1).expect(&rt, "memory");
     let task = MockTask::new(&rt)?;
     let came = one_place(&s, &r, &task);
-    assert!(rt; ended(came)?);
+    expect_true(&rt, ended(came)?);
     Ok(())
 }
 
@@ -84,7 +85,7 @@ fn displacing_takes_no_memory(rt: HostRuntime) -> Result<(), Fail> {
     let (s, r) = opened(rt, rt.alloc(), 3).expect(&rt, "memory");
     let task = MockTask::new(&rt)?;
     let came = displaces(&s, &r, &task);
-    assert!(rt; ended(came)?);
+    expect_true(&rt, ended(came)?);
     Ok(())
 }
 
@@ -99,8 +100,8 @@ fn receives_and_a_drop_take_no_memory(rt: HostRuntime) -> Result<(), Fail> {
     if wanted {
         return Err(Fail::from(AllocError));
     }
-    assert_eq!(rt; before, [Ok(1), Err(TryRecvError::Empty)]);
-    assert_eq!(rt; after, (Err(TryRecvError::Closed), true, true));
+    expect_equal(&rt, &before, &[Ok(1), Err(TryRecvError::Empty)]);
+    expect_equal(&rt, &after, &(Err(TryRecvError::Closed), true, true));
     Ok(())
 }
 
@@ -127,7 +128,7 @@ fn leaving_takes_no_memory(rt: HostRuntime) -> Result<(), Fail> {
     let (s, r) = opened(rt, rt.alloc(), 1).expect(&rt, "memory");
     let (one, two) = (MockTask::new(&rt)?, MockTask::new(&rt)?);
     let came = leaves(&s, &r, [&one, &two]);
-    assert!(rt; ended(came)?);
+    expect_true(&rt, ended(came)?);
     Ok(())
 }
 
@@ -151,7 +152,7 @@ fn giving_up_takes_no_memory(rt: HostRuntime) -> Result<(), Fail> {
     let (s, r) = opened(rt, rt.alloc(), 1).expect(&rt, "memory");
     let task = MockTask::new(&rt)?;
     let came = gives_up(&s, &r, &task);
-    assert!(rt; ended(came)?);
+    expect_true(&rt, ended(came)?);
     Ok(())
 }
 
@@ -188,6 +189,6 @@ fn closing_takes_no_memory(rt: HostRuntime) -> Result<(), Fail> {
     let (one, two) = (MockTask::new(&rt)?, MockTask::new(&rt)?);
     let three = MockTask::new(&rt)?;
     let came = closing_wakes(&s, &r, &mut t, [&one, &two, &three]);
-    assert!(rt; ended(came)?);
+    expect_true(&rt, ended(came)?);
     Ok(())
 }

@@ -4,6 +4,7 @@
 ghost use Rattle.futures.specs.Poll.{OnPending};
 ghost use Rattle.futures.specs.Task.{IsArmed, Keeps};
 
+use crate::checks::expect_true;
 use crate::said::opened;
 use async_channel::{Closed, Receiver, Recv, Sender};
 use futures::executor::{LocalPool, LocalSpawner};
@@ -129,12 +130,18 @@ where
 
 #[test]
 fn a_closing_wakes_receives_streams_and_closings_in_order(rt: HostRuntime) -> Result<(), Fail> {
-    assert!(rt; is_order(rt, rt.alloc(), true, [1, 2, 3, 3, 2, 1].as_slice()));
+    expect_true(
+        &rt,
+        is_order(rt, rt.alloc(), true, [1, 2, 3, 3, 2, 1].as_slice()),
+    );
     Ok(())
 }
 
 #[test]
 fn a_message_wakes_a_receive_before_the_streams(rt: HostRuntime) -> Result<(), Fail> {
-    assert!(rt; is_order(rt, rt.alloc(), false, [1, 2, 3, 3, 2].as_slice()));
+    expect_true(
+        &rt,
+        is_order(rt, rt.alloc(), false, [1, 2, 3, 3, 2].as_slice()),
+    );
     Ok(())
 }

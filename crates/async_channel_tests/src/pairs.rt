@@ -1,5 +1,6 @@
 //! Two threads, one with a sender and one with a receiver, as the tests of `async-channel` 2.5.0 have them.
 
+use crate::checks::expect_true;
 use crate::gates::Gates;
 use crate::said::{Ends, opened, received, received_none, sent};
 use async_channel::{Receiver, Refused, Sender, TryRecvError, TrySendError};
@@ -56,10 +57,22 @@ where
 #[test]
 fn receives(rt: HostRuntime) -> Result<(), Fail> {
     let alloc = rt.alloc();
-    assert!(rt; tries_to_receive(rt, opened(rt, alloc, 100).expect(&rt, "memory")));
-    assert!(rt; tries_to_receive(rt, opened(rt, alloc, 0).expect(&rt, "memory")));
-    assert!(rt; receives_three(rt, opened(rt, alloc, 100).expect(&rt, "memory")));
-    assert!(rt; receives_three(rt, opened(rt, alloc, 0).expect(&rt, "memory")));
+    expect_true(
+        &rt,
+        tries_to_receive(rt, opened(rt, alloc, 100).expect(&rt, "memory")),
+    );
+    expect_true(
+        &rt,
+        tries_to_receive(rt, opened(rt, alloc, 0).expect(&rt, "memory")),
+    );
+    expect_true(
+        &rt,
+        receives_three(rt, opened(rt, alloc, 100).expect(&rt, "memory")),
+    );
+    expect_true(
+        &rt,
+        receives_three(rt, opened(rt, alloc, 0).expect(&rt, "memory")),
+    );
     Ok(())
 }
 
@@ -111,8 +124,14 @@ where
 #[test]
 fn sends(rt: HostRuntime) -> Result<(), Fail> {
     let alloc = rt.alloc();
-    assert!(rt; tries_to_send(rt, opened(rt, alloc, 1).expect(&rt, "memory")));
-    assert!(rt; sends_four(rt, opened(rt, alloc, 1).expect(&rt, "memory")));
+    expect_true(
+        &rt,
+        tries_to_send(rt, opened(rt, alloc, 1).expect(&rt, "memory")),
+    );
+    expect_true(
+        &rt,
+        sends_four(rt, opened(rt, alloc, 1).expect(&rt, "memory")),
+    );
     Ok(())
 }
 
@@ -153,7 +172,10 @@ where
 
 #[test]
 fn forced_sends(rt: HostRuntime) -> Result<(), Fail> {
-    assert!(rt; forces(rt, opened(rt, rt.alloc(), 1).expect(&rt, "memory")));
+    expect_true(
+        &rt,
+        forces(rt, opened(rt, rt.alloc(), 1).expect(&rt, "memory")),
+    );
     Ok(())
 }
 
@@ -215,7 +237,10 @@ where
 
 #[test]
 fn lengths_between_threads(rt: HostRuntime) -> Result<(), Fail> {
-    assert!(rt; counts_between(rt, opened(rt, rt.alloc(), 1000).expect(&rt, "memory")));
+    expect_true(
+        &rt,
+        counts_between(rt, opened(rt, rt.alloc(), 1000).expect(&rt, "memory")),
+    );
     Ok(())
 }
 
@@ -235,7 +260,13 @@ where
 #[test]
 fn one_sender_one_receiver(rt: HostRuntime) -> Result<(), Fail> {
     let alloc = rt.alloc();
-    assert!(rt; one_to_one(rt, opened(rt, alloc, 3).expect(&rt, "memory")));
-    assert!(rt; one_to_one(rt, opened(rt, alloc, 0).expect(&rt, "memory")));
+    expect_true(
+        &rt,
+        one_to_one(rt, opened(rt, alloc, 3).expect(&rt, "memory")),
+    );
+    expect_true(
+        &rt,
+        one_to_one(rt, opened(rt, alloc, 0).expect(&rt, "memory")),
+    );
     Ok(())
 }

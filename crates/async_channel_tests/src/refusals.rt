@@ -1,6 +1,7 @@
 //! What is answered where a growth is refused. `tools/refuse_growths.py async_channel_tests refus` refuses each request for memory in
 //! turn: nothing is lost or doubled then, and what was refused goes when it is asked again.
 
+use crate::checks::{expect_equal, expect_true};
 use crate::said::{Ends, Said, closes, opened, receives, streams};
 use async_channel::{
     OpenError, Receiver, Refused, Sender, TryRecvError, TrySendError, WeakReceiver, WeakSender,
@@ -275,8 +276,11 @@ fn refused_growths(rt: HostRuntime) -> Result<(), Fail> {
         passes_on(&ends.0, &ends.1, [&five, &six]),
         streams_and_closings(&mut ends, [&three, &four]),
     ];
-    assert!(rt; all_right(all.as_slice()).is_some_and(|refused| refused <= 1));
-    assert!(rt; takes_none(&ends.0, &ends.1));
+    expect_true(
+        &rt,
+        all_right(all.as_slice()).is_some_and(|refused| refused <= 1),
+    );
+    expect_true(&rt, takes_none(&ends.0, &ends.1));
     Ok(())
 }
 
@@ -291,7 +295,10 @@ fn refused_sleeps(rt: HostRuntime) -> Result<(), Fail> {
         waits(&s, &r, &one),
         keeps(&s, &r, &two),
     ];
-    assert!(rt; all_right(all.as_slice()).is_some_and(|refused| refused <= 1));
+    expect_true(
+        &rt,
+        all_right(all.as_slice()).is_some_and(|refused| refused <= 1),
+    );
     Ok(())
 }
 
@@ -300,7 +307,7 @@ fn capacities_past_the_greatest(rt: HostRuntime) -> Result<(), Fail> {
     let mut ids = EventIds::new();
     let most = 288_230_376_151_711_744usize;
     let refused = bounded::<u64, HostRuntime>(rt, rt.alloc(), most + 1, &mut ids);
-    assert!(rt; matches!(refused, Err(OpenError::NoMemory)));
-    assert_eq!(rt; ids.next().expect(&rt, "identities").number(), 0);
+    expect_true(&rt, matches!(refused, Err(OpenError::NoMemory)));
+    expect_equal(&rt, &ids.next().expect(&rt, "identities").number(), &0);
     Ok(())
 }

@@ -1,6 +1,7 @@
 //! Two threads poll sends by hand and two poll receives. Afterwards what was woken is polled until nothing is: then nobody is
 //! pending whom a message or a place lets go on, and each message that was accepted was received once or is left.
 
+use crate::checks::expect_true;
 use crate::said::{Said, opened, receives, sends};
 use crate::tally::Tally;
 use async_channel::{Receiver, Recv, Send as Sending, Sender};
@@ -247,7 +248,7 @@ fn at_rest(rt: HostRuntime) -> Result<(), Fail> {
     for capacity in [1, 3, 0] {
         for _ in 0..5 {
             let (s, r) = opened(rt, rt.alloc(), capacity).expect(&rt, "memory");
-            assert!(rt; comes_to_rest(rt, &s, &r));
+            expect_true(&rt, comes_to_rest(rt, &s, &r));
         }
     }
     Ok(())

@@ -1,5 +1,6 @@
 //! Worked examples through handles on one thread, polled by hand: what each call answers, and whose tasks are woken.
 
+use crate::checks::expect_equal;
 use crate::said::{Said, closes, opened, receives, sends, streams};
 use async_channel::{Receiver, Refused, SendError, Sender, TryRecvError, TrySendError};
 use futures::test::MockTask;
@@ -81,10 +82,10 @@ fn several_at_once_wake_as_many_sends(rt: HostRuntime) -> Result<(), Fail> {
     let (said, taken, woken) = takes_several(&s, &r, [&one, &two, &three]);
     let waiting = [Said::Pending, Said::Pending, Said::Pending];
     let then = [Said::Done, Said::Done, Said::Pending, Said::Done];
-    assert_eq!(rt; [said[0], said[1], said[2]], waiting);
-    assert_eq!(rt; [said[3], said[4], said[5], said[6]], then);
-    assert_eq!(rt; taken, [true, true, true, true]);
-    assert_eq!(rt; woken, [true, true, false, true, true]);
+    expect_equal(&rt, &[said[0], said[1], said[2]], &waiting);
+    expect_equal(&rt, &[said[3], said[4], said[5], said[6]], &then);
+    expect_equal(&rt, &taken, &[true, true, true, true]);
+    expect_equal(&rt, &woken, &[true, true, false, true, true]);
     Ok(())
 }
 
@@ -98,8 +99,12 @@ fn several_at_once_of_none(rt: HostRuntime) -> Result<(), Fail> {
     let closed = s.close();
     let over = takes_none(&r, 1, Refused::Plain(TryRecvError::Closed));
     let nothing = takes(&r, 0, [].as_slice());
-    assert_eq!(rt; [empty, went, roomless, left], [true, true, true, true]);
-    assert_eq!(rt; [closed, over, nothing], [true, true, true]);
+    expect_equal(
+        &rt,
+        &[empty, went, roomless, left],
+        &[true, true, true, true],
+    );
+    expect_equal(&rt, &[closed, over, nothing], &[true, true, true]);
     Ok(())
 }
 
@@ -120,7 +125,7 @@ fn one_place_takes_one_message(rt: HostRuntime) -> Result<(), Fail> {
     let (s, r) = opened(rt, rt.alloc(), 1).expect(&rt, "memory");
     let task = MockTask::new(&rt)?;
     let seen = one_place(&s, &r, &task);
-    assert_eq!(rt; seen, ([Said::Done, Said::Got(10)], [true, true]));
+    expect_equal(&rt, &seen, &([Said::Done, Said::Got(10)], [true, true]));
     Ok(())
 }
 
@@ -142,7 +147,7 @@ fn a_forced_message_displaces_the_oldest(rt: HostRuntime) -> Result<(), Fail> {
     let (s, r) = opened(rt, rt.alloc(), 3).expect(&rt, "memory");
     let task = MockTask::new(&rt)?;
     let seen = displaces(&s, &r, &task);
-    assert_eq!(rt; seen, ([Said::Done, Said::Done], [true, true], true));
+    expect_equal(&rt, &seen, &([Said::Done, Said::Done], [true, true], true));
     Ok(())
 }
 
@@ -154,8 +159,12 @@ fn the_last_sender_closes(rt: HostRuntime) -> Result<(), Fail> {
     drop(s);
     let after = r.try_recv();
     drop(r);
-    assert_eq!(rt; (went, before), (true, [Ok(1), Err(TryRecvError::Empty)]));
-    assert_eq!(rt; after, Err(TryRecvError::Closed));
+    expect_equal(
+        &rt,
+        &(went, before),
+        &(true, [Ok(1), Err(TryRecvError::Empty)]),
+    );
+    expect_equal(&rt, &after, &Err(TryRecvError::Closed));
     Ok(())
 }
 
@@ -177,8 +186,8 @@ fn the_last_receiver_closes(rt: HostRuntime) -> Result<(), Fail> {
     ];
     drop(r);
     let after = refuses_all(&s, &task);
-    assert_eq!(rt; before, [Said::Done, Said::Done, Said::Done]);
-    assert_eq!(rt; after, (Said::Back(4), [true, true]));
+    expect_equal(&rt, &before, &[Said::Done, Said::Done, Said::Done]);
+    expect_equal(&rt, &after, &(Said::Back(4), [true, true]));
     Ok(())
 }
 
@@ -206,7 +215,7 @@ fn a_told_receive_that_leaves_passes_its_notice_on(rt: HostRuntime) -> Result<()
     let (one, two) = (MockTask::new(&rt)?, MockTask::new(&rt)?);
     let seen = leaves_after_its_notice(&s, &r, [&one, &two]);
     let said = [Said::Pending, Said::Pending, Said::Got(10)];
-    assert_eq!(rt; seen, (said, [true, false], [true, true, true]));
+    expect_equal(&rt, &seen, &(said, [true, false], [true, true, true]));
     Ok(())
 }
 
@@ -241,12 +250,13 @@ fn each_taking_wakes_the_next_send(rt: HostRuntime) -> Result<(), Fail> {
     let (s, r) = opened(rt, rt.alloc(), 1).expect(&rt, "memory");
     let (one, two) = (MockTask::new(&rt)?, MockTask::new(&rt)?);
     let (said, went, woken, next) = takings_wake_sends(&s, &r, [&one, &two]);
-    assert_eq!(rt;
-        said,
-        [Said::Pending, Said::Pending, Said::Done, Said::Done]
+    expect_equal(
+        &rt,
+        &said,
+        &[Said::Pending, Said::Pending, Said::Done, Said::Done],
     );
-    assert_eq!(rt; went, [true, true, true, true]);
-    assert_eq!(rt; (woken, next), ([true, false], [true, true, false]));
+    expect_equal(&rt, &went, &[true, true, true, true]);
+    expect_equal(&rt, &(woken, next), &([true, false], [true, true, false]));
     Ok(())
 }
 
@@ -281,12 +291,13 @@ fn a_closing_wakes_everybody(rt: HostRuntime) -> Result<(), Fail> {
     let three = MockTask::new(&rt)?;
     let seen = closing_wakes(&s, &r, &mut t, [&one, &two, &three]);
     let before = [Said::Pending, Said::Pending, Said::Pending];
-    assert_eq!(rt; [seen.0[0], seen.0[1], seen.0[2]], before);
-    assert_eq!(rt;
-        [seen.0[3], seen.0[4], seen.0[5]],
-        [Said::Over, Said::Over, Said::Over]
+    expect_equal(&rt, &[seen.0[0], seen.0[1], seen.0[2]], &before);
+    expect_equal(
+        &rt,
+        &[seen.0[3], seen.0[4], seen.0[5]],
+        &[Said::Over, Said::Over, Said::Over],
     );
-    assert_eq!(rt; (seen.1, seen.2), ([true, false], [true, true, true]));
+    expect_equal(&rt, &(seen.1, seen.2), &([true, false], [true, true, true]));
     Ok(())
 }
 
@@ -328,8 +339,12 @@ fn a_message_wakes_a_receive_and_a_stream(rt: HostRuntime) -> Result<(), Fail> {
         Said::Pending,
         Said::Got(8),
     ];
-    assert_eq!(rt; said, got);
-    assert_eq!(rt; (right, woken), ([true, true, true, true], [true, true]));
+    expect_equal(&rt, &said, &got);
+    expect_equal(
+        &rt,
+        &(right, woken),
+        &([true, true, true, true], [true, true]),
+    );
     Ok(())
 }
 
@@ -355,7 +370,7 @@ fn a_second_poll_wakes_nobody(rt: HostRuntime) -> Result<(), Fail> {
     let task = MockTask::new(&rt)?;
     let seen = polled_twice(&s, &r, &task);
     let said = [Said::Pending, Said::Pending, Said::Got(9)];
-    assert_eq!(rt; seen, (said, [false, true, true]));
+    expect_equal(&rt, &seen, &(said, [false, true, true]));
     Ok(())
 }
 
@@ -375,8 +390,12 @@ fn a_finished_send_is_pending(rt: HostRuntime) -> Result<(), Fail> {
     let task = MockTask::new(&rt)?;
     let seen = finishes(&s, &task);
     let left = (r.len(), s.send(2).give_up());
-    assert_eq!(rt; seen, ([Said::Done, Said::Pending], [false, true], true));
-    assert_eq!(rt; left, (1, Some(2)));
+    expect_equal(
+        &rt,
+        &seen,
+        &([Said::Done, Said::Pending], [false, true], true),
+    );
+    expect_equal(&rt, &left, &(1, Some(2)));
     Ok(())
 }
 
@@ -401,7 +420,7 @@ fn messages_past_one_block_come_in_order(rt: HostRuntime) -> Result<(), Fail> {
     let (s, r) = opened(rt, rt.alloc(), 0).expect(&rt, "memory");
     let all = sends_to(&s, 33) && receives_to(&r, 33);
     let empty = r.is_empty() && r.try_recv() == Err(TryRecvError::Empty);
-    assert_eq!(rt; (all, empty), (true, true));
+    expect_equal(&rt, &(all, empty), &(true, true));
     Ok(())
 }
 
@@ -413,6 +432,6 @@ fn handles_have_their_texts(rt: HostRuntime) -> Result<(), Fail> {
     let wr = r.downgrade().expect(&rt, "handles");
     let text = format!(in alloc; "{s:?} {r:?} {ws:?} {wr:?}")?;
     let want = "Sender { .. } Receiver { .. } WeakSender { .. } WeakReceiver { .. }";
-    assert_eq!(rt; text.as_str(), want);
+    expect_equal(&rt, &text.as_str(), &want);
     Ok(())
 }

@@ -1,5 +1,6 @@
 //! What calls of a channel do where a listener is refused memory, over cells of these tests' own, which refuse one insertion.
 
+use crate::checks::expect_equal;
 use channel_calls::ask::ChannelAsk;
 use channel_calls::call::ChannelCall;
 use channel_calls::cells::ChannelCells;
@@ -186,7 +187,7 @@ fn each_listener_refused_once_waits_no_more(rt: HostRuntime) -> Result<(), Fail>
     ];
     let woken = [2354, 1354, 1524, 1352, 1324, 13524];
     for (came, names) in seen.iter().zip(woken.iter()) {
-        assert_eq!(rt; *came, (true, *names));
+        expect_equal(&rt, &*came, &(true, *names));
     }
     Ok(())
 }

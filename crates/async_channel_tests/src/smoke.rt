@@ -1,5 +1,6 @@
 //! Calls of one thread, as the tests of `async-channel` 2.5.0 make them.
 
+use crate::checks::{expect_equal, expect_true};
 use crate::said::{Ends, opened, received, received_none, sent, sent_back};
 use async_channel::{Receiver, Refused, Sender, TryRecvError, TrySendError};
 use std::alloc::AllocGlobal;
@@ -35,10 +36,22 @@ where
 #[test]
 fn smoke(rt: HostRuntime) -> Result<(), Fail> {
     let alloc = rt.alloc();
-    assert!(rt; is_smooth(rt, opened(rt, alloc, 1).expect(&rt, "memory")));
-    assert!(rt; is_smooth(rt, opened(rt, alloc, 0).expect(&rt, "memory")));
-    assert!(rt; is_smooth_blocking(rt, opened(rt, alloc, 1).expect(&rt, "memory")));
-    assert!(rt; is_smooth_blocking(rt, opened(rt, alloc, 0).expect(&rt, "memory")));
+    expect_true(
+        &rt,
+        is_smooth(rt, opened(rt, alloc, 1).expect(&rt, "memory")),
+    );
+    expect_true(
+        &rt,
+        is_smooth(rt, opened(rt, alloc, 0).expect(&rt, "memory")),
+    );
+    expect_true(
+        &rt,
+        is_smooth_blocking(rt, opened(rt, alloc, 1).expect(&rt, "memory")),
+    );
+    expect_true(
+        &rt,
+        is_smooth_blocking(rt, opened(rt, alloc, 0).expect(&rt, "memory")),
+    );
     Ok(())
 }
 
@@ -56,24 +69,24 @@ fn state<R: Wait + Copy>(s: &Sender<u64, R>, r: &Receiver<u64, R>) -> Option<(us
 #[test]
 fn lengths_of_two_places(rt: HostRuntime) -> Result<(), Fail> {
     let (s, r) = opened(rt, rt.alloc(), 2).expect(&rt, "memory");
-    assert_eq!(rt; state(&s, &r), Some((0, true, false)));
-    assert!(rt; sent(rt, &s, 1));
-    assert_eq!(rt; state(&s, &r), Some((1, false, false)));
-    assert!(rt; sent(rt, &s, 2));
-    assert_eq!(rt; state(&s, &r), Some((2, false, true)));
-    assert!(rt; received(rt, &r, 1));
-    assert_eq!(rt; state(&s, &r), Some((1, false, false)));
+    expect_equal(&rt, &state(&s, &r), &Some((0, true, false)));
+    expect_true(&rt, sent(rt, &s, 1));
+    expect_equal(&rt, &state(&s, &r), &Some((1, false, false)));
+    expect_true(&rt, sent(rt, &s, 2));
+    expect_equal(&rt, &state(&s, &r), &Some((2, false, true)));
+    expect_true(&rt, received(rt, &r, 1));
+    expect_equal(&rt, &state(&s, &r), &Some((1, false, false)));
     Ok(())
 }
 
 #[test]
 fn lengths_without_a_bound(rt: HostRuntime) -> Result<(), Fail> {
     let (s, r) = opened(rt, rt.alloc(), 0).expect(&rt, "memory");
-    assert_eq!(rt; state(&s, &r), Some((0, true, false)));
-    assert!(rt; sent(rt, &s, 1));
-    assert_eq!(rt; state(&s, &r), Some((1, false, false)));
-    assert!(rt; received(rt, &r, 1));
-    assert_eq!(rt; state(&s, &r), Some((0, true, false)));
+    expect_equal(&rt, &state(&s, &r), &Some((0, true, false)));
+    expect_true(&rt, sent(rt, &s, 1));
+    expect_equal(&rt, &state(&s, &r), &Some((1, false, false)));
+    expect_true(&rt, received(rt, &r, 1));
+    expect_equal(&rt, &state(&s, &r), &Some((0, true, false)));
     Ok(())
 }
 
@@ -81,13 +94,14 @@ fn lengths_without_a_bound(rt: HostRuntime) -> Result<(), Fail> {
 fn capacities(rt: HostRuntime) -> Result<(), Fail> {
     for capacity in 1..10usize {
         let (s, r) = opened(rt, rt.alloc(), capacity).expect(&rt, "memory");
-        assert_eq!(rt;
-            (s.capacity(), r.capacity()),
-            (Some(capacity), Some(capacity))
+        expect_equal(
+            &rt,
+            &(s.capacity(), r.capacity()),
+            &(Some(capacity), Some(capacity)),
         );
     }
     let (s, r) = opened(rt, rt.alloc(), 0).expect(&rt, "memory");
-    assert_eq!(rt; (s.capacity(), r.capacity()), (None, None));
+    expect_equal(&rt, &(s.capacity(), r.capacity()), &(None, None));
     Ok(())
 }
 
@@ -111,13 +125,13 @@ where
 #[test]
 fn lengths_after_each_call(rt: HostRuntime) -> Result<(), Fail> {
     let unbounded = opened(rt, rt.alloc(), 0).expect(&rt, "memory");
-    assert!(rt; counts_fifty(rt, &unbounded));
+    expect_true(&rt, counts_fifty(rt, &unbounded));
     let bounded = opened(rt, rt.alloc(), 1000).expect(&rt, "memory");
     let mut right = true;
     for _ in 0..100 {
         right = right && counts_fifty(rt, &bounded);
     }
-    assert!(rt; right);
+    expect_true(&rt, right);
     Ok(())
 }
 
@@ -155,10 +169,22 @@ where
 #[test]
 fn calls_after_the_closing(rt: HostRuntime) -> Result<(), Fail> {
     let alloc = rt.alloc();
-    assert!(rt; refuses_after_close(rt, opened(rt, alloc, 100).expect(&rt, "memory")));
-    assert!(rt; refuses_after_close(rt, opened(rt, alloc, 0).expect(&rt, "memory")));
-    assert!(rt; receives_after_close(rt, opened(rt, alloc, 100).expect(&rt, "memory")));
-    assert!(rt; receives_after_close(rt, opened(rt, alloc, 0).expect(&rt, "memory")));
+    expect_true(
+        &rt,
+        refuses_after_close(rt, opened(rt, alloc, 100).expect(&rt, "memory")),
+    );
+    expect_true(
+        &rt,
+        refuses_after_close(rt, opened(rt, alloc, 0).expect(&rt, "memory")),
+    );
+    expect_true(
+        &rt,
+        receives_after_close(rt, opened(rt, alloc, 100).expect(&rt, "memory")),
+    );
+    expect_true(
+        &rt,
+        receives_after_close(rt, opened(rt, alloc, 0).expect(&rt, "memory")),
+    );
     Ok(())
 }
 
@@ -181,7 +207,10 @@ where
 
 #[test]
 fn sends_without_a_bound(rt: HostRuntime) -> Result<(), Fail> {
-    assert!(rt; takes_thousands(rt, opened(rt, rt.alloc(), 0).expect(&rt, "memory")));
+    expect_true(
+        &rt,
+        takes_thousands(rt, opened(rt, rt.alloc(), 0).expect(&rt, "memory")),
+    );
     Ok(())
 }
 
@@ -194,16 +223,16 @@ fn handles_are_counted(rt: HostRuntime) -> Result<(), Fail> {
         for _ in 0..20 {
             let sender = s.try_clone().expect(&rt, "handles");
             let receiver = r.try_clone().expect(&rt, "handles");
-            assert!(rt; s.same_channel(&sender) && r.same_channel(&receiver));
+            expect_true(&rt, s.same_channel(&sender) && r.same_channel(&receiver));
             senders.push(sender)?;
             receivers.push(receiver)?;
         }
-        assert_eq!(rt; (s.sender_count(), s.receiver_count()), (21, 21));
-        assert_eq!(rt; (r.sender_count(), r.receiver_count()), (21, 21));
+        expect_equal(&rt, &(s.sender_count(), s.receiver_count()), &(21, 21));
+        expect_equal(&rt, &(r.sender_count(), r.receiver_count()), &(21, 21));
         drop(senders);
         drop(receivers);
-        assert_eq!(rt; (s.sender_count(), s.receiver_count()), (1, 1));
-        assert_eq!(rt; (r.sender_count(), r.receiver_count()), (1, 1));
+        expect_equal(&rt, &(s.sender_count(), s.receiver_count()), &(1, 1));
+        expect_equal(&rt, &(r.sender_count(), r.receiver_count()), &(1, 1));
     }
     Ok(())
 }

@@ -1,5 +1,6 @@
 //! Weak handles: they upgrade while the channel is open and a handle of their kind lives, and don't keep it open.
 
+use crate::checks::{expect_equal, expect_true};
 use crate::said::{Ends, opened};
 use async_channel::{WeakReceiver, WeakSender};
 use std::sync::Wait;
@@ -49,9 +50,13 @@ fn weak_ones_stay<R: Wait + Copy>(ends: Ends<R>) -> bool {
 fn weak_handles(rt: HostRuntime) -> Result<(), Fail> {
     for capacity in [3, 0] {
         let ends = opened(rt, rt.alloc(), capacity).expect(&rt, "memory");
-        assert!(rt; upgrades(&ends));
-        assert_eq!(rt; (ends.0.sender_count(), ends.1.receiver_count()), (1, 1));
-        assert!(rt; weak_ones_stay(ends));
+        expect_true(&rt, upgrades(&ends));
+        expect_equal(
+            &rt,
+            &(ends.0.sender_count(), ends.1.receiver_count()),
+            &(1, 1),
+        );
+        expect_true(&rt, weak_ones_stay(ends));
     }
     Ok(())
 }
@@ -60,8 +65,8 @@ fn weak_handles(rt: HostRuntime) -> Result<(), Fail> {
 fn none_is_made_once_closed(rt: HostRuntime) -> Result<(), Fail> {
     let (s, r) = opened(rt, rt.alloc(), 0).expect(&rt, "memory");
     let weak = s.downgrade().expect(&rt, "handles");
-    assert!(rt; s.close());
-    assert!(rt; matches!(weak.upgrade(), Ok(None)));
-    assert_eq!(rt; (r.sender_count(), s.receiver_count()), (1, 1));
+    expect_true(&rt, s.close());
+    expect_true(&rt, matches!(weak.upgrade(), Ok(None)));
+    expect_equal(&rt, &(r.sender_count(), s.receiver_count()), &(1, 1));
     Ok(())
 }

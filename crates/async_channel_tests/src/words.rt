@@ -1,5 +1,6 @@
 //! What no program on one thread passes: two threads that each send a word and then wait for the other's.
 
+use crate::checks::expect_equal;
 use crate::said::opened;
 use async_channel::{Receiver, Sender};
 use std::alloc::Global;
@@ -33,6 +34,6 @@ fn words<R: Wait + Threads + Copy + Send + Sync>(rt: R, alloc: Global) -> Option
 
 #[test]
 fn both_get_a_word(rt: HostRuntime) -> Result<(), Fail> {
-    assert_eq!(rt; words(rt, rt.alloc()), Some((2, 1)));
+    expect_equal(&rt, &words(rt, rt.alloc()), &Some((2, 1)));
     Ok(())
 }

@@ -2,6 +2,7 @@
 //! rest is begun, the calls under way run to their ends, and the channel is settled. Then nobody is pending who could go on, and each
 //! message that was accepted was received once or is left.
 
+use crate::checks::expect_equal;
 use channel_calls::mark::Mark;
 use channel_calls::reply::Reply;
 use channel_world::call::Call;
@@ -379,6 +380,10 @@ fn giving_up_at_every_place(rt: HostRuntime) -> Result<(), Fail> {
         places(a_push_that_is_not_told().as_slice(), 0, alloc),
         places(a_taking_that_is_not_told().as_slice(), 1, alloc),
     ];
-    assert_eq!(rt; counts, [Some(29), Some(55), Some(3), Some(7), Some(22)]);
+    expect_equal(
+        &rt,
+        &counts,
+        &[Some(29), Some(55), Some(3), Some(7), Some(22)],
+    );
     Ok(())
 }

@@ -1,5 +1,6 @@
 //! A world that has made a million steps, and has accepted many thousand messages, refuses nothing.
 
+use crate::checks::{expect_equal, expect_true};
 use channel_world::call::Call;
 use channel_world::name::HandleId;
 use channel_world::step::{PartyId, Step};
@@ -71,11 +72,11 @@ fn a_million_steps_are_made(rt: HostRuntime) -> Result<(), Fail> {
     for _ in 0..RUNS {
         let mut steps = messages(rt.alloc())?;
         let run = world.run_steps(&mut steps);
-        assert_eq!(rt; run.stopped, None);
+        expect_equal(&rt, &run.stopped, &None);
         made = made.wrapping_add(run.trace.len() as u64);
     }
-    assert!(rt; 1_000_000 <= made);
-    assert!(rt; world.is_quiet());
+    expect_true(&rt, 1_000_000 <= made);
+    expect_true(&rt, world.is_quiet());
     Ok(())
 }
 
@@ -87,12 +88,12 @@ fn calls_are_made_after_many_steps(rt: HostRuntime) -> Result<(), Fail> {
     for _ in 0..3 {
         let mut steps = messages(rt.alloc())?;
         let run = world.run_steps(&mut steps);
-        assert_eq!(rt; run.stopped, None);
+        expect_equal(&rt, &run.stopped, &None);
     }
     if world.is_quiet() {
         let done = world.run_calls(&mut calls);
-        assert_eq!(rt; done.stopped, None);
+        expect_equal(&rt, &done.stopped, &None);
     }
-    assert_eq!(rt; calls.len(), 0);
+    expect_equal(&rt, &calls.len(), &0);
     Ok(())
 }

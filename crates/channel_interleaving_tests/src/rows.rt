@@ -2,6 +2,7 @@
 
 ghost use Rattle.std.specs.Prelude.{◌<◌};
 
+use crate::checks::{expect_equal, expect_true};
 use channel_calls::error::{Refused, TryRecvError, TrySendError};
 use channel_calls::reply::Reply;
 use channel_world::call::{Call, Stopped, WorldRefusal};
@@ -297,8 +298,8 @@ fn a_message_between_two_tries_is_taken(rt: HostRuntime) -> Result<(), Fail> {
         Said::Received(5),
         Said::Sent,
     ];
-    assert_eq!(rt; said, expected);
-    assert_eq!(rt; rest, (0, true));
+    expect_equal(&rt, &said, &expected);
+    expect_equal(&rt, &rest, &(0, true));
     Ok(())
 }
 
@@ -323,10 +324,10 @@ fn a_pending_receive_is_woken_after_the_push(rt: HostRuntime) -> Result<(), Fail
         under_way: 1,
     };
     let after = Numbers { woken: 1, ..before };
-    assert_eq!(rt; begun, [Said::Made, Said::Pending, Said::GoesOn]);
-    assert_eq!(rt; not_told, [(Said::GoesOn, before); 3]);
-    assert_eq!(rt; told, (Said::GoesOn, after));
-    assert!(rt; woken && last == Said::Sent);
+    expect_equal(&rt, &begun, &[Said::Made, Said::Pending, Said::GoesOn]);
+    expect_equal(&rt, &not_told, &[(Said::GoesOn, before); 3]);
+    expect_equal(&rt, &told, &(Said::GoesOn, after));
+    expect_true(&rt, woken && last == Said::Sent);
     Ok(())
 }
 
@@ -357,9 +358,9 @@ fn a_taking_wakes_the_send_that_still_waits(rt: HostRuntime) -> Result<(), Fail>
         Said::GoesOn,
         Said::GivenUp(Some(2)),
     ];
-    assert_eq!(rt; said, expected);
-    assert_eq!(rt; [received, sent], [Said::Received(1), Said::Sent]);
-    assert!(rt; nobody && woken && quiet);
+    expect_equal(&rt, &said, &expected);
+    expect_equal(&rt, &[received, sent], &[Said::Received(1), Said::Sent]);
+    expect_true(&rt, nobody && woken && quiet);
     Ok(())
 }
 
@@ -404,11 +405,11 @@ fn several_at_once_beside_a_displacing_send(rt: HostRuntime) -> Result<(), Fail>
     let (mut before, mut after) = (false, false);
     for steps in 0..12 {
         let stands = several_beside_a_displacing_send(steps, rt.alloc())?;
-        assert!(rt; stands != Beside::Wrong);
+        expect_true(&rt, stands != Beside::Wrong);
         before = before || stands == Beside::Before;
         after = after || stands == Beside::After;
     }
-    assert!(rt; before && after);
+    expect_true(&rt, before && after);
     Ok(())
 }
 
@@ -479,14 +480,15 @@ fn several_at_once_free_places_before_they_announce_them(rt: HostRuntime) -> Res
         woken: 0,
         under_way: 1,
     };
-    assert_eq!(rt; freed.filled, filled);
-    assert_eq!(rt;
-        freed.said,
-        [Said::GoesOn, Said::GoesOn, Said::GoesOn, Said::Two(1, 2)]
+    expect_equal(&rt, &freed.filled, &filled);
+    expect_equal(
+        &rt,
+        &freed.said,
+        &[Said::GoesOn, Said::GoesOn, Said::GoesOn, Said::Two(1, 2)],
     );
-    assert_eq!(rt; freed.numbers, [one_free, two_free]);
-    assert_eq!(rt; freed.woken, [0, 2]);
-    assert!(rt; freed.in_order);
+    expect_equal(&rt, &freed.numbers, &[one_free, two_free]);
+    expect_equal(&rt, &freed.woken, &[0, 2]);
+    expect_true(&rt, freed.in_order);
     Ok(())
 }
 
@@ -511,8 +513,12 @@ fn a_stream_is_pending_beside_a_message_that_is_not_told_yet(rt: HostRuntime) ->
         Said::Sent,
         Said::Next(7),
     ];
-    assert_eq!(rt; [polled, pushed, again, not_told, told, next], expected);
-    assert!(rt; messages == 1 && nobody && woken);
+    expect_equal(
+        &rt,
+        &[polled, pushed, again, not_told, told, next],
+        &expected,
+    );
+    expect_true(&rt, messages == 1 && nobody && woken);
     Ok(())
 }
 
@@ -539,7 +545,7 @@ fn a_message_on_its_way_is_still_received(rt: HostRuntime) -> Result<(), Fail> {
         (all.begin(0, try_send(4), 1), Said::SendClosed(4)),
     ];
     for row in said.iter() {
-        assert_eq!(rt; row.0, row.1);
+        expect_equal(&rt, &row.0, &row.1);
     }
     Ok(())
 }
@@ -573,11 +579,11 @@ fn a_refused_step_stays_in_front(rt: HostRuntime) -> Result<(), Fail> {
         party,
         call: try_send(2),
     });
-    assert_eq!(rt; all.run(&mut list), stopped(1, WorldRefusal::Busy));
-    assert_eq!(rt; sends(list.pop_front()), Some(2));
-    assert_eq!(rt; list.len(), 0);
-    assert_eq!(rt; all.channel.under_way(), 1);
-    assert_eq!(rt; all.go_on(0, 5), Said::Sent);
+    expect_equal(&rt, &all.run(&mut list), &stopped(1, WorldRefusal::Busy));
+    expect_equal(&rt, &sends(list.pop_front()), &Some(2));
+    expect_equal(&rt, &list.len(), &0);
+    expect_equal(&rt, &all.channel.under_way(), &1);
+    expect_equal(&rt, &all.go_on(0, 5), &Said::Sent);
     Ok(())
 }
 
@@ -651,7 +657,7 @@ fn calls_are_refused_by_names(rt: HostRuntime) -> Result<(), Fail> {
         ),
     ];
     for row in table.iter() {
-        assert_eq!(rt; row.0, row.1);
+        expect_equal(&rt, &row.0, &row.1);
     }
     Ok(())
 }
@@ -661,7 +667,11 @@ fn a_polled_stream_is_not_used(rt: HostRuntime) -> Result<(), Fail> {
     let mut all = bounded(1, rt.alloc())?;
     let said = [all.begin(0, poll_next(), 0), all.begin(1, try_recv(), 0)];
     drop(all);
-    assert_eq!(rt; said, [Said::GoesOn, stopped(0, WorldRefusal::OpUnderWay)]);
+    expect_equal(
+        &rt,
+        &said,
+        &[Said::GoesOn, stopped(0, WorldRefusal::OpUnderWay)],
+    );
     Ok(())
 }
 
@@ -679,6 +689,6 @@ fn a_used_receiver_is_not_polled_as_a_stream(rt: HostRuntime) -> Result<(), Fail
         stopped(0, WorldRefusal::Borrowed),
         stopped(0, WorldRefusal::Idle),
     ];
-    assert_eq!(rt; said, expected);
+    expect_equal(&rt, &said, &expected);
     Ok(())
 }

@@ -5,6 +5,7 @@ ghost use Rattle.concurrent_queue.specs.Made.{CanBeMade};
 ghost use Rattle.channel_calls.specs.Plain.{parts_of};
 ghost use Rattle.channel_alone.specs.Run.{IsAtRest, IsOneSlot};
 
+use crate::checks::{expect_equal, expect_true};
 use crate::names::{Names, no_names};
 use crate::said::{Said, answer_of};
 use channel_alone::run::run_alone;
@@ -68,9 +69,10 @@ fn messages_go_in_and_out(rt: HostRuntime) -> Result<(), Fail> {
     ];
     let woken = all.names.woken.len();
     drop(all);
-    assert_eq!(rt;
-        answers,
-        [
+    expect_equal(
+        &rt,
+        &answers,
+        &[
             Said::Sent(None),
             Said::Full(20),
             Said::Flag(true),
@@ -80,9 +82,9 @@ fn messages_go_in_and_out(rt: HostRuntime) -> Result<(), Fail> {
             Said::Received(30),
             Said::Empty,
             Said::Flag(true),
-        ]
+        ],
     );
-    assert_eq!(rt; woken, 0);
+    expect_equal(&rt, &woken, &0);
     Ok(())
 }
 
@@ -101,23 +103,25 @@ fn those_who_wait_are_told_in_order(rt: HostRuntime) -> Result<(), Fail> {
     let (last, last_key) = all.poll(ChannelAsk::PollRecv(second_key, 2));
     let Alone { channel, names } = all;
     drop(channel);
-    assert_eq!(rt; names.woken.as_slice(), [1, 3, 2].as_slice());
+    expect_equal(&rt, &names.woken.as_slice(), &[1, 3, 2].as_slice());
     drop(names);
-    assert_eq!(rt;
-        [first, second, stream, sent],
-        [
+    expect_equal(
+        &rt,
+        &[first, second, stream, sent],
+        &[
             Said::Pending,
             Said::Pending,
             Said::Pending,
-            Said::Sent(None)
-        ]
+            Said::Sent(None),
+        ],
     );
-    assert_eq!(rt;
-        [refused, next, last],
-        [Said::Refused, Said::Received(5), Said::Pending]
+    expect_equal(
+        &rt,
+        &[refused, next, last],
+        &[Said::Refused, Said::Received(5), Said::Pending],
     );
-    assert_eq!(rt; [by_the_send, by_the_refusal], [2, 3]);
-    assert!(rt; last_key.is_some());
+    expect_equal(&rt, &[by_the_send, by_the_refusal], &[2, 3]);
+    expect_true(&rt, last_key.is_some());
     Ok(())
 }
 
@@ -134,17 +138,19 @@ fn a_full_channel_keeps_the_message_of_a_send(rt: HostRuntime) -> Result<(), Fai
     let last = all.call(ChannelAsk::PollSend(3, third_key, 3));
     let Alone { channel, names } = all;
     drop(channel);
-    assert_eq!(rt; names.woken.as_slice(), [2, 3].as_slice());
+    expect_equal(&rt, &names.woken.as_slice(), &[2, 3].as_slice());
     drop(names);
-    assert_eq!(rt;
-        [sent, second, third],
-        [Said::Sent(None), Said::Pending, Said::Pending]
+    expect_equal(
+        &rt,
+        &[sent, second, third],
+        &[Said::Sent(None), Said::Pending, Said::Pending],
     );
-    assert_eq!(rt;
-        [received, given_up, last],
-        [Said::Received(1), Said::GivenUp(Some(2)), Said::Sent(None)]
+    expect_equal(
+        &rt,
+        &[received, given_up, last],
+        &[Said::Received(1), Said::GivenUp(Some(2)), Said::Sent(None)],
     );
-    assert_eq!(rt; by_the_receive, 1);
+    expect_equal(&rt, &by_the_receive, &1);
     Ok(())
 }
 
@@ -158,14 +164,15 @@ fn a_closed_channel_refuses(rt: HostRuntime) -> Result<(), Fail> {
         all.call(ChannelAsk::PollRecv(None, 4)),
     ];
     drop(all);
-    assert_eq!(rt;
-        answers,
-        [
+    expect_equal(
+        &rt,
+        &answers,
+        &[
             Said::Flag(true),
             Said::Flag(false),
             Said::Closed(Some(3)),
-            Said::Closed(None)
-        ]
+            Said::Closed(None),
+        ],
     );
     Ok(())
 }
@@ -181,15 +188,16 @@ fn handles_are_counted(rt: HostRuntime) -> Result<(), Fail> {
         all.call(ChannelAsk::IsClosed),
     ];
     drop(all);
-    assert_eq!(rt;
-        answers,
-        [
+    expect_equal(
+        &rt,
+        &answers,
+        &[
             Said::Made(true),
             Said::Dropped,
             Said::Made(true),
             Said::Count(2),
-            Said::Flag(false)
-        ]
+            Said::Flag(false),
+        ],
     );
     Ok(())
 }
@@ -206,17 +214,19 @@ fn the_last_receiver_closes_before_its_listener_leaves(rt: HostRuntime) -> Resul
     let told = all.call(ChannelAsk::PollClosed(closing_key, 4));
     let Alone { channel, names } = all;
     drop(channel);
-    assert_eq!(rt; names.woken.as_slice(), [3, 4].as_slice());
+    expect_equal(&rt, &names.woken.as_slice(), &[3, 4].as_slice());
     drop(names);
-    assert_eq!(rt;
-        [closing, stream, dropped],
-        [Said::Pending, Said::Pending, Said::Dropped]
+    expect_equal(
+        &rt,
+        &[closing, stream, dropped],
+        &[Said::Pending, Said::Pending, Said::Dropped],
     );
-    assert_eq!(rt;
-        [upgraded, terminated, told],
-        [Said::Made(false), Said::Flag(true), Said::Ended]
+    expect_equal(
+        &rt,
+        &[upgraded, terminated, told],
+        &[Said::Made(false), Said::Flag(true), Said::Ended],
     );
-    assert_eq!(rt; by_the_drop, 2);
+    expect_equal(&rt, &by_the_drop, &2);
     Ok(())
 }
 
@@ -232,17 +242,18 @@ fn calls_that_touch_nothing(rt: HostRuntime) -> Result<(), Fail> {
     ];
     let woken = all.names.woken.len();
     drop(all);
-    assert_eq!(rt;
-        answers,
-        [
+    expect_equal(
+        &rt,
+        &answers,
+        &[
             Said::Pending,
             Said::Flag(true),
             Said::Flag(false),
             Said::Made(true),
-            Said::Dropped
-        ]
+            Said::Dropped,
+        ],
     );
-    assert_eq!(rt; woken, 0);
+    expect_equal(&rt, &woken, &0);
     Ok(())
 }
 
@@ -263,8 +274,8 @@ fn a_ring_takes_a_message(rt: HostRuntime) -> Result<(), Fail> {
     let answer = answer_of(run_alone(ask, &mut channel, &mut messages, &mut names).reply);
     drop(channel);
     drop(names);
-    assert_eq!(rt; answer, Said::Sent(None));
-    assert_eq!(rt; messages, 1);
+    expect_equal(&rt, &answer, &Said::Sent(None));
+    expect_equal(&rt, &messages, &1);
     Ok(())
 }
 
@@ -278,7 +289,7 @@ fn an_unbounded_channel_keeps_a_listener(rt: HostRuntime) -> Result<(), Fail> {
     let (answer, key) = (answer_of(done.reply), done.kept.key);
     drop(channel);
     drop(names);
-    assert_eq!(rt; answer, Said::Pending);
-    assert!(rt; key.is_some());
+    expect_equal(&rt, &answer, &Said::Pending);
+    expect_true(&rt, key.is_some());
     Ok(())
 }

@@ -2,6 +2,7 @@
 
 ghost use Rattle.channel_calls.specs.Plain.{parts_of};
 
+use crate::checks::{expect_equal, expect_true};
 use crate::names::Names;
 use crate::said::{Said, answer_of};
 use channel_calls::ask::ChannelAsk;
@@ -175,17 +176,18 @@ fn a_message_between_two_tries_is_taken(rt: HostRuntime) -> Result<(), Fail> {
     let woken = all.names.woken.len();
     let quiet = is_quiet(&all.parties);
     drop(all);
-    assert_eq!(rt;
-        answers,
-        [
+    expect_equal(
+        &rt,
+        &answers,
+        &[
             Said::GoesOn,
             Said::GoesOn,
             Said::Received(5),
-            Said::Sent(None)
-        ]
+            Said::Sent(None),
+        ],
     );
-    assert_eq!(rt; woken, 0);
-    assert!(rt; quiet);
+    expect_equal(&rt, &woken, &0);
+    expect_true(&rt, quiet);
     Ok(())
 }
 
@@ -200,13 +202,14 @@ fn a_pending_receive_is_woken_after_the_push(rt: HostRuntime) -> Result<(), Fail
     let sent = all.go_on(1, 1).0;
     let quiet = is_quiet(&all.parties);
     drop(all);
-    assert_eq!(rt;
-        [pending, pushed, told, sent],
-        [Said::Pending, Said::GoesOn, Said::GoesOn, Said::Sent(None)]
+    expect_equal(
+        &rt,
+        &[pending, pushed, told, sent],
+        &[Said::Pending, Said::GoesOn, Said::GoesOn, Said::Sent(None)],
     );
-    assert_eq!(rt; before, (0, 1));
-    assert_eq!(rt; woken, (1, Some(7)));
-    assert!(rt; quiet);
+    expect_equal(&rt, &before, &(0, 1));
+    expect_equal(&rt, &woken, &(1, Some(7)));
+    expect_true(&rt, quiet);
     Ok(())
 }
 
@@ -225,18 +228,20 @@ fn a_taking_wakes_the_send_that_still_waits(rt: HostRuntime) -> Result<(), Fail>
     let last = all.begin(2, ChannelAsk::PollSend(3, second_key, 3), 6).0;
     let quiet = is_quiet(&all.parties);
     drop(all);
-    assert_eq!(rt;
-        [sent, first, second],
-        [Said::Sent(None), Said::Pending, Said::Pending]
+    expect_equal(
+        &rt,
+        &[sent, first, second],
+        &[Said::Sent(None), Said::Pending, Said::Pending],
     );
-    assert_eq!(rt;
-        [taking, given_up, received],
-        [Said::GoesOn, Said::GivenUp(Some(2)), Said::Received(1)]
+    expect_equal(
+        &rt,
+        &[taking, given_up, received],
+        &[Said::GoesOn, Said::GivenUp(Some(2)), Said::Received(1)],
     );
-    assert_eq!(rt; last, Said::Sent(None));
-    assert_eq!(rt; before, 0);
-    assert_eq!(rt; woken, (1, Some(3)));
-    assert!(rt; quiet);
+    expect_equal(&rt, &last, &Said::Sent(None));
+    expect_equal(&rt, &before, &0);
+    expect_equal(&rt, &woken, &(1, Some(3)));
+    expect_true(&rt, quiet);
     Ok(())
 }
 
@@ -251,12 +256,13 @@ fn a_poll_that_may_not_listen_is_not_pending(rt: HostRuntime) -> Result<(), Fail
     let woken = all.names.woken.len();
     let received = all.begin(2, ChannelAsk::TryRecv, 4).0;
     drop(all);
-    assert_eq!(rt;
-        [refused, sent, received],
-        [Said::Refused, Said::Sent(None), Said::Received(5)]
+    expect_equal(
+        &rt,
+        &[refused, sent, received],
+        &[Said::Refused, Said::Sent(None), Said::Received(5)],
     );
-    assert!(rt; key.is_none());
-    assert_eq!(rt; woken, 0);
+    expect_true(&rt, key.is_none());
+    expect_equal(&rt, &woken, &0);
     Ok(())
 }
 
@@ -284,9 +290,9 @@ fn a_party_with_a_call_under_way_begins_no_other(rt: HostRuntime) -> Result<(), 
     let _ = list.push_back(Step::Step { party: 0 });
     let idle = run_to(&mut all, list);
     drop(all);
-    assert_eq!(rt; busy, (1, Some(Refusal::Busy), 1));
-    assert_eq!(rt; going, 1);
-    assert_eq!(rt; sent, Said::Sent(None));
-    assert_eq!(rt; idle, (0, Some(Refusal::Idle), 1));
+    expect_equal(&rt, &busy, &(1, Some(Refusal::Busy), 1));
+    expect_equal(&rt, &going, &1);
+    expect_equal(&rt, &sent, &Said::Sent(None));
+    expect_equal(&rt, &idle, &(0, Some(Refusal::Idle), 1));
     Ok(())
 }

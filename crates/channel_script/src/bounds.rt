@@ -1,5 +1,6 @@
 //! The greatest scripts.
 use super::cut::{check, writer};
+use crate::checks::expect_equal;
 use channel_world::script::{ScriptEnd, run_script};
 use std::alloc::{AllocError, Global};
 use std::test::Fail;
@@ -93,6 +94,6 @@ fn each_end_has_its_status(rt: HostRuntime) {
         (ScriptEnd::Memory, 4),
         (ScriptEnd::Fault, 5),
     ] {
-        assert_eq!(rt; end.status(), status);
+        expect_equal(&rt, &end.status(), &status);
     }
 }

@@ -1,4 +1,5 @@
 //! Texts that end early, because a growth was refused.
+use crate::checks::expect_true;
 use channel_world::script::ScriptEnd;
 use std::alloc::{AllocError, Global};
 use std::process::Abort;
@@ -56,7 +57,7 @@ pub fn check_front(
 ) -> Result<(), Fail> {
     let front = text.get(..limit).unwrap_or(text);
     if held != front && is_cut(held, text) {
-        assert!(rt; ended == ScriptEnd::Memory || ended == ScriptEnd::Fault);
+        expect_true(rt, ended == ScriptEnd::Memory || ended == ScriptEnd::Fault);
         return Err(Fail::from(AllocError));
     }
     assert_eq!(rt; ended, ScriptEnd::Fault, "after {limit} bytes");

@@ -5,6 +5,8 @@
 #[cfg(test)]
 mod bounds;
 #[cfg(test)]
+mod checks;
+#[cfg(test)]
 mod cut;
 #[cfg(test)]
 mod faults;

@@ -1,6 +1,7 @@
 //! A script whose growths are refused. With ample memory none is; `tools/refuse_growths.py channel_script scarce` refuses each request
 //! in turn.
 use super::cut::{LAST_LINE, is_cut, writer};
+use crate::checks::{expect_equal, expect_true};
 use channel_world::script::{ScriptEnd, run_script};
 use std::test::Fail;
 
@@ -18,12 +19,12 @@ fn a_refused_growth_ends_a_script(rt: HostRuntime) -> Result<(), Fail> {
     let mut out = writer(rt.alloc(), TEXT.as_bytes())?;
     let mut end = run_script(rt.alloc(), &mut SCRIPT.as_bytes(), &mut out);
     if end == ScriptEnd::Memory {
-        assert!(rt; is_cut(out.as_slice(), TEXT.as_bytes()));
-        assert!(rt; out.ends_with(LAST_LINE));
+        expect_true(&rt, is_cut(out.as_slice(), TEXT.as_bytes()));
+        expect_true(&rt, out.ends_with(LAST_LINE));
         out.clear();
         end = run_script(rt.alloc(), &mut SCRIPT.as_bytes(), &mut out);
     }
-    assert_eq!(rt; end, ScriptEnd::Done);
-    assert_eq!(rt; out.as_slice(), TEXT.as_bytes());
+    expect_equal(&rt, &end, &ScriptEnd::Done);
+    expect_equal(&rt, &out.as_slice(), &TEXT.as_bytes());
     Ok(())
 }

@@ -1,5 +1,6 @@
 //! What the plain count refuses by itself.
 
+use crate::checks::{expect_equal, expect_true};
 use channel_calls::mark::Mark;
 use channel_calls::stage::Line;
 use channel_trials::answer::Answer;
@@ -54,9 +55,9 @@ fn a_mark_is_made_over_what_is_held(rt: HostRuntime) {
         (Mark::SenderUp, None, Err(Differs::Mark)),
     ];
     for (mark, message, want) in rows {
-        assert_eq!(rt; count.apply(mark, message, false), want);
+        expect_equal(&rt, &count.apply(mark, message, false), &want);
     }
-    assert!(rt; count.came_as(1, 6) && !count.came_as(0, 6));
+    expect_true(&rt, count.came_as(1, 6) && !count.came_as(0, 6));
 }
 
 #[test]
@@ -72,16 +73,16 @@ fn an_answer_needs_its_mark_or_its_moment(rt: HostRuntime) {
         (Answer::NoMemory, false, false, false),
     ];
     for (answer, due, _, _) in rows {
-        assert_eq!(rt; is_due(&call, answer, &count), due);
+        expect_equal(&rt, &is_due(&call, answer, &count), &due);
     }
     call.saw = call.saw.with(&count);
     for (answer, _, due, _) in rows {
-        assert_eq!(rt; is_due(&call, answer, &count), due);
+        expect_equal(&rt, &is_due(&call, answer, &count), &due);
     }
-    assert_eq!(rt; count.apply(Mark::Append, Some(4), false), Ok(()));
-    assert_eq!(rt; call.step(Mark::Take, &mut count), Ok(()));
+    expect_equal(&rt, &count.apply(Mark::Append, Some(4), false), &Ok(()));
+    expect_equal(&rt, &call.step(Mark::Take, &mut count), &Ok(()));
     for (answer, _, _, due) in rows {
-        assert_eq!(rt; is_due(&call, answer, &count), due);
+        expect_equal(&rt, &is_due(&call, answer, &count), &due);
     }
 }
 
@@ -112,7 +113,7 @@ fn one_who_sleeps_is_owed(rt: HostRuntime) {
         (Line::Closings, Kind::Close, Some((true, true, false))),
     ];
     for (line, kind, want) in rows {
-        assert_eq!(rt; owes(line, kind, rt.alloc()), want);
+        expect_equal(&rt, &owes(line, kind, rt.alloc()), &want);
     }
 }
 
@@ -131,7 +132,7 @@ fn wakes_second(from: u64, to: u64, alloc: Global) -> Option<Result<(), Differs>
 fn who_came_first_is_woken_first(rt: HostRuntime) {
     let rows = [(0, 1, Ok(())), (4, 6, Ok(())), (5, 6, Err(Differs::Woken))];
     for (from, to, want) in rows {
-        assert_eq!(rt; wakes_second(from, to, rt.alloc()), Some(want));
+        expect_equal(&rt, &wakes_second(from, to, rt.alloc()), &Some(want));
     }
 }
 
@@ -139,7 +140,7 @@ fn who_came_first_is_woken_first(rt: HostRuntime) {
 fn random_worlds_settle_as_plain_channels(rt: HostRuntime) {
     for form in [Form::OneSlot, Form::RingOfThree, Form::Unbounded] {
         for seed in 0..25u64 {
-            assert_eq!(rt; settle(form, seed, rt.alloc()).err(), None);
+            expect_equal(&rt, &settle(form, seed, rt.alloc()).err(), &None);
         }
     }
 }

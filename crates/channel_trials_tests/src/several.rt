@@ -1,5 +1,6 @@
 //! What the plain count refuses of receives of several messages.
 
+use crate::checks::expect_equal;
 use channel_calls::mark::Mark;
 use channel_calls::stage::Line;
 use channel_trials::answer::Answer;
@@ -137,11 +138,11 @@ fn are(messages: &[u64], alloc: Global) -> Option<bool> {
 #[test]
 fn messages_are_handed_out_in_order(rt: HostRuntime) {
     let alloc = rt.alloc();
-    assert_eq!(rt; are(&[1, 5], alloc), Some(true));
-    assert_eq!(rt; are(&[5, 1], alloc), Some(false));
-    assert_eq!(rt; are(&[1], alloc), Some(false));
-    assert_eq!(rt; are(&[1, 2, 5], alloc), Some(false));
-    assert_eq!(rt; are(&[], alloc), Some(false));
+    expect_equal(&rt, &are(&[1, 5], alloc), &Some(true));
+    expect_equal(&rt, &are(&[5, 1], alloc), &Some(false));
+    expect_equal(&rt, &are(&[1], alloc), &Some(false));
+    expect_equal(&rt, &are(&[1, 2, 5], alloc), &Some(false));
+    expect_equal(&rt, &are(&[], alloc), &Some(false));
 }
 
 /// Whether nothing is owed to two sends that sleep, where a receive of two has taken so many, and whether one place for each call

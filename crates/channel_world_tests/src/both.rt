@@ -6,6 +6,7 @@ ghost use Rattle.channel_interleaving.specs.Floor.{IsQuiet};
 use super::ask::{Ask, S, call};
 use super::row::{run_rows, waking};
 use super::said::{Said, says};
+use crate::checks::{expect_equal, expect_true};
 use channel_world::call::WorldRefusal;
 use channel_world::name::{OpId, Waiter};
 use channel_world::step::{PartyId, Run, Step};
@@ -100,11 +101,11 @@ fn compare(
         return Err(Fail::from(AllocError));
     }
     if let Some(stopped) = run.stopped {
-        assert_eq!(rt; stopped.why, WorldRefusal::NoMemory);
+        expect_equal(rt, &stopped.why, &WorldRefusal::NoMemory);
         return Err(Fail::from(AllocError));
     }
-    assert_eq!(rt; replies.as_slice(), said);
-    assert_eq!(rt; names.as_slice(), woken);
+    expect_equal(rt, &replies.as_slice(), &said);
+    expect_equal(rt, &names.as_slice(), &woken);
     Ok(())
 }
 
@@ -122,7 +123,7 @@ fn run_turns(
     }
     let run = world.run_steps(&mut steps);
     compare(rt, &run, said, woken)?;
-    assert!(rt; steps.is_empty());
+    expect_true(rt, steps.is_empty());
     Ok(())
 }
 
@@ -130,7 +131,7 @@ fn run_turns(
 fn rests(rt: &impl Abort, world: &World<u64>)
     ensures { IsQuiet world.now }
 {
-    assert!(rt; world.is_quiet());
+    expect_true(rt, world.is_quiet());
 }
 
 /// Compares the numbers that the world says, and whether it is quiet.
@@ -141,8 +142,8 @@ fn show(rt: &impl Abort, world: &World<u64>, numbers: Numbers) {
         pending: world.pending(),
         woken: world.woken(),
     };
-    assert_eq!(rt; said, numbers);
-    assert_eq!(rt; world.is_quiet(), numbers.under_way == 0);
+    expect_equal(rt, &said, &numbers);
+    expect_equal(rt, &world.is_quiet(), &(numbers.under_way == 0));
 }
 
 /// Does one thing after the other to one world.

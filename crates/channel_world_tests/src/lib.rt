@@ -6,6 +6,8 @@
 mod ask;
 #[cfg(test)]
 mod both;
+#[cfg(test)]
+mod checks;
 pub mod clients;
 #[cfg(test)]
 mod memory;

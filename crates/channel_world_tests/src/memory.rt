@@ -3,6 +3,7 @@ ghost use Rattle.channel_interleaving.specs.Floor.{IsQuiet};
 
 use super::ask::{Ask, call};
 use super::said::{Said, says};
+use crate::checks::{expect_equal, expect_true};
 use channel_world::call::{CallRun, WorldRefusal};
 use channel_world::name::{OpId, Waiter};
 use channel_world::world::World;
@@ -40,16 +41,16 @@ fn show(
     let mut run = world.run_calls(&mut calls);
     if was_refused(&run) {
         if run.done.is_empty() {
-            assert_eq!(rt; calls.len(), 1);
+            expect_equal(rt, &calls.len(), &1);
         } else {
             calls.push_back(call(ask))?;
         }
         run = world.run_calls(&mut calls);
     }
-    assert!(rt; calls.is_empty());
-    assert_eq!(rt; run.done.len(), 1);
-    assert_eq!(rt; says(&run.done[0].reply), said);
-    assert_eq!(rt; run.done[0].woken.as_slice(), woken);
+    expect_true(rt, calls.is_empty());
+    expect_equal(rt, &run.done.len(), &1);
+    expect_equal(rt, &says(&run.done[0].reply), &said);
+    expect_equal(rt, &run.done[0].woken.as_slice(), &woken);
     Ok(())
 }
 

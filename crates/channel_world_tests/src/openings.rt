@@ -1,4 +1,5 @@
 //! Channels that are opened from one source of identities.
+use crate::checks::expect_equal;
 use channel_calls::error::OpenError;
 use channel_world::world::World;
 use event_listener::id::EventIds;
@@ -12,6 +13,6 @@ fn channels_are_opened_from_one_source(rt: HostRuntime) -> Result<(), Fail> {
     let unbounded: World<u64> = World::unbounded(rt.alloc(), &mut ids)?;
     let _opened = (bounded, unbounded);
     let beyond: Result<World<u64>, OpenError> = World::bounded(rt.alloc(), (1 << 58) + 1, &mut ids);
-    assert_eq!(rt; beyond.err(), Some(OpenError::NoMemory));
+    expect_equal(&rt, &beyond.err(), &Some(OpenError::NoMemory));
     Ok(())
 }

@@ -4,6 +4,7 @@ ghost use Rattle.channel_interleaving.specs.Floor.{IsQuiet};
 use super::ask::{Ask, R, S};
 use super::row::{quiet, run_all_refused, run_refused, run_rows};
 use super::said::Said;
+use crate::checks::expect_equal;
 use channel_world::call::WorldRefusal;
 use channel_world::name::{HandleId, OpId};
 use channel_world::world::World;
@@ -128,7 +129,11 @@ fn refusals_have_their_texts(rt: HostRuntime) -> Result<(), Fail> {
         ),
         (WorldRefusal::NoMemory, "NoMemory: want of memory"),
     ] {
-        assert_eq!(rt; format!(in rt.alloc(); "{why:?}: {why}")?.as_str(), text);
+        expect_equal(
+            &rt,
+            &format!(in rt.alloc(); "{why:?}: {why}")?.as_str(),
+            &text,
+        );
     }
     Ok(())
 }

@@ -3,6 +3,7 @@ ghost use Rattle.channel_interleaving.specs.Floor.{IsQuiet};
 
 use super::ask::{Ask, call};
 use super::said::{Said, says};
+use crate::checks::{expect_equal, expect_true};
 use channel_world::call::{CallRun, WorldRefusal};
 use channel_world::name::Waiter;
 use channel_world::world::World;
@@ -44,8 +45,8 @@ fn compare(
         if said == Said::NoMemory && said != row.said {
             return Err(Fail::from(AllocError));
         }
-        assert_eq!(rt; said, row.said);
-        assert_eq!(rt; done.woken.as_slice(), row.woken);
+        expect_equal(rt, &said, &row.said);
+        expect_equal(rt, &done.woken.as_slice(), &row.woken);
     }
     Ok(())
 }
@@ -66,12 +67,12 @@ pub fn run_rows(
     let run = world.run_calls(&mut calls);
     compare(rt, &run, rows)?;
     if let Some(stopped) = run.stopped {
-        assert_eq!(rt; stopped.why, WorldRefusal::NoMemory);
-        assert_eq!(rt; stopped.place, run.done.len());
+        expect_equal(rt, &stopped.why, &WorldRefusal::NoMemory);
+        expect_equal(rt, &stopped.place, &run.done.len());
         return Err(Fail::from(AllocError));
     }
-    assert_eq!(rt; run.done.len(), rows.len());
-    assert!(rt; calls.is_empty());
+    expect_equal(rt, &run.done.len(), &rows.len());
+    expect_true(rt, calls.is_empty());
     Ok(())
 }
 
@@ -88,12 +89,13 @@ pub fn run_refused(
     let mut calls = VecDeque::new(rt.alloc());
     calls.push_back(call(ask))?;
     let run = world.run_calls(&mut calls);
-    assert_eq!(rt;
-        run.stopped.map(|stopped| (stopped.place, stopped.why)),
-        Some((0, why))
+    expect_equal(
+        rt,
+        &run.stopped.map(|stopped| (stopped.place, stopped.why)),
+        &Some((0, why)),
     );
-    assert_eq!(rt; run.done.len(), 0);
-    assert_eq!(rt; calls.len(), 1);
+    expect_equal(rt, &run.done.len(), &0);
+    expect_equal(rt, &calls.len(), &1);
     Ok(())
 }
 

@@ -5,6 +5,7 @@ ghost use Rattle.channel_interleaving.specs.Floor.{IsQuiet};
 use super::ask::{Ask, R, call};
 use super::row::{quiet, run_rows};
 use super::said::Said;
+use crate::checks::{expect_equal, expect_true};
 use channel_calls::error::{OpenError, Refused};
 use channel_world::call::{Call, CallRun, Reply, Stopped, WorldRefusal};
 use channel_world::world::World;
@@ -45,9 +46,9 @@ fn opens(alloc: Global, is_bounded: bool, ids: &mut EventIds) -> bool {
 fn a_refused_opening_takes_no_identities(rt: HostRuntime) -> Result<(), Fail> {
     let mut ids = EventIds::new();
     for is_bounded in [true, false, true] {
-        assert!(rt; opens(rt.alloc(), is_bounded, &mut ids));
+        expect_true(&rt, opens(rt.alloc(), is_bounded, &mut ids));
     }
-    assert_eq!(rt; ids.next()?.number(), 12);
+    expect_equal(&rt, &ids.next()?.number(), &12);
     Ok(())
 }
 
@@ -83,11 +84,11 @@ fn send(rt: &(impl AllocGlobal + Abort), world: &mut World<u64>, message: u64) -
     calls.push_back(call(Ask::TrySend(message)))?;
     let run = world.run_calls(&mut calls);
     if !is_sent(&run) {
-        assert!(rt; is_refused(&run, calls.len(), message));
-        assert_eq!(rt; world.messages(), held);
+        expect_true(rt, is_refused(&run, calls.len(), message));
+        expect_equal(rt, &world.messages(), &held);
         run_rows(rt, world, &[quiet(Ask::TrySend(message), Said::Sent)])?;
     }
-    assert_eq!(rt; world.messages(), held.wrapping_add(1));
+    expect_equal(rt, &world.messages(), &held.wrapping_add(1));
     Ok(())
 }
 
@@ -191,11 +192,11 @@ fn show_several(rt: &(impl AllocGlobal + Abort), world: &mut World<u64>) -> Resu
     send_all(rt, world)?;
     let mut said = receive_several(rt, world)?;
     if said == Several::Refused {
-        assert_eq!(rt; world.messages(), COUNT);
+        expect_equal(rt, &world.messages(), &COUNT);
         said = receive_several(rt, world)?;
     }
-    assert_eq!(rt; said, Several::InOrder(70));
-    assert_eq!(rt; world.messages(), 0);
+    expect_equal(rt, &said, &Several::InOrder(70));
+    expect_equal(rt, &world.messages(), &0);
     Ok(())
 }
 

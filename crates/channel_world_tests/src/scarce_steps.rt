@@ -4,6 +4,7 @@
 use super::ask::{Ask, S, call};
 use super::said::{Said, says};
 use super::scarce::NO_ROOM;
+use crate::checks::expect_equal;
 use channel_world::call::{Stopped, WorldRefusal};
 use channel_world::name::{HandleId, OpId};
 use channel_world::step::{Entry, PartyId, Step};
@@ -52,12 +53,12 @@ fn make(
     steps.push_back(step)?;
     let mut run = world.run_steps(&mut steps);
     if run.stopped.is_some() {
-        assert_eq!(rt; run.stopped, NO_ROOM);
-        assert_eq!(rt; (run.trace.len(), steps.len()), (0, 1));
-        assert_eq!(rt; numbers_of(world), before);
+        expect_equal(rt, &run.stopped, &NO_ROOM);
+        expect_equal(rt, &(run.trace.len(), steps.len()), &(0, 1));
+        expect_equal(rt, &numbers_of(world), &before);
         run = world.run_steps(&mut steps);
     }
-    assert_eq!(rt; run.stopped, None);
+    expect_equal(rt, &run.stopped, &None);
     match run.trace.pop() {
         Some(entry) => Ok(entry),
         None => Err(Fail::from(AllocError)),
@@ -97,10 +98,10 @@ fn show(
     let before = numbers_of(world);
     let mut answer = said(rt, world, ask)?;
     if answer == Said::NoMemory {
-        assert_eq!(rt; numbers_of(world), before);
+        expect_equal(rt, &numbers_of(world), &before);
         answer = said(rt, world, ask)?;
     }
-    assert_eq!(rt; answer, says);
+    expect_equal(rt, &answer, &says);
     Ok(())
 }
 
@@ -136,14 +137,15 @@ fn a_refused_step_changes_nothing(rt: HostRuntime) -> Result<(), Fail> {
     let mut world: World<u64> = World::unbounded(rt.alloc(), &mut ids)?;
     fill(&rt, &mut world)?;
     empty(&rt, &mut world)?;
-    assert_eq!(&rt;
-        numbers_of(&world),
-        Numbers {
+    expect_equal(
+        &rt,
+        &numbers_of(&world),
+        &Numbers {
             messages: 0,
             under_way: 0,
             pending: 0,
             woken: 0,
-        }
+        },
     );
     Ok(())
 }
@@ -178,16 +180,16 @@ fn a_refused_list_goes_on_where_it_stopped(rt: HostRuntime) -> Result<(), Fail> 
     let all = steps.len();
     let first = world.run_steps(&mut steps);
     let made = first.trace.len();
-    assert_eq!(rt; steps.len(), all.wrapping_sub(made));
+    expect_equal(&rt, &steps.len(), &all.wrapping_sub(made));
     if let Some(stopped) = first.stopped {
         let due = Stopped {
             place: made,
             why: WorldRefusal::NoMemory,
         };
-        assert_eq!(rt; stopped, due);
+        expect_equal(&rt, &stopped, &due);
     }
     let rest = world.run_steps(&mut steps);
-    assert_eq!(rt; rest.stopped, None);
-    assert_eq!(rt; made.wrapping_add(rest.trace.len()), all);
+    expect_equal(&rt, &rest.stopped, &None);
+    expect_equal(&rt, &made.wrapping_add(rest.trace.len()), &all);
     Ok(())
 }

@@ -4,6 +4,7 @@ ghost use Rattle.channel_interleaving.specs.Floor.{IsQuiet};
 use super::ask::{Ask, R};
 use super::row::{quiet, run_rows, waking};
 use super::said::{Said, says};
+use crate::checks::expect_equal;
 use channel_world::name::{OpId, Waiter};
 use channel_world::settle::Settled;
 use channel_world::world::World;
@@ -29,10 +30,10 @@ fn compare(
         if said == Said::NoMemory && said != row.1 {
             return Err(Fail::from(AllocError));
         }
-        assert_eq!(rt; poll.name, row.0);
-        assert_eq!(rt; said, row.1);
+        expect_equal(rt, &poll.name, &row.0);
+        expect_equal(rt, &said, &row.1);
     }
-    assert_eq!(rt; settled.len(), polls.len());
+    expect_equal(rt, &settled.len(), &polls.len());
     Ok(())
 }
 
@@ -49,7 +50,7 @@ fn settle_so(
         return Err(Fail::from(AllocError));
     };
     compare(rt, settled.as_slice(), polls)?;
-    assert_eq!(rt; world.woken(), 0);
+    expect_equal(rt, &world.woken(), &0);
     Ok(())
 }
 
@@ -82,8 +83,8 @@ fn one_message_settles_two_of_three_receives(rt: HostRuntime) -> Result<(), Fail
     let mut world: World<u64> = World::bounded(rt.alloc(), 1, &mut ids)?;
     wake_one_of_three(&rt, &mut world)?;
     settle_so(&rt, &mut world, TWO_POLLS.as_slice())?;
-    assert_eq!(&rt; world.pending(), 2);
-    assert_eq!(&rt; world.messages(), 0);
+    expect_equal(&rt, &world.pending(), &2);
+    expect_equal(&rt, &world.messages(), &0);
     settle_so(&rt, &mut world, &[])
 }
 
@@ -96,7 +97,7 @@ fn settle_again(rt: &(impl AllocGlobal + Abort), world: &mut World<u64>) -> Resu
         Ok(settled) => compare(rt, settled.as_slice(), TWO_POLLS.as_slice()),
         Err(_) => {
             let numbers = (world.messages(), world.woken(), world.pending());
-            assert_eq!(rt; numbers, (1, 1, 3));
+            expect_equal(rt, &numbers, &(1, 1, 3));
             settle_so(rt, world, TWO_POLLS.as_slice())
         }
     }
@@ -110,9 +111,9 @@ fn a_refused_settling_changes_nothing(rt: HostRuntime) -> Result<(), Fail> {
     let mut world: World<u64> = World::bounded(rt.alloc(), 1, &mut ids)?;
     wake_one_of_three(&rt, &mut world)?;
     settle_again(&rt, &mut world)?;
-    assert_eq!(&rt; world.woken(), 0);
-    assert_eq!(&rt; world.pending(), 2);
-    assert_eq!(&rt; world.messages(), 0);
+    expect_equal(&rt, &world.woken(), &0);
+    expect_equal(&rt, &world.pending(), &2);
+    expect_equal(&rt, &world.messages(), &0);
     settle_so(&rt, &mut world, &[])
 }
 
@@ -127,7 +128,7 @@ fn a_woken_stream_is_settled_whose_receiver_is_borrowed(rt: HostRuntime) -> Resu
     ];
     run_rows(&rt, &mut world, &rows)?;
     settle_so(&rt, &mut world, &[(Waiter::Stream(R), Said::Received(1))])?;
-    assert_eq!(&rt; world.pending(), 0);
+    expect_equal(&rt, &world.pending(), &0);
     Ok(())
 }
 

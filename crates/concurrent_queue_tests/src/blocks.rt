@@ -1,5 +1,6 @@
 //! What calls of an unbounded queue do, step by step.
 
+use crate::checks::expect_equal;
 use crate::said::{Said, replied};
 use crate::turns::{begin, more};
 use concurrent_queue::call::{QueueAsk, QueueMark};
@@ -78,11 +79,12 @@ fn a_pop_waits_for_the_link_at_the_end_of_a_block(rt: HostRuntime) -> Result<(),
     ];
     drop(run);
     // 9 + 29 * 6 + 30 * 8 entries of the first thirty messages
-    assert_eq!(rt; all, (true, 423 + 34, 60 + 4));
-    assert_eq!(rt; marks, [true, true, true]);
-    assert_eq!(rt;
-        said,
-        [("yes", 0), ("pushed", 0), ("popped", 31), ("pushed", 0)]
+    expect_equal(&rt, &all, &(true, 423 + 34, 60 + 4));
+    expect_equal(&rt, &marks, &[true, true, true]);
+    expect_equal(
+        &rt,
+        &said,
+        &[("yes", 0), ("pushed", 0), ("popped", 31), ("pushed", 0)],
     );
     Ok(())
 }

@@ -1,5 +1,6 @@
 //! What errors say and hand back.
 
+use crate::checks::{expect_equal, expect_true};
 use concurrent_queue::error::{ForcePushError, NoMemory, PopError, PushError};
 use concurrent_queue::{
     QueueAsk, QueueEntry, QueueForm, QueueMark, QueueRefusal, QueueReply, QueueRun, QueueStep,
@@ -19,7 +20,7 @@ fn refusals_hand_the_message_back(rt: HostRuntime) -> std::result::Result<(), Fa
         ForcePushError::Closed(4).into_inner(),
         ForcePushError::NoMemory(5).into_inner(),
     ];
-    assert_eq!(rt; back, [1, 2, 3, 4, 5]);
+    expect_equal(&rt, &back, &[1, 2, 3, 4, 5]);
     Ok(())
 }
 
@@ -35,11 +36,11 @@ fn why_none(error: PopError) -> [bool; 2] {
 
 #[test]
 fn refusals_say_why(rt: HostRuntime) -> std::result::Result<(), Fail> {
-    assert_eq!(rt; why(PushError::Full(1)), [true, false]);
-    assert_eq!(rt; why(PushError::Closed(1)), [false, true]);
-    assert_eq!(rt; why(PushError::NoMemory(1)), [false, false]);
-    assert_eq!(rt; why_none(PopError::Empty), [true, false]);
-    assert_eq!(rt; why_none(PopError::Closed), [false, true]);
+    expect_equal(&rt, &why(PushError::Full(1)), &[true, false]);
+    expect_equal(&rt, &why(PushError::Closed(1)), &[false, true]);
+    expect_equal(&rt, &why(PushError::NoMemory(1)), &[false, false]);
+    expect_equal(&rt, &why_none(PopError::Empty), &[true, false]);
+    expect_equal(&rt, &why_none(PopError::Closed), &[false, true]);
     Ok(())
 }
 
@@ -57,7 +58,7 @@ fn refusals_are_compared_and_copied(rt: HostRuntime) -> std::result::Result<(), 
         is_itself(ForcePushError::Closed(1u64), ForcePushError::NoMemory(1))?,
         is_itself(PopError::Empty, PopError::Closed)?,
     ];
-    assert_eq!(rt; told_apart, [true; 4]);
+    expect_equal(&rt, &told_apart, &[true; 4]);
     Ok(())
 }
 
@@ -74,7 +75,7 @@ fn texts_of_a_push(rt: HostRuntime) -> std::result::Result<(), Fail> {
         says(alloc, &PushError::Closed(1u64), "Closed Closed(..)")?,
         says(alloc, &PushError::NoMemory(1u64), "NoMemory NoMemory(..)")?,
     ];
-    assert_eq!(rt; said, [true; 3]);
+    expect_equal(&rt, &said, &[true; 3]);
     Ok(())
 }
 
@@ -91,13 +92,13 @@ fn texts_of_a_displacing_push_and_of_a_pop(rt: HostRuntime) -> std::result::Resu
         says(alloc, &PopError::Empty, "Empty Empty")?,
         says(alloc, &PopError::Closed, "Closed Closed")?,
     ];
-    assert_eq!(rt; said, [true; 4]);
+    expect_equal(&rt, &said, &[true; 4]);
     Ok(())
 }
 
 #[test]
 fn want_of_memory_says_so(rt: HostRuntime) -> std::result::Result<(), Fail> {
-    assert!(rt; says(rt.alloc(), &NoMemory, "want of memory NoMemory")?);
+    expect_true(&rt, says(rt.alloc(), &NoMemory, "want of memory NoMemory")?);
     Ok(())
 }
 
@@ -150,15 +151,15 @@ fn steps_are_compared_and_shown(rt: HostRuntime) -> std::result::Result<(), Fail
     drop(step);
     let shown = shows(rt.alloc(), &begin, "Begin { party: 1, call: Pop }");
     drop(begin);
-    assert_eq!(rt; (compared, shown?), (true, true));
+    expect_equal(&rt, &(compared, shown?), &(true, true));
     Ok(())
 }
 
 #[test]
 fn forms_are_compared_and_shown(rt: HostRuntime) -> std::result::Result<(), Fail> {
     let form = QueueForm::Bounded(1);
-    assert!(rt; form != QueueForm::Unbounded);
-    assert!(rt; shows(rt.alloc(), &form, "Bounded(1)")?);
+    expect_true(&rt, form != QueueForm::Unbounded);
+    expect_true(&rt, shows(rt.alloc(), &form, "Bounded(1)")?);
     Ok(())
 }
 
@@ -180,10 +181,11 @@ fn runs_are_compared_and_shown(rt: HostRuntime) -> std::result::Result<(), Fail>
     drop(same);
     let text = texts_of(rt.alloc(), &run)?;
     drop(run);
-    assert!(rt; are_same);
-    assert_eq!(rt;
-        text.as_str(),
-        "QueueEntry { mark: Nothing, reply: Some(Pop(Err(Empty))) }\nSome(Stopped { place: 2, why: Idle })"
+    expect_true(&rt, are_same);
+    expect_equal(
+        &rt,
+        &text.as_str(),
+        &"QueueEntry { mark: Nothing, reply: Some(Pop(Err(Empty))) }\nSome(Stopped { place: 2, why: Idle })",
     );
     Ok(())
 }

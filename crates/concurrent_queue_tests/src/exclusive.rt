@@ -1,5 +1,6 @@
 //! What a queue of one owner answers, by worked examples.
 
+use crate::checks::{expect_equal, expect_true};
 use crate::said::{forced, popped, pushed};
 use crate::walks::{walk_to_the_end, walk_unread};
 use concurrent_queue::error::NoMemory;
@@ -29,24 +30,27 @@ fn one_slot_one_at_a_time(rt: HostRuntime) -> Result<(), Fail> {
         popped(&queue.pop()),
     ];
     drop(queue);
-    assert_eq!(rt;
-        (new, first, held),
-        ((Some(1), true), ("pushed", 0), (true, 1))
+    expect_equal(
+        &rt,
+        &(new, first, held),
+        &((Some(1), true), ("pushed", 0), (true, 1)),
     );
-    assert_eq!(rt;
-        then,
-        [
+    expect_equal(
+        &rt,
+        &then,
+        &[
             ("full", 20),
             ("displaced", 10),
             ("popped", 30),
             ("empty", 0),
-            ("forced", 0)
-        ]
+            ("forced", 0),
+        ],
     );
-    assert_eq!(rt; closing, [true, false, true]);
-    assert_eq!(rt;
-        after,
-        [("closed", 50), ("closed", 60), ("popped", 40), ("shut", 0)]
+    expect_equal(&rt, &closing, &[true, false, true]);
+    expect_equal(
+        &rt,
+        &after,
+        &[("closed", 50), ("closed", 60), ("popped", 40), ("shut", 0)],
     );
     Ok(())
 }
@@ -72,27 +76,29 @@ fn a_ring_displaces_its_oldest(rt: HostRuntime) -> Result<(), Fail> {
     ];
     drop(queue);
     let none = ("forced", 0);
-    assert_eq!(rt;
-        filled,
-        [
+    expect_equal(
+        &rt,
+        &filled,
+        &[
             none,
             none,
             none,
             ("full", 4),
             ("displaced", 1),
-            ("displaced", 2)
-        ]
+            ("displaced", 2),
+        ],
     );
-    assert_eq!(rt; held, (true, 3, true));
-    assert_eq!(rt;
-        after,
-        [
+    expect_equal(&rt, &held, &(true, 3, true));
+    expect_equal(
+        &rt,
+        &after,
+        &[
             ("closed", 7),
             ("popped", 3),
             ("popped", 5),
             ("popped", 6),
-            ("shut", 0)
-        ]
+            ("shut", 0),
+        ],
     );
     Ok(())
 }
@@ -103,7 +109,7 @@ fn a_capacity_too_great_is_refused(rt: HostRuntime) -> Result<(), Fail> {
         rt.alloc(),
         288_230_376_151_711_745,
     );
-    assert!(rt; refused.is_err());
+    expect_true(&rt, refused.is_err());
     Ok(())
 }
 
@@ -124,9 +130,18 @@ fn is_walked(alloc: Global, queue: &mut Exclusive<u64>) -> bool {
 
 #[test]
 fn walked_to_its_end_or_dropped_early(rt: HostRuntime) -> Result<(), Fail> {
-    assert!(rt; is_walked(rt.alloc(), &mut Exclusive::bounded(rt.alloc(), 1)?));
-    assert!(rt; is_walked(rt.alloc(), &mut Exclusive::bounded(rt.alloc(), 2)?));
-    assert!(rt; is_walked(rt.alloc(), &mut Exclusive::unbounded(rt.alloc())));
+    expect_true(
+        &rt,
+        is_walked(rt.alloc(), &mut Exclusive::bounded(rt.alloc(), 1)?),
+    );
+    expect_true(
+        &rt,
+        is_walked(rt.alloc(), &mut Exclusive::bounded(rt.alloc(), 2)?),
+    );
+    expect_true(
+        &rt,
+        is_walked(rt.alloc(), &mut Exclusive::unbounded(rt.alloc())),
+    );
     Ok(())
 }
 
@@ -144,7 +159,7 @@ fn a_walk_gives_the_messages_in_order(rt: HostRuntime) -> Result<(), Fail> {
     }
     right = right && queue.is_empty();
     drop(queue);
-    assert_eq!(rt; (right, next), (true, 100));
+    expect_equal(&rt, &(right, next), &(true, 100));
     Ok(())
 }
 
@@ -163,8 +178,8 @@ fn a_push_refused_for_memory_is_made_again(rt: HostRuntime) -> Result<(), Fail> 
     };
     let left = popped(&queue.pop());
     drop(queue);
-    assert!(rt; untouched);
-    assert_eq!(rt; [last, left], [("pushed", 0), ("popped", 5)]);
+    expect_true(&rt, untouched);
+    expect_equal(&rt, &[last, left], &[("pushed", 0), ("popped", 5)]);
     Ok(())
 }
 
@@ -178,7 +193,7 @@ fn one_at_a_time_takes_no_more_memory(rt: HostRuntime) -> Result<(), Fail> {
         right = right && queue.push(value).is_ok() && popped(&queue.pop()) == ("popped", value);
     }
     drop(queue);
-    assert!(rt; right);
+    expect_true(&rt, right);
     Ok(())
 }
 
@@ -212,7 +227,7 @@ fn what_is_left_is_dropped_once(rt: HostRuntime) -> Result<(), Fail> {
         copies_held(Exclusive::unbounded(alloc), &counted, [40, 0, 3])?,
     ];
     drop(counted);
-    assert_eq!(rt; held, [[1 + 1, 1], [1 + 2, 1], [1 + 37, 1]]);
+    expect_equal(&rt, &held, &[[1 + 1, 1], [1 + 2, 1], [1 + 37, 1]]);
     Ok(())
 }
 
@@ -234,8 +249,8 @@ fn messages_go_over_the_end_of_a_block_and_back(rt: HostRuntime) -> Result<(), F
     right = right && queue.close();
     let after = [pushed(&queue.push(7)), popped(&queue.pop())];
     drop(queue);
-    assert!(rt; right);
-    assert_eq!(rt; [one_more, none], [("forced", 0), ("empty", 0)]);
-    assert_eq!(rt; after, [("closed", 7), ("shut", 0)]);
+    expect_true(&rt, right);
+    expect_equal(&rt, &[one_more, none], &[("forced", 0), ("empty", 0)]);
+    expect_equal(&rt, &after, &[("closed", 7), ("shut", 0)]);
     Ok(())
 }

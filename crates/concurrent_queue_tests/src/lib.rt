@@ -6,6 +6,8 @@
 mod blocks;
 pub mod by_steps;
 #[cfg(test)]
+mod checks;
+#[cfg(test)]
 mod errors;
 #[cfg(test)]
 mod exclusive;

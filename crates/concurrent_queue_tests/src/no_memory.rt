@@ -1,6 +1,7 @@
 //! Calls of a queue of one owner that take no memory. `tools/refuse_growths.py --from concurrent_queue_tests no_memory::` refuses all
 //! requests from each one on: whatever was prepared before it, these calls answer as ever.
 
+use crate::checks::expect_equal;
 use crate::said::{Said, forced, popped, pushed};
 use concurrent_queue::exclusive::Exclusive;
 use std::alloc::AllocError;
@@ -31,10 +32,11 @@ fn empty_answers(queue: &mut Exclusive<u64>) -> ([bool; 6], [Said; 4]) {
 #[test]
 fn a_new_queue_without_a_bound_takes_no_memory(rt: HostRuntime) -> Result<(), Fail> {
     let (answers, said) = empty_answers(&mut Exclusive::unbounded(rt.alloc()));
-    assert_eq!(rt; answers, [true, false, true, true, true, false]);
-    assert_eq!(rt;
-        said,
-        [("empty", 0), ("closed", 5), ("closed", 6), ("shut", 0)]
+    expect_equal(&rt, &answers, &[true, false, true, true, true, false]);
+    expect_equal(
+        &rt,
+        &said,
+        &[("empty", 0), ("closed", 5), ("closed", 6), ("shut", 0)],
     );
     Ok(())
 }
@@ -62,7 +64,7 @@ fn a_queue_with_a_bound_takes_no_memory(rt: HostRuntime) -> Result<(), Fail> {
     drop(slot);
     drop(ring);
     let said = [("full", 8), ("displaced", 0)];
-    assert_eq!(rt; answers, [(said, true), (said, true)]);
+    expect_equal(&rt, &answers, &[(said, true), (said, true)]);
     Ok(())
 }
 
@@ -87,6 +89,6 @@ fn two_blocks_take_no_memory(rt: HostRuntime) -> Result<(), Fail> {
     if prepared < 31 {
         return Err(Fail::from(AllocError));
     }
-    assert_eq!(rt; served, 969);
+    expect_equal(&rt, &served, &969);
     Ok(())
 }

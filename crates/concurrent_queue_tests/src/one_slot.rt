@@ -1,5 +1,6 @@
 //! What calls of a queue of one slot do, step by step, and which steps a run refuses.
 
+use crate::checks::expect_equal;
 use crate::turns::{begin, check, more};
 use concurrent_queue::call::QueueAsk;
 use concurrent_queue::cells::QueueForm;
@@ -45,9 +46,9 @@ fn a_refused_step_stays_in_front(rt: HostRuntime) -> Result<(), Fail> {
     let idle = stopped_at(rt.alloc(), steps);
     let place = 2;
     let why = QueueRefusal::Busy;
-    assert_eq!(rt; busy, (Some(Stopped { place, why }), 1));
+    expect_equal(&rt, &busy, &(Some(Stopped { place, why }), 1));
     let place = 0;
     let why = QueueRefusal::Idle;
-    assert_eq!(rt; idle, (Some(Stopped { place, why }), 1));
+    expect_equal(&rt, &idle, &(Some(Stopped { place, why }), 1));
     Ok(())
 }

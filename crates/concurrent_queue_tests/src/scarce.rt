@@ -1,5 +1,6 @@
 //! What calls of a queue do where memory is wanted or positions come to their end, over cells of these tests' own.
 
+use crate::checks::{expect_equal, expect_true};
 use crate::said::{Said, replied};
 use concurrent_queue::call::{QueueAsk, QueueMark};
 use concurrent_queue::cells::{Cells, QueueForm, Slot, Word};
@@ -143,8 +144,8 @@ fn a_refused_push_changes_nothing(rt: HostRuntime) -> Result<(), Fail> {
     cells.left = 1;
     let passed = passes(&mut cells, 5, 6);
     drop(cells);
-    assert_eq!(rt; [refused, length], [("no memory", 5), ("holds", 0)]);
-    assert!(rt; passed);
+    expect_equal(&rt, &[refused, length], &[("no memory", 5), ("holds", 0)]);
+    expect_true(&rt, passed);
     Ok(())
 }
 
@@ -155,7 +156,7 @@ fn two_blocks_serve_one_message_at_a_time(rt: HostRuntime) -> Result<(), Fail> {
     cells.left = 0;
     let served = passes(&mut cells, 32, 1_001);
     drop(cells);
-    assert_eq!(rt; [prepared, served], [true, true]);
+    expect_equal(&rt, &[prepared, served], &[true, true]);
     Ok(())
 }
 
@@ -169,8 +170,8 @@ fn blocks_that_were_given_back_take_no_memory(rt: HostRuntime) -> Result<(), Fai
     let wanted = asked(&mut cells, QueueAsk::Push(216));
     let left = pops(&mut cells, 100, 216);
     drop(cells);
-    assert_eq!(rt; [made, served, left], [true, true, true]);
-    assert_eq!(rt; wanted, ("no memory", 216));
+    expect_equal(&rt, &[made, served, left], &[true, true, true]);
+    expect_equal(&rt, &wanted, &("no memory", 216));
     Ok(())
 }
 
@@ -187,11 +188,12 @@ fn a_refused_block_after_the_first_changes_nothing(rt: HostRuntime) -> Result<()
     let again = asked(&mut cells, QueueAsk::ForcePush(31));
     let left = pops(&mut cells, 0, 30) && pops(&mut cells, 31, 32);
     drop(cells);
-    assert_eq!(rt;
-        refused,
-        [("no memory", 30), ("holds", 30), ("no memory", 31)]
+    expect_equal(
+        &rt,
+        &refused,
+        &[("no memory", 30), ("holds", 30), ("no memory", 31)],
     );
-    assert_eq!(rt; (filled, again, left), (true, ("forced", 0), true));
+    expect_equal(&rt, &(filled, again, left), &(true, ("forced", 0), true));
     Ok(())
 }
 
@@ -222,7 +224,7 @@ fn each_block_refused_once_loses_nothing(rt: HostRuntime) -> Result<(), Fail> {
         *found = pushes_refused(rt.alloc(), blocks as u32)?;
     }
     let one = (1, true);
-    assert_eq!(rt; seen, [one, one, one, one, (0, true)]);
+    expect_equal(&rt, &seen, &[one, one, one, one, (0, true)]);
     Ok(())
 }
 
@@ -258,7 +260,7 @@ fn positions_at_their_end_close_the_queue(rt: HostRuntime) -> Result<(), Fail> {
     let mut cells = cells_with(rt.alloc(), 1)?;
     let seen = pushes_at_the_end(&mut cells, 0xffff_ffff_ffff_ff80);
     drop(cells);
-    assert_eq!(rt; seen, AT_THE_END);
+    expect_equal(&rt, &seen, &AT_THE_END);
     Ok(())
 }
 
@@ -271,7 +273,7 @@ fn laps_at_their_end_close_a_ring(rt: HostRuntime) -> Result<(), Fail> {
     };
     let seen = pushes_at_the_end(&mut cells, 0xffff_ffff_ffff_fff8);
     drop(cells);
-    assert_eq!(rt; seen, AT_THE_END);
+    expect_equal(&rt, &seen, &AT_THE_END);
     Ok(())
 }
 
@@ -296,20 +298,22 @@ fn questions_and_closing(rt: HostRuntime) -> Result<(), Fail> {
         asked(&mut cells, QueueAsk::Pop),
     ];
     drop(cells);
-    assert_eq!(rt; new, [("yes", 0), ("empty", 0)]);
-    assert_eq!(rt;
-        filled,
-        [
+    expect_equal(&rt, &new, &[("yes", 0), ("empty", 0)]);
+    expect_equal(
+        &rt,
+        &filled,
+        &[
             ("pushed", 0),
             ("no", 0),
             ("no", 0),
             ("no bound", 0),
-            ("holds", 1)
-        ]
+            ("holds", 1),
+        ],
     );
-    assert_eq!(rt;
-        closed,
-        [("closed it", 0), ("closed", 2), ("popped", 1), ("shut", 0)]
+    expect_equal(
+        &rt,
+        &closed,
+        &[("closed it", 0), ("closed", 2), ("popped", 1), ("shut", 0)],
     );
     Ok(())
 }

@@ -1,5 +1,6 @@
 //! What threads find in a shared queue.
 
+use crate::checks::expect_true;
 use concurrent_queue::error::{PopError, PushError};
 use concurrent_queue::shared::queue::ConcurrentQueue;
 use std::alloc::Global;
@@ -99,7 +100,7 @@ fn two_and_two<R: Threads + Wait + Sync>(
 fn each_message_is_found_once_and_in_order(rt: HostRuntime) -> Result<(), Fail> {
     for capacity in 1..5 {
         let queue = ConcurrentQueue::bounded(rt.alloc(), capacity)?;
-        assert!(rt; two_and_two(&rt, rt.alloc(), &queue));
+        expect_true(&rt, two_and_two(&rt, rt.alloc(), &queue));
     }
     Ok(())
 }
@@ -107,7 +108,7 @@ fn each_message_is_found_once_and_in_order(rt: HostRuntime) -> Result<(), Fail> 
 #[test]
 fn the_same_in_an_unbounded_queue(rt: HostRuntime) -> Result<(), Fail> {
     let queue = ConcurrentQueue::unbounded(rt.alloc())?;
-    assert!(rt; two_and_two(&rt, rt.alloc(), &queue));
+    expect_true(&rt, two_and_two(&rt, rt.alloc(), &queue));
     Ok(())
 }
 

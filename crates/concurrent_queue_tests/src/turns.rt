@@ -1,5 +1,6 @@
 //! Steps of a run, and what it makes of them.
 
+use crate::checks::expect_equal;
 use crate::said::{Said, replied};
 use concurrent_queue::call::{QueueAsk, QueueEntry, QueueMark};
 use concurrent_queue::run::{QueueRun, QueueStep};
@@ -78,7 +79,7 @@ pub(crate) fn check(
         has_replies(&run, replies),
     ];
     drop(run);
-    assert_eq!(rt; length, entries);
-    assert_eq!(rt; right, [true, true, true]);
+    expect_equal(&rt, &length, &entries);
+    expect_equal(&rt, &right, &[true, true, true]);
     Ok(())
 }

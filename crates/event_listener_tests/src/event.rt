@@ -1,5 +1,6 @@
 ghost use Rattle.std.specs.Prelude.{true};
 
+use crate::checks::expect_equal;
 use event_listener::error::{ListenError, NoMemory, NotifyError};
 use event_listener::event::Event;
 use event_listener::id::{EventIds, IdsUsedUp};
@@ -181,7 +182,7 @@ fn makes_tags<R: Wait + Copy>(
 #[test]
 fn a_notice_for_nobody_makes_no_tag(rt: HostRuntime) -> Result<(), Fail> {
     let made = made_for_whom(&rt, rt.alloc()).expect(&rt, "memory");
-    assert_eq!(rt; made, [(0, 0), (0, 0), (0, 0), (2, 2)]);
+    expect_equal(&rt, &made, &[(0, 0), (0, 0), (0, 0), (2, 2)]);
     Ok(())
 }
 
@@ -248,8 +249,8 @@ fn units<R: Wait + Copy>(rt: R, alloc: Global) -> Result<([usize; 5], [bool; 2],
 #[test]
 fn notices_of_units(rt: HostRuntime) -> Result<(), Fail> {
     let (told, notified, total) = units(&rt, rt.alloc()).expect(&rt, "memory");
-    assert_eq!(rt; told, [1, 0, 1, 1, 1]);
-    assert_eq!(rt; (notified, total), ([false, true], 4));
+    expect_equal(&rt, &told, &[1, 0, 1, 1, 1]);
+    expect_equal(&rt, &(notified, total), &([false, true], 4));
     Ok(())
 }
 
@@ -311,8 +312,12 @@ fn tags_run_out<R: Wait + Copy>(
 fn a_refused_tag_leaves_those_before_it_told(rt: HostRuntime) -> Result<(), Fail> {
     let task = MockTask::new(&rt)?;
     let (answer, polled) = tags_run_out(&rt, rt.alloc(), &task).expect(&rt, "memory");
-    assert_eq!(rt; answer, Err(NotifyError { told: 2 }));
-    assert_eq!(rt; polled, [Polled::Tag(1), Polled::Tag(0), Polled::Pending]);
+    expect_equal(&rt, &answer, &Err(NotifyError { told: 2 }));
+    expect_equal(
+        &rt,
+        &polled,
+        &[Polled::Tag(1), Polled::Tag(0), Polled::Pending],
+    );
     Ok(())
 }
 
@@ -327,23 +332,30 @@ fn rows(rt: HostRuntime) -> Result<(), Fail> {
     let (told, was_told, polled, late) = discarded(&rt, alloc, &task).expect(&rt, "memory");
     let nobody = a_notice_for_nobody(&rt, alloc, &task).expect(&rt, "memory");
     drop(task);
-    assert_eq!(rt;
-        both,
-        (
+    expect_equal(
+        &rt,
+        &both,
+        &(
             [1, 0, 1],
-            [Polled::Tag(()), Polled::Tag(()), Polled::Pending]
-        )
+            [Polled::Tag(()), Polled::Tag(()), Polled::Pending],
+        ),
     );
-    assert_eq!(rt;
-        left,
-        ([1, 1], [Polled::Tag(()), Polled::Tag(()), Polled::Pending])
+    expect_equal(
+        &rt,
+        &left,
+        &([1, 1], [Polled::Tag(()), Polled::Tag(()), Polled::Pending]),
     );
-    assert_eq!(rt;
-        tags,
-        (2, [Polled::Tag(10), Polled::Tag(11), Polled::Pending])
+    expect_equal(
+        &rt,
+        &tags,
+        &(2, [Polled::Tag(10), Polled::Tag(11), Polled::Pending]),
     );
-    assert_eq!(rt; passed, Polled::Tag(7));
-    assert_eq!(rt; (told, was_told, late), (1, true, false));
-    assert_eq!(rt; (polled, nobody), (Polled::Pending, (0, Polled::Pending)));
+    expect_equal(&rt, &passed, &Polled::Tag(7));
+    expect_equal(&rt, &(told, was_told, late), &(1, true, false));
+    expect_equal(
+        &rt,
+        &(polled, nobody),
+        &(Polled::Pending, (0, Polled::Pending)),
+    );
     Ok(())
 }

@@ -1,3 +1,4 @@
+use crate::checks::expect_true;
 use crate::event::Stuck;
 use event_listener::event::Event;
 use event_listener::id::EventIds;
@@ -31,6 +32,6 @@ fn six_events<R: Wait + Copy>(rt: R, alloc: Global) -> Result<bool, Stuck> {
 
 #[test]
 fn identities_tell_events_apart(rt: HostRuntime) -> Result<(), Fail> {
-    assert!(rt; six_events(&rt, rt.alloc()).expect(&rt, "memory"));
+    expect_true(&rt, six_events(&rt, rt.alloc()).expect(&rt, "memory"));
     Ok(())
 }

@@ -1,3 +1,4 @@
+use crate::checks::expect_equal;
 use event_listener::into_notification::IntoNotification;
 use event_listener::notify::Notification;
 use std::test::Fail;
@@ -17,7 +18,7 @@ fn each_integer_is_a_count(rt: HostRuntime) -> Result<(), Fail> {
         count_of(3u128),
         count_of(3usize),
     ];
-    assert_eq!(rt; unsigned, [3; 6]);
+    expect_equal(&rt, &unsigned, &[3; 6]);
     let signed = [
         count_of(3i8),
         count_of(3i16),
@@ -26,7 +27,7 @@ fn each_integer_is_a_count(rt: HostRuntime) -> Result<(), Fail> {
         count_of(3i128),
         count_of(3isize),
     ];
-    assert_eq!(rt; signed, [3; 6]);
+    expect_equal(&rt, &signed, &[3; 6]);
     let negative = [
         count_of(i8::MIN),
         count_of(i16::MIN),
@@ -35,14 +36,14 @@ fn each_integer_is_a_count(rt: HostRuntime) -> Result<(), Fail> {
         count_of(i128::MIN),
         count_of(isize::MIN),
     ];
-    assert_eq!(rt; negative, [0; 6]);
+    expect_equal(&rt, &negative, &[0; 6]);
     let greatest = [
         count_of(u64::MAX),
         count_of(u128::MAX),
         count_of(i128::MAX),
         count_of(usize::MAX),
     ];
-    assert_eq!(rt; greatest, [usize::MAX; 4]);
-    assert_eq!(rt; count_of(-1i8), 0);
+    expect_equal(&rt, &greatest, &[usize::MAX; 4]);
+    expect_equal(&rt, &count_of(-1i8), &0);
     Ok(())
 }

@@ -1,5 +1,6 @@
 //! What lists do, by worked examples.
 
+use crate::checks::{expect_equal, expect_true};
 use event_listener::calls::Registered;
 use event_listener::error::{ListenError, NoMemory, UnknownListener};
 use event_listener::key::Key;
@@ -88,9 +89,9 @@ fn tells_more_or_as_many(
         list.notify(more(1, 30), sink),
     ];
     let polled = [list.poll(keys[0]), list.poll(keys[1]), list.poll(keys[2])];
-    assert_eq!(rt; told, [Ok(1), Ok(0), Ok(1)]);
-    assert_eq!(rt; polled, [Ok(Some(10)), Ok(Some(30)), Ok(None)]);
-    assert_eq!(rt; sink.woken.len(), 0);
+    expect_equal(rt, &told, &[Ok(1), Ok(0), Ok(1)]);
+    expect_equal(rt, &polled, &[Ok(Some(10)), Ok(Some(30)), Ok(None)]);
+    expect_equal(rt, &sink.woken.len(), &0);
     Ok(())
 }
 
@@ -115,7 +116,10 @@ fn four_wait(rt: &impl Abort, list: &mut List<u32, u32>) -> Result<[Key; 4], Fai
     let mut name = 0u32;
     for key in keys {
         name = name.wrapping_add(1);
-        assert!(rt; matches!(list.register(key, name), Ok(Registered::Waiting)));
+        expect_true(
+            rt,
+            matches!(list.register(key, name), Ok(Registered::Waiting)),
+        );
     }
     Ok(keys)
 }
@@ -135,11 +139,11 @@ fn passes_its_notice_on(
     let left = list.remove(first, true, sink);
     let numbers = (list.told(), list.total());
     let tags = [list.poll(second), list.poll(third), list.poll(fourth)];
-    assert_eq!(rt; told, [Ok(1), Ok(1)]);
-    assert_eq!(rt; left, Ok(true));
-    assert_eq!(rt; sink.woken.as_slice(), [1, 2, 3].as_slice());
-    assert_eq!(rt; numbers, (2, 3));
-    assert_eq!(rt; tags, [Ok(Some(20)), Ok(Some(10)), Ok(None)]);
+    expect_equal(rt, &told, &[Ok(1), Ok(1)]);
+    expect_equal(rt, &left, &Ok(true));
+    expect_equal(rt, &sink.woken.as_slice(), &[1, 2, 3].as_slice());
+    expect_equal(rt, &numbers, &(2, 3));
+    expect_equal(rt, &tags, &[Ok(Some(20)), Ok(Some(10)), Ok(None)]);
 }
 
 #[test]
@@ -200,9 +204,9 @@ fn a_run_answers_as_its_calls_do_one_by_one(rt: HostRuntime) -> Result<(), Fail>
     let mut calls = VecDeque::new(rt.alloc());
     told_listener_leaves(&rt, &mut calls)?;
     let run = list.run(rt.alloc(), &mut calls, &mut sink);
-    assert!(rt; run.stopped.is_none());
-    assert_eq!(rt; calls.len(), 0);
-    assert_eq!(rt; run.replies.len(), 15);
+    expect_true(&rt, run.stopped.is_none());
+    expect_equal(&rt, &calls.len(), &0);
+    expect_equal(&rt, &run.replies.len(), &15);
     for (place, reply) in run.replies.iter().enumerate() {
         let right = match reply {
             ListReply::Insert(Ok(_)) => place < 4,
@@ -217,7 +221,7 @@ fn a_run_answers_as_its_calls_do_one_by_one(rt: HostRuntime) -> Result<(), Fail>
         };
         assert!(rt; right, "at {place}");
     }
-    assert_eq!(rt; sink.woken.as_slice(), [1, 2, 3].as_slice());
+    expect_equal(&rt, &sink.woken.as_slice(), &[1, 2, 3].as_slice());
     Ok(())
 }
 
@@ -239,16 +243,19 @@ fn a_run_tells_no_more_than_it_has_tags(rt: HostRuntime) -> Result<(), Fail> {
         tags,
     })?;
     let run = list.run(rt.alloc(), &mut calls, &mut sink);
-    assert!(rt; run.stopped.is_none());
-    assert_eq!(rt; run.replies.len(), 4);
-    assert!(rt; matches!(run.replies.first(), Some(ListReply::Reserve(Ok(())))));
+    expect_true(&rt, run.stopped.is_none());
+    expect_equal(&rt, &run.replies.len(), &4);
+    expect_true(
+        &rt,
+        matches!(run.replies.first(), Some(ListReply::Reserve(Ok(())))),
+    );
     let refused = match run.replies.last() {
         Some(ListReply::Notify(Err(error))) => error.told == 1,
         _ => false,
     };
-    assert!(rt; refused);
-    assert_eq!(rt; list.told(), 1);
-    assert_eq!(rt; list.total(), 2);
+    expect_true(&rt, refused);
+    expect_equal(&rt, &list.told(), &1);
+    expect_equal(&rt, &list.total(), &2);
     Ok(())
 }
 
@@ -261,11 +268,11 @@ fn gives_tags_in_order(
     let first = list.insert()?;
     let second = list.insert()?;
     let third = list.insert()?;
-    assert_eq!(rt; list.notify(at_least(2, 10), sink), Ok(2));
-    assert_eq!(rt; list.poll(first), Ok(Some(10)));
-    assert_eq!(rt; list.poll(second), Ok(Some(11)));
-    assert_eq!(rt; list.poll(third), Ok(None));
-    assert_eq!(rt; list.poll(second), Err(UnknownListener));
+    expect_equal(rt, &list.notify(at_least(2, 10), sink), &Ok(2));
+    expect_equal(rt, &list.poll(first), &Ok(Some(10)));
+    expect_equal(rt, &list.poll(second), &Ok(Some(11)));
+    expect_equal(rt, &list.poll(third), &Ok(None));
+    expect_equal(rt, &list.poll(second), &Err(UnknownListener));
     Ok(())
 }
 
@@ -286,10 +293,10 @@ fn a_passed_notice_keeps_its_tag(rt: HostRuntime) -> Result<(), Fail> {
         woken: Vec::new(rt.alloc()),
     };
     let first = list.insert()?;
-    assert_eq!(rt; list.notify(at_least(1, 7), &mut sink), Ok(1));
+    expect_equal(&rt, &list.notify(at_least(1, 7), &mut sink), &Ok(1));
     let second = list.insert()?;
-    assert_eq!(rt; list.remove(first, true, &mut sink), Ok(true));
-    assert_eq!(rt; list.poll(second), Ok(Some(7)));
+    expect_equal(&rt, &list.remove(first, true, &mut sink), &Ok(true));
+    expect_equal(&rt, &list.poll(second), &Ok(Some(7)));
     Ok(())
 }
 
@@ -297,11 +304,11 @@ fn a_passed_notice_keeps_its_tag(rt: HostRuntime) -> Result<(), Fail> {
 fn is_taken_off(rt: &impl Abort, list: &mut List<u32, u32>, sink: &mut Names) -> Result<(), Fail> {
     let first = list.insert()?;
     let second = list.insert()?;
-    assert_eq!(rt; list.notify(at_least(1, 7), sink), Ok(1));
-    assert_eq!(rt; list.remove(first, false, sink), Ok(true));
-    assert_eq!(rt; list.poll(second), Ok(None));
-    assert_eq!(rt; list.remove(second, false, sink), Ok(false));
-    assert_eq!(rt; list.total(), 0);
+    expect_equal(rt, &list.notify(at_least(1, 7), sink), &Ok(1));
+    expect_equal(rt, &list.remove(first, false, sink), &Ok(true));
+    expect_equal(rt, &list.poll(second), &Ok(None));
+    expect_equal(rt, &list.remove(second, false, sink), &Ok(false));
+    expect_equal(rt, &list.total(), &0);
     Ok(())
 }
 
@@ -321,9 +328,9 @@ fn a_notice_for_nobody_is_not_kept(rt: HostRuntime) -> Result<(), Fail> {
     let mut sink = Names {
         woken: Vec::new(rt.alloc()),
     };
-    assert_eq!(rt; list.notify(at_least(5, 7), &mut sink), Ok(0));
+    expect_equal(&rt, &list.notify(at_least(5, 7), &mut sink), &Ok(0));
     let first = list.insert()?;
-    assert_eq!(rt; list.poll(first), Ok(None));
+    expect_equal(&rt, &list.poll(first), &Ok(None));
     Ok(())
 }
 
@@ -364,10 +371,10 @@ fn a_key_of_one_that_left_is_refused(rt: HostRuntime) -> Result<(), Fail> {
     let told = left_and_replaced(&mut list, &mut sink, true)?;
     let left = list.total();
     drop(list);
-    assert_eq!(rt; untold, ([true, true, true, true], [1, 1], true));
-    assert_eq!(rt; told, ([true, true, true, true], [1, 1], true));
-    assert_eq!(rt; left, 0);
-    assert_eq!(rt; sink.woken.as_slice(), [2, 2].as_slice());
+    expect_equal(&rt, &untold, &([true, true, true, true], [1, 1], true));
+    expect_equal(&rt, &told, &([true, true, true, true], [1, 1], true));
+    expect_equal(&rt, &left, &0);
+    expect_equal(&rt, &sink.woken.as_slice(), &[2, 2].as_slice());
     Ok(())
 }
 
@@ -378,10 +385,16 @@ fn the_newer_task_is_woken(rt: HostRuntime) -> Result<(), Fail> {
         woken: Vec::new(rt.alloc()),
     };
     let key = list.insert()?;
-    assert!(rt; matches!(list.register(key, 1), Ok(Registered::Waiting)));
-    assert!(rt; matches!(list.register(key, 2), Ok(Registered::Waiting)));
-    assert_eq!(rt; list.notify(at_least(1, 7), &mut sink), Ok(1));
-    assert_eq!(rt; sink.woken.as_slice(), [2].as_slice());
+    expect_true(
+        &rt,
+        matches!(list.register(key, 1), Ok(Registered::Waiting)),
+    );
+    expect_true(
+        &rt,
+        matches!(list.register(key, 2), Ok(Registered::Waiting)),
+    );
+    expect_equal(&rt, &list.notify(at_least(1, 7), &mut sink), &Ok(1));
+    expect_equal(&rt, &sink.woken.as_slice(), &[2].as_slice());
     Ok(())
 }
 
@@ -390,10 +403,10 @@ fn reserved_room_takes_as_many_insertions(rt: HostRuntime) -> Result<(), Fail> {
     let mut list: List<u32, u32> = List::new(rt.alloc());
     list.reserve(100)?;
     for _ in 0..100 {
-        assert!(rt; list.insert().is_ok());
+        expect_true(&rt, list.insert().is_ok());
     }
-    assert_eq!(rt; list.total(), 100);
-    assert_eq!(rt; list.told(), 0);
+    expect_equal(&rt, &list.total(), &100);
+    expect_equal(&rt, &list.told(), &0);
     Ok(())
 }
 
@@ -455,9 +468,9 @@ fn visits_few(
     let none = list.notify(more(1, 7), sink);
     let visits = list.last_visits();
     let numbers = (list.told(), sink.woken.len());
-    assert!(rt; waits && left && told && odd_ones_woken(sink));
-    assert_eq!(rt; (none, visits), (Ok(0), 0));
-    assert_eq!(rt; (total, numbers), (5_000, (5_000, 5_000)));
+    expect_true(rt, waits && left && told && odd_ones_woken(sink));
+    expect_equal(rt, &(none, visits), &(Ok(0), 0));
+    expect_equal(rt, &(total, numbers), &(5_000, (5_000, 5_000)));
     Ok(())
 }
 
@@ -516,8 +529,8 @@ fn visits_few_of_told_ones(
     let half = (list.told(), list.total());
     let registered = others_register(list, keys);
     let last = (list.told(), list.total());
-    assert!(rt; told && replaced && registered);
-    assert_eq!(rt; [half, last], [(2_500, 10_000), (0, 7_500)]);
+    expect_true(rt, told && replaced && registered);
+    expect_equal(rt, &[half, last], &[(2_500, 10_000), (0, 7_500)]);
     Ok(())
 }
 
@@ -546,13 +559,13 @@ fn a_refused_growth_leaves_the_list_as_it_was(rt: HostRuntime) -> Result<(), Fai
             Ok(_) => inserted = inserted.wrapping_add(1),
             Err(_) => refused = refused.wrapping_add(1),
         }
-        assert_eq!(rt; list.total(), inserted);
+        expect_equal(&rt, &list.total(), &inserted);
     }
-    assert_eq!(rt; inserted.wrapping_add(refused), 100);
-    assert!(rt; refused <= 1);
+    expect_equal(&rt, &inserted.wrapping_add(refused), &100);
+    expect_true(&rt, refused <= 1);
     let answer = list.notify(more(1_000, 0), &mut sink);
-    assert_eq!(rt; answer, Ok(inserted));
-    assert_eq!(rt; list.told(), inserted);
+    expect_equal(&rt, &answer, &Ok(inserted));
+    expect_equal(&rt, &list.told(), &inserted);
     Ok(())
 }
 
@@ -576,12 +589,13 @@ fn counts_insertions(
     let polled = list.poll(first);
     list.reserve(100)?;
     let numbers = (list.told(), list.total());
-    assert!(rt; registered && told == Ok(1) && polled == Ok(Some(10)));
-    assert_eq!(rt;
-        [alone, behind, own, moved, list.last_visits()],
-        [0, 1, 0, 2, 2]
+    expect_true(rt, registered && told == Ok(1) && polled == Ok(Some(10)));
+    expect_equal(
+        rt,
+        &[alone, behind, own, moved, list.last_visits()],
+        &[0, 1, 0, 2, 2],
     );
-    assert_eq!(rt; numbers, (0, 3));
+    expect_equal(rt, &numbers, &(0, 3));
     Ok([second, third, fourth])
 }
 
@@ -593,10 +607,10 @@ fn counts_removals(
     third: Key,
     fourth: Key,
 ) {
-    assert_eq!(rt; list.remove(third, false, sink), Ok(false));
-    assert_eq!(rt; list.last_visits(), 2);
-    assert_eq!(rt; list.remove(fourth, false, sink), Ok(false));
-    assert_eq!(rt; list.last_visits(), 1);
+    expect_equal(rt, &list.remove(third, false, sink), &Ok(false));
+    expect_equal(rt, &list.last_visits(), &2);
+    expect_equal(rt, &list.remove(fourth, false, sink), &Ok(false));
+    expect_equal(rt, &list.last_visits(), &1);
 }
 
 /// One behind another told one: its own node is read and written, and no other. A told one that passes its notice on tells the next,
@@ -616,10 +630,14 @@ fn counts_told_ones(
     let left = list.remove(second, true, sink);
     let passed = list.last_visits();
     let polled = [list.poll(third), list.poll(first)];
-    assert_eq!(rt; [told, told_next], [Ok(1), Ok(1)]);
-    assert_eq!(rt; left, Ok(true));
-    assert_eq!(rt; polled, [Ok(Some(30)), Ok(Some(20))]);
-    assert_eq!(rt; [one, behind, passed, list.last_visits()], [2, 2, 4, 4]);
+    expect_equal(rt, &[told, told_next], &[Ok(1), Ok(1)]);
+    expect_equal(rt, &left, &Ok(true));
+    expect_equal(rt, &polled, &[Ok(Some(30)), Ok(Some(20))]);
+    expect_equal(
+        rt,
+        &[one, behind, passed, list.last_visits()],
+        &[2, 2, 4, 4],
+    );
     Ok(())
 }
 

@@ -1,3 +1,4 @@
+use crate::checks::{expect_equal, expect_true};
 use crate::event::{Polled, Stuck, event, poll};
 use event_listener::event::Event;
 use event_listener::into_notification::IntoNotification;
@@ -62,12 +63,12 @@ fn finished<R: Wait + Clock + Copy>(
 fn waits(rt: HostRuntime) -> Result<(), Fail> {
     let task = MockTask::new(&rt)?;
     let alloc = rt.alloc();
-    assert_eq!(rt; waited(&rt, alloc).expect(&rt, "memory"), Some(5));
+    expect_equal(&rt, &waited(&rt, alloc).expect(&rt, "memory"), &Some(5));
     let (zero, present, tag, left) = out_of_time(&rt, alloc).expect(&rt, "memory");
-    assert_eq!(rt; (zero, present, tag, left), (true, true, Some(6), 0));
+    expect_equal(&rt, &(zero, present, tag, left), &(true, true, Some(6), 0));
     let (polled, handed_back, same) = finished(&rt, alloc, &task).expect(&rt, "memory");
-    assert_eq!(rt; polled, [Polled::Tag(()), Polled::Finished]);
-    assert!(rt; handed_back && same);
+    expect_equal(&rt, &polled, &[Polled::Tag(()), Polled::Finished]);
+    expect_true(&rt, handed_back && same);
     Ok(())
 }
 
@@ -99,15 +100,17 @@ fn polled_by_hand<R: Wait + Copy>(
 #[test]
 fn a_second_poll_is_silent(rt: HostRuntime) -> Result<(), Fail> {
     let task = MockTask::new(&rt)?;
-    assert_eq!(rt;
-        told_twice(&rt, rt.alloc(), &task).expect(&rt, "memory"),
-        [true; 5]
+    expect_equal(
+        &rt,
+        &told_twice(&rt, rt.alloc(), &task).expect(&rt, "memory"),
+        &[true; 5],
     );
     let other = MockTask::new(&rt)?;
     // By hand the waker of the first poll is let go at the second one.
-    assert_eq!(rt;
-        polled_by_hand(&rt, rt.alloc(), &other).expect(&rt, "memory"),
-        [true, true]
+    expect_equal(
+        &rt,
+        &polled_by_hand(&rt, rt.alloc(), &other).expect(&rt, "memory"),
+        &[true, true],
     );
     Ok(())
 }
@@ -176,9 +179,9 @@ fn no_notice_is_lost(rt: HostRuntime) -> Result<(), Fail> {
     let event: Event<()> = event(rt.alloc()).expect(&rt, "memory");
     for _ in 0..1000 {
         let (told, went_on) = four_threads(rt, &event).expect(&rt, "memory");
-        assert_eq!(rt; (told, went_on), (2, 2));
+        expect_equal(&rt, &(told, went_on), &(2, 2));
     }
-    assert_eq!(rt; event.total_listeners(&rt), 0);
+    expect_equal(&rt, &event.total_listeners(&rt), &0);
     Ok(())
 }
 
@@ -225,10 +228,15 @@ fn dropped_elsewhere<R: Wait + Threads + Copy + Send + Sync>(
 #[test]
 fn threads(rt: HostRuntime) -> Result<(), Fail> {
     let task = MockTask::new(&rt)?;
-    assert_eq!(rt; parked(rt, rt.alloc()).expect(&rt, "memory"), (true, 1));
-    assert_eq!(rt;
-        dropped_elsewhere(rt, rt.alloc(), &task).expect(&rt, "memory"),
-        Polled::Tag(7)
+    expect_equal(
+        &rt,
+        &parked(rt, rt.alloc()).expect(&rt, "memory"),
+        &(true, 1),
+    );
+    expect_equal(
+        &rt,
+        &dropped_elsewhere(rt, rt.alloc(), &task).expect(&rt, "memory"),
+        &Polled::Tag(7),
     );
     Ok(())
 }

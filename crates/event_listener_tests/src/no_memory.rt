@@ -1,6 +1,7 @@
 //! What takes no memory of identities, events and lists. `tools/refuse_growths.py --from event_listener_tests no_memory` refuses all
 //! requests from each one on: whatever was prepared before it, this answers as ever.
 
+use crate::checks::expect_equal;
 use crate::event::Stuck;
 use event_listener::calls::Registered;
 use event_listener::event::Event;
@@ -28,7 +29,7 @@ fn makes<R: Wait>(rt: &R, alloc: Global) -> Result<[bool; 3], Stuck> {
 #[test]
 fn identities_and_events_take_no_memory(rt: HostRuntime) -> Result<(), Fail> {
     let right = makes(&rt, rt.alloc()).expect(&rt, "identities");
-    assert_eq!(rt; right, [true, true, true]);
+    expect_equal(&rt, &right, &[true, true, true]);
     Ok(())
 }
 
@@ -63,8 +64,12 @@ fn notices_of_plain_counts_take_no_memory(rt: HostRuntime) -> Result<(), Fail> {
     let seen = tells(rt, &event, all);
     let left = event.total_listeners(&rt);
     drop(event);
-    assert_eq!(rt; seen, ([1, 0, 1, 1], [true, true], [true, true, true]));
-    assert_eq!(rt; left, 0);
+    expect_equal(
+        &rt,
+        &seen,
+        &([1, 0, 1, 1], [true, true], [true, true, true]),
+    );
+    expect_equal(&rt, &left, &0);
     Ok(())
 }
 
@@ -117,6 +122,6 @@ fn reserved_room_takes_no_memory(rt: HostRuntime) -> Result<(), Fail> {
     if !reserved {
         return Err(Fail::from(AllocError));
     }
-    assert_eq!(rt; seen, (100, [7, 3], 9, 10));
+    expect_equal(&rt, &seen, &(100, [7, 3], 9, 10));
     Ok(())
 }

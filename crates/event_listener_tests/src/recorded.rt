@@ -1,3 +1,4 @@
+use crate::checks::{expect_equal, expect_true};
 use crate::event::Scarce;
 use event_listener::calls::Registered;
 use event_listener::error::{NotifyError, UnknownListener};
@@ -61,11 +62,11 @@ fn first_row<R: Wait>(rt: &R, alloc: Global) -> Option<([usize; 3], [bool; 3], V
 #[test]
 fn recorded_row(rt: HostRuntime) -> Result<(), Fail> {
     let (told, polled, woken, calls) = first_row(&rt, rt.alloc()).expect(&rt, "memory");
-    assert_eq!(rt; told, [1, 0, 1]);
-    assert_eq!(rt; polled, [true, true, false]);
-    assert_eq!(rt; woken.as_slice(), [1, 2].as_slice());
+    expect_equal(&rt, &told, &[1, 0, 1]);
+    expect_equal(&rt, &polled, &[true, true, false]);
+    expect_equal(&rt, &woken.as_slice(), &[1, 2].as_slice());
     // Three listened, three registered, two notices that told somebody, two polls that took a tag.
-    assert_eq!(rt; calls, 10);
+    expect_equal(&rt, &calls, &10);
     Ok(())
 }
 
@@ -128,8 +129,8 @@ fn told_ones_leave<R: Wait>(
 #[test]
 fn what_was_done_is_recorded(rt: HostRuntime) -> Result<(), Fail> {
     let (woken, calls, told) = told_ones_leave(&rt, rt.alloc()).expect(&rt, "memory");
-    assert_eq!(rt; woken.as_slice(), [1, 2, 3, 4].as_slice());
-    assert_eq!(rt; (calls.len(), told), (14, 1));
+    expect_equal(&rt, &woken.as_slice(), &[1, 2, 3, 4].as_slice());
+    expect_equal(&rt, &(calls.len(), told), &(14, 1));
     for (place, call) in calls.iter().enumerate() {
         let right = match call {
             RecordedCall::Listened { .. } => place < 4,
@@ -184,7 +185,7 @@ fn tags_come_in_turn(rt: HostRuntime) -> Result<(), Fail> {
         _ => false,
     };
     drop(calls);
-    assert_eq!(rt; polled, [Some(10), Some(11)]);
-    assert!(rt; waits && recorded);
+    expect_equal(&rt, &polled, &[Some(10), Some(11)]);
+    expect_true(&rt, waits && recorded);
     Ok(())
 }

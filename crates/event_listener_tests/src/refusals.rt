@@ -3,6 +3,7 @@
 
 ghost use Rattle.std.specs.Prelude.{◌≡◌};
 
+use crate::checks::expect_true;
 use crate::event::Stuck;
 use event_listener::error::{ListenError, NotifyError};
 use event_listener::event::Event;
@@ -163,6 +164,6 @@ fn a_refused_growth_has_a_name_and_loses_nothing(rt: HostRuntime) -> Result<(), 
         assert!(rt; one.right, "at {place}");
         refused = refused.wrapping_add(one.refused);
     }
-    assert!(rt; refused <= 1);
+    expect_true(&rt, refused <= 1);
     Ok(())
 }

@@ -1,3 +1,4 @@
+use crate::checks::expect_equal;
 use crate::event::{Polled, Stuck, event, poll};
 use event_listener::event::Event;
 use event_listener::into_notification::IntoNotification;
@@ -70,8 +71,8 @@ fn one_slot<R: Wait + Clock + Copy>(
 fn a_slot_listens_again(rt: HostRuntime) -> Result<(), Fail> {
     let task = MockTask::new(&rt)?;
     let (tag, ended, seen, left) = one_slot(&rt, rt.alloc(), &task).expect(&rt, "memory");
-    assert_eq!(rt; (tag, ended, left), (Some(4), true, 0));
-    assert_eq!(rt; seen, [true; 3]);
+    expect_equal(&rt, &(tag, ended, left), &(Some(4), true, 0));
+    expect_equal(&rt, &seen, &[true; 3]);
     Ok(())
 }
 
@@ -79,7 +80,11 @@ fn a_slot_listens_again(rt: HostRuntime) -> Result<(), Fail> {
 fn slots(rt: HostRuntime) -> Result<(), Fail> {
     let task = MockTask::new(&rt)?;
     let (told, polled) = in_slots(&rt, rt.alloc(), &task).expect(&rt, "memory");
-    assert_eq!(rt; told, [1, 0, 1]);
-    assert_eq!(rt; polled, [Polled::Tag(()), Polled::Tag(()), Polled::Pending]);
+    expect_equal(&rt, &told, &[1, 0, 1]);
+    expect_equal(
+        &rt,
+        &polled,
+        &[Polled::Tag(()), Polled::Tag(()), Polled::Pending],
+    );
     Ok(())
 }

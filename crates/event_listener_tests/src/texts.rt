@@ -1,5 +1,6 @@
 //! What the refusals of this crate print.
 
+use crate::checks::{expect_equal, expect_true};
 use event_listener::error::{ListenError, NoMemory, NotifyError, UnknownListener};
 use event_listener::id::IdsUsedUp;
 use event_listener::key::Key;
@@ -43,7 +44,7 @@ fn refusals_say_why(rt: HostRuntime) -> Result<(), Fail> {
         prints(&rt, RegisterError::NoMemory, "want of memory")?,
         prints(&rt, RegisterError::UnknownListener, "no such listener")?,
     ];
-    assert_eq!(rt; all, [true; 9]);
+    expect_equal(&rt, &all, &[true; 9]);
     Ok(())
 }
 
@@ -51,15 +52,17 @@ fn refusals_say_why(rt: HostRuntime) -> Result<(), Fail> {
 fn waits_that_did_not_begin_say_why(rt: HostRuntime) -> Result<(), Fail> {
     let memory = WaitError::NoMemory(5u8);
     let finished = WaitError::NeverInserted(6u8);
-    assert_eq!(rt;
-        format!(in rt.alloc(); "{memory} {memory:?}")?.as_str(),
-        "want of memory NoMemory(..)"
+    expect_equal(
+        &rt,
+        &format!(in rt.alloc(); "{memory} {memory:?}")?.as_str(),
+        &"want of memory NoMemory(..)",
     );
-    assert_eq!(rt;
-        format!(in rt.alloc(); "{finished} {finished:?}")?.as_str(),
-        "the listener has given its tag NeverInserted(..)"
+    expect_equal(
+        &rt,
+        &format!(in rt.alloc(); "{finished} {finished:?}")?.as_str(),
+        &"the listener has given its tag NeverInserted(..)",
     );
-    assert_eq!(rt; (memory.into_inner(), finished.into_inner()), (5, 6));
+    expect_equal(&rt, &(memory.into_inner(), finished.into_inner()), &(5, 6));
     Ok(())
 }
 
@@ -89,8 +92,8 @@ fn calls_are_compared_and_shown(rt: HostRuntime) -> Result<(), Fail> {
     let text = format!(in rt.alloc(); "{poll:?}")?;
     drop(insert);
     drop(poll);
-    assert!(rt; compared);
-    assert_eq!(rt; text.as_str(), "Poll { listener: Place(0) }");
+    expect_true(&rt, compared);
+    expect_equal(&rt, &text.as_str(), &"Poll { listener: Place(0) }");
     Ok(())
 }
 
@@ -129,10 +132,11 @@ fn runs_are_compared_and_shown(rt: HostRuntime) -> Result<(), Fail> {
     drop(run);
     drop(same);
     drop(stopped);
-    assert_eq!(rt; compared, (true, true));
-    assert_eq!(rt;
-        text.as_str(),
-        "[Insert(Ok(Key { slot: 0, serial: 0 })), Poll(Ok(None))] ListRun { replies: [], stopped: Some(NoMemory) }"
+    expect_equal(&rt, &compared, &(true, true));
+    expect_equal(
+        &rt,
+        &text.as_str(),
+        &"[Insert(Ok(Key { slot: 0, serial: 0 })), Poll(Ok(None))] ListRun { replies: [], stopped: Some(NoMemory) }",
     );
     Ok(())
 }
@@ -140,15 +144,16 @@ fn runs_are_compared_and_shown(rt: HostRuntime) -> Result<(), Fail> {
 #[test]
 fn records_are_compared_and_shown(rt: HostRuntime) -> Result<(), Fail> {
     let event: RecordedEvent<u8, u8> = RecordedEvent::new(rt.alloc());
-    assert!(rt; event.insert(&rt).is_ok());
+    expect_true(&rt, event.insert(&rt).is_ok());
     let (_, calls) = event.into_parts();
     let key = first_key(&rt)?;
     let listened = RecordedCall::Listened { key };
-    assert!(rt; listened != RecordedCall::Polled { key, tag: 1 });
-    assert!(rt; calls.as_slice() == [listened].as_slice());
-    assert_eq!(rt;
-        format!(in rt.alloc(); "{:?}", calls)?.as_str(),
-        "[Listened { key: Key { slot: 0, serial: 0 } }]"
+    expect_true(&rt, listened != RecordedCall::Polled { key, tag: 1 });
+    expect_true(&rt, calls.as_slice() == [listened].as_slice());
+    expect_equal(
+        &rt,
+        &format!(in rt.alloc(); "{:?}", calls)?.as_str(),
+        &"[Listened { key: Key { slot: 0, serial: 0 } }]",
     );
     Ok(())
 }

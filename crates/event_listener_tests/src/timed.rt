@@ -1,5 +1,6 @@
 //! Waits with a timeout, measured on the clock and among threads.
 
+use crate::checks::expect_equal;
 use crate::event::{Stuck, event};
 use event_listener::event::Event;
 use event_listener::into_notification::IntoNotification;
@@ -40,7 +41,7 @@ fn told_in_time<R: Wait + Threads + Clock + Copy + Send + Sync>(
 #[test]
 fn a_wait_that_is_told_in_time_gives_the_tag(rt: HostRuntime) -> Result<(), Fail> {
     let (told, tag, soon) = told_in_time(rt, rt.alloc()).expect(&rt, "memory");
-    assert_eq!(rt; (told, tag, soon), (1, Some(8), true));
+    expect_equal(&rt, &(told, tag, soon), &(1, Some(8), true));
     Ok(())
 }
 
@@ -65,9 +66,10 @@ fn time_passes<R: Wait + Clock + Copy>(rt: R, alloc: Global) -> Result<[bool; 3]
 
 #[test]
 fn a_wait_gives_nothing_before_its_time(rt: HostRuntime) -> Result<(), Fail> {
-    assert_eq!(rt;
-        time_passes(&rt, rt.alloc()).expect(&rt, "memory"),
-        [true; 3]
+    expect_equal(
+        &rt,
+        &time_passes(&rt, rt.alloc()).expect(&rt, "memory"),
+        &[true; 3],
     );
     Ok(())
 }
@@ -124,7 +126,7 @@ fn races<R: Wait + Threads + Clock + Copy + Send + Sync>(
 fn each_listener_that_was_told_wakes_with_its_tag(rt: HostRuntime) -> Result<(), Fail> {
     let event: Event<()> = event(rt.alloc()).expect(&rt, "memory");
     let (woken, told) = races(rt, &event);
-    assert_eq!(rt; woken, told);
-    assert_eq!(rt; event.total_listeners(&rt), 0);
+    expect_equal(&rt, &woken, &told);
+    expect_equal(&rt, &event.total_listeners(&rt), &0);
     Ok(())
 }

@@ -1,5 +1,6 @@
 //! Planted wrong histories, each beside one that is like it and right.
 
+use crate::checks::expect_equal;
 use history_checker::log::Log;
 use history_checker::order::{Verdict, judge};
 use history_checker::plain::Plain;
@@ -43,8 +44,8 @@ fn a_message_received_twice(rt: HostRuntime) -> Result<(), Fail> {
     let sent = [(0, 1, appends(1))];
     let twice = [(2, 3, takes(1)), (4, 5, takes(1))];
     let once = [(2, 3, takes(1)), (4, 5, Did::saw(Sight::Bare))];
-    assert_eq!(rt; verdict(alloc, &sent, &twice), Verdict::Refused);
-    assert_eq!(rt; verdict(alloc, &sent, &once), Verdict::Fits);
+    expect_equal(&rt, &verdict(alloc, &sent, &twice), &Verdict::Refused);
+    expect_equal(&rt, &verdict(alloc, &sent, &once), &Verdict::Fits);
     Ok(())
 }
 
@@ -59,8 +60,8 @@ fn a_message_lost(rt: HostRuntime) -> Result<(), Fail> {
         (4, 5, displaces(1, 3)),
     ];
     let next = [(6, 7, takes(2))];
-    assert_eq!(rt; verdict(alloc, &sent, &last), Verdict::Refused);
-    assert_eq!(rt; verdict(alloc, &displaced, &next), Verdict::Fits);
+    expect_equal(&rt, &verdict(alloc, &sent, &last), &Verdict::Refused);
+    expect_equal(&rt, &verdict(alloc, &displaced, &next), &Verdict::Fits);
     Ok(())
 }
 
@@ -71,8 +72,8 @@ fn messages_out_of_order(rt: HostRuntime) -> Result<(), Fail> {
     let turned = [(4, 5, takes(2)), (6, 7, takes(1))];
     let slow = [(0, 3, appends(1))];
     let between = [(1, 2, appends(2)), (4, 5, takes(2)), (6, 7, takes(1))];
-    assert_eq!(rt; verdict(alloc, &sent, &turned), Verdict::Refused);
-    assert_eq!(rt; verdict(alloc, &slow, &between), Verdict::Fits);
+    expect_equal(&rt, &verdict(alloc, &sent, &turned), &Verdict::Refused);
+    expect_equal(&rt, &verdict(alloc, &slow, &between), &Verdict::Fits);
     Ok(())
 }
 
@@ -80,13 +81,15 @@ fn messages_out_of_order(rt: HostRuntime) -> Result<(), Fail> {
 fn empty_beside_a_message(rt: HostRuntime) -> Result<(), Fail> {
     let alloc = rt.alloc();
     let found = [(2, 3, Did::saw(Sight::Bare)), (4, 5, takes(1))];
-    assert_eq!(rt;
-        verdict(alloc, &[(0, 1, appends(1))], &found),
-        Verdict::Refused
+    expect_equal(
+        &rt,
+        &verdict(alloc, &[(0, 1, appends(1))], &found),
+        &Verdict::Refused,
     );
-    assert_eq!(rt;
-        verdict(alloc, &[(0, 3, appends(1))], &found),
-        Verdict::Fits
+    expect_equal(
+        &rt,
+        &verdict(alloc, &[(0, 3, appends(1))], &found),
+        &Verdict::Fits,
     );
     Ok(())
 }
@@ -96,8 +99,16 @@ fn a_send_after_the_closing(rt: HostRuntime) -> Result<(), Fail> {
     let alloc = rt.alloc();
     let sent = [(2, 3, appends(1))];
     let closes = Did::Once(Point::Close);
-    assert_eq!(rt; verdict(alloc, &[(0, 1, closes)], &sent), Verdict::Refused);
-    assert_eq!(rt; verdict(alloc, &[(0, 3, closes)], &sent), Verdict::Fits);
+    expect_equal(
+        &rt,
+        &verdict(alloc, &[(0, 1, closes)], &sent),
+        &Verdict::Refused,
+    );
+    expect_equal(
+        &rt,
+        &verdict(alloc, &[(0, 3, closes)], &sent),
+        &Verdict::Fits,
+    );
     Ok(())
 }
 
@@ -119,10 +130,14 @@ fn between_the_steps_of_a_displacing_send(rt: HostRuntime) -> Result<(), Fail> {
         (8, 9, Did::saw(Sight::Empty(true))),
         (21, 22, takes(3)),
     ];
-    assert_eq!(rt; verdict(alloc, &displaced, &before), Verdict::Refused);
-    assert_eq!(rt; verdict(alloc, &displaced, &behind), Verdict::Fits);
-    assert_eq!(rt; verdict(alloc, &displaced, &refused), Verdict::Refused);
-    assert_eq!(rt; verdict(alloc, &displaced, &asked), Verdict::Fits);
+    expect_equal(&rt, &verdict(alloc, &displaced, &before), &Verdict::Refused);
+    expect_equal(&rt, &verdict(alloc, &displaced, &behind), &Verdict::Fits);
+    expect_equal(
+        &rt,
+        &verdict(alloc, &displaced, &refused),
+        &Verdict::Refused,
+    );
+    expect_equal(&rt, &verdict(alloc, &displaced, &asked), &Verdict::Fits);
     Ok(())
 }
 
@@ -132,15 +147,25 @@ fn open_after_the_last_drop(rt: HostRuntime) -> Result<(), Fail> {
     let open = [(2, 3, Did::saw(Sight::Open))];
     let drops = Did::dropped(Side::Senders);
     let clones = Did::Once(Point::Raise(Side::Senders));
-    assert_eq!(rt; verdict(alloc, &[(0, 1, drops)], &open), Verdict::Refused);
-    assert_eq!(rt; verdict(alloc, &[(0, 3, drops)], &open), Verdict::Fits);
-    assert_eq!(rt;
-        verdict(alloc, &[(0, 1, drops), (4, 5, clones)], &[]),
-        Verdict::Refused
+    expect_equal(
+        &rt,
+        &verdict(alloc, &[(0, 1, drops)], &open),
+        &Verdict::Refused,
     );
-    assert_eq!(rt;
-        verdict(alloc, &[(0, 1, clones), (4, 5, drops)], &open),
-        Verdict::Fits
+    expect_equal(
+        &rt,
+        &verdict(alloc, &[(0, 3, drops)], &open),
+        &Verdict::Fits,
+    );
+    expect_equal(
+        &rt,
+        &verdict(alloc, &[(0, 1, drops), (4, 5, clones)], &[]),
+        &Verdict::Refused,
+    );
+    expect_equal(
+        &rt,
+        &verdict(alloc, &[(0, 1, clones), (4, 5, drops)], &open),
+        &Verdict::Fits,
     );
     Ok(())
 }
@@ -164,6 +189,6 @@ fn an_order_that_is_told_late(rt: HostRuntime) -> Result<(), Fail> {
         log(alloc, &[(101, 102, takes(1)), (103, 104, takes(2))]),
     ];
     let plain = Plain::new(Some(2), 1, 1, alloc);
-    assert_eq!(rt; judge(plain, &logs, alloc), Verdict::Fits);
+    expect_equal(&rt, &judge(plain, &logs, alloc), &Verdict::Fits);
     Ok(())
 }

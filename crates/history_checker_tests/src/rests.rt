@@ -1,5 +1,6 @@
 //! Threads that sleep when no call is under way, where they may and where they must not.
 
+use crate::checks::expect_true;
 use history_checker::rest::{Look, Rest};
 use std::test::Fail;
 
@@ -78,7 +79,7 @@ fn one_that_is_woken_answers_for_one_message(rt: HostRuntime) -> Result<(), Fail
     let two = Rest::unseen()
         .with(receives(false, 2))
         .with(receives(true, 2));
-    assert!(rt; one.is_right());
-    assert!(rt; !two.is_right());
+    expect_true(&rt, one.is_right());
+    expect_true(&rt, !two.is_right());
     Ok(())
 }

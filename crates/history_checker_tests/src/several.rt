@@ -1,5 +1,6 @@
 //! Receives of several messages: planted wrong ones, each beside one that is like it and right.
 
+use crate::checks::expect_equal;
 use history_checker::history::{Fault, History};
 use history_checker::log::Log;
 use history_checker::order::{Verdict, judge};
@@ -55,10 +56,18 @@ fn several_out_of_order(rt: HostRuntime) -> Result<(), Fail> {
     let alloc = rt.alloc();
     let sent = [(0, 1, appends(1)), (2, 3, appends(2))];
     let together = [(0, 3, appends(1)), (1, 2, appends(2))];
-    assert_eq!(rt; verdict(alloc, &sent, LATE, &[2, 1]), Verdict::Refused);
-    assert_eq!(rt; verdict(alloc, &sent, LATE, &[2]), Verdict::Refused);
-    assert_eq!(rt; verdict(alloc, &sent, LATE, &[1, 2]), Verdict::Fits);
-    assert_eq!(rt; verdict(alloc, &together, LATE, &[1, 2]), Verdict::Fits);
+    expect_equal(
+        &rt,
+        &verdict(alloc, &sent, LATE, &[2, 1]),
+        &Verdict::Refused,
+    );
+    expect_equal(&rt, &verdict(alloc, &sent, LATE, &[2]), &Verdict::Refused);
+    expect_equal(&rt, &verdict(alloc, &sent, LATE, &[1, 2]), &Verdict::Fits);
+    expect_equal(
+        &rt,
+        &verdict(alloc, &together, LATE, &[1, 2]),
+        &Verdict::Fits,
+    );
     Ok(())
 }
 
@@ -68,9 +77,9 @@ fn fewer_than_wanted_beside_a_message(rt: HostRuntime) -> Result<(), Fail> {
     let before = [(0, 1, appends(1)), (2, 3, appends(2))];
     let meanwhile = [(0, 1, appends(1)), (2, 5, appends(2))];
     let one = Several { limit: 1, ..LATE };
-    assert_eq!(rt; verdict(alloc, &before, LATE, &[1]), Verdict::Refused);
-    assert_eq!(rt; verdict(alloc, &meanwhile, LATE, &[1]), Verdict::Fits);
-    assert_eq!(rt; verdict(alloc, &before, one, &[1]), Verdict::Fits);
+    expect_equal(&rt, &verdict(alloc, &before, LATE, &[1]), &Verdict::Refused);
+    expect_equal(&rt, &verdict(alloc, &meanwhile, LATE, &[1]), &Verdict::Fits);
+    expect_equal(&rt, &verdict(alloc, &before, one, &[1]), &Verdict::Fits);
     Ok(())
 }
 
@@ -90,9 +99,21 @@ fn others_come_between(rt: HostRuntime) -> Result<(), Fail> {
         (8, 9, appends(3)),
         (12, 13, takes(2)),
     ];
-    assert_eq!(rt; verdict(alloc, &between, long, &[1, 3]), Verdict::Fits);
-    assert_eq!(rt; verdict(alloc, &after, long, &[1, 3]), Verdict::Refused);
-    assert_eq!(rt; verdict(alloc, &after, long, &[1, 2]), Verdict::Refused);
+    expect_equal(
+        &rt,
+        &verdict(alloc, &between, long, &[1, 3]),
+        &Verdict::Fits,
+    );
+    expect_equal(
+        &rt,
+        &verdict(alloc, &after, long, &[1, 3]),
+        &Verdict::Refused,
+    );
+    expect_equal(
+        &rt,
+        &verdict(alloc, &after, long, &[1, 2]),
+        &Verdict::Refused,
+    );
     Ok(())
 }
 
@@ -109,8 +130,16 @@ fn fewer_than_wanted_beside_one_on_its_way(rt: HostRuntime) -> Result<(), Fail> 
         end: 7,
         limit: 3,
     };
-    assert_eq!(rt; verdict(alloc, &displaced, within, &[2]), Verdict::Refused);
-    assert_eq!(rt; verdict(alloc, &displaced, within, &[2, 3]), Verdict::Fits);
+    expect_equal(
+        &rt,
+        &verdict(alloc, &displaced, within, &[2]),
+        &Verdict::Refused,
+    );
+    expect_equal(
+        &rt,
+        &verdict(alloc, &displaced, within, &[2, 3]),
+        &Verdict::Fits,
+    );
     Ok(())
 }
 
@@ -128,9 +157,9 @@ fn fault(alloc: Global, limit: usize, taken: &[u64]) -> Option<Fault> {
 #[test]
 fn more_than_wanted_or_none(rt: HostRuntime) -> Result<(), Fail> {
     let alloc = rt.alloc();
-    assert_eq!(rt; fault(alloc, 1, &[1, 2]), Some(Fault::Spoiled));
-    assert_eq!(rt; fault(alloc, 2, &[]), Some(Fault::Spoiled));
-    assert_eq!(rt; fault(alloc, 0, &[]), None);
-    assert_eq!(rt; fault(alloc, 2, &[1, 2]), None);
+    expect_equal(&rt, &fault(alloc, 1, &[1, 2]), &Some(Fault::Spoiled));
+    expect_equal(&rt, &fault(alloc, 2, &[]), &Some(Fault::Spoiled));
+    expect_equal(&rt, &fault(alloc, 0, &[]), &None);
+    expect_equal(&rt, &fault(alloc, 2, &[1, 2]), &None);
     Ok(())
 }

@@ -1,6 +1,7 @@
 //! Channels are opened with the capacity that was asked for, of which no contract speaks.
 ghost use Rattle.std.specs.Prelude.{◌≡◌};
 
+use crate::checks::expect_equal;
 use channel_world::RecordedChannel;
 use channel_world::call::{Call, Reply};
 use channel_world::name::HandleId;
@@ -69,8 +70,8 @@ fn as_asked(capacity: Option<usize>) -> Option<Said> {
 #[test]
 fn the_capacity_is_as_asked_for(rt: HostRuntime) -> Result<(), Fail> {
     let three = bounded::<Brand, HostRuntime>(&rt, rt.alloc(), Blank::new(2));
-    assert_eq!(rt; three, as_asked(Some(3)));
+    expect_equal(&rt, &three, &as_asked(Some(3)));
     let any = unbounded::<Brand, HostRuntime>(&rt, rt.alloc(), Blank::new(2));
-    assert_eq!(rt; any, as_asked(None));
+    expect_equal(&rt, &any, &as_asked(None));
     Ok(())
 }

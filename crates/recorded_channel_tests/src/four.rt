@@ -1,6 +1,7 @@
 //! Four threads with a seat each: every receipt stands in the record.
 ghost use Rattle.std.specs.Prelude.{◌≡◌};
 
+use crate::checks::expect_equal;
 use channel_world::call::{Call, Reply};
 use channel_world::name::{HandleId, OpId, Waiter};
 use channel_world::{Names, Receipt, Record, RecordSeat, RecordedChannel};
@@ -184,6 +185,6 @@ fn four<L: Ledger + Sync, R: Threads + Wait + Sync>(
 #[test]
 fn every_receipt_stands_in_the_record(rt: HostRuntime) -> Result<(), Fail> {
     let all = four::<Brand, HostRuntime>(&rt, rt.alloc(), Blank::new(5));
-    assert_eq!(rt; all, Some((400, 400)));
+    expect_equal(&rt, &all, &Some((400, 400)));
     Ok(())
 }

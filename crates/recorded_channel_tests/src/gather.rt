@@ -1,6 +1,7 @@
 //! Seats: how many there are, and that all are gathered at the end.
 ghost use Rattle.std.specs.Prelude.{◌≡◌};
 
+use crate::checks::expect_equal;
 use channel_world::call::Call;
 use channel_world::name::HandleId;
 use channel_world::{RecordedChannel, SeatsUsedUp};
@@ -59,14 +60,15 @@ fn gather<L: Ledger, R: Wait>(rt: &R, alloc: Global, blank: Blank) -> Option<Gat
 #[test]
 fn a_missing_seat_is_waited_for(rt: HostRuntime) -> Result<(), Fail> {
     let gathered = gather::<Brand, HostRuntime>(&rt, rt.alloc(), Blank::new(3));
-    assert_eq!(rt;
-        gathered,
-        Some(Gathered {
+    expect_equal(
+        &rt,
+        &gathered,
+        &Some(Gathered {
             numbers: (0, 1),
             third: Some(SeatsUsedUp),
             back: 1,
             entries: 3,
-        })
+        }),
     );
     Ok(())
 }
@@ -92,8 +94,8 @@ fn nobody<L: Ledger, R: Wait>(
 #[test]
 fn no_seat_is_made_of_one_part(rt: HostRuntime) -> Result<(), Fail> {
     let none = nobody::<Brand, HostRuntime>(&rt, rt.alloc(), Blank::new(0), 0);
-    assert_eq!(rt; none, Some((true, 0)));
+    expect_equal(&rt, &none, &Some((true, 0)));
     let one = nobody::<Brand, HostRuntime>(&rt, rt.alloc(), Blank::new(1), 1);
-    assert_eq!(rt; one, Some((true, 0)));
+    expect_equal(&rt, &one, &Some((true, 0)));
     Ok(())
 }

@@ -5,6 +5,8 @@
 #[cfg(test)]
 mod capacity;
 #[cfg(test)]
+mod checks;
+#[cfg(test)]
 mod four;
 #[cfg(test)]
 mod gather;

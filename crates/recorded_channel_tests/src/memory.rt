@@ -1,6 +1,7 @@
 //! Refused growths.
 ghost use Rattle.std.specs.Prelude.{◌≡◌};
 
+use crate::checks::expect_equal;
 use channel_calls::error::{OpenError, Refused};
 use channel_world::call::{Call, Reply, WorldRefusal};
 use channel_world::name::HandleId;
@@ -151,8 +152,8 @@ fn pass<L: Ledger, R: Wait>(rt: &R, alloc: Global, blank: Blank) -> Option<Passe
 fn a_refused_growth_changes_nothing(rt: HostRuntime) -> Result<(), Fail> {
     let passed = pass::<Brand, HostRuntime>(&rt, rt.alloc(), Blank::new(PARTS));
     let passed = passed.expect(&rt, "no second refusal");
-    assert_eq!(rt; passed.receipts, passed.entries);
-    assert_eq!(rt; passed.in_order, COUNT);
+    expect_equal(&rt, &passed.receipts, &passed.entries);
+    expect_equal(&rt, &passed.in_order, &COUNT);
     Ok(())
 }
 
@@ -223,6 +224,6 @@ fn record_one<L: Ledger, R: Wait>(rt: &R, alloc: Global, blank: Blank) -> Option
 #[test]
 fn a_send_without_room_comes_back(rt: HostRuntime) -> Result<(), Fail> {
     let entries = record_one::<Brand, HostRuntime>(&rt, rt.alloc(), Blank::new(PARTS));
-    assert_eq!(rt; entries, Some(1));
+    expect_equal(&rt, &entries, &Some(1));
     Ok(())
 }

@@ -1,6 +1,7 @@
 //! Refused calls: nothing is recorded, and the call comes back.
 ghost use Rattle.std.specs.Prelude.{◌≡◌};
 
+use crate::checks::expect_equal;
 use channel_world::call::{Call, WorldRefusal};
 use channel_world::name::{HandleId, OpId};
 use channel_world::{RecordError, RecordedChannel, SeatsUsedUp};
@@ -47,21 +48,23 @@ fn refuse<L: Ledger, R: Wait>(
 fn a_refused_call_leaves_no_entry(rt: HostRuntime) -> Result<(), Fail> {
     let said = refuse::<Brand, HostRuntime>(&rt, rt.alloc(), Blank::new(2));
     let (wrong, unknown, entries) = said.expect(&rt, "memory");
-    assert_eq!(rt;
-        wrong,
-        RecordError::World {
+    expect_equal(
+        &rt,
+        &wrong,
+        &RecordError::World {
             why: WorldRefusal::WrongKind,
             call: WRONG,
-        }
+        },
     );
-    assert_eq!(rt;
-        unknown,
-        RecordError::World {
+    expect_equal(
+        &rt,
+        &unknown,
+        &RecordError::World {
             why: WorldRefusal::UnknownName,
             call: UNKNOWN,
-        }
+        },
     );
-    assert_eq!(rt; entries, 1);
+    expect_equal(&rt, &entries, &1);
     Ok(())
 }
 
@@ -70,10 +73,10 @@ fn texts(rt: HostRuntime) -> Result<(), Fail> {
     let alloc = rt.alloc();
     let why = WorldRefusal::Borrowed;
     let world = format!(in alloc; "{}", RecordError::World { why, call: WRONG })?;
-    assert_eq!(rt; world.as_str(), "a live operation borrows the handle");
+    expect_equal(&rt, &world.as_str(), &"a live operation borrows the handle");
     let room = format!(in alloc; "{}", RecordError::NoRoom { call: WRONG })?;
-    assert_eq!(rt; room.as_str(), "no room for the record");
+    expect_equal(&rt, &room.as_str(), &"no room for the record");
     let seats = format!(in alloc; "{SeatsUsedUp}")?;
-    assert_eq!(rt; seats.as_str(), "seats used up");
+    expect_equal(&rt, &seats.as_str(), &"seats used up");
     Ok(())
 }

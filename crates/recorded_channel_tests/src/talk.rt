@@ -1,6 +1,7 @@
 //! Two channels, one each way, between two threads.
 ghost use Rattle.std.specs.Prelude.{◌≡◌};
 
+use crate::checks::expect_equal;
 use channel_world::call::{Call, Reply};
 use channel_world::name::HandleId;
 use channel_world::{Record, RecordSeat, RecordedChannel};
@@ -132,7 +133,7 @@ fn talk<L: Ledger + Sync, M: Ledger + Sync, R: Threads + Wait + Sync>(
 fn each_hears_the_others_word(rt: HostRuntime) -> Result<(), Fail> {
     let talk = talk::<Brand, Brand, HostRuntime>(&rt, rt.alloc(), Blank::new(3), Blank::new(3));
     let talk = talk.expect(&rt, "memory");
-    assert_eq!(rt; talk.heard, (Some(2), Some(1)));
-    assert_eq!(rt; talk.recorded, talk.made);
+    expect_equal(&rt, &talk.heard, &(Some(2), Some(1)));
+    expect_equal(&rt, &talk.recorded, &talk.made);
     Ok(())
 }

@@ -2,6 +2,7 @@
 ghost use Rattle.std.specs.Prelude.{◌≡◌, ◌+◌, IfSome, length};
 ghost use Rattle.channel_world.specs.RecordLaws.{KeepsItsLaws};
 
+use crate::checks::expect_equal;
 use channel_world::call::Call;
 use channel_world::name::HandleId;
 use channel_world::{Receipt, Record, RecordSeat, RecordedChannel};
@@ -101,6 +102,6 @@ fn read<T>(finished: &Record<T>) -> &[Receipt<T>]
 fn the_record_has_as_many_entries_as_were_counted(rt: HostRuntime) -> Result<(), Fail> {
     let all = both::<Brand, HostRuntime>(&rt, rt.alloc(), Blank::new(3));
     let (m, n, record) = all.expect(&rt, "memory");
-    assert_eq!(rt; (m, n, read(&record).len()), (CALLS, 0, 100));
+    expect_equal(&rt, &(m, n, read(&record).len()), &(CALLS, 0, 100));
     Ok(())
 }

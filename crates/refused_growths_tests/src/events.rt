@@ -2,6 +2,7 @@
 
 ghost use Rattle.std.specs.Prelude.{◌≡◌};
 
+use crate::checks::expect_equal;
 use event_listener::calls::Registered;
 use event_listener::error::{ListenError, NoMemory, NotifyError};
 use event_listener::event::Event;
@@ -85,7 +86,7 @@ fn listening(rt: HostRuntime) -> Result<(), Fail> {
         seen.right && seen.calls == 40 && seen.refusals >= 45,
         "{seen:?}"
     );
-    assert_eq!(rt; counts, [40, 10, 10]);
+    expect_equal(&rt, &counts, &[40, 10, 10]);
     Ok(())
 }
 
@@ -263,7 +264,7 @@ fn insertions(rt: HostRuntime) -> Result<(), Fail> {
         seen.right && seen.calls == 6 && seen.refusals >= 6,
         "{seen:?}"
     );
-    assert_eq!(rt; counts, [140, 5]);
+    expect_equal(&rt, &counts, &[140, 5]);
     Ok(())
 }
 
@@ -363,7 +364,7 @@ fn notices_with_costly_tags(rt: HostRuntime) -> Result<(), Fail> {
         seen.right && seen.calls == 1 && seen.refusals >= 3,
         "{seen:?}"
     );
-    assert_eq!(rt; tagged, [true, true, true]);
+    expect_equal(&rt, &tagged, &[true, true, true]);
     Ok(())
 }
 
@@ -501,6 +502,6 @@ fn recorded_events(rt: HostRuntime) -> Result<(), Fail> {
         seen.right && seen.calls == 27 && seen.refusals >= 47,
         "{seen:?}"
     );
-    assert_eq!(rt; counts, [20, 20, 120]);
+    expect_equal(&rt, &counts, &[20, 20, 120]);
     Ok(())
 }

@@ -1,5 +1,6 @@
 //! A channel's handles and polled operations.
 
+use crate::checks::{expect_equal, expect_true};
 use async_channel::{Closed, OpenError, Receiver, Recv, Refused, Send, Sender, bounded, unbounded};
 use event_listener::error::ListenError;
 use event_listener::id::EventIds;
@@ -77,7 +78,7 @@ fn openings_of_channels(rt: HostRuntime) -> Result<(), Fail> {
         seen.right && seen.calls == 3 && seen.refusals >= 17,
         "{seen:?}"
     );
-    assert_eq!(rt; next, 12);
+    expect_equal(&rt, &next, &12);
     Ok(())
 }
 
@@ -307,7 +308,7 @@ fn receives_that_wait(rt: HostRuntime) -> Result<(), Fail> {
         seen.right && seen.calls == 2 && seen.refusals >= 2,
         "{seen:?}"
     );
-    assert_eq!(rt; right, [true, true, false, true, true, true]);
+    expect_equal(&rt, &right, &[true, true, false, true, true, true]);
     Ok(())
 }
 
@@ -357,7 +358,7 @@ fn sends_that_wait(rt: HostRuntime) -> Result<(), Fail> {
         seen.right && seen.calls == 2 && seen.refusals >= 2,
         "{seen:?}"
     );
-    assert_eq!(rt; right, [true, true, false, true, true]);
+    expect_equal(&rt, &right, &[true, true, false, true, true]);
     Ok(())
 }
 
@@ -397,7 +398,7 @@ fn streams_and_closings_that_wait(rt: HostRuntime) -> Result<(), Fail> {
         seen.right && seen.calls == 2 && seen.refusals >= 2,
         "{seen:?}"
     );
-    assert_eq!(rt; right, [true, true, false, true, true]);
+    expect_equal(&rt, &right, &[true, true, false, true, true]);
     Ok(())
 }
 
@@ -451,6 +452,6 @@ fn make_handles<R: Wait + Copy>(rt: R, alloc: Global) -> Option<Seen> {
 #[test]
 fn more_handles_take_no_memory(rt: HostRuntime) -> Result<(), Fail> {
     let seen = make_handles(rt, rt.alloc()).expect(&rt, "memory");
-    assert!(rt; seen.right);
+    expect_true(&rt, seen.right);
     Ok(())
 }

@@ -2,6 +2,7 @@
 
 ghost use Rattle.std.specs.Prelude.{◌≡◌};
 
+use crate::checks::expect_equal;
 use channel_calls::error::{OpenError, Refused};
 use channel_world::call::{Call, Reply, WorldRefusal};
 use channel_world::name::HandleId;
@@ -172,6 +173,6 @@ fn recorded_channels(rt: HostRuntime) -> Result<(), Fail> {
         seen.right && seen.calls == 81 && seen.refusals >= 254,
         "{seen:?}"
     );
-    assert_eq!(rt; passed.receipts, passed.entries);
+    expect_equal(&rt, &passed.receipts, &passed.entries);
     Ok(())
 }

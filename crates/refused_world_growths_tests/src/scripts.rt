@@ -1,5 +1,6 @@
 //! Scripts.
 
+use crate::checks::expect_true;
 use channel_world::script::{ScriptEnd, run_script};
 use scarcity::{Attempt, Scarcity, Seen, Tried, made, refused};
 use std::alloc::Global;
@@ -71,6 +72,6 @@ fn scripts(rt: HostRuntime) -> Result<(), Fail> {
         seen.right && seen.calls == 1 && seen.refusals >= 48,
         "{seen:?}"
     );
-    assert!(rt; written > 0);
+    expect_true(&rt, written > 0);
     Ok(())
 }

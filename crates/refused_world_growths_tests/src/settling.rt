@@ -1,5 +1,6 @@
 //! Settling a world.
 
+use crate::checks::expect_equal;
 use crate::worlds::{Ask, Calls, Numbers, Said, numbers_of, says};
 use channel_world::name::{OpId, Waiter};
 use channel_world::settle::Settled;
@@ -81,6 +82,6 @@ fn settlings(rt: HostRuntime) -> Result<(), Fail> {
         seen.right && seen.calls == 8 && seen.refusals >= 28,
         "{seen:?}"
     );
-    assert_eq!(rt; numbers, AFTER);
+    expect_equal(&rt, &numbers, &AFTER);
     Ok(())
 }

@@ -1,5 +1,6 @@
 //! Calls of a world made step by step.
 
+use crate::checks::expect_equal;
 use crate::worlds::{Ask, NO_ROOM, Numbers, Said, call, is_refusal, numbers_of, says};
 use channel_world::step::{PartyId, Run, Step};
 use channel_world::world::World;
@@ -205,6 +206,6 @@ fn steps_of_a_world(rt: HostRuntime) -> Result<(), Fail> {
         seen.right && seen.calls >= 400 && seen.refusals >= 770,
         "{seen:?}"
     );
-    assert_eq!(rt; numbers, NOTHING);
+    expect_equal(&rt, &numbers, &NOTHING);
     Ok(())
 }

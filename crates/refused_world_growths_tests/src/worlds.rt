@@ -1,5 +1,6 @@
 //! Calls of a world, one at a time.
 
+use crate::checks::expect_equal;
 use channel_calls::error::{OpenError, Refused};
 use channel_world::call::{Call, CallRun, Reply, Stopped, WorldRefusal};
 use channel_world::name::{HandleId, OpId};
@@ -61,7 +62,7 @@ fn openings_of_worlds(rt: HostRuntime) -> Result<(), Fail> {
         seen.right && seen.calls == 2 && seen.refusals >= 26,
         "{seen:?}"
     );
-    assert_eq!(rt; next, 8);
+    expect_equal(&rt, &next, &8);
     Ok(())
 }
 
@@ -324,14 +325,15 @@ fn calls_of_a_world(rt: HostRuntime) -> Result<(), Fail> {
         seen.right && seen.calls == 112 && seen.refusals >= 311,
         "{seen:?}"
     );
-    assert_eq!(rt;
-        numbers,
-        Numbers {
+    expect_equal(
+        &rt,
+        &numbers,
+        &Numbers {
             messages: 0,
             under_way: 0,
             pending: 0,
             woken: 0,
-        }
+        },
     );
     Ok(())
 }

@@ -1,5 +1,6 @@
 //! A queue that is closed while threads use it.
 
+use crate::checks::expect_true;
 use crate::shared::pop_all;
 use concurrent_queue::error::{PopError, PushError};
 use concurrent_queue::shared::queue::ConcurrentQueue;
@@ -64,6 +65,6 @@ fn a_closed_queue_gives_the_rest_and_then_closed(rt: HostRuntime) -> Result<(), 
         right = right && gives_the_rest(&rt, alloc, &ConcurrentQueue::bounded(alloc, capacity)?);
     }
     right = right && gives_the_rest(&rt, alloc, &ConcurrentQueue::unbounded(alloc)?);
-    assert!(rt; right);
+    expect_true(&rt, right);
     Ok(())
 }

@@ -3,6 +3,7 @@
 ghost use Rattle.std.specs.Prelude.{◌≡◌, ◌%◌, ◌≤◌, IfOk, true};
 
 use crate::by_steps::capacity_by_steps;
+use crate::checks::{expect_equal, expect_true};
 use crate::said::{Said, forced, popped, pushed, replied};
 use concurrent_queue::call::QueueReply;
 use concurrent_queue::error::PopError;
@@ -34,7 +35,7 @@ fn messages_come_in_order(rt: HostRuntime) -> Result<(), Fail> {
         right = right && goes_round(&rt, &queue, capacity as u64);
     }
     right = right && goes_round(&rt, &ConcurrentQueue::unbounded(rt.alloc())?, 100);
-    assert!(rt; right);
+    expect_true(&rt, right);
     Ok(())
 }
 
@@ -67,7 +68,7 @@ fn a_full_queue_refuses_or_displaces(rt: HostRuntime) -> Result<(), Fail> {
         right = right && is_full_then(&rt, &queue, places) && closed_answers(&rt, &queue) == CLOSED;
         right = right && queue.len(&rt) == places && queue.capacity() == Some(places);
     }
-    assert!(rt; right);
+    expect_true(&rt, right);
     Ok(())
 }
 
@@ -83,8 +84,8 @@ fn an_unbounded_queue_is_never_full(rt: HostRuntime) -> Result<(), Fail> {
     let closed = closed_answers(&rt, &queue);
     let left = popped(&queue.pop(&rt));
     drop(queue);
-    assert!(rt; right && closed == CLOSED);
-    assert_eq!(rt; left, ("popped", 0));
+    expect_true(&rt, right && closed == CLOSED);
+    expect_equal(&rt, &left, &("popped", 0));
     Ok(())
 }
 
@@ -94,7 +95,7 @@ fn capacities_too_great_are_refused(rt: HostRuntime) -> Result<(), Fail> {
         rt.alloc(),
         288_230_376_151_711_745,
     );
-    assert!(rt; refused.is_err());
+    expect_true(&rt, refused.is_err());
     Ok(())
 }
 
@@ -118,7 +119,7 @@ fn a_walk_goes_on_after_none(rt: HostRuntime) -> Result<(), Fail> {
     let queue = ConcurrentQueue::bounded(rt.alloc(), 3)?;
     let given = walked_by_turns(&rt, &queue)?;
     drop(queue);
-    assert_eq!(rt; given, [None, Some(7), None, Some(8)]);
+    expect_equal(&rt, &given, &[None, Some(7), None, Some(8)]);
     Ok(())
 }
 
@@ -146,7 +147,7 @@ fn what_is_left_is_dropped_once(rt: HostRuntime) -> Result<(), Fail> {
     ];
     let count = Arc::strong_count(&shared);
     drop(shared);
-    assert_eq!(rt; (left, count), ([1, 2, 3, 40], 1));
+    expect_equal(&rt, &(left, count), &([1, 2, 3, 40], 1));
     Ok(())
 }
 
@@ -173,8 +174,8 @@ fn calls_go_by_steps(rt: HostRuntime) -> Result<(), Fail> {
     drop(close);
     let then = (queue.is_closed(), capacity_by_steps(&queue));
     drop(queue);
-    assert_eq!(rt; pushing, [("", 0), ("", 0), ("pushed", 0)]);
-    assert_eq!(rt; (closing, then), (("closed it", 0), (true, Some(1))));
+    expect_equal(&rt, &pushing, &[("", 0), ("", 0), ("pushed", 0)]);
+    expect_equal(&rt, &(closing, then), &(("closed it", 0), (true, Some(1))));
     Ok(())
 }
 
@@ -199,6 +200,6 @@ fn what_messages_keep_holds_of_popped_ones(rt: HostRuntime) -> Result<(), Fail> 
     let went = queue.push(&rt, Even { number: 8 }).is_ok();
     let doubled = doubles(&rt, &queue).is_ok_and(|doubles| doubles);
     drop(queue);
-    assert_eq!(rt; (went, doubled), (true, true));
+    expect_equal(&rt, &(went, doubled), &(true, true));
     Ok(())
 }

@@ -1,5 +1,6 @@
 //! Want of memory.
 
+use crate::checks::expect_true;
 use crate::said::popped;
 use concurrent_queue::error::PushError;
 use concurrent_queue::shared::queue::ConcurrentQueue;
@@ -36,6 +37,6 @@ fn a_refused_push_comes_back_and_loses_nothing(rt: HostRuntime) -> Result<(), Fa
     }
     right = right && popped(&queue.pop(&rt)) == ("empty", 0);
     drop(queue);
-    assert!(rt; right);
+    expect_true(&rt, right);
     Ok(())
 }
