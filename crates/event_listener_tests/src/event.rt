@@ -19,7 +19,6 @@ pub(crate) enum Stuck {
     NoMemory,
     Listen,
     Ids,
-    NoWaker,
     Waits,
 }
 
@@ -41,30 +40,29 @@ impl From<IdsUsedUp> for Stuck {
     }
 }
 
-/// What a poll gave: a tag, nothing yet, or the fault of a finished listener.
+/// What a poll gave: a tag, nothing yet, or the fault of a finished listener. Or no waker was got for it: an answer as any other, so
+/// that a test which holds listeners has no exit at a poll.
 #[derive(Debug, PartialEq, Drop)]
 pub(crate) enum Polled<T> {
     Tag(T),
     Pending,
     Finished,
+    NoWaker,
 }
 
 /// Polls with a new waker of the task.
-pub(crate) fn poll<T, L: Listener<T>>(
-    task: &MockTask,
-    listener: &mut L,
-) -> Result<Polled<T>, Stuck> {
+pub(crate) fn poll<T, L: Listener<T>>(task: &MockTask, listener: &mut L) -> Polled<T> {
     let source = Source::new();
     let mut slot: Option<Waker> = None;
     let _armed: Poll<()> = task.enter(|cx| cx.register(&source, &mut slot));
     let Some(waker) = slot else {
-        return Err(Stuck::NoWaker);
+        return Polled::NoWaker;
     };
-    Ok(match listener.poll(waker) {
+    match listener.poll(waker) {
         Poll::Ready(Ok(tag)) => Polled::Tag(tag),
         Poll::Ready(Err(PollFault::NeverInserted)) => Polled::Finished,
         Poll::Pending => Polled::Pending,
-    })
+    }
 }
 
 /// An event with an identity of its own.
@@ -90,9 +88,9 @@ fn additional_and_default<R: Wait + Copy>(
     Ok((
         told,
         [
-            poll(task, &mut l1)?,
-            poll(task, &mut l2)?,
-            poll(task, &mut l3)?,
+            poll(task, &mut l1),
+            poll(task, &mut l2),
+            poll(task, &mut l3),
         ],
     ))
 }
@@ -115,9 +113,9 @@ fn a_told_one_leaves<R: Wait + Copy>(
     Ok((
         told,
         [
-            poll(task, &mut l2)?,
-            poll(task, &mut l3)?,
-            poll(task, &mut l4)?,
+            poll(task, &mut l2),
+            poll(task, &mut l3),
+            poll(task, &mut l4),
         ],
     ))
 }
@@ -140,9 +138,9 @@ fn made_tags<R: Wait + Copy>(
     Ok((
         told,
         [
-            poll(task, &mut l1)?,
-            poll(task, &mut l2)?,
-            poll(task, &mut l3)?,
+            poll(task, &mut l1),
+            poll(task, &mut l2),
+            poll(task, &mut l3),
         ],
     ))
 }
@@ -196,7 +194,7 @@ fn a_tag_is_passed_on<R: Wait + Copy>(
     let mut l2 = event.listen(&rt)?;
     let _ = event.notify(&rt, 1u64.tag(7u32));
     drop(l1);
-    poll(task, &mut l2)
+    Ok(poll(task, &mut l2))
 }
 
 fn discarded<R: Wait + Copy>(
@@ -209,7 +207,7 @@ fn discarded<R: Wait + Copy>(
     let mut l2 = event.listen(&rt)?;
     let told = event.notify(&rt, 1u8).unwrap_or(9);
     let was_told = l1.discard();
-    let polled = poll(task, &mut l2)?;
+    let polled = poll(task, &mut l2);
     Ok((told, was_told, polled, l2.discard()))
 }
 
@@ -221,7 +219,7 @@ fn a_notice_for_nobody<R: Wait + Copy>(
     let event: Event<()> = event(alloc)?;
     let told = event.notify(&rt, 5i8).unwrap_or(9);
     let mut l1 = event.listen(&rt)?;
-    Ok((told, poll(task, &mut l1)?))
+    Ok((told, poll(task, &mut l1)))
 }
 
 /// Four listeners, told by each kind of notice for units: how many each told, and whether somebody was told before
@@ -301,9 +299,9 @@ fn tags_run_out<R: Wait + Copy>(
     Ok((
         answer,
         [
-            poll(task, &mut l1)?,
-            poll(task, &mut l2)?,
-            poll(task, &mut l3)?,
+            poll(task, &mut l1),
+            poll(task, &mut l2),
+            poll(task, &mut l3),
         ],
     ))
 }

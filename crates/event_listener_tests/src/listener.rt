@@ -50,7 +50,7 @@ fn finished<R: Wait + Clock + Copy>(
     let other = event.listen(&rt)?;
     let same = listener.same_event(&other) && listener.listens_to(&event);
     let _ = event.notify(&rt, 1u8);
-    let polled = [poll(task, &mut listener)?, poll(task, &mut listener)?];
+    let polled = [poll(task, &mut listener), poll(task, &mut listener)];
     let handed_back = match listener.wait_timeout(&rt, Duration::ZERO) {
         Err(WaitError::NeverInserted(listener)) => !listener.discard(),
         Err(WaitError::NoMemory(_listener)) => false,
@@ -91,9 +91,9 @@ fn polled_by_hand<R: Wait + Copy>(
 ) -> Result<[bool; 2], Stuck> {
     let event: Event<()> = event(alloc)?;
     let mut listener = event.listen(&rt)?;
-    poll(task, &mut listener)?;
+    poll(task, &mut listener);
     let silent = !task.is_woken();
-    poll(task, &mut listener)?;
+    poll(task, &mut listener);
     Ok([silent, task.is_woken()])
 }
 
@@ -222,7 +222,7 @@ fn dropped_elsewhere<R: Wait + Threads + Copy + Send + Sync>(
     }
     let _ = event.notify(&rt, 1u8.tag(7u32));
     thread::join(&rt, move || drop(told), || ());
-    poll(task, &mut waiting)
+    Ok(poll(task, &mut waiting))
 }
 
 #[test]

@@ -28,9 +28,9 @@ fn in_slots<R: Wait + Copy>(
     Ok((
         told,
         [
-            poll(task, &mut l1)?,
-            poll(task, &mut l2)?,
-            poll(task, &mut l3)?,
+            poll(task, &mut l1),
+            poll(task, &mut l2),
+            poll(task, &mut l3),
         ],
     ))
 }
