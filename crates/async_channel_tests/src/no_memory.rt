@@ -46,8 +46,8 @@ fn one_place<R: Wait + Copy>(s: &Sender<u64, R>, r: &Receiver<u64, R>, task: &Mo
 
 #[test]
 fn one_place_takes_no_memory(rt: HostRuntime) -> Result<(), Fail> {
-    let (s, r) = opened(rt, rt.alloc(), 1).expect(&rt, "memory");
     let task = MockTask::new(&rt)?;
+    let (s, r) = opened(rt, rt.alloc(), 1).expect(&rt, "memory");
     let came = one_place(&s, &r, &task);
     expect_true(&rt, ended(came)?);
     Ok(())
@@ -82,8 +82,8 @@ fn displaces<R: Wait + Copy>(s: &Sender<u64, R>, r: &Receiver<u64, R>, task: &Mo
 
 #[test]
 fn displacing_takes_no_memory(rt: HostRuntime) -> Result<(), Fail> {
-    let (s, r) = opened(rt, rt.alloc(), 3).expect(&rt, "memory");
     let task = MockTask::new(&rt)?;
+    let (s, r) = opened(rt, rt.alloc(), 3).expect(&rt, "memory");
     let came = displaces(&s, &r, &task);
     expect_true(&rt, ended(came)?);
     Ok(())
@@ -125,8 +125,8 @@ fn leaves<R: Wait + Copy>(s: &Sender<u64, R>, r: &Receiver<u64, R>, tasks: [&Moc
 
 #[test]
 fn leaving_takes_no_memory(rt: HostRuntime) -> Result<(), Fail> {
-    let (s, r) = opened(rt, rt.alloc(), 1).expect(&rt, "memory");
     let (one, two) = (MockTask::new(&rt)?, MockTask::new(&rt)?);
+    let (s, r) = opened(rt, rt.alloc(), 1).expect(&rt, "memory");
     let came = leaves(&s, &r, [&one, &two]);
     expect_true(&rt, ended(came)?);
     Ok(())
@@ -149,8 +149,8 @@ fn gives_up<R: Wait + Copy>(s: &Sender<u64, R>, r: &Receiver<u64, R>, task: &Moc
 
 #[test]
 fn giving_up_takes_no_memory(rt: HostRuntime) -> Result<(), Fail> {
-    let (s, r) = opened(rt, rt.alloc(), 1).expect(&rt, "memory");
     let task = MockTask::new(&rt)?;
+    let (s, r) = opened(rt, rt.alloc(), 1).expect(&rt, "memory");
     let came = gives_up(&s, &r, &task);
     expect_true(&rt, ended(came)?);
     Ok(())

@@ -73,12 +73,12 @@ fn takes_several<R: Wait + Copy>(
 
 #[test]
 fn several_at_once_wake_as_many_sends(rt: HostRuntime) -> Result<(), Fail> {
-    let (s, r) = opened(rt, rt.alloc(), 3).expect(&rt, "memory");
     let (one, two, three) = (
         MockTask::new(&rt)?,
         MockTask::new(&rt)?,
         MockTask::new(&rt)?,
     );
+    let (s, r) = opened(rt, rt.alloc(), 3).expect(&rt, "memory");
     let (said, taken, woken) = takes_several(&s, &r, [&one, &two, &three]);
     let waiting = [Said::Pending, Said::Pending, Said::Pending];
     let then = [Said::Done, Said::Done, Said::Pending, Said::Done];
@@ -122,8 +122,8 @@ fn one_place<R: Wait + Copy>(
 
 #[test]
 fn one_place_takes_one_message(rt: HostRuntime) -> Result<(), Fail> {
-    let (s, r) = opened(rt, rt.alloc(), 1).expect(&rt, "memory");
     let task = MockTask::new(&rt)?;
+    let (s, r) = opened(rt, rt.alloc(), 1).expect(&rt, "memory");
     let seen = one_place(&s, &r, &task);
     expect_equal(&rt, &seen, &([Said::Done, Said::Got(10)], [true, true]));
     Ok(())
@@ -144,8 +144,8 @@ fn displaces<R: Wait + Copy>(
 
 #[test]
 fn a_forced_message_displaces_the_oldest(rt: HostRuntime) -> Result<(), Fail> {
-    let (s, r) = opened(rt, rt.alloc(), 3).expect(&rt, "memory");
     let task = MockTask::new(&rt)?;
+    let (s, r) = opened(rt, rt.alloc(), 3).expect(&rt, "memory");
     let seen = displaces(&s, &r, &task);
     expect_equal(&rt, &seen, &([Said::Done, Said::Done], [true, true], true));
     Ok(())
@@ -177,8 +177,8 @@ fn refuses_all<R: Wait + Copy>(s: &Sender<u64, R>, task: &MockTask) -> (Said, [b
 
 #[test]
 fn the_last_receiver_closes(rt: HostRuntime) -> Result<(), Fail> {
-    let (s, r) = opened(rt, rt.alloc(), 100).expect(&rt, "memory");
     let task = MockTask::new(&rt)?;
+    let (s, r) = opened(rt, rt.alloc(), 100).expect(&rt, "memory");
     let before = [
         sends(&task, &mut s.send(1)),
         sends(&task, &mut s.send(2)),
@@ -211,8 +211,8 @@ fn leaves_after_its_notice<R: Wait + Copy>(
 
 #[test]
 fn a_told_receive_that_leaves_passes_its_notice_on(rt: HostRuntime) -> Result<(), Fail> {
-    let (s, r) = opened(rt, rt.alloc(), 1).expect(&rt, "memory");
     let (one, two) = (MockTask::new(&rt)?, MockTask::new(&rt)?);
+    let (s, r) = opened(rt, rt.alloc(), 1).expect(&rt, "memory");
     let seen = leaves_after_its_notice(&s, &r, [&one, &two]);
     let said = [Said::Pending, Said::Pending, Said::Got(10)];
     expect_equal(&rt, &seen, &(said, [true, false], [true, true, true]));
@@ -247,8 +247,8 @@ fn takings_wake_sends<R: Wait + Copy>(
 
 #[test]
 fn each_taking_wakes_the_next_send(rt: HostRuntime) -> Result<(), Fail> {
-    let (s, r) = opened(rt, rt.alloc(), 1).expect(&rt, "memory");
     let (one, two) = (MockTask::new(&rt)?, MockTask::new(&rt)?);
+    let (s, r) = opened(rt, rt.alloc(), 1).expect(&rt, "memory");
     let (said, went, woken, next) = takings_wake_sends(&s, &r, [&one, &two]);
     expect_equal(
         &rt,
@@ -285,10 +285,10 @@ fn closing_wakes<R: Wait + Copy>(
 
 #[test]
 fn a_closing_wakes_everybody(rt: HostRuntime) -> Result<(), Fail> {
-    let (s, r) = opened(rt, rt.alloc(), 0).expect(&rt, "memory");
-    let mut t = r.try_clone().expect(&rt, "handles");
     let (one, two) = (MockTask::new(&rt)?, MockTask::new(&rt)?);
     let three = MockTask::new(&rt)?;
+    let (s, r) = opened(rt, rt.alloc(), 0).expect(&rt, "memory");
+    let mut t = r.try_clone().expect(&rt, "handles");
     let seen = closing_wakes(&s, &r, &mut t, [&one, &two, &three]);
     let before = [Said::Pending, Said::Pending, Said::Pending];
     expect_equal(&rt, &[seen.0[0], seen.0[1], seen.0[2]], &before);
@@ -328,9 +328,9 @@ fn message_wakes_both<R: Wait + Copy>(
 
 #[test]
 fn a_message_wakes_a_receive_and_a_stream(rt: HostRuntime) -> Result<(), Fail> {
+    let (one, two) = (MockTask::new(&rt)?, MockTask::new(&rt)?);
     let (s, r) = opened(rt, rt.alloc(), 0).expect(&rt, "memory");
     let mut t = r.try_clone().expect(&rt, "handles");
-    let (one, two) = (MockTask::new(&rt)?, MockTask::new(&rt)?);
     let (said, right, woken) = message_wakes_both(&s, &r, &mut t, [&one, &two]);
     let got = [
         Said::Pending,
@@ -366,8 +366,8 @@ fn polled_twice<R: Wait + Copy>(
 
 #[test]
 fn a_second_poll_wakes_nobody(rt: HostRuntime) -> Result<(), Fail> {
-    let (s, r) = opened(rt, rt.alloc(), 1).expect(&rt, "memory");
     let task = MockTask::new(&rt)?;
+    let (s, r) = opened(rt, rt.alloc(), 1).expect(&rt, "memory");
     let seen = polled_twice(&s, &r, &task);
     let said = [Said::Pending, Said::Pending, Said::Got(9)];
     expect_equal(&rt, &seen, &(said, [false, true, true]));
@@ -386,8 +386,8 @@ fn finishes<R: Wait + Copy>(s: &Sender<u64, R>, task: &MockTask) -> ([Said; 2], 
 
 #[test]
 fn a_finished_send_is_pending(rt: HostRuntime) -> Result<(), Fail> {
-    let (s, r) = opened(rt, rt.alloc(), 2).expect(&rt, "memory");
     let task = MockTask::new(&rt)?;
+    let (s, r) = opened(rt, rt.alloc(), 2).expect(&rt, "memory");
     let seen = finishes(&s, &task);
     let left = (r.len(), s.send(2).give_up());
     expect_equal(
