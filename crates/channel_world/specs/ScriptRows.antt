@@ -152,6 +152,26 @@ pub taking_beside_a_told_send_tells_one_more : ran today (codes "bounded 2" ∷ 
 unfolding digits
 taking_beside_a_told_send_tells_one_more = refl
 
+pub questions_of_a_channel_of_two : ran today (codes "bounded 2" ∷ codes "capacity r" ∷ codes "len s" ∷ codes "is_empty r" ∷ codes "is_full s" ∷ codes "is_closed s" ∷ codes "try_send s 1" ∷ codes "try_send s 2" ∷ codes "len r" ∷ codes "is_empty s" ∷ codes "is_full r" ∷ codes "same_channel s s" ∷ codes "same_channel s r" ∷ codes "close r" ∷ codes "is_closed r" ∷ codes "is_terminated r" ∷ codes "recv_many r 5" ∷ codes "is_terminated r" ∷ [])
+    ≡ (codes "ok" ∷ codes "2" ∷ codes "0" ∷ codes "true" ∷ codes "false" ∷ codes "false" ∷ codes "ok" ∷ codes "ok" ∷ codes "2" ∷ codes "false" ∷ codes "true" ∷ codes "true" ∷ codes "refused 7" ∷ codes "true" ∷ codes "true" ∷ codes "false" ∷ codes "ok 1 2" ∷ codes "true" ∷ [], 0)
+unfolding digits
+questions_of_a_channel_of_two = refl
+
+pub questions_of_a_channel_without_a_bound : ran today (codes "unbounded" ∷ codes "capacity s" ∷ codes "try_send s 1" ∷ codes "is_full r" ∷ codes "len r" ∷ codes "sender_count r" ∷ codes "receiver_count s" ∷ [])
+    ≡ (codes "ok" ∷ codes "none" ∷ codes "ok" ∷ codes "false" ∷ codes "1" ∷ codes "1" ∷ codes "1" ∷ [], 0)
+unfolding digits
+questions_of_a_channel_without_a_bound = refl
+
+pub a_closed_channel_gives_no_more_handles : ran today (codes "unbounded" ∷ codes "downgrade w s" ∷ codes "close s" ∷ codes "upgrade t w" ∷ codes "upgrade t w" ∷ codes "sender_count t" ∷ codes "sender_count s" ∷ [])
+    ≡ (codes "ok" ∷ codes "ok" ∷ codes "true" ∷ codes "none" ∷ codes "refused 4" ∷ codes "refused 3" ∷ codes "1" ∷ [], 0)
+unfolding digits
+a_closed_channel_gives_no_more_handles = refl
+
+pub a_clone_of_a_weak_handle_upgrades : ran today (codes "unbounded" ∷ codes "downgrade w r" ∷ codes "clone v w" ∷ codes "upgrade t v" ∷ codes "receiver_count t" ∷ [])
+    ≡ (codes "ok" ∷ codes "ok" ∷ codes "ok" ∷ codes "ok" ∷ codes "2" ∷ [], 0)
+unfolding digits
+a_clone_of_a_weak_handle_upgrades = refl
+
 -- ---- as bytes
 
 pub text_of_bytes : text_of_script (script (codes "bounded 1" ++ 10 ∷ codes "try_recv r")) ≡ codes "ok" ++ 10 ∷ codes "empty" ++ 10 ∷ []
