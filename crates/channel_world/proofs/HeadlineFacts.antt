@@ -1,8 +1,9 @@
 -- A run has each of the headline's sentences.
-use Rattle.std.proofs.Common.{arith, ◌≡◌, ◌+◌, List, [], ◌∷◌, length, Option, None, Some, Err, refl, ap, subst}
+use Rattle.std.proofs.Common.{arith, ◌≡◌, ◌+◌, List, [], ◌∷◌, length, Option, None, Some, Err, refl, sym, ap, subst}
 use Rattle.std.specs.Prelude.{IfSome}
 use Rattle.futures.specs.declared.task.Poll.TheVariants.{Ready}
 use Rattle.channel_calls.specs.Moves.{Channel}
+use Rattle.channel_calls.specs.Parts.{Parts}
 use Rattle.channel_calls.specs.declared.ask.ChannelAsk.{ChannelAsk}
 use Rattle.channel_calls.specs.declared.ask.ChannelAsk.TheVariants as ask
 use Rattle.channel_calls.specs.declared.error.Refused.TheVariants as refused
@@ -21,7 +22,7 @@ use Rattle.channel_steps.specs.declared.party.Entry.{Entry as ChannelEntry}
 use Rattle.channel_steps.specs.declared.run.Step.{Step as ChannelStep}
 use Rattle.channel_steps.specs.declared.run.Step.TheVariants as channel
 use Rattle.channel_interleaving.specs.Kept.{AllKept}
-use Rattle.channel_interleaving.specs.Floor.{book_of, messages_in, StandsIn, Stands}
+use Rattle.channel_interleaving.specs.Floor.{book_of, parts_in, messages_in, StandsIn, Stands}
 use Rattle.channel_interleaving.specs.Run.{Stops, channel_step}
 use Rattle.channel_interleaving.specs.Runs.{Moment, LeadsBy, EachStep, accepted_in, left_in, moment_of, RanTo}
 use Rattle.channel_interleaving.specs.declared.floor.Floor.{Floor}
@@ -32,8 +33,10 @@ use Rattle.channel_interleaving.specs.declared.step.Step.TheVariants as step
 use Rattle.channel_interleaving.proofs.Interface.{few_in}
 use Rattle.channel_world.proofs.SoonFacts.{end_soon}
 use Rattle.channel_world.proofs.MarkFacts.{all_begin}
+use Rattle.channel_world.proofs.WordsFacts.{words_say}
 use Rattle.channel_world.specs.Headline.{Headline}
-use Rattle.channel_world.specs.Sentences.{Own, IsAccepted, TouchesOneCell, RepliesByItsRow, BeginsMarksOfARow, TellsWhatItOwes, LeavesNothing, RefusedLeavesNothing, WaitsForNobody, OwesWhoWaits, EndsForGood}
+use Rattle.channel_world.specs.Words.{WordsSay}
+use Rattle.channel_world.specs.Sentences.{Own, IsAccepted, TouchesOneCell, RepliesByItsRow, BeginsMarksOfARow, TellsWhatItOwes, LeavesNothing, RefusedLeavesNothing, WaitsForNobody, OwesWhoWaits, EndsForGood, WordsSayIt}
 
 module _ {T : Type 0} where
   -- what follows of each step follows of all
@@ -58,6 +61,15 @@ module _ {T : Type 0} where
       let is = h.is in
       let stands = is.stands in
       (h.floor, is, stands.owed)
+
+  say_words : (f : Floor T) (s : Scene T Waiter) → StandsIn f s → WordsSay (parts_in f).cells s
+  say_words f s k = words_say (parts_in f) f.parties.items s k.shown.shows
+
+  words : (m : Moment T) (x : Step T) (e : Entry T) (n : Moment T) → LeadsBy m x e n → WordsSayIt m x e n
+  words m x e n l =
+      let is = l.holds.is in
+      let same : n.parts ≡ parts_in l.holds.floor = ap (λ (k : Moment T). k.parts) is.moment in
+      subst (λ (p : Parts T Waiter). WordsSay p.cells n.scene) (sym same) (say_words l.holds.floor n.scene is.stands)
 
   -- the call that makes the step
   abbrev own : (m : Moment T) (p : PartyId) (e : Entry T) (n : Moment T) → LeadsBy m (step.Step p) e n → Own m p e n
@@ -180,6 +192,8 @@ module _ {T : Type 0} where
         stops = stops;
         owed = each LeadsBy OwesWhoWaits owes start r.made trace r.moments r.run;
         for_good = all_end_well start r.made trace r.moments k.kept r.run;
+        words_at_first = say_words old s k;
+        words = each LeadsBy WordsSayIt words start r.made trace r.moments r.run;
       }
 
   -- the number of messages

@@ -7,6 +7,7 @@ pub mod CountDrops
 pub mod CountFacts
 pub mod SoonFacts
 pub mod MarkFacts
+pub mod WordsFacts
 pub mod HeadlineFacts
 pub mod Whole
 pub mod Tasks

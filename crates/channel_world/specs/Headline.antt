@@ -1,6 +1,6 @@
 -- The headline: what every run of steps promises, of every list of steps, from any world, wherever the list ends.
 use Rattle.std.specs.Prelude.{◌≡◌, List, ◌++◌, length, Option}
-use Rattle.channel_interleaving.specs.Floor.{book_of, StandsIn}
+use Rattle.channel_interleaving.specs.Floor.{book_of, parts_in, StandsIn}
 use Rattle.channel_interleaving.specs.Run.{Stops}
 use Rattle.channel_interleaving.specs.Runs.{Moment, IsRun, EachStep, end_of, moment_of}
 use Rattle.channel_interleaving.specs.declared.floor.Floor.{Floor}
@@ -10,8 +10,9 @@ use Rattle.channel_model.specs.declared.name.Waiter.{Waiter}
 use Rattle.channel_model.specs.declared.run.Stopped.{Stopped}
 use Rattle.channel_steps.specs.Run.{Accounts}
 use Rattle.channel_steps.specs.Scene.{Scene}
-use Rattle.channel_world.specs.Sentences.{IsAccepted, TouchesOneCell, RepliesByItsRow, TellsWhatItOwes, RefusedLeavesNothing, WaitsForNobody, OwesWhoWaits, EndsForGood, BeginsMarksOfARow}
+use Rattle.channel_world.specs.Sentences.{IsAccepted, TouchesOneCell, RepliesByItsRow, TellsWhatItOwes, RefusedLeavesNothing, WaitsForNobody, OwesWhoWaits, EndsForGood, BeginsMarksOfARow, WordsSayIt}
 use Rattle.channel_world.specs.StepsLeft.{EndSoon}
+use Rattle.channel_world.specs.Words.{WordsSay}
 
 module _ {T : Type 0} where
   -- The world `old`, standing in the scene `from`, was given the steps `steps`; `left` were left, and it became `new`. A scene is
@@ -52,3 +53,7 @@ module _ {T : Type 0} where
     pub owed : EachStep OwesWhoWaits (moment_of old from) made trace moments
     -- closed stays closed; and once a receive answered closed, or a stream ended, no receive that begins later gives a message
     pub for_good : EachStep EndsForGood (moment_of old from) made trace moments
+    -- at each moment, the first one too, the channel is closed or not and holds so many messages as its queue's words say; and each
+    -- message lies in the slot that they name for it alone, or is with the call that brought it
+    pub words_at_first : WordsSay (parts_in old).cells from
+    pub words : EachStep WordsSayIt (moment_of old from) made trace moments

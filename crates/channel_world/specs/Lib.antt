@@ -1,5 +1,6 @@
 pub mod World
 pub mod Marks
+pub mod Words
 pub mod Sentences
 pub mod StepsLeft
 pub mod Headline

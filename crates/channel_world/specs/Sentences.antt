@@ -29,6 +29,7 @@ use Rattle.channel_interleaving.specs.declared.step.PartyId.{PartyId}
 use Rattle.channel_interleaving.specs.declared.step.Step.{Step}
 use Rattle.channel_interleaving.specs.declared.step.Step.TheVariants as step
 use Rattle.channel_world.specs.Marks.{BeginsItsMarks}
+use Rattle.channel_world.specs.Words.{WordsSay}
 
 module _ {T : Type 0} where
   -- the call of a party as it is under way at m, and as it is after this step of its own: one moment more, and the mark of the
@@ -115,3 +116,7 @@ module _ {T : Type 0} where
   -- the world at the moment after it, as it is: each who is pending and was not woken is owed no more than is to come
   abbrev pub OwesWhoWaits : Moment T → Step T → Entry T → Moment T → Type 0
   OwesWhoWaits m x e n = (w : Floor T) × IsOf w n × Owed (sight_of w)
+
+  -- the flag, the number of messages and where each lies, at the moment after it, are what the words of the queue say then
+  abbrev pub WordsSayIt : Moment T → Step T → Entry T → Moment T → Type 0
+  WordsSayIt m x e n = WordsSay n.parts.cells n.scene

@@ -1,0 +1,45 @@
+-- What the words of a channel's queue say of its messages, at a moment at which calls are under way.
+use Rattle.std.specs.Prelude.{◌≡◌, ℕ, List, [], ◌∷◌, length, ◌⊎◌}
+use Rattle.concurrent_queue.specs.Contents.{Contents}
+use Rattle.concurrent_queue.specs.Queue.{Phase}
+use Rattle.concurrent_queue.specs.Step.{closed_in, length_in, items_in, Lies}
+use Rattle.channel_calls.specs.declared.mark.Mark.TheVariants.{Append, Replace}
+use Rattle.channel_calls.specs.declared.stage.Stage.{Stage}
+use Rattle.channel_calls.specs.declared.stage.Stage.TheVariants.{Trying}
+use Rattle.channel_interleaving.specs.Owners.{All}
+use Rattle.channel_steps.specs.Moments.{Deed}
+use Rattle.channel_steps.specs.Scene.{Under, Scene, brought}
+
+module _ {T W : Type 0} where
+  -- the queue has the next step of a call at this stage
+  abbrev pub IsAtQueue : Stage (Phase T) T W → Type 0
+  IsAtQueue (Trying f aim) = Unit {0}
+  IsAtQueue stage = ⊥
+
+  -- one of these marks let a message in
+  abbrev pub HasLetIn : List (Deed T W) → Type 0
+  HasLetIn [] = ⊥
+  HasLetIn (d ∷ ds) = ((d.mark ≡ Append) ⊎ (d.mark ≡ Replace)) ⊎ HasLetIn ds
+
+  -- this message is with the call that brought it: a mark of the call let it in, and the queue still has the call's next step, so
+  -- that nobody was told of it
+  pub record IsWith (v : T) (u : Under T W) : Type 0 where
+    pub brings : brought u.ask ≡ v ∷ []
+    pub let_in : HasLetIn u.deeds
+    pub at_queue : IsAtQueue u.at
+
+  -- it is with one of these
+  abbrev pub IsWithOne : T → List (Under T W) → Type 0
+  IsWithOne v [] = ⊥
+  IsWithOne v (u ∷ us) = IsWith v u ⊎ IsWithOne v us
+
+  -- By its words the channel is closed or not and holds so many messages, and each of them lies in the slot that the words name
+  -- for it, which is no other's, or is with the call that brought it. A queue without a bound names its slots by the blocks that
+  -- it has used so far, oldest first, those given back too; one with a bound has no blocks, and names them by its words alone.
+  -- While the queue has the next step of no call, its slots hold just these messages, in order, as its words lead through them.
+  pub record WordsSay (c : Contents T) (s : Scene T W) : Type 0 where
+    pub flag : closed_in c ≡ s.now.queue.closed
+    pub long : length_in c ≡ length s.now.queue.items
+    pub blocks : List ℕ
+    pub lies : Lies blocks c s.now.queue.items (λ v. IsWithOne v s.under_way)
+    pub at_rest : All (λ (u : Under T W). IsAtQueue u.at → ⊥) s.under_way → s.now.queue.items ≡ items_in c
