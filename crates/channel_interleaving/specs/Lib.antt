@@ -1,5 +1,6 @@
 pub mod Roll
 pub mod Pending
+pub mod Apart
 pub mod Refusal
 pub mod Bookkeeping
 pub mod Woken

@@ -165,6 +165,7 @@ impl<T: Drop> Interleaved<T> {
     ghost use Rattle.std.specs.Prelude.{◌≡◌, ◌≤◌, ◌<◌, ◌+◌, ◌-◌, ◌^◌, [], ◌∷◌, None, length, IfOk, IfErr, OnErr, IsTrue, vec_len, vec_capacity};
     ghost use Rattle.channel_model.specs.Settling.{poll_of};
     ghost use Rattle.channel_calls.specs.Parts.{listeners};
+    ghost use Rattle.channel_interleaving.specs.Apart.{AreApart};
     ghost use Rattle.channel_interleaving.specs.Refusal.{refusal};
     ghost use Rattle.channel_interleaving.specs.Floor.{parts_in, IsKept, IsQuiet, IsSame, LeadsOn, Stands};
     ghost use Rattle.channel_interleaving.specs.Lone.{CallsAlone, WakesAtMost};
@@ -237,6 +238,14 @@ impl<T: Drop> Interleaved<T> {
         ensures stands { Stands self.now }
         ensures few { length self.now.roll.operations < 2 ^ 63 }
     {
+        let _operations = self.floor.roll.operations.iter();
+    }
+
+    /// Says that no name stands twice, and does nothing. Own to this project.
+    pub fn names_are_apart(&self)
+        ensures { AreApart self.now.roll }
+    {
+        let _handles = self.floor.roll.handles.iter();
         let _operations = self.floor.roll.operations.iter();
     }
 

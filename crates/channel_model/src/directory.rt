@@ -23,7 +23,9 @@ impl<X> Model for Directory<X> {
 }
 
 impl<X> Directory<X> {
-    ghost use Rattle.std.specs.Prelude.{◌≡◌, ◌<◌, ◌^◌, ◌∷◌, [], length, false, option_copied, IfNone, IfOk, IfErr, OnOk, OnErr};
+    ghost use Rattle.std.specs.Prelude.{◌≡◌, ◌<◌, ◌^◌, ◌∷◌, [], length, nat_eq, false, option_copied, IfNone, IfOk, IfErr, OnOk, OnErr};
+    ghost use Rattle.std.specs.List.{IsDistinct};
+    ghost use Rattle.std.specs.Map.{keys_of};
     ghost use Rattle.channel_model.specs.Names.{at, is_taken, with_new, with_changed, without};
 
     /// No name was taken.
@@ -51,10 +53,11 @@ impl<X> Directory<X> {
         self.entries.contains(&name)
     }
 
-    /// All names with what lives under them.
+    /// All names with what lives under them. None stands twice.
     pub fn iter(&self) -> Iter<'_, u32, Option<X>>
         ensures entries { result ≡ self.now }
         ensures few { length self.now < 2 ^ 63 }
+        ensures apart { IsDistinct nat_eq (keys_of self.now) }
     {
         let _length = self.entries.len();
         self.entries.iter()

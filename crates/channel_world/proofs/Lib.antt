@@ -5,6 +5,8 @@ pub mod Carried
 mod Leading
 pub mod CountDrops
 pub mod CountFacts
+pub mod NumberLists
+pub mod NumberFacts
 pub mod SoonFacts
 pub mod MarkFacts
 pub mod WordsFacts

@@ -3,6 +3,7 @@
 
 ghost use Rattle.channel_world.specs.Carried.{HoldsWhatFits, LeadsFurther, LeadsOnInTurn, StaysWhereItIs};
 ghost use Rattle.channel_world.specs.Counts.{AreByDrops, CountsAtRest, CountsLive, OpenHasBoth};
+ghost use Rattle.channel_world.specs.Numbers.{MessagesAtRest, PendingAtRest, WokenAtRest};
 
 pub use crate::recorded::laws::{a_record_leaves_nobody_asleep, a_record_loses_nothing};
 use crate::world::World;
@@ -51,4 +52,20 @@ pub fn counts_are_live_handles<T: Drop>(world: &World<T>)
     ensures at_rest { CountsAtRest world.now }
 {
     world.keeps();
+}
+
+/// What the three numbers count that a world tells, where no call is under way: `messages()` is the length of the list of its
+/// state; `pending()` is the number of operations and streams that stand in its four lines, untold or woken, in whose words the
+/// bound of settling is said; and `woken()` is the number of those of them who were woken, the length of their order. So where
+/// `pending()` answered w, `settle` makes no more than w(w+1)/2 polls.
+///
+/// Own to this project.
+pub fn numbers_are_those_at_rest<T: Drop>(world: &World<T>)
+    ensures messages { MessagesAtRest world.now }
+    ensures pending { PendingAtRest world.now }
+    ensures woken { WokenAtRest world.now }
+{
+    a_channel_at_rest_is_a_world::<T>();
+    world.keeps();
+    world.names_are_apart();
 }

@@ -82,6 +82,7 @@ impl<T: Drop> World<T> {
     ghost use Rattle.channel_calls.specs.declared.reply.Reply.{Reply};
     ghost use Rattle.channel_model.specs.declared.name.Waiter.{Waiter};
     ghost use Rattle.channel_steps.specs.Scene.{Scene};
+    ghost use Rattle.channel_interleaving.specs.Apart.{AreApart};
     ghost use Rattle.channel_interleaving.specs.Roll.{is_woken};
     ghost use Rattle.channel_interleaving.specs.Pending.{is_pending, how_many};
     ghost use Rattle.channel_interleaving.specs.Runs.{accepted_in, left_in};
@@ -128,6 +129,13 @@ impl<T: Drop> World<T> {
         ensures { Stands self.now }
     {
         self.steps.keeps();
+    }
+
+    /// Says that no name stands twice, and does nothing.
+    pub(crate) fn names_are_apart(&self)
+        ensures { AreApart self.now.roll }
+    {
+        self.steps.names_are_apart();
     }
 
     /// Whether no call is under way. Own to this project.

@@ -1,6 +1,6 @@
 //! Clients of a world that know nothing of it but that it is one. They are proved; nothing runs them.
 
-ghost use Rattle.std.specs.Prelude.{◌≡◌, ◌+◌, List, ◌++◌};
+ghost use Rattle.std.specs.Prelude.{◌≡◌, ◌+◌, ◌*◌, ◌≤◌, List, ◌++◌, IfOk, vec_len};
 ghost use Rattle.channel_calls.specs.declared.reply.Reply.{Reply};
 ghost use Rattle.channel_interleaving.specs.Floor.{IsQuiet, Led};
 ghost use Rattle.channel_interleaving.specs.Runs.{accepted_in, left_in};
@@ -14,9 +14,11 @@ ghost use Rattle.channel_world.specs.World.{at_rest};
 ghost use Rattle.channel_world_tests.specs.Carry.{replied_if};
 
 use channel_world::call::{Call, CallRun};
-use channel_world::laws::counts_are_live_handles;
+use channel_world::laws::{counts_are_live_handles, numbers_are_those_at_rest};
+use channel_world::settle::Settled;
 use channel_world::step::{Run, Step};
 use channel_world::world::World;
+use event_listener::error::NoMemory;
 use std::collections::VecDeque;
 
 /// A run with the numbers of messages before and after it.
@@ -114,4 +116,24 @@ pub fn counts_at_rest<T: Drop>(world: &World<T>)
     ensures { HandlesAreCounted (at_rest world.now).channel (at_rest world.now).names.handles }
 {
     counts_are_live_handles(world);
+}
+
+/// A settling, with the number of those who were pending before it.
+#[derive(Drop)]
+pub struct Settling<T> {
+    /// How many were pending.
+    pub pending: usize,
+    /// The polls that were made.
+    pub polls: Result<Vec<Settled<T>>, NoMemory>,
+}
+
+/// Settles whatever world has no call under way: where w operations and streams were pending, it makes w(w+1)/2 polls at most.
+pub fn settle_pending<T: Drop>(world: &mut World<T>) -> Settling<T>
+    requires { IsQuiet world.old }
+    ensures { IfOk result.polls (λ polls. 2 * vec_len polls ≤ result.pending * (result.pending + 1)) }
+{
+    numbers_are_those_at_rest(world);
+    let pending = world.pending();
+    let polls = world.settle();
+    Settling { pending, polls }
 }

@@ -1,0 +1,364 @@
+-- The numbers that a world tells, with no call under way, are those of its state.
+use Rattle.std.specs.List.{filter}
+use Rattle.std.specs.Map.{lookup}
+use Rattle.std.specs.Option.{option_map_or}
+use Rattle.std.proofs.Common.{arith, ◌≡◌, ◌⊎◌, ℕ, ◌+◌, ◌≤◌, nat_eq, Bool, true, false, cond, List, [], ◌∷◌, ◌++◌, length, Option, None, Some, is_some, inl, inr, refl, sym, ap, ◌∙◌, subst, length-append}
+use Rattle.event_listener.specs.declared.key.Key.{Key}
+use Rattle.channel_calls.specs.declared.stage.Line.{Line}
+use Rattle.channel_calls.specs.declared.stage.Line.TheVariants.{Sends, Receives, Streams, Closings}
+use Rattle.channel_model.specs.Awake.{times, times_in}
+use Rattle.channel_model.specs.Lines.{Waiting, is_among, same_waiter, untold}
+use Rattle.channel_model.specs.Names.{Directory, at}
+use Rattle.channel_model.specs.Settling.{pending_count}
+use Rattle.channel_model.specs.State.{State}
+use Rattle.channel_model.specs.declared.name.HandleId.{HandleId}
+use Rattle.channel_model.specs.declared.name.HandleKind.{HandleKind}
+use Rattle.channel_model.specs.declared.name.HandleKind.TheVariants as handle_kind
+use Rattle.channel_model.specs.declared.name.OpId.{OpId}
+use Rattle.channel_model.specs.declared.name.Waiter.{Waiter}
+use Rattle.channel_model.specs.declared.name.Waiter.TheVariants.{Op, Stream}
+use Rattle.channel_model.proofs.Counting.{among_append, among_counts, count_append}
+use Rattle.channel_model.proofs.WaiterLemmas.{decided, or_true, same_refl, same_sound}
+use Rattle.channel_interleaving.specs.Apart.{AreApart}
+use Rattle.channel_interleaving.specs.Floor.{book_of, IsQuiet, Stands}
+use Rattle.channel_interleaving.specs.OwnerOrder.{was_woken, woken_in}
+use Rattle.channel_interleaving.specs.Owners.{IsAmong, Post, free, vacant, amiss, rests, waits, polled, post_on, no_stream_post, stream_post, posted, send_post, operation_post, post}
+use Rattle.channel_interleaving.specs.Pending.{is_pending, how_many, operation_stands, stream_stands}
+use Rattle.channel_interleaving.specs.Roll.{key_of, held_of, is_woken}
+use Rattle.channel_interleaving.specs.Kept.{AllKept}
+use Rattle.channel_interleaving.specs.Run.{Book}
+use Rattle.channel_interleaving.specs.declared.floor.Floor.{Floor}
+use Rattle.channel_interleaving.specs.declared.names.Hold.{Hold}
+use Rattle.channel_interleaving.specs.declared.names.Operation.{Operation}
+use Rattle.channel_interleaving.specs.declared.names.OperationKind.{OperationKind}
+use Rattle.channel_interleaving.specs.declared.names.OperationKind.TheVariants as kind
+use Rattle.channel_interleaving.specs.declared.names.Standing.{Standing}
+use Rattle.channel_interleaving.specs.declared.names.Standing.TheVariants.{Rests, Waits, IsPolled}
+use Rattle.channel_interleaving.specs.declared.roll.Roll.{Roll}
+use Rattle.channel_interleaving.proofs.Interface.{none_under_way}
+use Rattle.channel_refinement.specs.Shows.{AreUntold}
+use Rattle.channel_rest.specs.Rest.{state_at, IsWorld, RestIsAWorld}
+use Rattle.channel_rest.proofs.Woken.{among_filter, woken_waits}
+use Rattle.channel_steps.specs.Scene.{Scene}
+use Rattle.channel_world.specs.Numbers.{MessagesAtRest, PendingAtRest, WokenAtRest}
+use Rattle.channel_world.specs.World.{at_rest}
+use Rattle.channel_world.proofs.NumberLists.{no_longer, named, named_many, none_named, named_there, named_once, named_so}
+use Rattle.channel_world.proofs.Opening.{at_rest_is}
+
+abbrev op_name : ℕ → Waiter
+op_name n = Op (record { 0 = n })
+
+abbrev stream_name : ℕ → Waiter
+stream_name n = Stream (record { 0 = n })
+
+-- ---- how those stand who live under the names
+
+module _ {T : Type 0} (test : Standing → Bool) (r : Roll T) where
+  -- whether what lives under the name stands so
+  abbrev stands_so : Waiter → Bool
+  stands_so (Op op) = operation_stands test (at op.0 r.operations)
+  stands_so (Stream handle) = stream_stands test (at handle.0 r.handles)
+
+  abbrev operations_so : List Waiter
+  operations_so = named (operation_stands test) op_name r.operations
+
+  abbrev streams_so : List Waiter
+  streams_so = named (stream_stands test) stream_name r.handles
+
+  abbrev all_so : List Waiter
+  all_so = operations_so ++ streams_so
+
+  so_many : length all_so ≡ how_many test r
+  so_many =
+      let both = length-append operations_so streams_so in
+      let first = named_many (operation_stands test) op_name r.operations in
+      let second = named_many (stream_stands test) stream_name r.handles in
+      omega (arith, both, first, second)
+
+  so_split : (w : Waiter) → times w all_so ≡ times w operations_so + times w streams_so
+  so_split w = count_append (same_waiter w) operations_so streams_so
+
+  so_there : (w : Waiter) → stands_so w ≡ true → 1 ≤ times w all_so
+  so_there (Op op) e =
+      let split = so_split (Op op) in
+      let there = named_there (operation_stands test) op_name (λ m n. refl) refl op.0 r.operations e in
+      omega (arith, split, there)
+  so_there (Stream handle) e =
+      let split = so_split (Stream handle) in
+      let there = named_there (stream_stands test) stream_name (λ m n. refl) refl handle.0 r.handles e in
+      omega (arith, split, there)
+
+  so_once : AreApart r → (w : Waiter) → times w all_so ≤ 1
+  so_once apart (Op op) =
+      let split = so_split (Op op) in
+      let one = named_once (operation_stands test) op_name (λ m n. refl) refl op.0 r.operations apart.operations in
+      let none = none_named (stream_stands test) stream_name (Op op) (λ n. refl) r.handles in
+      omega (arith, split, one, none)
+  so_once apart (Stream handle) =
+      let split = so_split (Stream handle) in
+      let one = named_once (stream_stands test) stream_name (λ m n. refl) refl handle.0 r.handles apart.handles in
+      let none = none_named (operation_stands test) op_name (Stream handle) (λ n. refl) r.operations in
+      omega (arith, split, one, none)
+
+  so_stands : AreApart r → (w : Waiter) → is_among w all_so ≡ true → stands_so w ≡ true
+  so_stands apart (Op op) i = by (among_append (Op op) operations_so streams_so i)
+    where
+      by : (is_among (Op op) operations_so ≡ true) ⊎ (is_among (Op op) streams_so ≡ true) → stands_so (Op op) ≡ true
+      by (inl k) = named_so (operation_stands test) op_name (λ m n. refl) refl op.0 r.operations apart.operations k
+      by (inr k) =
+          let none = none_named (stream_stands test) stream_name (Op op) (λ n. refl) r.handles in
+          let there = among_counts (Op op) streams_so k in
+          absurd (omega (arith, none, there))
+  so_stands apart (Stream handle) i = by (among_append (Stream handle) operations_so streams_so i)
+    where
+      by : (is_among (Stream handle) operations_so ≡ true) ⊎ (is_among (Stream handle) streams_so ≡ true)
+          → stands_so (Stream handle) ≡ true
+      by (inl k) =
+          let none = none_named (operation_stands test) op_name (Stream handle) (λ n. refl) r.operations in
+          let there = among_counts (Stream handle) operations_so k in
+          absurd (omega (arith, none, there))
+      by (inr k) = named_so (stream_stands test) stream_name (λ m n. refl) refl handle.0 r.handles apart.handles k
+
+  -- a list of just those who stand so, none of them twice, is as long as they are many
+  counted_so : AreApart r → (ws : List Waiter) → ((w : Waiter) → times w ws ≤ 1)
+      → ((w : Waiter) → is_among w ws ≡ true → stands_so w ≡ true) → ((w : Waiter) → stands_so w ≡ true → 1 ≤ times w ws)
+      → how_many test r ≡ length ws
+  counted_so apart ws once so there =
+      let most = no_longer all_so ws (so_once apart) (λ w i. there w (so_stands apart w i)) in
+      let least = no_longer ws all_so once (λ w i. so_there w (so w i)) in
+      let many = so_many in
+      omega (arith, most, least, many)
+
+-- ---- who is pending holds a listener
+
+some_so : {X : Type 0} (o : Option X) → is_some o ≡ true → (x : X) × (o ≡ Some x)
+some_so None e = absurd (let no : false ≡ true = e in cc)
+some_so (Some x) e = (x, refl)
+
+module _ {T : Type 0} (r : Roll T) where
+  pending_holds : (w : Waiter) → stands_so is_pending r w ≡ is_some (held_of r w)
+  pending_holds (Op op) = by (at op.0 r.operations)
+    where
+      by : (o : Option (Operation T)) → operation_stands is_pending o ≡ is_some (option_map_or (λ (x : Operation T). key_of x.standing) o None)
+      by None = refl
+      by (Some x) = refl
+  pending_holds (Stream handle) = by (at handle.0 r.handles)
+    where
+      by : (o : Option Hold) → stream_stands is_pending o ≡ is_some (option_map_or (λ (x : Hold). key_of x.standing) o None)
+      by None = refl
+      by (Some x) = refl
+
+  -- ---- who was woken
+
+  woken_on : (line : Line) (s : Standing) → is_woken s ≡ was_woken (post_on line s)
+  woken_on line Rests = refl
+  woken_on line (Waits key b) = refl
+  woken_on line (IsPolled brings) = refl
+
+  woken_off : (s : Standing) → (no_stream_post s ≡ amiss → ⊥) → is_woken s ≡ was_woken (no_stream_post s)
+  woken_off Rests fine = refl
+  woken_off (Waits key b) fine = absurd (fine refl)
+  woken_off (IsPolled brings) fine = refl
+
+  woken_stream : (k : HandleKind) (s : Standing) → (stream_post k s ≡ amiss → ⊥) → is_woken s ≡ was_woken (stream_post k s)
+  woken_stream handle_kind.Receiver s fine = woken_on Streams s
+  woken_stream handle_kind.Sender s fine = woken_off s fine
+  woken_stream handle_kind.WeakSender s fine = woken_off s fine
+  woken_stream handle_kind.WeakReceiver s fine = woken_off s fine
+
+  woken_send : (m : Option T) (s : Standing) → (send_post m s ≡ amiss → ⊥) → is_woken s ≡ was_woken (send_post m s)
+  woken_send None Rests fine = refl
+  woken_send None (Waits key b) fine = absurd (fine refl)
+  woken_send None (IsPolled brings) fine = refl
+  woken_send (Some m) s fine = woken_on Sends s
+
+  woken_operation : (k : OperationKind) (m : Option T) (s : Standing) → (operation_post k m s ≡ amiss → ⊥)
+      → is_woken s ≡ was_woken (operation_post k m s)
+  woken_operation kind.Send m s fine = woken_send m s fine
+  woken_operation kind.Receive m s fine = woken_on Receives s
+  woken_operation kind.Closing m s fine = woken_on Closings s
+
+  abbrev lives : {X : Type 0} → Option (Option X) → Option X
+  lives o = option_map_or (λ (x : Option _). x) o None
+
+  abbrev operation_seen : Option (Option (Operation T)) → Post
+  operation_seen o = posted (λ (x : Operation T). operation_post x.kind x.message x.standing) o
+
+  abbrev handle_seen : Option (Option Hold) → Post
+  handle_seen o = posted (λ (x : Hold). stream_post x.handle.kind x.standing) o
+
+  -- where nothing is amiss whoever was woken stands so by its name
+  woken_so : (w : Waiter) → (post r w ≡ amiss → ⊥) → stands_so is_woken r w ≡ was_woken (post r w)
+  woken_so (Op op) fine = by (lookup (nat_eq op.0) r.operations) fine
+    where
+      by : (o : Option (Option (Operation T))) → (operation_seen o ≡ amiss → ⊥)
+          → operation_stands is_woken (lives o) ≡ was_woken (operation_seen o)
+      by None f = refl
+      by (Some None) f = refl
+      by (Some (Some x)) f = woken_operation x.kind x.message x.standing f
+  woken_so (Stream handle) fine = by (lookup (nat_eq handle.0) r.handles) fine
+    where
+      by : (o : Option (Option Hold)) → (handle_seen o ≡ amiss → ⊥) → stream_stands is_woken (lives o) ≡ was_woken (handle_seen o)
+      by None f = refl
+      by (Some None) f = refl
+      by (Some (Some x)) f = woken_stream x.handle.kind x.standing f
+
+  woken_pends : (s : Standing) → is_woken s ≡ true → is_pending s ≡ true
+  woken_pends Rests e = e
+  woken_pends (Waits key b) e = refl
+  woken_pends (IsPolled brings) e = e
+
+  -- and is pending
+  woken_are_pending : (w : Waiter) → stands_so is_woken r w ≡ true → stands_so is_pending r w ≡ true
+  woken_are_pending (Op op) e = by (at op.0 r.operations) e
+    where
+      by : (o : Option (Operation T)) → operation_stands is_woken o ≡ true → operation_stands is_pending o ≡ true
+      by None f = f
+      by (Some x) f = woken_pends x.standing f
+  woken_are_pending (Stream handle) e = by (at handle.0 r.handles) e
+    where
+      by : (o : Option Hold) → stream_stands is_woken o ≡ true → stream_stands is_pending o ≡ true
+      by None f = f
+      by (Some x) f = woken_pends x.standing f
+
+-- ---- those who stand in the lines
+
+untold_hold : (held : Waiter → Option Key) (es : List (Key × Option Waiter)) (ws : List Waiter) (w : Waiter) → AreUntold held es ws
+    → is_among w ws ≡ true → is_some (held w) ≡ true
+untold_hold held [] [] w h i = absurd (let no : false ≡ true = i in cc)
+untold_hold held [] (v ∷ ws) w h i = absurd h
+untold_hold held (e ∷ es) [] w h i = absurd h
+untold_hold held (e ∷ es) (v ∷ ws) w h i =
+    by (or_true (same_waiter w v) (is_among w ws) i) (λ k. untold_hold held es ws w h.2 k)
+  where
+    by : (same_waiter w v ≡ true) ⊎ (is_among w ws ≡ true) → (is_among w ws ≡ true → is_some (held w) ≡ true) → is_some (held w) ≡ true
+    by (inl t) on = ap (λ (x : Waiter). is_some (held x)) (same_sound w v t) ∙ ap (λ (o : Option Key). is_some o) h.0
+    by (inr k) on = on k
+
+-- who has a place and passes is kept
+kept_in : (p : Waiter → Bool) (w : Waiter) (ws : List Waiter) → IsAmong w ws → p w ≡ true → 1 ≤ times w (filter p ws)
+kept_in p w [] i e = absurd i
+kept_in p w (v ∷ ws) (inl same) e =
+    let passes : p v ≡ true = ap p same ∙ e in
+    let own : same_waiter w v ≡ true = ap (λ (x : Waiter). same_waiter w x) same ∙ same_refl w in
+    rw passes (rw own (omega arith))
+kept_in p w (v ∷ ws) (inr i) e =
+    let more = kept_in p w ws i e in
+    elim (decided (p v)) [
+      | inl t ↦ rw t (elim (decided (same_waiter w v)) [
+        | inl s ↦ rw s (omega arith)
+        | inr f ↦ rw f more
+      ])
+      | inr f ↦ rw f more
+    ]
+
+abbrev everybody : Waiting → List Waiter
+everybody l = l.sends ++ (l.receives ++ (l.streams ++ (l.closings ++ l.woken)))
+
+everybody_many : (l : Waiting) → length (everybody l) ≡ pending_count l
+everybody_many l =
+    let a = length-append l.sends (l.receives ++ (l.streams ++ (l.closings ++ l.woken))) in
+    let b = length-append l.receives (l.streams ++ (l.closings ++ l.woken)) in
+    let c = length-append l.streams (l.closings ++ l.woken) in
+    let d = length-append l.closings l.woken in
+    omega (arith, a, b, c, d)
+
+everybody_once : (w : Waiter) (l : Waiting) → times w (everybody l) ≡ times_in w l
+everybody_once w l =
+    let a = count_append (same_waiter w) l.sends (l.receives ++ (l.streams ++ (l.closings ++ l.woken))) in
+    let b = count_append (same_waiter w) l.receives (l.streams ++ (l.closings ++ l.woken)) in
+    let c = count_append (same_waiter w) l.streams (l.closings ++ l.woken) in
+    let d = count_append (same_waiter w) l.closings l.woken in
+    omega (arith, a, b, c, d)
+
+module _ {T : Type 0} (b : Book T) (s : Scene T Waiter) (kept : AllKept b s) (world : IsWorld b s) (apart : AreApart b.roll) where
+  abbrev who : Waiting
+  who = (state_at b s).waiting
+
+  once_in : (w : Waiter) → times_in w who ≤ 1
+  once_in w = let placed = world.awake.placed in placed.once w
+
+  fine : (w : Waiter) → post b.roll w ≡ amiss → ⊥
+  fine w e = let owned = kept.owned in owned.none_amiss w e
+
+  told_so : (w : Waiter) → is_among w who.woken ≡ true → stands_so is_woken b.roll w ≡ true
+  told_so w i = woken_so b.roll w (fine w) ∙ among_filter (λ v. was_woken (post b.roll v)) w b.order i
+
+  told_there : (w : Waiter) → stands_so is_woken b.roll w ≡ true → 1 ≤ times w who.woken
+  told_there w e =
+      let was : was_woken (post b.roll w) ≡ true = sym (woken_so b.roll w (fine w)) ∙ e in
+      let h = woken_waits b.roll w was in
+      let order = kept.order in
+      kept_in (λ v. was_woken (post b.roll v)) w b.order (order.placed w (inl (h.0, true, h.1))) was
+
+  told_once : (w : Waiter) → times w who.woken ≤ 1
+  told_once w = let all = once_in w in omega (arith, all)
+
+  pub woken_number : how_many is_woken b.roll ≡ length who.woken
+  woken_number = counted_so is_woken b.roll apart who.woken told_once told_so told_there
+
+  line_so : (line : Line) (w : Waiter) → is_among w (untold line who) ≡ true → stands_so is_pending b.roll w ≡ true
+  line_so line w i =
+      let shown = world.shows in
+      let own = shown.lines line in
+      pending_holds b.roll w ∙ untold_hold (held_of b.roll) _ (untold line who) w own.untold i
+
+  all_pending : (w : Waiter) → is_among w (everybody who) ≡ true → stands_so is_pending b.roll w ≡ true
+  all_pending w i = sends (among_append w who.sends (who.receives ++ (who.streams ++ (who.closings ++ who.woken))) i)
+    where
+      closings : (is_among w who.closings ≡ true) ⊎ (is_among w who.woken ≡ true) → stands_so is_pending b.roll w ≡ true
+      closings (inl k) = line_so Closings w k
+      closings (inr k) = woken_are_pending b.roll w (told_so w k)
+
+      streams : (is_among w who.streams ≡ true) ⊎ (is_among w (who.closings ++ who.woken) ≡ true) → stands_so is_pending b.roll w ≡ true
+      streams (inl k) = line_so Streams w k
+      streams (inr k) = closings (among_append w who.closings who.woken k)
+
+      receives : (is_among w who.receives ≡ true) ⊎ (is_among w (who.streams ++ (who.closings ++ who.woken)) ≡ true)
+          → stands_so is_pending b.roll w ≡ true
+      receives (inl k) = line_so Receives w k
+      receives (inr k) = streams (among_append w who.streams (who.closings ++ who.woken) k)
+
+      sends : (is_among w who.sends ≡ true) ⊎ (is_among w (who.receives ++ (who.streams ++ (who.closings ++ who.woken))) ≡ true)
+          → stands_so is_pending b.roll w ≡ true
+      sends (inl k) = line_so Sends w k
+      sends (inr k) = receives (among_append w who.receives (who.streams ++ (who.closings ++ who.woken)) k)
+
+  all_there : (w : Waiter) → stands_so is_pending b.roll w ≡ true → 1 ≤ times w (everybody who)
+  all_there w e =
+      let key = some_so (held_of b.roll w) (sym (pending_holds b.roll w) ∙ e) in
+      let keys = world.shows.keys in
+      let there = keys.holds w key.0 key.1 in
+      let same = everybody_once w who in
+      omega (arith, there, same)
+
+  all_once : (w : Waiter) → times w (everybody who) ≤ 1
+  all_once w = let one = once_in w in let same = everybody_once w who in omega (arith, one, same)
+
+  pub pending_number : how_many is_pending b.roll ≡ pending_count who
+  pending_number = counted_so is_pending b.roll apart (everybody who) all_once all_pending all_there ∙ everybody_many who
+
+-- ---- a world
+
+module _ {T : Type 0} (w : Floor T) (k : Stands w) where
+  at_rest_there : IsQuiet w → at_rest w ≡ state_at (book_of w) k.scene
+  at_rest_there quiet = at_rest_is w k.scene k.stands.shown quiet
+
+  pub messages_at_rest : MessagesAtRest w
+  messages_at_rest quiet =
+      let sh = k.stands.shown in
+      sh.messages ∙ ap (λ (x : State T). length x.channel.messages) (sym (at_rest_there quiet))
+
+  module _ (rests : RestIsAWorld T) (apart : AreApart w.roll) where
+    rest : IsQuiet w → IsWorld (book_of w) k.scene
+    rest quiet = rests (book_of w) k.scene k.stands.kept (none_under_way w k.scene quiet k.stands.shown)
+
+    pub pending_at_rest : PendingAtRest w
+    pending_at_rest quiet =
+        pending_number (book_of w) k.scene k.stands.kept (rest quiet) apart
+        ∙ ap (λ (x : State T). pending_count x.waiting) (sym (at_rest_there quiet))
+
+    pub woken_at_rest : WokenAtRest w
+    woken_at_rest quiet =
+        woken_number (book_of w) k.scene k.stands.kept (rest quiet) apart
+        ∙ ap (λ (x : State T). length x.waiting.woken) (sym (at_rest_there quiet))
