@@ -21,12 +21,13 @@ module _ {T W : Type 0} where
   HasLetIn [] = ⊥
   HasLetIn (d ∷ ds) = ((d.mark ≡ Append) ⊎ (d.mark ≡ Replace)) ⊎ HasLetIn ds
 
-  -- this message is with the call that brought it: a mark of the call let it in, and the queue still has the call's next step, so
-  -- that nobody was told of it
+  -- this message is with the call that brought it: a mark of the call let it in, the queue still has the call's next step, and
+  -- nobody was told of it
   pub record IsWith (v : T) (u : Under T W) : Type 0 where
     pub brings : brought u.ask ≡ v ∷ []
     pub let_in : HasLetIn u.deeds
     pub at_queue : IsAtQueue u.at
+    pub untold : u.told ≡ []
 
   -- it is with one of these
   abbrev pub IsWithOne : T → List (Under T W) → Type 0
