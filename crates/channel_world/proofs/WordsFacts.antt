@@ -18,9 +18,10 @@ use Rattle.channel_calls.specs.declared.stage.Line.TheVariants.{Sends, Receives,
 use Rattle.channel_calls.specs.declared.stage.Stage.{Stage}
 use Rattle.channel_calls.specs.declared.stage.Stage.TheVariants.{Trying, Working, Finished}
 use Rattle.channel_interleaving.specs.Owners.{All}
-use Rattle.channel_steps.specs.Known.{TriesFor, TryAt, TriesAt, StageAt}
+use Rattle.channel_steps.specs.Known.{TriesFor, TryAt, TriesAt, StageAt, ToldAt}
 use Rattle.channel_steps.specs.Moments.{Deed, Appended, Replaced, Displaced}
 use Rattle.channel_steps.specs.Scene.{Under, Scene, Sitting, Known, AllKnown, Shows, under_of, all_seats, brought}
+use Rattle.channel_steps.specs.Tellings.{Telling}
 use Rattle.channel_steps.specs.declared.party.Party.{Party}
 use Rattle.channel_world.specs.Words.{IsAtQueue, HasLetIn, IsWith, IsWithOne, WordsSay}
 
@@ -100,10 +101,15 @@ module _ {T W : Type 0} where
   stands_with v now a (Working w) ds seen k b = absurd b
   stands_with v now a (Finished kept) ds seen k b = absurd b
 
+  nothing_told : (told : List Telling) (at : Stage (Phase T) T W) (ds : List (Deed T W)) → ToldAt told at ds → IsAtQueue at → told ≡ []
+  nothing_told told (Trying f y) ds k at_queue = k
+  nothing_told told (Working w) ds k at_queue = absurd at_queue
+  nothing_told told (Finished kept) ds k at_queue = absurd at_queue
+
   is_with : (v : T) (now : Channel T W) (u : Under T W) → Known now u → Brought v u.at → IsWith v u
   is_with v now u k b =
       let h = stands_with v now u.ask u.at u.deeds u.seen k.stands b in
-      record { brings = h.0.0; let_in = h.0.1; at_queue = h.1 }
+      record { brings = h.0.0; let_in = h.0.1; at_queue = h.1; untold = nothing_told u.told u.at u.deeds k.tells h.1 }
 
   -- ---- all calls
 

@@ -21,12 +21,13 @@ module _ {T W : Type 0} where
   HasLetIn [] = ⊥
   HasLetIn (d ∷ ds) = ((d.mark ≡ Append) ⊎ (d.mark ≡ Replace)) ⊎ HasLetIn ds
 
-  -- this message is with the call that brought it: a mark of the call let it in, and the queue still has the call's next step, so
-  -- that nobody was told of it
+  -- this message is with the call that brought it: a mark of the call let it in, the queue still has the call's next step, and
+  -- nobody was told of it
   pub record IsWith (v : T) (u : Under T W) : Type 0 where
     pub brings : brought u.ask ≡ v ∷ []
     pub let_in : HasLetIn u.deeds
     pub at_queue : IsAtQueue u.at
+    pub untold : u.told ≡ []
 
   -- it is with one of these
   abbrev pub IsWithOne : T → List (Under T W) → Type 0
@@ -34,9 +35,10 @@ module _ {T W : Type 0} where
   IsWithOne v (u ∷ us) = IsWith v u ⊎ IsWithOne v us
 
   -- By its words the channel is closed or not and holds so many messages, and each of them lies in the slot that the words name
-  -- for it, which is no other's, or is with the call that brought it. A queue without a bound names its slots by the blocks that
-  -- it has used so far, oldest first, those given back too; one with a bound has no blocks, and names them by its words alone.
-  -- While the queue has the next step of no call, its slots hold just these messages, in order, as its words lead through them.
+  -- for it, which is no other's, or is with the call that brought it. A queue with a bound names its slots by its words alone, and
+  -- has no blocks. One without names them by the blocks that it has used so far, oldest first, those given back too: some list is
+  -- such, and the words of one moment don't tell which. But while the queue has the next step of no call, they lead through just
+  -- these messages, in order, from the head on.
   pub record WordsSay (c : Contents T) (s : Scene T W) : Type 0 where
     pub flag : closed_in c ≡ s.now.queue.closed
     pub long : length_in c ≡ length s.now.queue.items
