@@ -66,7 +66,7 @@ module _ {T W : Type 0} where
   closed_marks (d ∷ []) h = let one : one_if_close d.mark ≡ 1 = ap one_if_close h.0 in omega (arith, one)
   closed_marks (d ∷ e ∷ ds) h = absurd h
 
-  row_closed : (a : ChannelAsk T W) (ds : List (Deed T W)) (seen : List (Channel T W)) → Row a ds seen (reply.Closed true) → ClosedIt ds
+  pub row_closed : (a : ChannelAsk T W) (ds : List (Deed T W)) (seen : List (Channel T W)) → Row a ds seen (reply.Closed true) → ClosedIt ds
   row_closed ask.Close ds seen h = h
   row_closed ask.PollFinishedSend ds seen h = absurd (cc h.1)
   row_closed (ask.RefusePoll Sends message key) ds seen h = absurd (cc h.1)
