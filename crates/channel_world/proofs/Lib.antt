@@ -7,6 +7,7 @@ pub mod CountDrops
 pub mod CountFacts
 pub mod NumberLists
 pub mod NumberFacts
+pub mod SinceFacts
 pub mod SoonFacts
 pub mod MarkFacts
 pub mod WordsFacts

@@ -8,6 +8,7 @@ pub mod Settled
 pub mod Carried
 pub mod Counts
 pub mod Numbers
+pub mod Since
 pub mod Staged
 pub mod Script
 pub mod Output

@@ -4,6 +4,7 @@
 ghost use Rattle.channel_world.specs.Carried.{HoldsWhatFits, LeadsFurther, LeadsOnInTurn, StaysWhereItIs};
 ghost use Rattle.channel_world.specs.Counts.{AreByDrops, CountsAtRest, CountsLive, OpenHasBoth};
 ghost use Rattle.channel_world.specs.Numbers.{MessagesAtRest, PendingAtRest, WokenAtRest};
+ghost use Rattle.channel_world.specs.Since.{ClosesOnce, ClosesOnceFromRest, ClosesWhatIsLeft, IsNeverFull, IsNeverFullFromRest, IsNeverFullSince, NoneClosesAgain};
 
 pub use crate::recorded::laws::{a_record_leaves_nobody_asleep, a_record_loses_nothing};
 use crate::world::World;
@@ -69,3 +70,28 @@ pub fn numbers_are_those_at_rest<T: Drop>(world: &World<T>)
     world.keeps();
     world.names_are_apart();
 }
+
+/// Of all replies that were given since the opening, by runs of steps, lists of calls and settlings in turn, at most one says that
+/// it closed the channel.
+///
+/// From whatever scene on there are no more than those calls under way that have closed it and not answered, and one more while it
+/// is open. So from a world with no call under way there is one at most; and none, where it is closed.
+///
+/// Own to this project.
+pub fn the_channel_is_closed_once<T>()
+    ensures since_opening { ClosesOnce T }
+    ensures left { ClosesWhatIsLeft T }
+    ensures from_rest { ClosesOnceFromRest T }
+    ensures again { NoneClosesAgain T }
+{}
+
+/// Of all replies that were given since an opening without a bound, by runs of steps, lists of calls and settlings in turn, none
+/// refuses a message since the channel is full. So it is from whatever scene without a bound, where no call under way has seen one;
+/// and from whatever world without a bound that has no call under way.
+///
+/// Own to this project.
+pub fn an_unbounded_world_is_never_full<T>()
+    ensures since_opening { IsNeverFull T }
+    ensures since { IsNeverFullSince T }
+    ensures from_rest { IsNeverFullFromRest T }
+{}

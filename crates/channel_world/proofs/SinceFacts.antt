@@ -1,0 +1,235 @@
+-- What all replies have in common that were given on the way from a scene: of each step, and so of all.
+use Rattle.std.proofs.Common.{arith, ◌≡◌, ℕ, ◌+◌, ◌≤◌, Bool, true, false, ◌||◌, cond, List, [], ◌∷◌, ◌++◌, map, Option, None, Some, inl, inr, refl, sym, ap, ◌∙◌, subst}
+use Rattle.std.specs.Option.{option_to_list}
+use Rattle.channel_calls.specs.Moves.{Channel}
+use Rattle.channel_calls.specs.Parts.{Parts, count}
+use Rattle.channel_calls.specs.declared.mark.Mark.{Mark}
+use Rattle.channel_calls.specs.declared.mark.Mark.TheVariants.{Nothing, Close}
+use Rattle.channel_calls.specs.declared.reply.Reply.{Reply}
+use Rattle.channel_calls.specs.declared.reply.Reply.TheVariants as reply
+use Rattle.channel_calls.specs.declared.stage.Kept.{Kept}
+use Rattle.channel_calls.specs.declared.stage.Side.TheVariants.{Senders}
+use Rattle.channel_laws.specs.Bounds.{SaysFull, NoneFull, AllOf, BoundSound, one_if_closed}
+use Rattle.channel_laws.specs.Ends.{Each, Replies}
+use Rattle.channel_laws.proofs.BoundMoves.{SaysOf, FlagOf}
+use Rattle.channel_laws.proofs.Bounds.{step_bounded, never_full}
+use Rattle.channel_laws.proofs.Closers.{row_closed}
+use Rattle.channel_model.specs.declared.name.Waiter.{Waiter}
+use Rattle.channel_steps.specs.Moments.{Deed, with_deed, ClosedIt}
+use Rattle.channel_steps.specs.Run.{Next, IsRun, Touches, new_scene, begun}
+use Rattle.channel_steps.specs.Scene.{Under, Scene, Steps, MayFinish, sees, does, unless_ended}
+use Rattle.channel_steps.specs.declared.party.Entry.{Entry as ChannelEntry}
+use Rattle.channel_steps.specs.declared.run.Step.{Step as ChannelStep}
+use Rattle.channel_steps.specs.declared.run.Step.TheVariants as step
+use Rattle.event_listener.specs.Notices.{Woken}
+use Rattle.channel_interleaving.proofs.Interface.{none_under_way}
+use Rattle.channel_interleaving.specs.Counted.{tally}
+use Rattle.channel_interleaving.specs.Doing.{any_close, is_close}
+use Rattle.channel_interleaving.specs.Floor.{book_of, parts_in, IsQuiet, Led, Stands}
+use Rattle.channel_interleaving.specs.Way.{Pace, IsWay, replies_of}
+use Rattle.channel_interleaving.specs.declared.floor.Floor.{Floor}
+use Rattle.channel_model.specs.State.{State}
+use Rattle.channel_world.specs.Since.{closings_among, closers_in, closings_left, NoneSaysFull, HasNoBound, ClosesOnce, ClosesWhatIsLeft, ClosesOnceFromRest, NoneClosesAgain, IsNeverFull, IsNeverFullSince, IsNeverFullFromRest}
+use Rattle.channel_world.specs.World.{at_rest}
+use Rattle.channel_world.proofs.Opening.{at_rest_is}
+
+-- ---- how often it is closed
+
+abbrev one_if : Bool → ℕ
+one_if b = cond b 1 0
+
+abbrev while_open : Bool → ℕ
+while_open closed = cond closed 0 1
+
+or_more : (b r s : Bool) (n : ℕ) → one_if r ≤ one_if s + n → one_if (b || r) ≤ one_if (b || s) + n
+or_more true r s n h = omega arith
+or_more false r s n h = h
+
+or_nothing : (b : Bool) → one_if (b || false) ≤ one_if b
+or_nothing true = omega arith
+or_nothing false = omega arith
+
+module _ {T : Type 0} where
+  abbrev has_closed : Under T Waiter → Bool
+  has_closed u = any_close u.deeds
+
+  closers_join : (us vs : List (Under T Waiter)) → tally has_closed (us ++ vs) ≡ tally has_closed us + tally has_closed vs
+  closers_join [] vs = omega arith
+  closers_join (u ∷ us) vs = let h = closers_join us vs in omega (arith, h)
+
+  closers_see : (c : Channel T Waiter) (us : List (Under T Waiter)) → tally has_closed (map (sees c) us) ≡ tally has_closed us
+  closers_see c [] = refl
+  closers_see c (u ∷ us) = let h = closers_see c us in omega (arith, h)
+
+  one_more_deed : (ds : List (Deed T Waiter)) (d : Deed T Waiter)
+      → one_if (any_close (ds ++ d ∷ [])) ≤ one_if (any_close ds) + one_if (is_close d.mark)
+  one_more_deed [] d = let h = or_nothing (is_close d.mark) in omega (arith, h)
+  one_more_deed (e ∷ ds) d =
+      or_more (is_close e.mark) (any_close (ds ++ d ∷ [])) (any_close ds) (one_if (is_close d.mark)) (one_more_deed ds d)
+
+  with_mark : (ds : List (Deed T Waiter)) (m : Mark) (c : Channel T Waiter) (seen : List (Channel T Waiter))
+      → one_if (any_close (with_deed ds m c seen)) ≤ one_if (any_close ds) + one_if (is_close m)
+  with_mark ds Nothing c seen = omega arith
+  with_mark ds m c seen = one_more_deed ds (record { mark = m; before = c; seen = seen })
+
+  closed_deeds : (ds : List (Deed T Waiter)) → ClosedIt ds → any_close ds ≡ true
+  closed_deeds [] h = absurd h
+  closed_deeds (d ∷ []) h = ap (λ (m : Mark). is_close m || false) h.0
+  closed_deeds (d ∷ e ∷ ds) h = absurd h
+
+  -- a call that says that it closed the channel has the mark, and is under way no more
+  ended : (u : Under T Waiter) (r : Option (Reply T)) (left : Option (Kept T)) → MayFinish u r left
+      → one_if_closed r + tally has_closed (unless_ended u r) ≤ one_if (any_close u.deeds)
+  ended u None left h = omega arith
+  ended u (Some (reply.Closed true)) left h =
+      let met = h.met in
+      let one : one_if (any_close u.deeds) ≡ 1 = ap one_if (closed_deeds u.deeds (row_closed u.ask u.deeds met.1 met.3)) in
+      omega (arith, one)
+  ended u (Some r) left h = omega arith
+
+  flagged : (m : Mark) (c d : Channel T Waiter) → SaysOf m c → FlagOf m c d
+      → while_open d.queue.closed + one_if (is_close m) ≡ while_open c.queue.closed
+  flagged Close c d says flag =
+      let before : while_open c.queue.closed ≡ 1 = ap while_open says in
+      let now : while_open d.queue.closed ≡ 0 = ap while_open flag in
+      omega (arith, before, now)
+  flagged m c d says flag =
+      let same : while_open d.queue.closed ≡ while_open c.queue.closed = ap while_open flag in omega (arith, same)
+
+  step_closes : (s t : Scene T Waiter) (p : ℕ) (e : ChannelEntry T) (names : List Waiter) → Steps s p e names t
+      → one_if_closed e.reply + closings_left t ≤ closings_left s
+  step_closes s t p e names st =
+      let now : Under T Waiter = does st.mine st.at_now e.mark s.now t.now in
+      let b = step_bounded s t p e names st in
+      let flag = flagged e.mark s.now t.now b.says b.flag in
+      let mine = with_mark st.mine.deeds e.mark s.now st.mine.seen in
+      let end = ended now e.reply e.kept st.finishes in
+      let others = map (sees t.now) st.behind in
+      let all : tally has_closed s.under_way ≡ tally has_closed (st.before ++ (st.mine ∷ st.behind)) = ap (tally has_closed) st.there in
+      let joined = closers_join st.before (st.mine ∷ st.behind) in
+      let after : tally has_closed t.under_way ≡ tally has_closed (map (sees t.now) st.before ++ (unless_ended now e.reply ++ others)) =
+      ap (tally has_closed) st.left in
+      let first = closers_join (map (sees t.now) st.before) (unless_ended now e.reply ++ others) in
+      let second = closers_join (unless_ended now e.reply) others in
+      let before = closers_see t.now st.before in
+      let behind = closers_see t.now st.behind in
+      omega (arith, flag, mine, end, all, joined, after, first, second, before, behind)
+
+  next_closes : (s : Scene T Waiter) (x : ChannelStep T Waiter) (e : ChannelEntry T) (names : List Waiter) (t : Scene T Waiter)
+      → Next s x e names t → one_if_closed e.reply + closings_left t ≤ closings_left s
+  next_closes s (step.Begin p a) e names t n =
+      let none : one_if_closed e.reply ≡ 0 = ap (λ (f : ChannelEntry T). one_if_closed f.reply) n.0.entry in
+      let flag : while_open t.now.queue.closed ≡ while_open s.now.queue.closed = ap (λ (c : Channel T Waiter). while_open c.queue.closed) n.0.now in
+      let after : tally has_closed t.under_way ≡ tally has_closed (s.under_way ++ begun p a n.0.at s.now ∷ []) = ap (tally has_closed) n.0.under_way in
+      let joined = closers_join s.under_way (begun p a n.0.at s.now ∷ []) in
+      omega (arith, none, flag, after, joined)
+  next_closes s (step.Step p) e names t n = step_closes s t p e names n
+
+  given_first : (r : Option (Reply T)) (rs : List (Reply T)) → closings_among (option_to_list r ++ rs) ≡ one_if_closed r + closings_among rs
+  given_first None rs = omega arith
+  given_first (Some r) rs = refl
+
+  way_closes : (s t : Scene T Waiter) (xs : List (Pace T)) → IsWay s xs t → closings_among (replies_of xs) ≤ closings_left s
+  way_closes s t [] w = omega arith
+  way_closes s t (x ∷ xs) w =
+      let now = next_closes s x.step x.entry x.woken w.0 w.1 in
+      let rest = way_closes w.0 t xs w.2 in
+      let first = given_first x.entry.reply (replies_of xs) in
+      omega (arith, now, rest, first)
+
+-- ---- without a bound
+
+-- somebody is woken, whoever it is
+module _ {T : Type 0} (world : Parts T Waiter) where
+  abbrev Anyhow : Unit {0} → Waiter → Unit {0} → Type 0
+  Anyhow a w b = Unit {0}
+
+  anyhow : (ws : List Waiter) → Woken Anyhow tt ws tt
+  anyhow [] = refl
+  anyhow (w ∷ ws) = (tt, tt, anyhow ws)
+
+  untouched : (x : ChannelStep T Waiter) → Touches x world world
+  untouched (step.Begin p a) = refl
+  untouched (step.Step p) = inr (inr (Senders, count Senders world.roster, refl))
+
+  -- a way is a run over whatever parts
+  way_runs : (s t : Scene T Waiter) (xs : List (Pace T)) → IsWay s xs t
+      → IsRun Anyhow world s tt (map (λ (x : Pace T). x.step) xs) (map (λ (x : Pace T). x.entry) xs) world t tt
+  way_runs s t [] w = (refl, w, refl)
+  way_runs s t (x ∷ xs) w = (world, w.0, tt, x.woken, untouched x.step, w.1, anyhow x.woken, way_runs w.0 t xs w.2)
+
+  none_given : (xs : List (Pace T)) → NoneFull (map (λ (x : Pace T). x.entry) xs) → NoneSaysFull (replies_of xs)
+  none_given [] h = tt
+  none_given (x ∷ xs) h = by x.entry.reply h.0 (none_given xs h.2)
+    where
+      by : (r : Option (Reply T)) → (Replies SaysFull r → ⊥) → NoneSaysFull (replies_of xs)
+          → NoneSaysFull (option_to_list r ++ replies_of xs)
+      by None f rest = rest
+      by (Some r) f rest = (f, rest)
+
+  bound_sound : (s : Scene T Waiter) → HasNoBound s → BoundSound s
+  bound_sound s h = record {
+    fits = λ most e. absurd (let no : None ≡ Some most = sym h.now ∙ e in cc);
+    alike = subst (λ (o : Option ℕ). Each (λ (u : Under T Waiter). AllOf o u.seen) s.under_way) (sym h.now) h.seen;
+  }
+
+  way_never_full : (s t : Scene T Waiter) (xs : List (Pace T)) → HasNoBound s → IsWay s xs t → NoneSaysFull (replies_of xs)
+  way_never_full s t xs h w =
+      none_given xs
+      (never_full T Waiter (Unit {0}) Anyhow s t (map (λ (x : Pace T). x.step) xs) (map (λ (x : Pace T). x.entry) xs)
+      (bound_sound s h) h.now (world, world, tt, tt, way_runs s t xs w))
+
+-- ---- the laws
+
+module _ (T : Type 0) where
+  pub closes_what_is_left : ClosesWhatIsLeft T
+  closes_what_is_left s world replies led =
+      subst (λ (rs : List (Reply T)). closings_among rs ≤ closings_left s) led.way.given (way_closes s led.last led.way.paces led.way.is)
+
+  pub closes_once : ClosesOnce T
+  closes_once capacity world replies led =
+      let most = closes_what_is_left (new_scene capacity) world replies led in omega (arith, most)
+
+  -- with no call under way none has closed it
+  left_at_rest : (a : Floor T) (k : Stands a) → IsQuiet a → closings_left k.scene ≡ while_open (at_rest a).channel.closed
+  left_at_rest a k quiet =
+      let none : closers_in k.scene ≡ 0 = ap (tally has_closed) (none_under_way a k.scene quiet k.stands.shown) in
+      let same : while_open (at_rest a).channel.closed ≡ while_open k.scene.now.queue.closed =
+      ap (λ (x : State T). while_open x.channel.closed) (at_rest_is a k.scene k.stands.shown quiet) in
+      omega (arith, none, same)
+
+  one_at_most : (b : Bool) → while_open b ≤ 1
+  one_at_most true = omega arith
+  one_at_most false = omega arith
+
+  pub closes_once_from_rest : ClosesOnceFromRest T
+  closes_once_from_rest a b replies k quiet leads =
+      let most = closes_what_is_left k.scene b replies (leads k.scene k.stands) in
+      let left = left_at_rest a k quiet in
+      let one = one_at_most (at_rest a).channel.closed in
+      omega (arith, most, left, one)
+
+  pub none_closes_again : NoneClosesAgain T
+  none_closes_again a b replies k quiet shut leads =
+      let most = closes_what_is_left k.scene b replies (leads k.scene k.stands) in
+      let left = left_at_rest a k quiet in
+      let none : while_open (at_rest a).channel.closed ≡ 0 = ap while_open shut in
+      omega (arith, most, left, none)
+
+  pub is_never_full_since : IsNeverFullSince T
+  is_never_full_since s world replies h led =
+      subst (λ (rs : List (Reply T)). NoneSaysFull rs) led.way.given
+      (way_never_full (parts_in world) s led.last led.way.paces h led.way.is)
+
+  pub is_never_full : IsNeverFull T
+  is_never_full world replies led = is_never_full_since (new_scene None) world replies (record { now = refl; seen = tt }) led
+
+  pub is_never_full_from_rest : IsNeverFullFromRest T
+  is_never_full_from_rest a b replies k quiet bare leads =
+      let none = none_under_way a k.scene quiet k.stands.shown in
+      let same = ap (λ (x : State T). x.channel.capacity) (sym (at_rest_is a k.scene k.stands.shown quiet)) in
+      is_never_full_since k.scene b replies
+      (record {
+        now = same ∙ bare;
+        seen = subst (λ (us : List (Under T Waiter)). Each (λ (u : Under T Waiter). AllOf None u.seen) us) (sym none) tt;
+      }) (leads k.scene k.stands)

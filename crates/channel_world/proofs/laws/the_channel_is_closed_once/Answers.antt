@@ -1,0 +1,11 @@
+-- From each step of the way.
+use Rattle.channel_world.proofs.SinceFacts.{closes_once, closes_what_is_left, closes_once_from_rest, none_closes_again}
+use Rattle.channel_world.proofs.laws.the_channel_is_closed_once.Goals as goal
+
+pub returns : goal.returns
+returns g c = record {
+  since_opening = closes_once _;
+  left = closes_what_is_left _;
+  from_rest = closes_once_from_rest _;
+  again = none_closes_again _;
+}

@@ -1,0 +1,75 @@
+-- Laws of all replies that were given on the way from a scene, by runs of steps, lists of calls and settlings in turn.
+use Rattle.std.specs.Prelude.{◌≡◌, ℕ, ◌+◌, ◌≤◌, cond, true, List, [], ◌∷◌, Option, None, Some}
+use Rattle.channel_calls.specs.declared.reply.Reply.{Reply}
+use Rattle.channel_laws.specs.Bounds.{SaysFull, AllOf, one_if_closed}
+use Rattle.channel_laws.specs.Ends.{Each}
+use Rattle.channel_model.specs.declared.name.Waiter.{Waiter}
+use Rattle.channel_steps.specs.Run.{new_scene}
+use Rattle.channel_steps.specs.Scene.{Under, Scene}
+use Rattle.channel_interleaving.specs.Counted.{tally}
+use Rattle.channel_interleaving.specs.Doing.{any_close}
+use Rattle.channel_interleaving.specs.Floor.{IsQuiet, Led, LeadsOn, Stands}
+use Rattle.channel_interleaving.specs.declared.floor.Floor.{Floor}
+use Rattle.channel_world.specs.World.{at_rest}
+
+module _ {T : Type 0} where
+  -- how many of these replies say that they closed the channel
+  abbrev pub closings_among : List (Reply T) → ℕ
+  closings_among [] = 0
+  closings_among (r ∷ rs) = one_if_closed (Some r) + closings_among rs
+
+  -- how many of the calls under way have closed it, and are yet to say so or to end otherwise
+  abbrev pub closers_in : Scene T Waiter → ℕ
+  closers_in s = tally (λ (u : Under T Waiter). any_close u.deeds) s.under_way
+
+  -- how many replies may yet say so: one for each of those, and one more while it is open
+  abbrev pub closings_left : Scene T Waiter → ℕ
+  closings_left s = closers_in s + cond s.now.queue.closed 0 1
+
+  -- none of these replies refuses a message since the channel is full
+  abbrev pub NoneSaysFull : List (Reply T) → Type 0
+  NoneSaysFull [] = Unit {0}
+  NoneSaysFull (r ∷ rs) = (SaysFull r → ⊥) × NoneSaysFull rs
+
+  -- a scene without a bound, in which no call under way has seen one
+  pub record HasNoBound (s : Scene T Waiter) : Type 0 where
+    pub now : s.now.queue.capacity ≡ None
+    pub seen : Each (λ (u : Under T Waiter). AllOf None u.seen) s.under_way
+
+-- Since the opening at most one reply says that it closed the channel.
+abbrev pub ClosesOnce : Type 0 → Type 0
+ClosesOnce T =
+    (capacity : Option ℕ) (world : Floor T) (replies : List (Reply T)) → Led (new_scene capacity) replies world
+    → closings_among replies ≤ 1
+
+-- From whatever scene no more say so than may yet: one at most, where no call under way has closed it, and none, where it is
+-- closed too.
+abbrev pub ClosesWhatIsLeft : Type 0 → Type 0
+ClosesWhatIsLeft T =
+    (s : Scene T Waiter) (world : Floor T) (replies : List (Reply T)) → Led s replies world → closings_among replies ≤ closings_left s
+
+-- So of whatever world with no call under way: one at most,
+abbrev pub ClosesOnceFromRest : Type 0 → Type 0
+ClosesOnceFromRest T =
+    (a b : Floor T) (replies : List (Reply T)) → Stands a → IsQuiet a → LeadsOn a replies b → closings_among replies ≤ 1
+
+-- and none, where it is closed.
+abbrev pub NoneClosesAgain : Type 0 → Type 0
+NoneClosesAgain T =
+    (a b : Floor T) (replies : List (Reply T)) → Stands a → IsQuiet a → (at_rest a).channel.closed ≡ true → LeadsOn a replies b
+    → closings_among replies ≡ 0
+
+-- Since an opening without a bound no reply says that the channel is full,
+abbrev pub IsNeverFull : Type 0 → Type 0
+IsNeverFull T = (world : Floor T) (replies : List (Reply T)) → Led (new_scene None) replies world → NoneSaysFull replies
+
+-- nor from whatever scene without a bound.
+abbrev pub IsNeverFullSince : Type 0 → Type 0
+IsNeverFullSince T =
+    (s : Scene T Waiter) (world : Floor T) (replies : List (Reply T)) → HasNoBound s → Led s replies world → NoneSaysFull replies
+
+-- So of whatever world with no call under way that has none.
+abbrev pub IsNeverFullFromRest : Type 0 → Type 0
+IsNeverFullFromRest T =
+    (a b : Floor T) (replies : List (Reply T)) → Stands a → IsQuiet a → (at_rest a).channel.capacity ≡ None → LeadsOn a replies b
+    → NoneSaysFull replies
