@@ -2,27 +2,25 @@
 use Rattle.std.specs.List.{filter}
 use Rattle.std.specs.Map.{lookup}
 use Rattle.std.specs.Option.{option_map_or}
-use Rattle.std.proofs.Common.{arith, ◌≡◌, ◌⊎◌, ℕ, ◌+◌, ◌≤◌, nat_eq, Bool, true, false, cond, List, [], ◌∷◌, ◌++◌, length, Option, None, Some, is_some, inl, inr, refl, sym, ap, ◌∙◌, subst, length-append}
+use Rattle.std.proofs.Common.{arith, ◌≡◌, ◌⊎◌, ℕ, ◌+◌, ◌≤◌, nat_eq, Bool, true, false, List, [], ◌∷◌, ◌++◌, length, Option, None, Some, is_some, inl, inr, refl, sym, ap, ◌∙◌, length-append}
 use Rattle.event_listener.specs.declared.key.Key.{Key}
 use Rattle.channel_calls.specs.declared.stage.Line.{Line}
 use Rattle.channel_calls.specs.declared.stage.Line.TheVariants.{Sends, Receives, Streams, Closings}
 use Rattle.channel_model.specs.Awake.{times, times_in}
 use Rattle.channel_model.specs.Lines.{Waiting, is_among, same_waiter, untold}
-use Rattle.channel_model.specs.Names.{Directory, at}
+use Rattle.channel_model.specs.Names.{at}
 use Rattle.channel_model.specs.Settling.{pending_count}
 use Rattle.channel_model.specs.State.{State}
-use Rattle.channel_model.specs.declared.name.HandleId.{HandleId}
 use Rattle.channel_model.specs.declared.name.HandleKind.{HandleKind}
 use Rattle.channel_model.specs.declared.name.HandleKind.TheVariants as handle_kind
-use Rattle.channel_model.specs.declared.name.OpId.{OpId}
 use Rattle.channel_model.specs.declared.name.Waiter.{Waiter}
 use Rattle.channel_model.specs.declared.name.Waiter.TheVariants.{Op, Stream}
 use Rattle.channel_model.proofs.Counting.{among_append, among_counts, count_append}
 use Rattle.channel_model.proofs.WaiterLemmas.{decided, or_true, same_refl, same_sound}
 use Rattle.channel_interleaving.specs.Apart.{AreApart}
 use Rattle.channel_interleaving.specs.Floor.{book_of, IsQuiet, Stands}
-use Rattle.channel_interleaving.specs.OwnerOrder.{was_woken, woken_in}
-use Rattle.channel_interleaving.specs.Owners.{IsAmong, Post, free, vacant, amiss, rests, waits, polled, post_on, no_stream_post, stream_post, posted, send_post, operation_post, post}
+use Rattle.channel_interleaving.specs.OwnerOrder.{was_woken}
+use Rattle.channel_interleaving.specs.Owners.{IsAmong, Post, amiss, rests, post_on, no_stream_post, stream_post, posted, send_post, operation_post, post}
 use Rattle.channel_interleaving.specs.Pending.{is_pending, how_many, operation_stands, stream_stands}
 use Rattle.channel_interleaving.specs.Roll.{key_of, held_of, is_woken}
 use Rattle.channel_interleaving.specs.Kept.{AllKept}

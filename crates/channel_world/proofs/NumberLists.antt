@@ -1,7 +1,7 @@
 -- As many names in one list as in another: where the same stand in both, and none twice; and those whom a directory has.
-use Rattle.std.specs.List.{IsDistinct, AllByRecursion, filter, count_by}
+use Rattle.std.specs.List.{IsDistinct, AllByRecursion, count_by}
 use Rattle.std.specs.Map.{keys_of}
-use Rattle.std.proofs.Common.{arith, ◌≡◌, ◌⊎◌, ℕ, ◌+◌, ◌≤◌, nat_eq, Bool, true, false, cond, List, [], ◌∷◌, length, Option, None, Some, inl, inr, refl, sym, ap, ◌∙◌, subst}
+use Rattle.std.proofs.Common.{arith, ◌≡◌, ℕ, ◌+◌, ◌≤◌, nat_eq, Bool, true, false, cond, List, [], ◌∷◌, length, Option, None, inl, inr, refl, sym, ◌∙◌, subst}
 use Rattle.channel_interleaving.proofs.OwedCounts.{one_if, count_first}
 use Rattle.channel_model.proofs.Counting.{among_counts, among_self, count_without_other, or_right}
 use Rattle.channel_model.proofs.WaiterLemmas.{decided, same_number}

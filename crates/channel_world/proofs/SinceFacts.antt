@@ -1,5 +1,5 @@
 -- What all replies have in common that were given on the way from a scene: of each step, and so of all.
-use Rattle.std.proofs.Common.{arith, ◌≡◌, ℕ, ◌+◌, ◌≤◌, Bool, true, false, ◌||◌, cond, List, [], ◌∷◌, ◌++◌, map, Option, None, Some, inl, inr, refl, sym, ap, ◌∙◌, subst}
+use Rattle.std.proofs.Common.{arith, ◌≡◌, ℕ, ◌+◌, ◌≤◌, Bool, true, false, ◌||◌, cond, List, [], ◌∷◌, ◌++◌, map, Option, None, Some, inr, refl, sym, ap, ◌∙◌, subst}
 use Rattle.std.specs.Option.{option_to_list}
 use Rattle.channel_calls.specs.Moves.{Channel}
 use Rattle.channel_calls.specs.Parts.{Parts, count}
@@ -25,7 +25,7 @@ use Rattle.event_listener.specs.Notices.{Woken}
 use Rattle.channel_interleaving.proofs.Interface.{none_under_way}
 use Rattle.channel_interleaving.specs.Counted.{tally}
 use Rattle.channel_interleaving.specs.Doing.{any_close, is_close}
-use Rattle.channel_interleaving.specs.Floor.{book_of, parts_in, IsQuiet, Led, Stands}
+use Rattle.channel_interleaving.specs.Floor.{parts_in, IsQuiet, Stands}
 use Rattle.channel_interleaving.specs.Way.{Pace, IsWay, replies_of}
 use Rattle.channel_interleaving.specs.declared.floor.Floor.{Floor}
 use Rattle.channel_model.specs.State.{State}

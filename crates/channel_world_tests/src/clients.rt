@@ -1,20 +1,25 @@
 //! Clients of a world that know nothing of it but that it is one. They are proved; nothing runs them.
 
-ghost use Rattle.std.specs.Prelude.{◌≡◌, ◌+◌, ◌*◌, ◌≤◌, List, ◌++◌, IfOk, vec_len};
+ghost use Rattle.std.specs.Prelude.{◌≡◌, ◌+◌, ◌*◌, ◌≤◌, ℕ, List, ◌++◌, Option, None, IfOk, vec_len};
 ghost use Rattle.channel_calls.specs.declared.reply.Reply.{Reply};
 ghost use Rattle.channel_interleaving.specs.Floor.{IsQuiet, Led};
 ghost use Rattle.channel_interleaving.specs.Runs.{accepted_in, left_in};
 ghost use Rattle.channel_interleaving.specs.Way.{replies_in};
 ghost use Rattle.channel_model.specs.Handles.{HandlesAreCounted};
 ghost use Rattle.channel_model.specs.declared.name.Waiter.{Waiter};
+ghost use Rattle.channel_steps.specs.Run.{new_scene};
 ghost use Rattle.channel_steps.specs.Scene.{Scene};
 ghost use Rattle.channel_world.specs.Carried.{replied_in};
+ghost use Rattle.channel_world.specs.Since.{closings_among, NoneSaysFull};
 ghost use Rattle.channel_world.specs.StepsLeft.{EndsInFront};
 ghost use Rattle.channel_world.specs.World.{at_rest};
 ghost use Rattle.channel_world_tests.specs.Carry.{replied_if};
 
 use channel_world::call::{Call, CallRun};
-use channel_world::laws::{counts_are_live_handles, numbers_are_those_at_rest};
+use channel_world::laws::{
+    an_unbounded_world_is_never_full, counts_are_live_handles, numbers_are_those_at_rest,
+    the_channel_is_closed_once,
+};
 use channel_world::settle::Settled;
 use channel_world::step::{Run, Step};
 use channel_world::world::World;
@@ -136,4 +141,24 @@ pub fn settle_pending<T: Drop>(world: &mut World<T>) -> Settling<T>
     let pending = world.pending();
     let polls = world.settle();
     Settling { pending, polls }
+}
+
+/// Makes steps in whatever world: of all replies since its opening, with those of these steps, at most one says that it closed the
+/// channel.
+pub fn close_once<T: Drop>(world: &mut World<T>, steps: &mut VecDeque<Step<T>>) -> Run<T>
+    ensures { (capacity : Option ℕ) (replies : List (Reply T)) → Led (new_scene capacity) replies world.old
+        → closings_among (replies ++ replies_in result.trace.items) ≤ 1 }
+{
+    the_channel_is_closed_once::<T>();
+    world.run_steps(steps)
+}
+
+/// Makes steps in whatever world: of all replies since an opening without a bound, with those of these steps, none refuses a
+/// message since the channel is full.
+pub fn never_full<T: Drop>(world: &mut World<T>, steps: &mut VecDeque<Step<T>>) -> Run<T>
+    ensures { (replies : List (Reply T)) → Led (new_scene None) replies world.old
+        → NoneSaysFull (replies ++ replies_in result.trace.items) }
+{
+    an_unbounded_world_is_never_full::<T>();
+    world.run_steps(steps)
 }
