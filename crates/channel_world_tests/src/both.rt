@@ -131,7 +131,7 @@ fn run_turns(
 fn rests(rt: &impl Abort, world: &World<u64>)
     ensures { IsQuiet world.now }
 {
-    expect_true(rt, world.is_quiet());
+    assert!(rt; world.is_quiet());
 }
 
 /// Compares the numbers that the world says, and whether it is quiet.
