@@ -48,7 +48,7 @@ fn show(
         run = world.run_calls(&mut calls);
     }
     expect_true(rt, calls.is_empty());
-    assert!(rt; run.done.len() == 1);
+    assert_eq!(rt; run.done.len(), 1);
     expect_equal(rt, &says(&run.done[0].reply), &said);
     expect_equal(rt, &run.done[0].woken.as_slice(), &woken);
     Ok(())
