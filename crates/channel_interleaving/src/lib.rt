@@ -1,14 +1,14 @@
 //! A part of `channel_world`: a channel with its handles and operations by name, and the calls of several parties under way, in any
 //! interleaving. Where no call is under way, a call may also be made alone, from its beginning to its end.
 //!
-//! What is said of it is in the contracts, and what they mean in `specs/`: `Roll` (what lives under which name), `Pending` (how
-//! many are pending or woken), `Refusal` (which steps are refused), `Bookkeeping` (what a call asks as it begins, and what it
-//! writes back at its end), `Order` (who may be woken, in the order of waking), `Run` (one step), `Runs` (steps one after
-//! another, and what holds at each moment of them), `Lone` (calls made alone), `Owners` (who holds each listener), `OwnerWoken`
-//! (who was woken is told), `OwnerOrder` (in which order), `OwnerPolled` (who is polled, by whom), `Kept` (all that every step
-//! keeps of those who wait), `Doing` (what each call under way is to those who wait, and has done), `Owed` (the wake-ups owed to
-//! those who are pending, by what a channel shows as it is), `Floor` (the scenes in which a channel by names stands, and how what
-//! is done leads from one to another).
+//! What is said of it is in the contracts, and what they mean in `specs/`: `Roll` (what lives under which name), `Apart` (no name
+//! stands twice), `Pending` (how many are pending or woken), `Refusal` (which steps are refused), `Bookkeeping` (what a call asks
+//! as it begins, and what it writes back at its end), `Order` (who may be woken, in the order of waking), `Run` (one step), `Runs`
+//! (steps one after another, and what holds at each moment of them), `Lone` (calls made alone), `Owners` (who holds each listener),
+//! `OwnerWoken` (who was woken is told), `OwnerOrder` (in which order), `OwnerPolled` (who is polled, by whom), `Kept` (all that
+//! every step keeps of those who wait), `Doing` (what each call under way is to those who wait, and has done), `Owed` (the wake-ups
+//! owed to those who are pending, by what a channel shows as it is), `Floor` (the scenes in which a channel by names stands, and
+//! how what is done leads from one to another).
 //!
 //! A call that goes through a receiver whose stream is being polled is refused as under way, its drop too. The positions of a
 //! queue end with the 2^61st message: a send that might bring it is refused for want of memory as it begins. Nothing else is
