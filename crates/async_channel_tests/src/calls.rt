@@ -82,46 +82,53 @@ enum Said {
     Else,
 }
 
-fn poll_says(reply: Reply<u64>) -> Said {
+fn poll_says(reply: &Reply<u64>) -> Said {
     match reply {
         Reply::SendPoll(Poll::Ready(Ok(()))) => Said::Sent,
         Reply::SendPoll(Poll::Pending) => Said::Pending,
-        Reply::RecvPoll(Poll::Ready(Ok(message))) => Said::Received(message),
+        Reply::RecvPoll(Poll::Ready(Ok(message))) => Said::Received(*message),
         Reply::RecvPoll(Poll::Ready(Err(Refused::NoMemory(())))) => Said::Refused,
         Reply::RecvPoll(Poll::Pending) => Said::Pending,
         Reply::ClosedPoll(Poll::Ready(Ok(()))) => Said::Ready,
         Reply::ClosedPoll(Poll::Pending) => Said::Pending,
-        Reply::Next(Poll::Ready(Some(Ok(message)))) => Said::Received(message),
+        Reply::Next(Poll::Ready(Some(Ok(message)))) => Said::Received(*message),
         Reply::Next(Poll::Pending) => Said::Pending,
         _ => Said::Else,
     }
 }
 
-fn reply_says(reply: Reply<u64>) -> Said {
+fn reply_says(reply: &Reply<u64>) -> Said {
     match reply {
         Reply::TrySend(Ok(())) => Said::Sent,
-        Reply::TrySend(Err(Refused::Plain(TrySendError::Closed(message)))) => Said::Closed(message),
-        Reply::ForceSend(Ok(displaced)) => Said::Displaced(displaced),
-        Reply::TryRecv(Ok(message)) => Said::Received(message),
-        Reply::GivenUp(message) => Said::GivenUp(message),
+        Reply::TrySend(Err(Refused::Plain(TrySendError::Closed(message)))) => Said::Closed(
+            *message,
+        ),
+        Reply::ForceSend(Ok(displaced)) => Said::Displaced(*displaced),
+        Reply::TryRecv(Ok(message)) => Said::Received(*message),
+        Reply::GivenUp(message) => Said::GivenUp(*message),
         Reply::Made => Said::Made,
         Reply::NotMade => Said::NotMade,
-        Reply::Count(count) => Said::Count(count),
-        Reply::Flag(flag) => Said::Flag(flag),
+        Reply::Count(count) => Said::Count(*count),
+        Reply::Flag(flag) => Said::Flag(*flag),
         Reply::Unit => Said::Done,
-        reply => poll_says(reply),
+        _ => poll_says(reply),
     }
 }
 
 impl Fixture {
+    /// One step of a call, and what it says.
+    fn steps_once(&mut self, call: &mut ChannelCall<u64, u32>) -> Said {
+        match &call.step(&mut self.channel, &mut self.names) {
+            Some(reply) => reply_says(reply),
+            None => Said::GoesOn,
+        }
+    }
+
     /// So many steps of a call, and what the last one says.
     fn steps(&mut self, call: &mut ChannelCall<u64, u32>, number: usize) -> Said {
         let mut last = Said::GoesOn;
         for _ in 0..number {
-            last = match call.step(&mut self.channel, &mut self.names) {
-                Some(reply) => reply_says(reply),
-                None => Said::GoesOn,
-            };
+            last = self.steps_once(call);
         }
         last
     }
@@ -131,9 +138,8 @@ impl Fixture {
         let mut call = ChannelCall::new(ask);
         let mut said = Said::GoesOn;
         for _ in 0..64 {
-            if let Some(reply) = call.step(&mut self.channel, &mut self.names) {
-                said = reply_says(reply);
-                break;
+            if said == Said::GoesOn {
+                said = self.steps_once(&mut call);
             }
         }
         let kept = call.into_kept();
@@ -151,12 +157,18 @@ impl Fixture {
     }
 }
 
+/// Whether this was written.
+fn is_text<E>(written: &Result<String, E>, text: &str) -> bool {
+    match written {
+        Ok(written) => written.as_str() == text,
+        Err(_) => false,
+    }
+}
+
 /// Whether it is shown to users by the first text and to programmers by the second.
 fn shows<T: fmt::Display + fmt::Debug>(alloc: Global, shown: &T, user: &str, debug: &str) -> bool {
-    match (format!(in alloc; "{shown}"), format!(in alloc; "{shown:?}")) {
-        (Ok(first), Ok(second)) => first.as_str() == user && second.as_str() == debug,
-        _ => false,
-    }
+    let to_users = is_text(&format!(in alloc; "{shown}"), user);
+    to_users && is_text(&format!(in alloc; "{shown:?}"), debug)
 }
 
 fn shows_sends(alloc: Global) -> bool {

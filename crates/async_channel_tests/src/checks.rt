@@ -1,7 +1,10 @@
 //! What tests compare by. Proved once each; a test has no exit of its own at such a call, so it is cheap to prove.
 
+use futures::test::MockTask;
+use std::alloc::AllocGlobal;
 use std::fmt::Debug;
 use std::process::Abort;
+use std::random::RandomSource;
 
 /// Ends the test where these differ, and shows both.
 pub fn expect_equal<A: Abort, T: PartialEq + Debug>(rt: &A, found: &T, wanted: &T) {
@@ -11,4 +14,9 @@ pub fn expect_equal<A: Abort, T: PartialEq + Debug>(rt: &A, found: &T, wanted: &
 /// Ends the test where this is false.
 pub fn expect_true<A: Abort>(rt: &A, it: bool) {
     assert!(rt; it);
+}
+
+/// A task of its own; without one the test ends.
+pub fn new_task<R: Abort + RandomSource + AllocGlobal>(rt: &R) -> MockTask {
+    MockTask::new(rt).expect(rt, "memory")
 }

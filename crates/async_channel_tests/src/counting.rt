@@ -14,7 +14,7 @@ use std::test::Fail;
 
 /// A channel that so many handles of each kind have, of an open queue, and how often a count was raised or lowered. As often
 /// as `contended` says, another handle comes first.
-#[derive(Clone, Copy, PartialEq, Eq, Debug)]
+#[derive(Clone, Copy)]
 struct Crowded {
     count: usize,
     contended: u32,
@@ -88,15 +88,12 @@ enum Said {
     Else,
 }
 
-fn says(reply: Reply<u64>) -> Said {
+fn says(reply: &Reply<u64>) -> Said {
     match reply {
         Reply::Made => Said::Made,
         Reply::NotMade => Said::NotMade,
         Reply::TooMany => Said::TooMany,
-        reply => {
-            drop(reply);
-            Said::Else
-        }
+        _ => Said::Else,
     }
 }
 
@@ -111,7 +108,11 @@ fn steps<C: ChannelCells<u64, u32>, S: Wakes<u32>>(
     let reply = call.step(cells, sink);
     let counts = matches!(call.last_mark(), Mark::SenderUp | Mark::ReceiverUp);
     let made = matches!(&reply, Some(Reply::Made));
-    (reply.map(says), made || !counts)
+    let said = match &reply {
+        Some(reply) => Some(says(reply)),
+        None => None,
+    };
+    (said, made || !counts)
 }
 
 /// So many live, so often another comes first: what a call says, how often the count was raised, and how often lowered.

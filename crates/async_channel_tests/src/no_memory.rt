@@ -2,16 +2,19 @@
 //! no_memory` refuses all requests from each one on: whatever was prepared before it, these calls answer as ever. What an example
 //! prepares by a poll, or by a send without a bound, may want memory; it says so after what came before was compared.
 
-use crate::checks::{expect_equal, expect_true};
-use crate::said::{Said, closes, opened, receives, sends, streams};
-use async_channel::{Receiver, Refused, Sender, TryRecvError, TrySendError};
+use crate::checks::{expect_equal, expect_true, new_task};
+use async_channel::{Receiver, Refused, Sender, TryRecvError};
+use channel_test_helpers::{
+    Said, closes, displaces, goes, is_full_for, opened, receives, sends, streams,
+};
 use futures::test::MockTask;
 use std::alloc::AllocError;
+use std::process::Abort;
 use std::sync::Wait;
 use std::test::Fail;
 
 /// What an example came to.
-#[derive(Clone, Copy, PartialEq, Eq, Debug)]
+#[derive(Clone, Copy)]
 struct Came {
     /// Whether its preparation got no memory. Nothing after that is looked at.
     wanted: bool,
@@ -20,16 +23,12 @@ struct Came {
 }
 
 /// A preparation that got no memory ends an example as one that wants memory, if all was right before.
-fn ended(came: Came) -> Result<bool, AllocError> {
+fn ended<A: Abort>(rt: &A, came: Came) -> Result<(), Fail> {
     if came.wanted && came.right {
-        Err(AllocError)
-    } else {
-        Ok(came.right)
+        return Err(Fail::from(AllocError));
     }
-}
-
-fn is_full_for<R: Wait + Copy>(s: &Sender<u64, R>, message: u64) -> bool {
-    s.try_send(message) == Err(Refused::Plain(TrySendError::Full(message)))
+    expect_true(rt, came.right);
+    Ok(())
 }
 
 /// A send, a send too many, a receive, and one too many.
@@ -46,11 +45,10 @@ fn one_place<R: Wait + Copy>(s: &Sender<u64, R>, r: &Receiver<u64, R>, task: &Mo
 
 #[test]
 fn one_place_takes_no_memory(rt: HostRuntime) -> Result<(), Fail> {
-    let task = MockTask::new(&rt)?;
+    let task = new_task(&rt);
     let (s, r) = opened(rt, rt.alloc(), 1).expect(&rt, "memory");
     let came = one_place(&s, &r, &task);
-    expect_true(&rt, ended(came)?);
-    Ok(())
+    ended(&rt, came)
 }
 
 /// The questions of a channel of three places that holds three messages.
@@ -62,7 +60,7 @@ fn asks_full<R: Wait + Copy>(s: &Sender<u64, R>, r: &Receiver<u64, R>) -> bool {
 }
 
 /// Two sends, two forced ones of which the second displaces, and three receives.
-fn displaces<R: Wait + Copy>(s: &Sender<u64, R>, r: &Receiver<u64, R>, task: &MockTask) -> Came {
+fn two_displace<R: Wait + Copy>(s: &Sender<u64, R>, r: &Receiver<u64, R>, task: &MockTask) -> Came {
     let first = sends(task, &mut s.send(1));
     let second = sends(task, &mut s.send(2));
     if [first, second] != [Said::Done, Said::Done] {
@@ -71,7 +69,7 @@ fn displaces<R: Wait + Copy>(s: &Sender<u64, R>, r: &Receiver<u64, R>, task: &Mo
             right: true,
         };
     }
-    let forced = [s.force_send(3), s.force_send(4)] == [Ok(None), Ok(Some(1))];
+    let forced = displaces(s, 3, None) && displaces(s, 4, Some(1));
     let asked = asks_full(s, r);
     let got = [r.try_recv(), r.try_recv(), r.try_recv()] == [Ok(2), Ok(3), Ok(4)];
     Came {
@@ -82,11 +80,10 @@ fn displaces<R: Wait + Copy>(s: &Sender<u64, R>, r: &Receiver<u64, R>, task: &Mo
 
 #[test]
 fn displacing_takes_no_memory(rt: HostRuntime) -> Result<(), Fail> {
-    let task = MockTask::new(&rt)?;
+    let task = new_task(&rt);
     let (s, r) = opened(rt, rt.alloc(), 3).expect(&rt, "memory");
-    let came = displaces(&s, &r, &task);
-    expect_true(&rt, ended(came)?);
-    Ok(())
+    let came = two_displace(&s, &r, &task);
+    ended(&rt, came)
 }
 
 #[test]
@@ -110,7 +107,7 @@ fn leaves<R: Wait + Copy>(s: &Sender<u64, R>, r: &Receiver<u64, R>, tasks: [&Moc
     let (mut r1, mut r2) = (r.recv(), r.recv());
     let first = receives(tasks[0], &mut r1);
     let second = receives(tasks[1], &mut r2);
-    let sent = s.try_send(10) == Ok(()) && is_full_for(s, 20);
+    let sent = goes(s, 10) && is_full_for(s, 20);
     let woken = [tasks[0].is_woken(), tasks[1].is_woken()];
     drop(r1);
     let passed_on = tasks[1].is_woken();
@@ -125,20 +122,19 @@ fn leaves<R: Wait + Copy>(s: &Sender<u64, R>, r: &Receiver<u64, R>, tasks: [&Moc
 
 #[test]
 fn leaving_takes_no_memory(rt: HostRuntime) -> Result<(), Fail> {
-    let (one, two) = (MockTask::new(&rt)?, MockTask::new(&rt)?);
+    let (one, two) = (new_task(&rt), new_task(&rt));
     let (s, r) = opened(rt, rt.alloc(), 1).expect(&rt, "memory");
     let came = leaves(&s, &r, [&one, &two]);
-    expect_true(&rt, ended(came)?);
-    Ok(())
+    ended(&rt, came)
 }
 
 /// A send waits, another message displaces the one before it, which wakes nobody, and the send is given up. One that got no memory may
 /// have woken its own task, since a waker does when it is let go.
 fn gives_up<R: Wait + Copy>(s: &Sender<u64, R>, r: &Receiver<u64, R>, task: &MockTask) -> Came {
-    let filled = s.try_send(1) == Ok(());
+    let filled = goes(s, 1);
     let mut send = s.send(2);
     let wanted = sends(task, &mut send) != Said::Pending;
-    let displaced = s.force_send(3) == Ok(Some(1)) && (wanted || !task.is_woken());
+    let displaced = displaces(s, 3, Some(1)) && (wanted || !task.is_woken());
     let kept = !send.is_terminated() && send.give_up() == Some(2);
     let got = r.try_recv() == Ok(3);
     Came {
@@ -149,11 +145,10 @@ fn gives_up<R: Wait + Copy>(s: &Sender<u64, R>, r: &Receiver<u64, R>, task: &Moc
 
 #[test]
 fn giving_up_takes_no_memory(rt: HostRuntime) -> Result<(), Fail> {
-    let task = MockTask::new(&rt)?;
+    let task = new_task(&rt);
     let (s, r) = opened(rt, rt.alloc(), 1).expect(&rt, "memory");
     let came = gives_up(&s, &r, &task);
-    expect_true(&rt, ended(came)?);
-    Ok(())
+    ended(&rt, came)
 }
 
 /// A receive, a stream and a wait for the closing wait, and the channel is closed twice.
@@ -186,9 +181,8 @@ fn closing_wakes<R: Wait + Copy>(
 fn closing_takes_no_memory(rt: HostRuntime) -> Result<(), Fail> {
     let (s, r) = opened(rt, rt.alloc(), 0).expect(&rt, "memory");
     let mut t = r.try_clone().expect(&rt, "memory");
-    let (one, two) = (MockTask::new(&rt)?, MockTask::new(&rt)?);
-    let three = MockTask::new(&rt)?;
+    let (one, two) = (new_task(&rt), new_task(&rt));
+    let three = new_task(&rt);
     let came = closing_wakes(&s, &r, &mut t, [&one, &two, &three]);
-    expect_true(&rt, ended(came)?);
-    Ok(())
+    ended(&rt, came)
 }

@@ -5,12 +5,13 @@ ghost use Rattle.futures.specs.Poll.{OnPending};
 ghost use Rattle.futures.specs.Task.{IsArmed, Keeps};
 
 use crate::checks::expect_true;
-use crate::said::opened;
 use async_channel::{Closed, Receiver, Recv, Sender};
+use channel_test_helpers::{Ends, goes, opened};
 use futures::executor::{LocalPool, LocalSpawner};
 use futures::task::{Context, Poll};
 use futures::{Future, Stream};
-use std::alloc::{AllocGlobal, Global};
+use std::alloc::AllocGlobal;
+use std::process::Abort;
 use std::random::RandomSource;
 use std::sync::{Mutex, Wait};
 use std::test::Fail;
@@ -87,28 +88,20 @@ fn polls<'a, R>(
     r: &'a Receiver<u64, R>,
     names: &'a Names,
     closes: bool,
-) -> Option<()>
+) -> bool
 where
-    R: Wait + Copy + RandomSource + AllocGlobal,
+    R: Wait + Copy + RandomSource + AllocGlobal + Abort,
 {
-    let mut pool = LocalPool::new(&rt).ok()?;
-    let spawner = pool.spawner().ok()?;
-    let stream = r.try_clone().ok()?;
+    let mut pool = LocalPool::new(&rt).expect(&rt, "memory");
+    let spawner = pool.spawner().expect(&rt, "memory");
+    let stream = r.try_clone().expect(&rt, "handles");
     let first = spawns(rt, &spawner, 1, names, Waiting::Closing(s.closed()));
     let second = spawns(rt, &spawner, 2, names, Waiting::Stream(stream));
     let third = spawns(rt, &spawner, 3, names, Waiting::Message(r.recv()));
     pool.run_until_stalled(10);
-    if closes {
-        s.close();
-    } else {
-        s.try_send(7).ok()?;
-    }
+    let called = if closes { s.close() } else { goes(s, 7) };
     pool.run_until_stalled(10);
-    if first && second && third {
-        Some(())
-    } else {
-        None
-    }
+    first && second && third && called
 }
 
 /// Whether the names are these.
@@ -116,32 +109,27 @@ fn are<R: Wait + Copy>(rt: R, names: &Names, want: &[u32]) -> bool {
     names.lock(&rt).as_slice() == want
 }
 
-/// Whether the tasks are polled in this order.
-fn is_order<R>(rt: R, alloc: Global, closes: bool, want: &[u32]) -> bool
+/// Whether the tasks are polled in this order, over a channel without a bound.
+fn is_order<R>(rt: R, ends: &Ends<R>, closes: bool, want: &[u32]) -> bool
 where
-    R: Wait + Copy + RandomSource + AllocGlobal,
+    R: Wait + Copy + RandomSource + AllocGlobal + Abort,
 {
-    let Some((s, r)) = opened(rt, alloc, 0) else {
-        return false;
-    };
-    let names = Mutex::new(Vec::new(alloc));
-    polls(rt, &s, &r, &names, closes).is_some() && are(rt, &names, want)
+    let names = Mutex::new(Vec::new(rt.alloc()));
+    polls(rt, &ends.0, &ends.1, &names, closes) && are(rt, &names, want)
 }
 
 #[test]
 fn a_closing_wakes_receives_streams_and_closings_in_order(rt: HostRuntime) -> Result<(), Fail> {
-    expect_true(
-        &rt,
-        is_order(rt, rt.alloc(), true, [1, 2, 3, 3, 2, 1].as_slice()),
-    );
+    let ends = opened(rt, rt.alloc(), 0).expect(&rt, "memory");
+    let want = [1, 2, 3, 3, 2, 1];
+    expect_true(&rt, is_order(rt, &ends, true, want.as_slice()));
     Ok(())
 }
 
 #[test]
 fn a_message_wakes_a_receive_before_the_streams(rt: HostRuntime) -> Result<(), Fail> {
-    expect_true(
-        &rt,
-        is_order(rt, rt.alloc(), false, [1, 2, 3, 3, 2].as_slice()),
-    );
+    let ends = opened(rt, rt.alloc(), 0).expect(&rt, "memory");
+    let want = [1, 2, 3, 3, 2];
+    expect_true(&rt, is_order(rt, &ends, false, want.as_slice()));
     Ok(())
 }

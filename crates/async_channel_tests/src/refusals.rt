@@ -1,13 +1,16 @@
 //! What is answered where a growth is refused. `tools/refuse_growths.py async_channel_tests refus` refuses each request for memory in
 //! turn: nothing is lost or doubled then, and what was refused goes when it is asked again.
 
-use crate::checks::{expect_equal, expect_true};
-use crate::said::{Ends, Said, closes, opened, receives, streams};
+use crate::checks::{expect_equal, expect_true, new_task};
 use async_channel::{
-    OpenError, Receiver, Refused, Sender, TryRecvError, TrySendError, WeakReceiver, WeakSender,
-    bounded, unbounded,
+    OpenError, Receiver, Refused, Sender, TryRecvError, WeakReceiver, WeakSender, bounded,
+    unbounded,
 };
 use channel_calls::plain::PlainChannel;
+use channel_test_helpers::{
+    Ends, Said, closes, displaces, goes, is_full_for, opened, receives, receives_blocking,
+    sends_blocking, streams,
+};
 use concurrent_queue::cells::QueueForm;
 use event_listener::id::EventIds;
 use futures::task::Poll;
@@ -19,7 +22,7 @@ use std::thread;
 use std::thread::Threads;
 
 /// How many of these were refused, and whether all was as it should be.
-#[derive(Clone, Copy, PartialEq, Eq, Debug)]
+#[derive(Clone, Copy)]
 struct Seen {
     refused: usize,
     right: bool,
@@ -45,15 +48,22 @@ fn opens<R: Wait + Copy>(rt: R, alloc: Global) -> Seen {
     make_seen(opened < 2, next == (opened as u64).wrapping_mul(4))
 }
 
-/// Sends without a bound: what was refused is handed back, and goes when it is sent again.
+/// Sends a message: one that was refused is handed back, and goes when it is sent again.
+fn send_again<R: Wait + Copy>(s: &Sender<u64, R>, message: u64) -> Seen {
+    let sent = s.try_send(message);
+    let refused = sent.is_err();
+    let right = sent == Ok(()) || sent == Err(Refused::NoMemory(message)) && goes(s, message);
+    make_seen(refused, right)
+}
+
+/// Sends without a bound.
 fn sends<R: Wait + Copy>(s: &Sender<u64, R>, r: &Receiver<u64, R>) -> Seen {
     let mut refused = false;
     let mut right = true;
     for i in 0..100u64 {
-        if let Err(error) = s.try_send(i) {
-            refused = true;
-            right = right && error == Refused::NoMemory(i) && s.try_send(i).is_ok();
-        }
+        let sent = send_again(s, i);
+        refused = refused || sent.refused > 0;
+        right = right && sent.right;
     }
     for i in 0..100u64 {
         right = right && r.try_recv() == Ok(i);
@@ -62,7 +72,7 @@ fn sends<R: Wait + Copy>(s: &Sender<u64, R>, r: &Receiver<u64, R>) -> Seen {
 }
 
 /// Whether these are the three messages that were sent.
-fn are_three(taken: Result<Vec<u64>, Refused<TryRecvError>>) -> bool {
+fn are_three(taken: &Result<Vec<u64>, Refused<TryRecvError>>) -> bool {
     match taken {
         Ok(messages) => messages.as_slice() == [1, 2, 3].as_slice(),
         Err(_) => false,
@@ -71,11 +81,11 @@ fn are_three(taken: Result<Vec<u64>, Refused<TryRecvError>>) -> bool {
 
 /// Receives several at once, of which memory takes their room: where that is refused all are left, and come the next time.
 fn takes_several<R: Wait + Copy>(s: &Sender<u64, R>, r: &Receiver<u64, R>) -> Seen {
-    let sent = s.try_send(1).is_ok() && s.try_send(2).is_ok() && s.try_send(3).is_ok();
+    let sent = goes(s, 1) && goes(s, 2) && goes(s, 3);
     let first = r.recv_many(5);
     let refused = matches!(&first, Err(Refused::NoMemory(())));
     let held = !refused || r.len() == 3;
-    let got = are_three(first) || refused && are_three(r.recv_many(5));
+    let got = are_three(&first) || refused && are_three(&r.recv_many(5));
     make_seen(refused, sent && held && got && r.is_empty())
 }
 
@@ -93,9 +103,9 @@ fn opens_by_steps(alloc: Global) -> Seen {
 fn waits<R: Wait + Copy>(s: &Sender<u64, R>, r: &Receiver<u64, R>, task: &MockTask) -> Seen {
     let mut recv = r.recv();
     let first = task.poll(&mut recv);
-    let refused = matches!(first, Poll::Ready(Err(Refused::NoMemory(()))));
+    let refused = matches!(&first, Poll::Ready(Err(Refused::NoMemory(()))));
     let pending = first.is_pending();
-    let went = s.try_send(5).is_ok();
+    let went = goes(s, 5);
     let woken = refused || task.is_woken();
     let got = r.try_recv() == Ok(5);
     make_seen(refused, (refused || pending) && went && woken && got)
@@ -109,7 +119,7 @@ fn passes_on<R: Wait + Copy>(
 ) -> Seen {
     let (mut r1, mut r2) = (r.recv(), r.recv());
     let waiting = [receives(tasks[0], &mut r1), receives(tasks[1], &mut r2)];
-    let went = s.try_send(5) == Ok(());
+    let went = goes(s, 5);
     let again = receives(tasks[0], &mut r1);
     let right = match again {
         Said::Wanted => tasks[1].is_woken() && r.try_recv() == Ok(5),
@@ -121,10 +131,10 @@ fn passes_on<R: Wait + Copy>(
 
 /// A send waits: where it is refused it keeps its message, and else the next taking wakes it.
 fn keeps<R: Wait + Copy>(s: &Sender<u64, R>, r: &Receiver<u64, R>, task: &MockTask) -> Seen {
-    let filled = s.try_send(1).is_ok();
+    let filled = goes(s, 1);
     let mut send = s.send(2);
     let first = task.poll(&mut send);
-    let refused = matches!(first, Poll::Ready(Err(Refused::NoMemory(()))));
+    let refused = matches!(&first, Poll::Ready(Err(Refused::NoMemory(()))));
     let kept = !send.is_terminated();
     let got = r.try_recv() == Ok(1);
     let woken = refused || task.is_woken();
@@ -140,7 +150,7 @@ fn streams_and_closings<R: Wait + Copy>(ends: &mut Ends<R>, tasks: [&MockTask; 2
     let mut closed = ends.0.closed();
     let waits = closes(tasks[0], &mut closed);
     let streamed = streams(tasks[1], &mut ends.1);
-    let went = ends.0.try_send(6).is_ok();
+    let went = goes(&ends.0, 6);
     let woken = streamed == Said::Wanted || tasks[1].is_woken();
     let got = ends.1.try_recv() == Ok(6);
     let polled = [waits, streamed];
@@ -155,43 +165,59 @@ fn streams_and_closings<R: Wait + Copy>(ends: &mut Ends<R>, tasks: [&MockTask; 2
 
 /// The calls that take no memory on a channel with a bound.
 fn takes_none<R: Wait + Copy>(s: &Sender<u64, R>, r: &Receiver<u64, R>) -> bool {
-    let sent = s.send_blocking(8).is_ok();
-    let full = s.try_send(9) == Err(Refused::Plain(TrySendError::Full(9)));
-    let forced = s.force_send(9) == Ok(Some(8));
-    sent && full && forced && r.recv_blocking() == Ok(9) && !s.is_closed()
+    let sent = sends_blocking(s, 8);
+    let full = is_full_for(s, 9);
+    let forced = displaces(s, 9, Some(8));
+    sent && full && forced && receives_blocking(r, 9) && !s.is_closed()
+}
+
+/// Whether a clone of its weak handle upgrades.
+fn sender_upgrades<R: Wait + Copy>(s: &Sender<u64, R>) -> bool {
+    match &s.downgrade() {
+        Ok(weak) => clone_gives_sender(weak),
+        Err(_) => false,
+    }
+}
+
+fn clone_gives_sender<R: Wait + Copy>(weak: &WeakSender<u64, R>) -> bool {
+    match &weak.try_clone() {
+        Ok(clone) => matches!(&clone.upgrade(), Ok(Some(_))),
+        Err(_) => false,
+    }
+}
+
+/// Whether a clone of its weak handle upgrades.
+fn receiver_upgrades<R: Wait + Copy>(r: &Receiver<u64, R>) -> bool {
+    match &r.downgrade() {
+        Ok(weak) => clone_gives_receiver(weak),
+        Err(_) => false,
+    }
+}
+
+fn clone_gives_receiver<R: Wait + Copy>(weak: &WeakReceiver<u64, R>) -> bool {
+    match &weak.try_clone() {
+        Ok(clone) => matches!(&clone.upgrade(), Ok(Some(_))),
+        Err(_) => false,
+    }
 }
 
 /// More handles, of which none takes memory: so many strong ones as were made are counted, and none once they are dropped.
 fn counts<R: Wait + Copy>(s: &Sender<u64, R>, r: &Receiver<u64, R>) -> Seen {
-    let strong = (s.try_clone(), r.try_clone());
-    let weak = (s.downgrade(), r.downgrade());
+    let sender = s.try_clone();
+    let receiver = r.try_clone();
     let made = (
-        1usize.wrapping_add(usize::from(strong.0.is_ok())),
-        1usize.wrapping_add(usize::from(strong.1.is_ok())),
+        1usize.wrapping_add(usize::from(sender.is_ok())),
+        1usize.wrapping_add(usize::from(receiver.is_ok())),
     );
     let counted = (s.sender_count(), r.receiver_count()) == made;
-    let upgraded = match &weak {
-        (Ok(ws), Ok(wr)) => upgrades(ws, wr),
-        _ => false,
-    };
-    drop(strong);
+    let upgraded = sender_upgrades(s) && receiver_upgrades(r);
+    drop(sender);
+    drop(receiver);
     let refused = made != (2, 2) || !upgraded;
     make_seen(
         refused,
         counted && (s.sender_count(), r.receiver_count()) == (1, 1),
     )
-}
-
-/// Whether clones of weak handles are upgraded.
-fn upgrades<R: Wait + Copy>(ws: &WeakSender<u64, R>, wr: &WeakReceiver<u64, R>) -> bool {
-    let clones = (ws.try_clone(), wr.try_clone());
-    match (&clones.0, &clones.1) {
-        (Ok(ws), Ok(wr)) => {
-            let made = (ws.upgrade(), wr.upgrade());
-            matches!(&made.0, Ok(Some(_))) && matches!(&made.1, Ok(Some(_)))
-        }
-        _ => false,
-    }
 }
 
 /// Lets others run for a while: long enough for a call beside it to sleep.
@@ -207,7 +233,7 @@ fn send_sleeps<R>(rt: R, s: &Sender<u64, R>, r: &Receiver<u64, R>) -> Seen
 where
     R: Wait + Threads + Copy + Send + Sync,
 {
-    let filled = s.try_send(1).is_ok();
+    let filled = goes(s, 1);
     let (slept, first) = thread::join(
         &rt,
         || s.send_blocking(2),
@@ -217,7 +243,7 @@ where
         },
     );
     let refused = slept == Err(Refused::NoMemory(2));
-    let second = match slept {
+    let second = match &slept {
         Ok(()) => r.try_recv() == Ok(2),
         Err(_) => refused,
     };
@@ -234,12 +260,12 @@ where
         || r.recv_blocking(),
         || {
             pauses();
-            s.try_send(3).is_ok()
+            goes(s, 3)
         },
     );
     let refused = slept == Err(Refused::NoMemory(()));
-    let got = match slept {
-        Ok(message) => message == 3,
+    let got = match &slept {
+        Ok(message) => *message == 3,
         Err(_) => refused && r.try_recv() == Ok(3),
     };
     make_seen(refused, went && got && r.is_empty())
@@ -260,9 +286,9 @@ fn all_right(all: &[Seen]) -> Option<usize> {
 #[test]
 fn refused_growths(rt: HostRuntime) -> Result<(), Fail> {
     let alloc = rt.alloc();
-    let (one, two) = (MockTask::new(&rt)?, MockTask::new(&rt)?);
-    let (three, four) = (MockTask::new(&rt)?, MockTask::new(&rt)?);
-    let (five, six) = (MockTask::new(&rt)?, MockTask::new(&rt)?);
+    let (one, two) = (new_task(&rt), new_task(&rt));
+    let (three, four) = (new_task(&rt), new_task(&rt));
+    let (five, six) = (new_task(&rt), new_task(&rt));
     let mut ends = opened(rt, alloc, 1).expect(&rt, "memory");
     let (us, ur) = opened(rt, alloc, 0).expect(&rt, "memory");
     let all = [
@@ -287,7 +313,7 @@ fn refused_growths(rt: HostRuntime) -> Result<(), Fail> {
 /// After a sleep that was refused nobody is left behind who takes a notice from those who wait later.
 #[test]
 fn refused_sleeps(rt: HostRuntime) -> Result<(), Fail> {
-    let (one, two) = (MockTask::new(&rt)?, MockTask::new(&rt)?);
+    let (one, two) = (new_task(&rt), new_task(&rt));
     let (s, r) = opened(rt, rt.alloc(), 1).expect(&rt, "memory");
     let all = [
         send_sleeps(rt, &s, &r),

@@ -1,25 +1,17 @@
 //! Worked examples through handles on one thread, polled by hand: what each call answers, and whose tasks are woken.
 
-use crate::checks::expect_equal;
-use crate::said::{Said, closes, opened, receives, sends, streams};
-use async_channel::{Receiver, Refused, SendError, Sender, TryRecvError, TrySendError};
+use crate::checks::{expect_equal, new_task};
+use async_channel::{Receiver, Refused, SendError, Sender, TryRecvError};
+use channel_test_helpers::{
+    Said, closes, displaces, goes, is_closed_for, is_full_for, opened, receives, sends, streams,
+};
 use futures::test::MockTask;
 use std::sync::Wait;
 use std::test::Fail;
 
-/// Whether a send that doesn't wait is done.
-fn goes<R: Wait + Copy>(s: &Sender<u64, R>, message: u64) -> bool {
-    s.try_send(message) == Ok(())
-}
-
-/// Whether it finds the channel full, and hands its message back.
-fn is_full_for<R: Wait + Copy>(s: &Sender<u64, R>, message: u64) -> bool {
-    s.try_send(message) == Err(Refused::Plain(TrySendError::Full(message)))
-}
-
 /// Whether these messages are what a receive of several takes.
 fn takes<R: Wait + Copy>(r: &Receiver<u64, R>, limit: usize, messages: &[u64]) -> bool {
-    match r.recv_many(limit) {
+    match &r.recv_many(limit) {
         Ok(taken) => taken.as_slice() == messages,
         Err(_) => false,
     }
@@ -31,9 +23,9 @@ fn takes_none<R: Wait + Copy>(
     limit: usize,
     why: Refused<TryRecvError>,
 ) -> bool {
-    match r.recv_many(limit) {
+    match &r.recv_many(limit) {
         Ok(_) => false,
-        Err(error) => error == why,
+        Err(error) => *error == why,
     }
 }
 
@@ -73,11 +65,7 @@ fn takes_several<R: Wait + Copy>(
 
 #[test]
 fn several_at_once_wake_as_many_sends(rt: HostRuntime) -> Result<(), Fail> {
-    let (one, two, three) = (
-        MockTask::new(&rt)?,
-        MockTask::new(&rt)?,
-        MockTask::new(&rt)?,
-    );
+    let (one, two, three) = (new_task(&rt), new_task(&rt), new_task(&rt));
     let (s, r) = opened(rt, rt.alloc(), 3).expect(&rt, "memory");
     let (said, taken, woken) = takes_several(&s, &r, [&one, &two, &three]);
     let waiting = [Said::Pending, Said::Pending, Said::Pending];
@@ -122,31 +110,31 @@ fn one_place<R: Wait + Copy>(
 
 #[test]
 fn one_place_takes_one_message(rt: HostRuntime) -> Result<(), Fail> {
-    let task = MockTask::new(&rt)?;
+    let task = new_task(&rt);
     let (s, r) = opened(rt, rt.alloc(), 1).expect(&rt, "memory");
     let seen = one_place(&s, &r, &task);
     expect_equal(&rt, &seen, &([Said::Done, Said::Got(10)], [true, true]));
     Ok(())
 }
 
-fn displaces<R: Wait + Copy>(
+fn fourth_displaces<R: Wait + Copy>(
     s: &Sender<u64, R>,
     r: &Receiver<u64, R>,
     task: &MockTask,
 ) -> ([Said; 2], [bool; 2], bool) {
     let first = sends(task, &mut s.send(1));
     let second = sends(task, &mut s.send(2));
-    let third = s.force_send(3) == Ok(None);
-    let fourth = s.force_send(4) == Ok(Some(1));
+    let third = displaces(s, 3, None);
+    let fourth = displaces(s, 4, Some(1));
     let got = [r.try_recv(), r.try_recv(), r.try_recv()] == [Ok(2), Ok(3), Ok(4)];
     ([first, second], [third, fourth], got)
 }
 
 #[test]
 fn a_forced_message_displaces_the_oldest(rt: HostRuntime) -> Result<(), Fail> {
-    let task = MockTask::new(&rt)?;
+    let task = new_task(&rt);
     let (s, r) = opened(rt, rt.alloc(), 3).expect(&rt, "memory");
-    let seen = displaces(&s, &r, &task);
+    let seen = fourth_displaces(&s, &r, &task);
     expect_equal(&rt, &seen, &([Said::Done, Said::Done], [true, true], true));
     Ok(())
 }
@@ -170,14 +158,14 @@ fn the_last_sender_closes(rt: HostRuntime) -> Result<(), Fail> {
 
 fn refuses_all<R: Wait + Copy>(s: &Sender<u64, R>, task: &MockTask) -> (Said, [bool; 2]) {
     let polled = sends(task, &mut s.send(4));
-    let tried = s.try_send(5) == Err(Refused::Plain(TrySendError::Closed(5)));
+    let tried = is_closed_for(s, 5);
     let forced = s.force_send(6) == Err(Refused::Plain(SendError(6)));
     (polled, [tried, forced])
 }
 
 #[test]
 fn the_last_receiver_closes(rt: HostRuntime) -> Result<(), Fail> {
-    let task = MockTask::new(&rt)?;
+    let task = new_task(&rt);
     let (s, r) = opened(rt, rt.alloc(), 100).expect(&rt, "memory");
     let before = [
         sends(&task, &mut s.send(1)),
@@ -211,7 +199,7 @@ fn leaves_after_its_notice<R: Wait + Copy>(
 
 #[test]
 fn a_told_receive_that_leaves_passes_its_notice_on(rt: HostRuntime) -> Result<(), Fail> {
-    let (one, two) = (MockTask::new(&rt)?, MockTask::new(&rt)?);
+    let (one, two) = (new_task(&rt), new_task(&rt));
     let (s, r) = opened(rt, rt.alloc(), 1).expect(&rt, "memory");
     let seen = leaves_after_its_notice(&s, &r, [&one, &two]);
     let said = [Said::Pending, Said::Pending, Said::Got(10)];
@@ -247,7 +235,7 @@ fn takings_wake_sends<R: Wait + Copy>(
 
 #[test]
 fn each_taking_wakes_the_next_send(rt: HostRuntime) -> Result<(), Fail> {
-    let (one, two) = (MockTask::new(&rt)?, MockTask::new(&rt)?);
+    let (one, two) = (new_task(&rt), new_task(&rt));
     let (s, r) = opened(rt, rt.alloc(), 1).expect(&rt, "memory");
     let (said, went, woken, next) = takings_wake_sends(&s, &r, [&one, &two]);
     expect_equal(
@@ -285,8 +273,8 @@ fn closing_wakes<R: Wait + Copy>(
 
 #[test]
 fn a_closing_wakes_everybody(rt: HostRuntime) -> Result<(), Fail> {
-    let (one, two) = (MockTask::new(&rt)?, MockTask::new(&rt)?);
-    let three = MockTask::new(&rt)?;
+    let (one, two) = (new_task(&rt), new_task(&rt));
+    let three = new_task(&rt);
     let (s, r) = opened(rt, rt.alloc(), 0).expect(&rt, "memory");
     let mut t = r.try_clone().expect(&rt, "handles");
     let seen = closing_wakes(&s, &r, &mut t, [&one, &two, &three]);
@@ -328,7 +316,7 @@ fn message_wakes_both<R: Wait + Copy>(
 
 #[test]
 fn a_message_wakes_a_receive_and_a_stream(rt: HostRuntime) -> Result<(), Fail> {
-    let (one, two) = (MockTask::new(&rt)?, MockTask::new(&rt)?);
+    let (one, two) = (new_task(&rt), new_task(&rt));
     let (s, r) = opened(rt, rt.alloc(), 0).expect(&rt, "memory");
     let mut t = r.try_clone().expect(&rt, "handles");
     let (said, right, woken) = message_wakes_both(&s, &r, &mut t, [&one, &two]);
@@ -366,7 +354,7 @@ fn polled_twice<R: Wait + Copy>(
 
 #[test]
 fn a_second_poll_wakes_nobody(rt: HostRuntime) -> Result<(), Fail> {
-    let task = MockTask::new(&rt)?;
+    let task = new_task(&rt);
     let (s, r) = opened(rt, rt.alloc(), 1).expect(&rt, "memory");
     let seen = polled_twice(&s, &r, &task);
     let said = [Said::Pending, Said::Pending, Said::Got(9)];
@@ -386,7 +374,7 @@ fn finishes<R: Wait + Copy>(s: &Sender<u64, R>, task: &MockTask) -> ([Said; 2], 
 
 #[test]
 fn a_finished_send_is_pending(rt: HostRuntime) -> Result<(), Fail> {
-    let task = MockTask::new(&rt)?;
+    let task = new_task(&rt);
     let (s, r) = opened(rt, rt.alloc(), 2).expect(&rt, "memory");
     let seen = finishes(&s, &task);
     let left = (r.len(), s.send(2).give_up());
@@ -430,7 +418,7 @@ fn handles_have_their_texts(rt: HostRuntime) -> Result<(), Fail> {
     let (s, r) = opened(rt, alloc, 1).expect(&rt, "memory");
     let ws = s.downgrade().expect(&rt, "handles");
     let wr = r.downgrade().expect(&rt, "handles");
-    let text = format!(in alloc; "{s:?} {r:?} {ws:?} {wr:?}")?;
+    let text = format!(in alloc; "{s:?} {r:?} {ws:?} {wr:?}").expect(&rt, "memory");
     let want = "Sender { .. } Receiver { .. } WeakSender { .. } WeakReceiver { .. }";
     expect_equal(&rt, &text.as_str(), &want);
     Ok(())

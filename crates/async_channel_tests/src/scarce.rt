@@ -104,7 +104,7 @@ enum Said {
     Else,
 }
 
-fn says(reply: Reply<u64>) -> Said {
+fn says(reply: &Reply<u64>) -> Said {
     match reply {
         Reply::SendPoll(Poll::Pending)
         | Reply::RecvPoll(Poll::Pending)
@@ -119,6 +119,14 @@ fn says(reply: Reply<u64>) -> Said {
     }
 }
 
+/// A step of a call, and what it says where it is its last.
+fn steps(call: &mut ChannelCall<u64, u32>, cells: &mut Scarce, sink: &mut Digits) -> Option<Said> {
+    match &call.step(cells, sink) {
+        Some(reply) => Some(says(reply)),
+        None => None,
+    }
+}
+
 /// A call from its beginning to its end: what it says, whether it leaves its operation a listener, and its message.
 fn runs(
     cells: &mut Scarce,
@@ -126,15 +134,14 @@ fn runs(
     ask: ChannelAsk<u64, u32>,
 ) -> (Said, bool, Option<u64>) {
     let mut call = ChannelCall::new(ask);
-    let mut said = Said::Else;
+    let mut said = None;
     for _ in 0..64 {
-        if let Some(reply) = call.step(cells, sink) {
-            said = says(reply);
-            break;
+        if said.is_none() {
+            said = steps(&mut call, cells, sink);
         }
     }
     let kept = call.into_kept();
-    (said, kept.key.is_some(), kept.message)
+    (said.unwrap_or(Said::Else), kept.key.is_some(), kept.message)
 }
 
 /// Whether a poll is pending with a listener, or, where it is the one that was refused, refused without one.
@@ -147,6 +154,16 @@ fn waits(ran: (Said, bool, Option<u64>), is_refused: bool) -> bool {
     ran.0 == due && ran.1 != is_refused
 }
 
+/// Two receives, a stream and a wait for the closing are polled: whether that one alone is refused whose insertion is.
+fn four_wait(cells: &mut Scarce, sink: &mut Digits, refused: u32) -> bool {
+    let one = runs(cells, sink, ChannelAsk::PollRecv(None, 1));
+    let two = runs(cells, sink, ChannelAsk::PollRecv(None, 2));
+    let three = runs(cells, sink, ChannelAsk::PollNext(None, 3));
+    let four = runs(cells, sink, ChannelAsk::PollClosed(None, 4));
+    let receives = waits(one, refused == 0) && waits(two, refused == 1);
+    receives && waits(three, refused == 2) && waits(four, refused == 3)
+}
+
 /// Two receives, a stream and a wait for the closing are polled, a message comes, a send is polled that finds no place, and the
 /// channel is closed. One of the five insertions is refused: whether that poll alone is refused, the send keeps its message, and
 /// who is woken.
@@ -157,21 +174,13 @@ fn refuse_one(alloc: Global, refused: u32) -> Result<(bool, u32), AllocError> {
         refused,
     };
     let mut sink = Digits { woken: 0 };
-    let mut right = true;
-    for (number, ask) in [
-        (0, ChannelAsk::PollRecv(None, 1)),
-        (1, ChannelAsk::PollRecv(None, 2)),
-        (2, ChannelAsk::PollNext(None, 3)),
-        (3, ChannelAsk::PollClosed(None, 4)),
-    ] {
-        right = waits(runs(&mut cells, &mut sink, ask), number == refused) && right;
-    }
+    let waiting = four_wait(&mut cells, &mut sink, refused);
     let sent = runs(&mut cells, &mut sink, ChannelAsk::TrySend(7)).0;
     let full = runs(&mut cells, &mut sink, ChannelAsk::PollSend(8, None, 5));
     let kept = full.2 == Some(8) && waits(full, refused == 4);
     let closed = runs(&mut cells, &mut sink, ChannelAsk::Close).0;
-    right = right && kept && [sent, closed] == [Said::Done, Said::Done];
-    Ok((right, sink.woken))
+    let ended = [sent, closed] == [Said::Done, Said::Done];
+    Ok((waiting && kept && ended, sink.woken))
 }
 
 #[test]

@@ -1,9 +1,12 @@
 //! Calls of one thread, as the tests of `async-channel` 2.5.0 make them.
 
 use crate::checks::{expect_equal, expect_true};
-use crate::said::{Ends, opened, received, received_none, sent, sent_back};
-use async_channel::{Receiver, Refused, Sender, TryRecvError, TrySendError};
-use std::alloc::AllocGlobal;
+use async_channel::{Receiver, Refused, SendError, Sender, TryRecvError};
+use channel_test_helpers::{
+    Ends, goes, is_closed_for, opened, received, received_none, receives_blocking, sends_blocking,
+    sent, sent_back,
+};
+use std::alloc::{AllocGlobal, Global};
 use std::random::RandomSource;
 use std::sync::Wait;
 use std::test::Fail;
@@ -15,7 +18,7 @@ where
     let (s, r) = ends;
     let went = match s.capacity() {
         Some(_) => sent(rt, &s, 7),
-        None => s.try_send(7).is_ok(),
+        None => goes(&s, 7),
     };
     let first = went && r.try_recv() == Ok(7);
     let second = sent(rt, &s, 8) && received(rt, &r, 8);
@@ -27,9 +30,9 @@ where
     R: Wait + Copy + RandomSource + AllocGlobal,
 {
     let (s, r) = ends;
-    let first = s.send_blocking(7).is_ok() && r.try_recv() == Ok(7);
-    let second = s.send_blocking(8).is_ok() && received(rt, &r, 8);
-    let third = sent(rt, &s, 9) && r.recv_blocking() == Ok(9);
+    let first = sends_blocking(&s, 7) && r.try_recv() == Ok(7);
+    let second = sends_blocking(&s, 8) && received(rt, &r, 8);
+    let third = sent(rt, &s, 9) && receives_blocking(&r, 9);
     first && second && third && r.try_recv() == Err(TryRecvError::Empty)
 }
 
@@ -143,16 +146,13 @@ where
     let before = sent(rt, &s, 1) && sent(rt, &s, 2) && sent(rt, &s, 3);
     drop(r);
     let polled = sent_back(rt, &s, 4);
-    let tried = s.try_send(5) == Err(Refused::Plain(TrySendError::Closed(5)));
+    let tried = is_closed_for(&s, 5);
     let again = sent_back(rt, &s, 6);
     before && polled && tried && again && refuses_blocking(&s)
 }
 
 fn refuses_blocking<R: Wait + Copy>(s: &Sender<u64, R>) -> bool {
-    match s.send_blocking(7) {
-        Err(Refused::Plain(error)) => error.into_inner() == 7,
-        _ => false,
-    }
+    s.send_blocking(7) == Err(Refused::Plain(SendError(7)))
 }
 
 fn receives_after_close<R>(rt: R, ends: Ends<R>) -> bool
@@ -195,14 +195,13 @@ where
     let (s, r) = ends;
     let mut all = true;
     for i in 0..1_000u64 {
-        all = all && s.try_send(i).is_ok();
+        all = all && goes(&s, i);
     }
     for i in 0..1_000u64 {
         all = all && sent(rt, &s, i);
     }
     drop(r);
-    let tried = s.try_send(777) == Err(Refused::Plain(TrySendError::Closed(777)));
-    all && tried && sent_back(rt, &s, 777)
+    all && is_closed_for(&s, 777) && sent_back(rt, &s, 777)
 }
 
 #[test]
@@ -214,25 +213,60 @@ fn sends_without_a_bound(rt: HostRuntime) -> Result<(), Fail> {
     Ok(())
 }
 
+/// Twenty more senders of the channel; false where one is of another.
+fn twenty_senders<R: Wait + Copy>(
+    s: &Sender<u64, R>,
+    alloc: Global,
+) -> (Vec<Sender<u64, R>>, bool) {
+    let mut senders = Vec::new(alloc);
+    let mut same = true;
+    for _ in 0..20 {
+        if let Ok(sender) = s.try_clone() {
+            same = same && s.same_channel(&sender);
+            let _ = senders.push(sender);
+        }
+    }
+    (senders, same)
+}
+
+/// Twenty more receivers of the channel; false where one is of another.
+fn twenty_receivers<R: Wait + Copy>(
+    r: &Receiver<u64, R>,
+    alloc: Global,
+) -> (Vec<Receiver<u64, R>>, bool) {
+    let mut receivers = Vec::new(alloc);
+    let mut same = true;
+    for _ in 0..20 {
+        if let Ok(receiver) = r.try_clone() {
+            same = same && r.same_channel(&receiver);
+            let _ = receivers.push(receiver);
+        }
+    }
+    (receivers, same)
+}
+
+/// How many senders and how many receivers there are, asked of both ends, which agree.
+fn handles<R: Wait + Copy>(ends: &Ends<R>) -> Option<(usize, usize)> {
+    let of_sender = (ends.0.sender_count(), ends.0.receiver_count());
+    let of_receiver = (ends.1.sender_count(), ends.1.receiver_count());
+    if of_sender == of_receiver {
+        Some(of_sender)
+    } else {
+        None
+    }
+}
+
 #[test]
 fn handles_are_counted(rt: HostRuntime) -> Result<(), Fail> {
     for capacity in [5, 0] {
-        let (s, r) = opened(rt, rt.alloc(), capacity).expect(&rt, "memory");
-        let mut senders = Vec::new(rt.alloc());
-        let mut receivers = Vec::new(rt.alloc());
-        for _ in 0..20 {
-            let sender = s.try_clone().expect(&rt, "handles");
-            let receiver = r.try_clone().expect(&rt, "handles");
-            expect_true(&rt, s.same_channel(&sender) && r.same_channel(&receiver));
-            senders.push(sender)?;
-            receivers.push(receiver)?;
-        }
-        expect_equal(&rt, &(s.sender_count(), s.receiver_count()), &(21, 21));
-        expect_equal(&rt, &(r.sender_count(), r.receiver_count()), &(21, 21));
+        let ends = opened(rt, rt.alloc(), capacity).expect(&rt, "memory");
+        let (senders, all_send) = twenty_senders(&ends.0, rt.alloc());
+        let (receivers, all_receive) = twenty_receivers(&ends.1, rt.alloc());
+        expect_true(&rt, all_send && all_receive);
+        expect_equal(&rt, &handles(&ends), &Some((21, 21)));
         drop(senders);
         drop(receivers);
-        expect_equal(&rt, &(s.sender_count(), s.receiver_count()), &(1, 1));
-        expect_equal(&rt, &(r.sender_count(), r.receiver_count()), &(1, 1));
+        expect_equal(&rt, &handles(&ends), &Some((1, 1)));
     }
     Ok(())
 }

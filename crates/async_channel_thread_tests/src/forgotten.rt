@@ -1,27 +1,27 @@
 //! An operation that was polled once and is then left alone keeps nobody else from going on.
 
-use crate::checks::expect_true;
+use crate::checks::{expect_true, new_task};
 use crate::gates::Gates;
-use crate::said::{Ends, Said, opened, received, receives, sends, sent};
 use async_channel::{Receiver, Sender};
+use channel_test_helpers::{Ends, Said, goes, opened, received, receives, sends, sent};
 use futures::test::MockTask;
 use std::alloc::AllocGlobal;
 use std::random::RandomSource;
 use std::sync::Wait;
 use std::test::Fail;
+use std::thread;
 use std::thread::Threads;
-use std::{io, thread};
 
 fn forgets_a_send<R>(
     rt: R,
     gates: &Gates,
     first: &Sender<u64, R>,
     second: &Sender<u64, R>,
-) -> io::Result<bool>
+    task: MockTask,
+) -> bool
 where
     R: Wait + Copy + RandomSource + AllocGlobal,
 {
-    let task = MockTask::new(&rt)?;
     let filled = sent(rt, first, 3) && sent(rt, first, 7);
     let mut forgotten = first.send(13);
     let pending = sends(&task, &mut forgotten) == Said::Pending;
@@ -29,21 +29,18 @@ where
     let went = sent(rt, second, 42);
     gates.open(&rt, 2);
     gates.pass(&rt, 3);
-    Ok(filled && pending && went)
+    filled && pending && went
 }
 
-fn blocked_sender<R>(rt: R, ends: Ends<R>) -> bool
+fn blocked_sender<R>(rt: R, ends: Ends<R>, second: Sender<u64, R>, task: MockTask) -> bool
 where
     R: Wait + Threads + Copy + RandomSource + AllocGlobal + Send + Sync,
 {
     let (first, r) = ends;
-    let Ok(second) = first.try_clone() else {
-        return false;
-    };
     let gates = Gates::new();
     let (did, got) = thread::join(
         &rt,
-        || forgets_a_send(rt, &gates, &first, &second),
+        || forgets_a_send(rt, &gates, &first, &second, task),
         || {
             gates.pass(&rt, 1);
             let two = received(rt, &r, 3) && received(rt, &r, 7);
@@ -53,7 +50,7 @@ where
             two && third
         },
     );
-    matches!(did, Ok(true)) && got
+    did && got
 }
 
 fn forgets_a_receive<R>(
@@ -61,54 +58,48 @@ fn forgets_a_receive<R>(
     gates: &Gates,
     first: &Receiver<u64, R>,
     second: &Receiver<u64, R>,
-) -> io::Result<bool>
+    task: MockTask,
+) -> bool
 where
     R: Wait + Copy + RandomSource + AllocGlobal,
 {
-    let task = MockTask::new(&rt)?;
     let mut forgotten = first.recv();
     let pending = receives(&task, &mut forgotten) == Said::Pending;
     gates.open(&rt, 1);
     let went = received(rt, second, 3);
     gates.open(&rt, 2);
     gates.pass(&rt, 3);
-    Ok(pending && went)
+    pending && went
 }
 
-fn blocked_receiver<R>(rt: R, ends: Ends<R>) -> bool
+fn blocked_receiver<R>(rt: R, ends: Ends<R>, second: Receiver<u64, R>, task: MockTask) -> bool
 where
     R: Wait + Threads + Copy + RandomSource + AllocGlobal + Send + Sync,
 {
     let (s, first) = ends;
-    let Ok(second) = first.try_clone() else {
-        return false;
-    };
     let gates = Gates::new();
     let (got, did) = thread::join(
         &rt,
-        || forgets_a_receive(rt, &gates, &first, &second),
+        || forgets_a_receive(rt, &gates, &first, &second, task),
         || {
             gates.pass(&rt, 1);
             let two = sent(rt, &s, 3) && sent(rt, &s, 7);
             gates.pass(&rt, 2);
-            let third = s.try_send(42).is_ok();
+            let third = goes(&s, 42);
             gates.open(&rt, 3);
             two && third
         },
     );
-    did && matches!(got, Ok(true))
+    did && got
 }
 
 #[test]
 fn forgotten_operations(rt: HostRuntime) -> Result<(), Fail> {
-    let alloc = rt.alloc();
-    expect_true(
-        &rt,
-        blocked_sender(rt, opened(rt, alloc, 2).expect(&rt, "memory")),
-    );
-    expect_true(
-        &rt,
-        blocked_receiver(rt, opened(rt, alloc, 2).expect(&rt, "memory")),
-    );
+    let one = opened(rt, rt.alloc(), 2).expect(&rt, "memory");
+    let sender = one.0.try_clone().expect(&rt, "handles");
+    expect_true(&rt, blocked_sender(rt, one, sender, new_task(&rt)));
+    let two = opened(rt, rt.alloc(), 2).expect(&rt, "memory");
+    let receiver = two.1.try_clone().expect(&rt, "handles");
+    expect_true(&rt, blocked_receiver(rt, two, receiver, new_task(&rt)));
     Ok(())
 }

@@ -1,12 +1,10 @@
 //! Four threads send and four receive, as the tests of `async-channel` 2.5.0 have them.
 
 use crate::checks::expect_true;
-use crate::said::{Ends, opened, sent};
 use crate::tally::Tally;
 use async_channel::{Receiver, Sender, TryRecvError};
-use futures::StreamExt;
-use futures::executor::block_on;
-use std::alloc::{AllocGlobal, Global};
+use channel_test_helpers::{Ends, next_message, next_of_stream, opened, sent};
+use std::alloc::AllocGlobal;
 use std::random::RandomSource;
 use std::sync::Wait;
 use std::test::Fail;
@@ -44,13 +42,13 @@ where
     R: Wait + Copy + RandomSource + AllocGlobal,
 {
     for _ in 0..COUNT {
-        match block_on(&rt, r.recv()) {
-            Ok(Ok(number)) => {
+        match next_message(rt, r) {
+            Some(number) => {
                 if !tally.note(&rt, number) {
                     return false;
                 }
             }
-            _ => return false,
+            None => return false,
         }
     }
     true
@@ -68,96 +66,92 @@ where
     a && b && c && d
 }
 
-fn each_four_times<R>(rt: R, alloc: Global, ends: Ends<R>) -> bool
+fn each_four_times<R>(rt: R, ends: Ends<R>, tally: &Tally) -> bool
 where
     R: Wait + Threads + Copy + RandomSource + AllocGlobal + Send + Sync,
 {
     let (s, r) = ends;
-    let Some(tally) = Tally::new(alloc, COUNT) else {
-        return false;
-    };
-    let (did, got) = thread::join(&rt, || four_send(rt, &s), || four_take(rt, &r, &tally));
+    let (did, got) = thread::join(&rt, || four_send(rt, &s), || four_take(rt, &r, tally));
     did && got && tally.all_are(&rt, 4) && r.try_recv() == Err(TryRecvError::Empty)
 }
 
 #[test]
 fn many_senders_many_receivers(rt: HostRuntime) -> Result<(), Fail> {
-    let alloc = rt.alloc();
-    expect_true(
-        &rt,
-        each_four_times(rt, alloc, opened(rt, alloc, 3).expect(&rt, "memory")),
-    );
-    expect_true(
-        &rt,
-        each_four_times(rt, alloc, opened(rt, alloc, 0).expect(&rt, "memory")),
-    );
+    for capacity in [3, 0] {
+        let tally = Tally::new(rt.alloc(), COUNT).expect(&rt, "memory");
+        let ends = opened(rt, rt.alloc(), capacity).expect(&rt, "memory");
+        expect_true(&rt, each_four_times(rt, ends, &tally));
+    }
     Ok(())
 }
 
-fn streams<R>(rt: R, mut r: Receiver<u64, R>, tally: &Tally) -> bool
+fn streams<R>(rt: R, stream: &mut Receiver<u64, R>, tally: &Tally) -> bool
 where
     R: Wait + Copy + RandomSource + AllocGlobal,
 {
     for _ in 0..COUNT {
-        match block_on(&rt, r.next()) {
-            Ok(Some(Ok(number))) => {
+        match next_of_stream(rt, stream) {
+            Some(number) => {
                 if !tally.note(&rt, number) {
                     return false;
                 }
             }
-            _ => return false,
+            None => return false,
         }
     }
     true
+}
+
+/// Streams by a receiver of its own.
+fn clone_streams<R>(rt: R, r: &Receiver<u64, R>, tally: &Tally) -> bool
+where
+    R: Wait + Copy + RandomSource + AllocGlobal,
+{
+    match r.try_clone() {
+        Ok(mut own) => streams(rt, &mut own, tally),
+        Err(_) => false,
+    }
 }
 
 fn two_stream<R>(rt: R, r: &Receiver<u64, R>, tally: &Tally) -> bool
 where
     R: Wait + Threads + Copy + RandomSource + AllocGlobal + Send + Sync,
 {
-    let Ok(one) = r.try_clone() else {
-        return false;
-    };
-    let Ok(two) = r.try_clone() else {
-        drop(one);
-        return false;
-    };
     let (a, b) = thread::join(
         &rt,
-        move || streams(rt, one, tally),
-        move || streams(rt, two, tally),
+        || clone_streams(rt, r, tally),
+        || clone_streams(rt, r, tally),
     );
     a && b
 }
 
-fn each_four_times_streamed<R>(rt: R, alloc: Global, ends: Ends<R>) -> bool
+fn four_stream<R>(rt: R, r: &Receiver<u64, R>, tally: &Tally) -> bool
+where
+    R: Wait + Threads + Copy + RandomSource + AllocGlobal + Send + Sync,
+{
+    let (a, b) = thread::join(
+        &rt,
+        || two_stream(rt, r, tally),
+        || two_stream(rt, r, tally),
+    );
+    a && b
+}
+
+fn each_four_times_streamed<R>(rt: R, ends: Ends<R>, tally: &Tally) -> bool
 where
     R: Wait + Threads + Copy + RandomSource + AllocGlobal + Send + Sync,
 {
     let (s, r) = ends;
-    let Some(tally) = Tally::new(alloc, COUNT) else {
-        return false;
-    };
-    let (did, (a, b)) = thread::join(
-        &rt,
-        || four_send(rt, &s),
-        || {
-            thread::join(
-                &rt,
-                || two_stream(rt, &r, &tally),
-                || two_stream(rt, &r, &tally),
-            )
-        },
-    );
-    did && a && b && tally.all_are(&rt, 4) && r.try_recv() == Err(TryRecvError::Empty)
+    let (did, got) = thread::join(&rt, || four_send(rt, &s), || four_stream(rt, &r, tally));
+    did && got && tally.all_are(&rt, 4) && r.try_recv() == Err(TryRecvError::Empty)
 }
 
 #[test]
 fn many_senders_many_streams(rt: HostRuntime) -> Result<(), Fail> {
-    let alloc = rt.alloc();
-    let bounded = opened(rt, alloc, 3).expect(&rt, "memory");
-    expect_true(&rt, each_four_times_streamed(rt, alloc, bounded));
-    let unbounded = opened(rt, alloc, 0).expect(&rt, "memory");
-    expect_true(&rt, each_four_times_streamed(rt, alloc, unbounded));
+    for capacity in [3, 0] {
+        let tally = Tally::new(rt.alloc(), COUNT).expect(&rt, "memory");
+        let ends = opened(rt, rt.alloc(), capacity).expect(&rt, "memory");
+        expect_true(&rt, each_four_times_streamed(rt, ends, &tally));
+    }
     Ok(())
 }

@@ -1,23 +1,23 @@
 //! What a closing by another thread's drop does to those who wait.
 
-use crate::checks::expect_true;
+use crate::checks::{expect_true, new_task};
 use crate::gates::Gates;
-use crate::said::{Ends, Said, closes, opened, received, received_none, sent, sent_back};
 use async_channel::Sender;
-use futures::executor::block_on;
+use channel_test_helpers::{
+    Ends, Said, closes, opened, received, received_none, sent, sent_back, told_of_closing,
+};
 use futures::test::MockTask;
 use std::alloc::AllocGlobal;
 use std::random::RandomSource;
 use std::sync::Wait;
 use std::test::Fail;
+use std::thread;
 use std::thread::Threads;
-use std::{io, thread};
 
-fn waits_for_closing<R>(rt: R, gates: &Gates, s: &Sender<u64, R>) -> io::Result<bool>
+fn waits_for_closing<R>(rt: R, gates: &Gates, s: &Sender<u64, R>, task: MockTask) -> bool
 where
     R: Wait + Copy + RandomSource + AllocGlobal,
 {
-    let task = MockTask::new(&rt)?;
     let first = sent(rt, s, 7);
     gates.pass(&rt, 1);
     let mut closed = s.closed();
@@ -25,11 +25,10 @@ where
     gates.open(&rt, 2);
     gates.pass(&rt, 3);
     let woken = task.is_woken() && closes(&task, &mut closed) == Said::Over;
-    let again = matches!(block_on(&rt, s.closed())?, Ok(()));
-    Ok(first && pending && woken && again)
+    first && pending && woken && told_of_closing(rt, s)
 }
 
-fn is_told_of_closing<R>(rt: R, ends: Ends<R>) -> bool
+fn is_told_of_closing<R>(rt: R, ends: Ends<R>, task: MockTask) -> bool
 where
     R: Wait + Threads + Copy + RandomSource + AllocGlobal + Send + Sync,
 {
@@ -37,7 +36,7 @@ where
     let gates = Gates::new();
     let (did, got) = thread::join(
         &rt,
-        || waits_for_closing(rt, &gates, &s),
+        || waits_for_closing(rt, &gates, &s, task),
         || {
             let got = received(rt, &r, 7);
             gates.open(&rt, 1);
@@ -47,7 +46,7 @@ where
             got
         },
     );
-    matches!(did, Ok(true)) && got
+    did && got
 }
 
 fn wakes_a_sender<R>(rt: R, ends: Ends<R>) -> bool
@@ -85,7 +84,11 @@ fn closings(rt: HostRuntime) -> Result<(), Fail> {
     let alloc = rt.alloc();
     expect_true(
         &rt,
-        is_told_of_closing(rt, opened(rt, alloc, 1).expect(&rt, "memory")),
+        is_told_of_closing(
+            rt,
+            opened(rt, alloc, 1).expect(&rt, "memory"),
+            new_task(&rt),
+        ),
     );
     expect_true(
         &rt,

@@ -1,17 +1,17 @@
 //! Two threads poll sends by hand and two poll receives. Afterwards what was woken is polled until nothing is: then nobody is
 //! pending whom a message or a place lets go on, and each message that was accepted was received once or is left.
 
-use crate::checks::expect_true;
-use crate::said::{Said, opened, receives, sends};
+use crate::checks::{expect_true, new_task};
 use crate::tally::Tally;
 use async_channel::{Receiver, Recv, Send as Sending, Sender};
+use channel_test_helpers::{Ends, Said, opened, receives, sends};
 use futures::test::MockTask;
 use std::alloc::AllocGlobal;
 use std::random::RandomSource;
 use std::sync::Wait;
 use std::test::Fail;
 use std::thread::Threads;
-use std::{io, thread};
+use std::{mem, thread};
 
 const POLLS: u64 = 1_000;
 
@@ -21,13 +21,13 @@ const SECOND: u64 = 2_000;
 /// No message is as great as this.
 const LIMIT: u64 = 4_000;
 
-/// How many messages went, and whether those of each sender went in order.
+/// How many messages went, and whether those of each sender went in order, and each operation had a task.
 #[derive(Clone, Copy)]
 struct Went {
     count: u64,
     first: u64,
     second: u64,
-    in_order: bool,
+    right: bool,
 }
 
 impl Went {
@@ -36,7 +36,7 @@ impl Went {
             count: 0,
             first: 0,
             second: SECOND,
-            in_order: true,
+            right: true,
         }
     }
 
@@ -45,10 +45,10 @@ impl Went {
         self.count = self.count.wrapping_add(1);
         let next = message.wrapping_add(1);
         if message < SECOND {
-            self.in_order = self.in_order && self.first <= message;
+            self.right = self.right && self.first <= message;
             self.first = next;
         } else {
-            self.in_order = self.in_order && self.second <= message;
+            self.right = self.right && self.second <= message;
             self.second = next;
         }
     }
@@ -60,65 +60,92 @@ type LastSend<'a, R> = (Went, MockTask, Sending<'a, u64, R>);
 /// What a receiver got, and its last receive with its task.
 type LastRecv<'a, R> = (Went, MockTask, Recv<'a, u64, R>);
 
-type Sent<'a, R> = io::Result<LastSend<'a, R>>;
+/// A task for the next operation in the place of this one: whether one was to be had.
+fn renews<R: RandomSource + AllocGlobal>(rt: &R, task: &mut MockTask) -> bool {
+    match MockTask::new(rt) {
+        Ok(next) => {
+            drop(mem::replace(task, next));
+            true
+        }
+        Err(_) => false,
+    }
+}
 
-type Got<'a, R> = io::Result<LastRecv<'a, R>>;
-
-fn poll_sends<R>(rt: R, s: &Sender<u64, R>, from: u64) -> Sent<'_, R>
+fn poll_sends<R>(rt: R, s: &Sender<u64, R>, from: u64, task: MockTask) -> LastSend<'_, R>
 where
     R: Wait + Copy + RandomSource + AllocGlobal,
 {
     let mut went = Went::new();
-    let mut task = MockTask::new(&rt)?;
+    let mut task = task;
     let mut send = s.send(from);
     for _ in 0..POLLS {
         if sends(&task, &mut send) == Said::Done {
             let message = from.wrapping_add(went.count);
             went.note(message);
-            task = MockTask::new(&rt)?;
+            went.right = renews(&rt, &mut task) && went.right;
             send = s.send(message.wrapping_add(1));
         } else {
             thread::yield_now();
         }
     }
-    Ok((went, task, send))
+    (went, task, send)
 }
 
-fn poll_receives<'a, R>(rt: R, r: &'a Receiver<u64, R>, tally: &Tally) -> Got<'a, R>
+fn poll_receives<'a, R>(
+    rt: R,
+    r: &'a Receiver<u64, R>,
+    tally: &Tally,
+    task: MockTask,
+) -> LastRecv<'a, R>
 where
     R: Wait + Copy + RandomSource + AllocGlobal,
 {
     let mut went = Went::new();
-    let mut task = MockTask::new(&rt)?;
+    let mut task = task;
     let mut recv = r.recv();
     for _ in 0..POLLS {
         if let Said::Got(message) = receives(&task, &mut recv) {
             went.note(message);
             tally.note(&rt, message);
-            task = MockTask::new(&rt)?;
+            went.right = renews(&rt, &mut task) && went.right;
             recv = r.recv();
         } else {
             thread::yield_now();
         }
     }
-    Ok((went, task, recv))
+    (went, task, recv)
 }
 
-fn two_send<R>(rt: R, s: &Sender<u64, R>) -> (Sent<'_, R>, Sent<'_, R>)
+fn two_send<R>(
+    rt: R,
+    s: &Sender<u64, R>,
+    tasks: (MockTask, MockTask),
+) -> (LastSend<'_, R>, LastSend<'_, R>)
 where
     R: Wait + Threads + Copy + RandomSource + AllocGlobal + Send + Sync,
 {
-    thread::join(&rt, || poll_sends(rt, s, 0), || poll_sends(rt, s, SECOND))
-}
-
-fn two_receive<'a, R>(rt: R, r: &'a Receiver<u64, R>, tally: &Tally) -> (Got<'a, R>, Got<'a, R>)
-where
-    R: Wait + Threads + Copy + RandomSource + AllocGlobal + Send + Sync,
-{
+    let (one, two) = tasks;
     thread::join(
         &rt,
-        || poll_receives(rt, r, tally),
-        || poll_receives(rt, r, tally),
+        move || poll_sends(rt, s, 0, one),
+        move || poll_sends(rt, s, SECOND, two),
+    )
+}
+
+fn two_receive<'a, R>(
+    rt: R,
+    r: &'a Receiver<u64, R>,
+    tally: &Tally,
+    tasks: (MockTask, MockTask),
+) -> (LastRecv<'a, R>, LastRecv<'a, R>)
+where
+    R: Wait + Threads + Copy + RandomSource + AllocGlobal + Send + Sync,
+{
+    let (one, two) = tasks;
+    thread::join(
+        &rt,
+        move || poll_receives(rt, r, tally, one),
+        move || poll_receives(rt, r, tally, two),
     )
 }
 
@@ -168,21 +195,8 @@ fn drain<R: Wait + Copy>(rt: R, r: &Receiver<u64, R>, tally: &Tally) -> Went {
 
 /// Whether each message that was sent was received once or is left, and those of each sender went in order.
 fn adds_up<R: Wait>(rt: &R, sent: [Went; 2], got: [Went; 2], left: Went, tally: &Tally) -> bool {
-    let ordered = got[0].in_order && got[1].in_order && left.in_order;
+    let ordered = got[0].right && got[1].right && left.right;
     ordered && tally.are_once(rt, sent[0].count, SECOND, sent[1].count)
-}
-
-/// Both results, where both are there.
-fn both<T: Drop>(pair: (io::Result<T>, io::Result<T>)) -> Option<(T, T)> {
-    let (first, second) = pair;
-    let Ok(first) = first else {
-        drop(second);
-        return None;
-    };
-    match second {
-        Ok(second) => Some((first, second)),
-        Err(_) => None,
-    }
 }
 
 /// Polls whom was woken until nobody is. Then nobody who isn't done could go on, and nothing was lost or doubled.
@@ -209,46 +223,35 @@ fn settles<'a, R: Wait + Copy>(
     senders_still && receivers_still && sends_rest && receives_rest && whole
 }
 
-/// What both threads of senders and both of receivers have in the end.
-type All<'a, R> = ((Sent<'a, R>, Sent<'a, R>), (Got<'a, R>, Got<'a, R>));
-
-fn all_four<'a, R>(
+fn comes_to_rest<R>(
     rt: R,
-    s: &'a Sender<u64, R>,
-    r: &'a Receiver<u64, R>,
+    ends: &Ends<R>,
     tally: &Tally,
-) -> All<'a, R>
+    senders: (MockTask, MockTask),
+    receivers: (MockTask, MockTask),
+) -> bool
 where
     R: Wait + Threads + Copy + RandomSource + AllocGlobal + Send + Sync,
 {
-    thread::join(&rt, || two_send(rt, s), || two_receive(rt, r, tally))
-}
-
-fn comes_to_rest<R>(rt: R, s: &Sender<u64, R>, r: &Receiver<u64, R>) -> bool
-where
-    R: Wait + Threads + Copy + RandomSource + AllocGlobal + Send + Sync,
-{
-    let Some(tally) = Tally::new(rt.alloc(), LIMIT) else {
-        return false;
-    };
-    let (sent, got) = all_four(rt, s, r, &tally);
-    let Some(mut sent) = both(sent) else {
-        drop(got);
-        return false;
-    };
-    let Some(mut got) = both(got) else {
-        drop(sent);
-        return false;
-    };
-    settles(rt, &mut sent, &mut got, r, &tally)
+    let (s, r) = (&ends.0, &ends.1);
+    let (mut sent, mut got) = thread::join(
+        &rt,
+        move || two_send(rt, s, senders),
+        move || two_receive(rt, r, tally, receivers),
+    );
+    settles(rt, &mut sent, &mut got, r, tally)
 }
 
 #[test]
 fn at_rest(rt: HostRuntime) -> Result<(), Fail> {
     for capacity in [1, 3, 0] {
         for _ in 0..5 {
-            let (s, r) = opened(rt, rt.alloc(), capacity).expect(&rt, "memory");
-            expect_true(&rt, comes_to_rest(rt, &s, &r));
+            let tally = Tally::new(rt.alloc(), LIMIT).expect(&rt, "memory");
+            let senders = (new_task(&rt), new_task(&rt));
+            let receivers = (new_task(&rt), new_task(&rt));
+            let ends = opened(rt, rt.alloc(), capacity).expect(&rt, "memory");
+            let rests = comes_to_rest(rt, &ends, &tally, senders, receivers);
+            expect_true(&rt, rests);
         }
     }
     Ok(())

@@ -2,8 +2,10 @@
 
 use crate::checks::expect_true;
 use crate::gates::Gates;
-use crate::said::{Ends, opened, received, received_none, sent};
-use async_channel::{Receiver, Refused, Sender, TryRecvError, TrySendError};
+use async_channel::{Receiver, Sender, TryRecvError};
+use channel_test_helpers::{
+    Ends, displaces, goes, is_closed_for, is_full_for, opened, received, received_none, sent,
+};
 use std::alloc::AllocGlobal;
 use std::random::RandomSource;
 use std::sync::Wait;
@@ -77,13 +79,13 @@ fn receives(rt: HostRuntime) -> Result<(), Fail> {
 }
 
 fn tried_by_sender<R: Wait + Copy>(rt: R, gates: &Gates, s: &Sender<u64, R>) -> bool {
-    let first = s.try_send(1).is_ok();
-    let full = s.try_send(2) == Err(Refused::Plain(TrySendError::Full(2)));
+    let first = goes(s, 1);
+    let full = is_full_for(s, 2);
     gates.open(&rt, 1);
     gates.pass(&rt, 2);
-    let third = s.try_send(3).is_ok();
+    let third = goes(s, 3);
     gates.pass(&rt, 3);
-    first && full && third && s.try_send(4) == Err(Refused::Plain(TrySendError::Closed(4)))
+    first && full && third && is_closed_for(s, 4)
 }
 
 fn tries_to_send<R>(rt: R, ends: Ends<R>) -> bool
@@ -136,13 +138,13 @@ fn sends(rt: HostRuntime) -> Result<(), Fail> {
 }
 
 fn forced_by_sender<R: Wait + Copy>(rt: R, gates: &Gates, s: &Sender<u64, R>) -> bool {
-    let first = s.force_send(7) == Ok(None) && s.force_send(8) == Ok(Some(7));
+    let first = displaces(s, 7, None) && displaces(s, 8, Some(7));
     gates.open(&rt, 1);
     gates.pass(&rt, 2);
-    let second = s.force_send(9) == Ok(None);
+    let second = displaces(s, 9, None);
     gates.open(&rt, 3);
     gates.pass(&rt, 4);
-    let third = s.force_send(10) == Ok(None);
+    let third = displaces(s, 10, None);
     gates.open(&rt, 5);
     first && second && third
 }
