@@ -19,6 +19,8 @@ mod BlocksYields
 mod BlocksPushWords
 mod BlocksPopWords
 pub mod StepFacts
+mod SingleDeeds
+mod RingDeeds
 pub mod SingleSteps
 pub mod RingShape
 pub mod RingPlaces

@@ -23,6 +23,8 @@ pub mod Turns
 pub mod Errors
 pub mod Step
 pub mod Contents
+pub mod Deeds
+pub mod Effects
 pub mod Capacity
 pub mod Made
 pub mod Plain

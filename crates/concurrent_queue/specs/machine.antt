@@ -3,6 +3,7 @@
 pub mod Single
 pub mod SingleState
 pub mod RingWords
+pub mod RingMoves
 pub mod RingState
 pub mod RingCalls
 pub mod RingMeans

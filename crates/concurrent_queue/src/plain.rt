@@ -47,8 +47,11 @@ impl<T: Drop> Drop for PlainCells<T> {
 
 impl<T: Drop> Cells<T> for PlainCells<T> {
     ghost use Rattle.concurrent_queue.specs.Plain.{contents_of};
+    ghost use Rattle.concurrent_queue.specs.Effects.{Does};
 
     ghost known = { Unit {0} };
+
+    ghost did = { λ d a b. Does d (contents_of a) (contents_of b) };
 
     ghost contents = { contents_of };
 

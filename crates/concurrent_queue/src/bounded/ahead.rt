@@ -4,6 +4,7 @@
 ghost use Rattle.std.specs.Prelude.{ℕ, true, MatchResult};
 ghost use Rattle.concurrent_queue.specs.machine.Ahead.{MadeBy, PushesOnEnd, PopsOnEnd, PushesRing, PopsRing, PopsNothing};
 ghost use Rattle.concurrent_queue.specs.machine.RingWords.{ring_step};
+ghost use Rattle.concurrent_queue.specs.machine.RingMoves.{RingMakes};
 ghost use Rattle.concurrent_queue.specs.Replies.{MayRing, MayPush, MayPop};
 ghost use Rattle.concurrent_queue.specs.declared.call.QueueReply.{QueueReply};
 ghost use Rattle.concurrent_queue.specs.declared.call.QueueReply.TheVariants as reply;
@@ -22,6 +23,7 @@ pub(crate) fn push_ahead<T: Drop, C: Cells<T>>(
 ) -> Result<Result<(), PushError<T>>, RingAction<T>>
     ensures steps { C.known → PushesOnEnd (MadeBy (ring_step shape.cap shape.mark)) (C.contents cells.old)
         (RingAction.Push WhenFull.Refuse value) result (C.contents cells.new) }
+    ensures deeds { PushesOnEnd (RingMakes shape.cap shape.mark C.did) cells.old (RingAction.Push WhenFull.Refuse value) result cells.new }
     ensures answers { MatchResult result (λ r. MayPush true value (reply.Push r))
         (λ a. (cap : ℕ) (r : QueueReply T) → MayRing cap a r → MayPush true value r) }
 {
@@ -37,6 +39,7 @@ pub(crate) fn pop_ahead<T: Drop, C: Cells<T>>(
 ) -> Result<Result<T, PopError>, RingAction<T>>
     ensures steps { C.known → PopsOnEnd (MadeBy (ring_step shape.cap shape.mark)) (C.contents cells.old)
         RingAction.Pop result (C.contents cells.new) }
+    ensures deeds { PopsOnEnd (RingMakes shape.cap shape.mark C.did) cells.old RingAction.Pop result cells.new }
     ensures answers { MatchResult result (λ _. Unit {0})
         (λ a. (cap : ℕ) (r : QueueReply T) → MayRing cap a r → MayPop r) }
 {
@@ -51,6 +54,7 @@ fn make_push<T: Drop, C: Cells<T>>(
     cells: &mut C,
 ) -> Result<Result<(), PushError<T>>, RingAction<T>>
     ensures cells { C.known → PushesRing shape.cap shape.mark (C.contents cells.old) value result (C.contents cells.new) }
+    ensures deeds { PushesOnEnd (RingMakes shape.cap shape.mark C.did) cells.old (RingAction.Push WhenFull.Refuse value) result cells.new }
     ensures answers { MatchResult result (λ r. MayPush true value (reply.Push r))
         (λ a. (cap : ℕ) (r : QueueReply T) → MayRing cap a r → MayPush true value r) }
 {
@@ -59,7 +63,7 @@ fn make_push<T: Drop, C: Cells<T>>(
         return Ok(Err(PushError::Closed(value)));
     }
     if u64::MAX - shape.lap() < tail {
-        return Err(RingAction::Push(WhenFull::Refuse, value));
+        return Err(RingAction::PushShut(WhenFull::Refuse, value));
     }
     let stamp = cells.load(shape.stamp(tail));
     if stamp != tail {
@@ -89,6 +93,7 @@ fn make_pop<T: Drop, C: Cells<T>>(
     cells: &mut C,
 ) -> Result<Result<T, PopError>, RingAction<T>>
     ensures cells { C.known → PopsRing shape.cap shape.mark (C.contents cells.old) result (C.contents cells.new) }
+    ensures deeds { PopsOnEnd (RingMakes shape.cap shape.mark C.did) cells.old RingAction.Pop result cells.new }
     ensures answers { MatchResult result (λ _. Unit {0})
         (λ a. (cap : ℕ) (r : QueueReply T) → MayRing cap a r → MayPop r) }
 {
@@ -123,6 +128,7 @@ fn pop_empty<T: Drop, C: Cells<T>>(
     cells: &mut C,
 ) -> Result<Result<T, PopError>, RingAction<T>>
     ensures cells { C.known → PopsNothing shape.cap shape.mark (C.contents cells.old) head result (C.contents cells.new) }
+    ensures deeds { PopsOnEnd (RingMakes shape.cap shape.mark C.did) cells.old (RingAction.PopTail head) result cells.new }
     ensures answers { MatchResult result (λ _. Unit {0})
         (λ a. (cap : ℕ) (r : QueueReply T) → MayRing cap a r → MayPop r) }
 {

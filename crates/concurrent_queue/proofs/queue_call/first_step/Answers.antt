@@ -1,6 +1,12 @@
-use Rattle.std.proofs.Common.{sym, ◌∙◌}
-use Rattle.concurrent_queue.proofs.ReplyFacts.{ring_wrapped, blocks_wrapped}
+use Rattle.std.proofs.Common.{◌≡◌, sym, ap, rules, ◌∙◌}
+use Rattle.concurrent_queue.specs.declared.cells.QueueForm.TheVariants.{Bounded}
+use Rattle.concurrent_queue.proofs.ReplyFacts.{single_wrapped, ring_wrapped, blocks_wrapped}
 use Rattle.concurrent_queue.proofs.queue_call.first_step.Goals as goal
+
+pub returns-in-Bounded-eq1-clause-answers : goal.returns-in-Bounded-eq1-clause-answers
+returns-in-Bounded-eq1-clause-answers g c =
+    let one : c.in-Bounded-eq1.field-0 ≡ 1 = search rules in
+    single_wrapped (g.C.Cells.form_of c.args.cells.now) c.args.ask _ c.step.result _ (sym c.form.ensures.form ∙ c.in-Bounded-eq1.is ∙ ap Bounded one) c.first.ensures c.wrap_single.ensures c.step.ensures.answers
 
 pub returns-in-Bounded-clause-answers : goal.returns-in-Bounded-clause-answers
 returns-in-Bounded-clause-answers g c =
