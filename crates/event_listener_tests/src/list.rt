@@ -570,6 +570,7 @@ fn a_refused_growth_leaves_the_list_as_it_was(rt: HostRuntime) -> Result<(), Fai
 }
 
 /// Four listen, and the first is told: its own node is not counted, and what asks, polls or makes room leaves the number as it was.
+/// A told one's state is read and written, and its two links are written at once, and so is that of the next one.
 /// The keys of those that are left.
 fn counts_insertions(
     rt: &impl Abort,
@@ -593,7 +594,7 @@ fn counts_insertions(
     expect_equal(
         rt,
         &[alone, behind, own, moved, list.last_visits()],
-        &[0, 1, 0, 2, 2],
+        &[0, 1, 0, 4, 4],
     );
     expect_equal(rt, &numbers, &(0, 3));
     Ok([second, third, fourth])
@@ -613,8 +614,8 @@ fn counts_removals(
     expect_equal(rt, &list.last_visits(), &1);
 }
 
-/// One behind another told one: its own node is read and written, and no other. A told one that passes its notice on tells the next,
-/// which counts as in a notice.
+/// One behind another told one: a link of that one is written too. A told one that passes its notice on tells the next, which counts
+/// as in a notice.
 fn counts_told_ones(
     rt: &impl Abort,
     list: &mut List<u32, u32>,
@@ -636,7 +637,40 @@ fn counts_told_ones(
     expect_equal(
         rt,
         &[one, behind, passed, list.last_visits()],
-        &[2, 2, 4, 4],
+        &[4, 5, 5, 5],
+    );
+    Ok(())
+}
+
+/// Three told at once, behind a told one and before one that waits: each state is read and written, and four links are written.
+fn counts_a_run(rt: &impl Abort, list: &mut List<u32, u32>, sink: &mut Names) -> Result<(), Fail> {
+    let mut keys = [list.insert()?; 5];
+    for key in &mut keys[1..] {
+        *key = list.insert()?;
+    }
+    let told = list.notify(more(1, 40), sink);
+    let one = list.last_visits();
+    let told_more = list.notify(more(3, 50), sink);
+    let run = list.last_visits();
+    let polled = [
+        list.poll(keys[3]),
+        list.poll(keys[0]),
+        list.poll(keys[2]),
+        list.poll(keys[1]),
+        list.poll(keys[4]),
+    ];
+    expect_equal(rt, &[told, told_more], &[Ok(1), Ok(3)]);
+    expect_equal(rt, &[one, run], &[4, 10]);
+    expect_equal(
+        rt,
+        &polled,
+        &[
+            Ok(Some(52)),
+            Ok(Some(40)),
+            Ok(Some(51)),
+            Ok(Some(50)),
+            Ok(None),
+        ],
     );
     Ok(())
 }
@@ -650,5 +684,6 @@ fn each_visit_of_another_node_is_counted_once(rt: HostRuntime) -> Result<(), Fai
     let [second, third, fourth] = counts_insertions(&rt, &mut list, &mut sink)?;
     counts_removals(&rt, &mut list, &mut sink, third, fourth);
     counts_told_ones(&rt, &mut list, &mut sink, second)?;
+    counts_a_run(&rt, &mut list, &mut sink)?;
     Ok(())
 }
