@@ -15,8 +15,9 @@ use event_listener::error::ListenError;
 use event_listener::key::Key;
 use event_listener::wakes::Wakes;
 
-/// The cells of a channel: each method is one step of a call of its queue, one section on one of its four lists, or one
-/// operation on one of its two counts.
+/// The cells of a channel: each method makes steps of a call of its queue, one section on one of its four lists, or one
+/// operation on one of its two counts. Of the queue's call cells whose contents are known make one step; those that threads share
+/// make all that are left, between which steps of others may come.
 ///
 /// The methods of one that a single owner has say exactly what they do. Of one that threads share only that much is known
 /// as every other party keeps to: nothing of the contents, but the form of the queue, which says what a step of its call may
@@ -33,7 +34,7 @@ pub trait ChannelCells<T, W> {
     /// Which form the queue is said to have; no step changes it. Where the contents are known they say it themselves.
     ghost has_form: { Self → QueueForm → Type 0 } = { λ _ _. ⊥ };
 
-    /// One step of a call of the queue.
+    /// One step of a call of the queue, or several up to its answer where the contents are unknown.
     fn step_queue(&mut self, call: &mut QueueCall<T>) -> Option<QueueReply<T>>
         ensures answers { (f : QueueForm) → has_form self.old f → Follows f call.old call.new result }
         ensures form { (f : QueueForm) → has_form self.old f → has_form self.new f }

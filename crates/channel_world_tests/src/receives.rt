@@ -4,6 +4,7 @@ ghost use Rattle.channel_interleaving.specs.Floor.{IsQuiet};
 use super::ask::{Ask, R, S};
 use super::row::{quiet, run_refused, run_rows, waking};
 use super::said::Said;
+use crate::checks::expect_equal;
 use channel_world::call::WorldRefusal;
 use channel_world::name::{OpId, Waiter};
 use channel_world::world::World;
@@ -60,6 +61,24 @@ fn a_refused_poll_passes_its_notice_on(rt: HostRuntime) -> Result<(), Fail> {
         quiet(Ask::Poll(B), Said::Received(9)),
         quiet(Ask::Close(S), Said::Closes(true)),
         quiet(Ask::Poll(A), Said::Over),
+    ];
+    run_rows(&rt, &mut world, &rows)
+}
+
+/// A receive that gets no copy of its waker, before it ever listened, doesn't wait: a message wakes nobody and stays.
+#[test]
+fn a_receive_without_its_waker_does_not_wait(rt: HostRuntime) -> Result<(), Fail> {
+    let mut ids = EventIds::new();
+    let mut world: World<u64> = World::bounded(rt.alloc(), 1, &mut ids)?;
+    let begun = [
+        quiet(Ask::Recv(A), Said::Made),
+        quiet(Ask::PollRefused(A), Said::NoMemory),
+    ];
+    run_rows(&rt, &mut world, &begun)?;
+    expect_equal(&rt, &world.pending(), &0);
+    let rows = [
+        quiet(Ask::TrySend(5), Said::Sent),
+        quiet(Ask::TryRecv, Said::Received(5)),
     ];
     run_rows(&rt, &mut world, &rows)
 }
