@@ -94,7 +94,7 @@ def has_test(name):
     crate, _, test = name.partition("/")
     for source in glob.glob(f"crates/{crate}/src/**/*.rt", recursive=True):
         with open(source, encoding="utf-8") as it:
-            if re.search(rf"\bfn {test}\b", it.read()):
+            if re.search(rf"\b(fn|row) {test}\b", it.read()):
                 return True
     return False
 
