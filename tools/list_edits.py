@@ -31,7 +31,9 @@ BODIES = {
     "a call is run whole at its first step": [],
     "settling answers with woken ones left": [],
     "settling gives up those who are woken": [],
-    "a call that is to wait for nobody waits for whoever holds the slot": [],
+    "a call that is to wait for nobody waits for whoever holds the slot": [
+        "concurrent_queue_tests/a_push_that_stands_still_holds_no_question_up",
+    ],
     "a pop answers closed while the message of a displacing send is on its way": [],
     "a push takes two places for one message": [],
     "a receive gives a message and leaves it in the queue": [],
