@@ -91,10 +91,11 @@ def lines_of(edit):
 
 
 def has_test(name):
+    """Returns whether the crate has this test, or this row of a test."""
     crate, _, test = name.partition("/")
     for source in glob.glob(f"crates/{crate}/src/**/*.rt", recursive=True):
         with open(source, encoding="utf-8") as it:
-            if re.search(rf"\bfn {test}\b", it.read()):
+            if re.search(rf"\b(fn|row) {test}\b", it.read()):
                 return True
     return False
 
