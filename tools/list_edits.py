@@ -91,6 +91,7 @@ def lines_of(edit):
 
 
 def has_test(name):
+    """Returns whether the crate has this test, or this row of a test."""
     crate, _, test = name.partition("/")
     for source in glob.glob(f"crates/{crate}/src/**/*.rt", recursive=True):
         with open(source, encoding="utf-8") as it:
