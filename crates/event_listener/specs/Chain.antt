@@ -111,6 +111,11 @@ module _ {T W : Type 0} where
   before_of ends slab None = ends.last
   before_of ends slab (Some k) = node_before (get slab k)
 
+  -- the two chains of these nodes, by the ends of each
+  abbrev pub ChainsOf : Slab (Node T W) → Ends → Ends → List ℕ → List ℕ → Type 0
+  ChainsOf slab told waiting ks ws =
+      Chains (after_of told slab) (before_of told slab) (after_of waiting slab) (before_of waiting slab) ks ws
+
   abbrev pub told_state : Key → State T W → List (Key × Notice T)
   told_state key (Waiting task) = []
   told_state key (Told additional tag) = (key, record { additional = additional; tag = tag }) ∷ []

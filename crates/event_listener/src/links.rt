@@ -1,7 +1,7 @@
 //! The links between nodes. What comes after nobody is the first of a chain, and what stands before nobody its last.
 ghost use Rattle.std.specs.Prelude.{◌≡◌, ◌≢◌, ℕ, ◌+◌, ◌^◌, ◌<◌, ◌≤◌, List, ◌++◌, Option, IfSome, Some, None, true, false, IsOk, IfOk, OnOk, OnErr};
 ghost use Rattle.slab.specs.Slab.{slab_len, ContainsKey, HasRoomFor};
-ghost use Rattle.event_listener.specs.Chain.{after_of, before_of, first_or, last_or, entry_at, fresh_entry, Unlinks, Links_last, Chains, Beside};
+ghost use Rattle.event_listener.specs.Chain.{after_of, before_of, first_or, last_or, entry_at, fresh_entry, Unlinks, Links_last, ChainsOf, Beside};
 ghost use Rattle.event_listener.specs.Nodes.{Stays};
 
 use crate::error::NoMemory;
@@ -178,7 +178,7 @@ pub(crate) fn move_run<T: Drop, W: Drop>(
     requires last_present { IfSome last (λ k. ContainsKey nodes.old.slab k) }
     requires next_present { IfSome next (λ k. ContainsKey nodes.old.slab k) }
     requires told_present { IfSome told.old.last (λ k. ContainsKey nodes.old.slab k) }
-    ensures chains { (ks front back : List ℕ) → last ≡ last_or None front → next ≡ first_or back None → Chains (after_of told.old nodes.old.slab) (before_of told.old nodes.old.slab) (after_of waiting.old nodes.old.slab) (before_of waiting.old nodes.old.slab) ks (front ++ back) → Chains (after_of told.new nodes.new.slab) (before_of told.new nodes.new.slab) (after_of waiting.new nodes.new.slab) (before_of waiting.new nodes.new.slab) (ks ++ front) back }
+    ensures chains { (ks front back : List ℕ) → last ≡ last_or None front → next ≡ first_or back None → ChainsOf nodes.old.slab told.old waiting.old ks (front ++ back) → ChainsOf nodes.new.slab told.new waiting.new (ks ++ front) back }
     ensures entries { (k : ℕ) → entry_at nodes.new.slab k ≡ entry_at nodes.old.slab k }
     ensures none { last ≡ None → nodes.new ≡ nodes.old }
     ensures one { waiting.old.first ≡ last → Stays true nodes.old nodes.new 3 }

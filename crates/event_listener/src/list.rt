@@ -31,7 +31,9 @@ use std::marker::Model;
 /// Own to this project: in `event-listener` 5.4.2 the list is private to its event.
 pub struct List<T, W> {
     nodes: Nodes<T, W>,
+    /// Of the chain of the told ones.
     told: Ends,
+    /// Of the chain of the waiting ones.
     waiting: Ends,
     told_count: usize,
     serials: u64,
