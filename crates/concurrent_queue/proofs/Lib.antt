@@ -21,6 +21,7 @@ mod BlocksPopWords
 pub mod StepFacts
 mod SingleDeeds
 mod RingDeeds
+mod Walks
 pub mod SingleSteps
 pub mod RingShape
 pub mod RingPlaces
