@@ -22,6 +22,7 @@ pub mod StepFacts
 mod SingleDeeds
 mod RingDeeds
 mod Walks
+mod BlocksDeeds
 pub mod SingleSteps
 pub mod RingShape
 pub mod RingPlaces

@@ -16,6 +16,7 @@ pub mod BlocksCalls
 pub mod BlocksMoves
 pub mod BlocksLeft
 pub mod BlocksWords
+pub mod BlocksMakes
 pub mod BlocksDenotes
 pub mod BlocksAtOnce
 pub mod BlocksForm
