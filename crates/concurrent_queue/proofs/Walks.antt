@@ -8,7 +8,7 @@ use Rattle.concurrent_queue.specs.machine.RingMoves.{RingMakes, ring_moves}
 use Rattle.concurrent_queue.specs.machine.BlocksWords.{begin}
 use Rattle.concurrent_queue.specs.machine.BlocksMakes.{BlocksMakes, ActionMakes, blocks_moves}
 use Rattle.concurrent_queue.specs.machine.Dispatch.{ring_cap}
-use Rattle.concurrent_queue.specs.Walked.{first_bounded, first_of, standing, MakesSingle, MakesRing, MakesBlocks, MakesBounded, MakesFirst, StateMakes, WalkedFrom}
+use Rattle.concurrent_queue.specs.Walked.{first_bounded, first_of, standing, MakesSingle, MakesRing, MakesBlocks, MakesBounded, MakesFirst, StateMakes, CallMakes, WalkedFrom, Walked}
 use Rattle.concurrent_queue.specs.declared.call.QueueAsk.{QueueAsk}
 use Rattle.concurrent_queue.specs.declared.call.QueueMark.{QueueMark}
 use Rattle.concurrent_queue.specs.declared.call.QueueReply.{QueueReply}
@@ -20,6 +20,7 @@ use Rattle.concurrent_queue.specs.declared.bounded.RingAction.{RingAction}
 use Rattle.concurrent_queue.specs.declared.unbounded.action.UnboundedAction.{UnboundedAction}
 use Rattle.concurrent_queue.specs.declared.unbounded.action.UnboundedCall.{UnboundedCall}
 use Rattle.concurrent_queue.specs.declared.queue_call.CallState.{CallState}
+use Rattle.concurrent_queue.specs.declared.queue_call.QueueCall.{QueueCall}
 use Rattle.concurrent_queue.specs.declared.queue_call.CallState.TheVariants.{Asked, Single, Ring, Blocks, Finished}
 
 -- ---- any machine
@@ -39,7 +40,7 @@ module _ {T A S : Type 0} (Step : S → A → S → Stepped A T → Type 0) wher
 
 -- one machine's steps are another's
 module _ {T A B S : Type 0} (Step : S → A → S → Stepped A T → Type 0) (Wide : S → B → S → Stepped B T → Type 0) (at : A → B)
-      (widens : (s : S) (a : A) (t : S) (x : Stepped A T) → Step s a t x → Wide s (at a) t (record { action = at x.action; mark = x.mark; reply = x.reply })) where
+    (widens : (s : S) (a : A) (t : S) (x : Stepped A T) → Step s a t x → Wide s (at a) t (record { action = at x.action; mark = x.mark; reply = x.reply })) where
   pub leads_wide : (n : ℕ) (s : S) (a : A) (t : S) (b : A) → Leads Step n s a t b → Leads Wide n s (at a) t (at b)
   leads_wide zero s a t b (e, f) = (e, ap at f)
   leads_wide (suc n) s a t b (x, y, (m, step), path) =
@@ -95,7 +96,7 @@ module _ {T S R : Type 0} (did : Deed T → S → S → Type 0) (seen : Deed T �
 module _ {T S : Type 0} (did : Deed T → S → S → Type 0) where
   -- no step changes what no deed changes
   module _ {F : Type 0} (of : S → F) (keeps : (d : Deed T) (s t : S) → did d s t → of t ≡ of s) where
-    kept : Deed T → F → F → Type 0
+    abbrev kept : Deed T → F → F → Type 0
     kept d f g = g ≡ f
 
     moved_keeps : {A : Type 0} (m : Move T A) (f g : F) (r : A) → Makes kept m f r g → g ≡ f
@@ -163,6 +164,15 @@ module _ {T S : Type 0} (did : Deed T → S → S → Type 0) where
   walked_on form now n s a x b t r same path rest =
       ends_after (StateMakes did form) n s a x b t r path (subst (λ (f : QueueForm). WalkedFrom did f b x r t) same rest)
 
+  -- one step that ends a call, or two
+  pub walked_one : (form : QueueForm) (s : S) (call : QueueCall T) (t : S) (last : QueueCall T) (r : QueueReply T) → CallMakes did form s call t last (Some r) → Walked did form call s r t
+  walked_one form s call t last r h = (0, (s, call.state, last.state, last.mark, (refl, refl), h))
+
+  pub walked_two : (form now : QueueForm) (s : S) (call : QueueCall T) (x : S) (next : QueueCall T) (t : S) (last : QueueCall T) (r : QueueReply T)
+      → now ≡ form → CallMakes did form s call x next None → CallMakes did now x next t last (Some r) → Walked did form call s r t
+  walked_two form now s call x next t last r same h h1 =
+      (1, (x, next.state, last.state, last.mark, (x, next.state, (next.mark, h), (refl, refl)), subst (λ (f : QueueForm). CallMakes did f x next t last (Some r)) same h1))
+
   -- ---- what straight code makes of a form's actions
 
   single_wide : (form : QueueForm) (s : S) (a : SingleAction T) (t : S) (x : Stepped (SingleAction T) T) → SingleMakes did s a t x → StateMakes did form s (Single a) t (record { action = Single x.action; mark = x.mark; reply = x.reply })
@@ -171,7 +181,7 @@ module _ {T S : Type 0} (did : Deed T → S → S → Type 0) where
   ring_wide : (form : QueueForm) (s : S) (a : RingAction T) (t : S) (x : Stepped (RingAction T) T) → RingMakes (ring_cap form) (ring_mark (ring_cap form)) did s a t x → StateMakes did form s (Ring a) t (record { action = Ring x.action; mark = x.mark; reply = x.reply })
   ring_wide form s a t x h = (x, h, refl)
 
-  at_blocks : UnboundedAction T → CallState T
+  abbrev at_blocks : UnboundedAction T → CallState T
   at_blocks a = Blocks (plainly a)
 
   blocks_wide : (form : QueueForm) (s : S) (a : UnboundedAction T) (t : S) (x : Stepped (UnboundedAction T) T) → ActionMakes did s a t x → StateMakes did form s (at_blocks a) t (record { action = at_blocks x.action; mark = x.mark; reply = x.reply })
@@ -189,7 +199,7 @@ module _ {T S : Type 0} (did : Deed T → S → S → Type 0) where
           (n, leads_wide (SingleMakes did) (StateMakes did (Bounded 1)) Single (single_wide (Bounded 1)) n s (start a) t b h))
 
     module _ (capacity cap m : ℕ) (many : form ≡ Bounded capacity) (more : (capacity == 1) ≡ false) (same : cap ≡ cap_of capacity) (marked : m ≡ ring_mark (cap_of capacity)) where
-      Measured : ℕ → ℕ → S → RingAction T → S → Stepped (RingAction T) T → Type 0
+      abbrev Measured : ℕ → ℕ → S → RingAction T → S → Stepped (RingAction T) T → Type 0
       Measured k l = RingMakes k l did
 
       in_form : (P : QueueForm → CallState T → Type 0) → P (Bounded capacity) (Ring (ring_start a)) → P form (first_of form a)

@@ -39,7 +39,7 @@ module _ {T : Type 0} (cap m : ℕ) where
   abbrev pub after_stamp : WhenFull → T → ℕ → ℕ → Stepped (RingAction T) T
   after_stamp k v t s =
       if s == t then stays (act.PushSwap k v t)
-          else (if nat_le (2 * m) t && s == t - 2 * m + 1 then stays (behind k v (t - 2 * m)) else stays (act.Push k v))
+      else (if nat_le (2 * m) t && s == t - 2 * m + 1 then stays (behind k v (t - 2 * m)) else stays (act.Push k v))
 
   abbrev pub after_look : ℕ → ℕ → Stepped (RingAction T) T
   after_look h s = if s == (h + 1) % 2 ^ 64 then stays (act.PopSwap h) else (if s == h then stays (act.PopTail h) else stays act.Pop)

@@ -117,7 +117,7 @@ module _ {T : Type 0} where
   after_push v (Ok w) = marks (PushPut v) mark.Append
   after_push v (Err w) =
       if not (clear w 4) then finishes (reply.Push (Err (push_error.Closed v)))
-          else (if not (clear w 2) then finishes (reply.Push (Err (push_error.Full v))) else stays (Push v))
+      else (if not (clear w 2) then finishes (reply.Push (Err (push_error.Full v))) else stays (Push v))
 
   abbrev pub after_force : T → ℕ → Result ℕ ℕ → Stepped (SingleAction T) T
   after_force v x (Ok w) = if x == 0 then marks (ForcePut v None) mark.Append else marks (ForceTake v) mark.Replace
@@ -128,7 +128,7 @@ module _ {T : Type 0} where
   after_pop (Ok w) = marks PopTake mark.Take
   after_pop (Err w) =
       if not (clear w 2) then stays (Pop (bit_and w 0xffff_ffff_ffff_fffe))
-          else finishes (reply.Pop (Err (if not (clear w 4) then pop_error.Closed else pop_error.Empty)))
+      else finishes (reply.Pop (Err (if not (clear w 4) then pop_error.Closed else pop_error.Empty)))
 
   abbrev pub after_close : ℕ → Stepped (SingleAction T) T
   after_close w = if clear w 4 then record { action = Finished; mark = mark.Close; reply = Some (reply.Close true) } else finishes (reply.Close false)

@@ -1,7 +1,6 @@
 //! Calls of a queue made up to their answers, over cells of any kind. Each does to the cells what the machine of their form
 //! does, and nothing else.
 
-ghost use Rattle.std.specs.Prelude.{IfErr};
 ghost use Rattle.concurrent_queue.specs.Walked.{Walked, WalkedAsking};
 ghost use Rattle.concurrent_queue.specs.Replies.{MayCall, MayAnswer, AsksWords};
 ghost use Rattle.concurrent_queue.specs.declared.call.QueueAsk.TheVariants as ask;
@@ -101,7 +100,7 @@ fn finish_apart<T: Drop, R: Wait, C: Cells<T>>(
 }
 
 /// Steps a call to its end. What straight code hands on is to make an action again, so it yields first.
-fn finish<T: Drop, R: Wait, C: Cells<T>>(
+pub(crate) fn finish<T: Drop, R: Wait, C: Cells<T>>(
     rt: &R,
     call: QueueCall<T>,
     cells: &mut C,
@@ -109,9 +108,7 @@ fn finish<T: Drop, R: Wait, C: Cells<T>>(
     ensures walked { Walked C.did (C.form_of cells.old) call cells.old result cells.new }
     ensures answers { MayCall (C.form_of cells.old) call.state result }
 {
-    if call.has_begun() {
-        thread::yield_now();
-    }
+    give_way(call.has_begun());
     step_on(rt, call, cells)
 }
 
@@ -130,9 +127,14 @@ fn step_on<T: Drop, R: Wait, C: Cells<T>>(
             drop(call);
             return reply;
         }
-        if call.place() <= place {
-            thread::yield_now();
-        }
+        give_way(call.place() <= place);
     }
     unreachable!()
+}
+
+/// Lets other threads go first where an action is to be made again.
+pub(crate) fn give_way(again: bool) {
+    if again {
+        thread::yield_now();
+    }
 }

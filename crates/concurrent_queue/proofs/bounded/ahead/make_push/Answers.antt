@@ -123,4 +123,3 @@ returns-clause-deeds g c =
     (pushes_after Step s2 (act.PushSwap Refuse v p) s3 (act.PushPut Refuse v p) s5 (Ok (Ok tt)) (place_won did cap m s2 s3 v p c.next.result c.next.ensures c.compare_exchange.result (sym c.is_err.ensures.value ∙ c.if-is_err.false) c.compare_exchange.ensures.deed)
     (pushes_after Step s3 (act.PushPut Refuse v p) s4 (act.PushStore Refuse p) s5 (Ok (Ok tt)) (message_put did cap m s3 s4 v p c.index.result c.index.ensures c.in_default.field-0 c.in_default.ensures.deed)
     (push_ends did cap m s4 s5 v p c.stamp-2.result c.stamp-2.ensures c.store.ensures.deed)))))
-
