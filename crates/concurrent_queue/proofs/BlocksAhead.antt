@@ -1,6 +1,6 @@
 -- The steps that a push and a pop make on end over blocks are those of their machine: what each operation on a cell says of the
 -- cells before it and after it is one step.
-use Rattle.std.proofs.Common.{◌≡◌, ◌∙◌, ℕ, suc, ◌+◌, ◌-◌, ◌/◌, ◌%◌, ◌^◌, ◌==◌, ◌<◌, ◌≤◌, length, Bool, true, false, nat_le, if◌then◌else◌, None, Some, Result, Ok, Err, slice_index, MatchResult, is_err, refl, sym, subst, ap, inl, inr, arith}
+use Rattle.std.proofs.Common.{◌≡◌, ◌∙◌, ℕ, ◌+◌, ◌-◌, ◌/◌, ◌%◌, ◌^◌, ◌==◌, ◌<◌, ◌≤◌, length, Bool, true, false, nat_le, if◌then◌else◌, None, Some, Result, Ok, Err, slice_index, MatchResult, is_err, refl, sym, subst, ap, inl, inr, arith}
 use Rattle.std.proofs.lemmas.Bool.Decides.{nat_tests}
 use Rattle.concurrent_queue.specs.Contents.{Contents, SpareGives, PutGives, read, block_at, slot_at, can_put, write, write_slot, with_retired, spare_of, without_spare}
 use Rattle.concurrent_queue.specs.machine.Ahead.{ActionStep, IsStep, PushesOnEnd, PopsOnEnd}
@@ -16,7 +16,6 @@ use Rattle.concurrent_queue.specs.declared.cells.Word.TheVariants as word
 use Rattle.concurrent_queue.specs.declared.error.PopError.{PopError}
 use Rattle.concurrent_queue.specs.declared.error.PopError.TheVariants as pop_error
 use Rattle.concurrent_queue.specs.declared.error.NoMemory.{NoMemory}
-use Rattle.concurrent_queue.specs.declared.error.PushError.{PushError}
 use Rattle.concurrent_queue.specs.declared.error.PushError.TheVariants as push_error
 use Rattle.concurrent_queue.specs.declared.unbounded.action.Progress.{Progress}
 use Rattle.concurrent_queue.specs.declared.unbounded.action.UnboundedAction.{UnboundedAction}

@@ -39,8 +39,8 @@ when_shut v (Some h) = stays (act.PushReturn v h)
 abbrev pub after_tail : {T : Type 0} → T → Option ℕ → ℕ → Progress T
 after_tail v h t =
     if t % 2 == 1 then when_shut v h
-        else (if nat_le 9223372036854775744 (t / 2) then stays (act.PushShut v h)
-        else (if t / 2 % 32 == 31 then stays (act.Push v h) else stays (act.PushLook v t h)))
+    else (if nat_le 9223372036854775744 (t / 2) then stays (act.PushShut v h)
+    else (if t / 2 % 32 == 31 then stays (act.Push v h) else stays (act.PushLook v t h)))
 
 abbrev pub load_tail : {T : Type 0} → Contents T → T → Option ℕ → Step T
 load_tail c v h = (c, after_tail v h c.tail)
@@ -117,8 +117,8 @@ look_head_block c p = (c, stays (act.PopTail p c.head_block))
 abbrev pub after_pop_tail : {T : Type 0} → ℕ → ℕ → ℕ → Progress T
 after_pop_tail p b t =
     if number (t / 2) == number p
-        then (if t % 2 == 1 then finishes (ending.Replied (reply.Pop (Err pop_error.Closed))) else finishes (ending.Replied (reply.Pop (Err pop_error.Empty))))
-        else (if b == 0 then stays act.Pop else stays (act.PopSwap p (b - 1)))
+    then (if t % 2 == 1 then finishes (ending.Replied (reply.Pop (Err pop_error.Closed))) else finishes (ending.Replied (reply.Pop (Err pop_error.Empty))))
+    else (if b == 0 then stays act.Pop else stays (act.PopSwap p (b - 1)))
 
 abbrev pub look_tail : {T : Type 0} → Contents T → ℕ → ℕ → Step T
 look_tail c p b = (c, after_pop_tail p b c.tail)

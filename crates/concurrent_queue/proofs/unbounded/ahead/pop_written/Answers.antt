@@ -1,4 +1,4 @@
-use Rattle.std.proofs.Common.{◌∙◌, ap, refl, sym, subst, Ok, Err, Some, None}
+use Rattle.std.proofs.Common.{◌∙◌, ap, refl, sym, subst, Ok, Err}
 use Rattle.concurrent_queue.specs.Deeds.{added, retired}
 use Rattle.concurrent_queue.specs.machine.Ahead.{ActionStep}
 use Rattle.concurrent_queue.specs.machine.BlocksMakes.{ActionMakes}
