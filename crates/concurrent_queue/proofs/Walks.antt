@@ -159,10 +159,33 @@ module _ {T S : Type 0} (did : Deed T → S → S → Type 0) where
   walked_standing form s (Blocks a) t r h = h
   walked_standing form s Finished t r h = h
 
+  first_bounded_of : (b : Bool) (cap : ℕ) (s : S) (a : QueueAsk T) (t : S) (r : Stepped (CallState T) T) → MakesBounded did b (cap_of cap) s a t r → StateMakes did (Bounded cap) s (first_bounded b a) t r
+  first_bounded_of true cap s a t r h = h
+  first_bounded_of false cap s a t r h = h
+
+  first_makes : (form : QueueForm) (s : S) (a : QueueAsk T) (t : S) (r : Stepped (CallState T) T) → StateMakes did form s (Asked a) t r → StateMakes did form s (first_of form a) t r
+  first_makes (Bounded cap) s a t r h = first_bounded_of (cap == 1) cap s a t r h
+  first_makes Unbounded s a t r h = h
+
+  asked_walked : (form : QueueForm) (s : S) (a : QueueAsk T) (t : S) (r : QueueReply T) → WalkedFrom did form (Asked a) s r t → WalkedFrom did form (first_of form a) s r t
+  asked_walked form s a t r (zero, (x, y, z, m, (e, f), last)) =
+      let end : Stepped (CallState T) T = record { action = z; mark = m; reply = Some r } in
+      let from : StateMakes did form s (Asked a) t end = subst (λ (u : S). StateMakes did form u (Asked a) t end) e (subst (λ (u : CallState T). StateMakes did form x u t end) f last) in
+      (zero, (s, first_of form a, z, m, (refl, refl), first_makes form s a t end from))
+  asked_walked form s a t r (suc n, (x, y, z, m, (x1, y1, (m1, step), path), last)) =
+      (suc n, (x, y, z, m, (x1, y1, (m1, first_makes form s a x1 (record { action = y1; mark = m1; reply = None }) step), path), last))
+
+  standing_walked : (form : QueueForm) (s : S) (at : CallState T) (t : S) (r : QueueReply T) → WalkedFrom did form at s r t → WalkedFrom did form (standing form at) s r t
+  standing_walked form s (Asked a) t r h = asked_walked form s a t r h
+  standing_walked form s (Single a) t r h = h
+  standing_walked form s (Ring a) t r h = h
+  standing_walked form s (Blocks a) t r h = h
+  standing_walked form s Finished t r h = h
+
   -- what straight code leaves is walked on, over cells of the same form
-  pub walked_on : (form now : QueueForm) (n : ℕ) (s : S) (a : CallState T) (x : S) (b : CallState T) (t : S) (r : QueueReply T) → now ≡ form → Leads (StateMakes did form) n s a x b → WalkedFrom did now b x r t → WalkedFrom did form a s r t
+  pub walked_on : (form now : QueueForm) (n : ℕ) (s : S) (a : CallState T) (x : S) (b : CallState T) (t : S) (r : QueueReply T) → now ≡ form → Leads (StateMakes did form) n s a x (standing form b) → WalkedFrom did now b x r t → WalkedFrom did form a s r t
   walked_on form now n s a x b t r same path rest =
-      ends_after (StateMakes did form) n s a x b t r path (subst (λ (f : QueueForm). WalkedFrom did f b x r t) same rest)
+      ends_after (StateMakes did form) n s a x (standing form b) t r path (standing_walked form x b t r (subst (λ (f : QueueForm). WalkedFrom did f b x r t) same rest))
 
   -- one step that ends a call, or two
   pub walked_one : (form : QueueForm) (s : S) (call : QueueCall T) (t : S) (last : QueueCall T) (r : QueueReply T) → CallMakes did form s call t last (Some r) → Walked did form call s r t
@@ -192,10 +215,10 @@ module _ {T S : Type 0} (did : Deed T → S → S → Type 0) where
       pub single_walked : (r : QueueReply T) → ((n : ℕ) × Ends (SingleMakes did) n s (start a) t r) → WalkedFrom did form (first_of form a) s r t
       single_walked r (n, h) = subst (λ (f : QueueForm). WalkedFrom did f (first_of f a) s r t) (sym one) (n, ends_wide (SingleMakes did) (StateMakes did (Bounded 1)) Single (single_wide (Bounded 1)) n s (start a) t r h)
 
-      pub single_left : (b : SingleAction T) (at : CallState T) → at ≡ Single b → ((n : ℕ) × Leads (SingleMakes did) n s (start a) t b) → (n : ℕ) × Leads (StateMakes did form) n s (first_of form a) t at
+      pub single_left : (b : SingleAction T) (at : CallState T) → at ≡ Single b → ((n : ℕ) × Leads (SingleMakes did) n s (start a) t b) → (n : ℕ) × Leads (StateMakes did form) n s (first_of form a) t (standing form at)
       single_left b at same (n, h) =
-          subst (λ (f : QueueForm). (n : ℕ) × Leads (StateMakes did f) n s (first_of f a) t at) (sym one)
-          (subst (λ (u : CallState T). (n : ℕ) × Leads (StateMakes did (Bounded 1)) n s (Single (start a)) t u) (sym same)
+          subst (λ (f : QueueForm). (n : ℕ) × Leads (StateMakes did f) n s (first_of f a) t (standing f at)) (sym one)
+          (subst (λ (u : CallState T). (n : ℕ) × Leads (StateMakes did (Bounded 1)) n s (Single (start a)) t (standing (Bounded 1) u)) (sym same)
           (n, leads_wide (SingleMakes did) (StateMakes did (Bounded 1)) Single (single_wide (Bounded 1)) n s (start a) t b h))
 
     module _ (capacity cap m : ℕ) (many : form ≡ Bounded capacity) (more : (capacity == 1) ≡ false) (same : cap ≡ cap_of capacity) (marked : m ≡ ring_mark (cap_of capacity)) where
@@ -211,12 +234,12 @@ module _ {T S : Type 0} (did : Deed T → S → S → Type 0) where
           let made : P (cap_of capacity) (ring_mark (cap_of capacity)) = subst (λ (k : ℕ). P k (ring_mark (cap_of capacity))) same (subst (P cap) marked went) in
           in_form (λ f at. WalkedFrom did f at s r t) (made.0, ends_wide (Measured (cap_of capacity) (ring_mark (cap_of capacity))) (StateMakes did (Bounded capacity)) Ring (ring_wide (Bounded capacity)) (made.0) s (ring_start a) t r (made.1))
 
-      pub ring_left : (b : RingAction T) (at : CallState T) → at ≡ Ring b → ((n : ℕ) × Leads (RingMakes cap m did) n s (ring_start a) t b) → (n : ℕ) × Leads (StateMakes did form) n s (first_of form a) t at
+      pub ring_left : (b : RingAction T) (at : CallState T) → at ≡ Ring b → ((n : ℕ) × Leads (RingMakes cap m did) n s (ring_start a) t b) → (n : ℕ) × Leads (StateMakes did form) n s (first_of form a) t (standing form at)
       ring_left b at stands went =
           let P : ℕ → ℕ → Type 0 = λ k l. (n : ℕ) × Leads (Measured k l) n s (ring_start a) t b in
           let made : P (cap_of capacity) (ring_mark (cap_of capacity)) = subst (λ (k : ℕ). P k (ring_mark (cap_of capacity))) same (subst (P cap) marked went) in
-          in_form (λ f from. (n : ℕ) × Leads (StateMakes did f) n s from t at)
-          (subst (λ (u : CallState T). (n : ℕ) × Leads (StateMakes did (Bounded capacity)) n s (Ring (ring_start a)) t u) (sym stands)
+          in_form (λ f from. (n : ℕ) × Leads (StateMakes did f) n s from t (standing f at))
+          (subst (λ (u : CallState T). (n : ℕ) × Leads (StateMakes did (Bounded capacity)) n s (Ring (ring_start a)) t (standing (Bounded capacity) u)) (sym stands)
           (made.0, leads_wide (Measured (cap_of capacity) (ring_mark (cap_of capacity))) (StateMakes did (Bounded capacity)) Ring (ring_wide (Bounded capacity)) (made.0) s (ring_start a) t b (made.1)))
 
     module _ (unbound : form ≡ Unbounded) (first : UnboundedAction T) (begins : begin a ≡ plainly first) where
@@ -226,9 +249,9 @@ module _ {T S : Type 0} (did : Deed T → S → S → Type 0) where
           (subst (λ (u : UnboundedCall T). WalkedFrom did Unbounded (Blocks u) s r t) (sym begins)
           (n, ends_wide (ActionMakes did) (StateMakes did Unbounded) at_blocks (blocks_wide Unbounded) n s first t r h))
 
-      pub blocks_left : (b : UnboundedAction T) (at : CallState T) → at ≡ Blocks (plainly b) → ((n : ℕ) × Leads (ActionMakes did) n s first t b) → (n : ℕ) × Leads (StateMakes did form) n s (first_of form a) t at
+      pub blocks_left : (b : UnboundedAction T) (at : CallState T) → at ≡ Blocks (plainly b) → ((n : ℕ) × Leads (ActionMakes did) n s first t b) → (n : ℕ) × Leads (StateMakes did form) n s (first_of form a) t (standing form at)
       blocks_left b at same (n, h) =
-          subst (λ (f : QueueForm). (n : ℕ) × Leads (StateMakes did f) n s (first_of f a) t at) (sym unbound)
-          (subst (λ (u : UnboundedCall T). (n : ℕ) × Leads (StateMakes did Unbounded) n s (Blocks u) t at) (sym begins)
-          (subst (λ (u : CallState T). (n : ℕ) × Leads (StateMakes did Unbounded) n s (at_blocks first) t u) (sym same)
+          subst (λ (f : QueueForm). (n : ℕ) × Leads (StateMakes did f) n s (first_of f a) t (standing f at)) (sym unbound)
+          (subst (λ (u : UnboundedCall T). (n : ℕ) × Leads (StateMakes did Unbounded) n s (Blocks u) t (standing Unbounded at)) (sym begins)
+          (subst (λ (u : CallState T). (n : ℕ) × Leads (StateMakes did Unbounded) n s (at_blocks first) t (standing Unbounded u)) (sym same)
           (n, leads_wide (ActionMakes did) (StateMakes did Unbounded) at_blocks (blocks_wide Unbounded) n s first t b h)))

@@ -25,7 +25,7 @@ module _ {T : Type 0} where
 
   -- ---- no operation makes contents of one form into those of another
 
-  form_in : Contents T → QueueForm
+  abbrev form_in : Contents T → QueueForm
   form_in c = c.form
 
   written_form : (c : Contents T) (w : Word) (x : ℕ) → form_in (write c w x) ≡ form_in c

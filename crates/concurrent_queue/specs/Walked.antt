@@ -83,4 +83,4 @@ module _ {T S : Type 0} (did : Deed T → S → S → Type 0) where
   -- the steps from this action to an answer, or up to where the call that is left stands
   abbrev pub WalkedAhead : {R : Type 0} → (R → QueueReply T) → QueueForm → CallState T → S → Result R (QueueCall T) → S → Type 0
   WalkedAhead reply form at s result t =
-      MatchResult result (λ r. WalkedFrom form at s (reply r) t) (λ call. (n : ℕ) × Leads (StateMakes form) n s at t call.state)
+      MatchResult result (λ r. WalkedFrom form at s (reply r) t) (λ call. (n : ℕ) × Leads (StateMakes form) n s at t (standing form call.state))

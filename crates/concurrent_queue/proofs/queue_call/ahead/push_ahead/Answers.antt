@@ -29,3 +29,11 @@ returns-in-Ok-push_ahead-clause-deeds g c =
 pub returns-in-Err-push_ahead-clause-deeds : goal.returns-in-Err-push_ahead-clause-deeds
 returns-in-Err-push_ahead-clause-deeds g c =
     ring_left g.C.Cells.did (g.C.Cells.form_of c.args.cells.now) c.args.cells.now c.push_ahead-in-Bounded.new.cells (ask.Push c.args.value) c.in-Bounded.capacity c.of.result.cap c.of.result.mark (sym c.form.ensures.form ∙ c.in-Bounded.is) (ne_of _ _ c.in-Bounded.capacity-test.1) c.of.ensures.cap c.of.ensures.mark c.in-Err-push_ahead.action c.going_on-in-Err-push_ahead.result.state c.going_on-in-Err-push_ahead.ensures c.in-Err-push_ahead.ensures.deeds
+
+pub returns-in-Ok-push_ahead-2-clause-deeds : goal.returns-in-Ok-push_ahead-2-clause-deeds
+returns-in-Ok-push_ahead-2-clause-deeds g c =
+    blocks_walked g.C.Cells.did (g.C.Cells.form_of c.args.cells.now) c.args.cells.now c.push_ahead-in-Unbounded.new.cells (ask.Push c.args.value) (sym c.form.ensures.form ∙ c.in-Unbounded.is) (blocks.Push c.args.value None) refl (reply.Push c.in-Ok-push_ahead-2.answer) c.in-Ok-push_ahead-2.ensures.deeds
+
+pub returns-in-Err-push_ahead-2-clause-deeds : goal.returns-in-Err-push_ahead-2-clause-deeds
+returns-in-Err-push_ahead-2-clause-deeds g c =
+    blocks_left g.C.Cells.did (g.C.Cells.form_of c.args.cells.now) c.args.cells.now c.push_ahead-in-Unbounded.new.cells (ask.Push c.args.value) (sym c.form.ensures.form ∙ c.in-Unbounded.is) (blocks.Push c.args.value None) refl c.in-Err-push_ahead-2.action c.going_on-in-Err-push_ahead-2.result.state c.going_on-in-Err-push_ahead-2.ensures c.in-Err-push_ahead-2.ensures.deeds

@@ -18,7 +18,7 @@ returns-in-Err-clause-walked g c =
     let form = form_of s in
     let from = standing form c.args.call.now.state in
     let went = c.in-Err.ensures.deeds in
-    let same = leads_keep did form_of g.met.C.Cells.keeps_form form (went.0) s from x c.in-Err.rest.state (went.1) in
+    let same = leads_keep did form_of g.met.C.Cells.keeps_form form (went.0) s from x (standing form c.in-Err.rest.state) (went.1) in
     walked_standing did form s c.args.call.now.state c.finish.new.cells c.finish.result
     (walked_on did form (form_of x) (went.0) s from x c.in-Err.rest.state c.finish.new.cells c.finish.result same (went.1) c.finish.ensures.walked)
 
@@ -29,5 +29,5 @@ returns-in-Err-clause-answers g c =
     let x = c.call_ahead.new.cells in
     let from = standing (form_of s) c.args.call.now.state in
     let went = c.in-Err.ensures.deeds in
-    let same = leads_keep g.C.Cells.did form_of g.met.C.Cells.keeps_form (form_of s) (went.0) s from x c.in-Err.rest.state (went.1) in
+    let same = leads_keep g.C.Cells.did form_of g.met.C.Cells.keeps_form (form_of s) (went.0) s from x (standing (form_of s) c.in-Err.rest.state) (went.1) in
     c.in-Err.ensures.answers c.finish.result (subst (λ (f : QueueForm). MayCall f c.in-Err.rest.state c.finish.result) same c.finish.ensures.answers)

@@ -7,16 +7,16 @@ use Rattle.concurrent_queue.proofs.queue_call.whole.step_on.Goals as goal
 pub loop-init : goal.loop-init
 loop-init g c = ((λ r may. may), refl, (0, (refl, refl)))
 
-pub returns-in-Some-clause-walked : goal.returns-in-Some-clause-walked
-returns-in-Some-clause-walked g c =
+pub returns-in-Some-step-clause-walked : goal.returns-in-Some-step-clause-walked
+returns-in-Some-step-clause-walked g c =
     let l = c.loop in
     let last = c.step.new.self in
     let t = c.step.new.cells in
-    let ends = subst (λ (f : QueueForm). CallMakes g.C.Cells.did f l.cells l.call t last (Some c.in-Some.reply)) l.invariant.1 c.in-Some.ensures.deed in
+    let ends = subst (λ (f : QueueForm). CallMakes g.C.Cells.did f l.cells l.call t last (Some c.in-Some-step.reply)) l.invariant.1 c.in-Some-step.ensures.deed in
     (l.invariant.2.0, (l.cells, l.call.state, last.state, last.mark, l.invariant.2.1, ends))
 
-pub returns-in-Some-clause-answers : goal.returns-in-Some-clause-answers
-returns-in-Some-clause-answers g c = c.loop.invariant.0 c.in-Some.reply c.in-Some.ensures.answers
+pub returns-in-Some-step-clause-answers : goal.returns-in-Some-step-clause-answers
+returns-in-Some-step-clause-answers g c = c.loop.invariant.0 c.in-Some-step.reply c.in-Some-step.ensures.answers
 
 pub loop-preserved : goal.loop-preserved
 loop-preserved g c =

@@ -13,8 +13,8 @@ returns-in-Some-clause-walked g c =
     subst (λ (at : CallState g.row.T.Denot). WalkedFrom did form at s c.in-Some.reply t) c.new-call.ensures.asked
     (walked_one did form s c.new-call.result t c.step.new.self c.in-Some.reply c.in-Some.ensures.deed)
 
-pub returns-in-Some-step-clause-walked : goal.returns-in-Some-step-clause-walked
-returns-in-Some-step-clause-walked g c =
+pub returns-clause-walked : goal.returns-clause-walked
+returns-clause-walked g c =
     let did = g.C.Cells.did in
     let form_of = g.C.Cells.form_of in
     let s = c.args.cells.now in
