@@ -21,6 +21,7 @@ mod BlocksPopWords
 pub mod StepFacts
 mod SingleDeeds
 mod RingDeeds
+mod Walks
 mod BlocksDeeds
 pub mod SingleSteps
 pub mod RingShape

@@ -193,9 +193,3 @@ module _ {T S : Type 0} (did : Deed T → S → S → Type 0) (cap m : ℕ) (s t
         let f : (w == p) ≡ false = other _ _ e in
         let g : stays (act.Push Refuse v) ≡ (if w == p then finishes (reply.Push (Err (push_error.Full v))) else stays (act.Push Refuse v)) = rw f refl in
         (Nothing, (w, deed, g))
-
--- one more step behind others
-module _ {T A S : Type 0} (Step : S → A → S → Stepped A T → Type 0) where
-  pub leads_on : (n : ℕ) (c : S) (a : A) (x : S) (y : A) (d : S) (b : A) → Leads Step n c a x y → IsStep Step x y d b → Leads Step (suc n) c a d b
-  leads_on zero c a x y d b (e, f) s = (d, b, subst (λ (z : S). IsStep Step z a d b) e (subst (λ (z : A). IsStep Step x z d b) f s), (refl, refl))
-  leads_on (suc n) c a x y d b (x1, y1, s1, path) s = (x1, y1, s1, leads_on n x1 y1 x y d b path s)

@@ -25,6 +25,7 @@ pub mod Step
 pub mod Contents
 pub mod Deeds
 pub mod Effects
+pub mod Walked
 pub mod Capacity
 pub mod Made
 pub mod Plain

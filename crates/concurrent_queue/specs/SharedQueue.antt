@@ -26,11 +26,6 @@ module _ {T : Type 0} where
   CanRefuseForce cap (force_error.Closed v) = Unit {0}
   CanRefuseForce cap (force_error.NoMemory v) = cap ≡ None
 
-  -- the answer of a push
-  abbrev pub IsPushReply : QueueReply T → Type 0
-  IsPushReply (reply.Push r) = Unit {0}
-  IsPushReply _ = ⊥
-
   -- a step on this queue's cells: what may be answered after it might have been answered before, and so might its reply
   abbrev pub IsSharedStep : ConcurrentQueue T → QueueCall T → QueueCall T → Option (QueueReply T) → Type 0
   IsSharedStep q call call' answer = Follows q.form call call' answer

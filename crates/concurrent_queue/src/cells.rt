@@ -64,8 +64,8 @@ pub trait Cells<T> {
     ghost form_of: { Self → QueueForm };
 
     /// Whether this operation, with this answer, was done between the two. Each method says so of itself, also where nothing
-    /// is known of what is held; any relation may stand here.
-    ghost did: { Deed T → Self → Self → Type 0 } = { λ _ _ _. Unit {0} };
+    /// is known of what is held; any relation may stand here that keeps the form.
+    ghost did: { Deed T → Self → Self → Type 0 };
 
     /// Which kind of queue it is; no operation changes that.
     fn form(&self) -> QueueForm
@@ -139,4 +139,7 @@ pub trait Cells<T> {
         ensures deed { did (retired block) self.old self.new }
         ensures left { known → contents self.new ≡ with_retired (contents self.old) block }
         ensures form { form_of self.new ≡ form_of self.old };
+
+    /// No operation makes cells of one form into cells of another.
+    ghost keeps_form: { (d : Deed T) (a b : Self) → did d a b → form_of b ≡ form_of a };
 }

@@ -10,7 +10,6 @@ ghost use Rattle.concurrent_queue.specs.Replies.{SingleFollows};
 ghost use Rattle.concurrent_queue.specs.machine.Single.{SingleMakes};
 
 pub(crate) mod ahead;
-pub(crate) mod whole;
 
 use crate::call::{QueueAsk, QueueMark, QueueReply, Stepped};
 use crate::cells::{Cells, Slot, Word};
