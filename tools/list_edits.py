@@ -62,6 +62,22 @@ BODIES = {
         "async_channel_thread_tests/one_sender_one_receiver",
         "async_channel_thread_tests/many_senders_many_receivers",
     ],
+    # What threads run for the common calls, whatever other threads do.
+    "a pending send loses its message": [],
+    "a poll loses the key of its listener": [],
+    "a registering hands the task back of a listener that waits": [],
+    "many free places tell one send": [],
+    "a walked call does something else first": [],
+    "a clone counts nothing": [],
+    "a clone that was counted is refused": [],
+    "a closing always answers false": [],
+    "a displacing send drops what it displaced": [],
+    "a poll of a receive tries nothing": [],
+    "a receive in straight code tells no send": [],
+    "a send in straight code tells no receive": [],
+    "a send in straight code tells the streams twice": [],
+    "a receive of several hands them out reversed": [],
+    "a receive drops what it took": [],
 }
 # What a sentence doesn't cite by its number: a rule, a paper, a section, an issue.
 CITED = re.compile(r"\b[A-Z]\d+\b|\b0[1-4]\b|\b(issue|paper|document|section|request)s? \d")
