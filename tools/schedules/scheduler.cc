@@ -44,6 +44,8 @@ constexpr uint64_t TIME_OUT_ONCE_IN = 16;
 constexpr uint64_t WAKE_FOR_NO_REASON_ONCE_IN = 64;
 // Whoever was so often in a row at one place looks for what another one has to do.
 constexpr unsigned PATIENCE = 40;
+// By priority nobody runs for longer on end: a thread may go round and round until another one has done something.
+constexpr uint64_t LONGEST_TURN = 4'000;
 constexpr int64_t MOST_PRIORITY = 1 << 20;
 
 uint64_t number_in(const char *variable, uint64_t otherwise)
@@ -53,7 +55,7 @@ uint64_t number_in(const char *variable, uint64_t otherwise)
 }
 
 const uint64_t SEED = number_in("SCHEDULES_SEED", 1);
-const uint64_t MOST_POINTS = number_in("SCHEDULES_POINTS", 300'000'000);
+const uint64_t MOST_POINTS = number_in("SCHEDULES_POINTS", 100'000'000);
 
 std::vector<std::unique_ptr<Thread>> threads;
 std::vector<int> ready; // the running one too
@@ -97,7 +99,7 @@ void draw_turn()
     if (!policy.by_priority) {
         left = 1 + dice.below(2 * policy.gap);
     } else if (policy.changes == 0) {
-        left = UINT64_MAX;
+        left = LONGEST_TURN;
     } else {
         policy.changes--;
         left = 1 + dice.below(policy.span);
