@@ -18,7 +18,7 @@ enum Saved { R15, R14, R13, R12, RBX, FRAME, RETURN, SAVED };
 // Each call's frame begins with that of its caller, and then says where it returns to.
 void add_calls(std::vector<const void *> &calls, void **frame)
 {
-    while (frame && calls.size() < MOST_CALLS) {
+    while (frame && frame[1] && calls.size() < MOST_CALLS) {
         calls.push_back(frame[1]);
         void **outer = static_cast<void **>(frame[0]);
         frame = outer > frame ? outer : nullptr;

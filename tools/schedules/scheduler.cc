@@ -42,6 +42,9 @@ constexpr int STUCK = 3, ENDLESS = 4; // what the program ends with then
 constexpr uint64_t NANOS_OF_POINT = 50;
 constexpr uint64_t TIME_OUT_ONCE_IN = 16;
 constexpr uint64_t WAKE_FOR_NO_REASON_ONCE_IN = 64;
+// So often in a round all may wait at once but for time to pass: a watchdog has long given up then. (The kit's waits all end after a
+// time, and are made anew.)
+constexpr uint64_t MOST_IDLE = 50'000;
 // Whoever was so often in a row at one place looks for what another one has to do.
 constexpr unsigned PATIENCE = 40;
 // By priority nobody runs for longer on end: a thread may go round and round until another one has done something.
@@ -60,6 +63,7 @@ const uint64_t MOST_POINTS = number_in("SCHEDULES_POINTS", 100'000'000);
 std::vector<std::unique_ptr<Thread>> threads;
 std::vector<int> ready; // the running one too
 int running = 0, alive = 1;
+uint64_t idle = 0; // how often in this round nobody could go on but by waiting
 int64_t lowest = 0;
 uint64_t clock_now = 1'000'000'000, left = 1;
 Random dice(SEED);
@@ -110,6 +114,7 @@ void begin_round()
 {
     static const uint64_t gaps[] = {1, 2, 4, 8, 16, 64}, spans[] = {30, 100, 300, 1000, 4000};
     counted.rounds++;
+    idle = 0;
     policy.by_priority = dice.once_in(2);
     policy.gap = gaps[dice.below(6)];
     policy.changes = 1 + dice.below(5);
@@ -167,10 +172,11 @@ const char *name_of(State state)
 
 int choose()
 {
-    if (is_any_timed() && (ready.empty() || dice.once_in(TIME_OUT_ONCE_IN)))
-        let_time_pass();
-    if (ready.empty())
+    bool is_idle = ready.empty();
+    if (is_idle && (!is_any_timed() || ++idle > MOST_IDLE))
         give_up("nobody can go on", STUCK);
+    if (is_idle || (is_any_timed() && dice.once_in(TIME_OUT_ONCE_IN)))
+        let_time_pass();
     if (!policy.by_priority)
         return ready[dice.below(ready.size())];
     auto less = [](int left, int right) { return one(left).priority < one(right).priority; };

@@ -14,7 +14,10 @@ import program
 TOP = os.path.dirname(os.path.dirname(program.HERE))
 OUT = f"{program.HERE}/out"
 SECONDS = 60
-# The words of a program's run: for a seed, sizes that vary, so that few threads and many have their turn.
+# A run takes much less than a second of processor time, and ends by itself where it has made too many points.
+HANGS = 300
+# The words of a program's run: for a seed, sizes that vary, so that few threads and many have their turn. Histories are of two and of
+# three threads: where four or more overlap as they do here, now and then there are too many orders for the judge to decide.
 WORDS = {
     "channel_histories": lambda seed: [20, 2 + seed % 2, seed * 1000],
     "channel_stress": lambda seed: [1 + seed % 4, 2 + seed // 4 % 5],
@@ -55,20 +58,23 @@ def built(name, top=TOP, out=OUT):
 def run_once(path, seed, words):
     with tempfile.NamedTemporaryFile(prefix="schedules-") as counts:
         how = {"env": {**os.environ, "SCHEDULES_SEED": str(seed), "SCHEDULES_COUNTS": counts.name}, "stdin": subprocess.DEVNULL}
-        ran = subprocess.run([path, *words], stdout=subprocess.PIPE, stderr=subprocess.STDOUT, **how)
+        try:
+            ran = subprocess.run([path, *words], stdout=subprocess.PIPE, stderr=subprocess.STDOUT, timeout=HANGS, **how)
+        except subprocess.TimeoutExpired as late:
+            return Run(seed, words, "none: it hangs", (late.stdout or b"").decode(errors="replace"), [0] * len(COUNTS))
         told = [int(it) for it in counts.read().split()]
     said = ran.stdout.decode(errors="replace")
     return Run(seed, words, ran.returncode, said, told or [0] * len(COUNTS))
 
 
 def with_names(path, said):
-    """What was said, with the functions' names in the place of the addresses of calls."""
+    """What was said, with the names of the program's own functions in the place of the addresses of calls."""
     names = program.names_of(path)
     begins = [at for at, _ in names]
 
     def name(found):
         at = bisect.bisect_right(begins, int(found[1], 16)) - 1
-        return "\n    in " + (names[at][1] if at >= 0 else found[1])
+        return "" if at < 0 or names[at][1].startswith(("_", "schedules_")) else f"\n    in {names[at][1]}"
 
     return re.sub(r" @(0x[0-9a-f]+)", name, said)
 

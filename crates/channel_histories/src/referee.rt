@@ -5,7 +5,7 @@ use crate::answers::closed;
 use crate::crew::{Failure, LOOKS, pause};
 use crate::job::Shared;
 use crate::leaving::let_go;
-use crate::place::{Place, Standing};
+use crate::place::{At, Place};
 use async_channel::{Receiver, Sender};
 use history_checker::log::{Log, Stamps};
 use history_checker::point::Side;
@@ -60,6 +60,16 @@ impl<R: Wait + Copy> Referee<R> {
         seen
     }
 
+    /// Whether all threads are at the end of their calls.
+    fn all_rest(&self, rt: &R) -> bool {
+        for place in &self.places {
+            if place.standing(rt).at != At::Rest {
+                return false;
+            }
+        }
+        true
+    }
+
     /// How all threads stand that stand still.
     fn still(&self, rt: &R, alloc: Global) -> Failure {
         let mut standings = Vec::new(alloc);
@@ -108,6 +118,9 @@ impl<R: Wait + Copy> Referee<R> {
             let answer = self.sender.close();
             log.note(begin, stamps.stamp(), closed(answer));
             self.note_rest(&rt, alloc, stamps, &mut rests)?;
+        }
+        if !self.all_rest(&rt) {
+            return Err(self.still(&rt, alloc));
         }
         self.leave(rt, alloc, shared, &mut log)?;
         Ok((log, rests))
