@@ -15,8 +15,6 @@ mod memory;
 #[cfg(test)]
 mod refused;
 #[cfg(test)]
-mod replay;
-#[cfg(test)]
 mod talk;
 #[cfg(test)]
 mod uses;
