@@ -1,17 +1,15 @@
 -- The operations that a push and a pop make on end on a ring are those of its machine, whatever they are answered.
-use Rattle.std.proofs.Common.{◌≡◌, ℕ, zero, suc, ◌+◌, ◌-◌, ◌*◌, ◌%◌, ◌^◌, ◌==◌, ◌<◌, ◌≤◌, ◌&&◌, Bool, true, false, nat_le, if◌then◌else◌, None, Some, Option, Result, Ok, Err, is_err, refl, sym, subst, ap, arith}
+use Rattle.std.proofs.Common.{◌≡◌, ℕ, suc, ◌+◌, ◌-◌, ◌*◌, ◌%◌, ◌^◌, ◌==◌, ◌<◌, ◌≤◌, ◌&&◌, true, false, nat_le, if◌then◌else◌, None, Some, Result, Ok, Err, is_err, refl, sym, subst, arith}
 use Rattle.std.proofs.lemmas.Bool.Decides.{nat_tests}
 use Rattle.concurrent_queue.specs.Deeds.{Deed, loaded, stored, exchanged, did_put, did_take}
-use Rattle.concurrent_queue.specs.machine.Ahead.{IsStep, Leads, PushesOnEnd, PopsOnEnd}
-use Rattle.concurrent_queue.specs.machine.RingWords.{index, is_marked, unmarked, next_word, finishes, stays, shut_reply, behind}
-use Rattle.concurrent_queue.specs.machine.RingMoves.{RingMakes, after_tail, after_stamp, after_look, after_pop_tail, won, filled, emptied}
-use Rattle.concurrent_queue.specs.declared.bounded.RingAction.{RingAction}
+use Rattle.concurrent_queue.specs.machine.Ahead.{IsStep, PushesOnEnd, PopsOnEnd}
+use Rattle.concurrent_queue.specs.machine.RingWords.{index, is_marked, unmarked, next_word, finishes, stays}
+use Rattle.concurrent_queue.specs.machine.RingMoves.{RingMakes, after_tail, after_stamp, after_look, after_pop_tail}
 use Rattle.concurrent_queue.specs.declared.bounded.RingAction.TheVariants as act
 use Rattle.concurrent_queue.specs.declared.bounded.WhenFull.TheVariants.{Refuse}
 use Rattle.concurrent_queue.specs.declared.call.QueueMark.TheVariants.{Nothing, Append, Take}
 use Rattle.concurrent_queue.specs.declared.call.QueueReply.TheVariants as reply
 use Rattle.concurrent_queue.specs.declared.call.Stepped.{Stepped}
-use Rattle.concurrent_queue.specs.declared.cells.Slot.{Slot}
 use Rattle.concurrent_queue.specs.declared.cells.Slot.TheVariants.{At}
 use Rattle.concurrent_queue.specs.declared.cells.Word.{Word}
 use Rattle.concurrent_queue.specs.declared.cells.Word.TheVariants.{Head, Tail, Stamp}

@@ -1,5 +1,5 @@
 -- What a push and a pop of one slot answer where their exchange is lost.
-use Rattle.std.proofs.Common.{◌≡◌, ℕ, ◌==◌, Bool, true, false, Err, Some, refl, arith, bit_and, ap}
+use Rattle.std.proofs.Common.{◌≡◌, ℕ, ◌==◌, true, false, Err, refl, arith, bit_and, ap}
 use Rattle.std.proofs.lemmas.Bool.Decides.{nat_tests}
 use Rattle.concurrent_queue.specs.machine.Single.{finishes, stays, after_push, after_pop, clear}
 use Rattle.concurrent_queue.specs.declared.call.QueueReply.TheVariants as reply

@@ -1,16 +1,15 @@
 -- Chains of steps of a call over cells of any kind.
-use Rattle.std.proofs.Common.{◌≡◌, ℕ, zero, suc, ◌==◌, ◌+◌, Bool, true, false, None, Some, Option, Result, Ok, Err, refl, sym, subst, ap, ◌∙◌}
+use Rattle.std.proofs.Common.{◌≡◌, ℕ, zero, suc, ◌==◌, Bool, true, false, None, Some, refl, sym, subst, ap, ◌∙◌}
 use Rattle.concurrent_queue.specs.Deeds.{Deed, Move, loads, stores, exchanges, adds, sets_bits, keeps_bits, puts, takes, spares, retires, rests, Makes, loaded, stored, exchanged, added, bits_set, bits_kept, did_put, did_take, spared, retired}
 use Rattle.concurrent_queue.specs.machine.Ahead.{IsStep, Leads, Ends, plainly}
 use Rattle.concurrent_queue.specs.machine.Single.{SingleMakes, single_moves, start}
 use Rattle.concurrent_queue.specs.machine.RingWords.{cap_of, ring_mark, ring_start}
 use Rattle.concurrent_queue.specs.machine.RingMoves.{RingMakes, ring_moves}
 use Rattle.concurrent_queue.specs.machine.BlocksWords.{begin}
-use Rattle.concurrent_queue.specs.machine.BlocksMakes.{BlocksMakes, ActionMakes, blocks_moves}
+use Rattle.concurrent_queue.specs.machine.BlocksMakes.{ActionMakes, blocks_moves}
 use Rattle.concurrent_queue.specs.machine.Dispatch.{ring_cap}
-use Rattle.concurrent_queue.specs.Walked.{first_bounded, first_of, standing, MakesSingle, MakesRing, MakesBlocks, MakesBounded, MakesFirst, StateMakes, CallMakes, WalkedFrom, Walked}
+use Rattle.concurrent_queue.specs.Walked.{first_bounded, first_of, standing, MakesBlocks, MakesBounded, MakesFirst, StateMakes, CallMakes, WalkedFrom, Walked}
 use Rattle.concurrent_queue.specs.declared.call.QueueAsk.{QueueAsk}
-use Rattle.concurrent_queue.specs.declared.call.QueueMark.{QueueMark}
 use Rattle.concurrent_queue.specs.declared.call.QueueReply.{QueueReply}
 use Rattle.concurrent_queue.specs.declared.call.Stepped.{Stepped}
 use Rattle.concurrent_queue.specs.declared.cells.QueueForm.{QueueForm}

@@ -1,5 +1,5 @@
 -- The steps of a ring as operations, with what follows each answer, whatever the cells hold.
-use Rattle.std.specs.Prelude.{ℕ, ◌+◌, ◌-◌, ◌*◌, ◌%◌, ◌^◌, ◌&&◌, Bool, true, false, nat_le, Option, None, Some, Result, Ok, Err, if◌then◌else◌, ◌==◌}
+use Rattle.std.specs.Prelude.{ℕ, ◌+◌, ◌-◌, ◌*◌, ◌%◌, ◌^◌, ◌&&◌, true, false, nat_le, Option, None, Some, Result, Ok, Err, if◌then◌else◌, ◌==◌}
 use Rattle.concurrent_queue.specs.Deeds.{Deed, Move, loads, stores, exchanges, adds, sets_bits, puts, takes, rests, Makes}
 use Rattle.concurrent_queue.specs.machine.RingWords.{index, is_marked, unmarked, stride, next_word, between, stays, marks, finishes, shut_reply, pushed_reply, behind}
 use Rattle.concurrent_queue.specs.declared.call.QueueMark.TheVariants as mark

@@ -1,4 +1,4 @@
-use Rattle.std.proofs.Common.{◌≡◌, Ok, Err, refl, sym}
+use Rattle.std.proofs.Common.{Ok, Err, refl}
 use Rattle.concurrent_queue.proofs.single.step.Goals as goal
 
 pub returns-in-Ok-clause-deed : goal.returns-in-Ok-clause-deed

@@ -1,4 +1,4 @@
-use Rattle.std.proofs.Common.{◌∙◌, sym, Some, None, Ok, Err}
+use Rattle.std.proofs.Common.{◌∙◌, sym, Ok, Err}
 use Rattle.concurrent_queue.specs.machine.RingMoves.{RingMakes}
 use Rattle.concurrent_queue.specs.declared.bounded.RingAction.TheVariants as act
 use Rattle.concurrent_queue.proofs.RingDeeds.{pops_after, pops_stand, head_loaded, message_in, still_free, of_another_lap, head_won, head_lost, message_out, not_yet, pop_ends}

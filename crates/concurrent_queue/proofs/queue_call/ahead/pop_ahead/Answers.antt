@@ -1,4 +1,4 @@
-use Rattle.std.proofs.Common.{◌≡◌, None, sym, ap, refl, rules, ◌∙◌}
+use Rattle.std.proofs.Common.{◌≡◌, sym, ap, refl, rules, ◌∙◌}
 use Rattle.concurrent_queue.proofs.Walks.{single_walked, single_left, ring_walked, ring_left, blocks_walked, blocks_left}
 use Rattle.concurrent_queue.specs.declared.call.QueueAsk.TheVariants as ask
 use Rattle.concurrent_queue.specs.declared.call.QueueReply.TheVariants as reply
