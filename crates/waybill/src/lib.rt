@@ -1,0 +1,11 @@
+//! Messages that travel with a waybill: a token of no bytes by which whoever gets a message knows that it was sent, and that it
+//! comes once. A message may go through any queue or channel, since all is said by its type.
+#![tactic(auto)]
+
+pub mod bill;
+pub mod office;
+pub mod rule;
+pub mod tokens;
+
+pub use rule::{Hand, Room};
+pub use tokens::{Office, Opened, Parcel, Pass};
