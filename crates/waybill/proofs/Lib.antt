@@ -1,2 +1,4 @@
 pub mod Bags
+pub mod Order
 pub mod Steps
+pub mod Turns

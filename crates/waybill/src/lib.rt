@@ -3,9 +3,16 @@
 #![tactic(auto)]
 
 pub mod bill;
+pub mod laws;
+pub mod numbered;
 pub mod office;
 pub mod rule;
+pub mod sink;
+pub mod source;
 pub mod tokens;
 
+pub use numbered::{Numbered, NumbersUsedUp, OutOfTurn};
 pub use rule::{Hand, Room};
+pub use sink::Sink;
+pub use source::Source;
 pub use tokens::{Office, Opened, Parcel, Pass};
