@@ -10,6 +10,7 @@ use Rattle.atomic_table.proofs.Lists.{at_set, at_snoc, set_again}
 use Rattle.waybill.specs.declared.rule.Hand.{Hand}
 use Rattle.waybill.specs.Accounts.{all_parts, IsPartOf, IsBalanced}
 use Rattle.waybill.specs.Hands.{hand, waybill, total, with_sent, with_received, with_returned, became, IdleIsEmpty, Balanced, learned}
+use Rattle.waybill.proofs.Parts.{part_whole}
 use Rattle.waybill.proofs.Bags.{as_is, back, then, beside, after, before, exchange, interchange, exchange_last, others, piece, piece_set, pieces_snoc, taken_in}
 
 -- ---- numbers of each
@@ -150,16 +151,8 @@ module _ {T : Type 0} where
   pub part_of : (sent received returned : List T) → IsBalanced sent received returned → IsPartOf received sent
   part_of sent received returned b = (returned ++ b.0, b.1)
 
-  no_rest : (xs : List T) → length xs ≡ 0 → xs ≡ []
-  no_rest [] e = refl
-  no_rest (x ∷ xs) e = absurd (omega arith)
-
   pub settles : (sent received returned : List T) → IsBalanced sent received returned → length received ≡ length sent → IsPermutation sent received
-  settles sent received returned b same =
-      let rest : List T = returned ++ b.0 in
-      let count = length_permutation sent (received ++ rest) b.1 in
-      let none : rest ≡ [] = no_rest rest (omega (arith, length-append received rest)) in
-      then b.1 (as_is (ap (λ u. received ++ u) none ∙ append-nil received))
+  settles sent received returned b same = part_whole received sent (part_of sent received returned b) same
 
   pub looks : (slots id k : ℕ) (me : Me (Unit {0}) (Hand T)) → Allows Holds slots id me k (λ n. n) (λ n m. learned (step slots k 0 0 mathlib.Core.Option.none) me n m)
   looks slots id k me s b wide at small = (
