@@ -59,10 +59,10 @@ module _ {T : Type 0} where
       let low = r.0 in
       let rest : AllByRecursion (IsOneOf s (suc n) ys) ms = all_later s n y ys ms h.1 (lower (suc n) (m.number + 1) ms (omega arith) r.1) in
       ⊎_elim
-        (λ (e : m ≡ message s n y).
-          inr (values ms, ap (λ (k : Numbered T). k.value ∷ values ms) e, in_order s (suc n) ys ms rest (lower (suc n) (m.number + 1) ms (omega arith) r.1)))
-        (λ t. let b = bound s (suc n) ys m t in inl (in_order s (suc n) ys (m ∷ ms) (t, rest) (b, r.1)))
-        h.0
+      (λ (e : m ≡ message s n y).
+      inr (values ms, ap (λ (k : Numbered T). k.value ∷ values ms) e, in_order s (suc n) ys ms rest (lower (suc n) (m.number + 1) ms (omega arith) r.1)))
+      (λ t. let b = bound s (suc n) ys m t in inl (in_order s (suc n) ys (m ∷ ms) (t, rest) (b, r.1)))
+      h.0
 
   numbered_rises : (s n : ℕ) (xs : List T) → RisesFrom n (numbered s n xs)
   numbered_rises s n [] = tt

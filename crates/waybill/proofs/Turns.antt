@@ -67,11 +67,11 @@ module _ {T : Type 0} where
     pub gapless : IsGapless ms → m.number ≡ place_after 0 (of_sender m.sender ms) → IsGapless (ms ++ m ∷ [])
     gapless g is s = dite (ℕ_discrete m.sender s)
         (λ e.
-          let mine = of_sender s ms in let xs = values mine in
-          let there : m.number ≡ length xs = subst (λ (k : ℕ). m.number ≡ place_after 0 (of_sender k ms)) e is ∙ (ap (place_after 0) (g s) ∙ (place_numbered s 0 xs ∙ (let f : 0 + length xs ≡ length xs = omega arith in f))) in
-          let it : m ≡ message s m.number m.value = ap (λ (k : ℕ). message k m.number m.value) e in
-          let more : mine ++ m ∷ [] ≡ numbered s 0 (values (mine ++ m ∷ [])) = subst (λ (k : Numbered T). mine ++ k ∷ [] ≡ numbered s 0 (values (mine ++ k ∷ []))) (sym it) (packed s mine m.number m.value (g s) there) in
-          subst (λ (l : List (Numbered T)). l ≡ numbered s 0 (values l)) (sym (of_more s ms m e)) more)
+        let mine = of_sender s ms in let xs = values mine in
+        let there : m.number ≡ length xs = subst (λ (k : ℕ). m.number ≡ place_after 0 (of_sender k ms)) e is ∙ (ap (place_after 0) (g s) ∙ (place_numbered s 0 xs ∙ (let f : 0 + length xs ≡ length xs = omega arith in f))) in
+        let it : m ≡ message s m.number m.value = ap (λ (k : ℕ). message k m.number m.value) e in
+        let more : mine ++ m ∷ [] ≡ numbered s 0 (values (mine ++ m ∷ [])) = subst (λ (k : Numbered T). mine ++ k ∷ [] ≡ numbered s 0 (values (mine ++ k ∷ []))) (sym it) (packed s mine m.number m.value (g s) there) in
+        subst (λ (l : List (Numbered T)). l ≡ numbered s 0 (values l)) (sym (of_more s ms m e)) more)
         (λ e. subst (λ (l : List (Numbered T)). l ≡ numbered s 0 (values l)) (sym (of_no_more s ms m e)) (g s))
 
 module _ {T : Type 0} where
@@ -84,8 +84,7 @@ module _ {T : Type 0} where
       let q_is : q ≡ account 1 more [] [] = e ∙ (λ i. account (ap (λ a. a.parts) is i) more (ap (λ a. a.received) is i) (ap (λ a. a.returned) is i)) in
       let sent_is : q.sent ≡ more = ap (λ a. a.sent) q_is in
       let in_place = packed s ms n x (ap (λ a. a.sent) is) count in
-      let longer : length (values more) ≡ length (values ms) + 1 = ap length (values_more ms (message s n x)) ∙ length-append (values ms) (x ∷ []) in
-      (
+      let longer : length (values more) ≡ length (values ms) + 1 = ap length (values_more ms (message s n x)) ∙ length-append (values ms) (x ∷ []) in (
         q_is ∙ ap (λ l. account 1 l [] []) (in_place ∙ ap (λ l. numbered s 0 (values l)) (sym sent_is)),
         (let f : length (values q.sent) ≡ length (values more) = ap (λ l. length (values l)) sent_is in omega arith),
       )
@@ -112,8 +111,7 @@ module _ {T : Type 0} where
       let q_is = unpacked_pass p q m kept_so_far.0 e in
       let got : q.received ≡ ms ++ m ∷ [] = ap (λ a. a.received) q_is in
       let awaited : slice_index places m.sender ≡ place_after 0 (of_sender m.sender ms) = kept_so_far.1 m.sender inside in
-      let places2 = slice_set places m.sender (m.number + 1) in
-      (
+      let places2 = slice_set places m.sender (m.number + 1) in (
         q_is ∙ ap (λ l. account 1 [] l []) (sym got),
         subst (λ l. (k : ℕ) → k < length places2 → slice_index places2 k ≡ place_after 0 (of_sender k l)) (sym got) (unpacked_places places ms m kept_so_far.1 inside),
         subst IsRising (sym got) (rises ms m kept_so_far.2 (subst (λ n. n ≤ m.number) awaited late)),

@@ -24,15 +24,15 @@ by_two all got given took took_too gave gave_too gathered one two three four fiv
     let second = took_too.received in
     let jobs_received : (given.received ++ first) ++ second ≡ first ++ second = ap (λ (l : List ℕ). (l ++ first) ++ second) given_got in
     let jobs_sent : (given.sent ++ took.sent) ++ took_too.sent ≡ all =
-        ap (λ (l : List ℕ). (l ++ took.sent) ++ took_too.sent) given_sent ∙ (ap (λ (l : List ℕ). (all ++ l) ++ took_too.sent) took_sent
-        ∙ (ap (λ (l : List ℕ). (all ++ []) ++ l) took_too_sent ∙ (append-nil (all ++ []) ∙ append-nil all))) in
+    ap (λ (l : List ℕ). (l ++ took.sent) ++ took_too.sent) given_sent ∙ (ap (λ (l : List ℕ). (all ++ l) ++ took_too.sent) took_sent
+    ∙ (ap (λ (l : List ℕ). (all ++ []) ++ l) took_too_sent ∙ (append-nil (all ++ []) ∙ append-nil all))) in
     let results_received : (gave.received ++ gave_too.received) ++ gathered.received ≡ got =
-        ap (λ (l : List ℕ). (l ++ gave_too.received) ++ gathered.received) gave_got ∙ (ap (λ (l : List ℕ). l ++ gathered.received) gave_too_got
-        ∙ ap (λ (l : List ℕ). l) gathered_got) in
+    ap (λ (l : List ℕ). (l ++ gave_too.received) ++ gathered.received) gave_got ∙ (ap (λ (l : List ℕ). l ++ gathered.received) gave_too_got
+    ∙ ap (λ (l : List ℕ). l) gathered_got) in
     let results_sent : (gave.sent ++ gave_too.sent) ++ gathered.sent ≡ squares (first ++ second) =
-        ap (λ (l : List ℕ). (l ++ gave_too.sent) ++ gathered.sent) gave_sent ∙ (ap (λ (l : List ℕ). (squares first ++ l) ++ gathered.sent) gave_too_sent
-        ∙ (ap (λ (l : List ℕ). (squares first ++ squares second) ++ l) gathered_sent
-        ∙ (append-nil (squares first ++ squares second) ∙ sym (map-append (λ (job : ℕ). job * job) first second)))) in
+    ap (λ (l : List ℕ). (l ++ gave_too.sent) ++ gathered.sent) gave_sent ∙ (ap (λ (l : List ℕ). (squares first ++ l) ++ gathered.sent) gave_too_sent
+    ∙ (ap (λ (l : List ℕ). (squares first ++ squares second) ++ l) gathered_sent
+    ∙ (append-nil (squares first ++ squares second) ∙ sym (map-append (λ (job : ℕ). job * job) first second)))) in
     made all (first ++ second) got (part_as jobs_received jobs_sent jobs) (part_as results_received results_sent results)
 
 -- one worker between them
