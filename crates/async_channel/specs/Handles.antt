@@ -1,12 +1,11 @@
 -- What contracts see of the handles of a channel that threads share, and of its sends.
-use Rattle.std.specs.Prelude.{◌≡◌, ℕ, Option, Some, None, Result, Ok, Err}
+use Rattle.std.specs.Prelude.{◌≡◌, ℕ, Bool, false, Option, Some, None, Result, Ok, Err}
 use Rattle.std.specs.Arc.{arc_value}
 use Rattle.concurrent_queue.specs.Contents.{no_contents}
 use Rattle.concurrent_queue.specs.declared.cells.QueueForm.{QueueForm}
 use Rattle.futures.specs.declared.task.Poll.{Poll}
-use Rattle.futures.specs.declared.task.Poll.TheVariants.{Ready, Pending}
 use Rattle.channel_calls.specs.Errors.{unsent, try_unsent}
-use Rattle.channel_calls.specs.Replies.{SendsBy}
+use Rattle.channel_calls.specs.Listed.{is_pending}
 use Rattle.channel_calls.specs.Parts.{Parts, new_roster}
 use Rattle.channel_calls.specs.declared.error.Refused.{Refused}
 use Rattle.channel_calls.specs.declared.error.Refused.TheVariants.{Plain, NoMemory, SerialsUsedUp}
@@ -20,7 +19,21 @@ pub record Handle : Type 0 where
   pub form : QueueForm
   pub id : ℕ
 
+-- a send: its message, which a finished one has no more, and whether a listener is listed for it
+pub record Sending (T : Type 0) : Type 0 where
+  pub message : Option T
+  pub listens : Bool
+
 module _ {T : Type 0} where
+  -- a send that has not been polled
+  abbrev pub new_sending : T → Sending T
+  new_sending m = record { message = Some m; listens = false }
+
+  -- whether a listener is listed after a poll: of a send that had its message, where it waits
+  abbrev pub waits_on : {A : Type 0} → Option T → Poll A → Bool
+  waits_on (Some v) p = is_pending p
+  waits_on None p = false
+
   abbrev pub form_of : Shared T → QueueForm
   form_of c = c.queue.form
 
@@ -44,14 +57,6 @@ module _ {T : Type 0} where
   Gives m (Err (NoMemory u)) = Unit {0}
   Gives m (Err (SerialsUsedUp u)) = Unit {0}
   Gives m (Ok u) = Unit {0}
-
-  -- a poll of a send, by the message that it has before and after; a finished one has none, and is pending unless the copy of
-  -- its waker was refused
-  abbrev pub SendsOn : Option T → Poll (Result Unit (Refused (SendError T) Unit)) → Option T → Type 0
-  SendsOn (Some v) r m = SendsBy v r m
-  SendsOn None Pending m = m ≡ None
-  SendsOn None (Ready (Err (NoMemory u))) m = m ≡ None
-  SendsOn None _ m = ⊥
 
 -- shared cells name no contents
 abbrev pub no_parts : {T W : Type 0} → QueueForm → Parts T W

@@ -1,5 +1,5 @@
-//! The calls that block the thread. They try, listen, try again, and wait on the listener between further tries, as the
-//! blocking calls of `async-channel` 2.5.0 do. That the first try is made some times before they listen is own to this project.
+//! The calls that block the thread. They try, listen, try again, and sleep until the listener is told before they try once more, as
+//! the blocking calls of `async-channel` 2.5.0 do. That the first try is made some times before they listen is own to this project.
 
 ghost use Rattle.std.specs.Prelude.{◌≡◌, IfErr};
 ghost use Rattle.async_channel.specs.Handles.{Unsent, TryUnsent};
@@ -11,7 +11,7 @@ use crossbeam_utils::Backoff;
 use event_listener::error::ListenError;
 use event_listener::key::Key;
 use event_listener::parker::Parker;
-use event_listener::waking::Task;
+use event_listener::waking::{Task, WakeNow};
 use std::sync::{Arc, Wait};
 
 /// What a blocking send answers where a try was refused for good.
@@ -46,6 +46,12 @@ fn looks_again(backoff: &Backoff) -> bool {
     true
 }
 
+/// A listener that a blocking call has listed. It can't be let go: it leaves, or the call sleeps until it is told.
+struct Listed {
+    line: Line,
+    key: Key,
+}
+
 impl<T: Drop> Shared<T> {
     /// Sends, and sleeps while there is no place.
     pub(crate) fn send_blocking<R: Wait>(
@@ -56,91 +62,109 @@ impl<T: Drop> Shared<T> {
         ensures { IfErr result (λ e. Unsent e ≡ message) }
     {
         let mut message = message;
-        let mut held = None;
         let backoff = Backoff::new();
         for _ in rt.forever() {
             message = match self.try_send(rt, message) {
-                Ok(()) => {
-                    self.waiters(Line::Sends).leave(rt, held);
-                    return Ok(());
-                }
+                Ok(()) => return Ok(()),
                 Err(Refused::Plain(TrySendError::Full(back))) => back,
-                Err(refused) => {
-                    self.waiters(Line::Sends).leave(rt, held);
-                    return Err(refusal(refused));
-                }
+                Err(refused) => return Err(refusal(refused)),
             };
             if looks_again(&backoff) {
                 continue;
             }
-            held = match self.listen_or_sleep(rt, Line::Sends, held) {
-                Ok(next) => next,
+            let listed = match self.listens(rt, Line::Sends) {
+                Ok(listed) => listed,
                 Err(error) => return Err(unlistened(error, message)),
             };
+            message = match self.try_send(rt, message) {
+                Ok(()) => {
+                    self.leaves(rt, listed);
+                    return Ok(());
+                }
+                Err(Refused::Plain(TrySendError::Full(back))) => back,
+                Err(refused) => {
+                    self.leaves(rt, listed);
+                    return Err(refusal(refused));
+                }
+            };
+            if let Err(error) = self.sleeps(rt, listed) {
+                return Err(unlistened(error, message));
+            }
         }
         unreachable!()
     }
 
     /// Receives, and sleeps while there is no message.
     pub(crate) fn recv_blocking<R: Wait>(&self, rt: &R) -> Result<T, Refused<RecvError>> {
-        let mut held = None;
         let backoff = Backoff::new();
         for _ in rt.forever() {
             match self.try_recv(rt) {
-                Ok(message) => {
-                    self.waiters(Line::Receives).leave(rt, held);
-                    return Ok(message);
-                }
-                Err(TryRecvError::Closed) => {
-                    self.waiters(Line::Receives).leave(rt, held);
-                    return Err(Refused::Plain(RecvError));
-                }
+                Ok(message) => return Ok(message),
+                Err(TryRecvError::Closed) => return Err(Refused::Plain(RecvError)),
                 Err(TryRecvError::Empty) => {}
             }
             if looks_again(&backoff) {
                 continue;
             }
-            held = match self.listen_or_sleep(rt, Line::Receives, held) {
-                Ok(next) => next,
+            let listed = match self.listens(rt, Line::Receives) {
+                Ok(listed) => listed,
                 Err(error) => return Err(unlistened(error, ())),
             };
+            match self.try_recv(rt) {
+                Ok(message) => {
+                    self.leaves(rt, listed);
+                    return Ok(message);
+                }
+                Err(TryRecvError::Closed) => {
+                    self.leaves(rt, listed);
+                    return Err(Refused::Plain(RecvError));
+                }
+                Err(TryRecvError::Empty) => {}
+            }
+            if let Err(error) = self.sleeps(rt, listed) {
+                return Err(unlistened(error, ()));
+            }
         }
         unreachable!()
     }
 
-    /// What comes after a try that found no place or no message: without a listener it listens; with one it sleeps until that
-    /// is told, and has none then. Where it is refused it has none either.
-    fn listen_or_sleep<R: Wait>(
-        &self,
-        rt: &R,
-        line: Line,
-        held: Option<Key>,
-    ) -> Result<Option<Key>, ListenError> {
-        let Some(key) = held else {
-            return self.waiters(line).insert(rt).map(Some);
-        };
-        let Ok(parker) = Arc::new(self.alloc, Parker::new()) else {
-            self.waiters(line).leave(rt, held);
-            return Err(ListenError::NoMemory);
-        };
-        let Ok(task) = Arc::try_clone(&parker) else {
-            self.waiters(line).leave(rt, held);
-            return Err(ListenError::NoMemory);
-        };
-        self.sleep(rt, line, key, Task::Parked(task), &parker);
-        Ok(None)
+    /// Listens, without a task.
+    fn listens<R: Wait>(&self, rt: &R, line: Line) -> Result<Listed, ListenError> {
+        match self.waiters(line).insert(rt) {
+            Ok(key) => Ok(Listed { line, key }),
+            Err(error) => Err(error),
+        }
     }
 
-    /// Sleeps until the listener is told, and takes it off.
-    fn sleep<R: Wait>(&self, rt: &R, line: Line, key: Key, task: Task, parker: &Parker) {
-        if self.waiters(line).register(rt, key, task).is_some() {
-            return;
-        }
+    /// Listens no more. A listener that was told passes its notice on.
+    fn leaves<R: Wait>(&self, rt: &R, listed: Listed) {
+        let Listed { line, key } = listed;
+        self.waiters(line).remove(rt, key, &mut WakeNow { rt });
+    }
+
+    /// Sleeps until the listener is told, which uses its notice up. Where there is no memory to sleep on, it leaves.
+    ///
+    /// It registers as a poll does, and once more each time that it wakes, as a stream's poll begins.
+    fn sleeps<R: Wait>(&self, rt: &R, listed: Listed) -> Result<(), ListenError> {
+        let Ok(parker) = Arc::new(self.alloc, Parker::new()) else {
+            self.leaves(rt, listed);
+            return Err(ListenError::NoMemory);
+        };
         for _ in rt.forever() {
-            parker.sleep(rt);
-            if self.waiters(line).take_told(rt, key) {
-                return;
+            let Ok(task) = Arc::try_clone(&parker) else {
+                self.leaves(rt, listed);
+                return Err(ListenError::NoMemory);
+            };
+            let waiters = self.waiters(listed.line);
+            if waiters
+                .register(rt, listed.key, Task::Parked(task))
+                .is_some()
+            {
+                let Listed { line: _, key: _ } = listed;
+                return Ok(());
             }
+            parker.sleep(rt);
         }
+        unreachable!()
     }
 }

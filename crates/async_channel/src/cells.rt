@@ -24,12 +24,15 @@ pub(crate) struct SharedCells<'a, T: Drop, R: Wait> {
 impl<'a, T: Drop, R: Wait> ChannelCells<T, Task> for SharedCells<'a, T, R> {
     ghost use Rattle.std.specs.Prelude.{◌≡◌};
     ghost use Rattle.async_channel.specs.Handles.{no_parts, form_of};
+    ghost use Rattle.async_channel.specs.Sections.{Answers};
 
     ghost known = { ⊥ };
 
     ghost parts = { λ c. no_parts (form_of c.shared.now) };
 
     ghost has_form = { λ c f. f ≡ form_of c.shared.now };
+
+    ghost did = { λ d before now. Answers d };
 
     // The steps of the queue's call up to its answer, one after another: nothing else of the channel's call comes between
     // them, while the steps of other threads may.

@@ -4,42 +4,11 @@ ghost use Rattle.std.specs.Prelude.{◌≡◌, IfOk, IfErr, IfSome};
 ghost use Rattle.async_channel.specs.Handles.{handle_of};
 
 use crate::link::Link;
-use crate::shared::Shared;
 use channel_calls::ask::ChannelAsk;
 use channel_calls::error::HandleError;
-use channel_calls::reply::Reply;
 use channel_calls::stage::Side;
 use event_listener::waking::Task;
 use std::sync::Wait;
-
-impl<T: Drop> Shared<T> {
-    /// Counts one more handle of this kind. Refused where more than half of `usize::MAX` live; nothing is changed then.
-    fn clone_handle<R: Wait>(&self, rt: &R, side: Side) -> Result<(), HandleError>
-        ensures { IfErr result (λ e. e ≡ HandleError.TooMany) }
-    {
-        let given = self.run(rt, ChannelAsk::CloneHandle(side));
-        let made = match &given.reply {
-            Reply::Made => Ok(()),
-            _ => Err(HandleError::TooMany),
-        };
-        drop(given);
-        made
-    }
-
-    /// Counts one more handle of this kind, where the channel is open and one lives: whether it did. Refused as above.
-    fn upgrade<R: Wait>(&self, rt: &R, side: Side) -> Result<bool, HandleError>
-        ensures { IfErr result (λ e. e ≡ HandleError.TooMany) }
-    {
-        let given = self.run(rt, ChannelAsk::Upgrade(side));
-        let made = match &given.reply {
-            Reply::Made => Ok(true),
-            Reply::NotMade => Ok(false),
-            _ => Err(HandleError::TooMany),
-        };
-        drop(given);
-        made
-    }
-}
 
 /// A tie to a channel that is counted as one of its handles.
 ///
@@ -91,6 +60,6 @@ impl<T: Drop> Counted<T> {
     /// Makes the call by which a handle is dropped, which lowers the count.
     pub(crate) fn lower<R: Wait>(self, rt: &R, ask: ChannelAsk<T, Task>) {
         let Counted { link } = self;
-        drop(link.shared.run(rt, ask));
+        link.shared.make(rt, ask);
     }
 }

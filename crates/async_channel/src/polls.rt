@@ -1,143 +1,114 @@
-//! One poll of each kind of operation, with or without a copy of its waker: without one nothing is tried, the listener leaves,
-//! passing its notice on, and memory is what is wanted.
+//! One poll of each kind of operation, and the givings up: those of `channel_calls`, on the cells that threads share. A poll first
+//! takes a copy of its task's waker, and keeps the listener that it is left.
 
-ghost use Rattle.std.specs.Prelude.{◌≡◌};
-ghost use Rattle.async_channel.specs.Handles.{SendsOn};
+ghost use Rattle.std.specs.Prelude.{◌≡◌, None, is_some};
+ghost use Rattle.futures.specs.Poll.{OnPending};
+ghost use Rattle.futures.specs.Task.{IsArmed, Keeps};
+ghost use Rattle.channel_calls.specs.Calls.{SendsOn};
+ghost use Rattle.channel_calls.specs.Listed.{SendLists, is_pending};
 
-use crate::shared::{Given, Shared};
-use channel_calls::ask::ChannelAsk;
+use crate::shared::Shared;
+use crate::waits::Waits;
 use channel_calls::error::{RecvError, Refused, SendError};
-use channel_calls::reply::Reply;
-use channel_calls::stage::{Kept, Line};
+use channel_calls::polls;
+use channel_calls::stage::Line;
 use event_listener::error::ListenError;
-use event_listener::key::Key;
-use event_listener::waking::Task;
-use futures::task::Poll;
+use event_listener::waking::WakeNow;
+use futures::task::{Context, Poll};
 use std::sync::Wait;
 
 impl<T: Drop> Shared<T> {
-    /// A poll of a send with this message; of a finished one without.
+    /// A poll of a send with this message; of a finished one without. The message that stays with it is handed back.
     pub(crate) fn poll_send<R: Wait>(
         &self,
         rt: &R,
         message: Option<T>,
-        key: Option<Key>,
-        task: Option<Task>,
-    ) -> (Poll<Result<(), Refused<SendError<T>>>>, Kept<T>)
-        ensures { SendsOn message result.0 result.1.message }
+        waits: &mut Waits,
+        cx: &mut Context<'_>,
+    ) -> (Poll<Result<(), Refused<SendError<T>>>>, Option<T>)
+        ensures message { SendsOn message result.0 result.1 }
+        ensures listed { SendLists message result.0 waits.new.key }
+        ensures armed { OnPending result.0 (IsArmed cx.new) }
+        ensures kept { Keeps cx.old cx.new }
     {
-        let Some(task) = task else {
-            let ask = ChannelAsk::RefusePoll(Line::Sends, message, key);
-            let Given { reply, kept } = self.run(rt, ask);
-            return match reply {
-                Reply::SendPoll(polled) => (polled, kept),
-                _ => unreachable!(),
-            };
-        };
-        let Some(message) = message else {
-            let Given { reply, kept } = self.run(rt, ChannelAsk::PollFinishedSend);
-            return match reply {
-                Reply::SendPoll(polled) => (polled, kept),
-                _ => unreachable!(),
-            };
-        };
-        let Given { reply, kept } = self.run(rt, ChannelAsk::PollSend(message, key, task));
-        match reply {
-            Reply::SendPoll(polled) => (polled, kept),
-            _ => unreachable!(),
-        }
+        let task = waits.arm(rt, self.alloc, cx);
+        let key = waits.key.take();
+        let cells = &mut self.cells(rt);
+        let (polled, left) = polls::poll_send(rt, message, key, task, cells, &mut WakeNow { rt });
+        waits.key = left.key;
+        (polled, left.message)
     }
 
     /// A poll of a receive.
     pub(crate) fn poll_recv<R: Wait>(
         &self,
         rt: &R,
-        key: Option<Key>,
-        task: Option<Task>,
-    ) -> (Poll<Result<T, Refused<RecvError>>>, Option<Key>) {
-        let Some(task) = task else {
-            let ask = ChannelAsk::RefusePoll(Line::Receives, None, key);
-            let Given { reply, kept } = self.run(rt, ask);
-            return match reply {
-                Reply::RecvPoll(polled) => (polled, kept.key),
-                _ => unreachable!(),
-            };
-        };
-        let Given { reply, kept } = self.run(rt, ChannelAsk::PollRecv(key, task));
-        match reply {
-            Reply::RecvPoll(polled) => (polled, kept.key),
-            _ => unreachable!(),
-        }
+        waits: &mut Waits,
+        cx: &mut Context<'_>,
+    ) -> Poll<Result<T, Refused<RecvError>>>
+        ensures listed { is_some waits.new.key ≡ is_pending result }
+        ensures armed { OnPending result (IsArmed cx.new) }
+        ensures kept { Keeps cx.old cx.new }
+    {
+        let task = waits.arm(rt, self.alloc, cx);
+        let key = waits.key.take();
+        let cells = &mut self.cells(rt);
+        let (polled, kept) = polls::poll_recv(rt, key, task, cells, &mut WakeNow { rt });
+        waits.key = kept.key;
+        polled
     }
 
     /// A poll of a wait for the closing.
     pub(crate) fn poll_closed<R: Wait>(
         &self,
         rt: &R,
-        key: Option<Key>,
-        task: Option<Task>,
-    ) -> (Poll<Result<(), ListenError>>, Option<Key>) {
-        let Some(task) = task else {
-            let ask = ChannelAsk::RefusePoll(Line::Closings, None, key);
-            let Given { reply, kept } = self.run(rt, ask);
-            return match reply {
-                Reply::ClosedPoll(polled) => (polled, kept.key),
-                _ => unreachable!(),
-            };
-        };
-        let Given { reply, kept } = self.run(rt, ChannelAsk::PollClosed(key, task));
-        match reply {
-            Reply::ClosedPoll(polled) => (polled, kept.key),
-            _ => unreachable!(),
-        }
+        waits: &mut Waits,
+        cx: &mut Context<'_>,
+    ) -> Poll<Result<(), ListenError>>
+        ensures listed { is_some waits.new.key ≡ is_pending result }
+        ensures armed { OnPending result (IsArmed cx.new) }
+        ensures kept { Keeps cx.old cx.new }
+    {
+        let task = waits.arm(rt, self.alloc, cx);
+        let key = waits.key.take();
+        let cells = &mut self.cells(rt);
+        let (polled, kept) = polls::poll_closed(rt, key, task, cells, &mut WakeNow { rt });
+        waits.key = kept.key;
+        polled
     }
 
     /// A poll of a receiver as a stream.
     pub(crate) fn poll_next<R: Wait>(
         &self,
         rt: &R,
-        key: Option<Key>,
-        task: Option<Task>,
-    ) -> (Poll<Option<Result<T, ListenError>>>, Option<Key>) {
-        let Some(task) = task else {
-            let ask = ChannelAsk::RefusePoll(Line::Streams, None, key);
-            let Given { reply, kept } = self.run(rt, ask);
-            return match reply {
-                Reply::Next(polled) => (polled, kept.key),
-                _ => unreachable!(),
-            };
-        };
-        let Given { reply, kept } = self.run(rt, ChannelAsk::PollNext(key, task));
-        match reply {
-            Reply::Next(polled) => (polled, kept.key),
-            _ => unreachable!(),
-        }
+        waits: &mut Waits,
+        cx: &mut Context<'_>,
+    ) -> Poll<Option<Result<T, ListenError>>>
+        ensures listed { is_some waits.new.key ≡ is_pending result }
+        ensures armed { OnPending result (IsArmed cx.new) }
+        ensures kept { Keeps cx.old cx.new }
+    {
+        let task = waits.arm(rt, self.alloc, cx);
+        let key = waits.key.take();
+        let cells = &mut self.cells(rt);
+        let (polled, kept) = polls::poll_next(rt, key, task, cells, &mut WakeNow { rt });
+        waits.key = kept.key;
+        polled
     }
-}
 
-// The givings up.
-impl<T: Drop> Shared<T> {
-    ghost use Rattle.std.specs.Prelude.{◌≡◌};
-
-    /// Gives a send up: its message comes back, where it has one.
-    pub(crate) fn give_up_send<R: Wait>(
+    /// Gives an operation of this kind up: its listener leaves, and the message of an unfinished send comes back.
+    pub(crate) fn give_up<R: Wait>(
         &self,
         rt: &R,
+        line: Line,
         message: Option<T>,
-        key: Option<Key>,
+        waits: &mut Waits,
     ) -> Option<T>
-        ensures { result ≡ message }
+        ensures message { result ≡ message }
+        ensures listed { waits.new.key ≡ None }
     {
-        let ask = ChannelAsk::GiveUp(Line::Sends, message, key);
-        let Given { reply, kept: _kept } = self.run(rt, ask);
-        match reply {
-            Reply::GivenUp(message) => message,
-            _ => unreachable!(),
-        }
-    }
-
-    /// Gives an operation of this kind up, which has no message.
-    pub(crate) fn give_up<R: Wait>(&self, rt: &R, line: Line, key: Option<Key>) {
-        drop(self.run(rt, ChannelAsk::GiveUp(line, None, key)));
+        let key = waits.key.take();
+        let cells = &mut self.cells(rt);
+        polls::give_up(rt, line, message, key, cells, &mut WakeNow { rt })
     }
 }

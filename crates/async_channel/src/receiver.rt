@@ -31,7 +31,7 @@ impl<T: Drop, R: Wait + Copy> Model for Receiver<T, R> {
 }
 
 impl<T: Drop, R: Wait + Copy> Receiver<T, R> {
-    ghost use Rattle.std.specs.Prelude.{◌≡◌, ◌<◌, ◌≤◌, [], length, Err, IfOk, OnErr};
+    ghost use Rattle.std.specs.Prelude.{◌≡◌, ◌<◌, ◌≤◌, [], false, length, Err, IfOk, OnErr};
     ghost use Rattle.async_channel.specs.Handles.{handle_of};
 
     pub(crate) fn new(rt: R, counted: Counted<T>) -> Receiver<T, R>
@@ -73,14 +73,13 @@ impl<T: Drop, R: Wait + Copy> Receiver<T, R> {
         ensures wanted { OnErr result (0 < limit) }
         ensures reason { result ≡ Err (Refused.SerialsUsedUp tt) → ⊥ }
     {
-        match self.counted.link.shared.recv_many(&self.rt, limit) {
-            Ok(messages) => Ok(messages.into_vec()),
-            Err(error) => Err(error),
-        }
+        self.counted.link.shared.recv_many(&self.rt, limit)
     }
 
     /// A receive that waits for a message: nothing is done until it is polled. As `async-channel` 2.5.0.
-    pub fn recv(&self) -> Recv<'_, T, R> {
+    pub fn recv(&self) -> Recv<'_, T, R>
+        ensures { result ≡ false }
+    {
         Recv::new(self)
     }
 

@@ -1,28 +1,59 @@
 //! The polled receive.
 
+ghost use Rattle.std.specs.Prelude.{◌≡◌, false};
+ghost use Rattle.futures.specs.Poll.{OnPending};
+ghost use Rattle.futures.specs.Task.{IsArmed, Keeps};
+ghost use Rattle.channel_calls.specs.Listed.{is_pending};
+
 use crate::receiver::Receiver;
 use crate::waits::Waits;
 use channel_calls::error::{RecvError, Refused};
 use channel_calls::stage::Line;
 use futures::Future;
 use futures::task::{Context, Poll};
+use std::marker::Model;
 use std::sync::Wait;
 
 /// A receive of one message, which waits for it. One that has given a message receives another when it is polled again.
 ///
 /// Each poll takes a copy of the waker first; where none is got nothing is tried, and the answer is want of memory. A poll may
-/// wait for another call's end and for the locks of those who wait. Dropping it gives it up. As `async-channel` 2.5.0.
+/// wait for another call's end and for the locks of those who wait. Dropping it gives it up. Contracts see
+/// whether a listener is listed for it. As `async-channel` 2.5.0.
 pub struct Recv<'a, T: Drop, R: Wait + Copy> {
     receiver: &'a Receiver<T, R>,
     waits: Waits,
 }
 
+impl<'a, T: Drop, R: Wait + Copy> Model for Recv<'a, T, R> {
+    ghost use Rattle.std.specs.Prelude.{Bool, is_some};
+
+    ghost Value = { Bool };
+
+    ghost view = { λ o. is_some o.waits.key };
+}
+
 impl<'a, T: Drop, R: Wait + Copy> Recv<'a, T, R> {
-    pub(crate) fn new(receiver: &'a Receiver<T, R>) -> Recv<'a, T, R> {
+    pub(crate) fn new(receiver: &'a Receiver<T, R>) -> Recv<'a, T, R>
+        ensures { result ≡ false }
+    {
         Recv {
             receiver,
             waits: Waits::new(),
         }
+    }
+
+    /// One poll: a listener is listed for it afterwards where it is pending, and else none.
+    ///
+    /// A copy of the waker is taken first. Where none is got nothing is tried, and the answer is want of memory. It may wait for
+    /// another call's end and for the locks of those who wait.
+    pub fn poll(&mut self, cx: &mut Context<'_>) -> Poll<Result<T, Refused<RecvError>>>
+        ensures listed { self.new ≡ is_pending result }
+        ensures armed { OnPending result (IsArmed cx.new) }
+        ensures kept { Keeps cx.old cx.new }
+    {
+        let receiver = self.receiver;
+        let shared = &receiver.counted.link.shared;
+        shared.poll_recv(&receiver.rt, &mut self.waits, cx)
     }
 
     /// Gives it up, as its drop does. It may wait for the lock of those who wait. Own to this project.
@@ -32,12 +63,8 @@ impl<'a, T: Drop, R: Wait + Copy> Recv<'a, T, R> {
 
     fn leave(&mut self) {
         let receiver = self.receiver;
-        let key = self.waits.key.take();
-        receiver
-            .counted
-            .link
-            .shared
-            .give_up(&receiver.rt, Line::Receives, key);
+        let shared = &receiver.counted.link.shared;
+        drop(shared.give_up(&receiver.rt, Line::Receives, None, &mut self.waits));
     }
 }
 
@@ -45,13 +72,7 @@ impl<T: Drop, R: Wait + Copy> Future for Recv<'_, T, R> {
     type Output = Result<T, Refused<RecvError>>;
 
     fn poll(&mut self, cx: &mut Context<'_>) -> Poll<Result<T, Refused<RecvError>>> {
-        let receiver = self.receiver;
-        let shared = &receiver.counted.link.shared;
-        let task = self.waits.arm(&receiver.rt, shared.alloc, cx);
-        let key = self.waits.key.take();
-        let (polled, key) = shared.poll_recv(&receiver.rt, key, task);
-        self.waits.key = key;
-        polled
+        Recv::poll(self, cx)
     }
 }
 

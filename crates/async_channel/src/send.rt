@@ -3,17 +3,20 @@
 ghost use Rattle.std.specs.Prelude.{◌≡◌, Some, is_none};
 ghost use Rattle.futures.specs.Poll.{OnPending};
 ghost use Rattle.futures.specs.Task.{IsArmed, Keeps};
-ghost use Rattle.async_channel.specs.Handles.{SendsOn};
+ghost use Rattle.channel_calls.specs.Calls.{SendsOn};
+ghost use Rattle.async_channel.specs.Handles.{new_sending, waits_on};
 
 use crate::sender::Sender;
 use crate::waits::Waits;
 use channel_calls::error::{Refused, SendError};
+use channel_calls::stage::Line;
 use futures::Future;
 use futures::task::{Context, Poll};
 use std::marker::Model;
 use std::sync::Wait;
 
-/// A send of one message, which waits for a place. It has finished once it has no message.
+/// A send of one message, which waits for a place. It has finished once it has no message. Contracts see its message and whether a
+/// listener is listed for it.
 ///
 /// Dropping it gives it up. Contracts see it as its message. As `async-channel` 2.5.0.
 pub struct Send<'a, T: Drop, R: Wait + Copy> {
@@ -23,16 +26,17 @@ pub struct Send<'a, T: Drop, R: Wait + Copy> {
 }
 
 impl<'a, T: Drop, R: Wait + Copy> Model for Send<'a, T, R> {
-    ghost use Rattle.std.specs.Prelude.{Option};
+    ghost use Rattle.std.specs.Prelude.{is_some};
+    ghost use Rattle.async_channel.specs.Handles.{Sending};
 
-    ghost Value = { Option T };
+    ghost Value = { Sending T };
 
-    ghost view = { λ s. s.message };
+    ghost view = { λ s. record { message = s.message; listens = is_some s.waits.key } };
 }
 
 impl<'a, T: Drop, R: Wait + Copy> Send<'a, T, R> {
     pub(crate) fn new(sender: &'a Sender<T, R>, message: T) -> Send<'a, T, R>
-        ensures { result ≡ Some message }
+        ensures { result ≡ new_sending message }
     {
         Send {
             sender,
@@ -47,24 +51,22 @@ impl<'a, T: Drop, R: Wait + Copy> Send<'a, T, R> {
     /// A copy of the waker is taken first. Where none is got nothing is tried, and the answer is want of memory. It may wait for
     /// another call's end and for the locks of those who wait.
     pub fn poll(&mut self, cx: &mut Context<'_>) -> Poll<Result<(), Refused<SendError<T>>>>
-        ensures message { SendsOn self.old result self.new }
+        ensures message { SendsOn self.old.message result self.new.message }
+        ensures listed { self.new.listens ≡ waits_on self.old.message result }
         ensures armed { OnPending result (IsArmed cx.new) }
         ensures kept { Keeps cx.old cx.new }
     {
         let sender = self.sender;
         let shared = &sender.counted.link.shared;
-        let task = self.waits.arm(&sender.rt, shared.alloc, cx);
         let message = self.message.take();
-        let key = self.waits.key.take();
-        let (polled, kept) = shared.poll_send(&sender.rt, message, key, task);
-        self.message = kept.message;
-        self.waits.key = kept.key;
+        let (polled, kept) = shared.poll_send(&sender.rt, message, &mut self.waits, cx);
+        self.message = kept;
         polled
     }
 
     /// Whether it has finished. It waits for nobody. Own to this project.
     pub fn is_terminated(&self) -> bool
-        ensures { result ≡ is_none self.now }
+        ensures { result ≡ is_none self.now.message }
     {
         self.message.is_none()
     }
@@ -72,22 +74,18 @@ impl<'a, T: Drop, R: Wait + Copy> Send<'a, T, R> {
     /// Gives it up, as its drop does, and hands back the message of one that hasn't finished. It may wait for the lock of those
     /// who wait. Own to this project.
     pub fn give_up(mut self) -> Option<T>
-        ensures { result ≡ self.entry }
+        ensures { result ≡ self.entry.message }
     {
         self.leave()
     }
 
     fn leave(&mut self) -> Option<T>
-        ensures { result ≡ self.old }
+        ensures { result ≡ self.old.message }
     {
         let sender = self.sender;
+        let shared = &sender.counted.link.shared;
         let message = self.message.take();
-        let key = self.waits.key.take();
-        sender
-            .counted
-            .link
-            .shared
-            .give_up_send(&sender.rt, message, key)
+        shared.give_up(&sender.rt, Line::Sends, message, &mut self.waits)
     }
 }
 
@@ -97,7 +95,7 @@ impl<T: Drop, R: Wait + Copy> Future for Send<'_, T, R> {
     ghost use Rattle.async_channel.specs.Handles.{Gives};
 
     // What a closed channel hands back is its message.
-    ghost gives = { λ s r. Gives s r };
+    ghost gives = { λ s r. Gives s.message r };
 
     fn poll(&mut self, cx: &mut Context<'_>) -> Poll<Result<(), Refused<SendError<T>>>> {
         Send::poll(self, cx)

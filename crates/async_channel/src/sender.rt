@@ -30,11 +30,11 @@ impl<T: Drop, R: Wait + Copy> Model for Sender<T, R> {
 }
 
 impl<T: Drop, R: Wait + Copy> Sender<T, R> {
-    ghost use Rattle.std.specs.Prelude.{◌≡◌, Some, None, IfOk, IfErr};
+    ghost use Rattle.std.specs.Prelude.{◌≡◌, false, None, IfOk, IfErr};
     ghost use Rattle.concurrent_queue.specs.Replies.{room_of};
     ghost use Rattle.concurrent_queue.specs.Replies.{is_bounded};
     ghost use Rattle.channel_calls.specs.Replies.{RefusesTrySend, RefusesForceSend};
-    ghost use Rattle.async_channel.specs.Handles.{handle_of, Unsent};
+    ghost use Rattle.async_channel.specs.Handles.{handle_of, new_sending, Unsent};
 
     pub(crate) fn new(rt: R, counted: Counted<T>) -> Sender<T, R>
         ensures { result ≡ handle_of counted.link }
@@ -66,13 +66,15 @@ impl<T: Drop, R: Wait + Copy> Sender<T, R> {
 
     /// A send of this message that waits for a place: nothing is done until it is polled. As `async-channel` 2.5.0.
     pub fn send(&self, message: T) -> Send<'_, T, R>
-        ensures { result ≡ Some message }
+        ensures { result ≡ new_sending message }
     {
         Send::new(self, message)
     }
 
     /// A wait for the channel's closing: nothing is done until it is polled. As `async-channel` 2.5.0.
-    pub fn closed(&self) -> Closed<'_, T, R> {
+    pub fn closed(&self) -> Closed<'_, T, R>
+        ensures { result ≡ false }
+    {
         Closed::new(self)
     }
 

@@ -1,20 +1,14 @@
-//! What the handles of one channel share, and how a call is made on it.
+//! What the handles of one channel share.
 
 ghost use Rattle.std.specs.Prelude.{◌≡◌, None, false};
 ghost use Rattle.concurrent_queue.specs.Replies.{room_of};
-ghost use Rattle.concurrent_queue.specs.Replies.{is_bounded};
-ghost use Rattle.channel_calls.specs.Replies.{MayEnd, MayGive};
-ghost use Rattle.channel_calls.specs.declared.ask.ChannelAsk.TheVariants as ask;
-ghost use Rattle.event_listener.specs.declared.waking.Task.{Task};
 ghost use Rattle.async_channel.specs.Handles.{form_of};
 
 use crate::cells::SharedCells;
 use crate::waiters::Waiters;
-use channel_calls::ahead::{receive_ahead, send_ahead};
 use channel_calls::ask::ChannelAsk;
-use channel_calls::call::ChannelCall;
-use channel_calls::reply::Reply;
-use channel_calls::stage::{Kept, Line, Side};
+use channel_calls::stage::{Line, Side};
+use channel_calls::whole::make;
 use concurrent_queue::shared::queue::ConcurrentQueue;
 use crossbeam_utils::CachePadded;
 use event_listener::waking::{Task, WakeNow};
@@ -33,13 +27,6 @@ pub(crate) struct Shared<T: Drop> {
     closings: Waiters,
     senders: CachePadded<AtomicUsize>,
     receivers: CachePadded<AtomicUsize>,
-}
-
-/// What a call answers, and what it leaves to its operation.
-#[derive(Drop)]
-pub(crate) struct Given<T> {
-    pub(crate) reply: Reply<T>,
-    pub(crate) kept: Kept<T>,
 }
 
 impl<T: Drop> Shared<T> {
@@ -77,51 +64,17 @@ impl<T: Drop> Shared<T> {
         }
     }
 
-    /// Makes a call from its beginning to its end.
-    pub(crate) fn run<R: Wait>(&self, rt: &R, ask: ChannelAsk<T, Task>) -> Given<T>
-        ensures { MayGive (form_of self.now) ask result.reply result.kept.message }
-    {
-        self.finish(rt, ChannelCall::new(ask))
-    }
-
-    /// Steps a call to its end.
-    pub(crate) fn finish<R: Wait>(&self, rt: &R, call: ChannelCall<T, Task>) -> Given<T>
-        ensures { MayEnd (form_of self.now) call.stage result.reply result.kept.message }
-    {
-        let mut cells = SharedCells { shared: self, rt };
-        let mut sink = WakeNow { rt };
-        let mut call = call;
-        for _ in rt.forever() {
-            if let Some(reply) = call.step(&mut cells, &mut sink) {
-                let kept = call.into_kept();
-                return Given { reply, kept };
-            }
-        }
-        unreachable!()
-    }
-
-    /// Sends without waiting, its steps made on end.
+    /// The cells of the channel, for a thread that may wait.
     #[inline(always)]
-    pub(crate) fn send_now<R: Wait>(&self, rt: &R, message: T) -> Reply<T>
-        ensures { MayGive {W = Task} (form_of self.now) (ask.TrySend message) result None }
+    pub(crate) fn cells<'a, R: Wait>(&'a self, rt: &'a R) -> SharedCells<'a, T, R>
+        ensures { form_of result.shared.now ≡ form_of self.now }
     {
-        let mut cells = SharedCells { shared: self, rt };
-        match send_ahead(message, &mut cells, &mut WakeNow { rt }) {
-            Ok(reply) => reply,
-            Err(call) => self.finish(rt, call).reply,
-        }
+        SharedCells { shared: self, rt }
     }
 
-    /// Receives without waiting likewise.
-    #[inline(always)]
-    pub(crate) fn receive_now<R: Wait>(&self, rt: &R) -> Reply<T>
-        ensures { MayGive {W = Task} (form_of self.now) ask.TryRecv result None }
-    {
-        let mut cells = SharedCells { shared: self, rt };
-        match receive_ahead(&mut cells, &mut WakeNow { rt }) {
-            Ok(reply) => reply,
-            Err(call) => self.finish(rt, call).reply,
-        }
+    /// Makes a call up to its answer, which nobody wants.
+    pub(crate) fn make<R: Wait>(&self, rt: &R, ask: ChannelAsk<T, Task>) {
+        drop(make(rt, ask, &mut self.cells(rt), &mut WakeNow { rt }));
     }
 }
 

@@ -14,10 +14,7 @@ impl<T: Drop, R: Wait + Copy> Stream for Receiver<T, R> {
 
     fn poll_next(&mut self, cx: &mut Context<'_>) -> Poll<Option<Result<T, ListenError>>> {
         let rt = self.rt;
-        let task = self.waits.arm(&rt, self.counted.link.shared.alloc, cx);
-        let key = self.waits.key.take();
-        let (polled, key) = self.counted.link.shared.poll_next(&rt, key, task);
-        self.waits.key = key;
-        polled
+        let shared = &self.counted.link.shared;
+        shared.poll_next(&rt, &mut self.waits, cx)
     }
 }

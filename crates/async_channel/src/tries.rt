@@ -1,19 +1,20 @@
-//! The calls of a channel that don't wait for a message or a place.
+//! The calls of a channel that don't wait for a message or a place: those of `channel_calls`, on the cells that threads share.
 
-ghost use Rattle.std.specs.Prelude.{◌≡◌, None, IfOk, IfErr};
-ghost use Rattle.concurrent_queue.specs.Replies.{room_of};
-ghost use Rattle.concurrent_queue.specs.Replies.{is_bounded};
+ghost use Rattle.std.specs.Prelude.{◌≡◌, None, Ok, Err, IfOk, IfErr, MatchResult};
+ghost use Rattle.concurrent_queue.specs.Replies.{is_bounded, room_of};
 ghost use Rattle.channel_calls.specs.Replies.{GivesUpTo, RefusesTrySend, RefusesForceSend};
+ghost use Rattle.channel_calls.specs.declared.reply.Reply.{Reply};
 ghost use Rattle.async_channel.specs.Handles.{form_of};
 
-use crate::shared::{Given, Shared};
-use channel_calls::ask::ChannelAsk;
-use channel_calls::error::{Refused, SendError, TryRecvError, TrySendError};
-use channel_calls::reply::Reply;
-use channel_calls::several::{Limit, Messages};
+use crate::shared::Shared;
+use channel_calls::calls;
+use channel_calls::error::{HandleError, Refused, SendError, TryRecvError, TrySendError};
+use channel_calls::stage::Side;
+use event_listener::waking::WakeNow;
 use std::sync::Wait;
 
 impl<T: Drop> Shared<T> {
+    #[inline(always)]
     pub(crate) fn try_send<R: Wait>(
         &self,
         rt: &R,
@@ -21,10 +22,7 @@ impl<T: Drop> Shared<T> {
     ) -> Result<(), Refused<TrySendError<T>, T>>
         ensures { IfErr result (λ e. RefusesTrySend (is_bounded (form_of self.now)) message e) }
     {
-        match self.send_now(rt, message) {
-            Reply::TrySend(result) => result,
-            _ => unreachable!(),
-        }
+        calls::try_send(rt, message, &mut self.cells(rt), &mut WakeNow { rt })
     }
 
     pub(crate) fn force_send<R: Wait>(
@@ -35,52 +33,49 @@ impl<T: Drop> Shared<T> {
         ensures refused { IfErr result (λ e. RefusesForceSend (is_bounded (form_of self.now)) message e) }
         ensures displaced { room_of (form_of self.now) ≡ None → IfOk result (λ o. o ≡ None) }
     {
-        let Given { reply, kept: _kept } = self.run(rt, ChannelAsk::ForceSend(message));
-        match reply {
-            Reply::ForceSend(result) => result,
-            _ => unreachable!(),
-        }
+        calls::force_send(rt, message, &mut self.cells(rt), &mut WakeNow { rt })
     }
 
+    #[inline(always)]
     pub(crate) fn try_recv<R: Wait>(&self, rt: &R) -> Result<T, TryRecvError> {
-        match self.receive_now(rt) {
-            Reply::TryRecv(result) => result,
-            _ => unreachable!(),
-        }
+        calls::try_recv(rt, &mut self.cells(rt), &mut WakeNow { rt })
     }
 
     pub(crate) fn recv_many<R: Wait>(
         &self,
         rt: &R,
         limit: usize,
-    ) -> Result<Messages<T>, Refused<TryRecvError>>
-        ensures { GivesUpTo limit (Reply.RecvMany result) }
+    ) -> Result<Vec<T>, Refused<TryRecvError>>
+        ensures { MatchResult result (λ messages. GivesUpTo limit (Reply.RecvMany (Ok messages.items))) (λ e. GivesUpTo {T = T} limit (Reply.RecvMany (Err e))) }
     {
-        let ask = ChannelAsk::RecvMany(Limit::new(limit, self.alloc));
-        let Given { reply, kept: _kept } = self.run(rt, ask);
-        match reply {
-            Reply::RecvMany(result) => result,
-            _ => unreachable!(),
-        }
+        calls::recv_many(
+            rt,
+            limit,
+            self.alloc,
+            &mut self.cells(rt),
+            &mut WakeNow { rt },
+        )
     }
 
     pub(crate) fn close<R: Wait>(&self, rt: &R) -> bool {
-        let given = self.run(rt, ChannelAsk::Close);
-        let closed = match &given.reply {
-            Reply::Closed(closed) => *closed,
-            _ => unreachable!(),
-        };
-        drop(given);
-        closed
+        calls::close(rt, &mut self.cells(rt), &mut WakeNow { rt })
     }
 
     pub(crate) fn len<R: Wait>(&self, rt: &R) -> usize {
-        let given = self.run(rt, ChannelAsk::Len);
-        let count = match &given.reply {
-            Reply::Count(count) => *count,
-            _ => unreachable!(),
-        };
-        drop(given);
-        count
+        calls::len(rt, &mut self.cells(rt), &mut WakeNow { rt })
+    }
+
+    /// Counts one more handle of this kind. Refused where more than half of `usize::MAX` live; nothing is changed then.
+    pub(crate) fn clone_handle<R: Wait>(&self, rt: &R, side: Side) -> Result<(), HandleError>
+        ensures { IfErr result (λ e. e ≡ HandleError.TooMany) }
+    {
+        calls::clone_handle(rt, side, &mut self.cells(rt), &mut WakeNow { rt })
+    }
+
+    /// Counts one more handle of this kind, where the channel is open and one lives: whether it did. Refused as above.
+    pub(crate) fn upgrade<R: Wait>(&self, rt: &R, side: Side) -> Result<bool, HandleError>
+        ensures { IfErr result (λ e. e ≡ HandleError.TooMany) }
+    {
+        calls::upgrade(rt, side, &mut self.cells(rt), &mut WakeNow { rt })
     }
 }

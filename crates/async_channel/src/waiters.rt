@@ -1,11 +1,17 @@
 //! One of a channel's four lists of listeners, behind its lock.
 
+ghost use Rattle.std.specs.Prelude.{true};
+ghost use Rattle.event_listener.specs.Lists.{removed_wakes};
+ghost use Rattle.event_listener.specs.Notices.{Woken};
+ghost use Rattle.event_listener.specs.declared.waking.Task.{Task};
+ghost use Rattle.channel_calls.specs.Parts.{Listeners, Registers, told_one_wakes, told_more_wakes, told_all_wakes};
+
 use channel_calls::notices;
 use event_listener::error::ListenError;
 use event_listener::key::Key;
 use event_listener::list::List;
 use event_listener::wakes::Wakes;
-use event_listener::waking::{Task, WakeNow};
+use event_listener::waking::Task;
 use std::alloc::Global;
 use std::sync::{Mutex, Wait};
 
@@ -29,41 +35,39 @@ impl Waiters {
     }
 
     /// Gives a waiting listener its task. One that was told is taken off, and the task comes back.
-    pub(crate) fn register<R: Wait>(&self, rt: &R, key: Key, task: Task) -> Option<Task> {
+    pub(crate) fn register<R: Wait>(&self, rt: &R, key: Key, task: Task) -> Option<Task>
+        ensures { (found : Listeners Task) × Registers found key task result }
+    {
         notices::register(&mut self.list.lock(rt), key, task)
     }
 
-    /// Whether the listener was told; it is taken off then.
-    pub(crate) fn take_told<R: Wait>(&self, rt: &R, key: Key) -> bool {
-        !matches!(self.list.lock(rt).poll(key), Ok(None))
-    }
-
     /// Takes a listener off. One that was told passes its notice on.
-    pub(crate) fn remove<R: Wait, S: Wakes<Task>>(&self, rt: &R, key: Key, sink: &mut S) {
+    pub(crate) fn remove<R: Wait, S: Wakes<Task>>(&self, rt: &R, key: Key, sink: &mut S)
+        ensures { (found : Listeners Task) × Woken S.wakes sink.old (removed_wakes key true found) sink.new }
+    {
         let _ = self.list.lock(rt).remove(key, true, sink);
-    }
-
-    /// Takes the listener off that a call still holds, if any.
-    pub(crate) fn leave<R: Wait>(&self, rt: &R, held: Option<Key>) {
-        if let Some(key) = held {
-            self.remove(rt, key, &mut WakeNow { rt });
-        }
     }
 
     /// Tells one more of those who wait.
     #[inline(always)]
-    pub(crate) fn tell_one<R: Wait, S: Wakes<Task>>(&self, rt: &R, sink: &mut S) {
+    pub(crate) fn tell_one<R: Wait, S: Wakes<Task>>(&self, rt: &R, sink: &mut S)
+        ensures { (found : Listeners Task) × Woken S.wakes sink.old (told_one_wakes found) sink.new }
+    {
         notices::tell_one(&mut self.list.lock(rt), sink);
     }
 
     /// Tells so many more of those who wait, in one section.
-    pub(crate) fn tell_more<R: Wait, S: Wakes<Task>>(&self, rt: &R, count: usize, sink: &mut S) {
+    pub(crate) fn tell_more<R: Wait, S: Wakes<Task>>(&self, rt: &R, count: usize, sink: &mut S)
+        ensures { (found : Listeners Task) × Woken S.wakes sink.old (told_more_wakes count found) sink.new }
+    {
         notices::tell_more(&mut self.list.lock(rt), count, sink);
     }
 
     /// Tells all who wait.
     #[inline(always)]
-    pub(crate) fn tell_all<R: Wait, S: Wakes<Task>>(&self, rt: &R, sink: &mut S) {
+    pub(crate) fn tell_all<R: Wait, S: Wakes<Task>>(&self, rt: &R, sink: &mut S)
+        ensures { (found : Listeners Task) × Woken S.wakes sink.old (told_all_wakes found) sink.new }
+    {
         notices::tell_all(&mut self.list.lock(rt), sink);
     }
 }

@@ -18,7 +18,9 @@ pub(crate) struct Waits {
 
 impl Waits {
     /// Without a listener. It takes no memory.
-    pub(crate) fn new() -> Waits {
+    pub(crate) fn new() -> Waits
+        ensures { result.key ≡ None }
+    {
         Waits {
             key: None,
             cell: None,

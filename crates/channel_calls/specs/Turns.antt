@@ -1,5 +1,5 @@
 -- What comes after each step of a call on a list or on a count.
-use Rattle.std.specs.Prelude.{◌≡◌, ◌⊎◌, ℕ, zero, suc, ◌<◌, ◌-◌, ◌/◌, ◌^◌, ◌==◌, Bool, true, false, if◌then◌else◌, nat_lt, [], Option, None, Some, Ok, Err}
+use Rattle.std.specs.Prelude.{◌≡◌, ◌⊎◌, ℕ, zero, suc, ◌<◌, ◌-◌, ◌/◌, ◌^◌, ◌==◌, Bool, true, false, if◌then◌else◌, nat_lt, [], Option, None, Some, Result, Ok, Err}
 use Rattle.concurrent_queue.specs.declared.call.QueueAsk.{QueueAsk}
 use Rattle.concurrent_queue.specs.declared.call.QueueAsk.TheVariants as ask
 use Rattle.event_listener.specs.declared.key.Key.{Key}
@@ -126,6 +126,16 @@ module _ {T W : Type 0} where
   -- a poll that was not let listen ends without a listener, its operation keeping its message
   abbrev pub unlistened : Waiting T → ListenError → Turn T W
   unlistened w e = Ends (refused_reply (line_of w) e) (leaving None (message_of w))
+
+  -- a poll whose listener is in tries once more; one whose listener was refused ends
+  abbrev pub inserted_next : Waiting T → W → Result Key ListenError → Turn T W
+  inserted_next w task (Ok key) = again w (Some key) task
+  inserted_next w task (Err e) = unlistened w e
+
+  -- a poll whose listener was told, and is gone, tries once more with the task that came back; one whose listener waits ends pending
+  abbrev pub registered_next : Waiting T → Key → Option W → Turn T W
+  registered_next w key (Some task) = again w None task
+  registered_next w key None = pends_by w key
 
   -- a closing tells sends, receives, streams and those who wait for it, in this order
   abbrev pub told_all_next : Line → Closer → Turn T W

@@ -6,6 +6,8 @@ ghost use Rattle.concurrent_queue.specs.declared.call.QueueReply.TheVariants as 
 ghost use Rattle.concurrent_queue.specs.declared.cells.QueueForm.{QueueForm};
 ghost use Rattle.concurrent_queue.specs.declared.queue_call.QueueCall.{QueueCall};
 ghost use Rattle.channel_calls.specs.Ahead.{IsMadeOnEnd};
+ghost use Rattle.channel_calls.specs.Deeds.{Done};
+ghost use Rattle.channel_calls.specs.Walks.{Takes, WalkedOn};
 ghost use Rattle.channel_calls.specs.Asks.{first};
 ghost use Rattle.channel_calls.specs.Marks.{is_up};
 ghost use Rattle.channel_calls.specs.Moves.{IsTaken};
@@ -51,6 +53,7 @@ fn popped<T: Drop>(answer: QueueReply<T>) -> Result<T, QueueReply<T>>
 #[inline(always)]
 fn turned<T: Drop, W: Drop>(turn: Turn<T, W>, mark: Mark) -> Result<Reply<T>, ChannelCall<T, W>>
     requires unraised { is_up mark ≡ false }
+    ensures goes { MatchResult result (λ r. (s : Stage (QueueCall T) T W) × Takes turn s (Some r)) (λ call. Takes turn call.stage None) }
     ensures taken { MatchResult result (λ r. (s : Stage (QueueCall T) T W) × IsTaken turn (Some r) s × ((b : QueueForm) → FollowsTurn b turn s (Some r)))
         (λ call. IsTaken turn None call.stage × ((b : QueueForm) → FollowsTurn b turn call.stage None)) }
 {
@@ -72,6 +75,7 @@ pub fn send_ahead<T: Drop, W: Drop, C: ChannelCells<T, W>, S: Wakes<W>>(
     cells: &mut C,
     sink: &mut S,
 ) -> Result<Reply<T>, ChannelCall<T, W>>
+    ensures deeds { WalkedOn (Done C.did S.wakes) (first (ask.TrySend message)) (cells.old, sink.old) result (cells.new, sink.new) }
     ensures steps { C.known → IsMadeOnEnd S.wakes (first (ask.TrySend message)) (C.parts cells.old) sink.old result (C.parts cells.new) sink.new }
     ensures answers { (f : QueueForm) → C.has_form cells.old f → MatchResult result (λ r. MayGive {W = W} f (ask.TrySend message) r None)
         (λ call. (r : Reply T) (m : Option T) → MayEnd f call.stage r m → MayGive {W = W} f (ask.TrySend message) r m) }
@@ -106,6 +110,7 @@ pub fn receive_ahead<T: Drop, W: Drop, C: ChannelCells<T, W>, S: Wakes<W>>(
     cells: &mut C,
     sink: &mut S,
 ) -> Result<Reply<T>, ChannelCall<T, W>>
+    ensures deeds { WalkedOn (Done C.did S.wakes) (first ask.TryRecv) (cells.old, sink.old) result (cells.new, sink.new) }
     ensures steps { C.known → IsMadeOnEnd S.wakes (first ask.TryRecv) (C.parts cells.old) sink.old result (C.parts cells.new) sink.new }
     ensures answers { (f : QueueForm) → C.has_form cells.old f → MatchResult result (λ r. MayGive {W = W} f ask.TryRecv r None)
         (λ call. (r : Reply T) (m : Option T) → MayEnd f call.stage r m → MayGive {W = W} f ask.TryRecv r m) }

@@ -111,11 +111,14 @@ impl<T: Drop, W: Drop> PlainChannel<T, W> {
 }
 
 impl<T: Drop, W: Drop> ChannelCells<T, W> for PlainChannel<T, W> {
+    ghost use Rattle.channel_calls.specs.Effects.{Does};
     ghost use Rattle.channel_calls.specs.Plain.{parts_of};
 
     ghost known = { Unit {0} };
 
     ghost parts = { parts_of };
+
+    ghost did = { λ d a b. Does d (parts_of a) (parts_of b) };
 
     fn step_queue(&mut self, call: &mut QueueCall<T>) -> Option<QueueReply<T>> {
         call.step(&mut self.cells)

@@ -50,6 +50,9 @@ pub fn leave_receiving<R: Wait + Copy>(hands: Hands<R>, stamps: &Stamps, log: &m
     } = hands;
     let_go(sender, Side::Senders, stamps, log);
     let begin = stamps.stamp();
+    let ended = Sight::Ended(receiver.is_terminated());
+    log.note(begin, stamps.stamp(), Did::saw(ended));
+    let begin = stamps.stamp();
     let shut = receiver.is_closed();
     log.note(begin, stamps.stamp(), is_closed(shut));
     let begin = stamps.stamp();

@@ -1,23 +1,31 @@
 //! Random histories of calls that threads make on the handles of one channel, and on one shared queue: each is checked for
 //! being one of a plain channel that can be closed, in some order in which no call that had ended comes after one that began
-//! later. `channel_histories HISTORIES THREADS SEED`; without words a thousand of each form, of three and four threads.
+//! later. Others are made on one event, with timed waits: each notice that was counted as told is taken. A run in which nothing
+//! moves any more is ended, and says how its threads stand.
+//! `channel_histories HISTORIES THREADS SEED`; without words a thousand of each form, of three and four threads.
 #![tactic(auto)]
 
 mod acts;
 mod answers;
 mod clones;
+mod crew;
+mod events;
 mod form;
 mod gate;
 mod handles;
+mod job;
 mod leaving;
 mod operations;
 mod party;
+mod place;
 mod questions;
 mod queue;
 mod random;
-mod rest;
+mod referee;
 mod tries;
 
+use crate::crew::{Failure, Outcome};
+use crate::events::over_event;
 use crate::form::Form;
 use crate::handles::over_handles;
 use crate::queue::over_queue;
@@ -26,6 +34,7 @@ use std::alloc::{AllocGlobal, Global};
 use std::env::Env;
 use std::process::ExitCode;
 use std::random::RandomSource;
+use std::rt::Clock;
 use std::sync::Wait;
 use std::thread::Threads;
 use std::{env, io};
@@ -70,7 +79,7 @@ impl Over {
     }
 }
 
-/// One history; None where memory was refused.
+/// One history.
 fn make_history<R>(
     rt: R,
     alloc: Global,
@@ -78,13 +87,13 @@ fn make_history<R>(
     form: Form,
     threads: usize,
     seed: u64,
-) -> Option<History>
+) -> Outcome
 where
-    R: Wait + Threads + Copy + RandomSource + AllocGlobal + Send + Sync,
+    R: Wait + Threads + Clock + Copy + RandomSource + AllocGlobal + Send + Sync + 'static,
 {
     match over {
         Over::Handles => over_handles(rt, alloc, form, threads, seed),
-        Over::Queue => over_queue(&rt, alloc, form, threads, seed),
+        Over::Queue => over_queue(rt, alloc, form, threads, seed),
     }
 }
 
@@ -100,6 +109,21 @@ fn fits<R: Print>(rt: &R, alloc: Global, history: &History) -> io::Result<bool> 
     }
 }
 
+/// Says why there is no history.
+fn print_failure<R: Print>(rt: &R, failure: Failure) -> io::Result<()> {
+    match failure {
+        Failure::Memory => println!(rt; "want of memory"),
+        Failure::Thread => println!(rt; "want of threads"),
+        Failure::Still(standings) => {
+            println!(rt; "nothing moves any more")?;
+            for (thread, standing) in standings.iter().enumerate() {
+                println!(rt; "thread {thread}: {standing:?}")?;
+            }
+            Ok(())
+        }
+    }
+}
+
 /// The history of this number. Whether it fits.
 fn check_one<R>(
     rt: R,
@@ -110,14 +134,14 @@ fn check_one<R>(
     number: u64,
 ) -> io::Result<bool>
 where
-    R: Wait + Threads + Copy + RandomSource + AllocGlobal + Send + Sync + Print,
+    R: Wait + Threads + Clock + Copy + RandomSource + AllocGlobal + Send + Sync + Print + 'static,
 {
     let seed = asked.seed.wrapping_add(number);
     let threads = asked.threads(number);
     match make_history(rt, alloc, over, form, threads, seed) {
-        Some(history) => fits(&rt, alloc, &history),
-        None => {
-            println!(&rt; "want of memory")?;
+        Ok(history) => fits(&rt, alloc, &history),
+        Err(failure) => {
+            print_failure(&rt, failure)?;
             Ok(false)
         }
     }
@@ -126,7 +150,7 @@ where
 /// All histories of this kind. Whether each fits; the first that doesn't is printed.
 fn check<R>(rt: R, alloc: Global, over: Over, form: Form, asked: Asked) -> io::Result<bool>
 where
-    R: Wait + Threads + Copy + RandomSource + AllocGlobal + Send + Sync + Print,
+    R: Wait + Threads + Clock + Copy + RandomSource + AllocGlobal + Send + Sync + Print + 'static,
 {
     let over_name = over.name();
     let form_name = form.name();
@@ -140,6 +164,43 @@ where
     }
     let histories = asked.histories;
     println!(&rt; "{over_name}, {form_name}: {histories} histories fit")?;
+    Ok(true)
+}
+
+/// The history of this number over an event. Whether each notice was taken.
+fn check_event<R>(rt: R, alloc: Global, asked: Asked, number: u64) -> io::Result<bool>
+where
+    R: Wait + Threads + Clock + Copy + Send + Sync + Print + 'static,
+{
+    let seed = asked.seed.wrapping_add(number);
+    match over_event(rt, alloc, asked.threads(number), seed) {
+        Ok(tally) if tally.is_right() => Ok(true),
+        Ok(tally) => {
+            println!(&rt; "{tally:?}")?;
+            Ok(false)
+        }
+        Err(failure) => {
+            print_failure(&rt, failure)?;
+            Ok(false)
+        }
+    }
+}
+
+/// All histories over events. Whether each is right; the first that isn't is printed.
+fn check_events<R>(rt: R, alloc: Global, asked: Asked) -> io::Result<bool>
+where
+    R: Wait + Threads + Clock + Copy + Send + Sync + Print + 'static,
+{
+    for number in 0..asked.histories {
+        if !check_event(rt, alloc, asked, number)? {
+            let seed = asked.seed.wrapping_add(number);
+            let threads = asked.threads(number);
+            println!(&rt; "event: seed {seed}, {threads} threads")?;
+            return Ok(false);
+        }
+    }
+    let histories = asked.histories;
+    println!(&rt; "event: {histories} histories of timed waits fit")?;
     Ok(true)
 }
 
@@ -171,5 +232,9 @@ fn main(rt: HostRuntime) -> io::Result<ExitCode> {
             }
         }
     }
-    Ok(ExitCode::SUCCESS)
+    if check_events(rt, rt.alloc(), asked)? {
+        Ok(ExitCode::SUCCESS)
+    } else {
+        Ok(ExitCode::FAILURE)
+    }
 }

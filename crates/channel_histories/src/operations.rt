@@ -29,7 +29,7 @@ impl<'a, R: Wait + Copy> Party<'a, R> {
             }
         };
         let begin = self.stamps.stamp();
-        let answer = self.tasks.send.poll(&mut send);
+        let answer = self.place.tasks.send.poll(&mut send);
         self.note(begin, polled_send(self.sending, &answer));
         if answer.is_pending() {
             self.send = Some(send);
@@ -43,7 +43,7 @@ impl<'a, R: Wait + Copy> Party<'a, R> {
             None => self.hands.receiver.recv(),
         };
         let begin = self.stamps.stamp();
-        let answer = self.tasks.recv.poll(&mut recv);
+        let answer = self.place.tasks.recv.poll(&mut recv);
         self.note(begin, polled_recv(&answer));
         if answer.is_pending() {
             self.recv = Some(recv);
@@ -57,7 +57,7 @@ impl<'a, R: Wait + Copy> Party<'a, R> {
             None => self.hands.sender.closed(),
         };
         let begin = self.stamps.stamp();
-        let answer = self.tasks.closed.poll(&mut closed);
+        let answer = self.place.tasks.closed.poll(&mut closed);
         self.note(begin, polled_closed(&answer));
         if answer.is_pending() {
             self.closed = Some(closed);
@@ -68,7 +68,7 @@ impl<'a, R: Wait + Copy> Party<'a, R> {
     pub fn poll_next(&mut self) {
         let waited = self.streams;
         let begin = self.stamps.stamp();
-        let answer = poll_stream(&self.tasks.stream, self.stream);
+        let answer = poll_stream(&self.place.tasks.stream, self.stream);
         self.streams = answer.is_pending();
         self.note(begin, polled_next(waited, &answer));
     }

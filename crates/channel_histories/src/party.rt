@@ -1,36 +1,14 @@
 //! One thread of a history over handles.
 
 use crate::acts::Act;
+use crate::place::{At, Place, Standing};
 use crate::random::Random;
 use async_channel::{Closed, Receiver, Recv, Send, Sender, WeakReceiver, WeakSender};
-use futures::test::MockTask;
 use history_checker::log::{Log, Stamps};
 use history_checker::point::Did;
-use std::alloc::{AllocGlobal, Global};
-use std::random::RandomSource;
+use std::alloc::Global;
 use std::sync::Wait;
-use std::{io, thread};
-
-/// The tasks that poll: one for each kind of operation.
-#[derive(Drop)]
-pub struct Tasks {
-    pub send: MockTask,
-    pub recv: MockTask,
-    pub closed: MockTask,
-    pub stream: MockTask,
-}
-
-impl Tasks {
-    /// Tasks that were not woken; refused where memory or random bits are.
-    pub fn new<R: RandomSource + AllocGlobal>(rt: &R) -> io::Result<Tasks> {
-        Ok(Tasks {
-            send: MockTask::new(rt)?,
-            recv: MockTask::new(rt)?,
-            closed: MockTask::new(rt)?,
-            stream: MockTask::new(rt)?,
-        })
-    }
-}
+use std::thread;
 
 /// The handles that a thread begins with, beside the receiver that it polls as a stream.
 #[derive(Drop)]
@@ -56,9 +34,10 @@ impl<R: Wait + Copy> Hands<R> {
 /// A thread's handles, operations and log.
 #[derive(Drop)]
 pub struct Party<'a, R: Wait + Copy> {
+    rt: R,
     pub hands: &'a Hands<R>,
     pub stream: &'a mut Receiver<u64, R>,
-    pub tasks: &'a Tasks,
+    pub place: &'a Place,
     pub stamps: &'a Stamps,
     pub random: Random,
     /// The last new message.
@@ -78,18 +57,20 @@ pub struct Party<'a, R: Wait + Copy> {
 impl<'a, R: Wait + Copy> Party<'a, R> {
     /// A thread that has made no call. Its messages are those above this number.
     pub fn new(
+        rt: R,
         hands: &'a Hands<R>,
         stream: &'a mut Receiver<u64, R>,
-        tasks: &'a Tasks,
+        place: &'a Place,
         stamps: &'a Stamps,
         random: Random,
         message: u64,
         alloc: Global,
     ) -> Party<'a, R> {
         Party {
+            rt,
             hands,
             stream,
-            tasks,
+            place,
             stamps,
             random,
             message,
@@ -114,6 +95,18 @@ impl<'a, R: Wait + Copy> Party<'a, R> {
     pub fn note(&mut self, begin: u64, did: Did) {
         let end = self.stamps.stamp();
         self.log.note(begin, end, did);
+    }
+
+    /// It is at this now, with what is pending.
+    pub fn stand(&self, at: At) {
+        let standing = Standing {
+            at,
+            send: self.send.is_some(),
+            recv: self.recv.is_some(),
+            closed: self.closed.is_some(),
+            stream: self.streams,
+        };
+        self.place.say(&self.rt, standing);
     }
 
     /// Makes so many calls, with a yield before some of them. It blocks only where it may.

@@ -1,6 +1,7 @@
 //! A history over a queue that threads share.
 
 use crate::answers::{closed, forced_push, is_closed, popped, pushed};
+use crate::crew::{Ended, Failure, Outcome, join_all};
 use crate::form::Form;
 use crate::gate::Gate;
 use crate::random::Random;
@@ -10,9 +11,10 @@ use history_checker::log::{Log, Stamps};
 use history_checker::plain::Plain;
 use history_checker::point::{Did, Sight};
 use std::alloc::Global;
-use std::sync::Wait;
+use std::rt::Clock;
+use std::sync::{Arc, Wait};
 use std::thread;
-use std::thread::Threads;
+use std::thread::{JoinHandle, Threads};
 
 /// How many calls each thread makes.
 const CALLS: u64 = 10;
@@ -56,6 +58,7 @@ struct Shared {
     queue: ConcurrentQueue<u64>,
     stamps: Stamps,
     gate: Gate,
+    ended: Ended,
     threads: u64,
 }
 
@@ -93,6 +96,7 @@ fn make_calls<R: Wait>(rt: &R, alloc: Global, shared: &Shared, thread: usize, se
         let did = call(rt, &shared.queue, act, message);
         log.note(begin, shared.stamps.stamp(), did);
     }
+    shared.ended.note();
     log
 }
 
@@ -104,36 +108,54 @@ fn open(alloc: Global, form: Form) -> Option<ConcurrentQueue<u64>> {
     }
 }
 
-/// A log for each thread; None where memory was refused.
-fn make_logs<R: Wait + Threads + Sync>(
-    rt: &R,
+/// Starts so many threads.
+fn start_all<R>(
+    rt: R,
     alloc: Global,
-    shared: &Shared,
+    shared: &Arc<Shared>,
     threads: usize,
     seed: u64,
-) -> Option<Vec<Log>> {
-    let run = |thread: usize| make_calls(rt, alloc, shared, thread, seed);
-    thread::map_indices(rt, alloc, threads, &run).ok()
+) -> Result<Vec<JoinHandle<Log>>, Failure>
+where
+    R: Wait + Threads + Copy + Send + Sync + 'static,
+{
+    let mut started = Vec::new(alloc);
+    for thread in 0..threads {
+        let Ok(mine) = Arc::try_clone(shared) else {
+            return Err(Failure::Memory);
+        };
+        let work = move || make_calls(&rt, alloc, &mine, thread, seed);
+        let one = thread::spawn(&rt, work).map_err(|_| Failure::Thread)?;
+        started.push(one).map_err(|_| Failure::Memory)?;
+    }
+    Ok(started)
 }
 
-/// A history over a queue of this form; None where memory was refused.
-pub fn over_queue<R: Wait + Threads + Sync>(
-    rt: &R,
-    alloc: Global,
-    form: Form,
-    threads: usize,
-    seed: u64,
-) -> Option<History> {
+/// A queue of this form and what threads share beside it; none where memory was refused.
+fn share(alloc: Global, form: Form, threads: usize) -> Option<Arc<Shared>> {
     let shared = Shared {
         queue: open(alloc, form)?,
         stamps: Stamps::new(),
         gate: Gate::new(),
+        ended: Ended::new(),
         threads: threads as u64,
     };
-    let logs = make_logs(rt, alloc, &shared, threads, seed);
-    drop(shared);
-    Some(History {
+    Arc::new(alloc, shared).ok()
+}
+
+/// A history over a queue of this form.
+pub fn over_queue<R>(rt: R, alloc: Global, form: Form, threads: usize, seed: u64) -> Outcome
+where
+    R: Wait + Threads + Clock + Copy + Send + Sync + 'static,
+{
+    let shared = share(alloc, form, threads).ok_or(Failure::Memory)?;
+    let started = start_all(rt, alloc, &shared, threads, seed)?;
+    if !shared.ended.wait_for(&rt, shared.threads) {
+        return Err(Failure::Still(Vec::new(alloc)));
+    }
+    Ok(History {
         plain: Plain::new(form.capacity(), 1, 1, alloc),
-        logs: logs?,
+        logs: join_all(&rt, alloc, started).ok_or(Failure::Memory)?,
+        rests: Vec::new(alloc),
     })
 }

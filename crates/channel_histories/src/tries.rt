@@ -2,6 +2,8 @@
 
 use crate::answers::{closed, forced_send, received, sent, took_none, tried_recv, tried_send};
 use crate::party::Party;
+use crate::place::At;
+use history_checker::point::Side;
 use std::sync::Wait;
 
 impl<'a, R: Wait + Copy> Party<'a, R> {
@@ -26,7 +28,9 @@ impl<'a, R: Wait + Copy> Party<'a, R> {
     pub fn send_blocking(&mut self) {
         let message = self.next_message();
         let begin = self.stamps.stamp();
+        self.stand(At::Blocking(Side::Senders));
         let answer = self.hands.sender.send_blocking(message);
+        self.stand(At::Calls);
         self.note(begin, sent(message, &answer));
     }
 
@@ -52,7 +56,9 @@ impl<'a, R: Wait + Copy> Party<'a, R> {
     /// A receive that blocks.
     pub fn recv_blocking(&mut self) {
         let begin = self.stamps.stamp();
+        self.stand(At::Blocking(Side::Receivers));
         let answer = self.hands.receiver.recv_blocking();
+        self.stand(At::Calls);
         self.note(begin, received(&answer));
     }
 

@@ -1,20 +1,22 @@
 -- What wrong bodies would do, step by step from the opening of a channel of five places, and the owed lines say no of.
-use Rattle.std.proofs.Common.{arith, ◌≤◌, ◌<◌, ◌||◌, ℕ, Bool, true, false, List, [], ◌∷◌, ◌++◌, slice_set, slice_index_or, Option, None, Some, Ok, refl}
+use Rattle.std.proofs.Common.{arith, ◌≤◌, ◌<◌, ◌||◌, ℕ, Bool, true, false, List, [], ◌∷◌, ◌++◌, slice_set, slice_index_or, Option, None, Some, Ok, Err, refl}
 use Rattle.std.specs.List.{count_by, remove, sum_by}
 use Rattle.event_listener.specs.declared.key.Key.{Key}
-use Rattle.futures.specs.declared.task.Poll.TheVariants.{Pending}
+use Rattle.futures.specs.declared.task.Poll.TheVariants.{Pending, Ready}
 use Rattle.channel_calls.specs.Turns.{leaving}
+use Rattle.channel_calls.specs.declared.error.Refused.TheVariants as refused
 use Rattle.channel_calls.specs.declared.mark.Mark.{Mark}
-use Rattle.channel_calls.specs.declared.mark.Mark.TheVariants.{Nothing, Append, Close}
+use Rattle.channel_calls.specs.declared.mark.Mark.TheVariants.{Nothing, Append, Take, Close}
 use Rattle.channel_calls.specs.declared.reply.Reply.{Reply}
 use Rattle.channel_calls.specs.declared.reply.Reply.TheVariants as reply
+use Rattle.channel_calls.specs.declared.stage.Kept.{Kept}
 use Rattle.channel_calls.specs.declared.stage.Line.TheVariants.{Receives}
 use Rattle.channel_model.specs.declared.call.Call.{Call}
 use Rattle.channel_model.specs.declared.call.Call.TheVariants as call
 use Rattle.channel_model.specs.declared.name.HandleId.{HandleId}
 use Rattle.channel_model.specs.declared.name.OpId.{OpId}
 use Rattle.channel_model.specs.declared.name.Waiter.{Waiter}
-use Rattle.channel_model.specs.declared.name.Waiter.TheVariants.{Op}
+use Rattle.channel_model.specs.declared.name.Waiter.TheVariants.{Op, Stream}
 use Rattle.channel_steps.specs.Count.{counted}
 use Rattle.channel_interleaving.specs.Bookkeeping.{asks}
 use Rattle.channel_interleaving.specs.Doing.{is_close, doing_begun, doing_after}
@@ -29,11 +31,12 @@ use Rattle.channel_interleaving.specs.declared.names.Errand.TheVariants as erran
 -- ---- steps
 
 -- A party begins a call; the k-th call under way makes a step with this mark, which wakes these; or it answers, and leaves this
--- listener to what it polled.
+-- listener to what it polled; or so a poll of a send that pends, which keeps its message too.
 data Act : Type 0 where
   begins : ℕ → Call ℕ → Act
   steps : ℕ → Mark → List Waiter → Act
   ends : ℕ → Reply ℕ → Option Key → Act
+  keeps : ℕ → Key → ℕ → Act
 
 -- the names and the parties at work, what is noted of their calls, how many messages there are, and whether the channel is closed
 record Played : Type 0 where
@@ -51,6 +54,15 @@ nobody = record { party = 0; errand = errand.Nothing }
 abbrev idle : Doing
 idle = record { role = Other; has_closed = false; taken = 0 }
 
+-- the k-th call under way answers, and leaves this to its operation
+abbrev answered : ℕ → Reply ℕ → Kept ℕ → Played → Played
+answered k x kept w = record {
+  book = ended k (slice_index_or w.book.agents k nobody) (Some x) (Some kept) w.book;
+  doings = remove w.doings k;
+  messages = w.messages;
+  closed = w.closed;
+}
+
 abbrev after : Act → Played → Played
 after (begins p c) w = record {
   book = begun (record { 0 = p }) c w.book;
@@ -64,12 +76,8 @@ after (steps k m names) w = record {
   messages = counted w.messages m;
   closed = w.closed || is_close m;
 }
-after (ends k x key) w = record {
-  book = ended k (slice_index_or w.book.agents k nobody) (Some x) (Some (leaving key None)) w.book;
-  doings = remove w.doings k;
-  messages = w.messages;
-  closed = w.closed;
-}
+after (ends k x key) w = answered k x (leaving key None) w
+after (keeps k key m) w = answered k (reply.SendPoll Pending) (leaving (Some key) (Some m)) w
 
 abbrev play : List Act → Played → Played
 play [] w = w
@@ -148,3 +156,26 @@ closes_after_it_told : (a : Key)
     begins 1 (call.Poll (op 0)) ∷ steps 1 Nothing [] ∷ ends 1 (reply.RecvPoll Pending) (Some a) ∷
     steps 0 Close [] ∷ ends 0 (reply.Closed true) None ∷ [])) opened)) → ⊥
 closes_after_it_told a owed = let some : 0 < 0 = owed.closing Receives (Op (op 0)) (a, refl) refl in omega (arith, some)
+
+-- A refused poll that leaves its told listener on the list: it is pending no more, and the other one still waits beside the message.
+keeps_its_told_listener : (a b : Key)
+    → Owed (shown (play
+    (made 0 ++ (pends 0 a ++ (made 1 ++ (pends 1 b ++ (sends 7 (Op (op 0) ∷ []) ++
+    (begins 0 (call.PollRefused (op 0)) ∷ ends 0 (reply.RecvPoll (Ready (Err (refused.NoMemory tt)))) None ∷ [])))))) opened)) → ⊥
+keeps_its_told_listener a b owed = let few : 1 ≤ 0 = owed.receives (Op (op 1)) (b, refl) in omega (arith, few)
+
+-- A stream that is always pending: the message that woke it is still there once it was polled again.
+stays_pending : (a b : Key)
+    → Owed (shown (play
+    (begins 0 (call.PollNext (handle 1)) ∷ ends 0 (reply.Next Pending) (Some a) ∷ (sends 7 (Stream (handle 1) ∷ []) ++
+    (begins 0 (call.PollNext (handle 1)) ∷ steps 0 Nothing [] ∷ ends 0 (reply.Next Pending) (Some b) ∷ []))) opened)) → ⊥
+stays_pending a b owed = let some : 0 < 0 = owed.streams (Stream (handle 1)) (b, refl) (omega (arith)) in omega (arith, some)
+
+-- A receive that takes a message and tells no send: the one that pends for a place still waits beside the place that is free now.
+tells_no_send : (a : Key)
+    → Owed (shown (play
+    (sends 1 [] ++ (sends 2 [] ++ (sends 3 [] ++ (sends 4 [] ++ (sends 5 [] ++
+    (begins 0 (call.NewSend (op 0) (handle 0) 6) ∷ ends 0 reply.Made None ∷
+    begins 0 (call.Poll (op 0)) ∷ steps 0 Nothing [] ∷ keeps 0 a 6 ∷
+    begins 0 (call.TryRecv (handle 1)) ∷ steps 0 Take [] ∷ ends 0 (reply.TryRecv (Ok 1)) None ∷ [])))))) opened)) → ⊥
+tells_no_send a owed = let few : 5 ≤ 4 = owed.sends (Op (op 0)) (a, refl) refl in omega (arith, few)

@@ -2,6 +2,7 @@
 
 use std::fmt::Debug;
 use std::process::Abort;
+use worked_rows::Played;
 
 /// Ends the test where these differ, and shows both.
 pub fn expect_equal<A: Abort, T: PartialEq + Debug>(rt: &A, found: &T, wanted: &T) {
@@ -11,4 +12,10 @@ pub fn expect_equal<A: Abort, T: PartialEq + Debug>(rt: &A, found: &T, wanted: &
 /// Ends the test where this is false.
 pub fn expect_true<A: Abort>(rt: &A, it: bool) {
     assert!(rt; it);
+}
+
+/// Ends the test at the first call that answered another thing than its row says, and where there are not so many rows.
+pub fn expect_rows<A: Abort>(rt: &A, played: &Played<'_>, rows: u64) {
+    assert!(rt; played.differs.is_none(), "{:?}", played.differs);
+    assert_eq!(rt; played.rows, rows);
 }

@@ -9,6 +9,6 @@ mod giving_up;
 #[cfg(test)]
 mod many;
 #[cfg(test)]
-mod refused;
-#[cfg(test)]
 mod rows;
+#[cfg(test)]
+mod step_rows;

@@ -41,10 +41,12 @@ module _ {T : Type 0} where
     pub told : EachStep TellsWhatItOwes (moment_of old from) made trace moments
     -- a reply for memory or serials: no mark was made, the message is kept or handed back, and nothing is left that waits
     pub refused : EachStep RefusedLeavesNothing (moment_of old from) made trace moments
-    -- closing, dropping, giving up, refused polls and the questions end within eight steps of their own, whatever others do
+    -- closing, dropping, giving up, refused polls and the questions but the length end within eight steps of their own, whatever
+    -- others do
     pub waits_for_nobody : EachStep WaitsForNobody (moment_of old from) made trace moments
-    -- at each moment each call has at most 197 steps of its own left, 64 more for each message that a receive of several may take; and
-    -- where no other call under way has a mark but Nothing each of its steps leaves it fewer, or ends it
+    -- at each moment the number of steps that each call has left where no other holds it up is at most 197, and 64 more for each
+    -- message that a receive of several may take. A step of its own leaves it fewer, or ends it, where no other call under way has
+    -- a mark but Nothing, and an unbounded channel has had its first taking or there is no other call; else it may make any number
     pub ends_soon : EndSoon steps (moment_of old from) made trace moments
     -- the run stops at the first step that is refused, which stays in front, for the first reason that there is
     pub stops : Stops (book_of new) left (length trace) stopped
@@ -54,6 +56,7 @@ module _ {T : Type 0} where
     -- closed stays closed; and once a receive answered closed, or a stream ended, no receive that begins later gives a message
     pub for_good : EachStep EndsForGood (moment_of old from) made trace moments
     -- at each moment, the first one too, the channel is closed or not and holds so many messages as its queue's words say; and each
-    -- message lies in the slot that they name for it alone, or is with the call that brought it
+    -- message lies in the slot that they name for it alone, without a bound they and the blocks used so far, or is with the call that
+    -- brought it
     pub words_at_first : WordsSay (parts_in old).cells from
     pub words : EachStep WordsSayIt (moment_of old from) made trace moments

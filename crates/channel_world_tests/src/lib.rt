@@ -5,7 +5,7 @@
 #[cfg(test)]
 mod ask;
 #[cfg(test)]
-mod both;
+mod call_rows;
 #[cfg(test)]
 mod checks;
 pub mod clients;
@@ -14,11 +14,11 @@ mod memory;
 #[cfg(test)]
 mod openings;
 #[cfg(test)]
-mod receives;
-#[cfg(test)]
 mod refusals;
 #[cfg(test)]
 mod row;
+#[cfg(test)]
+mod rows;
 #[cfg(test)]
 mod said;
 #[cfg(test)]
@@ -26,8 +26,4 @@ mod scarce;
 #[cfg(test)]
 mod scarce_steps;
 #[cfg(test)]
-mod sends;
-#[cfg(test)]
 mod settle;
-#[cfg(test)]
-mod waits;

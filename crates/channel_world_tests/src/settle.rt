@@ -1,7 +1,7 @@
-//! Settling a world.
+//! A settling that is refused memory.
 ghost use Rattle.channel_interleaving.specs.Floor.{IsQuiet};
 
-use super::ask::{Ask, R};
+use super::ask::Ask;
 use super::row::{quiet, run_rows, waking};
 use super::said::{Said, says};
 use crate::checks::expect_equal;
@@ -77,17 +77,6 @@ const TWO_POLLS: [(Waiter, Said); 2] = [
     (Waiter::Op(B), Said::Pending),
 ];
 
-#[test]
-fn one_message_settles_two_of_three_receives(rt: HostRuntime) -> Result<(), Fail> {
-    let mut ids = EventIds::new();
-    let mut world: World<u64> = World::bounded(rt.alloc(), 1, &mut ids)?;
-    wake_one_of_three(&rt, &mut world)?;
-    settle_so(&rt, &mut world, TWO_POLLS.as_slice())?;
-    expect_equal(&rt, &world.pending(), &2);
-    expect_equal(&rt, &world.messages(), &0);
-    settle_so(&rt, &mut world, &[])
-}
-
 /// Settles where one receive of three was woken. Where that is refused nothing has changed, and the next settling polls the same.
 fn settle_again(rt: &(impl AllocGlobal + Abort), world: &mut World<u64>) -> Result<(), Fail>
     requires quiet { IsQuiet world.old }
@@ -115,43 +104,4 @@ fn a_refused_settling_changes_nothing(rt: HostRuntime) -> Result<(), Fail> {
     expect_equal(&rt, &world.pending(), &2);
     expect_equal(&rt, &world.messages(), &0);
     settle_so(&rt, &mut world, &[])
-}
-
-#[test]
-fn a_woken_stream_is_settled_whose_receiver_is_borrowed(rt: HostRuntime) -> Result<(), Fail> {
-    let mut ids = EventIds::new();
-    let mut world: World<u64> = World::unbounded(rt.alloc(), &mut ids)?;
-    let rows = [
-        quiet(Ask::Next(R), Said::Pending),
-        quiet(Ask::Recv(A), Said::Made),
-        waking(Ask::TrySend(1), Said::Sent, &[Waiter::Stream(R)]),
-    ];
-    run_rows(&rt, &mut world, &rows)?;
-    settle_so(&rt, &mut world, &[(Waiter::Stream(R), Said::Received(1))])?;
-    expect_equal(&rt, &world.pending(), &0);
-    Ok(())
-}
-
-#[test]
-fn the_oldest_wake_is_settled_first(rt: HostRuntime) -> Result<(), Fail> {
-    let mut ids = EventIds::new();
-    let mut world: World<u64> = World::bounded(rt.alloc(), 1, &mut ids)?;
-    let rows = [
-        quiet(Ask::Recv(B), Said::Made),
-        quiet(Ask::Poll(B), Said::Pending),
-        waking(Ask::TrySend(1), Said::Sent, &[Waiter::Op(B)]),
-        quiet(Ask::Send(C, 2), Said::Made),
-        quiet(Ask::Poll(C), Said::Pending),
-        waking(Ask::TryRecv, Said::Received(1), &[Waiter::Op(C)]),
-    ];
-    run_rows(&rt, &mut world, &rows)?;
-    settle_so(
-        &rt,
-        &mut world,
-        &[
-            (Waiter::Op(B), Said::Pending),
-            (Waiter::Op(C), Said::Sent),
-            (Waiter::Op(B), Said::Received(2)),
-        ],
-    )
 }

@@ -1,5 +1,5 @@
 -- The steps that a push and a pop make on end are those of their machines.
-use Rattle.std.proofs.Common.{◌≡◌, ◌∙◌, ℕ, ◌+◌, ◌-◌, ◌*◌, ◌%◌, ◌^◌, ◌==◌, Bool, true, false, nat_le, arith, slice_index, None, Some, Result, Ok, Err, ⊎_elim, refl, sym, subst, ap}
+use Rattle.std.proofs.Common.{◌≡◌, ◌⊎◌, ◌∙◌, ℕ, ◌+◌, ◌-◌, ◌*◌, ◌%◌, ◌^◌, ◌==◌, Bool, true, false, nat_le, arith, slice_index, None, Some, Result, Ok, Err, ⊎_elim, refl, sym, subst, ap}
 use Rattle.std.proofs.lemmas.Bool.Decides.{nat_tests}
 use Rattle.concurrent_queue.specs.Contents.{Contents, write_slot, slot_at}
 use Rattle.concurrent_queue.specs.machine.Ahead.{MadeBy, IsStep, PushesSingle, PopsSingle, PushesRing, PopsRing, RefusesPush, RefusesPop, IsBehind, CanWin, PushesOnEnd, PopsOnEnd, PushesAhead, PushesAheadIn, PopsAhead, PopsAheadIn}
@@ -61,7 +61,7 @@ module _ {T : Type 0} where
   single_pops c (Err a) d h =
       let c1 : Contents T = set_state c 1 in
       let c2 : Contents T = write_slot c1 (At 0) None in
-      ⊎_elim (λ (x : (a ≡ single.Pop 2) × (d ≡ c)). (0, (x.1, x.0)))
+      ⊎_elim (λ (x : (d, one.stays a) ≡ one.pop_step c 2). (1, (d, a, (Nothing, x), (refl, refl))))
       (λ (x : (c.state ≡ 2) × (slot_at c (At 0) ≡ None) × (a ≡ single.PopTake) × (d ≡ c2)).
       let take : (c2, one.stays single.PopTake) ≡ single_step c1 single.PopTake = rw (x.1) refl in
       (2, (c1, single.PopTake, won_message c x.0, (c2, single.PopTake, (Nothing, take), (x.3, x.2)))))
@@ -118,11 +118,16 @@ module _ {T : Type 0} where
         let t = c.tail in
         let c1 : Contents T = set_tail c (next_word cap m t) in
         ⊎_elim (λ (x : (a ≡ ring.Push Refuse v) × (d ≡ c)). (0, (x.1, x.0)))
+        (λ (y : ((is_marked m t ≡ false) × (nat_le (2 ^ 64 - 2 * m) t ≡ true) × (a ≡ ring.PushShut Refuse v) × (d ≡ c)) ⊎ (CanWin cap m c × (a ≡ ring.PushPut Refuse v t) × (d ≡ c1))).
+        ⊎_elim (λ (x : (is_marked m t ≡ false) × (nat_le (2 ^ 64 - 2 * m) t ≡ true) × (a ≡ ring.PushShut Refuse v) × (d ≡ c)).
+        let e0 : (c, words.stays (ring.PushShut Refuse v)) ≡ ring_step cap m c (ring.Push Refuse v) = rw (x.0, x.1) refl in
+        (1, (c, ring.PushShut Refuse v, (Nothing, e0), (x.3, x.2))))
         (λ (x : CanWin cap m c × (a ≡ ring.PushPut Refuse v t) × (d ≡ c1)).
         let e1 : (c, words.stays (ring.PushStamp Refuse v t)) ≡ ring_step cap m c (ring.Push Refuse v) = rw (x.0.0, x.0.1) refl in
         let e2 : (c, words.stays (ring.PushSwap Refuse v t)) ≡ ring_step cap m c (ring.PushStamp Refuse v t) = rw x.0.2 refl in
         let e3 : (c1, words.marks (ring.PushPut Refuse v t) Append) ≡ ring_step cap m c (ring.PushSwap Refuse v t) = rw (itself t) refl in
         (3, (c, ring.PushStamp Refuse v t, (Nothing, e1), (c, ring.PushSwap Refuse v t, (Nothing, e2), (c1, ring.PushPut Refuse v t, (Append, e3), (x.2, x.1))))))
+        y)
         h
 
     ring_empty : (e : PopError) (d : Contents T) → RefusesPop cap m c e → d ≡ c → PopsOnEnd (MadeBy (ring_step cap m)) c ring.Pop (Ok (Err e)) d

@@ -1,6 +1,6 @@
 -- The steps that a push and a pop make on end over blocks are those of their machine: what each operation on a cell says of the
 -- cells before it and after it is one step.
-use Rattle.std.proofs.Common.{◌≡◌, ◌∙◌, ℕ, suc, ◌+◌, ◌-◌, ◌/◌, ◌%◌, ◌^◌, ◌==◌, ◌<◌, length, Bool, true, false, nat_le, if◌then◌else◌, None, Some, Result, Ok, Err, slice_index, MatchResult, is_err, refl, sym, subst, ap, inl, arith}
+use Rattle.std.proofs.Common.{◌≡◌, ◌∙◌, ℕ, ◌+◌, ◌-◌, ◌/◌, ◌%◌, ◌^◌, ◌==◌, ◌<◌, ◌≤◌, length, Bool, true, false, nat_le, if◌then◌else◌, None, Some, Result, Ok, Err, slice_index, MatchResult, is_err, refl, sym, subst, ap, inl, inr, arith}
 use Rattle.std.proofs.lemmas.Bool.Decides.{nat_tests}
 use Rattle.concurrent_queue.specs.Contents.{Contents, SpareGives, PutGives, read, block_at, slot_at, can_put, write, write_slot, with_retired, spare_of, without_spare}
 use Rattle.concurrent_queue.specs.machine.Ahead.{ActionStep, IsStep, PushesOnEnd, PopsOnEnd}
@@ -15,7 +15,8 @@ use Rattle.concurrent_queue.specs.declared.cells.Word.{Word}
 use Rattle.concurrent_queue.specs.declared.cells.Word.TheVariants as word
 use Rattle.concurrent_queue.specs.declared.error.PopError.{PopError}
 use Rattle.concurrent_queue.specs.declared.error.PopError.TheVariants as pop_error
-use Rattle.concurrent_queue.specs.declared.error.PushError.{PushError}
+use Rattle.concurrent_queue.specs.declared.error.NoMemory.{NoMemory}
+use Rattle.concurrent_queue.specs.declared.error.PushError.TheVariants as push_error
 use Rattle.concurrent_queue.specs.declared.unbounded.action.Progress.{Progress}
 use Rattle.concurrent_queue.specs.declared.unbounded.action.UnboundedAction.{UnboundedAction}
 use Rattle.concurrent_queue.specs.declared.unbounded.action.UnboundedAction.TheVariants as act
@@ -25,24 +26,15 @@ use Rattle.concurrent_queue.proofs.BlocksYields.{eq_is, eq_not}
 far_from : (m n : ℕ) → n < m → nat_le m n ≡ false
 far_from m n less = grind (arith, nat_tests)
 
+far_enough : (m n : ℕ) → m ≤ n → nat_le m n ≡ true
+far_enough m n more = grind (arith, nat_tests)
+
 module _ {T : Type 0} where
   abbrev going : UnboundedAction T → QueueMark → Progress T
   going a m = record { action = a; mark = m; ending = None }
 
   goes : (c : Contents T) (a : UnboundedAction T) (d : Contents T) (b : UnboundedAction T) (m : QueueMark) → IsUnboundedStep c a (d, going b m) → IsStep ActionStep c a d b
   goes c a d b m made = (m, (going b m, made, refl))
-
-  -- ---- a step before others
-
-  pub push_after : (c : Contents T) (a : UnboundedAction T) (x : Contents T) (y : UnboundedAction T) (d : Contents T) (r : Result (Result Unit (PushError T)) (UnboundedAction T))
-      → IsStep ActionStep c a x y → PushesOnEnd ActionStep x y r d → PushesOnEnd ActionStep c a r d
-  push_after c a x y d (Ok r) s (n, (x1, y1, z1, m1, path, last)) = (suc n, (x1, y1, z1, m1, (x, y, s, path), last))
-  push_after c a x y d (Err b) s (n, path) = (suc n, (x, y, s, path))
-
-  pub pop_after : (c : Contents T) (a : UnboundedAction T) (x : Contents T) (y : UnboundedAction T) (d : Contents T) (r : Result (Result T PopError) (UnboundedAction T))
-      → IsStep ActionStep c a x y → PopsOnEnd ActionStep x y r d → PopsOnEnd ActionStep c a r d
-  pop_after c a x y d (Ok r) s (n, (x1, y1, z1, m1, path, last)) = (suc n, (x1, y1, z1, m1, (x, y, s, path), last))
-  pop_after c a x y d (Err b) s (n, path) = (suc n, (x, y, s, path))
 
   -- ---- whether an exchange was made
 
@@ -75,6 +67,19 @@ module _ {T : Type 0} where
         let e1 : (c.tail % 2 == 1) ≡ true = subst (λ (n : ℕ). (n % 2 == 1) ≡ true) found (eq_is (t % 2) 1 shut) in
         let e2 : (c, finishes (ending.Closed v)) ≡ load_tail c v None = rw e1 refl in
         (finishes (ending.Closed v), ap (λ (x : Contents T). (x, finishes (ending.Closed v))) left ∙ e2, refl)
+
+    pub positions_end : t ≡ c.tail → d ≡ c → (t % 2 ≡ 1 → ⊥) → 9223372036854775744 ≤ t / 2 → IsStep ActionStep c (act.Push v None) d (act.PushShut v None)
+    positions_end found left unshut more =
+        let e1 : (c.tail % 2 == 1) ≡ false = subst (λ (n : ℕ). (n % 2 == 1) ≡ false) found (eq_not (t % 2) 1 unshut) in
+        let e2 : nat_le 9223372036854775744 (c.tail / 2) ≡ true = subst (λ (n : ℕ). nat_le 9223372036854775744 (n / 2) ≡ true) found (far_enough _ _ more) in
+        let e3 : (c, stays (act.PushShut v None)) ≡ load_tail c v None = rw (e1, e2) refl in
+        goes c (act.Push v None) d (act.PushShut v None) Nothing (ap (λ (x : Contents T). (x, stays (act.PushShut v None))) left ∙ e3)
+
+    pub no_block : (w : ℕ) → w ≡ c.tail_block → d ≡ c → w ≡ 0 → IsStep ActionStep c (act.PushLook v t None) d (act.PushMake v t)
+    no_block w found left none =
+        let e1 : (c.tail_block == 0) ≡ true = subst (λ (n : ℕ). (n == 0) ≡ true) found (eq_is w 0 none) in
+        let e2 : (c, stays (act.PushMake v t)) ≡ look_tail_block c v t None = rw e1 refl in
+        goes c (act.PushLook v t None) d (act.PushMake v t) Nothing (ap (λ (x : Contents T). (x, stays (act.PushMake v t))) left ∙ e2)
 
     module _ (w : ℕ) (found : w ≡ c.tail_block) (left : d ≡ c) (there : w ≡ 0 → ⊥) where
       is_there : (c.tail_block == 0) ≡ false
@@ -121,6 +126,11 @@ module _ {T : Type 0} where
           let e1 : (d, stays (act.PushSwap v t b (Some h))) ≡ (without_spare c, stays (act.PushSwap v t b (Some (spare_of c)))) =
           ap (λ (x : Contents T). (x, stays (act.PushSwap v t b (Some h)))) left ∙ ap (λ (n : ℕ). (without_spare c, stays (act.PushSwap v t b (Some n)))) which in
           goes c (act.PushMore v t b) d (act.PushSwap v t b (Some h)) Nothing (inl (e1, subst (λ (x : Contents T). length x.blocks < 2 ^ 64) left few))
+
+      pub block_refused : (e : NoMemory) → SpareGives c (Err e) d → PushesOnEnd ActionStep c (act.PushMore v t b) (Ok (Err (push_error.NoMemory v))) d
+      block_refused e (none, left) =
+          let end : Progress T = finishes (ending.NoMemory v) in
+          (0, (c, act.PushMore v t b, act.Finished, Nothing, (refl, refl), (end, inr (none, ap (λ (x : Contents T). (x, end)) left), refl)))
 
       pub turned : (h : ℕ) → d ≡ write c word.TailBlock ((h + 1) % 2 ^ 64) → IsStep ActionStep c (act.PushTurn v t b h) d (act.PushAdd v t b h)
       turned h left = goes c (act.PushTurn v t b h) d (act.PushAdd v t b h) Nothing (ap (λ (x : Contents T). (x, stays (act.PushAdd v t b h))) left)

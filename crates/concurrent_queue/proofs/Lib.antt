@@ -19,6 +19,10 @@ mod BlocksYields
 mod BlocksPushWords
 mod BlocksPopWords
 pub mod StepFacts
+mod SingleDeeds
+mod RingDeeds
+mod Walks
+mod BlocksDeeds
 pub mod SingleSteps
 pub mod RingShape
 pub mod RingPlaces

@@ -1,17 +1,19 @@
 -- What a step of one form's machine may answer, in the words of all calls.
 use Rattle.std.proofs.Common.{◌≡◌, ℕ, Bool, true, false, Option, None, Some, refl, subst, sym}
-use Rattle.concurrent_queue.specs.machine.Dispatch.{in_ring, in_blocks, ring_cap}
+use Rattle.concurrent_queue.specs.machine.Dispatch.{in_single, in_ring, in_blocks, ring_cap}
 use Rattle.concurrent_queue.specs.declared.call.Stepped.{Stepped}
 use Rattle.concurrent_queue.specs.declared.cells.QueueForm.{QueueForm}
 use Rattle.concurrent_queue.specs.declared.cells.QueueForm.TheVariants.{Bounded, Unbounded}
 use Rattle.concurrent_queue.specs.machine.RingWords.{cap_of, ring_start}
+use Rattle.concurrent_queue.specs.machine.Single.{start}
 use Rattle.concurrent_queue.specs.machine.BlocksMoves.{answer_as}
 use Rattle.concurrent_queue.specs.machine.BlocksWords.{begin, reply_of}
-use Rattle.concurrent_queue.specs.Replies.{MayAnswer, MayRing, MayEnd, MayBlocks, Tells, Sends, FollowsBy, FollowsIn, RingFollows, BlocksFollows, StateFollows, IsLastRing, IsSoonRing, IsLastBlocks, IsSoonBlocks, AsksWords}
+use Rattle.concurrent_queue.specs.Replies.{MayAnswer, MaySingle, MayRing, MayEnd, MayBlocks, Tells, Sends, FollowsBy, FollowsIn, SingleFollows, RingFollows, BlocksFollows, StateFollows, IsLastSingle, IsSoonSingle, IsLastRing, IsSoonRing, IsLastBlocks, IsSoonBlocks, AsksWords}
 use Rattle.concurrent_queue.specs.declared.call.QueueAsk.{QueueAsk}
 use Rattle.concurrent_queue.specs.declared.call.QueueAsk.TheVariants as ask
 use Rattle.concurrent_queue.specs.declared.call.QueueReply.{QueueReply}
 use Rattle.concurrent_queue.specs.declared.bounded.RingAction.{RingAction}
+use Rattle.concurrent_queue.specs.declared.single.SingleAction.{SingleAction}
 use Rattle.concurrent_queue.specs.declared.unbounded.ending.Ending.{Ending}
 use Rattle.concurrent_queue.specs.declared.unbounded.ending.Ending.TheVariants as ending
 use Rattle.concurrent_queue.specs.declared.unbounded.action.UnboundedAction.{UnboundedAction}
@@ -30,6 +32,32 @@ module _ {T : Type 0} where
   blocks_follow d a a' (Some e) h = (e, h, refl)
 
   -- ---- the first action of a call may answer what was asked
+
+  may_single : (a : QueueAsk T) (r : QueueReply T) → MaySingle (start a) r → MayAnswer (Bounded 1) a r
+  may_single (ask.Push v) r h = h
+  may_single (ask.ForcePush v) r h = h
+  may_single ask.Pop r h = h
+  may_single ask.Close r h = h
+  may_single ask.IsClosed r h = h
+  may_single ask.IsEmpty r h = h
+  may_single ask.IsFull r h = h
+  may_single ask.Len r h = h
+  may_single ask.Capacity r h = h
+
+  soon_single : (a : QueueAsk T) (P : Type 0) → (IsLastSingle (start a) → ⊥) → AsksWords a → P
+  soon_single (ask.Push v) P last h = absurd h
+  soon_single (ask.ForcePush v) P last h = absurd h
+  soon_single ask.Pop P last h = absurd h
+  soon_single ask.Close P last h = absurd (last h)
+  soon_single ask.IsClosed P last h = absurd (last h)
+  soon_single ask.IsEmpty P last h = absurd (last h)
+  soon_single ask.IsFull P last h = absurd (last h)
+  soon_single ask.Len P last h = absurd h
+  soon_single ask.Capacity P last h = absurd (last h)
+
+  single_first : (a : QueueAsk T) (a' : SingleAction T) (o : Option (QueueReply T)) → FollowsBy MaySingle IsLastSingle IsSoonSingle (start a) a' o → StateFollows (Bounded 1) (state.Asked a) (state.Single a') o
+  single_first a a' None h = ((λ f r m. may_single a r (h.0 r m)), (λ x. x), soon_single a (IsLastSingle a') h.1)
+  single_first a a' (Some r) h = may_single a r h
 
   may_ring : (cap : ℕ) (a : QueueAsk T) (r : QueueReply T) → MayRing (cap_of cap) (ring_start a) r → MayAnswer (Bounded cap) a r
   may_ring cap (ask.Push v) r h = h
@@ -105,6 +133,13 @@ module _ {T : Type 0} where
   blocks_first a c (Some r) h = may_blocks a r h
 
   -- ---- the same in the words of all calls
+
+  pub single_wrapped : (f : QueueForm) (a : QueueAsk T) (first : SingleAction T) (s : Stepped (SingleAction T) T) (w : Stepped (CallState T) T)
+      → f ≡ Bounded 1 → first ≡ start a → w ≡ in_single s → SingleFollows first s → StateFollows f (state.Asked a) w.action w.reply
+  single_wrapped f a first s w form begins wraps h =
+      subst (λ (x : QueueForm). StateFollows x (state.Asked a) w.action w.reply) (sym form)
+      (subst (λ (x : Stepped (CallState T) T). StateFollows (Bounded 1) (state.Asked a) x.action x.reply) (sym wraps)
+      (single_first a s.action s.reply (subst (λ (x : SingleAction T). SingleFollows x s) begins h)))
 
   pub ring_wrapped : (f : QueueForm) (cap : ℕ) (a : QueueAsk T) (first : RingAction T) (s : Stepped (RingAction T) T) (w : Stepped (CallState T) T)
       → f ≡ Bounded cap → first ≡ ring_start a → w ≡ in_ring s → RingFollows (ring_cap f) first s → StateFollows f (state.Asked a) w.action w.reply

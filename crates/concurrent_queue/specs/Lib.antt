@@ -23,6 +23,9 @@ pub mod Turns
 pub mod Errors
 pub mod Step
 pub mod Contents
+pub mod Deeds
+pub mod Effects
+pub mod Walked
 pub mod Capacity
 pub mod Made
 pub mod Plain

@@ -2,7 +2,6 @@
 use Rattle.std.specs.Prelude.{◌≡◌, ◌≢◌, ◌⊎◌, ℕ, Option, None}
 use Rattle.concurrent_queue.specs.Replies.{room_of, MayCall, IsSoon, IsLast, Follows}
 use Rattle.concurrent_queue.specs.declared.call.QueueReply.{QueueReply}
-use Rattle.concurrent_queue.specs.declared.call.QueueReply.TheVariants as reply
 use Rattle.concurrent_queue.specs.declared.cells.QueueForm.{QueueForm}
 use Rattle.concurrent_queue.specs.declared.error.PushError.{PushError}
 use Rattle.concurrent_queue.specs.declared.error.PushError.TheVariants as push_error
@@ -25,11 +24,6 @@ module _ {T : Type 0} where
   abbrev pub CanRefuseForce : Option ℕ → ForcePushError T → Type 0
   CanRefuseForce cap (force_error.Closed v) = Unit {0}
   CanRefuseForce cap (force_error.NoMemory v) = cap ≡ None
-
-  -- the answer of a push
-  abbrev pub IsPushReply : QueueReply T → Type 0
-  IsPushReply (reply.Push r) = Unit {0}
-  IsPushReply _ = ⊥
 
   -- a step on this queue's cells: what may be answered after it might have been answered before, and so might its reply
   abbrev pub IsSharedStep : ConcurrentQueue T → QueueCall T → QueueCall T → Option (QueueReply T) → Type 0

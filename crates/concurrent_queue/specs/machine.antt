@@ -3,6 +3,7 @@
 pub mod Single
 pub mod SingleState
 pub mod RingWords
+pub mod RingMoves
 pub mod RingState
 pub mod RingCalls
 pub mod RingMeans
@@ -15,6 +16,7 @@ pub mod BlocksCalls
 pub mod BlocksMoves
 pub mod BlocksLeft
 pub mod BlocksWords
+pub mod BlocksMakes
 pub mod BlocksDenotes
 pub mod BlocksAtOnce
 pub mod BlocksForm

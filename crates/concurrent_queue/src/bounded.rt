@@ -12,6 +12,7 @@
 
 ghost use Rattle.std.specs.Prelude.{◌≡◌, ℕ, ◌<◌, ◌^◌, ◌*◌, ◌+◌, ◌-◌, ◌%◌, None, Some, if◌then◌else◌, bit_and};
 ghost use Rattle.concurrent_queue.specs.machine.RingWords.{cap_of, ring_mark, index, is_marked, unmarked, stride, next_word, count_of, between, shut_reply, pushed_reply, behind, stays, marks, finishes, push_load, push_shut, push_look, push_swap, push_put, push_store, push_head, force_head, force_add, force_take, force_put, force_store, pop_load, pop_look, pop_swap, pop_tail, pop_take, pop_store, close_step, ring_start, ask_is_closed, empty_load, empty_look, full_load, full_look, len_load, len_look, len_again, ring_step};
+ghost use Rattle.concurrent_queue.specs.machine.RingMoves.{RingMakes};
 ghost use Rattle.concurrent_queue.specs.machine.Dispatch.{IsRingStep, ring_cap};
 ghost use Rattle.concurrent_queue.specs.Replies.{RingFollows, MaySend};
 
@@ -274,6 +275,7 @@ fn push_load<T: Drop, C: Cells<T>>(
 ) -> Stepped<RingAction<T>, T>
     ensures steps { C.known → (C.contents cells.new, result) ≡ push_load shape.cap shape.mark (C.contents cells.old) when_full value }
     ensures answers { RingFollows shape.cap (RingAction.Push when_full value) result }
+    ensures deed { RingMakes shape.cap shape.mark C.did cells.old (RingAction.Push when_full value) cells.new result }
 {
     let tail = cells.load(Word::Tail);
     if shape.is_marked(tail) {
@@ -295,6 +297,7 @@ fn push_shut<T: Drop, C: Cells<T>>(
 ) -> Stepped<RingAction<T>, T>
     ensures steps { C.known → (C.contents cells.new, result) ≡ push_shut shape.cap shape.mark (C.contents cells.old) when_full value }
     ensures answers { RingFollows shape.cap (RingAction.PushShut when_full value) result }
+    ensures deed { RingMakes shape.cap shape.mark C.did cells.old (RingAction.PushShut when_full value) cells.new result }
 {
     let tail = cells.fetch_or(Word::Tail, shape.mark);
     let reply = refused(when_full, value);
@@ -315,6 +318,7 @@ fn push_look<T: Drop, C: Cells<T>>(
 ) -> Stepped<RingAction<T>, T>
     ensures steps { C.known → (C.contents cells.new, result) ≡ push_look shape.cap shape.mark (C.contents cells.old) when_full value tail }
     ensures answers { RingFollows shape.cap (RingAction.PushStamp when_full value tail) result }
+    ensures deed { RingMakes shape.cap shape.mark C.did cells.old (RingAction.PushStamp when_full value tail) cells.new result }
 {
     let stamp = cells.load(shape.stamp(tail));
     if stamp == tail {
@@ -341,6 +345,7 @@ fn push_swap<T: Drop, C: Cells<T>>(
 ) -> Stepped<RingAction<T>, T>
     ensures steps { C.known → (C.contents cells.new, result) ≡ push_swap shape.cap shape.mark (C.contents cells.old) when_full value tail }
     ensures answers { RingFollows shape.cap (RingAction.PushSwap when_full value tail) result }
+    ensures deed { RingMakes shape.cap shape.mark C.did cells.old (RingAction.PushSwap when_full value tail) cells.new result }
 {
     match cells.compare_exchange(Word::Tail, tail, shape.next(tail)) {
         Ok(_) => did(
@@ -360,6 +365,7 @@ fn push_put<T: Drop, C: Cells<T>>(
 ) -> Stepped<RingAction<T>, T>
     ensures steps { C.known → (C.contents cells.new, result) ≡ push_put shape.cap shape.mark (C.contents cells.old) when_full value tail }
     ensures answers { RingFollows shape.cap (RingAction.PushPut when_full value tail) result }
+    ensures deed { RingMakes shape.cap shape.mark C.did cells.old (RingAction.PushPut when_full value tail) cells.new result }
 {
     match cells.put(Slot::At(shape.index(tail)), value) {
         Ok(()) => stay(RingAction::PushStore(when_full, tail)),
@@ -375,6 +381,7 @@ fn push_store<T: Drop, C: Cells<T>>(
 ) -> Stepped<RingAction<T>, T>
     ensures steps { C.known → (C.contents cells.new, result) ≡ push_store shape.cap shape.mark (C.contents cells.old) when_full tail }
     ensures answers { RingFollows shape.cap (RingAction.PushStore when_full tail) result }
+    ensures deed { RingMakes shape.cap shape.mark C.did cells.old (RingAction.PushStore when_full tail) cells.new result }
 {
     cells.store(shape.stamp(tail), tail.wrapping_add(1));
     finish(accepted(when_full))
@@ -384,6 +391,7 @@ fn push_store<T: Drop, C: Cells<T>>(
 fn push_head<T: Drop, C: Cells<T>>(value: T, head: u64, cells: &mut C) -> Stepped<RingAction<T>, T>
     ensures steps { C.known → (C.contents cells.new, result) ≡ push_head (C.contents cells.old) value head }
     ensures answers { (cap : ℕ) → RingFollows cap (RingAction.PushHead value head) result }
+    ensures deed { (cap m : ℕ) → RingMakes cap m C.did cells.old (RingAction.PushHead value head) cells.new result }
 {
     if cells.load(Word::Head) == head {
         finish(QueueReply::Push(Err(PushError::Full(value))))
@@ -402,6 +410,7 @@ fn force_head<T: Drop, C: Cells<T>>(
 ) -> Stepped<RingAction<T>, T>
     ensures steps { C.known → (C.contents cells.new, result) ≡ force_head shape.cap shape.mark (C.contents cells.old) value head }
     ensures answers { RingFollows shape.cap (RingAction.ForceHead value head) result }
+    ensures deed { RingMakes shape.cap shape.mark C.did cells.old (RingAction.ForceHead value head) cells.new result }
 {
     match cells.compare_exchange(Word::Head, head, shape.next(head)) {
         Ok(_) => did(RingAction::ForceAdd(value, head), QueueMark::TakeDisplaced),
@@ -418,6 +427,7 @@ fn force_add<T: Drop, C: Cells<T>>(
 ) -> Stepped<RingAction<T>, T>
     ensures steps { C.known → (C.contents cells.new, result) ≡ force_add shape.cap shape.mark (C.contents cells.old) value head }
     ensures answers { RingFollows shape.cap (RingAction.ForceAdd value head) result }
+    ensures deed { RingMakes shape.cap shape.mark C.did cells.old (RingAction.ForceAdd value head) cells.new result }
 {
     cells.fetch_add(Word::Tail, shape.stride(head));
     did(RingAction::ForceTake(value, head), QueueMark::Append)
@@ -431,6 +441,7 @@ fn force_take<T: Drop, C: Cells<T>>(
 ) -> Stepped<RingAction<T>, T>
     ensures steps { C.known → (C.contents cells.new, result) ≡ force_take shape.cap shape.mark (C.contents cells.old) value head }
     ensures answers { RingFollows shape.cap (RingAction.ForceTake value head) result }
+    ensures deed { RingMakes shape.cap shape.mark C.did cells.old (RingAction.ForceTake value head) cells.new result }
 {
     match cells.take(Slot::At(shape.index(head))) {
         Some(old) => stay(RingAction::ForcePut(value, head, old)),
@@ -447,6 +458,7 @@ fn force_put<T: Drop, C: Cells<T>>(
 ) -> Stepped<RingAction<T>, T>
     ensures steps { C.known → (C.contents cells.new, result) ≡ force_put shape.cap shape.mark (C.contents cells.old) value head old }
     ensures answers { RingFollows shape.cap (RingAction.ForcePut value head old) result }
+    ensures deed { RingMakes shape.cap shape.mark C.did cells.old (RingAction.ForcePut value head old) cells.new result }
 {
     match cells.put(Slot::At(shape.index(head)), value) {
         Ok(()) => stay(RingAction::ForceStore(head, old)),
@@ -462,6 +474,7 @@ fn force_store<T: Drop, C: Cells<T>>(
 ) -> Stepped<RingAction<T>, T>
     ensures steps { C.known → (C.contents cells.new, result) ≡ force_store shape.cap shape.mark (C.contents cells.old) head old }
     ensures answers { RingFollows shape.cap (RingAction.ForceStore head old) result }
+    ensures deed { RingMakes shape.cap shape.mark C.did cells.old (RingAction.ForceStore head old) cells.new result }
 {
     cells.store(shape.stamp(head), head.wrapping_add(shape.lap() + 1));
     finish(QueueReply::Force(Ok(Some(old))))
@@ -475,6 +488,7 @@ fn pop_look<T: Drop, C: Cells<T>>(
 ) -> Stepped<RingAction<T>, T>
     ensures steps { C.known → (C.contents cells.new, result) ≡ pop_look shape.cap shape.mark (C.contents cells.old) head }
     ensures answers { RingFollows shape.cap (RingAction.PopStamp head) result }
+    ensures deed { RingMakes shape.cap shape.mark C.did cells.old (RingAction.PopStamp head) cells.new result }
 {
     let stamp = cells.load(shape.stamp(head));
     if stamp == head.wrapping_add(1) {
@@ -493,6 +507,7 @@ fn pop_swap<T: Drop, C: Cells<T>>(
 ) -> Stepped<RingAction<T>, T>
     ensures steps { C.known → (C.contents cells.new, result) ≡ pop_swap shape.cap shape.mark (C.contents cells.old) head }
     ensures answers { RingFollows shape.cap (RingAction.PopSwap head) result }
+    ensures deed { RingMakes shape.cap shape.mark C.did cells.old (RingAction.PopSwap head) cells.new result }
 {
     match cells.compare_exchange(Word::Head, head, shape.next(head)) {
         Ok(_) => did(RingAction::PopTake(head), QueueMark::Take),
@@ -509,6 +524,7 @@ fn pop_tail<T: Drop, C: Cells<T>>(
 ) -> Stepped<RingAction<T>, T>
     ensures steps { C.known → (C.contents cells.new, result) ≡ pop_tail shape.cap shape.mark (C.contents cells.old) head }
     ensures answers { RingFollows shape.cap (RingAction.PopTail head) result }
+    ensures deed { RingMakes shape.cap shape.mark C.did cells.old (RingAction.PopTail head) cells.new result }
 {
     let tail = cells.load(Word::Tail);
     if shape.unmarked(tail) != head {
@@ -528,6 +544,7 @@ fn pop_take<T: Drop, C: Cells<T>>(
 ) -> Stepped<RingAction<T>, T>
     ensures steps { C.known → (C.contents cells.new, result) ≡ pop_take shape.cap shape.mark (C.contents cells.old) head }
     ensures answers { RingFollows shape.cap (RingAction.PopTake head) result }
+    ensures deed { RingMakes shape.cap shape.mark C.did cells.old (RingAction.PopTake head) cells.new result }
 {
     match cells.take(Slot::At(shape.index(head))) {
         Some(value) => stay(RingAction::PopStore(head, value)),
@@ -543,6 +560,7 @@ fn pop_store<T: Drop, C: Cells<T>>(
 ) -> Stepped<RingAction<T>, T>
     ensures steps { C.known → (C.contents cells.new, result) ≡ pop_store shape.cap shape.mark (C.contents cells.old) head value }
     ensures answers { RingFollows shape.cap (RingAction.PopStore head value) result }
+    ensures deed { RingMakes shape.cap shape.mark C.did cells.old (RingAction.PopStore head value) cells.new result }
 {
     cells.store(shape.stamp(head), head.wrapping_add(shape.lap()));
     finish(QueueReply::Pop(Ok(value)))
@@ -551,6 +569,7 @@ fn pop_store<T: Drop, C: Cells<T>>(
 fn close<T: Drop, C: Cells<T>>(shape: Shape, cells: &mut C) -> Stepped<RingAction<T>, T>
     ensures steps { C.known → (C.contents cells.new, result) ≡ close_step shape.cap shape.mark (C.contents cells.old) }
     ensures answers { RingFollows shape.cap RingAction.Close result }
+    ensures deed { RingMakes shape.cap shape.mark C.did cells.old RingAction.Close cells.new result }
 {
     let tail = cells.fetch_or(Word::Tail, shape.mark);
     if shape.is_marked(tail) {
@@ -563,6 +582,7 @@ fn close<T: Drop, C: Cells<T>>(shape: Shape, cells: &mut C) -> Stepped<RingActio
 fn is_closed<T: Drop, C: Cells<T>>(shape: Shape, cells: &mut C) -> Stepped<RingAction<T>, T>
     ensures steps { C.known → (C.contents cells.new, result) ≡ ask_is_closed shape.cap shape.mark (C.contents cells.old) }
     ensures answers { RingFollows shape.cap RingAction.IsClosed result }
+    ensures deed { RingMakes shape.cap shape.mark C.did cells.old RingAction.IsClosed cells.new result }
 {
     let tail = cells.load(Word::Tail);
     finish(QueueReply::Flag(shape.is_marked(tail)))
@@ -575,6 +595,7 @@ fn empty_look<T: Drop, C: Cells<T>>(
 ) -> Stepped<RingAction<T>, T>
     ensures steps { C.known → (C.contents cells.new, result) ≡ empty_look shape.cap shape.mark (C.contents cells.old) head }
     ensures answers { RingFollows shape.cap (RingAction.IsEmptyTail head) result }
+    ensures deed { RingMakes shape.cap shape.mark C.did cells.old (RingAction.IsEmptyTail head) cells.new result }
 {
     let tail = cells.load(Word::Tail);
     finish(QueueReply::Flag(shape.unmarked(tail) == head))
@@ -583,6 +604,7 @@ fn empty_look<T: Drop, C: Cells<T>>(
 fn full_load<T: Drop, C: Cells<T>>(shape: Shape, cells: &mut C) -> Stepped<RingAction<T>, T>
     ensures steps { C.known → (C.contents cells.new, result) ≡ full_load shape.cap shape.mark (C.contents cells.old) }
     ensures answers { RingFollows shape.cap RingAction.IsFull result }
+    ensures deed { RingMakes shape.cap shape.mark C.did cells.old RingAction.IsFull cells.new result }
 {
     let tail = cells.load(Word::Tail);
     stay(RingAction::IsFullHead(shape.unmarked(tail)))
@@ -595,6 +617,7 @@ fn full_look<T: Drop, C: Cells<T>>(
 ) -> Stepped<RingAction<T>, T>
     ensures steps { C.known → (C.contents cells.new, result) ≡ full_look shape.cap shape.mark (C.contents cells.old) tail }
     ensures answers { RingFollows shape.cap (RingAction.IsFullHead tail) result }
+    ensures deed { RingMakes shape.cap shape.mark C.did cells.old (RingAction.IsFullHead tail) cells.new result }
 {
     let head = cells.load(Word::Head);
     let lap = shape.lap();
@@ -604,6 +627,7 @@ fn full_look<T: Drop, C: Cells<T>>(
 fn len_load<T: Drop, C: Cells<T>>(shape: Shape, cells: &mut C) -> Stepped<RingAction<T>, T>
     ensures steps { C.known → (C.contents cells.new, result) ≡ len_load shape.cap shape.mark (C.contents cells.old) }
     ensures answers { RingFollows shape.cap RingAction.Len result }
+    ensures deed { RingMakes shape.cap shape.mark C.did cells.old RingAction.Len cells.new result }
 {
     let tail = cells.load(Word::Tail);
     stay(RingAction::LenHead(shape.unmarked(tail), shape.is_marked(tail)))
@@ -619,6 +643,7 @@ fn len_again<T: Drop, C: Cells<T>>(
 ) -> Stepped<RingAction<T>, T>
     ensures steps { C.known → (C.contents cells.new, result) ≡ len_again shape.cap shape.mark (C.contents cells.old) tail marked head }
     ensures answers { RingFollows shape.cap (RingAction.LenTail tail marked head) result }
+    ensures deed { RingMakes shape.cap shape.mark C.did cells.old (RingAction.LenTail tail marked head) cells.new result }
 {
     let word = if marked {
         tail.wrapping_add(shape.mark)
@@ -657,6 +682,7 @@ pub(crate) fn step<T: Drop, C: Cells<T>>(
 ) -> Stepped<RingAction<T>, T>
     ensures steps { C.known → IsRingStep (ring_cap (C.contents cells.old).form) (C.contents cells.old) action (C.contents cells.new) result }
     ensures answers { RingFollows (ring_cap (C.form_of cells.old)) action result }
+    ensures deed { RingMakes (ring_cap (C.form_of cells.old)) (ring_mark (ring_cap (C.form_of cells.old))) C.did cells.old action cells.new result }
 {
     let capacity = match cells.form() {
         QueueForm::Bounded(capacity) => capacity,
@@ -672,6 +698,7 @@ fn step_ring<T: Drop, C: Cells<T>>(
 ) -> Stepped<RingAction<T>, T>
     ensures steps { C.known → (C.contents cells.new, result) ≡ ring_step shape.cap shape.mark (C.contents cells.old) action }
     ensures answers { RingFollows shape.cap action result }
+    ensures deed { RingMakes shape.cap shape.mark C.did cells.old action cells.new result }
 {
     match action {
         RingAction::Push(when_full, value) => push_load(shape, when_full, value, cells),

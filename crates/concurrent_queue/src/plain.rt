@@ -47,8 +47,13 @@ impl<T: Drop> Drop for PlainCells<T> {
 
 impl<T: Drop> Cells<T> for PlainCells<T> {
     ghost use Rattle.concurrent_queue.specs.Plain.{contents_of};
+    ghost use Rattle.concurrent_queue.specs.Effects.{Does, does_keep_form};
 
     ghost known = { Unit {0} };
+
+    ghost did = { λ d a b. Does d (contents_of a) (contents_of b) };
+
+    ghost keeps_form = { λ d a b. does_keep_form d (contents_of a) (contents_of b) };
 
     ghost contents = { contents_of };
 

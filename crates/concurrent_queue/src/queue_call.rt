@@ -3,9 +3,11 @@
 ghost use Rattle.std.specs.Prelude.{◌≡◌};
 ghost use Rattle.concurrent_queue.specs.machine.Dispatch.{IsStateStep, in_single, in_ring, in_blocks, ended};
 ghost use Rattle.concurrent_queue.specs.Replies.{StateFollows};
+ghost use Rattle.concurrent_queue.specs.Walked.{StateMakes};
 
 pub(crate) mod ahead;
 mod place;
+pub mod whole;
 
 use crate::bounded::RingAction;
 use crate::call::{QueueAsk, QueueMark, QueueReply, Stepped};
@@ -78,6 +80,7 @@ fn wrap_blocks<T: Drop>(stepped: Stepped<UnboundedCall<T>, T>) -> Stepped<CallSt
 fn first_step<T: Drop, C: Cells<T>>(ask: QueueAsk<T>, cells: &mut C) -> Stepped<CallState<T>, T>
     ensures steps { C.known → IsStateStep (C.contents cells.old) (CallState.Asked ask) (C.contents cells.new) result }
     ensures answers { StateFollows (C.form_of cells.old) (CallState.Asked ask) result.action result.reply }
+    ensures deed { StateMakes C.did (C.form_of cells.old) cells.old (CallState.Asked ask) cells.new result }
 {
     match cells.form() {
         QueueForm::Bounded(1) => wrap_single(single::step(single::first(ask), cells)),
@@ -89,6 +92,7 @@ fn first_step<T: Drop, C: Cells<T>>(ask: QueueAsk<T>, cells: &mut C) -> Stepped<
 fn step_state<T: Drop, C: Cells<T>>(state: CallState<T>, cells: &mut C) -> Stepped<CallState<T>, T>
     ensures steps { C.known → IsStateStep (C.contents cells.old) state (C.contents cells.new) result }
     ensures answers { StateFollows (C.form_of cells.old) state result.action result.reply }
+    ensures deed { StateMakes C.did (C.form_of cells.old) cells.old state cells.new result }
 {
     match state {
         CallState::Asked(ask) => first_step(ask, cells),
@@ -107,6 +111,7 @@ impl<T: Drop> QueueCall<T> {
     ghost use Rattle.std.specs.Prelude.{◌≡◌};
     ghost use Rattle.concurrent_queue.specs.Step.{Starts, IsQueueStep, mark_of};
     ghost use Rattle.concurrent_queue.specs.Replies.{Follows, IsAsking};
+    ghost use Rattle.concurrent_queue.specs.Walked.{CallMakes};
 
     /// The call that asks this. It has made no step.
     pub fn new(ask: QueueAsk<T>) -> QueueCall<T>
@@ -127,10 +132,11 @@ impl<T: Drop> QueueCall<T> {
         self.mark
     }
 
-    /// One step.
+    /// One step: one operation on the cells, as the machine of their form makes it, and what follows its answer.
     pub fn step<C: Cells<T>>(&mut self, cells: &mut C) -> Option<QueueReply<T>>
         ensures steps { C.known → IsQueueStep (C.contents cells.old) self.old (C.contents cells.new) self.new result }
         ensures answers { Follows (C.form_of cells.old) self.old self.new result }
+        ensures deed { CallMakes C.did (C.form_of cells.old) cells.old self.old cells.new self.new result }
     {
         let state = mem::replace(&mut self.state, CallState::Finished);
         let stepped = step_state(state, cells);

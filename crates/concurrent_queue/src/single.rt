@@ -7,6 +7,7 @@
 ghost use Rattle.std.specs.Prelude.{◌≡◌, ℕ};
 ghost use Rattle.concurrent_queue.specs.machine.Single.{single_step, close_step, push_step, force_step, pop_step, stays, marks, finishes, start};
 ghost use Rattle.concurrent_queue.specs.Replies.{SingleFollows};
+ghost use Rattle.concurrent_queue.specs.machine.Single.{SingleMakes};
 
 pub(crate) mod ahead;
 
@@ -108,6 +109,7 @@ pub(crate) fn step<T: Drop, C: Cells<T>>(
 ) -> Stepped<SingleAction<T>, T>
     ensures steps { C.known → (C.contents cells.new, result) ≡ single_step (C.contents cells.old) action }
     ensures answers { SingleFollows action result }
+    ensures deed { SingleMakes C.did cells.old action cells.new result }
 {
     match action {
         SingleAction::Push(value) => push(value, cells),
@@ -167,6 +169,7 @@ pub(crate) fn step<T: Drop, C: Cells<T>>(
 fn push<T: Drop, C: Cells<T>>(value: T, cells: &mut C) -> Stepped<SingleAction<T>, T>
     ensures steps { C.known → (C.contents cells.new, result) ≡ push_step (C.contents cells.old) value }
     ensures answers { SingleFollows (SingleAction.Push value) result }
+    ensures deed { SingleMakes C.did cells.old (SingleAction.Push value) cells.new result }
 {
     match cells.compare_exchange(Word::State, 0, FILLING) {
         Ok(_) => mark(SingleAction::PushPut(value), QueueMark::Append),
@@ -190,6 +193,7 @@ fn force_push<T: Drop, C: Cells<T>>(
 ) -> Stepped<SingleAction<T>, T>
     ensures steps { C.known → (C.contents cells.new, result) ≡ force_step (C.contents cells.old) value expected }
     ensures answers { SingleFollows (SingleAction.Force value expected) result }
+    ensures deed { SingleMakes C.did cells.old (SingleAction.Force value expected) cells.new result }
 {
     match cells.compare_exchange(Word::State, expected, FILLING) {
         Ok(_) => {
@@ -215,6 +219,7 @@ fn force_push<T: Drop, C: Cells<T>>(
 fn pop<T: Drop, C: Cells<T>>(expected: u64, cells: &mut C) -> Stepped<SingleAction<T>, T>
     ensures steps { C.known → (C.contents cells.new, result) ≡ pop_step (C.contents cells.old) expected }
     ensures answers { SingleFollows (SingleAction.Pop expected) result }
+    ensures deed { SingleMakes C.did cells.old (SingleAction.Pop expected) cells.new result }
 {
     match cells.compare_exchange(Word::State, expected, (expected | LOCKED) & NOT_PUSHED) {
         Ok(_) => mark(SingleAction::PopTake, QueueMark::Take),
@@ -234,6 +239,7 @@ fn pop<T: Drop, C: Cells<T>>(expected: u64, cells: &mut C) -> Stepped<SingleActi
 fn close<T: Drop, C: Cells<T>>(cells: &mut C) -> Stepped<SingleAction<T>, T>
     ensures steps { C.known → (C.contents cells.new, result) ≡ close_step (C.contents cells.old) }
     ensures answers { SingleFollows SingleAction.Close result }
+    ensures deed { SingleMakes C.did cells.old SingleAction.Close cells.new result }
 {
     let found = cells.fetch_or(Word::State, CLOSED);
     if found & CLOSED == 0 {

@@ -3,6 +3,7 @@
 
 ghost use Rattle.std.specs.Prelude.{◌≡◌, None};
 ghost use Rattle.concurrent_queue.specs.machine.BlocksMoves.{answer_as};
+ghost use Rattle.concurrent_queue.specs.machine.BlocksMakes.{BlocksMakes, ProgressMakes};
 ghost use Rattle.concurrent_queue.specs.machine.BlocksWords.{IsUnboundedStep, IsBlocksStep, begin, reply_of};
 ghost use Rattle.concurrent_queue.specs.Replies.{EndFollows, BlocksFollows};
 
@@ -83,6 +84,7 @@ pub(crate) fn step<T: Drop, C: Cells<T>>(
     ensures steps { C.known → IsBlocksStep (C.contents cells.old) call (C.contents cells.new) result }
     ensures form { C.form_of cells.new ≡ C.form_of cells.old }
     ensures answers { BlocksFollows call result }
+    ensures deed { BlocksMakes C.did cells.old call cells.new result }
 {
     let displacing = call.displacing;
     let progress = step_unbounded(call.action, cells);
@@ -111,6 +113,7 @@ fn step_unbounded<T: Drop, C: Cells<T>>(action: UnboundedAction<T>, cells: &mut 
     ensures steps { C.known → IsUnboundedStep (C.contents cells.old) action (C.contents cells.new, result) }
     ensures form { C.form_of cells.new ≡ C.form_of cells.old }
     ensures ends { EndFollows action result }
+    ensures deed { ProgressMakes C.did cells.old action cells.new result }
 {
     match action {
         UnboundedAction::Push(value, held) => push_load(value, held, cells),

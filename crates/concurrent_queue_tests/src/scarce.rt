@@ -20,6 +20,7 @@ struct Scarce {
 }
 
 impl Cells<u64> for Scarce {
+    ghost use Rattle.std.specs.Prelude.{◌≡◌};
     ghost use Rattle.concurrent_queue.specs.Plain.{contents_of};
 
     ghost known = { ⊥ };
@@ -27,6 +28,10 @@ impl Cells<u64> for Scarce {
     ghost contents = { λ c. contents_of c.cells };
 
     ghost form_of = { λ c. (contents_of c.cells).form };
+
+    ghost did = { λ _ a b. (contents_of b.cells).form ≡ (contents_of a.cells).form };
+
+    ghost keeps_form = { λ _ a b kept. kept };
 
     fn form(&self) -> QueueForm {
         self.cells.form()

@@ -12,6 +12,7 @@ use std::thread::Threads;
 mod closing;
 mod examples;
 mod memory;
+mod standing;
 
 /// How many messages each of two threads pushes.
 const EACH: u64 = 2_000;

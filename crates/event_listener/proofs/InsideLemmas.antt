@@ -1,5 +1,5 @@
 -- The fields of a list and its two lists.
-use Rattle.std.proofs.Common.{◌≡◌, ◌≢◌, ◌⊎◌, inl, inr, ℕ, ◌+◌, ◌^◌, ◌<◌, ◌≤◌, Bool, true, false, cond, List, [], ◌++◌, ◌∷◌, length, Option, Some, None, is_some, IsSome, IfSome, refl, sym, ap, subst, ◌∙◌, arith, append_assoc, length-append, take}
+use Rattle.std.proofs.Common.{◌≡◌, ◌≢◌, ◌⊎◌, inl, inr, ℕ, zero, suc, ◌+◌, ◌*◌, ◌^◌, ◌<◌, ◌≤◌, Bool, true, false, List, [], ◌++◌, ◌∷◌, length, Option, Some, None, is_some, IsSome, IfSome, refl, sym, ap, subst, ◌∙◌, arith, append_assoc, length-append, take}
 use Rattle.std.proofs.lemmas.List.{append-nil}
 use Rattle.std.specs.Option.{option_to_list}
 use Rattle.std.specs.Map.{lookup}
@@ -10,26 +10,32 @@ use Rattle.event_listener.specs.declared.node.State.{State}
 use Rattle.event_listener.specs.declared.node.State.TheVariants.{Waiting, Told}
 use Rattle.event_listener.specs.declared.list.List.TheInside as list
 use Rattle.event_listener.specs.declared.key.Key.{Key}
-use Rattle.event_listener.specs.Inside.{shown, IsSound, entries, forward, backward}
+use Rattle.event_listener.specs.Inside.{shown, IsSound, entries, waiting_after, waiting_before, told_after, told_before}
 use Rattle.event_listener.specs.Lists.{ListView, Lists, kind_of, told_as, waits_as, without, listened, with_task, notified, tasks_of, same_key}
 use Rattle.event_listener.specs.Nodes.{found, is_told}
-use Rattle.event_listener.specs.Chain.{Beside, lists_at, entry, entry_at, Entry, Sound, Distinct, Unlinks, Links_last, fresh_entry, first_or, after_of, before_of, node_after, node_before, told_piece, waiting_piece, pieces, AtEach, IsWaiting, IsStateOf}
+use Rattle.event_listener.specs.Chain.{Beside, Chains, lists_at, entry, entry_at, Entry, Sound, Among, Distinct, Unlinks, Links_last, fresh_entry, first_or, last_or, after_of, before_of, node_after, node_before, told_piece, waiting_piece, pieces, AtEach, IsWaiting, IsStateOf}
 use Rattle.event_listener.specs.Order.{IsInOrder}
 use Rattle.event_listener.proofs.EntryLemmas.{same_key-self}
 use Rattle.event_listener.proofs.WriteLemmas.{changes, kept_by_write, after-kept, before-kept}
 use Rattle.event_listener.proofs.OrderLemmas.{in-order-listened, in-order-without, in-order-with_task, in-order-notified, in-order-at}
-use Rattle.event_listener.proofs.SoundLemmas.{found_entry, found-some, found-told, chain-is, kind-chained, beside, all-live, end-live, told-fits, Sound-leave, Sound-insert, Sound-store, Sound-tell, Apart-dead, lists-listened, lists-with_task, lists-told, lists-parts, length-told, length-waiting, lists-without, told_as-entry, waits_as-entry}
-
--- a waiting state has such a task
-abbrev pub MatchWaiting : {T W : Type 0} → State T W → (Option W → Type 0) → Type 0
-MatchWaiting (Waiting task) P = P task
-MatchWaiting (Told additional tag) P = ⊥
+use Rattle.event_listener.proofs.ChainLemmas.{Linked-ends, Linked-split, Distinct-head, Distinct-tail, last_or-append}
+use Rattle.event_listener.proofs.SoundLemmas.{found_entry, found-some, found-told, chain-is, kind-chained, beside-in, all-live, first-live, last-live, last-of-live, among-told, among-waiting, AtEach-append, AtEach-front, AtEach-back, Telling, telling-begun, telling-distinct, telling-more, telling-ended, Sound-leave-told, Sound-leave-waiting, Sound-insert, Sound-store, Apart-dead, lists-listened, lists-with_task, lists-told, lists-parts, length-told, length-waiting, lists-without, told_as-entry, waits_as-entry}
 
 -- whether a found listener waits
 pub is-waiting : (o : Option Bool) → (o ≡ Some false) ⊎ (o ≢ Some false)
 is-waiting None = inr (λ q. absurd (cc))
 is-waiting (Some true) = inr (λ q. absurd (cc))
 is-waiting (Some false) = inl refl
+
+-- the last of none, and of one
+last-none : (front : List ℕ) → length front ≡ 0 → last_or None front ≡ None
+last-none [] l = refl
+last-none (k ∷ front) l = absurd (omega arith)
+
+last-one : (front back : List ℕ) → length front ≡ 1 → first_or (front ++ back) None ≡ last_or None front
+last-one [] back l = absurd (omega arith)
+last-one (k ∷ []) back l = refl
+last-one (k ∷ x ∷ front) back l = absurd (omega arith)
 
 module _ {T W : Type 0} where
   pub found-entry : (o : Option (Node T W)) (serial : ℕ) → found o serial ≡ found_entry (entry o) serial
@@ -41,7 +47,7 @@ module _ {T W : Type 0} where
 
   pub kind-inside : (a : list.Inside T W) → IsSound a → (view : ListView T W) → shown a ≡ view → (key : Key) → kind_of view.lists key ≡ found_entry (entries a key.slot) key.serial
   kind-inside a h view e key =
-      ap (λ (v : ListView T W). kind_of v.lists key) (sym e) ∙ ap (λ l. kind_of l key) (lists-are a h) ∙ kind-chained (entries a) (h.0 ++ h.1) h.2.sound.chained.distinct h.2.sound.chained.covered key
+      ap (λ (v : ListView T W). kind_of v.lists key) (sym e) ∙ ap (λ l. kind_of l key) (lists-are a h) ∙ kind-chained (entries a) (h.0 ++ h.1) h.2.sound.chains.distinct h.2.sound.covered key
 
   -- the entry of a listed key
   pub named : (a : list.Inside T W) → IsSound a → (view : ListView T W) → shown a ≡ view → (key : Key) → IsSome (kind_of view.lists key) → (e : Entry T W) × (entries a key.slot ≡ Some e) × (e.serial ≡ key.serial)
@@ -59,18 +65,18 @@ module _ {T W : Type 0} where
     pub present : ContainsKey a.nodes.slab key.slot
     present = live-present (get a.nodes.slab key.slot) (ap is_some (named a h view v key known).1)
 
-    pub listed-beside : Beside (forward a) (backward a) (entries a) key.slot
-    listed-beside = beside h.2.sound key.slot (ap is_some (named a h view v key known).1)
+    pub named-serial : IfSome (entries a key.slot) (λ e. e.serial ≡ key.serial)
+    named-serial = let n = named a h view v key known in subst (λ o. IfSome o (λ (e : Entry T W). e.serial ≡ key.serial)) (sym n.1) n.2
 
     state-of : (e : Entry T W) → entries a key.slot ≡ Some e → e.serial ≡ key.serial → (s : State T W) → s ≡ e.state → IsStateOf s (told_as view.lists key) (waits_as view.lists key)
     state-of e is serial s q =
         let l : view.lists ≡ lists_at (entries a) (h.0 ++ h.1) = ap (λ (w : ListView T W). w.lists) (sym v) ∙ lists-are a h in
-        let c = h.2.sound.chained in
+        let c = h.2.sound in
         let piece : entries a key.slot ≡ Some (record { serial = key.serial; state = s }) = is ∙ ap Some (λ i. record { serial = serial i; state = sym q i }) in
         let t : told_as view.lists key ≡ lookup (same_key key) (told_piece key.slot (Some (record { serial = key.serial; state = s }))) =
-        ap (λ w. told_as w key) l ∙ told_as-entry (entries a) (h.0 ++ h.1) c.distinct c.covered key ∙ ap (λ o. lookup (same_key key) (told_piece key.slot o)) piece in
+        ap (λ w. told_as w key) l ∙ told_as-entry (entries a) (h.0 ++ h.1) c.chains.distinct c.covered key ∙ ap (λ o. lookup (same_key key) (told_piece key.slot o)) piece in
         let w : waits_as view.lists key ≡ lookup (same_key key) (waiting_piece key.slot (Some (record { serial = key.serial; state = s }))) =
-        ap (λ w. waits_as w key) l ∙ waits_as-entry (entries a) (h.0 ++ h.1) c.distinct c.covered key ∙ ap (λ o. lookup (same_key key) (waiting_piece key.slot o)) piece in
+        ap (λ w. waits_as w key) l ∙ waits_as-entry (entries a) (h.0 ++ h.1) c.chains.distinct c.covered key ∙ ap (λ o. lookup (same_key key) (waiting_piece key.slot o)) piece in
         by s t w
       where
         by : (s : State T W) → told_as view.lists key ≡ lookup (same_key key) (told_piece key.slot (Some (record { serial = key.serial; state = s }))) → waits_as view.lists key ≡ lookup (same_key key) (waiting_piece key.slot (Some (record { serial = key.serial; state = s }))) → IsStateOf s (told_as view.lists key) (waits_as view.lists key)
@@ -84,47 +90,90 @@ module _ {T W : Type 0} where
       pub state : IsStateOf s (told_as view.lists key) (waits_as view.lists key)
       pub room : (shown b).room ≡ (shown a).room + 1
 
-    -- whether the listener is told, as its entry says
-    told-as : (told : Bool) → kind_of view.lists key ≡ Some told → is_told (named a h view v key known).0.state ≡ told
-    told-as told is =
-        let n = named a h view v key known in
-        found-told n.0 key.serial told n.2 (ap (λ o. found_entry o key.serial) (sym n.1) ∙ sym (kind-inside a h view v key) ∙ is)
+    module _ (is : kind_of view.lists key ≡ Some true) where
+      told-slot : Among key.slot h.0
+      told-slot =
+          let n = named a h view v key known in
+          let f = ap (λ o. found_entry o key.serial) (sym n.1) ∙ sym (kind-inside a h view v key) ∙ is in
+          among-told (entries a) h.0 h.1 key.slot n.0 h.2.sound.waits (h.2.sound.covered key.slot (ap is_some n.1)) n.1 (found-told n.0 key.serial true n.2 f)
 
-    -- a told listener is counted
-    pub told-counted : (told : Bool) → kind_of view.lists key ≡ Some told → cond told 1 0 ≤ a.told_count
-    told-counted told is =
-        let n = named a h view v key known in
-        subst (λ b. cond b 1 0 ≤ a.told_count) (told-as told is) (told-fits h.2.sound key.slot n.0 n.1)
+      pub told-beside : Beside (told_after a) (told_before a) (entries a) key.slot
+      told-beside = beside-in (told_after a) (told_before a) (entries a) h.0 h.2.sound.chains.told (Distinct-head h.0 h.1 h.2.sound.chains.distinct) (AtEach-front (λ x. IsSome (entries a x)) h.0 h.1 (all-live (entries a) h.0 h.1 h.2.sound.tolds h.2.sound.waits)) key.slot told-slot
 
-    pub left : (b : list.Inside T W) (node : Node T W) (told : Bool) → kind_of view.lists key ≡ Some told → Unlinks (forward a) (backward a) (forward b) (backward b) key.slot → entries b key.slot ≡ None → ((x : ℕ) → x ≢ key.slot → entries b x ≡ entries a x) → backward a (Some key.slot) ≡ node.before → forward a (Some key.slot) ≡ node.after → IfSome (entries a key.slot) (λ e. node.state ≡ e.state) → slab_len b.nodes.slab + 1 ≡ slab_len a.nodes.slab → b.nodes.slab.capacity ≡ a.nodes.slab.capacity → (a.told.last ≡ Some key.slot → b.told.last ≡ node.before) → (a.told.last ≢ Some key.slot → b.told.last ≡ a.told.last) → (a.waiting.first ≡ Some key.slot → b.waiting.first ≡ node.after) → (a.waiting.first ≢ Some key.slot → b.waiting.first ≡ a.waiting.first) → b.told_count + cond told 1 0 ≡ a.told_count → b.serials ≡ a.serials → Left b node.state
-    left b node told is u gone others bk fw st len cap moved_last stays_last moved stays counted serials =
-        let n = named a h view v key known in
-        let e = n.0 in
-        let se : node.state ≡ e.state = subst (λ o. IfSome o (λ (x : Entry T W). node.state ≡ x.state)) n.1 st in
-        let r = Sound-leave (forward a) (backward a) (forward b) (backward b) (entries a) (entries b) key.slot gone others e (slab_len a.nodes.slab) (slab_len b.nodes.slab) a.told.last b.told.last a.waiting.first b.waiting.first a.told_count b.told_count a.serials h.0 h.1 h.2.sound n.1 u len (λ q. moved_last q ∙ sym bk) stays_last (λ q. moved q ∙ sym fw) stays (subst (λ x. b.told_count + cond x 1 0 ≡ a.told_count) (sym (told-as told is)) counted) in
-        let d : Distinct (r.front ++ key.slot ∷ r.back) = subst Distinct r.was h.2.sound.chained.distinct in
-        let change : lists_at (entries b) (r.told_slots ++ r.waiting_slots) ≡ without key (lists_at (entries a) (h.0 ++ h.1)) =
-        ap (lists_at (entries b)) r.now
-        ∙ lists-without (entries a) (entries b) key e r.front r.back d n.1 n.2 others
-        ∙ ap (λ l. without key (lists_at (entries a) l)) (sym r.was) in
-        let sound : IsSound b = (
-          r.told_slots,
-          r.waiting_slots,
+      pub told-counted : 1 ≤ a.told_count
+      told-counted = let m = told-slot in let l : length h.0 ≡ length m.0 + length (key.slot ∷ m.1) = ap length m.2 ∙ length-append m.0 (key.slot ∷ m.1) in omega (arith, h.2.sound.told_is)
+
+      pub left-told : (b : list.Inside T W) (s : State T W) → b.waiting ≡ a.waiting → Unlinks (told_after a) (told_before a) (told_after b) (told_before b) key.slot → entries b key.slot ≡ None → ((x : ℕ) → x ≢ key.slot → entries b x ≡ entries a x) → IfSome (entries a key.slot) (λ e. s ≡ e.state) → slab_len b.nodes.slab + 1 ≡ slab_len a.nodes.slab → b.nodes.slab.capacity ≡ a.nodes.slab.capacity → b.told_count + 1 ≡ a.told_count → b.serials ≡ a.serials → Left b s
+      left-told b s ends u gone others st len cap told serials =
+          let n = named a h view v key known in
+          let e = n.0 in
+          let se : s ≡ e.state = subst (λ o. IfSome o (λ (x : Entry T W). s ≡ x.state)) n.1 st in
+          let r = Sound-leave-told h.2.sound (told_after b) (told_before b) (waiting_after b) (waiting_before b) (entries b) key.slot gone others told-slot u (ap (λ (x : Ends). x.first) ends) (ap (λ (x : Ends). x.last) ends) (λ x. refl) (λ x. refl) (λ x. refl) (λ x. refl) (slab_len b.nodes.slab) b.told_count len told in
+          let was : h.0 ++ h.1 ≡ r.0 ++ key.slot ∷ (r.1 ++ h.1) = ap (λ l. l ++ h.1) r.2 ∙ append_assoc r.0 (key.slot ∷ r.1) h.1 in
+          let d : Distinct (r.0 ++ key.slot ∷ (r.1 ++ h.1)) = subst Distinct was h.2.sound.chains.distinct in
+          let change : lists_at (entries b) ((r.0 ++ r.1) ++ h.1) ≡ without key (lists_at (entries a) (h.0 ++ h.1)) =
+          ap (lists_at (entries b)) (append_assoc r.0 r.1 h.1)
+          ∙ lists-without (entries a) (entries b) key e r.0 (r.1 ++ h.1) d n.1 n.2 others
+          ∙ ap (λ l. without key (lists_at (entries a) l)) (sym was) in
+          let sound : IsSound b = (
+            r.0 ++ r.1,
+            h.1,
+            record {
+              within = omega (arith, h.2.within);
+              fits = omega (arith, h.2.fits);
+              in_order = in-order-at (in-order-without (lists_at (entries a) (h.0 ++ h.1)) a.serials key h.2.in_order) change serials;
+              sound = subst (λ x. Sound (told_after b) (told_before b) (waiting_after b) (waiting_before b) (entries b) (slab_len b.nodes.slab) b.told_count x (r.0 ++ r.1) h.1) (sym serials) r.3;
+            },
+          ) in
           record {
-            within = omega (arith, h.2.within);
-            fits = omega (arith, h.2.fits);
-            in_order = in-order-at (in-order-without (lists_at (entries a) (h.0 ++ h.1)) a.serials key h.2.in_order) change serials;
-            sound = subst (λ x. Sound (forward b) (backward b) (entries b) (slab_len b.nodes.slab) b.told.last b.waiting.first b.told_count x r.told_slots r.waiting_slots) (sym serials) r.sound;
-          },
-        ) in
-        record {
-          sound = sound;
-          lists = lists-are b sound ∙ change
-              ∙ ap (without key) (sym (lists-are a h))
-              ∙ ap (λ (w : ListView T W). without key w.lists) v;
-          state = state-of e n.1 n.2 node.state se;
-          room = omega (arith, h.2.within);
-        }
+            sound = sound;
+            lists = lists-are b sound ∙ change
+                ∙ ap (without key) (sym (lists-are a h))
+                ∙ ap (λ (w : ListView T W). without key w.lists) v;
+            state = state-of e n.1 n.2 s se;
+            room = omega (arith, h.2.within);
+          }
+
+    module _ (is : kind_of view.lists key ≡ Some false) where
+      waiting-slot : Among key.slot h.1
+      waiting-slot =
+          let n = named a h view v key known in
+          let f = ap (λ o. found_entry o key.serial) (sym n.1) ∙ sym (kind-inside a h view v key) ∙ is in
+          among-waiting (entries a) h.0 h.1 key.slot n.0 h.2.sound.tolds (h.2.sound.covered key.slot (ap is_some n.1)) n.1 (found-told n.0 key.serial false n.2 f)
+
+      pub waiting-beside : Beside (waiting_after a) (waiting_before a) (entries a) key.slot
+      waiting-beside = beside-in (waiting_after a) (waiting_before a) (entries a) h.1 h.2.sound.chains.waiting (Distinct-tail h.0 h.1 h.2.sound.chains.distinct) (AtEach-back (λ x. IsSome (entries a x)) h.0 h.1 (all-live (entries a) h.0 h.1 h.2.sound.tolds h.2.sound.waits)) key.slot waiting-slot
+
+      pub left-waiting : (b : list.Inside T W) (s : State T W) → b.told ≡ a.told → Unlinks (waiting_after a) (waiting_before a) (waiting_after b) (waiting_before b) key.slot → entries b key.slot ≡ None → ((x : ℕ) → x ≢ key.slot → entries b x ≡ entries a x) → IfSome (entries a key.slot) (λ e. s ≡ e.state) → slab_len b.nodes.slab + 1 ≡ slab_len a.nodes.slab → b.nodes.slab.capacity ≡ a.nodes.slab.capacity → b.told_count ≡ a.told_count → b.serials ≡ a.serials → Left b s
+      left-waiting b s ends u gone others st len cap told serials =
+          let n = named a h view v key known in
+          let e = n.0 in
+          let se : s ≡ e.state = subst (λ o. IfSome o (λ (x : Entry T W). s ≡ x.state)) n.1 st in
+          let r = Sound-leave-waiting h.2.sound (told_after b) (told_before b) (waiting_after b) (waiting_before b) (entries b) key.slot gone others waiting-slot u (ap (λ (x : Ends). x.first) ends) (ap (λ (x : Ends). x.last) ends) (λ x. refl) (λ x. refl) (λ x. refl) (λ x. refl) (slab_len b.nodes.slab) len in
+          let was : h.0 ++ h.1 ≡ (h.0 ++ r.0) ++ key.slot ∷ r.1 = ap (λ l. h.0 ++ l) r.2 ∙ sym (append_assoc h.0 r.0 (key.slot ∷ r.1)) in
+          let d : Distinct ((h.0 ++ r.0) ++ key.slot ∷ r.1) = subst Distinct was h.2.sound.chains.distinct in
+          let change : lists_at (entries b) (h.0 ++ (r.0 ++ r.1)) ≡ without key (lists_at (entries a) (h.0 ++ h.1)) =
+          ap (lists_at (entries b)) (sym (append_assoc h.0 r.0 r.1))
+          ∙ lists-without (entries a) (entries b) key e (h.0 ++ r.0) r.1 d n.1 n.2 others
+          ∙ ap (λ l. without key (lists_at (entries a) l)) (sym was) in
+          let sound : IsSound b = (
+            h.0,
+            r.0 ++ r.1,
+            record {
+              within = omega (arith, h.2.within);
+              fits = omega (arith, h.2.fits);
+              in_order = in-order-at (in-order-without (lists_at (entries a) (h.0 ++ h.1)) a.serials key h.2.in_order) change serials;
+              sound = subst (λ (x : ℕ × ℕ). Sound (told_after b) (told_before b) (waiting_after b) (waiting_before b) (entries b) (slab_len b.nodes.slab) x.0 x.1 h.0 (r.0 ++ r.1)) (λ i. (sym told i, sym serials i)) r.3;
+            },
+          ) in
+          record {
+            sound = sound;
+            lists = lists-are b sound ∙ change
+                ∙ ap (without key) (sym (lists-are a h))
+                ∙ ap (λ (w : ListView T W). without key w.lists) v;
+            state = state-of e n.1 n.2 s se;
+            room = omega (arith, h.2.within);
+          }
 
   -- fields that hold the same nodes
   pub record Kept (a b : list.Inside T W) : Type 0 where
@@ -141,7 +190,7 @@ module _ {T W : Type 0} where
           within = within;
           fits = fits;
           in_order = in-order-at h.2.in_order (ap (λ (l : List (Option (Node T W))). lists_at (entry_at (of l)) (h.0 ++ h.1)) s) n;
-          sound = subst (λ (x : List (Option (Node T W)) × Ends × Ends × ℕ × ℕ). Sound (after_of x.1 (of x.0)) (before_of x.2 (of x.0)) (entry_at (of x.0)) (slab_len (of x.0)) x.1.last x.2.first x.3 x.4 h.0 h.1)
+          sound = subst (λ (x : List (Option (Node T W)) × Ends × Ends × ℕ × ℕ). Sound (after_of x.1 (of x.0)) (before_of x.1 (of x.0)) (after_of x.2 (of x.0)) (before_of x.2 (of x.0)) (entry_at (of x.0)) (slab_len (of x.0)) x.3 x.4 h.0 h.1)
               (λ i. (sym s i, sym e i, sym c i, sym t i, sym n i)) h.2.sound;
         },
       ) in
@@ -156,22 +205,28 @@ module _ {T W : Type 0} where
       kept a b h (ap (λ (x : Slab (Node T W)). x.slots) s) e w t n
       (subst (λ (x : Slab (Node T W)). slab_len x ≤ x.capacity) (sym s) h.2.within) (subst (λ (x : Slab (Node T W)). x.capacity < 2 ^ 64) (sym s) h.2.fits)
 
+  waits-live : (a : list.Inside T W) (h : IsSound a) → AtEach (λ x. IsSome (entries a x)) h.1
+  waits-live a h = AtEach-back (λ x. IsSome (entries a x)) h.0 h.1 (all-live (entries a) h.0 h.1 h.2.sound.tolds h.2.sound.waits)
+
+  tolds-live : (a : list.Inside T W) (h : IsSound a) → AtEach (λ x. IsSome (entries a x)) h.0
+  tolds-live a h = AtEach-front (λ x. IsSome (entries a x)) h.0 h.1 (all-live (entries a) h.0 h.1 h.2.sound.tolds h.2.sound.waits)
+
   -- the last node is there
   pub last-present : (a : list.Inside T W) → IsSound a → IfSome (before_of a.waiting a.nodes.slab None) (λ k. ContainsKey a.nodes.slab k)
-  last-present a h = live-all a.nodes.slab a.waiting.last (end-live h.2.sound)
+  last-present a h = live-all a.nodes.slab a.waiting.last (last-of-live (waiting_after a) (waiting_before a) (entries a) h.1 h.2.sound.chains.waiting (waits-live a h))
 
   pub record Inserted (a b : list.Inside T W) (view : ListView T W) (key : Key) : Type 0 where
     pub sound : IsSound b
     pub lists : (shown b).lists ≡ listened key view.lists
     pub unknown : kind_of view.lists key ≡ None
 
-  pub inserted : (a b : list.Inside T W) (h : IsSound a) (view : ListView T W) (v : shown a ≡ view) (at : ℕ) → entries a at ≡ None → Links_last (forward a) (backward a) (forward b) (backward b) at → entries b at ≡ Some (fresh_entry a.serials) → ((x : ℕ) → x ≢ at → entries b x ≡ entries a x) → slab_len b.nodes.slab ≡ slab_len a.nodes.slab + 1 → slab_len b.nodes.slab ≤ b.nodes.slab.capacity → b.nodes.slab.capacity < 2 ^ 64 → b.told.last ≡ a.told.last → b.waiting.first ≡ first_or (option_to_list a.waiting.first) (Some at) → b.told_count ≡ a.told_count → b.serials ≡ a.serials + 1 → Inserted a b view (record { slot = at; serial = a.serials })
-  inserted a b h view v at dead u made others len within fits last first told serials =
+  pub inserted : (a b : list.Inside T W) (h : IsSound a) (view : ListView T W) (v : shown a ≡ view) (at : ℕ) → entries a at ≡ None → Links_last (waiting_after a) (waiting_before a) (waiting_after b) (waiting_before b) at → entries b at ≡ Some (fresh_entry a.serials) → ((x : ℕ) → x ≢ at → entries b x ≡ entries a x) → slab_len b.nodes.slab ≡ slab_len a.nodes.slab + 1 → slab_len b.nodes.slab ≤ b.nodes.slab.capacity → b.nodes.slab.capacity < 2 ^ 64 → b.told ≡ a.told → b.told_count ≡ a.told_count → b.serials ≡ a.serials + 1 → Inserted a b view (record { slot = at; serial = a.serials })
+  inserted a b h view v at dead u made others len within fits ends told serials =
       let key : Key = record { slot = at; serial = a.serials } in
-      let s = Sound-insert h.2.sound (forward b) (backward b) (entries b) (slab_len b.nodes.slab) b.waiting.first b.serials at dead u made others len first serials in
+      let s = Sound-insert h.2.sound (told_after b) (told_before b) (waiting_after b) (waiting_before b) (entries b) (slab_len b.nodes.slab) b.serials at dead u (ap (λ (x : Ends). x.first) ends) (ap (λ (x : Ends). x.last) ends) (λ x. refl) (λ x. refl) (λ x. refl) (λ x. refl) made others len serials in
       let change : lists_at (entries b) (h.0 ++ (h.1 ++ at ∷ [])) ≡ listened key (lists_at (entries a) (h.0 ++ h.1)) =
       ap (lists_at (entries b)) (sym (append_assoc h.0 h.1 (at ∷ [])))
-      ∙ lists-listened (entries a) (entries b) at a.serials (h.0 ++ h.1) (Apart-dead (entries a) at (h.0 ++ h.1) (all-live h.2.sound) dead) made others in
+      ∙ lists-listened (entries a) (entries b) at a.serials (h.0 ++ h.1) (Apart-dead (entries a) at (h.0 ++ h.1) (all-live (entries a) h.0 h.1 h.2.sound.tolds h.2.sound.waits) dead) made others in
       let sound : IsSound b = (
         h.0,
         h.1 ++ at ∷ [],
@@ -179,7 +234,7 @@ module _ {T W : Type 0} where
           within = within;
           fits = fits;
           in_order = in-order-at (in-order-listened (lists_at (entries a) (h.0 ++ h.1)) key h.2.in_order) change serials;
-          sound = subst (λ (x : Option ℕ × ℕ). Sound (forward b) (backward b) (entries b) (slab_len b.nodes.slab) x.0 b.waiting.first x.1 b.serials h.0 (h.1 ++ at ∷ [])) (λ i. (sym last i, sym told i)) s;
+          sound = subst (λ x. Sound (told_after b) (told_before b) (waiting_after b) (waiting_before b) (entries b) (slab_len b.nodes.slab) x b.serials h.0 (h.1 ++ at ∷ [])) (sym told) s;
         },
       ) in
       record {
@@ -198,17 +253,15 @@ module _ {T W : Type 0} where
     pub others : (x : ℕ) → x ≢ k → entries b x ≡ entries a x
     pub len : slab_len b.nodes.slab ≡ slab_len a.nodes.slab
     pub capacity : b.nodes.slab.capacity ≡ a.nodes.slab.capacity
-    pub first : b.told.first ≡ a.told.first
-    pub last : b.waiting.last ≡ a.waiting.last
+    pub told : b.told ≡ a.told
+    pub waiting : b.waiting ≡ a.waiting
     pub serials : b.serials ≡ a.serials
 
-  restated-after : {a b : list.Inside T W} {k : ℕ} {state : State T W} → Restated a b k state → (x : Option ℕ) → forward b x ≡ forward a x
-  restated-after r None = r.first
-  restated-after {a} {b} r (Some x) = r.after a.told (Some x)
+  restated-link : (e e' : Ends) (slab slab' : Slab (Node T W)) → e' ≡ e → ((ends : Ends) (x : Option ℕ) → after_of ends slab' x ≡ after_of ends slab x) → (x : Option ℕ) → after_of e' slab' x ≡ after_of e slab x
+  restated-link e e' slab slab' q h x = ap (λ v. after_of v slab' x) q ∙ h e x
 
-  restated-before : {a b : list.Inside T W} {k : ℕ} {state : State T W} → Restated a b k state → (x : Option ℕ) → backward b x ≡ backward a x
-  restated-before r None = r.last
-  restated-before {a} {b} r (Some x) = r.before a.waiting (Some x)
+  restated-back : (e e' : Ends) (slab slab' : Slab (Node T W)) → e' ≡ e → ((ends : Ends) (x : Option ℕ) → before_of ends slab' x ≡ before_of ends slab x) → (x : Option ℕ) → before_of e' slab' x ≡ before_of e slab x
+  restated-back e e' slab slab' q h x = ap (λ v. before_of v slab' x) q ∙ h e x
 
   waiting-state : (o : Option (Entry T W)) (e : Entry T W) → o ≡ Some e → IsWaiting o → (task : Option W) × (e.state ≡ Waiting task)
   waiting-state o e h w = of e.state (subst IsWaiting h w)
@@ -225,16 +278,16 @@ module _ {T W : Type 0} where
     pub sound : IsSound b
     pub lists : (shown b).lists ≡ with_task key task view.lists
 
-  pub stored : (a b : list.Inside T W) (h : IsSound a) (view : ListView T W) (v : shown a ≡ view) (key : Key) (task : W) → kind_of view.lists key ≡ Some false → Restated a b key.slot (Waiting (Some task)) → b.told.last ≡ a.told.last → b.waiting.first ≡ a.waiting.first → b.told_count ≡ a.told_count → Stored a b view key task
-  stored a b h view v key task kind r last first told =
+  pub stored : (a b : list.Inside T W) (h : IsSound a) (view : ListView T W) (v : shown a ≡ view) (key : Key) (task : W) → kind_of view.lists key ≡ Some false → Restated a b key.slot (Waiting (Some task)) → b.told_count ≡ a.told_count → Stored a b view key task
+  stored a b h view v key task kind r told =
       let n = named a h view v key (ap is_some kind) in
       let e = n.0 in
       let now : entries b key.slot ≡ Some (record { serial = e.serial; state = Waiting (Some task) }) = subst (λ o. IfSome o (λ (x : Entry T W). entries b key.slot ≡ Some (record x { state = Waiting (Some task) }))) n.1 r.now in
       let fk : found_entry (Some e) key.serial ≡ Some false = ap (λ o. found_entry o key.serial) (sym n.1) ∙ sym (kind-inside a h view v key) ∙ kind in
       let old = not-told e.state (found-told e key.serial false n.2 fk) in
-      let s = Sound-store h.2.sound (forward b) (backward b) (entries b) key.slot e n.1 (restated-after r) (restated-before r) (Waiting (Some task)) now r.others old.0 old.1 (Some task) refl in
-      let m = h.2.sound.chained.covered key.slot (ap is_some n.1) in
-      let d : Distinct (m.0 ++ key.slot ∷ m.1) = subst Distinct m.2 h.2.sound.chained.distinct in
+      let s = Sound-store h.2.sound (told_after b) (told_before b) (waiting_after b) (waiting_before b) (entries b) key.slot e (restated-link a.told b.told a.nodes.slab b.nodes.slab r.told r.after) (restated-back a.told b.told a.nodes.slab b.nodes.slab r.told r.before) (restated-link a.waiting b.waiting a.nodes.slab b.nodes.slab r.waiting r.after) (restated-back a.waiting b.waiting a.nodes.slab b.nodes.slab r.waiting r.before) n.1 old.0 old.1 (Some task) now r.others in
+      let m = h.2.sound.covered key.slot (ap is_some n.1) in
+      let d : Distinct (m.0 ++ key.slot ∷ m.1) = subst Distinct m.2 h.2.sound.chains.distinct in
       let change : lists_at (entries b) (h.0 ++ h.1) ≡ with_task key task (lists_at (entries a) (h.0 ++ h.1)) =
       ap (lists_at (entries b)) m.2
       ∙ lists-with_task (entries a) (entries b) key e task old.0 m.0 m.1 d n.1 n.2 old.1 now r.others
@@ -246,7 +299,7 @@ module _ {T W : Type 0} where
           within = omega (arith, h.2.within, r.len, r.capacity);
           fits = omega (arith, h.2.fits, r.capacity);
           in_order = in-order-at (in-order-with_task (lists_at (entries a) (h.0 ++ h.1)) a.serials key task h.2.in_order) change r.serials;
-          sound = subst (λ (x : ℕ × Option ℕ × Option ℕ × ℕ × ℕ). Sound (forward b) (backward b) (entries b) x.0 x.1 x.2 x.3 x.4 h.0 h.1) (λ i. (sym r.len i, sym last i, sym first i, sym told i, sym r.serials i)) s;
+          sound = subst (λ (x : ℕ × ℕ × ℕ). Sound (told_after b) (told_before b) (waiting_after b) (waiting_before b) (entries b) x.0 x.1 x.2 h.0 h.1) (λ i. (sym r.len i, sym told i, sym r.serials i)) s;
         },
       ) in
       record {
@@ -270,10 +323,10 @@ module _ {T W : Type 0} where
         others = λ x ne. ap entry (c.others x ne);
         len = len;
         capacity = capacity;
-        first = ap (λ (e : Ends). e.first) told;
-        last = ap (λ (e : Ends). e.last) waiting;
+        told = told;
+        waiting = waiting;
         serials = serials;
-      }) (ap (λ (e : Ends). e.last) told) (ap (λ (e : Ends). e.first) waiting) count
+      }) count
 
   -- the fields after a registration began, which writes the node of a waiting listener alone
   pub record Begun (b : list.Inside T W) (view : ListView T W) (key : Key) (task : W) (kind : Option Bool) : Type 0 where
@@ -307,85 +360,191 @@ module _ {T W : Type 0} where
       let l : length (h.0 ++ h.1) ≡ length h.0 + length h.1 = length-append h.0 h.1 in
       omega (arith, told-length a h view v, waiting-length a h view v, h.2.sound.count_is, h.2.sound.told_is)
 
-  -- the first waiting node
-  pub record First (a : list.Inside T W) (ws : List ℕ) (k : ℕ) : Type 0 where
-    pub back : List ℕ
-    pub split : ws ≡ k ∷ back
-    pub entry : Entry T W
-    pub is : entries a k ≡ Some entry
-    pub task : Option W
-    pub was : entry.state ≡ Waiting task
-
-  first-node : (a : list.Inside T W) (h : IsSound a) (k : ℕ) (ws : List ℕ) → ws ≡ h.1 → Some k ≡ first_or ws None → First a h.1 k
-  first-node a h k [] q c = absurd (cc)
-  first-node a h k (x ∷ back) q c =
-      let e : x ≡ k = cc in
-      let split : h.1 ≡ k ∷ back = sym q ∙ ap (λ v. v ∷ back) e in
-      let w : IsWaiting (entries a k) = (subst (AtEach (λ x. IsWaiting (entries a x))) split h.2.sound.waits).0 in
-      let en = entry-of (entries a k) w in
-      let t = waiting-state (entries a k) en.0 en.1 w in
-      record { back = back; split = split; entry = en.0; is = en.1; task = t.0; was = t.1 }
-    where
-      entry-of : (o : Option (Entry T W)) → IsWaiting o → (e : Entry T W) × (o ≡ Some e)
-      entry-of None w = absurd w
-      entry-of (Some e) w = (e, refl)
-
-  pub first-of : (a : list.Inside T W) (h : IsSound a) (k : ℕ) → a.waiting.first ≡ Some k → First a h.1 k
-  first-of a h k c = first-node a h k h.1 refl (sym c ∙ h.2.sound.first_is)
-
-  pub first-present : (a : list.Inside T W) (h : IsSound a) (k : ℕ) → a.waiting.first ≡ Some k → ContainsKey a.nodes.slab k
-  first-present a h k c = live-present (get a.nodes.slab k) (ap is_some (first-of a h k c).is)
-
   -- with someone waiting there is a first
   pub first-there : (a : list.Inside T W) (h : IsSound a) (view : ListView T W) → shown a ≡ view → 0 < length view.lists.waiting → ((x : ℕ) → a.waiting.first ≡ Some x → ⊥) → ⊥
   first-there a h view v some none =
-      of h.1 (waiting-length a h view v) (λ x q. none x (h.2.sound.first_is ∙ q))
+      of h.1 (waiting-length a h view v) (λ x q. none x ((Linked-ends (waiting_after a) (waiting_before a) None h.1 None h.2.sound.chains.waiting).0 ∙ q))
     where
       of : (ws : List ℕ) → length view.lists.waiting ≡ length ws → ((x : ℕ) → first_or ws None ≡ Some x → ⊥) → ⊥
       of [] l c = omega arith
       of (x ∷ ws) l c = c x refl
 
-  pub record ToldFirst (a b : list.Inside T W) (view : ListView T W) (additional : Bool) (tag : T) (s : State T W) : Type 0 where
-    pub sound : IsSound b
-    pub lists : (shown b).lists ≡ notified additional (tag ∷ []) view.lists
-    pub task : MatchWaiting s (λ task. option_to_list task ≡ tasks_of (take 1 view.lists.waiting))
-    pub fits : a.told_count + 1 < 2 ^ 64
+  -- While a notice tells: so many have their new state, up to this last one, and the next one stands behind it. So many are
+  -- to be told in all.
+  pub record Underway (a : list.Inside T W) (count many : ℕ) (last next : Option ℕ) : Type 0 where
+    pub ks : List ℕ
+    pub front : List ℕ
+    pub back : List ℕ
+    pub within : slab_len a.nodes.slab ≤ a.nodes.slab.capacity
+    pub fits : a.nodes.slab.capacity < 2 ^ 64
+    pub telling : Telling (told_after a) (told_before a) (waiting_after a) (waiting_before a) (entries a) (slab_len a.nodes.slab) a.told_count a.serials ks front back
+    pub count_is : length front ≡ count
+    pub left : many ≤ count + length back
+    pub last_is : last ≡ last_or None front
+    pub next_is : next ≡ first_or back None
 
-  pub told-first : (a b : list.Inside T W) (h : IsSound a) (view : ListView T W) (v : shown a ≡ view) (k : ℕ) (additional : Bool) (tag : T) (s : State T W) → a.waiting.first ≡ Some k → Restated a b k (Told additional tag) → b.told.last ≡ Some k → b.waiting.first ≡ forward a (Some k) → b.told_count ≡ a.told_count + 1 → IfSome (entries a k) (λ e. s ≡ e.state) → ToldFirst a b view additional tag s
-  told-first a b h view v k additional tag s cur r last next told st =
-      let f = first-of a h k cur in
-      let now : entries b k ≡ Some (record { serial = f.entry.serial; state = Told additional tag }) = subst (λ o. IfSome o (λ (x : Entry T W). entries b k ≡ Some (record x { state = Told additional tag }))) f.is r.now in
-      let sd = Sound-tell h.2.sound (forward b) (backward b) (entries b) k f.entry f.is (restated-after r) (restated-before r) (Told additional tag) now r.others f.back f.split additional tag refl b.told.last b.waiting.first last next b.told_count told in
-      let d : Distinct (h.0 ++ k ∷ f.back) = subst (λ x. Distinct (h.0 ++ x)) f.split h.2.sound.chained.distinct in
-      let w : AtEach (λ x. IsWaiting (entries a x)) (k ∷ f.back) = subst (AtEach (λ x. IsWaiting (entries a x))) f.split h.2.sound.waits in
-      let ea : entries a k ≡ Some (record { serial = f.entry.serial; state = Waiting f.task }) = f.is ∙ ap Some (λ i. record { serial = f.entry.serial; state = f.was i }) in
-      let change : lists_at (entries b) ((h.0 ++ k ∷ []) ++ f.back) ≡ notified additional (tag ∷ []) (lists_at (entries a) (h.0 ++ h.1)) =
-      lists-told (entries a) (entries b) h.0 f.back k f.entry.serial f.task additional tag d h.2.sound.tolds w ea now r.others
-      ∙ ap (λ x. notified additional (tag ∷ []) (lists_at (entries a) (h.0 ++ x))) (sym f.split) in
-      let sound : IsSound b = (
-        h.0 ++ k ∷ [],
-        f.back,
+  -- the lists that a notice under way made
+  abbrev pub under : {a : list.Inside T W} {count many : ℕ} {last next : Option ℕ} → Underway a count many last next → Lists T W
+  under {a} u = lists_at (entries a) ((u.ks ++ u.front) ++ u.back)
+
+  -- before the first is told
+  pub underway : (a : list.Inside T W) (h : IsSound a) (view : ListView T W) → shown a ≡ view → (many : ℕ) → many ≤ length view.lists.waiting → (u : Underway a 0 many None a.waiting.first) × (under u ≡ view.lists)
+  underway a h view v many le =
+      let w = waiting-length a h view v in (
         record {
-          within = omega (arith, h.2.within, r.len, r.capacity);
-          fits = omega (arith, h.2.fits, r.capacity);
-          in_order = in-order-at (in-order-notified (lists_at (entries a) (h.0 ++ h.1)) a.serials additional (tag ∷ []) h.2.in_order) change r.serials;
-          sound = subst (λ (x : ℕ × ℕ). Sound (forward b) (backward b) (entries b) x.0 b.told.last b.waiting.first b.told_count x.1 (h.0 ++ k ∷ []) f.back) (λ i. (sym r.len i, sym r.serials i)) sd;
+          ks = h.0;
+          front = [];
+          back = h.1;
+          within = h.2.within;
+          fits = h.2.fits;
+          telling = telling-begun h.2.sound;
+          count_is = refl;
+          left = omega (arith, le, w);
+          last_is = refl;
+          next_is = (Linked-ends (waiting_after a) (waiting_before a) None h.1 None h.2.sound.chains.waiting).0;
+        },
+        ap (λ r. lists_at (entries a) (r ++ h.1)) (append-nil h.0) ∙ sym (lists-are a h) ∙ ap (λ (x : ListView T W). x.lists) v,
+      )
+
+  -- the next waiting node
+  pub record Next (a : list.Inside T W) (back : List ℕ) (k : ℕ) : Type 0 where
+    pub rest : List ℕ
+    pub split : back ≡ k ∷ rest
+    pub entry : Entry T W
+    pub is : entries a k ≡ Some entry
+    pub task : Option W
+    pub was : entry.state ≡ Waiting task
+
+  pub next-node : (a : list.Inside T W) (back : List ℕ) (k : ℕ) → AtEach (λ x. IsWaiting (entries a x)) back → Some k ≡ first_or back None → Next a back k
+  next-node a [] k w q = absurd (cc)
+  next-node a (x ∷ rest) k w q =
+      let e : x ≡ k = cc in
+      let here : IsWaiting (entries a k) = subst (λ v. IsWaiting (entries a v)) e w.0 in
+      let en = entry-of (entries a k) here in
+      let t = waiting-state (entries a k) en.0 en.1 here in
+      record { rest = rest; split = ap (λ v. v ∷ rest) e; entry = en.0; is = en.1; task = t.0; was = t.1 }
+    where
+      entry-of : (o : Option (Entry T W)) → IsWaiting o → (e : Entry T W) × (o ≡ Some e)
+      entry-of None w = absurd w
+      entry-of (Some e) w = (e, refl)
+
+  -- with more to tell there is a next one
+  pub next-there : {a : list.Inside T W} {count many : ℕ} {last next : Option ℕ} → Underway a count many last next → count < many → ((x : ℕ) → next ≡ Some x → ⊥) → ⊥
+  next-there {a} {count} {many} {last} {next} u lt none =
+      of u.back u.left (λ x q. none x (u.next_is ∙ q))
+    where
+      of : (ws : List ℕ) → many ≤ count + length ws → ((x : ℕ) → first_or ws None ≡ Some x → ⊥) → ⊥
+      of [] l c = omega arith
+      of (x ∷ ws) l c = c x refl
+
+  pub next-present : {a : list.Inside T W} {count many : ℕ} {last next : Option ℕ} (k : ℕ) → Underway a count many last next → next ≡ Some k → ContainsKey a.nodes.slab k
+  next-present {a} k u q = live-present (get a.nodes.slab k) (ap is_some (next-node a u.back k u.telling.waits (sym q ∙ u.next_is)).is)
+
+  -- the ends that a move of the run reaches are nodes
+  pub run-live : {a : list.Inside T W} {count many : ℕ} {last next : Option ℕ} → Underway a count many last next → IfSome a.waiting.first (λ k. ContainsKey a.nodes.slab k) × IfSome last (λ k. ContainsKey a.nodes.slab k) × IfSome next (λ k. ContainsKey a.nodes.slab k) × IfSome a.told.last (λ k. ContainsKey a.nodes.slab k)
+  run-live {a} {count} {many} {last} {next} u =
+      let t = u.telling in
+      let live : AtEach (λ x. IsSome (entries a x)) ((u.ks ++ u.front) ++ u.back) = all-live (entries a) (u.ks ++ u.front) u.back t.tolds t.waits in
+      let told = AtEach-front (λ x. IsSome (entries a x)) (u.ks ++ u.front) u.back live in
+      let ks = AtEach-front (λ x. IsSome (entries a x)) u.ks u.front told in
+      let front = AtEach-back (λ x. IsSome (entries a x)) u.ks u.front told in
+      let back = AtEach-back (λ x. IsSome (entries a x)) (u.ks ++ u.front) u.back live in
+      let f = AtEach-append (λ x. IsSome (entries a x)) u.front u.back front back in (
+        live-all a.nodes.slab a.waiting.first (subst (λ v. IfSome v (λ x. IsSome (entries a x))) (sym (Linked-ends (waiting_after a) (waiting_before a) None (u.front ++ u.back) None t.chains.waiting).0) (first-live (λ x. IsSome (entries a x)) (u.front ++ u.back) f)),
+        live-all a.nodes.slab last (subst (λ v. IfSome v (λ x. IsSome (entries a x))) (sym u.last_is) (last-live (λ x. IsSome (entries a x)) None u.front tt front)),
+        live-all a.nodes.slab next (subst (λ v. IfSome v (λ x. IsSome (entries a x))) (sym u.next_is) (first-live (λ x. IsSome (entries a x)) u.back back)),
+        live-all a.nodes.slab a.told.last (last-of-live (told_after a) (told_before a) (entries a) u.ks t.chains.told ks),
+      )
+
+  -- one more was told in its place
+  pub record More (a b : list.Inside T W) (count many : ℕ) (old : Lists T W) (k : ℕ) (next : Option ℕ) (additional : Bool) (tag : T) (s : State T W) : Type 0 where
+    pub underway : Underway b (count + 1) many (Some k) next
+    pub lists : under underway ≡ notified additional (tag ∷ []) old
+    pub task : Option W
+    pub was : s ≡ Waiting task
+    pub wakes : option_to_list task ≡ tasks_of (take 1 old.waiting)
+
+  pub told-more : {a : list.Inside T W} {count many : ℕ} {last next : Option ℕ} (u : Underway a count many last next) (b : list.Inside T W) (k : ℕ) (additional : Bool) (tag : T) (s : State T W) (after : Option ℕ) → next ≡ Some k → Restated a b k (Told additional tag) → after ≡ waiting_after a (Some k) → b.told_count ≡ a.told_count → IfSome (entries a k) (λ e. s ≡ e.state) → More a b count many (under u) k after additional tag s
+  told-more {a} {count} {many} {last} {next} u b k additional tag s after q r af told st =
+      let n = next-node a u.back k u.telling.waits (sym q ∙ u.next_is) in
+      let now : entries b k ≡ Some (record { serial = n.entry.serial; state = Told additional tag }) = subst (λ o. IfSome o (λ (x : Entry T W). entries b k ≡ Some (record x { state = Told additional tag }))) n.is r.now in
+      let t : Telling (told_after a) (told_before a) (waiting_after a) (waiting_before a) (entries a) (slab_len a.nodes.slab) a.told_count a.serials u.ks u.front (k ∷ n.rest) = subst (λ v. Telling (told_after a) (told_before a) (waiting_after a) (waiting_before a) (entries a) (slab_len a.nodes.slab) a.told_count a.serials u.ks u.front v) n.split u.telling in
+      let m = telling-more t (told_after b) (told_before b) (waiting_after b) (waiting_before b) (entries b) n.entry (restated-link a.told b.told a.nodes.slab b.nodes.slab r.told r.after) (restated-back a.told b.told a.nodes.slab b.nodes.slab r.told r.before) (restated-link a.waiting b.waiting a.nodes.slab b.nodes.slab r.waiting r.after) (restated-back a.waiting b.waiting a.nodes.slab b.nodes.slab r.waiting r.before) n.is additional tag now r.others in
+      let ea : entries a k ≡ Some (record { serial = n.entry.serial; state = Waiting n.task }) = n.is ∙ ap Some (λ i. record { serial = n.entry.serial; state = n.was i }) in
+      let one : (u.ks ++ u.front) ++ k ∷ [] ≡ u.ks ++ (u.front ++ k ∷ []) = append_assoc u.ks u.front (k ∷ []) in
+      let whole : under u ≡ lists_at (entries a) ((u.ks ++ u.front) ++ k ∷ n.rest) = ap (λ v. lists_at (entries a) ((u.ks ++ u.front) ++ v)) n.split in
+      let parts = lists-parts (entries a) (u.ks ++ u.front) u.back u.telling.tolds u.telling.waits in
+      let wl : (under u).waiting ≡ (record { slot = k; serial = n.entry.serial }, n.task) ∷ pieces (λ x. waiting_piece x (entries a x)) n.rest =
+      ap (λ (x : Lists T W). x.waiting) parts ∙ ap (pieces (λ x. waiting_piece x (entries a x))) n.split ∙ ap (λ o. waiting_piece k o ++ pieces (λ x. waiting_piece x (entries a x)) n.rest) ea in
+      let l1 : length (u.front ++ k ∷ []) ≡ length u.front + 1 = length-append u.front (k ∷ []) in
+      let l2 : length u.back ≡ length (k ∷ n.rest) = ap length n.split in
+      let se : s ≡ Waiting n.task = subst (λ o. IfSome o (λ (x : Entry T W). s ≡ x.state)) n.is st ∙ n.was in
+      let cut = (Linked-split (waiting_after a) (waiting_before a) None u.front k n.rest None t.chains.waiting).1 in
+      record {
+        underway = record {
+          ks = u.ks;
+          front = u.front ++ k ∷ [];
+          back = n.rest;
+          within = omega (arith, u.within, r.len, r.capacity);
+          fits = omega (arith, u.fits, r.capacity);
+          telling = subst (λ (x : ℕ × ℕ × ℕ). Telling (told_after b) (told_before b) (waiting_after b) (waiting_before b) (entries b) x.0 x.1 x.2 u.ks (u.front ++ k ∷ []) n.rest) (λ i. (sym r.len i, sym told i, sym r.serials i)) m;
+          count_is = omega (arith, u.count_is, l1);
+          left = omega (arith, u.left, l2);
+          last_is = sym (last_or-append None u.front (k ∷ []));
+          next_is = af ∙ (Linked-ends (waiting_after a) (waiting_before a) (Some k) n.rest None cut).0;
+        };
+        lists = ap (λ v. lists_at (entries b) (v ++ n.rest)) (sym one)
+            ∙ lists-told (entries a) (entries b) (u.ks ++ u.front) n.rest k n.entry.serial n.task additional tag (telling-distinct t) t.tolds t.waits ea now r.others
+            ∙ ap (notified additional (tag ∷ [])) (sym whole);
+        task = n.task;
+        was = se;
+        wakes = sym (append-nil (option_to_list n.task)) ∙ sym (ap (λ x. tasks_of (take 1 x)) wl);
+      }
+
+  -- so many more are counted as told
+  pub told-fits : {a : list.Inside T W} {count many : ℕ} {last next : Option ℕ} → Underway a count many last next → a.told_count + count < 2 ^ 64
+  told-fits {a} u =
+      let l1 : length ((u.ks ++ u.front) ++ u.back) ≡ length (u.ks ++ u.front) + length u.back = length-append (u.ks ++ u.front) u.back in
+      let l2 : length (u.ks ++ u.front) ≡ length u.ks + length u.front = length-append u.ks u.front in
+      omega (arith, u.within, u.fits, u.telling.count_is, u.telling.told_is, u.count_is)
+
+  -- A telling and a move together visit at most five others for each one: two for its state, and four for the links, or three
+  -- where it is one node.
+  pub run-cost : {a : list.Inside T W} {count many : ℕ} {last next : Option ℕ} → Underway a count many last next → (n n' v : ℕ) → (last ≡ None → n' ≡ n) → (a.waiting.first ≡ last → n' ≤ n + 3) → n' ≤ n + 4 → n ≤ v + 2 * count → n' ≤ v + 5 * count
+  run-cost {a} {count} {many} {last} {next} u n n' v none one all sofar = of count refl
+    where
+      of : (c : ℕ) → count ≡ c → n' ≤ v + 5 * count
+      of zero e = let l = last-none u.front (u.count_is ∙ e) in let q = none (u.last_is ∙ l) in omega (arith, q, sofar, e)
+      of (suc zero) e =
+          let l = last-one u.front u.back (u.count_is ∙ e) in
+          let f = (Linked-ends (waiting_after a) (waiting_before a) None (u.front ++ u.back) None u.telling.chains.waiting).0 in
+          let q = one (f ∙ l ∙ sym u.last_is) in
+          omega (arith, q, sofar, e)
+      of (suc (suc c)) e = omega (arith, all, sofar, e)
+
+  -- all have moved
+  pub record Ended (b : list.Inside T W) (view : ListView T W) (additional : Bool) (tags : List T) : Type 0 where
+    pub sound : IsSound b
+    pub lists : (shown b).lists ≡ notified additional tags view.lists
+
+  pub ended : {a : list.Inside T W} {count many : ℕ} {last next : Option ℕ} (u : Underway a count many last next) (b : list.Inside T W) (view : ListView T W) → IsInOrder view.lists view.serials → (additional : Bool) (tags : List T) → under u ≡ notified additional tags view.lists → a.serials ≡ view.serials
+      → ((ks front back : List ℕ) → last ≡ last_or None front → next ≡ first_or back None → Chains (told_after a) (told_before a) (waiting_after a) (waiting_before a) ks (front ++ back) → Chains (told_after b) (told_before b) (waiting_after b) (waiting_before b) (ks ++ front) back)
+      → ((x : ℕ) → entries b x ≡ entries a x) → slab_len b.nodes.slab ≡ slab_len a.nodes.slab → b.nodes.slab.capacity ≡ a.nodes.slab.capacity → b.told_count ≡ a.told_count + count → b.serials ≡ a.serials → Ended b view additional tags
+  ended {a} {count} {many} {last} {next} u b view order additional tags l given moves same len cap told serials =
+      let chains = moves u.ks u.front u.back u.last_is u.next_is u.telling.chains in
+      let counted : b.told_count ≡ a.told_count + length u.front = told ∙ ap (λ n. a.told_count + n) (sym u.count_is) in
+      let change : lists_at (entries b) ((u.ks ++ u.front) ++ u.back) ≡ notified additional tags view.lists = (λ i. lists_at (λ x. same x i) ((u.ks ++ u.front) ++ u.back)) ∙ l in
+      let sound : IsSound b = (
+        u.ks ++ u.front,
+        u.back,
+        record {
+          within = omega (arith, u.within, len, cap);
+          fits = omega (arith, u.fits, cap);
+          sound = telling-ended u.telling (told_after b) (told_before b) (waiting_after b) (waiting_before b) (entries b) chains same (slab_len b.nodes.slab) b.told_count b.serials len counted serials;
+          in_order = in-order-at (in-order-notified view.lists view.serials additional tags order) change (serials ∙ given);
         },
       ) in
-      let se : s ≡ Waiting f.task = subst (λ o. IfSome o (λ (x : Entry T W). s ≡ x.state)) f.is st ∙ f.was in
-      let l0 : length (h.0 ++ h.1) ≡ length h.0 + length h.1 = length-append h.0 h.1 in
-      let l1 : length h.1 ≡ length (k ∷ f.back) = ap length f.split in
-      let wl : view.lists.waiting ≡ (record { slot = k; serial = f.entry.serial }, f.task) ∷ pieces (λ x. waiting_piece x (entries a x)) f.back =
-      ap (λ (x : ListView T W). x.lists.waiting) (sym v) ∙ ap (λ (x : Lists T W). x.waiting) (lists-by-parts a h) ∙ ap (pieces (λ x. waiting_piece x (entries a x))) f.split ∙ ap (λ o. waiting_piece k o ++ pieces (λ x. waiting_piece x (entries a x)) f.back) ea in
-      record {
-        sound = sound;
-        lists = lists-are b sound ∙ change
-            ∙ ap (notified additional (tag ∷ [])) (sym (lists-are a h))
-            ∙ ap (λ (x : ListView T W). notified additional (tag ∷ []) x.lists) v;
-        task = subst (λ x. MatchWaiting x (λ task. option_to_list task ≡ tasks_of (take 1 view.lists.waiting))) (sym se)
-            (sym (append-nil (option_to_list f.task)) ∙ sym (ap (λ x. tasks_of (take 1 x)) wl));
-        fits = omega (arith, h.2.fits, h.2.within, h.2.sound.count_is, h.2.sound.told_is);
-      }
+      record { sound = sound; lists = lists-are b sound ∙ change }
 
   pub empty-sound : (a : list.Inside T W) → a.nodes.slab.slots ≡ [] → a.nodes.slab.capacity ≡ 0 → a.told ≡ record { first = None; last = None } → a.waiting ≡ record { first = None; last = None } → a.told_count ≡ 0 → IsSound a
   empty-sound a s c e w t =
@@ -398,13 +557,12 @@ module _ {T W : Type 0} where
           fits = omega arith;
           in_order = (tt, tt);
           sound = record {
-            chained = record {
-              linked = (ap (λ (x : Ends). x.first) e, ap (λ (x : Ends). x.last) w);
+            chains = record {
+              told = (ap (λ (x : Ends). x.first) e, ap (λ (x : Ends). x.last) e);
+              waiting = (ap (λ (x : Ends). x.first) w, ap (λ (x : Ends). x.last) w);
               distinct = tt;
-              covered = λ k i. let z : is_some (entries a k) ≡ false = ap is_some (gone k) in absurd (cc);
             };
-            last_is = ap (λ (x : Ends). x.last) e;
-            first_is = ap (λ (x : Ends). x.first) w;
+            covered = λ k i. let z : is_some (entries a k) ≡ false = ap is_some (gone k) in absurd (cc);
             tolds = tt;
             waits = tt;
             count_is = sym n;

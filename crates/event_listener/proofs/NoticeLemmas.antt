@@ -1,5 +1,6 @@
 -- A notice, one listener at a time.
-use Rattle.std.proofs.Common.{◌≡◌, ℕ, ◌+◌, Bool, List, [], ◌∷◌, ◌++◌, length, take, drop, Result, Ok, Option, refl, ap, subst, ◌∙◌, arith, append_assoc, length-append}
+use Rattle.std.proofs.Common.{◌≡◌, ℕ, ◌+◌, Bool, List, [], ◌∷◌, ◌++◌, length, take, drop, Result, Ok, Err, Option, refl, ap, subst, ◌∙◌, arith, append_assoc, length-append}
+use Rattle.std.proofs.lemmas.List.{append-nil}
 use Rattle.std.specs.Option.{option_to_list}
 use Rattle.event_listener.specs.declared.key.Key.{Key}
 use Rattle.event_listener.specs.declared.error.NoMemory.{NoMemory}
@@ -10,6 +11,11 @@ module _ {N T : Type 0} (gives : N → Result T NoMemory → N → Type 0) where
   pub Draws-more : (n : N) (ts : List T) (m : N) (t : T) (k : N) → Draws gives n ts m → gives m (Ok t) k → Draws gives n (ts ++ t ∷ []) k
   Draws-more n [] m t k d h = (k, subst (λ v. gives v (Ok t) k) d h, refl)
   Draws-more n (x ∷ ts) m t k d h = (d.0, d.1, Draws-more d.0 ts m t k d.2 h)
+
+  -- what is no tag is a refusal
+  pub refused : (n m : N) (r : Result T NoMemory) → ((t : T) → r ≡ Ok t → ⊥) → gives n r m → (error : NoMemory) × gives n (Err error) m
+  refused n m (Ok t) none g = absurd (none t refl)
+  refused n m (Err e) none g = (e, g)
 
   module _ {W S : Type 0} (wakes : S → W → S → Type 0) where
     -- what was done before the turn i
@@ -38,6 +44,9 @@ module _ {T W : Type 0} where
   tasks-more (w ∷ ws) [] t = refl
   tasks-more [] (x ∷ ts) t = refl
   tasks-more (w ∷ ws) (x ∷ ts) t = append_assoc _ (tasks_of (take (length ts) ws)) _ ∙ ap (λ r. option_to_list w.1 ++ r) (tasks-more ws ts t)
+
+  pub notified-none : (a : Bool) (lists : Lists T W) → notified a [] lists ≡ lists
+  notified-none a lists = let e : lists.told ++ told_with a (take 0 lists.waiting) [] ≡ lists.told = append-nil lists.told in λ i. record { told = e i; waiting = lists.waiting }
 
   -- one more is told
   pub notified-more : (a : Bool) (old : Lists T W) (ts : List T) (t : T) → notified a (t ∷ []) (notified a ts old) ≡ notified a (ts ++ t ∷ []) old

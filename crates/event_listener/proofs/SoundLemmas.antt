@@ -1,17 +1,16 @@
 -- How the sound chain and its two lists change.
-use Rattle.std.proofs.Common.{◌≡◌, ◌≢◌, ◌⊎◌, inl, inr, ℕ, ◌+◌, ◌-◌, ◌<◌, ◌≤◌, Bool, true, false, cond, eqb, List, [], ◌∷◌, ◌++◌, length, Option, Some, None, is_some, IsSome, IfSome, refl, sym, ap, subst, ◌∙◌, arith, append_assoc, length-append, eq-eqb}
+use Rattle.std.proofs.Common.{◌≡◌, ◌≢◌, ◌⊎◌, inl, inr, ℕ, ◌+◌, ◌-◌, ◌<◌, Bool, true, false, cond, eqb, List, [], ◌∷◌, ◌++◌, length, Option, Some, None, is_some, IsSome, IfSome, refl, sym, ap, subst, ◌∙◌, arith, append_assoc, length-append, eq-eqb}
 use Rattle.std.proofs.lemmas.Bool.{cases_eq, eqb-true}
 use Rattle.std.proofs.lemmas.Bool.Decides.{nat_tests}
 use Rattle.std.proofs.lemmas.List.{append-nil}
-use Rattle.std.specs.Option.{option_to_list}
 use Rattle.std.specs.Map.{lookup, remove_entry, set_value}
 use Rattle.event_listener.specs.declared.key.Key.{Key}
 use Rattle.event_listener.specs.declared.node.State.{State}
 use Rattle.event_listener.specs.declared.node.State.TheVariants.{Waiting, Told}
 use Rattle.event_listener.specs.Lists.{Notice, same_key, without, with_task, kind_of, listened, notified, told_as, waits_as}
 use Rattle.event_listener.specs.Nodes.{is_told}
-use Rattle.event_listener.specs.Chain.{Link, Linked, Apart, Distinct, Among, AtEach, Entry, Chained, Sound, Beside, fresh_entry, Unlinks, Links_last, walk, first_or, last_or, pieces, told_piece, waiting_piece, lists_at, IsTold, IsWaiting}
-use Rattle.event_listener.proofs.ChainLemmas.{Distinct-parted, Distinct-joined, Distinct-more, Linked-ends, Linked-split, Linked-unlink, Linked-last, walk-front, walk-back, Among-more, Among-last, Among-left, last_or-apart, last_or-append, first_or-apart, Apart-append, Apart-front, Apart-back}
+use Rattle.event_listener.specs.Chain.{Link, Linked, Apart, Distinct, Among, AtEach, Entry, Chains, Sound, Beside, fresh_entry, Unlinks, Links_last, walk, first_or, last_or, pieces, told_piece, waiting_piece, lists_at, IsTold, IsWaiting}
+use Rattle.event_listener.proofs.ChainLemmas.{AllApart, AllApart-turn, SameAt-apart, SameAt-shift, Linked-same, Apart-none, Distinct-parted, Distinct-joined, Distinct-more, Distinct-cross, Distinct-head, Distinct-tail, Linked-ends, Linked-split, Linked-unlink, Linked-last, walk-linked, Among-more, Among-last, Among-left, last_or-apart, first_or-apart, first_or-far, Apart-append, Apart-front, Apart-back, last_or-away}
 use Rattle.event_listener.proofs.EntryLemmas.{KeysAt, IsOne, same_key-self, lookup-pieces, remove-pieces, set-pieces, pieces-append, pieces-same}
 
 -- parts of a list
@@ -54,11 +53,11 @@ Among-cases k (x ∷ ks) ws m =
     tail [] back e ne = absurd (ne (cc))
     tail (y ∷ front) back e ne = (front, back, cc)
 
-last-live : (P : ℕ → Type 0) (p : Option ℕ) (ks : List ℕ) → IfSome p P → AtEach P ks → IfSome (last_or p ks) P
+pub last-live : (P : ℕ → Type 0) (p : Option ℕ) (ks : List ℕ) → IfSome p P → AtEach P ks → IfSome (last_or p ks) P
 last-live P p [] h a = h
 last-live P p (k ∷ ks) h a = last-live P (Some k) ks a.0 a.1
 
-first-live : (P : ℕ → Type 0) (ks : List ℕ) → AtEach P ks → IfSome (first_or ks None) P
+pub first-live : (P : ℕ → Type 0) (ks : List ℕ) → AtEach P ks → IfSome (first_or ks None) P
 first-live P [] a = tt
 first-live P (k ∷ ks) a = a.0
 
@@ -66,14 +65,22 @@ Linked-all : (after before after' before' : Link) → ((x : Option ℕ) → afte
 Linked-all after before after' before' f b p [] n l = (f p ∙ l.0, b n ∙ l.1)
 Linked-all after before after' before' f b p (k ∷ ks) n l = (f p ∙ l.0, b (Some k) ∙ l.1, Linked-all after before after' before' f b (Some k) ks n l.2)
 
-first_or-more : (ws : List ℕ) (at : ℕ) → first_or (option_to_list (first_or ws None)) (Some at) ≡ first_or (ws ++ at ∷ []) None
-first_or-more [] at = refl
-first_or-more (k ∷ ws) at = refl
+-- a chain away from where links changed stays
+Linked-away : (A B A' B' : Link) (f f' b b' : Link) (cs : List ℕ) (u v w : Option ℕ) → Linked A B None cs None → A' None ≡ A None → B' None ≡ B None → ((x : ℕ) → f (Some x) ≡ A (Some x)) → ((x : ℕ) → f' (Some x) ≡ A' (Some x)) → ((x : ℕ) → b (Some x) ≡ B (Some x)) → ((x : ℕ) → b' (Some x) ≡ B' (Some x)) → ((x : Option ℕ) → x ≢ u → x ≢ w → f' x ≡ f x) → ((x : Option ℕ) → x ≢ v → x ≢ w → b' x ≡ b x) → Apart u cs → Apart v cs → Apart w cs → Linked A' B' None cs None
+Linked-away A B A' B' f f' b b' cs u v w l an bn fa fa' bb bb' fs bs au av aw =
+    Linked-same A B A' B' None cs None l an (SameAt-shift A A' f f' cs fa fa' (SameAt-apart f f' u w cs au aw fs)) (SameAt-shift B B' b b' cs bb bb' (SameAt-apart b b' v w cs av aw bs)) bn
+
+AllApart-among : (front : List ℕ) (k : ℕ) (back ws : List ℕ) → AllApart (front ++ k ∷ back) ws → AllApart front ws × Apart (Some k) ws × AllApart back ws
+AllApart-among [] k back ws a = (tt, a.0, a.1)
+AllApart-among (x ∷ front) k back ws a = let r = AllApart-among front k back ws a.1 in ((a.0, r.0), r.1, r.2)
 
 pub same_key-slot : (key : Key) (serial : ℕ) → same_key key (record { slot = key.slot; serial = serial }) ≡ eqb serial key.serial
 same_key-slot key serial = grind (arith, nat_tests)
 
 module _ {T W : Type 0} where
+  IsLive : (ℕ → Option (Entry T W)) → ℕ → Type 0
+  IsLive E k = IsSome (E k)
+
   -- whether the entry has this serial, and then whether it is told
   abbrev pub found_entry : Option (Entry T W) → ℕ → Option Bool
   found_entry None serial = None
@@ -305,175 +312,26 @@ module _ {T W : Type 0} where
   kind-chained E cs d c key =
       rw (told_as-entry E cs d c key, waits_as-entry E cs d c key) (kind-entry key (E key.slot))
 
-  -- whether the entry that was found is told
-  pub found-told : (e : Entry T W) (serial : ℕ) (b : Bool) → e.serial ≡ serial → found_entry (Some e) serial ≡ Some b → is_told e.state ≡ b
-  found-told e serial b h f =
-      let g : ◌≡◌ {A = Option Bool} (Some (is_told e.state)) (Some b) = sym (ap (λ c. cond c (Some (is_told e.state)) None) (eq-eqb e.serial serial h)) ∙ f in
-      cc
-
-  -- the walks of both chains
-  pub chain-is : {after before : Link} {E : ℕ → Option (Entry T W)} {count : ℕ} {last first : Option ℕ} {told serials : ℕ} {ks ws : List ℕ} → Sound after before E count last first told serials ks ws → walk after told (after None) ++ walk after (count - told) first ≡ ks ++ ws
-  chain-is {after} {before} {E} {count} {last} {first} {told} {serials} {ks} {ws} s =
-      let l : length (ks ++ ws) ≡ length ks + length ws = length-append ks ws in
-      let n : length ws ≡ count - told = omega (arith, s.count_is, s.told_is) in
-      let a : walk after told (after None) ≡ ks = subst (λ m. walk after m (after None) ≡ ks) (sym s.told_is) (walk-front after before None ks ws s.chained.linked) in
-      let b : walk after (count - told) first ≡ ws = subst (λ m. walk after m first ≡ ws) n (rw s.first_is (walk-back after before None ks ws s.chained.linked)) in
-      λ i. a i ++ b i
-
-  -- the chain after its node k left
-  pub record Leaves (after' before' : Link) (E' : ℕ → Option (Entry T W)) (count' : ℕ) (last' first' : Option ℕ) (told' serials : ℕ) (k : ℕ) (cs : List ℕ) : Type 0 where
-    pub told_slots : List ℕ
-    pub waiting_slots : List ℕ
-    pub sound : Sound after' before' E' count' last' first' told' serials told_slots waiting_slots
-    pub front : List ℕ
-    pub back : List ℕ
-    pub was : cs ≡ front ++ k ∷ back
-    pub now : told_slots ++ waiting_slots ≡ front ++ back
-
-  module _ (after before after' before' : Link) (E E' : ℕ → Option (Entry T W)) (k : ℕ) (gone : E' k ≡ None) (others : (x : ℕ) → x ≢ k → E' x ≡ E x) where
-    left-fresh : (serials : ℕ) → ((x : ℕ) (e : Entry T W) → E x ≡ Some e → e.serial < serials) → (x : ℕ) (e : Entry T W) → E' x ≡ Some e → e.serial < serials
-    left-fresh serials fresh x e h =
-        elim (cases_eq x k) [
-          | inl q ↦ let z : None ≡ Some e = sym gone ∙ ap E' (sym q) ∙ h in absurd (cc)
-          | inr ne ↦ fresh x e (sym (others x ne) ∙ h)
-        ]
-
-    -- what the two cases share
-    left-chained : (front back : List ℕ) → Unlinks after before after' before' k → Chained after before E (front ++ k ∷ back) → Chained after' before' E' (front ++ back)
-    left-chained front back u h =
-        let parts = Distinct-parted front k back h.distinct in
-        record {
-          linked = Linked-unlink u front back h.linked h.distinct;
-          distinct = Distinct-joined front back parts.front_distinct parts.back_distinct parts.cross;
-          covered = λ x i. left-covered x i;
-        }
-      where
-        left-covered : (x : ℕ) → IsSome (E' x) → Among x (front ++ back)
-        left-covered x i =
-            elim (cases_eq x k) [
-              | inl q ↦ let z : is_some (E' x) ≡ false = ap is_some (ap E' q ∙ gone) in absurd (cc)
-              | inr ne ↦ Among-left x k front back (h.covered x (ap is_some (sym (others x ne)) ∙ i)) ne
-            ]
-
-    pub Sound-leave : (e : Entry T W) (count count' : ℕ) (last last' first first' : Option ℕ) (told told' serials : ℕ) (ks ws : List ℕ) → Sound after before E count last first told serials ks ws → E k ≡ Some e → Unlinks after before after' before' k → count' + 1 ≡ count → (last ≡ Some k → last' ≡ before (Some k)) → (last ≢ Some k → last' ≡ last) → (first ≡ Some k → first' ≡ after (Some k)) → (first ≢ Some k → first' ≡ first) → told' + cond (is_told e.state) 1 0 ≡ told → Leaves after' before' E' count' last' first' told' serials k (ks ++ ws)
-    Sound-leave e count count' last last' first first' told told' serials ks ws s here u counted moved_last stays_last moved stays telling =
-        elim (Among-cases k ks ws (s.chained.covered k (ap is_some here))) [
-          | inl m ↦ from_told m.0 m.1 m.2
-          | inr m ↦ from_waiting m.0 m.1 m.2
-        ]
-      where
-        new_last : (front back : List ℕ) → Apart (Some k) back → last ≡ last_or None (front ++ k ∷ back) → before (Some k) ≡ last_or None front → last' ≡ last_or None (front ++ back)
-        new_last front [] a c b = moved_last (c ∙ last_or-append None front (k ∷ [])) ∙ b ∙ sym (last_or-append None front [])
-        new_last front (x ∷ back) a c b =
-            let e : last ≡ last_or (Some x) back = c ∙ last_or-append None front (k ∷ x ∷ back) in
-            stays_last (λ q. last_or-apart (Some k) (Some x) back a.0 a.1 (sym q ∙ e)) ∙ e ∙ sym (last_or-append None front (x ∷ back))
-
-        from_told : (front back : List ℕ) → ks ≡ front ++ k ∷ back → Leaves after' before' E' count' last' first' told' serials k (ks ++ ws)
-        from_told front back split =
-            let was : ks ++ ws ≡ front ++ k ∷ (back ++ ws) = ap (λ r. r ++ ws) split ∙ append_assoc front (k ∷ back) ws in
-            let now : (front ++ back) ++ ws ≡ front ++ (back ++ ws) = append_assoc front back ws in
-            let h : Chained after before E (front ++ k ∷ (back ++ ws)) = subst (Chained after before E) was s.chained in
-            let parts = Distinct-parted front k (back ++ ws) h.distinct in
-            let all : AtEach (λ x. IsTold (E x)) (front ++ k ∷ back) = subst (AtEach (λ x. IsTold (E x))) split s.tolds in
-            let one : is_told e.state ≡ true = told-is k (E k) e here (AtEach-among (λ x. IsTold (E x)) k front back all) in
-            let keeps : (x : ℕ) → x ≢ k → IsTold (E x) → IsTold (E' x) = λ x ne t. subst IsTold (sym (others x ne)) t in
-            let waits : (x : ℕ) → x ≢ k → IsWaiting (E x) → IsWaiting (E' x) = λ x ne t. subst IsWaiting (sym (others x ne)) t in
-            let apart : Apart (Some k) ws = Apart-back (Some k) back ws parts.back_apart in
-            let ne : first ≢ Some k = λ q. first_or-apart (Some k) None ws (λ z. cc) apart (sym q ∙ s.first_is) in
-            let bk : before (Some k) ≡ last_or None front = (Linked-ends after before None front (Some k) (Linked-split after before None front k (back ++ ws) None h.linked).0).1 in
-            let c1 : told' + 1 ≡ told = subst (λ b. told' + cond b 1 0 ≡ told) one telling in
-            let l1 : length ks ≡ length (front ++ k ∷ back) = ap length split in
-            let la : length (front ++ k ∷ back) ≡ length front + length (k ∷ back) = length-append front (k ∷ back) in
-            let lb : length (front ++ back) ≡ length front + length back = length-append front back in
-            let lc : length (ks ++ ws) ≡ length ks + length ws = length-append ks ws in
-            let ld : length ((front ++ back) ++ ws) ≡ length (front ++ back) + length ws = length-append (front ++ back) ws in
-            record {
-              told_slots = front ++ back;
-              waiting_slots = ws;
-              sound = record {
-                chained = subst (Chained after' before' E') (sym now) (left-chained front (back ++ ws) u h);
-                tolds = AtEach-append (λ x. IsTold (E' x)) front back
-                    (AtEach-same (λ x. IsTold (E x)) (λ x. IsTold (E' x)) k front keeps parts.front_apart (AtEach-front (λ x. IsTold (E x)) front (k ∷ back) all))
-                    (AtEach-same (λ x. IsTold (E x)) (λ x. IsTold (E' x)) k back keeps (Apart-front (Some k) back ws parts.back_apart) (AtEach-back (λ x. IsTold (E x)) front (k ∷ back) all).1);
-                waits = AtEach-same (λ x. IsWaiting (E x)) (λ x. IsWaiting (E' x)) k ws waits apart s.waits;
-                count_is = omega (arith, s.count_is);
-                last_is = new_last front back (Apart-front (Some k) back ws parts.back_apart) (s.last_is ∙ ap (last_or None) split) bk;
-                first_is = stays ne ∙ s.first_is;
-                told_is = omega (arith, s.told_is);
-                fresh = left-fresh serials s.fresh;
-              };
-              front = front;
-              back = back ++ ws;
-              was = was;
-              now = now;
-            }
-
-        from_waiting : (front back : List ℕ) → ws ≡ front ++ k ∷ back → Leaves after' before' E' count' last' first' told' serials k (ks ++ ws)
-        from_waiting front back split =
-            let was : ks ++ ws ≡ (ks ++ front) ++ k ∷ back = ap (λ r. ks ++ r) split ∙ sym (append_assoc ks front (k ∷ back)) in
-            let now : ks ++ (front ++ back) ≡ (ks ++ front) ++ back = sym (append_assoc ks front back) in
-            let h : Chained after before E ((ks ++ front) ++ k ∷ back) = subst (Chained after before E) was s.chained in
-            let parts = Distinct-parted (ks ++ front) k back h.distinct in
-            let all : AtEach (λ x. IsWaiting (E x)) (front ++ k ∷ back) = subst (AtEach (λ x. IsWaiting (E x))) split s.waits in
-            let one : is_told e.state ≡ false = waiting-is k (E k) e here (AtEach-among (λ x. IsWaiting (E x)) k front back all) in
-            let keeps : (x : ℕ) → x ≢ k → IsTold (E x) → IsTold (E' x) = λ x ne t. subst IsTold (sym (others x ne)) t in
-            let waits : (x : ℕ) → x ≢ k → IsWaiting (E x) → IsWaiting (E' x) = λ x ne t. subst IsWaiting (sym (others x ne)) t in
-            let apart : Apart (Some k) ks = Apart-front (Some k) ks front parts.front_apart in
-            let fapart : Apart (Some k) front = Apart-back (Some k) ks front parts.front_apart in
-            let nl : last ≢ Some k = λ q. last_or-apart (Some k) None ks (λ z. cc) apart (sym q ∙ s.last_is) in
-            let c1 : told' + 0 ≡ told = subst (λ b. told' + cond b 1 0 ≡ told) one telling in
-            let l1 : length ws ≡ length (front ++ k ∷ back) = ap length split in
-            let la : length (front ++ k ∷ back) ≡ length front + length (k ∷ back) = length-append front (k ∷ back) in
-            let lb : length (front ++ back) ≡ length front + length back = length-append front back in
-            let lc : length (ks ++ ws) ≡ length ks + length ws = length-append ks ws in
-            let ld : length (ks ++ (front ++ back)) ≡ length ks + length (front ++ back) = length-append ks (front ++ back) in
-            record {
-              told_slots = ks;
-              waiting_slots = front ++ back;
-              sound = record {
-                chained = subst (Chained after' before' E') (sym now) (left-chained (ks ++ front) back u h);
-                tolds = AtEach-same (λ x. IsTold (E x)) (λ x. IsTold (E' x)) k ks keeps apart s.tolds;
-                waits = AtEach-append (λ x. IsWaiting (E' x)) front back
-                    (AtEach-same (λ x. IsWaiting (E x)) (λ x. IsWaiting (E' x)) k front waits fapart (AtEach-front (λ x. IsWaiting (E x)) front (k ∷ back) all))
-                    (AtEach-same (λ x. IsWaiting (E x)) (λ x. IsWaiting (E' x)) k back waits parts.back_apart (AtEach-back (λ x. IsWaiting (E x)) front (k ∷ back) all).1);
-                count_is = omega (arith, s.count_is);
-                last_is = stays_last nl ∙ s.last_is;
-                first_is = new_first front fapart (s.first_is ∙ ap (λ r. first_or r None) split) (Linked-ends after before (Some k) back None (Linked-split after before None (ks ++ front) k back None h.linked).1).0;
-                told_is = omega (arith, s.told_is);
-                fresh = left-fresh serials s.fresh;
-              };
-              front = ks ++ front;
-              back = back;
-              was = was;
-              now = now;
-            }
-          where
-            new_first : (xs : List ℕ) → Apart (Some k) xs → first ≡ first_or (xs ++ k ∷ back) None → after (Some k) ≡ first_or back None → first' ≡ first_or (xs ++ back) None
-            new_first [] a c n = moved c ∙ n
-            new_first (x ∷ xs) a c n = stays (λ q. a.0 (sym q ∙ c)) ∙ c
-
-  pub all-live : {after before : Link} {E : ℕ → Option (Entry T W)} {count : ℕ} {last first : Option ℕ} {told serials : ℕ} {ks ws : List ℕ} → Sound after before E count last first told serials ks ws → AtEach (λ x. IsSome (E x)) (ks ++ ws)
-  all-live {after} {before} {E} {count} {last} {first} {told} {serials} {ks} {ws} s =
+  pub all-live : (E : ℕ → Option (Entry T W)) (ks ws : List ℕ) → AtEach (λ x. IsTold (E x)) ks → AtEach (λ x. IsWaiting (E x)) ws → AtEach (λ x. IsSome (E x)) (ks ++ ws)
+  all-live E ks ws t w =
       AtEach-append (λ x. IsSome (E x)) ks ws
-      (AtEach-weaker (λ x. IsTold (E x)) (λ x. IsSome (E x)) ks (λ x. told-live (E x)) s.tolds)
-      (AtEach-weaker (λ x. IsWaiting (E x)) (λ x. IsSome (E x)) ws (λ x. waiting-live (E x)) s.waits)
+      (AtEach-weaker (λ x. IsTold (E x)) (λ x. IsSome (E x)) ks (λ x. told-live (E x)) t)
+      (AtEach-weaker (λ x. IsWaiting (E x)) (λ x. IsSome (E x)) ws (λ x. waiting-live (E x)) w)
 
-  -- the last of the chain, where there is one, is a node
-  pub end-live : {after before : Link} {E : ℕ → Option (Entry T W)} {count : ℕ} {last first : Option ℕ} {told serials : ℕ} {ks ws : List ℕ} → Sound after before E count last first told serials ks ws → IfSome (before None) (λ x. IsSome (E x))
-  end-live {after} {before} {E} {count} {last} {first} {told} {serials} {ks} {ws} s =
-      subst (λ v. IfSome v (λ x. IsSome (E x))) (sym (Linked-ends after before None (ks ++ ws) None s.chained.linked).1)
-      (last-live (λ x. IsSome (E x)) None (ks ++ ws) tt (all-live s))
+  -- the last of a chain, where there is one, is a node
+  pub last-of-live : (after before : Link) (E : ℕ → Option (Entry T W)) (cs : List ℕ) → Linked after before None cs None → AtEach (λ x. IsSome (E x)) cs → IfSome (before None) (λ x. IsSome (E x))
+  last-of-live after before E cs l a =
+      subst (λ v. IfSome v (λ x. IsSome (E x))) (sym (Linked-ends after before None cs None l).1) (last-live (λ x. IsSome (E x)) None cs tt a)
 
-  pub beside : {after before : Link} {E : ℕ → Option (Entry T W)} {count : ℕ} {last first : Option ℕ} {told serials : ℕ} {ks ws : List ℕ} → Sound after before E count last first told serials ks ws → (k : ℕ) → IsSome (E k) → Beside after before E k
-  beside {after} {before} {E} {count} {last} {first} {told} {serials} {ks} {ws} s k live =
-      let m = s.chained.covered k live in
+  pub beside-in : (after before : Link) (E : ℕ → Option (Entry T W)) (cs : List ℕ) → Linked after before None cs None → Distinct cs → AtEach (λ x. IsSome (E x)) cs → (k : ℕ) → Among k cs → Beside after before E k
+  beside-in after before E cs linked d live k m =
       let front = m.0 in
       let back = m.1 in
-      let parts = Distinct-parted front k back (subst Distinct m.2 s.chained.distinct) in
-      let l = Linked-split after before None front k back None (subst (λ v. Linked after before None v None) m.2 s.chained.linked) in
+      let parts = Distinct-parted front k back (subst Distinct m.2 d) in
+      let l = Linked-split after before None front k back None (subst (λ v. Linked after before None v None) m.2 linked) in
       let el = (Linked-ends after before None front (Some k) l.0).1 in
       let er = (Linked-ends after before (Some k) back None l.1).0 in
-      let all : AtEach (λ x. IsSome (E x)) (front ++ k ∷ back) = subst (AtEach (λ x. IsSome (E x))) m.2 (all-live s) in
+      let all : AtEach (λ x. IsSome (E x)) (front ++ k ∷ back) = subst (AtEach (λ x. IsSome (E x))) m.2 live in
       record {
         before_live = subst (λ v. IfSome v (λ x. IsSome (E x))) (sym el) (last-live (λ x. IsSome (E x)) None front tt (AtEach-front (λ x. IsSome (E x)) front (k ∷ back) all));
         after_live = subst (λ v. IfSome v (λ x. IsSome (E x))) (sym er) (first-live (λ x. IsSome (E x)) back (AtEach-back (λ x. IsSome (E x)) front (k ∷ back) all).1);
@@ -481,46 +339,136 @@ module _ {T W : Type 0} where
         after_other = λ q. first_or-apart (Some k) None back (λ z. cc) parts.back_apart (sym q ∙ er);
       }
 
-  -- a told one is counted
-  pub told-fits : {after before : Link} {E : ℕ → Option (Entry T W)} {count : ℕ} {last first : Option ℕ} {told serials : ℕ} {ks ws : List ℕ} → Sound after before E count last first told serials ks ws → (k : ℕ) (e : Entry T W) → E k ≡ Some e → cond (is_told e.state) 1 0 ≤ told
-  told-fits {after} {before} {E} {count} {last} {first} {told} {serials} {ks} {ws} s k e here =
-      elim (Among-cases k ks ws (s.chained.covered k (ap is_some here))) [
-        | inl m ↦ let l : length ks ≡ length m.0 + length (k ∷ m.1) = ap length m.2 ∙ length-append m.0 (k ∷ m.1) in
-            let b = cond_le (is_told e.state) in omega (arith, s.told_is)
-        | inr m ↦ let all : AtEach (λ x. IsWaiting (E x)) (m.0 ++ k ∷ m.1) = subst (AtEach (λ x. IsWaiting (E x))) m.2 s.waits in
-            rw (waiting-is k (E k) e here (AtEach-among (λ x. IsWaiting (E x)) k m.0 m.1 all)) (omega arith)
-      ]
-    where
-      cond_le : (b : Bool) → cond b 1 0 ≤ 1
-      cond_le true = omega arith
-      cond_le false = omega arith
+  -- the chains after the told node k left
+  module _ {TA TB WA WB : Link} {E : ℕ → Option (Entry T W)} {count told serials : ℕ} {ks ws : List ℕ} (s : Sound TA TB WA WB E count told serials ks ws) (TA' TB' WA' WB' : Link) (E' : ℕ → Option (Entry T W)) (k : ℕ) (gone : E' k ≡ None) (others : (x : ℕ) → x ≢ k → E' x ≡ E x) where
+    left-fresh : (x : ℕ) (e : Entry T W) → E' x ≡ Some e → e.serial < serials
+    left-fresh x e h =
+        elim (cases_eq x k) [
+          | inl q ↦ let z : None ≡ Some e = sym gone ∙ ap E' (sym q) ∙ h in absurd (cc)
+          | inr ne ↦ s.fresh x e (sym (others x ne) ∙ h)
+        ]
+
+    left-covered : (front back : List ℕ) → ks ++ ws ≡ front ++ k ∷ back → (x : ℕ) → IsSome (E' x) → Among x (front ++ back)
+    left-covered front back was x i =
+        elim (cases_eq x k) [
+          | inl q ↦ let z : is_some (E' x) ≡ false = ap is_some (ap E' q ∙ gone) in absurd (cc)
+          | inr ne ↦ Among-left x k front back (subst (Among x) was (s.covered x (ap is_some (sym (others x ne)) ∙ i))) ne
+        ]
+
+    pub Sound-leave-told : Among k ks → Unlinks TA TB TA' TB' k → WA' None ≡ WA None → WB' None ≡ WB None → ((x : ℕ) → TA (Some x) ≡ WA (Some x)) → ((x : ℕ) → TA' (Some x) ≡ WA' (Some x)) → ((x : ℕ) → TB (Some x) ≡ WB (Some x)) → ((x : ℕ) → TB' (Some x) ≡ WB' (Some x)) → (count' told' : ℕ) → count' + 1 ≡ count → told' + 1 ≡ told → (front : List ℕ) × (back : List ℕ) × (ks ≡ front ++ k ∷ back) × Sound TA' TB' WA' WB' E' count' told' serials (front ++ back) ws
+    Sound-leave-told m u wa wb fa fa' bb bb' count' told' counted telling =
+        let front = m.0 in
+        let back = m.1 in
+        let split = m.2 in
+        let was : ks ++ ws ≡ front ++ k ∷ (back ++ ws) = ap (λ r. r ++ ws) split ∙ append_assoc front (k ∷ back) ws in
+        let now : (front ++ back) ++ ws ≡ front ++ (back ++ ws) = append_assoc front back ws in
+        let parts = Distinct-parted front k (back ++ ws) (subst Distinct was s.chains.distinct) in
+        let l : Linked TA TB None (front ++ k ∷ back) None = subst (λ r. Linked TA TB None r None) split s.chains.told in
+        let d : Distinct (front ++ k ∷ back) = subst Distinct split (Distinct-head ks ws s.chains.distinct) in
+        let cut = Linked-split TA TB None front k back None l in
+        let el = (Linked-ends TA TB None front (Some k) cut.0).1 in
+        let er = (Linked-ends TA TB (Some k) back None cut.1).0 in
+        let cross = AllApart-among front k back ws (subst (λ r. AllApart r ws) split (Distinct-cross ks ws s.chains.distinct)) in
+        let all : AtEach (λ x. IsTold (E x)) (front ++ k ∷ back) = subst (AtEach (λ x. IsTold (E x))) split s.tolds in
+        let keeps : (x : ℕ) → x ≢ k → IsTold (E x) → IsTold (E' x) = λ x ne t. subst IsTold (sym (others x ne)) t in
+        let waits : (x : ℕ) → x ≢ k → IsWaiting (E x) → IsWaiting (E' x) = λ x ne t. subst IsWaiting (sym (others x ne)) t in
+        let l1 : length ks ≡ length (front ++ k ∷ back) = ap length split in
+        let la : length (front ++ k ∷ back) ≡ length front + length (k ∷ back) = length-append front (k ∷ back) in
+        let lb : length (front ++ back) ≡ length front + length back = length-append front back in
+        let lc : length (ks ++ ws) ≡ length ks + length ws = length-append ks ws in
+        let ld : length ((front ++ back) ++ ws) ≡ length (front ++ back) + length ws = length-append (front ++ back) ws in (
+          front,
+          back,
+          split,
+          record {
+            chains = record {
+              told = Linked-unlink u front back l d;
+              waiting = Linked-away WA WB WA' WB' TA TA' TB TB' ws (TB (Some k)) (TA (Some k)) (Some k) s.chains.waiting wa wb fa fa' bb bb' u.forward_rest u.backward_rest
+                  (subst (λ v. Apart v ws) (sym el) (last_or-away None front ws (Apart-none ws) cross.0)) (subst (λ v. Apart v ws) (sym er) (first_or-far back ws cross.2)) cross.1;
+              distinct = subst Distinct (sym now) (Distinct-joined front (back ++ ws) parts.front_distinct parts.back_distinct parts.cross);
+            };
+            covered = λ x i. subst (Among x) (sym now) (left-covered front (back ++ ws) was x i);
+            tolds = AtEach-append (λ x. IsTold (E' x)) front back
+                (AtEach-same (λ x. IsTold (E x)) (λ x. IsTold (E' x)) k front keeps parts.front_apart (AtEach-front (λ x. IsTold (E x)) front (k ∷ back) all))
+                (AtEach-same (λ x. IsTold (E x)) (λ x. IsTold (E' x)) k back keeps (Apart-front (Some k) back ws parts.back_apart) (AtEach-back (λ x. IsTold (E x)) front (k ∷ back) all).1);
+            waits = AtEach-same (λ x. IsWaiting (E x)) (λ x. IsWaiting (E' x)) k ws waits cross.1 s.waits;
+            count_is = omega (arith, s.count_is);
+            told_is = omega (arith, s.told_is);
+            fresh = left-fresh;
+          },
+        )
+
+    pub Sound-leave-waiting : Among k ws → Unlinks WA WB WA' WB' k → TA' None ≡ TA None → TB' None ≡ TB None → ((x : ℕ) → WA (Some x) ≡ TA (Some x)) → ((x : ℕ) → WA' (Some x) ≡ TA' (Some x)) → ((x : ℕ) → WB (Some x) ≡ TB (Some x)) → ((x : ℕ) → WB' (Some x) ≡ TB' (Some x)) → (count' : ℕ) → count' + 1 ≡ count → (front : List ℕ) × (back : List ℕ) × (ws ≡ front ++ k ∷ back) × Sound TA' TB' WA' WB' E' count' told serials ks (front ++ back)
+    Sound-leave-waiting m u wa wb fa fa' bb bb' count' counted =
+        let front = m.0 in
+        let back = m.1 in
+        let split = m.2 in
+        let was : ks ++ ws ≡ (ks ++ front) ++ k ∷ back = ap (λ r. ks ++ r) split ∙ sym (append_assoc ks front (k ∷ back)) in
+        let now : ks ++ (front ++ back) ≡ (ks ++ front) ++ back = sym (append_assoc ks front back) in
+        let parts = Distinct-parted (ks ++ front) k back (subst Distinct was s.chains.distinct) in
+        let l : Linked WA WB None (front ++ k ∷ back) None = subst (λ r. Linked WA WB None r None) split s.chains.waiting in
+        let d : Distinct (front ++ k ∷ back) = subst Distinct split (Distinct-tail ks ws s.chains.distinct) in
+        let cut = Linked-split WA WB None front k back None l in
+        let el = (Linked-ends WA WB None front (Some k) cut.0).1 in
+        let er = (Linked-ends WA WB (Some k) back None cut.1).0 in
+        let cross = AllApart-among front k back ks (subst (λ r. AllApart r ks) split (AllApart-turn ks ws (Distinct-cross ks ws s.chains.distinct))) in
+        let all : AtEach (λ x. IsWaiting (E x)) (front ++ k ∷ back) = subst (AtEach (λ x. IsWaiting (E x))) split s.waits in
+        let fapart : Apart (Some k) front = Apart-back (Some k) ks front parts.front_apart in
+        let keeps : (x : ℕ) → x ≢ k → IsTold (E x) → IsTold (E' x) = λ x ne t. subst IsTold (sym (others x ne)) t in
+        let waits : (x : ℕ) → x ≢ k → IsWaiting (E x) → IsWaiting (E' x) = λ x ne t. subst IsWaiting (sym (others x ne)) t in
+        let l1 : length ws ≡ length (front ++ k ∷ back) = ap length split in
+        let la : length (front ++ k ∷ back) ≡ length front + length (k ∷ back) = length-append front (k ∷ back) in
+        let lb : length (front ++ back) ≡ length front + length back = length-append front back in
+        let lc : length (ks ++ ws) ≡ length ks + length ws = length-append ks ws in
+        let ld : length (ks ++ (front ++ back)) ≡ length ks + length (front ++ back) = length-append ks (front ++ back) in (
+          front,
+          back,
+          split,
+          record {
+            chains = record {
+              told = Linked-away TA TB TA' TB' WA WA' WB WB' ks (WB (Some k)) (WA (Some k)) (Some k) s.chains.told wa wb fa fa' bb bb' u.forward_rest u.backward_rest
+                  (subst (λ v. Apart v ks) (sym el) (last_or-away None front ks (Apart-none ks) cross.0)) (subst (λ v. Apart v ks) (sym er) (first_or-far back ks cross.2)) cross.1;
+              waiting = Linked-unlink u front back l d;
+              distinct = subst Distinct (sym now) (Distinct-joined (ks ++ front) back parts.front_distinct parts.back_distinct parts.cross);
+            };
+            covered = λ x i. subst (Among x) (sym now) (left-covered (ks ++ front) back was x i);
+            tolds = AtEach-same (λ x. IsTold (E x)) (λ x. IsTold (E' x)) k ks keeps cross.1 s.tolds;
+            waits = AtEach-append (λ x. IsWaiting (E' x)) front back
+                (AtEach-same (λ x. IsWaiting (E x)) (λ x. IsWaiting (E' x)) k front waits fapart (AtEach-front (λ x. IsWaiting (E x)) front (k ∷ back) all))
+                (AtEach-same (λ x. IsWaiting (E x)) (λ x. IsWaiting (E' x)) k back waits parts.back_apart (AtEach-back (λ x. IsWaiting (E x)) front (k ∷ back) all).1);
+            count_is = omega (arith, s.count_is);
+            told_is = s.told_is;
+            fresh = left-fresh;
+          },
+        )
 
   -- a listener that is added
-  pub Sound-insert : {after before : Link} {E : ℕ → Option (Entry T W)} {count : ℕ} {last first : Option ℕ} {told serials : ℕ} {ks ws : List ℕ} → Sound after before E count last first told serials ks ws → (after' before' : Link) (E' : ℕ → Option (Entry T W)) (count' : ℕ) (first' : Option ℕ) (serials' at : ℕ) → E at ≡ None → Links_last after before after' before' at → E' at ≡ Some (fresh_entry serials) → ((x : ℕ) → x ≢ at → E' x ≡ E x) → count' ≡ count + 1 → first' ≡ first_or (option_to_list first) (Some at) → serials' ≡ serials + 1 → Sound after' before' E' count' last first' told serials' ks (ws ++ at ∷ [])
-  Sound-insert {after} {before} {E} {count} {last} {first} {told} {serials} {ks} {ws} s after' before' E' count' first' serials' at dead u made others counted cur more =
+  pub Sound-insert : {TA TB WA WB : Link} {E : ℕ → Option (Entry T W)} {count told serials : ℕ} {ks ws : List ℕ} → Sound TA TB WA WB E count told serials ks ws → (TA' TB' WA' WB' : Link) (E' : ℕ → Option (Entry T W)) (count' serials' at : ℕ) → E at ≡ None → Links_last WA WB WA' WB' at → TA' None ≡ TA None → TB' None ≡ TB None → ((x : ℕ) → WA (Some x) ≡ TA (Some x)) → ((x : ℕ) → WA' (Some x) ≡ TA' (Some x)) → ((x : ℕ) → WB (Some x) ≡ TB (Some x)) → ((x : ℕ) → WB' (Some x) ≡ TB' (Some x)) → E' at ≡ Some (fresh_entry serials) → ((x : ℕ) → x ≢ at → E' x ≡ E x) → count' ≡ count + 1 → serials' ≡ serials + 1 → Sound TA' TB' WA' WB' E' count' told serials' ks (ws ++ at ∷ [])
+  Sound-insert {TA} {TB} {WA} {WB} {E} {count} {told} {serials} {ks} {ws} s TA' TB' WA' WB' E' count' serials' at dead u ta tb fa fa' bb bb' made others counted more =
       let assoc : (ks ++ ws) ++ at ∷ [] ≡ ks ++ (ws ++ at ∷ []) = append_assoc ks ws (at ∷ []) in
-      let apart = Apart-dead E at (ks ++ ws) (all-live s) dead in
+      let apart = Apart-dead E at (ks ++ ws) (all-live E ks ws s.tolds s.waits) dead in
       let ak = Apart-front (Some at) ks ws apart in
       let aw = Apart-back (Some at) ks ws apart in
       let keeps : (x : ℕ) → x ≢ at → IsTold (E x) → IsTold (E' x) = λ x ne t. subst IsTold (sym (others x ne)) t in
       let waits : (x : ℕ) → x ≢ at → IsWaiting (E x) → IsWaiting (E' x) = λ x ne t. subst IsWaiting (sym (others x ne)) t in
+      let el = (Linked-ends WA WB None ws None s.chains.waiting).1 in
       let l1 : length (ks ++ ws) ≡ length ks + length ws = length-append ks ws in
       let l2 : length (ks ++ (ws ++ at ∷ [])) ≡ length ks + length (ws ++ at ∷ []) = length-append ks (ws ++ at ∷ []) in
       let l3 : length (ws ++ at ∷ []) ≡ length ws + 1 = length-append ws (at ∷ []) in
       record {
-        chained = subst (Chained after' before' E') assoc (record {
-          linked = Linked-last u (ks ++ ws) s.chained.linked s.chained.distinct apart;
-          distinct = Distinct-more at (ks ++ ws) apart s.chained.distinct;
-          covered = λ x i. elim (cases_eq x at) [
-            | inl q ↦ subst (λ v. Among v ((ks ++ ws) ++ at ∷ [])) (sym q) (Among-last at (ks ++ ws))
-            | inr ne ↦ Among-more x at (ks ++ ws) (s.chained.covered x (ap is_some (sym (others x ne)) ∙ i))
-          ];
-        });
+        chains = record {
+          told = Linked-away TA TB TA' TB' WA WA' WB WB' ks (WB None) None (Some at) s.chains.told ta tb fa fa' bb bb' u.forward_rest u.backward_rest
+              (subst (λ v. Apart v ks) (sym el) (last_or-away None ws ks (Apart-none ks) (AllApart-turn ks ws (Distinct-cross ks ws s.chains.distinct)))) (Apart-none ks) ak;
+          waiting = Linked-last u ws s.chains.waiting (Distinct-tail ks ws s.chains.distinct) aw;
+          distinct = subst Distinct assoc (Distinct-more at (ks ++ ws) apart s.chains.distinct);
+        };
+        covered = λ x i. subst (Among x) assoc (elim (cases_eq x at) [
+          | inl q ↦ subst (λ v. Among v ((ks ++ ws) ++ at ∷ [])) (sym q) (Among-last at (ks ++ ws))
+          | inr ne ↦ Among-more x at (ks ++ ws) (s.covered x (ap is_some (sym (others x ne)) ∙ i))
+        ]);
         tolds = AtEach-same (λ x. IsTold (E x)) (λ x. IsTold (E' x)) at ks keeps ak s.tolds;
         waits = AtEach-append (λ x. IsWaiting (E' x)) ws (at ∷ []) (AtEach-same (λ x. IsWaiting (E x)) (λ x. IsWaiting (E' x)) at ws waits aw s.waits) (subst IsWaiting (sym made) tt, tt);
         count_is = omega (arith, s.count_is);
-        last_is = s.last_is;
-        first_is = cur ∙ ap (λ c. first_or (option_to_list c) (Some at)) s.first_is ∙ first_or-more ws at;
         told_is = s.told_is;
         fresh = λ x e h. elim (cases_eq x at) [
           | inl q ↦ let f : ◌≡◌ {A = Entry T W} (fresh_entry serials) e = fresh-same e (sym made ∙ ap E' (sym q) ∙ h) in
@@ -532,66 +480,136 @@ module _ {T W : Type 0} where
       fresh-same : (e : Entry T W) → Some (fresh_entry serials) ≡ Some e → ◌≡◌ {A = Entry T W} (fresh_entry serials) e
       fresh-same e h = cc
 
-  -- a node gets another state, and no link changes
-  module _ {after before : Link} {E : ℕ → Option (Entry T W)} {count : ℕ} {last first : Option ℕ} {told serials : ℕ} {ks ws : List ℕ} (s : Sound after before E count last first told serials ks ws) (after' before' : Link) (E' : ℕ → Option (Entry T W)) (k : ℕ) (e : Entry T W) (here : E k ≡ Some e) (f : (x : Option ℕ) → after' x ≡ after x) (b : (x : Option ℕ) → before' x ≡ before x) (state : State T W) (now : E' k ≡ Some (record { serial = e.serial; state = state })) (others : (x : ℕ) → x ≢ k → E' x ≡ E x) where
-    restated : Chained after' before' E' (ks ++ ws)
-    restated =
-        record {
-          linked = Linked-all after before after' before' f b None (ks ++ ws) None s.chained.linked;
-          distinct = s.chained.distinct;
-          covered = λ x i. elim (cases_eq x k) [
-            | inl q ↦ subst (λ v. Among v (ks ++ ws)) (sym q) (s.chained.covered k (ap is_some here))
-            | inr ne ↦ s.chained.covered x (ap is_some (sym (others x ne)) ∙ i)
-          ];
-        }
+  -- The fields while a notice tells: the first waiting nodes have their new state, and still stand in the waiting chain.
+  pub record Telling (TA TB WA WB : Link) (E : ℕ → Option (Entry T W)) (count told serials : ℕ) (ks front back : List ℕ) : Type 0 where
+    pub chains : Chains TA TB WA WB ks (front ++ back)
+    pub covered : (k : ℕ) → IsSome (E k) → Among k ((ks ++ front) ++ back)
+    pub tolds : AtEach (λ k. IsTold (E k)) (ks ++ front)
+    pub waits : AtEach (λ k. IsWaiting (E k)) back
+    pub count_is : length ((ks ++ front) ++ back) ≡ count
+    pub told_is : told ≡ length ks
+    pub fresh : (k : ℕ) (e : Entry T W) → E k ≡ Some e → e.serial < serials
 
-    restated-fresh : (x : ℕ) (d : Entry T W) → E' x ≡ Some d → d.serial < serials
-    restated-fresh x d h =
-        elim (cases_eq x k) [
+  pub telling-begun : {TA TB WA WB : Link} {E : ℕ → Option (Entry T W)} {count told serials : ℕ} {ks ws : List ℕ} → Sound TA TB WA WB E count told serials ks ws → Telling TA TB WA WB E count told serials ks [] ws
+  telling-begun {TA} {TB} {WA} {WB} {E} {count} {told} {serials} {ks} {ws} s =
+      let e : ks ++ [] ≡ ks = append-nil ks in
+      record {
+        chains = s.chains;
+        covered = λ k i. subst (λ r. Among k (r ++ ws)) (sym e) (s.covered k i);
+        tolds = subst (AtEach (λ k. IsTold (E k))) (sym e) s.tolds;
+        waits = s.waits;
+        count_is = ap (λ r. length (r ++ ws)) e ∙ s.count_is;
+        told_is = s.told_is;
+        fresh = s.fresh;
+      }
+
+  pub telling-distinct : {TA TB WA WB : Link} {E : ℕ → Option (Entry T W)} {count told serials : ℕ} {ks front back : List ℕ} → Telling TA TB WA WB E count told serials ks front back → Distinct ((ks ++ front) ++ back)
+  telling-distinct {TA} {TB} {WA} {WB} {E} {count} {told} {serials} {ks} {front} {back} s = subst Distinct (sym (append_assoc ks front back)) s.chains.distinct
+
+  -- one more is told in its place
+  pub telling-more : {TA TB WA WB : Link} {E : ℕ → Option (Entry T W)} {count told serials : ℕ} {ks front back : List ℕ} {k : ℕ} → Telling TA TB WA WB E count told serials ks front (k ∷ back) → (TA' TB' WA' WB' : Link) (E' : ℕ → Option (Entry T W)) (e : Entry T W) → ((x : Option ℕ) → TA' x ≡ TA x) → ((x : Option ℕ) → TB' x ≡ TB x) → ((x : Option ℕ) → WA' x ≡ WA x) → ((x : Option ℕ) → WB' x ≡ WB x) → E k ≡ Some e → (additional : Bool) (tag : T) → E' k ≡ Some (record { serial = e.serial; state = Told additional tag }) → ((x : ℕ) → x ≢ k → E' x ≡ E x) → Telling TA' TB' WA' WB' E' count told serials ks (front ++ k ∷ []) back
+  telling-more {TA} {TB} {WA} {WB} {E} {count} {told} {serials} {ks} {front} {back} {k} s TA' TB' WA' WB' E' e fa fb ga gb here additional tag now others =
+      let one : (ks ++ front) ++ k ∷ [] ≡ ks ++ (front ++ k ∷ []) = append_assoc ks front (k ∷ []) in
+      let run : front ++ k ∷ back ≡ (front ++ k ∷ []) ++ back = sym (append_assoc front (k ∷ []) back) in
+      let whole : (ks ++ front) ++ k ∷ back ≡ (ks ++ (front ++ k ∷ [])) ++ back = sym (append_assoc (ks ++ front) (k ∷ []) back) ∙ ap (λ r. r ++ back) one in
+      let parts = Distinct-parted (ks ++ front) k back (telling-distinct s) in
+      let wl : Linked WA WB None ((front ++ k ∷ []) ++ back) None = subst (λ r. Linked WA WB None r None) run s.chains.waiting in
+      record {
+        chains = record {
+          told = Linked-all TA TB TA' TB' fa fb None ks None s.chains.told;
+          waiting = Linked-all WA WB WA' WB' ga gb None ((front ++ k ∷ []) ++ back) None wl;
+          distinct = subst (λ r. Distinct (ks ++ r)) run s.chains.distinct;
+        };
+        covered = λ x i. subst (Among x) whole (elim (cases_eq x k) [
+          | inl q ↦ subst (λ y. Among y ((ks ++ front) ++ k ∷ back)) (sym q) (s.covered k (ap is_some here))
+          | inr ne ↦ s.covered x (ap is_some (sym (others x ne)) ∙ i)
+        ]);
+        tolds = subst (AtEach (λ x. IsTold (E' x))) one (AtEach-append (λ x. IsTold (E' x)) (ks ++ front) (k ∷ [])
+            (AtEach-same (λ x. IsTold (E x)) (λ x. IsTold (E' x)) k (ks ++ front) (λ x ne t. subst IsTold (sym (others x ne)) t) parts.front_apart s.tolds)
+            (subst IsTold (sym now) tt, tt));
+        waits = AtEach-same (λ x. IsWaiting (E x)) (λ x. IsWaiting (E' x)) k back (λ x ne t. subst IsWaiting (sym (others x ne)) t) parts.back_apart s.waits.1;
+        count_is = ap length (sym whole) ∙ s.count_is;
+        told_is = s.told_is;
+        fresh = λ x f h. elim (cases_eq x k) [
+          | inl q ↦ let z = same f (sym now ∙ ap E' (sym q) ∙ h) in let l = s.fresh k e here in omega arith
+          | inr ne ↦ s.fresh x f (sym (others x ne) ∙ h)
+        ];
+      }
+    where
+      same : (f : Entry T W) → ◌≡◌ {A = Option (Entry T W)} (Some (record { serial = e.serial; state = Told additional tag })) (Some f) → e.serial ≡ f.serial
+      same f h = let z : ◌≡◌ {A = Entry T W} (record { serial = e.serial; state = Told additional tag }) f = cc in ap (λ (r : Entry T W). r.serial) z
+
+  -- those that were told have moved
+  pub telling-ended : {TA TB WA WB : Link} {E : ℕ → Option (Entry T W)} {count told serials : ℕ} {ks front back : List ℕ} → Telling TA TB WA WB E count told serials ks front back → (TA' TB' WA' WB' : Link) (E' : ℕ → Option (Entry T W)) → Chains TA' TB' WA' WB' (ks ++ front) back → ((x : ℕ) → E' x ≡ E x) → (count' told' serials' : ℕ) → count' ≡ count → told' ≡ told + length front → serials' ≡ serials → Sound TA' TB' WA' WB' E' count' told' serials' (ks ++ front) back
+  telling-ended {TA} {TB} {WA} {WB} {E} {count} {told} {serials} {ks} {front} {back} s TA' TB' WA' WB' E' c same count' told' serials' counted more given =
+      let l : length (ks ++ front) ≡ length ks + length front = length-append ks front in
+      record {
+        chains = c;
+        covered = λ k i. s.covered k (ap is_some (sym (same k)) ∙ i);
+        tolds = AtEach-weaker (λ x. IsTold (E x)) (λ x. IsTold (E' x)) (ks ++ front) (λ x t. subst IsTold (sym (same x)) t) s.tolds;
+        waits = AtEach-weaker (λ x. IsWaiting (E x)) (λ x. IsWaiting (E' x)) back (λ x t. subst IsWaiting (sym (same x)) t) s.waits;
+        count_is = s.count_is ∙ sym counted;
+        told_is = omega (arith, s.told_is);
+        fresh = λ k e h. let f = s.fresh k e (sym (same k) ∙ h) in omega arith;
+      }
+
+  -- the walks of both chains
+  pub chain-is : {TA TB WA WB : Link} {E : ℕ → Option (Entry T W)} {count told serials : ℕ} {ks ws : List ℕ} → Sound TA TB WA WB E count told serials ks ws → walk TA told None ++ walk WA (count - told) None ≡ ks ++ ws
+  chain-is {TA} {TB} {WA} {WB} {E} {count} {told} {serials} {ks} {ws} s =
+      let l : length (ks ++ ws) ≡ length ks + length ws = length-append ks ws in
+      let n : length ws ≡ count - told = omega (arith, s.count_is, s.told_is) in
+      let a : walk TA told None ≡ ks = subst (λ m. walk TA m None ≡ ks) (sym s.told_is) (walk-linked TA TB None ks s.chains.told) in
+      let b : walk WA (count - told) None ≡ ws = subst (λ m. walk WA m None ≡ ws) n (walk-linked WA WB None ws s.chains.waiting) in
+      λ i. a i ++ b i
+
+  -- whether the entry that was found is told
+  pub found-told : (e : Entry T W) (serial : ℕ) (b : Bool) → e.serial ≡ serial → found_entry (Some e) serial ≡ Some b → is_told e.state ≡ b
+  found-told e serial b h f =
+      let g : ◌≡◌ {A = Option Bool} (Some (is_told e.state)) (Some b) = sym (ap (λ c. cond c (Some (is_told e.state)) None) (eq-eqb e.serial serial h)) ∙ f in
+      cc
+
+  pub among-told : (E : ℕ → Option (Entry T W)) (ks ws : List ℕ) (k : ℕ) (e : Entry T W) → AtEach (λ x. IsWaiting (E x)) ws → Among k (ks ++ ws) → E k ≡ Some e → is_told e.state ≡ true → Among k ks
+  among-told E ks ws k e w m here t =
+      elim (Among-cases k ks ws m) [
+        | inl a ↦ a
+        | inr a ↦ let all : AtEach (λ x. IsWaiting (E x)) (a.0 ++ k ∷ a.1) = subst (AtEach (λ x. IsWaiting (E x))) a.2 w in
+            let f : true ≡ false = sym t ∙ waiting-is k (E k) e here (AtEach-among (λ x. IsWaiting (E x)) k a.0 a.1 all) in absurd (cc)
+      ]
+
+  pub among-waiting : (E : ℕ → Option (Entry T W)) (ks ws : List ℕ) (k : ℕ) (e : Entry T W) → AtEach (λ x. IsTold (E x)) ks → Among k (ks ++ ws) → E k ≡ Some e → is_told e.state ≡ false → Among k ws
+  among-waiting E ks ws k e t m here w =
+      elim (Among-cases k ks ws m) [
+        | inl a ↦ let all : AtEach (λ x. IsTold (E x)) (a.0 ++ k ∷ a.1) = subst (AtEach (λ x. IsTold (E x))) a.2 t in
+            let f : true ≡ false = sym (told-is k (E k) e here (AtEach-among (λ x. IsTold (E x)) k a.0 a.1 all)) ∙ w in absurd (cc)
+        | inr a ↦ a
+      ]
+
+  -- a waiting node gets a task
+  pub Sound-store : {TA TB WA WB : Link} {E : ℕ → Option (Entry T W)} {count told serials : ℕ} {ks ws : List ℕ} → Sound TA TB WA WB E count told serials ks ws → (TA' TB' WA' WB' : Link) (E' : ℕ → Option (Entry T W)) (k : ℕ) (e : Entry T W) → ((x : Option ℕ) → TA' x ≡ TA x) → ((x : Option ℕ) → TB' x ≡ TB x) → ((x : Option ℕ) → WA' x ≡ WA x) → ((x : Option ℕ) → WB' x ≡ WB x) → E k ≡ Some e → (old : Option W) → e.state ≡ Waiting old → (task : Option W) → E' k ≡ Some (record { serial = e.serial; state = Waiting task }) → ((x : ℕ) → x ≢ k → E' x ≡ E x) → Sound TA' TB' WA' WB' E' count told serials ks ws
+  Sound-store {TA} {TB} {WA} {WB} {E} {count} {told} {serials} {ks} {ws} s TA' TB' WA' WB' E' k e fa fb ga gb here old was task now others =
+      record {
+        chains = record {
+          told = Linked-all TA TB TA' TB' fa fb None ks None s.chains.told;
+          waiting = Linked-all WA WB WA' WB' ga gb None ws None s.chains.waiting;
+          distinct = s.chains.distinct;
+        };
+        covered = λ x i. elim (cases_eq x k) [
+          | inl q ↦ subst (λ v. Among v (ks ++ ws)) (sym q) (s.covered k (ap is_some here))
+          | inr ne ↦ s.covered x (ap is_some (sym (others x ne)) ∙ i)
+        ];
+        tolds = each IsTold ks (λ t. absurd (subst (λ v. IsTold (Some (record { serial = e.serial; state = v }))) was (subst IsTold here t))) s.tolds;
+        waits = each IsWaiting ws (λ t. subst IsWaiting (sym now) tt) s.waits;
+        count_is = s.count_is;
+        told_is = s.told_is;
+        fresh = λ x d h. elim (cases_eq x k) [
           | inl q ↦ let z = same d (sym now ∙ ap E' (sym q) ∙ h) in let l = s.fresh k e here in omega arith
           | inr ne ↦ s.fresh x d (sym (others x ne) ∙ h)
-        ]
-      where
-        same : (d : Entry T W) → ◌≡◌ {A = Option (Entry T W)} (Some (record { serial = e.serial; state = state })) (Some d) → e.serial ≡ d.serial
-        same d h = let z : ◌≡◌ {A = Entry T W} (record { serial = e.serial; state = state }) d = cc in ap (λ (r : Entry T W). r.serial) z
+        ];
+      }
+    where
+      same : (d : Entry T W) → ◌≡◌ {A = Option (Entry T W)} (Some (record { serial = e.serial; state = Waiting task })) (Some d) → e.serial ≡ d.serial
+      same d h = let z : ◌≡◌ {A = Entry T W} (record { serial = e.serial; state = Waiting task }) d = cc in ap (λ (r : Entry T W). r.serial) z
 
-    each : (P : Option (Entry T W) → Type 0) (cs : List ℕ) → (P (E k) → P (E' k)) → AtEach (λ x. P (E x)) cs → AtEach (λ x. P (E' x)) cs
-    each P cs h a =
-        AtEach-weaker (λ x. P (E x)) (λ x. P (E' x)) cs (λ x p. elim (cases_eq x k) [ inl q ↦ subst (λ v. P (E' v)) (sym q) (h (subst (λ v. P (E v)) q p)) | inr ne ↦ subst P (sym (others x ne)) p ]) a
-
-    -- a waiting one gets a task
-    pub Sound-store : (old : Option W) → e.state ≡ Waiting old → (task : Option W) → state ≡ Waiting task → Sound after' before' E' count last first told serials ks ws
-    Sound-store old was task is =
-        record {
-          chained = restated;
-          tolds = each IsTold ks (λ t. absurd (subst (λ v. IsTold (Some (record { serial = e.serial; state = v }))) was (subst IsTold here t))) s.tolds;
-          waits = each IsWaiting ws (λ t. subst IsWaiting (sym now) (subst (λ v. IsWaiting (Some (record { serial = e.serial; state = v }))) (sym is) tt)) s.waits;
-          count_is = s.count_is;
-          last_is = s.last_is;
-          first_is = s.first_is;
-          told_is = s.told_is;
-          fresh = restated-fresh;
-        }
-
-    -- the first waiting one is told
-    pub Sound-tell : (back : List ℕ) → ws ≡ k ∷ back → (additional : Bool) (tag : T) → state ≡ Told additional tag → (last' first' : Option ℕ) → last' ≡ Some k → first' ≡ after (Some k) → (told' : ℕ) → told' ≡ told + 1 → Sound after' before' E' count last' first' told' serials (ks ++ k ∷ []) back
-    Sound-tell back split additional tag is last' first' ends cur told' more =
-        let assoc : (ks ++ k ∷ []) ++ back ≡ ks ++ k ∷ back = append_assoc ks (k ∷ []) back in
-        let whole : ks ++ ws ≡ (ks ++ k ∷ []) ++ back = ap (λ r. ks ++ r) split ∙ sym assoc in
-        let d : Distinct (ks ++ k ∷ back) = subst (λ r. Distinct (ks ++ r)) split s.chained.distinct in
-        let parts = Distinct-parted ks k back d in
-        let l = Linked-split after before None ks k back None (subst (λ r. Linked after before None (ks ++ r) None) split s.chained.linked) in
-        let w : AtEach (λ x. IsWaiting (E x)) (k ∷ back) = subst (AtEach (λ x. IsWaiting (E x))) split s.waits in
-        let lk : length (ks ++ k ∷ []) ≡ length ks + 1 = length-append ks (k ∷ []) in
-        record {
-          chained = subst (Chained after' before' E') whole restated;
-          tolds = AtEach-append (λ x. IsTold (E' x)) ks (k ∷ [])
-              (AtEach-same (λ x. IsTold (E x)) (λ x. IsTold (E' x)) k ks (λ x ne t. subst IsTold (sym (others x ne)) t) parts.front_apart s.tolds)
-              (subst IsTold (sym now) (subst (λ v. IsTold (Some (record { serial = e.serial; state = v }))) (sym is) tt), tt);
-          waits = AtEach-same (λ x. IsWaiting (E x)) (λ x. IsWaiting (E' x)) k back (λ x ne t. subst IsWaiting (sym (others x ne)) t) parts.back_apart w.1;
-          count_is = ap length (sym whole) ∙ s.count_is;
-          last_is = ends ∙ sym (last_or-append None ks (k ∷ []));
-          first_is = cur ∙ (Linked-ends after before (Some k) back None l.1).0;
-          told_is = omega (arith, s.told_is);
-          fresh = restated-fresh;
-        }
+      each : (P : Option (Entry T W) → Type 0) (cs : List ℕ) → (P (E k) → P (E' k)) → AtEach (λ x. P (E x)) cs → AtEach (λ x. P (E' x)) cs
+      each P cs h a =
+          AtEach-weaker (λ x. P (E x)) (λ x. P (E' x)) cs (λ x p. elim (cases_eq x k) [ inl q ↦ subst (λ v. P (E' v)) (sym q) (h (subst (λ v. P (E v)) q p)) | inr ne ↦ subst P (sym (others x ne)) p ]) a

@@ -32,6 +32,13 @@ Distinct (k ∷ ks) = Apart (Some k) ks × Distinct ks
 abbrev pub Among : ℕ → List ℕ → Type 0
 Among k ks = (front : List ℕ) × (back : List ℕ) × (ks ≡ front ++ k ∷ back)
 
+-- Two chains: the links of the one lead through the told nodes from its first to its last and back, those of the other
+-- through the waiting ones. No node is in both, so no link leads from one chain to the other.
+pub record Chains (told_after told_before waiting_after waiting_before : Link) (ks ws : List ℕ) : Type 0 where
+  pub told : Linked told_after told_before None ks None
+  pub waiting : Linked waiting_after waiting_before None ws None
+  pub distinct : Distinct (ks ++ ws)
+
 -- what became of the links where the node k left
 pub record Unlinks (after before after' before' : Link) (k : ℕ) : Type 0 where
   pub forward : after' (before (Some k)) ≡ after (Some k)
@@ -48,11 +55,10 @@ pub record Links_last (after before after' before' : Link) (k : ℕ) : Type 0 wh
   pub backward_new : before' (Some k) ≡ before None
   pub backward_rest : (x : Option ℕ) → x ≢ None → x ≢ Some k → before' x ≡ before x
 
--- the slots that the links lead through from this one on, so many of them
+-- the slots that the links lead through behind p, so many of them
 abbrev pub walk : Link → ℕ → Option ℕ → List ℕ
 walk after zero p = []
-walk after (suc n) None = []
-walk after (suc n) (Some k) = k ∷ walk after n (after (Some k))
+walk after (suc n) p = elim (after p) [ None ↦ [] | Some k ↦ k ∷ walk after n (Some k) ]
 
 -- the lists of a chain's nodes, one after another
 abbrev pub pieces : {X : Type 0} → (ℕ → List X) → List ℕ → List X
@@ -105,6 +111,11 @@ module _ {T W : Type 0} where
   before_of ends slab None = ends.last
   before_of ends slab (Some k) = node_before (get slab k)
 
+  -- the two chains of these nodes, by the ends of each
+  abbrev pub ChainsOf : Slab (Node T W) → Ends → Ends → List ℕ → List ℕ → Type 0
+  ChainsOf slab told waiting ks ws =
+      Chains (after_of told slab) (before_of told slab) (after_of waiting slab) (before_of waiting slab) ks ws
+
   abbrev pub told_state : Key → State T W → List (Key × Notice T)
   told_state key (Waiting task) = []
   told_state key (Told additional tag) = (key, record { additional = additional; tag = tag }) ∷ []
@@ -154,18 +165,11 @@ module _ {T W : Type 0} where
     pub before_other : before (Some k) ≢ Some k
     pub after_other : after (Some k) ≢ Some k
 
-  -- links that lead through all nodes
-  pub record Chained (after before : Link) (entries : ℕ → Option (Entry T W)) (ks : List ℕ) : Type 0 where
-    pub linked : Linked after before None ks None
-    pub distinct : Distinct ks
-    pub covered : (k : ℕ) → IsSome (entries k) → Among k ks
-
-  -- The links lead through the told nodes, the last of which is this one, and on through the waiting nodes, the first of
-  -- which is that one. No node is in both chains, and no other node stands.
-  pub record Sound (after before : Link) (entries : ℕ → Option (Entry T W)) (count : ℕ) (last first : Option ℕ) (told serials : ℕ) (ks ws : List ℕ) : Type 0 where
-    pub chained : Chained after before entries (ks ++ ws)
-    pub last_is : last ≡ last_or None ks
-    pub first_is : first ≡ first_or ws None
+  -- The told nodes stand along the links of one chain, from its first to its last, and the waiting ones along those of
+  -- another. No node is in both, and no other node stands.
+  pub record Sound (told_after told_before waiting_after waiting_before : Link) (entries : ℕ → Option (Entry T W)) (count : ℕ) (told serials : ℕ) (ks ws : List ℕ) : Type 0 where
+    pub chains : Chains told_after told_before waiting_after waiting_before ks ws
+    pub covered : (k : ℕ) → IsSome (entries k) → Among k (ks ++ ws)
     pub tolds : AtEach (λ k. IsTold (entries k)) ks
     pub waits : AtEach (λ k. IsWaiting (entries k)) ws
     pub count_is : length (ks ++ ws) ≡ count

@@ -100,7 +100,7 @@ impl<T: Drop, W: Drop> List<T, W> {
     /// `event-listener` 5.4.2.
     pub fn notify<N: Notification<Tag = T> + Drop, S: Wakes<W>>(
         &mut self,
-        mut notice: N,
+        notice: N,
         sink: &mut S,
     ) -> Result<usize, NotifyError>
         requires { N.can_give notice }
@@ -115,17 +115,7 @@ impl<T: Drop, W: Drop> List<T, W> {
         let additional = notice.is_additional();
         let count = notice.count();
         let many = self.to_move(additional, count);
-        for i in 0..many {
-            match notice.next_tag() {
-                Ok(tag) => {
-                    if let Some(task) = self.tell_first(additional, tag) {
-                        sink.wake(task);
-                    }
-                }
-                Err(_) => return Err(NotifyError { told: i }),
-            }
-        }
-        Ok(many)
+        self.tell(additional, many, notice, sink)
     }
 
     /// Takes a listener off, and answers whether it was told.

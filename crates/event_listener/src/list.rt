@@ -1,19 +1,23 @@
 //! The type of lists, with the calls that touch its fields.
 //!
-//! The told listeners stand in one chain and the waiting ones in another, each in the order of listening. The first chain's
-//! last node leads to the second's first, so one that is told moves to the end of the first chain with its links as they
-//! are: only the ends of the chains change. The list keeps how many are told.
-ghost use Rattle.std.specs.Prelude.{◌≡◌, ◌+◌, ◌-◌, ◌^◌, ◌<◌, ◌≤◌, [], ◌++◌, length, is_some, IsOk, IfOk, OnOk, OnErr, IfErr, MatchResult, Err};
-ghost use Rattle.std.specs.Prelude.{ℕ, ◌≢◌, if◌then◌else◌, ◌∷◌, take, Some, None, true, false};
+//! The told listeners stand in one chain and the waiting ones in another, each in the order of listening. Those that a
+//! notice tells are the first of the second chain, and move to the end of the first as one run. The list keeps how many are
+//! told.
+ghost use Rattle.std.specs.Prelude.{◌≡◌, ◌+◌, ◌-◌, ◌*◌, ◌^◌, ◌<◌, ◌≤◌, [], ◌++◌, length, is_some, IsOk, IfOk, OnOk, OnErr, IfErr, MatchResult, Err};
+ghost use Rattle.std.specs.Prelude.{ℕ, ◌≢◌, if◌then◌else◌, ◌∷◌, take, Option, Some, None, true, false};
 ghost use Rattle.std.specs.Option.{option_to_list};
-ghost use Rattle.event_listener.specs.Lists.{serial_of, kind_of, told_as, waits_as, listened, without, with_task, notified, tasks_of, moved, IsListenRefusal};
+ghost use Rattle.event_listener.specs.Lists.{serial_of, kind_of, told_as, waits_as, listened, without, with_task, notified, tasks_of, moved, told_by, IsListenRefusal};
 ghost use Rattle.event_listener.specs.Order.{IsInOrder, HasLeft};
-ghost use Rattle.event_listener.specs.Chain.{IsStateOf, first_or};
+ghost use Rattle.event_listener.specs.Chain.{IsStateOf};
+ghost use Rattle.event_listener.specs.Notices.{Notifies};
+ghost use Rattle.event_listener.specs.declared.node.State.TheVariants.{Waiting};
 
-use crate::error::{ListenError, NoMemory};
+use crate::error::{ListenError, NoMemory, NotifyError};
 use crate::key::Key;
-use crate::links::{link_last, restate, unlink};
+use crate::links::{link_last, move_run, restate, unlink};
 use crate::node::{Ends, Nodes, State};
+use crate::notify::Notification;
+use crate::wakes::Wakes;
 use std::alloc::Global;
 use std::marker::Model;
 
@@ -27,40 +31,21 @@ use std::marker::Model;
 /// Own to this project: in `event-listener` 5.4.2 the list is private to its event.
 pub struct List<T, W> {
     nodes: Nodes<T, W>,
-    /// Its first is the first of all: where nobody is told it has no last, and its first is that of the waiting ones.
+    /// Of the chain of the told ones.
     told: Ends,
-    /// Its last is the last of all: where nobody waits it has no first, and its last is that of the told ones.
+    /// Of the chain of the waiting ones.
     waiting: Ends,
     told_count: usize,
     serials: u64,
 }
 
-/// Lets an end of a chain be the node beside this one, where it was this one.
-#[inline(always)]
-fn end_without(end: &mut Option<usize>, at: usize, beside: Option<usize>)
-    ensures moved { end.old ≡ Some at → end.new ≡ beside }
-    ensures stays { end.old ≢ Some at → end.new ≡ end.old }
+/// The task of a listener that waited.
+fn task_of<T: Drop, W>(state: State<T, W>) -> Option<W>
+    ensures { (task : Option W) → state ≡ Waiting task → result ≡ task }
 {
-    if let Some(node) = *end {
-        if node == at {
-            *end = beside;
-        }
-    }
-}
-
-fn one_if(told: bool) -> usize
-    ensures { result ≡ (if told then 1 else 0) }
-{
-    if told { 1 } else { 0 }
-}
-
-/// The first of a chain, where this node came in behind all.
-fn first_with(first: Option<usize>, at: usize) -> usize
-    ensures { Some result ≡ first_or (option_to_list first) (Some at) }
-{
-    match first {
-        Some(node) => node,
-        None => at,
+    match state {
+        State::Waiting(task) => task,
+        State::Told { .. } => None,
     }
 }
 
@@ -152,18 +137,13 @@ impl<T: Drop, W: Drop> List<T, W> {
         ensures looks { self.new.looks ≤ self.old.looks + 3 }
         ensures uncounted { counted ≡ false → self.new.visits ≡ self.old.visits }
     {
-        let at = key.slot;
-        let node = unlink(
-            &mut self.nodes,
-            &mut self.told,
-            &mut self.waiting,
-            at,
-            counted,
-        );
-        end_without(&mut self.told.last, at, node.before);
-        end_without(&mut self.waiting.first, at, node.after);
-        self.told_count -= one_if(told);
-        node.state
+        if told {
+            let state = unlink(&mut self.nodes, &mut self.told, key.slot, counted);
+            self.told_count -= 1;
+            state
+        } else {
+            unlink(&mut self.nodes, &mut self.waiting, key.slot, counted)
+        }
     }
 
     /// Begins a registration: stores the task where the listener waits.
@@ -208,9 +188,8 @@ impl<T: Drop, W: Drop> List<T, W> {
             return Err(ListenError::SerialsUsedUp);
         }
         let serial = self.serials;
-        match link_last(&mut self.nodes, &mut self.told, &mut self.waiting, serial) {
+        match link_last(&mut self.nodes, &mut self.waiting, serial) {
             Ok(slot) => {
-                self.waiting.first = Some(first_with(self.waiting.first, slot));
                 self.serials += 1;
                 Ok(Key { slot, serial })
             }
@@ -234,14 +213,71 @@ impl<T: Drop, W: Drop> List<T, W> {
             unreachable!()
         };
         let told = State::Told { additional, tag };
-        let (was, after) = restate(&mut self.nodes, at, told, true);
-        self.told.last = Some(at);
-        self.waiting.first = after;
+        let (was, next) = restate(&mut self.nodes, at, told, true);
+        move_run(
+            &mut self.nodes,
+            &mut self.waiting,
+            &mut self.told,
+            Some(at),
+            next,
+        );
         self.told_count += 1;
-        match was {
-            State::Waiting(task) => task,
-            State::Told { .. } => unreachable!(),
+        task_of(was)
+    }
+
+    /// Tells so many of the first waiting listeners, each with the next tag of the notice, and wakes their tasks in order.
+    ///
+    /// Each gets its new state in its place, and then they move as one run: all of them, or those before the first that was
+    /// refused its tag.
+    #[inline(always)]
+    pub(crate) fn tell<N: Notification<Tag = T> + Drop, S: Wakes<W>>(
+        &mut self,
+        additional: bool,
+        many: usize,
+        mut notice: N,
+        sink: &mut S,
+    ) -> Result<usize, NotifyError>
+        requires can_give { N.can_give notice }
+        requires waiting { many ≤ length self.old.lists.waiting }
+        ensures notified { Notifies N.gives additional many notice self.old.lists self.new.lists S.wakes sink.old sink.new result }
+        ensures left { (key : Key) → HasLeft self.old key → HasLeft self.new key }
+        ensures serials { self.new.serials ≡ self.old.serials }
+        ensures room { self.new.room ≡ self.old.room }
+        ensures visits { self.new.visits ≤ self.old.visits + 5 * told_by result }
+        ensures looks { self.new.looks ≤ self.old.looks + 5 * told_by result }
+    {
+        let mut last = None;
+        let mut next = self.waiting.first;
+        for i in 0..many {
+            let Some(at) = next else { unreachable!() };
+            let Ok(tag) = notice.next_tag() else {
+                move_run(
+                    &mut self.nodes,
+                    &mut self.waiting,
+                    &mut self.told,
+                    last,
+                    next,
+                );
+                self.told_count += i;
+                return Err(NotifyError { told: i });
+            };
+            let told = State::Told { additional, tag };
+            let (was, after) = restate(&mut self.nodes, at, told, true);
+            last = Some(at);
+            next = after;
+            if let Some(task) = task_of(was) {
+                sink.wake(task);
+            }
         }
+        move_run(
+            &mut self.nodes,
+            &mut self.waiting,
+            &mut self.told,
+            last,
+            next,
+        );
+        self.told_count += many;
+        Ok(many)
     }
 
     /// How many are told.

@@ -1,7 +1,7 @@
 //! The nodes of a list. Each look at a node, and each change of one, is counted.
 ghost use Rattle.std.specs.Prelude.{◌≡◌, ◌+◌, ◌^◌, ◌<◌, ◌≤◌, IfSome, [], IsOk, IfOk, OnOk, OnErr, ◌≢◌, ℕ, None, Some, true, false};
 ghost use Rattle.slab.specs.Slab.{get, slab_len, Updates, HasRoomFor, ContainsKey, with_value};
-ghost use Rattle.event_listener.specs.Nodes.{found, found_looks, found_visits, stored_looks, more, more_if};
+ghost use Rattle.event_listener.specs.Nodes.{found, found_looks, found_visits, stored_looks, more, more_if, Stays};
 ghost use Rattle.event_listener.specs.declared.node.State.TheVariants.{Waiting};
 
 use crate::error::NoMemory;
@@ -17,7 +17,7 @@ pub(crate) enum State<T, W> {
     Told { additional: bool, tag: T },
 }
 
-/// One listener, between its neighbours in the order of listening.
+/// One listener, between its neighbours in its chain.
 #[derive(Drop)]
 pub(crate) struct Node<T, W> {
     pub(crate) serial: u64,
@@ -148,6 +148,7 @@ impl<T: Drop, W: Drop> Nodes<T, W> {
         ensures node { IfSome (get self.old.slab at) (λ node. self.new.slab ≡ with_value self.old.slab at (record node { after = to })) }
         ensures last { self.new.last ≡ more_if counted self.old.last }
         ensures looks { self.new.looks ≡ more self.old.looks }
+        ensures stays { Stays counted self.old self.new 1 }
     {
         self.count(counted);
         match self.slab.get_mut(at) {
@@ -163,10 +164,36 @@ impl<T: Drop, W: Drop> Nodes<T, W> {
         ensures node { IfSome (get self.old.slab at) (λ node. self.new.slab ≡ with_value self.old.slab at (record node { before = to })) }
         ensures last { self.new.last ≡ more_if counted self.old.last }
         ensures looks { self.new.looks ≡ more self.old.looks }
+        ensures stays { Stays counted self.old self.new 1 }
     {
         self.count(counted);
         match self.slab.get_mut(at) {
             Some(node) => node.before = to,
+            None => unreachable!(),
+        }
+    }
+
+    /// Lets a node stand between these two, by one write.
+    #[inline(always)]
+    pub(crate) fn set_both(
+        &mut self,
+        at: usize,
+        before: Option<usize>,
+        after: Option<usize>,
+        counted: bool,
+    )
+        requires present { ContainsKey self.old.slab at }
+        ensures node { IfSome (get self.old.slab at) (λ node. self.new.slab ≡ with_value self.old.slab at (record node { before = before; after = after })) }
+        ensures last { self.new.last ≡ more_if counted self.old.last }
+        ensures looks { self.new.looks ≡ more self.old.looks }
+        ensures stays { Stays counted self.old self.new 1 }
+    {
+        self.count(counted);
+        match self.slab.get_mut(at) {
+            Some(node) => {
+                node.before = before;
+                node.after = after;
+            }
             None => unreachable!(),
         }
     }

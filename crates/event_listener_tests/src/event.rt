@@ -1,17 +1,21 @@
+//! Events and their listeners: the rows of [`event_rows`](crate::event_rows), and what tests of them share.
 ghost use Rattle.std.specs.Prelude.{true};
 
-use crate::checks::expect_equal;
-use event_listener::error::{ListenError, NoMemory, NotifyError};
+use crate::checks::expect_rows;
+use crate::event_rows::{TAG_ROWS, UNIT_ROWS};
+use crate::listening::open;
+use crate::tags::Tags;
+use crate::units::Units;
+use event_listener::error::{ListenError, NoMemory};
 use event_listener::event::Event;
 use event_listener::id::{EventIds, IdsUsedUp};
-use event_listener::into_notification::IntoNotification;
 use event_listener::listener::{Listener, PollFault};
 use event_listener::notify::Notification;
 use futures::task::{Poll, Source, Waker};
 use futures::test::MockTask;
 use std::alloc::Global;
-use std::sync::Wait;
 use std::test::Fail;
+use worked_rows::play_rows;
 
 /// Why a test can't go on.
 #[derive(Debug, Drop)]
@@ -71,187 +75,6 @@ pub(crate) fn event<T: Drop>(alloc: Global) -> Result<Event<T>, Stuck> {
     Ok(Event::with_tag(alloc, ids.next()?))
 }
 
-fn additional_and_default<R: Wait + Copy>(
-    rt: R,
-    alloc: Global,
-    task: &MockTask,
-) -> Result<([usize; 3], [Polled<()>; 3]), Stuck> {
-    let event: Event<()> = event(alloc)?;
-    let mut l1 = event.listen(&rt)?;
-    let mut l2 = event.listen(&rt)?;
-    let mut l3 = event.listen(&rt)?;
-    let told = [
-        event.notify_additional(&rt, 1),
-        event.notify(&rt, 1u8).unwrap_or(9),
-        event.notify_additional(&rt, 1),
-    ];
-    Ok((
-        told,
-        [
-            poll(task, &mut l1),
-            poll(task, &mut l2),
-            poll(task, &mut l3),
-        ],
-    ))
-}
-
-fn a_told_one_leaves<R: Wait + Copy>(
-    rt: R,
-    alloc: Global,
-    task: &MockTask,
-) -> Result<([usize; 2], [Polled<()>; 3]), Stuck> {
-    let event: Event<()> = event(alloc)?;
-    let l1 = event.listen(&rt)?;
-    let mut l2 = event.listen(&rt)?;
-    let mut l3 = event.listen(&rt)?;
-    let mut l4 = event.listen(&rt)?;
-    let told = [
-        event.notify_additional(&rt, 1),
-        event.notify(&rt, 2i16).unwrap_or(9),
-    ];
-    drop(l1);
-    Ok((
-        told,
-        [
-            poll(task, &mut l2),
-            poll(task, &mut l3),
-            poll(task, &mut l4),
-        ],
-    ))
-}
-
-fn made_tags<R: Wait + Copy>(
-    rt: R,
-    alloc: Global,
-    task: &MockTask,
-) -> Result<(usize, [Polled<u32>; 3]), Stuck> {
-    let event: Event<u32> = event(alloc)?;
-    let mut l1 = event.listen(&rt)?;
-    let mut l2 = event.listen(&rt)?;
-    let mut l3 = event.listen(&rt)?;
-    let mut next = 9u32;
-    let notice = 2usize.tag_with(|| {
-        next = next.wrapping_add(1);
-        next
-    });
-    let told = event.notify(&rt, notice).unwrap_or(9);
-    Ok((
-        told,
-        [
-            poll(task, &mut l1),
-            poll(task, &mut l2),
-            poll(task, &mut l3),
-        ],
-    ))
-}
-
-/// A notice for nobody: before anybody listened, after the only listener left, and of the default kind where so many are
-/// told already; then one for four where one is told and two wait. How many each told, and how many tags had been made
-/// by then.
-fn made_for_whom<R: Wait + Copy>(rt: R, alloc: Global) -> Result<[(usize, u32); 4], Stuck> {
-    let event: Event<u32> = event(alloc)?;
-    let mut made = 0u32;
-    let before = makes_tags(rt, &event, 3, &mut made);
-    drop(event.listen(&rt)?);
-    let left = makes_tags(rt, &event, 3, &mut made);
-    let _told = event.listen(&rt)?;
-    let _ = event.notify(&rt, 1u8.tag(7u32));
-    let told = makes_tags(rt, &event, 1, &mut made);
-    let _second = event.listen(&rt)?;
-    let _third = event.listen(&rt)?;
-    let two = makes_tags(rt, &event, 4, &mut made);
-    Ok([before, left, told, two])
-}
-
-fn makes_tags<R: Wait + Copy>(
-    rt: R,
-    event: &Event<u32>,
-    count: usize,
-    made: &mut u32,
-) -> (usize, u32) {
-    let notice = count.tag_with(|| {
-        *made = made.wrapping_add(1);
-        *made
-    });
-    let told = event.notify(&rt, notice).unwrap_or(9);
-    (told, *made)
-}
-
-#[test]
-fn a_notice_for_nobody_makes_no_tag(rt: HostRuntime) -> Result<(), Fail> {
-    let made = made_for_whom(&rt, rt.alloc()).expect(&rt, "memory");
-    expect_equal(&rt, &made, &[(0, 0), (0, 0), (0, 0), (2, 2)]);
-    Ok(())
-}
-
-fn a_tag_is_passed_on<R: Wait + Copy>(
-    rt: R,
-    alloc: Global,
-    task: &MockTask,
-) -> Result<Polled<u32>, Stuck> {
-    let event: Event<u32> = event(alloc)?;
-    let l1 = event.listen(&rt)?;
-    let mut l2 = event.listen(&rt)?;
-    let _ = event.notify(&rt, 1u64.tag(7u32));
-    drop(l1);
-    Ok(poll(task, &mut l2))
-}
-
-fn discarded<R: Wait + Copy>(
-    rt: R,
-    alloc: Global,
-    task: &MockTask,
-) -> Result<(usize, bool, Polled<()>, bool), Stuck> {
-    let event: Event<()> = event(alloc)?;
-    let l1 = event.listen(&rt)?;
-    let mut l2 = event.listen(&rt)?;
-    let told = event.notify(&rt, 1u8).unwrap_or(9);
-    let was_told = l1.discard();
-    let polled = poll(task, &mut l2);
-    Ok((told, was_told, polled, l2.discard()))
-}
-
-fn a_notice_for_nobody<R: Wait + Copy>(
-    rt: R,
-    alloc: Global,
-    task: &MockTask,
-) -> Result<(usize, Polled<()>), Stuck> {
-    let event: Event<()> = event(alloc)?;
-    let told = event.notify(&rt, 5i8).unwrap_or(9);
-    let mut l1 = event.listen(&rt)?;
-    Ok((told, poll(task, &mut l1)))
-}
-
-/// Four listeners, told by each kind of notice for units: how many each told, and whether somebody was told before
-/// and after.
-fn units<R: Wait + Copy>(rt: R, alloc: Global) -> Result<([usize; 5], [bool; 2], usize), Stuck> {
-    let event = Event::new(alloc, EventIds::new().next()?);
-    let _first = event.listen(&rt)?;
-    let _second = event.listen(&rt)?;
-    let _third = event.listen(&rt)?;
-    let _fourth = event.listen(&rt)?;
-    let before = event.is_notified(&rt);
-    let told = [
-        event.notify_relaxed(&rt, 1),
-        event.notify_relaxed(&rt, 1),
-        event.notify_additional_relaxed(&rt, 1),
-        event.notify(&rt, 3u8.relaxed()).unwrap_or(9),
-        event
-            .notify(&rt, 1u8.additional().additional())
-            .unwrap_or(9),
-    ];
-    let after = event.is_notified(&rt);
-    Ok((told, [before, after], event.total_listeners(&rt)))
-}
-
-#[test]
-fn notices_of_units(rt: HostRuntime) -> Result<(), Fail> {
-    let (told, notified, total) = units(&rt, rt.alloc()).expect(&rt, "memory");
-    expect_equal(&rt, &told, &[1, 0, 1, 1, 1]);
-    expect_equal(&rt, &(notified, total), &([false, true], 4));
-    Ok(())
-}
-
 /// An additional notice for three that can make so many tags, the last of which is 0.
 #[derive(Drop)]
 pub(crate) struct Scarce {
@@ -286,74 +109,18 @@ impl Notification for Scarce {
     }
 }
 
-fn tags_run_out<R: Wait + Copy>(
-    rt: R,
-    alloc: Global,
-    task: &MockTask,
-) -> Result<(Result<usize, NotifyError>, [Polled<u32>; 3]), Stuck> {
-    let event: Event<u32> = event(alloc)?;
-    let mut l1 = event.listen(&rt)?;
-    let mut l2 = event.listen(&rt)?;
-    let mut l3 = event.listen(&rt)?;
-    let answer = event.notify(&rt, Scarce { left: 2 });
-    Ok((
-        answer,
-        [
-            poll(task, &mut l1),
-            poll(task, &mut l2),
-            poll(task, &mut l3),
-        ],
-    ))
-}
-
 #[test]
-fn a_refused_tag_leaves_those_before_it_told(rt: HostRuntime) -> Result<(), Fail> {
-    let task = MockTask::new(&rt)?;
-    let (answer, polled) = tags_run_out(&rt, rt.alloc(), &task).expect(&rt, "memory");
-    expect_equal(&rt, &answer, &Err(NotifyError { told: 2 }));
-    expect_equal(
-        &rt,
-        &polled,
-        &[Polled::Tag(1), Polled::Tag(0), Polled::Pending],
-    );
+fn rows(rt: HostRuntime) -> Result<(), Fail> {
+    let all = open(rt, rt.alloc(), MockTask::new(&rt)?).expect(&rt, "identities");
+    let played = play_rows(rt.alloc(), UNIT_ROWS, &mut Units { rt, all })?;
+    expect_rows(&rt, &played, 8);
     Ok(())
 }
 
 #[test]
-fn rows(rt: HostRuntime) -> Result<(), Fail> {
-    let task = MockTask::new(&rt)?;
-    let alloc = rt.alloc();
-    let both = additional_and_default(&rt, alloc, &task).expect(&rt, "memory");
-    let left = a_told_one_leaves(&rt, alloc, &task).expect(&rt, "memory");
-    let tags = made_tags(&rt, alloc, &task).expect(&rt, "memory");
-    let passed = a_tag_is_passed_on(&rt, alloc, &task).expect(&rt, "memory");
-    let (told, was_told, polled, late) = discarded(&rt, alloc, &task).expect(&rt, "memory");
-    let nobody = a_notice_for_nobody(&rt, alloc, &task).expect(&rt, "memory");
-    drop(task);
-    expect_equal(
-        &rt,
-        &both,
-        &(
-            [1, 0, 1],
-            [Polled::Tag(()), Polled::Tag(()), Polled::Pending],
-        ),
-    );
-    expect_equal(
-        &rt,
-        &left,
-        &([1, 1], [Polled::Tag(()), Polled::Tag(()), Polled::Pending]),
-    );
-    expect_equal(
-        &rt,
-        &tags,
-        &(2, [Polled::Tag(10), Polled::Tag(11), Polled::Pending]),
-    );
-    expect_equal(&rt, &passed, &Polled::Tag(7));
-    expect_equal(&rt, &(told, was_told, late), &(1, true, false));
-    expect_equal(
-        &rt,
-        &(polled, nobody),
-        &(Polled::Pending, (0, Polled::Pending)),
-    );
+fn rows_of_tags(rt: HostRuntime) -> Result<(), Fail> {
+    let all = open(rt, rt.alloc(), MockTask::new(&rt)?).expect(&rt, "identities");
+    let played = play_rows(rt.alloc(), TAG_ROWS, &mut Tags { rt, all, made: 0 })?;
+    expect_rows(&rt, &played, 6);
     Ok(())
 }

@@ -7,22 +7,36 @@ mod checks;
 #[cfg(test)]
 mod event;
 #[cfg(test)]
+mod event_rows;
+#[cfg(test)]
 mod id;
 #[cfg(test)]
 mod integers;
 #[cfg(test)]
 mod list;
 #[cfg(test)]
+mod list_rows;
+#[cfg(test)]
 mod listener;
+#[cfg(test)]
+mod listening;
+#[cfg(test)]
+mod lists;
 #[cfg(test)]
 mod no_memory;
 #[cfg(test)]
 mod recorded;
 #[cfg(test)]
+mod records;
+#[cfg(test)]
 mod refusals;
 #[cfg(test)]
 mod stack;
 #[cfg(test)]
+mod tags;
+#[cfg(test)]
 mod texts;
 #[cfg(test)]
 mod timed;
+#[cfg(test)]
+mod units;

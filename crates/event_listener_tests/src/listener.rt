@@ -1,8 +1,10 @@
-use crate::checks::{expect_equal, expect_true};
+//! Listeners among threads.
+
+use crate::checks::expect_equal;
 use crate::event::{Polled, Stuck, event, poll};
 use event_listener::event::Event;
 use event_listener::into_notification::IntoNotification;
-use event_listener::listener::{EventListener, Listener, WaitError};
+use event_listener::listener::{EventListener, Listener};
 use futures::test::MockTask;
 use std::alloc::Global;
 use std::sync::Wait;
@@ -10,110 +12,6 @@ use std::sync::atomic::{AtomicUsize, Ordering};
 use std::test::Fail;
 use std::thread;
 use std::thread::Threads;
-use std::time::{Clock, Duration, Instant};
-
-fn tag_of<T: Drop, L: Listener<T> + Drop>(waited: Result<T, WaitError<L>>) -> Option<T> {
-    waited.ok()
-}
-
-fn waited<R: Wait + Copy>(rt: R, alloc: Global) -> Result<Option<u32>, Stuck> {
-    let event: Event<u32> = event(alloc)?;
-    let listener = event.listen(&rt)?;
-    let _ = event.notify(&rt, 1u8.tag(5u32));
-    Ok(tag_of(listener.wait()))
-}
-
-fn out_of_time<R: Wait + Clock + Copy>(
-    rt: R,
-    alloc: Global,
-) -> Result<(bool, bool, Option<u32>, usize), Stuck> {
-    let event: Event<u32> = event(alloc)?;
-    let now = Instant::now(&rt).map_err(|_| Stuck::Waits)?;
-    let zero = matches!(
-        event.listen(&rt)?.wait_timeout(&rt, Duration::ZERO),
-        Ok(None)
-    );
-    let present = matches!(event.listen(&rt)?.wait_deadline(&rt, now), Ok(None));
-    let told = event.listen(&rt)?;
-    let _ = event.notify(&rt, 1u8.tag(6u32));
-    let tag = told.wait_timeout(&rt, Duration::ZERO).unwrap_or(None);
-    Ok((zero, present, tag, event.total_listeners(&rt)))
-}
-
-fn finished<R: Wait + Clock + Copy>(
-    rt: R,
-    alloc: Global,
-    task: &MockTask,
-) -> Result<([Polled<()>; 2], bool, bool), Stuck> {
-    let event: Event<()> = event(alloc)?;
-    let mut listener = event.listen(&rt)?;
-    let other = event.listen(&rt)?;
-    let same = listener.same_event(&other) && listener.listens_to(&event);
-    let _ = event.notify(&rt, 1u8);
-    let polled = [poll(task, &mut listener), poll(task, &mut listener)];
-    let handed_back = match listener.wait_timeout(&rt, Duration::ZERO) {
-        Err(WaitError::NeverInserted(listener)) => !listener.discard(),
-        Err(WaitError::NoMemory(_listener)) => false,
-        Ok(_tag) => false,
-    };
-    Ok((polled, handed_back, same))
-}
-
-#[test]
-fn waits(rt: HostRuntime) -> Result<(), Fail> {
-    let task = MockTask::new(&rt)?;
-    let alloc = rt.alloc();
-    expect_equal(&rt, &waited(&rt, alloc).expect(&rt, "memory"), &Some(5));
-    let (zero, present, tag, left) = out_of_time(&rt, alloc).expect(&rt, "memory");
-    expect_equal(&rt, &(zero, present, tag, left), &(true, true, Some(6), 0));
-    let (polled, handed_back, same) = finished(&rt, alloc, &task).expect(&rt, "memory");
-    expect_equal(&rt, &polled, &[Polled::Tag(()), Polled::Finished]);
-    expect_true(&rt, handed_back && same);
-    Ok(())
-}
-
-fn told_twice<R: Wait + Copy>(rt: R, alloc: Global, task: &MockTask) -> Result<[bool; 5], Stuck> {
-    let event: Event<()> = event(alloc)?;
-    let mut listener = event.listen(&rt)?;
-    let first = task.poll(&mut listener).is_pending();
-    let second = task.poll(&mut listener).is_pending();
-    let silent = !task.is_woken();
-    let _ = event.notify(&rt, 1u8);
-    let woken = task.is_woken();
-    let ready = task.poll(&mut listener).is_ready();
-    Ok([first, second, silent, woken, ready])
-}
-
-fn polled_by_hand<R: Wait + Copy>(
-    rt: R,
-    alloc: Global,
-    task: &MockTask,
-) -> Result<[bool; 2], Stuck> {
-    let event: Event<()> = event(alloc)?;
-    let mut listener = event.listen(&rt)?;
-    poll(task, &mut listener);
-    let silent = !task.is_woken();
-    poll(task, &mut listener);
-    Ok([silent, task.is_woken()])
-}
-
-#[test]
-fn a_second_poll_is_silent(rt: HostRuntime) -> Result<(), Fail> {
-    let task = MockTask::new(&rt)?;
-    expect_equal(
-        &rt,
-        &told_twice(&rt, rt.alloc(), &task).expect(&rt, "memory"),
-        &[true; 5],
-    );
-    let other = MockTask::new(&rt)?;
-    // By hand the waker of the first poll is let go at the second one.
-    expect_equal(
-        &rt,
-        &polled_by_hand(&rt, rt.alloc(), &other).expect(&rt, "memory"),
-        &[true, true],
-    );
-    Ok(())
-}
 
 fn crosses<X: Send + Sync>(_: &X) -> bool {
     true

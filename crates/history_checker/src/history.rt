@@ -14,6 +14,8 @@ pub struct History {
     pub plain: Plain,
     /// A log for each thread.
     pub logs: Vec<Log>,
+    /// What was seen each time that no call was under way but some that sleep.
+    pub rests: Vec<Rest>,
 }
 
 /// What is wrong with a history.
@@ -21,7 +23,7 @@ pub struct History {
 pub enum Fault {
     /// A call answered what none may, or memory was refused.
     Spoiled,
-    /// Somebody slept beside a message, a free place or a closing when no call was under way.
+    /// Somebody slept beside a message, a free place or a closing when no other call was under way.
     Asleep,
     /// No order fits.
     Refused,
@@ -34,15 +36,9 @@ impl History {
         self.logs.iter().any(|log| log.spoiled)
     }
 
-    /// Whether nobody slept who must not, when no call was under way.
+    /// Whether nobody slept who must not, each time.
     fn is_restful(&self) -> bool {
-        let mut rest = Rest::unseen();
-        for log in &self.logs {
-            if let Some(look) = log.look {
-                rest = rest.with(look);
-            }
-        }
-        rest.is_right()
+        self.rests.iter().all(|rest| rest.is_right())
     }
 
     /// What is wrong with it, if anything is.
@@ -63,7 +59,7 @@ impl History {
         }
     }
 
-    /// Prints what each thread's calls did, a line for each moment.
+    /// Prints what each thread's calls did, a line for each moment, and who waited at each rest.
     pub fn print<R: Print>(&self, rt: &R) -> io::Result<()> {
         for (thread, log) in self.logs.iter().enumerate() {
             for moment in &log.moments {
@@ -72,6 +68,9 @@ impl History {
                 let point = moment.point;
                 println!(rt; "thread {thread}, {begin} to {end}: {point:?}")?;
             }
+        }
+        for rest in &self.rests {
+            println!(rt; "{rest:?}")?;
         }
         Ok(())
     }

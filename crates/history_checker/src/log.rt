@@ -1,7 +1,6 @@
 //! What the calls of one thread did, with the stamps between which they did it.
 
 use crate::point::{Did, Point, Sight};
-use crate::rest::Look;
 use std::alloc::Global;
 use std::sync::atomic::{AtomicU64, Ordering};
 
@@ -17,6 +16,11 @@ impl Stamps {
         Stamps {
             next: AtomicU64::new(0),
         }
+    }
+
+    /// How many were taken.
+    pub fn taken(&self) -> u64 {
+        self.next.load(Ordering::SeqCst)
     }
 
     /// The next stamp.
@@ -41,8 +45,6 @@ pub struct Moment {
 pub struct Log {
     /// The moments of all calls.
     pub moments: Vec<Moment>,
-    /// What it saw when no call was under way, if it looked then.
-    pub look: Option<Look>,
     /// Whether a call answered what none may, or memory was refused.
     pub spoiled: bool,
 }
@@ -52,7 +54,6 @@ impl Log {
     pub fn new(alloc: Global) -> Log {
         Log {
             moments: Vec::new(alloc),
-            look: None,
             spoiled: false,
         }
     }

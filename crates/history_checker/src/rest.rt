@@ -1,7 +1,9 @@
-//! What holds once no call is under way: nobody who waits sleeps beside what it waits for.
+//! What holds once no call is under way but blocking ones that sleep: nobody who waits sleeps beside what it waits for.
 
-/// What one thread sees then: of each of its operations that is pending whether it was woken since its last poll, and of the
-/// channel three numbers.
+use crate::point::Side;
+
+/// What is seen of one thread then: of each of its operations that is pending whether it was woken since its last poll; whether it
+/// is in a call that blocks; and of the channel three numbers.
 #[derive(Clone, Copy, PartialEq, Eq, Debug)]
 pub struct Look {
     /// Its send.
@@ -12,6 +14,8 @@ pub struct Look {
     pub closed: Option<bool>,
     /// Its stream.
     pub stream: Option<bool>,
+    /// The call that it is in: a send that blocks, or a receive.
+    pub blocking: Option<Side>,
     /// How many messages the channel holds.
     pub messages: usize,
     /// How many it can hold.
@@ -21,7 +25,7 @@ pub struct Look {
 }
 
 /// How many of one kind are pending, woken and not.
-#[derive(Clone, Copy)]
+#[derive(Clone, Copy, PartialEq, Eq, Debug)]
 struct Waiting {
     woken: usize,
     asleep: usize,
@@ -49,6 +53,11 @@ impl Waiting {
         }
     }
 
+    /// With one more, asleep, if there is one.
+    fn with_asleep(self, one: bool) -> Waiting {
+        self.with(one.then_some(false))
+    }
+
     /// Nobody sleeps, or for each of these somebody is woken.
     fn answers_for(self, those: usize) -> bool {
         self.asleep == 0 || those <= self.woken
@@ -56,7 +65,7 @@ impl Waiting {
 }
 
 /// What the threads see together.
-#[derive(Clone, Copy)]
+#[derive(Clone, Copy, PartialEq, Eq, Debug)]
 pub struct Rest {
     sends: Waiting,
     receives: Waiting,
@@ -77,11 +86,13 @@ impl Rest {
         }
     }
 
-    /// With what one thread more sees.
+    /// With what is seen of one thread more.
     pub fn with(self, look: Look) -> Rest {
+        let sends = look.blocking == Some(Side::Senders);
+        let receives = look.blocking == Some(Side::Receivers);
         Rest {
-            sends: self.sends.with(look.send),
-            receives: self.receives.with(look.recv),
+            sends: self.sends.with(look.send).with_asleep(sends),
+            receives: self.receives.with(look.recv).with_asleep(receives),
             closings: self.closings.with(look.closed),
             streams: self.streams.with(look.stream),
             look: Some(look),

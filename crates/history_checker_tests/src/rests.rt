@@ -1,6 +1,7 @@
 //! Threads that sleep when no call is under way, where they may and where they must not.
 
 use crate::checks::expect_true;
+use history_checker::point::Side;
 use history_checker::rest::{Look, Rest};
 use std::test::Fail;
 
@@ -10,6 +11,7 @@ const NOBODY: Look = Look {
     recv: None,
     closed: None,
     stream: None,
+    blocking: None,
     messages: 1,
     capacity: Some(2),
     shut: false,
@@ -42,6 +44,15 @@ fn streams(messages: usize) -> Look {
     }
 }
 
+/// A thread that sleeps in a call that blocks, beside so many messages.
+fn blocks(side: Side, messages: usize) -> Look {
+    Look {
+        blocking: Some(side),
+        messages,
+        ..NOBODY
+    }
+}
+
 /// A wait for the closing of a channel that is closed or not; it was not woken.
 fn awaits_closing(shut: bool) -> Look {
     Look {
@@ -62,6 +73,10 @@ fn one_that_waits(rt: HostRuntime) -> Result<(), Fail> {
         (sends(false, 2), true),
         (streams(1), false),
         (streams(0), true),
+        (blocks(Side::Receivers, 1), false),
+        (blocks(Side::Receivers, 0), true),
+        (blocks(Side::Senders, 1), false),
+        (blocks(Side::Senders, 2), true),
         (awaits_closing(false), true),
         (awaits_closing(true), false),
     ];
@@ -79,7 +94,11 @@ fn one_that_is_woken_answers_for_one_message(rt: HostRuntime) -> Result<(), Fail
     let two = Rest::unseen()
         .with(receives(false, 2))
         .with(receives(true, 2));
+    let asleep = Rest::unseen()
+        .with(blocks(Side::Receivers, 1))
+        .with(receives(true, 1));
     expect_true(&rt, one.is_right());
     expect_true(&rt, !two.is_right());
+    expect_true(&rt, asleep.is_right());
     Ok(())
 }

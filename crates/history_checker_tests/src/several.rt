@@ -151,7 +151,8 @@ fn fault(alloc: Global, limit: usize, taken: &[u64]) -> Option<Fault> {
     logs.push(one).ok()?;
     logs.push(other).ok()?;
     let plain = Plain::new(Some(2), 1, 1, alloc);
-    History { plain, logs }.fault(alloc)
+    let rests = Vec::new(alloc);
+    History { plain, logs, rests }.fault(alloc)
 }
 
 #[test]

@@ -6,7 +6,7 @@ use concurrent_queue::error::{ForcePushError, NoMemory, PopError, PushError};
 use concurrent_queue::exclusive::Exclusive;
 use concurrent_queue::shared::queue::ConcurrentQueue;
 use scarcity::{Attempt, Scarcity, Seen, Tried, made, refused};
-use std::alloc::Global;
+use std::alloc::{AllocError, Global};
 use std::sync::Wait;
 use std::test::Fail;
 
@@ -81,6 +81,72 @@ fn pushes_of_one_owner(rt: HostRuntime) -> Result<(), Fail> {
     let (seen, in_order) = push_all(rt.alloc());
     assert!(rt;
         seen.right && in_order && seen.calls == 4 && seen.refusals >= 5,
+        "{seen:?}"
+    );
+    Ok(())
+}
+
+/// The last message that goes through a queue one by one; the first is 1.
+const LAST: u64 = 1_000;
+
+/// The last one while there is memory. It takes the last place of the first block, and so the second block.
+const LAST_WITH_MEMORY: u64 = 31;
+
+/// The next message that is pushed into a queue of one owner, and popped before the one after it comes.
+#[derive(Drop)]
+struct Passing {
+    alloc: Global,
+    queue: Exclusive<u64>,
+    next: u64,
+}
+
+impl Passing {
+    /// Whether the next message went in and came out.
+    fn pass(&mut self) -> bool {
+        let message = self.next;
+        self.next = message.wrapping_add(1);
+        let is_in = self.queue.push(message) == Ok(());
+        is_in & (self.queue.pop() == Ok(message))
+    }
+
+    /// Whether the process gets no byte more.
+    fn is_out_of_memory(&self) -> bool {
+        let byte: Result<Vec<u8>, AllocError> = Vec::with_capacity(self.alloc, 1);
+        byte.is_err()
+    }
+}
+
+impl Attempt for Passing {
+    fn make(&mut self) -> Tried {
+        made(self.is_out_of_memory() && self.pass() && self.is_out_of_memory())
+    }
+}
+
+/// Passes all messages, the later ones with no memory at hand; then whether the earlier ones passed, and the next message.
+fn pass_all(alloc: Global) -> (Seen, bool, u64) {
+    let mut passing = Passing {
+        alloc,
+        queue: Exclusive::unbounded(alloc),
+        next: 1,
+    };
+    let mut passed = true;
+    for _ in 0..LAST_WITH_MEMORY {
+        passed = passed & passing.pass();
+    }
+    let mut scarcity = Scarcity::new(alloc);
+    for _ in LAST_WITH_MEMORY..LAST {
+        scarcity.refuse_none(&mut passing);
+    }
+    (scarcity.end(), passed, passing.next)
+}
+
+/// Two blocks serve for any number of messages that go through one by one: with every request refused from the 32nd push on, each push
+/// is accepted and each message comes out in its turn.
+#[test]
+fn two_blocks_serve(rt: HostRuntime) -> Result<(), Fail> {
+    let (seen, passed, next) = pass_all(rt.alloc());
+    assert!(rt;
+        seen.right && passed && seen.refusals == 0 && next == 1_001,
         "{seen:?}"
     );
     Ok(())

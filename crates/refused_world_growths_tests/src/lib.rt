@@ -6,6 +6,8 @@
 #[cfg(test)]
 mod checks;
 #[cfg(test)]
+mod listening;
+#[cfg(test)]
 mod records;
 #[cfg(test)]
 mod scripts;

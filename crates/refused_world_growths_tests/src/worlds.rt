@@ -222,7 +222,7 @@ pub struct Calls {
 }
 
 /// What was said of the one call of a list, and how many it woke.
-fn said_of(run: &CallRun<u64>) -> Option<(Said, usize)> {
+pub fn said_of(run: &CallRun<u64>) -> Option<(Said, usize)> {
     match run.done.first() {
         Some(done) => Some((says(&done.reply), done.woken.len())),
         None => None,

@@ -43,29 +43,29 @@ module _ {T : Type 0} where
   abbrev pub ActionStep : Contents T → UnboundedAction T → Contents T → Stepped (UnboundedAction T) T → Type 0
   ActionStep c a d s = IsBlocksStep c (plainly a) d (record { action = plainly s.action; mark = s.mark; reply = s.reply })
 
-module _ {T A : Type 0} (Step : Contents T → A → Contents T → Stepped A T → Type 0) where
+module _ {T A S : Type 0} (Step : S → A → S → Stepped A T → Type 0) where
   -- a step that answers nothing leads from the one action to the other
-  abbrev pub IsStep : Contents T → A → Contents T → A → Type 0
+  abbrev pub IsStep : S → A → S → A → Type 0
   IsStep c a d b = (m : QueueMark) × Step c a d (record { action = b; mark = m; reply = None })
 
   -- so many such steps do
-  abbrev pub Leads : ℕ → Contents T → A → Contents T → A → Type 0
+  abbrev pub Leads : ℕ → S → A → S → A → Type 0
   Leads zero c a d b = (d ≡ c) × (b ≡ a)
-  Leads (suc n) c a d b = (x : Contents T) × (y : A) × IsStep c a x y × Leads n x y d b
+  Leads (suc n) c a d b = (x : S) × (y : A) × IsStep c a x y × Leads n x y d b
 
   -- so many such steps lead to one that answers r
-  abbrev pub Ends : ℕ → Contents T → A → Contents T → QueueReply T → Type 0
+  abbrev pub Ends : ℕ → S → A → S → QueueReply T → Type 0
   Ends n c a d r =
-      (x : Contents T) × (y : A) × (z : A) × (m : QueueMark) × Leads n c a x y × Step x y d (record { action = z; mark = m; reply = Some r })
+      (x : S) × (y : A) × (z : A) × (m : QueueMark) × Leads n c a x y × Step x y d (record { action = z; mark = m; reply = Some r })
 
-module _ {T A : Type 0} (Step : Contents T → A → Contents T → Stepped A T → Type 0) where
+module _ {T A S : Type 0} (Step : S → A → S → Stepped A T → Type 0) where
   -- steps of the machine lead to this answer of a push, or to the action that is left
-  abbrev pub PushesOnEnd : Contents T → A → Result (Result Unit (PushError T)) A → Contents T → Type 0
+  abbrev pub PushesOnEnd : S → A → Result (Result Unit (PushError T)) A → S → Type 0
   PushesOnEnd c a result d =
       MatchResult result (λ r. (n : ℕ) × Ends Step n c a d (reply.Push r)) (λ b. (n : ℕ) × Leads Step n c a d b)
 
   -- the same of a pop
-  abbrev pub PopsOnEnd : Contents T → A → Result (Result T PopError) A → Contents T → Type 0
+  abbrev pub PopsOnEnd : S → A → Result (Result T PopError) A → S → Type 0
   PopsOnEnd c a result d =
       MatchResult result (λ r. (n : ℕ) × Ends Step n c a d (reply.Pop r)) (λ b. (n : ℕ) × Leads Step n c a d b)
 
@@ -86,7 +86,7 @@ module _ {T : Type 0} (c : Contents T) where
   PopsSingle (Ok (Ok v)) d =
       (c.state ≡ 2) × (slot_at c (At 0) ≡ Some v) × (d ≡ unlocked (write_slot (set_state c 1) (At 0) None))
   PopsSingle (Err a) d =
-      ((a ≡ single.Pop 2) × (d ≡ c)) ⊎ ((c.state ≡ 2) × (slot_at c (At 0) ≡ None) × (a ≡ single.PopTake) × (d ≡ write_slot (set_state c 1) (At 0) None))
+      (((d, one.stays a) ≡ pop_step c 2)) ⊎ ((c.state ≡ 2) × (slot_at c (At 0) ≡ None) × (a ≡ single.PopTake) × (d ≡ write_slot (set_state c 1) (At 0) None))
 
 module _ {T : Type 0} (cap m : ℕ) (c : Contents T) where
   -- the tail is no end of positions, and the place there waits for it
@@ -127,7 +127,9 @@ module _ {T : Type 0} (cap m : ℕ) (c : Contents T) where
   PushesRing v (Ok (Err e)) d = RefusesPush v e × (d ≡ c)
   PushesRing v (Ok (Ok u)) d = IsFree cap m c × (d ≡ pushed cap m c v)
   PushesRing v (Err a) d =
-      ((a ≡ ring.Push Refuse v) × (d ≡ c)) ⊎ (CanWin × (a ≡ ring.PushPut Refuse v c.tail) × (d ≡ set_tail c (next_word cap m c.tail)))
+      ((a ≡ ring.Push Refuse v) × (d ≡ c))
+      ⊎ (((is_marked m c.tail ≡ false) × (nat_le (2 ^ 64 - 2 * m) c.tail ≡ true) × (a ≡ ring.PushShut Refuse v) × (d ≡ c))
+      ⊎ (CanWin × (a ≡ ring.PushPut Refuse v c.tail) × (d ≡ set_tail c (next_word cap m c.tail))))
 
   -- a pop from a ring likewise
   abbrev pub PopsRing : Result (Result T PopError) (RingAction T) → Contents T → Type 0

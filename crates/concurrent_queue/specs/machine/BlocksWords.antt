@@ -36,13 +36,14 @@ abbrev pub when_shut : {T : Type 0} → T → Option ℕ → Progress T
 when_shut v None = pushes_shut v
 when_shut v (Some h) = stays (act.PushReturn v h)
 
+abbrev pub after_tail : {T : Type 0} → T → Option ℕ → ℕ → Progress T
+after_tail v h t =
+    if t % 2 == 1 then when_shut v h
+    else (if nat_le 9223372036854775744 (t / 2) then stays (act.PushShut v h)
+    else (if t / 2 % 32 == 31 then stays (act.Push v h) else stays (act.PushLook v t h)))
+
 abbrev pub load_tail : {T : Type 0} → Contents T → T → Option ℕ → Step T
-load_tail c v h = (
-  c,
-  if c.tail % 2 == 1 then when_shut v h
-      else (if nat_le 9223372036854775744 (c.tail / 2) then stays (act.PushShut v h)
-      else (if c.tail / 2 % 32 == 31 then stays (act.Push v h) else stays (act.PushLook v c.tail h))),
-)
+load_tail c v h = (c, after_tail v h c.tail)
 
 abbrev pub give_back : {T : Type 0} → Contents T → T → ℕ → Step T
 give_back c v h = (with_retired c h, pushes_shut v)
@@ -55,8 +56,11 @@ abbrev pub look_first : {T : Type 0} → T → ℕ → Option ℕ → Progress T
 look_first v t (Some h) = stays (act.PushFirst v t h)
 look_first v t None = stays (act.PushMake v t)
 
+abbrev pub after_tail_block : {T : Type 0} → T → ℕ → Option ℕ → ℕ → Progress T
+after_tail_block v t h w = if w == 0 then look_first v t h else look_with v t (w - 1) h
+
 abbrev pub look_tail_block : {T : Type 0} → Contents T → T → ℕ → Option ℕ → Step T
-look_tail_block c v t h = (c, if c.tail_block == 0 then look_first v t h else look_with v t (c.tail_block - 1) h)
+look_tail_block c v t h = (c, after_tail_block v t h c.tail_block)
 
 -- a spare section gives a block, or finds no spare one and no memory for a new one, and changes nothing
 abbrev pub Obtains : {T : Type 0} → Contents T → T → (ℕ → UnboundedAction T) → Step T → Type 0
@@ -101,27 +105,37 @@ store_written c t b h = (write c (word.Written b (t / 2 % 32)) 1, after_store h)
 abbrev pub give_spare : {T : Type 0} → Contents T → ℕ → Step T
 give_spare c h = (with_retired c h, finishes ending.Sent)
 
+abbrev pub after_head : {T : Type 0} → ℕ → Progress T
+after_head p = if p % 32 == 31 then stays act.Pop else stays (act.PopLook p)
+
 abbrev pub load_head : {T : Type 0} → Contents T → Step T
-load_head c = (c, if c.head % 32 == 31 then stays act.Pop else stays (act.PopLook c.head))
+load_head c = (c, after_head c.head)
 
 abbrev pub look_head_block : {T : Type 0} → Contents T → ℕ → Step T
 look_head_block c p = (c, stays (act.PopTail p c.head_block))
 
+abbrev pub after_pop_tail : {T : Type 0} → ℕ → ℕ → ℕ → Progress T
+after_pop_tail p b t =
+    if number (t / 2) == number p
+    then (if t % 2 == 1 then finishes (ending.Replied (reply.Pop (Err pop_error.Closed))) else finishes (ending.Replied (reply.Pop (Err pop_error.Empty))))
+    else (if b == 0 then stays act.Pop else stays (act.PopSwap p (b - 1)))
+
 abbrev pub look_tail : {T : Type 0} → Contents T → ℕ → ℕ → Step T
-look_tail c p b = (
-  c,
-  if number (c.tail / 2) == number p
-      then (if c.tail % 2 == 1 then finishes (ending.Replied (reply.Pop (Err pop_error.Closed))) else finishes (ending.Replied (reply.Pop (Err pop_error.Empty))))
-      else (if b == 0 then stays act.Pop else stays (act.PopSwap p (b - 1))),
-)
+look_tail c p b = (c, after_pop_tail p b c.tail)
+
+abbrev pub after_pop_swap : {T : Type 0} → ℕ → ℕ → UnboundedAction T
+after_pop_swap p b = if p % 32 == 30 then act.PopNext p b else act.PopWait p b
 
 abbrev pub swap_head : {T : Type 0} → Contents T → ℕ → ℕ → Step T
 swap_head c p b =
-    if c.head == p then (record c { head = (p + 1) % 2 ^ 64 }, record { action = if p % 32 == 30 then act.PopNext p b else act.PopWait p b; mark = mark.Take; ending = None })
+    if c.head == p then (record c { head = (p + 1) % 2 ^ 64 }, record { action = after_pop_swap p b; mark = mark.Take; ending = None })
     else (c, stays act.Pop)
 
+abbrev pub after_next : {T : Type 0} → ℕ → ℕ → ℕ → Progress T
+after_next p b n = if n == 0 then stays (act.PopNext p b) else stays (act.PopBlock p b n)
+
 abbrev pub load_next : {T : Type 0} → Contents T → ℕ → ℕ → Step T
-load_next c p b = (c, if (block_at c b).next == 0 then stays (act.PopNext p b) else stays (act.PopBlock p b (block_at c b).next))
+load_next c p b = (c, after_next p b (block_at c b).next)
 
 abbrev pub store_head_block : {T : Type 0} → Contents T → ℕ → ℕ → ℕ → Step T
 store_head_block c p b n = (record c { head_block = n }, stays (act.PopHead p b))
@@ -129,8 +143,11 @@ store_head_block c p b n = (record c { head_block = n }, stays (act.PopHead p b)
 abbrev pub store_head : {T : Type 0} → Contents T → ℕ → ℕ → Step T
 store_head c p b = (record c { head = (p + 2) % 2 ^ 64 }, stays (act.PopWait p b))
 
+abbrev pub after_written : {T : Type 0} → ℕ → ℕ → ℕ → Progress T
+after_written p b w = if w == 1 then stays (act.PopTake p b) else stays (act.PopWait p b)
+
 abbrev pub wait_written : {T : Type 0} → Contents T → ℕ → ℕ → Step T
-wait_written c p b = (c, if slice_index (block_at c b).written (p % 32) == 1 then stays (act.PopTake p b) else stays (act.PopWait p b))
+wait_written c p b = (c, after_written p b (slice_index (block_at c b).written (p % 32)))
 
 abbrev pub after_take : {T : Type 0} → ℕ → ℕ → Option T → UnboundedAction T
 after_take p b None = act.PopTake p b
@@ -139,24 +156,30 @@ after_take p b (Some d) = act.PopCount p b d
 abbrev pub take_message : {T : Type 0} → Contents T → ℕ → ℕ → Step T
 take_message c p b = (write_slot c (slot.In b (p % 32)) None, stays (after_take p b (slot_at c (slot.In b (p % 32)))))
 
+abbrev pub after_read : {T : Type 0} → ℕ → ℕ → T → ℕ → Progress T
+after_read p b d k = if k == 30 then stays (act.PopRetire p b d) else finishes (ending.Replied (reply.Pop (Ok d)))
+
 abbrev pub count_read : {T : Type 0} → Contents T → ℕ → ℕ → T → Step T
-count_read c p b d = (write c (word.Reads b) (((block_at c b).reads + 1) % 2 ^ 64), if (block_at c b).reads == 30 then stays (act.PopRetire p b d) else finishes (ending.Replied (reply.Pop (Ok d))))
+count_read c p b d = (write c (word.Reads b) (((block_at c b).reads + 1) % 2 ^ 64), after_read p b d (block_at c b).reads)
 
 abbrev pub retire_block : {T : Type 0} → Contents T → ℕ → T → Step T
 retire_block c b d = (with_retired c b, finishes (ending.Replied (reply.Pop (Ok d))))
 
 -- a queue whose positions come to their end closes itself, and the push is refused as by a closed one
+abbrev pub after_shut : {T : Type 0} → T → Option ℕ → ℕ → Progress T
+after_shut v h t = if t % 2 == 1 then when_shut v h else record (when_shut v h) { mark = mark.Close }
+
 abbrev pub shut_tail : {T : Type 0} → Contents T → T → Option ℕ → Step T
-shut_tail c v h = (record c { tail = bit_or c.tail 1 }, if c.tail % 2 == 1 then when_shut v h else record (when_shut v h) { mark = mark.Close })
+shut_tail c v h = (record c { tail = bit_or c.tail 1 }, after_shut v h c.tail)
 
 abbrev pub tells : {T : Type 0} → QueueReply T → Progress T
 tells y = finishes (ending.Replied y)
 
+abbrev pub after_close : {T : Type 0} → ℕ → Progress T
+after_close t = if t % 2 == 1 then tells (reply.Close false) else record (tells (reply.Close true)) { mark = mark.Close }
+
 abbrev pub close_tail : {T : Type 0} → Contents T → Step T
-close_tail c = (
-  record c { tail = bit_or c.tail 1 },
-  if c.tail % 2 == 1 then tells (reply.Close false) else record (tells (reply.Close true)) { mark = mark.Close },
-)
+close_tail c = (record c { tail = bit_or c.tail 1 }, after_close c.tail)
 
 abbrev pub ask_tail : {T : Type 0} → Contents T → Step T
 ask_tail c = (c, tells (reply.Flag (c.tail % 2 == 1)))
@@ -173,8 +196,11 @@ len_load_tail c = (c, stays (act.LenHead c.tail))
 abbrev pub len_load_head : {T : Type 0} → Contents T → ℕ → Step T
 len_load_head c t = (c, stays (act.LenTail t c.head))
 
+abbrev pub after_len : {T : Type 0} → ℕ → ℕ → ℕ → Progress T
+after_len t p w = if w == t then tells (reply.Count (number (t / 2) - number p)) else stays act.AskLen
+
 abbrev pub len_again : {T : Type 0} → Contents T → ℕ → ℕ → Step T
-len_again c t p = (c, if c.tail == t then tells (reply.Count (number (t / 2) - number p)) else stays act.AskLen)
+len_again c t p = (c, after_len t p c.tail)
 
 -- one step of closing or of a question; a finished call stays so
 abbrev pub IsQuestionStep : {T : Type 0} → Contents T → UnboundedAction T → Step T → Type 0

@@ -1,6 +1,9 @@
 -- The steps of a queue of one slot, as a function of what its cells hold.
 use Rattle.std.specs.Prelude.{ℕ, Bool, true, false, not, None, Some, Ok, Err, if◌then◌else◌, ◌==◌, bit_and, bit_or}
+use Rattle.std.specs.Prelude.{Option, Result}
 use Rattle.concurrent_queue.specs.Contents.{Contents, write_slot, slot_at, can_put}
+use Rattle.concurrent_queue.specs.Deeds.{Deed, Move, loads, exchanges, sets_bits, keeps_bits, puts, takes, rests, Makes}
+use Rattle.concurrent_queue.specs.declared.cells.Word.TheVariants.{State}
 use Rattle.concurrent_queue.specs.declared.cells.Slot.TheVariants.{At}
 use Rattle.concurrent_queue.specs.declared.call.QueueAsk.{QueueAsk}
 use Rattle.concurrent_queue.specs.declared.call.QueueAsk.TheVariants as ask
@@ -107,3 +110,59 @@ module _ {T : Type 0} where
   single_step c Len = (c, finishes (reply.Count (if clear c.state 2 then 0 else 1)))
   single_step c Capacity = (c, finishes (reply.Cap (Some 1)))
   single_step c Finished = (c, stays Finished)
+
+  -- ---- the same as operations: what follows each answer, whatever the cells hold
+
+  abbrev pub after_push : T → Result ℕ ℕ → Stepped (SingleAction T) T
+  after_push v (Ok w) = marks (PushPut v) mark.Append
+  after_push v (Err w) =
+      if not (clear w 4) then finishes (reply.Push (Err (push_error.Closed v)))
+      else (if not (clear w 2) then finishes (reply.Push (Err (push_error.Full v))) else stays (Push v))
+
+  abbrev pub after_force : T → ℕ → Result ℕ ℕ → Stepped (SingleAction T) T
+  after_force v x (Ok w) = if x == 0 then marks (ForcePut v None) mark.Append else marks (ForceTake v) mark.Replace
+  after_force v x (Err w) =
+      if not (clear w 4) then finishes (reply.Force (Err (force_error.Closed v))) else stays (Force v (if clear w 1 then w else x))
+
+  abbrev pub after_pop : Result ℕ ℕ → Stepped (SingleAction T) T
+  after_pop (Ok w) = marks PopTake mark.Take
+  after_pop (Err w) =
+      if not (clear w 2) then stays (Pop (bit_and w 0xffff_ffff_ffff_fffe))
+      else finishes (reply.Pop (Err (if not (clear w 4) then pop_error.Closed else pop_error.Empty)))
+
+  abbrev pub after_close : ℕ → Stepped (SingleAction T) T
+  after_close w = if clear w 4 then record { action = Finished; mark = mark.Close; reply = Some (reply.Close true) } else finishes (reply.Close false)
+
+  abbrev pub after_put : SingleAction T → (T → SingleAction T) → Result Unit T → Stepped (SingleAction T) T
+  after_put next again (Ok u) = stays next
+  after_put next again (Err v) = stays (again v)
+
+  abbrev pub after_take : (T → SingleAction T) → SingleAction T → Option T → Stepped (SingleAction T) T
+  after_take next again (Some v) = stays (next v)
+  after_take next again None = stays again
+
+  abbrev pub unlocks : QueueReply T → Move T (Stepped (SingleAction T) T)
+  unlocks r = keeps_bits State 0xffff_ffff_ffff_fffe (λ w. finishes r)
+
+  abbrev pub single_moves : SingleAction T → Move T (Stepped (SingleAction T) T)
+  single_moves (Push v) = exchanges State 0 3 (after_push v)
+  single_moves (PushPut v) = puts (At 0) v (after_put PushUnlock PushPut)
+  single_moves PushUnlock = unlocks (reply.Push (Ok tt))
+  single_moves (Force v x) = exchanges State x 3 (after_force v x)
+  single_moves (ForceTake v) = takes (At 0) (after_take (λ d. ForcePut v (Some d)) (ForceTake v))
+  single_moves (ForcePut v old) = puts (At 0) v (after_put (ForceUnlock old) (λ w. ForcePut w old))
+  single_moves (ForceUnlock old) = unlocks (reply.Force (Ok old))
+  single_moves (Pop x) = exchanges State x (bit_and (bit_or x 1) 0xffff_ffff_ffff_fffd) after_pop
+  single_moves PopTake = takes (At 0) (after_take PopUnlock PopTake)
+  single_moves (PopUnlock v) = unlocks (reply.Pop (Ok v))
+  single_moves Close = sets_bits State 4 after_close
+  single_moves IsClosed = loads State (λ w. finishes (reply.Flag (not (clear w 4))))
+  single_moves IsEmpty = loads State (λ w. finishes (reply.Flag (clear w 2)))
+  single_moves IsFull = loads State (λ w. finishes (reply.Flag (not (clear w 2))))
+  single_moves Len = loads State (λ w. finishes (reply.Count (if clear w 2 then 0 else 1)))
+  single_moves Capacity = rests (finishes (reply.Cap (Some 1)))
+  single_moves Finished = rests (stays Finished)
+
+  -- a step at this action, as one operation on any cells
+  abbrev pub SingleMakes : {S : Type 0} → (Deed T → S → S → Type 0) → S → SingleAction T → S → Stepped (SingleAction T) T → Type 0
+  SingleMakes did s a t r = Makes did (single_moves a) s r t

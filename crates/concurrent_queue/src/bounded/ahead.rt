@@ -1,9 +1,11 @@
-//! The steps of a push and of a pop of a ring made on end. They are the steps of the machine, each of them atomic; what is
-//! saved is the choice of the next action at each of them, so this is a matter of speed alone.
+//! The steps of a push and of a pop of a ring made on end, each of them atomic; what is saved is the choice of the next action
+//! at each of them. Over cells of one owner they are proved to be steps of the machine, to the answer or to the action that is
+//! handed on. Over cells that threads share it is proved which answers they may give.
 
 ghost use Rattle.std.specs.Prelude.{ℕ, true, MatchResult};
 ghost use Rattle.concurrent_queue.specs.machine.Ahead.{MadeBy, PushesOnEnd, PopsOnEnd, PushesRing, PopsRing, PopsNothing};
 ghost use Rattle.concurrent_queue.specs.machine.RingWords.{ring_step};
+ghost use Rattle.concurrent_queue.specs.machine.RingMoves.{RingMakes};
 ghost use Rattle.concurrent_queue.specs.Replies.{MayRing, MayPush, MayPop};
 ghost use Rattle.concurrent_queue.specs.declared.call.QueueReply.{QueueReply};
 ghost use Rattle.concurrent_queue.specs.declared.call.QueueReply.TheVariants as reply;
@@ -22,6 +24,7 @@ pub(crate) fn push_ahead<T: Drop, C: Cells<T>>(
 ) -> Result<Result<(), PushError<T>>, RingAction<T>>
     ensures steps { C.known → PushesOnEnd (MadeBy (ring_step shape.cap shape.mark)) (C.contents cells.old)
         (RingAction.Push WhenFull.Refuse value) result (C.contents cells.new) }
+    ensures deeds { PushesOnEnd (RingMakes shape.cap shape.mark C.did) cells.old (RingAction.Push WhenFull.Refuse value) result cells.new }
     ensures answers { MatchResult result (λ r. MayPush true value (reply.Push r))
         (λ a. (cap : ℕ) (r : QueueReply T) → MayRing cap a r → MayPush true value r) }
 {
@@ -37,6 +40,7 @@ pub(crate) fn pop_ahead<T: Drop, C: Cells<T>>(
 ) -> Result<Result<T, PopError>, RingAction<T>>
     ensures steps { C.known → PopsOnEnd (MadeBy (ring_step shape.cap shape.mark)) (C.contents cells.old)
         RingAction.Pop result (C.contents cells.new) }
+    ensures deeds { PopsOnEnd (RingMakes shape.cap shape.mark C.did) cells.old RingAction.Pop result cells.new }
     ensures answers { MatchResult result (λ _. Unit {0})
         (λ a. (cap : ℕ) (r : QueueReply T) → MayRing cap a r → MayPop r) }
 {
@@ -51,6 +55,7 @@ fn make_push<T: Drop, C: Cells<T>>(
     cells: &mut C,
 ) -> Result<Result<(), PushError<T>>, RingAction<T>>
     ensures cells { C.known → PushesRing shape.cap shape.mark (C.contents cells.old) value result (C.contents cells.new) }
+    ensures deeds { PushesOnEnd (RingMakes shape.cap shape.mark C.did) cells.old (RingAction.Push WhenFull.Refuse value) result cells.new }
     ensures answers { MatchResult result (λ r. MayPush true value (reply.Push r))
         (λ a. (cap : ℕ) (r : QueueReply T) → MayRing cap a r → MayPush true value r) }
 {
@@ -59,7 +64,7 @@ fn make_push<T: Drop, C: Cells<T>>(
         return Ok(Err(PushError::Closed(value)));
     }
     if u64::MAX - shape.lap() < tail {
-        return Err(RingAction::Push(WhenFull::Refuse, value));
+        return Err(RingAction::PushShut(WhenFull::Refuse, value));
     }
     let stamp = cells.load(shape.stamp(tail));
     if stamp != tail {
@@ -89,6 +94,7 @@ fn make_pop<T: Drop, C: Cells<T>>(
     cells: &mut C,
 ) -> Result<Result<T, PopError>, RingAction<T>>
     ensures cells { C.known → PopsRing shape.cap shape.mark (C.contents cells.old) result (C.contents cells.new) }
+    ensures deeds { PopsOnEnd (RingMakes shape.cap shape.mark C.did) cells.old RingAction.Pop result cells.new }
     ensures answers { MatchResult result (λ _. Unit {0})
         (λ a. (cap : ℕ) (r : QueueReply T) → MayRing cap a r → MayPop r) }
 {
@@ -123,6 +129,7 @@ fn pop_empty<T: Drop, C: Cells<T>>(
     cells: &mut C,
 ) -> Result<Result<T, PopError>, RingAction<T>>
     ensures cells { C.known → PopsNothing shape.cap shape.mark (C.contents cells.old) head result (C.contents cells.new) }
+    ensures deeds { PopsOnEnd (RingMakes shape.cap shape.mark C.did) cells.old (RingAction.PopTail head) result cells.new }
     ensures answers { MatchResult result (λ _. Unit {0})
         (λ a. (cap : ℕ) (r : QueueReply T) → MayRing cap a r → MayPop r) }
 {

@@ -3,6 +3,7 @@
 ghost use Rattle.std.specs.Prelude.{◌≡◌, MatchResult};
 ghost use Rattle.concurrent_queue.specs.machine.Ahead.{PushesAhead, PopsAhead};
 ghost use Rattle.concurrent_queue.specs.Replies.{MayCall, MayAnswer};
+ghost use Rattle.concurrent_queue.specs.Walked.{WalkedAhead, first_of, standing};
 ghost use Rattle.concurrent_queue.specs.declared.call.QueueAsk.TheVariants as ask;
 ghost use Rattle.concurrent_queue.specs.declared.call.QueueReply.{QueueReply};
 ghost use Rattle.concurrent_queue.specs.declared.call.QueueReply.TheVariants as reply;
@@ -33,6 +34,7 @@ pub(crate) fn push_ahead<T: Drop, C: Cells<T>>(
     cells: &mut C,
 ) -> Result<Result<(), PushError<T>>, QueueCall<T>>
     ensures steps { C.known → PushesAhead (C.contents cells.old).form (C.contents cells.old) value result (C.contents cells.new) }
+    ensures deeds { WalkedAhead C.did (λ r. reply.Push r) (C.form_of cells.old) (first_of (C.form_of cells.old) (ask.Push value)) cells.old result cells.new }
     ensures answers { MatchResult result (λ r. MayAnswer (C.form_of cells.old) (ask.Push value) (reply.Push r)) (λ call. (f : QueueForm) (r : QueueReply T) → MayCall f call.state r →
         MayAnswer (C.form_of cells.old) (ask.Push value) r) }
 {
@@ -63,6 +65,7 @@ pub(crate) fn pop_ahead<T: Drop, C: Cells<T>>(
     cells: &mut C,
 ) -> Result<Result<T, PopError>, QueueCall<T>>
     ensures steps { C.known → PopsAhead (C.contents cells.old).form (C.contents cells.old) result (C.contents cells.new) }
+    ensures deeds { WalkedAhead C.did (λ r. reply.Pop r) (C.form_of cells.old) (first_of (C.form_of cells.old) ask.Pop) cells.old result cells.new }
     ensures answers { MatchResult result (λ _. Unit {0}) (λ call. (f : QueueForm) (r : QueueReply T) → MayCall f call.state r →
         MayAnswer (C.form_of cells.old) ask.Pop r) }
 {
@@ -94,6 +97,7 @@ pub(crate) fn call_ahead<T: Drop, C: Cells<T>>(
     call: &mut QueueCall<T>,
     cells: &mut C,
 ) -> Result<QueueReply<T>, QueueCall<T>>
+    ensures deeds { WalkedAhead C.did (λ r. r) (C.form_of cells.old) (standing (C.form_of cells.old) call.old.state) cells.old result cells.new }
     ensures answers { MatchResult result (λ r. MayCall (C.form_of cells.old) call.old.state r)
         (λ rest. (r : QueueReply T) → MayCall (C.form_of cells.old) rest.state r → MayCall (C.form_of cells.old) call.old.state r) }
 {

@@ -99,6 +99,7 @@ impl<'a, T: Drop> WordCells<'a, T> {
 }
 
 impl<'a, T: Drop> Cells<T> for WordCells<'a, T> {
+    ghost use Rattle.std.specs.Prelude.{◌≡◌};
     ghost use Rattle.concurrent_queue.specs.Contents.{no_contents};
 
     ghost known = { ⊥ };
@@ -106,6 +107,10 @@ impl<'a, T: Drop> Cells<T> for WordCells<'a, T> {
     ghost contents = { λ c. no_contents c.form };
 
     ghost form_of = { λ c. c.form };
+
+    ghost did = { λ _ a b. b.form ≡ a.form };
+
+    ghost keeps_form = { λ _ a b kept. kept };
 
     #[inline(always)]
     fn form(&self) -> QueueForm {
@@ -259,6 +264,7 @@ pub(crate) struct SharedCells<'a, T: Drop, R: Wait> {
 }
 
 impl<'a, T: Drop, R: Wait> Cells<T> for SharedCells<'a, T, R> {
+    ghost use Rattle.std.specs.Prelude.{◌≡◌};
     ghost use Rattle.concurrent_queue.specs.Contents.{no_contents};
 
     ghost known = { ⊥ };
@@ -266,6 +272,10 @@ impl<'a, T: Drop, R: Wait> Cells<T> for SharedCells<'a, T, R> {
     ghost contents = { λ c. no_contents c.words.form };
 
     ghost form_of = { λ c. c.words.form };
+
+    ghost did = { λ _ a b. b.words.form ≡ a.words.form };
+
+    ghost keeps_form = { λ _ a b kept. kept };
 
     #[inline(always)]
     fn form(&self) -> QueueForm {

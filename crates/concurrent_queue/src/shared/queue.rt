@@ -1,21 +1,19 @@
 //! A queue that threads share.
 
 ghost use Rattle.std.specs.Prelude.{◌≡◌, ◌<◌, ◌≤◌, ◌^◌, IfOk, length};
-ghost use Rattle.concurrent_queue.specs.Replies.{MayAnswer, MayCall, AsksWords};
+ghost use Rattle.concurrent_queue.specs.Replies.{MayAnswer, AsksWords};
 
 use crate::bounded::{GREATEST, at_most_greatest};
 use crate::call::{QueueAsk, QueueReply};
 use crate::cells::{Cells, QueueForm};
 use crate::error::{ForcePushError, NoMemory, PopError, PushError};
-use crate::queue_call::QueueCall;
-use crate::queue_call::ahead::{call_ahead, pop_ahead, push_ahead};
+use crate::queue_call::{QueueCall, whole};
 use crate::shared::blocks::Blocks;
 use crate::shared::cells::{STAMPS, SharedCells, WordCells};
 use crate::shared::iter::TryIter;
 use crate::shared::table::SharedTable;
 use std::alloc::{AllocError, Global};
 use std::sync::Wait;
-use std::thread;
 
 /// A queue that threads share through a `&` and that can be closed, as `ConcurrentQueue` of `concurrent-queue` 2.5.0. Each
 /// call makes the steps of `queue_call`, whichever other calls are under way, and yields before it makes an action again.
@@ -93,52 +91,9 @@ impl<T: Drop> ConcurrentQueue<T> {
     }
 }
 
-/// Steps a call to its end. It yields before an action is made again.
-fn finish_on<T: Drop, R: Wait, C: Cells<T>>(
-    rt: &R,
-    mut call: QueueCall<T>,
-    cells: &mut C,
-) -> QueueReply<T>
-    ensures { MayCall (C.form_of cells.old) call.state result }
-{
-    for _ in rt.forever() {
-        let place = call.place();
-        if let Some(reply) = call.step(cells) {
-            drop(call);
-            return reply;
-        }
-        if call.place() <= place {
-            thread::yield_now();
-        }
-    }
-    unreachable!()
-}
-
-/// Steps a call that waits for nobody to its end: its second step answers at the latest.
-fn tell_on<T: Drop, C: Cells<T>>(ask: QueueAsk<T>, cells: &mut C) -> QueueReply<T>
-    requires { AsksWords ask }
-    ensures { MayAnswer (C.form_of cells.old) ask result }
-{
-    let mut call = QueueCall::new(ask);
-    if let Some(reply) = call.step(cells) {
-        drop(call);
-        return reply;
-    }
-    match call.step(cells) {
-        Some(reply) => {
-            drop(call);
-            reply
-        }
-        None => unreachable!(),
-    }
-}
-
 impl<T: Drop> ConcurrentQueue<T> {
     ghost use Rattle.std.specs.Prelude.{◌≡◌, Some};
-    ghost use Rattle.concurrent_queue.specs.SharedQueue.{IsPushReply, IsSharedStep, IsWordsAlone};
-    ghost use Rattle.concurrent_queue.specs.Replies.{MayPop};
-    ghost use Rattle.concurrent_queue.specs.declared.call.QueueReply.{QueueReply};
-    ghost use Rattle.concurrent_queue.specs.declared.call.QueueReply.TheVariants as reply;
+    ghost use Rattle.concurrent_queue.specs.SharedQueue.{IsSharedStep, IsWordsAlone};
 
     /// The cells of words and slots, from a new seat.
     #[inline(always)]
@@ -166,9 +121,7 @@ impl<T: Drop> ConcurrentQueue<T> {
     {
         let place = call.place();
         let reply = call.step(&mut self.cells(rt));
-        if reply.is_none() && call.place() <= place {
-            thread::yield_now();
-        }
+        whole::give_way(reply.is_none() && call.place() <= place);
         reply
     }
 
@@ -180,10 +133,7 @@ impl<T: Drop> ConcurrentQueue<T> {
     pub fn complete<R: Wait>(&self, rt: &R, call: &mut QueueCall<T>) -> QueueReply<T>
         ensures { IsSharedStep self.now call.old call.new (Some result) }
     {
-        match call_ahead(call, &mut self.cells(rt)) {
-            Ok(reply) => reply,
-            Err(rest) => self.finish(rt, rest),
-        }
+        whole::complete(rt, call, &mut self.cells(rt))
     }
 
     /// One step of a call that is `close` or a question but for the length. It waits for nobody, and the second one answers
@@ -195,47 +145,19 @@ impl<T: Drop> ConcurrentQueue<T> {
         call.step(&mut self.words())
     }
 
-    /// Steps a call to its end. What straight code hands on is to make an action again, so it yields first.
-    fn finish<R: Wait>(&self, rt: &R, call: QueueCall<T>) -> QueueReply<T>
-        ensures { MayCall self.now.form call.state result }
+    /// The answer of a call that goes step by step.
+    fn make<R: Wait>(&self, rt: &R, ask: QueueAsk<T>) -> QueueReply<T>
+        ensures { MayAnswer self.now.form ask result }
     {
-        if call.has_begun() {
-            thread::yield_now();
-        }
-        finish_on(rt, call, &mut self.cells(rt))
+        whole::finish(rt, QueueCall::new(ask), &mut self.cells(rt))
     }
 
-    /// The answer of a push that goes on from here. It stands apart, so that a push at once has no room to make for it.
-    #[cold]
-    #[inline(never)]
-    fn push_on<R: Wait>(&self, rt: &R, call: QueueCall<T>) -> Result<(), PushError<T>>
-        requires { (r : QueueReply T) → MayCall self.now.form call.state r → IsPushReply r }
-        ensures { MayCall self.now.form call.state (reply.Push result) }
-    {
-        match self.finish(rt, call) {
-            QueueReply::Push(result) => result,
-            _ => unreachable!(),
-        }
-    }
-
-    /// The same of a pop.
-    #[cold]
-    #[inline(never)]
-    fn pop_on<R: Wait>(&self, rt: &R, call: QueueCall<T>) -> Result<T, PopError>
-        requires { (r : QueueReply T) → MayCall self.now.form call.state r → MayPop r }
-    {
-        match self.finish(rt, call) {
-            QueueReply::Pop(result) => result,
-            _ => unreachable!(),
-        }
-    }
-
-    /// The same for one that waits for nobody: its second step answers at the latest.
+    /// The answer of a call that waits for nobody.
     fn tell(&self, ask: QueueAsk<T>) -> QueueReply<T>
         requires { AsksWords ask }
         ensures { MayAnswer self.now.form ask result }
     {
-        tell_on(ask, &mut self.words())
+        whole::tell(ask, &mut self.words())
     }
 }
 
@@ -251,10 +173,7 @@ impl<T: Drop> ConcurrentQueue<T> {
         ensures back { IfErr result (λ e. push_message e ≡ value) }
         ensures reason { IfErr result (λ e. CanRefuse (limit self.now) e) }
     {
-        match push_ahead(value, &mut self.cells(rt)) {
-            Ok(answer) => answer,
-            Err(call) => self.push_on(rt, call),
-        }
+        whole::push(rt, value, &mut self.cells(rt))
     }
 
     /// Appends the message; where the queue is full, the oldest one leaves for it and is answered. A refusal hands the message
@@ -264,7 +183,7 @@ impl<T: Drop> ConcurrentQueue<T> {
         ensures reason { IfErr result (λ e. CanRefuseForce (limit self.now) e) }
         ensures displaced { limit self.now ≡ None → IfOk result (λ o. o ≡ None) }
     {
-        match self.finish(rt, QueueCall::force_push(value)) {
+        match self.make(rt, QueueAsk::ForcePush(value)) {
             QueueReply::Force(result) => result,
             _ => unreachable!(),
         }
@@ -273,10 +192,7 @@ impl<T: Drop> ConcurrentQueue<T> {
     /// Takes the oldest message. `Err` where there was none: `Empty` while the queue was open, `Closed` once it was closed. It
     /// may wait.
     pub fn pop<R: Wait>(&self, rt: &R) -> Result<T, PopError> {
-        match pop_ahead(&mut self.cells(rt)) {
-            Ok(answer) => answer,
-            Err(call) => self.pop_on(rt, call),
-        }
+        whole::pop(rt, &mut self.cells(rt))
     }
 
     /// Closes the queue: nothing more comes in, and what is in can still be popped. True in the one call that closed it. It
@@ -316,7 +232,7 @@ impl<T: Drop> ConcurrentQueue<T> {
 
     /// How many messages it held at a moment of the call. It may wait, since it asks again where others came between.
     pub fn len<R: Wait>(&self, rt: &R) -> usize {
-        match self.finish(rt, QueueCall::len()) {
+        match self.make(rt, QueueAsk::Len) {
             QueueReply::Count(result) => result,
             _ => unreachable!(),
         }

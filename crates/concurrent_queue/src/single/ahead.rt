@@ -2,7 +2,7 @@
 
 ghost use Rattle.std.specs.Prelude.{true, MatchResult};
 ghost use Rattle.concurrent_queue.specs.machine.Ahead.{MadeBy, PushesOnEnd, PopsOnEnd, PushesSingle, PopsSingle};
-ghost use Rattle.concurrent_queue.specs.machine.Single.{single_step};
+ghost use Rattle.concurrent_queue.specs.machine.Single.{single_step, SingleMakes};
 ghost use Rattle.concurrent_queue.specs.Replies.{MaySingle, MayPush, MayPop};
 ghost use Rattle.concurrent_queue.specs.declared.call.QueueReply.{QueueReply};
 ghost use Rattle.concurrent_queue.specs.declared.call.QueueReply.TheVariants as reply;
@@ -18,6 +18,7 @@ pub(crate) fn push_ahead<T: Drop, C: Cells<T>>(
     cells: &mut C,
 ) -> Result<Result<(), PushError<T>>, SingleAction<T>>
     ensures steps { C.known → PushesOnEnd (MadeBy single_step) (C.contents cells.old) (SingleAction.Push value) result (C.contents cells.new) }
+    ensures deeds { PushesOnEnd (SingleMakes C.did) cells.old (SingleAction.Push value) result cells.new }
     ensures answers { MatchResult result (λ r. MayPush true value (reply.Push r))
         (λ a. (r : QueueReply T) → MaySingle a r → MayPush true value r) }
 {
@@ -31,6 +32,7 @@ pub(crate) fn pop_ahead<T: Drop, C: Cells<T>>(
     cells: &mut C,
 ) -> Result<Result<T, PopError>, SingleAction<T>>
     ensures steps { C.known → PopsOnEnd (MadeBy single_step) (C.contents cells.old) (SingleAction.Pop 2) result (C.contents cells.new) }
+    ensures deeds { PopsOnEnd (SingleMakes C.did) cells.old (SingleAction.Pop 2) result cells.new }
     ensures answers { MatchResult result (λ _. Unit {0})
         (λ a. (r : QueueReply T) → MaySingle a r → MayPop r) }
 {
@@ -44,6 +46,7 @@ fn make_push<T: Drop, C: Cells<T>>(
     cells: &mut C,
 ) -> Result<Result<(), PushError<T>>, SingleAction<T>>
     ensures cells { C.known → PushesSingle (C.contents cells.old) value result (C.contents cells.new) }
+    ensures deeds { PushesOnEnd (SingleMakes C.did) cells.old (SingleAction.Push value) result cells.new }
     ensures answers { MatchResult result (λ r. MayPush true value (reply.Push r))
         (λ a. (r : QueueReply T) → MaySingle a r → MayPush true value r) }
 {
@@ -67,12 +70,13 @@ fn make_push<T: Drop, C: Cells<T>>(
 #[inline(always)]
 fn make_pop<T: Drop, C: Cells<T>>(cells: &mut C) -> Result<Result<T, PopError>, SingleAction<T>>
     ensures cells { C.known → PopsSingle (C.contents cells.old) result (C.contents cells.new) }
+    ensures deeds { PopsOnEnd (SingleMakes C.did) cells.old (SingleAction.Pop 2) result cells.new }
     ensures answers { MatchResult result (λ _. Unit {0})
         (λ a. (r : QueueReply T) → MaySingle a r → MayPop r) }
 {
     if let Err(found) = cells.compare_exchange(Word::State, PUSHED, LOCKED) {
         return if found & PUSHED != 0 {
-            Err(SingleAction::Pop(PUSHED))
+            Err(SingleAction::Pop(found & NOT_LOCKED))
         } else if found & CLOSED != 0 {
             Ok(Err(PopError::Closed))
         } else {

@@ -2,6 +2,7 @@
 
 ghost use Rattle.std.specs.Prelude.{◌≡◌, ◌/◌, ◌%◌, ◌==◌, if◌then◌else◌, false, true, None, MatchResult};
 ghost use Rattle.concurrent_queue.specs.machine.Ahead.{ActionStep, PushesOnEnd, PopsOnEnd};
+ghost use Rattle.concurrent_queue.specs.machine.BlocksMakes.{ActionMakes};
 ghost use Rattle.concurrent_queue.specs.Replies.{MayEnd, MayPush, Sends, Tells};
 ghost use Rattle.concurrent_queue.specs.declared.call.QueueAsk.TheVariants as ask;
 ghost use Rattle.concurrent_queue.specs.declared.call.QueueReply.TheVariants as reply;
@@ -12,8 +13,8 @@ use crate::error::{PopError, PushError};
 use crate::unbounded::action::UnboundedAction;
 use crate::unbounded::pop::number_of;
 
-/// Pushes or is refused, or answers the action at which the machine has to go on: its first where there is no block yet, where
-/// positions end, and where another call was quicker.
+/// Pushes or is refused, or answers the action at which the machine stands then: its first where another call was quicker or is
+/// on its way, a later one where there is no block yet or positions end.
 #[inline(always)]
 pub(crate) fn push_ahead<T: Drop, C: Cells<T>>(
     value: T,
@@ -21,6 +22,7 @@ pub(crate) fn push_ahead<T: Drop, C: Cells<T>>(
 ) -> Result<Result<(), PushError<T>>, UnboundedAction<T>>
     ensures steps { C.known → PushesOnEnd ActionStep (C.contents cells.old)
         (UnboundedAction.Push value None) result (C.contents cells.new) }
+    ensures deeds { PushesOnEnd (ActionMakes C.did) cells.old (UnboundedAction.Push value None) result cells.new }
     ensures answers { MatchResult result (λ r. MayPush false value (reply.Push r)) (λ a. (e : Ending T) → MayEnd a e → Sends value e) }
 {
     let tail = cells.load(Word::Tail);
@@ -28,12 +30,15 @@ pub(crate) fn push_ahead<T: Drop, C: Cells<T>>(
     if tail % 2 == 1 {
         return Ok(Err(PushError::Closed(value)));
     }
-    if tail / 2 >= 9223372036854775744 || offset == 31 {
+    if tail / 2 >= 9223372036854775744 {
+        return Err(UnboundedAction::PushShut(value, None));
+    }
+    if offset == 31 {
         return Err(UnboundedAction::Push(value, None));
     }
     let block = cells.load(Word::TailBlock);
     if block == 0 {
-        return Err(UnboundedAction::Push(value, None));
+        return Err(UnboundedAction::PushMake(value, tail));
     }
     if offset == 30 {
         return push_last(value, tail, block - 1, cells);
@@ -51,8 +56,7 @@ pub(crate) fn push_ahead<T: Drop, C: Cells<T>>(
     Ok(Ok(()))
 }
 
-/// Pushes into the last slot of a block, for which the next one is got first. Where there is no memory for it the machine is
-/// left to say so.
+/// Pushes into the last slot of a block, for which the next one is got first.
 #[inline(always)]
 fn push_last<T: Drop, C: Cells<T>>(
     value: T,
@@ -62,10 +66,11 @@ fn push_last<T: Drop, C: Cells<T>>(
 ) -> Result<Result<(), PushError<T>>, UnboundedAction<T>>
     ensures steps { C.known → tail / 2 % 32 ≡ 30 → PushesOnEnd ActionStep (C.contents cells.old)
         (UnboundedAction.PushMore value tail block) result (C.contents cells.new) }
+    ensures deeds { tail / 2 % 32 ≡ 30 → PushesOnEnd (ActionMakes C.did) cells.old (UnboundedAction.PushMore value tail block) result cells.new }
     ensures answers { MatchResult result (λ r. MayPush false value (reply.Push r)) (λ a. (e : Ending T) → MayEnd a e → Sends value e) }
 {
     let Ok(next) = cells.spare() else {
-        return Err(UnboundedAction::PushMore(value, tail, block));
+        return Ok(Err(PushError::NoMemory(value)));
     };
     if cells
         .compare_exchange(Word::Tail, tail, tail.wrapping_add(2))
@@ -91,6 +96,7 @@ pub(crate) fn pop_ahead<T: Drop, C: Cells<T>>(
 ) -> Result<Result<T, PopError>, UnboundedAction<T>>
     ensures steps { C.known → PopsOnEnd ActionStep (C.contents cells.old)
         UnboundedAction.Pop result (C.contents cells.new) }
+    ensures deeds { PopsOnEnd (ActionMakes C.did) cells.old UnboundedAction.Pop result cells.new }
     ensures answers { MatchResult result (λ _. Unit {0}) (λ a. (e : Ending T) → MayEnd a e → Tells ask.Pop e) }
 {
     let head = cells.load(Word::Head);
@@ -144,6 +150,7 @@ fn pop_written<T: Drop, C: Cells<T>>(
 ) -> Result<Result<T, PopError>, UnboundedAction<T>>
     ensures steps { C.known → PopsOnEnd ActionStep (C.contents cells.old)
         (UnboundedAction.PopWait head block) result (C.contents cells.new) }
+    ensures deeds { PopsOnEnd (ActionMakes C.did) cells.old (UnboundedAction.PopWait head block) result cells.new }
     ensures answers { MatchResult result (λ _. Unit {0}) (λ a. (e : Ending T) → MayEnd a e → Tells ask.Pop e) }
 {
     if cells.load(Word::Written(block, head % 32)) != 1 {

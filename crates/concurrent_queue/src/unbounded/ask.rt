@@ -2,6 +2,7 @@
 
 ghost use Rattle.std.specs.Prelude.{◌≡◌, ℕ, None};
 ghost use Rattle.concurrent_queue.specs.machine.BlocksWords.{tells, close_tail, ask_tail, empty_load_head, empty_load_tail, len_load_tail, len_load_head, len_again};
+ghost use Rattle.concurrent_queue.specs.machine.BlocksMakes.{ProgressMakes};
 ghost use Rattle.concurrent_queue.specs.Replies.{EndFollows};
 
 use crate::call::{QueueMark, QueueReply};
@@ -20,6 +21,7 @@ pub(crate) fn close_load<T: Drop, C: Cells<T>>(cells: &mut C) -> Progress<T>
     ensures steps { C.known → (C.contents cells.new, result) ≡ close_tail (C.contents cells.old) }
     ensures form { C.form_of cells.new ≡ C.form_of cells.old }
     ensures ends { EndFollows UnboundedAction.Close result }
+    ensures deed { ProgressMakes C.did cells.old UnboundedAction.Close cells.new result }
 {
     let tail = cells.fetch_or(Word::Tail, 1);
     if tail % 2 == 1 {
@@ -37,6 +39,7 @@ pub(crate) fn ask_closed<T: Drop, C: Cells<T>>(cells: &mut C) -> Progress<T>
     ensures steps { C.known → (C.contents cells.new, result) ≡ ask_tail (C.contents cells.old) }
     ensures form { C.form_of cells.new ≡ C.form_of cells.old }
     ensures ends { EndFollows UnboundedAction.AskClosed result }
+    ensures deed { ProgressMakes C.did cells.old UnboundedAction.AskClosed cells.new result }
 {
     let tail = cells.load(Word::Tail);
     tell(QueueReply::Flag(tail % 2 == 1))
@@ -46,6 +49,7 @@ pub(crate) fn ask_empty<T: Drop, C: Cells<T>>(cells: &mut C) -> Progress<T>
     ensures steps { C.known → (C.contents cells.new, result) ≡ empty_load_head (C.contents cells.old) }
     ensures form { C.form_of cells.new ≡ C.form_of cells.old }
     ensures ends { EndFollows UnboundedAction.AskEmpty result }
+    ensures deed { ProgressMakes C.did cells.old UnboundedAction.AskEmpty cells.new result }
 {
     let head = cells.load(Word::Head);
     stay(UnboundedAction::EmptyTail(head))
@@ -55,6 +59,7 @@ pub(crate) fn empty_tail<T: Drop, C: Cells<T>>(head: u64, cells: &mut C) -> Prog
     ensures steps { C.known → (C.contents cells.new, result) ≡ empty_load_tail (C.contents cells.old) head }
     ensures form { C.form_of cells.new ≡ C.form_of cells.old }
     ensures ends { EndFollows (UnboundedAction.EmptyTail head) result }
+    ensures deed { ProgressMakes C.did cells.old (UnboundedAction.EmptyTail head) cells.new result }
 {
     let tail = cells.load(Word::Tail);
     tell(QueueReply::Flag(number_of(tail / 2) == number_of(head)))
@@ -64,6 +69,7 @@ pub(crate) fn ask_len<T: Drop, C: Cells<T>>(cells: &mut C) -> Progress<T>
     ensures steps { C.known → (C.contents cells.new, result) ≡ len_load_tail (C.contents cells.old) }
     ensures form { C.form_of cells.new ≡ C.form_of cells.old }
     ensures ends { EndFollows UnboundedAction.AskLen result }
+    ensures deed { ProgressMakes C.did cells.old UnboundedAction.AskLen cells.new result }
 {
     let tail = cells.load(Word::Tail);
     stay(UnboundedAction::LenHead(tail))
@@ -73,6 +79,7 @@ pub(crate) fn len_head<T: Drop, C: Cells<T>>(tail: u64, cells: &mut C) -> Progre
     ensures steps { C.known → (C.contents cells.new, result) ≡ len_load_head (C.contents cells.old) tail }
     ensures form { C.form_of cells.new ≡ C.form_of cells.old }
     ensures ends { EndFollows (UnboundedAction.LenHead tail) result }
+    ensures deed { ProgressMakes C.did cells.old (UnboundedAction.LenHead tail) cells.new result }
 {
     let head = cells.load(Word::Head);
     stay(UnboundedAction::LenTail(tail, head))
@@ -82,6 +89,7 @@ pub(crate) fn len_tail<T: Drop, C: Cells<T>>(tail: u64, head: u64, cells: &mut C
     ensures steps { C.known → (C.contents cells.new, result) ≡ len_again (C.contents cells.old) tail head }
     ensures form { C.form_of cells.new ≡ C.form_of cells.old }
     ensures ends { EndFollows (UnboundedAction.LenTail tail head) result }
+    ensures deed { ProgressMakes C.did cells.old (UnboundedAction.LenTail tail head) cells.new result }
 {
     if cells.load(Word::Tail) == tail {
         tell(QueueReply::Count(number_of(tail / 2).saturating_sub(number_of(head)) as usize))

@@ -3,6 +3,7 @@
 ghost use Rattle.std.specs.Prelude.{◌≡◌, ℕ};
 ghost use Rattle.concurrent_queue.specs.machine.BlocksState.{number};
 ghost use Rattle.concurrent_queue.specs.machine.BlocksWords.{load_head, look_head_block, look_tail, swap_head, load_next, store_head_block, store_head, wait_written, take_message, count_read, retire_block};
+ghost use Rattle.concurrent_queue.specs.machine.BlocksMakes.{ProgressMakes};
 ghost use Rattle.concurrent_queue.specs.Replies.{EndFollows};
 
 use crate::call::{QueueMark, QueueReply};
@@ -22,6 +23,7 @@ pub(crate) fn pop_load<T: Drop, C: Cells<T>>(cells: &mut C) -> Progress<T>
     ensures steps { C.known → (C.contents cells.new, result) ≡ load_head (C.contents cells.old) }
     ensures form { C.form_of cells.new ≡ C.form_of cells.old }
     ensures ends { EndFollows UnboundedAction.Pop result }
+    ensures deed { ProgressMakes C.did cells.old UnboundedAction.Pop cells.new result }
 {
     let head = cells.load(Word::Head);
     if head % 32 == 31 {
@@ -35,6 +37,7 @@ pub(crate) fn pop_look<T: Drop, C: Cells<T>>(head: u64, cells: &mut C) -> Progre
     ensures steps { C.known → (C.contents cells.new, result) ≡ look_head_block (C.contents cells.old) head }
     ensures form { C.form_of cells.new ≡ C.form_of cells.old }
     ensures ends { EndFollows (UnboundedAction.PopLook head) result }
+    ensures deed { ProgressMakes C.did cells.old (UnboundedAction.PopLook head) cells.new result }
 {
     let block = cells.load(Word::HeadBlock);
     stay(UnboundedAction::PopTail(head, block))
@@ -44,6 +47,7 @@ pub(crate) fn pop_tail<T: Drop, C: Cells<T>>(head: u64, block: u64, cells: &mut 
     ensures steps { C.known → (C.contents cells.new, result) ≡ look_tail (C.contents cells.old) head block }
     ensures form { C.form_of cells.new ≡ C.form_of cells.old }
     ensures ends { EndFollows (UnboundedAction.PopTail head block) result }
+    ensures deed { ProgressMakes C.did cells.old (UnboundedAction.PopTail head block) cells.new result }
 {
     let tail = cells.load(Word::Tail);
     if number_of(tail / 2) == number_of(head) {
@@ -63,6 +67,7 @@ pub(crate) fn pop_swap<T: Drop, C: Cells<T>>(head: u64, block: u64, cells: &mut 
     ensures steps { C.known → (C.contents cells.new, result) ≡ swap_head (C.contents cells.old) head block }
     ensures form { C.form_of cells.new ≡ C.form_of cells.old }
     ensures ends { EndFollows (UnboundedAction.PopSwap head block) result }
+    ensures deed { ProgressMakes C.did cells.old (UnboundedAction.PopSwap head block) cells.new result }
 {
     match cells.compare_exchange(Word::Head, head, head.wrapping_add(1)) {
         Ok(_) => {
@@ -80,6 +85,7 @@ pub(crate) fn pop_next<T: Drop, C: Cells<T>>(head: u64, block: u64, cells: &mut 
     ensures steps { C.known → (C.contents cells.new, result) ≡ load_next (C.contents cells.old) head block }
     ensures form { C.form_of cells.new ≡ C.form_of cells.old }
     ensures ends { EndFollows (UnboundedAction.PopNext head block) result }
+    ensures deed { ProgressMakes C.did cells.old (UnboundedAction.PopNext head block) cells.new result }
 {
     let next = cells.load(Word::Next(block));
     if next == 0 {
@@ -98,6 +104,7 @@ pub(crate) fn pop_block<T: Drop, C: Cells<T>>(
     ensures steps { C.known → (C.contents cells.new, result) ≡ store_head_block (C.contents cells.old) head block next }
     ensures form { C.form_of cells.new ≡ C.form_of cells.old }
     ensures ends { EndFollows (UnboundedAction.PopBlock head block next) result }
+    ensures deed { ProgressMakes C.did cells.old (UnboundedAction.PopBlock head block next) cells.new result }
 {
     cells.store(Word::HeadBlock, next);
     stay(UnboundedAction::PopHead(head, block))
@@ -107,6 +114,7 @@ pub(crate) fn pop_head<T: Drop, C: Cells<T>>(head: u64, block: u64, cells: &mut 
     ensures steps { C.known → (C.contents cells.new, result) ≡ store_head (C.contents cells.old) head block }
     ensures form { C.form_of cells.new ≡ C.form_of cells.old }
     ensures ends { EndFollows (UnboundedAction.PopHead head block) result }
+    ensures deed { ProgressMakes C.did cells.old (UnboundedAction.PopHead head block) cells.new result }
 {
     cells.store(Word::Head, head.wrapping_add(2));
     stay(UnboundedAction::PopWait(head, block))
@@ -116,6 +124,7 @@ pub(crate) fn pop_wait<T: Drop, C: Cells<T>>(head: u64, block: u64, cells: &mut 
     ensures steps { C.known → (C.contents cells.new, result) ≡ wait_written (C.contents cells.old) head block }
     ensures form { C.form_of cells.new ≡ C.form_of cells.old }
     ensures ends { EndFollows (UnboundedAction.PopWait head block) result }
+    ensures deed { ProgressMakes C.did cells.old (UnboundedAction.PopWait head block) cells.new result }
 {
     if cells.load(Word::Written(block, head % 32)) == 1 {
         stay(UnboundedAction::PopTake(head, block))
@@ -128,6 +137,7 @@ pub(crate) fn pop_take<T: Drop, C: Cells<T>>(head: u64, block: u64, cells: &mut 
     ensures steps { C.known → (C.contents cells.new, result) ≡ take_message (C.contents cells.old) head block }
     ensures form { C.form_of cells.new ≡ C.form_of cells.old }
     ensures ends { EndFollows (UnboundedAction.PopTake head block) result }
+    ensures deed { ProgressMakes C.did cells.old (UnboundedAction.PopTake head block) cells.new result }
 {
     match cells.take(Slot::In(block, head % 32)) {
         Some(value) => stay(UnboundedAction::PopCount(head, block, value)),
@@ -144,6 +154,7 @@ pub(crate) fn pop_count<T: Drop, C: Cells<T>>(
     ensures steps { C.known → (C.contents cells.new, result) ≡ count_read (C.contents cells.old) head block value }
     ensures form { C.form_of cells.new ≡ C.form_of cells.old }
     ensures ends { EndFollows (UnboundedAction.PopCount head block value) result }
+    ensures deed { ProgressMakes C.did cells.old (UnboundedAction.PopCount head block value) cells.new result }
 {
     if cells.fetch_add(Word::Reads(block), 1) == 30 {
         stay(UnboundedAction::PopRetire(head, block, value))
@@ -156,6 +167,7 @@ pub(crate) fn pop_retire<T: Drop, C: Cells<T>>(block: u64, value: T, cells: &mut
     ensures steps { C.known → (C.contents cells.new, result) ≡ retire_block (C.contents cells.old) block value }
     ensures form { C.form_of cells.new ≡ C.form_of cells.old }
     ensures ends { (h : ℕ) → EndFollows (UnboundedAction.PopRetire h block value) result }
+    ensures deed { (h : ℕ) → ProgressMakes C.did cells.old (UnboundedAction.PopRetire h block value) cells.new result }
 {
     cells.retire(block);
     finish(Ending::Replied(QueueReply::Pop(Ok(value))))

@@ -2,6 +2,7 @@
 
 ghost use Rattle.std.specs.Prelude.{◌≡◌, ℕ};
 ghost use Rattle.concurrent_queue.specs.machine.BlocksWords.{load_tail, shut_tail, give_back, look_with, look_first, when_shut, look_tail_block, Obtains, swap_first, start_head, after_swap, swap_tail, turn_tail_block, add_tail, link_next, put_message, after_store, store_written, give_spare};
+ghost use Rattle.concurrent_queue.specs.machine.BlocksMakes.{ProgressMakes};
 ghost use Rattle.concurrent_queue.specs.Replies.{EndFollows, MayEnd, Sends};
 
 use crate::call::QueueMark;
@@ -70,6 +71,7 @@ pub(crate) fn push_load<T: Drop, C: Cells<T>>(
     ensures steps { C.known → (C.contents cells.new, result) ≡ load_tail (C.contents cells.old) value held }
     ensures form { C.form_of cells.new ≡ C.form_of cells.old }
     ensures ends { EndFollows (UnboundedAction.Push value held) result }
+    ensures deed { ProgressMakes C.did cells.old (UnboundedAction.Push value held) cells.new result }
 {
     let tail = cells.load(Word::Tail);
     if tail % 2 == 1 {
@@ -91,6 +93,7 @@ pub(crate) fn push_shut<T: Drop, C: Cells<T>>(
     ensures steps { C.known → (C.contents cells.new, result) ≡ shut_tail (C.contents cells.old) value held }
     ensures form { C.form_of cells.new ≡ C.form_of cells.old }
     ensures ends { EndFollows (UnboundedAction.PushShut value held) result }
+    ensures deed { ProgressMakes C.did cells.old (UnboundedAction.PushShut value held) cells.new result }
 {
     let tail = cells.fetch_or(Word::Tail, 1);
     let refused = refuse_shut(value, held);
@@ -109,6 +112,7 @@ pub(crate) fn push_return<T: Drop, C: Cells<T>>(value: T, held: u64, cells: &mut
     ensures steps { C.known → (C.contents cells.new, result) ≡ give_back (C.contents cells.old) value held }
     ensures form { C.form_of cells.new ≡ C.form_of cells.old }
     ensures ends { EndFollows (UnboundedAction.PushReturn value held) result }
+    ensures deed { ProgressMakes C.did cells.old (UnboundedAction.PushReturn value held) cells.new result }
 {
     cells.retire(held);
     finish(Ending::Closed(value))
@@ -123,6 +127,7 @@ pub(crate) fn push_look<T: Drop, C: Cells<T>>(
     ensures steps { C.known → (C.contents cells.new, result) ≡ look_tail_block (C.contents cells.old) value tail held }
     ensures form { C.form_of cells.new ≡ C.form_of cells.old }
     ensures ends { EndFollows (UnboundedAction.PushLook value tail held) result }
+    ensures deed { ProgressMakes C.did cells.old (UnboundedAction.PushLook value tail held) cells.new result }
 {
     let block = cells.load(Word::TailBlock);
     if block == 0 {
@@ -136,6 +141,7 @@ pub(crate) fn push_make<T: Drop, C: Cells<T>>(value: T, tail: u64, cells: &mut C
     ensures steps { C.known → Obtains (C.contents cells.old) value (λ h. UnboundedAction.PushFirst value tail h) (C.contents cells.new, result) }
     ensures form { C.form_of cells.new ≡ C.form_of cells.old }
     ensures ends { EndFollows (UnboundedAction.PushMake value tail) result }
+    ensures deed { ProgressMakes C.did cells.old (UnboundedAction.PushMake value tail) cells.new result }
 {
     match cells.spare() {
         Ok(h) => stay(UnboundedAction::PushFirst(value, tail, h)),
@@ -152,6 +158,7 @@ pub(crate) fn push_more<T: Drop, C: Cells<T>>(
     ensures steps { C.known → Obtains (C.contents cells.old) value (λ h. UnboundedAction.PushSwap value tail block (Some h)) (C.contents cells.new, result) }
     ensures form { C.form_of cells.new ≡ C.form_of cells.old }
     ensures ends { EndFollows (UnboundedAction.PushMore value tail block) result }
+    ensures deed { ProgressMakes C.did cells.old (UnboundedAction.PushMore value tail block) cells.new result }
 {
     match cells.spare() {
         Ok(h) => stay(UnboundedAction::PushSwap(value, tail, block, Some(h))),
@@ -168,6 +175,7 @@ pub(crate) fn push_first<T: Drop, C: Cells<T>>(
     ensures steps { C.known → (C.contents cells.new, result) ≡ swap_first (C.contents cells.old) value tail held }
     ensures form { C.form_of cells.new ≡ C.form_of cells.old }
     ensures ends { EndFollows (UnboundedAction.PushFirst value tail held) result }
+    ensures deed { ProgressMakes C.did cells.old (UnboundedAction.PushFirst value tail held) cells.new result }
 {
     match cells.compare_exchange(Word::TailBlock, 0, held.wrapping_add(1)) {
         Ok(_) => stay(UnboundedAction::PushStart(value, tail, held)),
@@ -184,6 +192,7 @@ pub(crate) fn push_start<T: Drop, C: Cells<T>>(
     ensures steps { C.known → (C.contents cells.new, result) ≡ start_head (C.contents cells.old) value tail block }
     ensures form { C.form_of cells.new ≡ C.form_of cells.old }
     ensures ends { EndFollows (UnboundedAction.PushStart value tail block) result }
+    ensures deed { ProgressMakes C.did cells.old (UnboundedAction.PushStart value tail block) cells.new result }
 {
     cells.store(Word::HeadBlock, block.wrapping_add(1));
     ready(value, tail, block, None)
@@ -199,6 +208,7 @@ pub(crate) fn push_swap<T: Drop, C: Cells<T>>(
     ensures steps { C.known → (C.contents cells.new, result) ≡ swap_tail (C.contents cells.old) value tail block held }
     ensures form { C.form_of cells.new ≡ C.form_of cells.old }
     ensures ends { EndFollows (UnboundedAction.PushSwap value tail block held) result }
+    ensures deed { ProgressMakes C.did cells.old (UnboundedAction.PushSwap value tail block held) cells.new result }
 {
     match cells.compare_exchange(Word::Tail, tail, tail.wrapping_add(2)) {
         Ok(_) => marked(won(value, tail, block, held), QueueMark::Append),
@@ -216,6 +226,7 @@ pub(crate) fn push_turn<T: Drop, C: Cells<T>>(
     ensures steps { C.known → (C.contents cells.new, result) ≡ turn_tail_block (C.contents cells.old) value tail block next }
     ensures form { C.form_of cells.new ≡ C.form_of cells.old }
     ensures ends { EndFollows (UnboundedAction.PushTurn value tail block next) result }
+    ensures deed { ProgressMakes C.did cells.old (UnboundedAction.PushTurn value tail block next) cells.new result }
 {
     cells.store(Word::TailBlock, next.wrapping_add(1));
     stay(UnboundedAction::PushAdd(value, tail, block, next))
@@ -231,6 +242,7 @@ pub(crate) fn push_add<T: Drop, C: Cells<T>>(
     ensures steps { C.known → (C.contents cells.new, result) ≡ add_tail (C.contents cells.old) value tail block next }
     ensures form { C.form_of cells.new ≡ C.form_of cells.old }
     ensures ends { EndFollows (UnboundedAction.PushAdd value tail block next) result }
+    ensures deed { ProgressMakes C.did cells.old (UnboundedAction.PushAdd value tail block next) cells.new result }
 {
     cells.fetch_add(Word::Tail, 2);
     stay(UnboundedAction::PushLink(value, tail, block, next))
@@ -246,6 +258,7 @@ pub(crate) fn push_link<T: Drop, C: Cells<T>>(
     ensures steps { C.known → (C.contents cells.new, result) ≡ link_next (C.contents cells.old) value tail block next }
     ensures form { C.form_of cells.new ≡ C.form_of cells.old }
     ensures ends { EndFollows (UnboundedAction.PushLink value tail block next) result }
+    ensures deed { ProgressMakes C.did cells.old (UnboundedAction.PushLink value tail block next) cells.new result }
 {
     cells.store(Word::Next(block), next.wrapping_add(1));
     stay(UnboundedAction::PushPut(value, tail, block, None))
@@ -261,6 +274,7 @@ pub(crate) fn push_put<T: Drop, C: Cells<T>>(
     ensures steps { C.known → (C.contents cells.new, result) ≡ put_message (C.contents cells.old) value tail block held }
     ensures form { C.form_of cells.new ≡ C.form_of cells.old }
     ensures ends { EndFollows (UnboundedAction.PushPut value tail block held) result }
+    ensures deed { ProgressMakes C.did cells.old (UnboundedAction.PushPut value tail block held) cells.new result }
 {
     match cells.put(Slot::In(block, tail / 2 % 32), value) {
         Ok(()) => stay(UnboundedAction::PushStore(tail, block, held)),
@@ -277,6 +291,7 @@ pub(crate) fn push_store<T: Drop, C: Cells<T>>(
     ensures steps { C.known → (C.contents cells.new, result) ≡ store_written (C.contents cells.old) tail block held }
     ensures form { C.form_of cells.new ≡ C.form_of cells.old }
     ensures ends { EndFollows (UnboundedAction.PushStore tail block held) result }
+    ensures deed { ProgressMakes C.did cells.old (UnboundedAction.PushStore tail block held) cells.new result }
 {
     cells.store(Word::Written(block, tail / 2 % 32), 1);
     match held {
@@ -289,6 +304,7 @@ pub(crate) fn push_give<T: Drop, C: Cells<T>>(held: u64, cells: &mut C) -> Progr
     ensures steps { C.known → (C.contents cells.new, result) ≡ give_spare (C.contents cells.old) held }
     ensures form { C.form_of cells.new ≡ C.form_of cells.old }
     ensures ends { EndFollows (UnboundedAction.PushGive held) result }
+    ensures deed { ProgressMakes C.did cells.old (UnboundedAction.PushGive held) cells.new result }
 {
     cells.retire(held);
     finish(Ending::Sent)

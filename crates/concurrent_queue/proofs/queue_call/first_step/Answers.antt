@@ -1,6 +1,16 @@
-use Rattle.std.proofs.Common.{sym, ◌∙◌}
-use Rattle.concurrent_queue.proofs.ReplyFacts.{ring_wrapped, blocks_wrapped}
+use Rattle.std.proofs.Common.{◌≡◌, sym, subst, ap, rules, ◌∙◌}
+use Rattle.concurrent_queue.specs.declared.cells.QueueForm.TheVariants.{Bounded, Unbounded}
+use Rattle.concurrent_queue.specs.declared.cells.QueueForm.{QueueForm}
+use Rattle.concurrent_queue.specs.declared.unbounded.action.UnboundedCall.{UnboundedCall}
+use Rattle.concurrent_queue.specs.machine.Dispatch.{IsFirstStep}
+use Rattle.concurrent_queue.specs.machine.BlocksWords.{IsBlocksStep}
+use Rattle.concurrent_queue.proofs.ReplyFacts.{single_wrapped, ring_wrapped, blocks_wrapped}
 use Rattle.concurrent_queue.proofs.queue_call.first_step.Goals as goal
+
+pub returns-in-Bounded-eq1-clause-answers : goal.returns-in-Bounded-eq1-clause-answers
+returns-in-Bounded-eq1-clause-answers g c =
+    let one : c.in-Bounded-eq1.field-0 ≡ 1 = search rules in
+    single_wrapped (g.C.Cells.form_of c.args.cells.now) c.args.ask _ c.step.result _ (sym c.form.ensures.form ∙ c.in-Bounded-eq1.is ∙ ap Bounded one) c.first.ensures c.wrap_single.ensures c.step.ensures.answers
 
 pub returns-in-Bounded-clause-answers : goal.returns-in-Bounded-clause-answers
 returns-in-Bounded-clause-answers g c =
@@ -9,3 +19,12 @@ returns-in-Bounded-clause-answers g c =
 pub returns-in-Unbounded-clause-answers : goal.returns-in-Unbounded-clause-answers
 returns-in-Unbounded-clause-answers g c =
     blocks_wrapped (g.C.Cells.form_of c.args.cells.now) c.args.ask _ c.step-in-Unbounded.result _ (sym c.form.ensures.form ∙ c.in-Unbounded.is) c.first-in-Unbounded.ensures c.wrap_blocks.ensures c.step-in-Unbounded.ensures.answers
+
+pub returns-in-Unbounded-clause-steps : goal.returns-in-Unbounded-clause-steps
+returns-in-Unbounded-clause-steps g c known =
+    let before = g.C.Cells.contents c.args.cells.now in
+    let after = g.C.Cells.contents c.step-in-Unbounded.new.cells in
+    let s = c.step-in-Unbounded.result in
+    let here : before.form ≡ Unbounded = sym (c.form.ensures.found known) ∙ c.in-Unbounded.is in
+    subst (λ (f : QueueForm). IsFirstStep f before c.args.ask after c.wrap_blocks.result) (sym here)
+    (s, subst (λ (x : UnboundedCall g.row.T.Denot). IsBlocksStep before x after s) c.first-in-Unbounded.ensures (c.step-in-Unbounded.ensures.steps known), c.wrap_blocks.ensures)

@@ -1,7 +1,11 @@
-use Rattle.std.proofs.Common.{◌+◌, ◌-◌, ◌%◌, ◌^◌, ◌∙◌, sym, ap, refl, Ok, Err}
+use Rattle.std.proofs.Common.{◌+◌, ◌-◌, ◌%◌, ◌^◌, ◌∙◌, sym, subst, ap, refl, Ok, Err}
+use Rattle.concurrent_queue.specs.machine.Ahead.{ActionStep, PopsOnEnd}
+use Rattle.concurrent_queue.specs.machine.BlocksMakes.{ActionMakes}
 use Rattle.concurrent_queue.specs.declared.cells.Word.TheVariants.{Head}
 use Rattle.concurrent_queue.specs.declared.unbounded.action.UnboundedAction.TheVariants as act
-use Rattle.concurrent_queue.proofs.BlocksAhead.{exchanged, pop_after, head_loaded, head_block, message_there, nothing_there, message_won, last_taken, next_found, block_left, head_moved}
+use Rattle.concurrent_queue.proofs.BlocksDeeds as deed
+use Rattle.concurrent_queue.proofs.RingDeeds.{pops_after, pops_stand}
+use Rattle.concurrent_queue.proofs.BlocksAhead.{exchanged, head_loaded, head_block, message_there, nothing_there, message_won, last_taken, next_found, block_left, head_moved}
 use Rattle.concurrent_queue.proofs.unbounded.ahead.pop_ahead.Goals.{then-offset-eq30+else-next-eq0, else-offset-eq30}
 use Rattle.concurrent_queue.proofs.unbounded.ahead.pop_ahead.Goals as goal
 
@@ -15,8 +19,8 @@ returns-then-number_of-clause-steps g c known =
     let c1 = holds c.load-head.new.self in
     let c2 = holds c.load-block.new.self in
     let c3 = holds c.load-tail.new.self in
-    pop_after c0 act.Pop c1 (act.PopLook p) c3 (Ok (Err c.refusal.result)) (head_loaded c0 c1 p (c.load-head.ensures.found known) (c.load-head.ensures.left known) c.if-offset-eq31.false)
-    (pop_after c1 (act.PopLook p) c2 (act.PopTail p w) c3 (Ok (Err c.refusal.result)) (head_block c1 c2 p w (c.load-block.ensures.found known) (c.load-block.ensures.left known))
+    pops_after ActionStep c0 act.Pop c1 (act.PopLook p) c3 (Ok (Err c.refusal.result)) (head_loaded c0 c1 p (c.load-head.ensures.found known) (c.load-head.ensures.left known) c.if-offset-eq31.false)
+    (pops_after ActionStep c1 (act.PopLook p) c2 (act.PopTail p w) c3 (Ok (Err c.refusal.result)) (head_block c1 c2 p w (c.load-block.ensures.found known) (c.load-block.ensures.left known))
     (nothing_there c2 c3 p w t c.refusal.result (c.load-tail.ensures.found known) (c.load-tail.ensures.left known) (sym c.number_of.ensures ∙ c.if-number_of.true ∙ c.number_of-2.ensures) c.refusal.ensures))
 
 pub returns-then-next-eq0-clause-steps : goal.returns-then-next-eq0-clause-steps
@@ -33,10 +37,10 @@ returns-then-next-eq0-clause-steps g c known =
     let c4 = holds c.compare_exchange.new.self in
     let c5 = holds c.load-next.new.self in
     let won = exchanged Head c3 c4 p ((p + 1) % 2 ^ 64) c.compare_exchange.result (sym c.is_err.ensures.value ∙ c.if-is_err.false) (c.compare_exchange.ensures.found known) in
-    pop_after c0 act.Pop c1 (act.PopLook p) c5 (Err (act.PopNext p b)) (head_loaded c0 c1 p (c.load-head.ensures.found known) (c.load-head.ensures.left known) c.if-offset-eq31.false)
-    (pop_after c1 (act.PopLook p) c2 (act.PopTail p w) c5 (Err (act.PopNext p b)) (head_block c1 c2 p w (c.load-block.ensures.found known) (c.load-block.ensures.left known))
-    (pop_after c2 (act.PopTail p w) c3 (act.PopSwap p b) c5 (Err (act.PopNext p b)) (message_there c2 c3 p w t (c.load-tail.ensures.found known) (c.load-tail.ensures.left known) (λ e. c.if-number_of.false (c.number_of.ensures ∙ e ∙ sym c.number_of-2.ensures)) c.if-block-eq0.false)
-    (pop_after c3 (act.PopSwap p b) c4 (act.PopNext p b) c5 (Err (act.PopNext p b)) (last_taken c3 c4 p b c.if-offset-eq30.true won.0 won.1) (0, (c.load-next.ensures.left known, refl)))))
+    pops_after ActionStep c0 act.Pop c1 (act.PopLook p) c5 (Err (act.PopNext p b)) (head_loaded c0 c1 p (c.load-head.ensures.found known) (c.load-head.ensures.left known) c.if-offset-eq31.false)
+    (pops_after ActionStep c1 (act.PopLook p) c2 (act.PopTail p w) c5 (Err (act.PopNext p b)) (head_block c1 c2 p w (c.load-block.ensures.found known) (c.load-block.ensures.left known))
+    (pops_after ActionStep c2 (act.PopTail p w) c3 (act.PopSwap p b) c5 (Err (act.PopNext p b)) (message_there c2 c3 p w t (c.load-tail.ensures.found known) (c.load-tail.ensures.left known) (λ e. c.if-number_of.false (c.number_of.ensures ∙ e ∙ sym c.number_of-2.ensures)) c.if-block-eq0.false)
+    (pops_after ActionStep c3 (act.PopSwap p b) c4 (act.PopNext p b) c5 (Err (act.PopNext p b)) (last_taken c3 c4 p b c.if-offset-eq30.true won.0 won.1) (0, (c.load-next.ensures.left known, refl)))))
 
 pub returns-clause-steps : goal.returns-clause-steps
 returns-clause-steps g c known =
@@ -54,18 +58,129 @@ returns-clause-steps g c known =
     let c5 = holds c.if-offset-eq30.cells in
     let d = holds c.pop_written.new.cells in
     let won = exchanged Head c3 c4 p ((p + 1) % 2 ^ 64) c.compare_exchange.result (sym c.is_err.ensures.value ∙ c.if-is_err.false) (c.compare_exchange.ensures.found known) in
-    pop_after c0 act.Pop c1 (act.PopLook p) d r (head_loaded c0 c1 p (c.load-head.ensures.found known) (c.load-head.ensures.left known) c.if-offset-eq31.false)
-    (pop_after c1 (act.PopLook p) c2 (act.PopTail p w) d r (head_block c1 c2 p w (c.load-block.ensures.found known) (c.load-block.ensures.left known))
-    (pop_after c2 (act.PopTail p w) c3 (act.PopSwap p b) d r (message_there c2 c3 p w t (c.load-tail.ensures.found known) (c.load-tail.ensures.left known) (λ e. c.if-number_of.false (c.number_of.ensures ∙ e ∙ sym c.number_of-2.ensures)) c.if-block-eq0.false)
+    pops_after ActionStep c0 act.Pop c1 (act.PopLook p) d r (head_loaded c0 c1 p (c.load-head.ensures.found known) (c.load-head.ensures.left known) c.if-offset-eq31.false)
+    (pops_after ActionStep c1 (act.PopLook p) c2 (act.PopTail p w) d r (head_block c1 c2 p w (c.load-block.ensures.found known) (c.load-block.ensures.left known))
+    (pops_after ActionStep c2 (act.PopTail p w) c3 (act.PopSwap p b) d r (message_there c2 c3 p w t (c.load-tail.ensures.found known) (c.load-tail.ensures.left known) (λ e. c.if-number_of.false (c.number_of.ensures ∙ e ∙ sym c.number_of-2.ensures)) c.if-block-eq0.false)
     (elim c.if-offset-eq30.branch [
       | then-offset-eq30+else-next-eq0 x ↦
-          pop_after c3 (act.PopSwap p b) c4 (act.PopNext p b) d r (last_taken c3 c4 p b x.if-offset-eq30.true won.0 won.1)
-          (pop_after c4 (act.PopNext p b) (holds x.load-next.new.self) (act.PopBlock p b x.load-next.result) d r
+          pops_after ActionStep c3 (act.PopSwap p b) c4 (act.PopNext p b) d r (last_taken c3 c4 p b x.if-offset-eq30.true won.0 won.1)
+          (pops_after ActionStep c4 (act.PopNext p b) (holds x.load-next.new.self) (act.PopBlock p b x.load-next.result) d r
           (next_found c4 (holds x.load-next.new.self) p b x.load-next.result (x.load-next.ensures.found known) (x.load-next.ensures.left known) x.if-next-eq0.false)
-          (pop_after (holds x.load-next.new.self) (act.PopBlock p b x.load-next.result) (holds x.store.new.self) (act.PopHead p b) d r
+          (pops_after ActionStep (holds x.load-next.new.self) (act.PopBlock p b x.load-next.result) (holds x.store.new.self) (act.PopHead p b) d r
           (block_left (holds x.load-next.new.self) (holds x.store.new.self) p b x.load-next.result (x.store.ensures.left known))
-          (pop_after (holds x.store.new.self) (act.PopHead p b) c5 (act.PopWait p b) d r (head_moved (holds x.store.new.self) c5 p b (ap holds x.cells-is ∙ x.store-then-offset-eq30.ensures.left known))
+          (pops_after ActionStep (holds x.store.new.self) (act.PopHead p b) c5 (act.PopWait p b) d r (head_moved (holds x.store.new.self) c5 p b (ap holds x.cells-is ∙ x.store-then-offset-eq30.ensures.left known))
           (c.pop_written.ensures.steps known))))
       | else-offset-eq30 x ↦
-          pop_after c3 (act.PopSwap p b) c5 (act.PopWait p b) d r (message_won c3 c5 p b x.if-offset-eq30.false won.0 (ap holds x.cells-is ∙ won.1)) (c.pop_written.ensures.steps known)
+          pops_after ActionStep c3 (act.PopSwap p b) c5 (act.PopWait p b) d r (message_won c3 c5 p b x.if-offset-eq30.false won.0 (ap holds x.cells-is ∙ won.1)) (c.pop_written.ensures.steps known)
+    ])))
+
+pub returns-then-offset-eq31-clause-deeds : goal.returns-then-offset-eq31-clause-deeds
+returns-then-offset-eq31-clause-deeds g c =
+    let did = g.C.Cells.did in
+    let p = c.load-head.result in
+    let s0 = c.args.cells.now in
+    let s1 = c.load-head.new.self in
+    pops_after (ActionMakes did) s0 act.Pop s1 act.Pop s1 (Err act.Pop) (deed.head_turns did s0 s1 p c.load-head.ensures.deed c.if-offset-eq31.true) (pops_stand (ActionMakes did) s1 act.Pop)
+
+pub returns-then-number_of-clause-deeds : goal.returns-then-number_of-clause-deeds
+returns-then-number_of-clause-deeds g c =
+    let did = g.C.Cells.did in
+    let p = c.load-head.result in
+    let w = c.load-block.result in
+    let x = c.load-tail.result in
+    let b = w - 1 in
+    let s0 = c.args.cells.now in
+    let s1 = c.load-head.new.self in
+    let s2 = c.load-block.new.self in
+    let s3 = c.load-tail.new.self in
+    let r = Ok (Err c.refusal.result) in
+    pops_after (ActionMakes did) s0 act.Pop s1 (act.PopLook p) s3 r (deed.head_loaded did s0 s1 p c.load-head.ensures.deed c.if-offset-eq31.false)
+    (pops_after (ActionMakes did) s1 (act.PopLook p) s2 (act.PopTail p w) s3 r (deed.head_block did s1 s2 p w c.load-block.ensures.deed)
+    (deed.nothing_there did s2 s3 p w x c.load-tail.ensures.deed c.refusal.result (sym c.number_of.ensures ∙ c.if-number_of.true ∙ c.number_of-2.ensures) c.refusal.ensures))
+
+pub returns-then-block-eq0-clause-deeds : goal.returns-then-block-eq0-clause-deeds
+returns-then-block-eq0-clause-deeds g c =
+    let did = g.C.Cells.did in
+    let p = c.load-head.result in
+    let w = c.load-block.result in
+    let x = c.load-tail.result in
+    let b = w - 1 in
+    let s0 = c.args.cells.now in
+    let s1 = c.load-head.new.self in
+    let s2 = c.load-block.new.self in
+    let s3 = c.load-tail.new.self in
+    pops_after (ActionMakes did) s0 act.Pop s1 (act.PopLook p) s3 (Err act.Pop) (deed.head_loaded did s0 s1 p c.load-head.ensures.deed c.if-offset-eq31.false)
+    (pops_after (ActionMakes did) s1 (act.PopLook p) s2 (act.PopTail p w) s3 (Err act.Pop) (deed.head_block did s1 s2 p w c.load-block.ensures.deed)
+    (pops_after (ActionMakes did) s2 (act.PopTail p w) s3 act.Pop s3 (Err act.Pop) (deed.block_not_there did s2 s3 p w x c.load-tail.ensures.deed (λ e. c.if-number_of.false (c.number_of.ensures ∙ e ∙ sym c.number_of-2.ensures)) c.if-block-eq0.true)
+    (pops_stand (ActionMakes did) s3 act.Pop)))
+
+pub returns-then-is_err-clause-deeds : goal.returns-then-is_err-clause-deeds
+returns-then-is_err-clause-deeds g c =
+    let did = g.C.Cells.did in
+    let p = c.load-head.result in
+    let w = c.load-block.result in
+    let x = c.load-tail.result in
+    let b = w - 1 in
+    let s0 = c.args.cells.now in
+    let s1 = c.load-head.new.self in
+    let s2 = c.load-block.new.self in
+    let s3 = c.load-tail.new.self in
+    let s4 = c.compare_exchange.new.self in
+    pops_after (ActionMakes did) s0 act.Pop s1 (act.PopLook p) s4 (Err act.Pop) (deed.head_loaded did s0 s1 p c.load-head.ensures.deed c.if-offset-eq31.false)
+    (pops_after (ActionMakes did) s1 (act.PopLook p) s2 (act.PopTail p w) s4 (Err act.Pop) (deed.head_block did s1 s2 p w c.load-block.ensures.deed)
+    (pops_after (ActionMakes did) s2 (act.PopTail p w) s3 (act.PopSwap p b) s4 (Err act.Pop) (deed.message_there did s2 s3 p w x c.load-tail.ensures.deed (λ e. c.if-number_of.false (c.number_of.ensures ∙ e ∙ sym c.number_of-2.ensures)) c.if-block-eq0.false)
+    (pops_after (ActionMakes did) s3 (act.PopSwap p b) s4 act.Pop s4 (Err act.Pop) (deed.message_lost did s3 s4 p b c.compare_exchange.result (sym c.is_err.ensures.value ∙ c.if-is_err.true) c.compare_exchange.ensures.deed)
+    (pops_stand (ActionMakes did) s4 act.Pop))))
+
+pub returns-then-next-eq0-clause-deeds : goal.returns-then-next-eq0-clause-deeds
+returns-then-next-eq0-clause-deeds g c =
+    let did = g.C.Cells.did in
+    let p = c.load-head.result in
+    let w = c.load-block.result in
+    let x = c.load-tail.result in
+    let b = w - 1 in
+    let s0 = c.args.cells.now in
+    let s1 = c.load-head.new.self in
+    let s2 = c.load-block.new.self in
+    let s3 = c.load-tail.new.self in
+    let s4 = c.compare_exchange.new.self in
+    let s5 = c.load-next.new.self in
+    let r = Err (act.PopNext p b) in
+    pops_after (ActionMakes did) s0 act.Pop s1 (act.PopLook p) s5 r (deed.head_loaded did s0 s1 p c.load-head.ensures.deed c.if-offset-eq31.false)
+    (pops_after (ActionMakes did) s1 (act.PopLook p) s2 (act.PopTail p w) s5 r (deed.head_block did s1 s2 p w c.load-block.ensures.deed)
+    (pops_after (ActionMakes did) s2 (act.PopTail p w) s3 (act.PopSwap p b) s5 r (deed.message_there did s2 s3 p w x c.load-tail.ensures.deed (λ e. c.if-number_of.false (c.number_of.ensures ∙ e ∙ sym c.number_of-2.ensures)) c.if-block-eq0.false)
+    (pops_after (ActionMakes did) s3 (act.PopSwap p b) s4 (act.PopNext p b) s5 r (deed.last_taken did s3 s4 p b c.if-offset-eq30.true c.compare_exchange.result (sym c.is_err.ensures.value ∙ c.if-is_err.false) c.compare_exchange.ensures.deed)
+    (pops_after (ActionMakes did) s4 (act.PopNext p b) s5 (act.PopNext p b) s5 r (deed.next_not_yet did s4 s5 p b c.load-next.result c.load-next.ensures.deed c.if-next-eq0.true)
+    (pops_stand (ActionMakes did) s5 (act.PopNext p b))))))
+
+pub returns-clause-deeds : goal.returns-clause-deeds
+returns-clause-deeds g c =
+    let did = g.C.Cells.did in
+    let p = c.load-head.result in
+    let w = c.load-block.result in
+    let x = c.load-tail.result in
+    let b = w - 1 in
+    let r = c.pop_written.result in
+    let s0 = c.args.cells.now in
+    let s1 = c.load-head.new.self in
+    let s2 = c.load-block.new.self in
+    let s3 = c.load-tail.new.self in
+    let s4 = c.compare_exchange.new.self in
+    let d = c.pop_written.new.cells in
+    pops_after (ActionMakes did) s0 act.Pop s1 (act.PopLook p) d r (deed.head_loaded did s0 s1 p c.load-head.ensures.deed c.if-offset-eq31.false)
+    (pops_after (ActionMakes did) s1 (act.PopLook p) s2 (act.PopTail p w) d r (deed.head_block did s1 s2 p w c.load-block.ensures.deed)
+    (pops_after (ActionMakes did) s2 (act.PopTail p w) s3 (act.PopSwap p b) d r (deed.message_there did s2 s3 p w x c.load-tail.ensures.deed (λ e. c.if-number_of.false (c.number_of.ensures ∙ e ∙ sym c.number_of-2.ensures)) c.if-block-eq0.false)
+    (elim c.if-offset-eq30.branch [
+      | then-offset-eq30+else-next-eq0 y ↦
+          pops_after (ActionMakes did) s3 (act.PopSwap p b) s4 (act.PopNext p b) d r (deed.last_taken did s3 s4 p b y.if-offset-eq30.true c.compare_exchange.result (sym c.is_err.ensures.value ∙ c.if-is_err.false) c.compare_exchange.ensures.deed)
+          (pops_after (ActionMakes did) s4 (act.PopNext p b) y.load-next.new.self (act.PopBlock p b y.load-next.result) d r
+          (deed.next_found did s4 y.load-next.new.self p b y.load-next.result y.load-next.ensures.deed y.if-next-eq0.false)
+          (pops_after (ActionMakes did) y.load-next.new.self (act.PopBlock p b y.load-next.result) y.store.new.self (act.PopHead p b) d r
+          (deed.block_left did y.load-next.new.self y.store.new.self p b y.load-next.result y.store.ensures.deed)
+          (pops_after (ActionMakes did) y.store.new.self (act.PopHead p b) y.store-then-offset-eq30.new.self (act.PopWait p b) d r
+          (deed.head_moved did y.store.new.self y.store-then-offset-eq30.new.self p b y.store-then-offset-eq30.ensures.deed)
+          (subst (λ z. PopsOnEnd (ActionMakes did) z (act.PopWait p b) r d) y.cells-is c.pop_written.ensures.deeds))))
+      | else-offset-eq30 y ↦
+          pops_after (ActionMakes did) s3 (act.PopSwap p b) s4 (act.PopWait p b) d r (deed.message_won did s3 s4 p b y.if-offset-eq30.false c.compare_exchange.result (sym c.is_err.ensures.value ∙ c.if-is_err.false) c.compare_exchange.ensures.deed)
+          (subst (λ z. PopsOnEnd (ActionMakes did) z (act.PopWait p b) r d) y.cells-is c.pop_written.ensures.deeds)
     ])))

@@ -2,7 +2,11 @@ use Rattle.std.proofs.Common.{◌+◌, ◌-◌, ◌/◌, ◌%◌, ◌^◌, ◌�
 use Rattle.concurrent_queue.specs.declared.cells.Word.TheVariants.{Tail}
 use Rattle.concurrent_queue.specs.declared.call.QueueMark.TheVariants.{Nothing}
 use Rattle.concurrent_queue.specs.declared.unbounded.action.UnboundedAction.TheVariants as act
-use Rattle.concurrent_queue.proofs.BlocksAhead.{exchanged, push_after, tail_loaded, tail_closed, block_found, last_found, place_won, brought, told}
+use Rattle.concurrent_queue.specs.machine.Ahead.{ActionStep}
+use Rattle.concurrent_queue.specs.machine.BlocksMakes.{ActionMakes}
+use Rattle.concurrent_queue.proofs.BlocksDeeds as deed
+use Rattle.concurrent_queue.proofs.RingDeeds.{pushes_after, pushes_stand}
+use Rattle.concurrent_queue.proofs.BlocksAhead.{exchanged, tail_loaded, tail_closed, positions_end, no_block, block_found, last_found, place_won, brought, told}
 use Rattle.concurrent_queue.proofs.unbounded.ahead.push_ahead.Goals as goal
 
 pub returns-then-tail-eq1-clause-steps : goal.returns-then-tail-eq1-clause-steps
@@ -13,6 +17,27 @@ returns-then-tail-eq1-clause-steps g c known =
     let c0 = holds c.args.cells.now in
     let c1 = holds c.load-tail.new.self in
     (0, (c0, act.Push v None, act.Finished, Nothing, (refl, refl), tail_closed c0 c1 v t (c.load-tail.ensures.found known) (c.load-tail.ensures.left known) c.if-tail-eq1.true))
+
+pub returns-then-tail-ge9223372036854775744-clause-steps : goal.returns-then-tail-ge9223372036854775744-clause-steps
+returns-then-tail-ge9223372036854775744-clause-steps g c known =
+    let holds = g.C.Cells.contents in
+    let v = c.args.value in
+    let t = c.load-tail.result in
+    let c0 = holds c.args.cells.now in
+    let c1 = holds c.load-tail.new.self in
+    pushes_after ActionStep c0 (act.Push v None) c1 (act.PushShut v None) c1 (Err (act.PushShut v None)) (positions_end c0 c1 v t (c.load-tail.ensures.found known) (c.load-tail.ensures.left known) c.if-tail-eq1.false c.if-tail-ge9223372036854775744.true) (0, (refl, refl))
+
+pub returns-then-block-eq0-clause-steps : goal.returns-then-block-eq0-clause-steps
+returns-then-block-eq0-clause-steps g c known =
+    let holds = g.C.Cells.contents in
+    let v = c.args.value in
+    let t = c.load-tail.result in
+    let w = c.load-block.result in
+    let c0 = holds c.args.cells.now in
+    let c1 = holds c.load-tail.new.self in
+    let c2 = holds c.load-block.new.self in
+    pushes_after ActionStep c0 (act.Push v None) c1 (act.PushLook v t None) c2 (Err (act.PushMake v t)) (tail_loaded c0 c1 v t (c.load-tail.ensures.found known) (c.load-tail.ensures.left known) c.if-tail-eq1.false c.if-tail-ge9223372036854775744.false c.if-offset-eq31.false)
+    (pushes_after ActionStep c1 (act.PushLook v t None) c2 (act.PushMake v t) c2 (Err (act.PushMake v t)) (no_block c1 c2 v t w (c.load-block.ensures.found known) (c.load-block.ensures.left known) c.if-block-eq0.true) (0, (refl, refl)))
 
 pub returns-then-offset-eq30-clause-steps : goal.returns-then-offset-eq30-clause-steps
 returns-then-offset-eq30-clause-steps g c known =
@@ -26,8 +51,8 @@ returns-then-offset-eq30-clause-steps g c known =
     let c1 = holds c.load-tail.new.self in
     let c2 = holds c.load-block.new.self in
     let d = holds c.push_last.new.cells in
-    push_after c0 (act.Push v None) c1 (act.PushLook v t None) d r (tail_loaded c0 c1 v t (c.load-tail.ensures.found known) (c.load-tail.ensures.left known) c.if-tail-eq1.false c.if-tail-ge9223372036854775744.false c.if-offset-eq31.false)
-    (push_after c1 (act.PushLook v t None) c2 (act.PushMore v t b) d r (last_found c1 c2 v t w (c.load-block.ensures.found known) (c.load-block.ensures.left known) c.if-block-eq0.false c.if-offset-eq30.true)
+    pushes_after ActionStep c0 (act.Push v None) c1 (act.PushLook v t None) d r (tail_loaded c0 c1 v t (c.load-tail.ensures.found known) (c.load-tail.ensures.left known) c.if-tail-eq1.false c.if-tail-ge9223372036854775744.false c.if-offset-eq31.false)
+    (pushes_after ActionStep c1 (act.PushLook v t None) c2 (act.PushMore v t b) d r (last_found c1 c2 v t w (c.load-block.ensures.found known) (c.load-block.ensures.left known) c.if-block-eq0.false c.if-offset-eq30.true)
     (c.push_last.ensures.steps known c.if-offset-eq30.true))
 
 pub returns-in-Err-clause-steps : goal.returns-in-Err-clause-steps
@@ -45,9 +70,9 @@ returns-in-Err-clause-steps g c known =
     let c4 = holds c.put.new.self in
     let won = exchanged Tail c2 c3 t ((t + 2) % 2 ^ 64) c.compare_exchange.result (sym c.is_err.ensures.value ∙ c.if-is_err.false) (c.compare_exchange.ensures.found known) in
     let back = c.in-Err.ensures.gives known in
-    push_after c0 (act.Push v None) c1 (act.PushLook v t None) c4 r (tail_loaded c0 c1 v t (c.load-tail.ensures.found known) (c.load-tail.ensures.left known) c.if-tail-eq1.false c.if-tail-ge9223372036854775744.false c.if-offset-eq31.false)
-    (push_after c1 (act.PushLook v t None) c2 (act.PushSwap v t b None) c4 r (block_found c1 c2 v t w (c.load-block.ensures.found known) (c.load-block.ensures.left known) c.if-block-eq0.false c.if-offset-eq30.false)
-    (push_after c2 (act.PushSwap v t b None) c3 (act.PushPut v t b None) c4 r (place_won c2 c3 v t b won.0 won.1) (0, (back.2, ap (λ x. act.PushPut x t b None) back.1))))
+    pushes_after ActionStep c0 (act.Push v None) c1 (act.PushLook v t None) c4 r (tail_loaded c0 c1 v t (c.load-tail.ensures.found known) (c.load-tail.ensures.left known) c.if-tail-eq1.false c.if-tail-ge9223372036854775744.false c.if-offset-eq31.false)
+    (pushes_after ActionStep c1 (act.PushLook v t None) c2 (act.PushSwap v t b None) c4 r (block_found c1 c2 v t w (c.load-block.ensures.found known) (c.load-block.ensures.left known) c.if-block-eq0.false c.if-offset-eq30.false)
+    (pushes_after ActionStep c2 (act.PushSwap v t b None) c3 (act.PushPut v t b None) c4 r (place_won c2 c3 v t b won.0 won.1) (0, (back.2, ap (λ x. act.PushPut x t b None) back.1))))
 
 pub returns-clause-steps : goal.returns-clause-steps
 returns-clause-steps g c known =
@@ -64,8 +89,118 @@ returns-clause-steps g c known =
     let c4 = holds c.put.new.self in
     let d = holds c.store.new.self in
     let won = exchanged Tail c2 c3 t ((t + 2) % 2 ^ 64) c.compare_exchange.result (sym c.is_err.ensures.value ∙ c.if-is_err.false) (c.compare_exchange.ensures.found known) in
-    push_after c0 (act.Push v None) c1 (act.PushLook v t None) d r (tail_loaded c0 c1 v t (c.load-tail.ensures.found known) (c.load-tail.ensures.left known) c.if-tail-eq1.false c.if-tail-ge9223372036854775744.false c.if-offset-eq31.false)
-    (push_after c1 (act.PushLook v t None) c2 (act.PushSwap v t b None) d r (block_found c1 c2 v t w (c.load-block.ensures.found known) (c.load-block.ensures.left known) c.if-block-eq0.false c.if-offset-eq30.false)
-    (push_after c2 (act.PushSwap v t b None) c3 (act.PushPut v t b None) d r (place_won c2 c3 v t b won.0 won.1)
-    (push_after c3 (act.PushPut v t b None) c4 (act.PushStore t b None) d r (brought c3 c4 v t b (t / 2 % 32) refl (c.in_default.ensures.gives known))
+    pushes_after ActionStep c0 (act.Push v None) c1 (act.PushLook v t None) d r (tail_loaded c0 c1 v t (c.load-tail.ensures.found known) (c.load-tail.ensures.left known) c.if-tail-eq1.false c.if-tail-ge9223372036854775744.false c.if-offset-eq31.false)
+    (pushes_after ActionStep c1 (act.PushLook v t None) c2 (act.PushSwap v t b None) d r (block_found c1 c2 v t w (c.load-block.ensures.found known) (c.load-block.ensures.left known) c.if-block-eq0.false c.if-offset-eq30.false)
+    (pushes_after ActionStep c2 (act.PushSwap v t b None) c3 (act.PushPut v t b None) d r (place_won c2 c3 v t b won.0 won.1)
+    (pushes_after ActionStep c3 (act.PushPut v t b None) c4 (act.PushStore t b None) d r (brought c3 c4 v t b (t / 2 % 32) refl (c.in_default.ensures.gives known))
     (told c4 d t b (t / 2 % 32) refl (c.store.ensures.left known)))))
+
+pub returns-then-tail-eq1-clause-deeds : goal.returns-then-tail-eq1-clause-deeds
+returns-then-tail-eq1-clause-deeds g c = deed.tail_closed g.C.Cells.did c.args.cells.now c.load-tail.new.self c.args.value c.load-tail.result c.load-tail.ensures.deed c.if-tail-eq1.true
+
+pub returns-then-tail-ge9223372036854775744-clause-deeds : goal.returns-then-tail-ge9223372036854775744-clause-deeds
+returns-then-tail-ge9223372036854775744-clause-deeds g c =
+    let did = g.C.Cells.did in
+    let v = c.args.value in
+    let t = c.load-tail.result in
+    let s0 = c.args.cells.now in
+    let s1 = c.load-tail.new.self in
+    pushes_after (ActionMakes did) s0 (act.Push v None) s1 (act.PushShut v None) s1 (Err (act.PushShut v None)) (deed.positions_end did s0 s1 v t c.load-tail.ensures.deed c.if-tail-eq1.false c.if-tail-ge9223372036854775744.true)
+    (pushes_stand (ActionMakes did) s1 (act.PushShut v None))
+
+pub returns-then-offset-eq31-clause-deeds : goal.returns-then-offset-eq31-clause-deeds
+returns-then-offset-eq31-clause-deeds g c =
+    let did = g.C.Cells.did in
+    let v = c.args.value in
+    let t = c.load-tail.result in
+    let s0 = c.args.cells.now in
+    let s1 = c.load-tail.new.self in
+    pushes_after (ActionMakes did) s0 (act.Push v None) s1 (act.Push v None) s1 (Err (act.Push v None)) (deed.between_blocks did s0 s1 v t c.load-tail.ensures.deed c.if-tail-eq1.false c.if-tail-ge9223372036854775744.false c.if-offset-eq31.true)
+    (pushes_stand (ActionMakes did) s1 (act.Push v None))
+
+pub returns-then-block-eq0-clause-deeds : goal.returns-then-block-eq0-clause-deeds
+returns-then-block-eq0-clause-deeds g c =
+    let did = g.C.Cells.did in
+    let v = c.args.value in
+    let t = c.load-tail.result in
+    let s0 = c.args.cells.now in
+    let s1 = c.load-tail.new.self in
+    let w = c.load-block.result in
+    let s2 = c.load-block.new.self in
+    let r = Err (act.PushMake v t) in
+    pushes_after (ActionMakes did) s0 (act.Push v None) s1 (act.PushLook v t None) s2 r (deed.tail_loaded did s0 s1 v t c.load-tail.ensures.deed c.if-tail-eq1.false c.if-tail-ge9223372036854775744.false c.if-offset-eq31.false)
+    (pushes_after (ActionMakes did) s1 (act.PushLook v t None) s2 (act.PushMake v t) s2 r (deed.no_block did s1 s2 v t w c.load-block.ensures.deed c.if-block-eq0.true)
+    (pushes_stand (ActionMakes did) s2 (act.PushMake v t)))
+
+pub returns-then-offset-eq30-clause-deeds : goal.returns-then-offset-eq30-clause-deeds
+returns-then-offset-eq30-clause-deeds g c =
+    let did = g.C.Cells.did in
+    let v = c.args.value in
+    let t = c.load-tail.result in
+    let s0 = c.args.cells.now in
+    let s1 = c.load-tail.new.self in
+    let w = c.load-block.result in
+    let s2 = c.load-block.new.self in
+    let b = w - 1 in
+    let r = c.push_last.result in
+    let d = c.push_last.new.cells in
+    pushes_after (ActionMakes did) s0 (act.Push v None) s1 (act.PushLook v t None) d r (deed.tail_loaded did s0 s1 v t c.load-tail.ensures.deed c.if-tail-eq1.false c.if-tail-ge9223372036854775744.false c.if-offset-eq31.false)
+    (pushes_after (ActionMakes did) s1 (act.PushLook v t None) s2 (act.PushMore v t b) d r (deed.last_found did s1 s2 v t w c.load-block.ensures.deed c.if-block-eq0.false c.if-offset-eq30.true)
+    (c.push_last.ensures.deeds c.if-offset-eq30.true))
+
+pub returns-then-is_err-clause-deeds : goal.returns-then-is_err-clause-deeds
+returns-then-is_err-clause-deeds g c =
+    let did = g.C.Cells.did in
+    let v = c.args.value in
+    let t = c.load-tail.result in
+    let s0 = c.args.cells.now in
+    let s1 = c.load-tail.new.self in
+    let w = c.load-block.result in
+    let s2 = c.load-block.new.self in
+    let b = w - 1 in
+    let s3 = c.compare_exchange.new.self in
+    let r = Err (act.Push v None) in
+    pushes_after (ActionMakes did) s0 (act.Push v None) s1 (act.PushLook v t None) s3 r (deed.tail_loaded did s0 s1 v t c.load-tail.ensures.deed c.if-tail-eq1.false c.if-tail-ge9223372036854775744.false c.if-offset-eq31.false)
+    (pushes_after (ActionMakes did) s1 (act.PushLook v t None) s2 (act.PushSwap v t b None) s3 r (deed.block_found did s1 s2 v t w c.load-block.ensures.deed c.if-block-eq0.false c.if-offset-eq30.false)
+    (pushes_after (ActionMakes did) s2 (act.PushSwap v t b None) s3 (act.Push v None) s3 r (deed.place_lost did s2 s3 v t b None c.compare_exchange.result (sym c.is_err.ensures.value ∙ c.if-is_err.true) c.compare_exchange.ensures.deed)
+    (pushes_stand (ActionMakes did) s3 (act.Push v None))))
+
+pub returns-in-Err-clause-deeds : goal.returns-in-Err-clause-deeds
+returns-in-Err-clause-deeds g c =
+    let did = g.C.Cells.did in
+    let v = c.args.value in
+    let t = c.load-tail.result in
+    let s0 = c.args.cells.now in
+    let s1 = c.load-tail.new.self in
+    let w = c.load-block.result in
+    let s2 = c.load-block.new.self in
+    let b = w - 1 in
+    let s3 = c.compare_exchange.new.self in
+    let s4 = c.put.new.self in
+    let z = c.in-Err.value in
+    let r = Err (act.PushPut z t b None) in
+    pushes_after (ActionMakes did) s0 (act.Push v None) s1 (act.PushLook v t None) s4 r (deed.tail_loaded did s0 s1 v t c.load-tail.ensures.deed c.if-tail-eq1.false c.if-tail-ge9223372036854775744.false c.if-offset-eq31.false)
+    (pushes_after (ActionMakes did) s1 (act.PushLook v t None) s2 (act.PushSwap v t b None) s4 r (deed.block_found did s1 s2 v t w c.load-block.ensures.deed c.if-block-eq0.false c.if-offset-eq30.false)
+    (pushes_after (ActionMakes did) s2 (act.PushSwap v t b None) s3 (act.PushPut v t b None) s4 r (deed.place_won did s2 s3 v t b c.compare_exchange.result (sym c.is_err.ensures.value ∙ c.if-is_err.false) c.compare_exchange.ensures.deed)
+    (pushes_after (ActionMakes did) s3 (act.PushPut v t b None) s4 (act.PushPut z t b None) s4 r (deed.slot_not_yet did s3 s4 v t b (t / 2 % 32) refl z c.in-Err.ensures.deed)
+    (pushes_stand (ActionMakes did) s4 (act.PushPut z t b None)))))
+
+pub returns-clause-deeds : goal.returns-clause-deeds
+returns-clause-deeds g c =
+    let did = g.C.Cells.did in
+    let v = c.args.value in
+    let t = c.load-tail.result in
+    let s0 = c.args.cells.now in
+    let s1 = c.load-tail.new.self in
+    let w = c.load-block.result in
+    let s2 = c.load-block.new.self in
+    let b = w - 1 in
+    let s3 = c.compare_exchange.new.self in
+    let s4 = c.put.new.self in
+    let d = c.store.new.self in
+    let r = Ok (Ok tt) in
+    pushes_after (ActionMakes did) s0 (act.Push v None) s1 (act.PushLook v t None) d r (deed.tail_loaded did s0 s1 v t c.load-tail.ensures.deed c.if-tail-eq1.false c.if-tail-ge9223372036854775744.false c.if-offset-eq31.false)
+    (pushes_after (ActionMakes did) s1 (act.PushLook v t None) s2 (act.PushSwap v t b None) d r (deed.block_found did s1 s2 v t w c.load-block.ensures.deed c.if-block-eq0.false c.if-offset-eq30.false)
+    (pushes_after (ActionMakes did) s2 (act.PushSwap v t b None) s3 (act.PushPut v t b None) d r (deed.place_won did s2 s3 v t b c.compare_exchange.result (sym c.is_err.ensures.value ∙ c.if-is_err.false) c.compare_exchange.ensures.deed)
+    (pushes_after (ActionMakes did) s3 (act.PushPut v t b None) s4 (act.PushStore t b None) d r (deed.message_put did s3 s4 v t b (t / 2 % 32) refl c.in_default.field-0 c.in_default.ensures.deed)
+    (deed.push_ends did s4 d t b (t / 2 % 32) refl c.store.ensures.deed))))

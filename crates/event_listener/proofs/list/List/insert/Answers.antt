@@ -1,6 +1,4 @@
-use Rattle.std.proofs.Common.{◌+◌, Some, refl, ap, ◌∙◌}
-use Rattle.std.specs.Option.{option_to_list}
-use Rattle.event_listener.specs.Chain.{first_or}
+use Rattle.std.proofs.Common.{◌+◌, refl, ap, ◌∙◌}
 use Rattle.slab.specs.Slab.{Slab}
 use Rattle.event_listener.specs.declared.node.Nodes.{Nodes}
 use Rattle.event_listener.specs.Lists.{ListView}
@@ -20,32 +18,32 @@ link_last-requires g c = record { live = last-present c.self.inside c.self.invar
 pub invariant_of-self-in-Err : goal.invariant_of-self-in-Err
 invariant_of-self-in-Err g c =
     (kept c.self.inside
-    (record { nodes = c.link_last.new.nodes; told = c.link_last.new.told; waiting = c.link_last.new.waiting; told_count = c.self.inside.told_count; serials = c.self.inside.serials })
-    c.self.invariant (ap (λ (s : Slab _). s.slots) c.in-Err.ensures.err) c.in-Err.ensures.err_told c.in-Err.ensures.err_waiting refl refl c.in-Err.ensures.within c.in-Err.ensures.fits).sound
+    (record { nodes = c.link_last.new.nodes; told = c.self.inside.told; waiting = c.link_last.new.ends; told_count = c.self.inside.told_count; serials = c.self.inside.serials })
+    c.self.invariant (ap (λ (s : Slab _). s.slots) c.in-Err.ensures.err) refl c.in-Err.ensures.err_ends refl refl c.in-Err.ensures.within c.in-Err.ensures.fits).sound
 
 pub invariant_of-self-in-Ok : goal.invariant_of-self-in-Ok
 invariant_of-self-in-Ok g c =
     (inserted c.self.inside
-    (record { nodes = c.link_last.new.nodes; told = c.link_last.new.told; waiting = record c.link_last.new.waiting { first = Some c.first_with.result }; told_count = c.self.inside.told_count; serials = c.self.inside.serials + 1 })
-    c.self.invariant c.args.self.now c.self.view_is c.in-Ok.slot c.in-Ok.ensures.absent c.in-Ok.ensures.links c.in-Ok.ensures.made c.in-Ok.ensures.others c.in-Ok.ensures.len c.in-Ok.ensures.within c.in-Ok.ensures.fits c.in-Ok.ensures.told_last (c.first_with.ensures ∙ ap (λ o. first_or (option_to_list o) (Some c.in-Ok.slot)) c.in-Ok.ensures.waiting_first) refl refl).sound
+    (record { nodes = c.link_last.new.nodes; told = c.self.inside.told; waiting = c.link_last.new.ends; told_count = c.self.inside.told_count; serials = c.self.inside.serials + 1 })
+    c.self.invariant c.args.self.now c.self.view_is c.in-Ok.slot c.in-Ok.ensures.absent c.in-Ok.ensures.links c.in-Ok.ensures.made c.in-Ok.ensures.others c.in-Ok.ensures.len c.in-Ok.ensures.within c.in-Ok.ensures.fits refl refl refl).sound
 
 pub returns-in-Ok-clause-lists : goal.returns-in-Ok-clause-lists
 returns-in-Ok-clause-lists g c =
     (inserted c.self.inside
-    (record { nodes = c.link_last.new.nodes; told = c.link_last.new.told; waiting = record c.link_last.new.waiting { first = Some c.first_with.result }; told_count = c.self.inside.told_count; serials = c.self.inside.serials + 1 })
-    c.self.invariant c.args.self.now c.self.view_is c.in-Ok.slot c.in-Ok.ensures.absent c.in-Ok.ensures.links c.in-Ok.ensures.made c.in-Ok.ensures.others c.in-Ok.ensures.len c.in-Ok.ensures.within c.in-Ok.ensures.fits c.in-Ok.ensures.told_last (c.first_with.ensures ∙ ap (λ o. first_or (option_to_list o) (Some c.in-Ok.slot)) c.in-Ok.ensures.waiting_first) refl refl).lists
+    (record { nodes = c.link_last.new.nodes; told = c.self.inside.told; waiting = c.link_last.new.ends; told_count = c.self.inside.told_count; serials = c.self.inside.serials + 1 })
+    c.self.invariant c.args.self.now c.self.view_is c.in-Ok.slot c.in-Ok.ensures.absent c.in-Ok.ensures.links c.in-Ok.ensures.made c.in-Ok.ensures.others c.in-Ok.ensures.len c.in-Ok.ensures.within c.in-Ok.ensures.fits refl refl refl).lists
 
 pub returns-in-Ok-clause-unknown : goal.returns-in-Ok-clause-unknown
 returns-in-Ok-clause-unknown g c =
     (inserted c.self.inside
-    (record { nodes = c.link_last.new.nodes; told = c.link_last.new.told; waiting = record c.link_last.new.waiting { first = Some c.first_with.result }; told_count = c.self.inside.told_count; serials = c.self.inside.serials + 1 })
-    c.self.invariant c.args.self.now c.self.view_is c.in-Ok.slot c.in-Ok.ensures.absent c.in-Ok.ensures.links c.in-Ok.ensures.made c.in-Ok.ensures.others c.in-Ok.ensures.len c.in-Ok.ensures.within c.in-Ok.ensures.fits c.in-Ok.ensures.told_last (c.first_with.ensures ∙ ap (λ o. first_or (option_to_list o) (Some c.in-Ok.slot)) c.in-Ok.ensures.waiting_first) refl refl).unknown
+    (record { nodes = c.link_last.new.nodes; told = c.self.inside.told; waiting = c.link_last.new.ends; told_count = c.self.inside.told_count; serials = c.self.inside.serials + 1 })
+    c.self.invariant c.args.self.now c.self.view_is c.in-Ok.slot c.in-Ok.ensures.absent c.in-Ok.ensures.links c.in-Ok.ensures.made c.in-Ok.ensures.others c.in-Ok.ensures.len c.in-Ok.ensures.within c.in-Ok.ensures.fits refl refl refl).unknown
 
 pub returns-in-Err-clause-unchanged : goal.returns-in-Err-clause-unchanged
 returns-in-Err-clause-unchanged g c =
     (kept c.self.inside
-    (record { nodes = c.link_last.new.nodes; told = c.link_last.new.told; waiting = c.link_last.new.waiting; told_count = c.self.inside.told_count; serials = c.self.inside.serials })
-    c.self.invariant (ap (λ (s : Slab _). s.slots) c.in-Err.ensures.err) c.in-Err.ensures.err_told c.in-Err.ensures.err_waiting refl refl c.in-Err.ensures.within c.in-Err.ensures.fits).lists ∙ ap (λ (v : ListView _ _). v.lists) c.self.view_is
+    (record { nodes = c.link_last.new.nodes; told = c.self.inside.told; waiting = c.link_last.new.ends; told_count = c.self.inside.told_count; serials = c.self.inside.serials })
+    c.self.invariant (ap (λ (s : Slab _). s.slots) c.in-Err.ensures.err) refl c.in-Err.ensures.err_ends refl refl c.in-Err.ensures.within c.in-Err.ensures.fits).lists ∙ ap (λ (v : ListView _ _). v.lists) c.self.view_is
 
 pub returns-then-self-clause-unchanged : goal.returns-then-self-clause-unchanged
 returns-then-self-clause-unchanged g c =

@@ -3,8 +3,5 @@ use Rattle.concurrent_queue.specs.Replies.{Follows}
 use Rattle.concurrent_queue.specs.declared.cells.QueueForm.{QueueForm}
 use Rattle.concurrent_queue.proofs.shared.queue.ConcurrentQueue.step.Goals as goal
 
-pub returns-then-place : goal.returns-then-place
-returns-then-place g c = subst (λ (f : QueueForm). Follows f c.args.call.now c.step-reply.new.self c.step-reply.result) c.cells.ensures c.step-reply.ensures.answers
-
-pub returns-else-is_none : goal.returns-else-is_none
-returns-else-is_none g c = subst (λ (f : QueueForm). Follows f c.args.call.now c.step-reply.new.self c.step-reply.result) c.cells.ensures c.step-reply.ensures.answers
+pub returns : goal.returns
+returns g c = subst (λ (f : QueueForm). Follows f c.args.call.now c.step-reply.new.self c.step-reply.result) c.cells.ensures c.step-reply.ensures.answers

@@ -1,0 +1,39 @@
+use Rattle.std.proofs.Common.{subst}
+use Rattle.channel_calls.specs.Asks.{first}
+use Rattle.channel_calls.specs.Calls.{closed_ask}
+use Rattle.channel_calls.specs.Deeds.{Done}
+use Rattle.channel_calls.specs.Replies.{MayGive}
+use Rattle.channel_calls.specs.Walks.{WalkedFrom}
+use Rattle.channel_calls.specs.declared.ask.ChannelAsk.{ChannelAsk}
+use Rattle.channel_calls.proofs.Listed as lists
+use Rattle.channel_calls.proofs.PollFacts as facts
+use Rattle.channel_calls.proofs.Walking.{answered_as}
+use Rattle.channel_calls.proofs.polls.poll_closed.Goals as goal
+
+pub returns-clause-deeds : goal.returns-clause-deeds
+returns-clause-deeds g c =
+    let did = Done g.C.ChannelCells.did g.S.Wakes.wakes in
+    let start : g.row.C.Denot × g.row.S.Denot = (c.args.cells.now, c.args.sink.now) in
+    let end : g.row.C.Denot × g.row.S.Denot = (c.make-given.new.cells, c.make-given.new.sink) in
+    let given = c.make-given.result in
+    let walked : WalkedFrom did (first (closed_ask c.args.key c.args.task)) start given.reply given.kept end =
+    subst (λ (a : ChannelAsk g.row.T.Denot g.row.W.Denot). WalkedFrom did (first a) start given.reply given.kept end) c.closed_ask-ask.ensures c.make-given.ensures.deeds
+    in
+    answered_as did (first (closed_ask c.args.key c.args.task)) start end _ _ given.kept c.in-ClosedPoll.is walked
+
+pub unreachable-requires : goal.unreachable-requires
+unreachable-requires g c =
+    let given = c.make-given.result in
+    let f = c.requires.form.0 in
+    let may : MayGive f (closed_ask c.args.key c.args.task) given.reply given.kept.message =
+    subst (λ (a : ChannelAsk g.row.T.Denot g.row.W.Denot). MayGive f a given.reply given.kept.message) c.closed_ask-ask.ensures (c.make-given.ensures.answers c.requires.form.0 c.requires.form.1)
+    in
+    let is = facts.closed_polled f c.args.key c.args.task given.reply given.kept.message may in
+    c.in_default.not-ClosedPoll is.0 is.1
+
+pub returns-clause-listed : goal.returns-clause-listed
+returns-clause-listed g c =
+    let did = Done g.C.ChannelCells.did g.S.Wakes.wakes in
+    let start : g.row.C.Denot × g.row.S.Denot = (c.args.cells.now, c.args.sink.now) in
+    let end : g.row.C.Denot × g.row.S.Denot = (c.make-given.new.cells, c.make-given.new.sink) in
+    lists.closed_lists did c.args.key c.args.task start c.make-given.result.kept end c.in-ClosedPoll.polled (returns-clause-deeds g c)

@@ -1,0 +1,232 @@
+//! The calls of a channel that don't wait for a message or a place, each made up to its answer over any cells. All of it is own to
+//! this project.
+//!
+//! Whatever the cells hold: what each does is what the machine of its call does from its first turn to this answer (clauses `deeds`).
+//! That the answer is of the call's own kind rests on the form that the queue is said to have.
+
+ghost use Rattle.std.specs.Prelude.{◌≡◌, None, Ok, Err, IfOk, IfErr, MatchResult};
+ghost use Rattle.concurrent_queue.specs.Replies.{is_bounded, room_of};
+ghost use Rattle.concurrent_queue.specs.declared.cells.QueueForm.{QueueForm};
+ghost use Rattle.channel_calls.specs.Asks.{first};
+ghost use Rattle.channel_calls.specs.Calls.{made_answer, upgraded_answer};
+ghost use Rattle.channel_calls.specs.Deeds.{Done};
+ghost use Rattle.channel_calls.specs.Replies.{GivesUpTo, MayGive, RefusesTrySend, RefusesForceSend};
+ghost use Rattle.channel_calls.specs.Walks.{WalkedTo};
+ghost use Rattle.channel_calls.specs.declared.ask.ChannelAsk.TheVariants as ask;
+ghost use Rattle.channel_calls.specs.declared.reply.Reply.{Reply as Answer};
+ghost use Rattle.channel_calls.specs.declared.reply.Reply.TheVariants as reply;
+
+use crate::ahead::{receive_ahead, send_ahead};
+use crate::ask::ChannelAsk;
+use crate::cells::ChannelCells;
+use crate::error::{HandleError, Refused, SendError, TryRecvError, TrySendError};
+use crate::reply::Reply;
+use crate::several::Limit;
+use crate::stage::Side;
+use crate::whole::{Given, complete, make};
+use event_listener::wakes::Wakes;
+use std::alloc::Global;
+use std::sync::Wait;
+
+/// What a send that doesn't wait answers: its steps made on end as far as they go, and the others after them.
+#[inline(always)]
+fn sent<T: Drop, W: Drop, R: Wait, C: ChannelCells<T, W>, S: Wakes<W>>(
+    rt: &R,
+    message: T,
+    cells: &mut C,
+    sink: &mut S,
+) -> Reply<T>
+    ensures deeds { WalkedTo (Done C.did S.wakes) (first (ask.TrySend message)) (cells.old, sink.old) result (cells.new, sink.new) }
+    ensures answers { (f : QueueForm) → C.has_form cells.old f → MayGive {W = W} f (ask.TrySend message) result None }
+    ensures form { (f : QueueForm) → C.has_form cells.old f → C.has_form cells.new f }
+{
+    match send_ahead(message, cells, sink) {
+        Ok(reply) => reply,
+        Err(call) => complete(rt, call, cells, sink).reply,
+    }
+}
+
+/// What a receive that doesn't wait answers, likewise.
+#[inline(always)]
+fn received<T: Drop, W: Drop, R: Wait, C: ChannelCells<T, W>, S: Wakes<W>>(
+    rt: &R,
+    cells: &mut C,
+    sink: &mut S,
+) -> Reply<T>
+    ensures deeds { WalkedTo (Done C.did S.wakes) (first ask.TryRecv) (cells.old, sink.old) result (cells.new, sink.new) }
+    ensures answers { (f : QueueForm) → C.has_form cells.old f → MayGive {W = W} f ask.TryRecv result None }
+    ensures form { (f : QueueForm) → C.has_form cells.old f → C.has_form cells.new f }
+{
+    match receive_ahead(cells, sink) {
+        Ok(reply) => reply,
+        Err(call) => complete(rt, call, cells, sink).reply,
+    }
+}
+
+/// A send that doesn't wait for a place.
+#[inline(always)]
+pub fn try_send<T: Drop, W: Drop, R: Wait, C: ChannelCells<T, W>, S: Wakes<W>>(
+    rt: &R,
+    message: T,
+    cells: &mut C,
+    sink: &mut S,
+) -> Result<(), Refused<TrySendError<T>, T>>
+    requires form { (f : QueueForm) × C.has_form cells.old f }
+    ensures deeds { WalkedTo (Done C.did S.wakes) (first (ask.TrySend message)) (cells.old, sink.old) (reply.TrySend result) (cells.new, sink.new) }
+    ensures refused { (f : QueueForm) → C.has_form cells.old f → IfErr result (λ e. RefusesTrySend (is_bounded f) message e) }
+    ensures form { (f : QueueForm) → C.has_form cells.old f → C.has_form cells.new f }
+{
+    match sent(rt, message, cells, sink) {
+        Reply::TrySend(result) => result,
+        _ => unreachable!(),
+    }
+}
+
+/// A send that displaces the oldest message of a full channel, which is answered.
+pub fn force_send<T: Drop, W: Drop, R: Wait, C: ChannelCells<T, W>, S: Wakes<W>>(
+    rt: &R,
+    message: T,
+    cells: &mut C,
+    sink: &mut S,
+) -> Result<Option<T>, Refused<SendError<T>, T>>
+    requires form { (f : QueueForm) × C.has_form cells.old f }
+    ensures deeds { WalkedTo (Done C.did S.wakes) (first (ask.ForceSend message)) (cells.old, sink.old) (reply.ForceSend result) (cells.new, sink.new) }
+    ensures refused { (f : QueueForm) → C.has_form cells.old f → IfErr result (λ e. RefusesForceSend (is_bounded f) message e) }
+    ensures displaced { (f : QueueForm) → C.has_form cells.old f → room_of f ≡ None → IfOk result (λ o. o ≡ None) }
+    ensures form { (f : QueueForm) → C.has_form cells.old f → C.has_form cells.new f }
+{
+    let Given { reply, kept } = make(rt, ChannelAsk::ForceSend(message), cells, sink);
+    drop(kept);
+    match reply {
+        Reply::ForceSend(result) => result,
+        _ => unreachable!(),
+    }
+}
+
+/// A receive that doesn't wait for a message.
+#[inline(always)]
+pub fn try_recv<T: Drop, W: Drop, R: Wait, C: ChannelCells<T, W>, S: Wakes<W>>(
+    rt: &R,
+    cells: &mut C,
+    sink: &mut S,
+) -> Result<T, TryRecvError>
+    requires form { (f : QueueForm) × C.has_form cells.old f }
+    ensures deeds { WalkedTo (Done C.did S.wakes) (first ask.TryRecv) (cells.old, sink.old) (reply.TryRecv result) (cells.new, sink.new) }
+    ensures form { (f : QueueForm) → C.has_form cells.old f → C.has_form cells.new f }
+{
+    match received(rt, cells, sink) {
+        Reply::TryRecv(result) => result,
+        _ => unreachable!(),
+    }
+}
+
+/// A receive of several messages, at most so many, that waits for none.
+pub fn recv_many<T: Drop, W: Drop, R: Wait, C: ChannelCells<T, W>, S: Wakes<W>>(
+    rt: &R,
+    limit: usize,
+    alloc: Global,
+    cells: &mut C,
+    sink: &mut S,
+) -> Result<Vec<T>, Refused<TryRecvError>>
+    requires form { (f : QueueForm) × C.has_form cells.old f }
+    ensures deeds { MatchResult result (λ messages. WalkedTo (Done C.did S.wakes) (first (ask.RecvMany limit)) (cells.old, sink.old) (reply.RecvMany (Ok messages.items)) (cells.new, sink.new))
+        (λ e. WalkedTo (Done C.did S.wakes) (first (ask.RecvMany limit)) (cells.old, sink.old) (reply.RecvMany (Err e)) (cells.new, sink.new)) }
+    ensures most { MatchResult result (λ messages. GivesUpTo limit (reply.RecvMany (Ok messages.items))) (λ e. GivesUpTo {T = T} limit (reply.RecvMany (Err e))) }
+    ensures form { (f : QueueForm) → C.has_form cells.old f → C.has_form cells.new f }
+{
+    let ask = ChannelAsk::RecvMany(Limit::new(limit, alloc));
+    let Given { reply, kept } = make(rt, ask, cells, sink);
+    drop(kept);
+    match reply {
+        Reply::RecvMany(Ok(messages)) => Ok(messages.into_vec()),
+        Reply::RecvMany(Err(error)) => Err(error),
+        _ => unreachable!(),
+    }
+}
+
+/// A closing by hand: whether this call closed the channel.
+pub fn close<T: Drop, W: Drop, R: Wait, C: ChannelCells<T, W>, S: Wakes<W>>(
+    rt: &R,
+    cells: &mut C,
+    sink: &mut S,
+) -> bool
+    requires form { (f : QueueForm) × C.has_form cells.old f }
+    ensures deeds { WalkedTo (Done C.did S.wakes) (first ask.Close) (cells.old, sink.old) (reply.Closed result) (cells.new, sink.new) }
+    ensures form { (f : QueueForm) → C.has_form cells.old f → C.has_form cells.new f }
+{
+    let given = make(rt, ChannelAsk::Close, cells, sink);
+    let closed = match &given.reply {
+        Reply::Closed(closed) => *closed,
+        _ => unreachable!(),
+    };
+    drop(given);
+    closed
+}
+
+/// How many messages the channel holds.
+pub fn len<T: Drop, W: Drop, R: Wait, C: ChannelCells<T, W>, S: Wakes<W>>(
+    rt: &R,
+    cells: &mut C,
+    sink: &mut S,
+) -> usize
+    requires form { (f : QueueForm) × C.has_form cells.old f }
+    ensures deeds { WalkedTo (Done C.did S.wakes) (first ask.Len) (cells.old, sink.old) (reply.Count result) (cells.new, sink.new) }
+    ensures form { (f : QueueForm) → C.has_form cells.old f → C.has_form cells.new f }
+{
+    let given = make(rt, ChannelAsk::Len, cells, sink);
+    let count = match &given.reply {
+        Reply::Count(count) => *count,
+        _ => unreachable!(),
+    };
+    drop(given);
+    count
+}
+
+/// What a clone answers.
+fn made_answer<T: Drop>(answer: Reply<T>) -> Result<(), HandleError>
+    ensures { result ≡ made_answer answer }
+{
+    match answer {
+        Reply::Made => Ok(()),
+        _ => Err(HandleError::TooMany),
+    }
+}
+
+/// What an upgrade answers.
+fn upgraded_answer<T: Drop>(answer: Reply<T>) -> Result<bool, HandleError>
+    ensures { result ≡ upgraded_answer answer }
+{
+    match answer {
+        Reply::Made => Ok(true),
+        Reply::NotMade => Ok(false),
+        _ => Err(HandleError::TooMany),
+    }
+}
+
+/// One more strong handle of this kind is counted, or more than half of `usize::MAX` live and nothing is changed.
+pub fn clone_handle<T: Drop, W: Drop, R: Wait, C: ChannelCells<T, W>, S: Wakes<W>>(
+    rt: &R,
+    side: Side,
+    cells: &mut C,
+    sink: &mut S,
+) -> Result<(), HandleError>
+    ensures deeds { (r : Answer T) × WalkedTo (Done C.did S.wakes) (first (ask.CloneHandle side)) (cells.old, sink.old) r (cells.new, sink.new) × (result ≡ made_answer r) }
+    ensures reason { IfErr result (λ e. e ≡ HandleError.TooMany) }
+{
+    let given = make(rt, ChannelAsk::CloneHandle(side), cells, sink);
+    made_answer(given.reply)
+}
+
+/// One more strong handle of this kind is counted, where the channel is open and one lives: whether it was. Refused as a clone is.
+pub fn upgrade<T: Drop, W: Drop, R: Wait, C: ChannelCells<T, W>, S: Wakes<W>>(
+    rt: &R,
+    side: Side,
+    cells: &mut C,
+    sink: &mut S,
+) -> Result<bool, HandleError>
+    ensures deeds { (r : Answer T) × WalkedTo (Done C.did S.wakes) (first (ask.Upgrade side)) (cells.old, sink.old) r (cells.new, sink.new) × (result ≡ upgraded_answer r) }
+    ensures reason { IfErr result (λ e. e ≡ HandleError.TooMany) }
+{
+    let given = make(rt, ChannelAsk::Upgrade(side), cells, sink);
+    upgraded_answer(given.reply)
+}

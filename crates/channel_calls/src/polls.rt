@@ -1,0 +1,192 @@
+//! One poll of each kind of operation, made up to its answer over any cells, with or without a copy of its waker: without one
+//! nothing is tried, the listener leaves, passing its notice on, and memory is what is wanted. All of it is own to this project.
+//!
+//! Whatever the cells hold: what each does is what the machine of its call does from its first turn to this answer (clauses `deeds`),
+//! and it leaves a listener to its operation where it answers that it waits, and else none (clauses `listed`).
+
+ghost use Rattle.std.specs.Prelude.{◌≡◌, None, is_some};
+ghost use Rattle.concurrent_queue.specs.declared.cells.QueueForm.{QueueForm};
+ghost use Rattle.channel_calls.specs.Asks.{first};
+ghost use Rattle.channel_calls.specs.Calls.{SendsOn, send_ask, recv_ask, closed_ask, next_ask};
+ghost use Rattle.channel_calls.specs.Deeds.{Done};
+ghost use Rattle.channel_calls.specs.Listed.{SendLists, is_pending};
+ghost use Rattle.channel_calls.specs.Walks.{WalkedFrom, WalkedTo};
+ghost use Rattle.channel_calls.specs.declared.ask.ChannelAsk.TheVariants as ask;
+ghost use Rattle.channel_calls.specs.declared.reply.Reply.{Reply as Answer};
+ghost use Rattle.channel_calls.specs.declared.reply.Reply.TheVariants as reply;
+ghost use Rattle.channel_calls.specs.declared.stage.Kept.{Kept as Left};
+
+use crate::ask::ChannelAsk;
+use crate::cells::ChannelCells;
+use crate::error::{RecvError, Refused, SendError};
+use crate::reply::Reply;
+use crate::stage::{Kept, Line};
+use crate::whole::{Given, make};
+use event_listener::error::ListenError;
+use event_listener::key::Key;
+use event_listener::wakes::Wakes;
+use futures::task::Poll;
+use std::sync::Wait;
+
+/// What a poll of a send asks; of a finished one, which has no message, nothing.
+fn send_ask<T: Drop, W: Drop>(
+    message: Option<T>,
+    key: Option<Key>,
+    task: Option<W>,
+) -> ChannelAsk<T, W>
+    ensures { result ≡ send_ask message key task }
+{
+    let Some(task) = task else {
+        return ChannelAsk::RefusePoll(Line::Sends, message, key);
+    };
+    match message {
+        Some(message) => ChannelAsk::PollSend(message, key, task),
+        None => {
+            drop(task);
+            ChannelAsk::PollFinishedSend
+        }
+    }
+}
+
+/// What a poll of a receive asks.
+fn recv_ask<T, W: Drop>(key: Option<Key>, task: Option<W>) -> ChannelAsk<T, W>
+    ensures { result ≡ recv_ask key task }
+{
+    match task {
+        Some(task) => ChannelAsk::PollRecv(key, task),
+        None => ChannelAsk::RefusePoll(Line::Receives, None, key),
+    }
+}
+
+/// What a poll of a wait for the closing asks.
+fn closed_ask<T, W>(key: Option<Key>, task: Option<W>) -> ChannelAsk<T, W>
+    ensures { result ≡ closed_ask key task }
+{
+    match task {
+        Some(task) => ChannelAsk::PollClosed(key, task),
+        None => ChannelAsk::RefusePoll(Line::Closings, None, key),
+    }
+}
+
+/// What a poll of a receiver as a stream asks.
+fn next_ask<T, W>(key: Option<Key>, task: Option<W>) -> ChannelAsk<T, W>
+    ensures { result ≡ next_ask key task }
+{
+    match task {
+        Some(task) => ChannelAsk::PollNext(key, task),
+        None => ChannelAsk::RefusePoll(Line::Streams, None, key),
+    }
+}
+
+/// A poll of a send with this message; of a finished one without.
+pub fn poll_send<T: Drop, W: Drop, R: Wait, C: ChannelCells<T, W>, S: Wakes<W>>(
+    rt: &R,
+    message: Option<T>,
+    key: Option<Key>,
+    task: Option<W>,
+    cells: &mut C,
+    sink: &mut S,
+) -> (Poll<Result<(), Refused<SendError<T>>>>, Kept<T>)
+    requires form { (f : QueueForm) × C.has_form cells.old f }
+    ensures deeds { WalkedFrom (Done C.did S.wakes) (first (send_ask message key task)) (cells.old, sink.old) (reply.SendPoll result.0) result.1 (cells.new, sink.new) }
+    ensures message { SendsOn message result.0 result.1.message }
+    ensures listed { SendLists message result.0 result.1.key }
+    ensures form { (f : QueueForm) → C.has_form cells.old f → C.has_form cells.new f }
+{
+    let ask = send_ask(message, key, task);
+    let given = make(rt, ask, cells, sink);
+    let Given { reply, kept } = given;
+    match reply {
+        Reply::SendPoll(polled) => (polled, kept),
+        _ => unreachable!(),
+    }
+}
+
+/// A poll of a receive.
+pub fn poll_recv<T: Drop, W: Drop, R: Wait, C: ChannelCells<T, W>, S: Wakes<W>>(
+    rt: &R,
+    key: Option<Key>,
+    task: Option<W>,
+    cells: &mut C,
+    sink: &mut S,
+) -> (Poll<Result<T, Refused<RecvError>>>, Kept<T>)
+    requires form { (f : QueueForm) × C.has_form cells.old f }
+    ensures deeds { WalkedFrom (Done C.did S.wakes) (first (recv_ask key task)) (cells.old, sink.old) (reply.RecvPoll result.0) result.1 (cells.new, sink.new) }
+    ensures listed { is_some result.1.key ≡ is_pending result.0 }
+    ensures form { (f : QueueForm) → C.has_form cells.old f → C.has_form cells.new f }
+{
+    let ask = recv_ask(key, task);
+    let given = make(rt, ask, cells, sink);
+    let Given { reply, kept } = given;
+    match reply {
+        Reply::RecvPoll(polled) => (polled, kept),
+        _ => unreachable!(),
+    }
+}
+
+/// A poll of a wait for the closing.
+pub fn poll_closed<T: Drop, W: Drop, R: Wait, C: ChannelCells<T, W>, S: Wakes<W>>(
+    rt: &R,
+    key: Option<Key>,
+    task: Option<W>,
+    cells: &mut C,
+    sink: &mut S,
+) -> (Poll<Result<(), ListenError>>, Kept<T>)
+    requires form { (f : QueueForm) × C.has_form cells.old f }
+    ensures deeds { WalkedFrom (Done C.did S.wakes) (first (closed_ask key task)) (cells.old, sink.old) (reply.ClosedPoll result.0) result.1 (cells.new, sink.new) }
+    ensures listed { is_some result.1.key ≡ is_pending result.0 }
+    ensures form { (f : QueueForm) → C.has_form cells.old f → C.has_form cells.new f }
+{
+    let ask = closed_ask(key, task);
+    let given = make(rt, ask, cells, sink);
+    let Given { reply, kept } = given;
+    match reply {
+        Reply::ClosedPoll(polled) => (polled, kept),
+        _ => unreachable!(),
+    }
+}
+
+/// A poll of a receiver as a stream.
+pub fn poll_next<T: Drop, W: Drop, R: Wait, C: ChannelCells<T, W>, S: Wakes<W>>(
+    rt: &R,
+    key: Option<Key>,
+    task: Option<W>,
+    cells: &mut C,
+    sink: &mut S,
+) -> (Poll<Option<Result<T, ListenError>>>, Kept<T>)
+    requires form { (f : QueueForm) × C.has_form cells.old f }
+    ensures deeds { WalkedFrom (Done C.did S.wakes) (first (next_ask key task)) (cells.old, sink.old) (reply.Next result.0) result.1 (cells.new, sink.new) }
+    ensures listed { is_some result.1.key ≡ is_pending result.0 }
+    ensures form { (f : QueueForm) → C.has_form cells.old f → C.has_form cells.new f }
+{
+    let ask = next_ask(key, task);
+    let given = make(rt, ask, cells, sink);
+    let Given { reply, kept } = given;
+    match reply {
+        Reply::Next(polled) => (polled, kept),
+        _ => unreachable!(),
+    }
+}
+
+/// An operation of this kind is given up: the message of an unfinished send comes back.
+pub fn give_up<T: Drop, W: Drop, R: Wait, C: ChannelCells<T, W>, S: Wakes<W>>(
+    rt: &R,
+    line: Line,
+    message: Option<T>,
+    key: Option<Key>,
+    cells: &mut C,
+    sink: &mut S,
+) -> Option<T>
+    requires form { (f : QueueForm) × C.has_form cells.old f }
+    ensures deeds { WalkedTo (Done C.did S.wakes) (first (ask.GiveUp line message key)) (cells.old, sink.old) (reply.GivenUp result) (cells.new, sink.new) }
+    ensures message { result ≡ message }
+    ensures form { (f : QueueForm) → C.has_form cells.old f → C.has_form cells.new f }
+{
+    let ask = ChannelAsk::GiveUp(line, message, key);
+    let Given { reply, kept } = make(rt, ask, cells, sink);
+    drop(kept);
+    match reply {
+        Reply::GivenUp(message) => message,
+        _ => unreachable!(),
+    }
+}

@@ -1,0 +1,64 @@
+//! A call of a channel made up to its answer.
+
+ghost use Rattle.concurrent_queue.specs.declared.cells.QueueForm.{QueueForm};
+ghost use Rattle.channel_calls.specs.Asks.{first};
+ghost use Rattle.channel_calls.specs.Deeds.{Done};
+ghost use Rattle.channel_calls.specs.Replies.{MayEnd, MayGive};
+ghost use Rattle.channel_calls.specs.Walks.{Walked, WalkedFrom};
+
+use crate::ask::ChannelAsk;
+use crate::call::ChannelCall;
+use crate::cells::ChannelCells;
+use crate::reply::Reply;
+use crate::stage::Kept;
+use event_listener::wakes::Wakes;
+use std::sync::Wait;
+
+/// What a call answers, and what it leaves to its operation. Own to this project.
+#[derive(Drop)]
+pub struct Given<T> {
+    /// What it answers.
+    pub reply: Reply<T>,
+    /// What it leaves.
+    pub kept: Kept<T>,
+}
+
+/// Makes the steps of a call up to its answer. With a call that has answered before it never returns. Own to this project.
+///
+/// Whatever the cells hold: what was done to them, and whom the sink was given, are the deeds of the call's machine from here to
+/// this answer, each with the answer that it gave, and nothing else.
+pub fn complete<T: Drop, W: Drop, R: Wait, C: ChannelCells<T, W>, S: Wakes<W>>(
+    rt: &R,
+    call: ChannelCall<T, W>,
+    cells: &mut C,
+    sink: &mut S,
+) -> Given<T>
+    ensures deeds { Walked (Done C.did S.wakes) call.stage (cells.old, sink.old) result.reply result.kept (cells.new, sink.new) }
+    ensures answers { (f : QueueForm) → C.has_form cells.old f → MayEnd f call.stage result.reply result.kept.message }
+    ensures form { (f : QueueForm) → C.has_form cells.old f → C.has_form cells.new f }
+{
+    let mut call = call;
+    for _ in rt.forever() {
+        let answer = call.step(cells, sink);
+        if let Some(reply) = answer {
+            let kept = call.into_kept();
+            return Given { reply, kept };
+        }
+    }
+    unreachable!()
+}
+
+/// Makes a call from its first turn up to its answer. Own to this project.
+#[inline(always)]
+pub fn make<T: Drop, W: Drop, R: Wait, C: ChannelCells<T, W>, S: Wakes<W>>(
+    rt: &R,
+    ask: ChannelAsk<T, W>,
+    cells: &mut C,
+    sink: &mut S,
+) -> Given<T>
+    ensures deeds { WalkedFrom (Done C.did S.wakes) (first ask) (cells.old, sink.old) result.reply result.kept (cells.new, sink.new) }
+    ensures answers { (f : QueueForm) → C.has_form cells.old f → MayGive f ask result.reply result.kept.message }
+    ensures form { (f : QueueForm) → C.has_form cells.old f → C.has_form cells.new f }
+{
+    complete(rt, ChannelCall::new(ask), cells, sink)
+}

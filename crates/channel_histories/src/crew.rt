@@ -1,0 +1,85 @@
+//! The threads of a history, and the watchdog that ends a run which stands still.
+
+use crate::place::Standing;
+use history_checker::history::History;
+use history_checker::log::Log;
+use std::alloc::Global;
+use std::rt::Clock;
+use std::sync::atomic::{AtomicU64, Ordering};
+use std::thread;
+use std::thread::{JoinHandle, Threads};
+use std::time::Duration;
+
+/// How often the watchdog looks, which takes some twenty seconds: it sleeps so many microseconds after each of the first looks, since
+/// a history mostly ends soon, and so many after each later one.
+pub const LOOKS: u64 = 4_000;
+
+const FIRST_LOOKS: u64 = 100;
+
+const SOON: u64 = 50;
+
+const LATER: u64 = 5_000;
+
+/// Why there is no history.
+#[derive(Drop)]
+pub enum Failure {
+    /// Memory was refused.
+    Memory,
+    /// A thread was refused.
+    Thread,
+    /// Nothing moves any more, and the threads stand so, as far as they say it.
+    Still(Vec<Standing>),
+}
+
+/// A history, unless there is none.
+pub type Outcome = Result<History, Failure>;
+
+/// Sleeps a little after the look of this number.
+pub fn pause<R: Clock>(rt: &R, look: u64) {
+    let micros = if look < FIRST_LOOKS { SOON } else { LATER };
+    thread::sleep(rt, Duration::from_micros(micros));
+}
+
+/// How many threads have ended.
+#[derive(Drop)]
+pub struct Ended {
+    threads: AtomicU64,
+}
+
+impl Ended {
+    /// None.
+    pub fn new() -> Ended {
+        Ended {
+            threads: AtomicU64::new(0),
+        }
+    }
+
+    /// One more.
+    pub fn note(&self) {
+        self.threads.fetch_add(1, Ordering::SeqCst);
+    }
+
+    /// Waits until so many have: whether they do.
+    pub fn wait_for<R: Clock>(&self, rt: &R, threads: u64) -> bool {
+        for look in 0..LOOKS {
+            if self.threads.load(Ordering::SeqCst) == threads {
+                return true;
+            }
+            pause(rt, look);
+        }
+        false
+    }
+}
+
+/// The logs of threads that have ended; none where memory was refused.
+pub fn join_all<R: Threads>(
+    rt: &R,
+    alloc: Global,
+    threads: Vec<JoinHandle<Log>>,
+) -> Option<Vec<Log>> {
+    let mut logs = Vec::new(alloc);
+    for thread in threads {
+        logs.push(thread.join(rt)).ok()?;
+    }
+    Some(logs)
+}

@@ -1,0 +1,287 @@
+use crate::calls::call_of;
+use crate::replies::{waiter_said, write_reply, write_stop, write_woken};
+use channel_calls::error::OpenError;
+use channel_world::call::{Call, CallRun};
+use channel_world::settle::Settled;
+use channel_world::step::{PartyId, Run, Step};
+use channel_world::world::World;
+use event_listener::id::EventIds;
+use std::alloc::{AllocError, Global};
+use std::collections::VecDeque;
+use worked_rows::{Player, Said, Words};
+
+/// The world of a row, with the calls and the steps of a list to come.
+#[derive(Drop)]
+pub struct Worlds {
+    alloc: Global,
+    world: Option<World<u64>>,
+    calls: VecDeque<Call<u64>>,
+    steps: VecDeque<Step<u64>>,
+}
+
+const NO_CHANNEL: &str = "no channel";
+
+/// Opens a channel of this capacity, or of any number of messages.
+fn open(alloc: Global, capacity: Option<usize>) -> Result<World<u64>, OpenError> {
+    let mut ids = EventIds::new();
+    match capacity {
+        Some(0) => Err(OpenError::NoMemory),
+        Some(capacity) => World::bounded(alloc, capacity, &mut ids),
+        None => World::unbounded(alloc, &mut ids),
+    }
+}
+
+/// Writes what came of a list of calls, of which so many are left.
+fn write_calls(run: &CallRun<u64>, left: usize, answer: &mut String) -> Result<(), AllocError> {
+    for done in run.done.iter() {
+        write_reply(&done.reply, answer)?;
+        write_woken(done.woken.as_slice(), answer)?;
+    }
+    write_stop(run.stopped, run.done.len(), left, answer)
+}
+
+/// Whether nothing was refused and the last call goes on.
+fn goes_on(run: &Run<u64>) -> bool {
+    match run.trace.last() {
+        Some(entry) => run.stopped.is_none() && entry.reply.is_none(),
+        None => false,
+    }
+}
+
+/// Writes what came of a list of steps, of which so many are left.
+fn write_steps(run: &Run<u64>, left: usize, answer: &mut String) -> Result<(), AllocError> {
+    for entry in run.trace.iter() {
+        if let Some(reply) = &entry.reply {
+            write_reply(reply, answer)?;
+        }
+        write_woken(entry.woken.as_slice(), answer)?;
+    }
+    write_stop(run.stopped, run.trace.len(), left, answer)
+}
+
+fn write_polls(polls: &Vec<Settled<u64>>, answer: &mut String) -> Result<(), AllocError> {
+    for poll in polls.iter() {
+        waiter_said(poll.name).write(answer)?;
+        write_reply(&poll.reply, answer)?;
+    }
+    if polls.is_empty() {
+        answer.push_str("nobody")?;
+    }
+    Ok(())
+}
+
+impl Worlds {
+    /// A player of rows.
+    pub fn new(alloc: Global) -> Worlds {
+        Worlds {
+            alloc,
+            world: None,
+            calls: VecDeque::new(alloc),
+            steps: VecDeque::new(alloc),
+        }
+    }
+
+    fn open(&mut self, capacity: Option<usize>) -> Said {
+        match open(self.alloc, capacity) {
+            Ok(world) => {
+                drop(self.world.replace(world));
+                Said::Ok
+            }
+            Err(OpenError::NoMemory) => Said::Word("memory"),
+            Err(OpenError::IdsUsedUp) => Said::Word("identities"),
+        }
+    }
+
+    /// Adds a call to the list to come.
+    fn add_call(&mut self, verb: &str, words: &mut Words<'_>) -> Said {
+        match call_of(verb, words) {
+            Some(call) => match self.calls.push_back(call) {
+                Ok(()) => Said::Ok,
+                Err(_) => Said::Word("memory"),
+            },
+            None => Said::NoSuchCall,
+        }
+    }
+
+    /// Makes the calls of the list, each alone, and writes what they answer.
+    fn run_calls(&mut self, answer: &mut String) -> Result<(), AllocError> {
+        let Some(world) = &mut self.world else {
+            return answer.push_str(NO_CHANNEL);
+        };
+        if !world.is_quiet() {
+            return answer.push_str("not quiet");
+        }
+        let run = world.run_calls(&mut self.calls);
+        let left = self.calls.len();
+        self.calls.clear();
+        write_calls(&run, left, answer)
+    }
+
+    /// Adds so many steps of a party to the list to come.
+    fn add_steps(&mut self, party: PartyId, count: usize) -> Said {
+        for _ in 0..count {
+            if self.steps.push_back(Step::Step { party }).is_err() {
+                return Said::Word("memory");
+            }
+        }
+        Said::Ok
+    }
+
+    /// Adds the begin of a call of a party to the list to come.
+    fn add_begin(&mut self, party: PartyId, words: &mut Words<'_>) -> Said {
+        let Some(call) = call_of(words.word(), words) else {
+            return Said::NoSuchCall;
+        };
+        match self.steps.push_back(Step::Begin { party, call }) {
+            Ok(()) => Said::Ok,
+            Err(_) => Said::Word("memory"),
+        }
+    }
+
+    /// Adds the begin of a call and so many steps, or so many steps alone, to the list to come.
+    fn add_turn(&mut self, verb: &str, words: &mut Words<'_>) -> Said {
+        let party = PartyId(words.small());
+        let count = words.size();
+        match verb {
+            "begin" => match self.add_begin(party, words) {
+                Said::Ok => self.add_steps(party, count),
+                said => said,
+            },
+            "go" => self.add_steps(party, count),
+            _ => Said::NoSuchCall,
+        }
+    }
+
+    /// Makes the steps of the list, and writes what comes of them.
+    fn run_steps(&mut self, answer: &mut String) -> Result<(), AllocError> {
+        let Some(world) = &mut self.world else {
+            return answer.push_str(NO_CHANNEL);
+        };
+        let run = world.run_steps(&mut self.steps);
+        let left = self.steps.len();
+        self.steps.clear();
+        write_steps(&run, left, answer)?;
+        if answer.is_empty() {
+            answer.push_str("goes on")?;
+        }
+        Ok(())
+    }
+
+    /// Makes these steps at once, unless they can't be read.
+    fn run_turn(
+        &mut self,
+        verb: &str,
+        words: &mut Words<'_>,
+        answer: &mut String,
+    ) -> Result<(), AllocError> {
+        match self.add_turn(verb, words) {
+            Said::Ok => self.run_steps(answer),
+            said => said.write(answer),
+        }
+    }
+
+    /// A party makes a step at a time up to its call's end. Where that goes on after 64 more it says so.
+    fn run_to_end(&mut self, party: PartyId, answer: &mut String) -> Result<(), AllocError> {
+        let Some(world) = &mut self.world else {
+            return answer.push_str(NO_CHANNEL);
+        };
+        for _ in 0..64 {
+            let _ = self.steps.push_back(Step::Step { party });
+            let run = world.run_steps(&mut self.steps);
+            let left = self.steps.len();
+            self.steps.clear();
+            if !goes_on(&run) {
+                return write_steps(&run, left, answer);
+            }
+            write_steps(&run, left, answer)?;
+        }
+        Said::Word("goes on").write(answer)
+    }
+
+    /// A party begins a call and makes a step at a time up to its end.
+    fn run_whole(&mut self, words: &mut Words<'_>, answer: &mut String) -> Result<(), AllocError> {
+        let party = PartyId(words.small());
+        match self.add_begin(party, words) {
+            Said::Ok => self.run_to_end(party, answer),
+            said => said.write(answer),
+        }
+    }
+
+    fn settle(&mut self, answer: &mut String) -> Result<(), AllocError> {
+        let Some(world) = &mut self.world else {
+            return answer.push_str(NO_CHANNEL);
+        };
+        if !world.is_quiet() {
+            return answer.push_str("not quiet");
+        }
+        match world.settle() {
+            Ok(polls) => write_polls(&polls, answer),
+            Err(_) => answer.push_str("memory"),
+        }
+    }
+
+    fn write_numbers(&self, answer: &mut String) -> Result<(), AllocError> {
+        let Some(world) = &self.world else {
+            return answer.push_str(NO_CHANNEL);
+        };
+        Said::Number(world.messages()).write(answer)?;
+        Said::count(world.pending()).write(answer)?;
+        Said::count(world.woken()).write(answer)?;
+        Said::count(world.under_way()).write(answer)
+    }
+
+    fn is_quiet(&self) -> Said {
+        match &self.world {
+            Some(world) => Said::flag(world.is_quiet()),
+            None => Said::Word(NO_CHANNEL),
+        }
+    }
+
+    /// What is done to a list to come.
+    fn prepare(&mut self, verb: &str, words: &mut Words<'_>) -> Said {
+        match verb {
+            "bounded" => self.open(Some(words.size())),
+            "unbounded" => self.open(None),
+            "later" => self.add_call(words.word(), words),
+            "then" => self.add_turn(words.word(), words),
+            _ => self.is_quiet(),
+        }
+    }
+
+    /// Makes a call alone.
+    fn call(
+        &mut self,
+        verb: &str,
+        words: &mut Words<'_>,
+        answer: &mut String,
+    ) -> Result<(), AllocError> {
+        match self.add_call(verb, words) {
+            Said::Ok => self.run_calls(answer),
+            said => said.write(answer),
+        }
+    }
+}
+
+impl Player for Worlds {
+    fn begin(&mut self) {
+        drop(self.world.take());
+        self.calls.clear();
+        self.steps.clear();
+    }
+
+    fn play(&mut self, words: &mut Words<'_>, answer: &mut String) -> Result<(), AllocError> {
+        match words.word() {
+            verb @ ("bounded" | "unbounded" | "later" | "then" | "is_quiet") => {
+                self.prepare(verb, words).write(answer)
+            }
+            verb @ ("begin" | "go") => self.run_turn(verb, words, answer),
+            "run_calls" => self.run_calls(answer),
+            "run_steps" => self.run_steps(answer),
+            "whole" => self.run_whole(words, answer),
+            "end" => self.run_to_end(PartyId(words.small()), answer),
+            "settle" => self.settle(answer),
+            "numbers" => self.write_numbers(answer),
+            verb => self.call(verb, words, answer),
+        }
+    }
+}

@@ -1,0 +1,165 @@
+#!/usr/bin/env python3
+"""Makes docs/WRONG_BODIES.md, the table of the wrong bodies that the gate tries, of the edits themselves.
+
+usage, at the top of the repository: tools/list_edits.py [--check]
+
+An edit, crates/*/must-fail/*.edit, begins with a line `why: SENTENCE`: what goes wrong for whom, and which clause stands against it.
+A line `body: WORDS` may come after it, where the edit is an instance of one of BODIES below. rt passes over both. With --check
+nothing is written, and the status is 1 where the page is not what the edits say. Either way it is 1, and a line says why, where an edit
+has no such sentence, where it cites something by a number, where a body is not among BODIES, where nothing stands for one of
+them, or where a test that is named here isn't there.
+"""
+import glob
+import os
+import re
+import sys
+
+PAGE = "docs/WRONG_BODIES.md"
+# The wrong bodies that a channel has to be safe from, in the order of the page, each with the tests that stand for it besides edits.
+BODIES = {
+    "a send tells a receive before its message is in": [],
+    "a receive listens and pends without a second try": [],
+    "a send tells by the default notice for one": [],
+    "a woken receive that is given up drops its notice": [],
+    "a poll that is refused memory drops its notice": [],
+    "a poll that is refused memory drops its message": [],
+    "a closing tells those who wait first and marks the channel as closed afterwards": [],
+    "a push answers full while the only message is taken and still being read": [],
+    "a displacing push stores the tail and reopens a closed queue": [],
+    "the drop of the last sender lowers the count and doesn't close": [],
+    "a call wakes everybody": [],
+    "a call is run whole at its first step": [],
+    "settling answers with woken ones left": [],
+    "settling gives up those who are woken": [],
+    "a call that is to wait for nobody waits for whoever holds the slot": [
+        "concurrent_queue_tests/a_push_that_stands_still_holds_no_question_up",
+    ],
+    "a pop answers closed while the message of a displacing send is on its way": [],
+    "a push takes two places for one message": [],
+    "a receive gives a message and leaves it in the queue": [],
+    "a recorded call invents a receipt and stores no entry": [],
+    "a recorded channel hands out another reply than it stored": [
+        "recorded_channel_tests/every_receipt_stands_in_the_record",
+    ],
+    "each growth is answered as refused: of a push, a listener, an opening, a settling, a record": [
+        "concurrent_queue_tests/a_walk_gives_the_messages_in_order",
+        "event_listener_tests/reserved_room_takes_as_many_insertions",
+        "channel_world_tests/channels_are_opened_from_one_source",
+        "channel_world_tests/one_message_settles_two_of_three_receives",
+        "recorded_channel_tests/a_send_without_room_comes_back",
+    ],
+    "each begin of a call is refused": ["channel_interleaving_tests/a_message_between_two_tries_is_taken"],
+    "a receive of several tells one send for all that it took": [],
+    "a receive of several stops before its limit beside a message": [],
+    "a receive of several drops what it took": [],
+    "a receive of several always answers that memory was refused": ["channel_script/several_at_once"],
+    "a call that lost an exchange goes on for ever": [],
+    "a stream is always pending": [],
+    "handles go round the steps, and lose, double or reorder messages or lose a wake": [
+        "async_channel_tests/a_told_receive_that_leaves_passes_its_notice_on",
+        "async_channel_tests/each_taking_wakes_the_next_send",
+        "async_channel_thread_tests/at_rest",
+        "async_channel_thread_tests/one_sender_one_receiver",
+        "async_channel_thread_tests/many_senders_many_receivers",
+    ],
+    # What threads run for the common calls, whatever other threads do.
+    "a pending send loses its message": [],
+    "a poll loses the key of its listener": [],
+    "a registering hands the task back of a listener that waits": [],
+    "many free places tell one send": [],
+    "a walked call does something else first": [],
+    "a clone counts nothing": [],
+    "a clone that was counted is refused": [],
+    "a closing always answers false": [],
+    "a displacing send drops what it displaced": [],
+    "a poll of a receive tries nothing": [],
+    "a receive in straight code tells no send": [],
+    "a send in straight code tells no receive": [],
+    "a send in straight code tells the streams twice": [],
+    "a receive of several hands them out reversed": [],
+    "a receive drops what it took": [],
+}
+# What a sentence doesn't cite by its number: a rule, a paper, a section, an issue.
+CITED = re.compile(r"\b[A-Z]\d+\b|\b0[1-4]\b|\b(issue|paper|document|section|request)s? \d")
+HEAD = """# Wrong bodies that the prover refuses
+
+Made by `tools/list_edits.py` of the first lines of the edits `crates/*/must-fail/*.edit`, not by hand. Each edit changes a body so that it
+does something wrong, still compiles, and is tried by the gate: the prover has to refuse it. There are {count} of them.
+
+## Against what a channel has to be safe from
+
+| Wrong body | Refused by the prover | Seen by a test |
+|---|---|---|
+{bodies}
+
+## Crate by crate
+
+What goes wrong for whom, and what stands against it.
+"""
+
+
+def lines_of(edit):
+    """Returns the sentence of an edit and the wrong bodies that it stands for."""
+    with open(edit, encoding="utf-8") as it:
+        lines = it.read().split("\n")
+    why = lines[0].removeprefix("why: ") if lines[0].startswith("why: ") else ""
+    return why, [line.removeprefix("body: ") for line in lines if line.startswith("body: ")]
+
+
+def has_test(name):
+    """Returns whether the crate has this test, or this row of a test."""
+    crate, _, test = name.partition("/")
+    for source in glob.glob(f"crates/{crate}/src/**/*.rt", recursive=True):
+        with open(source, encoding="utf-8") as it:
+            if re.search(rf"\b(fn|row) {test}\b", it.read()):
+                return True
+    return False
+
+
+def faults(edits):
+    for (crate, name), (why, bodies) in edits.items():
+        if not why.endswith("."):
+            yield f"{crate}/{name} has no line 'why: SENTENCE' in front"
+        elif CITED.search(why):
+            yield f"{crate}/{name} cites something by a number: {CITED.search(why)[0]}"
+        for body in bodies:
+            if body not in BODIES:
+                yield f"{crate}/{name} stands for a body that tools/list_edits.py doesn't have: {body}"
+    tried = {body for _, bodies in edits.values() for body in bodies}
+    for body, tests in BODIES.items():
+        if body not in tried and not tests:
+            yield f"nothing stands for: {body}"
+        yield from (f"there is no test {test}" for test in tests if not has_test(test))
+
+
+def row(body, edits):
+    tried = ", ".join(f"`{crate}/{name}`" for (crate, name), (_, bodies) in edits.items() if body in bodies)
+    seen = ", ".join(f"`{test}`" for test in BODIES[body])
+    return f"| {body} | {tried} | {seen} |"
+
+
+def page(edits):
+    text = HEAD.format(count=len(edits), bodies="\n".join(row(body, edits) for body in BODIES))
+    for crate in sorted({crate for crate, _ in edits}):
+        text += f"\n### `{crate}`\n\n| Edit | Why |\n|---|---|\n"
+        text += "".join(f"| `{name}` | {why} |\n" for (at, name), (why, _) in edits.items() if at == crate)
+    return text
+
+
+def main(words):
+    if words not in ([], ["--check"]):
+        sys.exit(__doc__)
+    found = sorted(glob.glob("crates/*/must-fail/*.edit"))
+    edits = {(it.split("/")[1], os.path.basename(it).removesuffix(".edit")): lines_of(it) for it in found}
+    wrong, text = list(faults(edits)), page(edits)
+    if not words:
+        with open(PAGE, "w", encoding="utf-8") as it:
+            it.write(text)
+    elif not os.path.isfile(PAGE) or open(PAGE, encoding="utf-8").read() != text:
+        wrong.append(f"{PAGE} is not what the edits say: run tools/list_edits.py")
+    print("\n".join([*wrong, f"{len(edits)} edits of {len({crate for crate, _ in edits})} crates"]))
+    return 1 if wrong else 0
+
+
+if __name__ == "__main__":
+    sys.exit(main(sys.argv[1:]))

@@ -1,0 +1,94 @@
+#!/usr/bin/env python3
+"""Makes docs/ROWS.md, which says where each worked row stands, of the texts of rows themselves.
+
+usage, at the top of the repository: tools/list_rows.py [--check]
+
+With --check nothing is written, and the status is 1 where the page is not what the texts say. Either way it is 1, and a line says why,
+where a text or its test isn't there, or where a text of rows is not among TEXTS.
+"""
+import glob
+import re
+import sys
+
+PAGE = "docs/ROWS.md"
+# Crate, file, constant, what a line of it goes through, the test that plays it.
+TEXTS = [
+    ("event_listener_tests", "list_rows", "ROWS", "`List` of one owner, and `List::run` (`lists`)", "list::rows"),
+    ("event_listener_tests", "event_rows", "UNIT_ROWS", "`Event<()>`, its four notices, and `EventListener`, polled by hand and as a future (`units`, `listening`)", "event::rows"),
+    ("event_listener_tests", "event_rows", "TAG_ROWS", "`Event<u32>`, and `EventListener` with its waits (`tags`, `listening`)", "event::rows_of_tags"),
+    ("event_listener_tests", "recorded", "ROWS", "`RecordedEvent` and its record (`records`)", "recorded::rows"),
+    ("channel_interleaving_tests", "step_rows", "ROWS", "`World::run_steps` (`channel_rows`)", "rows::steps_by_names"),
+    ("channel_interleaving_tests", "step_rows", "REFUSED", "lists of `World::run_steps` that stop (`channel_rows`)", "rows::refused_steps"),
+    ("channel_world_tests", "call_rows", "SENDS", "`World::run_calls` (`channel_rows`)", "rows::sends"),
+    ("channel_world_tests", "call_rows", "RECEIVES", "`World::run_calls` (`channel_rows`)", "rows::receives"),
+    ("channel_world_tests", "call_rows", "WAITS", "`World::run_calls` (`channel_rows`)", "rows::waits"),
+    ("channel_world_tests", "call_rows", "REFUSED", "`World::run_calls` that stops (`channel_rows`)", "rows::refused"),
+    ("channel_world_tests", "call_rows", "BOTH", "`World::run_calls` and `World::run_steps` in turn (`channel_rows`)", "rows::both"),
+    ("channel_world_tests", "call_rows", "SETTLINGS", "`World::settle` (`channel_rows`)", "rows::settlings"),
+]
+TEXT = re.compile(r'const (\w+): &str = "(\n[^"]*^row [^"]*)"', re.M)
+HEAD = """# Where the worked rows stand
+
+Made by `tools/list_rows.py` of the texts of rows, not by hand. A worked row is a text: lines that name calls, each with what it is to
+answer. One test plays all rows of a text, and stops at the first line that answers another thing, whose row, call and both answers it
+shows. `worked_rows` reads the texts, and says in its head how; what a line calls is said in the file or the crate that stands in
+brackets. One more row costs no proof.
+
+| Text | Each line goes through | Test | Rows |
+|---|---|---|---|
+"""
+TAIL = """
+Three rows are texts that a loop writes: `rows::messages_beyond_one_block_come_in_order` and `rows::clones_are_counted` of
+`channel_world_tests`, and `rows::several_at_once_beside_a_displacing_send` of `channel_interleaving_tests`, which plays a text for each
+place between the steps of a call.
+
+What needs threads, clocks that pass, types of its own or proofs, and what refuses memory, is code: the other tests of these crates. So
+are the rows of queues (`concurrent_queue_tests`), of handles polled by hand (`async_channel_tests`), and giving up at every place
+(`channel_interleaving_tests`, `giving_up`). The rows of scripts are texts in `channel_script` (`rows`, `faults`, `bounds`), which has the
+one stored run too.
+"""
+
+
+def read(path):
+    with open(path, encoding="utf-8") as it:
+        return it.read()
+
+
+def texts():
+    """Returns the text of rows of each constant that has one, by crate, file and name."""
+    found = {}
+    for path in glob.glob("crates/*/src/*.rt"):
+        _, crate, _, file = path.split("/")
+        for name, text in TEXT.findall(read(path)):
+            found[crate, file.removesuffix(".rt"), name] = text
+    return found
+
+
+def has_test(crate, test):
+    module, _, name = test.partition("::")
+    return f"#[test]\nfn {name}(" in read(f"crates/{crate}/src/{module}.rt")
+
+
+def main(words):
+    if words not in ([], ["--check"]):
+        sys.exit(__doc__)
+    found, wrong, page = texts(), [], HEAD
+    for crate, file, name, goes_through, test in TEXTS:
+        text = found.pop((crate, file, name), "")
+        rows = re.findall(r"^row (\w+)$", text, re.M)
+        if not rows or not has_test(crate, test):
+            wrong.append(f"there are no rows {name} in {crate}/{file}, or no test {test}")
+        page += f"| `{crate}/src/{file}.rt`, `{name}` | {goes_through} | `{test}` | {', '.join(f'`{row}`' for row in rows)} |\n"
+    wrong += [f"tools/list_rows.py doesn't know {name} of {crate}/{file}" for crate, file, name in found]
+    page += TAIL
+    if not words:
+        with open(PAGE, "w", encoding="utf-8") as it:
+            it.write(page)
+    elif read(PAGE) != page:
+        wrong.append(f"{PAGE} is not what the texts say: run tools/list_rows.py")
+    print("\n".join([*wrong, f"{len(TEXTS)} texts of rows"]))
+    return 1 if wrong else 0
+
+
+if __name__ == "__main__":
+    sys.exit(main(sys.argv[1:]))
