@@ -1,0 +1,4 @@
+pub mod Accounts
+pub mod Hands
+pub mod Order
+pub mod Sides

@@ -1,0 +1,23 @@
+//! How a waybill is written.
+
+ghost use Rattle.std.specs.Prelude.{◌≡◌, [], ◌∷◌};
+ghost use Rattle.waybill.specs.Accounts.{after_sent};
+ghost use Rattle.waybill.specs.Hands.{waybill};
+
+use crate::rule::{Cuts, Hand, Items, Room};
+use crate::tokens::{Office, Pass};
+use atomic_table::Seat;
+
+/// A waybill for this message, which from here on counts as sent by this pass.
+#[inline(always)]
+pub(crate) fn bill<T, B: Room, I: Items<T>>(
+    office: &Office<T, B>,
+    pass: &mut Pass<T, B>,
+    value: &T,
+) -> Seat<(), Hand<T>>
+    requires names { I.items ≡ value.now ∷ [] }
+    ensures same { pass.new ≡ after_sent pass.old value.now }
+    ensures new { (result.table_id ≡ B.table) × (result.me ≡ (waybill (value.now ∷ []), [])) }
+{
+    office.table.shared.split_seat::<Cuts<I>>(&mut pass.seat)
+}

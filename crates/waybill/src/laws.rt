@@ -1,0 +1,16 @@
+//! Laws of numbered messages, for clients whose senders number what they send.
+
+ghost use Rattle.std.specs.Prelude.{◌≡◌, ℕ, List, [], take, length};
+ghost use Rattle.waybill.specs.Accounts.{IsPartOf};
+ghost use Rattle.waybill.specs.Order.{numbered, of_sender, values, IsRising, IsGapless, IsInOrderOf};
+ghost use Rattle.waybill.specs.declared.numbered.Numbered.{Numbered};
+
+/// What somebody got of a sender is in that sender's order, where the places rise and all of it was sent.
+pub fn messages_come_in_order<T>()
+    ensures { (s : ℕ) (sent got : List (Numbered T)) (mine : List T) → IsPartOf got sent → of_sender s sent ≡ numbered s 0 mine → IsRising got → IsInOrderOf (values (of_sender s got)) mine }
+{}
+
+/// What somebody got of a sender is a beginning of what that one sent, where no place is left out and all of it was sent.
+pub fn the_first_messages_come_first<T>()
+    ensures { (s : ℕ) (sent got : List (Numbered T)) (mine : List T) → IsPartOf got sent → of_sender s sent ≡ numbered s 0 mine → IsGapless got → values (of_sender s got) ≡ take (length (of_sender s got)) mine }
+{}

@@ -1,0 +1,18 @@
+//! Messages that travel with a waybill: a token of no bytes by which whoever gets a message knows that it was sent, and that it
+//! comes once. A message may go through any queue or channel, since all is said by its type.
+#![tactic(auto)]
+
+pub mod bill;
+pub mod laws;
+pub mod numbered;
+pub mod office;
+pub mod rule;
+pub mod sink;
+pub mod source;
+pub mod tokens;
+
+pub use numbered::{Numbered, NumbersUsedUp, OutOfTurn};
+pub use rule::{Hand, Room};
+pub use sink::Sink;
+pub use source::Source;
+pub use tokens::{Office, Opened, Parcel, Pass};

@@ -1,0 +1,21 @@
+//! Messages with their places, and what becomes of one that cannot have or take its place.
+
+/// A message with its sender's number and its place, from 0, among what that one sent.
+#[derive(Clone, Copy, Drop)]
+pub struct Numbered<T> {
+    pub sender: u32,
+    pub number: u64,
+    pub value: T,
+}
+
+/// The message that a source handed back: it has sent 2^64 - 1 messages and has no number left.
+#[derive(Drop)]
+pub struct NumbersUsedUp<T> {
+    pub value: T,
+}
+
+/// A parcel that came out of turn, or of a sender whom the sink does not know. It is handed on as it came.
+#[derive(Drop)]
+pub struct OutOfTurn<P> {
+    pub parcel: P,
+}
