@@ -1,10 +1,10 @@
 -- Parts of lists: what clients join of what several passes know.
-use Rattle.std.proofs.Common.{◌≡◌, ◌∙◌, ℕ, ◌+◌, List, [], ◌∷◌, ◌++◌, length, refl, sym, ap, subst, arith}
+use Rattle.std.proofs.Common.{◌≡◌, ◌∙◌, List, [], ◌∷◌, ◌++◌, length, refl, ap, subst, arith}
 use Rattle.std.specs.Prelude.{IsPermutation, map}
-use Rattle.std.proofs.lemmas.List.{append_assoc, append-nil, length-append, map-append, length-map}
+use Rattle.std.proofs.lemmas.List.{append_assoc, append-nil, length-append, map-append}
 use Rattle.std.proofs.lemmas.List.Sorted.{IsPermutation-append_comm, IsPermutation-map, length_permutation}
 use Rattle.waybill.specs.Accounts.{Account, joined, IsPartOf}
-use Rattle.waybill.proofs.Bags.{as_is, back, then, beside, before, exchange_last}
+use Rattle.waybill.proofs.Bags.{as_is, then, before}
 
 module _ {X : Type 0} where
   no_rest : (xs : List X) → length xs ≡ 0 → xs ≡ []

@@ -1,8 +1,8 @@
 -- Each move keeps the rule.
 use Rattle.std.proofs.Common.{◌≡◌, ℕ, zero, suc, ◌+◌, ◌-◌, ◌<◌, ◌≤◌, List, [], ◌∷◌, ◌++◌, length, set, sym, refl, ap, ◌∙◌, subst, ⊎_elim, arith}
 use Rattle.std.specs.Prelude.{IsPermutation, flat_map}
-use Rattle.std.proofs.lemmas.List.{append_assoc, append-nil, length-append}
-use Rattle.std.proofs.lemmas.List.Sorted.{IsPermutation-append_comm, length_permutation}
+use Rattle.std.proofs.lemmas.List.{append_assoc, append-nil}
+use Rattle.std.proofs.lemmas.List.Sorted.{IsPermutation-append_comm}
 use mathlib.Core.Option.{some, some-ne-none, some-injective}
 use lib.ListN.{get_elem?}
 use Rattle.atomic_table.specs.Table.{State, Me, step, keeps, Allows, Splits, Joins}
@@ -11,7 +11,7 @@ use Rattle.waybill.specs.declared.rule.Hand.{Hand}
 use Rattle.waybill.specs.Accounts.{all_parts, IsPartOf, IsBalanced}
 use Rattle.waybill.specs.Hands.{hand, waybill, total, with_sent, with_received, with_returned, became, IdleIsEmpty, Balanced, learned}
 use Rattle.waybill.proofs.Parts.{part_whole}
-use Rattle.waybill.proofs.Bags.{as_is, back, then, beside, after, before, exchange, interchange, exchange_last, others, piece, piece_set, pieces_snoc, taken_in}
+use Rattle.waybill.proofs.Bags.{as_is, back, then, beside, after, before, interchange, exchange_last, others, piece, piece_set, pieces_snoc, taken_in}
 
 -- ---- numbers of each
 

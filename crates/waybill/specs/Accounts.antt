@@ -1,5 +1,5 @@
 -- What a pass says: which messages its holder sent, received and took back. Words for clients.
-use Rattle.std.specs.Prelude.{◌≡◌, ℕ, ◌+◌, ◌-◌, List, [], ◌∷◌, ◌++◌, IsPermutation}
+use Rattle.std.specs.Prelude.{ℕ, ◌+◌, ◌-◌, List, [], ◌∷◌, ◌++◌, IsPermutation}
 
 -- how many parts of the right to know the whole there are: each pass but the first has one
 abbrev pub all_parts : ℕ

@@ -1,4 +1,4 @@
-use Rattle.std.proofs.Common.{rules, ap, ◌∙◌, sym, subst, ◌≡◌, ◌≤◌, true}
+use Rattle.std.proofs.Common.{rules, ◌∙◌, sym, subst, ◌≡◌, ◌≤◌}
 use Rattle.std.specs.Prelude.{slice_index}
 use Rattle.std.proofs.lemmas.List.{get_or_default}
 use Rattle.waybill.proofs.Turns.{unpacked}

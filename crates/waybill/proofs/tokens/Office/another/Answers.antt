@@ -1,4 +1,4 @@
-use Rattle.std.proofs.Common.{rules, sym, ◌∙◌, ap, subst, ◌<◌}
+use Rattle.std.proofs.Common.{sym, ◌∙◌, subst, ◌<◌}
 use Rattle.waybill.proofs.Steps.{halves}
 use Rattle.waybill.proofs.tokens.Office.another.Goals as goal
 
