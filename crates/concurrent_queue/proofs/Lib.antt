@@ -6,7 +6,6 @@ mod BlocksLater
 mod BlocksPhases
 mod BlocksKeeps
 mod BlocksAsks
-mod BlocksAtOnce
 mod BlocksDispatch
 mod BlocksTheorem
 mod BlocksNearer
@@ -47,7 +46,6 @@ mod BlocksStep
 mod BlocksChain
 mod BlocksFacts
 mod BlocksShows
-pub mod PlainRings
 pub mod Slots
 pub mod Evidence
 pub mod Runs
@@ -58,7 +56,6 @@ mod Whole
 pub mod PartyFacts
 pub mod RingMade
 pub mod AloneFacts
-pub mod AtOnce
 pub mod Interface
 pub mod Guards
 mod ReplyFacts

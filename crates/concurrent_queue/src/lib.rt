@@ -12,7 +12,6 @@ pub mod error;
 pub mod exclusive;
 pub mod laws;
 pub mod plain;
-mod plain_ring;
 mod pool;
 pub mod queue_call;
 pub mod run;
