@@ -23,6 +23,9 @@ mod SingleDeeds
 mod RingDeeds
 mod Walks
 mod BlocksDeeds
+mod BridgeSteps
+mod Bridge
+mod BridgeRow
 pub mod SingleSteps
 pub mod RingShape
 pub mod RingPlaces
