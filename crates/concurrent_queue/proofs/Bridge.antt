@@ -1,13 +1,12 @@
 -- Calls that walk their machines over cells in one order make a run.
 use Rattle.std.proofs.Common.{◌≡◌, ℕ, zero, suc, ◌<◌, ◌≤◌, ◌^◌, ◌==◌, Bool, true, false, List, [], ◌∷◌, ◌++◌, map, Option, None, Some, MatchOption, option_to_list, slice_get, slice_set, if◌then◌else◌, refl, sym, ap, ◌∙◌, subst, arith, append_assoc, append-nil}
-use Rattle.std.proofs.lemmas.Bool.Decides.{nat_tests}
 use Rattle.std.specs.List.{remove}
 use Rattle.concurrent_queue.specs.Bridge.{Event, begins, does, Happening, Notes, asking, Acts, own, Changes, InOneOrder, step_of, steps_of, replies_to, HasCells, MergesAreRuns, Along, WalksAct}
 use Rattle.concurrent_queue.specs.Contents.{Contents}
 use Rattle.concurrent_queue.specs.Deeds.{Deed, Move, loads, stores, exchanges, adds, sets_bits, keeps_bits, puts, takes, spares, retires, rests, Makes, loaded, stored, exchanged, added, bits_set, bits_kept, did_put, did_take, spared, retired}
 use Rattle.concurrent_queue.specs.Effects.{Does, does_keep_form}
 use Rattle.concurrent_queue.specs.Made.{IsNew, new_cells}
-use Rattle.concurrent_queue.specs.Parties.{party, NoneHas, Turns, parties_after}
+use Rattle.concurrent_queue.specs.Parties.{party, Turns, parties_after}
 use Rattle.concurrent_queue.specs.Step.{IsQueueStep}
 use Rattle.concurrent_queue.specs.Walked.{MakesBlocks, MakesBounded, MakesFirst, StateMakes, CallMakes}
 use Rattle.concurrent_queue.specs.machine.Ahead.{Leads}
@@ -34,6 +33,7 @@ use Rattle.concurrent_queue.specs.declared.run.QueueStep.{QueueStep}
 use Rattle.concurrent_queue.specs.declared.run.QueueStep.TheVariants.{Begin, Step}
 use Rattle.concurrent_queue.specs.declared.unbounded.action.UnboundedCall.{UnboundedCall}
 use Rattle.concurrent_queue.proofs.BridgeSteps.{state_made}
+use Rattle.concurrent_queue.proofs.Callers.{is_same, is_other, itself, either, call_of, place_of, AllApart, none_has, has_at, begun_mine, begun_other, begun_apart, set_mine, set_other, set_apart, gone_other, gone_mine, gone_apart}
 use Rattle.concurrent_queue.proofs.FitsFacts.{starts, is_queue_step, fits_one_slot, fits_ring, fits_blocks}
 use Rattle.concurrent_queue.proofs.PartyFacts.{stepped}
 use Rattle.concurrent_queue.proofs.Runs.{IsRunning, running_start, running_more, at}
@@ -73,138 +73,31 @@ module _ {T : Type 0} (c d : Contents T) where
   state_noted form Finished o r (n, e) g = (subst (λ (y : Option (Deed T)). Changes (does y) c d) n g, e)
 
   -- a party's step is one of the contract
-  call_noted : (form : QueueForm) (call : QueueCall T) (o : Option (Deed T)) (next : QueueCall T) (answer : Option (QueueReply T)) → c.form ≡ form
+  pub call_noted : (form : QueueForm) (call : QueueCall T) (o : Option (Deed T)) (next : QueueCall T) (answer : Option (QueueReply T)) → c.form ≡ form
       → CallMakes Notes form None call o next answer → Changes (does o) c d → IsQueueStep c call d next answer
   call_noted form call o next answer e h g =
       let s : Stepped (CallState T) T = record { action = next.state; mark = next.mark; reply = answer } in
       is_queue_step c call d s (state_made c d s form call.state e (state_noted form call.state o s h g))
 
-  change_keeps_form : (x : Event T) → Changes x c d → d.form ≡ c.form
+  pub change_keeps_form : (x : Event T) → Changes x c d → d.form ≡ c.form
   change_keeps_form (begins a) e = ap (λ (y : Contents T). y.form) e
   change_keeps_form (does None) e = ap (λ (y : Contents T). y.form) e
   change_keeps_form (does (Some x)) h = does_keep_form x c d h
 
 -- ---- who has which call under way
 
-is_same : (m n : ℕ) → (m == n) ≡ true → m ≡ n
-is_same m n e = grind (arith, nat_tests, e)
-
-is_other : (m n : ℕ) → (m == n) ≡ false → m ≡ n → ⊥
-is_other m n e f = grind (arith, nat_tests, e, f)
-
-itself : (n : ℕ) → (n == n) ≡ true
-itself n = grind (arith, nat_tests)
-
-turned_about : (m n : ℕ) → (m == n) ≡ false → (n == m) ≡ false
-turned_about m n e = grind (arith, nat_tests, e)
-
-either : {A : Type 0} (b : Bool) (x : A) → (if b then x else x) ≡ x
-either true x = refl
-either false x = refl
-
 module _ {T : Type 0} where
-  abbrev call_of : ℕ → List (Party T) → Option (QueueCall T)
-  call_of p [] = None
-  call_of p (x ∷ xs) = if x.id == p then Some x.call else call_of p xs
+  abbrev id_of : Party T → ℕ
+  id_of x = x.id
 
-  abbrev place_of : ℕ → List (Party T) → ℕ
-  place_of p [] = 0
-  place_of p (x ∷ xs) = if x.id == p then 0 else suc (place_of p xs)
+  abbrev of : Party T → QueueCall T
+  of x = x.call
 
-  abbrev AllApart : List (Party T) → Type 0
-  AllApart [] = Unit {0}
-  AllApart (x ∷ xs) = (call_of x.id xs ≡ None) × AllApart xs
+  party_is : (x : Party T) (p : ℕ) (call : QueueCall T) → x.id ≡ p → x.call ≡ call → x ≡ party p call
+  party_is x p call e f = ap (λ (n : ℕ). party n x.call) e ∙ ap (λ (c : QueueCall T). party p c) f
 
-  none_has : (p : ℕ) (xs : List (Party T)) → call_of p xs ≡ None → NoneHas p xs
-  none_has p [] e k x there is = absurd cc
-  none_has p (y ∷ ys) e k x there is = test (y.id == p) refl (λ f j h. none_has p ys f j x h is) k there
-    where
-      test : (b : Bool) → (y.id == p) ≡ b → (call_of p ys ≡ None → (j : ℕ) → slice_get ys j ≡ Some x → ⊥) → (j : ℕ) → slice_get (y ∷ ys) j ≡ Some x → ⊥
-      test true f rest j h = (let g : Some y.call ≡ None = subst (λ (b : Bool). (if b then Some y.call else call_of p ys) ≡ None) f e in absurd cc)
-      test false f rest zero h = (let g : y ≡ x = cc in is_other y.id p f (ap (λ (z : Party T). z.id) g ∙ is))
-      test false f rest (suc j) h = rest (subst (λ (b : Bool). (if b then Some y.call else call_of p ys) ≡ None) f e) j h
-
-  has_party : (p : ℕ) (xs : List (Party T)) (call : QueueCall T) → call_of p xs ≡ Some call → slice_get xs (place_of p xs) ≡ Some (party p call)
-  has_party p [] call e = absurd cc
-  has_party p (y ∷ ys) call e = test (y.id == p) refl (λ f. has_party p ys call f)
-    where
-      test : (b : Bool) → (y.id == p) ≡ b → (call_of p ys ≡ Some call → slice_get ys (place_of p ys) ≡ Some (party p call)) → slice_get (y ∷ ys) (place_of p (y ∷ ys)) ≡ Some (party p call)
-      test true f rest = (let g : Some y.call ≡ Some call = subst (λ (b : Bool). (if b then Some y.call else call_of p ys) ≡ Some call) f e in let h : y.call ≡ call = cc in rw f (ap (λ (n : ℕ). Some (party n y.call)) (is_same y.id p f) ∙ ap (λ (z : QueueCall T). Some (party p z)) h))
-      test false f rest = rw f (rest (subst (λ (b : Bool). (if b then Some y.call else call_of p ys) ≡ Some call) f e))
-
-  -- ---- a call begins
-
-  begun_mine : (p : ℕ) (xs : List (Party T)) (call : QueueCall T) → call_of p xs ≡ None → call_of p (xs ++ party p call ∷ []) ≡ Some call
-  begun_mine p [] call e = rw (itself p) refl
-  begun_mine p (y ∷ ys) call e = test (y.id == p) refl (λ f. begun_mine p ys call f)
-    where
-      test : (b : Bool) → (y.id == p) ≡ b → (call_of p ys ≡ None → call_of p (ys ++ party p call ∷ []) ≡ Some call) → call_of p ((y ∷ ys) ++ party p call ∷ []) ≡ Some call
-      test true f rest = (let g : Some y.call ≡ None = subst (λ (b : Bool). (if b then Some y.call else call_of p ys) ≡ None) f e in absurd cc)
-      test false f rest = rw f (rest (subst (λ (b : Bool). (if b then Some y.call else call_of p ys) ≡ None) f e))
-
-  begun_other : (p q : ℕ) (xs : List (Party T)) (call : QueueCall T) → (p == q) ≡ false → call_of q (xs ++ party p call ∷ []) ≡ call_of q xs
-  begun_other p q [] call e = rw e refl
-  begun_other p q (y ∷ ys) call e = ap (λ (o : Option (QueueCall T)). if y.id == q then Some y.call else o) (begun_other p q ys call e)
-
-  begun_apart : (p : ℕ) (xs : List (Party T)) (call : QueueCall T) → call_of p xs ≡ None → AllApart xs → AllApart (xs ++ party p call ∷ [])
-  begun_apart p [] call e h = (refl, tt)
-  begun_apart p (y ∷ ys) call e h = test (y.id == p) refl (λ f. begun_apart p ys call f h.1)
-    where
-      test : (b : Bool) → (y.id == p) ≡ b → (call_of p ys ≡ None → AllApart (ys ++ party p call ∷ [])) → AllApart ((y ∷ ys) ++ party p call ∷ [])
-      test true f rest = (let g : Some y.call ≡ None = subst (λ (b : Bool). (if b then Some y.call else call_of p ys) ≡ None) f e in absurd cc)
-      test false f rest = (begun_other p y.id ys call (turned_about y.id p f) ∙ h.0, rest (subst (λ (b : Bool). (if b then Some y.call else call_of p ys) ≡ None) f e))
-
-  -- ---- a call goes on
-
-  set_mine : (p : ℕ) (xs : List (Party T)) (call next : QueueCall T) → call_of p xs ≡ Some call → call_of p (slice_set xs (place_of p xs) (party p next)) ≡ Some next
-  set_mine p [] call next e = absurd cc
-  set_mine p (y ∷ ys) call next e = test (y.id == p) refl (λ f. set_mine p ys call next f)
-    where
-      test : (b : Bool) → (y.id == p) ≡ b → (call_of p ys ≡ Some call → call_of p (slice_set ys (place_of p ys) (party p next)) ≡ Some next) → call_of p (slice_set (y ∷ ys) (place_of p (y ∷ ys)) (party p next)) ≡ Some next
-      test true f rest = rw f (rw (itself p) refl)
-      test false f rest = rw f (rw f (rest (subst (λ (b : Bool). (if b then Some y.call else call_of p ys) ≡ Some call) f e)))
-
-  set_other : (p q : ℕ) (xs : List (Party T)) (next : QueueCall T) → (p == q) ≡ false → call_of q (slice_set xs (place_of p xs) (party p next)) ≡ call_of q xs
-  set_other p q [] next e = refl
-  set_other p q (y ∷ ys) next e = test (y.id == p) refl (set_other p q ys next e)
-    where
-      test : (b : Bool) → (y.id == p) ≡ b → call_of q (slice_set ys (place_of p ys) (party p next)) ≡ call_of q ys → call_of q (slice_set (y ∷ ys) (place_of p (y ∷ ys)) (party p next)) ≡ call_of q (y ∷ ys)
-      test true f rest = (let g : (y.id == q) ≡ false = ap (λ (n : ℕ). n == q) (is_same y.id p f) ∙ e in rw f (rw (e, g) refl))
-      test false f rest = rw f (ap (λ (o : Option (QueueCall T)). if y.id == q then Some y.call else o) rest)
-
-  set_apart : (p : ℕ) (xs : List (Party T)) (next : QueueCall T) → AllApart xs → AllApart (slice_set xs (place_of p xs) (party p next))
-  set_apart p [] next h = tt
-  set_apart p (y ∷ ys) next h = test (y.id == p) refl (set_apart p ys next h.1)
-    where
-      test : (b : Bool) → (y.id == p) ≡ b → AllApart (slice_set ys (place_of p ys) (party p next)) → AllApart (slice_set (y ∷ ys) (place_of p (y ∷ ys)) (party p next))
-      test true f rest = rw f (subst (λ (n : ℕ). call_of n ys ≡ None) (is_same y.id p f) h.0, h.1)
-      test false f rest = rw f (set_other p y.id ys next (turned_about y.id p f) ∙ h.0, rest)
-
-  -- ---- a call ends
-
-  gone_other : (p q : ℕ) (xs : List (Party T)) → (p == q) ≡ false → call_of q (remove xs (place_of p xs)) ≡ call_of q xs
-  gone_other p q [] e = refl
-  gone_other p q (y ∷ ys) e = test (y.id == p) refl (gone_other p q ys e)
-    where
-      test : (b : Bool) → (y.id == p) ≡ b → call_of q (remove ys (place_of p ys)) ≡ call_of q ys → call_of q (remove (y ∷ ys) (place_of p (y ∷ ys))) ≡ call_of q (y ∷ ys)
-      test true f rest = (let g : (y.id == q) ≡ false = ap (λ (n : ℕ). n == q) (is_same y.id p f) ∙ e in rw f (rw g refl))
-      test false f rest = rw f (ap (λ (o : Option (QueueCall T)). if y.id == q then Some y.call else o) rest)
-
-  gone_mine : (p : ℕ) (xs : List (Party T)) → AllApart xs → call_of p (remove xs (place_of p xs)) ≡ None
-  gone_mine p [] h = refl
-  gone_mine p (y ∷ ys) h = test (y.id == p) refl (gone_mine p ys h.1)
-    where
-      test : (b : Bool) → (y.id == p) ≡ b → call_of p (remove ys (place_of p ys)) ≡ None → call_of p (remove (y ∷ ys) (place_of p (y ∷ ys))) ≡ None
-      test true f rest = rw f (subst (λ (n : ℕ). call_of n ys ≡ None) (is_same y.id p f) h.0)
-      test false f rest = rw f (rw f rest)
-
-  gone_apart : (p : ℕ) (xs : List (Party T)) → AllApart xs → AllApart (remove xs (place_of p xs))
-  gone_apart p [] h = tt
-  gone_apart p (y ∷ ys) h = test (y.id == p) refl (gone_apart p ys h.1)
-    where
-      test : (b : Bool) → (y.id == p) ≡ b → AllApart (remove ys (place_of p ys)) → AllApart (remove (y ∷ ys) (place_of p (y ∷ ys)))
-      test true f rest = rw f h.1
-      test false f rest = rw f (gone_other p y.id ys (turned_about y.id p f) ∙ h.0, rest)
+  has_party : (p : ℕ) (xs : List (Party T)) (call : QueueCall T) → call_of id_of of p xs ≡ Some call → slice_get xs (place_of id_of of p xs) ≡ Some (party p call)
+  has_party p xs call e = let h = has_at id_of of p xs call e in h.1 ∙ ap (λ (x : Party T). Some x) (party_is h.0 p call h.2 h.3)
 
 -- ---- a new queue
 
@@ -218,7 +111,7 @@ module _ {T : Type 0} where
       let more : cap ≡ 1 → ⊥ = is_other cap 1 e in
       subst (λ (c : Contents T). IsNew {T = T} (Bounded cap) c) (ring_cells cap e) (refl, fits_ring T cap (omega (arith, more)) most, ring_cells cap e)
 
-  new_is : (form : QueueForm) → HasCells form → IsNew {T = T} form (new_cells form)
+  pub new_is : (form : QueueForm) → HasCells form → IsNew {T = T} form (new_cells form)
   new_is (Bounded cap) (some, most) = new_bounded cap some most (cap == 1) refl
   new_is Unbounded h = (refl, fits_blocks T, refl)
 
@@ -233,13 +126,13 @@ module _ {T : Type 0} (form : QueueForm) where
     pub answers : (p : ℕ) → replies_to p events more ≡ replies p
 
   abbrev Act : List (Party T) → List (Happening T) → (ℕ → List (QueueReply T)) → Type 0
-  Act parties events replies = (p : ℕ) → Acts form (call_of p parties) (own p events) (replies p)
+  Act parties events replies = (p : ℕ) → Acts form (call_of id_of of p parties) (own p events) (replies p)
 
   -- how the run goes on behind one event
   abbrev GoesOn : List (QueueStep T) → List (Happening T) → Contents T → Type 0
   GoesOn steps xs last =
       (trace : List (QueueEntry T)) (c : Contents T) (parties : List (Party T)) (replies : ℕ → List (QueueReply T))
-      → c.form ≡ form → IsRunning form steps (steps_of xs) trace c parties → AllApart parties → Act parties xs replies → InOneOrder xs c last → Merged steps xs trace replies last
+      → c.form ≡ form → IsRunning form steps (steps_of xs) trace c parties → AllApart id_of of parties → Act parties xs replies → InOneOrder xs c last → Merged steps xs trace replies last
 
   abbrev unmarked : QueueEntry T
   unmarked = record { mark = Nothing; reply = None }
@@ -255,15 +148,15 @@ module _ {T : Type 0} (form : QueueForm) where
 
   -- the others go on as before
   acts_after : (p : ℕ) (x : Event T) (xs : List (Happening T)) (before after : List (Party T)) (replies left : ℕ → List (QueueReply T)) → Act before (happens p x ∷ xs) replies
-      → Acts form (call_of p after) (own p xs) (left p) → ((q : ℕ) → (p == q) ≡ false → call_of q after ≡ call_of q before) → ((q : ℕ) → (p == q) ≡ false → left q ≡ replies q) → Act after xs left
+      → Acts form (call_of id_of of p after) (own p xs) (left p) → ((q : ℕ) → (p == q) ≡ false → call_of id_of of q after ≡ call_of id_of of q before) → ((q : ℕ) → (p == q) ≡ false → left q ≡ replies q) → Act after xs left
   acts_after p x xs before after replies left acts mine calls same q = test (p == q) refl
     where
-      test : (b : Bool) → (p == q) ≡ b → Acts form (call_of q after) (own q xs) (left q)
-      test true e = subst (λ (n : ℕ). Acts form (call_of n after) (own n xs) (left n)) (is_same p q e) mine
+      test : (b : Bool) → (p == q) ≡ b → Acts form (call_of id_of of q after) (own q xs) (left q)
+      test true e = subst (λ (n : ℕ). Acts form (call_of id_of of n after) (own n xs) (left n)) (is_same p q e) mine
       test false e =
-          subst (λ (rs : List (QueueReply T)). Acts form (call_of q after) (own q xs) rs) (sym (same q e))
+          subst (λ (rs : List (QueueReply T)). Acts form (call_of id_of of q after) (own q xs) rs) (sym (same q e))
           (subst (λ (o : Option (QueueCall T)). Acts form o (own q xs) (replies q)) (sym (calls q e))
-          (subst (λ (ys : List (Event T)). Acts form (call_of q before) ys (replies q)) (own_other p q x xs e) (acts q)))
+          (subst (λ (ys : List (Event T)). Acts form (call_of id_of of q before) ys (replies q)) (own_other p q x xs e) (acts q)))
 
   joined : (steps : List (QueueStep T)) (p : ℕ) (x : Event T) (xs : List (Happening T)) (trace : List (QueueEntry T)) (e : QueueEntry T) (replies left : ℕ → List (QueueReply T)) (last : Contents T)
       → Merged steps xs (trace ++ e ∷ []) left last → ((q : ℕ) → (if p == q then option_to_list e.reply ++ left q else left q) ≡ replies q) → Merged steps (happens p x ∷ xs) trace replies last
@@ -281,18 +174,18 @@ module _ {T : Type 0} (form : QueueForm) where
   idle (Some call) a ys rs h = absurd h
 
   begun : (p : ℕ) (a : QueueAsk T) (xs : List (Happening T)) (steps : List (QueueStep T)) (trace : List (QueueEntry T)) (c d last : Contents T) (parties : List (Party T)) (replies : ℕ → List (QueueReply T))
-      → c.form ≡ form → IsRunning form steps (Begin p a ∷ steps_of xs) trace c parties → AllApart parties → Act parties (happens p (begins a) ∷ xs) replies → d ≡ c → InOneOrder xs d last → GoesOn steps xs last
+      → c.form ≡ form → IsRunning form steps (Begin p a ∷ steps_of xs) trace c parties → AllApart id_of of parties → Act parties (happens p (begins a) ∷ xs) replies → d ≡ c → InOneOrder xs d last → GoesOn steps xs last
       → Merged steps (happens p (begins a) ∷ xs) trace replies last
   begun p a xs steps trace c d last parties replies f r apart acts same order on =
-      let mine = idle (call_of p parties) a (own p xs) (replies p) (subst (λ (ys : List (Event T)). Acts form (call_of p parties) ys (replies p)) (own_mine p (begins a) xs) (acts p)) in
+      let mine = idle (call_of id_of of p parties) a (own p xs) (replies p) (subst (λ (ys : List (Event T)). Acts form (call_of id_of of p parties) ys (replies p)) (own_mine p (begins a) xs) (acts p)) in
       let after : List (Party T) = parties ++ party p (asking a) ∷ [] in
-      let turns : Turns (Begin p a) c parties unmarked d after = (asking a, starts a Nothing, none_has p parties mine.0, refl, same, refl) in
-      let here : Acts form (call_of p after) (own p xs) (replies p) = subst (λ (o : Option (QueueCall T)). Acts form o (own p xs) (replies p)) (sym (begun_mine p parties (asking a) mine.0)) mine.1 in
+      let turns : Turns (Begin p a) c parties unmarked d after = (asking a, starts a Nothing, none_has id_of of p parties mine.0, refl, same, refl) in
+      let here : Acts form (call_of id_of of p after) (own p xs) (replies p) = subst (λ (o : Option (QueueCall T)). Acts form o (own p xs) (replies p)) (sym (begun_mine id_of of p parties (party p (asking a)) refl mine.0)) mine.1 in
       joined steps p (begins a) xs trace unmarked replies replies last
       (on (trace ++ unmarked ∷ []) d after replies (ap (λ (y : Contents T). y.form) same ∙ f)
       (running_more form steps (Begin p a ∷ steps_of xs) trace c parties (steps_of xs) (trace ++ unmarked ∷ []) d after r (Begin p a, refl, (unmarked, refl, turns)))
-      (begun_apart p parties (asking a) mine.0 apart)
-      (acts_after p (begins a) xs parties after replies replies acts here (λ q e. begun_other p q parties (asking a) e) (λ q e. refl))
+      (begun_apart id_of of p parties (party p (asking a)) refl mine.0 apart)
+      (acts_after p (begins a) xs parties after replies replies acts here (λ q e. begun_other id_of of p q parties (party p (asking a)) refl e) (λ q e. refl))
       order)
       (λ q. either (p == q) (replies q))
 
@@ -303,10 +196,10 @@ module _ {T : Type 0} (form : QueueForm) where
   busy (Some call) o ys rs h = (call, refl, h)
 
   module _ (p : ℕ) (o : Option (Deed T)) (xs : List (Happening T)) (steps : List (QueueStep T)) (trace : List (QueueEntry T)) (c d last : Contents T) (parties : List (Party T)) (replies : ℕ → List (QueueReply T))
-      (f : c.form ≡ form) (r : IsRunning form steps (Step p ∷ steps_of xs) trace c parties) (apart : AllApart parties) (acts : Act parties (happens p (does o) ∷ xs) replies)
-      (change : Changes (does o) c d) (order : InOneOrder xs d last) (on : GoesOn steps xs last) (call next : QueueCall T) (there : call_of p parties ≡ Some call) where
+      (f : c.form ≡ form) (r : IsRunning form steps (Step p ∷ steps_of xs) trace c parties) (apart : AllApart id_of of parties) (acts : Act parties (happens p (does o) ∷ xs) replies)
+      (change : Changes (does o) c d) (order : InOneOrder xs d last) (on : GoesOn steps xs last) (call next : QueueCall T) (there : call_of id_of of p parties ≡ Some call) where
     abbrev k : ℕ
-    k = place_of p parties
+    k = place_of id_of of p parties
 
     abbrev entry : Option (QueueReply T) → QueueEntry T
     entry answer = record { mark = next.mark; reply = answer }
@@ -328,22 +221,22 @@ module _ {T : Type 0} (form : QueueForm) where
         → Merged steps (happens p (does o) ∷ xs) trace replies last
     made_on None made goes =
         let after : List (Party T) = slice_set parties k (party p next) in
-        let here : Acts form (call_of p after) (own p xs) (replies p) = subst (λ (y : Option (QueueCall T)). Acts form y (own p xs) (replies p)) (sym (set_mine p parties call next there)) goes in
+        let here : Acts form (call_of id_of of p after) (own p xs) (replies p) = subst (λ (y : Option (QueueCall T)). Acts form y (own p xs) (replies p)) (sym (set_mine id_of of p parties call (party p next) refl there)) goes in
         joined steps p (does o) xs trace (entry None) replies replies last
-        (on (trace ++ entry None ∷ []) d after replies same_form (ran_on None made) (set_apart p parties next apart)
-        (acts_after p (does o) xs parties after replies replies acts here (λ q e. set_other p q parties next e) (λ q e. refl))
+        (on (trace ++ entry None ∷ []) d after replies same_form (ran_on None made) (set_apart id_of of p parties (party p next) refl apart)
+        (acts_after p (does o) xs parties after replies replies acts here (λ q e. set_other id_of of p q parties (party p next) refl e) (λ q e. refl))
         order)
         (λ q. either (p == q) (replies q))
     made_on (Some x) made (more, is, goes) =
         let after : List (Party T) = remove parties k in
         let left : ℕ → List (QueueReply T) = λ q. if p == q then more else replies q in
         let mine : left p ≡ more = rw (itself p) refl in
-        let here : Acts form (call_of p after) (own p xs) (left p) =
-        subst (λ (rs : List (QueueReply T)). Acts form (call_of p after) (own p xs) rs) (sym mine)
-        (subst (λ (y : Option (QueueCall T)). Acts form y (own p xs) more) (sym (gone_mine p parties apart)) goes) in
+        let here : Acts form (call_of id_of of p after) (own p xs) (left p) =
+        subst (λ (rs : List (QueueReply T)). Acts form (call_of id_of of p after) (own p xs) rs) (sym mine)
+        (subst (λ (y : Option (QueueCall T)). Acts form y (own p xs) more) (sym (gone_mine id_of of p parties apart)) goes) in
         joined steps p (does o) xs trace (entry (Some x)) replies left last
-        (on (trace ++ entry (Some x) ∷ []) d after left same_form (ran_on (Some x) made) (gone_apart p parties apart)
-        (acts_after p (does o) xs parties after replies left acts here (λ q e. gone_other p q parties e) (λ q e. rw e refl))
+        (on (trace ++ entry (Some x) ∷ []) d after left same_form (ran_on (Some x) made) (gone_apart id_of of p parties apart)
+        (acts_after p (does o) xs parties after replies left acts here (λ q e. gone_other id_of of p q parties e) (λ q e. rw e refl))
         order)
         (λ q. told q (p == q) refl)
       where
@@ -352,12 +245,12 @@ module _ {T : Type 0} (form : QueueForm) where
         told q false e = rw e refl
 
   happened : (x : Happening T) (xs : List (Happening T)) (steps : List (QueueStep T)) (trace : List (QueueEntry T)) (c d last : Contents T) (parties : List (Party T)) (replies : ℕ → List (QueueReply T))
-      → (y : Event T) → c.form ≡ form → IsRunning form steps (step_of x.party y ∷ steps_of xs) trace c parties → AllApart parties → Act parties (happens x.party y ∷ xs) replies
+      → (y : Event T) → c.form ≡ form → IsRunning form steps (step_of x.party y ∷ steps_of xs) trace c parties → AllApart id_of of parties → Act parties (happens x.party y ∷ xs) replies
       → Changes y c d → InOneOrder xs d last → GoesOn steps xs last → Merged steps (happens x.party y ∷ xs) trace replies last
   happened x xs steps trace c d last parties replies (begins a) f r apart acts change order on = begun x.party a xs steps trace c d last parties replies f r apart acts change order on
   happened x xs steps trace c d last parties replies (does o) f r apart acts change order on =
       let p = x.party in
-      let mine = busy (call_of p parties) o (own p xs) (replies p) (subst (λ (ys : List (Event T)). Acts form (call_of p parties) ys (replies p)) (own_mine p (does o) xs) (acts p)) in
+      let mine = busy (call_of id_of of p parties) o (own p xs) (replies p) (subst (λ (ys : List (Event T)). Acts form (call_of id_of of p parties) ys (replies p)) (own_mine p (does o) xs) (acts p)) in
       made_on p o xs steps trace c d last parties replies f r apart acts change order on mine.0 mine.2.0 mine.1 mine.2.1 mine.2.2 mine.2.3
 
   merge : (events : List (Happening T)) (steps : List (QueueStep T)) (last : Contents T) → GoesOn steps events last

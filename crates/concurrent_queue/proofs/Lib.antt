@@ -23,8 +23,9 @@ mod SingleDeeds
 mod RingDeeds
 mod Walks
 mod BlocksDeeds
+pub mod Callers
 mod BridgeSteps
-mod Bridge
+pub mod Bridge
 mod BridgeRow
 pub mod SingleSteps
 pub mod RingShape
