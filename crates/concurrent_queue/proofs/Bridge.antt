@@ -300,7 +300,7 @@ module _ {T S : Type 0} (did : Deed T → S → S → Type 0) where
   note (retires b a) s r t (h, e) = (Some (retired b), (refl, e), (t, h, refl))
   note (rests a) s r t (same, e) = (None, (refl, e), same)
 
-  abbrev NotedAt : QueueForm → S → CallState T → S → Stepped (CallState T) T → Type 0
+  abbrev pub NotedAt : QueueForm → S → CallState T → S → Stepped (CallState T) T → Type 0
   NotedAt form s at t r = (o : Option (Deed T)) × StateMakes Notes form None at o r × Along did (o ∷ []) s t
 
   note_bounded : (b : Bool) (cap : ℕ) (s : S) (a : QueueAsk T) (t : S) (r : Stepped (CallState T) T) → MakesBounded did b cap s a t r → (o : Option (Deed T)) × MakesBounded Notes b cap None a o r × Along did (o ∷ []) s t
@@ -314,14 +314,14 @@ module _ {T S : Type 0} (did : Deed T → S → S → Type 0) where
   note_first (Bounded cap) s a t r h = note_bounded (cap == 1) (cap_of cap) s a t r h
   note_first Unbounded s a t r h = note_blocks s (begin a) t r h
 
-  note_state : (form : QueueForm) (s : S) (at : CallState T) (t : S) (r : Stepped (CallState T) T) → StateMakes did form s at t r → NotedAt form s at t r
+  pub note_state : (form : QueueForm) (s : S) (at : CallState T) (t : S) (r : Stepped (CallState T) T) → StateMakes did form s at t r → NotedAt form s at t r
   note_state form s (Asked a) t r h = note_first form s a t r h
   note_state form s (Single a) t r (x, h, e) = let n = note (single_moves a) s x t h in (n.0, (x, n.1, e), n.2)
   note_state form s (Ring a) t r (x, h, e) = let n = note (ring_moves (ring_cap form) (ring_mark (ring_cap form)) a) s x t h in (n.0, (x, n.1, e), n.2)
   note_state form s (Blocks a) t r h = note_blocks s a t r h
   note_state form s Finished t r (same, e) = (None, (refl, e), same)
 
-  along_more : (o : Option (Deed T)) (os : List (Option (Deed T))) (s m t : S) → Along did (o ∷ []) s m → Along did os m t → Along did (o ∷ os) s t
+  pub along_more : (o : Option (Deed T)) (os : List (Option (Deed T))) (s m t : S) → Along did (o ∷ []) s m → Along did os m t → Along did (o ∷ os) s t
   along_more None os s m t e h = subst (λ (x : S). Along did os x t) e h
   along_more (Some d) os s m t (x, h, e) g = (x, h, subst (λ (y : S). Along did os y t) e g)
 
