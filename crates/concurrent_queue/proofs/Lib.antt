@@ -22,6 +22,10 @@ mod SingleDeeds
 mod RingDeeds
 mod Walks
 mod BlocksDeeds
+pub mod Callers
+mod BridgeSteps
+pub mod Bridge
+mod BridgeRow
 pub mod SingleSteps
 pub mod RingShape
 pub mod RingPlaces
