@@ -95,6 +95,13 @@ impl EventIds {
         EventIds { given: 0 }
     }
 
+    /// How many identities were given so far, which is the number of the next one.
+    pub fn given(&self) -> u64
+        ensures { result ≡ self.now }
+    {
+        self.given
+    }
+
     /// The next identity, which was never given before.
     ///
     /// Refused where all 2^64 - 1 were given; nothing is changed then.

@@ -166,8 +166,8 @@ impl<T: Drop, R: Wait + Copy> EventListener<T, R> {
         ensures event { IfOk result (λ listener. listener.event ≡ event.now) }
         ensures listens { IfOk result (λ listener. listener.is_finished ≡ false) }
     {
-        match Place::open(&rt, event, cell) {
-            Ok(place) => Ok(EventListener { place, rt }),
+        match Place::open(&rt, event.homes(), event.number(), cell) {
+            Ok((place, _shown)) => Ok(EventListener { place, rt }),
             Err(error) => Err(error),
         }
     }
