@@ -8,6 +8,9 @@
 //! A [`List`] is such a list by itself: its listeners in the order of listening, of which each is told or waits, the told ones
 //! first. A notice tells the first ones that wait, hands each a tag, and gives their tasks to a sink ([`Wakes`]). Every call is
 //! one operation on two lists, told and waiting, and its contract names that operation.
+//!
+//! A list behind a lock is [`Locked`], on which each call is one section by type: it is handed the right to take the lock once
+//! ([`Section`]).
 #![tactic(auto)]
 
 pub mod calls;
