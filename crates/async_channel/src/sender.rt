@@ -143,6 +143,9 @@ impl<T: Drop, R: Wait + Copy> Sender<T, R> {
 
     /// Whether both are handles of one channel: whether the identities are equal. It waits for nobody. As
     /// `async-channel` 2.5.0, which compares addresses.
+    ///
+    /// This tells apart channels whose identities came from one `EventIds`. Each source begins with the same number, so of channels
+    /// from two sources it may be true though they are two.
     pub fn same_channel(&self, other: &Sender<T, R>) -> bool
         ensures { IsTrue result ↔ (self.now.id ≡ other.now.id) }
     {

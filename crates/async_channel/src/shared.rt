@@ -5,20 +5,26 @@ ghost use Rattle.concurrent_queue.specs.Replies.{room_of};
 ghost use Rattle.async_channel.specs.Handles.{form_of};
 
 use crate::cells::SharedCells;
-use crate::waiters::Waiters;
+use crate::waiters::{Turn, Waiters};
 use channel_calls::ask::ChannelAsk;
 use channel_calls::stage::{Line, Side};
 use channel_calls::whole::make;
 use concurrent_queue::shared::queue::ConcurrentQueue;
 use crossbeam_utils::CachePadded;
 use event_listener::waking::{Task, WakeNow};
+use futures::task::Source;
 use std::alloc::Global;
 use std::sync::Wait;
 use std::sync::atomic::{AtomicUsize, Ordering};
 
 /// A queue, four lists of listeners and two counts of handles.
+///
+/// The channel's identity is here and nowhere else. The seal takes no bytes and can't be copied, and nobody can show that a new one is
+/// equal to another: so a clause can say of which channel's memory it speaks.
 #[derive(Drop)]
 pub(crate) struct Shared<T: Drop> {
+    seal: Source,
+    pub(crate) id: u64,
     pub(crate) alloc: Global,
     pub(crate) queue: ConcurrentQueue<T>,
     sends: Waiters,
@@ -30,11 +36,14 @@ pub(crate) struct Shared<T: Drop> {
 }
 
 impl<T: Drop> Shared<T> {
-    /// A channel over this queue, with one sender, one receiver and no listeners.
-    pub(crate) fn new(alloc: Global, queue: ConcurrentQueue<T>) -> Shared<T>
-        ensures { form_of result ≡ queue.form }
+    /// A channel over this queue and of this identity, with one sender, one receiver and no listeners.
+    pub(crate) fn new(alloc: Global, queue: ConcurrentQueue<T>, id: u64) -> Shared<T>
+        ensures form { form_of result ≡ queue.form }
+        ensures id { result.id ≡ id }
     {
         Shared {
+            seal: Source::new(),
+            id,
             alloc,
             queue,
             sends: Waiters::new(alloc),
@@ -46,13 +55,14 @@ impl<T: Drop> Shared<T> {
         }
     }
 
-    /// The list of this kind.
-    pub(crate) fn waiters(&self, line: Line) -> &Waiters {
+    /// The right to one section on the list of this kind.
+    #[inline(always)]
+    pub(crate) fn waiters(&self, line: Line) -> Turn<'_> {
         match line {
-            Line::Sends => &self.sends,
-            Line::Receives => &self.receives,
-            Line::Streams => &self.streams,
-            Line::Closings => &self.closings,
+            Line::Sends => self.sends.turn(),
+            Line::Receives => self.receives.turn(),
+            Line::Streams => self.streams.turn(),
+            Line::Closings => self.closings.turn(),
         }
     }
 
