@@ -175,6 +175,7 @@ bounded 2
 clone r 2 = made
 next 2 = pending
 next r = pending
+numbers = 0 2 0 0
 drop 2 = done
 try_send s 3 = sent wakes stream 1
 next r = next 3
