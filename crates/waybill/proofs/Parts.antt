@@ -1,9 +1,9 @@
 -- Parts of lists: what clients join of what several passes know.
-use Rattle.std.proofs.Common.{◌≡◌, ◌∙◌, List, [], ◌∷◌, ◌++◌, length, refl, ap, subst, arith}
+use Rattle.std.proofs.Common.{◌≡◌, ◌∙◌, List, [], ◌∷◌, ◌++◌, length, refl, ap, sym, subst, arith}
 use Rattle.std.specs.Prelude.{IsPermutation, map}
-use Rattle.std.proofs.lemmas.List.{append_assoc, append-nil, length-append, map-append}
+use Rattle.std.proofs.lemmas.List.{append_assoc, append-nil, length-append, length-map, map-append}
 use Rattle.std.proofs.lemmas.List.Sorted.{IsPermutation-append_comm, IsPermutation-map, length_permutation}
-use Rattle.waybill.specs.Accounts.{Account, joined, IsPartOf}
+use Rattle.waybill.specs.Accounts.{IsPartOf}
 use Rattle.waybill.proofs.Bags.{as_is, then, before}
 
 module _ {X : Type 0} where
@@ -36,23 +36,11 @@ module _ {X : Type 0} where
 pub part_map : {X Y : Type 0} (f : X → Y) (xs ys : List X) → IsPartOf xs ys → IsPartOf (map f xs) (map f ys)
 part_map f xs ys p = (map f p.0, then (IsPermutation-map f ys (xs ++ p.0) p.1) (as_is (map-append f xs p.0)))
 
-module _ {T : Type 0} where
-  -- who had sent and received nothing, took three passes in and learned: what the three received is part of what they sent
-  pub part_of_three : (none one two three a b c : Account T) → none.sent ≡ [] → none.received ≡ []
-      → one ≡ joined none a → two ≡ joined one b → three ≡ joined two c → IsPartOf three.received three.sent
-      → IsPartOf ((a.received ++ b.received) ++ c.received) ((a.sent ++ b.sent) ++ c.sent)
-  part_of_three none one two three a b c no_sent no_received first second third part =
-      let sent_two : two.sent ≡ (none.sent ++ a.sent) ++ b.sent = ap (λ (p : Account T). p.sent) second ∙ ap (λ (p : Account T). p.sent ++ b.sent) first in
-      let got_two : two.received ≡ (none.received ++ a.received) ++ b.received = ap (λ (p : Account T). p.received) second ∙ ap (λ (p : Account T). p.received ++ b.received) first in
-      let sent : three.sent ≡ (a.sent ++ b.sent) ++ c.sent = ap (λ (p : Account T). p.sent) third ∙ (ap (λ l. l ++ c.sent) sent_two ∙ ap (λ l. ((l ++ a.sent) ++ b.sent) ++ c.sent) no_sent) in
-      let got : three.received ≡ (a.received ++ b.received) ++ c.received = ap (λ (p : Account T). p.received) third ∙ (ap (λ l. l ++ c.received) got_two ∙ ap (λ l. ((l ++ a.received) ++ b.received) ++ c.received) no_received) in
-      part_as got sent part
+module _ {X Y : Type 0} (f : X → Y) where
+  -- what came of what was made of a part is part of what is made of the whole
+  pub part_made : (taken all : List X) (got : List Y) → IsPartOf taken all → IsPartOf got (map f taken) → IsPartOf got (map f all)
+  part_made taken all got jobs results = part_of_part got (map f taken) (map f all) results (part_map f taken all jobs)
 
-  -- the same of two passes
-  pub part_of_two : (none one two a b : Account T) → none.sent ≡ [] → none.received ≡ []
-      → one ≡ joined none a → two ≡ joined one b → IsPartOf two.received two.sent
-      → IsPartOf (a.received ++ b.received) (a.sent ++ b.sent)
-  part_of_two none one two a b no_sent no_received first second part =
-      let sent : two.sent ≡ a.sent ++ b.sent = ap (λ (p : Account T). p.sent) second ∙ (ap (λ (p : Account T). p.sent ++ b.sent) first ∙ ap (λ l. (l ++ a.sent) ++ b.sent) no_sent) in
-      let got : two.received ≡ a.received ++ b.received = ap (λ (p : Account T). p.received) second ∙ (ap (λ (p : Account T). p.received ++ b.received) first ∙ ap (λ l. (l ++ a.received) ++ b.received) no_received) in
-      part_as got sent part
+  -- where as many came as there were jobs, one for each
+  pub each_made : (all : List X) (got : List Y) → IsPartOf got (map f all) → length got ≡ length all → IsPermutation (map f all) got
+  each_made all got part same = part_whole got (map f all) part (same ∙ sym (length-map all f))

@@ -3,7 +3,7 @@
 ghost use Rattle.std.specs.Prelude.{◌≡◌, ◌⊎◌, ℕ, ◌<◌, ◌≤◌, true, false, [], length, slice_index, IfOk, IfErr};
 ghost use Rattle.waybill.specs.Accounts.{fresh, account};
 ghost use Rattle.waybill.specs.Order.{of_sender, place_after, IsRising, IsGapless};
-ghost use Rattle.waybill.specs.Sides.{Takes, takes, with_unpacked, IsOutOfTurn};
+ghost use Rattle.waybill.specs.Sides.{Takes, takes, with_unpacked, IsInTurn, IsOutOfTurn};
 
 use crate::numbered::{Numbered, OutOfTurn};
 use crate::rule::Room;
@@ -77,15 +77,20 @@ impl<T, B: Room> Sink<T, B> {
         })
     }
 
-    /// The message of a parcel, which now counts as received. `Err` with the parcel where it came out of turn.
+    /// The message of a parcel, with its sender's number and its place. It now counts as received. `Err` hands the parcel on where it came
+    /// out of turn.
     #[inline(always)]
     pub fn unpack(
         &mut self,
         office: &Office<Numbered<T>, B>,
         parcel: Parcel<Numbered<T>, B>,
-    ) -> Result<T, OutOfTurn<Parcel<Numbered<T>, B>>>
-        ensures received { IfOk result (λ value. (value ≡ parcel.value) × (self.new ≡ with_unpacked self.old parcel)) }
-        ensures refused { IfErr result (λ e. (e.parcel ≡ parcel) × (self.new ≡ self.old) × IsOutOfTurn self.old parcel) }
+    ) -> Result<Numbered<T>, OutOfTurn<Parcel<Numbered<T>, B>>>
+        ensures message { IfOk result (λ m. m ≡ parcel) }
+        ensures received { IfOk result (λ m. self.new ≡ with_unpacked self.old m) }
+        ensures in_turn { IfOk result (λ m. IsInTurn self.old m) }
+        ensures back { IfErr result (λ e. e.parcel ≡ parcel) }
+        ensures same { IfErr result (λ e. self.new ≡ self.old) }
+        ensures refused { IfErr result (λ e. IsOutOfTurn self.old e.parcel) }
     {
         let sender = parcel.value.sender as usize;
         let number = parcel.value.number;
@@ -96,7 +101,7 @@ impl<T, B: Room> Sink<T, B> {
             return Err(OutOfTurn { parcel });
         }
         self.places[sender] = number + 1;
-        Ok(office.unpack(&mut self.pass, parcel).value)
+        Ok(office.unpack(&mut self.pass, parcel))
     }
 
     /// The pass, which knows what was received: of each sender the places rise, and where this was the only receiver none is left out.

@@ -3,7 +3,7 @@
 ghost use Rattle.std.specs.Prelude.{◌≡◌, [], length, IfOk, IfErr};
 ghost use Rattle.waybill.specs.Accounts.{fresh, account};
 ghost use Rattle.waybill.specs.Order.{message, numbered, values};
-ghost use Rattle.waybill.specs.Sides.{Sends, sends, with_packed};
+ghost use Rattle.waybill.specs.Sides.{Sends, sends, with_packed, AreNumbersUsedUp};
 
 use crate::numbered::{Numbered, NumbersUsedUp};
 use crate::rule::Room;
@@ -39,15 +39,18 @@ impl<T, B: Room> Source<T, B> {
         }
     }
 
-    /// A message that may be sent, with its number. `Err` hands the message back after 2^64 - 1 of them.
+    /// A message that may be sent, with its number. `Err` hands the message back where the last number was given, after 2^64 - 1 messages.
     #[inline(always)]
     pub fn pack(
         &mut self,
         office: &Office<Numbered<T>, B>,
         value: T,
     ) -> Result<Parcel<Numbered<T>, B>, NumbersUsedUp<T>>
-        ensures sent { IfOk result (λ p. (p ≡ message self.old.sender (length self.old.sent) value) × (self.new ≡ with_packed self.old value)) }
-        ensures refused { IfErr result (λ e. (e.value ≡ value) × (self.new ≡ self.old)) }
+        ensures parcel { IfOk result (λ p. p ≡ message self.old.sender (length self.old.sent) value) }
+        ensures sent { IfOk result (λ p. self.new ≡ with_packed self.old value) }
+        ensures back { IfErr result (λ e. e.value ≡ value) }
+        ensures same { IfErr result (λ e. self.new ≡ self.old) }
+        ensures refused { IfErr result (λ e. AreNumbersUsedUp self.old) }
     {
         if self.next == u64::MAX {
             return Err(NumbersUsedUp { value });
