@@ -3,14 +3,17 @@
 #![tactic(auto)]
 
 pub mod bill;
+pub mod inbox;
 pub mod laws;
 pub mod numbered;
 pub mod office;
 pub mod rule;
+pub mod several;
 pub mod sink;
 pub mod source;
 pub mod tokens;
 
+pub use inbox::Inbox;
 pub use numbered::{Numbered, NumbersUsedUp, OutOfTurn};
 pub use rule::{Hand, Room};
 pub use sink::Sink;
