@@ -15,7 +15,7 @@ pub mod tokens;
 
 pub use inbox::Inbox;
 pub use numbered::{Numbered, NumbersUsedUp, OutOfTurn};
-pub use rule::{Hand, Room};
+pub use rule::Room;
 pub use sink::Sink;
 pub use source::Source;
 pub use tokens::{Office, Opened, Parcel, Pass};
