@@ -11,6 +11,7 @@ use native.Mathlib.Decide.{ℕ_discrete}
 use Rattle.waybill.specs.Accounts.{IsPartOf}
 use Rattle.waybill.specs.Order.{message, numbered, all_numbered, of_sender, values, RisesFrom, IsRising, IsGapless, IsInOrderOf, OfEach, AreBeginnings, AreInOrder}
 use Rattle.waybill.specs.declared.numbered.Numbered.{Numbered}
+use Rattle.waybill.proofs.Parts.{part_first, part_second, part_of_part}
 
 same : (m n : ℕ) → m ≡ n → (m == n) ≡ true
 same m n e = grind (arith, nat_tests, e)
@@ -152,11 +153,14 @@ module _ {T : Type 0} where
       (so s xs here, of_each P (suc s) all (before ++ mine) sent (is ∙ sym (append_assoc before mine rest)) none_later so)
 
   -- the only receiver got a beginning of what each sender sent
-  pub are_beginnings : (sent got : List (Numbered T)) (all : List (List T)) → IsPartOf got sent → sent ≡ all_numbered 0 all → IsGapless got → AreBeginnings got all
-  are_beginnings sent got all part is gapless =
-      of_each (λ s xs. values (of_sender s got) ≡ take (length (of_sender s got)) xs) 0 all [] sent is (λ k le. refl) (λ s xs mine. come_first s sent got xs part mine (gapless s))
+  pub are_beginnings : (sent received got : List (Numbered T)) (all : List (List T)) → IsPartOf received sent → received ≡ got → sent ≡ all_numbered 0 all → IsGapless got → AreBeginnings got all
+  are_beginnings sent received got all part mine is gapless =
+      let its_part : IsPartOf got sent = subst (λ ms. IsPartOf ms sent) mine part in
+      of_each (λ s xs. values (of_sender s got) ≡ take (length (of_sender s got)) xs) 0 all [] sent is (λ k le. refl) (λ s xs mine. come_first s sent got xs its_part mine (gapless s))
 
   -- each receiver got what each sender sent in that one's order
-  pub are_in_order : (sent got : List (Numbered T)) (all : List (List T)) → IsPartOf got sent → sent ≡ all_numbered 0 all → IsRising got → AreInOrder got all
-  are_in_order sent got all part is rises =
-      of_each (λ s xs. IsInOrderOf (values (of_sender s got)) xs) 0 all [] sent is (λ k le. refl) (λ s xs mine. come_in_order s sent got xs part mine (rises s))
+  pub are_in_order : (sent received before got after : List (Numbered T)) (all : List (List T)) → IsPartOf received sent → received ≡ before ++ (got ++ after) → sent ≡ all_numbered 0 all → IsRising got → AreInOrder got all
+  are_in_order sent received before got after all part mine is rises =
+      let here : IsPartOf got (before ++ (got ++ after)) = part_of_part got (got ++ after) (before ++ (got ++ after)) (part_first got after) (part_second before (got ++ after)) in
+      let its_part : IsPartOf got sent = part_of_part got (before ++ (got ++ after)) sent here (subst (λ ms. IsPartOf ms sent) mine part) in
+      of_each (λ s xs. IsInOrderOf (values (of_sender s got)) xs) 0 all [] sent is (λ k le. refl) (λ s xs mine. come_in_order s sent got xs its_part mine (rises s))

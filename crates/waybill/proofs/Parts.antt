@@ -36,11 +36,10 @@ module _ {X : Type 0} where
 pub part_map : {X Y : Type 0} (f : X → Y) (xs ys : List X) → IsPartOf xs ys → IsPartOf (map f xs) (map f ys)
 part_map f xs ys p = (map f p.0, then (IsPermutation-map f ys (xs ++ p.0) p.1) (as_is (map-append f xs p.0)))
 
-module _ {X Y : Type 0} (f : X → Y) where
-  -- what came of what was made of a part is part of what is made of the whole
-  pub part_made : (taken all : List X) (got : List Y) → IsPartOf taken all → IsPartOf got (map f taken) → IsPartOf got (map f all)
-  part_made taken all got jobs results = part_of_part got (map f taken) (map f all) results (part_map f taken all jobs)
-
-  -- where as many came as there were jobs, one for each
-  pub each_made : (all : List X) (got : List Y) → IsPartOf got (map f all) → length got ≡ length all → IsPermutation (map f all) got
-  each_made all got part same = part_whole got (map f all) part (same ∙ sym (length-map all f))
+-- what workers gave is made of what they took, and that was part of all jobs: so what came of it is part of what is made of all jobs,
+-- and where as many came, it is one for each
+pub made : {X Y : Type 0} (f : X → Y) (taken sent all : List X) (came gave got : List Y) → IsPartOf taken sent → IsPartOf came gave → sent ≡ all → gave ≡ map f taken → came ≡ got
+    → IsPartOf got (map f all) × (length got ≡ length all → IsPermutation (map f all) got)
+made f taken sent all came gave got jobs results sent_is gave_is came_is =
+    let part = part_of_part got (map f taken) (map f all) (part_as came_is gave_is results) (part_map f taken all (part_as refl sent_is jobs)) in
+    (part, (λ same. part_whole got (map f all) part (same ∙ sym (length-map all f))))

@@ -2,6 +2,8 @@
 #![tactic(auto)]
 
 pub mod handles;
+pub mod line;
+pub mod ordered;
 pub mod pipeline;
 pub mod pool;
 pub mod relay;
