@@ -1,8 +1,9 @@
 -- Parts of lists: what clients join of what several passes know.
-use Rattle.std.proofs.Common.{◌≡◌, ◌∙◌, List, [], ◌∷◌, ◌++◌, length, refl, ap, sym, subst, arith}
-use Rattle.std.specs.Prelude.{IsPermutation, map}
+use Rattle.std.proofs.Common.{◌≡◌, ◌∙◌, ℕ, ◌+◌, List, [], ◌∷◌, ◌++◌, length, refl, ap, sym, subst, arith}
+use Rattle.std.specs.Prelude.{IsPermutation, map, sum}
 use Rattle.std.proofs.lemmas.List.{append_assoc, append-nil, length-append, length-map, map-append}
-use Rattle.std.proofs.lemmas.List.Sorted.{IsPermutation-append_comm, IsPermutation-map, length_permutation}
+use Rattle.std.proofs.lemmas.List.Sorted.{IsPermutation-append_comm, IsPermutation-map, length_permutation, sum_by-IsPermutation}
+use Rattle.std.proofs.lemmas.List.Sums.{sum_by-append}
 use Rattle.waybill.specs.Accounts.{IsPartOf}
 use Rattle.waybill.proofs.Bags.{as_is, then, before}
 
@@ -43,3 +44,13 @@ pub made : {X Y : Type 0} (f : X → Y) (taken sent all : List X) (came gave got
 made f taken sent all came gave got jobs results sent_is gave_is came_is =
     let part = part_of_part got (map f taken) (map f all) (part_as came_is gave_is results) (part_map f taken all (part_as refl sent_is jobs)) in
     (part, (λ same. part_whole got (map f all) part (same ∙ sym (length-map all f))))
+
+-- where as many came as were sent, so is the sum: of what two sent, and what two counted and added up
+pub same_sums : (sent received a b c d : List ℕ) (k l m n : ℕ) → (length received ≡ length sent → IsPermutation sent received) → sent ≡ a ++ b → received ≡ c ++ d
+    → k ≡ length c → l ≡ length d → m ≡ sum c → n ≡ sum d → k + l ≡ length a + length b → m + n ≡ sum a + sum b
+same_sums sent received a b c d k l m n settled sent_is received_is count_c count_d sum_c sum_d same =
+    let long : length received ≡ length c + length d = ap length received_is ∙ length-append c d in
+    let longer : length sent ≡ length a + length b = ap length sent_is ∙ length-append a b in
+    let all : sum received ≡ sum sent = sum_by-IsPermutation (λ x. x) sent received (settled (omega arith)) in
+    let came : sum received ≡ sum c + sum d = ap sum received_is ∙ sum_by-append (λ x. x) c d in
+    let went : sum sent ≡ sum a + sum b = ap sum sent_is ∙ sum_by-append (λ x. x) a b in omega arith
