@@ -5,6 +5,7 @@
 pub mod bill;
 pub mod inbox;
 pub mod laws;
+pub mod line;
 pub mod numbered;
 pub mod office;
 pub mod rule;
@@ -14,7 +15,8 @@ pub mod source;
 pub mod tokens;
 
 pub use inbox::Inbox;
-pub use numbered::{Numbered, NumbersUsedUp, OutOfTurn};
+pub use line::Line;
+pub use numbered::{Numbered, NumbersUsedUp, OutOfTurn, Stopped};
 pub use rule::Room;
 pub use sink::Sink;
 pub use source::Source;

@@ -5,6 +5,7 @@ ghost use Rattle.waybill.specs.Accounts.{fresh, account};
 ghost use Rattle.waybill.specs.Order.{message, numbered, values};
 ghost use Rattle.waybill.specs.Sides.{Sends, sends, with_packed, AreNumbersUsedUp};
 
+use crate::line::Line;
 use crate::numbered::{Numbered, NumbersUsedUp};
 use crate::rule::Room;
 use crate::tokens::{Office, Parcel, Pass};
@@ -65,6 +66,29 @@ impl<T, B: Room> Source<T, B> {
                 value,
             },
         ))
+    }
+
+    /// Puts each of these into a line, with its number; the pass knows what was sent. As many numbers as a slice is long there are. It
+    /// waits where the line does.
+    pub fn send_all<L: Line<Parcel<Numbered<T>, B>>>(
+        self,
+        office: &Office<Numbered<T>, B>,
+        line: &L,
+        all: &[T],
+    ) -> Pass<Numbered<T>, B>
+    where
+        T: Copy,
+        requires { self.sent ≡ [] }
+        ensures { result ≡ account 1 (numbered self.sender 0 all.now) [] [] }
+    {
+        let mut source = self;
+        for next in 0..all.len() {
+            match source.pack(office, all[next]) {
+                Ok(parcel) => line.put(parcel),
+                Err(_) => unreachable!(),
+            }
+        }
+        source.into_pass()
     }
 
     /// The pass, which knows what was sent.

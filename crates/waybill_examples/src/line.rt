@@ -1,4 +1,4 @@
-//! What parcels go through: nothing is promised of it, and nothing believed.
+//! The lines of the clients: queues and channels.
 
 ghost use Rattle.std.specs.Prelude.{◌<◌, IfSome};
 
@@ -8,18 +8,7 @@ use event_listener::id::EventIds;
 use std::alloc::Global;
 use std::sync::Wait;
 use std::thread;
-
-/// Something that threads put values into and take values out of.
-pub trait Line<P> {
-    /// Puts a value in, once there is room. Where the line is closed the value is dropped. May wait.
-    fn put(&self, value: P);
-
-    /// Takes a value out, once there is one. `None` where the line is closed and empty. May wait.
-    fn next(&self) -> Option<P>;
-
-    /// Nothing is put in from here on.
-    fn close(&self);
-}
+use waybill::Line;
 
 /// Both handles of a channel.
 #[derive(Drop)]

@@ -7,70 +7,15 @@ ghost use Rattle.waybill.specs.Order.{numbered, IsRising, IsGapless, AreBeginnin
 ghost use Rattle.waybill.specs.Sides.{sends, takes};
 ghost use Rattle.waybill.specs.declared.numbered.Numbered.{Numbered};
 
-use crate::line::{Handles, Kind, Line, Queue};
+use crate::line::{Handles, Kind, Queue};
 use std::alloc::Global;
 use std::marker::Brand;
 use std::sync::Wait;
 use std::thread;
 use std::thread::Threads;
-use waybill::{Numbered, Office, Opened, OutOfTurn, Parcel, Pass, Room, Sink, Source};
+use waybill::{Line, Numbered, Office, Opened, Parcel, Pass, Room, Sink, Source, Stopped};
 
 type Message<B> = Parcel<Numbered<u32>, B>;
-
-/// Sends each of these. As many numbers as a slice is long there are.
-fn send_all<B: Room, L: Line<Message<B>>>(
-    office: &Office<Numbered<u32>, B>,
-    line: &L,
-    mut source: Source<u32, B>,
-    all: &[u32],
-) -> Pass<Numbered<u32>, B>
-    requires { source.sent ≡ [] }
-    ensures { result ≡ account 1 (numbered source.sender 0 all.now) [] [] }
-{
-    for next in 0..all.len() {
-        match source.pack(office, all[next]) {
-            Ok(parcel) => line.put(parcel),
-            Err(_) => unreachable!(),
-        }
-    }
-    source.into_pass()
-}
-
-/// Why a receiver ended before the line did.
-#[derive(Drop)]
-enum Stopped<B: Room> {
-    NoMemory,
-    OutOfTurn(OutOfTurn<Message<B>>),
-}
-
-/// Takes each parcel until the line is closed. `Err` where there is no memory, and with the parcel where one came out of turn.
-fn receive_all<B: Room, L: Line<Message<B>>, R: Wait>(
-    rt: &R,
-    alloc: Global,
-    office: &Office<Numbered<u32>, B>,
-    line: &L,
-    mut sink: Sink<u32, B>,
-) -> Result<(Pass<Numbered<u32>, B>, Vec<Numbered<u32>>), Stopped<B>>
-    requires { sink.received ≡ [] }
-    ensures pass { IfOk result (λ r. r.0 ≡ account 1 [] r.1.items []) }
-    ensures rising { IfOk result (λ r. IsRising r.1.items) }
-    ensures gapless { IfOk result (λ r. sink.sole ≡ true → IsGapless r.1.items) }
-{
-    let mut got = Vec::new(alloc);
-    for _ in rt.forever() {
-        let Some(parcel) = line.next() else {
-            break;
-        };
-        if got.reserve(1).is_err() {
-            return Err(Stopped::NoMemory);
-        }
-        match sink.unpack(office, parcel) {
-            Ok(message) => got.push_reserved(message),
-            Err(late) => return Err(Stopped::OutOfTurn(late)),
-        }
-    }
-    Ok((sink.into_pass(), got))
-}
 
 /// Both senders at once, each with its number; then the line is closed.
 fn send_both<
@@ -96,11 +41,11 @@ fn send_both<
         move ||
             requires { one ≡ sends 0 [] }
             ensures { result ≡ account 1 (numbered 0 0 first.entry.now) [] [] }
-        { send_all::<B, L>(office, line, one, first) },
+        { one.send_all(office, line, first) },
         move ||
             requires { other ≡ sends 1 [] }
             ensures { result ≡ account 1 (numbered 1 0 second.entry.now) [] [] }
-        { send_all::<B, L>(office, line, other, second) },
+        { other.send_all(office, line, second) },
     );
     line.close();
     sent
@@ -135,7 +80,7 @@ fn sole_over<
         move ||
             requires { sink ≡ takes true 2 [] }
             ensures { IfOk result (λ r. (r.0 ≡ account 1 [] r.1.items []) × IsGapless r.1.items) }
-        { receive_all::<B, L, R>(&rt, alloc, here, line, sink) },
+        { sink.receive_all(&rt, alloc, here, line) },
     );
     let (pass, got) = received.ok()?;
     office.absorb(&mut whole, one);
@@ -179,7 +124,7 @@ pub fn sole<R: Threads + Wait + Copy + Send + Sync>(
     sole_in::<Brand, R>(rt, alloc, kind, opened, first, second)
 }
 
-type Received<B> = Result<(Pass<Numbered<u32>, B>, Vec<Numbered<u32>>), Stopped<B>>;
+type Received<B> = Result<(Pass<Numbered<u32>, B>, Vec<Numbered<u32>>), Stopped<Message<B>>>;
 
 /// Both receivers at once.
 fn receive_both<
@@ -203,11 +148,11 @@ fn receive_both<
         move ||
             requires { one.received ≡ [] }
             ensures { IfOk result (λ r. (r.0 ≡ account 1 [] r.1.items []) × IsRising r.1.items) }
-        { receive_all::<B, L, R>(&rt, alloc, office, line, one) },
+        { one.receive_all(&rt, alloc, office, line) },
         move ||
             requires { other.received ≡ [] }
             ensures { IfOk result (λ r. (r.0 ≡ account 1 [] r.1.items []) × IsRising r.1.items) }
-        { receive_all::<B, L, R>(&rt, alloc, office, line, other) },
+        { other.receive_all(&rt, alloc, office, line) },
     )
 }
 

@@ -3,13 +3,13 @@
 ghost use Rattle.std.specs.Prelude.{◌≡◌, ◌+◌, ◌++◌, [], length, sum, IfSome};
 ghost use Rattle.waybill.specs.Accounts.{fresh, account};
 
-use crate::line::{Handles, Kind, Line, Queue};
+use crate::line::{Handles, Kind, Queue};
 use std::alloc::Global;
 use std::marker::{Brand, Model};
 use std::sync::Wait;
 use std::thread;
 use std::thread::Threads;
-use waybill::{Office, Opened, Parcel, Pass, Room};
+use waybill::{Line, Office, Opened, Parcel, Pass, Room};
 
 /// How many messages came, and their sum.
 #[derive(Clone, Copy)]
