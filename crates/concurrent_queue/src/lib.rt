@@ -2,7 +2,7 @@
 //!
 //! [`ConcurrentQueue`] is shared by threads. Each of its calls runs the steps of a [`QueueCall`], of which it is proved what one
 //! does to the queue whatever other calls are under way; [`run_queue_steps`] runs any interleaving of such steps over the cells
-//! of one owner. [`Exclusive`] is a queue of one owner: each reply and each content is said exactly.
+//! of one owner. [`Exclusive`] is a queue of one owner, a deque: each reply and each content is said exactly.
 #![tactic(auto)]
 
 mod bounded;

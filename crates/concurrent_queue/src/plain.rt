@@ -1,4 +1,4 @@
-//! The cells of a queue of one owner.
+//! The cells of one owner, over which runs step.
 
 ghost use Rattle.std.specs.Prelude.{◌≡◌, IfOk};
 ghost use Rattle.concurrent_queue.specs.machine.RingMade.{numbers_below, vacant_slots};
@@ -9,7 +9,7 @@ use crate::error::NoMemory;
 use crate::pool::Pool;
 use std::alloc::{AllocError, Global};
 
-/// The cells of a queue of one owner, for each form of queue.
+/// The cells of one owner, for each form of queue.
 pub struct PlainCells<T> {
     form: QueueForm,
     state: u64,

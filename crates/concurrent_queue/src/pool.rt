@@ -1,4 +1,4 @@
-//! The blocks of an unbounded queue of one owner, by their numbers, and the list of those that are not in use.
+//! The blocks that unbounded cells of one owner have, by their numbers, and the list of those that are not in use.
 
 ghost use Rattle.std.specs.Prelude.{◌≡◌, length, ◌≤◌, ◌++◌, map, take, drop, None, IfOk, vec_capacity, vec_len};
 ghost use Rattle.concurrent_queue.specs.Contents.{nones};

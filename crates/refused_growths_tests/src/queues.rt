@@ -80,7 +80,7 @@ fn push_all(alloc: Global) -> (Seen, bool) {
 fn pushes_of_one_owner(rt: HostRuntime) -> Result<(), Fail> {
     let (seen, in_order) = push_all(rt.alloc());
     assert!(rt;
-        seen.right && in_order && seen.calls == 4 && seen.refusals >= 5,
+        seen.right && in_order && seen.calls == 6 && seen.refusals >= 6,
         "{seen:?}"
     );
     Ok(())
