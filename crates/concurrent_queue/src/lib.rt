@@ -15,6 +15,7 @@ pub mod plain;
 mod pool;
 pub mod queue_call;
 pub mod run;
+pub mod seen;
 pub mod shared;
 mod single;
 mod unbounded;
