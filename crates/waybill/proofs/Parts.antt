@@ -45,6 +45,12 @@ made f taken sent all came gave got jobs results sent_is gave_is came_is =
     let part = part_of_part got (map f taken) (map f all) (part_as came_is gave_is results) (part_map f taken all (part_as refl sent_is jobs)) in
     (part, (λ same. part_whole got (map f all) part (same ∙ sym (length-map all f))))
 
+-- the same of two workers
+pub made_by_two : {X Y : Type 0} (f : X → Y) (taken sent all one two : List X) (came gave got : List Y) → IsPartOf taken sent → IsPartOf came gave → sent ≡ all → taken ≡ one ++ two → gave ≡ map f one ++ map f two → came ≡ got
+    → IsPartOf got (map f all) × (length got ≡ length all → IsPermutation (map f all) got)
+made_by_two f taken sent all one two came gave got jobs results sent_is taken_is gave_is came_is =
+    made f taken sent all came gave got jobs results sent_is (gave_is ∙ (sym (map-append f one two) ∙ ap (map f) (sym taken_is))) came_is
+
 -- where as many came as were sent, so is the sum: of what two sent, and what two counted and added up
 pub same_sums : (sent received a b c d : List ℕ) (k l m n : ℕ) → (length received ≡ length sent → IsPermutation sent received) → sent ≡ a ++ b → received ≡ c ++ d
     → k ≡ length c → l ≡ length d → m ≡ sum c → n ≡ sum d → k + l ≡ length a + length b → m + n ≡ sum a + sum b

@@ -51,7 +51,9 @@ fn pipeline_in<
     let done = bounded(rt, alloc, 2, &mut ids).ok()?;
     let (jobs, mut every_job) = jobs.enter::<B>();
     let (results, mut every_result) = results.enter::<C>();
-    let parcels = jobs.pack_each(alloc, &mut every_job, all).ok()?;
+    let Ok(parcels) = jobs.pack_each(alloc, &mut every_job, all) else {
+        return None;
+    };
     let worker = Worker::new(
         jobs.another(&mut every_job),
         results.another(&mut every_result),

@@ -158,10 +158,10 @@ fn pool_in<B: Room + Send + Sync, C: Room + Send + Sync, R: Threads + Wait + Cop
     let done_too = done.try_clone().ok()?;
     let (jobs, mut every_job) = jobs.enter::<B>();
     let (results, mut every_result) = results.enter::<C>();
-    give(
-        todo_sender,
-        jobs.pack_each(alloc, &mut every_job, all).ok()?,
-    );
+    let Ok(parcels) = jobs.pack_each(alloc, &mut every_job, all) else {
+        return None;
+    };
+    give(todo_sender, parcels);
     let worker = Worker::new(
         jobs.another(&mut every_job),
         results.another(&mut every_result),

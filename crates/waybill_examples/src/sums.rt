@@ -157,8 +157,12 @@ fn sums_over<
     ensures { IfSome result (λ r. r.0.count + r.1.count ≡ length first.now + length second.now → r.0.total + r.1.total ≡ sum first.now + sum second.now) }
 {
     let (office, mut whole) = opened.enter::<B>();
-    let parcels = office.pack_each(alloc, &mut whole, first).ok()?;
-    let parcels_too = office.pack_each(alloc, &mut whole, second).ok()?;
+    let Ok(parcels) = office.pack_each(alloc, &mut whole, first) else {
+        return None;
+    };
+    let Ok(parcels_too) = office.pack_each(alloc, &mut whole, second) else {
+        return None;
+    };
     let one = Tally::new(office.another(&mut whole));
     let other = Tally::new(office.another(&mut whole));
     let (one, other) = exchanged::<B, L, R>(rt, &office, line, parcels, parcels_too, (one, other));
