@@ -21,7 +21,8 @@ mod BlocksPopWords
 pub mod StepFacts
 mod SingleDeeds
 mod RingDeeds
-mod Walks
+pub mod Walks
+mod Traces
 mod BlocksDeeds
 pub mod SingleSteps
 pub mod RingShape

@@ -16,6 +16,7 @@ mod plain_ring;
 mod pool;
 pub mod queue_call;
 pub mod run;
+pub mod seen;
 pub mod shared;
 mod single;
 mod unbounded;
