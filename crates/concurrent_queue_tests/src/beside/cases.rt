@@ -74,7 +74,13 @@ fn alone(cells: &mut PlainCells<u64>, kind: Kind, message: u64) -> Said {
 impl Start {
     /// The cells of the queue, and the list that they stand for. So many messages have passed through it before.
     fn begin(self, alloc: Global) -> Result<(PlainCells<u64>, Plain), AllocError> {
-        let mut cells = PlainCells::new(alloc, self.form)?;
+        let mut cells = match self.form {
+            QueueForm::Unbounded => PlainCells::new(alloc, QueueForm::Unbounded)?,
+            QueueForm::Bounded(bound) if bound > 0 => {
+                PlainCells::new(alloc, QueueForm::Bounded(bound))?
+            }
+            QueueForm::Bounded(_) => return Err(AllocError),
+        };
         let mut plain = Plain::new(self.bound);
         for message in 0..self.passed {
             alone(&mut cells, Kind::Push, message);
