@@ -6,21 +6,23 @@ pub mod pipeline;
 pub mod pool;
 pub mod relay;
 
+use event_listener::id::EventIds;
 use std::process::ExitCode;
 
 fn main(rt: HostRuntime) -> ExitCode {
     let alloc = rt.alloc();
+    let mut ids = EventIds::new();
     let all = [3, 1, 4, 1, 5, 9, 2, 6, 5, 3];
-    let Some(relayed) = relay::relay(rt, alloc, 2, &all) else {
+    let Some(relayed) = relay::relay(rt, alloc, &mut ids, 2, &all) else {
         return ExitCode::FAILURE;
     };
-    let Some(pooled) = pool::pool(rt, alloc, &all) else {
+    let Some(pooled) = pool::pool(rt, alloc, &mut ids, &all) else {
         return ExitCode::FAILURE;
     };
-    let Some(piped) = pipeline::pipeline(rt, alloc, &all) else {
+    let Some(piped) = pipeline::pipeline(rt, alloc, &mut ids, &all) else {
         return ExitCode::FAILURE;
     };
-    let Some((came, back)) = handles::each_way(rt, alloc) else {
+    let Some((came, back)) = handles::each_way(rt, alloc, &mut ids) else {
         return ExitCode::FAILURE;
     };
     let lines = [
