@@ -7,7 +7,7 @@ An edit, crates/*/must-fail/*.edit, begins with a line `why: SENTENCE`: what goe
 A line `body: WORDS` may come after it, where the edit is an instance of one of BODIES below. rt passes over both. With --check
 nothing is written, and the status is 1 where the page is not what the edits say. Either way it is 1, and a line says why, where an edit
 has no such sentence, where it cites something by a number, where a body is not among BODIES, where nothing stands for one of
-them, or where a test that is named here isn't there.
+them, or where a test that is named here isn't there, or one that docs/TESTED.md names for a wrong body that the gate leaves to tests.
 """
 import glob
 import os
@@ -15,6 +15,8 @@ import re
 import sys
 
 PAGE = "docs/WRONG_BODIES.md"
+# The section with the wrong bodies that tests see, and the gate doesn't try. A row names its tests, and their crates after an "of".
+LEFT = ("docs/TESTED.md", "## Wrong bodies that the gate leaves to tests")
 # The wrong bodies that a channel has to be safe from, in the order of the page, each with the tests that stand for it besides edits.
 BODIES = {
     "a send tells a receive before its message is in": [],
@@ -63,7 +65,7 @@ BODIES = {
         "async_channel_thread_tests/many_senders_many_receivers",
     ],
     # What threads run for the common calls, whatever other threads do.
-    "a pending send loses its message": [],
+    "a pending send loses its message": ["async_channel_tests/each_taking_wakes_the_next_send"],
     "a poll loses the key of its listener": [],
     "a registering hands the task back of a listener that waits": [],
     "many free places tell one send": [],
@@ -72,9 +74,9 @@ BODIES = {
     "a clone that was counted is refused": [],
     "a closing always answers false": [],
     "a displacing send drops what it displaced": [],
-    "a poll of a receive tries nothing": [],
-    "a receive in straight code tells no send": [],
-    "a send in straight code tells no receive": [],
+    "a poll of a receive tries nothing": ["async_channel_tests/one_place_takes_one_message"],
+    "a receive in straight code tells no send": ["async_channel_tests/each_taking_wakes_the_next_send"],
+    "a send in straight code tells no receive": ["async_channel_tests/a_told_receive_that_leaves_passes_its_notice_on"],
     "a send in straight code tells the streams twice": [],
     "a receive of several hands them out reversed": [],
     "a receive drops what it took": [],
@@ -116,7 +118,26 @@ def has_test(name):
     return False
 
 
+def left_faults():
+    """The rows of LEFT that name no test, or one that isn't there in a crate that the row names."""
+    page, title = LEFT
+    with open(page, encoding="utf-8") as it:
+        section = it.read().partition(title)[2].partition("\n## ")[0]
+    with open("crates.txt", encoding="utf-8") as it:
+        crates = set(re.findall(r"(?m)^(\w+)", it.read()))
+    for row in re.findall(r"(?m)^\| (?!Wrong body|---)(.*) \| (.*) \|$", section):
+        names = re.findall(r"`([\w:]+)`", row[1])
+        tests = [name.split("::")[-1] for name in names if name not in crates]
+        places = [name for name in names if name in crates] or crates
+        if not tests:
+            yield f"{page} names no test for: {row[0]}"
+        for test in tests:
+            if not any(has_test(f"{crate}/{test}") for crate in places):
+                yield f"{page} names a test that isn't there: {test}"
+
+
 def faults(edits):
+    yield from left_faults()
     for (crate, name), (why, bodies) in edits.items():
         if not why.endswith("."):
             yield f"{crate}/{name} has no line 'why: SENTENCE' in front"

@@ -4,13 +4,12 @@ use Rattle.std.specs.Arc.{arc_value}
 use Rattle.concurrent_queue.specs.Contents.{no_contents}
 use Rattle.concurrent_queue.specs.declared.cells.QueueForm.{QueueForm}
 use Rattle.futures.specs.declared.task.Poll.{Poll}
-use Rattle.channel_calls.specs.Errors.{unsent, try_unsent}
+use Rattle.channel_calls.specs.Errors.{unsent, handed_back}
 use Rattle.channel_calls.specs.Listed.{is_pending}
 use Rattle.channel_calls.specs.Parts.{Parts, new_roster}
 use Rattle.channel_calls.specs.declared.error.Refused.{Refused}
 use Rattle.channel_calls.specs.declared.error.Refused.TheVariants.{Plain, NoMemory, SerialsUsedUp}
 use Rattle.channel_calls.specs.declared.error.SendError.{SendError}
-use Rattle.channel_calls.specs.declared.error.TrySendError.{TrySendError}
 use Rattle.async_channel.specs.declared.shared.Shared.{Shared}
 use Rattle.async_channel.specs.declared.link.Link.{Link}
 
@@ -48,14 +47,7 @@ module _ {T : Type 0} where
 
   -- the message that a refused send hands back
   abbrev pub Unsent : Refused (SendError T) T → T
-  Unsent (Plain e) = unsent e
-  Unsent (NoMemory m) = m
-  Unsent (SerialsUsedUp m) = m
-
-  abbrev pub TryUnsent : Refused (TrySendError T) T → T
-  TryUnsent (Plain e) = try_unsent e
-  TryUnsent (NoMemory m) = m
-  TryUnsent (SerialsUsedUp m) = m
+  Unsent e = handed_back e
 
   -- what the poll of a send with this message gives once it is ready: a closed channel hands the message back
   abbrev pub Gives : Option T → Result Unit (Refused (SendError T) Unit) → Type 0

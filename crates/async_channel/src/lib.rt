@@ -23,6 +23,7 @@
 //! ones are made of functions that don't take it.
 #![tactic(auto)]
 
+mod bed;
 mod blocking;
 mod cells;
 mod closed;

@@ -133,12 +133,12 @@ impl<T: Drop, R: Wait + Copy> Sender<T, R> {
 
     /// How many senders live. It waits for nobody. As `async-channel` 2.5.0.
     pub fn sender_count(&self) -> usize {
-        self.counted.link.shared.count(Side::Senders)
+        self.counted.link.shared.handle_count(Side::Senders)
     }
 
     /// How many receivers live. It waits for nobody. As `async-channel` 2.5.0.
     pub fn receiver_count(&self) -> usize {
-        self.counted.link.shared.count(Side::Receivers)
+        self.counted.link.shared.handle_count(Side::Receivers)
     }
 
     /// Whether both are handles of one channel: whether the identities are equal. It waits for nobody. As

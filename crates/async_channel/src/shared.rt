@@ -4,9 +4,10 @@ ghost use Rattle.std.specs.Prelude.{◌≡◌, None, false};
 ghost use Rattle.concurrent_queue.specs.Replies.{room_of};
 ghost use Rattle.async_channel.specs.Handles.{form_of};
 
-use crate::cells::SharedCells;
+use crate::cells::{SharedCells, SharedWords};
 use crate::waiters::{Turn, Waiters};
 use channel_calls::ask::ChannelAsk;
+use channel_calls::questions;
 use channel_calls::stage::{Line, Side};
 use channel_calls::whole::make;
 use concurrent_queue::shared::queue::ConcurrentQueue;
@@ -74,12 +75,21 @@ impl<T: Drop> Shared<T> {
         }
     }
 
+    /// How many handles of this kind are counted.
+    pub(crate) fn count(&self, side: Side) -> usize {
+        self.counter(side).load(Ordering::SeqCst)
+    }
+
     /// The cells of the channel, for a thread that may wait.
     #[inline(always)]
-    pub(crate) fn cells<'a, R: Wait>(&'a self, rt: &'a R) -> SharedCells<'a, T, R>
+    pub(crate) fn cells<'a, R: Wait>(&'a self, rt: &'a R) -> SharedCells<'a, T, R, ()>
         ensures { form_of result.shared.now ≡ form_of self.now }
     {
-        SharedCells { shared: self, rt }
+        SharedCells {
+            shared: self,
+            rt,
+            bed: (),
+        }
     }
 
     /// Makes a call up to its answer, which nobody wants.
@@ -88,34 +98,41 @@ impl<T: Drop> Shared<T> {
     }
 }
 
-// Questions that wait for nobody: none of them takes the runtime or a lock.
+// Questions that wait for nobody: none of them takes the runtime or a lock. They are those of `channel_calls`, on the shared words.
 impl<T: Drop> Shared<T> {
-    pub(crate) fn count(&self, side: Side) -> usize {
-        self.counter(side).load(Ordering::SeqCst)
+    /// The words of the channel.
+    #[inline(always)]
+    fn words(&self) -> SharedWords<'_, T>
+        ensures { form_of result.shared.now ≡ form_of self.now }
+    {
+        SharedWords { shared: self }
+    }
+
+    pub(crate) fn handle_count(&self, side: Side) -> usize {
+        questions::handle_count(side, &mut self.words())
     }
 
     pub(crate) fn is_closed(&self) -> bool {
-        self.queue.is_closed()
+        questions::is_closed(&mut self.words())
     }
 
     pub(crate) fn is_empty(&self) -> bool {
-        self.queue.is_empty()
+        questions::is_empty(&mut self.words())
     }
 
     pub(crate) fn is_full(&self) -> bool
         ensures { room_of (form_of self.now) ≡ None → result ≡ false }
     {
-        self.queue.is_full()
+        questions::is_full(&mut self.words())
     }
 
     pub(crate) fn capacity(&self) -> Option<usize>
         ensures { result ≡ room_of (form_of self.now) }
     {
-        self.queue.capacity()
+        questions::capacity(&mut self.words())
     }
 
-    /// Whether a receiver has got its last message: closed is asked first, then empty.
     pub(crate) fn is_terminated(&self) -> bool {
-        self.queue.is_closed() && self.queue.is_empty()
+        questions::is_terminated(&mut self.words())
     }
 }

@@ -7,6 +7,7 @@ use crate::names::Names;
 use crate::said::{Said, answer_of};
 use channel_calls::ask::ChannelAsk;
 use channel_calls::cells::ChannelCells;
+use channel_calls::mark::Mark;
 use channel_calls::plain::PlainChannel;
 use channel_calls::stage::{Line, Side};
 use channel_steps::party::{Entry, Party};
@@ -266,13 +267,41 @@ fn a_poll_that_may_not_listen_is_not_pending(rt: HostRuntime) -> Result<(), Fail
     Ok(())
 }
 
-/// A run of these steps: how many were made, why it stopped, and how many stand in front.
+/// What each step of a send did that doesn't wait: its first one brings the message in.
+#[test]
+fn entries_say_what_their_steps_did(rt: HostRuntime) -> Result<(), Fail> {
+    let mut all = make_fixture(one_slot(rt.alloc())?, rt.alloc());
+    let mut list = VecDeque::new(rt.alloc());
+    let ask = ChannelAsk::TrySend(5);
+    let _ = list.push_back(Step::Begin { party: 0, ask });
+    for _ in 0..5 {
+        let _ = list.push_back(Step::Step { party: 0 });
+    }
+    let run = all.run(&mut list);
+    let made = run.trace.len();
+    let marked = [
+        run.trace
+            .iter()
+            .position(|entry| entry.mark != Mark::Nothing),
+        run.trace
+            .iter()
+            .position(|entry| entry.mark == Mark::Append),
+    ];
+    drop(run);
+    drop(all);
+    expect_equal(&rt, &made, &6);
+    expect_equal(&rt, &marked, &[Some(1), Some(1)]);
+    Ok(())
+}
+
+/// A run of these steps: how many were made, why it stopped, how many are left, and whether a begin stands in front.
 fn run_to(
     all: &mut Fixture<PlainChannel<u64, u32>>,
     mut list: VecDeque<Step<u64, u32>>,
-) -> (usize, Option<Refusal>, usize) {
+) -> (usize, Option<Refusal>, usize, bool) {
     let run = all.run(&mut list);
-    (run.trace.len(), run.stopped, list.len())
+    let begins = matches!(list.front(), Some(Step::Begin { .. }));
+    (run.trace.len(), run.stopped, list.len(), begins)
 }
 
 #[test]
@@ -283,6 +312,7 @@ fn a_party_with_a_call_under_way_begins_no_other(rt: HostRuntime) -> Result<(), 
         let ask = ChannelAsk::TrySend(message);
         let _ = list.push_back(Step::Begin { party: 0, ask });
     }
+    let _ = list.push_back(Step::Step { party: 0 });
     let busy = run_to(&mut all, list);
     let going = under_way(&all.parties);
     let sent = all.go_on(0, 5).0;
@@ -290,9 +320,9 @@ fn a_party_with_a_call_under_way_begins_no_other(rt: HostRuntime) -> Result<(), 
     let _ = list.push_back(Step::Step { party: 0 });
     let idle = run_to(&mut all, list);
     drop(all);
-    expect_equal(&rt, &busy, &(1, Some(Refusal::Busy), 1));
+    expect_equal(&rt, &busy, &(1, Some(Refusal::Busy), 2, true));
     expect_equal(&rt, &going, &1);
     expect_equal(&rt, &sent, &Said::Sent(None));
-    expect_equal(&rt, &idle, &(0, Some(Refusal::Idle), 1));
+    expect_equal(&rt, &idle, &(0, Some(Refusal::Idle), 1, false));
     Ok(())
 }

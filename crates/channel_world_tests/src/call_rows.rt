@@ -158,6 +158,18 @@ poll 2 = ready
 is_closed s = true
 is_terminated 2 = true
 
+row a_closing_wakes_sends_before_receives
+bounded 1
+try_send s 1 = sent
+send 1 s 2 = made
+send 2 s 3 = made
+poll 1 = pending
+poll 2 = pending
+try_recv r = received 1 wakes 1
+recv 3 r = made
+poll 3 = pending
+close s = true wakes 2 3
+
 row a_message_wakes_a_receive_and_all_streams
 unbounded
 clone r 2 = made
@@ -175,6 +187,7 @@ bounded 2
 clone r 2 = made
 next 2 = pending
 next r = pending
+numbers = 0 2 0 0
 drop 2 = done
 try_send s 3 = sent wakes stream 1
 next r = next 3

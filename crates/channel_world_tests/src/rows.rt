@@ -27,7 +27,7 @@ fn receives(rt: HostRuntime) -> Result<(), Fail> {
 
 #[test]
 fn waits(rt: HostRuntime) -> Result<(), Fail> {
-    expect(&rt, WAITS, 5)
+    expect(&rt, WAITS, 6)
 }
 
 #[test]

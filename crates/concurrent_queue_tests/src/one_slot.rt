@@ -27,6 +27,14 @@ fn a_push_waits_while_a_pop_reads(rt: HostRuntime) -> Result<(), Fail> {
     )
 }
 
+#[test]
+fn a_closing_has_its_mark(rt: HostRuntime) -> Result<(), Fail> {
+    let mut steps = VecDeque::new(rt.alloc());
+    begin(&mut steps, 1, QueueAsk::Close, 1);
+    let run = run_queue_steps(rt.alloc(), QueueForm::Bounded(1), &mut steps);
+    check(&rt, run, 2, &[(1, "close")], &[(1, ("closed it", 0))])
+}
+
 /// Where a run over one slot stops and why, and how many steps it leaves.
 fn stopped_at(alloc: Global, mut steps: VecDeque<QueueStep<u64>>) -> (Option<Stopped>, usize) {
     let run = run_queue_steps(alloc, QueueForm::Bounded(1), &mut steps);

@@ -20,7 +20,7 @@ const WRONG: Call<u64> = Call::TryRecv {
 /// A poll of an operation that was never made.
 const UNKNOWN: Call<u64> = Call::Poll { op: OpId(7) };
 
-/// What two refused calls say, and how many entries the record has after them and an accepted one.
+/// What two refused calls say, and how many entries the record has after them and two accepted ones.
 fn refuse<L: Ledger, R: Wait>(
     rt: &R,
     alloc: Global,
@@ -38,6 +38,10 @@ fn refuse<L: Ledger, R: Wait>(
         handle: HandleId(0),
     };
     channel.call(rt, &mut seat, len).ok()?;
+    let leave = Call::Drop {
+        handle: HandleId(1),
+    };
+    channel.call(rt, &mut seat, leave).ok()?;
     let mut seats = Vec::new(alloc);
     seats.push(seat).ok()?;
     let record = channel.finish(seats).ok()?;
@@ -64,7 +68,7 @@ fn a_refused_call_leaves_no_entry(rt: HostRuntime) -> Result<(), Fail> {
             call: UNKNOWN,
         },
     );
-    expect_equal(&rt, &entries, &1);
+    expect_equal(&rt, &entries, &2);
     Ok(())
 }
 

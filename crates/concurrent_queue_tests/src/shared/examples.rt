@@ -172,10 +172,17 @@ fn calls_go_by_steps(rt: HostRuntime) -> Result<(), Fail> {
     let mut close = QueueCall::close();
     let closing = answer_of(queue.step_words(&mut close));
     drop(close);
-    let then = (queue.is_closed(), capacity_by_steps(&queue));
+    let wide: ConcurrentQueue<u64> = ConcurrentQueue::bounded(rt.alloc(), 3)?;
+    let places = [capacity_by_steps(&queue), capacity_by_steps(&wide)];
+    let then = (queue.is_closed(), places);
+    drop(wide);
     drop(queue);
     expect_equal(&rt, &pushing, &[("", 0), ("", 0), ("pushed", 0)]);
-    expect_equal(&rt, &(closing, then), &(("closed it", 0), (true, Some(1))));
+    expect_equal(
+        &rt,
+        &(closing, then),
+        &(("closed it", 0), (true, [Some(1), Some(3)])),
+    );
     Ok(())
 }
 
