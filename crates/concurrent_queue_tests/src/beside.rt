@@ -100,6 +100,8 @@ struct Beside {
 }
 
 impl Beside {
+    ghost use Rattle.std.specs.Prelude.{◌≡◌};
+
     /// What comes before an operation.
     fn before(&mut self)
         ensures { self.new.form ≡ self.old.form }

@@ -82,7 +82,7 @@ impl Plain {
             self.messages[place - 1] = self.messages[place];
         }
         self.messages[ROOM - 1] = 0;
-        self.count -= 1;
+        self.count = self.count.saturating_sub(1);
         oldest
     }
 
