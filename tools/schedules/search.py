@@ -23,7 +23,7 @@ WORDS = {
     "channel_stress": lambda seed: [1 + seed % 4, 2 + seed // 4 % 5],
 }
 COUNTS = ("rounds", "points", "switches", "timed out", "for no reason")
-Asked = collections.namedtuple("Asked", "seed seconds runs words")
+Asked = collections.namedtuple("Asked", "seed seconds runs words threads", defaults=[None])
 Run = collections.namedtuple("Run", "seed words status said counts")
 
 
@@ -55,9 +55,12 @@ def built(name, top=TOP, out=OUT):
     return path
 
 
-def run_once(path, seed, words):
+def run_once(path, seed, words, threads):
     with tempfile.NamedTemporaryFile(prefix="schedules-") as counts:
-        how = {"env": {**os.environ, "SCHEDULES_SEED": str(seed), "SCHEDULES_COUNTS": counts.name}, "stdin": subprocess.DEVNULL}
+        asked = {"SCHEDULES_SEED": str(seed), "SCHEDULES_COUNTS": counts.name}
+        if threads is not None:
+            asked["SCHEDULES_THREADS"] = str(threads)
+        how = {"env": {**os.environ, **asked}, "stdin": subprocess.DEVNULL}
         try:
             ran = subprocess.run([path, *words], stdout=subprocess.PIPE, stderr=subprocess.STDOUT, timeout=HANGS, **how)
         except subprocess.TimeoutExpired as late:
@@ -105,7 +108,7 @@ def search(path, asked):
     while not wrong and (runs < asked.runs if asked.runs else seconds_used() - begin < asked.seconds):
         seed = asked.seed + runs
         words = asked.words or words_of(path, seed)
-        ran = run_once(path, seed, words)
+        ran = run_once(path, seed, words, asked.threads)
         runs += 1
         totals = [total + it for total, it in zip(totals, ran.counts)]
         wrong = ran if ran.status else None

@@ -4,20 +4,21 @@ use Rattle.std.specs.Arc.{arc_value}
 use Rattle.concurrent_queue.specs.Contents.{no_contents}
 use Rattle.concurrent_queue.specs.declared.cells.QueueForm.{QueueForm}
 use Rattle.futures.specs.declared.task.Poll.{Poll}
-use Rattle.channel_calls.specs.Errors.{unsent, try_unsent}
+use Rattle.channel_calls.specs.Errors.{unsent, handed_back}
 use Rattle.channel_calls.specs.Listed.{is_pending}
 use Rattle.channel_calls.specs.Parts.{Parts, new_roster}
 use Rattle.channel_calls.specs.declared.error.Refused.{Refused}
 use Rattle.channel_calls.specs.declared.error.Refused.TheVariants.{Plain, NoMemory, SerialsUsedUp}
 use Rattle.channel_calls.specs.declared.error.SendError.{SendError}
-use Rattle.channel_calls.specs.declared.error.TrySendError.{TrySendError}
 use Rattle.async_channel.specs.declared.shared.Shared.{Shared}
 use Rattle.async_channel.specs.declared.link.Link.{Link}
 
--- the channel of a handle: how many messages it holds at most, and the first of its four identities
+-- the channel of a handle: how many messages it holds at most, the first of its four identities, and the seal of the memory that its
+-- handles share, which no other channel's has
 pub record Handle : Type 0 where
   pub form : QueueForm
   pub id : ℕ
+  pub seal : ℕ
 
 -- a send: its message, which a finished one has no more, and whether a listener is listed for it
 pub record Sending (T : Type 0) : Type 0 where
@@ -37,19 +38,16 @@ module _ {T : Type 0} where
   abbrev pub form_of : Shared T → QueueForm
   form_of c = c.queue.form
 
+  -- all of it lies in the shared part
+  abbrev pub channel_of : Shared T → Handle
+  channel_of c = record { form = form_of c; id = c.id; seal = c.seal.id }
+
   abbrev pub handle_of : Link T → Handle
-  handle_of l = record { form = form_of (arc_value l.shared); id = l.id }
+  handle_of l = channel_of (arc_value l.shared)
 
   -- the message that a refused send hands back
   abbrev pub Unsent : Refused (SendError T) T → T
-  Unsent (Plain e) = unsent e
-  Unsent (NoMemory m) = m
-  Unsent (SerialsUsedUp m) = m
-
-  abbrev pub TryUnsent : Refused (TrySendError T) T → T
-  TryUnsent (Plain e) = try_unsent e
-  TryUnsent (NoMemory m) = m
-  TryUnsent (SerialsUsedUp m) = m
+  Unsent e = handed_back e
 
   -- what the poll of a send with this message gives once it is ready: a closed channel hands the message back
   abbrev pub Gives : Option T → Result Unit (Refused (SendError T) Unit) → Type 0

@@ -3,6 +3,7 @@
 use crate::shared::Shared;
 use channel_calls::cells::ChannelCells;
 use channel_calls::stage::{Line, Side};
+use channel_calls::words::ChannelWords;
 use concurrent_queue::call::QueueReply;
 use concurrent_queue::queue_call::QueueCall;
 use event_listener::error::ListenError;
@@ -14,14 +15,15 @@ use std::sync::atomic::Ordering;
 use std::thread;
 
 /// A shared queue's cells, four locked lists and two shared counts. Nothing is known of what they hold, since any thread
-/// may step on them at any time.
+/// may step on them at any time. A call that blocks its thread has a bed beside them.
 #[derive(Drop)]
-pub(crate) struct SharedCells<'a, T: Drop, R: Wait> {
+pub(crate) struct SharedCells<'a, T: Drop, R: Wait, B: Drop> {
     pub(crate) shared: &'a Shared<T>,
     pub(crate) rt: &'a R,
+    pub(crate) bed: B,
 }
 
-impl<'a, T: Drop, R: Wait> ChannelCells<T, Task> for SharedCells<'a, T, R> {
+impl<'a, T: Drop, R: Wait, B: Drop> ChannelCells<T, Task> for SharedCells<'a, T, R, B> {
     ghost use Rattle.std.specs.Prelude.{◌≡◌};
     ghost use Rattle.async_channel.specs.Handles.{no_parts, form_of};
     ghost use Rattle.async_channel.specs.Sections.{Answers};
@@ -84,5 +86,26 @@ impl<'a, T: Drop, R: Wait> ChannelCells<T, Task> for SharedCells<'a, T, R> {
             thread::yield_now();
         }
         raised.is_ok()
+    }
+}
+
+/// The words of a shared queue and two shared counts, for the questions: without the runtime, so that they wait for nobody.
+#[derive(Drop)]
+pub(crate) struct SharedWords<'a, T: Drop> {
+    pub(crate) shared: &'a Shared<T>,
+}
+
+impl<'a, T: Drop> ChannelWords<T, Task> for SharedWords<'a, T> {
+    ghost use Rattle.std.specs.Prelude.{◌≡◌};
+    ghost use Rattle.async_channel.specs.Handles.{form_of};
+
+    ghost has_form = { λ c f. f ≡ form_of c.shared.now };
+
+    fn step_words(&mut self, call: &mut QueueCall<T>) -> Option<QueueReply<T>> {
+        self.shared.queue.step_words(call)
+    }
+
+    fn count(&mut self, side: Side) -> usize {
+        self.shared.count(side)
     }
 }

@@ -23,6 +23,7 @@
 //! ones are made of functions that don't take it.
 #![tactic(auto)]
 
+mod bed;
 mod blocking;
 mod cells;
 mod closed;
@@ -50,7 +51,10 @@ pub use channel_calls::error::{
 pub use channel_calls::mark::Mark;
 pub use channel_calls::plain::PlainChannel;
 pub use channel_calls::reply::Reply;
+pub use channel_calls::stage::{Line, Side};
 pub use closed::Closed;
+pub use event_listener::error::ListenError;
+pub use event_listener::id::EventIds;
 pub use open::{bounded, unbounded};
 pub use receiver::Receiver;
 pub use recv::Recv;

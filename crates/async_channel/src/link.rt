@@ -6,11 +6,10 @@ ghost use Rattle.async_channel.specs.Handles.{handle_of};
 use crate::shared::Shared;
 use std::sync::Arc;
 
-/// The shared part of a channel, and the number of the first of its four identities, which tells channels apart.
+/// The shared part of a channel, which has the identity too: a tie has nothing beside it.
 #[derive(Drop)]
 pub(crate) struct Link<T: Drop> {
     pub(crate) shared: Arc<Shared<T>>,
-    pub(crate) id: u64,
 }
 
 impl<T: Drop> Link<T> {
@@ -19,18 +18,15 @@ impl<T: Drop> Link<T> {
         ensures { IfSome result (λ l. handle_of l ≡ handle_of self.now) }
     {
         match Arc::try_clone(&self.shared) {
-            Ok(shared) => Some(Link {
-                shared,
-                id: self.id,
-            }),
+            Ok(shared) => Some(Link { shared }),
             Err(_) => None,
         }
     }
 
-    /// Whether both are tied to one channel.
+    /// Whether both are tied to one channel: whether the identities in their shared parts are equal.
     pub(crate) fn is_same(&self, other: &Link<T>) -> bool
         ensures { IsTrue result ↔ ((handle_of self.now).id ≡ (handle_of other.now).id) }
     {
-        self.id == other.id
+        self.shared.id == other.shared.id
     }
 }

@@ -17,6 +17,8 @@ use std::alloc::Global;
 use std::sync::{Arc, Wait};
 
 /// The two handles of a channel over this queue. The memory is taken first, then the four identities.
+///
+/// An identity that was taken can't be given back, so the shared part is made with the number that the first one is going to have.
 fn open<T: Drop, R: Wait + Copy>(
     rt: R,
     alloc: Global,
@@ -30,7 +32,7 @@ fn open<T: Drop, R: Wait + Copy>(
     ensures unchanged { OnErr result (ids.new ≡ ids.old) }
     ensures used_up { result ≡ Err OpenError.IdsUsedUp → 2 ^ 64 - 1 < ids.old + 4 }
 {
-    let Ok(shared) = Arc::new(alloc, Shared::new(alloc, queue)) else {
+    let Ok(shared) = Arc::new(alloc, Shared::new(alloc, queue, ids.given())) else {
         return Err(OpenError::NoMemory);
     };
     let Ok(other) = Arc::try_clone(&shared) else {
@@ -42,11 +44,10 @@ fn open<T: Drop, R: Wait + Copy>(
         drop(other);
         return Err(OpenError::IdsUsedUp);
     };
-    let id = four[0].number();
     drop(four);
     Ok((
-        Sender::new(rt, Counted::first(Link { shared, id })),
-        Receiver::new(rt, Counted::first(Link { shared: other, id })),
+        Sender::new(rt, Counted::first(Link { shared })),
+        Receiver::new(rt, Counted::first(Link { shared: other })),
     ))
 }
 

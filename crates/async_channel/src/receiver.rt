@@ -136,16 +136,19 @@ impl<T: Drop, R: Wait + Copy> Receiver<T, R> {
 
     /// How many senders live. It waits for nobody. As `async-channel` 2.5.0.
     pub fn sender_count(&self) -> usize {
-        self.counted.link.shared.count(Side::Senders)
+        self.counted.link.shared.handle_count(Side::Senders)
     }
 
     /// How many receivers live. It waits for nobody. As `async-channel` 2.5.0.
     pub fn receiver_count(&self) -> usize {
-        self.counted.link.shared.count(Side::Receivers)
+        self.counted.link.shared.handle_count(Side::Receivers)
     }
 
     /// Whether both are handles of one channel: whether the identities are equal. It waits for nobody. As
     /// `async-channel` 2.5.0, which compares addresses.
+    ///
+    /// This tells apart channels whose identities came from one `EventIds`. Each source begins with the same number, so of channels
+    /// from two sources it may be true though they are two.
     pub fn same_channel(&self, other: &Receiver<T, R>) -> bool
         ensures { IsTrue result ↔ (self.now.id ≡ other.now.id) }
     {

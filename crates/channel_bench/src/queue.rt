@@ -1,5 +1,7 @@
-//! What a push and a pop cost together in queues of one owner, a ring and unbounded ones, beside a plain deque's; and in
-//! unbounded queues that hold few messages and many.
+//! What a push and a pop cost together in queues of one owner, of one place, of many and without a bound, beside a plain
+//! deque's; and in unbounded queues that hold few messages and many.
+
+ghost use Rattle.std.specs.Prelude.{◌<◌};
 
 use crate::decimal::Decimal;
 use crate::rounds::Rounds;
@@ -10,9 +12,10 @@ use std::io;
 use std::rt::Clock;
 use std::time::Instant;
 
-/// How many messages the ring has room for, and how many it holds, as the deque does.
+/// How many messages the queue with a bound has room for.
 const ROOM: usize = 1_000;
 
+/// How many messages it and the unbounded queue hold, as the deque beside them does.
 const HELD: usize = 500;
 
 /// How many messages the long unbounded queue holds.
@@ -23,7 +26,7 @@ const PAIRS: u32 = 20_000;
 
 const ROUNDS: u32 = 400;
 
-/// How many pairs show that blocks are used again.
+/// How many pairs show that memory is used again.
 const MANY: u32 = 1_000_000;
 
 /// A queue, the sum of what was popped from it, and what its rounds took.
@@ -126,17 +129,18 @@ fn report<R: Print>(
     )
 }
 
-/// A queue beside a deque, both of which hold as much.
+/// A queue beside a deque, both of which hold so many messages.
 fn compare_deque<R: Clock + Print>(
     rt: &R,
     alloc: Global,
     what: &str,
     queue: Exclusive<u64>,
+    held: usize,
 ) -> io::Result<()> {
     let mut ours = Bench::of(queue, alloc);
     let mut plain = Plain::of(alloc);
-    ours.fill(HELD);
-    plain.fill(HELD);
+    ours.fill(held);
+    plain.fill(held);
     for _ in 0..ROUNDS {
         ours.round(rt)?;
         plain.round(rt)?;
@@ -147,9 +151,18 @@ fn compare_deque<R: Clock + Print>(
     report(rt, what, "a deque", &ours.rounds, &plain.rounds)
 }
 
-fn measure_ring<R: Clock + Print>(rt: &R, alloc: Global) -> io::Result<()> {
-    match Exclusive::bounded(alloc, ROOM) {
-        Ok(queue) => compare_deque(rt, alloc, "ring", queue),
+/// A queue with so many places that holds so many messages.
+fn measure_bounded<R: Clock + Print>(
+    rt: &R,
+    alloc: Global,
+    what: &str,
+    room: usize,
+    held: usize,
+) -> io::Result<()>
+    requires { 0 < room }
+{
+    match Exclusive::bounded(alloc, room) {
+        Ok(queue) => compare_deque(rt, alloc, what, queue, held),
         Err(_) => println!(rt; "queue: want of memory"),
     }
 }
@@ -178,8 +191,8 @@ fn compare_lengths<R: Clock + Print>(
     )
 }
 
-fn measure_blocks<R: Clock + Print>(rt: &R, alloc: Global) -> io::Result<()> {
-    compare_deque(rt, alloc, "unbounded", Exclusive::unbounded(alloc))?;
+fn measure_unbounded<R: Clock + Print>(rt: &R, alloc: Global) -> io::Result<()> {
+    compare_deque(rt, alloc, "unbounded", Exclusive::unbounded(alloc), HELD)?;
     let mut long = Bench::of(Exclusive::unbounded(alloc), alloc);
     let mut short = Bench::of(Exclusive::unbounded(alloc), alloc);
     compare_lengths(rt, &mut long, &mut short)
@@ -187,8 +200,9 @@ fn measure_blocks<R: Clock + Print>(rt: &R, alloc: Global) -> io::Result<()> {
 
 /// Measures queues of one owner.
 pub fn measure_queues<R: Clock + Print>(rt: &R, alloc: Global) -> io::Result<()> {
-    measure_ring(rt, alloc)?;
-    measure_blocks(rt, alloc)
+    measure_bounded(rt, alloc, "of one place", 1, 0)?;
+    measure_bounded(rt, alloc, "bounded", ROOM, HELD)?;
+    measure_unbounded(rt, alloc)
 }
 
 /// Pushes into an unbounded queue and pops from it again, many times over, so that its memory can be measured from outside.

@@ -83,19 +83,3 @@ module _ {T W X : Type 0} (did : Deed T W → X → X → Type 0) where
         let d : did (stepped one two (Some y)) s t = subst (λ (z : Option (QueueReply T)). did (stepped one two z) s t) some deed in
         let now : Takes (answered_next aim y) call.stage None = subst (λ (z : Turn T W). Takes z call.stage None) next takes in
         (Trying one aim, (one, starts, asks, refl, refl), 1, (t, call.stage, mark_of_queue (mark_of two), (two, Some y, d, refl, now), (refl, refl)))
-
-module _ {T W X : Type 0} (did : Deed T W → X → X → Type 0) where
-  -- a question that the queue's answer answers
-  pub told : (x : QueueAsk T) (aim : Aim T W) (s t : X) (call after : QueueCall T) (starts : Starts call x) (asks : IsAsking call x) (y z : QueueReply T) → y ≡ z → did (stepped call after (Some y)) s t
-      → (r : Reply T) (kept : Kept T) → Takes (answered_next aim z) (Finished kept) (Some r) → WalkedTo did (Tries x aim) s r t
-  told x aim s t call after starts asks y z e deed r kept takes =
-      let d : did (stepped call after (Some z)) s t = subst (λ (o : QueueReply T). did (stepped call after (Some o)) s t) e deed in
-      (kept, (Trying call aim, (call, starts, asks, refl, refl), (0, s, Trying call aim, mark_of_queue (mark_of after), Finished kept, (refl, refl), (after, Some z, d, refl, takes), refl)))
-
-  -- one that asks the queue once more after this answer
-  pub told_then : (x : QueueAsk T) (aim : Aim T W) (s y : X) (call after : QueueCall T) (starts : Starts call x) (asks : IsAsking call x) (o z : QueueReply T) → o ≡ z → did (stepped call after (Some o)) s y
-      → (next : Turn T W) → ((b : Stage (QueueCall T) T W) → Takes next b None → Takes (answered_next aim z) b None)
-      → (t : X) (r : Reply T) → WalkedTo did next y r t → WalkedTo did (Tries x aim) s r t
-  told_then x aim s y call after starts asks o z e deed next on t r (kept, (b, takes, (n, u, c, m, last, leads, made, k))) =
-      let d : did (stepped call after (Some z)) s y = subst (λ (o : QueueReply T). did (stepped call after (Some o)) s y) e deed in
-      (kept, (Trying call aim, (call, starts, asks, refl, refl), (suc n, u, c, m, last, (y, b, mark_of_queue (mark_of after), (after, Some z, d, refl, on b takes), leads), made, k)))

@@ -13,9 +13,10 @@ use crate::ask::ChannelAsk;
 use crate::cells::ChannelCells;
 use crate::mark::Mark;
 use crate::reply::Reply;
-use crate::stage::{Kept, Stage};
+use crate::stage::{Kept, Stage, Waiting, Work};
 use crate::step::{Stepped, stage_step, takes};
 use concurrent_queue::queue_call::QueueCall;
+use event_listener::key::Key;
 use event_listener::wakes::Wakes;
 use std::mem;
 
@@ -89,6 +90,16 @@ impl<T: Drop, W: Drop> ChannelCall<T, W> {
         let Stepped { stage, mark, reply } = begun;
         drop(reply);
         ChannelCall { stage, mark }
+    }
+
+    /// A poll that registers this listener first, as that of a stream does. It has made no step.
+    pub(crate) fn registering(waiting: Waiting<T>, key: Key, task: W) -> ChannelCall<T, W>
+        ensures { result.stage ≡ Stage.Working (Work.Register waiting key task) }
+    {
+        ChannelCall {
+            stage: Stage::Working(Work::Register(waiting, key, task)),
+            mark: Mark::Nothing,
+        }
     }
 
     /// What a call that has answered leaves to its operation: the listener of a pending one, the message of an unfinished

@@ -37,11 +37,11 @@ fn receive_all<R: Wait + Copy>(rt: R, receiver: Receiver<u64, R>) -> Option<u64>
 }
 
 /// That number for a hundred messages.
-pub(crate) fn count<R>(rt: R, alloc: Global) -> Option<u64>
+pub(crate) fn count<R>(rt: R, alloc: Global, ids: &mut EventIds) -> Option<u64>
 where
     R: Wait + Threads + Copy + RandomSource + AllocGlobal + Send + Sync,
 {
-    let (sender, receiver) = bounded(rt, alloc, 1, &mut EventIds::new()).ok()?;
+    let (sender, receiver) = bounded(rt, alloc, 1, ids).ok()?;
     let ((), count) = thread::join(
         &rt,
         move || send_all(rt, sender),

@@ -27,11 +27,11 @@ fn waits_for_message<R: Wait + Copy>(receiver: &Receiver<u64, R>) -> u64 {
 }
 
 /// How many were told.
-pub(crate) fn told<R>(rt: R, alloc: Global) -> Option<u64>
+pub(crate) fn told<R>(rt: R, alloc: Global, ids: &mut EventIds) -> Option<u64>
 where
     R: Wait + Threads + Copy + RandomSource + AllocGlobal + Send + Sync,
 {
-    let (sender, receiver) = unbounded(rt, alloc, &mut EventIds::new()).ok()?;
+    let (sender, receiver) = unbounded(rt, alloc, ids).ok()?;
     let (closed, (a, b)) = thread::join(
         &rt,
         || receiver.close(),

@@ -1,4 +1,5 @@
-//! Six small programs over channels between threads, a line of output each.
+//! Six small programs over channels between threads, a line of output each. Their channels have one source of identities, so that no
+//! two of them are taken for one.
 #![tactic(auto)]
 
 mod back_pressure;
@@ -8,17 +9,19 @@ mod several;
 mod stream;
 mod two_threads;
 
+use event_listener::id::EventIds;
 use std::process::ExitCode;
 
 fn main(rt: HostRuntime) -> ExitCode {
     let alloc = rt.alloc();
+    let mut ids = EventIds::new();
     let lines = [
-        ("two threads", two_threads::sum(rt, alloc)),
-        ("worker pool", pool::sum(rt, alloc)),
-        ("stream", stream::sum(rt, alloc)),
-        ("several at once", several::sum(rt, alloc)),
-        ("back-pressure", back_pressure::count(rt, alloc)),
-        ("closing", closing::told(rt, alloc)),
+        ("two threads", two_threads::sum(rt, alloc, &mut ids)),
+        ("worker pool", pool::sum(rt, alloc, &mut ids)),
+        ("stream", stream::sum(rt, alloc, &mut ids)),
+        ("several at once", several::sum(rt, alloc, &mut ids)),
+        ("back-pressure", back_pressure::count(rt, alloc, &mut ids)),
+        ("closing", closing::told(rt, alloc, &mut ids)),
     ];
     for (name, number) in lines {
         let Some(number) = number else {

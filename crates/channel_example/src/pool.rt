@@ -21,8 +21,12 @@ fn work<R: Wait + Copy>(rt: R, jobs: &Receiver<u64, R>) -> u64 {
 }
 
 /// What three workers did together.
-pub(crate) fn sum<R: Wait + Threads + Copy + Send + Sync>(rt: R, alloc: Global) -> Option<u64> {
-    let (sender, first) = unbounded(rt, alloc, &mut EventIds::new()).ok()?;
+pub(crate) fn sum<R: Wait + Threads + Copy + Send + Sync>(
+    rt: R,
+    alloc: Global,
+    ids: &mut EventIds,
+) -> Option<u64> {
+    let (sender, first) = unbounded(rt, alloc, ids).ok()?;
     let second = first.try_clone().ok()?;
     let third = first.try_clone().ok()?;
     for job in 1..31 {

@@ -45,11 +45,11 @@ where
 }
 
 /// The sum of a hundred numbers that go through sixteen places.
-pub(crate) fn sum<R>(rt: R, alloc: Global) -> Option<u64>
+pub(crate) fn sum<R>(rt: R, alloc: Global, ids: &mut EventIds) -> Option<u64>
 where
     R: Wait + Threads + Copy + RandomSource + AllocGlobal + Send + Sync,
 {
-    let (sender, receiver) = bounded(rt, alloc, 16, &mut EventIds::new()).ok()?;
+    let (sender, receiver) = bounded(rt, alloc, 16, ids).ok()?;
     let ((), sum) = thread::join(
         &rt,
         move || send_all(sender),

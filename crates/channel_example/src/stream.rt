@@ -23,11 +23,11 @@ where
 }
 
 /// The sum of the stream's items.
-pub(crate) fn sum<R>(rt: R, alloc: Global) -> Option<u64>
+pub(crate) fn sum<R>(rt: R, alloc: Global, ids: &mut EventIds) -> Option<u64>
 where
     R: Wait + Copy + RandomSource + AllocGlobal,
 {
-    let (sender, receiver) = unbounded(rt, alloc, &mut EventIds::new()).ok()?;
+    let (sender, receiver) = unbounded(rt, alloc, ids).ok()?;
     for number in 1..11 {
         sender.try_send(number).ok()?;
     }

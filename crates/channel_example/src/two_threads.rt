@@ -28,8 +28,12 @@ fn receive_all<R: Wait + Copy>(rt: R, receiver: Receiver<u64, R>) -> u64 {
 }
 
 /// The sum of a hundred numbers that go through three places.
-pub(crate) fn sum<R: Wait + Threads + Copy + Send + Sync>(rt: R, alloc: Global) -> Option<u64> {
-    let (sender, receiver) = bounded(rt, alloc, 3, &mut EventIds::new()).ok()?;
+pub(crate) fn sum<R: Wait + Threads + Copy + Send + Sync>(
+    rt: R,
+    alloc: Global,
+    ids: &mut EventIds,
+) -> Option<u64> {
+    let (sender, receiver) = bounded(rt, alloc, 3, ids).ok()?;
     let ((), sum) = thread::join(
         &rt,
         move || send_all(sender),

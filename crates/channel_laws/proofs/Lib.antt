@@ -28,3 +28,6 @@ pub mod BoundMoves
 pub mod Bounds
 pub mod Closers
 pub mod Interface
+mod BridgeSteps
+mod Bridge
+mod BridgeWalks

@@ -9,4 +9,5 @@ pub mod Notices
 pub mod Receives
 pub mod Sends
 pub mod Sound
+pub mod Bridge
 pub mod Bounds

@@ -1,6 +1,8 @@
 //! Laws of every run of a channel's steps. Each is the contract of a function that does nothing; what
 //! `channel_steps::run::run_steps` does is such a run.
 
+ghost use Rattle.channel_laws.specs.Bridge.{InCells, MergesAreRuns, WalksAct};
+ghost use Rattle.channel_calls.specs.Deeds.{Done};
 ghost use Rattle.channel_laws.specs.Bounds.{BoundsStay, ClosesOnce, NeverOverfull, UnboundedIsNeverFull};
 ghost use Rattle.channel_laws.specs.Closed.{ClosingIsForGood};
 ghost use Rattle.channel_laws.specs.Closings.{ClosingStaysOwed, NobodyMissesTheClosing};
@@ -10,6 +12,8 @@ ghost use Rattle.channel_laws.specs.Receives.{NoReceiveIsForgotten, ReceivesStay
 ghost use Rattle.channel_laws.specs.Sends.{NoSendIsForgotten, SendsStayOwed};
 ghost use Rattle.channel_laws.specs.Streams.{NoStreamIsForgotten, StreamsStayOwed};
 
+use channel_calls::cells::ChannelCells;
+use concurrent_queue::cells::Cells;
 use event_listener::wakes::Wakes;
 
 /// A closed channel stays closed in every run, whatever calls are under way already: none closes it again or replaces a
@@ -131,4 +135,25 @@ pub fn no_more_than_fit<T, W, S: Wakes<W>>()
 /// Own to this project.
 pub fn one_close_at_most<T, W, S: Wakes<W>>()
     ensures once { ClosesOnce T W S S.wakes }
+{}
+
+/// What any number of parties do to a new channel, merged in any order in which each answer is what the cells then held, is a
+/// run as `run_steps` promises it, with all that was answered and left. An event is one operation on a cell of the queue, one
+/// section on a list of listeners or one operation on a count. Of a party nothing is asked but that its calls do what their
+/// machines do next, and go by the answers. So what holds of every run holds of calls on threads, whose operations are atomic and
+/// whose sections are under one lock each, and so come in one order.
+///
+/// Own to this project.
+pub fn merges_are_runs<T, W, S: Wakes<W>>()
+    ensures runs { MergesAreRuns T W S S.wakes }
+{}
+
+/// What the contract of a whole call says, over cells of any kind, is what `merges_are_runs` asks of its party: the call has
+/// done what its machine does, this and nothing else, and goes by the answers to its reply. Of the cells only this is asked,
+/// that they have cells of a queue in them, and that what they do to their queue by a step is a walk of the queue's call over
+/// these, of one operation or more.
+///
+/// Own to this project.
+pub fn walks_act<T, W, Q: Cells<T>, C: ChannelCells<T, W>, S: Wakes<W>>()
+    ensures acts { (view : C → Q) → WalksAct (Done C.did S.wakes) (InCells Q.did view) }
 {}

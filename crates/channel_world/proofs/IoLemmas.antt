@@ -7,7 +7,7 @@ use Rattle.channel_language.specs.Language.{today}
 use Rattle.channel_language.specs.Words.{lines_of}
 use Rattle.std.proofs.lemmas.Bool.Decides.{nat_tests}
 use Rattle.channel_world.specs.Added.{Extends}
-use Rattle.channel_world.specs.Output.{AppendsFront, IsText, IsReadEnd, late_line, last_lines, text_of_lines}
+use Rattle.channel_world.specs.Output.{AppendsFront, IsText, IsReadEnd, WritesText, WritesScript, late_line, last_lines, text_of_lines}
 use Rattle.channel_world.specs.declared.script.end.ScriptEnd.{ScriptEnd}
 use Rattle.channel_world.specs.declared.script.end.ScriptEnd.TheVariants.{Done, Unreadable, Capacity, Memory, Fault}
 
@@ -102,11 +102,27 @@ short_script : (input : List ℕ) → length input ≤ 16777216 → script_of_li
 short_script input h = let fits : nat_lt 16777216 (length input) ≡ false = grind (arith, nat_tests) in rw fits refl
 
 -- the text composed of what a reader gave
-pub text_of_known : (known : Option (List ℕ)) (input seen old out : List ℕ) (end : ScriptEnd) → length input ≤ 16777216 → IfSome known (λ k. input ≡ k) → seen ≡ input → old ≡ [] → Extends (script_of_lines today (lines_of seen)) end old out → IfSome known (λ k. IsText k end (out ++ late_line end))
-text_of_known None input seen old out end l h e f x = tt
-text_of_known (Some k) input seen old out end l h e f x =
-    let same : script_of_lines today (lines_of seen) ≡ script k = ap (λ (i : List ℕ). script_of_lines today (lines_of i)) e ∙ (short_script input l ∙ ap script h) in
-    is_text k out end (subst (λ (o : List ℕ). Extends (script k) end o out) f (subst (λ (s : Script). Extends s end old out) same x))
+pub text_of_read : (known : Option (List ℕ)) (input seen old out : List ℕ) (end : ScriptEnd) → length input ≤ 16777216 → IfSome known (λ k. input ≡ k) → seen ≡ input → old ≡ [] → Extends (script_of_lines today (lines_of seen)) end old out
+    → (i : List ℕ) × IfSome known (λ k. i ≡ k) × IsText i end (out ++ late_line end)
+text_of_read known input seen old out end l h e f x =
+    let same : script_of_lines today (lines_of seen) ≡ script input = ap (λ (i : List ℕ). script_of_lines today (lines_of i)) e ∙ short_script input l in
+    (input, h, is_text input out end (subst (λ (o : List ℕ). Extends (script input) end o out) f (subst (λ (s : Script). Extends s end old out) same x)))
+
+-- the text of a script that was not read, whatever bytes it has
+pub text_unread : (known : Option (List ℕ)) (out : List ℕ) (end : ScriptEnd) → out ≡ [] → IsReadEnd end → (i : List ℕ) × IfSome known (λ k. i ≡ k) × IsText i end (out ++ late_line end)
+text_unread None out end e h = ([], tt, subst (λ (o : List ℕ). IsText [] end (o ++ late_line end)) (sym e) (is_text_unread [] end h))
+text_unread (Some k) out end e h = (k, refl, subst (λ (o : List ℕ). IsText k end (o ++ late_line end)) (sym e) (is_text_unread k end h))
+
+-- what is written of a text is written of a script
+pub script_read : (known : Option (List ℕ)) (meant end : ScriptEnd) (out seen : List ℕ) (old new : Option (List ℕ)) → seen ≡ out → ((i : List ℕ) × IfSome known (λ k. i ≡ k) × IsText i meant (out ++ late_line meant))
+    → WritesText (seen ++ late_line meant) meant end old new → (i : List ℕ) × IfSome known (λ k. i ≡ k) × WritesScript i end old new
+script_read known meant end out seen old new e r w =
+    (r.0, r.1, (meant, out ++ late_line meant, r.2, subst (λ (t : List ℕ). WritesText (t ++ late_line meant) meant end old new) e w))
+
+pub script_known : (known : Option (List ℕ)) (end : ScriptEnd) (old new : Option (List ℕ)) → ((i : List ℕ) × IfSome known (λ k. i ≡ k) × WritesScript i end old new)
+    → IfSome known (λ input. WritesScript input end old new)
+script_known None end old new r = tt
+script_known (Some k) end old new r = subst (λ (i : List ℕ). WritesScript i end old new) r.1 r.2
 
 pub late_fault : (a b c : Option (List ℕ)) (xs ys late : List ℕ) → Appends a b xs → ys ≡ late → AppendsFront b c ys → AppendsFront a c (xs ++ late)
 late_fault a b c xs ys late h e k = appends_two a b c xs late h (subst (λ (zs : List ℕ). AppendsFront b c zs) e k)

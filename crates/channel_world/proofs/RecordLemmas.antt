@@ -68,6 +68,7 @@ module _ {T : Type 0} where
         parts_left = i.parts_left;
         one_each = i.one_each;
         numbered = i.numbered;
+        kept = i.kept;
       }
 
   -- ---- a run of one call

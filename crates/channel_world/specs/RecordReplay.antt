@@ -1,5 +1,5 @@
 -- A record of calls, replayed one call at a time from a channel that was just opened.
-use Rattle.std.specs.Prelude.{◌≡◌, ◌+◌, ℕ, List, [], ◌∷◌, Bool, false, Option, None, slice_get}
+use Rattle.std.specs.Prelude.{◌≡◌, ◌+◌, ℕ, List, [], ◌∷◌, length, Bool, false, Option, None, slice_get}
 use Rattle.std.specs.Option.{option_map_or}
 use Rattle.channel_model.specs.Refusal.{refusal}
 use Rattle.channel_model.specs.Refused.{Answers}
@@ -26,6 +26,16 @@ module _ {T : Type 0} where
     -- the channel after the last of them
     pub last : State T
     pub replays : Replays 0 (start capacity) rs last
+
+  -- It is the last call of a record that leads from an opening: it stands behind all that were made before it, and was made when they were.
+  pub record EndsHistory (r : Receipt T) : Type 0 where
+    pub capacity : Option ℕ
+    pub before : List (Receipt T)
+    pub history : IsHistory capacity before
+    pub place : r.place ≡ length before
+    -- the channel after it
+    pub after : State T
+    pub made : Made history.last r after
 
   -- whether the entry at the receipt's place equals it
   abbrev pub stands_in : (Receipt T → Receipt T → Bool) → List (Receipt T) → Receipt T → Bool

@@ -1,5 +1,5 @@
 -- What a lock keeps: a world with its record, and the parts of the ledger that no seat has.
-use Rattle.std.specs.Prelude.{◌≡◌, ◌+◌, ◌-◌, ◌^◌, ◌≤◌, ℕ, List, Option, Some}
+use Rattle.std.specs.Prelude.{◌≡◌, ◌+◌, ◌-◌, ◌^◌, ◌<◌, ◌≤◌, ℕ, List, Option, Some}
 use Rattle.channel_model.specs.Run.{MayStop}
 use Rattle.channel_model.specs.State.{State, start}
 use Rattle.channel_model.specs.declared.call.Call.{Call}
@@ -31,6 +31,8 @@ module _ {T : Type 0} where
     pub parts_left : parts ≡ v.parts
     pub one_each : v.parts + v.seats ≡ all
     pub numbered : v.seats ≤ 2 ^ 32
+    -- the last part stays
+    pub kept : 0 < v.seats → 0 < v.parts
 
   -- the call that was not made
   abbrev pub call_in : RecordError T → Call T

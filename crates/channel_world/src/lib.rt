@@ -26,9 +26,12 @@ pub use channel_calls::error::{
     OpenError, RecvError, Refused, SendError, TryRecvError, TrySendError,
 };
 pub use channel_calls::mark::Mark;
+pub use event_listener::id::EventIds;
 pub use name::{Handle, HandleId, HandleKind, OpId, Waiter};
 pub use recorded::{
     MissingSeat, Names, Receipt, Record, RecordError, RecordSeat, RecordedChannel, SeatsUsedUp,
 };
+pub use script::{ScriptEnd, run_script};
+pub use settle::Settled;
 pub use step::{Entry, PartyId, Run, Step};
 pub use world::World;

@@ -338,15 +338,6 @@ module _ {T : Type 0} where
   unfolding FitsAt rank
   ranks c q p call l r fits = ranks_in c.form fits.0 c q p call.mark call.state l r fits.1
 
-  most_of : (cap : ℕ) (chain : List ℕ) (c : Contents T) (q : Queue T) (seats : List (Seat T)) → FitsForm (Bounded cap) chain c q seats → cap ≤ 2 ^ 58
-  most_of cap chain c q seats (inl h) = let one = h.one in omega arith
-  most_of cap chain c q seats (inr h) = h.most
-
-  -- a bounded queue has 2^58 slots at most
-  pub most_fits : (c : Contents T) (q : Queue T) (seats : List (Seat T)) (cap : ℕ) → c.form ≡ Bounded cap → Fits c q seats → cap ≤ 2 ^ 58
-  unfolding FitsAt
-  most_fits c q seats cap e fits = most_of cap fits.0 c q seats (subst (λ (f : QueueForm). FitsForm f fits.0 c q seats) e fits.1)
-
 -- a queue that was just made
 pub fits_one_slot : (T : Type 0) → FitsAt {T = T} [] empty_slot (opened (Some 1)) []
 unfolding FitsAt

@@ -1,7 +1,7 @@
 -- What a layer above may use of the queue: what cells show, where messages lie, how far an end is, and what a lone call did.
 use Rattle.std.proofs.Common.{◌≡◌, ℕ, zero, suc, ◌+◌, ◌<◌, ◌≤◌, ◌==◌, Bool, true, false, not, List, [], ◌∷◌, ◌++◌, length, None, Some, Ok, Err, refl, sym, ap, ◌∙◌, subst, arith}
 use Rattle.concurrent_queue.specs.Contents.{Contents}
-use Rattle.concurrent_queue.specs.Queue.{Queue, Stage, trying, displaced, appended, taken, read, measured, Phase, asked, is_filled, IsOpen, IsShut, IsOldest, marked, after, is_displaced, ContinuesPush, ContinuesForce, ContinuesPop, ContinuesBy, Continues, AnswersPush, AnswersForce, AnswersPop, AnswersTo, Answers}
+use Rattle.concurrent_queue.specs.Queue.{Queue, Stage, trying, displaced, appended, taken, read, measured, Phase, asked, is_filled, is_full_at, IsOpen, IsShut, IsOldest, marked, after, is_displaced, ContinuesPush, ContinuesForce, ContinuesPop, ContinuesBy, Continues, AnswersPush, AnswersForce, AnswersPop, AnswersTo, Answers}
 use Rattle.concurrent_queue.specs.Step.{Seat, seat, Fits, phases, rank, Shows, Lies, IsBrought}
 use Rattle.concurrent_queue.specs.declared.call.QueueAsk.{QueueAsk}
 use Rattle.concurrent_queue.specs.declared.call.QueueAsk.TheVariants as ask
@@ -13,8 +13,9 @@ use Rattle.concurrent_queue.specs.declared.error.PushError.TheVariants as push_e
 use Rattle.concurrent_queue.specs.declared.error.ForcePushError.TheVariants as force_error
 use Rattle.concurrent_queue.specs.declared.error.PopError.TheVariants as pop_error
 use Rattle.concurrent_queue.specs.declared.queue_call.QueueCall.{QueueCall}
-use Rattle.concurrent_queue.proofs.AloneFacts.{So, open_from, filled_at, so_goes, ends}
+use Rattle.concurrent_queue.proofs.AloneFacts.{So, open_from, filled_at, so_goes}
 use Rattle.concurrent_queue.proofs.Balance.{IsBalanced, fair_goes, balance}
+use Rattle.concurrent_queue.proofs.Evidence.{not_zero, not_full_after}
 use Rattle.concurrent_queue.proofs.FitsFacts as fits_facts
 
 module _ {T : Type 0} where
@@ -164,21 +165,36 @@ module _ {T : Type 0} where
         ((subst (λ (x : Queue T). IsShut x) so.0 h.0, subst (λ (x : Queue T). x.items ≡ []) so.0 h.1.0), so.0)
     pop_leaves q m x s h so = absurd h
 
+    empty_read : (q : Queue T) (k : Bool) (n : ℕ) → IsBalanced q → AnswersTo q ask.IsEmpty Nothing (reply.Flag k) (read n) → So q0 ask.IsEmpty (read n) q → k ≡ (length q0.items == 0)
+    empty_read q true n l h so = sym (rw h refl) ∙ ap (λ (y : Queue T). length y.items == 0) so.0
+    empty_read q false n l h so =
+        let l' : length q.items + q.removed ≡ q.accepted = l in
+        let e = ap (λ (y : Queue T). y.removed) so.0 in let n' : n ≡ q0.removed = so.1 in let h' : n < q.accepted = h in
+        sym (not_zero (length q.items) (omega arith)) ∙ ap (λ (y : Queue T). length y.items == 0) so.0
+
+    full_read : (q : Queue T) (k : Bool) (n : ℕ) → IsBalanced q → AnswersTo q ask.IsFull Nothing (reply.Flag k) (read n) → So q0 ask.IsFull (read n) q → k ≡ is_filled q0
+    full_read q true n l h so = sym h ∙ ap (λ (y : Queue T). is_filled y) so.0
+    full_read q false n l h so =
+        let l' : length q.items + q.removed ≡ q.accepted = l in
+        let e = ap (λ (y : Queue T). y.accepted) so.0 in let n' : n ≡ q0.accepted = so.1 in let h' : n < q.removed + h.0 = h.2 in
+        let few : is_full_at q.capacity q.items ≡ false = not_full_after q.items q.capacity (λ i f. (let same : Some i ≡ Some h.0 = sym f ∙ h.1 in let same' : i ≡ h.0 = cc in omega arith)) in
+        sym few ∙ ap (λ (y : Queue T). is_filled y) so.0
+
     leaves : (q : Queue T) (a : QueueAsk T) (m : QueueMark) (x : QueueReply T) (s : Stage T) → IsBalanced q → AnswersTo q a m x s → So q0 a s q → InPlace s a q → Leaves a q0 x (marked a (is_displaced s) m q)
     leaves q (ask.Push v) m x s l h so p = push_leaves q v m x s h so
     leaves q (ask.ForcePush v) m x s l h so p = force_leaves q v m x s h so p
     leaves q ask.Pop m x s l h so p = pop_leaves q m x s h so
     leaves q ask.Close Close (reply.Close true) (trying b) l h so p =
-        ((ends q0 q ask.Close Close (reply.Close true) (trying b) tt l h so).0, ap (λ (y : Queue T). marked ask.Close false Close y) so.0)
-    leaves q ask.Close Nothing (reply.Close false) (trying b) l h so p = ((ends q0 q ask.Close Nothing (reply.Close false) (trying b) tt l h so).0, so.0)
-    leaves q ask.IsClosed Nothing (reply.Flag k) (trying b) l h so p = ((ends q0 q ask.IsClosed Nothing (reply.Flag k) (trying b) tt l h so).0, so.0)
-    leaves q ask.IsEmpty Nothing (reply.Flag k) (trying b) l h so p = ((ends q0 q ask.IsEmpty Nothing (reply.Flag k) (trying b) tt l h so).0, so.0)
-    leaves q ask.IsEmpty Nothing (reply.Flag k) (read n) l h so p = ((ends q0 q ask.IsEmpty Nothing (reply.Flag k) (read n) tt l h so).0, so.0)
-    leaves q ask.IsFull Nothing (reply.Flag k) (trying b) l h so p = ((ends q0 q ask.IsFull Nothing (reply.Flag k) (trying b) tt l h so).0, so.0)
-    leaves q ask.IsFull Nothing (reply.Flag k) (read n) l h so p = ((ends q0 q ask.IsFull Nothing (reply.Flag k) (read n) tt l h so).0, so.0)
-    leaves q ask.Len Nothing (reply.Count k) (trying b) l h so p = ((ends q0 q ask.Len Nothing (reply.Count k) (trying b) tt l h so).0, so.0)
-    leaves q ask.Len Nothing (reply.Count k) (measured n j) l h so p = ((ends q0 q ask.Len Nothing (reply.Count k) (measured n j) tt l h so).0, so.0)
-    leaves q ask.Capacity Nothing (reply.Cap k) (trying b) l h so p = ((ends q0 q ask.Capacity Nothing (reply.Cap k) (trying b) tt l h so).0, so.0)
+        let found = subst (λ (y : Queue T). IsOpen y) so.0 h in (ap not (sym found), ap (λ (y : Queue T). marked ask.Close false Close y) so.0)
+    leaves q ask.Close Nothing (reply.Close false) (trying b) l h so p = let found = subst (λ (y : Queue T). IsShut y) so.0 h in (ap not (sym found), so.0)
+    leaves q ask.IsClosed Nothing (reply.Flag k) (trying b) l h so p = (sym h ∙ ap (λ (y : Queue T). y.closed) so.0, so.0)
+    leaves q ask.IsEmpty Nothing (reply.Flag k) (trying b) l h so p = (sym h ∙ ap (λ (y : Queue T). length y.items == 0) so.0, so.0)
+    leaves q ask.IsEmpty Nothing (reply.Flag k) (read n) l h so p = (empty_read q k n l h so, so.0)
+    leaves q ask.IsFull Nothing (reply.Flag k) (trying b) l h so p = (sym h ∙ ap (λ (y : Queue T). is_filled y) so.0, so.0)
+    leaves q ask.IsFull Nothing (reply.Flag k) (read n) l h so p = (full_read q k n l h so, so.0)
+    leaves q ask.Len Nothing (reply.Count k) (trying b) l h so p = (sym h ∙ ap (λ (y : Queue T). length y.items) so.0, so.0)
+    leaves q ask.Len Nothing (reply.Count k) (measured n j) l h so p = (h.0 ∙ so.1, so.0)
+    leaves q ask.Capacity Nothing (reply.Cap k) (trying b) l h so p = (h ∙ ap (λ (y : Queue T). y.capacity) so.0, so.0)
     leaves q a m x s l h so p = absurd h
 
     -- ---- how far it has come

@@ -6,7 +6,6 @@ mod BlocksLater
 mod BlocksPhases
 mod BlocksKeeps
 mod BlocksAsks
-mod BlocksAtOnce
 mod BlocksDispatch
 mod BlocksTheorem
 mod BlocksNearer
@@ -21,8 +20,13 @@ mod BlocksPopWords
 pub mod StepFacts
 mod SingleDeeds
 mod RingDeeds
-mod Walks
+pub mod Walks
+mod Traces
 mod BlocksDeeds
+pub mod Callers
+mod BridgeSteps
+pub mod Bridge
+mod BridgeRow
 pub mod SingleSteps
 pub mod RingShape
 pub mod RingPlaces
@@ -47,7 +51,6 @@ mod BlocksStep
 mod BlocksChain
 mod BlocksFacts
 mod BlocksShows
-pub mod PlainRings
 pub mod Slots
 pub mod Evidence
 pub mod Runs
@@ -58,7 +61,6 @@ mod Whole
 pub mod PartyFacts
 pub mod RingMade
 pub mod AloneFacts
-pub mod AtOnce
 pub mod Interface
 pub mod Guards
 mod ReplyFacts

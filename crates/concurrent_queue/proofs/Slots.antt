@@ -1,9 +1,8 @@
 -- Lists of empty slots, and blocks by their numbers.
-use Rattle.std.proofs.Common.{◌≡◌, ℕ, zero, suc, ◌+◌, ◌<◌, ◌≤◌, List, [], ◌∷◌, ◌++◌, length, map, drop, Option, None, Some, slice_get, slice_set, Result, Ok, Err, MatchOption, MatchResult, Bool, true, false, ◌==◌, slice_index, slice_index_or, refl, sym, ap, ◌∙◌, subst, arith, append-nil}
-use Rattle.std.proofs.lemmas.List.{map-set, set-get_or}
+use Rattle.std.proofs.Common.{◌≡◌, ℕ, zero, suc, ◌+◌, ◌<◌, ◌≤◌, List, [], ◌∷◌, ◌++◌, length, map, drop, Option, None, Some, slice_get, slice_set, Result, Ok, Err, MatchResult, true, false, refl, sym, ap, ◌∙◌, subst, arith, append-nil}
+use Rattle.std.proofs.lemmas.List.{map-set}
 use Rattle.concurrent_queue.specs.Contents.{BlockCells, nones, no_block, block_in, is_vacant, with_slot, PutGivesIn}
 use Rattle.concurrent_queue.specs.Plain.{block_of}
-use Rattle.concurrent_queue.specs.machine.BlocksAtOnce.{filled, drawn, FillGives, DrawGives}
 use Rattle.concurrent_queue.specs.declared.pool.PlainBlock.{PlainBlock}
 
 module _ {T : Type 0} where
@@ -37,9 +36,6 @@ module _ {T : Type 0} where
   pub all_emptied : (xs ys : List (Option T)) → length ys ≡ 31 → xs ≡ empties 31 ++ drop 31 ys → xs ≡ nones
   all_emptied xs ys e f =
       all_empty xs 31 refl (f ∙ ap (λ (zs : List (Option T)). empties 31 ++ zs) (drop_all 31 ys (omega arith)) ∙ append-nil (empties 31))
-
-  pub none_again : (xs : List (Option T)) (i : ℕ) → slice_index_or xs i None ≡ None → slice_set xs i None ≡ xs
-  none_again xs i e = ap (λ (x : Option T). slice_set xs i x) (sym e) ∙ set-get_or xs i None
 
   -- blocks by their numbers
   pub found : (xs : List (PlainBlock T)) (i : ℕ) (x : PlainBlock T) → slice_get xs i ≡ Some x → block_in (map block_of xs) i ≡ block_of x
@@ -88,35 +84,3 @@ module _ {T : Type 0} where
     h.1,
     changed xs (slice_set xs i y) i y (block_of x) refl h.2 ∙ same_set (map block_of xs) i (block_of x) (there_of xs i x there),
   )
-
-  -- a block that is what it was changes nothing
-  rewritten : (xs : List (PlainBlock T)) (i : ℕ) (x y : PlainBlock T) → slice_get xs i ≡ Some x → block_of y ≡ block_of x → map block_of (slice_set xs i y) ≡ map block_of xs
-  rewritten xs i x y there e =
-      changed xs (slice_set xs i y) i y (block_of x) refl e ∙ same_set (map block_of xs) i (block_of x) (there_of xs i x there)
-
-  within : (xs : List (PlainBlock T)) (i : ℕ) (x : PlainBlock T) → slice_get xs i ≡ Some x → i < length (map block_of xs)
-  within [] i x e = absurd cc
-  within (y ∷ xs) zero x e = omega arith
-  within (y ∷ xs) (suc i) x e = let h = within xs i x e in omega arith
-
-  pub fill_in : (xs : List (PlainBlock T)) (i o : ℕ) (v : T) (x y : PlainBlock T) → slice_get xs i ≡ Some x → (r : Result Unit T)
-      → MatchResult r
-      (λ _. (is_vacant (slice_get (block_of x).slots o) ≡ true) × (block_of y ≡ filled (block_of x) o v))
-      (λ w. (w ≡ v) × (block_of y ≡ block_of x))
-      → FillGives (map block_of xs) i o v r (map block_of (slice_set xs i y))
-  fill_in xs i o v x y there (Ok u) h = (
-    (within xs i x there, subst (λ (b : BlockCells T). is_vacant (slice_get b.slots o) ≡ true) (sym (found xs i x there)) h.0),
-    edited xs i x y (λ b. filled b o v) there h.1,
-  )
-  fill_in xs i o v x y there (Err w) h = (h.0, rewritten xs i x y there h.1)
-
-  pub draw_in : (xs : List (PlainBlock T)) (i o : ℕ) (last : Bool) (x y : PlainBlock T) → slice_get xs i ≡ Some x → (r : Option T)
-      → MatchOption r (block_of y ≡ block_of x)
-      (λ v. (slice_index (block_of x).written o ≡ 1) × (slice_index_or (block_of x).slots o None ≡ Some v) × (((block_of x).reads == 30) ≡ last) × (block_of y ≡ drawn (block_of x) o))
-      → DrawGives (map block_of xs) i o last r (map block_of (slice_set xs i y))
-  draw_in xs i o last x y there (Some v) h = (
-    subst (λ (b : BlockCells T). (i < length (map block_of xs)) × (slice_index b.written o ≡ 1) × (slice_index_or b.slots o None ≡ Some v) × ((b.reads == 30) ≡ last)) (sym (found xs i x there))
-        (within xs i x there, h.0, h.1, h.2),
-    edited xs i x y (λ b. drawn b o) there h.3,
-  )
-  draw_in xs i o last x y there None h = rewritten xs i x y there h

@@ -75,7 +75,7 @@ module _ {T S R : Type 0} (did : Deed T → S → S → Type 0) (seen : Deed T �
   first_seen (Bounded cap) s a t r h = bounded_seen (cap == 1) (cap_of cap) s a t r h
   first_seen Unbounded s a t r h = blocks_seen s (begin a) t r h
 
-  state_seen : (form : QueueForm) (s : S) (at : CallState T) (t : S) (r : Stepped (CallState T) T) → StateMakes did form s at t r → StateMakes seen form (view s) at (view t) r
+  pub state_seen : (form : QueueForm) (s : S) (at : CallState T) (t : S) (r : Stepped (CallState T) T) → StateMakes did form s at t r → StateMakes seen form (view s) at (view t) r
   state_seen form s (Asked a) t r h = first_seen form s a t r h
   state_seen form s (Single a) t r (x, h, e) = (x, makes_seen (single_moves a) s x t h, e)
   state_seen form s (Ring a) t r (x, h, e) = (x, makes_seen (ring_moves (ring_cap form) (ring_mark (ring_cap form)) a) s x t h, e)

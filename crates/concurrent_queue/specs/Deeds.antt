@@ -1,6 +1,6 @@
 -- What is done to the cells of a queue by one operation, with what it answered; and a step of a machine as one operation with
 -- what follows each answer. Nothing here speaks of what the cells hold, so it is said of cells that threads share as well.
-use Rattle.std.specs.Prelude.{◌≡◌, ℕ, Option, Result}
+use Rattle.std.specs.Prelude.{◌≡◌, ℕ, Bool, true, false, Option, Result, Ok, Err}
 use Rattle.concurrent_queue.specs.declared.cells.Slot.{Slot}
 use Rattle.concurrent_queue.specs.declared.cells.Word.{Word}
 use Rattle.concurrent_queue.specs.declared.error.NoMemory.{NoMemory}
@@ -17,6 +17,11 @@ pub data Deed (T : Type 0) : Type 0 where
   did_take : Slot → Option T → Deed T
   spared : Result ℕ NoMemory → Deed T
   retired : ℕ → Deed T
+
+-- a slot takes a message, or hands it back
+abbrev pub put_answer : {T : Type 0} → T → Bool → Result Unit T
+put_answer v true = Ok tt
+put_answer v false = Err v
 
 -- the operation that an action makes, and what follows each answer
 pub data Move (T A : Type 0) : Type 0 where

@@ -12,6 +12,8 @@ pub mod Scene
 pub mod Run
 pub mod Accounts
 pub mod Bounds
+pub mod Bridge
+pub mod BridgeRow
 pub mod Lone
 pub mod Whole
 pub mod Alone

@@ -1,8 +1,8 @@
 -- When a push into a queue of one owner can't be refused.
 use Rattle.std.specs.Prelude.{◌≡◌, false, IsSome}
-use Rattle.concurrent_queue.specs.Alone.{Held, TakesMore, is_full}
+use Rattle.concurrent_queue.specs.Alone.{Held, is_full}
 
 module _ {T : Type 0} where
-  -- an open queue with a bound and positions left that holds fewer messages than fit
+  -- an open queue with a bound that holds fewer messages than fit
   abbrev pub HasPlace : Held T → Type 0
-  HasPlace m = TakesMore m × (is_full m ≡ false) × IsSome m.capacity
+  HasPlace m = (m.closed ≡ false) × (is_full m ≡ false) × IsSome m.capacity

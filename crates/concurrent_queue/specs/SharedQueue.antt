@@ -11,9 +11,13 @@ use Rattle.concurrent_queue.specs.declared.queue_call.QueueCall.{QueueCall}
 use Rattle.concurrent_queue.specs.declared.shared.queue.ConcurrentQueue.{ConcurrentQueue}
 
 module _ {T : Type 0} where
-  -- how many messages it can hold, if there is a bound; this never changes
+  -- which kind of queue it is; this never changes
+  abbrev pub form_in : ConcurrentQueue T → QueueForm
+  form_in q = q.form
+
+  -- how many messages it can hold, if there is a bound
   abbrev pub limit : ConcurrentQueue T → Option ℕ
-  limit q = room_of q.form
+  limit q = room_of (form_in q)
 
   -- a push is refused as full by a bounded queue alone, and for memory by an unbounded one alone
   abbrev pub CanRefuse : Option ℕ → PushError T → Type 0
@@ -27,7 +31,7 @@ module _ {T : Type 0} where
 
   -- a step on this queue's cells: what may be answered after it might have been answered before, and so might its reply
   abbrev pub IsSharedStep : ConcurrentQueue T → QueueCall T → QueueCall T → Option (QueueReply T) → Type 0
-  IsSharedStep q call call' answer = Follows q.form call call' answer
+  IsSharedStep q call call' answer = Follows (form_in q) call call' answer
 
   -- the call is close or a question but for the length
   abbrev pub IsWordsAlone : QueueCall T → Type 0

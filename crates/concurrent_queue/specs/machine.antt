@@ -10,7 +10,6 @@ pub mod RingMeans
 pub mod RingRank
 pub mod RingReadings
 pub mod RingMade
-pub mod RingAtOnce
 pub mod BlocksState
 pub mod BlocksCalls
 pub mod BlocksMoves
@@ -18,7 +17,6 @@ pub mod BlocksLeft
 pub mod BlocksWords
 pub mod BlocksMakes
 pub mod BlocksDenotes
-pub mod BlocksAtOnce
 pub mod BlocksForm
 pub mod Dispatch
 pub mod Places

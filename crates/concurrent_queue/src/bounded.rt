@@ -17,7 +17,6 @@ ghost use Rattle.concurrent_queue.specs.machine.Dispatch.{IsRingStep, ring_cap};
 ghost use Rattle.concurrent_queue.specs.Replies.{RingFollows, MaySend};
 
 pub(crate) mod ahead;
-pub(crate) mod at_once;
 
 use crate::call::{QueueAsk, QueueMark, QueueReply, Stepped};
 use crate::cells::{Cells, QueueForm, Slot, Word};

@@ -36,7 +36,7 @@ pub enum PopError {
     Closed,
 }
 
-/// There was no memory for another block, or for the words and slots of a new queue.
+/// There was no memory for another block, or for the words and slots, or the places, of a new queue.
 #[derive(Clone, Copy, PartialEq, Eq, Debug)]
 pub struct NoMemory;
 

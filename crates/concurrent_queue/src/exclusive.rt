@@ -1,233 +1,122 @@
 //! A queue of one owner.
 
-ghost use Rattle.std.specs.Prelude.{◌≡◌, ◌≤◌, ◌^◌};
-ghost use Rattle.concurrent_queue.specs.Alone.{Gives, PushGives, PopGives, held, IsSound, HasRoom, one_more, used_after};
-ghost use Rattle.concurrent_queue.specs.declared.call.QueueAsk.TheVariants as ask;
-ghost use Rattle.concurrent_queue.specs.Capacity.{capacity_of};
-ghost use Rattle.concurrent_queue.specs.Plain.{contents_of};
-
-use crate::bounded::at_once::{pop_at_once, push_at_once};
-use crate::call::{QueueAsk, QueueReply};
-use crate::cells::{Cells, QueueForm};
+use crate::bounded::GREATEST;
 use crate::error::{ForcePushError, NoMemory, PopError, PushError};
-use crate::plain::PlainCells;
-use crate::queue_call::QueueCall;
-use crate::unbounded::at_once as blocks;
 use std::alloc::Global;
+use std::collections::VecDeque;
 use std::marker::Model;
 
-/// A queue of one owner, which can be closed. Its calls run the same steps as those of a shared queue, each to its end, and
-/// none of them waits. Own to this project.
-///
-/// A ring or an unbounded queue gives each message that it accepts a position of its own, and has 2^61 of them: at a
-/// thousand million messages a second that is seventy years. A queue of one slot has no positions, and no end.
+/// A queue of one owner, which can be closed. None of its calls waits. Own to this project.
 #[derive(Drop)]
 pub struct Exclusive<T> {
-    cells: PlainCells<T>,
-    used: u64,
+    messages: VecDeque<T>,
+    capacity: Option<usize>,
+    closed: bool,
 }
 
 impl<T> Model for Exclusive<T> {
-    ghost use Rattle.concurrent_queue.specs.Alone.{Held, held, IsSound};
-    ghost use Rattle.concurrent_queue.specs.Plain.{contents_of};
+    ghost use Rattle.std.specs.Prelude.{ℕ, ◌≡◌, ◌<◌, ◌≤◌, Some, length};
+    ghost use Rattle.std.specs.VecDeque.{deque_capacity};
+    ghost use Rattle.concurrent_queue.specs.Alone.{Held};
 
     ghost Value = { Held T };
 
-    ghost view = { λ q. held (contents_of q.cells) q.used };
+    ghost view = { λ q. record { items = q.messages.items; closed = q.closed; capacity = q.capacity } };
 
-    ghost invariant = { λ q. IsSound (contents_of q.cells) q.used };
-}
-
-/// How many positions a queue has.
-const POSITIONS: u64 = 0x2000_0000_0000_0000;
-
-/// How many positions are used up with one more message.
-fn with_one_more(form: QueueForm, used: u64) -> u64
-    requires { used ≤ 2 ^ 61 }
-    ensures { result ≡ one_more (capacity_of form) used }
-{
-    match form {
-        QueueForm::Bounded(1) => used,
-        _ => used + 1,
-    }
-}
-
-/// How many positions are used up once a call has answered so.
-fn count<T>(form: QueueForm, used: u64, reply: &QueueReply<T>) -> u64
-    requires { used ≤ 2 ^ 61 }
-    ensures { result ≡ used_after (capacity_of form) used reply.now }
-{
-    match reply {
-        QueueReply::Push(Ok(())) => with_one_more(form, used),
-        QueueReply::Force(Ok(_)) => with_one_more(form, used),
-        _ => used,
-    }
-}
-
-/// Steps a call to its end, and counts the position of the message that it brings.
-#[inline(never)]
-fn finish<T: Drop, C: Cells<T>>(cells: &mut C, used: &mut u64, ask: QueueAsk<T>) -> QueueReply<T>
-    requires known { C.known }
-    requires sound { IsSound (C.contents cells.old) used.old }
-    requires room { HasRoom ask used.old }
-    ensures sound { IsSound (C.contents cells.new) used.new }
-    ensures answer { Gives ask (held (C.contents cells.old) used.old) (held (C.contents cells.new) used.new) result }
-{
-    let mut call = QueueCall::new(ask);
-    loop {
-        match call.step(cells) {
-            Some(reply) => {
-                drop(call);
-                *used = count(cells.form(), *used, &reply);
-                return reply;
-            }
-            None => {}
-        }
-    }
-}
-
-/// Appends a message step by step.
-#[inline(never)]
-fn push_stepping<T: Drop>(
-    cells: &mut PlainCells<T>,
-    used: &mut u64,
-    value: T,
-) -> Result<(), PushError<T>>
-    requires sound { IsSound (contents_of cells.old) used.old }
-    requires room { HasRoom (ask.Push value) used.old }
-    ensures sound { IsSound (contents_of cells.new) used.new }
-    ensures answer { PushGives (held (contents_of cells.old) used.old) value (held (contents_of cells.new) used.new) result }
-{
-    match finish(cells, used, QueueAsk::Push(value)) {
-        QueueReply::Push(result) => result,
-        _ => unreachable!(),
-    }
-}
-
-/// Takes the oldest message step by step.
-#[inline(never)]
-fn pop_stepping<T: Drop>(cells: &mut PlainCells<T>, used: &mut u64) -> Result<T, PopError>
-    requires sound { IsSound (contents_of cells.old) used.old }
-    ensures sound { IsSound (contents_of cells.new) used.new }
-    ensures answer { PopGives (held (contents_of cells.old) used.old) (held (contents_of cells.new) used.new) result }
-{
-    match finish(cells, used, QueueAsk::Pop) {
-        QueueReply::Pop(result) => result,
-        _ => unreachable!(),
-    }
-}
-
-/// Appends a message: at once where nothing stands against it, else step by step.
-#[inline(always)]
-fn push_into<T: Drop>(
-    cells: &mut PlainCells<T>,
-    used: &mut u64,
-    value: T,
-) -> Result<(), PushError<T>>
-    requires sound { IsSound (contents_of cells.old) used.old }
-    requires room { HasRoom (ask.Push value) used.old }
-    ensures sound { IsSound (contents_of cells.new) used.new }
-    ensures answer { PushGives (held (contents_of cells.old) used.old) value (held (contents_of cells.new) used.new) result }
-{
-    let value = match blocks::push_at_once(value, cells) {
-        Ok(()) => {
-            *used += 1;
-            return Ok(());
-        }
-        Err(value) => value,
-    };
-    let value = match push_at_once(value, cells) {
-        Ok(()) => {
-            *used += 1;
-            return Ok(());
-        }
-        Err(value) => value,
-    };
-    push_stepping(cells, used, value)
-}
-
-/// Takes the oldest message: at once where it lies there, else step by step.
-#[inline(always)]
-fn pop_from<T: Drop>(cells: &mut PlainCells<T>, used: &mut u64) -> Result<T, PopError>
-    requires sound { IsSound (contents_of cells.old) used.old }
-    ensures sound { IsSound (contents_of cells.new) used.new }
-    ensures answer { PopGives (held (contents_of cells.old) used.old) (held (contents_of cells.new) used.new) result }
-{
-    if let Some(value) = blocks::pop_at_once(cells) {
-        return Ok(value);
-    }
-    if let Some(value) = pop_at_once(cells) {
-        return Ok(value);
-    }
-    pop_stepping(cells, used)
+    ghost invariant = { λ q. (cap : ℕ) → q.capacity ≡ Some cap → (0 < cap) × (length q.messages.items ≤ cap) × (cap ≤ deque_capacity q.messages) };
 }
 
 impl<T: Drop> Exclusive<T> {
-    ghost use Rattle.std.specs.Prelude.{IfOk, ◌≡◌, ◌==◌, ◌<◌, ◌≤◌, ◌^◌, ℕ, List, [], Some, None, true, false, not, length};
+    ghost use Rattle.std.specs.Prelude.{IfOk, IfErr, IsOk, ◌≡◌, ◌==◌, ◌<◌, ◌≤◌, ◌^◌, ◌∷◌, ◌++◌, ℕ, List, [], Some, None, true, false, not, length};
     ghost use Rattle.concurrent_queue.specs.Alone.{PushGives, ForceGives, PopGives, is_full, shut};
+    ghost use Rattle.concurrent_queue.specs.Room.{HasPlace};
 
-    /// An open empty queue that holds at most `capacity` messages. `Err` where there is no memory for its slots, which for
-    /// a capacity above 2^58 nobody is asked for.
+    /// An open empty queue that holds at most `capacity` messages. `Err` where there is no memory for them, which for a
+    /// capacity above 2^58 nobody is asked for.
     pub fn bounded(alloc: Global, capacity: usize) -> Result<Exclusive<T>, NoMemory>
         requires { 0 < capacity }
-        ensures opened { IfOk result (λ q. q ≡ record { items = []; closed = false; capacity = Some capacity; used = 0 }) }
+        ensures opened { IfOk result (λ q. q ≡ record { items = []; closed = false; capacity = Some capacity }) }
         ensures most { IfOk result (λ q. capacity ≤ 2 ^ 58) }
     {
-        match PlainCells::new(alloc, QueueForm::Bounded(capacity)) {
-            Ok(cells) => Ok(Exclusive { cells, used: 0 }),
+        if GREATEST < capacity {
+            return Err(NoMemory);
+        }
+        match VecDeque::with_capacity(alloc, capacity) {
+            Ok(messages) => Ok(Exclusive {
+                messages,
+                capacity: Some(capacity),
+                closed: false,
+            }),
             Err(_) => Err(NoMemory),
         }
     }
 
-    /// An open empty queue with no bound. It takes no memory: that comes with the messages, a block for 31 of them, and
-    /// a block whose messages were all taken is used again.
+    /// An open empty queue with no bound. It takes no memory: that comes with the messages.
     pub fn unbounded(alloc: Global) -> Exclusive<T>
-        ensures { result ≡ record { items = []; closed = false; capacity = None; used = 0 } }
+        ensures { result ≡ record { items = []; closed = false; capacity = None } }
     {
         Exclusive {
-            cells: PlainCells::unbounded(alloc),
-            used: 0,
+            messages: VecDeque::new(alloc),
+            capacity: None,
+            closed: false,
         }
     }
 
-    /// Appends the message. A refusal hands it back: there was no memory for it, which an open queue with no bound may say,
-    /// the queue was full, or nothing more comes in, since it was closed or its positions are used up. In the last case the
-    /// queue closes itself; else a refused push leaves it as it was. Where `HasPlace` of `specs/Room` holds it succeeds: the
-    /// queue has a bound, is open, holds fewer messages than fit, and has a position left.
-    #[inline(always)]
+    /// Appends the message. A refusal hands it back and leaves the queue as it was: there was no memory for it, which an open
+    /// queue with no bound may say, the queue was full, or it was closed. Where `HasPlace` of `specs/Room` holds it succeeds:
+    /// the queue has a bound, is open, and holds fewer messages than fit.
+    #[inline]
     pub fn push(&mut self, value: T) -> Result<(), PushError<T>>
-        ensures { PushGives self.old value self.new result }
+        ensures answer { PushGives self.old value self.new result }
+        ensures appended { IfOk result (λ u. self.new.items ≡ self.old.items ++ value ∷ []) }
+        ensures unchanged { IfErr result (λ e. self.new ≡ self.old) }
+        ensures succeeds { HasPlace self.old → IsOk result }
     {
-        if self.used == POSITIONS {
-            self.close();
+        if self.closed {
             return Err(PushError::Closed(value));
         }
-        push_into(&mut self.cells, &mut self.used, value)
+        if self.is_full() {
+            return Err(PushError::Full(value));
+        }
+        match self.messages.push_back(value) {
+            Ok(()) => Ok(()),
+            Err(refused) => Err(PushError::NoMemory(refused.value)),
+        }
     }
 
     /// Appends the message; where the queue is full, the oldest one leaves for it and is answered. A refusal hands the
-    /// message back: there was no memory for it, which an open queue with no bound may say, or nothing more comes in, since
-    /// the queue was closed or its positions are used up. In the last case the queue closes itself; else a refused push
-    /// leaves it as it was.
+    /// message back and leaves the queue as it was: there was no memory for it, which an open queue with no bound may say, or
+    /// the queue was closed.
     pub fn force_push(&mut self, value: T) -> Result<Option<T>, ForcePushError<T>>
         ensures { ForceGives self.old value self.new result }
     {
-        if self.used == POSITIONS {
-            self.close();
+        if self.closed {
             return Err(ForcePushError::Closed(value));
         }
-        match finish(&mut self.cells, &mut self.used, QueueAsk::ForcePush(value)) {
-            QueueReply::Force(result) => result,
-            _ => unreachable!(),
+        if self.is_full() {
+            let oldest = self.messages.pop_front();
+            self.messages.push_back_reserved(value);
+            return Ok(oldest);
+        }
+        match self.messages.push_back(value) {
+            Ok(()) => Ok(None),
+            Err(refused) => Err(ForcePushError::NoMemory(refused.value)),
         }
     }
 
     /// Takes the oldest message. `Err` where there is none: `Empty` while the queue is open, `Closed` once it is closed.
     #[inline]
     pub fn pop(&mut self) -> Result<T, PopError>
-        ensures { PopGives self.old self.new result }
+        ensures answer { PopGives self.old self.new result }
+        ensures taken { IfOk result (λ v. self.old.items ≡ v ∷ self.new.items) }
+        ensures unchanged { IfErr result (λ e. self.new ≡ self.old) }
+        ensures succeeds { 0 < length self.old.items → IsOk result }
     {
-        pop_from(&mut self.cells, &mut self.used)
+        match self.messages.pop_front() {
+            Some(value) => Ok(value),
+            None if self.closed => Err(PopError::Closed),
+            None => Err(PopError::Empty),
+        }
     }
 
     /// Closes the queue: nothing more comes in, and what is in can still be popped. True where it was open.
@@ -235,10 +124,9 @@ impl<T: Drop> Exclusive<T> {
         ensures answer { result ≡ not self.old.closed }
         ensures left { self.new ≡ shut self.old }
     {
-        match finish(&mut self.cells, &mut self.used, QueueAsk::Close) {
-            QueueReply::Close(result) => result,
-            _ => unreachable!(),
-        }
+        let was_open = !self.closed;
+        self.closed = true;
+        was_open
     }
 
     /// Whether the queue is closed.
@@ -246,10 +134,7 @@ impl<T: Drop> Exclusive<T> {
         ensures answer { result ≡ self.old.closed }
         ensures left { self.new ≡ self.old }
     {
-        match finish(&mut self.cells, &mut self.used, QueueAsk::IsClosed) {
-            QueueReply::Flag(result) => result,
-            _ => unreachable!(),
-        }
+        self.closed
     }
 
     /// Whether it holds no message.
@@ -257,20 +142,18 @@ impl<T: Drop> Exclusive<T> {
         ensures answer { result ≡ (length self.old.items == 0) }
         ensures left { self.new ≡ self.old }
     {
-        match finish(&mut self.cells, &mut self.used, QueueAsk::IsEmpty) {
-            QueueReply::Flag(result) => result,
-            _ => unreachable!(),
-        }
+        self.messages.is_empty()
     }
 
     /// Whether it holds as many messages as its capacity.
+    #[inline]
     pub fn is_full(&mut self) -> bool
         ensures answer { result ≡ is_full self.old }
         ensures left { self.new ≡ self.old }
     {
-        match finish(&mut self.cells, &mut self.used, QueueAsk::IsFull) {
-            QueueReply::Flag(result) => result,
-            _ => unreachable!(),
+        match self.capacity {
+            Some(capacity) => self.messages.len() == capacity,
+            None => false,
         }
     }
 
@@ -280,10 +163,7 @@ impl<T: Drop> Exclusive<T> {
         ensures within { (cap : ℕ) → self.old.capacity ≡ Some cap → result ≤ cap }
         ensures left { self.new ≡ self.old }
     {
-        match finish(&mut self.cells, &mut self.used, QueueAsk::Len) {
-            QueueReply::Count(result) => result,
-            _ => unreachable!(),
-        }
+        self.messages.len()
     }
 
     /// How many messages it can hold.
@@ -291,10 +171,7 @@ impl<T: Drop> Exclusive<T> {
         ensures answer { result ≡ self.old.capacity }
         ensures left { self.new ≡ self.old }
     {
-        match finish(&mut self.cells, &mut self.used, QueueAsk::Capacity) {
-            QueueReply::Cap(result) => result,
-            _ => unreachable!(),
-        }
+        self.capacity
     }
 }
 

@@ -4,6 +4,10 @@ ghost use Rattle.concurrent_queue.specs.Accounts.{NothingIsLost};
 ghost use Rattle.concurrent_queue.specs.Lone.{LoneCallsEnd};
 ghost use Rattle.concurrent_queue.specs.Bounds.{NeverOverfull, ClosesOnce};
 ghost use Rattle.concurrent_queue.specs.Whole.{NeverWholeAtOnce};
+ghost use Rattle.concurrent_queue.specs.Bridge.{MergesAreRuns, WalksAct};
+ghost use Rattle.concurrent_queue.specs.BridgeRow.{TwoCallsMerge};
+
+use crate::cells::Cells;
 
 /// What was removed, followed by what is held at the end, is what was held at the start, followed by what was accepted, in
 /// order: of every message type and of every list of steps. So no message is lost, doubled or reordered.
@@ -42,4 +46,29 @@ pub fn closes_once<T>()
 /// Own to this project.
 pub fn never_whole_at_once<T>()
     ensures stepwise { NeverWholeAtOnce T }
+{}
+
+/// The operations of any number of parties, merged in any order in which each one's answer is what the cells then held, are
+/// a run as `run_queue_steps` promises it, with each reply that was given. Of a party nothing is asked but that its calls do
+/// what their machines do next, and go by the answers. So what holds of every run holds of calls on threads, whose
+/// operations are atomic and so come in one order.
+///
+/// Own to this project.
+pub fn merges_are_runs<T>()
+    ensures runs { MergesAreRuns T }
+{}
+
+/// What the contract of a whole call says, over cells of any kind, is what `merges_are_runs` asks of its party: the call has
+/// done operations that its machine does, these and no others, and goes by their answers to its reply.
+///
+/// Own to this project.
+pub fn walks_act<T, C: Cells<T>>()
+    ensures acts { WalksAct C.did }
+{}
+
+/// There are such merges: a push and a pop of one slot whose operations come in turn, as they would between two threads.
+///
+/// Own to this project.
+pub fn two_calls_merge<T>()
+    ensures merge { TwoCallsMerge T }
 {}

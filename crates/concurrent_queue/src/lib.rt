@@ -2,7 +2,7 @@
 //!
 //! [`ConcurrentQueue`] is shared by threads. Each of its calls runs the steps of a [`QueueCall`], of which it is proved what one
 //! does to the queue whatever other calls are under way; [`run_queue_steps`] runs any interleaving of such steps over the cells
-//! of one owner. [`Exclusive`] is a queue of one owner: each reply and each content is said exactly.
+//! of one owner. [`Exclusive`] is a queue of one owner, a deque: each reply and each content is said exactly.
 #![tactic(auto)]
 
 mod bounded;
@@ -12,10 +12,10 @@ pub mod error;
 pub mod exclusive;
 pub mod laws;
 pub mod plain;
-mod plain_ring;
 mod pool;
 pub mod queue_call;
 pub mod run;
+pub mod seen;
 pub mod shared;
 mod single;
 mod unbounded;

@@ -1,29 +1,25 @@
-//! The cells of a queue of one owner.
+//! The cells of one owner, over which runs step.
 
 ghost use Rattle.std.specs.Prelude.{◌≡◌, IfOk};
-ghost use Rattle.concurrent_queue.specs.machine.Dispatch.{ring_cap};
-ghost use Rattle.concurrent_queue.specs.machine.RingWords.{ring_mark};
+ghost use Rattle.concurrent_queue.specs.machine.RingMade.{numbers_below, vacant_slots};
 
-use crate::bounded::{GREATEST, Shape};
+use crate::bounded::GREATEST;
 use crate::cells::{Cells, QueueForm, Slot, Word};
 use crate::error::NoMemory;
-use crate::plain_ring::PlainRing;
 use crate::pool::Pool;
 use std::alloc::{AllocError, Global};
 
-/// The cells of a queue of one owner, for each form of queue, with the measures that a ring of this form has.
+/// The cells of one owner, for each form of queue.
 pub struct PlainCells<T> {
     form: QueueForm,
     state: u64,
-    pub(crate) head: u64,
-    pub(crate) tail: u64,
-    pub(crate) shape: Shape,
-    pub(crate) ring: PlainRing<T>,
-    pub(crate) head_block: u64,
-    pub(crate) tail_block: u64,
-    pub(crate) pool: Pool<T>,
-    ghost capped: { shape.cap ≡ ring_cap form },
-    ghost marked: { shape.mark ≡ ring_mark (ring_cap form) },
+    head: u64,
+    tail: u64,
+    stamps: Vec<u64>,
+    slots: Vec<Option<T>>,
+    head_block: u64,
+    tail_block: u64,
+    pool: Pool<T>,
 }
 
 /// By hand, so that what a crate above proves of cells that it lets go doesn't go into their blocks.
@@ -34,15 +30,46 @@ impl<T: Drop> Drop for PlainCells<T> {
             state: _,
             head: _,
             tail: _,
-            shape: _,
-            ring,
+            stamps,
+            slots,
             head_block: _,
             tail_block: _,
             pool,
         } = self;
-        drop(ring);
+        drop(stamps);
+        drop(slots);
         drop(pool);
     }
+}
+
+/// The stamps of a new ring: each slot waits for the message that is first at its index.
+#[tactic(auto, using(crate::proofs::RingMade::next_number))]
+fn first_stamps(alloc: Global, capacity: usize) -> Result<Vec<u64>, AllocError>
+    ensures { IfOk result (λ stamps. stamps.items ≡ numbers_below capacity) }
+{
+    let mut stamps = Vec::with_capacity(alloc, capacity)?;
+    for index in 0..capacity {
+        match stamps.push(index as u64) {
+            Ok(()) => {}
+            Err(_) => return Err(AllocError),
+        }
+    }
+    Ok(stamps)
+}
+
+/// As many empty slots.
+#[tactic(auto, using(crate::proofs::RingMade::next_slot))]
+fn empty_slots<T: Drop>(alloc: Global, capacity: usize) -> Result<Vec<Option<T>>, AllocError>
+    ensures { IfOk result (λ slots. slots.items ≡ vacant_slots capacity) }
+{
+    let mut slots = Vec::with_capacity(alloc, capacity)?;
+    for _index in 0..capacity {
+        match slots.push(None) {
+            Ok(()) => {}
+            Err(_) => return Err(AllocError),
+        }
+    }
+    Ok(slots)
 }
 
 impl<T: Drop> Cells<T> for PlainCells<T> {
@@ -161,14 +188,18 @@ impl<T: Drop> PlainCells<T> {
     fn one_slot(alloc: Global) -> Result<PlainCells<T>, AllocError>
         ensures { IfOk result (λ cells. contents_of cells ≡ empty_slot) }
     {
-        let ring = PlainRing::one(alloc)?;
+        let mut slots = Vec::with_capacity(alloc, 1)?;
+        match slots.push(None) {
+            Ok(()) => {}
+            Err(_) => return Err(AllocError),
+        }
         Ok(PlainCells {
             form: QueueForm::Bounded(1),
             state: 0,
             head: 0,
             tail: 0,
-            shape: Shape::of(1),
-            ring,
+            stamps: Vec::new(alloc),
+            slots,
             head_block: 0,
             tail_block: 0,
             pool: Pool::new(alloc),
@@ -179,14 +210,15 @@ impl<T: Drop> PlainCells<T> {
     fn ring(alloc: Global, capacity: usize) -> Result<PlainCells<T>, AllocError>
         ensures { IfOk result (λ cells. contents_of cells ≡ empty_ring capacity) }
     {
-        let ring = PlainRing::of(alloc, capacity)?;
+        let stamps = first_stamps(alloc, capacity)?;
+        let slots = empty_slots(alloc, capacity)?;
         Ok(PlainCells {
             form: QueueForm::Bounded(capacity),
             state: 0,
             head: 0,
             tail: 0,
-            shape: Shape::of(capacity),
-            ring,
+            stamps,
+            slots,
             head_block: 0,
             tail_block: 0,
             pool: Pool::new(alloc),
@@ -194,7 +226,7 @@ impl<T: Drop> PlainCells<T> {
     }
 
     /// The cells of an open and empty unbounded queue. It takes no memory: blocks are made when messages come.
-    pub(crate) fn unbounded(alloc: Global) -> PlainCells<T>
+    fn unbounded(alloc: Global) -> PlainCells<T>
         ensures { contents_of result ≡ empty_blocks }
     {
         PlainCells {
@@ -202,8 +234,8 @@ impl<T: Drop> PlainCells<T> {
             state: 0,
             head: 0,
             tail: 0,
-            shape: Shape::of(0),
-            ring: PlainRing::none(alloc),
+            stamps: Vec::new(alloc),
+            slots: Vec::new(alloc),
             head_block: 0,
             tail_block: 0,
             pool: Pool::new(alloc),
@@ -217,7 +249,13 @@ impl<T: Drop> PlainCells<T> {
             Word::State => self.state,
             Word::Head => self.head,
             Word::Tail => self.tail,
-            Word::Stamp(i) => self.ring.stamp(i),
+            Word::Stamp(i) => {
+                if (i as usize) < self.stamps.len() {
+                    self.stamps[i as usize]
+                } else {
+                    0
+                }
+            }
             Word::HeadBlock => self.head_block,
             Word::TailBlock => self.tail_block,
             Word::Next(b) => self.pool.next(b),
@@ -234,7 +272,11 @@ impl<T: Drop> PlainCells<T> {
             Word::State => self.state = value,
             Word::Head => self.head = value,
             Word::Tail => self.tail = value,
-            Word::Stamp(i) => self.ring.set_stamp(i, value),
+            Word::Stamp(i) => {
+                if (i as usize) < self.stamps.len() {
+                    self.stamps[i as usize] = value;
+                }
+            }
             Word::HeadBlock => self.head_block = value,
             Word::TailBlock => self.tail_block = value,
             Word::Next(b) => self.pool.set_next(b, value),
@@ -247,7 +289,13 @@ impl<T: Drop> PlainCells<T> {
         ensures gives { PutGives (contents_of self.old) (slot.At place) value result (contents_of self.new) }
         ensures form { self.new.form ≡ self.old.form }
     {
-        self.ring.put(place, value)
+        let at = place as usize;
+        if at < self.slots.len() && self.slots[at].is_none() {
+            self.slots[at] = Some(value);
+            Ok(())
+        } else {
+            Err(value)
+        }
     }
 
     fn put_in(&mut self, block: u64, offset: u64, value: T) -> Result<(), T>
@@ -262,7 +310,12 @@ impl<T: Drop> PlainCells<T> {
         ensures left { contents_of self.new ≡ write_slot (contents_of self.old) (slot.At place) None }
         ensures form { self.new.form ≡ self.old.form }
     {
-        self.ring.take(place)
+        let at = place as usize;
+        if at < self.slots.len() {
+            self.slots[at].take()
+        } else {
+            None
+        }
     }
 
     fn take_in(&mut self, block: u64, offset: u64) -> Option<T>

@@ -1,4 +1,4 @@
-//! The blocks of an unbounded queue of one owner, by their numbers, and the list of those that are not in use.
+//! The blocks that unbounded cells of one owner have, by their numbers, and the list of those that are not in use.
 
 ghost use Rattle.std.specs.Prelude.{◌≡◌, length, ◌≤◌, ◌++◌, map, take, drop, None, IfOk, vec_capacity, vec_len};
 ghost use Rattle.concurrent_queue.specs.Contents.{nones};
@@ -14,10 +14,10 @@ pub(crate) const SLOTS: u64 = 31;
 /// One block.
 #[derive(Drop)]
 pub(crate) struct PlainBlock<T> {
-    pub(crate) next: u64,
-    pub(crate) reads: u64,
-    pub(crate) written: [u64; 31],
-    pub(crate) slots: Vec<Option<T>>,
+    next: u64,
+    reads: u64,
+    written: [u64; 31],
+    slots: Vec<Option<T>>,
     ghost whole: { length slots.items ≡ 31 },
 }
 
@@ -49,14 +49,13 @@ fn clear_slots<T: Drop>(slots: &mut Vec<Option<T>>)
 #[derive(Drop)]
 pub(crate) struct Pool<T> {
     alloc: Global,
-    pub(crate) blocks: Vec<PlainBlock<T>>,
-    pub(crate) spares: VecDeque<u64>,
+    blocks: Vec<PlainBlock<T>>,
+    spares: VecDeque<u64>,
     ghost placed: { length blocks.items ≤ deque_capacity spares },
 }
 
 impl<T: Drop> PlainBlock<T> {
     ghost use Rattle.std.specs.Prelude.{◌≡◌, ◌==◌, None, IfOk, Some, Result, Ok, Err, true, false, slice_get, slice_index, slice_index_or, MatchOption, MatchResult};
-    ghost use Rattle.concurrent_queue.specs.machine.BlocksAtOnce.{filled, drawn};
     ghost use Rattle.concurrent_queue.specs.Contents.{blank, with_next, with_reads, with_written, with_slot, is_vacant};
     ghost use Rattle.concurrent_queue.specs.Plain.{block_of};
 
@@ -124,42 +123,6 @@ impl<T: Drop> PlainBlock<T> {
             Ok(())
         } else {
             Err(value)
-        }
-    }
-
-    /// Fills an empty slot and says that it is written. `Err` hands the message back, and nothing is changed.
-    #[inline(always)]
-    fn fill(&mut self, offset: u64, value: T) -> Result<(), T>
-        ensures { MatchResult result
-            (λ _. (is_vacant (slice_get (block_of self.old).slots offset) ≡ true) × (block_of self.new ≡ filled (block_of self.old) offset value))
-            (λ w. (w ≡ value) × (block_of self.new ≡ block_of self.old)) }
-    {
-        if offset < SLOTS && self.slots[offset as usize].is_none() {
-            self.slots[offset as usize] = Some(value);
-            self.written[offset as usize] = 1;
-            Ok(())
-        } else {
-            Err(value)
-        }
-    }
-
-    /// Takes the message of a slot that is written, and counts that. At `None` nothing is changed; `last` says whether all
-    /// others were taken.
-    #[inline(always)]
-    #[tactic(auto, using(crate::proofs::Slots::none_again))]
-    fn draw(&mut self, offset: u64, last: bool) -> Option<T>
-        ensures { MatchOption result (block_of self.new ≡ block_of self.old)
-            (λ v. (slice_index (block_of self.old).written offset ≡ 1) × (slice_index_or (block_of self.old).slots offset None ≡ Some v) × (((block_of self.old).reads == 30) ≡ last) × (block_of self.new ≡ drawn (block_of self.old) offset)) }
-    {
-        if SLOTS <= offset || self.written[offset as usize] != 1 || (self.reads == 30) != last {
-            return None;
-        }
-        match self.slots[offset as usize].take() {
-            Some(value) => {
-                self.reads = self.reads.wrapping_add(1);
-                Some(value)
-            }
-            None => None,
         }
     }
 
@@ -351,49 +314,5 @@ impl<T: Drop> Pool<T> {
         } else {
             None
         }
-    }
-}
-
-impl<T: Drop> Pool<T> {
-    ghost use Rattle.std.specs.Prelude.{◌≡◌, ◌∷◌, ◌<◌, ◌^◌, [], length, MatchOption};
-    ghost use Rattle.concurrent_queue.specs.machine.BlocksAtOnce.{FillGives, DrawGives};
-    ghost use Rattle.concurrent_queue.specs.Plain.{blocks_of};
-
-    /// Fills an empty slot of a block and says that it is written. `Err` hands the message back, and nothing is changed.
-    #[inline(always)]
-    pub(crate) fn fill(&mut self, block: u64, offset: u64, value: T) -> Result<(), T>
-        ensures gives { FillGives (blocks_of self.old) block offset value result (blocks_of self.new) }
-        ensures spares { self.new.spares.items ≡ self.old.spares.items }
-    {
-        let at = block as usize;
-        if at < self.blocks.len() {
-            self.blocks[at].fill(offset, value)
-        } else {
-            Err(value)
-        }
-    }
-
-    /// Takes the message of a slot that is written, and counts that; `last` says whether all others of the block were taken.
-    /// At `None` nothing is changed.
-    #[inline(always)]
-    pub(crate) fn draw(&mut self, block: u64, offset: u64, last: bool) -> Option<T>
-        ensures gives { DrawGives (blocks_of self.old) block offset last result (blocks_of self.new) }
-        ensures spares { self.new.spares.items ≡ self.old.spares.items }
-    {
-        let at = block as usize;
-        if at < self.blocks.len() {
-            self.blocks[at].draw(offset, last)
-        } else {
-            None
-        }
-    }
-
-    /// The spare block that was given back last, where there is one.
-    pub(crate) fn take_spare(&mut self) -> Option<u64>
-        ensures spares { MatchOption result ((self.old.spares.items ≡ []) × (self.new.spares.items ≡ [])) (λ b. self.old.spares.items ≡ b ∷ self.new.spares.items) }
-        ensures blocks { self.new.blocks.items ≡ self.old.blocks.items }
-        ensures few { length self.new.blocks.items < 2 ^ 64 }
-    {
-        self.spares.pop_front()
     }
 }

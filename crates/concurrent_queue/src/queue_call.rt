@@ -125,7 +125,8 @@ impl<T: Drop> QueueCall<T> {
         }
     }
 
-    /// What the last step did; `Nothing` before the first one.
+    /// What the last step did that `step` made; `Nothing` before the first one. A call that `complete` made on end keeps the mark
+    /// that it had: what such a call did is said by its answer alone.
     pub fn last_mark(&self) -> QueueMark
         ensures { result ≡ mark_of self.now }
     {

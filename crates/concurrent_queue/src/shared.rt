@@ -2,6 +2,7 @@
 //! over both, on which the steps of a call run.
 
 pub(crate) mod blocks;
+pub mod calls;
 pub(crate) mod cells;
 pub(crate) mod guard;
 pub mod iter;

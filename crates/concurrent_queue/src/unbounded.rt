@@ -10,7 +10,6 @@ ghost use Rattle.concurrent_queue.specs.Replies.{EndFollows, BlocksFollows};
 pub(crate) mod action;
 pub(crate) mod ahead;
 mod ask;
-pub(crate) mod at_once;
 pub(crate) mod ending;
 mod pop;
 mod push;

@@ -183,8 +183,8 @@ fn a_push_refused_for_memory_is_made_again(rt: HostRuntime) -> Result<(), Fail> 
     Ok(())
 }
 
-/// Two blocks serve any number of messages that are pushed and popped one by one. They are made by the first four requests
-/// for memory: `rt try --test --fail-alloc N -- one_at_a_time` fails for N up to 4, and finds no request past it to refuse.
+/// What the first message takes serves any number of messages that are pushed and popped one by one: `rt try --test
+/// --fail-alloc N -- one_at_a_time` fails for N = 1, and finds no request past it to refuse.
 #[test]
 fn one_at_a_time_takes_no_more_memory(rt: HostRuntime) -> Result<(), Fail> {
     let mut queue = Exclusive::unbounded(rt.alloc());
@@ -232,7 +232,7 @@ fn what_is_left_is_dropped_once(rt: HostRuntime) -> Result<(), Fail> {
 }
 
 #[test]
-fn messages_go_over_the_end_of_a_block_and_back(rt: HostRuntime) -> Result<(), Fail> {
+fn messages_without_a_bound_come_in_order(rt: HostRuntime) -> Result<(), Fail> {
     let mut queue = Exclusive::unbounded(rt.alloc());
     let mut right = queue.capacity().is_none();
     for value in 0..32u64 {

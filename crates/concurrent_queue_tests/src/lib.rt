@@ -3,6 +3,8 @@
 #![tactic(auto)]
 
 #[cfg(test)]
+mod beside;
+#[cfg(test)]
 mod blocks;
 pub mod by_steps;
 #[cfg(test)]
@@ -11,6 +13,8 @@ mod checks;
 mod errors;
 #[cfg(test)]
 mod exclusive;
+#[cfg(test)]
+mod log;
 #[cfg(test)]
 mod no_memory;
 #[cfg(test)]

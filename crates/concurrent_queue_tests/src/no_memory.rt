@@ -7,7 +7,7 @@ use concurrent_queue::exclusive::Exclusive;
 use std::alloc::AllocError;
 use std::test::Fail;
 
-/// A queue without a bound is asked, popped, closed and pushed into: none of it takes a block.
+/// A queue without a bound is asked, popped, closed and pushed into: none of it takes memory.
 fn empty_answers(queue: &mut Exclusive<u64>) -> ([bool; 6], [Said; 4]) {
     let asked = [
         queue.is_empty() && queue.len() == 0,
@@ -79,9 +79,9 @@ fn passed(queue: &mut Exclusive<u64>, first: u64, end: u64) -> u64 {
     count
 }
 
-/// Two blocks, which 31 messages one by one have made, serve any number of them.
+/// What 31 messages one by one have taken serves any number of them.
 #[test]
-fn two_blocks_take_no_memory(rt: HostRuntime) -> Result<(), Fail> {
+fn messages_one_by_one_take_no_memory(rt: HostRuntime) -> Result<(), Fail> {
     let mut queue = Exclusive::unbounded(rt.alloc());
     let prepared = passed(&mut queue, 1, 32);
     let served = passed(&mut queue, 32, 1_001);

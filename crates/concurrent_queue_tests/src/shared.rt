@@ -11,6 +11,7 @@ use std::thread::Threads;
 
 mod closing;
 mod examples;
+mod logged;
 mod memory;
 mod standing;
 

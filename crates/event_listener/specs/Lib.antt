@@ -10,3 +10,4 @@ pub mod Order
 pub mod Telling
 pub mod Drawing
 pub mod Replay
+pub mod Homes

@@ -2,19 +2,16 @@
 ghost use Rattle.std.specs.Prelude.{◌≡◌, ◌≤◌, false, IfOk};
 ghost use Rattle.event_listener.specs.Telling.{Tells};
 
-use crate::error::{ListenError, NoMemory, NotifyError};
+use crate::error::{ListenError, NotifyError};
+use crate::home::Homes;
 use crate::id::EventId;
 use crate::into_notification::IntoNotification;
-use crate::list::List;
 use crate::listener::EventListener;
 use crate::notify::{Additional, Notify};
-use crate::waking::{Task, WakeNow, WakerCell};
+use crate::waking::{WakeNow, WakerCell};
 use std::alloc::Global;
 use std::marker::Model;
-use std::sync::{Arc, Mutex, OnceLock, Wait};
-
-/// The list of an event, which it shares with its listeners.
-pub(crate) type Home<T> = Mutex<List<T, Task>>;
+use std::sync::{Arc, Wait};
 
 /// An event: who waits for something listens on it first and looks for the thing again, and who brings it about
 /// notifies it afterwards, so that no notice falls between.
@@ -24,8 +21,7 @@ pub(crate) type Home<T> = Mutex<List<T, Task>>;
 #[derive(Drop)]
 pub struct Event<T> {
     id: EventId,
-    alloc: Global,
-    home: OnceLock<Arc<Home<T>>>,
+    homes: Homes<T>,
 }
 
 impl<T> Model for Event<T> {
@@ -43,8 +39,7 @@ impl<T: Drop> Event<T> {
     {
         Event {
             id,
-            alloc,
-            home: OnceLock::new(),
+            homes: Homes::new(alloc),
         }
     }
 
@@ -57,7 +52,7 @@ impl<T: Drop> Event<T> {
         ensures event { IfOk result (λ listener. listener.event ≡ self.now) }
         ensures listens { IfOk result (λ listener. listener.is_finished ≡ false) }
     {
-        match Arc::new(self.alloc, WakerCell::new()) {
+        match Arc::new(self.homes.alloc(), WakerCell::new()) {
             Ok(cell) => EventListener::new(*rt, self, cell),
             Err(_) => Err(ListenError::NoMemory),
         }
@@ -69,21 +64,9 @@ impl<T: Drop> Event<T> {
         self.id.number()
     }
 
-    pub(crate) fn alloc(&self) -> Global {
-        self.alloc
-    }
-
-    /// The shared list, made here where nobody listened yet. Where two threads make it, the first one's stays.
-    pub(crate) fn home<R: Wait>(&self, rt: &R) -> Result<Arc<Home<T>>, NoMemory> {
-        if let Some(home) = self.home.get() {
-            return Arc::try_clone(home).map_err(|_| NoMemory);
-        }
-        let made = match Arc::new(self.alloc, Mutex::new(List::new(self.alloc))) {
-            Ok(made) => made,
-            Err(_) => return Err(NoMemory),
-        };
-        let _ = self.home.set(rt, made);
-        Arc::try_clone(self.home.wait(rt)).map_err(|_| NoMemory)
+    /// Where its list is kept.
+    pub(crate) fn homes(&self) -> &Homes<T> {
+        &self.homes
     }
 
     /// Tells listeners, the longest listening first: of the default kind so many that at least the notice's number are
@@ -101,8 +84,11 @@ impl<T: Drop> Event<T> {
         ensures tells { (n : N.Notify) × N.becomes notice n × Tells N.Notify.size N.Notify.gives n result }
     {
         let notice = notice.into_notification();
-        match self.home.get() {
-            Some(home) => home.lock(rt).notify(notice, &mut WakeNow { rt }),
+        match self.homes.get() {
+            Some(home) => {
+                let mut section = home.section().enter(rt);
+                section.value().notify(notice, &mut WakeNow { rt })
+            }
             None => Ok(0),
         }
     }
@@ -111,16 +97,16 @@ impl<T: Drop> Event<T> {
     ///
     /// Never so on an event without listeners. Own meaning: `event-listener` compares a count read outside the lock.
     pub fn is_notified<R: Wait>(&self, rt: &R) -> bool {
-        match self.home.get() {
-            Some(home) => home.lock(rt).told() > 0,
+        match self.homes.get() {
+            Some(home) => home.section().enter(rt).value().told() > 0,
             None => false,
         }
     }
 
     /// How many listeners there are, told and waiting. It may wait for the list's lock. As `event-listener` 5.4.2.
     pub fn total_listeners<R: Wait>(&self, rt: &R) -> usize {
-        match self.home.get() {
-            Some(home) => home.lock(rt).total(),
+        match self.homes.get() {
+            Some(home) => home.section().enter(rt).value().total(),
             None => 0,
         }
     }

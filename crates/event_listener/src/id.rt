@@ -88,11 +88,19 @@ impl fmt::Display for IdsUsedUp {
 impl Error for IdsUsedUp {}
 
 impl EventIds {
-    /// A source that has given none. Identities of two sources may be equal: use one for events that are compared.
+    /// A source that has given none. Identities of two sources may be equal, and nothing tells sources apart: make one in a program,
+    /// and pass it on to whoever makes events or channels.
     pub fn new() -> EventIds
         ensures { result ≡ 0 }
     {
         EventIds { given: 0 }
+    }
+
+    /// How many identities were given so far, which is the number of the next one.
+    pub fn given(&self) -> u64
+        ensures { result ≡ self.now }
+    {
+        self.given
     }
 
     /// The next identity, which was never given before.

@@ -8,11 +8,15 @@
 //! A [`List`] is such a list by itself: its listeners in the order of listening, of which each is told or waits, the told ones
 //! first. A notice tells the first ones that wait, hands each a tag, and gives their tasks to a sink ([`Wakes`]). Every call is
 //! one operation on two lists, told and waiting, and its contract names that operation.
+//!
+//! A list behind a lock is [`Locked`], on which each call is one section by type: it is handed the right to take the lock once
+//! ([`Section`]).
 #![tactic(auto)]
 
 pub mod calls;
 pub mod error;
 pub mod event;
+mod home;
 pub mod id;
 mod integers;
 pub mod into_notification;
@@ -28,6 +32,7 @@ pub mod recorded;
 mod recording;
 pub mod relaxed;
 pub mod run;
+pub mod section;
 pub mod stack;
 pub mod tagged;
 pub mod tagged_with;
@@ -47,6 +52,7 @@ pub use parker::Parker;
 pub use recorded::{RecordedCall, RecordedEvent, RegisterError};
 pub use relaxed::Relaxed;
 pub use run::{ListCall, ListReply, ListRun, Target};
+pub use section::{Inside, Locked, Section};
 pub use stack::{StackListener, StackSlot};
 pub use tagged::Tag;
 pub use tagged_with::TagWith;

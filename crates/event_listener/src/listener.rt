@@ -135,10 +135,16 @@ pub trait Listener<T>: Sized {
         ensures finished { is_finished self ≡ true → result ≡ false };
 
     /// Whether this is the event that it listens to: whether the identities are equal. It waits for nobody.
+    ///
+    /// This tells apart events whose identities came from one `EventIds`. Each source begins with the same number, so of an event
+    /// from another source it may be true though it is another one.
     fn listens_to(&self, event: &Event<T>) -> bool
         ensures { IsTrue result ↔ (identity self.now ≡ event.now) };
 
-    /// Whether both listen to one event: whether its identities are equal. It waits for nobody.
+    /// Whether both listen to one event: whether the identities are equal. It waits for nobody.
+    ///
+    /// This tells apart events whose identities came from one `EventIds`. Of events from two sources it may be true though they
+    /// are two.
     fn same_event(&self, other: &Self) -> bool
         ensures { IsTrue result ↔ (identity self.now ≡ identity other.now) };
 }
@@ -166,8 +172,8 @@ impl<T: Drop, R: Wait + Copy> EventListener<T, R> {
         ensures event { IfOk result (λ listener. listener.event ≡ event.now) }
         ensures listens { IfOk result (λ listener. listener.is_finished ≡ false) }
     {
-        match Place::open(&rt, event, cell) {
-            Ok(place) => Ok(EventListener { place, rt }),
+        match Place::open(&rt, event.homes(), event.number(), cell) {
+            Ok((place, _shown)) => Ok(EventListener { place, rt }),
             Err(error) => Err(error),
         }
     }

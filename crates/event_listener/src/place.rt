@@ -1,18 +1,23 @@
 //! A listener's place in the list of its event.
 ghost use Rattle.std.specs.Prelude.{◌≡◌, ◌↔◌, IsTrue, IfOk, IsSome, Err, Some, None, is_none, true, false};
+ghost use Rattle.std.specs.Arc.{arc_value};
 ghost use Rattle.futures.specs.Poll.{OnPending, IfReady};
 ghost use Rattle.futures.specs.Task.{IsArmed, Keeps};
+ghost use Rattle.event_listener.specs.Homes.{seal_of};
 
 use crate::calls::Registered;
 use crate::error::ListenError;
-use crate::event::{Event, Home};
+use crate::event::Event;
+use crate::home::{Home, Homes};
 use crate::key::Key;
+use crate::list::List;
 use crate::listener::PollFault;
 use crate::parker::Parker;
+use crate::section::Section;
 use crate::waking::{Task, WakeNow, WakerCell};
 use futures::task::{Context, Poll, Waker};
 use std::alloc::Global;
-use std::sync::{Arc, Wait};
+use std::sync::{Arc, OnceToken, Wait};
 use std::time::{Clock, Duration};
 
 /// Where a listener stands: its event's list, its key there until it is finished, and the cell of its task.
@@ -28,29 +33,34 @@ pub(crate) struct Place<T> {
 }
 
 impl<T: Drop> Place<T> {
-    /// A new place at the end of the list, with the cell as its task. The list is as before where it is refused.
-    pub(crate) fn open<R: Wait>(
+    /// A new place at the end of the list of the event with this number, with the cell as its task, and what shows that the list is
+    /// the event's. The list is as before where it is refused.
+    pub(crate) fn open<'ev, R: Wait>(
         rt: &R,
-        event: &Event<T>,
+        homes: &'ev Homes<T>,
+        event: u64,
         cell: Arc<WakerCell>,
-    ) -> Result<Place<T>, ListenError>
-        ensures event { IfOk result (λ place. place.event ≡ event.now) }
-        ensures listens { IfOk result (λ place. is_none place.key ≡ false) }
+    ) -> Result<(Place<T>, OnceToken<'ev, Arc<Home<T>>>), ListenError>
+        ensures event { IfOk result (λ made. made.0.event ≡ event) }
+        ensures listens { IfOk result (λ made. is_none made.0.key ≡ false) }
+        ensures shown { IfOk result (λ made. made.1.of ≡ homes.now.once.id) }
+        ensures own { IfOk result (λ made. seal_of (arc_value made.0.home) ≡ seal_of (arc_value made.1.value)) }
     {
-        let Ok(home) = event.home(rt) else {
+        let Ok((home, token)) = homes.get_or_make(rt) else {
             return Err(ListenError::NoMemory);
         };
         let Ok(task) = Arc::try_clone(&cell) else {
             return Err(ListenError::NoMemory);
         };
-        let key = add_listener(rt, &home, Task::Polled(task))?;
-        Ok(Place {
+        let key = add_listener(home.section(), rt, Task::Polled(task))?;
+        let place = Place {
             home,
-            event: event.number(),
+            event,
             cell,
             key: Some(key),
-            alloc: event.alloc(),
-        })
+            alloc: homes.alloc(),
+        };
+        Ok((place, token))
     }
 
     /// Whether it has given its tag.
@@ -70,7 +80,7 @@ impl<T: Drop> Place<T> {
         let Some(key) = self.key else {
             return Poll::Ready(Err(PollFault::NeverInserted));
         };
-        match tag_or_keep(rt, &self.home, key, &self.cell, waker) {
+        match tag_or_keep(self.home.section(), rt, key, &self.cell, waker) {
             Some(tag) => {
                 self.key = None;
                 Poll::Ready(Ok(tag))
@@ -95,7 +105,7 @@ impl<T: Drop> Place<T> {
         let Some(key) = self.key else {
             return Poll::Ready(Err(PollFault::NeverInserted));
         };
-        match tag_or_arm(rt, &self.home, key, &self.cell, cx) {
+        match tag_or_arm(self.home.section(), rt, key, &self.cell, cx) {
             Some(tag) => {
                 self.key = None;
                 Poll::Ready(Ok(tag))
@@ -151,7 +161,8 @@ impl<T: Drop> Place<T> {
     {
         match self.key.take() {
             Some(key) => {
-                let told = self.home.lock(rt).remove(key, pass_on, &mut WakeNow { rt });
+                let mut section = self.home.section().enter(rt);
+                let told = section.value().remove(key, pass_on, &mut WakeNow { rt });
                 told.unwrap_or(false)
             }
             None => false,
@@ -175,7 +186,7 @@ impl<T: Drop> Place<T> {
     // Takes the tag where the listener was told.
     fn take<R: Wait>(&mut self, rt: &R) -> Option<T> {
         let key = self.key?;
-        let found = self.home.lock(rt).poll(key);
+        let found = self.home.section().enter(rt).value().poll(key);
         match found {
             Ok(Some(tag)) => {
                 self.key = None;
@@ -192,7 +203,7 @@ impl<T: Drop> Place<T> {
         ensures left { is_none self.new.key ≡ true }
     {
         match self.key.take() {
-            Some(key) => self.home.lock(rt).take_off(key),
+            Some(key) => self.home.section().enter(rt).value().take_off(key),
             None => None,
         }
     }
@@ -202,7 +213,8 @@ impl<T: Drop> Place<T> {
         ensures finished { IsSome result → is_none self.new.key ≡ true }
     {
         let key = self.key?;
-        let found = self.home.lock(rt).register(key, Task::Parked(task));
+        let mut section = self.home.section().enter(rt);
+        let found = section.value().register(key, Task::Parked(task));
         match found {
             Ok(Registered::Told(tag)) => {
                 self.key = None;
@@ -213,9 +225,15 @@ impl<T: Drop> Place<T> {
     }
 }
 
-// A listener at the end of the list, which has its task from the first moment on.
-fn add_listener<T: Drop, R: Wait>(rt: &R, home: &Home<T>, task: Task) -> Result<Key, ListenError> {
-    let mut list = home.lock(rt);
+// A listener at the end of the list, which has its task from the first moment on. The section is handed in, here and below, so
+// there is but one.
+fn add_listener<T: Drop, R: Wait>(
+    section: Section<'_, List<T, Task>>,
+    rt: &R,
+    task: Task,
+) -> Result<Key, ListenError> {
+    let mut section = section.enter(rt);
+    let list = section.value();
     let key = list.insert()?;
     let _ = list.register(key, task);
     Ok(key)
@@ -224,14 +242,14 @@ fn add_listener<T: Drop, R: Wait>(rt: &R, home: &Home<T>, task: Task) -> Result<
 // The tag of a told listener. Of one that waits the waker is kept, in the section in which it was found waiting, so
 // that no telling comes between.
 fn tag_or_keep<T: Drop, R: Wait>(
+    section: Section<'_, List<T, Task>>,
     rt: &R,
-    home: &Home<T>,
     key: Key,
     cell: &WakerCell,
     waker: Waker,
 ) -> Option<T> {
-    let mut list = home.lock(rt);
-    let found = list.poll(key);
+    let mut section = section.enter(rt);
+    let found = section.value().poll(key);
     match found {
         Ok(Some(tag)) => Some(tag),
         Ok(None) | Err(_) => {
@@ -243,8 +261,8 @@ fn tag_or_keep<T: Drop, R: Wait>(
 
 // The same with the waker of the task that is polled.
 fn tag_or_arm<T: Drop, R: Wait>(
+    section: Section<'_, List<T, Task>>,
     rt: &R,
-    home: &Home<T>,
     key: Key,
     cell: &WakerCell,
     cx: &mut Context<'_>,
@@ -252,8 +270,8 @@ fn tag_or_arm<T: Drop, R: Wait>(
     ensures armed { result ≡ None → IsArmed cx.new }
     ensures kept { Keeps cx.old cx.new }
 {
-    let mut list = home.lock(rt);
-    let found = list.poll(key);
+    let mut section = section.enter(rt);
+    let found = section.value().poll(key);
     match found {
         Ok(Some(tag)) => Some(tag),
         Ok(None) | Err(_) => {

@@ -54,8 +54,8 @@ fn run<R: Print>(rt: &R, world: &mut World<u64>, calls: &mut VecDeque<Call<u64>>
 }
 
 /// Prints what the calls answer and whom they wake.
-pub fn show<R: Print>(rt: &R, alloc: Global) -> io::Result<()> {
-    match World::bounded(alloc, 1, &mut EventIds::new()) {
+pub fn show<R: Print>(rt: &R, alloc: Global, ids: &mut EventIds) -> io::Result<()> {
+    match World::bounded(alloc, 1, ids) {
         Ok(mut world) => run(rt, &mut world, &mut VecDeque::new(alloc)),
         Err(error) => println!(rt; "calls: {error}"),
     }

@@ -10,14 +10,16 @@ mod shared_queue;
 mod steps;
 mod waiting;
 
+use event_listener::EventIds;
 use std::io;
 
 fn main(rt: HostRuntime) -> io::Result<()> {
+    let mut ids = EventIds::new();
     shared_queue::show(&rt, rt.alloc())?;
     one_owner::show(&rt, rt.alloc())?;
-    waiting::show(&rt, rt.alloc())?;
+    waiting::show(&rt, rt.alloc(), &mut ids)?;
     semaphore::show(&rt, rt.alloc())?;
-    calls::show(&rt, rt.alloc())?;
-    steps::show(&rt, rt.alloc())?;
-    recorded::show(&rt, rt.alloc())
+    calls::show(&rt, rt.alloc(), &mut ids)?;
+    steps::show(&rt, rt.alloc(), &mut ids)?;
+    recorded::show(&rt, rt.alloc(), &mut ids)
 }

@@ -28,13 +28,13 @@ const PARTS: u64 = 3;
 fn run<L: Ledger + Sync, R: Threads + Wait + Sync>(
     rt: &R,
     alloc: Global,
+    ids: &mut EventIds,
     blank: Blank,
 ) -> Option<Record<u64>>
     requires name { blank.name ≡ L.name }
     requires parts { (blank.parts ≡ L.parts) × (blank.parts ≡ 3) }
 {
-    let mut ids = EventIds::new();
-    let channel = RecordedChannel::<u64, L>::bounded(alloc, 1, &mut ids, blank, PARTS).ok()?;
+    let channel = RecordedChannel::<u64, L>::bounded(alloc, 1, ids, blank, PARTS).ok()?;
     let sender = channel.seat(rt).ok()?;
     let receiver = channel.seat(rt).ok()?;
     let shared = &channel;
@@ -50,8 +50,12 @@ fn run<L: Ledger + Sync, R: Threads + Wait + Sync>(
 }
 
 /// Prints the record of two threads' calls. It may wait.
-pub fn show<R: Threads + Wait + Print + Sync>(rt: &R, alloc: Global) -> io::Result<()> {
-    match run::<Brand, R>(rt, alloc, Blank::new(PARTS)) {
+pub fn show<R: Threads + Wait + Print + Sync>(
+    rt: &R,
+    alloc: Global,
+    ids: &mut EventIds,
+) -> io::Result<()> {
+    match run::<Brand, R>(rt, alloc, ids, Blank::new(PARTS)) {
         Some(record) => print_table(rt, &record),
         None => println!(rt; "recorded: want of memory"),
     }

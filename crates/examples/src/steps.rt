@@ -78,8 +78,8 @@ fn run<R: Print>(
 }
 
 /// Prints the numbers before and after the send tells the receive.
-pub fn show<R: Print>(rt: &R, alloc: Global) -> io::Result<()> {
-    match World::bounded(alloc, 1, &mut EventIds::new()) {
+pub fn show<R: Print>(rt: &R, alloc: Global, ids: &mut EventIds) -> io::Result<()> {
+    match World::bounded(alloc, 1, ids) {
         Ok(mut world) => run(rt, &mut world, &mut VecDeque::new(alloc)),
         Err(error) => println!(rt; "steps: {error}"),
     }

@@ -31,8 +31,12 @@ fn print_taken<R: Print>(rt: &R, taken: Option<u64>) -> io::Result<()> {
 }
 
 /// Prints what the thread that waited got. It may wait.
-pub fn show<R: Threads + Wait + Print + Sync>(rt: &R, alloc: Global) -> io::Result<()> {
-    let Ok(id) = EventIds::new().next() else {
+pub fn show<R: Threads + Wait + Print + Sync>(
+    rt: &R,
+    alloc: Global,
+    ids: &mut EventIds,
+) -> io::Result<()> {
+    let Ok(id) = ids.next() else {
         return println!(rt; "an event: no identities left");
     };
     let event = Event::new(alloc, id);

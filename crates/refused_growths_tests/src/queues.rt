@@ -10,7 +10,7 @@ use std::alloc::{AllocError, Global};
 use std::sync::Wait;
 use std::test::Fail;
 
-/// How many messages are pushed: as many as need four blocks.
+/// How many messages are pushed: as many as need four blocks of a shared queue.
 const COUNT: u64 = 100;
 
 /// The next push into a queue of one owner, each third one a push that may displace.
@@ -75,12 +75,12 @@ fn push_all(alloc: Global) -> (Seen, bool) {
     (seen, in_order && pushes.queue.pop() == Err(PopError::Empty))
 }
 
-/// Each of four blocks is refused; what was refused comes back, and goes when it is pushed again.
+/// Each growth is refused; what was refused comes back, and goes when it is pushed again.
 #[test]
 fn pushes_of_one_owner(rt: HostRuntime) -> Result<(), Fail> {
     let (seen, in_order) = push_all(rt.alloc());
     assert!(rt;
-        seen.right && in_order && seen.calls == 4 && seen.refusals >= 5,
+        seen.right && in_order && seen.calls == 6 && seen.refusals >= 6,
         "{seen:?}"
     );
     Ok(())
@@ -89,7 +89,7 @@ fn pushes_of_one_owner(rt: HostRuntime) -> Result<(), Fail> {
 /// The last message that goes through a queue one by one; the first is 1.
 const LAST: u64 = 1_000;
 
-/// The last one while there is memory. It takes the last place of the first block, and so the second block.
+/// The last one while there is memory.
 const LAST_WITH_MEMORY: u64 = 31;
 
 /// The next message that is pushed into a queue of one owner, and popped before the one after it comes.
@@ -140,10 +140,10 @@ fn pass_all(alloc: Global) -> (Seen, bool, u64) {
     (scarcity.end(), passed, passing.next)
 }
 
-/// Two blocks serve for any number of messages that go through one by one: with every request refused from the 32nd push on, each push
-/// is accepted and each message comes out in its turn.
+/// What the first messages took serves for any number of messages that go through one by one: with every request refused from the
+/// 32nd push on, each push is accepted and each message comes out in its turn.
 #[test]
-fn two_blocks_serve(rt: HostRuntime) -> Result<(), Fail> {
+fn messages_one_by_one(rt: HostRuntime) -> Result<(), Fail> {
     let (seen, passed, next) = pass_all(rt.alloc());
     assert!(rt;
         seen.right && passed && seen.refusals == 0 && next == 1_001,

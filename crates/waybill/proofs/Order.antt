@@ -3,14 +3,15 @@ use Rattle.std.proofs.Common.{◌≡◌, ◌⊎◌, ◌∙◌, ℕ, suc, ◌+◌
 use Rattle.std.proofs.lemmas.Bool.Decides.{nat_tests}
 use Rattle.std.specs.Prelude.{All}
 use Rattle.std.specs.List.{AllByRecursion}
-use Rattle.std.proofs.lemmas.List.{length-map}
-use Rattle.std.proofs.lemmas.List.Elements.{All-from_recursion, recursion_from_All}
+use Rattle.std.proofs.lemmas.List.{length-map, append_assoc, append-nil}
+use Rattle.std.proofs.lemmas.List.Elements.{All-from_recursion, recursion_from_All, filter-append}
 use Rattle.std.proofs.lemmas.List.Sorted.{All-permutation}
 use mathlib.Core.Logic.{dite}
 use native.Mathlib.Decide.{ℕ_discrete}
 use Rattle.waybill.specs.Accounts.{IsPartOf}
-use Rattle.waybill.specs.Order.{message, numbered, of_sender, values, RisesFrom, IsInOrderOf}
+use Rattle.waybill.specs.Order.{message, numbered, all_numbered, of_sender, values, RisesFrom, IsRising, IsGapless, IsInOrderOf, OfEach, AreBeginnings, AreInOrder}
 use Rattle.waybill.specs.declared.numbered.Numbered.{Numbered}
+use Rattle.waybill.proofs.Parts.{part_first, part_second, part_of_part}
 
 same : (m n : ℕ) → m ≡ n → (m == n) ≡ true
 same m n e = grind (arith, nat_tests, e)
@@ -128,3 +129,38 @@ module _ {T : Type 0} where
   pub of_another : (s r n : ℕ) (xs : List T) → (r ≡ s → ⊥) → of_sender s (numbered r n xs) ≡ []
   of_another s r n [] e = refl
   of_another s r n (x ∷ xs) e = left_out s (message r n x) (numbered r (suc n) xs) e ∙ of_another s r (suc n) xs e
+
+  -- ---- of all senders
+
+  of_both : (s : ℕ) (ms ns : List (Numbered T)) → of_sender s (ms ++ ns) ≡ of_sender s ms ++ of_sender s ns
+  of_both s ms ns = filter-append (λ (m : Numbered T). m.sender == s) ms ns
+
+  of_later : (r s : ℕ) (all : List (List T)) → r < s → of_sender r (all_numbered s all) ≡ []
+  of_later r s [] lt = refl
+  of_later r s (xs ∷ all) lt =
+      of_both r (numbered s 0 xs) (all_numbered (suc s) all) ∙ ap₂ (λ ms ns. ms ++ ns) (of_another r s 0 xs (λ e. omega arith)) (of_later r (suc s) all (omega arith))
+
+  -- what is so of a sender that sent these, is so of each one
+  of_each : (P : ℕ → List T → Type 0) (s : ℕ) (all : List (List T)) (before sent : List (Numbered T)) → sent ≡ before ++ all_numbered s all
+      → ((k : ℕ) → s ≤ k → of_sender k before ≡ []) → ((k : ℕ) (xs : List T) → of_sender k sent ≡ numbered k 0 xs → P k xs) → OfEach P s all
+  of_each P s [] before sent is none so = tt
+  of_each P s (xs ∷ all) before sent is none so =
+      let mine = numbered s 0 xs in
+      let rest = all_numbered (suc s) all in
+      let its_own : of_sender s (mine ++ rest) ≡ mine = of_both s mine rest ∙ (ap₂ (λ ms ns. ms ++ ns) (of_its_own s 0 xs) (of_later s (suc s) all (omega arith)) ∙ append-nil mine) in
+      let here : of_sender s sent ≡ mine = ap (of_sender s) is ∙ (of_both s before (mine ++ rest) ∙ ap₂ (λ ms ns. ms ++ ns) (none s (omega arith)) its_own) in
+      let none_later = λ (k : ℕ) (le : suc s ≤ k). of_both k before mine ∙ ap₂ (λ ms ns. ms ++ ns) (none k (omega arith)) (of_another k s 0 xs (λ e. omega arith)) in
+      (so s xs here, of_each P (suc s) all (before ++ mine) sent (is ∙ sym (append_assoc before mine rest)) none_later so)
+
+  -- the only receiver got a beginning of what each sender sent
+  pub are_beginnings : (sent received got : List (Numbered T)) (all : List (List T)) → IsPartOf received sent → received ≡ got → sent ≡ all_numbered 0 all → IsGapless got → AreBeginnings got all
+  are_beginnings sent received got all part mine is gapless =
+      let its_part : IsPartOf got sent = subst (λ ms. IsPartOf ms sent) mine part in
+      of_each (λ s xs. values (of_sender s got) ≡ take (length (of_sender s got)) xs) 0 all [] sent is (λ k le. refl) (λ s xs mine. come_first s sent got xs its_part mine (gapless s))
+
+  -- each receiver got what each sender sent in that one's order
+  pub are_in_order : (sent received before got after : List (Numbered T)) (all : List (List T)) → IsPartOf received sent → received ≡ before ++ (got ++ after) → sent ≡ all_numbered 0 all → IsRising got → AreInOrder got all
+  are_in_order sent received before got after all part mine is rises =
+      let here : IsPartOf got (before ++ (got ++ after)) = part_of_part got (got ++ after) (before ++ (got ++ after)) (part_first got after) (part_second before (got ++ after)) in
+      let its_part : IsPartOf got sent = part_of_part got (before ++ (got ++ after)) sent here (subst (λ ms. IsPartOf ms sent) mine part) in
+      of_each (λ s xs. IsInOrderOf (values (of_sender s got)) xs) 0 all [] sent is (λ k le. refl) (λ s xs mine. come_in_order s sent got xs its_part mine (rises s))

@@ -1,9 +1,10 @@
 -- Parts of lists: what clients join of what several passes know.
-use Rattle.std.proofs.Common.{◌≡◌, ◌∙◌, List, [], ◌∷◌, ◌++◌, length, refl, ap, subst, arith}
-use Rattle.std.specs.Prelude.{IsPermutation, map}
-use Rattle.std.proofs.lemmas.List.{append_assoc, append-nil, length-append, map-append}
-use Rattle.std.proofs.lemmas.List.Sorted.{IsPermutation-append_comm, IsPermutation-map, length_permutation}
-use Rattle.waybill.specs.Accounts.{Account, joined, IsPartOf}
+use Rattle.std.proofs.Common.{◌≡◌, ◌∙◌, ℕ, ◌+◌, List, [], ◌∷◌, ◌++◌, length, refl, ap, sym, subst, arith}
+use Rattle.std.specs.Prelude.{IsPermutation, map, sum}
+use Rattle.std.proofs.lemmas.List.{append_assoc, append-nil, length-append, length-map, map-append}
+use Rattle.std.proofs.lemmas.List.Sorted.{IsPermutation-append_comm, IsPermutation-map, length_permutation, sum_by-IsPermutation}
+use Rattle.std.proofs.lemmas.List.Sums.{sum_by-append}
+use Rattle.waybill.specs.Accounts.{IsPartOf}
 use Rattle.waybill.proofs.Bags.{as_is, then, before}
 
 module _ {X : Type 0} where
@@ -36,23 +37,26 @@ module _ {X : Type 0} where
 pub part_map : {X Y : Type 0} (f : X → Y) (xs ys : List X) → IsPartOf xs ys → IsPartOf (map f xs) (map f ys)
 part_map f xs ys p = (map f p.0, then (IsPermutation-map f ys (xs ++ p.0) p.1) (as_is (map-append f xs p.0)))
 
-module _ {T : Type 0} where
-  -- who had sent and received nothing, took three passes in and learned: what the three received is part of what they sent
-  pub part_of_three : (none one two three a b c : Account T) → none.sent ≡ [] → none.received ≡ []
-      → one ≡ joined none a → two ≡ joined one b → three ≡ joined two c → IsPartOf three.received three.sent
-      → IsPartOf ((a.received ++ b.received) ++ c.received) ((a.sent ++ b.sent) ++ c.sent)
-  part_of_three none one two three a b c no_sent no_received first second third part =
-      let sent_two : two.sent ≡ (none.sent ++ a.sent) ++ b.sent = ap (λ (p : Account T). p.sent) second ∙ ap (λ (p : Account T). p.sent ++ b.sent) first in
-      let got_two : two.received ≡ (none.received ++ a.received) ++ b.received = ap (λ (p : Account T). p.received) second ∙ ap (λ (p : Account T). p.received ++ b.received) first in
-      let sent : three.sent ≡ (a.sent ++ b.sent) ++ c.sent = ap (λ (p : Account T). p.sent) third ∙ (ap (λ l. l ++ c.sent) sent_two ∙ ap (λ l. ((l ++ a.sent) ++ b.sent) ++ c.sent) no_sent) in
-      let got : three.received ≡ (a.received ++ b.received) ++ c.received = ap (λ (p : Account T). p.received) third ∙ (ap (λ l. l ++ c.received) got_two ∙ ap (λ l. ((l ++ a.received) ++ b.received) ++ c.received) no_received) in
-      part_as got sent part
+-- what workers gave is made of what they took, and that was part of all jobs: so what came of it is part of what is made of all jobs,
+-- and where as many came, it is one for each
+pub made : {X Y : Type 0} (f : X → Y) (taken sent all : List X) (came gave got : List Y) → IsPartOf taken sent → IsPartOf came gave → sent ≡ all → gave ≡ map f taken → came ≡ got
+    → IsPartOf got (map f all) × (length got ≡ length all → IsPermutation (map f all) got)
+made f taken sent all came gave got jobs results sent_is gave_is came_is =
+    let part = part_of_part got (map f taken) (map f all) (part_as came_is gave_is results) (part_map f taken all (part_as refl sent_is jobs)) in
+    (part, (λ same. part_whole got (map f all) part (same ∙ sym (length-map all f))))
 
-  -- the same of two passes
-  pub part_of_two : (none one two a b : Account T) → none.sent ≡ [] → none.received ≡ []
-      → one ≡ joined none a → two ≡ joined one b → IsPartOf two.received two.sent
-      → IsPartOf (a.received ++ b.received) (a.sent ++ b.sent)
-  part_of_two none one two a b no_sent no_received first second part =
-      let sent : two.sent ≡ a.sent ++ b.sent = ap (λ (p : Account T). p.sent) second ∙ (ap (λ (p : Account T). p.sent ++ b.sent) first ∙ ap (λ l. (l ++ a.sent) ++ b.sent) no_sent) in
-      let got : two.received ≡ a.received ++ b.received = ap (λ (p : Account T). p.received) second ∙ (ap (λ (p : Account T). p.received ++ b.received) first ∙ ap (λ l. (l ++ a.received) ++ b.received) no_received) in
-      part_as got sent part
+-- the same of two workers
+pub made_by_two : {X Y : Type 0} (f : X → Y) (taken sent all one two : List X) (came gave got : List Y) → IsPartOf taken sent → IsPartOf came gave → sent ≡ all → taken ≡ one ++ two → gave ≡ map f one ++ map f two → came ≡ got
+    → IsPartOf got (map f all) × (length got ≡ length all → IsPermutation (map f all) got)
+made_by_two f taken sent all one two came gave got jobs results sent_is taken_is gave_is came_is =
+    made f taken sent all came gave got jobs results sent_is (gave_is ∙ (sym (map-append f one two) ∙ ap (map f) (sym taken_is))) came_is
+
+-- where as many came as were sent, so is the sum: of what two sent, and what two counted and added up
+pub same_sums : (sent received a b c d : List ℕ) (k l m n : ℕ) → (length received ≡ length sent → IsPermutation sent received) → sent ≡ a ++ b → received ≡ c ++ d
+    → k ≡ length c → l ≡ length d → m ≡ sum c → n ≡ sum d → k + l ≡ length a + length b → m + n ≡ sum a + sum b
+same_sums sent received a b c d k l m n settled sent_is received_is count_c count_d sum_c sum_d same =
+    let long : length received ≡ length c + length d = ap length received_is ∙ length-append c d in
+    let longer : length sent ≡ length a + length b = ap length sent_is ∙ length-append a b in
+    let all : sum received ≡ sum sent = sum_by-IsPermutation (λ x. x) sent received (settled (omega arith)) in
+    let came : sum received ≡ sum c + sum d = ap sum received_is ∙ sum_by-append (λ x. x) c d in
+    let went : sum sent ≡ sum a + sum b = ap sum sent_is ∙ sum_by-append (λ x. x) a b in omega arith

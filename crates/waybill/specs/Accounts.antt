@@ -28,6 +28,10 @@ module _ {T : Type 0} where
   abbrev pub after_sent : Account T → T → Account T
   after_sent a x = account a.parts (a.sent ++ x ∷ []) a.received a.returned
 
+  -- after these were sent
+  abbrev pub after_all_sent : Account T → List T → Account T
+  after_all_sent a xs = account a.parts (a.sent ++ xs) a.received a.returned
+
   -- after one was received
   abbrev pub after_received : Account T → T → Account T
   after_received a x = account a.parts a.sent (a.received ++ x ∷ []) a.returned

@@ -3,16 +3,21 @@
 #![tactic(auto)]
 
 pub mod bill;
+pub mod inbox;
 pub mod laws;
+pub mod line;
 pub mod numbered;
 pub mod office;
 pub mod rule;
+pub mod several;
 pub mod sink;
 pub mod source;
 pub mod tokens;
 
-pub use numbered::{Numbered, NumbersUsedUp, OutOfTurn};
-pub use rule::{Hand, Room};
+pub use inbox::Inbox;
+pub use line::Line;
+pub use numbered::{Numbered, NumbersUsedUp, OutOfTurn, Stopped};
+pub use rule::Room;
 pub use sink::Sink;
 pub use source::Source;
 pub use tokens::{Office, Opened, Parcel, Pass};

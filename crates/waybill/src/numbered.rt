@@ -19,3 +19,12 @@ pub struct NumbersUsedUp<T> {
 pub struct OutOfTurn<P> {
     pub parcel: P,
 }
+
+/// Why a receiver ended before its line did.
+#[derive(Drop)]
+pub enum Stopped<P> {
+    /// There is no memory for one more message.
+    NoMemory,
+    /// A parcel came out of turn.
+    OutOfTurn(OutOfTurn<P>),
+}

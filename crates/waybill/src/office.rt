@@ -80,9 +80,8 @@ impl<T, B: Room> Office<T, B> {
         ensures received { pass.new ≡ after_received pass.old result }
         ensures message { result ≡ parcel }
     {
-        self.table
-            .shared
-            .join_seat::<Receives>(&mut pass.seat, parcel.bill);
+        let table = &self.table.shared;
+        table.join_seat::<Receives>(&mut pass.seat, parcel.bill);
         parcel.value
     }
 
@@ -93,9 +92,8 @@ impl<T, B: Room> Office<T, B> {
         ensures returned { pass.new ≡ after_returned pass.old result }
         ensures message { result ≡ parcel }
     {
-        self.table
-            .shared
-            .join_seat::<Returns>(&mut pass.seat, parcel.bill);
+        let table = &self.table.shared;
+        table.join_seat::<Returns>(&mut pass.seat, parcel.bill);
         parcel.value
     }
 

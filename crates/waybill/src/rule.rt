@@ -32,7 +32,7 @@ impl<T> Items<T> for Brand {
 
 // What a pass has sent and received, with its parts of the right to know the whole; of a waybill, what it is for. No value of
 // it is made.
-pub struct Hand<T> {
+pub(crate) struct Hand<T> {
     pub parts: u64,
     pub sent: LinkedList<T>,
     pub received: LinkedList<T>,
@@ -41,7 +41,7 @@ pub struct Hand<T> {
 }
 
 /// The rule: what was sent was received or is on its way.
-pub struct Fair;
+pub(crate) struct Fair;
 
 impl<T> TableRule<(), Hand<T>, ()> for Fair {
     ghost use Rattle.waybill.specs.Accounts.{all_parts};

@@ -3,13 +3,15 @@
 ghost use Rattle.std.specs.Prelude.{◌≡◌, ◌⊎◌, ℕ, ◌<◌, ◌≤◌, true, false, [], length, slice_index, IfOk, IfErr};
 ghost use Rattle.waybill.specs.Accounts.{fresh, account};
 ghost use Rattle.waybill.specs.Order.{of_sender, place_after, IsRising, IsGapless};
-ghost use Rattle.waybill.specs.Sides.{Takes, takes, with_unpacked, IsOutOfTurn};
+ghost use Rattle.waybill.specs.Sides.{Takes, takes, with_unpacked, IsInTurn, IsOutOfTurn};
 
-use crate::numbered::{Numbered, OutOfTurn};
+use crate::line::Line;
+use crate::numbered::{Numbered, OutOfTurn, Stopped};
 use crate::rule::Room;
 use crate::tokens::{Office, Parcel, Pass};
 use std::alloc::{AllocError, Global};
 use std::marker::Model;
+use std::sync::Wait;
 
 /// One receiver. It compares the place of each message with those of its sender that came before, so a queue that turned two would be
 /// seen, and is never believed. Contracts see whether it is the only receiver, how many senders it knows, and what it received.
@@ -77,15 +79,20 @@ impl<T, B: Room> Sink<T, B> {
         })
     }
 
-    /// The message of a parcel, which now counts as received. `Err` with the parcel where it came out of turn.
+    /// The message of a parcel, with its sender's number and its place. It now counts as received. `Err` hands the parcel on where it came
+    /// out of turn.
     #[inline(always)]
     pub fn unpack(
         &mut self,
         office: &Office<Numbered<T>, B>,
         parcel: Parcel<Numbered<T>, B>,
-    ) -> Result<T, OutOfTurn<Parcel<Numbered<T>, B>>>
-        ensures received { IfOk result (λ value. (value ≡ parcel.value) × (self.new ≡ with_unpacked self.old parcel)) }
-        ensures refused { IfErr result (λ e. (e.parcel ≡ parcel) × (self.new ≡ self.old) × IsOutOfTurn self.old parcel) }
+    ) -> Result<Numbered<T>, OutOfTurn<Parcel<Numbered<T>, B>>>
+        ensures message { IfOk result (λ m. m ≡ parcel) }
+        ensures received { IfOk result (λ m. self.new ≡ with_unpacked self.old m) }
+        ensures in_turn { IfOk result (λ m. IsInTurn self.old m) }
+        ensures back { IfErr result (λ e. e.parcel ≡ parcel) }
+        ensures same { IfErr result (λ e. self.new ≡ self.old) }
+        ensures refused { IfErr result (λ e. IsOutOfTurn self.old e.parcel) }
     {
         let sender = parcel.value.sender as usize;
         let number = parcel.value.number;
@@ -96,7 +103,40 @@ impl<T, B: Room> Sink<T, B> {
             return Err(OutOfTurn { parcel });
         }
         self.places[sender] = number + 1;
-        Ok(office.unpack(&mut self.pass, parcel).value)
+        Ok(office.unpack(&mut self.pass, parcel))
+    }
+
+    /// Takes each parcel out of a line until that is closed. `Err` where there is no memory, and with the parcel where one came out of
+    /// turn. It waits where the line does.
+    pub fn receive_all<L: Line<Parcel<Numbered<T>, B>>, R: Wait>(
+        self,
+        rt: &R,
+        alloc: Global,
+        office: &Office<Numbered<T>, B>,
+        line: &L,
+    ) -> Result<(Pass<Numbered<T>, B>, Vec<Numbered<T>>), Stopped<Parcel<Numbered<T>, B>>>
+    where
+        T: Drop,
+        requires { self.received ≡ [] }
+        ensures pass { IfOk result (λ r. r.0 ≡ account 1 [] r.1.items []) }
+        ensures rising { IfOk result (λ r. IsRising r.1.items) }
+        ensures gapless { IfOk result (λ r. self.sole ≡ true → IsGapless r.1.items) }
+    {
+        let mut sink = self;
+        let mut got = Vec::new(alloc);
+        for _ in rt.forever() {
+            let Some(parcel) = line.next() else {
+                break;
+            };
+            if got.reserve(1).is_err() {
+                return Err(Stopped::NoMemory);
+            }
+            match sink.unpack(office, parcel) {
+                Ok(message) => got.push_reserved(message),
+                Err(late) => return Err(Stopped::OutOfTurn(late)),
+            }
+        }
+        Ok((sink.into_pass(), got))
     }
 
     /// The pass, which knows what was received: of each sender the places rise, and where this was the only receiver none is left out.

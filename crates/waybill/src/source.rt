@@ -3,8 +3,9 @@
 ghost use Rattle.std.specs.Prelude.{◌≡◌, [], length, IfOk, IfErr};
 ghost use Rattle.waybill.specs.Accounts.{fresh, account};
 ghost use Rattle.waybill.specs.Order.{message, numbered, values};
-ghost use Rattle.waybill.specs.Sides.{Sends, sends, with_packed};
+ghost use Rattle.waybill.specs.Sides.{Sends, sends, with_packed, AreNumbersUsedUp};
 
+use crate::line::Line;
 use crate::numbered::{Numbered, NumbersUsedUp};
 use crate::rule::Room;
 use crate::tokens::{Office, Parcel, Pass};
@@ -39,15 +40,18 @@ impl<T, B: Room> Source<T, B> {
         }
     }
 
-    /// A message that may be sent, with its number. `Err` hands the message back after 2^64 - 1 of them.
+    /// A message that may be sent, with its number. `Err` hands the message back where the last number was given, after 2^64 - 1 messages.
     #[inline(always)]
     pub fn pack(
         &mut self,
         office: &Office<Numbered<T>, B>,
         value: T,
     ) -> Result<Parcel<Numbered<T>, B>, NumbersUsedUp<T>>
-        ensures sent { IfOk result (λ p. (p ≡ message self.old.sender (length self.old.sent) value) × (self.new ≡ with_packed self.old value)) }
-        ensures refused { IfErr result (λ e. (e.value ≡ value) × (self.new ≡ self.old)) }
+        ensures parcel { IfOk result (λ p. p ≡ message self.old.sender (length self.old.sent) value) }
+        ensures sent { IfOk result (λ p. self.new ≡ with_packed self.old value) }
+        ensures back { IfErr result (λ e. e.value ≡ value) }
+        ensures same { IfErr result (λ e. self.new ≡ self.old) }
+        ensures refused { IfErr result (λ e. AreNumbersUsedUp self.old) }
     {
         if self.next == u64::MAX {
             return Err(NumbersUsedUp { value });
@@ -62,6 +66,29 @@ impl<T, B: Room> Source<T, B> {
                 value,
             },
         ))
+    }
+
+    /// Puts each of these into a line, with its number; the pass knows what was sent. As many numbers as a slice is long there are. It
+    /// waits where the line does.
+    pub fn send_all<L: Line<Parcel<Numbered<T>, B>>>(
+        self,
+        office: &Office<Numbered<T>, B>,
+        line: &L,
+        all: &[T],
+    ) -> Pass<Numbered<T>, B>
+    where
+        T: Copy,
+        requires { self.sent ≡ [] }
+        ensures { result ≡ account 1 (numbered self.sender 0 all.now) [] [] }
+    {
+        let mut source = self;
+        for next in 0..all.len() {
+            match source.pack(office, all[next]) {
+                Ok(parcel) => line.put(parcel),
+                Err(_) => unreachable!(),
+            }
+        }
+        source.into_pass()
     }
 
     /// The pass, which knows what was sent.

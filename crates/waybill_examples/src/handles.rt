@@ -2,7 +2,7 @@
 //! gets it, be it the one that was refused or an older one that was displaced.
 
 ghost use Rattle.std.specs.Prelude.{◌≡◌, [], None, IfSome};
-ghost use Rattle.waybill.specs.Accounts.{fresh, account, after_sent, after_received, after_returned};
+ghost use Rattle.waybill.specs.Accounts.{account, after_sent, after_received, after_returned};
 
 use async_channel::{Receiver, Sender, bounded};
 use channel_calls::error::Refused;
@@ -14,7 +14,7 @@ use std::alloc::{AllocGlobal, Global};
 use std::marker::Brand;
 use std::random::RandomSource;
 use std::sync::Wait;
-use waybill::{Office, Opened, Parcel, Pass, Room};
+use waybill::{Inbox, Office, Opened, Parcel, Pass, Room};
 
 /// By the polled send, which waits for a place. What a closed channel hands back is answered.
 pub fn send<B: Room, R: Wait + Copy + RandomSource + AllocGlobal>(
@@ -29,6 +29,22 @@ pub fn send<B: Room, R: Wait + Copy + RandomSource + AllocGlobal>(
 {
     match block_on(&rt, sender.send(office.pack(pass, value))) {
         Ok(Err(Refused::Plain(error))) => Some(office.take_back(pass, error.into_inner())),
+        _ => None,
+    }
+}
+
+/// By the send that waits for a place and keeps its thread. What a closed channel hands back is answered.
+pub fn send_blocking<B: Room, R: Wait + Copy>(
+    office: &Office<u32, B>,
+    sender: &Sender<Parcel<u32, B>, R>,
+    pass: &mut Pass<u32, B>,
+    value: u32,
+) -> Option<u32>
+    ensures sent { result ≡ None → pass.new ≡ after_sent pass.old value }
+    ensures back { IfSome result (λ back. pass.new ≡ after_returned (after_sent pass.old value) back) }
+{
+    match sender.send_blocking(office.pack(pass, value)) {
+        Err(Refused::Plain(error)) => Some(office.take_back(pass, error.into_inner())),
         _ => None,
     }
 }
@@ -82,6 +98,21 @@ pub fn recv<B: Room, R: Wait + Copy + RandomSource + AllocGlobal>(
     }
 }
 
+/// By the receive that waits for a message and keeps its thread.
+pub fn recv_blocking<B: Room, R: Wait + Copy>(
+    office: &Office<u32, B>,
+    receiver: &Receiver<Parcel<u32, B>, R>,
+    pass: &mut Pass<u32, B>,
+) -> Option<u32>
+    ensures none { result ≡ None → pass.new ≡ pass.old }
+    ensures came { IfSome result (λ value. pass.new ≡ after_received pass.old value) }
+{
+    match receiver.recv_blocking() {
+        Ok(parcel) => Some(office.unpack(pass, parcel)),
+        Err(_) => None,
+    }
+}
+
 /// By the receive that doesn't wait for a message.
 pub fn try_recv<B: Room, R: Wait + Copy>(
     office: &Office<u32, B>,
@@ -97,28 +128,24 @@ pub fn try_recv<B: Room, R: Wait + Copy>(
     }
 }
 
-/// Several at once.
+/// Several at once, into an inbox.
 pub fn recv_many<B: Room, R: Wait + Copy>(
-    alloc: Global,
     office: &Office<u32, B>,
     receiver: &Receiver<Parcel<u32, B>, R>,
     limit: usize,
-    mut pass: Pass<u32, B>,
+    mut inbox: Inbox<u32, B>,
 ) -> (Pass<u32, B>, Vec<u32>)
-    requires { pass ≡ fresh 1 }
     ensures { result.0 ≡ account 1 [] result.1.items [] }
 {
-    let mut got = Vec::new(alloc);
     let Ok(parcels) = receiver.recv_many(limit) else {
-        return (pass, got);
+        return inbox.into_parts();
     };
     for parcel in parcels {
-        if got.reserve(1).is_err() {
+        if inbox.unpack(office, parcel).is_err() {
             break;
         }
-        got.push_reserved(office.unpack(&mut pass, parcel));
     }
-    (pass, got)
+    inbox.into_parts()
 }
 
 /// By the stream.
@@ -189,7 +216,7 @@ fn each_way_in<B: Room, R: Wait + Copy + RandomSource + AllocGlobal>(
     requires { opened ≡ B.table }
 {
     let (office, mut pass) = opened.enter::<B>();
-    let reader = office.another(&mut pass);
+    let inbox = Inbox::new(alloc, office.another(&mut pass));
     let (sender, mut receiver) = bounded(rt, alloc, 2, &mut EventIds::new()).ok()?;
     let queue = ConcurrentQueue::bounded(alloc, 1).ok()?;
     let back = [
@@ -207,17 +234,19 @@ fn each_way_in<B: Room, R: Wait + Copy + RandomSource + AllocGlobal>(
         pop::<B, R>(&rt, &office, &queue, &mut pass),
         pop::<B, R>(&rt, &office, &queue, &mut pass),
     ];
-    let _ = try_send::<B, R>(&office, &sender, &mut pass, 7);
+    let back_too = send_blocking::<B, R>(&office, &sender, &mut pass, 7);
+    let came_too = recv_blocking::<B, R>(&office, &receiver, &mut pass);
     let _ = try_send::<B, R>(&office, &sender, &mut pass, 8);
-    let (_, many) = recv_many::<B, R>(alloc, &office, &receiver, 1, reader);
-    let last = [next::<B, R>(rt, &office, &mut receiver, &mut pass)];
+    let _ = try_send::<B, R>(&office, &sender, &mut pass, 9);
+    let (_, many) = recv_many::<B, R>(&office, &receiver, 1, inbox);
+    let last = next::<B, R>(rt, &office, &mut receiver, &mut pass);
     let received = count(&came)
         .wrapping_add(many.len() as u64)
-        .wrapping_add(count(&last));
-    Some((received, count(&back)))
+        .wrapping_add(count(&[came_too, last]));
+    Some((received, count(&back).wrapping_add(count(&[back_too]))))
 }
 
-/// How many of eight messages were received, and how many were taken back, where they go each way once. `None` where there is no memory.
+/// How many of nine messages were received, and how many were taken back, where they go each way once. `None` where there is no memory.
 pub fn each_way<R: Wait + Copy + RandomSource + AllocGlobal>(
     rt: R,
     alloc: Global,

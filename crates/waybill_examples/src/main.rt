@@ -2,38 +2,89 @@
 #![tactic(auto)]
 
 pub mod handles;
+pub mod line;
+pub mod ordered;
 pub mod pipeline;
 pub mod pool;
 pub mod relay;
+pub mod sums;
 
+use crate::line::Kind;
+use std::alloc::{AllocGlobal, Global};
+use std::io;
 use std::process::ExitCode;
+use std::random::RandomSource;
+use std::sync::Wait;
+use std::thread::Threads;
+
+/// What the two senders of a client send.
+const FIRST: [u32; 6] = [3, 1, 4, 1, 5, 9];
+
+const SECOND: [u32; 4] = [2, 6, 5, 3];
+
+/// How many of ten messages came by way of each client that takes any line. Which of them came, and in what order, its contract says.
+fn over_a_line<R: Threads + Wait + Copy + Send + Sync>(
+    rt: R,
+    alloc: Global,
+    kind: Kind,
+) -> Option<(usize, usize, u128)> {
+    let sole = ordered::sole(rt, alloc, kind, &FIRST, &SECOND)?;
+    let (one, other) = ordered::shared(rt, alloc, kind, &FIRST, &SECOND)?;
+    let (sums, sums_too) = sums::sums(rt, alloc, kind, &FIRST, &SECOND)?;
+    let shared = one.len().wrapping_add(other.len());
+    Some((sole.len(), shared, sums.total.wrapping_add(sums_too.total)))
+}
+
+/// Runs the clients that take any line.
+fn print_lines<R: Threads + Wait + Copy + Send + Sync + Print>(
+    rt: R,
+    alloc: Global,
+) -> io::Result<bool> {
+    let kinds = [
+        ("slot", Kind::Slot),
+        ("ring", Kind::Ring),
+        ("blocks", Kind::Blocks),
+        ("handles", Kind::Handles),
+    ];
+    for (name, kind) in kinds {
+        let Some((sole, shared, total)) = over_a_line(rt, alloc, kind) else {
+            return Ok(false);
+        };
+        println!(&rt; "{name}: one receiver {sole}, two {shared}, sum {total}")?;
+    }
+    Ok(true)
+}
+
+/// Runs the clients over channels and handles.
+fn print_channels<R: Threads + Wait + Copy + Send + Sync + Print + RandomSource + AllocGlobal>(
+    rt: R,
+    alloc: Global,
+) -> io::Result<bool> {
+    let all = [3, 1, 4, 1, 5, 9, 2, 6, 5, 3];
+    let Some(relayed) = relay::relay(rt, alloc, 2, &all) else {
+        return Ok(false);
+    };
+    let Some(pooled) = pool::pool(rt, alloc, &all) else {
+        return Ok(false);
+    };
+    let Some(piped) = pipeline::pipeline(rt, alloc, &all) else {
+        return Ok(false);
+    };
+    let Some((came, back)) = handles::each_way(rt, alloc) else {
+        return Ok(false);
+    };
+    println!(&rt; "relay: {}", relayed.len())?;
+    println!(&rt; "pool: {}", pooled.len())?;
+    println!(&rt; "pipeline: {}", piped.len())?;
+    println!(&rt; "each way, received: {came}")?;
+    println!(&rt; "each way, taken back: {back}")?;
+    Ok(true)
+}
 
 fn main(rt: HostRuntime) -> ExitCode {
     let alloc = rt.alloc();
-    let all = [3, 1, 4, 1, 5, 9, 2, 6, 5, 3];
-    let Some(relayed) = relay::relay(rt, alloc, 2, &all) else {
-        return ExitCode::FAILURE;
-    };
-    let Some(pooled) = pool::pool(rt, alloc, &all) else {
-        return ExitCode::FAILURE;
-    };
-    let Some(piped) = pipeline::pipeline(rt, alloc, &all) else {
-        return ExitCode::FAILURE;
-    };
-    let Some((came, back)) = handles::each_way(rt, alloc) else {
-        return ExitCode::FAILURE;
-    };
-    let lines = [
-        ("relay", relayed.len()),
-        ("pool", pooled.len()),
-        ("pipeline", piped.len()),
-        ("each way, received", came as usize),
-        ("each way, taken back", back as usize),
-    ];
-    for (name, number) in lines {
-        if println!(&rt; "{name}: {number}").is_err() {
-            return ExitCode::FAILURE;
-        }
+    match (print_channels(rt, alloc), print_lines(rt, alloc)) {
+        (Ok(true), Ok(true)) => ExitCode::SUCCESS,
+        _ => ExitCode::FAILURE,
     }
-    ExitCode::SUCCESS
 }

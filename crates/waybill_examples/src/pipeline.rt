@@ -2,10 +2,10 @@
 //! to be made of the jobs.
 
 ghost use Rattle.std.specs.Prelude.{◌≡◌, [], length, IfSome, IsPermutation};
-ghost use Rattle.waybill.specs.Accounts.{fresh, account, IsPartOf};
+ghost use Rattle.waybill.specs.Accounts.{IsPartOf};
 ghost use Rattle.waybill_examples.specs.Pool.{squares};
 
-use crate::pool::{gather, give, work};
+use crate::pool::{Worker, gather, give, work};
 use async_channel::{Receiver, Sender, bounded};
 use event_listener::id::EventIds;
 use std::alloc::Global;
@@ -13,7 +13,7 @@ use std::marker::Brand;
 use std::sync::Wait;
 use std::thread;
 use std::thread::Threads;
-use waybill::{Office, Opened, Parcel, Pass, Room};
+use waybill::{Inbox, Office, Opened, Parcel, Room};
 
 /// The two threads that come after the first.
 fn work_and_gather<
@@ -22,30 +22,18 @@ fn work_and_gather<
     R: Threads + Wait + Copy + Send + Sync,
 >(
     rt: R,
-    alloc: Global,
     offices: (&Office<u32, B>, &Office<u64, C>),
     todo: Receiver<Parcel<u32, B>, R>,
     done: (Sender<Parcel<u64, C>, R>, Receiver<Parcel<u64, C>, R>),
-    took: Pass<u32, B>,
-    gave: Pass<u64, C>,
-    gatherer: Pass<u64, C>,
-) -> ((Pass<u32, B>, Pass<u64, C>), (Pass<u64, C>, Vec<u64>))
-    requires { (took ≡ fresh 1) × (gave ≡ fresh 1) × (gatherer ≡ fresh 1) }
-    ensures worked { (result.0.0 ≡ account 1 [] result.0.0.received []) × (result.0.1 ≡ account 1 (squares result.0.0.received) [] []) }
-    ensures gathered { result.1.0 ≡ account 1 [] result.1.1.items [] }
-{
+    worker: Worker<B, C>,
+    inbox: Inbox<u64, C>,
+) -> (Worker<B, C>, Inbox<u64, C>) {
     let (jobs, results) = offices;
     let (done, done_receiver) = done;
     thread::join(
         &rt,
-        move ||
-            requires { (took ≡ fresh 1) × (gave ≡ fresh 1) }
-            ensures { (result.0 ≡ account 1 [] result.0.received []) × (result.1 ≡ account 1 (squares result.0.received) [] []) }
-        { work::<B, C, R>(rt, jobs, results, todo, done, took, gave) },
-        move ||
-            requires { gatherer ≡ fresh 1 }
-            ensures { result.0 ≡ account 1 [] result.1.items [] }
-        { gather::<C, R>(rt, alloc, results, done_receiver, gatherer) },
+        move || work::<B, C, R>(rt, jobs, results, todo, done, worker),
+        move || gather::<C, R>(rt, results, done_receiver, inbox),
     )
 }
 
@@ -63,24 +51,22 @@ fn pipeline_in<
     let done = bounded(rt, alloc, 2, &mut ids).ok()?;
     let (jobs, mut every_job) = jobs.enter::<B>();
     let (results, mut every_result) = results.enter::<C>();
-    let giver = jobs.another(&mut every_job);
-    let took = jobs.another(&mut every_job);
-    let gave = results.another(&mut every_result);
-    let gatherer = results.another(&mut every_result);
-    let here = &jobs;
-    let there = &results;
-    let (given, ((took, gave), (gathered, got))) = thread::join(
-        &rt,
-        move ||
-            requires { giver ≡ fresh 1 }
-            ensures { result ≡ account 1 all.entry.now [] [] }
-        { give::<B, R>(here, todo_sender, giver, all) },
-        move ||
-            requires { (took ≡ fresh 1) × (gave ≡ fresh 1) × (gatherer ≡ fresh 1) }
-            ensures { (result.0.0 ≡ account 1 [] result.0.0.received []) × (result.0.1 ≡ account 1 (squares result.0.0.received) [] []) × (result.1.0 ≡ account 1 [] result.1.1.items []) }
-        { work_and_gather::<B, C, R>(rt, alloc, (here, there), todo, done, took, gave, gatherer) },
+    let Ok(parcels) = jobs.pack_each(alloc, &mut every_job, all) else {
+        return None;
+    };
+    let worker = Worker::new(
+        jobs.another(&mut every_job),
+        results.another(&mut every_result),
     );
-    jobs.absorb(&mut every_job, given);
+    let inbox = Inbox::new(alloc, results.another(&mut every_result));
+    let offices = (&jobs, &results);
+    let ((), (worker, inbox)) = thread::join(
+        &rt,
+        move || give::<B, R>(todo_sender, parcels),
+        move || work_and_gather::<B, C, R>(rt, offices, todo, done, worker, inbox),
+    );
+    let (took, gave) = worker.into_passes();
+    let (gathered, got) = inbox.into_parts();
     jobs.absorb(&mut every_job, took);
     results.absorb(&mut every_result, gave);
     results.absorb(&mut every_result, gathered);

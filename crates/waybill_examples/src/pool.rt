@@ -7,17 +7,64 @@ ghost use Rattle.waybill_examples.specs.Pool.{squares};
 use async_channel::{Receiver, Sender, unbounded};
 use event_listener::id::EventIds;
 use std::alloc::Global;
-use std::marker::Brand;
+use std::marker::{Brand, Model};
 use std::sync::Wait;
 use std::thread;
 use std::thread::Threads;
-use waybill::{Office, Opened, Parcel, Pass, Room};
+use waybill::{Inbox, Office, Opened, Parcel, Pass, Room};
 
 /// What is to be done with a job.
 fn squared(job: u32) -> u64
     ensures { result ≡ job * job }
 {
     job as u64 * job as u64
+}
+
+/// A worker: what it gave are the squares of what it took.
+#[derive(Drop)]
+pub(crate) struct Worker<B: Room, C: Room> {
+    took: Pass<u32, B>,
+    gave: Pass<u64, C>,
+}
+
+impl<B: Room, C: Room> Model for Worker<B, C> {
+    ghost use Rattle.std.specs.Prelude.{◌≡◌, []};
+    ghost use Rattle.waybill.specs.Accounts.{account};
+    ghost use Rattle.waybill_examples.specs.Pool.{squares};
+
+    ghost Value = { Unit {0} };
+
+    ghost view = { λ w. tt };
+
+    ghost invariant = { λ w. (w.took ≡ account 1 [] w.took.received []) × (w.gave ≡ account 1 (squares w.took.received) [] []) };
+}
+
+impl<B: Room, C: Room> Worker<B, C> {
+    /// One that did nothing yet.
+    pub(crate) fn new(took: Pass<u32, B>, gave: Pass<u64, C>) -> Worker<B, C>
+        requires { (took ≡ fresh 1) × (gave ≡ fresh 1) }
+    {
+        Worker { took, gave }
+    }
+
+    /// Does one job.
+    fn square(
+        &mut self,
+        jobs: &Office<u32, B>,
+        results: &Office<u64, C>,
+        job: Parcel<u32, B>,
+    ) -> Parcel<u64, C> {
+        let job = jobs.unpack(&mut self.took, job);
+        results.pack(&mut self.gave, squared(job))
+    }
+
+    /// Both passes.
+    pub(crate) fn into_passes(self) -> (Pass<u32, B>, Pass<u64, C>)
+        ensures took { result.0 ≡ account 1 [] result.0.received [] }
+        ensures gave { result.1 ≡ account 1 (squares result.0.received) [] [] }
+    {
+        (self.took, self.gave)
+    }
 }
 
 /// Does jobs until there are no more.
@@ -27,66 +74,50 @@ pub(crate) fn work<B: Room, C: Room, R: Wait + Copy>(
     results: &Office<u64, C>,
     todo: Receiver<Parcel<u32, B>, R>,
     done: Sender<Parcel<u64, C>, R>,
-    mut took: Pass<u32, B>,
-    mut gave: Pass<u64, C>,
-) -> (Pass<u32, B>, Pass<u64, C>)
-    requires { (took ≡ fresh 1) × (gave ≡ fresh 1) }
-    ensures took { result.0 ≡ account 1 [] result.0.received [] }
-    ensures gave { result.1 ≡ account 1 (squares result.0.received) [] [] }
-{
+    mut worker: Worker<B, C>,
+) -> Worker<B, C> {
     for _ in rt.forever() {
         match todo.recv_blocking() {
-            Ok(parcel) => {
-                let job = jobs.unpack(&mut took, parcel);
-                let _ = done.send_blocking(results.pack(&mut gave, squared(job)));
+            Ok(job) => {
+                let _ = done.send_blocking(worker.square(jobs, results, job));
             }
             Err(_) => break,
         }
     }
-    (took, gave)
+    worker
 }
 
 /// Gives the jobs and lets the sender go.
 pub(crate) fn give<B: Room, R: Wait + Copy>(
-    jobs: &Office<u32, B>,
     todo: Sender<Parcel<u32, B>, R>,
-    mut pass: Pass<u32, B>,
-    all: &[u32],
-) -> Pass<u32, B>
-    requires { pass ≡ fresh 1 }
-    ensures { result ≡ account 1 all.now [] [] }
-{
-    for next in 0..all.len() {
-        let _ = todo.send_blocking(jobs.pack(&mut pass, all[next]));
+    jobs: Vec<Parcel<u32, B>>,
+) {
+    for job in jobs {
+        let _ = todo.send_blocking(job);
     }
-    pass
 }
 
 /// Gathers results until there are no more.
 pub(crate) fn gather<C: Room, R: Wait + Copy>(
     rt: R,
-    alloc: Global,
     results: &Office<u64, C>,
     done: Receiver<Parcel<u64, C>, R>,
-    mut pass: Pass<u64, C>,
-) -> (Pass<u64, C>, Vec<u64>)
-    requires { pass ≡ fresh 1 }
-    ensures { result.0 ≡ account 1 [] result.1.items [] }
-{
-    let mut got = Vec::new(alloc);
+    mut inbox: Inbox<u64, C>,
+) -> Inbox<u64, C> {
     for _ in rt.forever() {
-        if got.reserve(1).is_err() {
-            break;
-        }
         match done.recv_blocking() {
-            Ok(parcel) => got.push_reserved(results.unpack(&mut pass, parcel)),
+            Ok(parcel) => {
+                if inbox.unpack(results, parcel).is_err() {
+                    break;
+                }
+            }
             Err(_) => break,
         }
     }
-    (pass, got)
+    inbox
 }
 
-/// The passes of two workers who have done what there was to do.
+/// Two workers who do what there is to do.
 fn two_workers<
     B: Room + Send + Sync,
     C: Room + Send + Sync,
@@ -97,28 +128,15 @@ fn two_workers<
     results: &Office<u64, C>,
     todo: (Receiver<Parcel<u32, B>, R>, Receiver<Parcel<u32, B>, R>),
     done: (Sender<Parcel<u64, C>, R>, Sender<Parcel<u64, C>, R>),
-    took: (Pass<u32, B>, Pass<u32, B>),
-    gave: (Pass<u64, C>, Pass<u64, C>),
-) -> ((Pass<u32, B>, Pass<u64, C>), (Pass<u32, B>, Pass<u64, C>))
-    requires took { (took.0 ≡ fresh 1) × (took.1 ≡ fresh 1) }
-    requires gave { (gave.0 ≡ fresh 1) × (gave.1 ≡ fresh 1) }
-    ensures first { (result.0.0 ≡ account 1 [] result.0.0.received []) × (result.0.1 ≡ account 1 (squares result.0.0.received) [] []) }
-    ensures second { (result.1.0 ≡ account 1 [] result.1.0.received []) × (result.1.1 ≡ account 1 (squares result.1.0.received) [] []) }
-{
+    workers: (Worker<B, C>, Worker<B, C>),
+) -> (Worker<B, C>, Worker<B, C>) {
     let (todo, todo_too) = todo;
     let (done, done_too) = done;
-    let (took, took_too) = took;
-    let (gave, gave_too) = gave;
+    let (worker, worker_too) = workers;
     thread::join(
         &rt,
-        move ||
-            requires { (took ≡ fresh 1) × (gave ≡ fresh 1) }
-            ensures { (result.0 ≡ account 1 [] result.0.received []) × (result.1 ≡ account 1 (squares result.0.received) [] []) }
-        { work::<B, C, R>(rt, jobs, results, todo, done, took, gave) },
-        move ||
-            requires { (took_too ≡ fresh 1) × (gave_too ≡ fresh 1) }
-            ensures { (result.0 ≡ account 1 [] result.0.received []) × (result.1 ≡ account 1 (squares result.0.received) [] []) }
-        { work::<B, C, R>(rt, jobs, results, todo_too, done_too, took_too, gave_too) },
+        move || work::<B, C, R>(rt, jobs, results, todo, done, worker),
+        move || work::<B, C, R>(rt, jobs, results, todo_too, done_too, worker_too),
     )
 }
 
@@ -140,24 +158,30 @@ fn pool_in<B: Room + Send + Sync, C: Room + Send + Sync, R: Threads + Wait + Cop
     let done_too = done.try_clone().ok()?;
     let (jobs, mut every_job) = jobs.enter::<B>();
     let (results, mut every_result) = results.enter::<C>();
-    let giver = jobs.another(&mut every_job);
-    let given = give(&jobs, todo_sender, giver, all);
-    let took = jobs.another(&mut every_job);
-    let took_too = jobs.another(&mut every_job);
-    let gave = results.another(&mut every_result);
-    let gave_too = results.another(&mut every_result);
-    let ((took, gave), (took_too, gave_too)) = two_workers(
+    let Ok(parcels) = jobs.pack_each(alloc, &mut every_job, all) else {
+        return None;
+    };
+    give(todo_sender, parcels);
+    let worker = Worker::new(
+        jobs.another(&mut every_job),
+        results.another(&mut every_result),
+    );
+    let worker_too = Worker::new(
+        jobs.another(&mut every_job),
+        results.another(&mut every_result),
+    );
+    let inbox = Inbox::new(alloc, results.another(&mut every_result));
+    let (worker, worker_too) = two_workers(
         rt,
         &jobs,
         &results,
         (todo, todo_too),
         (done, done_too),
-        (took, took_too),
-        (gave, gave_too),
+        (worker, worker_too),
     );
-    let gatherer = results.another(&mut every_result);
-    let (gathered, got) = gather(rt, alloc, &results, done_receiver, gatherer);
-    jobs.absorb(&mut every_job, given);
+    let (took, gave) = worker.into_passes();
+    let (took_too, gave_too) = worker_too.into_passes();
+    let (gathered, got) = gather(rt, &results, done_receiver, inbox).into_parts();
     jobs.absorb(&mut every_job, took);
     jobs.absorb(&mut every_job, took_too);
     results.absorb(&mut every_result, gave);

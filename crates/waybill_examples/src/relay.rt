@@ -10,7 +10,7 @@ use std::marker::Brand;
 use std::sync::Wait;
 use std::thread;
 use std::thread::Threads;
-use waybill::{Office, Opened, Parcel, Pass, Room};
+use waybill::{Inbox, Office, Opened, Parcel, Pass, Room};
 
 fn send_all<B: Room, R: Wait + Copy>(
     office: &Office<u32, B>,
@@ -29,25 +29,19 @@ fn send_all<B: Room, R: Wait + Copy>(
 
 fn receive_all<B: Room, R: Wait + Copy>(
     rt: R,
-    alloc: Global,
     office: &Office<u32, B>,
     receiver: Receiver<Parcel<u32, B>, R>,
-    mut pass: Pass<u32, B>,
-) -> (Pass<u32, B>, Vec<u32>)
-    requires { pass ≡ fresh 1 }
-    ensures { result.0 ≡ account 1 [] result.1.items [] }
-{
-    let mut got = Vec::new(alloc);
+    mut inbox: Inbox<u32, B>,
+) -> Inbox<u32, B> {
     for _ in rt.forever() {
-        if got.reserve(1).is_err() {
+        let Ok(parcel) = receiver.recv_blocking() else {
+            break;
+        };
+        if inbox.unpack(office, parcel).is_err() {
             break;
         }
-        match receiver.recv_blocking() {
-            Ok(parcel) => got.push_reserved(office.unpack(&mut pass, parcel)),
-            Err(_) => break,
-        }
     }
-    (pass, got)
+    inbox
 }
 
 fn relay_in<B: Room + Send + Sync, R: Threads + Wait + Copy + Send + Sync>(
@@ -64,19 +58,17 @@ fn relay_in<B: Room + Send + Sync, R: Threads + Wait + Copy + Send + Sync>(
     let (office, mut whole) = opened.enter::<B>();
     let (sender, receiver) = bounded(rt, alloc, capacity, &mut EventIds::new()).ok()?;
     let writer = office.another(&mut whole);
-    let reader = office.another(&mut whole);
+    let inbox = Inbox::new(alloc, office.another(&mut whole));
     let here = &office;
-    let (writer, (reader, got)) = thread::join(
+    let (writer, inbox) = thread::join(
         &rt,
         move ||
             requires { writer ≡ fresh 1 }
             ensures { result ≡ account 1 all.entry.now [] [] }
         { send_all::<B, R>(here, sender, writer, all) },
-        move ||
-            requires { reader ≡ fresh 1 }
-            ensures { result.0 ≡ account 1 [] result.1.items [] }
-        { receive_all::<B, R>(rt, alloc, here, receiver, reader) },
+        move || receive_all::<B, R>(rt, here, receiver, inbox),
     );
+    let (reader, got) = inbox.into_parts();
     office.absorb(&mut whole, writer);
     office.absorb(&mut whole, reader);
     office.learn(&mut whole);

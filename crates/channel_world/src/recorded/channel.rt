@@ -1,8 +1,9 @@
 //! The recorded channel.
 
-ghost use Rattle.std.specs.Prelude.{◌≡◌, ◌<◌, ◌+◌, ◌-◌, ◌^◌, Err, IfOk, IfErr, OnOk, OnErr, length};
+ghost use Rattle.std.specs.Prelude.{◌≡◌, ◌<◌, ◌≤◌, ◌+◌, ◌-◌, ◌^◌, Err, IsOk, IfOk, IfErr, OnOk, OnErr, length};
 ghost use Rattle.channel_interleaving.specs.Floor.{IsQuiet};
 ghost use Rattle.channel_model.specs.State.{start};
+ghost use Rattle.channel_world.specs.RecordReplay.{EndsHistory};
 ghost use Rattle.channel_world.specs.RecordSeat.{calls_of, one_more};
 ghost use Rattle.channel_world.specs.Recording.{call_in};
 ghost use Rattle.channel_world.specs.World.{at_rest};
@@ -115,7 +116,8 @@ impl<T: Copy, L: Ledger> RecordedChannel<T, L> {
         self.inner.lock(rt).seat()
     }
 
-    /// Makes a call from its begin to its end, with nobody else at work, and records it; the receipt is a copy of the entry.
+    /// Makes a call from its begin to its end, with nobody else at work, and records it; the receipt is a copy of the entry. What it
+    /// answers and wakes is the model's after the calls that stand before it in the record, all of the seat's own among them.
     ///
     /// Refused for want of room for the entry or the receipt, or as `World::run_calls` refuses it. Then nothing has changed,
     /// nothing is recorded and the call comes back. It may wait for the lock.
@@ -126,6 +128,8 @@ impl<T: Copy, L: Ledger> RecordedChannel<T, L> {
         call: Call<T>,
     ) -> Result<Receipt<T>, RecordError<T>>
         ensures asked { IfOk result (λ r. (r.call ≡ call) × (r.seat ≡ seat.old.number)) }
+        ensures ends { IfOk result (λ r. EndsHistory r) }
+        ensures behind { IfOk result (λ r. seat.old.calls ≤ r.place) }
         ensures counted { OnOk result (seat.new ≡ one_more seat.old) }
         ensures back { IfErr result (λ e. call_in e ≡ call) }
         ensures idle { OnErr result (seat.new ≡ seat.old) }
@@ -134,11 +138,13 @@ impl<T: Copy, L: Ledger> RecordedChannel<T, L> {
     }
 
     /// The record, where all seats that were made are gathered: it has as many entries as they made accepted calls. A channel
-    /// of which no seat was made is finished with the empty list.
+    /// of which no seat was made is finished with the empty list. Where the seats have all parts of the ledger but the channel's own,
+    /// none is missing.
     ///
     /// Where a seat is missing the channel and the seats come back.
     pub fn finish(self, seats: Vec<RecordSeat<L>>) -> Result<Record<T>, MissingSeat<T, L>>
         ensures counted { IfOk result (λ r. length r.entries ≡ calls_of seats.items) }
+        ensures gathered { L.parts ≤ length seats.items + 1 → IsOk result }
         ensures back { IfErr result (λ m. m.seats.items ≡ seats.items) }
     {
         let RecordedChannel { inner } = self;

@@ -1,6 +1,6 @@
 //! What stands behind the lock: a world with the record of its calls.
 
-ghost use Rattle.std.specs.Prelude.{◌≡◌, ◌≢◌, ◌⊎◌, ◌<◌, ◌≤◌, ◌+◌, ◌^◌, ◌∷◌, ◌++◌, [], IfSome, IfNone, IfOk, IfErr, OnOk, OnErr, length, vec_len, vec_capacity};
+ghost use Rattle.std.specs.Prelude.{◌≡◌, ◌⊎◌, ◌<◌, ◌≤◌, ◌+◌, ◌^◌, ◌∷◌, ◌++◌, [], IfSome, IfNone, IsOk, IfOk, IfErr, OnOk, OnErr, length, vec_len, vec_capacity};
 ghost use Rattle.std.specs.VecDeque.{deque_len, deque_capacity};
 ghost use Rattle.channel_world.specs.Listed.{listed, most_listed};
 ghost use Rattle.channel_world.specs.World.{at_rest, most_woken};
@@ -56,7 +56,7 @@ impl<T: Copy, L: Ledger> Model for Recording<T, L> {
 impl<T: Copy, L: Ledger> Recording<T, L> {
     ghost use Rattle.channel_interleaving.specs.Floor.{IsQuiet};
     ghost use Rattle.channel_model.specs.State.{start};
-    ghost use Rattle.channel_world.specs.RecordReplay.{Made};
+    ghost use Rattle.channel_world.specs.RecordReplay.{EndsHistory, Made};
     ghost use Rattle.channel_world.specs.RecordSeat.{calls_of, new_seat, one_more};
     ghost use Rattle.channel_world.specs.Recording.{with_seat, call_in, MayRefuse};
 
@@ -114,6 +114,8 @@ impl<T: Copy, L: Ledger> Recording<T, L> {
         ensures asked { IfOk result (λ r. (r.call ≡ call) × (r.seat ≡ seat.old.number)) }
         ensures place { IfOk result (λ r. r.place ≡ length self.old.entries) }
         ensures made { IfOk result (λ r. Made self.old.state r self.new.state) }
+        ensures ends { IfOk result (λ r. EndsHistory r) }
+        ensures behind { IfOk result (λ r. seat.old.calls ≤ r.place) }
         ensures recorded { IfOk result (λ r. self.new ≡ record self.old { state = self.new.state; entries = self.old.entries ++ r ∷ [] }) }
         ensures counted { OnOk result (seat.new ≡ one_more seat.old) }
         ensures why { IfErr result (λ e. MayRefuse self.old.state e) }
@@ -136,6 +138,7 @@ impl<T: Copy, L: Ledger> Recording<T, L> {
         match done.pop() {
             Some(done) => {
                 let place = self.entries.len();
+                self.book.audit(&mut seat.mine);
                 let (entry, receipt) = twice(place, seat.number, call, done, lists);
                 self.entries.push_reserved(entry);
                 self.book.add(&mut seat.mine, 1);
@@ -156,10 +159,11 @@ impl<T: Copy, L: Ledger> Recording<T, L> {
         ensures all { OnOk result (length seats.items ≡ self.seats) }
         ensures record { IfOk result (λ r. r ≡ record { capacity = self.capacity; entries = self.entries }) }
         ensures counted { IfOk result (λ r. length r.entries ≡ calls_of seats.items) }
-        ensures missing { OnErr result (length seats.items ≢ self.seats) }
+        ensures missing { OnErr result (length seats.items < self.seats) }
+        ensures gathered { L.parts ≤ length seats.items + 1 → IsOk result }
         ensures back { IfErr result (λ b. (b.0 ≡ self) × (b.1.items ≡ seats.items)) }
     {
-        if seats.len() as u64 != self.made {
+        if (seats.len() as u64) < self.made {
             return Err((self, seats));
         }
         let Recording {

@@ -78,7 +78,7 @@ fn last_line(end: ScriptEnd) -> &'static [u8]
 /// Reads a script and runs it: its text, but for a late last line, and how it ends.
 fn read_and_compose<R: Read>(alloc: Global, reader: &mut R, out: &mut Vec<u8>) -> ScriptEnd
     requires { out.old.items ≡ [] }
-    ensures { IfSome (R.remaining reader.old) (λ input. IsText input result (out.new.items ++ late_line result)) }
+    ensures { (input : List ℕ) × IfSome (R.remaining reader.old) (λ known. input ≡ known) × IsText input result (out.new.items ++ late_line result) }
 {
     match read_input(alloc, reader) {
         Ok(input) => compose(alloc, input.as_slice(), out),
@@ -106,8 +106,12 @@ fn write_script<W: Write>(writer: &mut W, text: &[u8], end: ScriptEnd) -> Script
 /// script. Where reading fails it is `read fault` alone. Where memory or serials are refused it is some of the lines
 /// before, then `want of memory`. Where writing fails, what went out is a front of the text. It waits only as the
 /// reader and the writer do. Own to this project.
+///
+/// Of a reader whose bytes no contract knows, as standard input, it says that some bytes were read, and that what is written, and
+/// how it ends, is what their script says.
 pub fn run_script<R: Read, W: Write>(alloc: Global, reader: &mut R, writer: &mut W) -> ScriptEnd
-    ensures { IfSome (R.remaining reader.old) (λ input. WritesScript input result (W.contents writer.old) (W.contents writer.new)) }
+    ensures read { (input : List ℕ) × WritesScript input result (W.contents writer.old) (W.contents writer.new) }
+    ensures known { IfSome (R.remaining reader.old) (λ input. WritesScript input result (W.contents writer.old) (W.contents writer.new)) }
 {
     let mut out = Vec::new(alloc);
     let end = read_and_compose(alloc, reader, &mut out);

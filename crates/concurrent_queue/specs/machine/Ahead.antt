@@ -1,10 +1,9 @@
 -- Steps of a machine that are made on end.
-use Rattle.std.specs.Prelude.{◌≡◌, ◌⊎◌, ℕ, ◌+◌, ◌-◌, ◌*◌, ◌%◌, ◌^◌, ◌==◌, ◌&&◌, if◌then◌else◌, Bool, true, false, nat_le, None, Some, Result, Ok, Err, slice_index, MatchResult}
+use Rattle.std.specs.Prelude.{◌≡◌, ◌⊎◌, ℕ, ◌+◌, ◌-◌, ◌*◌, ◌%◌, ◌^◌, ◌==◌, ◌&&◌, if◌then◌else◌, Bool, true, false, nat_le, None, Some, Result, Ok, Err, slice_index, slice_get, MatchResult}
 use Rattle.std.proofs.Common.{zero, suc}
-use Rattle.concurrent_queue.specs.Contents.{Contents, write_slot, slot_at, can_put}
+use Rattle.concurrent_queue.specs.Contents.{Contents, write_slot, slot_at, is_vacant, can_put}
 use Rattle.concurrent_queue.specs.machine.BlocksWords.{IsBlocksStep}
-use Rattle.concurrent_queue.specs.machine.RingAtOnce.{IsFree, pushed, IsThere, popped}
-use Rattle.concurrent_queue.specs.machine.RingWords.{cap_of, ring_mark, ring_step, index, is_marked, unmarked, next_word, set_tail, set_head}
+use Rattle.concurrent_queue.specs.machine.RingWords.{cap_of, ring_mark, ring_step, index, is_marked, unmarked, next_word, set_tail, set_head, set_stamp}
 use Rattle.concurrent_queue.specs.machine.Single.{single_step, push_step, pop_step, set_state, unlocked}
 use Rattle.concurrent_queue.specs.machine.Single as one
 use Rattle.concurrent_queue.specs.declared.bounded.RingAction.{RingAction}
@@ -99,6 +98,24 @@ module _ {T : Type 0} (cap m : ℕ) (c : Contents T) where
   IsBehind =
       ((slice_index c.stamps (index m c.tail) == c.tail) ≡ false) × ((nat_le (2 * m) c.tail && slice_index c.stamps (index m c.tail) == c.tail - 2 * m + 1) ≡ true) × ((c.head == c.tail - 2 * m) ≡ true)
 
+  -- that place is empty besides
+  abbrev pub IsFree : Type 0
+  IsFree =
+      (is_marked m c.tail ≡ false) × (nat_le (2 ^ 64 - 2 * m) c.tail ≡ false) × ((slice_index c.stamps (index m c.tail) == c.tail) ≡ true) × (is_vacant (slice_get c.slots (index m c.tail)) ≡ true)
+
+  -- the contents once v is there
+  abbrev pub pushed : T → Contents T
+  pushed v = set_stamp (write_slot (set_tail c (next_word cap m c.tail)) (At (index m c.tail)) (Some v)) (index m c.tail) ((c.tail + 1) % 2 ^ 64)
+
+  -- the message at the head is in, and is v
+  abbrev pub IsThere : T → Type 0
+  IsThere v =
+      ((slice_index c.stamps (index m c.head) == (c.head + 1) % 2 ^ 64) ≡ true) × (slot_at c (At (index m c.head)) ≡ Some v)
+
+  -- the contents once it is taken
+  abbrev pub popped : Contents T
+  popped = set_stamp (write_slot (set_head c (next_word cap m c.head)) (At (index m c.head)) None) (index m c.head) ((c.head + 2 * m) % 2 ^ 64)
+
   -- a push is refused: the tail is marked, or the place there has the message of the lap before, which is the oldest
   abbrev pub RefusesPush : T → PushError T → Type 0
   RefusesPush v (push_error.Closed w) = (w ≡ v) × (is_marked m c.tail ≡ true)
@@ -125,7 +142,7 @@ module _ {T : Type 0} (cap m : ℕ) (c : Contents T) where
   -- a push into a ring: it is in, or refused, or nothing is done, or its place is won and is not empty yet
   abbrev pub PushesRing : T → Result (Result Unit (PushError T)) (RingAction T) → Contents T → Type 0
   PushesRing v (Ok (Err e)) d = RefusesPush v e × (d ≡ c)
-  PushesRing v (Ok (Ok u)) d = IsFree cap m c × (d ≡ pushed cap m c v)
+  PushesRing v (Ok (Ok u)) d = IsFree × (d ≡ pushed v)
   PushesRing v (Err a) d =
       ((a ≡ ring.Push Refuse v) × (d ≡ c))
       ⊎ (((is_marked m c.tail ≡ false) × (nat_le (2 ^ 64 - 2 * m) c.tail ≡ true) × (a ≡ ring.PushShut Refuse v) × (d ≡ c))
@@ -134,7 +151,7 @@ module _ {T : Type 0} (cap m : ℕ) (c : Contents T) where
   -- a pop from a ring likewise
   abbrev pub PopsRing : Result (Result T PopError) (RingAction T) → Contents T → Type 0
   PopsRing (Ok (Err e)) d = RefusesPop e × (d ≡ c)
-  PopsRing (Ok (Ok v)) d = IsThere cap m c v × (d ≡ popped cap m c)
+  PopsRing (Ok (Ok v)) d = IsThere v × (d ≡ popped)
   PopsRing (Err a) d =
       ((a ≡ ring.Pop) × (d ≡ c))
       ⊎ (((slice_index c.stamps (index m c.head) == (c.head + 1) % 2 ^ 64) ≡ true) × (slot_at c (At (index m c.head)) ≡ None) × (a ≡ ring.PopTake c.head)

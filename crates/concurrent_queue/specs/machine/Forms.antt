@@ -1,5 +1,4 @@
--- What each form of queue delivers, over its own actions; the contract of a step, of runs and of a queue of one owner
--- follows from it.
+-- What each form of queue delivers, over its own actions; the contract of a step and of runs follows from it.
 use Rattle.std.specs.Prelude.{◌≡◌, ℕ, ◌<◌, Bool, List, ◌∷◌, ◌++◌, map, Option, MatchOption}
 use Rattle.concurrent_queue.specs.Contents.{Contents}
 use Rattle.concurrent_queue.specs.Queue.{Queue, Phase, asked, after, Continues, Answers, IsInRange}

@@ -5,12 +5,12 @@ ghost use Rattle.concurrent_queue.specs.Replies.{MayAnswer, AsksWords};
 
 use crate::bounded::{GREATEST, at_most_greatest};
 use crate::call::{QueueAsk, QueueReply};
-use crate::cells::{Cells, QueueForm};
-use crate::error::{ForcePushError, NoMemory, PopError, PushError};
+use crate::cells::QueueForm;
+use crate::error::{NoMemory, PopError, PushError};
 use crate::queue_call::{QueueCall, whole};
+use crate::seen::{Seen, Trace};
 use crate::shared::blocks::Blocks;
 use crate::shared::cells::{STAMPS, SharedCells, WordCells};
-use crate::shared::iter::TryIter;
 use crate::shared::table::SharedTable;
 use std::alloc::{AllocError, Global};
 use std::sync::Wait;
@@ -89,154 +89,6 @@ impl<T: Drop> ConcurrentQueue<T> {
             Err(_) => Err(NoMemory),
         }
     }
-}
-
-impl<T: Drop> ConcurrentQueue<T> {
-    ghost use Rattle.std.specs.Prelude.{◌≡◌, Some};
-    ghost use Rattle.concurrent_queue.specs.SharedQueue.{IsSharedStep, IsWordsAlone};
-
-    /// The cells of words and slots, from a new seat.
-    #[inline(always)]
-    fn words(&self) -> WordCells<'_, T>
-        ensures { result.form ≡ self.now.form }
-    {
-        WordCells::new(self.form, self.own.seat(), self.blocks.as_ref())
-    }
-
-    /// The same with the runtime value.
-    #[inline(always)]
-    fn cells<'a, R: Wait>(&'a self, rt: &'a R) -> SharedCells<'a, T, R>
-        ensures { result.words.form ≡ self.now.form }
-    {
-        SharedCells {
-            words: self.words(),
-            rt,
-        }
-    }
-
-    /// One step of a call. It yields where the call has to make its action again, and may wait for the lock of the spare
-    /// list. What it answers is what this queue may answer: a capacity is this queue's own. Own to this project.
-    pub fn step<R: Wait>(&self, rt: &R, call: &mut QueueCall<T>) -> Option<QueueReply<T>>
-        ensures { IsSharedStep self.now call.old call.new result }
-    {
-        let place = call.place();
-        let reply = call.step(&mut self.cells(rt));
-        whole::give_way(reply.is_none() && call.place() <= place);
-        reply
-    }
-
-    /// Makes the steps of a call up to its answer. A push or a pop that has made no step is made at once where nothing stands
-    /// against it. It yields where the call has to make an action again, and may wait for the lock of the spare list. What it
-    /// answers is what this queue may answer to this call. With a call that has answered before it never returns. Own to this
-    /// project.
-    #[inline(always)]
-    pub fn complete<R: Wait>(&self, rt: &R, call: &mut QueueCall<T>) -> QueueReply<T>
-        ensures { IsSharedStep self.now call.old call.new (Some result) }
-    {
-        whole::complete(rt, call, &mut self.cells(rt))
-    }
-
-    /// One step of a call that is `close` or a question but for the length. It waits for nobody, and the second one answers
-    /// at the latest. Own to this project.
-    pub fn step_words(&self, call: &mut QueueCall<T>) -> Option<QueueReply<T>>
-        requires { IsWordsAlone call.old }
-        ensures { IsSharedStep self.now call.old call.new result }
-    {
-        call.step(&mut self.words())
-    }
-
-    /// The answer of a call that goes step by step.
-    fn make<R: Wait>(&self, rt: &R, ask: QueueAsk<T>) -> QueueReply<T>
-        ensures { MayAnswer self.now.form ask result }
-    {
-        whole::finish(rt, QueueCall::new(ask), &mut self.cells(rt))
-    }
-
-    /// The answer of a call that waits for nobody.
-    fn tell(&self, ask: QueueAsk<T>) -> QueueReply<T>
-        requires { AsksWords ask }
-        ensures { MayAnswer self.now.form ask result }
-    {
-        whole::tell(ask, &mut self.words())
-    }
-}
-
-impl<T: Drop> ConcurrentQueue<T> {
-    ghost use Rattle.std.specs.Prelude.{◌≡◌, IfOk, IfErr, None, false};
-    ghost use Rattle.concurrent_queue.specs.Errors.{push_message, force_message};
-    ghost use Rattle.concurrent_queue.specs.SharedQueue.{limit, CanRefuse, CanRefuseForce};
-
-    /// Appends the message. A refusal hands it back: the queue was full or closed, or an unbounded one had no memory for it.
-    /// It may wait. Other threads push and close too, so nothing that a caller knows says that it will succeed: `HasPlace` of
-    /// `specs/Room` says so of a push into a queue of one owner alone.
-    pub fn push<R: Wait>(&self, rt: &R, value: T) -> Result<(), PushError<T>>
-        ensures back { IfErr result (λ e. push_message e ≡ value) }
-        ensures reason { IfErr result (λ e. CanRefuse (limit self.now) e) }
-    {
-        whole::push(rt, value, &mut self.cells(rt))
-    }
-
-    /// Appends the message; where the queue is full, the oldest one leaves for it and is answered. A refusal hands the message
-    /// back: the queue was closed, or an unbounded one had no memory for it. It may wait.
-    pub fn force_push<R: Wait>(&self, rt: &R, value: T) -> Result<Option<T>, ForcePushError<T>>
-        ensures back { IfErr result (λ e. force_message e ≡ value) }
-        ensures reason { IfErr result (λ e. CanRefuseForce (limit self.now) e) }
-        ensures displaced { limit self.now ≡ None → IfOk result (λ o. o ≡ None) }
-    {
-        match self.make(rt, QueueAsk::ForcePush(value)) {
-            QueueReply::Force(result) => result,
-            _ => unreachable!(),
-        }
-    }
-
-    /// Takes the oldest message. `Err` where there was none: `Empty` while the queue was open, `Closed` once it was closed. It
-    /// may wait.
-    pub fn pop<R: Wait>(&self, rt: &R) -> Result<T, PopError> {
-        whole::pop(rt, &mut self.cells(rt))
-    }
-
-    /// Closes the queue: nothing more comes in, and what is in can still be popped. True in the one call that closed it. It
-    /// waits for nobody.
-    pub fn close(&self) -> bool {
-        match self.tell(QueueAsk::Close) {
-            QueueReply::Close(result) => result,
-            _ => unreachable!(),
-        }
-    }
-
-    /// Whether the queue is closed. It waits for nobody.
-    pub fn is_closed(&self) -> bool {
-        match self.tell(QueueAsk::IsClosed) {
-            QueueReply::Flag(result) => result,
-            _ => unreachable!(),
-        }
-    }
-
-    /// Whether it holds no message. It waits for nobody.
-    pub fn is_empty(&self) -> bool {
-        match self.tell(QueueAsk::IsEmpty) {
-            QueueReply::Flag(result) => result,
-            _ => unreachable!(),
-        }
-    }
-
-    /// Whether it holds as many messages as its capacity; an unbounded queue never does. It waits for nobody.
-    pub fn is_full(&self) -> bool
-        ensures { limit self.now ≡ None → result ≡ false }
-    {
-        match self.tell(QueueAsk::IsFull) {
-            QueueReply::Flag(result) => result,
-            _ => unreachable!(),
-        }
-    }
-
-    /// How many messages it held at a moment of the call. It may wait, since it asks again where others came between.
-    pub fn len<R: Wait>(&self, rt: &R) -> usize {
-        match self.make(rt, QueueAsk::Len) {
-            QueueReply::Count(result) => result,
-            _ => unreachable!(),
-        }
-    }
 
     /// How many messages it can hold, if there is a bound. It waits for nobody.
     pub fn capacity(&self) -> Option<usize>
@@ -247,9 +99,152 @@ impl<T: Drop> ConcurrentQueue<T> {
             QueueForm::Unbounded => None,
         }
     }
+}
 
-    /// An iterator that pops. It keeps the runtime value, and each item may wait.
-    pub fn try_iter<'a, R: Wait>(&'a self, rt: &'a R) -> TryIter<'a, T, R> {
-        TryIter::new(self, rt)
+impl<T: Drop> ConcurrentQueue<T> {
+    ghost use Rattle.std.specs.Prelude.{◌≡◌};
+
+    /// The cells of words and slots, from a new seat, seen by this trace.
+    #[inline(always)]
+    fn words<S>(&self, trace: S) -> Seen<WordCells<'_, T>, S>
+        ensures form { result.cells.form ≡ self.now.form }
+        ensures trace { result.trace ≡ trace }
+    {
+        Seen {
+            cells: WordCells::new(self.form, self.own.seat(), self.blocks.as_ref()),
+            trace,
+        }
+    }
+
+    /// The same with the runtime value.
+    #[inline(always)]
+    fn cells<'a, R: Wait, S>(&'a self, rt: &'a R, trace: S) -> Seen<SharedCells<'a, T, R>, S>
+        ensures form { result.cells.words.form ≡ self.now.form }
+        ensures trace { result.trace ≡ trace }
+    {
+        let Seen {
+            cells: words,
+            trace,
+        } = self.words(trace);
+        Seen {
+            cells: SharedCells { words, rt },
+            trace,
+        }
+    }
+}
+
+// Each call of a shared queue with a trace of the caller's. It is one body for whatever trace, and has no other way to the
+// cells than by the trace that it was given; `calls` makes the same with a trace of no size.
+impl<T: Drop> ConcurrentQueue<T> {
+    ghost use Rattle.std.specs.Prelude.{◌≡◌, Some};
+    ghost use Rattle.concurrent_queue.specs.SharedQueue.{form_in, IsSharedStep, IsWordsAlone};
+    ghost use Rattle.concurrent_queue.specs.Walked.{Walked, WalkedAsking, CallMakes};
+    ghost use Rattle.concurrent_queue.specs.declared.call.QueueAsk.TheVariants as ask;
+    ghost use Rattle.concurrent_queue.specs.declared.call.QueueReply.TheVariants as reply;
+
+    /// One step of a call, as `step`: the trace sees its one operation, with the answer by which the call goes on. Own to this
+    /// project.
+    #[inline(always)]
+    pub fn step_seen<R: Wait, S: Trace<T>>(
+        &self,
+        rt: &R,
+        call: &mut QueueCall<T>,
+        trace: S,
+    ) -> (Option<QueueReply<T>>, S)
+        ensures deed { CallMakes S.did (form_in self.now) trace call.old (result.1) call.new (result.0) }
+        ensures answers { IsSharedStep self.now call.old call.new (result.0) }
+    {
+        let place = call.place();
+        let mut seen = self.cells(rt, trace);
+        let reply = call.step(&mut seen);
+        whole::give_way(reply.is_none() && call.place() <= place);
+        (reply, seen.into_trace())
+    }
+
+    /// The steps of a call up to its answer, as `complete`: the trace sees each operation, with the answers by which this one
+    /// came out, and nothing else. Own to this project.
+    #[inline(always)]
+    pub fn complete_seen<R: Wait, S: Trace<T>>(
+        &self,
+        rt: &R,
+        call: &mut QueueCall<T>,
+        trace: S,
+    ) -> (QueueReply<T>, S)
+        ensures walked { Walked S.did (form_in self.now) call.old trace (result.0) (result.1) }
+        ensures answers { IsSharedStep self.now call.old call.new (Some (result.0)) }
+    {
+        let mut seen = self.cells(rt, trace);
+        let reply = whole::complete(rt, call, &mut seen);
+        (reply, seen.into_trace())
+    }
+
+    /// One step of a call that waits for nobody, as `step_words`: the trace sees its one operation. Own to this project.
+    #[inline(always)]
+    pub fn step_words_seen<S: Trace<T>>(
+        &self,
+        call: &mut QueueCall<T>,
+        trace: S,
+    ) -> (Option<QueueReply<T>>, S)
+        requires { IsWordsAlone call.old }
+        ensures deed { CallMakes S.did (form_in self.now) trace call.old (result.1) call.new (result.0) }
+        ensures answers { IsSharedStep self.now call.old call.new (result.0) }
+    {
+        let mut seen = self.words(trace);
+        let reply = call.step(&mut seen);
+        (reply, seen.into_trace())
+    }
+
+    /// A push, as `push`: the trace sees its operations and nothing else. Own to this project.
+    #[inline(always)]
+    pub fn push_seen<R: Wait, S: Trace<T>>(
+        &self,
+        rt: &R,
+        value: T,
+        trace: S,
+    ) -> (Result<(), PushError<T>>, S)
+        ensures walked { WalkedAsking S.did (form_in self.now) (ask.Push value) trace (reply.Push (result.0)) (result.1) }
+        ensures answers { MayAnswer (form_in self.now) (ask.Push value) (reply.Push (result.0)) }
+    {
+        let mut seen = self.cells(rt, trace);
+        let answer = whole::push(rt, value, &mut seen);
+        (answer, seen.into_trace())
+    }
+
+    /// A pop, as `pop`: the trace sees its operations and nothing else. Own to this project.
+    #[inline(always)]
+    pub fn pop_seen<R: Wait, S: Trace<T>>(&self, rt: &R, trace: S) -> (Result<T, PopError>, S)
+        ensures walked { WalkedAsking S.did (form_in self.now) ask.Pop trace (reply.Pop (result.0)) (result.1) }
+    {
+        let mut seen = self.cells(rt, trace);
+        let answer = whole::pop(rt, &mut seen);
+        (answer, seen.into_trace())
+    }
+
+    /// Any other call, step by step: the trace sees its operations and nothing else. It may wait. Own to this project.
+    #[inline(always)]
+    pub fn make_seen<R: Wait, S: Trace<T>>(
+        &self,
+        rt: &R,
+        ask: QueueAsk<T>,
+        trace: S,
+    ) -> (QueueReply<T>, S)
+        ensures walked { WalkedAsking S.did (form_in self.now) ask trace (result.0) (result.1) }
+        ensures answers { MayAnswer (form_in self.now) ask (result.0) }
+    {
+        let mut seen = self.cells(rt, trace);
+        let reply = whole::finish(rt, QueueCall::new(ask), &mut seen);
+        (reply, seen.into_trace())
+    }
+
+    /// A call that waits for nobody: the trace sees its operations and nothing else. Own to this project.
+    #[inline(always)]
+    pub fn tell_seen<S: Trace<T>>(&self, ask: QueueAsk<T>, trace: S) -> (QueueReply<T>, S)
+        requires { AsksWords ask }
+        ensures walked { WalkedAsking S.did (form_in self.now) ask trace (result.0) (result.1) }
+        ensures answers { MayAnswer (form_in self.now) ask (result.0) }
+    {
+        let mut seen = self.words(trace);
+        let reply = whole::tell(ask, &mut seen);
+        (reply, seen.into_trace())
     }
 }

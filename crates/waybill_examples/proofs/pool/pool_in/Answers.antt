@@ -1,11 +1,6 @@
-use Rattle.std.proofs.Common.{rules, ◌∙◌, sym, ◌*◌, ℕ}
-use Rattle.std.proofs.lemmas.List.{length-map}
-use Rattle.waybill.proofs.Parts.{part_whole}
-use Rattle.waybill_examples.proofs.Made.{by_two}
+use Rattle.std.proofs.Common.{rules, ◌*◌}
+use Rattle.waybill.proofs.Parts.{made_by_two}
 use Rattle.waybill_examples.proofs.pool.pool_in.Goals as goal
 
-pub returns-clause-part : goal.returns-clause-part
-returns-clause-part g c = by_two _ _ _ _ _ _ _ _ _ _ _ _ _ _ _ _ c.absorb.ensures c.absorb-2.ensures c.absorb-3.ensures c.absorb-4.ensures c.absorb-5.ensures c.absorb-6.ensures c.learn.ensures.most c.learn-2.ensures.most (search rules) (search rules) (search rules) (search rules) (search rules) (search rules) (search rules) (search rules) (search rules) (search rules)
-
-pub returns-clause-each : goal.returns-clause-each
-returns-clause-each g c = λ same. part_whole _ _ (by_two _ _ _ _ _ _ _ _ _ _ _ _ _ _ _ _ c.absorb.ensures c.absorb-2.ensures c.absorb-3.ensures c.absorb-4.ensures c.absorb-5.ensures c.absorb-6.ensures c.learn.ensures.most c.learn-2.ensures.most (search rules) (search rules) (search rules) (search rules) (search rules) (search rules) (search rules) (search rules) (search rules) (search rules)) (same ∙ sym (length-map _ (λ (job : ℕ). job * job)))
+pub returns : goal.returns
+returns g c = let m = made_by_two (λ job. job * job) _ _ c.args.all.now c.into_passes-took.result.0.received c.into_passes-took_too.result.0.received _ _ c.into_parts-gathered.result.1.items c.learn.ensures.most c.learn-2.ensures.most (search rules) (search rules) (search rules) (search rules) in record { part = m.0; each = m.1 }

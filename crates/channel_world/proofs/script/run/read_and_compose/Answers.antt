@@ -1,8 +1,11 @@
 use Rattle.std.proofs.Common.{arith}
-use Rattle.channel_world.proofs.IoLemmas.{text_of_known}
+use Rattle.channel_world.proofs.IoLemmas.{text_of_read, text_unread}
 use Rattle.channel_world.proofs.script.run.read_and_compose.Goals as goal
 
 pub returns-in-Ok : goal.returns-in-Ok
 returns-in-Ok g c =
-    text_of_known (g.R.Read.remaining c.args.reader.now) c.in-Ok.input.items c.as_slice.result.now c.args.out.now.items c.compose.new.out.items c.compose.result
+    text_of_read (g.R.Read.remaining c.args.reader.now) c.in-Ok.input.items c.as_slice.result.now c.args.out.now.items c.compose.new.out.items c.compose.result
     (omega (arith, c.in-Ok.ensures.short, c.in-Ok.input.ok.0)) c.in-Ok.ensures.ok c.as_slice.ensures.value c.requires c.compose.ensures
+
+pub returns-in-Err : goal.returns-in-Err
+returns-in-Err g c = text_unread (g.R.Read.remaining c.args.reader.now) c.args.out.now.items c.in-Err.end c.requires c.in-Err.ensures.err

@@ -1,10 +1,11 @@
-use Rattle.std.proofs.Common.{arith, ◌≡◌, ◌∙◌, ◌∷◌, ◌++◌, [], List, Some, ap, length, subst, sym, vec_len}
+use Rattle.std.proofs.Common.{arith, ◌≡◌, ◌∙◌, ◌∷◌, ◌++◌, [], List, Some, ap, length, refl, subst, sym, vec_len}
 use Rattle.channel_model.specs.Answer.{Answer}
 use Rattle.channel_model.specs.Run.{Does, MayStop}
 use Rattle.channel_world.proofs.Few.{few_woken}
 use Rattle.channel_world.proofs.FewListed.{few_listed}
 use Rattle.channel_world.proofs.RecordLemmas.{one_done, made_so, none_done, one_recorded, still_recording}
 use Rattle.channel_world.specs.RecordReplay.{Made}
+use Rattle.channel_world.specs.RecordSeat.{SeatView}
 use Rattle.channel_world.specs.Recording.{RecordingView, IsRecording}
 use Rattle.channel_world.specs.World.{at_rest}
 use Rattle.channel_world.specs.declared.recorded.receipt.Receipt.{Receipt}
@@ -58,7 +59,7 @@ invariant_of-self-in-Some-pop g c =
     let items : c.push_reserved.new.self.items ≡ old ++ entry ∷ [] =
     c.push_reserved.ensures.items ∙ ap (λ (es : List (Receipt g.row.T.Denot)). es ++ entry ∷ []) c.in-Some.ensures.entries.0 in
     let i = one_recorded v after entry (vec_len c.self.inside.entries) (vec_len c.push_reserved.new.self) c.self.inside.book.total c.add.new.self.total
-    c.self.inside.rest.parts c.self.inside.rest.amount g.L.Ledger.parts c.self.invariant.2 at made (omega (arith, longer, still)) c.add.ensures.total in (
+    c.self.inside.rest.parts c.self.inside.rest.amount g.L.Ledger.parts c.self.invariant.2 at made (omega (arith, longer, still)) (omega (arith, c.audit.ensures.total, c.add.ensures.total)) in (
       c.run_calls-done.ensures.quiet,
       c.clear.ensures.items,
       subst
@@ -66,6 +67,16 @@ invariant_of-self-in-Some-pop g c =
           IsRecording (record { capacity = c.self.inside.capacity; state = after; entries = es; seats = c.self.inside.made; parts = c.self.inside.left }) (vec_len c.push_reserved.new.self)
           c.add.new.self.total c.self.inside.rest.parts c.self.inside.rest.amount g.L.Ledger.parts)
           (sym items) i,
+    )
+
+pub invariant_of-self : goal.invariant_of-self
+invariant_of-self g c =
+    let state = at_rest c.self.inside.world in
+    let v : RecordingView g.row.T.Denot = record { capacity = c.self.inside.capacity; state = state; entries = c.self.inside.entries.items; seats = c.self.inside.made; parts = c.self.inside.left } in (
+      c.self.invariant.0,
+      c.in_default.ensures.refused,
+      still_recording v state c.ask-room.new.entries.items (vec_len c.self.inside.entries) (vec_len c.ask-room.new.entries) c.self.inside.book.total
+          c.self.inside.rest.parts c.self.inside.rest.amount g.L.Ledger.parts c.self.invariant.2 refl c.in_default.ensures.entries.0 c.in_default.ensures.entries.1,
     )
 
 pub invariant_of-self-in-None-pop : goal.invariant_of-self-in-None-pop
@@ -106,6 +117,40 @@ returns-in-Some-pop-clause-made g c =
     let made : Made before receipt after =
     made_so before after c.args.call done c.len-place.result c.seat.inside.number receipt does (c.twice-entry.ensures.same ∙ c.twice-entry.ensures.entry) in
     subst (λ (v : RecordingView g.row.T.Denot). Made v.state receipt after) c.self.view_is made
+
+pub returns-in-Some-pop-clause-ends : goal.returns-in-Some-pop-clause-ends
+returns-in-Some-pop-clause-ends g c =
+    let before = at_rest c.self.inside.world in
+    let after = at_rest c.run_calls-done.new.self in
+    let done = c.in-Some-pop.done in
+    let receipt = c.twice-entry.result.1 in
+    let is = c.twice-entry.ensures.same ∙ c.twice-entry.ensures.entry in
+    let does : Does before c.args.call done after =
+    one_done before after c.args.call c.ask-room.new.asked.items c.run_calls-done.new.calls.items c.pop.new.self.items c.run_calls-done.result.done.items done _
+    c.run_calls-done.ensures.run c.in-Some.ensures.asked c.in-Some-pop.ensures.items in
+    let place : receipt.place ≡ c.len-place.result = ap (λ (r : Receipt g.row.T.Denot). r.place) is in
+    let len = c.len-place.ensures in
+    let still = c.in-Some.ensures.entries.1 in
+    let long : vec_len c.self.inside.entries ≡ length c.self.inside.entries.items = c.self.inside.entries.ok.0 in
+    record {
+      capacity = c.self.inside.capacity;
+      before = c.self.inside.entries.items;
+      history = record { last = before; replays = c.self.invariant.2.replays };
+      place = omega (arith, place, len, still, long);
+      after = after;
+      made = made_so before after c.args.call done c.len-place.result c.seat.inside.number receipt does is;
+    }
+
+pub returns-in-Some-pop-clause-behind : goal.returns-in-Some-pop-clause-behind
+returns-in-Some-pop-clause-behind g c =
+    let is = c.twice-entry.ensures.same ∙ c.twice-entry.ensures.entry in
+    let place : c.twice-entry.result.1.place ≡ c.len-place.result = ap (λ (r : Receipt g.row.T.Denot). r.place) is in
+    let len = c.len-place.ensures in
+    let still = c.in-Some.ensures.entries.1 in
+    let bound = c.audit.ensures.bound in
+    let counted = c.self.invariant.2.counted in
+    let calls = ap (λ (s : SeatView). s.calls) c.seat.view_is in
+    omega (arith, place, len, still, bound, counted, calls)
 
 pub returns-in-Some-pop-clause-recorded : goal.returns-in-Some-pop-clause-recorded
 returns-in-Some-pop-clause-recorded g c =

@@ -19,6 +19,7 @@ loop-seat-preserved g c =
     let q = i.calls in
     record {
       parts = omega (arith, parts, one, len, p);
+      within = c.merge.ensures.apart;
       calls = omega (arith, amount, calls, all, q);
       total = refl;
       entries = refl;
@@ -33,12 +34,25 @@ returns-clause-counted g c =
     let seats = old.one_each in
     let counted = old.counted in
     let none : vec_len c.loop-seat.seats ≡ 0 = c.in_default.ensures.cases.0 in
-    let long : vec_len c.loop-seat.seats ≡ length c.loop-seat.seats.items = c.loop-seat.seats.ok.0 in
-    let rest = no_calls c.loop-seat.seats.items (omega (arith, none, long)) in
-    let whole = c.audit.ensures.whole (omega (arith, p, seats, none)) in
+    let left : vec_len c.loop-seat.seats ≡ length c.loop-seat.seats.items = c.loop-seat.seats.ok.0 in
+    let rest = no_calls c.loop-seat.seats.items (omega (arith, none, left)) in
+    let within = i.within in
+    let gathered = c.if-len-self.false in
+    let long = c.len.ensures in
+    let whole = c.audit.ensures.whole (omega (arith, p, seats, none, within, gathered, long)) in
     let total = i.total in
     let entries : vec_len c.self.inside.entries ≡ length c.self.inside.entries.items = c.self.inside.entries.ok.0 in
     omega (arith, q, rest, whole, total, counted, entries)
+
+pub returns-then-len-self-clause-gathered : goal.returns-then-len-self-clause-gathered
+returns-then-len-self-clause-gathered g c all =
+    let old = c.self.invariant.2 in
+    let each = old.one_each in
+    let few = c.if-len-self.true in
+    let long = c.len.ensures in
+    let items : vec_len c.args.seats ≡ length c.args.seats.items = c.args.seats.ok.0 in
+    let kept = old.kept (omega (arith, few)) in
+    absurd (omega (arith, all, each, few, long, items, kept))
 
 pub invariant_of-result : goal.invariant_of-result
 invariant_of-result g c = record { last = at_rest c.self.inside.world; replays = c.self.invariant.2.replays }

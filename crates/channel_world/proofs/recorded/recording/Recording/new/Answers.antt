@@ -23,5 +23,6 @@ invariant_of-result g c =
         parts_left = omega (arith, parts, a, b);
         one_each = omega (arith, a, b);
         numbered = omega arith;
+        kept = λ some. absurd (omega (arith, some));
       },
     )

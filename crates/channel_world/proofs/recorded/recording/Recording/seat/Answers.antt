@@ -32,5 +32,6 @@ invariant_of-self g c =
         parts_left = omega (arith, left, parts, more);
         one_each = omega (arith, each, more);
         numbered = omega (arith, few);
+        kept = λ some. omega (arith, more);
       },
     )

@@ -1,0 +1,12 @@
+use Rattle.std.specs.Prelude.{◌≡◌, ℕ}
+use Rattle.concurrent_queue.specs.declared.cells.QueueForm.{QueueForm}
+use Rattle.channel_calls.specs.Blocks.{Asked, Slept, Rounds}
+use Rattle.channel_calls.specs.Deeds.{Done}
+use Rattle.channel_calls.proofs.blocking.sleeps.Given as goal
+
+-- the rounds made so far led here, and the call is the one that was handed in
+abbrev pub invariant-loop : goal.invariant-loop
+invariant-loop g l =
+    ((n : ℕ) × Rounds (Done g.C.ChannelCells.did g.S.Wakes.wakes) (Asked g.C.Sleeps.parked) (Slept g.C.Sleeps.slept) n l.fn.call l.fn.key (l.initial.cells, l.initial.sink) l.key (l.cells, l.sink))
+    × ((f : QueueForm) → g.C.ChannelCells.has_form l.initial.cells f → g.C.ChannelCells.has_form l.cells f)
+    × (l.call ≡ l.fn.call)

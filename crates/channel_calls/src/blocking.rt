@@ -1,0 +1,339 @@
+//! The calls that block their thread, over any cells on which it can sleep. Each makes rounds of polls of its machine: it tries,
+//! listens, tries again and registers, sleeps, and registers once more each time that it wakes, as a stream's poll begins. That it
+//! tries some times before its first poll is own to this project, and so is all the rest of it.
+//!
+//! Whatever the cells hold: what such a call does is what `Blocks` of `specs/Blocks` says, and nothing else (clauses `deeds`).
+
+ghost use Rattle.std.specs.Prelude.{◌≡◌, None, Some, Ok, Err, IfOk, IfErr, MatchResult, Option, is_some, ℕ};
+ghost use Rattle.concurrent_queue.specs.declared.cells.QueueForm.{QueueForm};
+ghost use Rattle.event_listener.specs.declared.key.Key.{Key as Name};
+ghost use Rattle.futures.specs.declared.task.Poll.TheVariants as poll;
+ghost use Rattle.channel_calls.specs.Asks.{first};
+ghost use Rattle.channel_calls.specs.Blocks.{waiting_of, at_once, not_yet, still_waits, Asked, Slept, Looks, Begins, Listens, SleepsOn, Blocks};
+ghost use Rattle.channel_calls.specs.Deeds.{Done};
+ghost use Rattle.channel_calls.specs.Errors.{handed_back};
+ghost use Rattle.channel_calls.specs.Listed.{pends};
+ghost use Rattle.channel_calls.specs.Replies.{MayPoll, SendsBy};
+ghost use Rattle.channel_calls.specs.Tried.{polled, sent_by, received_by, tried_turn, Comes, IsOver, sent_reply, sent_left};
+ghost use Rattle.channel_calls.specs.Turns.{again, line_of, message_of, leaving, nothing_kept};
+ghost use Rattle.channel_calls.specs.Walks.{WalkedFrom, WalkedTo};
+ghost use Rattle.channel_calls.specs.declared.ask.ChannelAsk.TheVariants as ask;
+ghost use Rattle.channel_calls.specs.declared.blocked.Blocked.{Blocked as Blocking};
+ghost use Rattle.channel_calls.specs.declared.blocked.Blocked.TheVariants as blocking;
+ghost use Rattle.channel_calls.specs.declared.reply.Reply.TheVariants as reply;
+ghost use Rattle.channel_calls.specs.declared.stage.Turn.TheVariants as turn;
+ghost use Rattle.channel_calls.specs.declared.stage.Work.TheVariants as work;
+
+use crate::ask::ChannelAsk;
+use crate::blocked::Blocked;
+use crate::call::ChannelCall;
+use crate::calls::{try_recv, try_send};
+use crate::error::{RecvError, Refused, SendError, TryRecvError, TrySendError};
+use crate::reply::Reply;
+use crate::sleeps::Sleeps;
+use crate::stage::Kept;
+use crate::turn::refused_reply;
+use crate::whole::{Given, complete, make};
+use crossbeam_utils::Backoff;
+use event_listener::key::Key;
+use event_listener::wakes::Wakes;
+use futures::task::Poll;
+use std::sync::Wait;
+
+/// A poll that is over: its answer, and the message that stays with it.
+fn polled<T>(reply: Reply<T>, message: Option<T>) -> Given<T>
+    ensures { result ≡ polled reply message }
+{
+    let kept = Kept { key: None, message };
+    Given { reply, kept }
+}
+
+/// What a poll's try of a send comes to, by what a send answers that doesn't wait.
+#[inline(always)]
+fn sent_by<T: Drop>(sent: Result<(), Refused<TrySendError<T>, T>>) -> Result<Given<T>, Blocked<T>>
+    ensures { result ≡ sent_by sent }
+{
+    let (answer, message) = match sent {
+        Ok(()) => (Ok(()), None),
+        Err(Refused::Plain(TrySendError::Full(back))) => return Err(Blocked::Send(back)),
+        Err(Refused::Plain(TrySendError::Closed(back))) => {
+            (Err(Refused::Plain(SendError(back))), None)
+        }
+        Err(Refused::NoMemory(back)) => (Err(Refused::NoMemory(())), Some(back)),
+        Err(Refused::SerialsUsedUp(back)) => (Err(Refused::SerialsUsedUp(())), Some(back)),
+    };
+    Ok(polled(Reply::SendPoll(Poll::Ready(answer)), message))
+}
+
+/// What a poll's try of a receive comes to, by what a receive answers that doesn't wait.
+#[inline(always)]
+fn received_by<T: Drop>(received: Result<T, TryRecvError>) -> Result<Given<T>, Blocked<T>>
+    ensures { result ≡ received_by received }
+{
+    let answer = match received {
+        Ok(message) => Ok(message),
+        Err(TryRecvError::Empty) => return Err(Blocked::Receive),
+        Err(TryRecvError::Closed) => Err(Refused::Plain(RecvError)),
+    };
+    Ok(polled(Reply::RecvPoll(Poll::Ready(answer)), None))
+}
+
+/// The try of a poll: it is over, or has to wait.
+#[inline(always)]
+fn tries<T: Drop, W: Drop, R: Wait, C: Sleeps<T, W>, S: Wakes<W>>(
+    rt: &R,
+    call: Blocked<T>,
+    cells: &mut C,
+    sink: &mut S,
+) -> Result<Given<T>, Blocked<T>>
+    requires form { (f : QueueForm) × C.has_form cells.old f }
+    ensures comes { (key : Option Name) (task : W) → Comes (Done C.did S.wakes) (again (waiting_of call) key task) (cells.old, sink.old) (tried_turn (line_of (waiting_of call)) result key task) (cells.new, sink.new) }
+    ensures looked { IfErr result (λ left. WalkedTo (Done C.did S.wakes) (first (at_once call)) (cells.old, sink.old) (not_yet call) (cells.new, sink.new)) }
+    ensures same { IfErr result (λ left. left ≡ call) }
+    ensures over { IfOk result (λ given. IsOver call given) }
+    ensures form { (f : QueueForm) → C.has_form cells.old f → C.has_form cells.new f }
+{
+    match call {
+        Blocked::Send(message) => sent_by(try_send(rt, message, cells, sink)),
+        Blocked::Receive => received_by(try_recv(rt, cells, sink)),
+    }
+}
+
+/// Tries some times, since what it waits for mostly comes sooner than a listener would be in: what it came to, or that it has to wait.
+#[inline(always)]
+fn looks<T: Drop, W: Drop, R: Wait, C: Sleeps<T, W>, S: Wakes<W>>(
+    rt: &R,
+    call: Blocked<T>,
+    cells: &mut C,
+    sink: &mut S,
+) -> Result<Given<T>, Blocked<T>>
+    requires form { (f : QueueForm) × C.has_form cells.old f }
+    ensures looks { (n : ℕ) × (x : C × S) × Looks (Done C.did S.wakes) n call (cells.old, sink.old) x
+        × MatchResult result (λ given. Begins (Done C.did S.wakes) call x given.reply given.kept (cells.new, sink.new)) (λ left. (cells.new, sink.new) ≡ x) }
+    ensures same { IfErr result (λ left. left ≡ call) }
+    ensures over { IfOk result (λ given. IsOver call given) }
+    ensures form { (f : QueueForm) → C.has_form cells.old f → C.has_form cells.new f }
+{
+    let mut call = call;
+    let backoff = Backoff::new();
+    for _ in rt.forever() {
+        match tries(rt, call, cells, sink) {
+            Ok(given) => return Ok(given),
+            Err(left) => call = left,
+        }
+        backoff.snooze();
+        if backoff.is_completed() {
+            return Err(call);
+        }
+    }
+    unreachable!()
+}
+
+/// A first poll up to its answer, or up to where it registers this listener next.
+fn begins<T: Drop, W: Drop, R: Wait, C: Sleeps<T, W>, S: Wakes<W>>(
+    rt: &R,
+    call: Blocked<T>,
+    cells: &mut C,
+    sink: &mut S,
+) -> Result<Given<T>, (Blocked<T>, Key)>
+    requires form { (f : QueueForm) × C.has_form cells.old f }
+    ensures begins { MatchResult result (λ given. Begins (Done C.did S.wakes) call (cells.old, sink.old) given.reply given.kept (cells.new, sink.new))
+        (λ left. Listens (Done C.did S.wakes) call (cells.old, sink.old) left.1 (cells.new, sink.new)) }
+    ensures same { IfErr result (λ left. left.0 ≡ call) }
+    ensures over { IfOk result (λ given. IsOver call given) }
+    ensures form { (f : QueueForm) → C.has_form cells.old f → C.has_form cells.new f }
+{
+    let call = match tries(rt, call, cells, sink) {
+        Ok(given) => return Ok(given),
+        Err(left) => left,
+    };
+    let line = call.line();
+    let key = match cells.insert(line) {
+        Ok(key) => key,
+        Err(error) => {
+            let message = call.waiting().message();
+            return Ok(polled(refused_reply(line, error), message));
+        }
+    };
+    let again = tries(rt, call, cells, sink);
+    match again {
+        Ok(given) => {
+            cells.remove(line, key, sink);
+            Ok(given)
+        }
+        Err(left) => Err((left, key)),
+    }
+}
+
+/// What a poll left that is pending, or the poll that is over.
+fn still<T: Drop>(given: Given<T>) -> Result<Given<T>, (Blocked<T>, Key)>
+    ensures waits { (b : Blocking T) → MayPoll (waiting_of b) given.reply given.kept.message → is_some given.kept.key ≡ pends given.reply → MatchResult result (λ over. (over ≡ given) × IsOver b over) (λ left. (left.0 ≡ b) × (given ≡ still_waits b left.1)) }
+{
+    let Given { reply, kept } = given;
+    let Kept { key, message } = kept;
+    match (reply, key, message) {
+        (Reply::SendPoll(Poll::Pending), Some(key), Some(message)) => {
+            Err((Blocked::Send(message), key))
+        }
+        (Reply::RecvPoll(Poll::Pending), Some(key), None) => Err((Blocked::Receive, key)),
+        (reply, key, message) => {
+            let kept = Kept { key, message };
+            Ok(Given { reply, kept })
+        }
+    }
+}
+
+/// A poll that registers this listener first, up to its answer: it is over, or waits with this listener.
+fn registers<T: Drop, W: Drop, R: Wait, C: Sleeps<T, W>, S: Wakes<W>>(
+    rt: &R,
+    call: Blocked<T>,
+    key: Key,
+    task: W,
+    cells: &mut C,
+    sink: &mut S,
+) -> Result<Given<T>, (Blocked<T>, Key)>
+    requires form { (f : QueueForm) × C.has_form cells.old f }
+    ensures registers { MatchResult result (λ given. WalkedFrom (Done C.did S.wakes) (turn.Works (work.Register (waiting_of call) key task)) (cells.old, sink.old) given.reply given.kept (cells.new, sink.new))
+        (λ left. let waits = still_waits call left.1 in WalkedFrom (Done C.did S.wakes) (turn.Works (work.Register (waiting_of call) key task)) (cells.old, sink.old) waits.reply waits.kept (cells.new, sink.new)) }
+    ensures same { IfErr result (λ left. left.0 ≡ call) }
+    ensures over { IfOk result (λ given. IsOver call given) }
+    ensures form { (f : QueueForm) → C.has_form cells.old f → C.has_form cells.new f }
+{
+    let poll = ChannelCall::registering(call.waiting(), key, task);
+    still(complete(rt, poll, cells, sink))
+}
+
+/// Drops the listener and ends, for want of a task: as a poll ends that is refused the copy of its waker.
+fn refused<T: Drop, W: Drop, R: Wait, C: Sleeps<T, W>, S: Wakes<W>>(
+    rt: &R,
+    call: Blocked<T>,
+    key: Key,
+    cells: &mut C,
+    sink: &mut S,
+) -> Given<T>
+    requires form { (f : QueueForm) × C.has_form cells.old f }
+    ensures leaves { WalkedFrom (Done C.did S.wakes) (first (ask.RefusePoll (line_of (waiting_of call)) (message_of (waiting_of call)) (Some key))) (cells.old, sink.old) result.reply result.kept (cells.new, sink.new) }
+    ensures over { IsOver call result }
+    ensures form { (f : QueueForm) → C.has_form cells.old f → C.has_form cells.new f }
+{
+    let line = call.line();
+    let message = call.waiting().message();
+    make(
+        rt,
+        ChannelAsk::RefusePoll(line, message, Some(key)),
+        cells,
+        sink,
+    )
+}
+
+/// Registers and sleeps, until a poll is over.
+fn sleeps<T: Drop, W: Drop, R: Wait, C: Sleeps<T, W>, S: Wakes<W>>(
+    rt: &R,
+    call: Blocked<T>,
+    key: Key,
+    cells: &mut C,
+    sink: &mut S,
+) -> Given<T>
+    requires form { (f : QueueForm) × C.has_form cells.old f }
+    ensures sleeps { SleepsOn (Done C.did S.wakes) (Asked C.parked) (Slept C.slept) call key (cells.old, sink.old) result.reply result.kept (cells.new, sink.new) }
+    ensures over { IsOver call result }
+    ensures form { (f : QueueForm) → C.has_form cells.old f → C.has_form cells.new f }
+{
+    let mut call = call;
+    let mut key = key;
+    for _ in rt.forever() {
+        let Some(task) = cells.park() else {
+            return refused(rt, call, key, cells, sink);
+        };
+        match registers(rt, call, key, task, cells, sink) {
+            Ok(given) => return given,
+            Err((left, next)) => {
+                call = left;
+                key = next;
+            }
+        }
+        cells.sleep();
+    }
+    unreachable!()
+}
+
+/// Makes a call that blocks its thread up to its answer.
+#[inline(always)]
+fn blocks<T: Drop, W: Drop, R: Wait, C: Sleeps<T, W>, S: Wakes<W>>(
+    rt: &R,
+    call: Blocked<T>,
+    cells: &mut C,
+    sink: &mut S,
+) -> Given<T>
+    requires form { (f : QueueForm) × C.has_form cells.old f }
+    ensures deeds { Blocks (Done C.did S.wakes) (Asked C.parked) (Slept C.slept) call (cells.old, sink.old) result.reply result.kept (cells.new, sink.new) }
+    ensures over { IsOver call result }
+    ensures form { (f : QueueForm) → C.has_form cells.old f → C.has_form cells.new f }
+{
+    let call = match looks(rt, call, cells, sink) {
+        Ok(given) => return given,
+        Err(left) => left,
+    };
+    match begins(rt, call, cells, sink) {
+        Ok(given) => given,
+        Err((left, key)) => sleeps(rt, left, key, cells, sink),
+    }
+}
+
+/// What a send that blocks answers, by its last poll: a want hands the message back that stayed with it.
+fn answered<T: Drop>(
+    answer: Result<(), Refused<SendError<T>>>,
+    message: Option<T>,
+) -> Result<(), Refused<SendError<T>, T>>
+    requires kept { (v : T) × SendsBy v (poll.Ready answer) message }
+    ensures reply { sent_reply result ≡ reply.SendPoll (poll.Ready answer) }
+    ensures left { sent_left result ≡ leaving None message }
+    ensures back { (v : T) → SendsBy v (poll.Ready answer) message → IfErr result (λ e. handed_back e ≡ v) }
+{
+    match (answer, message) {
+        (Ok(()), _) => Ok(()),
+        (Err(Refused::Plain(error)), _) => Err(Refused::Plain(error)),
+        (Err(Refused::NoMemory(())), Some(back)) => Err(Refused::NoMemory(back)),
+        (Err(Refused::SerialsUsedUp(())), Some(back)) => Err(Refused::SerialsUsedUp(back)),
+        _ => unreachable!(),
+    }
+}
+
+/// Sends, and sleeps while there is no place.
+#[inline(always)]
+pub fn send_blocking<T: Drop, W: Drop, R: Wait, C: Sleeps<T, W>, S: Wakes<W>>(
+    rt: &R,
+    message: T,
+    cells: &mut C,
+    sink: &mut S,
+) -> Result<(), Refused<SendError<T>, T>>
+    requires form { (f : QueueForm) × C.has_form cells.old f }
+    ensures deeds { Blocks (Done C.did S.wakes) (Asked C.parked) (Slept C.slept) (blocking.Send message) (cells.old, sink.old) (sent_reply result) (sent_left result) (cells.new, sink.new) }
+    ensures message { IfErr result (λ e. handed_back e ≡ message) }
+    ensures form { (f : QueueForm) → C.has_form cells.old f → C.has_form cells.new f }
+{
+    let Given { reply, kept } = blocks(rt, Blocked::Send(message), cells, sink);
+    match reply {
+        Reply::SendPoll(Poll::Ready(answer)) => answered(answer, kept.message),
+        _ => unreachable!(),
+    }
+}
+
+/// Receives, and sleeps while there is no message.
+#[inline(always)]
+pub fn recv_blocking<T: Drop, W: Drop, R: Wait, C: Sleeps<T, W>, S: Wakes<W>>(
+    rt: &R,
+    cells: &mut C,
+    sink: &mut S,
+) -> Result<T, Refused<RecvError>>
+    requires form { (f : QueueForm) × C.has_form cells.old f }
+    ensures deeds { Blocks (Done C.did S.wakes) (Asked C.parked) (Slept C.slept) blocking.Receive (cells.old, sink.old) (reply.RecvPoll (poll.Ready result)) nothing_kept (cells.new, sink.new) }
+    ensures form { (f : QueueForm) → C.has_form cells.old f → C.has_form cells.new f }
+{
+    let Given { reply, kept } = blocks(rt, Blocked::Receive, cells, sink);
+    drop(kept);
+    match reply {
+        Reply::RecvPoll(Poll::Ready(answer)) => answer,
+        _ => unreachable!(),
+    }
+}

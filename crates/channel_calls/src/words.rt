@@ -1,0 +1,34 @@
+//! What the questions of a channel work on.
+
+use crate::stage::Side;
+use concurrent_queue::call::QueueReply;
+use concurrent_queue::queue_call::QueueCall;
+
+/// The words of a channel's cells: each method is one step that waits for nobody. Own to this project.
+///
+/// As of [`ChannelCells`](crate::cells::ChannelCells), nothing is known of what they hold but the form of the queue, and nothing of
+/// what a deed does: who promises that deeds were done has called the methods that do them, in that order.
+pub trait ChannelWords<T, W> {
+    ghost use Rattle.concurrent_queue.specs.Replies.{Follows};
+    ghost use Rattle.concurrent_queue.specs.SharedQueue.{IsWordsAlone};
+    ghost use Rattle.concurrent_queue.specs.declared.cells.QueueForm.{QueueForm};
+    ghost use Rattle.channel_calls.specs.Deeds.{Deed, stepped, counted};
+
+    /// Which form the queue is said to have; no step changes it.
+    ghost has_form: { Self → QueueForm → Type 0 } = { λ _ _. ⊥ };
+
+    /// Whether this deed, with this answer, was done between these two.
+    ghost did: { Deed T W → Self → Self → Type 0 } = { λ _ _ _. Unit {0} };
+
+    /// One step of a call of the queue that is a question but for the length.
+    fn step_words(&mut self, call: &mut QueueCall<T>) -> Option<QueueReply<T>>
+        requires alone { IsWordsAlone call.old }
+        ensures deed { did (stepped call.old call.new result) self.old self.new }
+        ensures answers { (f : QueueForm) → has_form self.old f → Follows f call.old call.new result }
+        ensures form { (f : QueueForm) → has_form self.old f → has_form self.new f };
+
+    /// The number of handles of this kind.
+    fn count(&mut self, side: Side) -> usize
+        ensures deed { did (counted side result) self.old self.new }
+        ensures form { (f : QueueForm) → has_form self.old f → has_form self.new f };
+}

@@ -1,0 +1,166 @@
+-- Calls of one channel by any number of parties, each operation on a cell of the queue, each section on a list of listeners and
+-- each operation on a count an event of its own. Of each party only this is asked, that its calls do what their machines do next and
+-- go by the answers, whatever these are: so a call does over cells of any kind. Of the cells, that the events of all come in one
+-- order, and that each answer is what the cells then gave.
+use Rattle.std.specs.Prelude.{◌≡◌, ℕ, ◌==◌, List, [], ◌∷◌, ◌++◌, map, Option, None, Some, MatchOption, if◌then◌else◌}
+use Rattle.concurrent_queue.specs.Bridge.{HasCells}
+use Rattle.concurrent_queue.specs.Bridge as queue
+use Rattle.concurrent_queue.specs.Capacity.{capacity_of}
+use Rattle.concurrent_queue.specs.Deeds as cell
+use Rattle.concurrent_queue.specs.Effects as cell_effect
+use Rattle.concurrent_queue.specs.Made.{new_cells}
+use Rattle.concurrent_queue.specs.machine.Ahead.{Leads}
+use Rattle.concurrent_queue.specs.Walked.{CallMakes, StateMakes}
+use Rattle.concurrent_queue.specs.declared.call.QueueReply.{QueueReply}
+use Rattle.concurrent_queue.specs.declared.cells.QueueForm.{QueueForm}
+use Rattle.concurrent_queue.specs.declared.queue_call.CallState.{CallState}
+use Rattle.concurrent_queue.specs.declared.queue_call.QueueCall.{QueueCall}
+use Rattle.channel_calls.specs.Asks.{first, kept_by}
+use Rattle.channel_calls.specs.Deeds.{Deed, stepped, Done}
+use Rattle.channel_calls.specs.Effects.{Does}
+use Rattle.channel_calls.specs.Parts.{Parts, new_roster}
+use Rattle.channel_calls.specs.Walks.{Takes, ChannelMakes, WalkedFrom}
+use Rattle.channel_calls.specs.declared.ask.ChannelAsk.{ChannelAsk}
+use Rattle.channel_calls.specs.declared.mark.Mark.{Mark}
+use Rattle.channel_calls.specs.declared.reply.Reply.{Reply}
+use Rattle.channel_calls.specs.declared.stage.Kept.{Kept}
+use Rattle.channel_calls.specs.declared.stage.Stage.{Stage}
+use Rattle.channel_steps.specs.Run.{RanTo, new_scene}
+use Rattle.channel_steps.specs.Scene.{Shows}
+use Rattle.channel_steps.specs.declared.party.Entry.{Entry}
+use Rattle.channel_steps.specs.declared.party.Party.{Party}
+use Rattle.channel_steps.specs.declared.run.Step.{Step}
+use Rattle.channel_steps.specs.declared.run.Step.TheVariants as step
+
+-- what one step of a call does: a step of its queue's call, which is one operation on a cell of the queue with its answer or touches
+-- none; a section on a list or an operation on a count, with its answer; or nothing
+pub data Act (T W : Type 0) : Type 0 where
+  on_queue : Option (cell.Deed T) → Act T W
+  on_roster : Deed T W → Act T W
+  on_nothing : Act T W
+
+-- a party begins a call, or its call makes a step
+pub data Event (T W : Type 0) : Type 0 where
+  begins : ChannelAsk T W → Event T W
+  does : Act T W → Event T W
+
+-- an event, and whose it is
+pub record Happening (T W : Type 0) : Type 0 where
+  pub party : ℕ
+  pub event : Event T W
+
+-- what a call answers, and what it leaves to its operation
+pub record Given (T : Type 0) : Type 0 where
+  pub reply : Reply T
+  pub kept : Kept T
+
+module _ {T : Type 0} where
+  abbrev pub given_by : Option (Reply T) → Option (Kept T) → List (Given T)
+  given_by (Some r) (Some kept) = record { reply = r; kept = kept } ∷ []
+  given_by _ _ = []
+
+module _ {T W : Type 0} where
+  -- ---- what is asked of each party
+
+  -- what is known of cells between two steps: nothing but what the last step did, with its answer
+  abbrev pub Notes : QueueForm → Deed T W → Act T W → Act T W → Type 0
+  Notes form (stepped call next answer) before after =
+      (o : Option (cell.Deed T)) × CallMakes queue.Notes form None call o next answer × (after ≡ on_queue o)
+  Notes form d before after = after ≡ on_roster d
+
+  -- these are the events of a party whose call stands at this stage, or that has none, and what it is given: calls one after
+  -- another, each step of which is its machine's, and the last of which may not have answered yet
+  abbrev pub Acts : QueueForm → Option (Stage (QueueCall T) T W) → List (Event T W) → List (Given T) → Type 0
+  Acts form at [] given = given ≡ []
+  Acts form None (begins ask ∷ xs) given = (at : Stage (QueueCall T) T W) × Takes (first ask) at None × Acts form (Some at) xs given
+  Acts form (Some at) (does o ∷ xs) given =
+      (m : Mark) × (next : Stage (QueueCall T) T W) × (answer : Option (Reply T)) × ChannelMakes (Notes form) at on_nothing o m next answer
+      × MatchOption answer (Acts form (Some next) xs given)
+      (λ r. (more : List (Given T)) × (given ≡ record { reply = r; kept = kept_by next } ∷ more) × Acts form None xs more)
+  Acts form at xs given = ⊥
+
+  -- the events of one party, in their order
+  abbrev pub own : ℕ → List (Happening T W) → List (Event T W)
+  own p [] = []
+  own p (x ∷ xs) = if x.party == p then x.event ∷ own p xs else own p xs
+
+  -- ---- what they are
+
+  abbrev pub step_of : ℕ → Event T W → Step T W
+  step_of p (begins ask) = step.Begin p ask
+  step_of p (does o) = step.Step p
+
+  abbrev pub steps_of : List (Happening T W) → List (Step T W)
+  steps_of [] = []
+  steps_of (x ∷ xs) = step_of x.party x.event ∷ steps_of xs
+
+  -- what a party was given in a run of these steps
+  abbrev pub given_to : ℕ → List (Happening T W) → List (Entry T) → List (Given T)
+  given_to p (x ∷ xs) (e ∷ es) = if x.party == p then given_by e.reply e.kept ++ given_to p xs es else given_to p xs es
+  given_to p _ _ = []
+
+  -- a channel that was just opened
+  abbrev pub opened_parts : QueueForm → Parts T W
+  opened_parts form = record { cells = new_cells form; roster = new_roster }
+
+  module _ {S : Type 0} (wakes : S → W → S → Type 0) where
+    -- ---- what is asked of the cells, and of the sink that is given whom a step wakes
+
+    abbrev pub Changes : Event T W → Parts T W × S → Parts T W × S → Type 0
+    Changes (does (on_queue (Some d))) c e = cell_effect.Does d c.0.cells e.0.cells × (e.0.roster ≡ c.0.roster) × (e.1 ≡ c.1)
+    Changes (does (on_roster d)) c e = Done Does wakes d c e
+    Changes _ c e = e ≡ c
+
+    -- the events of all, one after another, each with the answer that the cells gave
+    abbrev pub InOneOrder : List (Happening T W) → Parts T W × S → Parts T W × S → Type 0
+    InOneOrder [] c e = e ≡ c
+    InOneOrder (x ∷ xs) c e = (m : Parts T W × S) × Changes x.event c m × InOneOrder xs m e
+
+    -- a run of a channel that was opened over a queue of this form, as `run_steps` promises it, made just these steps, gave each
+    -- party this, and left these cells and this sink
+    pub record IsRunOf (form : QueueForm) (events : List (Happening T W)) (given : ℕ → List (Given T)) (sink : S) (last : Parts T W) (woken : S) : Type 0 where
+      pub trace : List (Entry T)
+      pub parties : List (Party T W)
+      pub opened : let nobody : List (Party T W) = [] in Shows (opened_parts form) nobody (new_scene (capacity_of form))
+      pub ran : RanTo wakes (steps_of events) [] (opened_parts form) [] sink trace last parties woken
+      pub answers : (p : ℕ) → given_to p events trace ≡ given p
+
+-- whatever parties do to a new channel, each by the machine and all in one order, is a run
+abbrev pub MergesAreRuns : (T W S : Type 0) → (S → W → S → Type 0) → Type 0
+MergesAreRuns T W S wakes =
+    (form : QueueForm) (events : List (Happening T W)) (given : ℕ → List (Given T)) (sink : S) (last : Parts T W) (woken : S)
+    → HasCells form → ((p : ℕ) → Acts form None (own p events) (given p)) → InOneOrder wakes events (opened_parts form, sink) (last, woken)
+    → IsRunOf wakes form events given sink last woken
+
+-- ---- whole calls over cells of any kind, as their contracts say it
+
+module _ {T W X : Type 0} (did : Deed T W → X → X → Type 0) (cells_did : cell.Deed T → X → X → Type 0) where
+  -- operations on the queue's cells lead a call of it from the one state to the other, as its machine makes them
+  abbrev pub QueueWalks : QueueForm → QueueCall T → X → QueueCall T → Option (QueueReply T) → X → Type 0
+  QueueWalks form call s next answer t =
+      (n : ℕ) × (x : X) × (at : CallState T) × Leads (StateMakes cells_did form) n s call.state x at
+      × StateMakes cells_did form x at t (record { action = next.state; mark = next.mark; reply = answer })
+
+  -- what is done to the queue by a call of the channel is such a walk: one step or more of the queue's call
+  abbrev pub QueueIsWalked : QueueForm → Type 0
+  QueueIsWalked form =
+      (call next : QueueCall T) (answer : Option (QueueReply T)) (s t : X) → did (stepped call next answer) s t → QueueWalks form call s next answer t
+
+  -- these steps lead from the one state of the cells to the other
+  abbrev pub Along : List (Act T W) → X → X → Type 0
+  Along [] s t = t ≡ s
+  Along (on_queue (Some d) ∷ os) s t = (m : X) × cells_did d s m × Along os m t
+  Along (on_queue None ∷ os) s t = Along os s t
+  Along (on_roster d ∷ os) s t = (m : X) × did d s m × Along os m t
+  Along (on_nothing ∷ os) s t = Along os s t
+
+  -- a call that was walked to its answer has done steps that are its party's next events, whatever the party does then
+  abbrev pub WalksAct : Type 0
+  WalksAct =
+      (form : QueueForm) (ask : ChannelAsk T W) (s t : X) (r : Reply T) (kept : Kept T) → QueueIsWalked form → WalkedFrom did (first ask) s r kept t
+      → (os : List (Act T W)) × Along os s t
+      × ((xs : List (Event T W)) (more : List (Given T)) → Acts form None xs more → Acts form None (begins ask ∷ map does os ++ xs) (record { reply = r; kept = kept } ∷ more))
+
+-- an operation on the cells of the queue, seen in the channel's; it wakes nobody
+abbrev pub InCells : {T Q C S : Type 0} → (cell.Deed T → Q → Q → Type 0) → (C → Q) → cell.Deed T → C × S → C × S → Type 0
+InCells did view d s t = did d (view s.0) (view t.0) × (t.1 ≡ s.1)

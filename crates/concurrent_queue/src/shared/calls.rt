@@ -1,0 +1,170 @@
+//! The calls of a shared queue. Each makes the one of `queue` that shows a trace what it does, with a trace that keeps nothing:
+//! this file has no other way to the cells of a queue.
+
+use crate::call::{QueueAsk, QueueReply};
+use crate::cells::{Slot, Word};
+use crate::error::{ForcePushError, NoMemory, PopError, PushError};
+use crate::queue_call::QueueCall;
+use crate::seen::Trace;
+use crate::shared::iter::TryIter;
+use crate::shared::queue::ConcurrentQueue;
+use std::sync::Wait;
+
+/// A trace that keeps nothing. It has no size, and seeing by it takes no instruction.
+#[derive(Clone, Copy, Debug)]
+struct NoTrace;
+
+impl<T> Trace<T> for NoTrace {
+    ghost did = { λ _ _ _. Unit {0} };
+
+    ghost brought = { λ _ _ _ _. Unit {0} };
+
+    #[inline(always)]
+    fn loaded(&mut self, _at: Word, _found: u64) {}
+
+    #[inline(always)]
+    fn stored(&mut self, _at: Word, _value: u64) {}
+
+    #[inline(always)]
+    fn exchanged(&mut self, _at: Word, _expected: u64, _next: u64, _answer: Result<u64, u64>) {}
+
+    #[inline(always)]
+    fn added(&mut self, _at: Word, _by: u64, _found: u64) {}
+
+    #[inline(always)]
+    fn bits_set(&mut self, _at: Word, _bits: u64, _found: u64) {}
+
+    #[inline(always)]
+    fn bits_kept(&mut self, _at: Word, _bits: u64, _found: u64) {}
+
+    #[inline(always)]
+    fn bring(&mut self, _at: Slot, _message: &T) {}
+
+    #[inline(always)]
+    fn put(&mut self, _at: Slot, _done: bool) {}
+
+    #[inline(always)]
+    fn taken(&mut self, _at: Slot, _found: &Option<T>) {}
+
+    #[inline(always)]
+    fn spared(&mut self, _answer: Result<u64, NoMemory>) {}
+
+    #[inline(always)]
+    fn retired(&mut self, _block: u64) {}
+}
+
+impl<T: Drop> ConcurrentQueue<T> {
+    ghost use Rattle.std.specs.Prelude.{Some};
+    ghost use Rattle.concurrent_queue.specs.SharedQueue.{IsSharedStep, IsWordsAlone};
+
+    /// One step of a call. It yields where the call has to make its action again, and may wait for the lock of the spare
+    /// list. What it answers is what this queue may answer: a capacity is this queue's own. Own to this project.
+    pub fn step<R: Wait>(&self, rt: &R, call: &mut QueueCall<T>) -> Option<QueueReply<T>>
+        ensures { IsSharedStep self.now call.old call.new result }
+    {
+        self.step_seen(rt, call, NoTrace).0
+    }
+
+    /// Makes the steps of a call up to its answer. A push or a pop that has made no step is made at once where nothing stands
+    /// against it. It yields where the call has to make an action again, and may wait for the lock of the spare list. What it
+    /// answers is what this queue may answer to this call. With a call that has answered before it never returns. Own to this
+    /// project.
+    #[inline(always)]
+    pub fn complete<R: Wait>(&self, rt: &R, call: &mut QueueCall<T>) -> QueueReply<T>
+        ensures { IsSharedStep self.now call.old call.new (Some result) }
+    {
+        self.complete_seen(rt, call, NoTrace).0
+    }
+
+    /// One step of a call that is `close` or a question but for the length. It waits for nobody, and the second one answers
+    /// at the latest. Own to this project.
+    pub fn step_words(&self, call: &mut QueueCall<T>) -> Option<QueueReply<T>>
+        requires { IsWordsAlone call.old }
+        ensures { IsSharedStep self.now call.old call.new result }
+    {
+        self.step_words_seen(call, NoTrace).0
+    }
+}
+
+impl<T: Drop> ConcurrentQueue<T> {
+    ghost use Rattle.std.specs.Prelude.{◌≡◌, IfOk, IfErr, None, false};
+    ghost use Rattle.concurrent_queue.specs.Errors.{push_message, force_message};
+    ghost use Rattle.concurrent_queue.specs.SharedQueue.{limit, CanRefuse, CanRefuseForce};
+
+    /// Appends the message. A refusal hands it back: the queue was full or closed, or an unbounded one had no memory for it.
+    /// It may wait. Other threads push and close too, so nothing that a caller knows says that it will succeed: `HasPlace` of
+    /// `specs/Room` says so of a push into a queue of one owner alone.
+    pub fn push<R: Wait>(&self, rt: &R, value: T) -> Result<(), PushError<T>>
+        ensures back { IfErr result (λ e. push_message e ≡ value) }
+        ensures reason { IfErr result (λ e. CanRefuse (limit self.now) e) }
+    {
+        self.push_seen(rt, value, NoTrace).0
+    }
+
+    /// Appends the message; where the queue is full, the oldest one leaves for it and is answered. A refusal hands the message
+    /// back: the queue was closed, or an unbounded one had no memory for it. It may wait.
+    pub fn force_push<R: Wait>(&self, rt: &R, value: T) -> Result<Option<T>, ForcePushError<T>>
+        ensures back { IfErr result (λ e. force_message e ≡ value) }
+        ensures reason { IfErr result (λ e. CanRefuseForce (limit self.now) e) }
+        ensures displaced { limit self.now ≡ None → IfOk result (λ o. o ≡ None) }
+    {
+        match self.make_seen(rt, QueueAsk::ForcePush(value), NoTrace).0 {
+            QueueReply::Force(result) => result,
+            _ => unreachable!(),
+        }
+    }
+
+    /// Takes the oldest message. `Err` where there was none: `Empty` while the queue was open, `Closed` once it was closed. It
+    /// may wait.
+    pub fn pop<R: Wait>(&self, rt: &R) -> Result<T, PopError> {
+        self.pop_seen(rt, NoTrace).0
+    }
+
+    /// Closes the queue: nothing more comes in, and what is in can still be popped. True in the one call that closed it. It
+    /// waits for nobody.
+    pub fn close(&self) -> bool {
+        match self.tell_seen(QueueAsk::Close, NoTrace).0 {
+            QueueReply::Close(result) => result,
+            _ => unreachable!(),
+        }
+    }
+
+    /// Whether the queue is closed. It waits for nobody.
+    pub fn is_closed(&self) -> bool {
+        match self.tell_seen(QueueAsk::IsClosed, NoTrace).0 {
+            QueueReply::Flag(result) => result,
+            _ => unreachable!(),
+        }
+    }
+
+    /// Whether it holds no message. It waits for nobody.
+    pub fn is_empty(&self) -> bool {
+        match self.tell_seen(QueueAsk::IsEmpty, NoTrace).0 {
+            QueueReply::Flag(result) => result,
+            _ => unreachable!(),
+        }
+    }
+
+    /// Whether it holds as many messages as its capacity; an unbounded queue never does. It waits for nobody.
+    pub fn is_full(&self) -> bool
+        ensures { limit self.now ≡ None → result ≡ false }
+    {
+        match self.tell_seen(QueueAsk::IsFull, NoTrace).0 {
+            QueueReply::Flag(result) => result,
+            _ => unreachable!(),
+        }
+    }
+
+    /// How many messages it held at a moment of the call. It may wait, since it asks again where others came between.
+    pub fn len<R: Wait>(&self, rt: &R) -> usize {
+        match self.make_seen(rt, QueueAsk::Len, NoTrace).0 {
+            QueueReply::Count(result) => result,
+            _ => unreachable!(),
+        }
+    }
+
+    /// An iterator that pops. It keeps the runtime value, and each item may wait.
+    pub fn try_iter<'a, R: Wait>(&'a self, rt: &'a R) -> TryIter<'a, T, R> {
+        TryIter::new(self, rt)
+    }
+}

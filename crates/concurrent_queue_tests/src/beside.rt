@@ -1,0 +1,212 @@
+//! What a call answers beside others whose steps come between its own, over cells of these tests' own. Nothing is left to
+//! chance: before a chosen operation of one call, which is made by the code that handles run, another call makes some of its
+//! steps and a third one all of them. The others are made step by step, so it is known which step of theirs did what, and so
+//! what the queue held at each moment.
+
+mod cases;
+mod plain;
+
+use crate::beside::plain::{Event, Kind};
+use crate::said::{Said, replied};
+use concurrent_queue::call::QueueMark;
+use concurrent_queue::cells::{Cells, QueueForm, Slot, Word};
+use concurrent_queue::error::NoMemory;
+use concurrent_queue::plain::PlainCells;
+use concurrent_queue::queue_call::QueueCall;
+
+/// So many operations after the others came between, they go on, one step before each operation: a call may wait for them.
+const LATE: u32 = 40;
+
+/// A call that has made so many operations waits for what never comes.
+const ENDLESS: u32 = 400;
+
+/// What such a call is told, so that it ends and is seen.
+const LOST: u64 = 999;
+
+/// More steps than a call alone has.
+const ALL: u32 = 64;
+
+/// A call that is made step by step between the operations of another one.
+#[derive(Drop)]
+struct Other {
+    call: QueueCall<u64>,
+    message: u64,
+    steps: u32,
+    said: Option<Said>,
+}
+
+impl Other {
+    /// The call that asks this with this message, of which so many steps come between.
+    fn new(kind: Kind, message: u64, steps: u32) -> Other {
+        Other {
+            call: QueueCall::new(kind.ask(message)),
+            message,
+            steps,
+            said: None,
+        }
+    }
+
+    /// Makes up to so many steps, and notes what they did.
+    fn go_on(&mut self, by: usize, steps: u32, cells: &mut PlainCells<u64>, events: &mut Events) {
+        for _ in 0..steps {
+            if self.said.is_some() {
+                break;
+            }
+            if let Some(reply) = self.call.step(cells) {
+                self.said = Some(replied(&reply));
+            }
+            events.note(self.call.last_mark(), self.message, by);
+        }
+    }
+}
+
+/// What steps of others did to the list, in their order.
+#[derive(Clone, Copy, Debug)]
+struct Events {
+    events: [Option<Event>; 6],
+    count: usize,
+}
+
+impl Events {
+    fn new() -> Events {
+        Events {
+            events: [None; 6],
+            count: 0,
+        }
+    }
+
+    fn note(&mut self, mark: QueueMark, message: u64, by: usize) {
+        if mark == QueueMark::Nothing {
+            return;
+        }
+        if let Some(place) = self.events.get_mut(self.count) {
+            *place = Some(Event { mark, message, by });
+            self.count = self.count.wrapping_add(1);
+        }
+    }
+}
+
+/// The cells of one owner, on which two others step before the operation of this number.
+#[derive(Drop)]
+struct Beside {
+    form: QueueForm,
+    cells: PlainCells<u64>,
+    made: u32,
+    turn: u32,
+    first: Other,
+    second: Other,
+    events: Events,
+    came_whole: bool,
+}
+
+impl Beside {
+    /// What comes before an operation.
+    fn before(&mut self)
+        ensures { self.new.form ≡ self.old.form }
+    {
+        self.made = self.made.wrapping_add(1);
+        if self.made == self.turn {
+            self.let_on(self.first.steps, 0);
+            self.came_whole = self.first.said.is_some();
+            self.let_on(0, self.second.steps);
+        } else if self.made > self.turn.saturating_add(LATE) {
+            self.let_on(1, 1);
+        }
+    }
+
+    /// Lets the others make up to so many steps.
+    fn let_on(&mut self, first: u32, second: u32)
+        ensures { self.new.form ≡ self.old.form }
+    {
+        self.first
+            .go_on(0, first, &mut self.cells, &mut self.events);
+        self.second
+            .go_on(1, second, &mut self.cells, &mut self.events);
+    }
+
+    /// Whether the call has waited for too long.
+    fn is_endless(&self) -> bool {
+        self.made > ENDLESS
+    }
+}
+
+impl Cells<u64> for Beside {
+    ghost use Rattle.std.specs.Prelude.{◌≡◌};
+    ghost use Rattle.concurrent_queue.specs.Plain.{contents_of};
+
+    ghost known = { ⊥ };
+
+    ghost contents = { λ c. contents_of c.cells };
+
+    ghost form_of = { λ c. c.form };
+
+    ghost did = { λ _ a b. b.form ≡ a.form };
+
+    ghost keeps_form = { λ _ a b kept. kept };
+
+    fn form(&self) -> QueueForm {
+        self.form
+    }
+
+    fn load(&mut self, at: Word) -> u64 {
+        self.before();
+        match at {
+            Word::Written(_, _) | Word::Next(_) if self.is_endless() => 1,
+            _ => self.cells.load(at),
+        }
+    }
+
+    fn store(&mut self, at: Word, value: u64) {
+        self.before();
+        self.cells.store(at, value);
+    }
+
+    fn compare_exchange(&mut self, at: Word, expected: u64, next: u64) -> Result<u64, u64> {
+        self.before();
+        if self.is_endless() {
+            return Ok(expected);
+        }
+        self.cells.compare_exchange(at, expected, next)
+    }
+
+    fn fetch_add(&mut self, at: Word, by: u64) -> u64 {
+        self.before();
+        self.cells.fetch_add(at, by)
+    }
+
+    fn fetch_or(&mut self, at: Word, bits: u64) -> u64 {
+        self.before();
+        self.cells.fetch_or(at, bits)
+    }
+
+    fn fetch_and(&mut self, at: Word, bits: u64) -> u64 {
+        self.before();
+        self.cells.fetch_and(at, bits)
+    }
+
+    fn put(&mut self, at: Slot, value: u64) -> Result<(), u64> {
+        self.before();
+        if self.is_endless() {
+            return Ok(());
+        }
+        self.cells.put(at, value)
+    }
+
+    fn take(&mut self, at: Slot) -> Option<u64> {
+        self.before();
+        if self.is_endless() {
+            return Some(LOST);
+        }
+        self.cells.take(at)
+    }
+
+    fn spare(&mut self) -> Result<u64, NoMemory> {
+        self.before();
+        self.cells.spare()
+    }
+
+    fn retire(&mut self, block: u64) {
+        self.before();
+        self.cells.retire(block);
+    }
+}

@@ -1,0 +1,316 @@
+//! Each call of each form beside each two others, at each of its operations.
+
+use crate::beside::plain::{Kind, Plain};
+use crate::beside::{ALL, Beside, Events, Other};
+use crate::checks::expect_none;
+use crate::said::{Said, replied};
+use concurrent_queue::cells::QueueForm;
+use concurrent_queue::plain::PlainCells;
+use concurrent_queue::queue_call::{QueueCall, whole};
+use std::alloc::{AllocError, Global};
+use std::process::Abort;
+use std::sync::Wait;
+use std::test::Fail;
+
+/// The calls.
+const KINDS: [Kind; 7] = [
+    Kind::Push,
+    Kind::ForcePush,
+    Kind::Pop,
+    Kind::Close,
+    Kind::IsEmpty,
+    Kind::IsFull,
+    Kind::Len,
+];
+
+/// Those that change a queue.
+const CHANGES: [Kind; 4] = [Kind::Push, Kind::ForcePush, Kind::Pop, Kind::Close];
+
+/// A queue, and what is in it when the calls begin.
+#[derive(Clone, Copy, Debug)]
+struct Start {
+    form: QueueForm,
+    bound: usize,
+    passed: u64,
+    messages: u64,
+    closed: bool,
+}
+
+/// What is made of it: the call, the others, the operation before which they come, and after how many steps of the first of them
+/// the second one is made.
+#[derive(Clone, Copy, Debug, PartialEq, Eq)]
+struct Case {
+    kind: Kind,
+    first: Kind,
+    second: Kind,
+    turn: u32,
+    steps: u32,
+}
+
+/// What came of it.
+#[derive(Clone, Copy, Debug)]
+struct Outcome {
+    said: Said,
+    others: [Said; 2],
+    events: Events,
+    left: Plain,
+    came: bool,
+    came_whole: bool,
+}
+
+/// What a call answers that steps alone.
+fn alone(cells: &mut PlainCells<u64>, kind: Kind, message: u64) -> Said {
+    let mut call = QueueCall::new(kind.ask(message));
+    let mut said = ("nothing", 0);
+    for _ in 0..ALL {
+        if let Some(reply) = call.step(cells) {
+            said = replied(&reply);
+            break;
+        }
+    }
+    said
+}
+
+impl Start {
+    /// The cells of the queue, and the list that they stand for. So many messages have passed through it before.
+    fn begin(self, alloc: Global) -> Result<(PlainCells<u64>, Plain), AllocError> {
+        let mut cells = match self.form {
+            QueueForm::Unbounded => PlainCells::new(alloc, QueueForm::Unbounded)?,
+            QueueForm::Bounded(bound) if bound > 0 => {
+                PlainCells::new(alloc, QueueForm::Bounded(bound))?
+            }
+            QueueForm::Bounded(_) => return Err(AllocError),
+        };
+        let mut plain = Plain::new(self.bound);
+        for message in 0..self.passed {
+            alone(&mut cells, Kind::Push, message);
+            alone(&mut cells, Kind::Pop, 0);
+        }
+        for message in 1..self.messages.saturating_add(1) {
+            alone(&mut cells, Kind::Push, message);
+            plain.append(message);
+        }
+        if self.closed {
+            alone(&mut cells, Kind::Close, 0);
+            plain.close();
+        }
+        Ok((cells, plain))
+    }
+}
+
+/// What is left in the queue.
+fn left_in(cells: &mut PlainCells<u64>, bound: usize) -> Plain {
+    let mut plain = Plain::new(bound);
+    for _ in 0..8 {
+        match alone(cells, Kind::Pop, 0) {
+            ("popped", message) => plain.append(message),
+            _ => break,
+        }
+    }
+    plain
+}
+
+/// Makes the calls.
+fn make<R: Wait>(rt: &R, start: Start, cells: PlainCells<u64>, case: Case) -> Outcome {
+    let mut beside = Beside {
+        form: start.form,
+        cells,
+        made: 0,
+        turn: case.turn,
+        first: Other::new(case.first, 8, case.steps),
+        second: Other::new(case.second, 9, ALL),
+        events: Events::new(),
+        came_whole: false,
+    };
+    let mut call = QueueCall::new(case.kind.ask(7));
+    let said = replied(&whole::complete(rt, &mut call, &mut beside));
+    drop(call);
+    beside.let_on(ALL, ALL);
+    beside.let_on(ALL, ALL);
+    let closed = alone(&mut beside.cells, Kind::Close, 0) == ("was closed", 0);
+    let mut left = left_in(&mut beside.cells, start.bound);
+    if closed {
+        left.close();
+    }
+    let others = [
+        beside.first.said.unwrap_or(("nothing", 0)),
+        beside.second.said.unwrap_or(("nothing", 0)),
+    ];
+    let (events, came, came_whole) = (beside.events, beside.made >= case.turn, beside.came_whole);
+    drop(beside);
+    Outcome {
+        said,
+        others,
+        events,
+        left,
+        came,
+        came_whole,
+    }
+}
+
+/// The message that a call says it took, or 0.
+fn taken(said: Said) -> u64 {
+    match said {
+        ("popped", message) | ("displaced", message) => message,
+        _ => 0,
+    }
+}
+
+impl Outcome {
+    /// Whether a list explains it, to which the others' steps did what they did: the call had its moment before the step of
+    /// this place among them, and the message of a displacing push came before another, not earlier.
+    fn is_so(&self, kind: Kind, start: Plain, moment: usize, comes: usize) -> bool {
+        let mut plain = start;
+        let mut took = [0; 2];
+        let mut said = ("nothing", 0);
+        let mut is_to_come = false;
+        for place in 0..self.events.count.saturating_add(1) {
+            if place == moment {
+                (said, is_to_come) = plain.answer(kind, 7);
+            }
+            if place == comes && is_to_come {
+                plain.append(7);
+            }
+            if let Some(Some(event)) = self.events.events.get(place) {
+                let message = plain.do_event(event);
+                if message != 0 && event.by < 2 {
+                    took[event.by] = message;
+                }
+            }
+        }
+        said == self.said
+            && plain == self.left
+            && took == [taken(self.others[0]), taken(self.others[1])]
+    }
+
+    /// Whether there are such moments.
+    fn is_explained(&self, kind: Kind, start: Plain) -> bool {
+        let end = self.events.count.saturating_add(1);
+        for moment in 0..end {
+            for comes in moment..end {
+                if self.is_so(kind, start, moment, comes) {
+                    return true;
+                }
+            }
+        }
+        false
+    }
+}
+
+/// What no list explains, of a call beside two others that come before this operation of it: the second one after one step of
+/// the first, after two, and so on up to its end. `None` where each is explained; and whether the call had such an operation.
+fn wrong_at<R: Wait>(
+    rt: &R,
+    alloc: Global,
+    start: Start,
+    mut case: Case,
+) -> Result<(Option<(Case, Outcome)>, bool), AllocError> {
+    for steps in 1..ALL {
+        case.steps = steps;
+        let (cells, plain) = start.begin(alloc)?;
+        let outcome = make(rt, start, cells, case);
+        if !outcome.is_explained(case.kind, plain) {
+            return Ok((Some((case, outcome)), true));
+        }
+        if !outcome.came {
+            return Ok((None, false));
+        }
+        if outcome.came_whole {
+            break;
+        }
+    }
+    Ok((None, true))
+}
+
+/// The same at each of its operations.
+fn wrong_beside<R: Wait>(
+    rt: &R,
+    alloc: Global,
+    start: Start,
+    kinds: [Kind; 3],
+) -> Result<Option<(Case, Outcome)>, AllocError> {
+    let [kind, first, second] = kinds;
+    for turn in 1..ALL {
+        let case = Case {
+            kind,
+            first,
+            second,
+            turn,
+            steps: 1,
+        };
+        let (wrong, came) = wrong_at(rt, alloc, start, case)?;
+        if wrong.is_some() {
+            return Ok(wrong);
+        }
+        if !came {
+            break;
+        }
+    }
+    Ok(None)
+}
+
+/// The same of each call beside each two others.
+fn wrong_in<R: Wait>(
+    rt: &R,
+    alloc: Global,
+    start: Start,
+) -> Result<Option<(Case, Outcome)>, AllocError> {
+    for kind in KINDS {
+        for first in KINDS {
+            for second in CHANGES {
+                let wrong = wrong_beside(rt, alloc, start, [kind, first, second])?;
+                if wrong.is_some() {
+                    return Ok(wrong);
+                }
+            }
+        }
+    }
+    Ok(None)
+}
+
+/// Each call beside each two others, on a queue of this form with so many messages, open and closed.
+fn check<R: Wait + Abort>(
+    rt: &R,
+    alloc: Global,
+    form: QueueForm,
+    bound: usize,
+    passed: u64,
+    messages: u64,
+) -> Result<(), Fail> {
+    for closed in [false, true] {
+        let start = Start {
+            form,
+            bound,
+            passed,
+            messages,
+            closed,
+        };
+        let wrong = wrong_in(rt, alloc, start)?;
+        expect_none(rt, &start, &wrong);
+    }
+    Ok(())
+}
+
+#[test]
+fn one_slot_beside_others(rt: HostRuntime) -> Result<(), Fail> {
+    for messages in 0..2 {
+        check(&rt, rt.alloc(), QueueForm::Bounded(1), 1, 0, messages)?;
+    }
+    Ok(())
+}
+
+#[test]
+fn a_ring_beside_others(rt: HostRuntime) -> Result<(), Fail> {
+    for messages in 0..3 {
+        check(&rt, rt.alloc(), QueueForm::Bounded(2), 2, 1, messages)?;
+    }
+    Ok(())
+}
+
+#[test]
+fn blocks_beside_others(rt: HostRuntime) -> Result<(), Fail> {
+    for messages in 0..2 {
+        check(&rt, rt.alloc(), QueueForm::Unbounded, 9, 0, messages)?;
+    }
+    check(&rt, rt.alloc(), QueueForm::Unbounded, 9, 29, 1)
+}

@@ -1,0 +1,104 @@
+//! A trace that writes down what a call of a queue did.
+
+use concurrent_queue::cells::{Slot, Word};
+use concurrent_queue::error::NoMemory;
+use concurrent_queue::seen::Trace;
+use std::alloc::Global;
+
+/// One operation: what was done, to which cell, and what it answered: what a word held, 1 where an exchange or a put was done,
+/// the message that was taken, the number of a block; 0 where it answered nothing.
+pub(crate) type Line = (&'static str, &'static str, u64);
+
+/// What was done, in order. Where there is no memory for a line, it says so.
+#[derive(Drop)]
+pub(crate) struct Log {
+    lines: Vec<Line>,
+    is_short: bool,
+}
+
+/// What a word is called.
+fn name_of(at: Word) -> &'static str {
+    match at {
+        Word::State => "state",
+        Word::Head => "head",
+        Word::Tail => "tail",
+        Word::Stamp(_) => "stamp",
+        Word::HeadBlock => "head block",
+        Word::TailBlock => "tail block",
+        Word::Next(_) => "next",
+        Word::Reads(_) => "reads",
+        Word::Written(_, _) => "written",
+    }
+}
+
+impl Log {
+    pub(crate) fn new(alloc: Global) -> Log {
+        Log {
+            lines: Vec::new(alloc),
+            is_short: false,
+        }
+    }
+
+    /// Its lines, if it has them all.
+    pub(crate) fn lines(&self) -> Option<&[Line]> {
+        if self.is_short {
+            None
+        } else {
+            Some(self.lines.as_slice())
+        }
+    }
+
+    fn note(&mut self, line: Line) {
+        if self.lines.push(line).is_err() {
+            self.is_short = true;
+        }
+    }
+}
+
+impl Trace<u64> for Log {
+    ghost did = { λ _ _ _. Unit {0} };
+
+    ghost brought = { λ _ _ _ _. Unit {0} };
+
+    fn loaded(&mut self, at: Word, found: u64) {
+        self.note(("load", name_of(at), found));
+    }
+
+    fn stored(&mut self, at: Word, _value: u64) {
+        self.note(("store", name_of(at), 0));
+    }
+
+    fn exchanged(&mut self, at: Word, _expected: u64, _next: u64, answer: Result<u64, u64>) {
+        self.note(("exchange", name_of(at), u64::from(answer.is_ok())));
+    }
+
+    fn added(&mut self, at: Word, _by: u64, found: u64) {
+        self.note(("add", name_of(at), found));
+    }
+
+    fn bits_set(&mut self, at: Word, _bits: u64, found: u64) {
+        self.note(("or", name_of(at), found));
+    }
+
+    fn bits_kept(&mut self, at: Word, _bits: u64, found: u64) {
+        self.note(("and", name_of(at), found));
+    }
+
+    fn bring(&mut self, _at: Slot, _message: &u64) {}
+
+    fn put(&mut self, _at: Slot, done: bool) {
+        self.note(("put", "slot", u64::from(done)));
+    }
+
+    fn taken(&mut self, _at: Slot, found: &Option<u64>) {
+        self.note(("take", "slot", found.unwrap_or(0)));
+    }
+
+    fn spared(&mut self, answer: Result<u64, NoMemory>) {
+        self.note(("spare", "block", answer.unwrap_or(0)));
+    }
+
+    fn retired(&mut self, block: u64) {
+        self.note(("retire", "block", block));
+    }
+}
