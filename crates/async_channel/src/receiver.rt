@@ -15,7 +15,8 @@ use std::sync::Wait;
 ///
 /// It is a stream of messages too. The channel is closed once its last receiver is dropped; the messages left are dropped with
 /// the channel. The drop may wait for the locks of those who wait. Contracts see a receiver as its channel: how many messages
-/// it holds at most, and its identity. As `async-channel` 2.5.0, but that it has the runtime with it.
+/// it holds at most, its identity, and the memory that its handles share. As `async-channel` 2.5.0, but that it has the runtime
+/// with it.
 pub struct Receiver<T: Drop, R: Wait + Copy> {
     pub(crate) counted: Counted<T>,
     pub(crate) rt: R,

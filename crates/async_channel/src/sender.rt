@@ -14,8 +14,8 @@ use std::sync::Wait;
 /// The sending side of a channel, which any number of threads may share and clone.
 ///
 /// The channel is closed once its last sender is dropped. The drop may wait for the locks of those who wait. Contracts see a
-/// sender as its channel: how many messages it holds at most, and its identity. As `async-channel` 2.5.0, but that it has the
-/// runtime with it.
+/// sender as its channel: how many messages it holds at most, its identity, and the memory that its handles share. As
+/// `async-channel` 2.5.0, but that it has the runtime with it.
 pub struct Sender<T: Drop, R: Wait + Copy> {
     pub(crate) counted: Counted<T>,
     pub(crate) rt: R,

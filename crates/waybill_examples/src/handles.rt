@@ -211,13 +211,14 @@ fn count(found: &[Option<u32>]) -> u64 {
 fn each_way_in<B: Room, R: Wait + Copy + RandomSource + AllocGlobal>(
     rt: R,
     alloc: Global,
+    ids: &mut EventIds,
     opened: Opened<u32>,
 ) -> Option<(u64, u64)>
     requires { opened ≡ B.table }
 {
     let (office, mut pass) = opened.enter::<B>();
     let inbox = Inbox::new(alloc, office.another(&mut pass));
-    let (sender, mut receiver) = bounded(rt, alloc, 2, &mut EventIds::new()).ok()?;
+    let (sender, mut receiver) = bounded(rt, alloc, 2, ids).ok()?;
     let queue = ConcurrentQueue::bounded(alloc, 1).ok()?;
     let back = [
         send::<B, R>(rt, &office, &sender, &mut pass, 1),
@@ -250,7 +251,8 @@ fn each_way_in<B: Room, R: Wait + Copy + RandomSource + AllocGlobal>(
 pub fn each_way<R: Wait + Copy + RandomSource + AllocGlobal>(
     rt: R,
     alloc: Global,
+    ids: &mut EventIds,
 ) -> Option<(u64, u64)> {
     let opened = Opened::new(alloc).ok()?;
-    each_way_in::<Brand, R>(rt, alloc, opened)
+    each_way_in::<Brand, R>(rt, alloc, ids, opened)
 }

@@ -10,6 +10,7 @@ pub mod relay;
 pub mod sums;
 
 use crate::line::Kind;
+use event_listener::id::EventIds;
 use std::alloc::{AllocGlobal, Global};
 use std::io;
 use std::process::ExitCode;
@@ -59,18 +60,19 @@ fn print_lines<R: Threads + Wait + Copy + Send + Sync + Print>(
 fn print_channels<R: Threads + Wait + Copy + Send + Sync + Print + RandomSource + AllocGlobal>(
     rt: R,
     alloc: Global,
+    ids: &mut EventIds,
 ) -> io::Result<bool> {
     let all = [3, 1, 4, 1, 5, 9, 2, 6, 5, 3];
-    let Some(relayed) = relay::relay(rt, alloc, 2, &all) else {
+    let Some(relayed) = relay::relay(rt, alloc, ids, 2, &all) else {
         return Ok(false);
     };
-    let Some(pooled) = pool::pool(rt, alloc, &all) else {
+    let Some(pooled) = pool::pool(rt, alloc, ids, &all) else {
         return Ok(false);
     };
-    let Some(piped) = pipeline::pipeline(rt, alloc, &all) else {
+    let Some(piped) = pipeline::pipeline(rt, alloc, ids, &all) else {
         return Ok(false);
     };
-    let Some((came, back)) = handles::each_way(rt, alloc) else {
+    let Some((came, back)) = handles::each_way(rt, alloc, ids) else {
         return Ok(false);
     };
     println!(&rt; "relay: {}", relayed.len())?;
@@ -83,7 +85,8 @@ fn print_channels<R: Threads + Wait + Copy + Send + Sync + Print + RandomSource 
 
 fn main(rt: HostRuntime) -> ExitCode {
     let alloc = rt.alloc();
-    match (print_channels(rt, alloc), print_lines(rt, alloc)) {
+    let mut ids = EventIds::new();
+    match (print_channels(rt, alloc, &mut ids), print_lines(rt, alloc)) {
         (Ok(true), Ok(true)) => ExitCode::SUCCESS,
         _ => ExitCode::FAILURE,
     }

@@ -41,14 +41,20 @@ fn pipeline_in<
     B: Room + Send + Sync,
     C: Room + Send + Sync,
     R: Threads + Wait + Copy + Send + Sync,
->(rt: R, alloc: Global, jobs: Opened<u32>, results: Opened<u64>, all: &[u32]) -> Option<Vec<u64>>
+>(
+    rt: R,
+    alloc: Global,
+    ids: &mut EventIds,
+    jobs: Opened<u32>,
+    results: Opened<u64>,
+    all: &[u32],
+) -> Option<Vec<u64>>
     requires { (jobs ≡ B.table) × (results ≡ C.table) }
     ensures part { IfSome result (λ got. IsPartOf got.items (squares all.now)) }
     ensures each { IfSome result (λ got. length got.items ≡ length all.now → IsPermutation (squares all.now) got.items) }
 {
-    let mut ids = EventIds::new();
-    let (todo_sender, todo) = bounded(rt, alloc, 2, &mut ids).ok()?;
-    let done = bounded(rt, alloc, 2, &mut ids).ok()?;
+    let (todo_sender, todo) = bounded(rt, alloc, 2, ids).ok()?;
+    let done = bounded(rt, alloc, 2, ids).ok()?;
     let (jobs, mut every_job) = jobs.enter::<B>();
     let (results, mut every_result) = results.enter::<C>();
     let Ok(parcels) = jobs.pack_each(alloc, &mut every_job, all) else {
@@ -80,6 +86,7 @@ fn pipeline_in<
 pub fn pipeline<R: Threads + Wait + Copy + Send + Sync>(
     rt: R,
     alloc: Global,
+    ids: &mut EventIds,
     all: &[u32],
 ) -> Option<Vec<u64>>
     ensures part { IfSome result (λ got. IsPartOf got.items (squares all.now)) }
@@ -87,5 +94,5 @@ pub fn pipeline<R: Threads + Wait + Copy + Send + Sync>(
 {
     let jobs = Opened::new(alloc).ok()?;
     let results = Opened::new(alloc).ok()?;
-    pipeline_in::<Brand, Brand, R>(rt, alloc, jobs, results, all)
+    pipeline_in::<Brand, Brand, R>(rt, alloc, ids, jobs, results, all)
 }

@@ -143,6 +143,7 @@ fn two_workers<
 fn pool_in<B: Room + Send + Sync, C: Room + Send + Sync, R: Threads + Wait + Copy + Send + Sync>(
     rt: R,
     alloc: Global,
+    ids: &mut EventIds,
     jobs: Opened<u32>,
     results: Opened<u64>,
     all: &[u32],
@@ -151,9 +152,8 @@ fn pool_in<B: Room + Send + Sync, C: Room + Send + Sync, R: Threads + Wait + Cop
     ensures part { IfSome result (λ got. IsPartOf got.items (squares all.now)) }
     ensures each { IfSome result (λ got. length got.items ≡ length all.now → IsPermutation (squares all.now) got.items) }
 {
-    let mut ids = EventIds::new();
-    let (todo_sender, todo) = unbounded(rt, alloc, &mut ids).ok()?;
-    let (done, done_receiver) = unbounded(rt, alloc, &mut ids).ok()?;
+    let (todo_sender, todo) = unbounded(rt, alloc, ids).ok()?;
+    let (done, done_receiver) = unbounded(rt, alloc, ids).ok()?;
     let todo_too = todo.try_clone().ok()?;
     let done_too = done.try_clone().ok()?;
     let (jobs, mut every_job) = jobs.enter::<B>();
@@ -197,6 +197,7 @@ fn pool_in<B: Room + Send + Sync, C: Room + Send + Sync, R: Threads + Wait + Cop
 pub fn pool<R: Threads + Wait + Copy + Send + Sync>(
     rt: R,
     alloc: Global,
+    ids: &mut EventIds,
     all: &[u32],
 ) -> Option<Vec<u64>>
     ensures part { IfSome result (λ got. IsPartOf got.items (squares all.now)) }
@@ -204,5 +205,5 @@ pub fn pool<R: Threads + Wait + Copy + Send + Sync>(
 {
     let jobs = Opened::new(alloc).ok()?;
     let results = Opened::new(alloc).ok()?;
-    pool_in::<Brand, Brand, R>(rt, alloc, jobs, results, all)
+    pool_in::<Brand, Brand, R>(rt, alloc, ids, jobs, results, all)
 }

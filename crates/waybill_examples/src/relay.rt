@@ -47,6 +47,7 @@ fn receive_all<B: Room, R: Wait + Copy>(
 fn relay_in<B: Room + Send + Sync, R: Threads + Wait + Copy + Send + Sync>(
     rt: R,
     alloc: Global,
+    ids: &mut EventIds,
     capacity: usize,
     opened: Opened<u32>,
     all: &[u32],
@@ -56,7 +57,7 @@ fn relay_in<B: Room + Send + Sync, R: Threads + Wait + Copy + Send + Sync>(
     ensures { IfSome result (λ got. IsPartOf got.items all.now) }
 {
     let (office, mut whole) = opened.enter::<B>();
-    let (sender, receiver) = bounded(rt, alloc, capacity, &mut EventIds::new()).ok()?;
+    let (sender, receiver) = bounded(rt, alloc, capacity, ids).ok()?;
     let writer = office.another(&mut whole);
     let inbox = Inbox::new(alloc, office.another(&mut whole));
     let here = &office;
@@ -80,6 +81,7 @@ fn relay_in<B: Room + Send + Sync, R: Threads + Wait + Copy + Send + Sync>(
 pub fn relay<R: Threads + Wait + Copy + Send + Sync>(
     rt: R,
     alloc: Global,
+    ids: &mut EventIds,
     capacity: usize,
     all: &[u32],
 ) -> Option<Vec<u32>>
@@ -87,5 +89,5 @@ pub fn relay<R: Threads + Wait + Copy + Send + Sync>(
     ensures { IfSome result (λ got. IsPartOf got.items all.now) }
 {
     let opened = Opened::new(alloc).ok()?;
-    relay_in::<Brand, R>(rt, alloc, capacity, opened, all)
+    relay_in::<Brand, R>(rt, alloc, ids, capacity, opened, all)
 }
