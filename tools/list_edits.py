@@ -80,6 +80,13 @@ BODIES = {
     "a send in straight code tells the streams twice": [],
     "a receive of several hands them out reversed": [],
     "a receive drops what it took": [],
+    "a blocking call makes no second try": [],
+    "a blocking call leaves its listener listed": [],
+    "a blocking call asks for its parker too early": [],
+    "`recv_blocking` says closed of an open channel": [],
+    "`is_terminated` asks empty before closed": [],
+    "a clone is of a fresh channel with the same number": [],
+    "a listener stands in a list of its own": [],
 }
 # What a sentence doesn't cite by its number: a rule, a paper, a section, an issue.
 CITED = re.compile(r"\b[A-Z]\d+\b|\b0[1-4]\b|\b(issue|paper|document|section|request)s? \d")
