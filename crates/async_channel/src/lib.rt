@@ -11,13 +11,14 @@
 //! A call of a handle that changes the channel is a [`ChannelCall`] of `channel_calls`, stepped on cells that threads share: a
 //! queue, four lists of listeners behind a lock each, two counts. The function that makes a step is the one whose every
 //! interleaving `channel_world` is proved for, over cells of one owner; a step of the queue's call is here all of them, up to its
-//! answer. A `try_send` and a `try_recv` are straight code, as a push and a pop of the queue are: what is proved of it over shared
-//! cells is which answers it may give. A blocking call makes its tries so, and listens and leaves by the same sections of the
-//! lists. A question asks the queue or a count.
+//! answer. Whatever other threads do, a call, a poll, a blocking call and a question are each one line over a function of
+//! `channel_calls` that is proved to make the steps of this machine, these and no others, over cells of any kind: a `try_send` and a
+//! `try_recv` in straight code, a blocking call by rounds of polls, between which it sleeps, a question on words alone.
 //!
-//! So that threads together do what such steps do one after another is no contract here, and is tested. Since other threads may
-//! step in between, a handle's contract says what holds whatever they do: a refused message is the one that was handed in, a
-//! pending poll has armed its context and kept its message, the capacity is as given.
+//! Not bound so are these lines, and the methods of the shared cells, one line each. That threads together do what such steps do one
+//! after another is no contract here, and is tested. Since other threads may step in between, a handle's own contract says what holds
+//! whatever they do: a refused message is the one that was handed in, a pending poll has armed its context and kept its message, the
+//! capacity is as given.
 //!
 //! Calls that may wait (for a lock, for a place, for a message) take the runtime, which each handle has with it; the other
 //! ones are made of functions that don't take it.
