@@ -39,7 +39,6 @@ fn measure<R: Clock + Print + Wait + Threads + Copy + Sync + Send>(
         "several" => several::measure_several(rt, alloc),
         "shared" => shared::measure_shared(&rt, alloc),
         "steps" => steps::measure_steps(&rt, alloc),
-        "waybills" => shared::measure_waybills(&rt, alloc),
         _ => println!(&rt; "nothing to measure is named {word}"),
     }
 }

@@ -1,20 +1,18 @@
 //! What a push and a pop cost together in queues that threads share, beside queues and a channel of the kit: on one thread,
 //! and with one thread that pushes and one that pops.
 
-ghost use Rattle.std.specs.Prelude.{◌≡◌, ◌<◌};
+ghost use Rattle.std.specs.Prelude.{◌<◌};
 
 use crate::decimal::Decimal;
 use concurrent_queue::shared::queue::ConcurrentQueue;
 use crossbeam_channel::{Receiver, Sender};
 use crossbeam_queue::{ArrayQueue, SegQueue};
 use std::alloc::Global;
-use std::marker::Brand;
 use std::rt::Clock;
 use std::sync::Wait;
 use std::thread::Threads;
 use std::time::Instant;
 use std::{io, thread};
-use waybill::{Opened, Parcel, Room};
 
 /// How many messages go through a queue in one round, and how many rounds there are. The best round counts.
 const ALONE: u64 = 200_000;
@@ -232,50 +230,6 @@ fn measure_unbounded<R: Threads + Wait + Clock + Print + Sync>(
         Ok(ours) => compare_unbounded(rt, &ours, &segments),
         Err(_) => println!(rt; "shared: want of memory"),
     }
-}
-
-/// The same in parcels: each message is packed before the push, and unpacked after the pop.
-fn both_packed<B: Room, R: Wait>(
-    rt: &R,
-    queue: &ConcurrentQueue<Parcel<u64, B>>,
-    opened: Opened<u64>,
-) -> u64
-    requires { opened ≡ B.table }
-{
-    let (office, mut pass) = opened.enter::<B>();
-    let mut sum = 0u64;
-    for message in 0..ALONE {
-        let _ = queue.push(rt, office.pack(&mut pass, message));
-        if let Ok(popped) = queue.pop(rt) {
-            sum = sum.wrapping_add(office.unpack(&mut pass, popped));
-        }
-    }
-    sum
-}
-
-/// A push and a pop of a ring with waybills beside one without, in turns on one thread.
-pub fn measure_waybills<R: Wait + Clock + Print>(rt: &R, alloc: Global) -> io::Result<()> {
-    let (Ok(plain), Ok(packed)) = (
-        ConcurrentQueue::<u64>::bounded(alloc, 128),
-        ConcurrentQueue::bounded(alloc, 128),
-    ) else {
-        return println!(rt; "waybills: want of memory");
-    };
-    let mut least = (u128::MAX, u128::MAX);
-    for _ in 0..ROUNDS {
-        let opened = Opened::new(alloc)?;
-        let start = Instant::now(rt)?;
-        let sum = both(rt, &plain);
-        least.0 = least.0.min(start.elapsed(rt)?.as_nanos());
-        let start = Instant::now(rt)?;
-        let sum_too = both_packed::<Brand, R>(rt, &packed, opened);
-        least.1 = least.1.min(start.elapsed(rt)?.as_nanos());
-        if sum != sum_too {
-            return println!(rt; "waybills: a message was lost");
-        }
-    }
-    let ratio = Decimal::of(least.1, least.0);
-    println!(rt; "waybills, a push and a pop of a ring: {ratio} times as long as without")
 }
 
 /// Measures queues that threads share.
