@@ -80,7 +80,7 @@ BODIES = {
     "a send in straight code tells the streams twice": [],
     "a receive of several hands them out reversed": [],
     "a receive drops what it took": [],
-    "a blocking call makes no second try": [],
+    "a blocking call makes its second try before it listens": [],
     "a blocking call leaves its listener listed": [],
     "a blocking call asks for its parker too early": [],
     "`recv_blocking` says closed of an open channel": [],
