@@ -31,3 +31,4 @@ pub mod Interface
 mod BridgeSteps
 mod Bridge
 mod BridgeWalks
+mod BridgeRow

@@ -10,4 +10,5 @@ pub mod Receives
 pub mod Sends
 pub mod Sound
 pub mod Bridge
+pub mod BridgeRow
 pub mod Bounds

@@ -2,6 +2,7 @@
 //! `channel_steps::run::run_steps` does is such a run.
 
 ghost use Rattle.channel_laws.specs.Bridge.{InCells, MergesAreRuns, WalksAct};
+ghost use Rattle.channel_laws.specs.BridgeRow.{TwoClonesMerge};
 ghost use Rattle.channel_calls.specs.Deeds.{Done};
 ghost use Rattle.channel_laws.specs.Bounds.{BoundsStay, ClosesOnce, NeverOverfull, UnboundedIsNeverFull};
 ghost use Rattle.channel_laws.specs.Closed.{ClosingIsForGood};
@@ -156,4 +157,11 @@ pub fn merges_are_runs<T, W, S: Wakes<W>>()
 /// Own to this project.
 pub fn walks_act<T, W, Q: Cells<T>, C: ChannelCells<T, W>, S: Wakes<W>>()
     ensures acts { (view : C → Q) → WalksAct (Done C.did S.wakes) (InCells Q.did view) }
+{}
+
+/// There are such merges: two clones of a sender that race for its count, as they would between two threads.
+///
+/// Own to this project.
+pub fn two_clones_merge<T, W, S: Wakes<W>>()
+    ensures merge { TwoClonesMerge T W S S.wakes }
 {}
