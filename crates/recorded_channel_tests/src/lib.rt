@@ -15,6 +15,8 @@ mod memory;
 #[cfg(test)]
 mod refused;
 #[cfg(test)]
+mod replay;
+#[cfg(test)]
 mod talk;
 #[cfg(test)]
 mod uses;

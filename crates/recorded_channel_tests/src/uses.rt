@@ -1,6 +1,7 @@
 //! What a program can rely on, proved of it here with no word of how a recorded channel is made.
-ghost use Rattle.std.specs.Prelude.{◌≡◌, ◌+◌, IfSome, length};
+ghost use Rattle.std.specs.Prelude.{◌≡◌, ◌≤◌, ◌+◌, IfSome, length};
 ghost use Rattle.channel_world.specs.RecordLaws.{KeepsItsLaws};
+ghost use Rattle.channel_world.specs.RecordReplay.{EndsHistory};
 
 use crate::checks::expect_equal;
 use channel_world::call::Call;
@@ -41,19 +42,39 @@ fn work<L: Ledger, R: Wait>(
     (seat, made)
 }
 
-/// The record of two seats that are gathered, which has as many entries as they made accepted calls.
+/// The record of two seats, which has as many entries as they made accepted calls. With the channel's own they have all parts of the
+/// ledger, so none is missing.
 fn gather<L: Ledger>(
     channel: RecordedChannel<u64, L>,
     first: RecordSeat<L>,
     second: RecordSeat<L>,
     alloc: Global,
 ) -> Option<Record<u64>>
+    requires { L.parts ≡ 3 }
     ensures { IfSome result (λ r. length r.entries ≡ first.calls + second.calls) }
 {
     let mut seats = Vec::new(alloc);
     seats.push(first).ok()?;
     seats.push(second).ok()?;
-    channel.finish(seats).ok()
+    match channel.finish(seats) {
+        Ok(record) => Some(record),
+        Err(_) => unreachable!(),
+    }
+}
+
+/// A closing. What is known of its receipt: it ends a history of the channel, behind all calls of its seat.
+fn close<L: Ledger, R: Wait>(
+    rt: &R,
+    channel: &RecordedChannel<u64, L>,
+    seat: &mut RecordSeat<L>,
+) -> Option<Receipt<u64>>
+    ensures ends { IfSome result (λ r. EndsHistory r) }
+    ensures behind { IfSome result (λ r. seat.new.calls ≤ r.place + 1) }
+{
+    let call = Call::Close {
+        handle: HandleId(0),
+    };
+    channel.call(rt, seat, call).ok()
 }
 
 /// How many calls two threads counted, and the record, which has as many entries.
@@ -103,5 +124,30 @@ fn the_record_has_as_many_entries_as_were_counted(rt: HostRuntime) -> Result<(),
     let all = both::<Brand, HostRuntime>(&rt, rt.alloc(), Blank::new(3));
     let (m, n, record) = all.expect(&rt, "memory");
     expect_equal(&rt, &(m, n, read(&record).len()), &(CALLS, 0, 100));
+    Ok(())
+}
+
+/// The place of a seat's closing, before which it sent a message.
+fn close_second<L: Ledger, R: Wait>(rt: &R, alloc: Global, blank: Blank) -> Option<usize>
+    requires name { blank.name ≡ L.name }
+    requires parts { (blank.parts ≡ L.parts) × (blank.parts ≡ 2) }
+{
+    let mut ids = EventIds::new();
+    let channel = RecordedChannel::<u64, L>::unbounded(alloc, &mut ids, blank, 2).ok()?;
+    let mut seat = channel.seat(rt).ok()?;
+    let send = Call::TrySend {
+        sender: HandleId(0),
+        msg: 1,
+    };
+    channel.call(rt, &mut seat, send).ok()?;
+    let closed = close(rt, &channel, &mut seat)?;
+    Some(closed.place)
+}
+
+/// A receipt stands behind the earlier calls of its seat.
+#[test]
+fn a_closing_stands_behind_a_send(rt: HostRuntime) -> Result<(), Fail> {
+    let place = close_second::<Brand, HostRuntime>(&rt, rt.alloc(), Blank::new(2));
+    expect_equal(&rt, &place, &Some(1));
     Ok(())
 }
