@@ -6,6 +6,8 @@
 #[cfg(test)]
 mod asking;
 #[cfg(test)]
+mod blocked;
+#[cfg(test)]
 mod calls;
 #[cfg(test)]
 mod checks;
