@@ -34,8 +34,8 @@ fn packed_round<B: Room, R: Wait + Clock>(
     let mut sum = 0u64;
     let start = Instant::now(rt)?;
     for message in 0..ALONE {
-        let _ = queue.push(rt, office.pack(&mut pass, message));
-        if let Ok(parcel) = queue.pop(rt) {
+        let _ = queue.push(rt, office.pack(&mut pass, message)).is_ok();
+        if let Some(parcel) = queue.pop(rt).ok() {
             sum = sum.wrapping_add(office.unpack(&mut pass, parcel));
         }
     }
