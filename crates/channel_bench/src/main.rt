@@ -15,6 +15,7 @@ mod settle;
 mod several;
 mod shared;
 mod steps;
+mod waybills;
 
 use std::alloc::Global;
 use std::rt::Clock;
@@ -39,6 +40,7 @@ fn measure<R: Clock + Print + Wait + Threads + Copy + Sync + Send>(
         "several" => several::measure_several(rt, alloc),
         "shared" => shared::measure_shared(&rt, alloc),
         "steps" => steps::measure_steps(&rt, alloc),
+        "waybills" => waybills::measure_waybills(&rt, alloc),
         _ => println!(&rt; "nothing to measure is named {word}"),
     }
 }

@@ -15,14 +15,14 @@ use std::time::Instant;
 use std::{io, thread};
 
 /// How many messages go through a queue in one round, and how many rounds there are. The best round counts.
-const ALONE: u64 = 200_000;
+pub const ALONE: u64 = 200_000;
 
 const BETWEEN: u64 = 100_000;
 
 const ROUNDS: u32 = 12;
 
 /// A queue of either kind.
-trait Shared {
+pub trait Shared {
     /// Whether the message is in.
     fn put<R: Wait>(&self, rt: &R, message: u64) -> bool;
 
@@ -77,7 +77,7 @@ impl Shared for Ends {
 }
 
 /// Pushes a message and pops it, again and again.
-fn both<Q: Shared, R: Wait>(rt: &R, queue: &Q) -> u64 {
+pub fn both<Q: Shared, R: Wait>(rt: &R, queue: &Q) -> u64 {
     let mut sum = 0u64;
     for message in 0..ALONE {
         let _ = queue.put(rt, message);

@@ -11,6 +11,7 @@ pub mod office;
 pub mod rule;
 pub mod several;
 pub mod sink;
+mod sizes;
 pub mod source;
 pub mod tokens;
 
