@@ -72,6 +72,7 @@ BODIES = {
     "a walked call does something else first": [],
     "a clone counts nothing": [],
     "a clone that was counted is refused": [],
+    "a drop that lowers nothing": [],
     "a closing always answers false": [],
     "a displacing send drops what it displaced": [],
     "a poll of a receive tries nothing": ["async_channel_tests/one_place_takes_one_message"],
