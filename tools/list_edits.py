@@ -67,7 +67,7 @@ BODIES = {
     # What threads run for the common calls, whatever other threads do.
     "a pending send loses its message": ["async_channel_tests/each_taking_wakes_the_next_send"],
     "a poll loses the key of its listener": [],
-    "a registering hands the task back of a listener that waits": [],
+    "a registering says of a listener that was told that it waits": [],
     "many free places tell one send": [],
     "a walked call does something else first": [],
     "a clone counts nothing": [],
