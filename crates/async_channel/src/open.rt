@@ -11,6 +11,7 @@ use crate::receiver::Receiver;
 use crate::sender::Sender;
 use crate::shared::Shared;
 use channel_calls::error::OpenError;
+use channel_calls::raised::Counters;
 use concurrent_queue::shared::queue::ConcurrentQueue;
 use event_listener::id::EventIds;
 use std::alloc::Global;
@@ -32,7 +33,8 @@ fn open<T: Drop, R: Wait + Copy>(
     ensures unchanged { OnErr result (ids.new ≡ ids.old) }
     ensures used_up { result ≡ Err OpenError.IdsUsedUp → 2 ^ 64 - 1 < ids.old + 4 }
 {
-    let Ok(shared) = Arc::new(alloc, Shared::new(alloc, queue, ids.given())) else {
+    let (counters, opening) = Counters::new();
+    let Ok(shared) = Arc::new(alloc, Shared::new(alloc, queue, counters, ids.given())) else {
         return Err(OpenError::NoMemory);
     };
     let Ok(other) = Arc::try_clone(&shared) else {
@@ -45,9 +47,10 @@ fn open<T: Drop, R: Wait + Copy>(
         return Err(OpenError::IdsUsedUp);
     };
     drop(four);
+    let (sender, receiver) = opening.handles();
     Ok((
-        Sender::new(rt, Counted::first(Link { shared })),
-        Receiver::new(rt, Counted::first(Link { shared: other })),
+        Sender::new(rt, Counted::first(Link { shared }, sender)),
+        Receiver::new(rt, Counted::first(Link { shared: other }, receiver)),
     ))
 }
 

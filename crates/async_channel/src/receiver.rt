@@ -4,8 +4,8 @@ use crate::counted::Counted;
 use crate::recv::Recv;
 use crate::waits::Waits;
 use crate::weak::WeakReceiver;
-use channel_calls::ask::ChannelAsk;
 use channel_calls::error::{HandleError, RecvError, Refused, TryRecvError};
+use channel_calls::kind::OfReceivers;
 use channel_calls::stage::Side;
 use std::fmt;
 use std::marker::Model;
@@ -18,7 +18,7 @@ use std::sync::Wait;
 /// it holds at most, its identity, and the memory that its handles share. As `async-channel` 2.5.0, but that it has the runtime
 /// with it.
 pub struct Receiver<T: Drop, R: Wait + Copy> {
-    pub(crate) counted: Counted<T>,
+    pub(crate) counted: Counted<T, OfReceivers>,
     pub(crate) rt: R,
     pub(crate) waits: Waits,
 }
@@ -35,7 +35,7 @@ impl<T: Drop, R: Wait + Copy> Receiver<T, R> {
     ghost use Rattle.std.specs.Prelude.{◌≡◌, ◌<◌, ◌≤◌, [], false, length, Err, IfOk, OnErr};
     ghost use Rattle.async_channel.specs.Handles.{handle_of};
 
-    pub(crate) fn new(rt: R, counted: Counted<T>) -> Receiver<T, R>
+    pub(crate) fn new(rt: R, counted: Counted<T, OfReceivers>) -> Receiver<T, R>
         ensures { result ≡ handle_of counted.link }
     {
         Receiver {
@@ -178,7 +178,7 @@ impl<T: Drop, R: Wait + Copy> Receiver<T, R> {
         let Some(link) = self.counted.link.try_clone() else {
             return Err(HandleError::NoMemory);
         };
-        match Counted::one_more(link, &self.rt, Side::Receivers) {
+        match Counted::one_more(link, &self.rt) {
             Ok(counted) => Ok(Receiver::new(self.rt, counted)),
             Err(error) => Err(error),
         }
@@ -206,6 +206,6 @@ impl<T: Drop, R: Wait + Copy> fmt::Debug for Receiver<T, R> {
 impl<T: Drop, R: Wait + Copy> Drop for Receiver<T, R> {
     fn drop(self) {
         let Self { counted, rt, waits } = self;
-        counted.lower(&rt, ChannelAsk::DropReceiver(waits.key));
+        counted.lower(&rt, waits.key);
     }
 }

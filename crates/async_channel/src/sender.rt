@@ -4,8 +4,8 @@ use crate::closed::Closed;
 use crate::counted::Counted;
 use crate::send::Send;
 use crate::weak::WeakSender;
-use channel_calls::ask::ChannelAsk;
 use channel_calls::error::{HandleError, Refused, SendError, TrySendError};
+use channel_calls::kind::OfSenders;
 use channel_calls::stage::Side;
 use std::fmt;
 use std::marker::Model;
@@ -17,7 +17,7 @@ use std::sync::Wait;
 /// sender as its channel: how many messages it holds at most, its identity, and the memory that its handles share. As
 /// `async-channel` 2.5.0, but that it has the runtime with it.
 pub struct Sender<T: Drop, R: Wait + Copy> {
-    pub(crate) counted: Counted<T>,
+    pub(crate) counted: Counted<T, OfSenders>,
     pub(crate) rt: R,
 }
 
@@ -36,7 +36,7 @@ impl<T: Drop, R: Wait + Copy> Sender<T, R> {
     ghost use Rattle.channel_calls.specs.Replies.{RefusesTrySend, RefusesForceSend};
     ghost use Rattle.async_channel.specs.Handles.{handle_of, new_sending, Unsent};
 
-    pub(crate) fn new(rt: R, counted: Counted<T>) -> Sender<T, R>
+    pub(crate) fn new(rt: R, counted: Counted<T, OfSenders>) -> Sender<T, R>
         ensures { result ≡ handle_of counted.link }
     {
         Sender { counted, rt }
@@ -168,7 +168,7 @@ impl<T: Drop, R: Wait + Copy> Sender<T, R> {
         let Some(link) = self.counted.link.try_clone() else {
             return Err(HandleError::NoMemory);
         };
-        match Counted::one_more(link, &self.rt, Side::Senders) {
+        match Counted::one_more(link, &self.rt) {
             Ok(counted) => Ok(Sender::new(self.rt, counted)),
             Err(error) => Err(error),
         }
@@ -196,6 +196,6 @@ impl<T: Drop, R: Wait + Copy> fmt::Debug for Sender<T, R> {
 impl<T: Drop, R: Wait + Copy> Drop for Sender<T, R> {
     fn drop(self) {
         let Self { counted, rt } = self;
-        counted.lower(&rt, ChannelAsk::DropSender);
+        counted.lower(&rt);
     }
 }

@@ -6,13 +6,10 @@ ghost use Rattle.async_channel.specs.Handles.{form_of};
 
 use crate::cells::{SharedCells, SharedWords};
 use crate::waiters::{Turn, Waiters};
-use channel_calls::ask::ChannelAsk;
 use channel_calls::questions;
+use channel_calls::raised::Counters;
 use channel_calls::stage::{Line, Side};
-use channel_calls::whole::make;
 use concurrent_queue::shared::queue::ConcurrentQueue;
-use crossbeam_utils::CachePadded;
-use event_listener::waking::{Task, WakeNow};
 use futures::task::Source;
 use std::alloc::Global;
 use std::sync::Wait;
@@ -32,13 +29,17 @@ pub(crate) struct Shared<T: Drop> {
     receives: Waiters,
     streams: Waiters,
     closings: Waiters,
-    senders: CachePadded<AtomicUsize>,
-    receivers: CachePadded<AtomicUsize>,
+    counters: Counters,
 }
 
 impl<T: Drop> Shared<T> {
-    /// A channel over this queue and of this identity, with one sender, one receiver and no listeners.
-    pub(crate) fn new(alloc: Global, queue: ConcurrentQueue<T>, id: u64) -> Shared<T>
+    /// A channel over this queue, with these counts, of this identity and without listeners.
+    pub(crate) fn new(
+        alloc: Global,
+        queue: ConcurrentQueue<T>,
+        counters: Counters,
+        id: u64,
+    ) -> Shared<T>
         ensures form { form_of result ≡ queue.form }
         ensures id { result.id ≡ id }
     {
@@ -51,8 +52,7 @@ impl<T: Drop> Shared<T> {
             receives: Waiters::new(alloc),
             streams: Waiters::new(alloc),
             closings: Waiters::new(alloc),
-            senders: CachePadded::new(AtomicUsize::new(1)),
-            receivers: CachePadded::new(AtomicUsize::new(1)),
+            counters,
         }
     }
 
@@ -69,10 +69,7 @@ impl<T: Drop> Shared<T> {
 
     /// The count of this kind of handles.
     pub(crate) fn counter(&self, side: Side) -> &AtomicUsize {
-        match side {
-            Side::Senders => &self.senders,
-            Side::Receivers => &self.receivers,
-        }
+        self.counters.of(side)
     }
 
     /// How many handles of this kind are counted.
@@ -90,11 +87,6 @@ impl<T: Drop> Shared<T> {
             rt,
             bed: (),
         }
-    }
-
-    /// Makes a call up to its answer, which nobody wants.
-    pub(crate) fn make<R: Wait>(&self, rt: &R, ask: ChannelAsk<T, Task>) {
-        drop(make(rt, ask, &mut self.cells(rt), &mut WakeNow { rt }));
     }
 }
 

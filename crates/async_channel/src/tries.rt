@@ -9,7 +9,9 @@ ghost use Rattle.async_channel.specs.Handles.{form_of};
 use crate::shared::Shared;
 use channel_calls::calls;
 use channel_calls::error::{HandleError, Refused, SendError, TryRecvError, TrySendError};
-use channel_calls::stage::Side;
+use channel_calls::kind::{Kind, OfReceivers, OfSenders};
+use channel_calls::raised::{self, Raised};
+use event_listener::key::Key;
 use event_listener::waking::WakeNow;
 use std::sync::Wait;
 
@@ -66,16 +68,40 @@ impl<T: Drop> Shared<T> {
     }
 
     /// Counts one more handle of this kind. Refused where more than half of `usize::MAX` live; nothing is changed then.
-    pub(crate) fn clone_handle<R: Wait>(&self, rt: &R, side: Side) -> Result<(), HandleError>
+    pub(crate) fn clone_handle<K: Kind, R: Wait>(&self, rt: &R) -> Result<Raised<K>, HandleError>
         ensures { IfErr result (λ e. e ≡ HandleError.TooMany) }
     {
-        calls::clone_handle(rt, side, &mut self.cells(rt), &mut WakeNow { rt })
+        raised::clone_handle(rt, &mut self.cells(rt), &mut WakeNow { rt })
     }
 
-    /// Counts one more handle of this kind, where the channel is open and one lives: whether it did. Refused as above.
-    pub(crate) fn upgrade<R: Wait>(&self, rt: &R, side: Side) -> Result<bool, HandleError>
+    /// Counts one more handle of this kind, where the channel is open and one lives. Refused as above.
+    pub(crate) fn upgrade<K: Kind, R: Wait>(
+        &self,
+        rt: &R,
+    ) -> Result<Option<Raised<K>>, HandleError>
         ensures { IfErr result (λ e. e ≡ HandleError.TooMany) }
     {
-        calls::upgrade(rt, side, &mut self.cells(rt), &mut WakeNow { rt })
+        raised::upgrade(rt, &mut self.cells(rt), &mut WakeNow { rt })
+    }
+
+    /// Lowers the count of senders; the last one closes.
+    pub(crate) fn drop_sender<R: Wait>(&self, rt: &R, raised: Raised<OfSenders>) {
+        raised::drop_sender(rt, raised, &mut self.cells(rt), &mut WakeNow { rt });
+    }
+
+    /// Lowers the count of receivers; the last one closes. A listener that it had as a stream leaves.
+    pub(crate) fn drop_receiver<R: Wait>(
+        &self,
+        rt: &R,
+        raised: Raised<OfReceivers>,
+        stream_key: Option<Key>,
+    ) {
+        raised::drop_receiver(
+            rt,
+            raised,
+            stream_key,
+            &mut self.cells(rt),
+            &mut WakeNow { rt },
+        );
     }
 }

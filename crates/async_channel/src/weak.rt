@@ -5,7 +5,6 @@ use crate::link::Link;
 use crate::receiver::Receiver;
 use crate::sender::Sender;
 use channel_calls::error::HandleError;
-use channel_calls::stage::Side;
 use std::fmt;
 use std::marker::Model;
 use std::sync::Wait;
@@ -46,7 +45,7 @@ impl<T: Drop, R: Wait + Copy> WeakSender<T, R> {
         let Some(link) = self.link.try_clone() else {
             return Err(HandleError::NoMemory);
         };
-        match Counted::upgraded(link, &self.rt, Side::Senders) {
+        match Counted::upgraded(link, &self.rt) {
             Ok(Some(counted)) => Ok(Some(Sender::new(self.rt, counted))),
             Ok(None) => Ok(None),
             Err(error) => Err(error),
@@ -107,7 +106,7 @@ impl<T: Drop, R: Wait + Copy> WeakReceiver<T, R> {
         let Some(link) = self.link.try_clone() else {
             return Err(HandleError::NoMemory);
         };
-        match Counted::upgraded(link, &self.rt, Side::Receivers) {
+        match Counted::upgraded(link, &self.rt) {
             Ok(Some(counted)) => Ok(Some(Receiver::new(self.rt, counted))),
             Ok(None) => Ok(None),
             Err(error) => Err(error),

@@ -1,5 +1,5 @@
 -- What calls that are made up to their answer say in their callers' types.
-use Rattle.std.specs.Prelude.{◌≡◌, Bool, true, false, Option, None, Some, Result, Ok, Err}
+use Rattle.std.specs.Prelude.{◌≡◌, Option, None, Some, Result, Ok, Err}
 use Rattle.event_listener.specs.declared.key.Key.{Key}
 use Rattle.futures.specs.declared.task.Poll.{Poll}
 use Rattle.futures.specs.declared.task.Poll.TheVariants.{Ready, Pending}
@@ -16,14 +16,14 @@ use Rattle.channel_calls.specs.declared.reply.Reply.{Reply}
 use Rattle.channel_calls.specs.declared.reply.Reply.TheVariants as reply
 
 module _ {T : Type 0} where
-  -- a clone, and an upgrade: whether a handle was made, and that too many live
+  -- a clone, and an upgrade: what is counted of the handle that was made, and that too many live
   abbrev pub made_answer : Reply T → Result Unit HandleError
   made_answer reply.Made = Ok tt
   made_answer _ = Err TooMany
 
-  abbrev pub upgraded_answer : Reply T → Result Bool HandleError
-  upgraded_answer reply.Made = Ok true
-  upgraded_answer reply.NotMade = Ok false
+  abbrev pub upgraded_answer : Reply T → Result (Option Unit) HandleError
+  upgraded_answer reply.Made = Ok (Some tt)
+  upgraded_answer reply.NotMade = Ok None
   upgraded_answer _ = Err TooMany
 
   -- a poll of a send, by the message that it has before and after; a finished one has none, and is pending unless the copy of

@@ -8,21 +8,18 @@ ghost use Rattle.std.specs.Prelude.{◌≡◌, None, Ok, Err, IfOk, IfErr, Match
 ghost use Rattle.concurrent_queue.specs.Replies.{is_bounded, room_of};
 ghost use Rattle.concurrent_queue.specs.declared.cells.QueueForm.{QueueForm};
 ghost use Rattle.channel_calls.specs.Asks.{first};
-ghost use Rattle.channel_calls.specs.Calls.{made_answer, upgraded_answer};
 ghost use Rattle.channel_calls.specs.Deeds.{Done};
 ghost use Rattle.channel_calls.specs.Replies.{GivesUpTo, MayGive, RefusesTrySend, RefusesForceSend};
 ghost use Rattle.channel_calls.specs.Walks.{WalkedTo};
 ghost use Rattle.channel_calls.specs.declared.ask.ChannelAsk.TheVariants as ask;
-ghost use Rattle.channel_calls.specs.declared.reply.Reply.{Reply as Answer};
 ghost use Rattle.channel_calls.specs.declared.reply.Reply.TheVariants as reply;
 
 use crate::ahead::{receive_ahead, send_ahead};
 use crate::ask::ChannelAsk;
 use crate::cells::ChannelCells;
-use crate::error::{HandleError, Refused, SendError, TryRecvError, TrySendError};
+use crate::error::{Refused, SendError, TryRecvError, TrySendError};
 use crate::reply::Reply;
 use crate::several::Limit;
-use crate::stage::Side;
 use crate::whole::{Given, complete, make};
 use event_listener::wakes::Wakes;
 use std::alloc::Global;
@@ -180,53 +177,4 @@ pub fn len<T: Drop, W: Drop, R: Wait, C: ChannelCells<T, W>, S: Wakes<W>>(
     };
     drop(given);
     count
-}
-
-/// What a clone answers.
-fn made_answer<T: Drop>(answer: Reply<T>) -> Result<(), HandleError>
-    ensures { result ≡ made_answer answer }
-{
-    match answer {
-        Reply::Made => Ok(()),
-        _ => Err(HandleError::TooMany),
-    }
-}
-
-/// What an upgrade answers.
-fn upgraded_answer<T: Drop>(answer: Reply<T>) -> Result<bool, HandleError>
-    ensures { result ≡ upgraded_answer answer }
-{
-    match answer {
-        Reply::Made => Ok(true),
-        Reply::NotMade => Ok(false),
-        _ => Err(HandleError::TooMany),
-    }
-}
-
-/// One more strong handle of this kind is counted, or more than half of `usize::MAX` live and nothing is changed.
-pub fn clone_handle<T: Drop, W: Drop, R: Wait, C: ChannelCells<T, W>, S: Wakes<W>>(
-    rt: &R,
-    side: Side,
-    cells: &mut C,
-    sink: &mut S,
-) -> Result<(), HandleError>
-    ensures deeds { (r : Answer T) × WalkedTo (Done C.did S.wakes) (first (ask.CloneHandle side)) (cells.old, sink.old) r (cells.new, sink.new) × (result ≡ made_answer r) }
-    ensures reason { IfErr result (λ e. e ≡ HandleError.TooMany) }
-{
-    let given = make(rt, ChannelAsk::CloneHandle(side), cells, sink);
-    made_answer(given.reply)
-}
-
-/// One more strong handle of this kind is counted, where the channel is open and one lives: whether it was. Refused as a clone is.
-pub fn upgrade<T: Drop, W: Drop, R: Wait, C: ChannelCells<T, W>, S: Wakes<W>>(
-    rt: &R,
-    side: Side,
-    cells: &mut C,
-    sink: &mut S,
-) -> Result<bool, HandleError>
-    ensures deeds { (r : Answer T) × WalkedTo (Done C.did S.wakes) (first (ask.Upgrade side)) (cells.old, sink.old) r (cells.new, sink.new) × (result ≡ upgraded_answer r) }
-    ensures reason { IfErr result (λ e. e ≡ HandleError.TooMany) }
-{
-    let given = make(rt, ChannelAsk::Upgrade(side), cells, sink);
-    upgraded_answer(given.reply)
 }

@@ -1,0 +1,171 @@
+//! What a channel counts of its strong handles, carried by a value from the step that raises a count to the one that lowers it. All of
+//! it is own to this project.
+//!
+//! A [`Raised`] can't be let go, copied or made anew: a clone and an upgrade give one where they counted, a drop takes it and lowers,
+//! and nothing else can take it apart. So a body that counts and then refuses, that hands out what it didn't count, or that never
+//! lowers what it counted is no program, whoever writes it. The two first of a channel come with new [`Counters`], and with nothing
+//! else. What a body could still do is open whole new counters for the sake of their two first values.
+
+ghost use Rattle.std.specs.Prelude.{◌≡◌, IfErr};
+ghost use Rattle.channel_calls.specs.Asks.{first};
+ghost use Rattle.channel_calls.specs.Calls.{made_answer, upgraded_answer};
+ghost use Rattle.channel_calls.specs.Deeds.{Done};
+ghost use Rattle.channel_calls.specs.Walks.{WalkedTo};
+ghost use Rattle.channel_calls.specs.declared.ask.ChannelAsk.TheVariants as ask;
+ghost use Rattle.channel_calls.specs.declared.reply.Reply.{Reply as Answer};
+
+use crate::ask::ChannelAsk;
+use crate::cells::ChannelCells;
+use crate::error::HandleError;
+use crate::kind::{Kind, OfReceivers, OfSenders};
+use crate::reply::Reply;
+use crate::stage::Side;
+use crate::whole::make;
+use crossbeam_utils::CachePadded;
+use event_listener::key::Key;
+use event_listener::wakes::Wakes;
+use std::marker::{Model, PhantomData};
+use std::sync::Wait;
+use std::sync::atomic::AtomicUsize;
+
+/// One strong handle of this kind that a channel counts. It has no bytes, and it has no drop: who has it gives it to a handle, or to
+/// [`drop_sender`] or [`drop_receiver`].
+pub struct Raised<K: Kind> {
+    one: (),
+    kind: PhantomData<K>,
+}
+
+impl<K: Kind> Model for Raised<K> {
+    ghost Value = { Unit {0} };
+
+    ghost view = { λ _. tt };
+}
+
+/// The two counts of a channel, which threads share. Each begins at one.
+#[derive(Drop)]
+pub struct Counters {
+    senders: CachePadded<AtomicUsize>,
+    receivers: CachePadded<AtomicUsize>,
+}
+
+/// The right to the two first handles of a channel, which its counters count from the start. It comes with new counters alone, can't
+/// be copied, and is let go where the opening is refused: nobody has a handle then.
+#[derive(Drop)]
+pub struct Opening {
+    first: (),
+}
+
+impl Counters {
+    /// New counts of one sender and of one receiver, and the right to these two.
+    pub fn new() -> (Counters, Opening) {
+        let counters = Counters {
+            senders: CachePadded::new(AtomicUsize::new(1)),
+            receivers: CachePadded::new(AtomicUsize::new(1)),
+        };
+        (counters, Opening { first: () })
+    }
+
+    /// The count of this kind of handles.
+    pub fn of(&self, side: Side) -> &AtomicUsize {
+        match side {
+            Side::Senders => &self.senders,
+            Side::Receivers => &self.receivers,
+        }
+    }
+}
+
+impl Opening {
+    /// The first sender and the first receiver, as they are counted.
+    pub fn handles(self) -> (Raised<OfSenders>, Raised<OfReceivers>) {
+        let Opening { first } = self;
+        let senders = Raised {
+            one: first,
+            kind: PhantomData,
+        };
+        let receivers = Raised {
+            one: first,
+            kind: PhantomData,
+        };
+        (senders, receivers)
+    }
+}
+
+/// What a clone answers.
+fn made_answer<K: Kind, T: Drop>(answer: Reply<T>) -> Result<Raised<K>, HandleError>
+    ensures { result ≡ made_answer answer }
+{
+    match answer {
+        Reply::Made => Ok(Raised {
+            one: (),
+            kind: PhantomData,
+        }),
+        _ => Err(HandleError::TooMany),
+    }
+}
+
+/// What an upgrade answers.
+fn upgraded_answer<K: Kind, T: Drop>(answer: Reply<T>) -> Result<Option<Raised<K>>, HandleError>
+    ensures { result ≡ upgraded_answer answer }
+{
+    match answer {
+        Reply::Made => Ok(Some(Raised {
+            one: (),
+            kind: PhantomData,
+        })),
+        Reply::NotMade => Ok(None),
+        _ => Err(HandleError::TooMany),
+    }
+}
+
+/// One more strong handle of this kind is counted, or more than half of `usize::MAX` live and nothing is changed.
+pub fn clone_handle<K: Kind, T: Drop, W: Drop, R: Wait, C: ChannelCells<T, W>, S: Wakes<W>>(
+    rt: &R,
+    cells: &mut C,
+    sink: &mut S,
+) -> Result<Raised<K>, HandleError>
+    ensures deeds { (r : Answer T) × WalkedTo (Done C.did S.wakes) (first (ask.CloneHandle K.side)) (cells.old, sink.old) r (cells.new, sink.new) × (result ≡ made_answer r) }
+    ensures reason { IfErr result (λ e. e ≡ HandleError.TooMany) }
+{
+    let given = make(rt, ChannelAsk::CloneHandle(K::side()), cells, sink);
+    made_answer(given.reply)
+}
+
+/// One more strong handle of this kind is counted, where the channel is open and one lives; `None` elsewhere. Refused as a clone is.
+pub fn upgrade<K: Kind, T: Drop, W: Drop, R: Wait, C: ChannelCells<T, W>, S: Wakes<W>>(
+    rt: &R,
+    cells: &mut C,
+    sink: &mut S,
+) -> Result<Option<Raised<K>>, HandleError>
+    ensures deeds { (r : Answer T) × WalkedTo (Done C.did S.wakes) (first (ask.Upgrade K.side)) (cells.old, sink.old) r (cells.new, sink.new) × (result ≡ upgraded_answer r) }
+    ensures reason { IfErr result (λ e. e ≡ HandleError.TooMany) }
+{
+    let given = make(rt, ChannelAsk::Upgrade(K::side()), cells, sink);
+    upgraded_answer(given.reply)
+}
+
+/// A sender is dropped: its count is lowered, and the last one closes.
+pub fn drop_sender<T: Drop, W: Drop, R: Wait, C: ChannelCells<T, W>, S: Wakes<W>>(
+    rt: &R,
+    raised: Raised<OfSenders>,
+    cells: &mut C,
+    sink: &mut S,
+)
+    ensures deeds { (r : Answer T) × WalkedTo (Done C.did S.wakes) (first ask.DropSender) (cells.old, sink.old) r (cells.new, sink.new) }
+{
+    let Raised { one: _, kind: _ } = raised;
+    drop(make(rt, ChannelAsk::DropSender, cells, sink));
+}
+
+/// A receiver is dropped, which may have a listener as a stream: its count is lowered, and the last one closes.
+pub fn drop_receiver<T: Drop, W: Drop, R: Wait, C: ChannelCells<T, W>, S: Wakes<W>>(
+    rt: &R,
+    raised: Raised<OfReceivers>,
+    stream_key: Option<Key>,
+    cells: &mut C,
+    sink: &mut S,
+)
+    ensures deeds { (r : Answer T) × WalkedTo (Done C.did S.wakes) (first (ask.DropReceiver stream_key)) (cells.old, sink.old) r (cells.new, sink.new) }
+{
+    let Raised { one: _, kind: _ } = raised;
+    drop(make(rt, ChannelAsk::DropReceiver(stream_key), cells, sink));
+}
