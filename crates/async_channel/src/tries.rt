@@ -75,10 +75,7 @@ impl<T: Drop> Shared<T> {
     }
 
     /// Counts one more handle of this kind, where the channel is open and one lives. Refused as above.
-    pub(crate) fn upgrade<K: Kind, R: Wait>(
-        &self,
-        rt: &R,
-    ) -> Result<Option<Raised<K>>, HandleError>
+    pub(crate) fn upgrade<K: Kind, R: Wait>(&self, rt: &R) -> Result<Option<Raised<K>>, HandleError>
         ensures { IfErr result (λ e. e ≡ HandleError.TooMany) }
     {
         raised::upgrade(rt, &mut self.cells(rt), &mut WakeNow { rt })
