@@ -65,6 +65,19 @@ impl<T: Drop, R: Wait + Copy> Sender<T, R> {
     }
 
     /// A send of this message that waits for a place: nothing is done until it is polled. As `async-channel` 2.5.0.
+    ///
+    /// A send that is polled by value is gone once `block_on` has refused it, and its message with it. Lent to it, it keeps its
+    /// message where memory or a serial was refused, to it or to `block_on` itself, and gives it back:
+    ///
+    /// ```text
+    /// let mut send = sender.send(message);
+    /// if !matches!(block_on(&rt, &mut send), Ok(Ok(()))) {
+    ///     let unsent = send.give_up();
+    /// }
+    /// ```
+    ///
+    /// A closed channel hands the message back in its error, which has it then, and not the send:
+    /// [`into_message`](Refused::into_message).
     pub fn send(&self, message: T) -> Send<'_, T, R>
         ensures { result ≡ new_sending message }
     {

@@ -28,6 +28,12 @@ module _ {T : Type 0} where
   handed_back (refused.NoMemory m) = m
   handed_back (refused.SerialsUsedUp m) = m
 
+  -- the message of a polled send that a closed channel refused; where memory or serials were wanting the send has it still
+  abbrev pub given_back : Refused (SendError T) Unit → Option T
+  given_back (refused.Plain e) = Some (unsent e)
+  given_back (refused.NoMemory u) = None
+  given_back (refused.SerialsUsedUp u) = None
+
   -- that of a send that doesn't wait
   abbrev pub try_handed_back : Refused (TrySendError T) T → T
   try_handed_back (refused.Plain e) = try_unsent e
@@ -52,7 +58,31 @@ own_refusal (refused.Plain e) = Some e
 own_refusal (refused.NoMemory k) = None
 own_refusal (refused.SerialsUsedUp k) = None
 
+module _ {E K : Type 0} where
+  -- whether the channel itself refused it, or it was refused for want of memory
+  abbrev pub was_own : Refused E K → Bool
+  was_own (refused.Plain e) = true
+  was_own (refused.NoMemory k) = false
+  was_own (refused.SerialsUsedUp k) = false
+
+  abbrev pub wanted_memory : Refused E K → Bool
+  wanted_memory (refused.Plain e) = false
+  wanted_memory (refused.NoMemory k) = true
+  wanted_memory (refused.SerialsUsedUp k) = false
+
 -- whether it was refused by an open and empty channel, and not by a closed one
 abbrev pub found_empty : TryRecvError → Bool
 found_empty try_recv.Empty = true
 found_empty try_recv.Closed = false
+
+module _ {K : Type 0} where
+  -- whether an open and empty channel refused it, or one that was closed and empty
+  abbrev pub was_empty : Refused TryRecvError K → Bool
+  was_empty (refused.Plain e) = found_empty e
+  was_empty (refused.NoMemory k) = false
+  was_empty (refused.SerialsUsedUp k) = false
+
+  abbrev pub was_over : Refused TryRecvError K → Bool
+  was_over (refused.Plain e) = not (found_empty e)
+  was_over (refused.NoMemory k) = false
+  was_over (refused.SerialsUsedUp k) = false

@@ -104,7 +104,7 @@ impl<T> TrySendError<T> {
 
 impl<E, K> Refused<E, K> {
     ghost use Rattle.std.specs.Prelude.{◌≡◌};
-    ghost use Rattle.channel_calls.specs.Errors.{own_refusal};
+    ghost use Rattle.channel_calls.specs.Errors.{own_refusal, wanted_memory};
 
     /// The channel's own refusal. `None` where memory or serials were wanting: what they hand back is dropped then.
     pub fn into_plain(self) -> Option<E>
@@ -116,6 +116,47 @@ impl<E, K> Refused<E, K> {
         match self {
             Refused::Plain(error) => Some(error),
             Refused::NoMemory(_) | Refused::SerialsUsedUp(_) => None,
+        }
+    }
+
+    /// Whether memory was refused.
+    pub fn is_no_memory(&self) -> bool
+        ensures { result ≡ wanted_memory self.now }
+    {
+        match self {
+            Refused::NoMemory(_) => true,
+            Refused::Plain(_) | Refused::SerialsUsedUp(_) => false,
+        }
+    }
+}
+
+impl<T, K> Refused<SendError<T>, K> {
+    ghost use Rattle.std.specs.Prelude.{◌≡◌};
+    ghost use Rattle.channel_calls.specs.Errors.{was_own};
+
+    /// Whether a closed channel refused the message.
+    pub fn is_closed(&self) -> bool
+        ensures { result ≡ was_own self.now }
+    {
+        match self {
+            Refused::Plain(_) => true,
+            Refused::NoMemory(_) | Refused::SerialsUsedUp(_) => false,
+        }
+    }
+}
+
+impl<T> Refused<SendError<T>> {
+    ghost use Rattle.std.specs.Prelude.{◌≡◌};
+    ghost use Rattle.channel_calls.specs.Errors.{given_back};
+
+    /// The message that a closed channel refused. `None` where memory or serials were wanting: the send keeps its message then.
+    /// It has a name of its own, since at messages of type `()` both kinds of refused sends are of one type.
+    pub fn into_message(self) -> Option<T>
+        ensures { result ≡ given_back self }
+    {
+        match self {
+            Refused::Plain(error) => Some(error.into_inner()),
+            Refused::NoMemory(()) | Refused::SerialsUsedUp(()) => None,
         }
     }
 }
@@ -168,6 +209,46 @@ impl<T> Refused<TrySendError<T>, T> {
         match self {
             Refused::Plain(error) => error.is_closed(),
             _ => false,
+        }
+    }
+}
+
+impl<K> Refused<RecvError, K> {
+    ghost use Rattle.std.specs.Prelude.{◌≡◌};
+    ghost use Rattle.channel_calls.specs.Errors.{was_own};
+
+    /// Whether the channel was closed and empty.
+    pub fn is_closed(&self) -> bool
+        ensures { result ≡ was_own self.now }
+    {
+        match self {
+            Refused::Plain(_) => true,
+            Refused::NoMemory(_) | Refused::SerialsUsedUp(_) => false,
+        }
+    }
+}
+
+impl<K> Refused<TryRecvError, K> {
+    ghost use Rattle.std.specs.Prelude.{◌≡◌};
+    ghost use Rattle.channel_calls.specs.Errors.{was_empty, was_over};
+
+    /// Whether the channel was open and empty.
+    pub fn is_empty(&self) -> bool
+        ensures { result ≡ was_empty self.now }
+    {
+        match self {
+            Refused::Plain(error) => error.is_empty(),
+            Refused::NoMemory(_) | Refused::SerialsUsedUp(_) => false,
+        }
+    }
+
+    /// Whether the channel was closed and empty.
+    pub fn is_closed(&self) -> bool
+        ensures { result ≡ was_over self.now }
+    {
+        match self {
+            Refused::Plain(error) => error.is_closed(),
+            Refused::NoMemory(_) | Refused::SerialsUsedUp(_) => false,
         }
     }
 }
