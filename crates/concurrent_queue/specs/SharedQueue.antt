@@ -33,6 +33,10 @@ module _ {T : Type 0} where
   abbrev pub IsSharedStep : ConcurrentQueue T → QueueCall T → QueueCall T → Option (QueueReply T) → Type 0
   IsSharedStep q call call' answer = Follows (form_in q) call call' answer
 
+  -- a call made up to its answer on this queue's cells: this answer might have been given to it
+  abbrev pub IsSharedCall : ConcurrentQueue T → QueueCall T → QueueReply T → Type 0
+  IsSharedCall q call answer = MayCall (form_in q) call.state answer
+
   -- the call is close or a question but for the length
   abbrev pub IsWordsAlone : QueueCall T → Type 0
   IsWordsAlone call = IsSoon call.state ⊎ IsLast call.state

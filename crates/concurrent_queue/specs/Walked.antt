@@ -36,6 +36,10 @@ module _ {T : Type 0} where
   standing form (Asked a) = first_of form a
   standing form at = at
 
+  -- the call has answered, and makes no step more
+  abbrev pub HasEnded : QueueCall T → Type 0
+  HasEnded call = call.state ≡ Finished
+
 module _ {T S : Type 0} (did : Deed T → S → S → Type 0) where
   -- one operation, as the machine of one slot, of a ring of so many or of blocks makes it, in the words of all calls
   abbrev pub MakesSingle : S → SingleAction T → S → Stepped (CallState T) T → Type 0

@@ -4,6 +4,7 @@
 ghost use Rattle.std.specs.Prelude.{◌≡◌};
 ghost use Rattle.concurrent_queue.specs.Errors.{push_message, says_full, says_closed, force_message, says_empty, says_shut};
 
+use std::alloc::AllocError;
 use std::error::Error;
 use std::fmt::{Debug, Display, Formatter, Result, Write};
 
@@ -106,6 +107,13 @@ impl<T: Drop> Error for ForcePushError<T> {}
 impl Error for PopError {}
 
 impl Error for NoMemory {}
+
+/// For who asks for memory of other kinds too and answers `AllocError`: one `?` serves both. Own to this project.
+impl From<NoMemory> for AllocError {
+    fn from(_refusal: NoMemory) -> AllocError {
+        AllocError
+    }
+}
 
 impl<T> Display for PushError<T> {
     fn fmt<W: Write>(&self, f: &mut Formatter<W>) -> Result {

@@ -111,7 +111,7 @@ impl<T: Drop> QueueCall<T> {
     ghost use Rattle.std.specs.Prelude.{◌≡◌};
     ghost use Rattle.concurrent_queue.specs.Step.{Starts, IsQueueStep, mark_of};
     ghost use Rattle.concurrent_queue.specs.Replies.{Follows, IsAsking};
-    ghost use Rattle.concurrent_queue.specs.Walked.{CallMakes};
+    ghost use Rattle.concurrent_queue.specs.Walked.{CallMakes, HasEnded};
 
     /// The call that asks this. It has made no step.
     pub fn new(ask: QueueAsk<T>) -> QueueCall<T>
@@ -125,12 +125,33 @@ impl<T: Drop> QueueCall<T> {
         }
     }
 
-    /// What the last step did that `step` made; `Nothing` before the first one. A call that `complete` made on end keeps the mark
-    /// that it had: what such a call did is said by its answer alone.
+    /// A call that has answered: what stands where a call stood that was given away, to be made to its end. Its steps do nothing
+    /// and answer nothing. Own to this project.
+    pub fn ended() -> QueueCall<T>
+        ensures ended { HasEnded result }
+        ensures unmarked { mark_of result ≡ QueueMark.Nothing }
+    {
+        QueueCall {
+            state: CallState::Finished,
+            mark: QueueMark::Nothing,
+        }
+    }
+
+    /// What the last step did; `Nothing` before the first one. A call that `complete` makes on end is used up, so that what it
+    /// did is said by its answer alone.
     pub fn last_mark(&self) -> QueueMark
         ensures { result ≡ mark_of self.now }
     {
         self.mark
+    }
+
+    /// How far the call has come, of a call that is given away.
+    #[inline(always)]
+    fn into_state(self) -> CallState<T>
+        ensures { result ≡ self.state }
+    {
+        let QueueCall { state, mark: _ } = self;
+        state
     }
 
     /// One step: one operation on the cells, as the machine of their form makes it, and what follows its answer.

@@ -2,6 +2,7 @@
 
 use std::fmt::Debug;
 use std::process::Abort;
+use worked_rows::Played;
 
 /// Ends the test where these differ, and shows both.
 pub fn expect_equal<A: Abort, T: PartialEq + Debug>(rt: &A, found: &T, wanted: &T) {
@@ -16,4 +17,10 @@ pub fn expect_true<A: Abort>(rt: &A, it: bool) {
 /// Ends the test where something is found, and shows where and what.
 pub fn expect_none<A: Abort, S: Debug, T: Debug>(rt: &A, place: &S, found: &Option<T>) {
     assert!(rt; found.is_none(), "{place:?}: {found:?}");
+}
+
+/// Ends the test at the first call that answered another thing than its row says, and where there are not so many rows.
+pub fn expect_rows<A: Abort>(rt: &A, played: &Played<'_>, rows: u64) {
+    assert!(rt; played.differs.is_none(), "{:?}", played.differs);
+    assert_eq!(rt; played.rows, rows);
 }

@@ -3,8 +3,8 @@
 use crate::checks::{expect_equal, expect_true};
 use concurrent_queue::error::{ForcePushError, NoMemory, PopError, PushError};
 use concurrent_queue::{
-    QueueAsk, QueueEntry, QueueForm, QueueMark, QueueRefusal, QueueReply, QueueRun, QueueStep,
-    Stopped, run_queue_steps,
+    ConcurrentQueue, QueueAsk, QueueEntry, QueueForm, QueueMark, QueueRefusal, QueueReply,
+    QueueRun, QueueStep, Stopped, run_queue_steps,
 };
 use std::alloc::{AllocError, Global};
 use std::collections::VecDeque;
@@ -41,6 +41,20 @@ fn refusals_say_why(rt: HostRuntime) -> std::result::Result<(), Fail> {
     expect_equal(&rt, &why(PushError::NoMemory(1)), &[false, false]);
     expect_equal(&rt, &why_none(PopError::Empty), &[true, false]);
     expect_equal(&rt, &why_none(PopError::Closed), &[false, true]);
+    Ok(())
+}
+
+/// A queue without a bound and a list with room for one, where one `?` serves both refusals.
+fn queue_beside_list(alloc: Global) -> Result<(ConcurrentQueue<u64>, Vec<u64>), AllocError> {
+    let queue = ConcurrentQueue::unbounded(alloc)?;
+    let list = Vec::with_capacity(alloc, 1)?;
+    Ok((queue, list))
+}
+
+#[test]
+fn a_refused_queue_is_a_refused_allocation(rt: HostRuntime) -> std::result::Result<(), Fail> {
+    let (queue, list) = queue_beside_list(rt.alloc())?;
+    expect_equal(&rt, &(queue.capacity(), list.len()), &(None, 0));
     Ok(())
 }
 

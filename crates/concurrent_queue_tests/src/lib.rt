@@ -4,8 +4,6 @@
 
 #[cfg(test)]
 mod beside;
-#[cfg(test)]
-mod blocks;
 pub mod by_steps;
 #[cfg(test)]
 mod checks;
@@ -16,17 +14,19 @@ mod exclusive;
 #[cfg(test)]
 mod log;
 #[cfg(test)]
-mod no_memory;
+mod queue_rows;
 #[cfg(test)]
-mod one_slot;
+mod queues;
 #[cfg(test)]
-mod ring;
+mod rows;
 #[cfg(test)]
 mod said;
 #[cfg(test)]
 mod scarce;
 #[cfg(test)]
 mod shared;
+#[cfg(test)]
+mod turn_rows;
 #[cfg(test)]
 mod turns;
 pub mod walks;

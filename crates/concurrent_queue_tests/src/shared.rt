@@ -12,7 +12,6 @@ use std::thread::Threads;
 mod closing;
 mod examples;
 mod logged;
-mod memory;
 mod standing;
 
 /// How many messages each of two threads pushes.

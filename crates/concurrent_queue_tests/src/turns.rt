@@ -1,30 +1,33 @@
-//! Steps of a run, and what it makes of them.
+//! Runs of steps of parties on a queue, as rows call them.
+//!
+//! | Line | What it does |
+//! |---|---|
+//! | `begin P N CALL` | adds party P's begin of a call, and N steps of it, to the list to come: `push M`, `force M`, `pop`, `close`, `is_closed`, `is_empty` |
+//! | `go P N` | adds N more steps of party P |
+//! | `run FORM FROM` | makes the list over a new queue, of this capacity, 0 for one without a bound |
+//!
+//! A run answers, for each entry from this place on that has a mark or a reply, its place and these; then `entries` and how many entries and
+//! how many replies there are; and where it stops, `stopped`, the reason, the place, and how many steps stay in the list.
 
-use crate::checks::expect_equal;
-use crate::said::{Said, replied};
+ghost use Rattle.concurrent_queue.specs.Made.{CanBeMade};
+
+use crate::queues::in_words;
+use crate::said::replied;
 use concurrent_queue::call::{QueueAsk, QueueEntry, QueueMark};
-use concurrent_queue::run::{QueueRun, QueueStep};
+use concurrent_queue::cells::QueueForm;
+use concurrent_queue::run::{QueueRefusal, QueueRun, QueueStep, Stopped, run_queue_steps};
+use std::alloc::{AllocError, Global};
 use std::collections::VecDeque;
-use std::process::Abort;
-use std::test::Fail;
+use worked_rows::{Player, Said, Words};
 
-/// One call's Begin and some steps of it. What memory refuses is missing then, as the number of entries tells.
-pub(crate) fn begin(
-    steps: &mut VecDeque<QueueStep<u64>>,
-    party: u32,
-    call: QueueAsk<u64>,
-    count: u32,
-) {
-    let _ = steps.push_back(QueueStep::Begin { party, call });
-    more(steps, party, count);
+/// The steps of a list to come.
+#[derive(Drop)]
+pub(crate) struct Turns {
+    alloc: Global,
+    steps: VecDeque<QueueStep<u64>>,
 }
 
-/// Some steps of the call that this party has under way.
-pub(crate) fn more(steps: &mut VecDeque<QueueStep<u64>>, party: u32, count: u32) {
-    for _ in 0..count {
-        let _ = steps.push_back(QueueStep::Step { party });
-    }
-}
+const MEMORY: Said = Said::Word("memory");
 
 fn mark_of(entry: &QueueEntry<u64>) -> &'static str {
     match entry.mark {
@@ -37,49 +40,140 @@ fn mark_of(entry: &QueueEntry<u64>) -> &'static str {
     }
 }
 
-/// Whether these are the marks of a run, each with its place.
-fn has_marks(run: &QueueRun<u64>, marks: &[(usize, &'static str)]) -> bool {
-    let mut found = 0usize;
-    let mut right = true;
-    for (place, entry) in run.trace.iter().enumerate() {
-        let mark = mark_of(entry);
-        if mark != "" {
-            right = right && marks.get(found) == Some(&(place, mark));
-            found = found.wrapping_add(1);
-        }
+/// Writes the place of an entry that has a mark or a reply, and these.
+fn write_entry(
+    place: usize,
+    entry: &QueueEntry<u64>,
+    answer: &mut String,
+) -> Result<(), AllocError> {
+    let mark = mark_of(entry);
+    if mark == "" && entry.reply.is_none() {
+        return Ok(());
     }
-    right && found == marks.len()
+    Said::count(place).write(answer)?;
+    if mark != "" {
+        Said::Word(mark).write(answer)?;
+    }
+    match &entry.reply {
+        Some(reply) => in_words(replied(reply)).write(answer),
+        None => Ok(()),
+    }
 }
 
-/// Whether these are its replies, each with its place.
-fn has_replies(run: &QueueRun<u64>, replies: &[(usize, Said)]) -> bool {
-    let mut found = 0usize;
-    let mut right = true;
+/// Writes the entries of a run from this place on.
+fn write_entries(run: &QueueRun<u64>, from: usize, answer: &mut String) -> Result<(), AllocError> {
+    let mut replies = 0u64;
     for (place, entry) in run.trace.iter().enumerate() {
-        if let Some(reply) = &entry.reply {
-            right = right && replies.get(found) == Some(&(place, replied(reply)));
-            found = found.wrapping_add(1);
+        if entry.reply.is_some() {
+            replies = replies.wrapping_add(1);
+        }
+        if place >= from {
+            write_entry(place, entry, answer)?;
         }
     }
-    right && found == replies.len()
+    Said::Both("entries", run.trace.len() as u64).write(answer)?;
+    Said::Number(replies).write(answer)
 }
 
-/// Whether a run made all its steps, so many, with these marks and replies, each with its place.
-pub(crate) fn check(
-    rt: &impl Abort,
-    run: QueueRun<u64>,
-    entries: usize,
-    marks: &[(usize, &'static str)],
-    replies: &[(usize, Said)],
-) -> Result<(), Fail> {
-    let length = run.trace.len();
-    let right = [
-        run.stopped.is_none(),
-        has_marks(&run, marks),
-        has_replies(&run, replies),
-    ];
-    drop(run);
-    expect_equal(&rt, &length, &entries);
-    expect_equal(&rt, &right, &[true, true, true]);
+/// Writes how a run stopped, if it did, and how many steps it left.
+fn write_stop(
+    stopped: Option<Stopped>,
+    left: usize,
+    answer: &mut String,
+) -> Result<(), AllocError> {
+    if let Some(Stopped { place, why }) = stopped {
+        let why = match why {
+            QueueRefusal::Busy => "busy",
+            QueueRefusal::Idle => "idle",
+            QueueRefusal::NoMemory => "memory",
+        };
+        Said::Word("stopped").write(answer)?;
+        Said::Both(why, place as u64).write(answer)?;
+    }
+    if stopped.is_some() || left != 0 {
+        Said::Both("left", left as u64).write(answer)?;
+    }
     Ok(())
+}
+
+/// The call that these words name.
+fn ask_of(words: &mut Words<'_>) -> Option<QueueAsk<u64>> {
+    Some(match words.word() {
+        "push" => QueueAsk::Push(words.number()),
+        "force" => QueueAsk::ForcePush(words.number()),
+        "pop" => QueueAsk::Pop,
+        "close" => QueueAsk::Close,
+        "is_closed" => QueueAsk::IsClosed,
+        "is_empty" => QueueAsk::IsEmpty,
+        _ => return None,
+    })
+}
+
+/// The form of this capacity, 0 for one without a bound.
+fn form_of(capacity: usize) -> QueueForm
+    ensures { CanBeMade result }
+{
+    if capacity == 0 {
+        QueueForm::Unbounded
+    } else {
+        QueueForm::Bounded(capacity)
+    }
+}
+
+impl Turns {
+    /// A player of rows.
+    pub(crate) fn new(alloc: Global) -> Turns {
+        Turns {
+            alloc,
+            steps: VecDeque::new(alloc),
+        }
+    }
+
+    /// Adds so many steps of a party.
+    fn go(&mut self, party: u32, count: usize) -> Said {
+        for _ in 0..count {
+            if self.steps.push_back(QueueStep::Step { party }).is_err() {
+                return MEMORY;
+            }
+        }
+        Said::Ok
+    }
+
+    /// Adds the begin of a call, and so many steps of it.
+    fn begin_call(&mut self, words: &mut Words<'_>) -> Said {
+        let (party, count) = (words.small(), words.size());
+        let Some(call) = ask_of(words) else {
+            return Said::NoSuchCall;
+        };
+        match self.steps.push_back(QueueStep::Begin { party, call }) {
+            Ok(()) => self.go(party, count),
+            Err(_) => MEMORY,
+        }
+    }
+
+    /// Makes the list over a new queue.
+    fn run(&mut self, words: &mut Words<'_>, answer: &mut String) -> Result<(), AllocError> {
+        let form = form_of(words.size());
+        let from = words.size();
+        let run = run_queue_steps(self.alloc, form, &mut self.steps);
+        let left = self.steps.len();
+        self.steps.clear();
+        write_entries(&run, from, answer)?;
+        write_stop(run.stopped, left, answer)
+    }
+}
+
+impl Player for Turns {
+    fn begin(&mut self) {
+        self.steps.clear();
+    }
+
+    fn play(&mut self, words: &mut Words<'_>, answer: &mut String) -> Result<(), AllocError> {
+        match words.word() {
+            "begin" => self.begin_call(words).write(answer),
+            "go" => self.go(words.small(), words.size()).write(answer),
+            "run" => self.run(words, answer),
+            _ => Said::NoSuchCall.write(answer),
+        }
+    }
 }

@@ -16,7 +16,6 @@ use crate::error::{PopError, PushError};
 use crate::queue_call::{CallState, QueueCall};
 use crate::unbounded::action::UnboundedCall;
 use crate::{bounded, single, unbounded};
-use std::mem;
 
 fn going_on<T: Drop>(state: CallState<T>) -> QueueCall<T>
     ensures { result.state ≡ state }
@@ -94,15 +93,14 @@ pub(crate) fn pop_ahead<T: Drop, C: Cells<T>>(
 /// Makes a push or a pop that has made no step; or answers the call that has to be stepped on.
 #[inline(always)]
 pub(crate) fn call_ahead<T: Drop, C: Cells<T>>(
-    call: &mut QueueCall<T>,
+    call: QueueCall<T>,
     cells: &mut C,
 ) -> Result<QueueReply<T>, QueueCall<T>>
-    ensures deeds { WalkedAhead C.did (λ r. r) (C.form_of cells.old) (standing (C.form_of cells.old) call.old.state) cells.old result cells.new }
-    ensures answers { MatchResult result (λ r. MayCall (C.form_of cells.old) call.old.state r)
-        (λ rest. (r : QueueReply T) → MayCall (C.form_of cells.old) rest.state r → MayCall (C.form_of cells.old) call.old.state r) }
+    ensures deeds { WalkedAhead C.did (λ r. r) (C.form_of cells.old) (standing (C.form_of cells.old) call.state) cells.old result cells.new }
+    ensures answers { MatchResult result (λ r. MayCall (C.form_of cells.old) call.state r)
+        (λ rest. (r : QueueReply T) → MayCall (C.form_of cells.old) rest.state r → MayCall (C.form_of cells.old) call.state r) }
 {
-    let state = mem::replace(&mut call.state, CallState::Finished);
-    match state {
+    match call.into_state() {
         CallState::Asked(QueueAsk::Push(value)) => match push_ahead(value, cells) {
             Ok(answer) => Ok(QueueReply::Push(answer)),
             Err(rest) => Err(rest),

@@ -15,16 +15,16 @@ use std::sync::Wait;
 use std::thread;
 
 /// Makes the steps of a call up to its answer, and nothing else. A push or a pop that has made no step is made at once where
-/// nothing stands against it. It yields where the call has to make an action again. With a call that has answered before it
-/// never returns. Own to this project.
+/// nothing stands against it. It yields where the call has to make an action again. The call is used up: nothing can be asked of
+/// it afterwards. With a call that has answered before it never returns. Own to this project.
 #[inline(always)]
 pub fn complete<T: Drop, R: Wait, C: Cells<T>>(
     rt: &R,
-    call: &mut QueueCall<T>,
+    call: QueueCall<T>,
     cells: &mut C,
 ) -> QueueReply<T>
-    ensures walked { Walked C.did (C.form_of cells.old) call.old cells.old result cells.new }
-    ensures answers { MayCall (C.form_of cells.old) call.old.state result }
+    ensures walked { Walked C.did (C.form_of cells.old) call cells.old result cells.new }
+    ensures answers { MayCall (C.form_of cells.old) call.state result }
 {
     match call_ahead(call, cells) {
         Ok(reply) => reply,

@@ -54,8 +54,7 @@ impl<T> Trace<T> for NoTrace {
 }
 
 impl<T: Drop> ConcurrentQueue<T> {
-    ghost use Rattle.std.specs.Prelude.{Some};
-    ghost use Rattle.concurrent_queue.specs.SharedQueue.{IsSharedStep, IsWordsAlone};
+    ghost use Rattle.concurrent_queue.specs.SharedQueue.{IsSharedStep, IsSharedCall, IsWordsAlone};
 
     /// One step of a call. It yields where the call has to make its action again, and may wait for the lock of the spare
     /// list. What it answers is what this queue may answer: a capacity is this queue's own. Own to this project.
@@ -67,11 +66,11 @@ impl<T: Drop> ConcurrentQueue<T> {
 
     /// Makes the steps of a call up to its answer. A push or a pop that has made no step is made at once where nothing stands
     /// against it. It yields where the call has to make an action again, and may wait for the lock of the spare list. What it
-    /// answers is what this queue may answer to this call. With a call that has answered before it never returns. Own to this
-    /// project.
+    /// answers is what this queue may answer to this call. The call is used up: nothing can be asked of it afterwards. With a
+    /// call that has answered before it never returns. Own to this project.
     #[inline(always)]
-    pub fn complete<R: Wait>(&self, rt: &R, call: &mut QueueCall<T>) -> QueueReply<T>
-        ensures { IsSharedStep self.now call.old call.new (Some result) }
+    pub fn complete<R: Wait>(&self, rt: &R, call: QueueCall<T>) -> QueueReply<T>
+        ensures { IsSharedCall self.now call result }
     {
         self.complete_seen(rt, call, NoTrace).0
     }

@@ -137,7 +137,7 @@ impl<T: Drop> ConcurrentQueue<T> {
 // cells than by the trace that it was given; `calls` makes the same with a trace of no size.
 impl<T: Drop> ConcurrentQueue<T> {
     ghost use Rattle.std.specs.Prelude.{◌≡◌, Some};
-    ghost use Rattle.concurrent_queue.specs.SharedQueue.{form_in, IsSharedStep, IsWordsAlone};
+    ghost use Rattle.concurrent_queue.specs.SharedQueue.{form_in, IsSharedStep, IsSharedCall, IsWordsAlone};
     ghost use Rattle.concurrent_queue.specs.Walked.{Walked, WalkedAsking, CallMakes};
     ghost use Rattle.concurrent_queue.specs.declared.call.QueueAsk.TheVariants as ask;
     ghost use Rattle.concurrent_queue.specs.declared.call.QueueReply.TheVariants as reply;
@@ -162,16 +162,16 @@ impl<T: Drop> ConcurrentQueue<T> {
     }
 
     /// The steps of a call up to its answer, as `complete`: the trace sees each operation, with the answers by which this one
-    /// came out, and nothing else. Own to this project.
+    /// came out, and nothing else. The call is used up. Own to this project.
     #[inline(always)]
     pub fn complete_seen<R: Wait, S: Trace<T>>(
         &self,
         rt: &R,
-        call: &mut QueueCall<T>,
+        call: QueueCall<T>,
         trace: S,
     ) -> (QueueReply<T>, S)
-        ensures walked { Walked S.did (form_in self.now) call.old trace (result.0) (result.1) }
-        ensures answers { IsSharedStep self.now call.old call.new (Some (result.0)) }
+        ensures walked { Walked S.did (form_in self.now) call trace (result.0) (result.1) }
+        ensures answers { IsSharedCall self.now call (result.0) }
     {
         let mut seen = self.cells(rt, trace);
         let reply = whole::complete(rt, call, &mut seen);

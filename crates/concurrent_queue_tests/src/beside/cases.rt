@@ -122,9 +122,8 @@ fn make<R: Wait>(rt: &R, start: Start, cells: PlainCells<u64>, case: Case) -> Ou
         events: Events::new(),
         came_whole: false,
     };
-    let mut call = QueueCall::new(case.kind.ask(7));
-    let said = replied(&whole::complete(rt, &mut call, &mut beside));
-    drop(call);
+    let call = QueueCall::new(case.kind.ask(7));
+    let said = replied(&whole::complete(rt, call, &mut beside));
     beside.let_on(ALL, ALL);
     beside.let_on(ALL, ALL);
     let closed = alone(&mut beside.cells, Kind::Close, 0) == ("was closed", 0);

@@ -1,10 +1,10 @@
-//! Worked examples on one thread.
+//! Worked examples on one thread that are no rows: walks that are copied, types that count or keep a fact, calls by steps.
 
 ghost use Rattle.std.specs.Prelude.{◌≡◌, ◌%◌, ◌≤◌, IfOk, true};
 
 use crate::by_steps::capacity_by_steps;
-use crate::checks::{expect_equal, expect_true};
-use crate::said::{Said, forced, popped, pushed, replied};
+use crate::checks::expect_equal;
+use crate::said::{Said, replied};
 use concurrent_queue::call::QueueReply;
 use concurrent_queue::error::PopError;
 use concurrent_queue::queue_call::QueueCall;
@@ -12,92 +12,6 @@ use concurrent_queue::shared::queue::ConcurrentQueue;
 use std::alloc::AllocError;
 use std::sync::{Arc, Wait};
 use std::test::Fail;
-
-/// Whether pushes and pops of so many messages answer as a list would, again and again.
-fn goes_round<R: Wait>(rt: &R, queue: &ConcurrentQueue<u64>, messages: u64) -> bool {
-    let mut right = true;
-    for _ in 0..10 {
-        for message in 0..messages {
-            right = right && pushed(&queue.push(rt, message)) == ("pushed", 0);
-        }
-        for message in 0..messages {
-            right = right && popped(&queue.pop(rt)) == ("popped", message);
-        }
-    }
-    right && popped(&queue.pop(rt)) == ("empty", 0) && queue.is_empty()
-}
-
-#[test]
-fn messages_come_in_order(rt: HostRuntime) -> Result<(), Fail> {
-    let mut right = true;
-    for capacity in 1..6 {
-        let queue = ConcurrentQueue::bounded(rt.alloc(), capacity)?;
-        right = right && goes_round(&rt, &queue, capacity as u64);
-    }
-    right = right && goes_round(&rt, &ConcurrentQueue::unbounded(rt.alloc())?, 100);
-    expect_true(&rt, right);
-    Ok(())
-}
-
-/// Closes a queue, and says what the closing, a question, a second closing and two pushes answer then.
-fn closed_answers<R: Wait>(rt: &R, queue: &ConcurrentQueue<u64>) -> ([bool; 3], [Said; 2]) {
-    let closing = [queue.close(), queue.close(), queue.is_closed()];
-    let refused = [pushed(&queue.push(rt, 9)), forced(&queue.force_push(rt, 9))];
-    (closing, refused)
-}
-
-/// What they answer.
-const CLOSED: ([bool; 3], [Said; 2]) = ([true, false, true], [("closed", 9), ("closed", 9)]);
-
-/// Fills a queue of so many places by displacing pushes, and pushes once more by each kind: whether all answered as a list would.
-fn is_full_then<R: Wait>(rt: &R, queue: &ConcurrentQueue<u64>, places: usize) -> bool {
-    let mut right = true;
-    for message in 0..places as u64 {
-        right = right && forced(&queue.force_push(rt, message)) == ("forced", 0);
-    }
-    right = right && queue.is_full() && queue.len(rt) == places;
-    right = right && pushed(&queue.push(rt, 7)) == ("full", 7);
-    right && forced(&queue.force_push(rt, 8)) == ("displaced", 0)
-}
-
-#[test]
-fn a_full_queue_refuses_or_displaces(rt: HostRuntime) -> Result<(), Fail> {
-    let mut right = true;
-    for places in 1..4usize {
-        let queue = ConcurrentQueue::bounded(rt.alloc(), places)?;
-        right = right && is_full_then(&rt, &queue, places) && closed_answers(&rt, &queue) == CLOSED;
-        right = right && queue.len(&rt) == places && queue.capacity() == Some(places);
-    }
-    expect_true(&rt, right);
-    Ok(())
-}
-
-#[test]
-fn an_unbounded_queue_is_never_full(rt: HostRuntime) -> Result<(), Fail> {
-    let queue = ConcurrentQueue::unbounded(rt.alloc())?;
-    let mut right = true;
-    for message in 0..100u64 {
-        right = right && forced(&queue.force_push(&rt, message)) == ("forced", 0);
-        right = right && !queue.is_full();
-    }
-    right = right && queue.len(&rt) == 100 && queue.capacity().is_none();
-    let closed = closed_answers(&rt, &queue);
-    let left = popped(&queue.pop(&rt));
-    drop(queue);
-    expect_true(&rt, right && closed == CLOSED);
-    expect_equal(&rt, &left, &("popped", 0));
-    Ok(())
-}
-
-#[test]
-fn capacities_too_great_are_refused(rt: HostRuntime) -> Result<(), Fail> {
-    let refused: Result<ConcurrentQueue<u64>, _> = ConcurrentQueue::bounded(
-        rt.alloc(),
-        288_230_376_151_711_745,
-    );
-    expect_true(&rt, refused.is_err());
-    Ok(())
-}
 
 /// What a walk and a copy of it give of a queue into which messages come between.
 fn walked_by_turns<R: Wait>(

@@ -26,9 +26,8 @@ fn logs_are<R: Wait>(
 ) -> bool {
     let (pushed_it, push) = queue.push_seen(rt, 5, Log::new(alloc));
     let (popped_it, pop) = queue.pop_seen(rt, Log::new(alloc));
-    let mut call = QueueCall::new(QueueAsk::Pop);
-    let (reply, empty) = queue.complete_seen(rt, &mut call, Log::new(alloc));
-    drop(call);
+    let call = QueueCall::new(QueueAsk::Pop);
+    let (reply, empty) = queue.complete_seen(rt, call, Log::new(alloc));
     let said = [pushed(&pushed_it), popped(&popped_it), replied(&reply)];
     let right = has_lines(&push, wanted[0])
         && has_lines(&pop, wanted[1])

@@ -6,5 +6,5 @@ use Rattle.concurrent_queue.proofs.queue_call.ahead.call_ahead.Goals as goal
 pub returns-in_default-clause-deeds : goal.returns-in_default-clause-deeds
 returns-in_default-clause-deeds g c =
     let form = g.C.Cells.form_of c.args.cells.now in
-    let kept : c.going_on.result.state ≡ c.args.call.now.state = search rules in
+    let kept : c.going_on.result.state ≡ c.args.call.state = search rules in
     (0, (refl, ap (λ (at : CallState g.row.T.Denot). standing form at) kept))

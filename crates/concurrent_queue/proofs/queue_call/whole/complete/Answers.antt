@@ -7,7 +7,7 @@ use Rattle.concurrent_queue.proofs.queue_call.whole.complete.Goals as goal
 
 pub returns-in-Ok-clause-walked : goal.returns-in-Ok-clause-walked
 returns-in-Ok-clause-walked g c =
-    walked_standing g.C.Cells.did (g.C.Cells.form_of c.args.cells.now) c.args.cells.now c.args.call.now.state c.call_ahead.new.cells c.in-Ok.reply c.in-Ok.ensures.deeds
+    walked_standing g.C.Cells.did (g.C.Cells.form_of c.args.cells.now) c.args.cells.now c.args.call.state c.call_ahead.new.cells c.in-Ok.reply c.in-Ok.ensures.deeds
 
 pub returns-in-Err-clause-walked : goal.returns-in-Err-clause-walked
 returns-in-Err-clause-walked g c =
@@ -16,10 +16,10 @@ returns-in-Err-clause-walked g c =
     let s = c.args.cells.now in
     let x = c.call_ahead.new.cells in
     let form = form_of s in
-    let from = standing form c.args.call.now.state in
+    let from = standing form c.args.call.state in
     let went = c.in-Err.ensures.deeds in
     let same = leads_keep did form_of g.met.C.Cells.keeps_form form (went.0) s from x (standing form c.in-Err.rest.state) (went.1) in
-    walked_standing did form s c.args.call.now.state c.finish.new.cells c.finish.result
+    walked_standing did form s c.args.call.state c.finish.new.cells c.finish.result
     (walked_on did form (form_of x) (went.0) s from x c.in-Err.rest.state c.finish.new.cells c.finish.result same (went.1) c.finish.ensures.walked)
 
 pub returns-in-Err-clause-answers : goal.returns-in-Err-clause-answers
@@ -27,7 +27,7 @@ returns-in-Err-clause-answers g c =
     let form_of = g.C.Cells.form_of in
     let s = c.args.cells.now in
     let x = c.call_ahead.new.cells in
-    let from = standing (form_of s) c.args.call.now.state in
+    let from = standing (form_of s) c.args.call.state in
     let went = c.in-Err.ensures.deeds in
     let same = leads_keep g.C.Cells.did form_of g.met.C.Cells.keeps_form (form_of s) (went.0) s from x (standing (form_of s) c.in-Err.rest.state) (went.1) in
     c.in-Err.ensures.answers c.finish.result (subst (λ (f : QueueForm). MayCall f c.in-Err.rest.state c.finish.result) same c.finish.ensures.answers)

@@ -5,5 +5,5 @@ use Rattle.concurrent_queue.proofs.shared.queue.ConcurrentQueue.complete_seen.Go
 
 pub returns-clause-walked : goal.returns-clause-walked
 returns-clause-walked g c =
-    traced (λ (x : SharedCells g.row.T.Denot g.row.R.Denot). x.words.form) g.S.Trace.did (form_in c.args.self.now) c.cells-seen.result.cells.words.form c.args.call.now.state c.cells-seen.result c.complete-reply.new.cells c.complete-reply.result
+    traced (λ (x : SharedCells g.row.T.Denot g.row.R.Denot). x.words.form) g.S.Trace.did (form_in c.args.self.now) c.cells-seen.result.cells.words.form c.args.call.state c.cells-seen.result c.complete-reply.new.cells c.complete-reply.result
     c.args.trace c.into_trace.result c.cells-seen.ensures.form c.cells-seen.ensures.trace c.into_trace.ensures c.complete-reply.ensures.walked

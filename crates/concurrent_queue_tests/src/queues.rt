@@ -1,0 +1,225 @@
+//! Queues on one thread, as rows call them.
+//!
+//! | Line | What it does | What it answers |
+//! |---|---|---|
+//! | `alone N`, `shared N` | opens a queue of one owner, or a shared one, of this capacity, 0 for one without a bound | `ok`, `memory` |
+//! | `push M`, `force M`, `pop` | one call | `pushed`, `forced`, `displaced M`, `full M`, `closed M`, `popped M`, `empty`, `shut` |
+//! | `pushes M N`, `forces M N`, `pops M N` | one for each message from M on and before N | how many were accepted, how many came in this order |
+//! | `rounds K N` | K times N pushes and as many pops | how many pops gave what was pushed, in order |
+//! | `close`, `is_closed`, `is_empty`, `is_full`, `len`, `capacity` | | |
+//! | `walk M` | a walk to its end | how many messages it gave, if those are M and so on |
+//! | `walk_unread` | a walk that is let go at once, of a queue of one owner | `ok` |
+
+use crate::said::{Said as Answer, forced, popped, pushed};
+use crate::walks::{walk_to_the_end, walk_unread};
+use concurrent_queue::exclusive::Exclusive;
+use concurrent_queue::shared::queue::ConcurrentQueue;
+use std::alloc::{AllocError, Global};
+use std::sync::Wait;
+use worked_rows::{Player, Said, Words};
+
+/// A queue of a row.
+#[derive(Drop)]
+enum Queue {
+    None,
+    Alone(Exclusive<u64>),
+    Shared(ConcurrentQueue<u64>),
+}
+
+/// A row's queue.
+#[derive(Drop)]
+pub(crate) struct Queues<R: Wait + Copy> {
+    rt: R,
+    alloc: Global,
+    queue: Queue,
+}
+
+const NO_QUEUE: Said = Said::Word("no queue");
+
+/// An answer as a line has it: its word, and its number where one belongs to it.
+pub(crate) fn in_words((word, number): Answer) -> Said {
+    match word {
+        "full" | "closed" | "no memory" | "displaced" | "popped" | "holds" | "room" => {
+            Said::Both(word, number)
+        }
+        _ => Said::Word(word),
+    }
+}
+
+fn capacity(capacity: Option<usize>) -> Said {
+    match capacity {
+        Some(capacity) => Said::count(capacity),
+        None => Said::Word("none"),
+    }
+}
+
+/// A queue of one owner.
+fn opened_alone(alloc: Global, capacity: usize) -> Option<Queue> {
+    if capacity == 0 {
+        return Some(Queue::Alone(Exclusive::unbounded(alloc)));
+    }
+    Some(Queue::Alone(Exclusive::bounded(alloc, capacity).ok()?))
+}
+
+/// A shared one.
+fn opened_shared(alloc: Global, capacity: usize) -> Option<Queue> {
+    if capacity == 0 {
+        return Some(Queue::Shared(ConcurrentQueue::unbounded(alloc).ok()?));
+    }
+    Some(Queue::Shared(ConcurrentQueue::bounded(alloc, capacity).ok()?))
+}
+
+/// How many messages these are, if they are this one and so on.
+fn in_order(given: &[u64], first: u64) -> Said {
+    let mut next = first;
+    for message in given {
+        if *message != next {
+            return Said::Both("not in order after", next.wrapping_sub(first));
+        }
+        next = next.wrapping_add(1);
+    }
+    Said::count(given.len())
+}
+
+/// What a question says.
+fn alone_answers(
+    alloc: Global,
+    queue: &mut Exclusive<u64>,
+    verb: &str,
+    words: &mut Words<'_>,
+) -> Said {
+    match verb {
+        "close" => Said::flag(queue.close()),
+        "is_closed" => Said::flag(queue.is_closed()),
+        "is_empty" => Said::flag(queue.is_empty()),
+        "is_full" => Said::flag(queue.is_full()),
+        "len" => Said::count(queue.len()),
+        "capacity" => capacity(queue.capacity()),
+        "walk_unread" => {
+            walk_unread(queue);
+            Said::Ok
+        }
+        "walk" => match walk_to_the_end(alloc, queue) {
+            Ok(given) => in_order(given.as_slice(), words.number()),
+            Err(AllocError) => Said::Word("memory"),
+        },
+        _ => Said::NoSuchCall,
+    }
+}
+
+fn shared_answers<R: Wait>(rt: &R, queue: &ConcurrentQueue<u64>, verb: &str) -> Said {
+    match verb {
+        "close" => Said::flag(queue.close()),
+        "is_closed" => Said::flag(queue.is_closed()),
+        "is_empty" => Said::flag(queue.is_empty()),
+        "is_full" => Said::flag(queue.is_full()),
+        "len" => Said::count(queue.len(rt)),
+        "capacity" => capacity(queue.capacity()),
+        _ => Said::NoSuchCall,
+    }
+}
+
+impl<R: Wait + Copy> Queues<R> {
+    /// A player of rows.
+    pub(crate) fn new(rt: R, alloc: Global) -> Queues<R> {
+        Queues {
+            rt,
+            alloc,
+            queue: Queue::None,
+        }
+    }
+
+    /// Puts a queue in the place of the one before, if it could be opened.
+    fn put(&mut self, opened: Option<Queue>) -> Said {
+        match opened {
+            Some(queue) => {
+                drop(std::mem::replace(&mut self.queue, queue));
+                Said::Ok
+            }
+            None => Said::Word("memory"),
+        }
+    }
+
+    fn push(&mut self, message: u64) -> Answer {
+        match &mut self.queue {
+            Queue::Alone(queue) => pushed(&queue.push(message)),
+            Queue::Shared(queue) => pushed(&queue.push(&self.rt, message)),
+            Queue::None => ("no queue", 0),
+        }
+    }
+
+    fn force(&mut self, message: u64) -> Answer {
+        match &mut self.queue {
+            Queue::Alone(queue) => forced(&queue.force_push(message)),
+            Queue::Shared(queue) => forced(&queue.force_push(&self.rt, message)),
+            Queue::None => ("no queue", 0),
+        }
+    }
+
+    fn pop(&mut self) -> Answer {
+        match &mut self.queue {
+            Queue::Alone(queue) => popped(&queue.pop()),
+            Queue::Shared(queue) => popped(&queue.pop(&self.rt)),
+            Queue::None => ("no queue", 0),
+        }
+    }
+
+    /// Makes this call with each of these messages, a pop for it: how many of them answered as a list would that has room.
+    fn many(&mut self, verb: &str, first: u64, end: u64) -> u64 {
+        let mut right = 0u64;
+        for message in first..end {
+            let is_right = match verb {
+                "pushes" => self.push(message) == ("pushed", 0),
+                "forces" => self.force(message) == ("forced", 0),
+                _ => self.pop() == ("popped", message),
+            };
+            if is_right {
+                right = right.wrapping_add(1);
+            }
+        }
+        right
+    }
+
+    /// So many rounds, each of so many pushes and as many pops: how many pops gave what was pushed.
+    fn rounds(&mut self, rounds: u64, messages: u64) -> Said {
+        let mut right = 0u64;
+        for _ in 0..rounds {
+            self.many("pushes", 0, messages);
+            right = right.wrapping_add(self.many("pops", 0, messages));
+        }
+        Said::Number(right)
+    }
+
+    fn ask(&mut self, verb: &str, words: &mut Words<'_>) -> Said {
+        match &mut self.queue {
+            Queue::Alone(queue) => alone_answers(self.alloc, queue, verb, words),
+            Queue::Shared(queue) => shared_answers(&self.rt, queue, verb),
+            Queue::None => NO_QUEUE,
+        }
+    }
+
+    fn call(&mut self, words: &mut Words<'_>) -> Said {
+        match words.word() {
+            "alone" => self.put(opened_alone(self.alloc, words.size())),
+            "shared" => self.put(opened_shared(self.alloc, words.size())),
+            "push" => in_words(self.push(words.number())),
+            "force" => in_words(self.force(words.number())),
+            "pop" => in_words(self.pop()),
+            verb @ ("pushes" | "forces" | "pops") => {
+                Said::Number(self.many(verb, words.number(), words.number()))
+            }
+            "rounds" => self.rounds(words.number(), words.number()),
+            verb => self.ask(verb, words),
+        }
+    }
+}
+
+impl<R: Wait + Copy> Player for Queues<R> {
+    fn begin(&mut self) {
+        drop(std::mem::replace(&mut self.queue, Queue::None));
+    }
+
+    fn play(&mut self, words: &mut Words<'_>, answer: &mut String) -> Result<(), AllocError> {
+        self.call(words).write(answer)
+    }
+}
