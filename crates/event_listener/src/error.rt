@@ -1,5 +1,6 @@
 //! What a list refuses, and why.
 
+use std::alloc::AllocError;
 use std::error::Error;
 use std::fmt;
 
@@ -14,6 +15,13 @@ impl fmt::Display for NoMemory {
 }
 
 impl Error for NoMemory {}
+
+/// So that `?` serves in a function that fails by memory alone, whichever crate was refused. Own to this project.
+impl From<NoMemory> for AllocError {
+    fn from(_: NoMemory) -> AllocError {
+        AllocError
+    }
+}
 
 /// The key names no listener of the list: it never did, or that listener has left. Nothing was changed.
 #[derive(Clone, Copy, PartialEq, Eq, Debug)]

@@ -173,14 +173,15 @@ fn in_slot<'ev, T: Drop, R: Wait + Copy>(
     }
 }
 
-/// A listener of the event under the name: `listener!(rt, alloc, event => name)`.
+/// A listener of the event under the name: `listener!(rt, alloc, event => name)`, where `event` is the event itself and not a
+/// reference to it. The name is bound `mut`, so that it can be polled and let go by name.
 ///
 /// It writes `let` statements that end in `?`, so it stands in a function whose error is made of [`NoMemory`] and of
 /// [`ListenError`]. As `event-listener` 5.4.2, but for the runtime and the refusals.
 #[macro_export]
 macro_rules! listener {
     ($rt:expr, $alloc:expr, $event:expr => $name:ident) => {
-        let mut slot = $crate::stack::StackSlot::new($rt, $alloc, $event)?;
-        let $name = slot.listen()?;
+        let mut slot = $crate::stack::StackSlot::new($rt, $alloc, &$event)?;
+        let mut $name = slot.listen()?;
     };
 }

@@ -23,13 +23,9 @@ mod listening;
 #[cfg(test)]
 mod lists;
 #[cfg(test)]
-mod no_memory;
-#[cfg(test)]
 mod recorded;
 #[cfg(test)]
 mod records;
-#[cfg(test)]
-mod refusals;
 #[cfg(test)]
 mod stack;
 #[cfg(test)]

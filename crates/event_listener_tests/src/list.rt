@@ -159,27 +159,3 @@ fn no_call_visits_more_than_five_others_where_half_are_told(rt: HostRuntime) -> 
     visits_few_of_told_ones(&rt, &mut list, &mut sink, &mut keys)?;
     Ok(())
 }
-
-/// With `rt try --test --fail-alloc N` each growth is refused in turn; the list is then as it was before the call.
-#[test]
-fn a_refused_growth_leaves_the_list_as_it_was(rt: HostRuntime) -> Result<(), Fail> {
-    let mut list: List<u32, u32> = List::new(rt.alloc());
-    let mut sink = Names {
-        woken: Vec::new(rt.alloc()),
-    };
-    let mut inserted = 0usize;
-    let mut refused = 0usize;
-    for _ in 0..100 {
-        match list.insert() {
-            Ok(_) => inserted = inserted.wrapping_add(1),
-            Err(_) => refused = refused.wrapping_add(1),
-        }
-        expect_equal(&rt, &list.total(), &inserted);
-    }
-    expect_equal(&rt, &inserted.wrapping_add(refused), &100);
-    expect_true(&rt, refused <= 1);
-    let answer = list.notify(more(1_000, 0), &mut sink);
-    expect_equal(&rt, &answer, &Ok(inserted));
-    expect_equal(&rt, &list.told(), &inserted);
-    Ok(())
-}

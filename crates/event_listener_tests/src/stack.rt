@@ -16,10 +16,9 @@ fn in_slots<R: Wait + Copy>(
     task: &MockTask,
 ) -> Result<([usize; 3], [Polled<()>; 3]), Stuck> {
     let event: Event<()> = event(alloc)?;
-    event_listener::listener!(rt, alloc, &event => l1);
-    event_listener::listener!(rt, alloc, &event => l2);
-    event_listener::listener!(rt, alloc, &event => l3);
-    let (mut l1, mut l2, mut l3) = (l1, l2, l3);
+    event_listener::listener!(rt, alloc, event => l1);
+    event_listener::listener!(rt, alloc, event => l2);
+    event_listener::listener!(rt, alloc, event => l3);
     let told = [
         event.notify_additional(&rt, 1),
         event.notify(&rt, 1u8).unwrap_or(9),
@@ -73,6 +72,27 @@ fn a_slot_listens_again(rt: HostRuntime) -> Result<(), Fail> {
     let (tag, ended, seen, left) = one_slot(&rt, rt.alloc(), &task).expect(&rt, "memory");
     expect_equal(&rt, &(tag, ended, left), &(Some(4), true, 0));
     expect_equal(&rt, &seen, &[true; 3]);
+    Ok(())
+}
+
+/// As a user writes it: whether the listener under the name is pending once polled, and what its wait gives after a notice.
+fn waits_by_name<R: Wait + Copy>(
+    rt: R,
+    alloc: Global,
+    task: &MockTask,
+) -> Result<(bool, Option<u32>), Stuck> {
+    let event: Event<u32> = event(alloc)?;
+    event_listener::listener!(rt, alloc, event => listener);
+    let pending = task.poll(&mut listener).is_pending();
+    let _ = event.notify(&rt, 1u8.tag(7u32));
+    Ok((pending, listener.wait().ok()))
+}
+
+#[test]
+fn a_listener_by_name(rt: HostRuntime) -> Result<(), Fail> {
+    let task = MockTask::new(&rt)?;
+    let seen = waits_by_name(&rt, rt.alloc(), &task).expect(&rt, "memory");
+    expect_equal(&rt, &seen, &(true, Some(7)));
     Ok(())
 }
 
