@@ -7,6 +7,7 @@ use Rattle.concurrent_queue.specs.declared.call.QueueReply.TheVariants.{Push, Fo
 use Rattle.concurrent_queue.specs.declared.error.PushError.TheVariants as push_error
 use Rattle.concurrent_queue.specs.declared.error.PopError.TheVariants as pop_error
 use Rattle.concurrent_queue.specs.declared.queue_call.QueueCall.{QueueCall}
+use Rattle.concurrent_queue.specs.declared.cells.QueueForm.{QueueForm}
 use Rattle.event_listener.specs.declared.error.ListenError.{ListenError}
 use Rattle.event_listener.specs.declared.error.ListenError.TheVariants as listen_error
 use Rattle.event_listener.specs.declared.key.Key.{Key}
@@ -14,11 +15,11 @@ use Rattle.futures.specs.declared.task.Poll.{Poll}
 use Rattle.futures.specs.declared.task.Poll.TheVariants.{Ready}
 use Rattle.channel_calls.specs.Answered.{sent_next, received_next, polled_next, over}
 use Rattle.channel_calls.specs.Asks.{first}
-use Rattle.channel_calls.specs.Blocks.{waiting_of, at_once, not_yet, still_waits, Begins, Listens}
+use Rattle.channel_calls.specs.Blocks.{waiting_of, at_once, not_yet, poll_woken, still_waits, Begins, Listens}
 use Rattle.channel_calls.specs.Deeds.{Deed, stepped, inserted, taken_off, one_told, all_told}
 use Rattle.channel_calls.specs.Listed.{pends}
 use Rattle.channel_calls.specs.Marks.{mark_of_queue}
-use Rattle.channel_calls.specs.Replies.{RefusesTrySend, MayPoll}
+use Rattle.channel_calls.specs.Replies.{RefusesTrySend, MayGive, MayPoll}
 use Rattle.channel_calls.specs.Tried.{polled, IsOver, sent_by, received_by, tried_turn, Comes}
 use Rattle.channel_calls.specs.Turns.{line_of, message_of, leaving, nothing_kept, says, again, unlistened, refused_reply}
 use Rattle.channel_calls.specs.Walks.{Takes, Heard, ChannelMakes, Leads, WalkedFrom, WalkedTo}
@@ -397,8 +398,16 @@ module _ {T W X : Type 0} (did : Deed T W → X → X → Type 0) (b : Blocked T
   still_walked turn s given t (Ok over) (same, is) walk = subst (λ (z : Given T). WalkedFrom did turn s z.reply z.kept t) (sym same) walk
   still_walked turn s given t (Err left) (same, is) walk = subst (λ (z : Given T). WalkedFrom did turn s z.reply z.kept t) is walk
 
--- ---- a poll that is refused its task
+-- ---- a poll that asks its listener first, and one that is refused its task
 module _ {T : Type 0} (W : Type 0) where
+  pub woken_fair : (b : Blocked T) (key : Key) (task : W) → TurnFair (first (poll_woken b key task))
+  woken_fair (Send v) key task = tt
+  woken_fair Receive key task = tt
+
+  pub woken_may : (f : QueueForm) (b : Blocked T) (key : Key) (task : W) (r : Reply T) (m : Option T) → MayGive f (poll_woken b key task) r m → MayPoll (waiting_of b) r m
+  woken_may f (Send v) key task r m may = may
+  woken_may f Receive key task r m may = may
+
   pub leaves_fair : (b : Blocked T) (key : Key) → TurnFair {W = W} (first (ask.RefusePoll (line_of (waiting_of b)) (message_of (waiting_of b)) (Some key)))
   leaves_fair (Send v) key = refl
   leaves_fair Receive key = refl

@@ -37,7 +37,7 @@ use Rattle.channel_calls.specs.declared.reply.Reply.TheVariants as reply
 use Rattle.channel_calls.specs.declared.stage.Work.TheVariants as work
 use Rattle.channel_calls.specs.declared.ask.ChannelAsk.{ChannelAsk}
 use Rattle.channel_calls.specs.declared.ask.ChannelAsk.TheVariants as call
-use Rattle.channel_calls.specs.Asks.{first, kept_by}
+use Rattle.channel_calls.specs.Asks.{asks_listener, first, kept_by}
 use Rattle.channel_calls.specs.Moves.{IsTaken}
 use Rattle.event_listener.specs.declared.error.ListenError.{ListenError}
 use Rattle.event_listener.specs.declared.error.ListenError.TheVariants as listen_error
@@ -389,15 +389,27 @@ module _ {T : Type 0} (W : Type 0) (b : QueueForm) where
   raised side k true r m t = at_end (Upgraded b) _ _ (tt, refl) r m t
   raised side k false r m t = t
 
+  sent_by : (v : T) (first_of : Bool) (key : Option Key) (task : W) (r : Reply T) (m : Option T)
+      → MayTurn b (if first_of then asks_listener (waiting.Send v) key task else again (waiting.Send v) key task) r m → MayPoll (waiting.Send v) r m
+  sent_by v false key task r m t = t v refl
+  sent_by v true None task r m t = t v refl
+  sent_by v true (Some key) task r m t = t
+
+  received_by : (first_of : Bool) (key : Option Key) (task : W) (r : Reply T) (m : Option T)
+      → MayTurn b (if first_of then asks_listener waiting.Receive key task else again waiting.Receive key task) r m → MayPoll waiting.Receive r m
+  received_by false key task r m t = t refl
+  received_by true None task r m t = t refl
+  received_by true (Some key) task r m t = t
+
   pub given : (a : ChannelAsk T W) (r : Reply T) (m : Option T) → MayTurn b (first a) r m → MayGive b a r m
   given (call.TrySend v) r m t = t v refl
   given (call.ForceSend v) r m t = t v refl
   given call.TryRecv r m t = t refl
   given (call.RecvMany n) r m t = t
   given call.Close r m t = t refl
-  given (call.PollSend v key task) r m t = t v refl
+  given (call.PollSend v l task) r m t = sent_by v l.asks_first l.key task r m t
   given call.PollFinishedSend r m t = t
-  given (call.PollRecv key task) r m t = t refl
+  given (call.PollRecv l task) r m t = received_by l.asks_first l.key task r m t
   given (call.PollClosed key task) r m t = t refl
   given (call.PollNext None task) r m t = t refl
   given (call.PollNext (Some key) task) r m t = t

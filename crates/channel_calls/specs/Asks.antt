@@ -1,11 +1,12 @@
 -- What a call of a channel is asked for, and how it begins.
-use Rattle.std.specs.Prelude.{Option, None, Some}
+use Rattle.std.specs.Prelude.{Option, None, Some, true, false, if◌then◌else◌}
 use Rattle.concurrent_queue.specs.declared.call.QueueAsk.TheVariants as ask
 use Rattle.event_listener.specs.declared.key.Key.{Key}
 use Rattle.event_listener.specs.declared.error.ListenError.TheVariants as listen_error
 use Rattle.futures.specs.declared.task.Poll.TheVariants as poll
 use Rattle.channel_calls.specs.declared.ask.ChannelAsk.{ChannelAsk}
 use Rattle.channel_calls.specs.declared.ask.ChannelAsk.TheVariants.{TrySend, ForceSend, TryRecv, RecvMany, Close, PollSend, PollFinishedSend, PollRecv, PollClosed, PollNext, RefusePoll, GiveUp, DropSender, DropReceiver, CloneHandle, Upgrade, HandleCount, IsClosed, IsEmpty, IsFull, Len, Capacity, IsTerminated, SendIsTerminated, SameChannel, Make, DropWeak}
+use Rattle.channel_calls.specs.declared.ask.Loan.{Loan}
 use Rattle.channel_calls.specs.declared.reply.Reply.TheVariants as reply
 use Rattle.channel_calls.specs.declared.stage.Aim.TheVariants as aim
 use Rattle.channel_calls.specs.declared.stage.Closer.TheVariants as closer
@@ -18,9 +19,17 @@ use Rattle.channel_calls.specs.declared.stage.Stage.{Stage}
 use Rattle.channel_calls.specs.declared.stage.Stage.TheVariants as stage
 use Rattle.channel_calls.specs.declared.stage.Turn.{Turn}
 use Rattle.channel_calls.specs.declared.stage.Turn.TheVariants.{Tries, Works}
+use Rattle.channel_calls.specs.declared.stage.Waiting.{Waiting}
 use Rattle.channel_calls.specs.declared.stage.Waiting.TheVariants as waiting
 use Rattle.channel_calls.specs.declared.stage.Work.TheVariants as work
 use Rattle.channel_calls.specs.Turns.{says, held_on, refused_reply, again, nothing_kept}
+
+-- what is lent to a poll that tries first, and to one that asks its listener first
+abbrev pub lent : Option Key → Loan
+lent key = record { key = key; asks_first = false }
+
+abbrev pub woken : Key → Loan
+woken key = record { key = Some key; asks_first = true }
 
 module _ {T : Type 0} where
   -- a poll for which there was no copy of the waker, and the giving up of an operation
@@ -37,6 +46,14 @@ module _ {T : Type 0} where
   kept_by (stage.Working w) = nothing_kept
 
 module _ {T W : Type 0} where
+  -- a poll that asks its listener before it tries; without one it tries
+  abbrev pub asks_listener : Waiting T → Option Key → W → Turn T W
+  asks_listener w None task = again w None task
+  asks_listener w (Some key) task = Works (work.Register w key task)
+
+  abbrev pub begins : Waiting T → Loan → W → Turn T W
+  begins w l task = if l.asks_first then asks_listener w l.key task else again w l.key task
+
   -- the first turn of a call
   abbrev pub first : ChannelAsk T W → Turn T W
   first (TrySend m) = Tries (ask.Push m) aim.TrySend
@@ -44,12 +61,11 @@ module _ {T W : Type 0} where
   first TryRecv = Tries ask.Pop aim.TryRecv
   first (RecvMany n) = Works (work.TakeRoom n)
   first Close = Tries ask.Close (aim.Close closer.Call)
-  first (PollSend m key task) = again (waiting.Send m) key task
+  first (PollSend m l task) = begins (waiting.Send m) l task
   first PollFinishedSend = Works (work.Leave (says (reply.SendPoll poll.Pending)))
-  first (PollRecv key task) = again waiting.Receive key task
+  first (PollRecv l task) = begins waiting.Receive l task
   first (PollClosed key task) = again waiting.Closing key task
-  first (PollNext None task) = again waiting.Stream None task
-  first (PollNext (Some key) task) = Works (work.Register waiting.Stream key task)
+  first (PollNext key task) = asks_listener waiting.Stream key task
   first (RefusePoll line message key) = Works (work.Leave (is_refused line message key))
   first (GiveUp line message key) = Works (work.Leave (gives_up line message key))
   first DropSender = Works (work.Lower Senders None)

@@ -2,13 +2,13 @@
 use Rattle.std.specs.Prelude.{◌≡◌, ◌⊎◌, ℕ, zero, suc, false, Option, None, Some, Err}
 use Rattle.concurrent_queue.specs.declared.queue_call.QueueCall.{QueueCall}
 use Rattle.event_listener.specs.declared.key.Key.{Key}
-use Rattle.channel_calls.specs.Asks.{first}
+use Rattle.channel_calls.specs.Asks.{first, woken}
 use Rattle.channel_calls.specs.Deeds.{Deed}
 use Rattle.channel_calls.specs.Listed.{pends}
 use Rattle.channel_calls.specs.Turns.{again, line_of, message_of, leaving, pending_reply}
 use Rattle.channel_calls.specs.Walks.{Takes, Leads, WalkedFrom, WalkedTo}
 use Rattle.channel_calls.specs.declared.ask.ChannelAsk.{ChannelAsk}
-use Rattle.channel_calls.specs.declared.ask.ChannelAsk.TheVariants.{TrySend, TryRecv, RefusePoll}
+use Rattle.channel_calls.specs.declared.ask.ChannelAsk.TheVariants.{TrySend, TryRecv, PollSend, PollRecv, RefusePoll}
 use Rattle.channel_calls.specs.declared.blocked.Blocked.{Blocked}
 use Rattle.channel_calls.specs.declared.blocked.Blocked.TheVariants.{Send, Receive}
 use Rattle.channel_calls.specs.declared.error.Refused.TheVariants.{Plain}
@@ -19,7 +19,6 @@ use Rattle.channel_calls.specs.declared.reply.Reply.TheVariants as reply
 use Rattle.channel_calls.specs.declared.stage.Kept.{Kept}
 use Rattle.channel_calls.specs.declared.stage.Stage.{Stage}
 use Rattle.channel_calls.specs.declared.stage.Stage.TheVariants.{Working}
-use Rattle.channel_calls.specs.declared.stage.Turn.TheVariants.{Works}
 use Rattle.channel_calls.specs.declared.stage.Waiting.{Waiting}
 use Rattle.channel_calls.specs.declared.stage.Waiting.TheVariants as waiting
 use Rattle.channel_calls.specs.declared.stage.Work.TheVariants.{Register}
@@ -39,6 +38,11 @@ module _ {T : Type 0} where
   abbrev pub not_yet : Blocked T → Reply T
   not_yet (Send m) = reply.TrySend (Err (Plain (Full m)))
   not_yet Receive = reply.TryRecv (Err Empty)
+
+  -- the poll that it makes once it has listened and slept, which asks its listener first
+  abbrev pub poll_woken : {W : Type 0} → Blocked T → Key → W → ChannelAsk T W
+  poll_woken (Send m) key task = PollSend m (woken key) task
+  poll_woken Receive key task = PollRecv (woken key) task
 
   -- a poll of it waits, and this is its listener
   abbrev pub still_waits : Blocked T → Key → Given T
@@ -73,7 +77,7 @@ module _ {T W X : Type 0} (did : Deed T W → X → X → Type 0) (asked : Optio
   abbrev pub Round : Blocked T → Key → X → Key → X → Type 0
   Round b key s next t =
       (task : W) × (x y : X) × asked (Some task) s x
-      × WalkedFrom did (Works (Register (waiting_of b) key task)) x (still_waits b next).reply (still_waits b next).kept y × slept y t
+      × WalkedFrom did (first (poll_woken b key task)) x (still_waits b next).reply (still_waits b next).kept y × slept y t
 
   abbrev pub Rounds : ℕ → Blocked T → Key → X → Key → X → Type 0
   Rounds zero b key s next t = (next ≡ key) × (t ≡ s)
@@ -83,7 +87,7 @@ module _ {T W X : Type 0} (did : Deed T W → X → X → Type 0) (asked : Optio
   abbrev pub Wakens : Blocked T → Key → X → Reply T → Kept T → X → Type 0
   Wakens b key s r kept t =
       ((x : X) × asked None s x × WalkedFrom did (first (RefusePoll (line_of (waiting_of b)) (message_of (waiting_of b)) (Some key))) x r kept t)
-      ⊎ ((task : W) × (x : X) × asked (Some task) s x × WalkedFrom did (Works (Register (waiting_of b) key task)) x r kept t × (pends r ≡ false))
+      ⊎ ((task : W) × (x : X) × asked (Some task) s x × WalkedFrom did (first (poll_woken b key task)) x r kept t × (pends r ≡ false))
 
   abbrev pub SleepsOn : Blocked T → Key → X → Reply T → Kept T → X → Type 0
   SleepsOn b key s r kept t = (n : ℕ) × (k : Key) × (x : X) × Rounds n b key s k x × Wakens b k x r kept t

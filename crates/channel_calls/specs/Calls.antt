@@ -3,6 +3,7 @@ use Rattle.std.specs.Prelude.{◌≡◌, Option, None, Some, Result, Ok, Err}
 use Rattle.event_listener.specs.declared.key.Key.{Key}
 use Rattle.futures.specs.declared.task.Poll.{Poll}
 use Rattle.futures.specs.declared.task.Poll.TheVariants.{Ready, Pending}
+use Rattle.channel_calls.specs.Asks.{lent}
 use Rattle.channel_calls.specs.Replies.{SendsBy}
 use Rattle.channel_calls.specs.declared.ask.ChannelAsk.{ChannelAsk}
 use Rattle.channel_calls.specs.declared.ask.ChannelAsk.TheVariants as ask
@@ -40,11 +41,11 @@ module _ {T W : Type 0} where
   abbrev pub send_ask : Option T → Option Key → Option W → ChannelAsk T W
   send_ask m key None = ask.RefusePoll Sends m key
   send_ask None key (Some task) = ask.PollFinishedSend
-  send_ask (Some v) key (Some task) = ask.PollSend v key task
+  send_ask (Some v) key (Some task) = ask.PollSend v (lent key) task
 
   abbrev pub recv_ask : Option Key → Option W → ChannelAsk T W
   recv_ask key None = ask.RefusePoll Receives None key
-  recv_ask key (Some task) = ask.PollRecv key task
+  recv_ask key (Some task) = ask.PollRecv (lent key) task
 
   abbrev pub closed_ask : Option Key → Option W → ChannelAsk T W
   closed_ask key None = ask.RefusePoll Closings None key

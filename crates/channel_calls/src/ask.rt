@@ -1,7 +1,7 @@
 //! What a call of a channel is asked for, and how it begins.
 
 ghost use Rattle.std.specs.Prelude.{◌≡◌};
-ghost use Rattle.channel_calls.specs.Asks.{first, gives_up, is_refused};
+ghost use Rattle.channel_calls.specs.Asks.{asks_listener, begins, first, gives_up, is_refused, lent, woken};
 ghost use Rattle.channel_calls.specs.Turns.{says};
 
 use crate::reply::Reply;
@@ -12,6 +12,35 @@ use concurrent_queue::call::QueueAsk;
 use event_listener::error::ListenError;
 use event_listener::key::Key;
 use futures::task::Poll;
+
+/// What an unfinished send or receive lends to its poll of its listener. Own to this project.
+#[derive(Clone, Copy)]
+pub struct Loan {
+    /// The listener that it holds.
+    pub key: Option<Key>,
+    /// Whether the poll asks this listener before it tries, as that of a stream does.
+    pub asks_first: bool,
+}
+
+/// For a poll of an operation, which tries first.
+pub fn lent(key: Option<Key>) -> Loan
+    ensures { result ≡ lent key }
+{
+    Loan {
+        key,
+        asks_first: false,
+    }
+}
+
+/// For a poll of a call that blocks its thread, which slept and has woken: it asks its listener first.
+pub fn woken(key: Key) -> Loan
+    ensures { result ≡ woken key }
+{
+    Loan {
+        key: Some(key),
+        asks_first: true,
+    }
+}
 
 /// A call of a channel. A polled operation lends its call what it has: the key of the listener that it holds, a task that
 /// is to be woken once it may go on, the message of a send. Own to this project.
@@ -28,11 +57,11 @@ pub enum ChannelAsk<T, W> {
     /// A closing by hand.
     Close,
     /// A poll of an unfinished send.
-    PollSend(T, Option<Key>, W),
+    PollSend(T, Loan, W),
     /// A poll of a send that has finished. It is pending, and nothing is changed.
     PollFinishedSend,
-    /// A poll of a receive.
-    PollRecv(Option<Key>, W),
+    /// A poll of an unfinished receive.
+    PollRecv(Loan, W),
     /// A poll for the closing.
     PollClosed(Option<Key>, W),
     /// A poll of a receiver as a stream. A listener that it holds is asked before the queue is looked at.
@@ -73,6 +102,27 @@ pub enum ChannelAsk<T, W> {
     Make,
     /// The drop of a weak handle. Nothing is touched.
     DropWeak,
+}
+
+/// A poll that asks its listener before it tries; without one it tries.
+fn asks_listener<T, W>(waiting: Waiting<T>, key: Option<Key>, task: W) -> Turn<T, W>
+    ensures { result ≡ asks_listener waiting key task }
+{
+    match key {
+        Some(key) => Turn::Works(Work::Register(waiting, key, task)),
+        None => again(waiting, None, task),
+    }
+}
+
+/// A poll of a send or a receive.
+fn begins<T, W>(waiting: Waiting<T>, loan: Loan, task: W) -> Turn<T, W>
+    ensures { result ≡ begins waiting loan task }
+{
+    if loan.asks_first {
+        asks_listener(waiting, loan.key, task)
+    } else {
+        again(waiting, loan.key, task)
+    }
 }
 
 /// A call that only answers: nothing is touched.
@@ -117,14 +167,11 @@ impl<T, W> ChannelAsk<T, W> {
             ChannelAsk::TryRecv => Turn::Tries(QueueAsk::Pop, Aim::TryRecv),
             ChannelAsk::RecvMany(limit) => Turn::Works(Work::TakeRoom(limit)),
             ChannelAsk::Close => Turn::Tries(QueueAsk::Close, Aim::Close(Closer::Call)),
-            ChannelAsk::PollSend(message, key, task) => again(Waiting::Send(message), key, task),
+            ChannelAsk::PollSend(message, loan, task) => begins(Waiting::Send(message), loan, task),
             ChannelAsk::PollFinishedSend => only_says(Reply::SendPoll(Poll::Pending)),
-            ChannelAsk::PollRecv(key, task) => again(Waiting::Receive, key, task),
+            ChannelAsk::PollRecv(loan, task) => begins(Waiting::Receive, loan, task),
             ChannelAsk::PollClosed(key, task) => again(Waiting::Closing, key, task),
-            ChannelAsk::PollNext(None, task) => again(Waiting::Stream, None, task),
-            ChannelAsk::PollNext(Some(key), task) => {
-                Turn::Works(Work::Register(Waiting::Stream, key, task))
-            }
+            ChannelAsk::PollNext(key, task) => asks_listener(Waiting::Stream, key, task),
             ChannelAsk::RefusePoll(line, message, key) => is_refused(line, message, key),
             ChannelAsk::GiveUp(line, message, key) => gives_up(line, message, key),
             ChannelAsk::DropSender => Turn::Works(Work::Lower(Side::Senders, None)),

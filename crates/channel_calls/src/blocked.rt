@@ -1,10 +1,12 @@
 //! What a call that blocks its thread is.
 
 ghost use Rattle.std.specs.Prelude.{◌≡◌};
-ghost use Rattle.channel_calls.specs.Blocks.{waiting_of};
+ghost use Rattle.channel_calls.specs.Blocks.{poll_woken, waiting_of};
 ghost use Rattle.channel_calls.specs.Turns.{line_of};
 
+use crate::ask::{ChannelAsk, woken};
 use crate::stage::{Line, Waiting};
+use event_listener::key::Key;
 
 /// A call that blocks its thread. Own to this project.
 #[derive(Drop)]
@@ -23,6 +25,16 @@ impl<T> Blocked<T> {
         match self {
             Blocked::Send(message) => Waiting::Send(message),
             Blocked::Receive => Waiting::Receive,
+        }
+    }
+
+    /// The poll that it makes once it has listened and slept: this listener is asked first.
+    pub(crate) fn poll_woken<W>(self, key: Key, task: W) -> ChannelAsk<T, W>
+        ensures { result ≡ poll_woken self key task }
+    {
+        match self {
+            Blocked::Send(message) => ChannelAsk::PollSend(message, woken(key), task),
+            Blocked::Receive => ChannelAsk::PollRecv(woken(key), task),
         }
     }
 

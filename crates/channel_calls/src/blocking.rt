@@ -9,7 +9,7 @@ ghost use Rattle.concurrent_queue.specs.declared.cells.QueueForm.{QueueForm};
 ghost use Rattle.event_listener.specs.declared.key.Key.{Key as Name};
 ghost use Rattle.futures.specs.declared.task.Poll.TheVariants as poll;
 ghost use Rattle.channel_calls.specs.Asks.{first};
-ghost use Rattle.channel_calls.specs.Blocks.{waiting_of, at_once, not_yet, still_waits, Asked, Slept, Looks, Begins, Listens, SleepsOn, Blocks};
+ghost use Rattle.channel_calls.specs.Blocks.{waiting_of, at_once, not_yet, poll_woken, still_waits, Asked, Slept, Looks, Begins, Listens, SleepsOn, Blocks};
 ghost use Rattle.channel_calls.specs.Deeds.{Done};
 ghost use Rattle.channel_calls.specs.Errors.{handed_back};
 ghost use Rattle.channel_calls.specs.Listed.{pends};
@@ -21,19 +21,16 @@ ghost use Rattle.channel_calls.specs.declared.ask.ChannelAsk.TheVariants as ask;
 ghost use Rattle.channel_calls.specs.declared.blocked.Blocked.{Blocked as Blocking};
 ghost use Rattle.channel_calls.specs.declared.blocked.Blocked.TheVariants as blocking;
 ghost use Rattle.channel_calls.specs.declared.reply.Reply.TheVariants as reply;
-ghost use Rattle.channel_calls.specs.declared.stage.Turn.TheVariants as turn;
-ghost use Rattle.channel_calls.specs.declared.stage.Work.TheVariants as work;
 
 use crate::ask::ChannelAsk;
 use crate::blocked::Blocked;
-use crate::call::ChannelCall;
 use crate::calls::{try_recv, try_send};
 use crate::error::{RecvError, Refused, SendError, TryRecvError, TrySendError};
 use crate::reply::Reply;
 use crate::sleeps::Sleeps;
 use crate::stage::Kept;
 use crate::turn::refused_reply;
-use crate::whole::{Given, complete, make};
+use crate::whole::{Given, make};
 use crossbeam_utils::Backoff;
 use event_listener::key::Key;
 use event_listener::wakes::Wakes;
@@ -193,14 +190,13 @@ fn registers<T: Drop, W: Drop, R: Wait, C: Sleeps<T, W>, S: Wakes<W>>(
     sink: &mut S,
 ) -> Result<Given<T>, (Blocked<T>, Key)>
     requires form { (f : QueueForm) × C.has_form cells.old f }
-    ensures registers { MatchResult result (λ given. WalkedFrom (Done C.did S.wakes) (turn.Works (work.Register (waiting_of call) key task)) (cells.old, sink.old) given.reply given.kept (cells.new, sink.new))
-        (λ left. let waits = still_waits call left.1 in WalkedFrom (Done C.did S.wakes) (turn.Works (work.Register (waiting_of call) key task)) (cells.old, sink.old) waits.reply waits.kept (cells.new, sink.new)) }
+    ensures registers { MatchResult result (λ given. WalkedFrom (Done C.did S.wakes) (first (poll_woken call key task)) (cells.old, sink.old) given.reply given.kept (cells.new, sink.new))
+        (λ left. let waits = still_waits call left.1 in WalkedFrom (Done C.did S.wakes) (first (poll_woken call key task)) (cells.old, sink.old) waits.reply waits.kept (cells.new, sink.new)) }
     ensures same { IfErr result (λ left. left.0 ≡ call) }
     ensures over { IfOk result (λ given. IsOver call given) }
     ensures form { (f : QueueForm) → C.has_form cells.old f → C.has_form cells.new f }
 {
-    let poll = ChannelCall::registering(call.waiting(), key, task);
-    still(complete(rt, poll, cells, sink))
+    still(make(rt, call.poll_woken(key, task), cells, sink))
 }
 
 /// Drops the listener and ends, for want of a task: as a poll ends that is refused the copy of its waker.

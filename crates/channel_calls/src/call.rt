@@ -13,10 +13,9 @@ use crate::ask::ChannelAsk;
 use crate::cells::ChannelCells;
 use crate::mark::Mark;
 use crate::reply::Reply;
-use crate::stage::{Kept, Stage, Waiting, Work};
+use crate::stage::{Kept, Stage};
 use crate::step::{Stepped, stage_step, takes};
 use concurrent_queue::queue_call::QueueCall;
-use event_listener::key::Key;
 use event_listener::wakes::Wakes;
 use std::mem;
 
@@ -38,7 +37,8 @@ impl<T: Drop, W: Drop> Drop for ChannelCall<T, W> {
 }
 
 impl<T: Drop, W: Drop> ChannelCall<T, W> {
-    /// What the last step did to the channel; before the first step nothing.
+    /// What the last step did to the channel; before the first step nothing. Cells that make all steps of the queue's call in this
+    /// one, as those that threads share, give it no mark: it is `Nothing` then, and what was done is said by the answer alone.
     pub fn last_mark(&self) -> Mark
         ensures { result ≡ self.now.mark }
     {
@@ -90,16 +90,6 @@ impl<T: Drop, W: Drop> ChannelCall<T, W> {
         let Stepped { stage, mark, reply } = begun;
         drop(reply);
         ChannelCall { stage, mark }
-    }
-
-    /// A poll that registers this listener first, as that of a stream does. It has made no step.
-    pub(crate) fn registering(waiting: Waiting<T>, key: Key, task: W) -> ChannelCall<T, W>
-        ensures { result.stage ≡ Stage.Working (Work.Register waiting key task) }
-    {
-        ChannelCall {
-            stage: Stage::Working(Work::Register(waiting, key, task)),
-            mark: Mark::Nothing,
-        }
     }
 
     /// What a call that has answered leaves to its operation: the listener of a pending one, the message of an unfinished

@@ -22,7 +22,7 @@ use event_listener::wakes::Wakes;
 ///
 /// The methods of one that a single owner has say exactly what they do. Of one that threads share only that much is known
 /// as every other party keeps to: nothing of the contents, but the form of the queue, which says what a step of its call may
-/// answer. `known` and `has_form` tell the two apart. Own to this project.
+/// answer. `known` tells the two apart. Own to this project.
 pub trait ChannelCells<T, W> {
     ghost use Rattle.concurrent_queue.specs.declared.cells.QueueForm.{QueueForm};
 
@@ -32,7 +32,7 @@ pub trait ChannelCells<T, W> {
     /// The queue's cells, the lists and the counts.
     ghost parts: { Self → Parts T W };
 
-    /// Which form the queue is said to have; no step changes it. Where the contents are known they say it themselves.
+    /// Which form the queue is said to have; no step changes it. Cells of which nothing is said here have none.
     ghost has_form: { Self → QueueForm → Type 0 } = { λ _ _. ⊥ };
 
     /// Whether this deed, with this answer, was done between these two. Any relation may stand here: what promises over any cells

@@ -3,6 +3,7 @@
 use crate::cells::ChannelCells;
 use crate::notices::{register, tell_all, tell_more, tell_one};
 use crate::stage::{Line, Side};
+use crate::words::ChannelWords;
 use concurrent_queue::call::QueueReply;
 use concurrent_queue::cells::QueueForm;
 use concurrent_queue::plain::PlainCells;
@@ -48,7 +49,7 @@ impl<T: Drop, W: Drop> PlainChannel<T, W> {
     ghost use Rattle.std.specs.Prelude.{◌≡◌, length, IfOk};
     ghost use Rattle.concurrent_queue.specs.Made.{CanBeMade, IsNew};
     ghost use Rattle.concurrent_queue.specs.Plain.{contents_of};
-    ghost use Rattle.channel_calls.specs.Parts.{new_roster, listeners};
+    ghost use Rattle.channel_calls.specs.Parts.{new_roster, listeners, count};
     ghost use Rattle.channel_calls.specs.Plain.{parts_of};
 
     /// An open and empty channel over a queue of this form, with one sender, one receiver and no listeners. `Err` where
@@ -71,6 +72,16 @@ impl<T: Drop, W: Drop> PlainChannel<T, W> {
             Line::Receives => self.receives.total() - self.receives.told(),
             Line::Streams => self.streams.total() - self.streams.told(),
             Line::Closings => self.closings.total() - self.closings.told(),
+        }
+    }
+
+    /// How many handles of this kind live.
+    fn handles(&self, side: Side) -> usize
+        ensures { result ≡ count side (parts_of self.now).roster }
+    {
+        match side {
+            Side::Senders => self.senders,
+            Side::Receivers => self.receivers,
         }
     }
 
@@ -111,12 +122,15 @@ impl<T: Drop, W: Drop> PlainChannel<T, W> {
 }
 
 impl<T: Drop, W: Drop> ChannelCells<T, W> for PlainChannel<T, W> {
+    ghost use Rattle.std.specs.Prelude.{◌≡◌};
     ghost use Rattle.channel_calls.specs.Effects.{Does};
-    ghost use Rattle.channel_calls.specs.Plain.{parts_of};
+    ghost use Rattle.channel_calls.specs.Plain.{form_of, parts_of};
 
     ghost known = { Unit {0} };
 
     ghost parts = { parts_of };
+
+    ghost has_form = { λ c f. f ≡ form_of c };
 
     ghost did = { λ d a b. Does d (parts_of a) (parts_of b) };
 
@@ -179,14 +193,11 @@ impl<T: Drop, W: Drop> ChannelCells<T, W> for PlainChannel<T, W> {
     }
 
     fn count(&mut self, side: Side) -> usize {
-        match side {
-            Side::Senders => self.senders,
-            Side::Receivers => self.receivers,
-        }
+        self.handles(side)
     }
 
     fn lower(&mut self, side: Side) -> usize {
-        let before = self.count(side);
+        let before = self.handles(side);
         let after = before.saturating_sub(1);
         match side {
             Side::Senders => self.senders = after,
@@ -196,7 +207,7 @@ impl<T: Drop, W: Drop> ChannelCells<T, W> for PlainChannel<T, W> {
     }
 
     fn raise(&mut self, side: Side, from: usize) -> bool {
-        if self.count(side) != from || from == usize::MAX {
+        if self.handles(side) != from || from == usize::MAX {
             return false;
         }
         match side {
@@ -204,5 +215,23 @@ impl<T: Drop, W: Drop> ChannelCells<T, W> for PlainChannel<T, W> {
             Side::Receivers => self.receivers = from + 1,
         }
         true
+    }
+}
+
+impl<T: Drop, W: Drop> ChannelWords<T, W> for PlainChannel<T, W> {
+    ghost use Rattle.std.specs.Prelude.{◌≡◌};
+    ghost use Rattle.channel_calls.specs.Effects.{Does};
+    ghost use Rattle.channel_calls.specs.Plain.{form_of, parts_of};
+
+    ghost has_form = { λ c f. f ≡ form_of c };
+
+    ghost did = { λ d a b. Does d (parts_of a) (parts_of b) };
+
+    fn step_words(&mut self, call: &mut QueueCall<T>) -> Option<QueueReply<T>> {
+        call.step(&mut self.cells)
+    }
+
+    fn count(&mut self, side: Side) -> usize {
+        self.handles(side)
     }
 }

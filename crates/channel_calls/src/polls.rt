@@ -16,7 +16,7 @@ ghost use Rattle.channel_calls.specs.declared.reply.Reply.{Reply as Answer};
 ghost use Rattle.channel_calls.specs.declared.reply.Reply.TheVariants as reply;
 ghost use Rattle.channel_calls.specs.declared.stage.Kept.{Kept as Left};
 
-use crate::ask::ChannelAsk;
+use crate::ask::{ChannelAsk, lent};
 use crate::cells::ChannelCells;
 use crate::error::{RecvError, Refused, SendError};
 use crate::reply::Reply;
@@ -40,7 +40,7 @@ fn send_ask<T: Drop, W: Drop>(
         return ChannelAsk::RefusePoll(Line::Sends, message, key);
     };
     match message {
-        Some(message) => ChannelAsk::PollSend(message, key, task),
+        Some(message) => ChannelAsk::PollSend(message, lent(key), task),
         None => {
             drop(task);
             ChannelAsk::PollFinishedSend
@@ -53,7 +53,7 @@ fn recv_ask<T, W: Drop>(key: Option<Key>, task: Option<W>) -> ChannelAsk<T, W>
     ensures { result ≡ recv_ask key task }
 {
     match task {
-        Some(task) => ChannelAsk::PollRecv(key, task),
+        Some(task) => ChannelAsk::PollRecv(lent(key), task),
         None => ChannelAsk::RefusePoll(Line::Receives, None, key),
     }
 }

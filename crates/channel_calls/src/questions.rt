@@ -101,9 +101,15 @@ pub fn is_terminated<T: Drop, W: Drop, C: ChannelWords<T, W>>(words: &mut C) -> 
     ensures deeds { WalkedTo C.did (first ask.IsTerminated) words.old (reply.Flag result) words.new }
     ensures form { (f : QueueForm) → C.has_form words.old f → C.has_form words.new f }
 {
-    let closed = asks(QueueAsk::IsClosed, words);
-    match closed {
-        QueueReply::Flag(true) => is_empty(words),
+    let first = asks(QueueAsk::IsClosed, words);
+    match first {
+        QueueReply::Flag(true) => {
+            let second = asks(QueueAsk::IsEmpty, words);
+            match second {
+                QueueReply::Flag(empty) => empty,
+                _ => unreachable!(),
+            }
+        }
         QueueReply::Flag(false) => false,
         _ => unreachable!(),
     }

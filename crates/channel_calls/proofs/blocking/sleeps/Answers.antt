@@ -1,14 +1,12 @@
 use Rattle.std.proofs.Common.{Some, suc, inl, inr, refl, ◌∙◌, subst}
 use Rattle.channel_calls.specs.Asks.{first}
-use Rattle.channel_calls.specs.Blocks.{waiting_of, still_waits}
+use Rattle.channel_calls.specs.Blocks.{waiting_of, poll_woken, still_waits}
 use Rattle.channel_calls.specs.Deeds.{Done}
 use Rattle.channel_calls.specs.Turns.{line_of, message_of}
 use Rattle.channel_calls.specs.Walks.{WalkedFrom}
 use Rattle.channel_calls.specs.declared.ask.ChannelAsk.{ChannelAsk}
 use Rattle.channel_calls.specs.declared.ask.ChannelAsk.TheVariants.{RefusePoll}
 use Rattle.channel_calls.specs.declared.blocked.Blocked.{Blocked}
-use Rattle.channel_calls.specs.declared.stage.Turn.TheVariants.{Works}
-use Rattle.channel_calls.specs.declared.stage.Work.TheVariants.{Register}
 use Rattle.channel_calls.proofs.blocking.sleeps.Goals as goal
 
 pub returns-in_default-clause-sleeps : goal.returns-in_default-clause-sleeps
@@ -33,7 +31,7 @@ returns-in-Ok-clause-sleeps g c =
     let given = c.in-Ok.given in
     let task = c.in-Some-park.task in
     let walked =
-    subst (λ (b : Blocked g.row.T.Denot). WalkedFrom did (Works (Register (waiting_of b) c.loop.key task)) asked given.reply given.kept end) c.loop.invariant.2 c.in-Ok.ensures.registers
+    subst (λ (b : Blocked g.row.T.Denot). WalkedFrom did (first (poll_woken b c.loop.key task)) asked given.reply given.kept end) c.loop.invariant.2 c.in-Ok.ensures.registers
     in
     (c.loop.invariant.0.0, c.loop.key, here, c.loop.invariant.0.1, inr (task, asked, (c.in-Some-park.ensures.asked, refl), walked, c.in-Ok.ensures.over.1))
 
@@ -46,7 +44,7 @@ loop-preserved g c =
     let task = c.in-Some-park.task in
     let next = c.in-Err.next in
     let walked =
-    subst (λ (b : Blocked g.row.T.Denot). WalkedFrom did (Works (Register (waiting_of b) c.loop.key task)) asked (still_waits b next).reply (still_waits b next).kept registered) c.loop.invariant.2 c.in-Err.ensures.registers
+    subst (λ (b : Blocked g.row.T.Denot). WalkedFrom did (first (poll_woken b c.loop.key task)) asked (still_waits b next).reply (still_waits b next).kept registered) c.loop.invariant.2 c.in-Err.ensures.registers
     in (
       (suc c.loop.invariant.0.0, (c.loop.key, here, c.loop.invariant.0.1, (task, asked, registered, (c.in-Some-park.ensures.asked, refl), walked, (c.sleep.ensures.slept, refl)))),
       λ f has. c.sleep.ensures.form f (c.registers.ensures.form f (c.park.ensures.form f (c.loop.invariant.1 f has))),
