@@ -1,13 +1,15 @@
 //! The calls that block the thread: those of `channel_calls`, on the cells that threads share.
 
 ghost use Rattle.std.specs.Prelude.{◌≡◌, IfErr};
+ghost use Rattle.channel_calls.specs.Taking.{IsNext};
 ghost use Rattle.async_channel.specs.Handles.{Unsent, form_of};
 
 use crate::bed::Bed;
 use crate::cells::SharedCells;
 use crate::shared::Shared;
-use channel_calls::blocking;
 use channel_calls::error::{RecvError, Refused, SendError};
+use channel_calls::{blocking, taking};
+use event_listener::error::ListenError;
 use event_listener::waking::WakeNow;
 use std::sync::Wait;
 
@@ -38,5 +40,16 @@ impl<T: Drop> Shared<T> {
     /// Receives, and sleeps while there is no message.
     pub(crate) fn recv_blocking<R: Wait>(&self, rt: &R) -> Result<T, Refused<RecvError>> {
         blocking::recv_blocking(rt, &mut self.with_bed(rt), &mut WakeNow { rt })
+    }
+
+    /// The next message of a walk that sleeps while there is none.
+    pub(crate) fn next_blocking<R: Wait>(
+        &self,
+        rt: &R,
+        ended: &mut bool,
+    ) -> Option<Result<T, ListenError>>
+        ensures { IsNext ended.old result ended.new }
+    {
+        taking::next_blocking(rt, ended, &mut self.with_bed(rt), &mut WakeNow { rt })
     }
 }

@@ -12,7 +12,7 @@ use event_listener::wakes::Wakes;
 use event_listener::waking::Task;
 use std::sync::Wait;
 use std::sync::atomic::Ordering;
-use std::thread;
+use std::{mem, thread};
 
 /// A shared queue's cells, four locked lists and two shared counts. Nothing is known of what they hold, since any thread
 /// may step on them at any time. A call that blocks its thread has a bed beside them.
@@ -37,10 +37,11 @@ impl<'a, T: Drop, R: Wait, B: Drop> ChannelCells<T, Task> for SharedCells<'a, T,
     ghost did = { λ d before now. Answers d };
 
     // The steps of the queue's call up to its answer, one after another: nothing else of the channel's call comes between
-    // them, while the steps of other threads may.
+    // them, while the steps of other threads may. The call is given away for it, so one that has answered stands in its place.
     #[inline(always)]
     fn step_queue(&mut self, call: &mut QueueCall<T>) -> Option<QueueReply<T>> {
-        Some(self.shared.queue.complete(self.rt, call))
+        let whole = mem::replace(call, QueueCall::ended());
+        Some(self.shared.queue.complete(self.rt, whole))
     }
 
     fn insert(&mut self, line: Line) -> Result<Key, ListenError> {

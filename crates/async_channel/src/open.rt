@@ -60,6 +60,12 @@ fn open<T: Drop, R: Wait + Copy>(
 /// for its places (for a capacity above 2^58 nobody is asked) or, after that, where fewer than four identities are left;
 /// nothing is taken from `ids` then. It waits for nobody. As `async-channel` 2.5.0, but for the refusals, and that a capacity
 /// of 0 is no panic but can't be asked for.
+///
+/// ```rust
+/// let (sender, receiver) = bounded(rt, alloc, 2, ids).ok()?;
+/// sender.try_send(1).ok()?;
+/// receiver.capacity() == Some(2) && receiver.len() == 1 // true
+/// ```
 pub fn bounded<T: Drop, R: Wait + Copy>(
     rt: R,
     alloc: Global,
@@ -84,6 +90,12 @@ pub fn bounded<T: Drop, R: Wait + Copy>(
 /// Opens a channel that holds any number of messages: its first sender and its first receiver.
 ///
 /// Refused as [`bounded`] is. It waits for nobody. As `async-channel` 2.5.0, but for the refusals.
+///
+/// ```rust
+/// let (sender, receiver) = unbounded(rt, alloc, ids).ok()?;
+/// sender.try_send(1).ok()?;
+/// receiver.capacity().is_none() && !sender.is_full() // true
+/// ```
 pub fn unbounded<T: Drop, R: Wait + Copy>(
     rt: R,
     alloc: Global,

@@ -1,6 +1,7 @@
 //! The receiving side of a channel.
 
 use crate::counted::Counted;
+use crate::iter::{Iter, TryIter};
 use crate::recv::Recv;
 use crate::waits::Waits;
 use crate::weak::WeakReceiver;
@@ -32,7 +33,9 @@ impl<T: Drop, R: Wait + Copy> Model for Receiver<T, R> {
 }
 
 impl<T: Drop, R: Wait + Copy> Receiver<T, R> {
-    ghost use Rattle.std.specs.Prelude.{◌≡◌, ◌<◌, ◌≤◌, [], false, length, Err, IfOk, OnErr};
+    ghost use Rattle.std.specs.Prelude.{◌≡◌, ◌<◌, ◌≤◌, [], false, length, Err, IfOk, IfErr, OnErr};
+    ghost use Rattle.std.specs.Vec.{vec_capacity, vec_ptr};
+    ghost use Rattle.channel_calls.specs.Filling.{room_in, Stands};
     ghost use Rattle.async_channel.specs.Handles.{handle_of};
 
     pub(crate) fn new(rt: R, counted: Counted<T, OfReceivers>) -> Receiver<T, R>
@@ -49,6 +52,14 @@ impl<T: Drop, R: Wait + Copy> Receiver<T, R> {
     ///
     /// Refused where there is none: as empty while the channel is open, as closed afterwards. It doesn't wait for a message, but
     /// may wait for another call's end and for the locks of those who wait. As `async-channel` 2.5.0.
+    ///
+    /// ```rust
+    /// let none_yet = receiver.try_recv().err()?.is_empty(); // true
+    /// sender.try_send(1).ok()?;
+    /// sender.close();
+    /// let message = receiver.try_recv().ok()?; // what was sent before is still received
+    /// let over = receiver.try_recv().err()?.is_closed(); // true
+    /// ```
     pub fn try_recv(&self) -> Result<T, TryRecvError> {
         self.counted.link.shared.try_recv(&self.rt)
     }
@@ -56,7 +67,8 @@ impl<T: Drop, R: Wait + Copy> Receiver<T, R> {
     /// Takes the oldest messages, at most `limit`, in order: as many as there are, or as are wanted.
     ///
     /// Refused where there is none: as empty while the channel is open, as closed afterwards; and where there is no memory for
-    /// `limit` messages, which is asked for first, so that nothing is taken then. A limit of 0 asks for no memory and gives an
+    /// `limit` messages, which is asked for first, so that nothing is taken then: a large limit costs its memory at each call, however few
+    /// messages are there ([`recv_many_into`](Receiver::recv_many_into) asks for none). A limit of 0 asks for no memory and gives an
     /// empty list. As many sends that wait are told as messages were taken. It never waits for a message, but may wait for
     /// another call's end and for the locks of those who wait, as [`try_recv`](Receiver::try_recv) may. Who is to wait for the
     /// first message receives that one by [`recv`](Receiver::recv), polled until it is ready, or by
@@ -68,6 +80,14 @@ impl<T: Drop, R: Wait + Copy> Receiver<T, R> {
     /// ```
     ///
     /// Own to this project.
+    ///
+    /// ```rust
+    /// sender.try_send(1).ok()?;
+    /// sender.try_send(2).ok()?;
+    /// sender.try_send(3).ok()?;
+    /// let batch = receiver.recv_many(2).ok()?;
+    /// batch.len() == 2 && batch.first() == Some(&1) && receiver.len() == 1 // true
+    /// ```
     pub fn recv_many(&self, limit: usize) -> Result<Vec<T>, Refused<TryRecvError>>
         ensures most { IfOk result (λ messages. length messages.items ≤ limit) }
         ensures none { IfOk result (λ messages. messages.items ≡ [] → limit ≡ 0) }
@@ -77,7 +97,39 @@ impl<T: Drop, R: Wait + Copy> Receiver<T, R> {
         self.counted.link.shared.recv_many(&self.rt, limit)
     }
 
+    /// Takes the oldest messages into the room that is there, behind what is in it, in order: as many as there are, or as fit. It gives
+    /// their number, and asks for no memory.
+    ///
+    /// Refused where there is no message: as empty while the channel is open, as closed afterwards. Where there is no room nothing is
+    /// tried, and the number is 0. What it does is what [`recv_many`](Receiver::recv_many) does with that room as its limit, once it has
+    /// its memory. It never waits for a message, but may wait as [`try_recv`](Receiver::try_recv) may. Own to this project.
+    ///
+    /// ```text
+    /// let mut batch = Vec::with_capacity(alloc, 15)?;
+    /// for first in jobs.iter() {
+    ///     work_on(first?);
+    ///     let _ = jobs.recv_many_into(&mut batch);
+    ///     batch.drain(..).for_each(work_on);
+    /// }
+    /// ```
+    pub fn recv_many_into(&self, into: &mut Vec<T>) -> Result<usize, TryRecvError>
+        ensures taken { Stands into.old.items result into.new.items }
+        ensures most { IfOk result (λ n. n ≤ room_in into.old) }
+        ensures none { IfOk result (λ n. n ≡ 0 → room_in into.old ≡ 0) }
+        ensures wanted { IfErr result (λ _. 0 < room_in into.old) }
+        ensures room { vec_capacity into.new ≡ vec_capacity into.old }
+        ensures in_place { vec_ptr into.new ≡ vec_ptr into.old }
+    {
+        self.counted.link.shared.recv_many_into(&self.rt, into)
+    }
+
     /// A receive that waits for a message: nothing is done until it is polled. As `async-channel` 2.5.0.
+    ///
+    /// ```rust
+    /// sender.try_send(1).ok()?;
+    /// let received = block_on(&rt, receiver.recv()).ok()?;
+    /// received.ok() == Some(1) // true
+    /// ```
     pub fn recv(&self) -> Recv<'_, T, R>
         ensures { result ≡ false }
     {
@@ -90,6 +142,30 @@ impl<T: Drop, R: Wait + Copy> Receiver<T, R> {
     /// As `async-channel` 2.5.0, but for the wants.
     pub fn recv_blocking(&self) -> Result<T, Refused<RecvError>> {
         self.counted.link.shared.recv_blocking(&self.rt)
+    }
+
+    /// The messages one after another, each of which is waited for as by [`recv_blocking`](Receiver::recv_blocking). It ends where the
+    /// channel is closed and empty, and stays ended. Taking an item may wait for ever.
+    ///
+    /// An item is `Err` where what a wait needs was refused: memory, or a serial of a listener. The walk isn't over then, and its next
+    /// item is tried for as before: who doesn't want to try again leaves the loop.
+    ///
+    /// ```text
+    /// for job in jobs.iter() {
+    ///     work_on(job?);
+    /// }
+    /// ```
+    ///
+    /// Own to this project.
+    pub fn iter(&self) -> Iter<'_, T, R> {
+        Iter::new(self)
+    }
+
+    /// The messages that are there, one after another, each taken as by [`try_recv`](Receiver::try_recv). It ends where none is there,
+    /// whether the channel is open or closed, and stays ended though others may come. It never waits for a message, but may wait for
+    /// another call's end and for the locks of those who wait. Own to this project.
+    pub fn try_iter(&self) -> TryIter<'_, T, R> {
+        TryIter::new(self)
     }
 
     /// Closes the channel: nothing more is sent, and what was sent can still be received. True in the one call that closed it;

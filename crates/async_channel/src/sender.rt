@@ -47,6 +47,13 @@ impl<T: Drop, R: Wait + Copy> Sender<T, R> {
     /// A refusal hands it back: the channel was closed; a bounded one was full; for one without a bound memory was refused. It
     /// doesn't wait for a place, but may wait for another call's end and for the locks of those who wait. As `async-channel`
     /// 2.5.0, but for the want of memory.
+    ///
+    /// ```rust
+    /// // of a channel of one place
+    /// sender.try_send(1).ok()?;
+    /// let refused = sender.try_send(2).err()?;
+    /// refused.is_full() && refused.into_inner() == 2 // true
+    /// ```
     pub fn try_send(&self, message: T) -> Result<(), Refused<TrySendError<T>, T>>
         ensures { IfErr result (λ e. RefusesTrySend (is_bounded self.now.form) message e) }
     {
@@ -57,6 +64,13 @@ impl<T: Drop, R: Wait + Copy> Sender<T, R> {
     ///
     /// A refusal hands the message back: the channel was closed, or for one without a bound memory was refused. It may wait as
     /// [`try_send`](Sender::try_send) does. As `async-channel` 2.5.0, but for the want of memory.
+    ///
+    /// ```rust
+    /// // of a channel of one place
+    /// sender.try_send(1).ok()?;
+    /// let oldest = sender.force_send(2).ok()?;
+    /// oldest == Some(1) && receiver.try_recv().ok() == Some(2) // true
+    /// ```
     pub fn force_send(&self, message: T) -> Result<Option<T>, Refused<SendError<T>, T>>
         ensures refused { IfErr result (λ e. RefusesForceSend (is_bounded self.now.form) message e) }
         ensures displaced { room_of self.now.form ≡ None → IfOk result (λ oldest. oldest ≡ None) }
@@ -103,6 +117,12 @@ impl<T: Drop, R: Wait + Copy> Sender<T, R> {
 
     /// Closes the channel: nothing more is sent, and what was sent can still be received. True in the one call that closed it;
     /// all who wait are woken then. It may wait for the locks of those who wait. As `async-channel` 2.5.0.
+    ///
+    /// ```rust
+    /// let first = receiver.close();
+    /// let second = sender.close();
+    /// first && !second && sender.try_send(1).err()?.is_closed() // true
+    /// ```
     pub fn close(&self) -> bool {
         self.counted.link.shared.close(&self.rt)
     }
@@ -175,6 +195,13 @@ impl<T: Drop, R: Wait + Copy> Sender<T, R> {
     /// Refused where more than half of `usize::MAX` senders live, or where the ties to the shared memory are used up. Nothing is
     /// changed then: no step of a call that is refused raises the count, and what was raised can't be let go but by a handle's drop.
     /// It may wait for other clonings to end.
+    ///
+    /// ```rust
+    /// let second = sender.try_clone().ok()?;
+    /// drop(sender);
+    /// let open = !receiver.is_closed(); // true: the second one lives
+    /// drop(second); // the last one, which closes the channel
+    /// ```
     pub fn try_clone(&self) -> Result<Sender<T, R>, HandleError>
         ensures { IfOk result (λ more. more ≡ self.now) }
     {

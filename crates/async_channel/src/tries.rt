@@ -1,16 +1,19 @@
 //! The calls of a channel that don't wait for a message or a place: those of `channel_calls`, on the cells that threads share.
 
-ghost use Rattle.std.specs.Prelude.{◌≡◌, None, Ok, Err, IfOk, IfErr, MatchResult};
+ghost use Rattle.std.specs.Prelude.{◌≡◌, ◌≤◌, ◌<◌, None, Ok, Err, IfOk, IfErr, MatchResult};
+ghost use Rattle.std.specs.Vec.{vec_capacity, vec_ptr};
 ghost use Rattle.concurrent_queue.specs.Replies.{is_bounded, room_of};
+ghost use Rattle.channel_calls.specs.Filling.{room_in, Stands};
 ghost use Rattle.channel_calls.specs.Replies.{GivesUpTo, RefusesTrySend, RefusesForceSend};
+ghost use Rattle.channel_calls.specs.Taking.{IsNext};
 ghost use Rattle.channel_calls.specs.declared.reply.Reply.{Reply};
 ghost use Rattle.async_channel.specs.Handles.{form_of};
 
 use crate::shared::Shared;
-use channel_calls::calls;
 use channel_calls::error::{HandleError, Refused, SendError, TryRecvError, TrySendError};
 use channel_calls::kind::{Kind, OfReceivers, OfSenders};
 use channel_calls::raised::{self, Raised};
+use channel_calls::{calls, filling, taking};
 use event_listener::key::Key;
 use event_listener::waking::WakeNow;
 use std::sync::Wait;
@@ -43,6 +46,13 @@ impl<T: Drop> Shared<T> {
         calls::try_recv(rt, &mut self.cells(rt), &mut WakeNow { rt })
     }
 
+    /// The next message of a walk over those that are there.
+    pub(crate) fn next_there<R: Wait>(&self, rt: &R, ended: &mut bool) -> Option<T>
+        ensures { IsNext ended.old result ended.new }
+    {
+        taking::next_there(rt, ended, &mut self.cells(rt), &mut WakeNow { rt })
+    }
+
     pub(crate) fn recv_many<R: Wait>(
         &self,
         rt: &R,
@@ -57,6 +67,19 @@ impl<T: Drop> Shared<T> {
             &mut self.cells(rt),
             &mut WakeNow { rt },
         )
+    }
+
+    pub(crate) fn recv_many_into<R: Wait>(
+        &self,
+        rt: &R,
+        into: &mut Vec<T>,
+    ) -> Result<usize, TryRecvError>
+        ensures taken { Stands into.old.items result into.new.items }
+        ensures most { MatchResult result (λ n. (n ≤ room_in into.old) × (n ≡ 0 → room_in into.old ≡ 0)) (λ _. 0 < room_in into.old) }
+        ensures room { vec_capacity into.new ≡ vec_capacity into.old }
+        ensures in_place { vec_ptr into.new ≡ vec_ptr into.old }
+    {
+        filling::recv_many_into(rt, into, &mut self.cells(rt), &mut WakeNow { rt })
     }
 
     pub(crate) fn close<R: Wait>(&self, rt: &R) -> bool {

@@ -1,10 +1,6 @@
-//! Which handles are of one channel, and which types cross threads.
+//! Which types cross threads.
 
-use crate::checks::expect_true;
-use async_channel::{
-    Closed, Receiver, Recv, Send as Sending, Sender, WeakReceiver, WeakSender, unbounded,
-};
-use event_listener::id::EventIds;
+use async_channel::{Closed, Receiver, Recv, Send as Sending, Sender, WeakReceiver, WeakSender};
 use std::sync::Wait;
 use std::test::Fail;
 
@@ -28,19 +24,7 @@ fn operations_cross<'a, R: Wait + Copy + Send + Sync + 'a>() -> bool {
 }
 
 #[test]
-fn handles_of_one_channel(rt: HostRuntime) -> Result<(), Fail> {
-    let mut ids = EventIds::new();
-    let (s, r) = unbounded::<u64, _>(rt, rt.alloc(), &mut ids).expect(&rt, "memory");
-    let (other, _others) = unbounded::<u64, _>(rt, rt.alloc(), &mut ids).expect(&rt, "memory");
-    let more = s.try_clone().expect(&rt, "handles");
-    let weak = r
-        .downgrade()
-        .expect(&rt, "handles")
-        .upgrade()
-        .expect(&rt, "handles");
-    let again = weak.expect(&rt, "an open channel");
-    expect_true(&rt, s.same_channel(&more) && r.same_channel(&again));
-    expect_true(&rt, !s.same_channel(&other));
+fn handles_and_operations_cross(rt: HostRuntime) -> Result<(), Fail> {
     assert!(rt; handles_cross::<u64, HostRuntime>() && operations_cross::<HostRuntime>());
     Ok(())
 }

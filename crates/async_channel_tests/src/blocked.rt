@@ -8,6 +8,7 @@ use channel_calls::error::{Refused, SendError};
 use channel_calls::notices;
 use channel_calls::sleeps::Sleeps;
 use channel_calls::stage::{Line, Side};
+use channel_calls::taking::next_blocking;
 use concurrent_queue::call::QueueReply;
 use concurrent_queue::queue_call::QueueCall;
 use concurrent_queue::shared::queue::ConcurrentQueue;
@@ -16,6 +17,7 @@ use event_listener::key::Key;
 use event_listener::list::List;
 use event_listener::wakes::Wakes;
 use std::alloc::{AllocError, Global};
+use std::mem;
 use std::sync::Wait;
 use std::test::Fail;
 
@@ -85,7 +87,8 @@ impl<'a, R: Wait> ChannelCells<u64, u32> for Beside<'a, R> {
     ghost has_form = { λ c f. f ≡ c.queue.form };
 
     fn step_queue(&mut self, call: &mut QueueCall<u64>) -> Option<QueueReply<u64>> {
-        Some(self.queue.complete(self.rt, call))
+        let whole = mem::replace(call, QueueCall::ended());
+        Some(self.queue.complete(self.rt, whole))
     }
 
     fn insert(&mut self, line: Line) -> Result<Key, ListenError> {
@@ -171,13 +174,13 @@ struct Came {
     listed: (usize, usize),
 }
 
-fn sends_blocking<R: Wait>(rt: &R, alloc: Global, refuses: bool) -> Result<Came, AllocError> {
+/// An empty channel of one place.
+fn empty_cells<R: Wait>(rt: &R, alloc: Global, refuses: bool) -> Result<Beside<'_, R>, AllocError> {
     let queue = match ConcurrentQueue::bounded(alloc, 1) {
         Ok(queue) => queue,
         Err(_) => return Err(AllocError),
     };
-    let _ = queue.push(rt, 10);
-    let mut cells = Beside {
+    Ok(Beside {
         rt,
         queue,
         sends: List::new(alloc),
@@ -185,7 +188,12 @@ fn sends_blocking<R: Wait>(rt: &R, alloc: Global, refuses: bool) -> Result<Came,
         refuses,
         asked: 0,
         last: Last { woken: 0 },
-    };
+    })
+}
+
+fn sends_blocking<R: Wait>(rt: &R, alloc: Global, refuses: bool) -> Result<Came, AllocError> {
+    let mut cells = empty_cells(rt, alloc, refuses)?;
+    let _ = cells.queue.push(rt, 10);
     let mut sink = Last { woken: 0 };
     let answer = send_blocking(rt, 20, &mut cells, &mut sink);
     Ok(Came {
@@ -221,5 +229,32 @@ fn one_that_wakes_uses_its_notice_up(rt: HostRuntime) -> Result<(), Fail> {
         listed: (0, 0),
     };
     expect_equal(&rt, &came, &due);
+    Ok(())
+}
+
+/// What a walk over an empty channel gives where its parker is refused, then where a message is there, where the channel is closed
+/// besides, and once more; whether it has ended then; and how often it asked for a parker.
+fn walks<R: Wait>(
+    rt: &R,
+    alloc: Global,
+) -> Result<([Option<Result<u64, ListenError>>; 4], bool, u32), AllocError> {
+    let mut cells = empty_cells(rt, alloc, true)?;
+    let mut sink = Last { woken: 0 };
+    let mut ended = false;
+    let refused = next_blocking(rt, &mut ended, &mut cells, &mut sink);
+    let _ = cells.queue.push(rt, 30);
+    let message = next_blocking(rt, &mut ended, &mut cells, &mut sink);
+    let _ = cells.queue.close();
+    let end = next_blocking(rt, &mut ended, &mut cells, &mut sink);
+    let after = next_blocking(rt, &mut ended, &mut cells, &mut sink);
+    Ok(([refused, message, end, after], ended, cells.asked))
+}
+
+/// A refusal is an item, and the walk goes on after it up to its end.
+#[test]
+fn a_walk_gives_its_refusals(rt: HostRuntime) -> Result<(), Fail> {
+    let found = walks(&rt, rt.alloc())?;
+    let items = [Some(Err(ListenError::NoMemory)), Some(Ok(30)), None, None];
+    expect_equal(&rt, &found, &(items, true, 1));
     Ok(())
 }

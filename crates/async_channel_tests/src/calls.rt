@@ -1,7 +1,7 @@
 //! What calls of a channel do, by worked examples over one slot.
 
 use crate::checks::{expect_equal, expect_true};
-use channel_calls::ask::ChannelAsk;
+use channel_calls::ask::{ChannelAsk, lent};
 use channel_calls::call::ChannelCall;
 use channel_calls::error::{
     HandleError, OpenError, RecvError, Refused, SendError, TryRecvError, TrySendError,
@@ -264,7 +264,7 @@ fn refusals_hand_back_their_message(rt: HostRuntime) -> Result<(), Fail> {
 }
 
 fn takes_between_two_tries(all: &mut Fixture) -> [Said; 4] {
-    let mut receive = ChannelCall::new(ChannelAsk::PollRecv(None, 1));
+    let mut receive = ChannelCall::new(ChannelAsk::PollRecv(lent(None), 1));
     let begun = all.steps(&mut receive, 2);
     let mut send = ChannelCall::new(ChannelAsk::TrySend(5));
     let pushed = all.steps(&mut send, 3);
@@ -291,7 +291,7 @@ fn a_message_that_comes_between_two_tries_is_taken(rt: HostRuntime) -> Result<()
 
 /// What is said, and whether nobody was woken by the push and the receive by the section after it.
 fn wakes_after_the_push(all: &mut Fixture) -> ([Said; 4], bool, bool) {
-    let mut receive = ChannelCall::new(ChannelAsk::PollRecv(None, 1));
+    let mut receive = ChannelCall::new(ChannelAsk::PollRecv(lent(None), 1));
     let pending = all.steps(&mut receive, 4);
     let mut send = ChannelCall::new(ChannelAsk::TrySend(5));
     let pushed = all.steps(&mut send, 3);
@@ -315,15 +315,15 @@ fn a_pending_receive_is_woken_by_the_section_after_the_push(rt: HostRuntime) -> 
 /// Two sends wait, and the first is given up after the taking and before its section, which wakes the second.
 fn wakes_who_still_waits(all: &mut Fixture) -> ([Said; 6], bool, bool) {
     let filled = all.asks(ChannelAsk::TrySend(1));
-    let (pending, first, message) = all.runs(ChannelAsk::PollSend(2, None, 2));
-    let (_, second, _) = all.runs(ChannelAsk::PollSend(3, None, 3));
+    let (pending, first, message) = all.runs(ChannelAsk::PollSend(2, lent(None), 2));
+    let (_, second, _) = all.runs(ChannelAsk::PollSend(3, lent(None), 3));
     let mut receive = ChannelCall::new(ChannelAsk::TryRecv);
     let taken = all.steps(&mut receive, 3);
     let left = all.asks(ChannelAsk::GiveUp(Line::Sends, message, first));
     let nobody = all.woke([].as_slice());
     let received = all.steps(&mut receive, 1);
     let woken = all.woke([3].as_slice());
-    let mut send = ChannelCall::new(ChannelAsk::PollSend(3, second, 3));
+    let mut send = ChannelCall::new(ChannelAsk::PollSend(3, lent(second), 3));
     let sent = all.steps(&mut send, 6);
     (
         [filled, pending, taken, left, received, sent],
@@ -388,8 +388,8 @@ fn last_sender_closes(
 #[test]
 fn a_refused_poll_passes_on_and_the_last_sender_closes(rt: HostRuntime) -> Result<(), Fail> {
     let mut all = make_fixture(&rt)?;
-    let (_, first, _) = all.runs(ChannelAsk::PollRecv(None, 1));
-    let (_, second, _) = all.runs(ChannelAsk::PollRecv(None, 2));
+    let (_, first, _) = all.runs(ChannelAsk::PollRecv(lent(None), 1));
+    let (_, second, _) = all.runs(ChannelAsk::PollRecv(lent(None), 2));
     let (_, stream, _) = all.runs(ChannelAsk::PollNext(None, 3));
     let (_, closing, _) = all.runs(ChannelAsk::PollClosed(None, 4));
     let refused = refused_poll_passes_on(&mut all, [first, second]);

@@ -5,6 +5,7 @@ use std::alloc::AllocGlobal;
 use std::fmt::Debug;
 use std::process::Abort;
 use std::random::RandomSource;
+use worked_rows::Played;
 
 /// Ends the test where these differ, and shows both.
 pub fn expect_equal<A: Abort, T: PartialEq + Debug>(rt: &A, found: &T, wanted: &T) {
@@ -14,6 +15,12 @@ pub fn expect_equal<A: Abort, T: PartialEq + Debug>(rt: &A, found: &T, wanted: &
 /// Ends the test where this is false.
 pub fn expect_true<A: Abort>(rt: &A, it: bool) {
     assert!(rt; it);
+}
+
+/// Ends the test at the first call that answered another thing than its row says, and where there are not so many rows.
+pub fn expect_rows<A: Abort>(rt: &A, played: &Played<'_>, rows: u64) {
+    assert!(rt; played.differs.is_none(), "{:?}", played.differs);
+    assert_eq!(rt; played.rows, rows);
 }
 
 /// A task of its own; without one the test ends.
