@@ -1,22 +1,40 @@
 -- The first turn of a call that is alone at work.
-use Rattle.std.proofs.Common.{◌≡◌, [], ◌++◌, Option, None, Some, refl, sym, ap, ◌∙◌, subst}
+use Rattle.std.proofs.Common.{◌≡◌, Bool, true, false, if◌then◌else◌, [], ◌++◌, Option, None, Some, refl, sym, ap, ◌∙◌, subst}
 use Rattle.concurrent_queue.specs.Contents.{Contents}
 use Rattle.concurrent_queue.specs.Queue.{Queue, Phase, asked}
 use Rattle.concurrent_queue.specs.Step.{Fits}
 use Rattle.concurrent_queue.specs.declared.call.QueueAsk.TheVariants as ask
 use Rattle.concurrent_queue.specs.declared.queue_call.QueueCall.{QueueCall}
+use Rattle.event_listener.specs.declared.key.Key.{Key}
 use Rattle.channel_calls.specs.declared.ask.ChannelAsk.{ChannelAsk}
 use Rattle.channel_calls.specs.declared.ask.ChannelAsk.TheVariants.{TrySend, ForceSend, TryRecv, RecvMany, Close, PollSend, PollFinishedSend, PollRecv, PollClosed, PollNext, RefusePoll, GiveUp, DropSender, DropReceiver, CloneHandle, Upgrade, HandleCount, IsClosed, IsEmpty, IsFull, Len, Capacity, IsTerminated, SendIsTerminated, SameChannel, Make, DropWeak}
 use Rattle.channel_calls.specs.declared.reply.Reply.{Reply}
 use Rattle.channel_calls.specs.declared.stage.Stage.{Stage}
 use Rattle.channel_calls.specs.declared.stage.Turn.{Turn}
 use Rattle.channel_calls.specs.declared.stage.Turn.TheVariants.{Tries, Works, Ends}
-use Rattle.channel_calls.specs.Asks.{first}
+use Rattle.channel_calls.specs.declared.stage.Waiting.{Waiting}
+use Rattle.channel_calls.specs.declared.stage.Waiting.TheVariants as waiting
+use Rattle.channel_calls.specs.Turns.{again}
+use Rattle.channel_calls.specs.Asks.{asks_listener, first}
 use Rattle.channel_calls.specs.Moves.{Channel, Turned, seats, phase, IsTaken}
-use Rattle.channel_alone.specs.Alone.{Outcome, Alone}
+use Rattle.channel_alone.specs.Alone.{Outcome, Where, PollsSend, PollsReceive, AsksListener, Alone}
 use Rattle.channel_alone.proofs.Rest.{RestTurn}
 
 module _ {T W : Type 0} where
+  sent_rest : (m : T) (b : Bool) (key : Option Key) (task : W) (c : Channel T W) (o : Outcome T W)
+      → RestTurn (if b then asks_listener (waiting.Send m) key task else again (waiting.Send m) key task) c o
+      → Where b (AsksListener (waiting.Send m) key task c o (λ d. PollsSend m None task d o)) (PollsSend m key task c o)
+  sent_rest m false key task c o k = k
+  sent_rest m true None task c o k = k
+  sent_rest m true (Some key) task c o k = k
+
+  received_rest : (b : Bool) (key : Option Key) (task : W) (c : Channel T W) (o : Outcome T W)
+      → RestTurn (if b then asks_listener waiting.Receive key task else again waiting.Receive key task) c o
+      → Where b (AsksListener waiting.Receive key task c o (λ d. PollsReceive None task d o)) (PollsReceive key task c o)
+  received_rest false key task c o k = k
+  received_rest true None task c o k = k
+  received_rest true (Some key) task c o k = k
+
   -- what comes of the first turn is what comes of the call
   pub first_rest : (a : ChannelAsk T W) (c : Channel T W) (o : Outcome T W) → RestTurn (first a) c o → Alone a c o
   first_rest (TrySend m) c o k = k
@@ -24,9 +42,9 @@ module _ {T W : Type 0} where
   first_rest TryRecv c o k = k
   first_rest (RecvMany n) c o k = k
   first_rest Close c o k = k
-  first_rest (PollSend m key task) c o k = k
+  first_rest (PollSend m l task) c o k = sent_rest m l.asks_first l.key task c o k
   first_rest PollFinishedSend c o k = k
-  first_rest (PollRecv key task) c o k = k
+  first_rest (PollRecv l task) c o k = received_rest l.asks_first l.key task c o k
   first_rest (PollClosed key task) c o k = k
   first_rest (PollNext None task) c o k = k
   first_rest (PollNext (Some key) task) c o k = k
@@ -48,6 +66,15 @@ module _ {T W : Type 0} where
   first_rest Make c o k = k
   first_rest DropWeak c o k = k
 
+  asked_goes_on : (w : Waiting T) (key : Option Key) (task : W) (r : Option (Reply T)) (s : Stage (QueueCall T) T W) → IsTaken (asks_listener w key task) r s → r ≡ None
+  asked_goes_on w None task r s h = h.2
+  asked_goes_on w (Some key) task r s h = h.0
+
+  poll_goes_on : (w : Waiting T) (b : Bool) (key : Option Key) (task : W) (r : Option (Reply T)) (s : Stage (QueueCall T) T W)
+      → IsTaken (if b then asks_listener w key task else again w key task) r s → r ≡ None
+  poll_goes_on w false key task r s h = h.2
+  poll_goes_on w true key task r s h = asked_goes_on w key task r s h
+
   -- no call answers before its first step
   pub first_goes_on : (a : ChannelAsk T W) (r : Option (Reply T)) (s : Stage (QueueCall T) T W) → IsTaken (first a) r s → r ≡ None
   first_goes_on (TrySend m) r s h = h.2
@@ -55,12 +82,11 @@ module _ {T W : Type 0} where
   first_goes_on TryRecv r s h = h.2
   first_goes_on (RecvMany n) r s h = h.0
   first_goes_on Close r s h = h.2
-  first_goes_on (PollSend m key task) r s h = h.2
+  first_goes_on (PollSend m l task) r s h = poll_goes_on (waiting.Send m) l.asks_first l.key task r s h
   first_goes_on PollFinishedSend r s h = h.0
-  first_goes_on (PollRecv key task) r s h = h.2
+  first_goes_on (PollRecv l task) r s h = poll_goes_on waiting.Receive l.asks_first l.key task r s h
   first_goes_on (PollClosed key task) r s h = h.2
-  first_goes_on (PollNext None task) r s h = h.2
-  first_goes_on (PollNext (Some key) task) r s h = h.0
+  first_goes_on (PollNext key task) r s h = asked_goes_on waiting.Stream key task r s h
   first_goes_on (RefusePoll line message key) r s h = h.0
   first_goes_on (GiveUp line message key) r s h = h.0
   first_goes_on DropSender r s h = h.0

@@ -203,18 +203,24 @@ module _ {T W : Type 0} where
   abbrev pub says_only : Reply T → Channel T W → Outcome T W
   says_only x c = answers x nothing_kept c
 
+  -- a poll that asks its listener before it tries: this comes of its try over no listener
+  abbrev pub AsksListener : Waiting T → Option Key → W → Channel T W → Outcome T W → (Channel T W → Type 0) → Type 0
+  AsksListener w None task c o tries = tries c
+  AsksListener w (Some key) task c o tries = Registers w key task c o tries
+
   abbrev pub Alone : ChannelAsk T W → Channel T W → Outcome T W → Type 0
   Alone (TrySend m) c o = MayLackRoom (says (reply.TrySend (Err (refused.NoMemory m)))) c o ⊎ (o ≡ sends m c)
   Alone (ForceSend m) c o = MayLackRoom (says (reply.ForceSend (Err (refused.NoMemory m)))) c o ⊎ (o ≡ force_sends m c)
   Alone TryRecv c o = o ≡ receives c
   Alone (RecvMany n) c o = ReceivesSeveral n c o
   Alone Close c o = o ≡ closes closer.Call c
-  Alone (PollSend m key task) c o = PollsSend m key task c o
+  Alone (PollSend m l task) c o =
+      Where l.asks_first (AsksListener (waiting.Send m) l.key task c o (λ d. PollsSend m None task d o)) (PollsSend m l.key task c o)
   Alone PollFinishedSend c o = o ≡ says_only (reply.SendPoll poll.Pending) c
-  Alone (PollRecv key task) c o = PollsReceive key task c o
+  Alone (PollRecv l task) c o =
+      Where l.asks_first (AsksListener waiting.Receive l.key task c o (λ d. PollsReceive None task d o)) (PollsReceive l.key task c o)
   Alone (PollClosed key task) c o = PollsClosing key task c o
-  Alone (PollNext None task) c o = PollsStream None task c o
-  Alone (PollNext (Some key) task) c o = Registers waiting.Stream key task c o (λ d. PollsStream None task d o)
+  Alone (PollNext key task) c o = AsksListener waiting.Stream key task c o (λ d. PollsStream None task d o)
   Alone (RefusePoll line message key) c o = o ≡ ends [] (is_refused line message key) c
   Alone (GiveUp line message key) c o = o ≡ ends [] (gives_up line message key) c
   Alone DropSender c o = o ≡ drops Senders None c

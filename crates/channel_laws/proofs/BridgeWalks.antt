@@ -22,7 +22,7 @@ use Rattle.channel_calls.specs.declared.stage.Stage.{Stage}
 use Rattle.channel_calls.specs.declared.stage.Stage.TheVariants.{Trying, Working, Finished}
 use Rattle.channel_calls.specs.declared.stage.Work.{Work}
 use Rattle.channel_calls.specs.declared.stage.Work.TheVariants.{TellReceive, TellStreams, TellSend, TellSends, TakeRoom, TellAll, Insert, Register, Leave, Lower, Count, Load, Raise}
-use Rattle.channel_laws.specs.Bridge.{Act, on_queue, on_roster, on_nothing, Event, does, Given, Notes, Acts, QueueIsWalked, Along, WalksAct}
+use Rattle.channel_laws.specs.Bridge.{Act, on_queue, on_roster, on_nothing, Event, does, Given, Notes, Acts, QueueIsWalked, Along, StandsAct, WalksAct}
 
 module _ {T W X : Type 0} (did : Deed T W → X → X → Type 0) (cells_did : cell.Deed T → X → X → Type 0) (form : QueueForm) where
   along_both : (os ps : List (Act T W)) (s m t : X) → Along did cells_did os s m → Along did cells_did ps m t → Along did cells_did (os ++ ps) s t
@@ -35,6 +35,10 @@ module _ {T W X : Type 0} (did : Deed T W → X → X → Type 0) (cells_did : c
   map_both : (os ps : List (Act T W)) (xs : List (Event T W)) → map does os ++ (map does ps ++ xs) ≡ map does (os ++ ps) ++ xs
   map_both [] ps xs = refl
   map_both (o ∷ os) ps xs = ap (λ (ys : List (Event T W)). does o ∷ ys) (map_both os ps xs)
+
+  map_append : (os ps : List (Act T W)) → map does os ++ map does ps ≡ map does (os ++ ps)
+  map_append [] ps = refl
+  map_append (o ∷ os) ps = ap (λ (ys : List (Event T W)). does o ∷ ys) (map_append os ps)
 
   -- what is left to show behind a step with this answer
   abbrev Rest : Stage (QueueCall T) T W → Option (Reply T) → List (Event T W) → List (Given T) → Type 0
@@ -124,6 +128,20 @@ module _ {T W X : Type 0} (did : Deed T W → X → X → Type 0) (cells_did : c
           along_both one.0 more.0 s y t one.1 more.1,
           λ xs given rest. subst (λ (ys : List (Event T W)). Acts form (Some at) ys given) (map_both one.0 more.0 xs) (one.2 (map does more.0 ++ xs) given (more.2 xs given rest)),
         )
+
+    led : (n : ℕ) (s : X) (at : Stage (QueueCall T) T W) (t : X) (b : Stage (QueueCall T) T W) → Leads did n s at t b
+        → (os : List (Act T W)) × Along did cells_did os s t × Acts form (Some at) (map does os) []
+    led zero s at t b (e, f) = ([], e, refl)
+    led (suc j) s at t b (y, a, k, h, path) =
+        let one = step at s k a None y h in
+        let more = led j y a t b path in (
+          one.0 ++ more.0,
+          along_both one.0 more.0 s y t one.1 more.1,
+          subst (λ (ys : List (Event T W)). Acts form (Some at) ys []) (map_append one.0 more.0) (one.2 (map does more.0) [] more.2),
+        )
+
+pub stands_act : {T W X : Type 0} (did : Deed T W → X → X → Type 0) (cells_did : cell.Deed T → X → X → Type 0) → StandsAct did cells_did
+stands_act did cells_did form ask a b n s t walks takes path = let g = led did cells_did form walks n s a t b path in (g.0, g.1, (a, takes, g.2))
 
 pub walks_act : {T W X : Type 0} (did : Deed T W → X → X → Type 0) (cells_did : cell.Deed T → X → X → Type 0) → WalksAct did cells_did
 walks_act did cells_did form ask s t r kept walks (at, takes, (n, x, b, m, c, path, h, is)) =

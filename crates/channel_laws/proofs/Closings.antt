@@ -96,7 +96,7 @@ module _ {T W : Type 0} where
   pub new_sound : (cap : Option ℕ) → ClosingSound (new_scene {T = T} {W = W} cap)
   new_sound cap = record { known = tt; balanced = refl; apart = new_apart T W cap; owed = λ line key shut w. absurd cc }
 
-  pending_owed : (s : Scene T W) → ClosingIsOwed s → PendingIsOwedTheClosing s
+  pub pending_owed : (s : Scene T W) → ClosingIsOwed s → PendingIsOwedTheClosing s
   pending_owed s owed line key shut w none =
       any_but (λ u. HasClosed u.deeds × HasToTell line u.at) (λ u. LooksAgain line key u.at) s.under_way (owed line key shut w) none
 

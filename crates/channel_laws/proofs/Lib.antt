@@ -32,3 +32,5 @@ mod BridgeSteps
 mod Bridge
 mod BridgeWalks
 mod BridgeRow
+mod BridgeBlocks
+mod BridgeHeadline

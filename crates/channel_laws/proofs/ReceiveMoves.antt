@@ -17,6 +17,7 @@ use Rattle.channel_calls.specs.Moves.{Channel, Effect, queued, Turned, Moves}
 use Rattle.channel_calls.specs.Turns.{line_of, again}
 use Rattle.channel_calls.specs.declared.ask.ChannelAsk.{ChannelAsk}
 use Rattle.channel_calls.specs.declared.ask.ChannelAsk.TheVariants as channel
+use Rattle.channel_calls.specs.declared.ask.Loan.{Loan}
 use Rattle.channel_calls.specs.declared.reply.Reply.{Reply}
 use Rattle.channel_calls.specs.declared.stage.Aim.{Aim}
 use Rattle.channel_calls.specs.declared.stage.Aim.TheVariants as aim
@@ -46,7 +47,7 @@ module _ {T W : Type 0} where
   counted x y a s = counts_for_receives x (Trying (record { ask = a; stage = s }) y)
 
   module _ (q : Queue T) (ds : List (Deed T W)) (seen : List (Channel T W)) where
-    popping : (k key : Option Key) (t' task : W) (m : QueueMark) (s t : queue.Stage T) → queue.ContinuesPop q m s t
+    popping : (k : Loan) (key : Option Key) (t' task : W) (m : QueueMark) (s t : queue.Stage T) → queue.ContinuesPop q m s t
         → number ask.Pop s m q + counted (channel.PollRecv k t') (aim.Poll Receives key task) ask.Pop s ≤ length q.items
         + counted (channel.PollRecv k t') (aim.Poll Receives key task) ask.Pop t
     popping k None t' task m s t g = let n = pop_takes q m s t g in n.0
@@ -80,7 +81,7 @@ module _ {T W : Type 0} where
     pushed_try v w Nothing (answer.Push (Err (push_error.NoMemory z))) (trying b) h = inl (omega arith)
     pushed_try v w m r s h = absurd h
 
-    pushed_poll : (v w : T) (k key : Option Key) (t' task : W) (m : QueueMark) (r : QueueReply T) (s : queue.Stage T)
+    pushed_poll : (v w : T) (k : Loan) (key : Option Key) (t' task : W) (m : QueueMark) (r : QueueReply T) (s : queue.Stage T)
         → AnswersPush q w m r s
         → Answered (channel.PollSend v k t') (aim.Poll Sends key task) (ask.Push w) m r s
     pushed_poll v w k key t' task Nothing (answer.Push (Ok u)) (appended None) h = inl (omega arith)
@@ -96,7 +97,7 @@ module _ {T W : Type 0} where
     forced v w Nothing (answer.Force (Err (force_error.NoMemory z))) (trying b) h = inl (omega arith)
     forced v w m r s h = absurd h
 
-    popped : (k key : Option Key) (t' task : W) (m : QueueMark) (r : QueueReply T) (s : queue.Stage T) → AnswersPop q m r s
+    popped : (k : Loan) (key : Option Key) (t' task : W) (m : QueueMark) (r : QueueReply T) (s : queue.Stage T) → AnswersPop q m r s
         → Answered (channel.PollRecv k t') (aim.Poll Receives key task) ask.Pop m r s
     popped k key t' task Nothing (answer.Pop (Ok w)) (taken v) h =
         let few = anew_at_most {T = T} (record { ask = ask.Pop; stage = taken v }) Receives key task in inl (omega (arith, few))

@@ -1,5 +1,5 @@
 -- What a reply that says the end, and one that gives a message, say of their call.
-use Rattle.std.proofs.Common.{◌≡◌, List, [], ◌∷◌, ◌++◌, Option, None, Some, Ok, Err, ◌⊎◌, inl, inr, sym, subst}
+use Rattle.std.proofs.Common.{◌≡◌, List, [], ◌∷◌, ◌++◌, length, Option, None, Some, Ok, Err, ◌⊎◌, inl, inr, sym, subst}
 use Rattle.event_listener.specs.declared.error.ListenError.TheVariants as listen_error
 use Rattle.futures.specs.declared.task.Poll.TheVariants.{Ready}
 use Rattle.channel_calls.specs.Moves.{Channel}
@@ -18,7 +18,7 @@ use Rattle.channel_calls.specs.declared.stage.Kept.{Kept}
 use Rattle.channel_calls.specs.declared.stage.Line.{Line}
 use Rattle.channel_calls.specs.declared.stage.Line.TheVariants.{Sends, Receives, Streams, Closings}
 use Rattle.channel_steps.specs.Moments.{Deed, with_deed, Spent, Once, Took, TookAll, Replaced, Displaced}
-use Rattle.channel_steps.specs.Answers.{TrySendRow, ForceSendRow, TryRecvRow, SeveralRow, SendPollRow, RecvPollRow, ClosedPollRow, NextRow, CloseRow, CloneRow, UpgradeRow, FlagRow, CountRow, CapacityRow, TerminatedRow, is_closed, is_full, held, Row}
+use Rattle.channel_steps.specs.Answers.{TrySendRow, ForceSendRow, TryRecvRow, SeveralRow, SendPollRow, RecvPollRow, ClosedPollRow, NextRow, CloseRow, CloneRow, UpgradeRow, FlagRow, CountRow, CapacityRow, TerminatedRow, is_closed, is_full, Row}
 use Rattle.channel_steps.specs.Moments.{is_empty}
 use Rattle.channel_steps.specs.Scene.{Under, MayFinish}
 use Rattle.channel_laws.specs.Over.{StillDeeds}
@@ -115,9 +115,9 @@ module _ {T W : Type 0} where
     row_gives TryRecv r g = given (Moved (TryRecvRow ds seen)) (λ v h k. took_moves ds v h k) (λ v h k. h) (λ v h k. h) (λ v h k. h) (λ v vs h k. h) r g
     row_gives (RecvMany n) r g = given (Moved (SeveralRow n ds seen)) (λ v h k. h) (λ v h k. h) (λ v h k. h) (λ v h k. h) (λ v vs h k. several_moves ds v vs h.0 k) r g
     row_gives Close r g = given (Moved (CloseRow ds seen)) (λ v h k. h) (λ v h k. h) (λ v h k. h) (λ v h k. h) (λ v vs h k. h) r g
-    row_gives (PollSend m key task) r g = given (Moved (SendPollRow m ds seen)) (λ v h k. h) (λ v h k. h) (λ v h k. h) (λ v h k. h) (λ v vs h k. h) r g
+    row_gives (PollSend m key task) r g = given (Moved (SendPollRow m key ds seen)) (λ v h k. h) (λ v h k. h) (λ v h k. h) (λ v h k. h) (λ v vs h k. h) r g
     row_gives PollFinishedSend r g = λ h k. only _ r GivesMessage (λ x. x) g h.1
-    row_gives (PollRecv key task) r g = given (Moved (RecvPollRow ds seen)) (λ v h k. h) (λ v h k. took_moves ds v h k) (λ v h k. h) (λ v h k. h) (λ v vs h k. h) r g
+    row_gives (PollRecv key task) r g = given (Moved (RecvPollRow key ds seen)) (λ v h k. h) (λ v h k. took_moves ds v h k) (λ v h k. h) (λ v h k. h) (λ v vs h k. h) r g
     row_gives (PollClosed key task) r g = given (Moved (ClosedPollRow ds seen)) (λ v h k. h) (λ v h k. h) (λ v h k. h) (λ v h k. h) (λ v vs h k. h) r g
     row_gives (PollNext key task) r g = given (Moved (NextRow ds seen)) (λ v h k. h) (λ v h k. h) (λ v h k. took_moves ds v h k) (λ v h k. h) (λ v vs h k. h) r g
     row_gives (RefusePoll line message key) r g = λ h k. only _ r GivesMessage (no_refusal_gives line) g h.1
@@ -130,7 +130,7 @@ module _ {T W : Type 0} where
     row_gives IsClosed r g = given (Moved (FlagRow is_closed ds seen)) (λ v h k. h) (λ v h k. h) (λ v h k. h) (λ v h k. h) (λ v vs h k. h) r g
     row_gives IsEmpty r g = given (Moved (FlagRow is_empty ds seen)) (λ v h k. h) (λ v h k. h) (λ v h k. h) (λ v h k. h) (λ v vs h k. h) r g
     row_gives IsFull r g = given (Moved (FlagRow is_full ds seen)) (λ v h k. h) (λ v h k. h) (λ v h k. h) (λ v h k. h) (λ v vs h k. h) r g
-    row_gives Len r g = given (Moved (CountRow held ds seen)) (λ v h k. h) (λ v h k. h) (λ v h k. h) (λ v h k. h) (λ v vs h k. h) r g
+    row_gives Len r g = given (Moved (CountRow (λ c. length c.queue.items) ds seen)) (λ v h k. h) (λ v h k. h) (λ v h k. h) (λ v h k. h) (λ v vs h k. h) r g
     row_gives Capacity r g = given (Moved (CapacityRow ds seen)) (λ v h k. h) (λ v h k. h) (λ v h k. h) (λ v h k. h) (λ v vs h k. h) r g
     row_gives IsTerminated r g = given (Moved (TerminatedRow ds seen)) (λ v h k. h) (λ v h k. h) (λ v h k. h) (λ v h k. h) (λ v vs h k. h) r g
     row_gives (SendIsTerminated b) r g = λ h k. only _ r GivesMessage (λ x. x) g h.1
@@ -151,9 +151,9 @@ module _ {T W : Type 0} where
     row_ends TryRecv r g = ended (Over (TryRecvRow ds seen)) (λ h. h.1) (λ e h. absurd h) (λ h. absurd h) (λ h. absurd h) r g
     row_ends (RecvMany n) r g = ended (Over (SeveralRow n ds seen)) (λ h. absurd h) (λ e h. absurd h) (λ h. absurd h) (λ h. h.2) r g
     row_ends Close r g = ended (Over (CloseRow ds seen)) (λ h. absurd h) (λ e h. absurd h) (λ h. absurd h) (λ h. absurd h) r g
-    row_ends (PollSend m key task) r g = ended (Over (SendPollRow m ds seen)) (λ h. absurd h) (λ e h. absurd h) (λ h. absurd h) (λ h. absurd h) r g
+    row_ends (PollSend m key task) r g = ended (Over (SendPollRow m key ds seen)) (λ h. absurd h) (λ e h. absurd h) (λ h. absurd h) (λ h. absurd h) r g
     row_ends PollFinishedSend r g = λ h. absurd (only _ r SaysTheEnd (λ x. x) g h.1)
-    row_ends (PollRecv key task) r g = ended (Over (RecvPollRow ds seen)) (λ h. absurd h) (λ e h. h.1) (λ h. absurd h) (λ h. absurd h) r g
+    row_ends (PollRecv key task) r g = ended (Over (RecvPollRow key ds seen)) (λ h. absurd h) (λ e h. h.1) (λ h. absurd h) (λ h. absurd h) r g
     row_ends (PollClosed key task) r g = ended (Over (ClosedPollRow ds seen)) (λ h. absurd h) (λ e h. absurd h) (λ h. absurd h) (λ h. absurd h) r g
     row_ends (PollNext key task) r g = ended (Over (NextRow ds seen)) (λ h. absurd h) (λ e h. absurd h) (λ h. h.1) (λ h. absurd h) r g
     row_ends (RefusePoll line message key) r g = λ h. absurd (only _ r SaysTheEnd (no_refusal_ends line) g h.1)
@@ -166,7 +166,7 @@ module _ {T W : Type 0} where
     row_ends IsClosed r g = ended (Over (FlagRow is_closed ds seen)) (λ h. absurd h) (λ e h. absurd h) (λ h. absurd h) (λ h. absurd h) r g
     row_ends IsEmpty r g = ended (Over (FlagRow is_empty ds seen)) (λ h. absurd h) (λ e h. absurd h) (λ h. absurd h) (λ h. absurd h) r g
     row_ends IsFull r g = ended (Over (FlagRow is_full ds seen)) (λ h. absurd h) (λ e h. absurd h) (λ h. absurd h) (λ h. absurd h) r g
-    row_ends Len r g = ended (Over (CountRow held ds seen)) (λ h. absurd h) (λ e h. absurd h) (λ h. absurd h) (λ h. absurd h) r g
+    row_ends Len r g = ended (Over (CountRow (λ c. length c.queue.items) ds seen)) (λ h. absurd h) (λ e h. absurd h) (λ h. absurd h) (λ h. absurd h) r g
     row_ends Capacity r g = ended (Over (CapacityRow ds seen)) (λ h. absurd h) (λ e h. absurd h) (λ h. absurd h) (λ h. absurd h) r g
     row_ends IsTerminated r g = ended (Over (TerminatedRow ds seen)) (λ h. absurd h) (λ e h. absurd h) (λ h. absurd h) (λ h. absurd h) r g
     row_ends (SendIsTerminated b) r g = λ h. absurd (only _ r SaysTheEnd (λ x. x) g h.1)

@@ -22,6 +22,7 @@ use Rattle.channel_calls.specs.Moves.{Channel, Effect, queued, Turned, Moves}
 use Rattle.channel_calls.specs.Turns.{line_of, again}
 use Rattle.channel_calls.specs.declared.ask.ChannelAsk.{ChannelAsk}
 use Rattle.channel_calls.specs.declared.ask.ChannelAsk.TheVariants as channel
+use Rattle.channel_calls.specs.declared.ask.Loan.{Loan}
 use Rattle.channel_calls.specs.declared.reply.Reply.{Reply}
 use Rattle.channel_calls.specs.declared.stage.Aim.{Aim}
 use Rattle.channel_calls.specs.declared.stage.Aim.TheVariants as aim
@@ -98,7 +99,7 @@ module _ {T W : Type 0} where
   counted x y a s = counts_for_sends x (Trying (record { ask = a; stage = s }) y)
 
   module _ (q : Queue T) (ds : List (Deed T W)) (seen : List (Channel T W)) where
-    pushing : (v w : T) (k key : Option Key) (t' task : W) (m : QueueMark) (s t : queue.Stage T) → queue.ContinuesPush q m s t
+    pushing : (v w : T) (k : Loan) (key : Option Key) (t' task : W) (m : QueueMark) (s t : queue.Stage T) → queue.ContinuesPush q m s t
         → length q.items + counted (channel.PollSend v k t') (aim.Poll Sends key task) (ask.Push w) s ≤ number (ask.Push w) s m
         q + counted (channel.PollSend v k t') (aim.Poll Sends key task) (ask.Push w) t
     pushing v w k None t' task m s t g = let n = push_fills q w m s t g in n.0
@@ -128,7 +129,7 @@ module _ {T W : Type 0} where
         (length q.items + counted x y a s ≤ number a s m q + weigh_turn counts_for_sends x (answered_next y r))
         ⊎ ((m ≡ Nothing) × Refuses q)
 
-    pushed : (v w : T) (k key : Option Key) (t' task : W) (m : QueueMark) (r : QueueReply T) (s : queue.Stage T)
+    pushed : (v w : T) (k : Loan) (key : Option Key) (t' task : W) (m : QueueMark) (r : QueueReply T) (s : queue.Stage T)
         → AnswersPush q w m r s
         → Answered (channel.PollSend v k t') (aim.Poll Sends key task) (ask.Push w) m r s
     pushed v w k key t' task Nothing (answer.Push (Ok u)) (appended None) h =
@@ -169,7 +170,7 @@ module _ {T W : Type 0} where
     popped_several n z Nothing (answer.Pop (Err pop_error.Closed)) (trying b) h = let k = stops n z.taken try_recv_error.Closed in inl (omega (arith, k))
     popped_several n z m r s h = absurd h
 
-    popped_poll : (k key : Option Key) (t' task : W) (m : QueueMark) (r : QueueReply T) (s : queue.Stage T) → AnswersPop q m r s
+    popped_poll : (k : Loan) (key : Option Key) (t' task : W) (m : QueueMark) (r : QueueReply T) (s : queue.Stage T) → AnswersPop q m r s
         → Answered (channel.PollRecv k t') (aim.Poll Receives key task) ask.Pop m r s
     popped_poll k key t' task Nothing (answer.Pop (Ok w)) (taken v) h = inl (omega arith)
     popped_poll k key t' task Nothing (answer.Pop (Err pop_error.Empty)) (trying b) h = inl (omega arith)

@@ -88,7 +88,7 @@ module _ {T W : Type 0} where
   pub new_sound : (cap : Option ℕ) → StreamsSound (new_scene {T = T} {W = W} cap)
   new_sound cap = record { known = tt; balanced = refl; apart = tt; owed = λ key w. inl refl }
 
-  pending_owed : (s : Scene T W) → StreamsAreOwed s → PendingStreamsAreOwed s
+  pub pending_owed : (s : Scene T W) → StreamsAreOwed s → PendingStreamsAreOwed s
   pending_owed s owed key w none = but_it (owed key w)
     where
       but_it : (s.now.queue.items ≡ []) ⊎ Any (AnswersFor key) s.under_way → (s.now.queue.items ≡ []) ⊎ Any (λ u. IsSending u.ask × IsBringing u.at) s.under_way

@@ -19,6 +19,7 @@ use Rattle.channel_calls.specs.Asks.{first, kept_by}
 use Rattle.channel_calls.specs.Deeds.{Deed, stepped, Done}
 use Rattle.channel_calls.specs.Effects.{Does}
 use Rattle.channel_calls.specs.Parts.{Parts, new_roster}
+use Rattle.channel_calls.specs.Walks as walks
 use Rattle.channel_calls.specs.Walks.{Takes, ChannelMakes, WalkedFrom}
 use Rattle.channel_calls.specs.declared.ask.ChannelAsk.{ChannelAsk}
 use Rattle.channel_calls.specs.declared.mark.Mark.{Mark}
@@ -160,6 +161,12 @@ module _ {T W X : Type 0} (did : Deed T W → X → X → Type 0) (cells_did : c
       (form : QueueForm) (ask : ChannelAsk T W) (s t : X) (r : Reply T) (kept : Kept T) → QueueIsWalked form → WalkedFrom did (first ask) s r kept t
       → (os : List (Act T W)) × Along os s t
       × ((xs : List (Event T W)) (more : List (Given T)) → Acts form None xs more → Acts form None (begins ask ∷ map does os ++ xs) (record { reply = r; kept = kept } ∷ more))
+
+  -- and so has one that was walked to some stage and makes no more steps: its party's last events
+  abbrev pub StandsAct : Type 0
+  StandsAct =
+      (form : QueueForm) (ask : ChannelAsk T W) (a b : Stage (QueueCall T) T W) (n : ℕ) (s t : X) → QueueIsWalked form → Takes (first ask) a None → walks.Leads did n s a t b
+      → (os : List (Act T W)) × Along os s t × Acts form None (begins ask ∷ map does os) []
 
 -- an operation on the cells of the queue, seen in the channel's; it wakes nobody
 abbrev pub InCells : {T Q C S : Type 0} → (cell.Deed T → Q → Q → Type 0) → (C → Q) → cell.Deed T → C × S → C × S → Type 0

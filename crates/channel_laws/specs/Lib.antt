@@ -11,4 +11,6 @@ pub mod Sends
 pub mod Sound
 pub mod Bridge
 pub mod BridgeRow
+pub mod BridgeBlocks
+pub mod BridgeHeadline
 pub mod Bounds

@@ -1,8 +1,11 @@
 //! Laws of every run of a channel's steps. Each is the contract of a function that does nothing; what
 //! `channel_steps::run::run_steps` does is such a run.
 
-ghost use Rattle.channel_laws.specs.Bridge.{InCells, MergesAreRuns, WalksAct};
+ghost use Rattle.channel_laws.specs.Bridge.{InCells, MergesAreRuns, StandsAct, WalksAct};
+ghost use Rattle.channel_laws.specs.BridgeBlocks.{BlocksInCalls, Rested};
+ghost use Rattle.channel_laws.specs.BridgeHeadline.{MergesKeepTheHeadline};
 ghost use Rattle.channel_laws.specs.BridgeRow.{TwoClonesMerge};
+ghost use Rattle.channel_calls.specs.Blocks.{Asked, Slept};
 ghost use Rattle.channel_calls.specs.Deeds.{Done};
 ghost use Rattle.channel_laws.specs.Bounds.{BoundsStay, ClosesOnce, NeverOverfull, UnboundedIsNeverFull};
 ghost use Rattle.channel_laws.specs.Closed.{ClosingIsForGood};
@@ -14,6 +17,7 @@ ghost use Rattle.channel_laws.specs.Sends.{NoSendIsForgotten, SendsStayOwed};
 ghost use Rattle.channel_laws.specs.Streams.{NoStreamIsForgotten, StreamsStayOwed};
 
 use channel_calls::cells::ChannelCells;
+use channel_calls::sleeps::Sleeps;
 use concurrent_queue::cells::Cells;
 use event_listener::wakes::Wakes;
 
@@ -149,6 +153,18 @@ pub fn merges_are_runs<T, W, S: Wakes<W>>()
     ensures runs { MergesAreRuns T W S S.wakes }
 {}
 
+/// The headline holds of what any number of parties do to a new channel, if each call does what its machine does and goes by the
+/// answers, and all their deeds come in one order in which each answer is what the cells then held, fewer than 2^61 of them. At each
+/// moment what left the channel, followed by what it holds, is what came into it, in order, and it is no more than fit; beside
+/// one who is pending and was not told there is no message, no free place and no closing but such as a told one or a call under way
+/// answers for. Each reply's row holds of the marks and moments of its call. What is closed stays closed; once a reply says the
+/// end, nothing comes or leaves, and a call that begins then gives no message. Each party was given what these replies give it.
+///
+/// Own to this project.
+pub fn merges_keep_the_headline<T, W, S: Wakes<W>>()
+    ensures headline { MergesKeepTheHeadline T W S S.wakes }
+{}
+
 /// What the contract of a whole call says, over cells of any kind, is what `merges_are_runs` asks of its party: the call has
 /// done what its machine does, this and nothing else, and goes by the answers to its reply. Of the cells only this is asked,
 /// that they have cells of a queue in them, and that what they do to their queue by a step is a walk of the queue's call over
@@ -157,6 +173,22 @@ pub fn merges_are_runs<T, W, S: Wakes<W>>()
 /// Own to this project.
 pub fn walks_act<T, W, Q: Cells<T>, C: ChannelCells<T, W>, S: Wakes<W>>()
     ensures acts { (view : C → Q) → WalksAct (Done C.did S.wakes) (InCells Q.did view) }
+{}
+
+/// What the contract of a call says that blocks its thread, over cells of any kind, is that it made whole calls one after another:
+/// some that don't wait, a first poll, and polls that ask their listener first, each but the last of which waits and leaves its
+/// listener to the next. Before a section on a list it may have asked for a task and slept, which is nothing to the channel. So
+/// each of these calls is what `merges_are_runs` asks of its party, as `walks_act` says of calls whose sections come so, and the reply
+/// of the last one is that of the call that blocks.
+///
+/// Where it was refused its task before it ever slept, its first poll stands for ever where it was to register, and a poll that
+/// is refused its task is made beside it, as by another party: a run, too.
+///
+/// Own to this project.
+pub fn blocking_makes_calls<T, W, Q: Cells<T>, C: Sleeps<T, W>, S: Wakes<W>>()
+    ensures calls { BlocksInCalls (Done C.did S.wakes) (Asked C.parked) (Slept C.slept) }
+    ensures acts { (view : C → Q) → WalksAct (Rested (Done C.did S.wakes) (Asked C.parked) (Slept C.slept)) (InCells Q.did view) }
+    ensures stands { (view : C → Q) → StandsAct (Rested (Done C.did S.wakes) (Asked C.parked) (Slept C.slept)) (InCells Q.did view) }
 {}
 
 /// There are such merges: two clones of a sender that race for its count, as they would between two threads.

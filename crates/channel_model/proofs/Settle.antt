@@ -99,7 +99,7 @@ woken_end Closings w l = refl
 pub Nearer : Waiting → Waiting → Type 0
 Nearer l m = (suc (pending_count m) ≤ pending_count l) ⊎ ((pending_count m ≤ pending_count l) × (suc (length m.woken) ≤ length l.woken))
 
-front_stays : (w : Waiter) (xs ys : List Waiter) → is_among w xs ≡ true → is_among w (xs ++ ys) ≡ true
+pub front_stays : (w : Waiter) (xs ys : List Waiter) → is_among w xs ≡ true → is_among w (xs ++ ys) ≡ true
 front_stays w [] ys e = cc e
 front_stays w (x ∷ xs) ys e = elim (decided (same_waiter w x)) [
   | inl t ↦ rw t refl
@@ -155,7 +155,7 @@ again_nearer w l e =
     rw off (inr (omega (arith, a, b, d), omega (arith, c, f)))
 
 -- one who is woken is not untold
-not_untold : (k : Kind) (line : Line) (w : Waiter) (l : Waiting) → Placed k l → is_among w l.woken ≡ true → is_among w (untold line l) ≡ false
+pub not_untold : (k : Kind) (line : Line) (w : Waiter) (l : Waiting) → Placed k l → is_among w l.woken ≡ true → is_among w (untold line l) ≡ false
 not_untold k line w l p e = elim (decided (is_among w (untold line l))) [
   | inr t ↦ t
   | inl t ↦ absurd (twice line t)
@@ -402,15 +402,15 @@ woken_next s awake w a front answers =
 
 -- ---- how many are woken by one poll
 
-first_one : (ws : List Waiter) → length (take 1 ws) ≤ 1
+pub first_one : (ws : List Waiter) → length (take 1 ws) ≤ 1
 first_one [] = omega arith
 first_one (w ∷ ws) = omega arith
 
-few_first : (b : Bool) (line : Line) (l : Waiting) → length (told_by (if b then NextIn line else Nothing) l) ≤ 1
+pub few_first : (b : Bool) (line : Line) (l : Waiting) → length (told_by (if b then NextIn line else Nothing) l) ≤ 1
 few_first true line l = first_one (untold line l)
 few_first false line l = omega arith
 
-few_passed : (line : Line) (w : Waiter) (l m : Waiting) → length (told_by (passed_on line w l) m) ≤ 1
+pub few_passed : (line : Line) (w : Waiter) (l m : Waiting) → length (told_by (passed_on line w l) m) ≤ 1
 few_passed Sends w l m = few_first (is_among w l.woken) Sends m
 few_passed Receives w l m = few_first (is_among w l.woken) Receives m
 few_passed Streams w l m = few_first (is_among w l.woken && not (list_any is_stream (without w l.woken))) Streams m
@@ -430,7 +430,7 @@ count_all p l =
     length (filter p l.sends) + length (filter p l.receives) + length (filter p l.streams) + length (filter p l.closings)
     + length (filter p l.woken)
 
-count_news : (p : Waiter → Bool) (news : News) (l : Waiting) → count_all p (after_news news l) ≡ count_all p l
+pub count_news : (p : Waiter → Bool) (news : News) (l : Waiting) → count_all p (after_news news l) ≡ count_all p l
 count_news p Nothing l = omega (arith, count_append p l.woken [])
 count_news p Message l =
     omega (arith, count_append p l.woken (take 1 l.receives ++ l.streams), count_append p (take 1 l.receives) l.streams, count_split p l.receives)
@@ -448,7 +448,7 @@ count_news p (NextIn Receives) l = omega (arith, count_append p l.woken (take 1 
 count_news p (NextIn Streams) l = omega (arith, count_append p l.woken (take 1 l.streams), count_split p l.streams)
 count_news p (NextIn Closings) l = omega (arith, count_append p l.woken (take 1 l.closings), count_split p l.closings)
 
-abbrev one_if : Bool → ℕ
+abbrev pub one_if : Bool → ℕ
 one_if b = if b then 1 else 0
 
 count_head : (p : Waiter → Bool) (v : Waiter) (vs : List Waiter) → length (filter p (v ∷ vs)) ≡ one_if (p v) + length (filter p vs)
@@ -480,15 +480,15 @@ count_without_one p w (v ∷ vs) e = elim (decided (same_waiter w v)) [
       rw t (omega (arith, h, k, j))
 ]
 
-count_gone : (p : Waiter → Bool) (w : Waiter) (l : Waiting) → count_all p (gone w l) ≤ count_all p l
+pub count_gone : (p : Waiter → Bool) (w : Waiter) (l : Waiting) → count_all p (gone w l) ≤ count_all p l
 count_gone p w l =
     omega (arith, count_without p w l.sends, count_without p w l.receives, count_without p w l.streams, count_without p w l.closings, count_without p w l.woken)
 
-count_gone_one : (p : Waiter → Bool) (w : Waiter) (l : Waiting) → is_among w l.woken ≡ true → count_all p (gone w l) + one_if (p w) ≤ count_all p l
+pub count_gone_one : (p : Waiter → Bool) (w : Waiter) (l : Waiting) → is_among w l.woken ≡ true → count_all p (gone w l) + one_if (p w) ≤ count_all p l
 count_gone_one p w l e =
     omega (arith, count_without p w l.sends, count_without p w l.receives, count_without p w l.streams, count_without p w l.closings, count_without_one p w l.woken e)
 
-count_end : (p : Waiter → Bool) (line : Line) (w : Waiter) (l : Waiting) → count_all p (at_end line w l) ≡ count_all p (gone w l) + one_if (p w)
+pub count_end : (p : Waiter → Bool) (line : Line) (w : Waiter) (l : Waiting) → count_all p (at_end line w l) ≡ count_all p (gone w l) + one_if (p w)
 count_end p Sends w l = omega (arith, count_append p (without w l.sends) (w ∷ []), count_head p w [])
 count_end p Receives w l = omega (arith, count_append p (without w l.receives) (w ∷ []), count_head p w [])
 count_end p Streams w l = omega (arith, count_append p (without w l.streams) (w ∷ []), count_head p w [])

@@ -1,5 +1,6 @@
 -- What a call by names asks of its channel.
 use Rattle.std.specs.Prelude.{true, Option, None, Some}
+use Rattle.channel_calls.specs.Asks.{lent}
 use Rattle.channel_calls.specs.declared.ask.ChannelAsk.{ChannelAsk}
 use Rattle.channel_calls.specs.declared.ask.ChannelAsk.TheVariants as ask
 use Rattle.channel_calls.specs.declared.stage.Line.TheVariants as list
@@ -35,9 +36,9 @@ stream_of handle (Some h) = elim h.kind [
 module _ {T : Type 0} where
   -- of an operation; a world never asks for one that doesn't live
   abbrev pub poll_asked : Held → OpId → Option (Operation T) → ChannelAsk T Waiter
-  poll_asked held op (Some (send handle (Some m))) = ask.PollSend m (held (Op op)) (Op op)
+  poll_asked held op (Some (send handle (Some m))) = ask.PollSend m (lent (held (Op op))) (Op op)
   poll_asked held op (Some (send handle None)) = ask.PollFinishedSend
-  poll_asked held op (Some (recv handle)) = ask.PollRecv (held (Op op)) (Op op)
+  poll_asked held op (Some (recv handle)) = ask.PollRecv (lent (held (Op op))) (Op op)
   poll_asked held op (Some (closing handle)) = ask.PollClosed (held (Op op)) (Op op)
   poll_asked held op None = ask.Make
 
@@ -81,17 +82,26 @@ module _ {T : Type 0} where
     | WeakReceiver ↦ ask.Upgrade Receivers
   ]
 
+  -- of a call that asks and changes nothing; one that makes an operation or a weak handle asks nothing
+  abbrev pub question_asked : Call T → ChannelAsk T Waiter
+  question_asked (call.StreamIsTerminated receiver) = ask.IsTerminated
+  question_asked (call.SameChannel a b) = ask.SameChannel true
+  question_asked (call.IsClosed handle) = ask.IsClosed
+  question_asked (call.IsEmpty handle) = ask.IsEmpty
+  question_asked (call.IsFull handle) = ask.IsFull
+  question_asked (call.Len handle) = ask.Len
+  question_asked (call.Capacity handle) = ask.Capacity
+  question_asked (call.SenderCount handle) = ask.HandleCount Senders
+  question_asked (call.ReceiverCount handle) = ask.HandleCount Receivers
+  question_asked c = ask.Make
+
   -- what a call asks of the channel
   abbrev pub asked : Held → Names T → Call T → ChannelAsk T Waiter
-  asked held names (call.NewSend op sender msg) = ask.Make
-  asked held names (call.NewRecv op receiver) = ask.Make
-  asked held names (call.NewClosed op sender) = ask.Make
   asked held names (call.Poll op) = poll_asked held op (at op.0 names.operations)
   asked held names (call.PollRefused op) = refusal_asked held op (at op.0 names.operations)
   asked held names (call.GiveUp op) = giving_up_asked held op (at op.0 names.operations)
   asked held names (call.SendIsTerminated op) = ask.SendIsTerminated (is_finished (at op.0 names.operations))
   asked held names (call.PollNext receiver) = ask.PollNext (held (Stream receiver)) (Stream receiver)
-  asked held names (call.StreamIsTerminated receiver) = ask.IsTerminated
   asked held names (call.TrySend sender msg) = ask.TrySend msg
   asked held names (call.ForceSend sender msg) = ask.ForceSend msg
   asked held names (call.TryRecv receiver) = ask.TryRecv
@@ -99,16 +109,8 @@ module _ {T : Type 0} where
   asked held names (call.Close handle) = ask.Close
   asked held names (call.Drop handle) = drop_asked held handle (at handle.0 names.handles)
   asked held names (call.TryClone handle new) = clone_asked (at handle.0 names.handles)
-  asked held names (call.Downgrade handle new) = ask.Make
   asked held names (call.Upgrade weak new) = upgrade_asked (at weak.0 names.handles)
-  asked held names (call.SameChannel a b) = ask.SameChannel true
-  asked held names (call.IsClosed handle) = ask.IsClosed
-  asked held names (call.IsEmpty handle) = ask.IsEmpty
-  asked held names (call.IsFull handle) = ask.IsFull
-  asked held names (call.Len handle) = ask.Len
-  asked held names (call.Capacity handle) = ask.Capacity
-  asked held names (call.SenderCount handle) = ask.HandleCount Senders
-  asked held names (call.ReceiverCount handle) = ask.HandleCount Receivers
+  asked held names c = question_asked c
 
   -- who keeps the listener that a call leaves, if any does
   abbrev pub keeper : Names T → Call T → Option Waiter

@@ -20,6 +20,7 @@ use Rattle.channel_calls.specs.Moves.{Channel}
 use Rattle.channel_calls.specs.Turns.{leaving, closer_ending}
 use Rattle.channel_calls.specs.declared.ask.ChannelAsk.{ChannelAsk}
 use Rattle.channel_calls.specs.declared.ask.ChannelAsk.TheVariants as channel
+use Rattle.channel_calls.specs.declared.ask.Loan.{Loan}
 use Rattle.channel_calls.specs.declared.mark.Mark.{Mark}
 use Rattle.channel_calls.specs.declared.error.Refused.TheVariants as refused
 use Rattle.channel_calls.specs.declared.error.TryRecvError.{TryRecvError}
@@ -143,11 +144,11 @@ module _ {T W : Type 0} where
     forced msg v ds e Nothing (Force (Err (force_error.NoMemory w))) (trying b) h ev = ((([], c ∷ seen, refl, (h.0 ∙ e, ev.0, unbounded_once c.queue.capacity (c ∷ seen) h.1 (refusal_seen b c seen ev.1 h.2))), refl), owes_nothing ds ev.0)
     forced msg v ds e m r st h ev = absurd h
 
-    poll_sent : (msg v : T) (k : Option Key) (t : W) (key : Option Key) (task : W) (ds : List (Deed T W)) → v ≡ msg → (m : QueueMark) (r : QueueReply T) (st : queue.Stage T) → AnswersPush c.queue v m r st → TryAt c (ask.Push v) st ds seen
+    poll_sent : (msg v : T) (k : Loan) (t : W) (key : Option Key) (task : W) (ds : List (Deed T W)) → v ≡ msg → (m : QueueMark) (r : QueueReply T) (st : queue.Stage T) → AnswersPush c.queue v m r st → TryAt c (ask.Push v) st ds seen
         → Then (channel.PollSend msg k t) (ask.Push v) st m ds (send_next r key task)
     poll_sent msg v k t key task ds e Nothing (Push (Ok u)) (appended None) h ev = ((([], c ∷ seen, refl, ev), refl), owed_appended ds ev)
     poll_sent msg v k t None task ds e Nothing (Push (Err (push_error.Full w))) (trying b) h ev = ((h.0 ∙ e, ev.0, full_once c.queue.capacity c.queue.items (c ∷ seen) h.1 (refusal_seen b c seen ev.1 h.2)), owes_nothing ds ev.0)
-    poll_sent msg v k t (Some key) task ds e Nothing (Push (Err (push_error.Full w))) (trying b) h ev = ((h.0 ∙ e, ev.0, full_once c.queue.capacity c.queue.items (c ∷ seen) h.1 (refusal_seen b c seen ev.1 h.2)), owes_nothing ds ev.0)
+    poll_sent msg v k t (Some key) task ds e Nothing (Push (Err (push_error.Full w))) (trying b) h ev = ((h.0 ∙ e, ev.0, λ n. full_once c.queue.capacity c.queue.items (c ∷ seen) h.1 (refusal_seen b c seen ev.1 h.2)), owes_nothing ds ev.0)
     poll_sent msg v k t key task ds e Nothing (Push (Err (push_error.Closed w))) (trying b) h ev =
         ended c (channel.PollSend msg k t) [] ds (c ∷ seen) (over (reply.SendPoll (Ready (Err (refused.Plain (record { 0 = w }))))) None Sends key)
         (([], c ∷ seen, refl, (h.0 ∙ e, ev.0, inl h.1)), refl) (owes_nothing ds ev.0)
@@ -204,11 +205,11 @@ module _ {T W : Type 0} where
     several n g ds e Nothing (Pop (Err pop_error.Closed)) (trying b) h ev = short n g.more g.taken ds ev.0 e ev.1 ev.2 try_recv_error.Closed h.1 (λ none. (none, omega (arith, e), inl h))
     several n g ds e m r st h ev = absurd h
 
-    poll_received : (k : Option Key) (t : W) (key : Option Key) (task : W) (ds : List (Deed T W)) (m : QueueMark) (r : QueueReply T) (st : queue.Stage T) → AnswersPop c.queue m r st → TryAt c ask.Pop st ds seen
+    poll_received : (k : Loan) (t : W) (key : Option Key) (task : W) (ds : List (Deed T W)) (m : QueueMark) (r : QueueReply T) (st : queue.Stage T) → AnswersPop c.queue m r st → TryAt c ask.Pop st ds seen
         → Then (channel.PollRecv k t) ask.Pop st m ds (receive_next r key task)
     poll_received k t key task ds Nothing (Pop (Ok w)) (taken v) h ev = ((([], c ∷ seen, refl, subst (λ (z : T). Took ds z) (sym h) ev), refl), owed_took ds v ev)
     poll_received k t None task ds Nothing (Pop (Err pop_error.Empty)) (trying b) h ev = ((tt, ev, inl h), owes_nothing ds ev)
-    poll_received k t (Some key) task ds Nothing (Pop (Err pop_error.Empty)) (trying b) h ev = ((tt, ev, inl h), owes_nothing ds ev)
+    poll_received k t (Some key) task ds Nothing (Pop (Err pop_error.Empty)) (trying b) h ev = ((tt, ev, λ n. inl h), owes_nothing ds ev)
     poll_received k t key task ds Nothing (Pop (Err pop_error.Closed)) (trying b) h ev =
         ended c (channel.PollRecv k t) [] ds (c ∷ seen) (over (reply.RecvPoll (Ready (Err (refused.Plain (record {}))))) None Receives key) (([], c ∷ seen, refl, (ev, inl h)), refl) (owes_nothing ds ev)
     poll_received k t key task ds m r st h ev = absurd h
@@ -217,7 +218,7 @@ module _ {T W : Type 0} where
         → Then (channel.PollNext k t) ask.Pop st m ds (stream_next r key task)
     streamed k t key task ds Nothing (Pop (Ok w)) (taken v) h ev = ((([], c ∷ seen, refl, subst (λ (z : T). Took ds z) (sym h) ev), refl), owed_took ds v ev)
     streamed k t None task ds Nothing (Pop (Err pop_error.Empty)) (trying b) h ev = ((tt, ev, tt), owes_nothing ds ev)
-    streamed k t (Some key) task ds Nothing (Pop (Err pop_error.Empty)) (trying b) h ev = ((tt, ev, tt), owes_nothing ds ev)
+    streamed k t (Some key) task ds Nothing (Pop (Err pop_error.Empty)) (trying b) h ev = ((tt, ev, λ n. tt), owes_nothing ds ev)
     streamed k t key task ds Nothing (Pop (Err pop_error.Closed)) (trying b) h ev =
         ended c (channel.PollNext k t) [] ds (c ∷ seen) (over (reply.Next (Ready None)) None Streams key) (([], c ∷ seen, refl, (ev, inl h)), refl) (owes_nothing ds ev)
     streamed k t key task ds m r st h ev = absurd h
@@ -229,7 +230,7 @@ module _ {T W : Type 0} where
     waited k t key task ds Nothing (Flag true) (trying b) h ev =
         ended c (channel.PollClosed k t) [] ds (c ∷ seen) (over (reply.ClosedPoll (Ready (Ok tt))) None Closings key) (([], c ∷ seen, refl, (ev, inl h)), refl) (owes_nothing ds ev)
     waited k t None task ds Nothing (Flag false) (trying b) h ev = ((tt, ev, inl h), owes_nothing ds ev)
-    waited k t (Some key) task ds Nothing (Flag false) (trying b) h ev = ((tt, ev, inl h), owes_nothing ds ev)
+    waited k t (Some key) task ds Nothing (Flag false) (trying b) h ev = ((tt, ev, λ n. inl h), owes_nothing ds ev)
     waited k t key task ds m r st h ev = absurd h
 
     closed_none : (m : QueueMark) (r : QueueReply T) (st : queue.Stage T) → AnswersClose c.queue m r st → Then channel.Close ask.Close st m [] (closed_next r closer.Call)

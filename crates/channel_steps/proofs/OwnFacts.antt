@@ -7,13 +7,16 @@ use Rattle.concurrent_queue.specs.declared.call.QueueAsk.TheVariants as ask
 use Rattle.concurrent_queue.specs.declared.call.QueueMark.{QueueMark}
 use Rattle.concurrent_queue.specs.declared.call.QueueMark.TheVariants as queue_mark
 use Rattle.concurrent_queue.specs.declared.call.QueueReply.{QueueReply}
+use Rattle.event_listener.specs.declared.key.Key.{Key}
 use Rattle.channel_calls.specs.Answered.{answered_next}
-use Rattle.channel_calls.specs.Asks.{first}
+use Rattle.channel_calls.specs.Asks.{asks_listener, first}
 use Rattle.channel_calls.specs.Marks.{mark_of_queue, up, down}
 use Rattle.channel_calls.specs.Moves.{Channel, Effect, untouched, on_count, leaves, Turned, Tried, Worked, Moves}
 use Rattle.channel_calls.specs.Parts.{listeners, told_one_wakes, is_raised}
+use Rattle.channel_calls.specs.Turns.{again}
 use Rattle.channel_calls.specs.declared.ask.ChannelAsk.{ChannelAsk}
 use Rattle.channel_calls.specs.declared.ask.ChannelAsk.TheVariants as channel
+use Rattle.channel_calls.specs.declared.ask.Loan.{Loan}
 use Rattle.channel_calls.specs.declared.mark.Mark.{Mark}
 use Rattle.channel_calls.specs.declared.mark.Mark.TheVariants as mark
 use Rattle.channel_calls.specs.declared.reply.Reply.{Reply}
@@ -30,6 +33,7 @@ use Rattle.channel_calls.specs.declared.stage.Stage.TheVariants.{Trying, Working
 use Rattle.channel_calls.specs.declared.stage.Turn.{Turn}
 use Rattle.channel_calls.specs.declared.stage.Turn.TheVariants.{Tries, Works, Ends}
 use Rattle.channel_calls.specs.declared.stage.Work.{Work}
+use Rattle.channel_calls.specs.declared.stage.Waiting.TheVariants as waiting
 use Rattle.channel_calls.specs.declared.stage.Work.TheVariants.{TellReceive, TellStreams, TellSend, TellSends, TakeRoom, TellAll, Insert, Register, Leave, Lower, Count, Load, Raise}
 use Rattle.channel_steps.specs.Moments.{Deed, with_deed}
 use Rattle.channel_steps.specs.Known.{TriesFor, TriesAt, StageAt, ToldAt, IsQuick, steps_left}
@@ -285,18 +289,30 @@ module _ {T W : Type 0} where
   GoesOnAt (Works w) = Unit {0}
   GoesOnAt (Ends y kept) = ⊥
 
+  sent_at : (c : Channel T W) (m : T) (l : Loan) (t : W) (b : Bool) (k : Option Key) → l.asks_first ≡ b
+      → let turn : Turn T W = if b then asks_listener (waiting.Send m) k t else again (waiting.Send m) k t in TurnAt c (channel.PollSend m l t) [] [] (c ∷ []) turn × GoesOnAt turn
+  sent_at c m l t false k is = (((refl, (refl, λ e. absurd (let no : false ≡ true = e in cc))), refl), tt)
+  sent_at c m l t true None is = (((refl, (refl, λ e. absurd (let no : false ≡ true = e in cc))), refl), tt)
+  sent_at c m l t true (Some key) is = (((refl, refl, λ no. absurd (let z : true ≡ false = sym is ∙ no in cc)), refl), tt)
+
+  received_at : (c : Channel T W) (l : Loan) (t : W) (b : Bool) (k : Option Key) → l.asks_first ≡ b
+      → let turn : Turn T W = if b then asks_listener waiting.Receive k t else again waiting.Receive k t in TurnAt c (channel.PollRecv l t) [] [] (c ∷ []) turn × GoesOnAt turn
+  received_at c l t false k is = (((tt, refl), refl), tt)
+  received_at c l t true None is = (((tt, refl), refl), tt)
+  received_at c l t true (Some key) is = (((tt, refl, λ no. absurd (let z : true ≡ false = sym is ∙ no in cc)), refl), tt)
+
   begins_at : (c : Channel T W) (x : ChannelAsk T W) → TurnAt c x [] [] (c ∷ []) (first x) × GoesOnAt (first x)
   begins_at c (channel.TrySend m) = (((refl, (refl, λ e. absurd (let no : false ≡ true = e in cc))), refl), tt)
   begins_at c (channel.ForceSend m) = (((refl, (refl, λ e. absurd (let no : false ≡ true = e in cc))), refl), tt)
   begins_at c channel.TryRecv = (((tt, refl), refl), tt)
   begins_at c (channel.RecvMany n) = (((refl, refl), refl), tt)
   begins_at c channel.Close = (((refl, tt), refl), tt)
-  begins_at c (channel.PollSend m k t) = (((refl, (refl, λ e. absurd (let no : false ≡ true = e in cc))), refl), tt)
+  begins_at c (channel.PollSend m l t) = sent_at c m l t l.asks_first l.key refl
   begins_at c channel.PollFinishedSend = (((([], c ∷ [], refl, (refl, refl)), refl), refl), tt)
-  begins_at c (channel.PollRecv k t) = (((tt, refl), refl), tt)
+  begins_at c (channel.PollRecv l t) = received_at c l t l.asks_first l.key refl
   begins_at c (channel.PollClosed k t) = (((tt, refl), refl), tt)
   begins_at c (channel.PollNext None t) = (((tt, refl), refl), tt)
-  begins_at c (channel.PollNext (Some key) t) = (((tt, refl, tt), refl), tt)
+  begins_at c (channel.PollNext (Some key) t) = (((tt, refl, λ e. tt), refl), tt)
   begins_at c (channel.RefusePoll line msg key) = (((([], c ∷ [], refl, (refl, refl)), refl), refl), tt)
   begins_at c (channel.GiveUp line msg key) = (((([], c ∷ [], refl, (refl, refl)), refl), refl), tt)
   begins_at c channel.DropSender = (((tt, refl), refl), tt)

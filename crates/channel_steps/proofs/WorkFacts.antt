@@ -36,7 +36,7 @@ use Rattle.channel_calls.specs.declared.stage.Waiting.TheVariants as waiting
 use Rattle.channel_calls.specs.declared.stage.Work.{Work}
 use Rattle.channel_calls.specs.declared.stage.Work.TheVariants.{TellReceive, TellStreams, TellSend, TellSends, TakeRoom, TellAll, Insert, Register, Leave, Lower, Count, Load, Raise}
 use Rattle.channel_steps.specs.Moments.{Deed, with_deed, Open, Once, TookAll}
-use Rattle.channel_steps.specs.Answers.{WaitsFor}
+use Rattle.channel_steps.specs.Answers.{WaitsFor, asks_first}
 use Rattle.channel_steps.specs.Known.{AreBehind, IsFor, Makes, Drops, MayRaise, Answered, WorkAt, to_tell}
 use Rattle.channel_steps.specs.Tellings.{Telling, one_of, more_of, all_of, owed, telling}
 use Rattle.channel_steps.proofs.TryFacts.{eq_of, open_once}
@@ -80,7 +80,7 @@ module _ {T W : Type 0} where
   work_more x (TakeRoom n) c ds seen h = h
   work_more x (TellAll line closer) c ds seen h = answered_more x (closer_ending closer true) c ds seen h
   work_more x (Insert w task) c ds seen h = (h.0, h.1, waits_more (line_of w) c seen h.2)
-  work_more x (Register w key task) c ds seen h = (h.0, h.1, waits_more (line_of w) c seen h.2)
+  work_more x (Register w key task) c ds seen h = (h.0, h.1, λ e. waits_more (line_of w) c seen (h.2 e))
   work_more x (Leave e) c ds seen h = answered_more x e c ds seen h
   work_more x (Lower side key) c ds seen h = h
   work_more x (Count side) c ds seen h = h
@@ -101,14 +101,14 @@ module _ {T W : Type 0} where
     not_listening x w error h e n = absurd h
 
     -- it is pending
-    pending : (x : ChannelAsk T W) (w : Waiting T) (key : Key) → IsFor x w → ds ≡ [] → WaitsFor (line_of w) (d ∷ seen) → TurnAt d x [] ds (d ∷ seen) (pends_by w key)
+    pending : (x : ChannelAsk T W) (w : Waiting T) (key : Key) → IsFor x w → ds ≡ [] → (asks_first x ≡ false → WaitsFor (line_of w) (d ∷ seen)) → TurnAt d x [] ds (d ∷ seen) (pends_by w key)
     pending (channel.PollSend m k t) (waiting.Send v) key h e n = ((([], d ∷ seen, refl, (e, n)), (refl, ap (λ (z : T). Some z) h)), owes_nothing ds e)
     pending (channel.PollRecv k t) waiting.Receive key h e n = ((([], d ∷ seen, refl, (e, n)), (refl, refl)), owes_nothing ds e)
-    pending (channel.PollNext k t) waiting.Stream key h e n = ((([], d ∷ seen, refl, (e, n)), (refl, refl)), owes_nothing ds e)
-    pending (channel.PollClosed k t) waiting.Closing key h e n = ((([], d ∷ seen, refl, (e, n)), (refl, refl)), owes_nothing ds e)
+    pending (channel.PollNext k t) waiting.Stream key h e n = ((([], d ∷ seen, refl, (e, tt)), (refl, refl)), owes_nothing ds e)
+    pending (channel.PollClosed k t) waiting.Closing key h e n = ((([], d ∷ seen, refl, (e, n refl)), (refl, refl)), owes_nothing ds e)
     pending x w key h e n = absurd h
 
-    registered : (x : ChannelAsk T W) (w : Waiting T) (key : Key) (task : W) (b : Bool) → IsFor x w → ds ≡ [] → WaitsFor (line_of w) (d ∷ seen)
+    registered : (x : ChannelAsk T W) (w : Waiting T) (key : Key) (task : W) (b : Bool) → IsFor x w → ds ≡ [] → (asks_first x ≡ false → WaitsFor (line_of w) (d ∷ seen))
         → TurnAt d x [] ds (d ∷ seen) (if b then pends_by w key else again w None task)
     registered x w key task true h e n = pending x w key h e n
     registered x w key task false h e n = tries_again d [] ds (d ∷ seen) x w None task h e refl
@@ -275,7 +275,7 @@ module _ {T W : Type 0} where
     worked (Register w key task) e r s h k g =
         let none : told ≡ [] = told_nobody told ds k h.1 in
         first_step Nothing e r s (if waits key (listeners (line_of w) c.roster) then pends_by w key else again w None task) (mark_is e _ g.0) none g.1
-        (registered e.channel ds seen x w key task (waits key (listeners (line_of w) c.roster)) h.0 h.1 (waits_more (line_of w) e.channel seen h.2))
+        (registered e.channel ds seen x w key task (waits key (listeners (line_of w) c.roster)) h.0 h.1 (λ f. waits_more (line_of w) e.channel seen (h.2 f)))
     worked (Leave y) e r s h k g =
         telling_step [] e r s (Ends y.reply (leaving None y.message)) (mark_is e _ g.0 ∙ left_mark y.held) g.1
         (answered_more x y e.channel ds seen h, subst (λ (ts : List Telling). ts ++ [] ≡ owed ds) (sym (append-nil told)) k)

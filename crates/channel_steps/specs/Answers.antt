@@ -8,6 +8,7 @@ use Rattle.channel_calls.specs.Parts.{count}
 use Rattle.channel_calls.specs.Turns.{leaving, nothing_kept, refused_reply}
 use Rattle.channel_calls.specs.declared.ask.ChannelAsk.{ChannelAsk}
 use Rattle.channel_calls.specs.declared.ask.ChannelAsk.TheVariants.{TrySend, ForceSend, TryRecv, RecvMany, Close, PollSend, PollFinishedSend, PollRecv, PollClosed, PollNext, RefusePoll, GiveUp, DropSender, DropReceiver, CloneHandle, Upgrade, HandleCount, IsClosed, IsEmpty, IsFull, Len, Capacity, IsTerminated, SendIsTerminated, SameChannel, Make, DropWeak}
+use Rattle.channel_calls.specs.declared.ask.Loan.{Loan}
 use Rattle.channel_calls.specs.declared.error.Refused.TheVariants as refused
 use Rattle.channel_calls.specs.declared.error.TrySendError.TheVariants as try_send_error
 use Rattle.channel_calls.specs.declared.error.TryRecvError.TheVariants as try_recv_error
@@ -40,6 +41,12 @@ module _ {T W : Type 0} where
   WaitsFor Streams seen = Unit {0}
   WaitsFor Closings seen = Once Open seen
 
+  -- the poll of a send or a receive asks its listener before it tries
+  abbrev pub asks_first : ChannelAsk T W → Bool
+  asks_first (PollSend m l task) = l.asks_first
+  asks_first (PollRecv l task) = l.asks_first
+  asks_first ask = false
+
   -- ---- the marks and the moments of a call that gives this reply
 
   abbrev pub TrySendRow : T → List (Deed T W) → List (Channel T W) → Reply T → Type 0
@@ -71,21 +78,22 @@ module _ {T W : Type 0} where
   SeveralRow n ds seen (reply.RecvMany (Err (refused.NoMemory u))) = (ds ≡ []) × (0 < n)
   SeveralRow n ds seen _ = ⊥
 
-  abbrev pub SendPollRow : T → List (Deed T W) → List (Channel T W) → Reply T → Type 0
-  SendPollRow m ds seen (reply.SendPoll (Ready (Ok u))) = Appended ds
-  SendPollRow m ds seen (reply.SendPoll (Ready (Err (refused.Plain e)))) = (e.0 ≡ m) × (ds ≡ []) × Once Shut seen
-  SendPollRow m ds seen (reply.SendPoll (Ready (Err (refused.NoMemory u)))) = (ds ≡ []) × Once Open seen
-  SendPollRow m ds seen (reply.SendPoll (Ready (Err (refused.SerialsUsedUp u)))) = (ds ≡ []) × WaitsFor Sends seen
-  SendPollRow m ds seen (reply.SendPoll Pending) = (ds ≡ []) × WaitsFor Sends seen
-  SendPollRow m ds seen _ = ⊥
+  -- of a poll that waits, and asked its listener first, nothing is said but that it made no mark
+  abbrev pub SendPollRow : T → Loan → List (Deed T W) → List (Channel T W) → Reply T → Type 0
+  SendPollRow m l ds seen (reply.SendPoll (Ready (Ok u))) = Appended ds
+  SendPollRow m l ds seen (reply.SendPoll (Ready (Err (refused.Plain e)))) = (e.0 ≡ m) × (ds ≡ []) × Once Shut seen
+  SendPollRow m l ds seen (reply.SendPoll (Ready (Err (refused.NoMemory u)))) = (ds ≡ []) × Once Open seen
+  SendPollRow m l ds seen (reply.SendPoll (Ready (Err (refused.SerialsUsedUp u)))) = (ds ≡ []) × WaitsFor Sends seen
+  SendPollRow m l ds seen (reply.SendPoll Pending) = (ds ≡ []) × (l.asks_first ≡ false → WaitsFor Sends seen)
+  SendPollRow m l ds seen _ = ⊥
 
-  abbrev pub RecvPollRow : List (Deed T W) → List (Channel T W) → Reply T → Type 0
-  RecvPollRow ds seen (reply.RecvPoll (Ready (Ok v))) = Took ds v
-  RecvPollRow ds seen (reply.RecvPoll (Ready (Err (refused.Plain e)))) = (ds ≡ []) × Once Spent seen
-  RecvPollRow ds seen (reply.RecvPoll (Ready (Err (refused.NoMemory u)))) = (ds ≡ []) × WaitsFor Receives seen
-  RecvPollRow ds seen (reply.RecvPoll (Ready (Err (refused.SerialsUsedUp u)))) = (ds ≡ []) × WaitsFor Receives seen
-  RecvPollRow ds seen (reply.RecvPoll Pending) = (ds ≡ []) × WaitsFor Receives seen
-  RecvPollRow ds seen _ = ⊥
+  abbrev pub RecvPollRow : Loan → List (Deed T W) → List (Channel T W) → Reply T → Type 0
+  RecvPollRow l ds seen (reply.RecvPoll (Ready (Ok v))) = Took ds v
+  RecvPollRow l ds seen (reply.RecvPoll (Ready (Err (refused.Plain e)))) = (ds ≡ []) × Once Spent seen
+  RecvPollRow l ds seen (reply.RecvPoll (Ready (Err (refused.NoMemory u)))) = (ds ≡ []) × WaitsFor Receives seen
+  RecvPollRow l ds seen (reply.RecvPoll (Ready (Err (refused.SerialsUsedUp u)))) = (ds ≡ []) × WaitsFor Receives seen
+  RecvPollRow l ds seen (reply.RecvPoll Pending) = (ds ≡ []) × (l.asks_first ≡ false → WaitsFor Receives seen)
+  RecvPollRow l ds seen _ = ⊥
 
   abbrev pub ClosedPollRow : List (Deed T W) → List (Channel T W) → Reply T → Type 0
   ClosedPollRow ds seen (reply.ClosedPoll (Ready (Ok u))) = (ds ≡ []) × Once Shut seen
@@ -145,8 +153,15 @@ module _ {T W : Type 0} where
   abbrev pub is_full : Channel T W → Bool
   is_full c = is_filled c.queue
 
-  abbrev pub held : Channel T W → ℕ
-  held c = length c.queue.items
+  -- what a call answers that has one answer
+  abbrev pub sole_reply : ChannelAsk T W → Reply T
+  sole_reply PollFinishedSend = reply.SendPoll Pending
+  sole_reply (RefusePoll line message key) = refused_reply line listen_error.NoMemory
+  sole_reply (GiveUp line message key) = reply.GivenUp message
+  sole_reply (SendIsTerminated b) = reply.Flag b
+  sole_reply (SameChannel b) = reply.Flag b
+  sole_reply Make = reply.Made
+  sole_reply ask = reply.Unit
 
   abbrev pub Row : ChannelAsk T W → List (Deed T W) → List (Channel T W) → Reply T → Type 0
   Row (TrySend m) ds seen r = TrySendRow m ds seen r
@@ -154,13 +169,10 @@ module _ {T W : Type 0} where
   Row TryRecv ds seen r = TryRecvRow ds seen r
   Row (RecvMany n) ds seen r = SeveralRow n ds seen r
   Row Close ds seen r = CloseRow ds seen r
-  Row (PollSend m key task) ds seen r = SendPollRow m ds seen r
-  Row PollFinishedSend ds seen r = OnlyRow (reply.SendPoll Pending) ds r
-  Row (PollRecv key task) ds seen r = RecvPollRow ds seen r
+  Row (PollSend m l task) ds seen r = SendPollRow m l ds seen r
+  Row (PollRecv l task) ds seen r = RecvPollRow l ds seen r
   Row (PollClosed key task) ds seen r = ClosedPollRow ds seen r
   Row (PollNext key task) ds seen r = NextRow ds seen r
-  Row (RefusePoll line message key) ds seen r = OnlyRow (refused_reply line listen_error.NoMemory) ds r
-  Row (GiveUp line message key) ds seen r = OnlyRow (reply.GivenUp message) ds r
   Row DropSender ds seen r = Dropped Senders ds seen × (r ≡ reply.Unit)
   Row (DropReceiver key) ds seen r = Dropped Receivers ds seen × (r ≡ reply.Unit)
   Row (CloneHandle side) ds seen r = CloneRow side ds seen r
@@ -169,19 +181,16 @@ module _ {T W : Type 0} where
   Row IsClosed ds seen r = FlagRow is_closed ds seen r
   Row IsEmpty ds seen r = FlagRow is_empty ds seen r
   Row IsFull ds seen r = FlagRow is_full ds seen r
-  Row Len ds seen r = CountRow held ds seen r
+  Row Len ds seen r = CountRow (λ c. length c.queue.items) ds seen r
   Row Capacity ds seen r = CapacityRow ds seen r
   Row IsTerminated ds seen r = TerminatedRow ds seen r
-  Row (SendIsTerminated b) ds seen r = OnlyRow (reply.Flag b) ds r
-  Row (SameChannel b) ds seen r = OnlyRow (reply.Flag b) ds r
-  Row Make ds seen r = OnlyRow reply.Made ds r
-  Row DropWeak ds seen r = OnlyRow reply.Unit ds r
+  Row ask ds seen r = OnlyRow (sole_reply ask) ds r
 
   -- ---- what a finished call leaves to its operation
 
   abbrev pub Keeps : ChannelAsk T W → Reply T → Kept T → Type 0
-  Keeps (PollSend m key task) r k = PollKeeps (Some m) r k
-  Keeps (PollRecv key task) r k = PollKeeps None r k
+  Keeps (PollSend m l task) r k = PollKeeps (Some m) r k
+  Keeps (PollRecv l task) r k = PollKeeps None r k
   Keeps (PollClosed key task) r k = PollKeeps None r k
   Keeps (PollNext key task) r k = PollKeeps None r k
   Keeps (RefusePoll line message key) r k = k ≡ leaving None message

@@ -1,5 +1,5 @@
 -- What is known of a call under way by how far it has come.
-use Rattle.std.specs.Prelude.{◌≡◌, ℕ, ◌+◌, ◌<◌, ◌≤◌, true, List, [], ◌∷◌, ◌++◌, length, None, Some, ◌⊎◌}
+use Rattle.std.specs.Prelude.{◌≡◌, ℕ, ◌+◌, ◌<◌, ◌≤◌, true, false, List, [], ◌∷◌, ◌++◌, length, None, Some, ◌⊎◌}
 use Rattle.concurrent_queue.specs.Queue.{Phase, trying, displaced, appended, taken, read, measured}
 use Rattle.concurrent_queue.specs.Queue as queue
 use Rattle.concurrent_queue.specs.declared.call.QueueAsk.{QueueAsk}
@@ -25,7 +25,7 @@ use Rattle.channel_calls.specs.declared.stage.Waiting.TheVariants as waiting
 use Rattle.channel_calls.specs.declared.stage.Work.{Work}
 use Rattle.channel_calls.specs.declared.stage.Work.TheVariants.{TellReceive, TellStreams, TellSend, TellSends, TakeRoom, TellAll, Insert, Register, Leave, Lower, Count, Load, Raise}
 use Rattle.channel_steps.specs.Moments.{Deed, Open, Shut, HasRoom, Refuses, HasMessage, Once, Appended, Took, TookAll, Replaced, MadeRoom, Displaced, LeftLast}
-use Rattle.channel_steps.specs.Answers.{WaitsFor, Keeps, Met}
+use Rattle.channel_steps.specs.Answers.{WaitsFor, asks_first, Keeps, Met}
 use Rattle.channel_steps.specs.Tellings.{Telling, one_of, more_of, all_of, owed}
 
 -- how many handles a count may be raised from
@@ -156,7 +156,7 @@ module _ {T W : Type 0} where
   WorkAt ask (TakeRoom n) ds seen = (ask ≡ RecvMany n) × (ds ≡ [])
   WorkAt ask (TellAll line closer) ds seen = Answered ask (closer_ending closer true) ds seen
   WorkAt ask (Insert w task) ds seen = IsFor ask w × (ds ≡ []) × WaitsFor (line_of w) seen
-  WorkAt ask (Register w key task) ds seen = IsFor ask w × (ds ≡ []) × WaitsFor (line_of w) seen
+  WorkAt ask (Register w key task) ds seen = IsFor ask w × (ds ≡ []) × (asks_first ask ≡ false → WaitsFor (line_of w) seen)
   WorkAt ask (Leave x) ds seen = Answered ask x ds seen
   WorkAt ask (Lower side key) ds seen = Drops ask side × (ds ≡ [])
   WorkAt ask (Count side) ds seen = (ask ≡ HandleCount side) × (ds ≡ [])
