@@ -1,9 +1,11 @@
 -- What a call that begins is to do to the counts, and what it does to the names.
-use Rattle.std.proofs.Common.{arith, ◌≡◌, ℕ, ◌+◌, Bool, false, Option, None, Some, refl, sym, ap, ◌∙◌, subst}
+use Rattle.std.proofs.Common.{arith, ◌≡◌, ℕ, ◌+◌, Bool, true, false, if◌then◌else◌, Option, None, Some, refl, sym, ap, ◌∙◌, subst}
 use Rattle.std.specs.Option.{option_map}
 use Rattle.concurrent_queue.specs.Queue.{Phase, asked}
-use Rattle.channel_calls.specs.Asks.{first}
+use Rattle.event_listener.specs.declared.key.Key.{Key}
+use Rattle.channel_calls.specs.Asks.{asks_listener, first}
 use Rattle.channel_calls.specs.Moves.{Turned}
+use Rattle.channel_calls.specs.Turns.{again}
 use Rattle.channel_calls.specs.declared.ask.ChannelAsk.{ChannelAsk}
 use Rattle.channel_calls.specs.declared.ask.ChannelAsk.TheVariants as ask
 use Rattle.channel_calls.specs.declared.reply.Reply.{Reply}
@@ -13,6 +15,8 @@ use Rattle.channel_calls.specs.declared.stage.Stage.{Stage}
 use Rattle.channel_calls.specs.declared.stage.Stage.TheVariants.{Trying, Working}
 use Rattle.channel_calls.specs.declared.stage.Turn.{Turn}
 use Rattle.channel_calls.specs.declared.stage.Turn.TheVariants.{Tries, Works, Ends}
+use Rattle.channel_calls.specs.declared.stage.Waiting.{Waiting}
+use Rattle.channel_calls.specs.declared.stage.Waiting.TheVariants as waiting
 use Rattle.channel_model.specs.Answer.{weak_of, strong_of}
 use Rattle.channel_model.specs.Asked.{Held, poll_asked, refusal_asked, giving_up_asked, drop_asked, clone_asked, upgrade_asked}
 use Rattle.channel_model.specs.Names.{at, without}
@@ -64,18 +68,23 @@ module _ {T W : Type 0} where
   taken side a (Works w) r s h k = subst (λ (z : Stage (Phase T) T W). Starts side a z) (sym h.1) k
   taken side a (Ends x kept) r s h k = absurd k
 
+  polled_turn : (side : Side) (a : ChannelAsk T W) (w : Waiting T) (b : Bool) (key : Option Key) (task : W) → asks_lowering side a ≡ false → asks_raising side a ≡ false
+      → TurnStarts side a (if b then asks_listener w key task else again w key task)
+  polled_turn side a w false key task e f = λ p. (sym e, sym f)
+  polled_turn side a w true None task e f = λ p. (sym e, sym f)
+  polled_turn side a w true (Some key) task e f = (sym e, sym f)
+
   first_turn : (side : Side) (a : ChannelAsk T W) → TurnStarts side a (first a)
   first_turn side (ask.TrySend m) = λ p. (refl, refl)
   first_turn side (ask.ForceSend m) = λ p. (refl, refl)
   first_turn side ask.TryRecv = λ p. (refl, refl)
   first_turn side (ask.RecvMany n) = (refl, refl)
   first_turn side ask.Close = λ p. (refl, refl)
-  first_turn side (ask.PollSend m key task) = λ p. (refl, refl)
+  first_turn side (ask.PollSend m l task) = polled_turn side (ask.PollSend m l task) (waiting.Send m) l.asks_first l.key task refl refl
   first_turn side ask.PollFinishedSend = (refl, refl)
-  first_turn side (ask.PollRecv key task) = λ p. (refl, refl)
+  first_turn side (ask.PollRecv l task) = polled_turn side (ask.PollRecv l task) waiting.Receive l.asks_first l.key task refl refl
   first_turn side (ask.PollClosed key task) = λ p. (refl, refl)
-  first_turn side (ask.PollNext None task) = λ p. (refl, refl)
-  first_turn side (ask.PollNext (Some key) task) = (refl, refl)
+  first_turn side (ask.PollNext key task) = polled_turn side (ask.PollNext key task) waiting.Stream true key task refl refl
   first_turn side (ask.RefusePoll line message key) = (refl, refl)
   first_turn side (ask.GiveUp line message key) = (refl, refl)
   first_turn side ask.DropSender = (refl, refl)

@@ -1,13 +1,20 @@
--- What layers above may use: of a channel with no call under way, of what leads on from one scene to another, and how few steps
--- are left to the calls under way.
-use Rattle.std.proofs.Common.{◌≡◌, List, [], ◌++◌, None}
+-- What layers above may use: of a channel with no call under way, of what leads on from one scene to another, how few steps
+-- are left to the calls under way, that each party has one call, and what is owed to those who are pending.
+use Rattle.std.proofs.Common.{◌≡◌, false, List, [], ◌∷◌, ◌++◌, None, subst}
 use Rattle.channel_calls.specs.declared.reply.Reply.{Reply}
+use Rattle.channel_model.specs.declared.call.Call.{Call}
 use Rattle.channel_model.specs.declared.name.Waiter.{Waiter}
-use Rattle.channel_steps.specs.Scene.{Scene, HoldNobodyUp}
+use Rattle.channel_steps.specs.Answers.{asks_first}
+use Rattle.channel_steps.specs.Scene.{Under, Scene, HoldNobodyUp}
 use Rattle.channel_interleaving.specs.Floor.{Shown, AreAtWork, IsQuiet, Led, LeadsOn, Stands, StandsIn}
 use Rattle.channel_interleaving.specs.Kept.{AllKept}
 use Rattle.channel_interleaving.specs.Left.{others_of}
+use Rattle.channel_interleaving.specs.Owed.{Owed}
+use Rattle.channel_interleaving.specs.Owners.{All, post, Together}
+use Rattle.channel_interleaving.specs.Refusal.{step_refusal}
+use Rattle.channel_interleaving.specs.Run.{Book}
 use Rattle.channel_interleaving.specs.Runs.{Moment, FewLeft, LeadsBy, RanTo, moment_of}
+use Rattle.channel_interleaving.specs.SightAt.{sight_at}
 use Rattle.channel_interleaving.specs.Way.{replies_in}
 use Rattle.channel_interleaving.specs.declared.step.Entry.{Entry}
 use Rattle.channel_interleaving.specs.declared.step.PartyId.{PartyId}
@@ -18,6 +25,9 @@ use Rattle.channel_interleaving.proofs.AccountFacts.{no_accounts, accounts_both}
 use Rattle.channel_interleaving.proofs.FloorFacts as floor_facts
 use Rattle.channel_interleaving.proofs.LeftFacts as left_facts
 use Rattle.channel_interleaving.proofs.LoneFacts as facts
+use Rattle.channel_interleaving.proofs.OwnerRuns.{idle_and_free}
+use Rattle.channel_interleaving.proofs.OwnerTogether as together
+use Rattle.channel_interleaving.proofs.SightFacts as sight_facts
 use Rattle.channel_interleaving.proofs.WayFacts as way_facts
 use Rattle.channel_interleaving.proofs.WayFacts.{no_way, ways_on}
 
@@ -29,6 +39,12 @@ module _ {T : Type 0} where
   -- and nobody is at work
   pub no_agents : (f : Floor T) → AreAtWork f → IsQuiet f → f.agents.items ≡ []
   no_agents f at_work quiet = facts.no_agents f at_work quiet
+
+  -- a call under way asks no listener before it tries
+  pub tries_at : (b : Book T) (s : Scene T Waiter) (before : List (Under T Waiter)) (u : Under T Waiter) (behind : List (Under T Waiter)) → AllKept b s → s.under_way ≡ before ++ u ∷ behind
+      → asks_first u.ask ≡ false
+  tries_at b s before u behind kept there =
+      together.tries_at (post b.roll) b.agents before u behind (subst (λ (us : List (Under T Waiter)). Together (post b.roll) b.agents us) there kept.owned.together)
 
   -- nothing done leads on
   pub leads_nowhere : (f : Floor T) → LeadsOn f [] f
@@ -68,3 +84,18 @@ module _ {T : Type 0} where
   pub nobody_still : (m : Moment T) (p : PartyId) (e : Entry T) (n : Moment T) → AllKept m.book m.scene → LeadsBy m (step.Step p) e n
       → e.reply ≡ None → HoldNobodyUp m.scene.now (others_of p.0 m.scene.under_way) → HoldNobodyUp n.scene.now (others_of p.0 n.scene.under_way)
   nobody_still m p e n k l goes_on hold = left_facts.nobody_still m p e n k l goes_on hold
+
+  -- in a step, no call that began before that of the party that makes it is of this party
+  pub none_before : (m : Moment T) (p : PartyId) (e : Entry T) (n : Moment T) → AllKept m.book m.scene → (l : LeadsBy m (step.Step p) e n)
+      → All (λ (u : Under T Waiter). u.party ≡ p.0 → ⊥) l.made.next.before
+  none_before m p e n k l = left_facts.apart m.book m.scene k.owned p.0 _ e.woken.items n.scene l.made.next
+
+  -- and a party that may begin a call has none under way
+  pub none_of : (b : Book T) (s : Scene T Waiter) (p : PartyId) (c : Call T) → AllKept b s
+      → step_refusal b.roll b.agents (step.Begin p c) ≡ None → All (λ (u : Under T Waiter). u.party ≡ p.0 → ⊥) s.under_way
+  none_of b s p c k fine =
+      let idle = idle_and_free p c b fine in left_facts.none_at_work (post b.roll) p.0 b.agents s.under_way k.owned.together idle.0
+
+  -- what a moment shows, it owes
+  pub owed_at : (b : Book T) (s : Scene T Waiter) → AllKept b s → Owed (sight_at b.roll s)
+  owed_at b s k = sight_facts.owed_at b s k

@@ -1,5 +1,5 @@
 -- The steps that are left to a call, by its party and by its place.
-use Rattle.std.proofs.Common.{arith, ◌≡◌, ℕ, suc, ◌+◌, ◌*◌, ◌≤◌, ◌==◌, Bool, true, false, if◌then◌else◌, List, [], ◌∷◌, ◌++◌, map, length, slice_get, Option, None, Some, refl, sym, ap, ◌∙◌, subst}
+use Rattle.std.proofs.Common.{arith, ◌≡◌, ℕ, suc, ◌+◌, ◌*◌, ◌≤◌, ◌==◌, nat_eq, Bool, true, false, if◌then◌else◌, List, [], ◌∷◌, ◌++◌, map, length, slice_get, Option, None, Some, refl, sym, ap, ◌∙◌, subst}
 use Rattle.std.proofs.lemmas.Bool.Decides.{nat_tests}
 use Rattle.std.proofs.lemmas.List.{length-map}
 use Rattle.channel_calls.specs.Moves.{Channel}
@@ -15,6 +15,7 @@ use Rattle.channel_interleaving.specs.Floor.{book_of, parts_in, lefts_in, Stands
 use Rattle.channel_interleaving.specs.Kept.{AllKept}
 use Rattle.channel_interleaving.specs.Left.{others_of, wanted_of, left_of}
 use Rattle.channel_interleaving.specs.Owners.{Post, post, All, AllDiffer, Differ, Owned, Together}
+use Rattle.channel_interleaving.specs.Roll.{is_at_work}
 use Rattle.channel_interleaving.specs.Run.{Book}
 use Rattle.channel_interleaving.specs.Runs.{Moment, ComesNearer, LeadsBy, moment_of}
 use Rattle.channel_interleaving.specs.declared.floor.Floor.{Floor}
@@ -23,6 +24,7 @@ use Rattle.channel_interleaving.specs.declared.step.Entry.{Entry}
 use Rattle.channel_interleaving.specs.declared.step.PartyId.{PartyId}
 use Rattle.channel_interleaving.specs.declared.step.Step.{Step}
 use Rattle.channel_interleaving.specs.declared.step.Step.TheVariants as step
+use Rattle.channel_interleaving.proofs.OwnerSteps.{not_this, other_number}
 
 -- ---- numbers
 
@@ -39,7 +41,7 @@ module _ {T : Type 0} where
   -- ---- a party has one call under way
 
   -- none of these calls is of this party
-  abbrev NoneIs : ℕ → List (Under T Waiter) → Type 0
+  abbrev pub NoneIs : ℕ → List (Under T Waiter) → Type 0
   NoneIs p us = All (λ (u : Under T Waiter). u.party ≡ p → ⊥) us
 
   not_among : (posts : Waiter → Post) (a : Agent T) (agents : List (Agent T)) (us : List (Under T Waiter)) (mine : Under T Waiter)
@@ -55,6 +57,16 @@ module _ {T : Type 0} where
   none_before posts [] (u ∷ us) mine vs t d = absurd t
   none_before posts (a ∷ more) (u ∷ us) mine vs t d =
       (λ e. not_among posts a more us mine vs t.1 d.0 (t.0.party ∙ e), none_before posts more us mine vs t.1 d.1)
+
+  -- a party that isn't at work has none
+  pub none_at_work : (posts : Waiter → Post) (p : ℕ) (agents : List (Agent T)) (us : List (Under T Waiter)) → Together posts agents us
+      → is_at_work p agents ≡ false → NoneIs p us
+  none_at_work posts p [] [] t idle = tt
+  none_at_work posts p (a ∷ more) (u ∷ us) t idle =
+      let first = not_this (nat_eq a.party p) (is_at_work p more) idle in
+      (λ e. other_number a.party p first.0 (t.0.party ∙ e), none_at_work posts p more us t.1 first.1)
+  none_at_work posts p [] (u ∷ us) t idle = absurd t
+  none_at_work posts p (a ∷ more) [] t idle = absurd t
 
   others_are : (p : ℕ) (us : List (Under T Waiter)) (mine : Under T Waiter) (vs : List (Under T Waiter)) → NoneIs p us → mine.party ≡ p
       → others_of p (us ++ (mine ∷ vs)) ≡ us ++ vs
@@ -112,7 +124,7 @@ module _ {T : Type 0} where
 
   module _ (b : Book T) (s : Scene T Waiter) (o : Owned b s) (p : ℕ) (e : ChannelEntry T) (names : List Waiter) (t : Scene T Waiter)
       (n : Steps s p e names t) where
-    apart : NoneIs p n.before
+    pub apart : NoneIs p n.before
     apart =
         subst (λ (q : ℕ). NoneIs q n.before) n.whose
         (none_before (post b.roll) b.agents n.before n.mine n.behind

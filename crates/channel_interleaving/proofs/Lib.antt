@@ -12,6 +12,7 @@ pub mod OwnerBegins
 pub mod WokenPolls
 pub mod OwnerCalls
 pub mod OwnerTogether
+mod TriesFirst
 pub mod OwnerEnds
 pub mod OwnerSteps
 pub mod OwnerRuns

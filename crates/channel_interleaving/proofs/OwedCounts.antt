@@ -39,7 +39,8 @@ use Rattle.channel_interleaving.specs.OwnerOrder.{woken_key, woken_keys}
 use Rattle.channel_interleaving.specs.Run.{Book}
 use Rattle.channel_interleaving.specs.declared.names.Agent.{Agent}
 use Rattle.channel_interleaving.specs.declared.roll.Roll.{Roll}
-use Rattle.channel_interleaving.proofs.OwedScenes.{is_sending, is_receiving, at_it, unless_told, all_unannounced, to_send}
+use Rattle.channel_interleaving.specs.SightAt.{unless_told, all_freed}
+use Rattle.channel_interleaving.proofs.OwedScenes.{is_sending, is_receiving, at_it, to_send}
 use Rattle.channel_interleaving.proofs.OwnerLists.{among_left, among_right, among_of, none_parts}
 use Rattle.channel_interleaving.proofs.OwnerTogether.{HasIt}
 
@@ -413,7 +414,7 @@ module _ {T : Type 0} where
   receives_weigh b s o = all_weigh Receives counts_for_receives receive_weight (post b.roll) b.agents s.under_way o.together
 
   all_send : (now : Channel T Waiter) (p : Waiter → Post) (agents : List (Agent T)) (us : List (Under T Waiter)) → Together p agents us → AllKnown now us
-      → total counts_for_sends us + hands Sends us ≤ count_by (λ (u : Under T Waiter). is_sending u.ask) us + all_unannounced us
+      → total counts_for_sends us + hands Sends us ≤ count_by (λ (u : Under T Waiter). is_sending u.ask) us + all_freed us
   all_send now p [] [] t k = omega arith
   all_send now p (a ∷ more) (u ∷ us) t k =
       let own = let l = t.0 in l.lines in

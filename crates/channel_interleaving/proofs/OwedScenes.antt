@@ -1,5 +1,5 @@
 -- What is owed, said of a scene: that is proved first, and of the world by it.
-use Rattle.std.specs.Prelude.{◌≡◌, ℕ, ◌+◌, ◌≤◌, Bool, true, false, List, [], ◌∷◌, length, ◌⊎◌}
+use Rattle.std.specs.Prelude.{◌≡◌, ℕ, ◌+◌, ◌≤◌, Bool, true, false, [], length, ◌⊎◌}
 use Rattle.std.specs.List.{count_by}
 use Rattle.event_listener.specs.declared.key.Key.{Key}
 use Rattle.channel_calls.specs.declared.ask.ChannelAsk.{ChannelAsk}
@@ -8,7 +8,6 @@ use Rattle.channel_calls.specs.declared.stage.Line.TheVariants.{Sends, Receives,
 use Rattle.channel_model.specs.declared.name.Waiter.{Waiter}
 use Rattle.channel_steps.specs.Moments.{Open, Shut}
 use Rattle.channel_steps.specs.Scene.{Under, Scene}
-use Rattle.channel_steps.specs.Tellings.{Telling, takings}
 use Rattle.channel_laws.specs.Closings.{HasClosed}
 use Rattle.channel_laws.specs.Sends.{HasPlaces}
 use Rattle.channel_interleaving.specs.Doing.{role_of}
@@ -16,11 +15,7 @@ use Rattle.channel_interleaving.specs.Owed.{woken_on}
 use Rattle.channel_interleaving.specs.Owed as world
 use Rattle.channel_interleaving.specs.Owners.{waits, post, AnyOf}
 use Rattle.channel_interleaving.specs.Run.{Book}
-
--- nothing, once the call has told somebody
-abbrev pub unless_told : List Telling → ℕ → ℕ
-unless_told [] n = n
-unless_told (t ∷ ts) n = 0
+use Rattle.channel_interleaving.specs.SightAt.{all_freed}
 
 module _ {T : Type 0} where
   abbrev pub is_sending : ChannelAsk T Waiter → Bool
@@ -28,14 +23,6 @@ module _ {T : Type 0} where
 
   abbrev pub is_receiving : ChannelAsk T Waiter → Bool
   is_receiving a = world.is_receiving (role_of a)
-
-  -- the places that a call has freed by takings, while it has not run its section on the sends' list
-  abbrev pub unannounced : Under T Waiter → ℕ
-  unannounced u = unless_told u.told (takings u.deeds)
-
-  abbrev pub all_unannounced : List (Under T Waiter) → ℕ
-  all_unannounced [] = 0
-  all_unannounced (u ∷ us) = unannounced u + all_unannounced us
 
   -- the sending and the receiving calls under way
   abbrev pub at_it : Scene T Waiter → ℕ
@@ -45,7 +32,7 @@ module _ {T : Type 0} where
 
   -- the sending calls under way, and the places that calls under way have freed and not announced yet
   abbrev pub to_send : Scene T Waiter → ℕ
-  to_send s = count_by (λ (u : Under T Waiter). is_sending u.ask) s.under_way + all_unannounced s.under_way
+  to_send s = count_by (λ (u : Under T Waiter). is_sending u.ask) s.under_way + all_freed s.under_way
 
   -- the four lines
   pub record OwedIn (b : Book T) (s : Scene T Waiter) : Type 0 where

@@ -5,9 +5,9 @@ use Rattle.std.specs.Map.{lookup}
 use Rattle.std.specs.Option.{option_map, option_map_or}
 use Rattle.concurrent_queue.specs.Queue.{Phase, asked}
 use Rattle.event_listener.specs.declared.key.Key.{Key}
-use Rattle.channel_calls.specs.Asks.{first}
+use Rattle.channel_calls.specs.Asks.{asks_listener, first, lent}
 use Rattle.channel_calls.specs.Moves.{Turned}
-use Rattle.channel_calls.specs.Turns.{held_on}
+use Rattle.channel_calls.specs.Turns.{again, held_on, line_of as waits_on}
 use Rattle.channel_calls.specs.declared.ask.ChannelAsk.{ChannelAsk}
 use Rattle.channel_calls.specs.declared.ask.ChannelAsk.TheVariants as ask
 use Rattle.channel_calls.specs.declared.reply.Reply.{Reply}
@@ -18,6 +18,8 @@ use Rattle.channel_calls.specs.declared.stage.Stage.{Stage}
 use Rattle.channel_calls.specs.declared.stage.Stage.TheVariants.{Trying, Working}
 use Rattle.channel_calls.specs.declared.stage.Turn.{Turn}
 use Rattle.channel_calls.specs.declared.stage.Turn.TheVariants.{Tries, Works, Ends}
+use Rattle.channel_calls.specs.declared.stage.Waiting.{Waiting}
+use Rattle.channel_calls.specs.declared.stage.Waiting.TheVariants as waiting
 use Rattle.channel_model.specs.Asked.{Held as HeldBy, poll_asked}
 use Rattle.channel_model.specs.Names.{Directory, at, is_taken}
 use Rattle.channel_model.specs.Names as model
@@ -78,8 +80,8 @@ line_on line (Some key) h e = ap (λ (o : Option Held). option_map (λ (i : Held
 module _ {T W : Type 0} where
   -- the listener with which a call begins
   abbrev pub ask_holds : ChannelAsk T W → Option Held
-  ask_holds (ask.PollSend m key task) = held_on Sends key
-  ask_holds (ask.PollRecv key task) = held_on Receives key
+  ask_holds (ask.PollSend m l task) = held_on Sends l.key
+  ask_holds (ask.PollRecv l task) = held_on Receives l.key
   ask_holds (ask.PollClosed key task) = held_on Closings key
   ask_holds (ask.PollNext key task) = held_on Streams key
   ask_holds (ask.RefusePoll line message key) = held_on line key
@@ -88,8 +90,8 @@ module _ {T W : Type 0} where
   ask_holds a = None
 
   pub line_held : (a : ChannelAsk T W) (h : Held) → ask_holds a ≡ Some h → line_asked a ≡ Some h.line
-  line_held (ask.PollSend m key task) h e = line_on Sends key h e
-  line_held (ask.PollRecv key task) h e = line_on Receives key h e
+  line_held (ask.PollSend m l task) h e = line_on Sends l.key h e
+  line_held (ask.PollRecv l task) h e = line_on Receives l.key h e
   line_held (ask.PollClosed key task) h e = line_on Closings key h e
   line_held (ask.PollNext key task) h e = line_on Streams key h e
   line_held (ask.RefusePoll line message key) h e = line_on line key h e
@@ -118,18 +120,23 @@ module _ {T W : Type 0} where
   taken a (Works w) r s h k = subst (λ (z : Stage (Phase T) T W). Starts a z) (sym h.1) k
   taken a (Ends x kept) r s h k = absurd k
 
+  polled_turn : (a : ChannelAsk T W) (w : Waiting T) (b : Bool) (key : Option Key) (task : W) → ask_holds a ≡ held_on (waits_on w) key → wait_of a ≡ Some (waits_on w, task)
+      → TurnStarts a (if b then asks_listener w key task else again w key task)
+  polled_turn a w false key task h e = λ p. (sym h, (waits_on w, e))
+  polled_turn a w true None task h e = λ p. (sym h, (waits_on w, e))
+  polled_turn a w true (Some key) task h e = (sym h, (waits_on w, e))
+
   first_turn : (a : ChannelAsk T W) → TurnStarts a (first a)
   first_turn (ask.TrySend m) = λ p. (refl, tt)
   first_turn (ask.ForceSend m) = λ p. (refl, tt)
   first_turn ask.TryRecv = λ p. (refl, tt)
   first_turn (ask.RecvMany n) = (refl, tt)
   first_turn ask.Close = λ p. (refl, tt)
-  first_turn (ask.PollSend m key task) = λ p. (refl, (Sends, refl))
+  first_turn (ask.PollSend m l task) = polled_turn (ask.PollSend m l task) (waiting.Send m) l.asks_first l.key task refl refl
   first_turn ask.PollFinishedSend = (refl, tt)
-  first_turn (ask.PollRecv key task) = λ p. (refl, (Receives, refl))
+  first_turn (ask.PollRecv l task) = polled_turn (ask.PollRecv l task) waiting.Receive l.asks_first l.key task refl refl
   first_turn (ask.PollClosed key task) = λ p. (refl, (Closings, refl))
-  first_turn (ask.PollNext None task) = λ p. (refl, (Streams, refl))
-  first_turn (ask.PollNext (Some key) task) = (refl, (Streams, refl))
+  first_turn (ask.PollNext key task) = polled_turn (ask.PollNext key task) waiting.Stream true key task refl refl
   first_turn (ask.RefusePoll line message key) = (refl, tt)
   first_turn (ask.GiveUp line message key) = (refl, tt)
   first_turn ask.DropSender = (refl, tt)
@@ -247,8 +254,8 @@ module _ {T : Type 0} where
   pub poll_is : (held : HeldBy) (op : OpId) (k : OperationKind) (h : HandleId) (m : Option T) (key : Option Key)
       → held (Op op) ≡ key → poll_asked held op (Some (as_model k h m)) ≡ polled_ask k m key op
   poll_is held op kind.Send h None key e = refl
-  poll_is held op kind.Send h (Some m) key e = ap (λ x. ask.PollSend m x (Op op)) e
-  poll_is held op kind.Receive h m key e = ap (λ x. ask.PollRecv x (Op op)) e
+  poll_is held op kind.Send h (Some m) key e = ap (λ x. ask.PollSend m (lent x) (Op op)) e
+  poll_is held op kind.Receive h m key e = ap (λ x. ask.PollRecv (lent x) (Op op)) e
   poll_is held op kind.Closing h m key e = ap (λ x. ask.PollClosed x (Op op)) e
 
   abbrev pub Free : OperationKind → Option T → Standing → Type 0

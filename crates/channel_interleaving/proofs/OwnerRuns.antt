@@ -275,6 +275,7 @@ module _ {T : Type 0} where
               (λ v e. keep v (busy (post b.roll) pt.agent.errand _ v pt.own.suits e)) pt.own.suits;
           bears = bears_on (task_at st.at_now) (task_at st.mine.at) (wait_of st.mine.ask) on_out.next.1 pt.own.bears;
           lines = λ h i. own_line pt h (on_out.own h (sym on_out.next.0 ∙ i));
+          tries = pt.own.tries;
         } in
         let front = together_sees t.now on_posts pt.front st.before
         (together_on (post b.roll) on_posts pt.front st.before

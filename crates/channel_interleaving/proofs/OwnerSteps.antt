@@ -23,6 +23,7 @@ use Rattle.channel_model.specs.declared.name.HandleKind.TheVariants as handle_ki
 use Rattle.channel_interleaving.specs.declared.step.PartyId.{PartyId}
 use Rattle.channel_interleaving.proofs.OwnerBegins.{line_held, IsBusy, IsLoose, held_in, ask_holds, starts, Quiet, Touches, Admitted}
 use Rattle.channel_interleaving.proofs.OwnerCalls.{begins_so}
+use Rattle.channel_interleaving.proofs.TriesFirst.{tries_first}
 use Rattle.channel_interleaving.proofs.OwnerEnds.{IsCalm}
 use Rattle.channel_interleaving.proofs.OwnerHolders.{Accounted, Passes, accounted}
 use Rattle.channel_interleaving.proofs.OwnerMoves.{still}
@@ -118,11 +119,11 @@ first_calm T (Stream handle) = by (nat_eq handle.0 1) (nat_eq handle.0 0)
     by false true = tt
     by false false = tt
 
-not_this : (b : Bool) (c : Bool) → (b || c) ≡ false → (b ≡ false) × (c ≡ false)
+pub not_this : (b : Bool) (c : Bool) → (b || c) ≡ false → (b ≡ false) × (c ≡ false)
 not_this true c e = absurd (let no : true ≡ false = e in cc)
 not_this false c e = (refl, e)
 
-other_number : (a b : ℕ) → nat_eq a b ≡ false → a ≡ b → ⊥
+pub other_number : (a b : ℕ) → nat_eq a b ≡ false → a ≡ b → ⊥
 other_number a b e h = absurd (let never : true ≡ false = sym (own a) ∙ (ap (λ n. nat_eq a n) h ∙ e) in cc)
   where
     own : (n : ℕ) → nat_eq n n ≡ true
@@ -246,6 +247,7 @@ module _ {T : Type 0} where
                   bears = first_stage.1;
                   lines = λ h i. line_held (asks b.roll c) h
                       (sym first_stage.0 ∙ i);
+                  tries = tries_first b.roll c;
                 },
                 tt,
               );

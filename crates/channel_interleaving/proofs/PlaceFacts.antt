@@ -4,7 +4,7 @@ use Rattle.std.specs.Option.{option_map, option_map_or}
 use Rattle.futures.specs.declared.task.Poll.TheVariants as poll
 use Rattle.concurrent_queue.specs.Queue.{Queue, is_filled}
 use Rattle.event_listener.specs.declared.key.Key.{Key}
-use Rattle.channel_alone.specs.Alone.{Outcome, Alone, Where, over_queue, appended, replaced, answers, ends, of_message, Waits, Listens}
+use Rattle.channel_alone.specs.Alone.{Outcome, Alone, AsksListener, PollsSend, Where, over_queue, appended, replaced, answers, ends, of_message, Waits, Listens}
 use Rattle.channel_alone.specs.Scenes.{Goes, LoneRun}
 use Rattle.channel_calls.specs.Answered.{over}
 use Rattle.channel_calls.specs.Moves.{Channel, tells_one, tells_all, registers}
@@ -200,15 +200,29 @@ module _ {T : Type 0} where
   polls_by false true m key task c o h = waits_out (waiting.Send m) key task c o h
   polls_by false false m key task c o e = let_in (over (reply.SendPoll (poll.Ready (Ok tt))) None Sends key) c (over_queue (appended m) c) o e refl refl
 
+  tries_out : (m : T) (key : Option Key) (task : Waiter) (c : Channel T Waiter) (o : Outcome T Waiter) → PollsSend m key task c o → Accepts c o
+  tries_out m key task c o (inl h) = kept_out (over (reply.SendPoll (poll.Ready (Err (refused.NoMemory tt)))) (Some m) Sends key) c o h.2
+  tries_out m key task c o (inr h) = polls_by c.queue.closed (is_filled c.queue) m key task c o h
+
+  asks_out : (b : Bool) (m : T) (key : Key) (task : Waiter) (c : Channel T Waiter) (o : Outcome T Waiter)
+      → Where b (o ≡ answers (pending_reply Sends) (leaving (Some key) (Some m)) (registers Sends key task c).channel)
+      (PollsSend m None task (registers Sends key task c).channel o) → Accepts c o
+  asks_out true m key task c o e = subst (λ (y : Outcome T Waiter). Accepts c y) (sym e) (omega arith)
+  asks_out false m key task c o h = tries_out m None task (registers Sends key task c).channel o h
+
+  poll_out : (b : Bool) (m : T) (key : Option Key) (task : Waiter) (c : Channel T Waiter) (o : Outcome T Waiter)
+      → Where b (AsksListener (waiting.Send m) key task c o (λ (d : Channel T Waiter). PollsSend m None task d o)) (PollsSend m key task c o) → Accepts c o
+  poll_out false m key task c o h = tries_out m key task c o h
+  poll_out true m None task c o h = tries_out m None task c o h
+  poll_out true m (Some key) task c o h = asks_out (waits key (listeners Sends c.roster)) m key task c o h
+
   alone_accepts : (a : ChannelAsk T Waiter) (c : Channel T Waiter) (o : Outcome T Waiter) → Alone a c o
       → (length (brought a) ≡ 0) ⊎ Accepts c o
   alone_accepts (channel.TrySend m) c o (inl h) = inr (kept_out (says (reply.TrySend (Err (refused.NoMemory m)))) c o h.2)
   alone_accepts (channel.TrySend m) c o (inr h) = inr (sends_by c.queue.closed (is_filled c.queue) m c o h)
   alone_accepts (channel.ForceSend m) c o (inl h) = inr (kept_out (says (reply.ForceSend (Err (refused.NoMemory m)))) c o h.2)
   alone_accepts (channel.ForceSend m) c o (inr h) = inr (forces_by c.queue.closed (is_filled c.queue) m c o h)
-  alone_accepts (channel.PollSend m key task) c o (inl h) =
-      inr (kept_out (over (reply.SendPoll (poll.Ready (Err (refused.NoMemory tt)))) (Some m) Sends key) c o h.2)
-  alone_accepts (channel.PollSend m key task) c o (inr h) = inr (polls_by c.queue.closed (is_filled c.queue) m key task c o h)
+  alone_accepts (channel.PollSend m l task) c o h = inr (poll_out l.asks_first m l.key task c o h)
   alone_accepts a c o h = inl refl
 
   -- ---- its steps bring in no more than it has

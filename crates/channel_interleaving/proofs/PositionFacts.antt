@@ -16,7 +16,7 @@ use Rattle.concurrent_queue.specs.declared.error.ForcePushError.TheVariants as f
 use Rattle.concurrent_queue.specs.declared.error.PopError.TheVariants as pop_error
 use Rattle.event_listener.specs.declared.key.Key.{Key}
 use Rattle.channel_calls.specs.Answered.{sent_next, forced_next, received_next, gathered_next, short_next, several_next, send_next, receive_next, stream_next, closing_next, polled_next, closed_next, asked_next, terminated_next, upgraded_next, answered_next}
-use Rattle.channel_calls.specs.Asks.{first}
+use Rattle.channel_calls.specs.Asks.{asks_listener, first}
 use Rattle.channel_calls.specs.Marks.{mark_of_queue, up}
 use Rattle.channel_calls.specs.Moves.{Channel, Effect, untouched, on_count, tells_one, tells_more, tells_all, listens, registers, leaves, lowers, raises, Turned, Worked, Moves}
 use Rattle.channel_calls.specs.Parts.{listeners, count, is_raised, waits}
@@ -476,10 +476,21 @@ module _ {T W : Type 0} where
 
   -- ---- a call begins
 
+  poll_yet : (m : T) (b : Bool) (key : Option Key) (task : W) → yet_after (if b then asks_listener (waiting.Send m) key task else again (waiting.Send m) key task) ≤ 1
+  poll_yet m false key task = omega arith
+  poll_yet m true None task = omega arith
+  poll_yet m true (Some key) task = omega arith
+
+  none_yet : (b : Bool) (key : Option Key) (task : W) (t : Turn T W) → t ≡ (if b then asks_listener waiting.Receive key task else again waiting.Receive key task) → yet_after t ≤ 0
+  none_yet false key task t same = subst (λ (x : Turn T W). yet_after x ≤ 0) (sym same) (omega arith)
+  none_yet true None task t same = subst (λ (x : Turn T W). yet_after x ≤ 0) (sym same) (omega arith)
+  none_yet true (Some key) task t same = subst (λ (x : Turn T W). yet_after x ≤ 0) (sym same) (omega arith)
+
   first_yet : (a : ChannelAsk T W) → yet_after (first a) ≤ length (brought a)
   first_yet (channel.TrySend m) = omega arith
   first_yet (channel.ForceSend m) = omega arith
-  first_yet (channel.PollSend m key task) = omega arith
+  first_yet (channel.PollSend m l task) = poll_yet m l.asks_first l.key task
+  first_yet (channel.PollRecv l task) = none_yet l.asks_first l.key task _ refl
   first_yet (channel.PollNext None task) = omega arith
   first_yet (channel.PollNext (Some key) task) = omega arith
   first_yet a = omega arith

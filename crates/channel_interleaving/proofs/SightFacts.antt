@@ -27,13 +27,15 @@ use Rattle.channel_interleaving.specs.Doing.{is_close, any_close, doing_of}
 use Rattle.channel_interleaving.specs.Floor.{book_of, parts_in, sight_of, Shown, IsSame}
 use Rattle.channel_interleaving.specs.Owed.{Sight, Owed, is_sending, is_receiving, unannounced, all_unannounced, woken_on}
 use Rattle.channel_interleaving.specs.Owners.{AnyOf}
+use Rattle.channel_interleaving.specs.Kept.{AllKept}
 use Rattle.channel_interleaving.specs.Run.{Book}
+use Rattle.channel_interleaving.specs.SightAt.{unless_told, freed_by, all_freed, sight_at}
 use Rattle.channel_interleaving.specs.declared.doing.Doing.{Doing}
 use Rattle.channel_interleaving.specs.declared.floor.Floor.{Floor}
 use Rattle.channel_interleaving.specs.declared.roll.Roll.{Roll}
 use Rattle.channel_interleaving.proofs.OwedCounts.{one_if, count_first}
-use Rattle.channel_interleaving.proofs.OwedFacts.{places}
-use Rattle.channel_interleaving.proofs.OwedScenes.{unless_told, OwedIn}
+use Rattle.channel_interleaving.proofs.OwedFacts.{places, owed}
+use Rattle.channel_interleaving.proofs.OwedScenes.{OwedIn}
 use Rattle.channel_interleaving.proofs.OwedScenes as scenes
 
 -- ---- what was told
@@ -86,12 +88,12 @@ module _ {T : Type 0} where
   -- ---- what was freed
 
   no_more : (f : Phase T) (at : Stage (QueueCall T) T Waiter) (u : Under T Waiter) → ToldAt u.told (phase f at) u.deeds
-      → scenes.unannounced u ≤ unannounced at (doing_of u)
+      → freed_by u ≤ unannounced at (doing_of u)
   no_more f (Working (Leave x)) u h = all_announced u.told (takings u.deeds) (owed_besides u.deeds) h
   no_more f at u h = unless_most u.told (takings u.deeds)
 
   all_no_more : (now : Channel T Waiter) (xs : List (Sitting T Waiter)) → AllKnown now (map under_of xs)
-      → scenes.all_unannounced (map under_of xs)
+      → all_freed (map under_of xs)
       ≤ all_unannounced (map (λ (x : Sitting T Waiter). x.party) xs) (map doing_of (map under_of xs))
   all_no_more now [] k = omega arith
   all_no_more now (x ∷ xs) k =
@@ -119,11 +121,11 @@ module _ {T : Type 0} where
     by_role : (test : Doing → Bool) → count_by test f.doings.items ≡ count_by (λ (u : Under T Waiter). test (doing_of u)) s.under_way
     by_role test = ap (λ (ds : List Doing). count_by test ds) sh.doings ∙ counted test s.under_way
 
-    freed : scenes.all_unannounced s.under_way ≤ all_unannounced f.parties.items f.doings.items
+    freed : all_freed s.under_way ≤ all_unannounced f.parties.items f.doings.items
     freed =
         let k = subst (λ (us : List (Under T Waiter)). AllKnown s.now us) sh.shows.under_way sh.shows.known in
         let least = all_no_more s.now sh.shows.sittings k in
-        let here = ap (λ (us : List (Under T Waiter)). scenes.all_unannounced us) sh.shows.under_way in
+        let here = ap (λ (us : List (Under T Waiter)). all_freed us) sh.shows.under_way in
         let doings : f.doings.items ≡ map doing_of (map under_of sh.shows.sittings) =
         sh.doings ∙ ap (λ (us : List (Under T Waiter)). map doing_of us) sh.shows.under_way in
         let there = ap (λ (ps : List (Party T Waiter)). all_unannounced ps f.doings.items) sh.shows.parties_are in
@@ -150,6 +152,26 @@ module _ {T : Type 0} where
       stream (inr i) some =
           let one = some_counts (λ (u : Under T Waiter). scenes.is_sending u.ask ≡ true) (λ (u : Under T Waiter). scenes.is_sending u.ask) (λ u k. k) s.under_way i in
           omega (arith, one, by_role (λ (d : Doing). is_sending d.role))
+
+  -- ---- the scene by itself
+
+  some_send : (s : Scene T Waiter) → (s.now.queue.items ≡ []) ⊎ AnyOf (λ (u : Under T Waiter). scenes.is_sending u.ask ≡ true) s.under_way
+      → 0 < length s.now.queue.items → 0 < count_by (λ (u : Under T Waiter). scenes.is_sending u.ask) s.under_way
+  some_send s (inl none) some = let empty = ap length none in omega (arith, empty, some)
+  some_send s (inr i) some =
+      some_counts (λ (u : Under T Waiter). scenes.is_sending u.ask ≡ true) (λ (u : Under T Waiter). scenes.is_sending u.ask) (λ u k. k) s.under_way i
+
+  pub owed_at : (b : Book T) (s : Scene T Waiter) → AllKept b s → Owed (sight_at b.roll s)
+  owed_at b s k =
+      let o : OwedIn b s = owed b s k.owned k.sound in
+      record {
+        receives = λ name i. o.receives name i.0 i.1;
+        sends = λ name i is_open. o.sends name i.0 i.1 is_open;
+        streams = λ name i some. some_send s (o.streams name i.0 i.1) some;
+        closing = λ line name i shut.
+            some_counts (λ (u : Under T Waiter). HasClosed u.deeds) (λ (u : Under T Waiter). any_close u.deeds) (λ u c. closed_is u.deeds c) s.under_way
+            (o.closing name (record { line = line; key = i.0 }) i.1 shut);
+      }
 
   -- ---- room that was taken changes nothing
 

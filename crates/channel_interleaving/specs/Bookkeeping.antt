@@ -1,6 +1,7 @@
 -- What a call asks as it begins, what it does to the names then, and what it writes back at its end.
 use Rattle.std.specs.Prelude.{◌≡◌, List, [], ◌∷◌, false, is_some, Option, None, Some}
 use Rattle.std.specs.Option.{option_map_or}
+use Rattle.channel_calls.specs.Asks.{lent}
 use Rattle.channel_calls.specs.declared.ask.ChannelAsk.{ChannelAsk}
 use Rattle.channel_calls.specs.declared.ask.ChannelAsk.TheVariants as ask
 use Rattle.channel_calls.specs.declared.reply.Reply.{Reply}
@@ -145,9 +146,9 @@ module _ {T : Type 0} where
 
   -- what a poll of an operation asks
   abbrev pub polled_ask : OperationKind → Option T → Option Key → OpId → ChannelAsk T Waiter
-  polled_ask Send (Some m) key op = ask.PollSend m key (waiter.Op op)
+  polled_ask Send (Some m) key op = ask.PollSend m (lent key) (waiter.Op op)
   polled_ask Send None key op = ask.PollFinishedSend
-  polled_ask Receive m key op = ask.PollRecv key (waiter.Op op)
+  polled_ask Receive m key op = ask.PollRecv (lent key) (waiter.Op op)
   polled_ask Closing m key op = ask.PollClosed key (waiter.Op op)
 
   -- the message of a send; any other operation has none

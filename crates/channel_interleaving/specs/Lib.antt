@@ -9,6 +9,7 @@ pub mod Run
 pub mod Owners
 pub mod Doing
 pub mod Owed
+pub mod SightAt
 pub mod OwnerWoken
 pub mod OwnerOrder
 pub mod OwnerPolled

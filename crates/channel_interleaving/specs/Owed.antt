@@ -14,7 +14,7 @@ use Rattle.channel_model.specs.declared.name.Waiter.{Waiter}
 use Rattle.channel_model.specs.declared.name.Waiter.TheVariants.{Op, Stream}
 use Rattle.channel_steps.specs.declared.party.Party.{Party}
 use Rattle.channel_laws.specs.Sends.{HasPlaces}
-use Rattle.channel_interleaving.specs.Owners.{Post, free, vacant, amiss, rests, waits, polled, post}
+use Rattle.channel_interleaving.specs.Owners.{Post, waits, post}
 use Rattle.channel_interleaving.specs.declared.doing.Doing.{Doing}
 use Rattle.channel_interleaving.specs.declared.doing.Role.{Role}
 use Rattle.channel_interleaving.specs.declared.doing.Role.TheVariants.{Sending, Receiving}
@@ -23,11 +23,7 @@ use Rattle.channel_interleaving.specs.declared.roll.Roll.{Roll}
 -- whether one that stands so is pending on this line, and was woken
 abbrev pub is_woken_on : Line → Post → Bool
 is_woken_on line (waits h is_woken) = is_woken && same_line line h.line
-is_woken_on line free = false
-is_woken_on line vacant = false
-is_woken_on line amiss = false
-is_woken_on line (rests l) = false
-is_woken_on line (polled l) = false
+is_woken_on line other = false
 
 -- ---- the calls under way
 

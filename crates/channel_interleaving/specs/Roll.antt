@@ -27,9 +27,8 @@ use Rattle.channel_interleaving.specs.declared.roll.Roll.{Roll}
 
 -- the listener of one that is pending
 abbrev pub key_of : Standing → Option Key
-key_of Rests = None
 key_of (Waits key is_woken) = Some key
-key_of (IsPolled brings) = None
+key_of s = None
 
 -- after a poll that left this listener, or none
 abbrev pub standing_with : Option Key → Standing
@@ -42,9 +41,8 @@ is_polled (Waits key is_woken) = false
 is_polled (IsPolled brings) = true
 
 abbrev pub is_woken : Standing → Bool
-is_woken Rests = false
 is_woken (Waits key woken) = woken
-is_woken (IsPolled brings) = false
+is_woken s = false
 
 -- one that is pending is woken
 abbrev pub told : Standing → Standing
@@ -62,17 +60,14 @@ line_of Closing = Closings
 
 -- whether a poll under way has the message
 abbrev pub is_lent : Standing → Bool
-is_lent Rests = false
-is_lent (Waits key is_woken) = false
 is_lent (IsPolled brings) = brings
+is_lent s = false
 
 module _ {T : Type 0} where
   -- a send is finished whose message is gone, and that no poll under way has
   abbrev pub has_finished : OperationKind → Option T → Standing → Bool
   has_finished Send None s = not (is_lent s)
-  has_finished Send (Some m) s = false
-  has_finished Receive m s = false
-  has_finished Closing m s = false
+  has_finished kind m s = false
 
   abbrev pub is_finished : Operation T → Bool
   is_finished o = has_finished o.kind o.message o.standing

@@ -7,7 +7,7 @@ ghost use Rattle.channel_interleaving.specs.Bookkeeping.{polled_ask, own_message
 
 use crate::names::{Errand, Operation, OperationKind, Standing};
 use crate::roll::Roll;
-use channel_calls::ask::ChannelAsk;
+use channel_calls::ask::{ChannelAsk, lent};
 use channel_calls::several::Limit;
 use channel_calls::stage::{Line, Side};
 use channel_model::call::Call;
@@ -85,10 +85,10 @@ fn poll_ask<T: Drop>(
 {
     match (kind, message) {
         (OperationKind::Send, Some(message)) => {
-            ChannelAsk::PollSend(message, key, Waiter::Op(op))
+            ChannelAsk::PollSend(message, lent(key), Waiter::Op(op))
         }
         (OperationKind::Send, None) => ChannelAsk::PollFinishedSend,
-        (OperationKind::Receive, _) => ChannelAsk::PollRecv(key, Waiter::Op(op)),
+        (OperationKind::Receive, _) => ChannelAsk::PollRecv(lent(key), Waiter::Op(op)),
         (OperationKind::Closing, _) => ChannelAsk::PollClosed(key, Waiter::Op(op)),
     }
 }

@@ -163,6 +163,7 @@ impl<T: Drop> Interleaved<T> {
 
 impl<T: Drop> Interleaved<T> {
     ghost use Rattle.std.specs.Prelude.{◌≡◌, ◌≤◌, ◌<◌, ◌+◌, ◌-◌, ◌^◌, [], ◌∷◌, None, length, IfOk, IfErr, OnErr, IsTrue, vec_len, vec_capacity};
+    ghost use Rattle.channel_model.specs.Laws.{is_line, line_of};
     ghost use Rattle.channel_model.specs.Settling.{poll_of};
     ghost use Rattle.channel_calls.specs.Parts.{listeners};
     ghost use Rattle.channel_interleaving.specs.Apart.{AreApart};
@@ -170,6 +171,7 @@ impl<T: Drop> Interleaved<T> {
     ghost use Rattle.channel_interleaving.specs.Floor.{parts_in, IsKept, IsQuiet, IsSame, LeadsOn, Stands};
     ghost use Rattle.channel_interleaving.specs.Lone.{CallsAlone, WakesAtMost};
     ghost use Rattle.channel_interleaving.specs.OwnerOrder.{woken_in};
+    ghost use Rattle.channel_interleaving.specs.Roll.{names_of};
     ghost use Rattle.channel_interleaving.specs.Settle.{IsWoken, PollsAlone};
     ghost use Rattle.channel_interleaving.specs.Way.{reply_of};
 
@@ -261,6 +263,14 @@ impl<T: Drop> Interleaved<T> {
         ensures { result ≡ length (listeners line (parts_in self.now).roster).waiting }
     {
         self.floor.channel.waiting(line)
+    }
+
+    /// Whether what has this name belongs to this line: a pending send, receive or wait for the closing to its own, and a stream to
+    /// that of the streams. A finished send belongs to none, nor does a name under which nothing lives. Own to this project.
+    pub fn is_on(&self, line: Line, name: Waiter) -> bool
+        ensures { result ≡ is_line line (line_of (names_of self.now.roll) name) }
+    {
+        self.floor.roll.is_on(line, name)
     }
 
     /// Where memory comes from.

@@ -1,8 +1,9 @@
 //! The handles and the operations under their names.
 
-use crate::names::{Hold, Operation, Standing};
+use crate::names::{Hold, Operation, OperationKind, Standing};
+use channel_calls::stage::Line;
 use channel_model::directory::Directory;
-use channel_model::name::{Handle, HandleId, HandleKind, Waiter};
+use channel_model::name::{Handle, HandleId, HandleKind, OpId, Waiter};
 use event_listener::key::Key;
 use std::alloc::{AllocError, Global};
 
@@ -221,5 +222,84 @@ impl<T> Roll<T> {
         let streams = self.handles.iter();
         let streams = streams.filter(|(_, x)| is_stream_woken(*x)).count();
         operations + streams
+    }
+}
+
+ghost use Rattle.channel_model.specs.Laws.{same_line};
+
+/// Whether these are one line.
+fn is_same(a: Line, b: Line) -> bool
+    ensures { result ≡ same_line a b }
+{
+    match a {
+        Line::Sends => match b {
+            Line::Sends => true,
+            Line::Receives | Line::Streams | Line::Closings => false,
+        },
+        Line::Receives => match b {
+            Line::Receives => true,
+            Line::Sends | Line::Streams | Line::Closings => false,
+        },
+        Line::Streams => match b {
+            Line::Streams => true,
+            Line::Sends | Line::Receives | Line::Closings => false,
+        },
+        Line::Closings => match b {
+            Line::Closings => true,
+            Line::Sends | Line::Receives | Line::Streams => false,
+        },
+    }
+}
+
+impl<T> Roll<T> {
+    ghost use Rattle.std.specs.Prelude.{◌≡◌};
+    ghost use Rattle.std.specs.Option.{option_map};
+    ghost use Rattle.channel_model.specs.Laws.{is_line, line_of, line_of_operation};
+    ghost use Rattle.channel_model.specs.Names.{at};
+    ghost use Rattle.channel_model.specs.declared.name.Waiter.TheVariants.{Op};
+    ghost use Rattle.channel_interleaving.specs.Roll.{names_of, operation_of};
+
+    /// The line to which an operation belongs, as it is kept here.
+    fn kept_line(&self, op: OpId) -> Option<Line>
+        ensures { result ≡ line_of_operation (option_map operation_of (at op.0 self.now.operations)) }
+    {
+        match self.operations.get(op.0) {
+            Some(operation) => match operation.kind {
+                OperationKind::Send => match &operation.message {
+                    Some(_) => Some(Line::Sends),
+                    None => None,
+                },
+                OperationKind::Receive => Some(Line::Receives),
+                OperationKind::Closing => Some(Line::Closings),
+            },
+            None => None,
+        }
+    }
+
+    /// The line to which an operation belongs: a finished send to none.
+    fn operation_line(&self, op: OpId) -> Option<Line>
+        ensures { result ≡ line_of (names_of self.now) (Op op) }
+    {
+        self.kept_line(op)
+    }
+
+    /// The line to which what has this name belongs.
+    fn line(&self, name: Waiter) -> Option<Line>
+        ensures { result ≡ line_of (names_of self.now) name }
+    {
+        match name {
+            Waiter::Op(op) => self.operation_line(op),
+            Waiter::Stream(_) => Some(Line::Streams),
+        }
+    }
+
+    /// Whether what has this name belongs to this line.
+    pub(crate) fn is_on(&self, line: Line, name: Waiter) -> bool
+        ensures { result ≡ is_line line (line_of (names_of self.now) name) }
+    {
+        match self.line(name) {
+            Some(own) => is_same(line, own),
+            None => false,
+        }
     }
 }

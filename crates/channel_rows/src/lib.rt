@@ -11,16 +11,22 @@
 //! | `go P N` | party P makes N more steps | the same |
 //! | `then begin P N CALL`, `then go P N`, and then `run_steps` | makes these steps as one list | the same |
 //! | `whole P CALL`, `end P` | begins a call, or goes on, a step at a time, up to its end, 64 more at most | the same |
+//! | `count CALL` | party 0 makes a call whole (`run_party`) | its reply, `in` and the number of its steps |
 //! | `settle` | polls whoever is woken | each name with its reply |
 //! | `numbers` | the numbers of messages, of the pending, of the woken and of calls under way | |
 //! | `is_quiet` | whether no call is under way | |
 //!
-//! Behind a reply stand `wakes` and the names of those who were woken; where a list stops, `stopped`, the reason, the place, `after` the
+//! Behind a reply stand `wakes` and the names of those who were woken; where a list stops, `stopped`, the reason, the place,
+//! `after` the
 //! number of entries and `left` how many stay in the list. A list of steps of which no call ends and that wakes nobody `goes on`.
+//!
+//! [`write_steps`] writes a list of steps with what each of them did.
 #![tactic(auto)]
 
 mod calls;
 mod replies;
+mod steps;
 mod worlds;
 
+pub use steps::{write_step, write_steps};
 pub use worlds::Worlds;

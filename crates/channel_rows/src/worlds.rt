@@ -207,6 +207,29 @@ impl Worlds {
         }
     }
 
+    /// Party 0 begins a call and makes its steps: what it answered, and how many steps it made after its begin.
+    fn count(&mut self, words: &mut Words<'_>, answer: &mut String) -> Result<(), AllocError> {
+        let party = PartyId(0);
+        match self.add_begin(party, words) {
+            Said::Ok => {}
+            said => return said.write(answer),
+        }
+        let Some(world) = &mut self.world else {
+            return answer.push_str(NO_CHANNEL);
+        };
+        let begun = world.run_steps(&mut self.steps);
+        let left = self.steps.len();
+        self.steps.clear();
+        write_steps(&begun, left, answer)?;
+        match world.run_party(party, 300) {
+            Ok(run) => {
+                write_steps(&run, 0, answer)?;
+                Said::Both("in", run.trace.len() as u64).write(answer)
+            }
+            Err(_) => Said::Word("memory").write(answer),
+        }
+    }
+
     fn settle(&mut self, answer: &mut String) -> Result<(), AllocError> {
         let Some(world) = &mut self.world else {
             return answer.push_str(NO_CHANNEL);
@@ -279,6 +302,7 @@ impl Player for Worlds {
             "run_steps" => self.run_steps(answer),
             "whole" => self.run_whole(words, answer),
             "end" => self.run_to_end(PartyId(words.small()), answer),
+            "count" => self.count(words, answer),
             "settle" => self.settle(answer),
             "numbers" => self.write_numbers(answer),
             verb => self.call(verb, words, answer),

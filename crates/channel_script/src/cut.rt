@@ -6,10 +6,10 @@ use std::process::Abort;
 use std::test::Fail;
 
 /// The last line of a script to which memory was refused.
-pub const LAST_LINE: &[u8] = b"want of memory\n";
+const LAST_LINE: &[u8] = b"want of memory\n";
 
 /// Whether some lines of a text stand here, then the last line, up to some byte of it.
-pub fn is_cut(held: &[u8], text: &[u8]) -> bool {
+fn is_cut(held: &[u8], text: &[u8]) -> bool {
     for lines in 0..=text.len() {
         let (before, after) = text.split_at(lines);
         let is_whole = lines == 0 || before.ends_with(b"\n");

@@ -12,8 +12,6 @@ mod cut;
 mod faults;
 #[cfg(test)]
 mod rows;
-#[cfg(test)]
-mod scarce;
 
 use channel_world::script::run_script;
 use std::io;

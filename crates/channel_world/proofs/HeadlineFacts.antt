@@ -10,106 +10,76 @@ use Rattle.channel_calls.specs.declared.error.Refused.TheVariants as refused
 use Rattle.channel_calls.specs.declared.reply.Reply.{Reply}
 use Rattle.channel_calls.specs.declared.reply.Reply.TheVariants as reply
 use Rattle.channel_calls.specs.declared.stage.Kept.{Kept}
+use Rattle.channel_model.specs.declared.call.Call.{Call}
 use Rattle.channel_model.specs.declared.name.Waiter.{Waiter}
 use Rattle.channel_model.specs.declared.run.Stopped.{Stopped}
 use Rattle.channel_laws.specs.Ends.{SaysTheEnd, Replies}
 use Rattle.channel_laws.proofs.Interface.{stays_closed, stays_over, says_over, late_gives}
-use Rattle.channel_steps.specs.Answers.{Met, Row, Keeps}
-use Rattle.channel_steps.specs.Moments.{Deed}
-use Rattle.channel_steps.specs.Scene.{Under, Scene, MayFinish, does}
-use Rattle.channel_steps.specs.Tellings.{owed}
+use Rattle.channel_steps.specs.Answers.{Row, Keeps}
+use Rattle.channel_steps.specs.Moments.{Deed, Spent}
+use Rattle.channel_steps.specs.Scene.{Under, Scene, Finishes, MayFinish, does}
 use Rattle.channel_steps.specs.declared.party.Entry.{Entry as ChannelEntry}
 use Rattle.channel_steps.specs.declared.run.Step.{Step as ChannelStep}
-use Rattle.channel_steps.specs.declared.run.Step.TheVariants as channel
 use Rattle.channel_interleaving.specs.Kept.{AllKept}
 use Rattle.channel_interleaving.specs.Floor.{book_of, parts_in, messages_in, StandsIn, Stands}
 use Rattle.channel_interleaving.specs.Run.{Stops, channel_step}
-use Rattle.channel_interleaving.specs.Runs.{Moment, LeadsBy, EachStep, accepted_in, left_in, moment_of, RanTo}
+use Rattle.channel_interleaving.specs.Runs.{Moment, Holds, LeadsBy, EachStep, accepted_in, left_in, moment_of, RanTo}
 use Rattle.channel_interleaving.specs.declared.floor.Floor.{Floor}
 use Rattle.channel_interleaving.specs.declared.step.Entry.{Entry}
 use Rattle.channel_interleaving.specs.declared.step.PartyId.{PartyId}
 use Rattle.channel_interleaving.specs.declared.step.Step.{Step}
 use Rattle.channel_interleaving.specs.declared.step.Step.TheVariants as step
-use Rattle.channel_interleaving.proofs.Interface.{few_in}
-use Rattle.channel_world.proofs.SoonFacts.{end_soon}
+use Rattle.channel_interleaving.proofs.Interface.{few_in, owed_at, tries_at}
 use Rattle.channel_world.proofs.MarkFacts.{all_begin}
+use Rattle.channel_world.proofs.MarkedFacts.{step_marked, all_add}
+use Rattle.channel_world.proofs.SoonFacts.{all_in_a_row, in_front}
+use Rattle.channel_world.proofs.TheEndFacts.{ended_before, nothing_comes}
 use Rattle.channel_world.proofs.WordsFacts.{words_say}
 use Rattle.channel_world.specs.Headline.{Headline}
+use Rattle.channel_world.specs.Marked.{AddUp, all_brought, all_taken}
 use Rattle.channel_world.specs.Words.{WordsSay}
-use Rattle.channel_world.specs.Sentences.{Own, IsAccepted, TouchesOneCell, RepliesByItsRow, BeginsMarksOfARow, TellsWhatItOwes, LeavesNothing, RefusedLeavesNothing, WaitsForNobody, OwesWhoWaits, EndsForGood, WordsSayIt}
+use Rattle.channel_world.specs.Sentences.{MomentSays, BeginSays, LeavesNothing, EndSays, WorkSays, CallSays, StepSays}
 
 module _ {T : Type 0} where
-  -- what follows of each step follows of all
-  each : (P Q : Moment T → Step T → Entry T → Moment T → Type 0) → ((m : Moment T) (x : Step T) (e : Entry T) (n : Moment T) → P m x e n → Q m x e n)
-      → (m : Moment T) (xs : List (Step T)) (es : List (Entry T)) (ns : List (Moment T)) → EachStep P m xs es ns → EachStep Q m xs es ns
-  each P Q f m [] [] [] h = tt
-  each P Q f m (x ∷ xs) (e ∷ es) (n ∷ ns) h = (f m x e n h.0, each P Q f n xs es ns h.1)
-  each P Q f m [] [] (n ∷ ns) h = absurd h
-  each P Q f m [] (e ∷ es) ns h = absurd h
-  each P Q f m (x ∷ xs) [] ns h = absurd h
-  each P Q f m (x ∷ xs) (e ∷ es) [] h = absurd h
-
-  accepted : (m : Moment T) (x : Step T) (e : Entry T) (n : Moment T) → LeadsBy m x e n → IsAccepted m x e n
-  accepted m x e n l = l.made.not_refused
-
-  cells : (m : Moment T) (x : Step T) (e : Entry T) (n : Moment T) → LeadsBy m x e n → TouchesOneCell m x e n
-  cells m x e n l = l.touches
-
-  owes : (m : Moment T) (x : Step T) (e : Entry T) (n : Moment T) → LeadsBy m x e n → OwesWhoWaits m x e n
-  owes m x e n l =
-      let h = l.holds in
-      let is = h.is in
-      let stands = is.stands in
-      (h.floor, is, stands.owed)
+  -- ---- a moment
 
   say_words : (f : Floor T) (s : Scene T Waiter) → StandsIn f s → WordsSay (parts_in f).cells s
   say_words f s k = words_say (parts_in f) f.parties.items s k.shown.shows
 
-  words : (m : Moment T) (x : Step T) (e : Entry T) (n : Moment T) → LeadsBy m x e n → WordsSayIt m x e n
-  words m x e n l =
-      let is = l.holds.is in
-      let same : n.parts ≡ parts_in l.holds.floor = ap (λ (k : Moment T). k.parts) is.moment in
-      subst (λ (p : Parts T Waiter). WordsSay p.cells n.scene) (sym same) (say_words l.holds.floor n.scene is.stands)
-
-  -- the call that makes the step
-  abbrev own : (m : Moment T) (p : PartyId) (e : Entry T) (n : Moment T) → LeadsBy m (step.Step p) e n → Own m p e n
-  own m p e n l =
-      let s = l.made.next in
+  moment_says : (m : Moment T) → Holds m → MomentSays m
+  moment_says m h =
+      let is = h.is in
+      let kept = h.kept in
+      let known = kept.sound.streams in
+      let same : m.parts ≡ parts_in h.floor = ap (λ (k : Moment T). k.parts) is.moment in
       record {
-        before = s.before;
-        call = s.mine;
-        behind = s.behind;
-        after = does s.mine s.at_now e.mark m.scene.now n.scene.now;
-        under_way = s.there;
-        party = s.whose;
-        same = refl;
-        seen = refl;
-        deeds = refl;
-        told = refl;
+        world = h.floor;
+        is = is.moment;
+        stands = is.stands;
+        begun = all_begin m.scene.now m.scene.under_way known.known;
+        owed = owed_at m.book m.scene kept;
+        words = subst (λ (p : Parts T Waiter). WordsSay p.cells m.scene) (sym same) (say_words h.floor m.scene is.stands);
+        few = h.few;
       }
 
-  row : (u : Under T Waiter) (r : Option (Reply T)) (k : Option (Kept T)) → MayFinish u r k → IfSome r (λ x. Met u.ask u.deeds u.seen x)
-  row u None k f = tt
-  row u (Some x) k f = f.met
+  holds_first : (f : Floor T) (s : Scene T Waiter) → StandsIn f s → Holds (moment_of f s)
+  holds_first f s k = record { floor = f; is = record { moment = refl; stands = k }; kept = k.kept; few = few_in f s k }
 
-  replies : (m : Moment T) (x : Step T) (e : Entry T) (n : Moment T) → LeadsBy m x e n → RepliesByItsRow m x e n
-  replies m (step.Begin p c) e n l = tt
-  replies m (step.Step p) e n l = let s = l.made.next in (own m p e n l, row _ e.reply l.made.kept s.finishes)
+  -- ---- the call
 
-  begins : (m : Moment T) (x : Step T) (e : Entry T) (n : Moment T) → LeadsBy m x e n → BeginsMarksOfARow m x e n
-  begins m x e n l = let s = l.holds.kept.sound.streams in all_begin n.scene.now n.scene.under_way s.known
-
-  told_all : (u : Under T Waiter) (r : Option (Reply T)) (k : Option (Kept T)) → MayFinish u r k → IfSome r (λ x. u.told ≡ owed u.deeds)
-  told_all u None k f = tt
-  told_all u (Some x) k f = f.all_told
-
-  tells : (m : Moment T) (x : Step T) (e : Entry T) (n : Moment T) → LeadsBy m x e n → TellsWhatItOwes m x e n
-  tells m (step.Begin p c) e n l = tt
-  tells m (step.Step p) e n l = let s = l.made.next in (own m p e n l, (s.named, told_all _ e.reply l.made.kept s.finishes))
-
-  waits : (m : Moment T) (x : Step T) (e : Entry T) (n : Moment T) → LeadsBy m x e n → WaitsForNobody m x e n
-  waits m (step.Begin p c) e n l = tt
-  waits m (step.Step p) e n l = let s = l.made.next in (own m p e n l, s.quick)
+  begin_says : (m : Moment T) (p : PartyId) (c : Call T) (e : Entry T) (n : Moment T) → LeadsBy m (step.Begin p c) e n → BeginSays m p c e n
+  begin_says m p c e n l =
+      let b = l.made.next.0 in
+      record {
+        mark = ap (λ (g : ChannelEntry T). g.mark) b.entry;
+        reply = ap (λ (g : ChannelEntry T). g.reply) b.entry;
+        woken = l.made.next.1;
+        parts = l.touches;
+        now = b.now;
+        at_first = b.at;
+        under_way = b.under_way;
+        book = l.made.book;
+      }
 
   leaves : (a : ChannelAsk T Waiter) (ds : List (Deed T Waiter)) (seen : List (Channel T Waiter)) (r : Reply T) (k : Kept T)
       → Row a ds seen r → Keeps a r k → LeavesNothing a ds r k
@@ -125,75 +95,112 @@ module _ {T : Type 0} where
   leaves (ask.RefusePoll line message key) ds seen r k h keeps = (h.0, keeps)
   leaves a ds seen r k h keeps = tt
 
-  finish_leaves : (u : Under T Waiter) (r : Option (Reply T)) (k : Option (Kept T)) → MayFinish u r k
-      → IfSome r (λ x. (left : Kept T) × (k ≡ Some left) × LeavesNothing u.ask u.deeds x left)
-  finish_leaves u None k f = tt
-  finish_leaves u (Some x) k f = (f.kept, f.given, leaves u.ask u.deeds f.met.1 x f.kept f.met.3 f.keeps)
+  end_says : (u : Under T Waiter) (r : Reply T) (left : Option (Kept T)) → Finishes u r left → EndSays u r left
+  end_says u r left f = record {
+    row = f.met;
+    told = f.all_told;
+    kept = f.kept;
+    leaves = f.given;
+    keeps = f.keeps;
+    nothing = leaves u.ask u.deeds f.met.1 r f.kept f.met.3 f.keeps;
+  }
 
-  refuses : (m : Moment T) (x : Step T) (e : Entry T) (n : Moment T) → LeadsBy m x e n → RefusedLeavesNothing m x e n
-  refuses m (step.Begin p c) e n l = tt
-  refuses m (step.Step p) e n l =
+  may_end : (u : Under T Waiter) (r : Option (Reply T)) (left : Option (Kept T)) → MayFinish u r left → IfSome r (λ x. EndSays u x left)
+  may_end u None left f = tt
+  may_end u (Some r) left f = end_says u r left f
+
+  work_says : (m : Moment T) (p : PartyId) (e : Entry T) (n : Moment T) → AllKept m.book m.scene → LeadsBy m (step.Step p) e n → WorkSays m p e n
+  work_says m p e n k l =
       let s = l.made.next in
-      (own m p e n l, (l.made.kept, l.made.book, finish_leaves _ e.reply l.made.kept s.finishes))
-
-  ends_well : (m : Moment T) (x : Step T) (e : Entry T) (n : Moment T) → AllKept m.book m.scene → LeadsBy m x e n → EndsForGood m x e n
-  ends_well m (step.Begin p c) e n k l =
-      let next = l.made.next in
-      let y : ChannelStep T Waiter = channel_step m.book.roll (step.Begin p c) in
+      let after : Under T Waiter = does s.mine s.at_now e.mark m.scene.now n.scene.now in
       let f : ChannelEntry T = record { mark = e.mark; reply = e.reply; kept = l.made.kept } in
-      let silent : e.reply ≡ None = ap (λ (g : ChannelEntry T). g.reply) next.0.entry in (
-        λ shut. stays_closed m.scene y f e.woken.items n.scene next shut,
-        λ over. stays_over m.scene y f e.woken.items n.scene next over,
-        λ says. absurd (subst (λ (r : Option (Reply T)). Replies SaysTheEnd r) silent says),
-        tt,
-      )
-  ends_well m (step.Step p) e n k l =
-      let next = l.made.next in
-      let f : ChannelEntry T = record { mark = e.mark; reply = e.reply; kept = l.made.kept } in (
-        λ shut. stays_closed m.scene (channel.Step p.0) f e.woken.items n.scene next shut,
-        λ over. stays_over m.scene (channel.Step p.0) f e.woken.items n.scene next over,
-        λ says. says_over m.scene p.0 f e.woken.items n.scene next k.sound says,
-        (own m p e n l, λ all gives. late_gives m.scene p.0 f e.woken.items n.scene next k.sound all gives),
-      )
+      record {
+        before = s.before;
+        call = s.mine;
+        behind = s.behind;
+        under_way = s.there;
+        party = s.whose;
+        at_now = s.at_now;
+        after = after;
+        is = refl;
+        goes_on = s.left;
+        work = record {
+          tries = tries_at m.book m.scene s.before s.mine s.behind k s.there;
+          effect = step_marked m.scene p.0 f e.woken.items n.scene s;
+          touches = l.touches;
+          wakes = s.named;
+          left = l.made.kept;
+          ends = may_end after e.reply l.made.kept s.finishes;
+          book = l.made.book;
+          in_time = s.quick;
+          nearer = l.nearer;
+          late = λ all gives. late_gives m.scene p.0 f e.woken.items n.scene s k.sound all gives;
+        };
+      }
 
-  all_end_well : (m : Moment T) (xs : List (Step T)) (es : List (Entry T)) (ns : List (Moment T)) → AllKept m.book m.scene
-      → EachStep LeadsBy m xs es ns → EachStep EndsForGood m xs es ns
-  all_end_well m [] [] [] k h = tt
-  all_end_well m (x ∷ xs) (e ∷ es) (n ∷ ns) k h = (ends_well m x e n k h.0, all_end_well n xs es ns h.0.holds.kept h.1)
-  all_end_well m [] [] (n ∷ ns) k h = absurd h
-  all_end_well m [] (e ∷ es) ns k h = absurd h
-  all_end_well m (x ∷ xs) [] ns k h = absurd h
-  all_end_well m (x ∷ xs) (e ∷ es) [] k h = absurd h
+  -- ---- a step
 
-  -- all of them
+  call_says : (m : Moment T) (x : Step T) (e : Entry T) (n : Moment T) → AllKept m.book m.scene → LeadsBy m x e n → CallSays m x e n
+  call_says m (step.Begin p c) e n k l = begin_says m p c e n l
+  call_says m (step.Step p) e n k l = work_says m p e n k l
+
+  ends_over : (m : Moment T) (x : Step T) (e : Entry T) (n : Moment T) → AllKept m.book m.scene → LeadsBy m x e n → Replies SaysTheEnd e.reply
+      → Spent n.scene.now
+  ends_over m (step.Begin p c) e n k l says =
+      let b = l.made.next.0 in
+      let silent : e.reply ≡ None = ap (λ (g : ChannelEntry T). g.reply) b.entry in
+      absurd (subst (λ (r : Option (Reply T)). Replies SaysTheEnd r) silent says)
+  ends_over m (step.Step p) e n k l says =
+      let f : ChannelEntry T = record { mark = e.mark; reply = e.reply; kept = l.made.kept } in
+      says_over m.scene p.0 f e.woken.items n.scene l.made.next k.sound says
+
+  step_says : (m : Moment T) (x : Step T) (e : Entry T) (n : Moment T) → AllKept m.book m.scene → LeadsBy m x e n → StepSays m x e n
+  step_says m x e n k l =
+      let y : ChannelStep T Waiter = channel_step m.book.roll x in
+      let f : ChannelEntry T = record { mark = e.mark; reply = e.reply; kept = l.made.kept } in
+      record {
+        accepted = l.made.not_refused;
+        call = call_says m x e n k l;
+        closed = λ shut. stays_closed m.scene y f e.woken.items n.scene l.made.next shut;
+        over = λ over. stays_over m.scene y f e.woken.items n.scene l.made.next over;
+        the_end = ends_over m x e n k l;
+        after = moment_says n l.holds;
+      }
+
+  each_says : (m : Moment T) (xs : List (Step T)) (es : List (Entry T)) (ns : List (Moment T)) → AllKept m.book m.scene
+      → EachStep LeadsBy m xs es ns → EachStep StepSays m xs es ns
+  each_says m [] [] [] k h = tt
+  each_says m (x ∷ xs) (e ∷ es) (n ∷ ns) k h = (step_says m x e n k h.0, each_says n xs es ns h.0.holds.kept h.1)
+  each_says m [] [] (n ∷ ns) k h = absurd h
+  each_says m [] (e ∷ es) ns k h = absurd h
+  each_says m (x ∷ xs) [] ns k h = absurd h
+  each_says m (x ∷ xs) (e ∷ es) [] k h = absurd h
+
+  -- ---- a run
+
   pub headline : (steps left : List (Step T)) (old : Floor T) (trace : List (Entry T)) (stopped : Option Stopped) (new : Floor T)
       → RanTo steps left old trace new → Stops (book_of new) left (length trace) stopped
       → (s : Scene T Waiter) → StandsIn old s → Headline steps left old trace stopped new s
   headline steps left old trace stopped new ran stops s k =
       let r = ran s k in
       let start : Moment T = moment_of old s in
+      let says = each_says start r.made trace r.moments k.kept r.run in
+      let sums = all_add start r.made trace r.moments k.kept r.run in
       record {
         made = r.made;
         moments = r.moments;
         to = r.last;
         first = r.first;
-        run = r.run;
         ends = r.ends;
         stands = r.stands;
-        accepted = each LeadsBy IsAccepted accepted start r.made trace r.moments r.run;
-        accounts = r.accounts;
-        replies = each LeadsBy RepliesByItsRow replies start r.made trace r.moments r.run;
-        begun = each LeadsBy BeginsMarksOfARow begins start r.made trace r.moments r.run;
-        cells = each LeadsBy TouchesOneCell cells start r.made trace r.moments r.run;
-        told = each LeadsBy TellsWhatItOwes tells start r.made trace r.moments r.run;
-        refused = each LeadsBy RefusedLeavesNothing refuses start r.made trace r.moments r.run;
-        waits_for_nobody = each LeadsBy WaitsForNobody waits start r.made trace r.moments r.run;
-        ends_soon = end_soon steps left start r.made trace r.moments r.first k.kept (few_in old s k) r.run;
+        at_first = moment_says start (holds_first old s k);
+        each = says;
+        accounts = subst (λ (n : Moment T). AddUp s (all_taken start trace r.moments) (all_brought start r.made trace r.moments) n.scene) r.ends sums;
+        after_the_end = nothing_comes steps left start r.made trace r.moments r.first k.kept r.run says;
+        ended_before = λ over. ended_before steps left start r.made trace r.moments r.first k.kept r.run says over;
+        ends_soon = all_in_a_row start r.made trace r.moments k.kept (few_in old s k) r.run;
+        in_front = in_front steps left start r.made trace r.moments r.first k.kept (few_in old s k) r.run;
         stops = stops;
-        owed = each LeadsBy OwesWhoWaits owes start r.made trace r.moments r.run;
-        for_good = all_end_well start r.made trace r.moments k.kept r.run;
-        words_at_first = say_words old s k;
-        words = each LeadsBy WordsSayIt words start r.made trace r.moments r.run;
       }
 
   -- the number of messages

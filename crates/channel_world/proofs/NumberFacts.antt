@@ -53,7 +53,7 @@ stream_name n = Stream (record { 0 = n })
 
 module _ {T : Type 0} (test : Standing → Bool) (r : Roll T) where
   -- whether what lives under the name stands so
-  abbrev stands_so : Waiter → Bool
+  abbrev pub stands_so : Waiter → Bool
   stands_so (Op op) = operation_stands test (at op.0 r.operations)
   stands_so (Stream handle) = stream_stands test (at handle.0 r.handles)
 
@@ -134,7 +134,7 @@ some_so None e = absurd (let no : false ≡ true = e in cc)
 some_so (Some x) e = (x, refl)
 
 module _ {T : Type 0} (r : Roll T) where
-  pending_holds : (w : Waiter) → stands_so is_pending r w ≡ is_some (held_of r w)
+  pub pending_holds : (w : Waiter) → stands_so is_pending r w ≡ is_some (held_of r w)
   pending_holds (Op op) = by (at op.0 r.operations)
     where
       by : (o : Option (Operation T)) → operation_stands is_pending o ≡ is_some (option_map_or (λ (x : Operation T). key_of x.standing) o None)
@@ -186,7 +186,7 @@ module _ {T : Type 0} (r : Roll T) where
   handle_seen o = posted (λ (x : Hold). stream_post x.handle.kind x.standing) o
 
   -- where nothing is amiss whoever was woken stands so by its name
-  woken_so : (w : Waiter) → (post r w ≡ amiss → ⊥) → stands_so is_woken r w ≡ was_woken (post r w)
+  pub woken_so : (w : Waiter) → (post r w ≡ amiss → ⊥) → stands_so is_woken r w ≡ was_woken (post r w)
   woken_so (Op op) fine = by (lookup (nat_eq op.0) r.operations) fine
     where
       by : (o : Option (Option (Operation T))) → (operation_seen o ≡ amiss → ⊥)
@@ -201,7 +201,7 @@ module _ {T : Type 0} (r : Roll T) where
       by (Some None) f = refl
       by (Some (Some x)) f = woken_stream x.handle.kind x.standing f
 
-  woken_pends : (s : Standing) → is_woken s ≡ true → is_pending s ≡ true
+  pub woken_pends : (s : Standing) → is_woken s ≡ true → is_pending s ≡ true
   woken_pends Rests e = e
   woken_pends (Waits key b) e = refl
   woken_pends (IsPolled brings) e = e

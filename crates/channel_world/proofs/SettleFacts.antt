@@ -1,27 +1,21 @@
 -- The loop of settling: its polls so far, who is woken, and how many polls are still to come.
 use Rattle.std.proofs.Common.{arith, ◌≡◌, ◌≤◌, ◌+◌, ◌*◌, ℕ, suc, List, [], ◌∷◌, ◌++◌, map, length, drop, Some, slice_get, true, refl, sym, ap, subst, ◌∙◌, append_assoc, length-append}
-use Rattle.std.proofs.Math.Nat.{mul-le-mul}
-use Rattle.std.specs.List.{filter}
 use Rattle.std.proofs.lemmas.List.{length-map, map-append}
 use Rattle.channel_calls.specs.declared.reply.Reply.{Reply}
-use Rattle.channel_calls.specs.declared.stage.Line.{Line}
-use Rattle.channel_calls.specs.declared.stage.Line.TheVariants.{Sends, Receives, Streams, Closings}
+use Rattle.channel_calls.specs.declared.stage.Line.TheVariants.{Sends, Receives, Streams}
 use Rattle.channel_model.specs.Answer.{Answer}
 use Rattle.channel_model.specs.Awake.{AwakeIn}
-use Rattle.channel_model.specs.Laws.{line_of}
-use Rattle.channel_model.specs.Lines.{Waiting, is_among, is_stream, untold}
-use Rattle.channel_model.specs.Names.{Names}
+use Rattle.channel_model.specs.Lines.{is_among}
 use Rattle.channel_model.specs.Refused.{Answers}
 use Rattle.channel_model.specs.Settling.{poll_of, SettlesTo, Settles, NobodyGoesOn, pending_count}
 use Rattle.channel_model.specs.State.{State}
 use Rattle.channel_model.specs.declared.name.Waiter.{Waiter}
-use Rattle.channel_model.specs.declared.name.Waiter.TheVariants.{Op, Stream}
-use Rattle.channel_model.proofs.Counting.{among_self, or_right}
 use Rattle.channel_model.proofs.LawSteps.{poll_awake}
-use Rattle.channel_model.proofs.Settle.{count_all, first_there, settle_more, settle_ends, settling_ends, at_rest, streams_nearer, woken_next}
-use Rattle.channel_world.specs.Settled.{Polls, polls_in, most_polls, most_streams}
+use Rattle.channel_model.proofs.Settle.{first_there, settle_more, settle_ends, settling_ends, at_rest, woken_next}
+use Rattle.channel_world.specs.Settled.{Polls, polls_in, most_polls, pending_on}
 use Rattle.channel_world.specs.declared.settle.Settled.{Settled}
-use Rattle.channel_world.specs.World.{untold_count}
+use Rattle.channel_world.proofs.Short.{weight_of, shorter, within, woken_within}
+use Rattle.channel_world.proofs.Weights.{no_more}
 
 -- ---- lists
 
@@ -35,41 +29,19 @@ first_of x (y ∷ ys) e = let same : y ≡ x = cc e in ap (λ z. z ∷ ys) same
 
 -- ---- how many polls there are at most
 
-pub count_is : (ws vs : List Waiter) (n : ℕ) → ws ≡ vs → n ≡ length (filter is_stream ws) → n ≡ length (filter is_stream vs)
-count_is ws vs n same e = e ∙ ap (λ (xs : List Waiter). length (filter is_stream xs)) same
+pub enough_polls : {T : Type 0} (s : State T) (woken sends receives streams : ℕ) → woken ≡ length s.waiting.woken → pending_on Sends s ≤ sends
+    → pending_on Receives s ≤ receives → pending_on Streams s ≤ streams → most_polls s ≤ woken + (sends * (streams + 2) + 2 * receives + streams)
+enough_polls s woken sends receives streams w a b d =
+    let more = no_more (length s.waiting.woken) _ sends _ receives _ streams a b d in omega (arith, more, w)
 
-pub enough_polls : (l : Waiting) (untold woken streams : ℕ) → untold_count l ≤ untold → woken ≡ length l.woken → most_streams l ≤ streams
-    → most_polls l ≤ (streams + 2) * (untold + woken) + woken
-enough_polls l untold woken streams u w h =
-    let each : 2 + most_streams l ≤ streams + 2 = omega (arith, h) in
-    let all : pending_count l ≤ untold + woken = omega (arith, u, w) in
-    let more = mul-le-mul each all in
-    omega (arith, more, w)
+-- the same of other names of these numbers
+pub few_told : (polls count told pending : ℕ) → count ≡ polls → told ≡ pending → 2 * polls ≤ pending * (pending + 1) → 2 * count ≤ told * (told + 1)
+few_told polls count told pending same told_so few = rw (same, told_so) few
 
--- ---- how many streams are pending
-
--- a stream stands in no other line
-no_streams : {T : Type 0} (names : Names T) (line : Line) (ws : List Waiter) → (Some Streams ≡ Some line → ⊥)
-    → ((w : Waiter) → is_among w ws ≡ true → line_of names w ≡ Some line) → length (filter is_stream ws) ≤ 0
-no_streams names line [] other h = omega arith
-no_streams names line (Op op ∷ ws) other h = no_streams names line ws other (λ w e. h w (or_right _ (is_among w ws) e))
-no_streams names line (Stream r ∷ ws) other h = absurd (other (h (Stream r) (among_self (Stream r) ws)))
-
-few_filtered : (ws : List Waiter) → length (filter is_stream ws) ≤ length ws
-few_filtered [] = omega arith
-few_filtered (Op op ∷ ws) = let h = few_filtered ws in omega (arith, h)
-few_filtered (Stream r ∷ ws) = let h = few_filtered ws in omega (arith, h)
+pub one_poll : (count told : ℕ) → told ≡ 1 → 2 * count ≤ told * (told + 1) → count ≤ 1
+one_poll count told one few = let so = (rw one at few) in omega (arith, so)
 
 module _ {T : Type 0} where
-  few_streams : (s : State T) → AwakeIn s → count_all is_stream s.waiting ≤ most_streams s.waiting
-  few_streams s awake =
-      let lines = awake.placed.lines in
-      let a = no_streams s.names Sends s.waiting.sends (λ e. let no : Some Streams ≡ Some Sends = e in cc) (lines Sends) in
-      let b = no_streams s.names Receives s.waiting.receives (λ e. let no : Some Streams ≡ Some Receives = e in cc) (lines Receives) in
-      let d = no_streams s.names Closings s.waiting.closings (λ e. let no : Some Streams ≡ Some Closings = e in cc) (lines Closings) in
-      let e = few_filtered s.waiting.streams in
-      omega (arith, a, b, d, e)
-
   -- ---- the loop
 
   -- the polls so far have led from s to t; the names are those that were polled, and after them those who are woken
@@ -78,11 +50,12 @@ module _ {T : Type 0} where
     pub named : names ≡ map (λ p. p.0) polls ++ t.waiting.woken
     pub began : AwakeIn s
     pub awake : AwakeIn t
-    pub streams : count_all is_stream t.waiting ≤ most_streams s.waiting
-    pub left : length polls + (length t.waiting.woken + (2 + most_streams s.waiting) * pending_count t.waiting) ≤ most_polls s.waiting
+    pub left : length polls + weight_of t ≤ most_polls s
 
   pub goes_first : (s : State T) (names : List Waiter) → AwakeIn s → names ≡ s.waiting.woken → Goes s s [] names
-  goes_first s names awake e = record { led = refl; named = e; began = awake; awake = awake; streams = few_streams s awake; left = omega arith }
+  goes_first s names awake e =
+      let few = within s awake in
+      record { led = refl; named = e; began = awake; awake = awake; left = omega (arith, few) }
 
   polled_all : (polls : List (Waiter × Reply T)) → length (map (λ p. p.0) polls) ≡ length polls
   polled_all polls = length-map polls (λ p. p.0)
@@ -107,23 +80,23 @@ module _ {T : Type 0} where
     rest_of = ap (λ (ws : List Waiter). length ws) (first_of w t.waiting.woken front)
 
     -- however it answers, there is room for those whom it wakes, and more polls are to come
-    one_more : (a : Answer T) → Answers t (poll_of w) a → length names + length a.woken ≤ most_polls s.waiting
+    one_more : (a : Answer T) → Answers t (poll_of w) a → length names + length a.woken ≤ most_polls s
     one_more a says =
         let left = h.left in
-        let nearer = (streams_nearer (most_streams s.waiting) t h.awake h.streams w a front says).1 in
+        let nearer = shorter t h.awake w a front says in
+        let woken = woken_within a.after in
         let next = ap (λ (ws : List Waiter). length ws) (woken_next t h.awake w a front says) in
         let both = length-append (drop 1 t.waiting.woken) a.woken in
         let all = goes_length s t polls names h in
-        omega (arith, left, nearer, next, both, all, rest_of)
+        omega (arith, left, nearer, woken, next, both, all, rest_of)
 
-    some_left : suc (length polls) ≤ most_polls s.waiting
-    some_left = let left = h.left in omega (arith, left, rest_of)
+    some_left : suc (length polls) ≤ most_polls s
+    some_left = let left = h.left in let woken = woken_within t in omega (arith, left, woken, rest_of)
 
     pub goes_on : (u : State T) (x : Reply T) (after : List Waiter) → Polls w t names x after u → Goes s u (polls ++ (w, x) ∷ []) after
     goes_on u x after p =
         let a : Answer T = record { after = u; reply = x; woken = p.woken } in
-        let near = streams_nearer (most_streams s.waiting) t h.awake h.streams w a front p.answers in
-        let nearer = near.1 in
+        let nearer = shorter t h.awake w a front p.answers in
         let left = h.left in
         let more = length-append polls ((w, x) ∷ []) in
         let ws = map (λ (q : Waiter × Reply T). q.0) polls in
@@ -139,7 +112,6 @@ module _ {T : Type 0} where
               ∙ ap (λ (l : List Waiter). map (λ (q : Waiter × Reply T). q.0) (polls ++ (w, x) ∷ []) ++ l) (sym (woken_next t h.awake w a front p.answers)))))));
           began = h.began;
           awake = poll_awake t w a h.awake p.answers;
-          streams = near.0;
           left = omega (arith, left, nearer, more);
         }
 
@@ -154,8 +126,8 @@ module _ {T : Type 0} where
   pub record NextPoll (s t : State T) (polls : List (Settled T)) (names : List Waiter) (w : Waiter) : Type 0 where
     pub front : slice_get t.waiting.woken 0 ≡ Some w
     pub woken : is_among w t.waiting.woken ≡ true
-    pub left : suc (length polls) ≤ most_polls s.waiting
-    pub room : (a : Answer T) → Answers t (poll_of w) a → length names + length a.woken ≤ most_polls s.waiting
+    pub left : suc (length polls) ≤ most_polls s
+    pub room : (a : Answer T) → Answers t (poll_of w) a → length names + length a.woken ≤ most_polls s
 
   pub next_poll : (s t : State T) (polls : List (Settled T)) (names : List Waiter) (n : ℕ) (w : Waiter) → Goes s t (polls_in polls) names
       → n ≡ length polls → slice_get names n ≡ Some w → NextPoll s t polls names w
@@ -180,6 +152,7 @@ module _ {T : Type 0} where
   pub record Rests (s t : State T) (polls : List (Settled T)) : Type 0 where
     pub settles : Settles s (polls_in polls) t
     pub few : 2 * length polls ≤ pending_count s.waiting * (pending_count s.waiting + 1)
+    pub short : length polls ≤ most_polls s
     pub rests : (t.waiting.woken ≡ []) × NobodyGoesOn t
 
   pub goes_end : (s t : State T) (polls : List (Settled T)) (names : List Waiter) → Goes s t (polls_in polls) names
@@ -189,7 +162,8 @@ module _ {T : Type 0} where
       let same = length-map polls as_poll in
       let settled = settle_ends s t (polls_in polls) h.led (none t.waiting.woken (omega (arith, done, all, same))) in
       let few = settling_ends s t (polls_in polls) h.began h.led in
-      record { settles = settled; few = omega (arith, few, same); rests = at_rest s t (polls_in polls) h.began settled }
+      let left = h.left in
+      record { settles = settled; few = omega (arith, few, same); short = omega (arith, left, same); rests = at_rest s t (polls_in polls) h.began settled }
     where
       none : (ws : List Waiter) → length ws ≤ 0 → ws ≡ []
       none [] e = refl

@@ -4,11 +4,11 @@ use Rattle.std.proofs.lemmas.Bool.Decides.{nat_tests}
 use Rattle.channel_calls.specs.declared.reply.Reply.{Reply}
 use Rattle.channel_interleaving.proofs.Interface.{nobody_still}
 use Rattle.channel_interleaving.specs.Kept.{AllKept}
-use Rattle.channel_interleaving.specs.Runs.{Moment, EachStep, FewLeft, ComesNearer, LeadsBy}
+use Rattle.channel_interleaving.specs.Runs.{Moment, EachStep, FewLeft, LeadsBy}
 use Rattle.channel_interleaving.specs.declared.step.Entry.{Entry}
 use Rattle.channel_interleaving.specs.declared.step.Step.{Step}
 use Rattle.channel_interleaving.specs.declared.step.Step.TheVariants as step
-use Rattle.channel_world.specs.StepsLeft.{in_a_row, NobodyHoldsUp, EndInARow, EndSoon}
+use Rattle.channel_world.specs.StepsLeft.{in_a_row, NobodyHoldsUp, EndInARow, EndInFront}
 
 same_number : (a b : ℕ) → (a == b) ≡ true → a ≡ b
 same_number a b e = grind (arith, nat_tests)
@@ -38,7 +38,7 @@ module _ {T : Type 0} where
   row_left p m (x ∷ xs) [] ns k h free = absurd h
   row_left p m (x ∷ xs) (e ∷ es) [] k h free = absurd h
 
-  all_in_a_row : (m : Moment T) (xs : List (Step T)) (es : List (Entry T)) (ns : List (Moment T)) → AllKept m.book m.scene → FewLeft m
+  pub all_in_a_row : (m : Moment T) (xs : List (Step T)) (es : List (Entry T)) (ns : List (Moment T)) → AllKept m.book m.scene → FewLeft m
       → EachStep LeadsBy m xs es ns → EndInARow m xs es ns
   all_in_a_row m [] [] [] k few h = tt
   all_in_a_row m (x ∷ xs) (e ∷ es) (n ∷ ns) k few h = (
@@ -49,24 +49,6 @@ module _ {T : Type 0} where
   all_in_a_row m [] (e ∷ es) ns k few h = absurd h
   all_in_a_row m (x ∷ xs) [] ns k few h = absurd h
   all_in_a_row m (x ∷ xs) (e ∷ es) [] k few h = absurd h
-
-  all_few : (m : Moment T) (xs : List (Step T)) (es : List (Entry T)) (ns : List (Moment T)) → EachStep LeadsBy m xs es ns
-      → EachStep (λ m x e n. FewLeft n) m xs es ns
-  all_few m [] [] [] h = tt
-  all_few m (x ∷ xs) (e ∷ es) (n ∷ ns) h = (h.0.holds.few, all_few n xs es ns h.1)
-  all_few m [] [] (n ∷ ns) h = absurd h
-  all_few m [] (e ∷ es) ns h = absurd h
-  all_few m (x ∷ xs) [] ns h = absurd h
-  all_few m (x ∷ xs) (e ∷ es) [] h = absurd h
-
-  all_nearer : (m : Moment T) (xs : List (Step T)) (es : List (Entry T)) (ns : List (Moment T)) → EachStep LeadsBy m xs es ns
-      → EachStep ComesNearer m xs es ns
-  all_nearer m [] [] [] h = tt
-  all_nearer m (x ∷ xs) (e ∷ es) (n ∷ ns) h = (h.0.nearer, all_nearer n xs es ns h.1)
-  all_nearer m [] [] (n ∷ ns) h = absurd h
-  all_nearer m [] (e ∷ es) ns h = absurd h
-  all_nearer m (x ∷ xs) [] ns h = absurd h
-  all_nearer m (x ∷ xs) (e ∷ es) [] h = absurd h
 
   -- ---- in front of a list
 
@@ -87,18 +69,11 @@ module _ {T : Type 0} where
   row_in_front p left m (x ∷ xs) [] ns h = absurd h
   row_in_front p left m (x ∷ xs) (e ∷ es) [] h = absurd h
 
-  pub end_soon : (steps left : List (Step T)) (m : Moment T) (xs : List (Step T)) (es : List (Entry T)) (ns : List (Moment T))
-      → steps ≡ xs ++ left → AllKept m.book m.scene → FewLeft m → EachStep LeadsBy m xs es ns → EndSoon steps m xs es ns
-  end_soon steps left m xs es ns first k few h = record {
-    first = few;
-    few = all_few m xs es ns h;
-    nearer = all_nearer m xs es ns h;
-    in_front = λ p free. (
-        let same : in_a_row p steps es ≡ in_a_row p xs es =
-        ap (λ (l : List (Step T)). in_a_row p l es) first ∙ row_in_front p left m xs es ns h in
-        let row = row_left p m xs es ns k h free in
-        let most = few p in
-        omega (arith, same, row, most)
-        );
-    later = all_in_a_row m xs es ns k few h;
-  }
+  pub in_front : (steps left : List (Step T)) (m : Moment T) (xs : List (Step T)) (es : List (Entry T)) (ns : List (Moment T))
+      → steps ≡ xs ++ left → AllKept m.book m.scene → FewLeft m → EachStep LeadsBy m xs es ns → EndInFront m steps es
+  in_front steps left m xs es ns first k few h p free =
+      let same : in_a_row p steps es ≡ in_a_row p xs es =
+      ap (λ (l : List (Step T)). in_a_row p l es) first ∙ row_in_front p left m xs es ns h in
+      let row = row_left p m xs es ns k h free in
+      let most = few p in
+      omega (arith, same, row, most)

@@ -1,7 +1,7 @@
 -- The numbers that a world tells, with no call under way: those of its state.
 use Rattle.std.specs.Prelude.{◌≡◌, length}
 use Rattle.channel_model.specs.Settling.{pending_count}
-use Rattle.channel_interleaving.specs.Floor.{messages_in, IsQuiet}
+use Rattle.channel_interleaving.specs.Floor.{calls_in, messages_in, IsQuiet}
 use Rattle.channel_interleaving.specs.Pending.{is_pending, how_many}
 use Rattle.channel_interleaving.specs.Roll.{is_woken}
 use Rattle.channel_interleaving.specs.declared.floor.Floor.{Floor}
@@ -19,3 +19,8 @@ module _ {T : Type 0} where
   -- and those of them who were woken as many as stand in that order
   abbrev pub WokenAtRest : Floor T → Type 0
   WokenAtRest w = IsQuiet w → how_many is_woken w.roll ≡ length (at_rest w).waiting.woken
+
+  -- no call is under way just where it tells that none is
+  pub record CallsAtRest (w : Floor T) : Type 0 where
+    pub none : calls_in w ≡ 0 → IsQuiet w
+    pub quiet : IsQuiet w → calls_in w ≡ 0

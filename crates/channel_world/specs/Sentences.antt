@@ -1,85 +1,80 @@
--- The sentences of the headline, each of one step of a run: from the moment m before it to the moment n after it.
-use Rattle.std.specs.Prelude.{◌≡◌, List, [], ◌∷◌, ◌++◌, Option, None, Some, Err, IfSome}
+-- The sentences of the headline: what is said of each moment of a run, and of each step, from the moment m before it to the
+-- moment n after it.
+use Rattle.std.specs.Prelude.{◌≡◌, ◌<◌, false, List, [], ◌∷◌, ◌++◌, map, Option, None, Some, Err, IfSome}
 use Rattle.futures.specs.declared.task.Poll.TheVariants.{Ready}
+use Rattle.concurrent_queue.specs.Queue.{Phase}
+use Rattle.channel_calls.specs.Moves.{OnePlace}
 use Rattle.channel_calls.specs.Turns.{leaving, nothing_kept}
 use Rattle.channel_calls.specs.declared.ask.ChannelAsk.{ChannelAsk}
 use Rattle.channel_calls.specs.declared.ask.ChannelAsk.TheVariants as ask
 use Rattle.channel_calls.specs.declared.error.Refused.TheVariants as refused
+use Rattle.channel_calls.specs.declared.mark.Mark.TheVariants.{Nothing}
 use Rattle.channel_calls.specs.declared.reply.Reply.{Reply}
 use Rattle.channel_calls.specs.declared.reply.Reply.TheVariants as reply
 use Rattle.channel_calls.specs.declared.stage.Kept.{Kept}
+use Rattle.channel_calls.specs.declared.stage.Stage.{Stage}
 use Rattle.channel_laws.specs.Ends.{IsStill, SaysTheEnd, GivesMessage, Replies}
 use Rattle.channel_laws.specs.Over.{AllSpent}
+use Rattle.channel_model.specs.declared.call.Call.{Call}
 use Rattle.channel_model.specs.declared.name.Waiter.{Waiter}
-use Rattle.channel_steps.specs.Answers.{Met}
+use Rattle.channel_steps.specs.Answers.{asks_first, Keeps, Met}
 use Rattle.channel_steps.specs.Known.{IsQuick}
-use Rattle.channel_steps.specs.Moments.{Deed, Shut, Spent, with_deed}
-use Rattle.channel_steps.specs.Run.{Touches}
-use Rattle.channel_steps.specs.Scene.{Under, EndsInTime}
+use Rattle.channel_steps.specs.Moments.{Deed, Shut, Spent}
+use Rattle.channel_steps.specs.Run.{begun as call_begun}
+use Rattle.channel_steps.specs.Scene.{Under, EndsInTime, brought, does, sees, unless_ended}
 use Rattle.channel_steps.specs.Tellings.{owed, telling, dropping, Names}
-use Rattle.channel_interleaving.specs.Floor.{sight_of}
+use Rattle.channel_interleaving.specs.Bookkeeping.{asks}
+use Rattle.channel_interleaving.specs.Floor.{StandsIn}
 use Rattle.channel_interleaving.specs.Owed.{Owed}
 use Rattle.channel_interleaving.specs.Owners.{All}
 use Rattle.channel_interleaving.specs.Refusal.{step_refusal}
-use Rattle.channel_interleaving.specs.Run.{IsBookAfter, channel_step}
-use Rattle.channel_interleaving.specs.Runs.{Moment, IsOf}
+use Rattle.channel_interleaving.specs.Run.{IsBookAfter}
+use Rattle.channel_interleaving.specs.Runs.{Moment, FewLeft, moment_of}
+use Rattle.channel_interleaving.specs.SightAt.{sight_at}
 use Rattle.channel_interleaving.specs.declared.floor.Floor.{Floor}
 use Rattle.channel_interleaving.specs.declared.step.Entry.{Entry}
 use Rattle.channel_interleaving.specs.declared.step.PartyId.{PartyId}
 use Rattle.channel_interleaving.specs.declared.step.Step.{Step}
 use Rattle.channel_interleaving.specs.declared.step.Step.TheVariants as step
+use Rattle.channel_world.specs.Marked.{plain, marked}
 use Rattle.channel_world.specs.Marks.{BeginsItsMarks}
+use Rattle.channel_world.specs.StepsLeft.{NobodyHoldsUp}
 use Rattle.channel_world.specs.Words.{WordsSay}
 
 module _ {T : Type 0} where
-  -- the call of a party as it is under way at m, and as it is after this step of its own: one moment more, and the mark of the
-  -- step, if it has one, with the moment at which it was made
-  pub record Own (m : Moment T) (p : PartyId) (e : Entry T) (n : Moment T) : Type 0 where
-    pub before : List (Under T Waiter)
-    pub call : Under T Waiter
-    pub behind : List (Under T Waiter)
-    pub after : Under T Waiter
-    pub under_way : m.scene.under_way ≡ before ++ (call ∷ behind)
-    pub party : call.party ≡ p.0
-    pub same : after.ask ≡ call.ask
-    pub seen : after.seen ≡ n.scene.now ∷ call.seen
-    pub deeds : after.deeds ≡ with_deed call.deeds e.mark m.scene.now call.seen
-    pub told : after.told ≡ call.told ++ telling call.at
+  -- ---- a moment
 
-  -- so it is of the call of the party that makes the step
-  abbrev pub OfItsCall : ((m : Moment T) (p : PartyId) (e : Entry T) (n : Moment T) → Own m p e n → Type 0)
-      → Moment T → Step T → Entry T → Moment T → Type 0
-  OfItsCall P m (step.Begin p c) e n = Unit {0}
-  OfItsCall P m (step.Step p) e n = (own : Own m p e n) × P m p e n own
+  pub record MomentSays (m : Moment T) : Type 0 where
+    -- it is a moment of this world, which stands in its scene
+    pub world : Floor T
+    pub is : m ≡ moment_of world m.scene
+    pub stands : StandsIn world m.scene
+    -- of each call under way, the marks are the first of those that a call which asks this makes
+    pub begun : All (λ (u : Under T Waiter). BeginsItsMarks u) m.scene.under_way
+    -- beside one who is pending and was not woken, there is no message, free place or closing but such as a woken one or a call
+    -- under way answers for
+    pub owed : Owed (sight_at m.book.roll m.scene)
+    -- the channel is closed or not and holds so many messages as its queue's words say; and each message lies in the slot that
+    -- they name for it alone, without a bound they and the blocks used so far, or is with the call that brought it
+    pub words : WordsSay m.parts.cells m.scene
+    -- no call has more steps left than 197, and 64 for each message that a receive of several may take, where none holds it up
+    pub few : FewLeft m
 
-  -- none of the seven reasons refuses it
-  abbrev pub IsAccepted : Moment T → Step T → Entry T → Moment T → Type 0
-  IsAccepted m x e n = step_refusal m.book.roll m.book.agents x ≡ None
+  -- ---- the beginning of a call
 
-  -- at most one cell, list or count differs after it
-  abbrev pub TouchesOneCell : Moment T → Step T → Entry T → Moment T → Type 0
-  TouchesOneCell m x e n = Touches (channel_step m.book.roll x) m.parts n.parts
+  pub record BeginSays (m : Moment T) (p : PartyId) (c : Call T) (e : Entry T) (n : Moment T) : Type 0 where
+    -- it has no mark and wakes nobody, and touches nothing
+    pub mark : e.mark ≡ Nothing
+    pub reply : e.reply ≡ None
+    pub woken : e.woken.items ≡ []
+    pub parts : n.parts ≡ m.parts
+    pub now : n.scene.now ≡ m.scene.now
+    -- a call of this party is under way from now on, whose only moment is the present one, with no mark and nothing told
+    pub at_first : Stage (Phase T) T Waiter
+    pub under_way : n.scene.under_way ≡ m.scene.under_way ++ call_begun p.0 (asks m.book.roll c) at_first m.scene.now ∷ []
+    pub book : IsBookAfter (step.Begin p c) e None m.book n.book
 
-  -- where it ends its call, the call's marks and moments are what the reply's row says
-  abbrev pub RepliesByItsRow : Moment T → Step T → Entry T → Moment T → Type 0
-  RepliesByItsRow m x e n = OfItsCall (λ m p e n own. IfSome e.reply (λ r. Met own.after.ask own.after.deeds own.after.seen r)) m x e n
-
-  -- of each call that is under way after it, the marks are the first of those that a call which asks this makes
-  abbrev pub BeginsMarksOfARow : Moment T → Step T → Entry T → Moment T → Type 0
-  BeginsMarksOfARow m x e n = All (λ (u : Under T Waiter). BeginsItsMarks u) n.scene.under_way
-
-  -- it wakes those whom its one telling finds waiting, in order, or him to whom a listener of its own that it drops passes its
-  -- notice on; where it ends its call, all that the call's marks owe was told, in order, once each
-  abbrev pub TellsWhatItOwes : Moment T → Step T → Entry T → Moment T → Type 0
-  TellsWhatItOwes m x e n =
-      OfItsCall
-      (λ m p e n own. Names (telling own.call.at) (dropping own.call.at) m.scene.now e.woken.items
-      × IfSome e.reply (λ r. own.after.told ≡ owed own.after.deeds))
-      m x e n
-
-  -- a call that waits for nobody ends by its eighth step, whatever others do
-  abbrev pub WaitsForNobody : Moment T → Step T → Entry T → Moment T → Type 0
-  WaitsForNobody m x e n = OfItsCall (λ m p e n own. IsQuick own.call.ask → EndsInTime own.call.made e.reply) m x e n
+  -- ---- a step of a call
 
   -- a reply for memory or serials: the call made no mark, hands its message back or leaves it to its operation, and leaves no
   -- listener, so that it isn't pending
@@ -96,27 +91,69 @@ module _ {T : Type 0} where
   LeavesNothing (ask.RefusePoll line message key) ds r k = (ds ≡ []) × (k ≡ leaving None message)
   LeavesNothing a ds r k = Unit {0}
 
-  -- where it ends its call so, and what the call leaves is what the names get back
-  abbrev pub RefusedLeavesNothing : Moment T → Step T → Entry T → Moment T → Type 0
-  RefusedLeavesNothing m x e n =
-      OfItsCall
-      (λ m p e n own. (left : Option (Kept T)) × IsBookAfter (step.Step p) e left m.book n.book
-      × IfSome e.reply (λ r. (k : Kept T) × (left ≡ Some k) × LeavesNothing own.after.ask own.after.deeds r k))
-      m x e n
+  -- a call that ends with this reply, and leaves this to its operation
+  pub record EndSays (u : Under T Waiter) (r : Reply T) (left : Option (Kept T)) : Type 0 where
+    -- it has the marks that its reply's row names, and found what the row says at moments of its own
+    pub row : Met u.ask u.deeds u.seen r
+    -- all that its marks owe was told, in order, once each
+    pub told : u.told ≡ owed u.deeds
+    -- a pending one keeps its listener and its message, any other nothing; a reply for memory or serials leaves the message
+    pub kept : Kept T
+    pub leaves : left ≡ Some kept
+    pub keeps : Keeps u.ask r kept
+    pub nothing : LeavesNothing u.ask u.deeds r kept
 
-  -- what is closed stays closed; what is over, closed with nothing there and nothing on its way, stays over, and no message
-  -- comes or leaves; a reply that says the end found it over; and a call that began then gives no message
-  abbrev pub EndsForGood : Moment T → Step T → Entry T → Moment T → Type 0
-  EndsForGood m x e n =
-      (Shut m.scene.now → Shut n.scene.now)
-      × (Spent m.scene.now → Spent n.scene.now × IsStill e.mark)
-      × (Replies SaysTheEnd e.reply → Spent n.scene.now)
-      × OfItsCall (λ m p e n own. AllSpent own.call.seen → Replies GivesMessage e.reply → ⊥) m x e n
+  -- what the step does, of a call that is `call` before it and `after` after it
+  pub record StepDoes (m : Moment T) (p : PartyId) (e : Entry T) (n : Moment T) (call after : Under T Waiter) : Type 0 where
+    -- it asks no listener before it tries, but a stream's
+    pub tries : asks_first call.ask ≡ false
+    -- to the plain channel what its mark says, by touching one cell, one list or one count at most
+    pub effect : plain n.scene.now ≡ marked e.mark (brought call.ask) (plain m.scene.now)
+    pub touches : OnePlace m.parts n.parts
+    -- it wakes those whom its one telling finds waiting, in order, or him to whom a listener of its own that it drops passes its
+    -- notice on, and nobody else
+    pub wakes : Names (telling call.at) (dropping call.at) m.scene.now e.woken.items
+    -- where it ends its call; what the call leaves is what the names get back
+    pub left : Option (Kept T)
+    pub ends : IfSome e.reply (λ r. EndSays after r left)
+    pub book : IsBookAfter (step.Step p) e left m.book n.book
+    -- closing, dropping, giving up, refused polls and the questions but the length end within eight steps of their own, whatever
+    -- others do
+    pub in_time : IsQuick call.ask → EndsInTime call.made e.reply
+    -- where no other call holds it up, a step that does not end its call leaves it fewer steps
+    pub nearer : e.reply ≡ None → NobodyHoldsUp p.0 m → n.left p.0 < m.left p.0
+    -- a call that began when the end was said gives no message
+    pub late : AllSpent call.seen → Replies GivesMessage e.reply → ⊥
 
-  -- the world at the moment after it, as it is: each who is pending and was not woken is owed no more than is to come
-  abbrev pub OwesWhoWaits : Moment T → Step T → Entry T → Moment T → Type 0
-  OwesWhoWaits m x e n = (w : Floor T) × IsOf w n × Owed (sight_of w)
+  pub record WorkSays (m : Moment T) (p : PartyId) (e : Entry T) (n : Moment T) : Type 0 where
+    -- the party's call, among those under way
+    pub before : List (Under T Waiter)
+    pub call : Under T Waiter
+    pub behind : List (Under T Waiter)
+    pub under_way : m.scene.under_way ≡ before ++ (call ∷ behind)
+    pub party : call.party ≡ p.0
+    -- the same call after the step: one moment more, the step's mark, and what the step told. It is under way no more if it has
+    -- answered; to all others the step is one more moment
+    pub at_now : Stage (Phase T) T Waiter
+    pub after : Under T Waiter
+    pub is : after ≡ does call at_now e.mark m.scene.now n.scene.now
+    pub goes_on : n.scene.under_way ≡ map (sees n.scene.now) before ++ (unless_ended after e.reply ++ map (sees n.scene.now) behind)
+    pub work : StepDoes m p e n call after
 
-  -- the flag, the number of messages and where each lies, at the moment after it, are what the words of the queue say then
-  abbrev pub WordsSayIt : Moment T → Step T → Entry T → Moment T → Type 0
-  WordsSayIt m x e n = WordsSay n.parts.cells n.scene
+  -- ---- a step of a run
+
+  -- the party begins a call, or makes a step of the one that it has under way
+  abbrev pub CallSays : Moment T → Step T → Entry T → Moment T → Type 0
+  CallSays m (step.Begin p c) e n = BeginSays m p c e n
+  CallSays m (step.Step p) e n = WorkSays m p e n
+
+  pub record StepSays (m : Moment T) (x : Step T) (e : Entry T) (n : Moment T) : Type 0 where
+    -- none of the seven reasons refuses it
+    pub accepted : step_refusal m.book.roll m.book.agents x ≡ None
+    pub call : CallSays m x e n
+    -- what is closed stays closed; what is over, closed with nothing there and nothing on its way, stays over, and no message comes
+    -- or leaves; and a reply that says the end found it over
+    pub closed : Shut m.scene.now → Shut n.scene.now
+    pub over : Spent m.scene.now → Spent n.scene.now × IsStill e.mark
+    pub the_end : Replies SaysTheEnd e.reply → Spent n.scene.now
+    pub after : MomentSays n

@@ -1,13 +1,15 @@
 -- What settling answers, and whom it leaves pending.
-use Rattle.std.specs.Prelude.{◌≡◌, ◌⊎◌, ◌+◌, ◌*◌, ◌++◌, ℕ, List, [], length, map, true, false, None}
-use Rattle.std.specs.List.{filter, list_any}
+use Rattle.std.specs.Prelude.{◌≡◌, ◌⊎◌, ◌+◌, ◌*◌, ◌≤◌, ◌++◌, ℕ, List, [], length, map, true, false, None}
+use Rattle.std.specs.List.{list_any}
 use Rattle.channel_language.specs.Text.{wants_growth}
 use Rattle.channel_calls.specs.declared.reply.Reply.{Reply}
 use Rattle.channel_calls.specs.declared.stage.Line.{Line}
-use Rattle.channel_model.specs.Laws.{free_places}
-use Rattle.channel_model.specs.Lines.{Waiting, is_stream, untold}
+use Rattle.channel_calls.specs.declared.stage.Line.TheVariants.{Sends, Receives, Streams}
+use Rattle.channel_model.specs.Awake.{AwakeIn}
+use Rattle.channel_model.specs.Laws.{free_places, woken_of_line}
+use Rattle.channel_model.specs.Lines.{untold}
 use Rattle.channel_model.specs.Refused.{Answers}
-use Rattle.channel_model.specs.Settling.{poll_of, pending_count}
+use Rattle.channel_model.specs.Settling.{poll_of, SettlesTo}
 use Rattle.channel_model.specs.State.{State}
 use Rattle.channel_model.specs.declared.name.Waiter.{Waiter}
 use Rattle.channel_world.specs.declared.settle.Settled.{Settled}
@@ -44,13 +46,20 @@ module _ {T : Type 0} where
     pub names : after ≡ before ++ woken
     pub answers : Answers s (poll_of w) (record { after = t; reply = x; woken = woken })
 
--- no more streams than these are pending
-abbrev pub most_streams : Waiting → ℕ
-most_streams l = length l.streams + length (filter is_stream l.woken)
+module _ {T : Type 0} where
+  -- how many are pending on this line: they stand untold in it, or were woken
+  abbrev pub pending_on : Line → State T → ℕ
+  pending_on line s = length (untold line s.waiting) + woken_of_line line s
 
--- settling makes no more polls: one for each who is woken, and as many for each who is pending as a poll wakes at most
-abbrev pub most_polls : Waiting → ℕ
-most_polls l = length l.woken + (2 + most_streams l) * pending_count l
+  -- Settling makes no more polls: one for each who is woken, and for each who is pending as many as it may wake when it leaves: a send
+  -- all streams and two more, a receive two, a stream one, and a wait for the closing nobody.
+  abbrev pub most_polls : State T → ℕ
+  most_polls s =
+      length s.waiting.woken + (pending_on Sends s * (pending_on Streams s + 2) + 2 * pending_on Receives s + pending_on Streams s)
+
+-- However it is answered, settling makes no more polls than that, from whatever state in which nobody is left asleep.
+abbrev pub SettlingIsShort : Type 0 → Type 0
+SettlingIsShort T = (s t : State T) (ps : List (Waiter × Reply T)) → AwakeIn s → SettlesTo s ps t → length ps ≤ most_polls s
 
 -- no poll of these was refused memory or serials
 abbrev pub AreAmple : List (Settled ℕ) → Type 0

@@ -4,7 +4,7 @@ use Rattle.channel_model.specs.declared.name.Waiter.{Waiter}
 use Rattle.channel_steps.specs.Scene.{Scene, HoldNobodyUp}
 use Rattle.channel_interleaving.specs.Floor.{StandsIn}
 use Rattle.channel_interleaving.specs.Left.{others_of, wanted_of}
-use Rattle.channel_interleaving.specs.Runs.{Moment, EachStep, FewLeft, ComesNearer, moment_of}
+use Rattle.channel_interleaving.specs.Runs.{Moment, moment_of}
 use Rattle.channel_interleaving.specs.declared.floor.Floor.{Floor}
 use Rattle.channel_interleaving.specs.declared.step.Entry.{Entry}
 use Rattle.channel_interleaving.specs.declared.step.Step.{Step}
@@ -33,19 +33,12 @@ module _ {T : Type 0} where
       ((p : ℕ) → NobodyHoldsUp p m → in_a_row p (x ∷ xs) (e ∷ es) ≤ most_left p m) × EndInARow n xs es ns
   EndInARow m _ _ _ = ⊥
 
-  -- From the moment m on by the first steps xs of this list, to these moments: at each moment no more steps of its own are left to
-  -- each call than these, and each step that does not end its call, where the others hold it up no more, leaves it fewer. So it ends
-  -- soon, if its steps are the next: those in front of the list, and from each later moment on.
-  pub record EndSoon (steps : List (Step T)) (m : Moment T) (xs : List (Step T)) (es : List (Entry T)) (ns : List (Moment T)) : Type 0 where
-    pub first : FewLeft m
-    pub few : EachStep (λ m x e n. FewLeft n) m xs es ns
-    pub nearer : EachStep ComesNearer m xs es ns
-    pub in_front : (party : ℕ) → NobodyHoldsUp party m → in_a_row party steps es ≤ most_left party m
-    pub later : EndInARow m xs es ns
+  -- so it is of the steps in front of a list, also where not all of them are made
+  abbrev pub EndInFront : Moment T → List (Step T) → List (Entry T) → Type 0
+  EndInFront m steps trace = (party : ℕ) → NobodyHoldsUp party m → in_a_row party steps trace ≤ most_left party m
 
   -- from whatever scene the world stood in: a call that the others hold up no more makes no more steps than these in front of the
   -- list
   abbrev pub EndsInFront : Floor T → List (Step T) → List (Entry T) → Type 0
   EndsInFront old steps trace =
-      (s : Scene T Waiter) → StandsIn old s → (party : ℕ) → NobodyHoldsUp party (moment_of old s)
-      → in_a_row party steps trace ≤ most_left party (moment_of old s)
+      (s : Scene T Waiter) → StandsIn old s → EndInFront (moment_of old s) steps trace

@@ -1,9 +1,12 @@
 //! Laws of a channel, in one place: of worlds, of runs of calls made one at a time, and of channels at rest. Each is the contract
 //! of a function that does nothing; who wants to use one calls it.
 
+ghost use Rattle.channel_world.specs.Asleep.{AllAreAwake, ClosingIsAnswered, NoReceiveIsLeft, NoSendIsLeft, NoSendSleepsBesideAPlace, NoStreamIsLeft, NobodyIsLeftAtRest, NobodyIsLeftOnAClosed, NobodySleepsOnAClosed, NoReceiveSleepsBesideAMessage, NoStreamSleepsBesideAMessage, ReceivesAreAnswered, SendsAreAnswered, StreamsAreAnswered};
 ghost use Rattle.channel_world.specs.Carried.{HoldsWhatFits, LeadsFurther, LeadsOnInTurn, StaysWhereItIs};
 ghost use Rattle.channel_world.specs.Counts.{AreByDrops, CountsAtRest, CountsLive, OpenHasBoth};
-ghost use Rattle.channel_world.specs.Numbers.{MessagesAtRest, PendingAtRest, WokenAtRest};
+ghost use Rattle.channel_world.specs.InTurn.{HasItsAccounts, LaterLeavesLater, LeaveInTurn, RefusedIsKeptOut, StandsAsItsState};
+ghost use Rattle.channel_world.specs.Numbers.{CallsAtRest, MessagesAtRest, PendingAtRest, WokenAtRest};
+ghost use Rattle.channel_world.specs.Settled.{SettlingIsShort};
 ghost use Rattle.channel_world.specs.Since.{ClosesOnce, ClosesOnceFromRest, ClosesWhatIsLeft, IsNeverFull, IsNeverFullFromRest, IsNeverFullSince, NoneClosesAgain};
 
 pub use crate::recorded::laws::{a_record_leaves_nobody_asleep, a_record_loses_nothing};
@@ -55,20 +58,73 @@ pub fn counts_are_live_handles<T: Drop>(world: &World<T>)
     world.keeps();
 }
 
-/// What the three numbers count that a world tells, where no call is under way: `messages()` is the length of the list of its
-/// state; `pending()` is the number of operations and streams that stand in its four lines, untold or woken, in whose words the
+/// What the numbers count that a world tells, where no call is under way, which is where `under_way()` is 0: `messages()` is the
+/// length of the list of its state; `pending()` is the number of operations and streams that stand in its four lines, untold or woken, in whose words the
 /// bound of settling is said; and `woken()` is the number of those of them who were woken, the length of their order. So where
 /// `pending()` answered w, `settle` makes no more than w(w+1)/2 polls.
 ///
 /// Own to this project.
 pub fn numbers_are_those_at_rest<T: Drop>(world: &World<T>)
+    ensures calls { CallsAtRest world.now }
     ensures messages { MessagesAtRest world.now }
     ensures pending { PendingAtRest world.now }
     ensures woken { WokenAtRest world.now }
 {
     a_channel_at_rest_is_a_world::<T>();
     world.keeps();
-    world.names_are_apart();
+    world.keeps_names();
+}
+
+/// Where k are woken, and s sends, r receives and n streams are pending, settling makes k + s(n + 2) + 2r + n polls at most, whatever
+/// growths are refused. For only a send whose message is accepted wakes streams, and whoever leaves does so once. Where many streams
+/// are pending and few sends, that is less than w(w+1)/2.
+///
+/// Own to this project.
+pub fn settling_is_short<T>()
+    ensures short { SettlingIsShort T }
+{}
+
+/// Nobody is left asleep in the state that a world is with no call under way: its four lines, and those who were woken. Where nobody is woken no
+/// receive is pending beside a message, and no send on an open channel in which one more message fits; no stream is pending beside
+/// a message, and nobody on a closed channel, woken or not who else.
+///
+/// Own to this project.
+pub fn at_rest_nobody_is_left_asleep<T: Drop>(world: &World<T>)
+    ensures state { NobodyIsLeftAtRest world.now }
+    ensures receives { NoReceiveIsLeft world.now }
+    ensures sends { NoSendIsLeft world.now }
+    ensures streams { NoStreamIsLeft world.now }
+    ensures closing { NobodyIsLeftOnAClosed world.now }
+{
+    a_channel_at_rest_is_a_world::<T>();
+    world.keeps();
+    world.keeps_names();
+}
+
+/// Who sleeps, pending and not woken since its last poll, is answered for, in whatever world, calls under way or not, in the numbers
+/// that it tells. Where a receive sleeps there are no more messages than woken ones and calls under way. Where a send sleeps on an
+/// open channel this has a bound, and no more places than messages, woken ones, calls under way, and places that such calls have
+/// freed and not announced yet. Where a stream sleeps beside a message a call is under way, and where anybody sleeps on a closed
+/// channel.
+///
+/// So where `under_way()` and `woken()` are 0 no receive sleeps beside a message, and no send on an open channel in which one more
+/// message fits. Where `under_way()` is 0 no stream sleeps beside a message, and nobody on a closed channel. Nobody at all sleeps
+/// where `pending()` is `woken()`.
+///
+/// Own to this project.
+pub fn who_sleeps_is_answered_for<T: Drop>(world: &World<T>)
+    ensures receives { ReceivesAreAnswered world.now }
+    ensures sends { SendsAreAnswered world.now }
+    ensures streams { StreamsAreAnswered world.now }
+    ensures closing { ClosingIsAnswered world.now }
+    ensures receive_beside { NoReceiveSleepsBesideAMessage world.now }
+    ensures stream_beside { NoStreamSleepsBesideAMessage world.now }
+    ensures beside_a_place { NoSendSleepsBesideAPlace world.now }
+    ensures on_a_closed { NobodySleepsOnAClosed world.now }
+    ensures awake { AllAreAwake world.now }
+{
+    world.keeps();
+    world.keeps_names();
 }
 
 /// Of all replies that were given since the opening, by runs of steps, lists of calls and settlings in turn, at most one says that
@@ -94,4 +150,32 @@ pub fn an_unbounded_world_is_never_full<T>()
     ensures since_opening { IsNeverFull T }
     ensures since { IsNeverFullSince T }
     ensures from_rest { IsNeverFullFromRest T }
+{}
+
+/// On any way from one scene to another, by runs of steps, lists of calls and settlings in turn, what leaves as the n-th is what was
+/// held or came as the n-th. So of two messages that were accepted in successive calls of one party the later never leaves first.
+/// The ways are those of `leads` and `carries`.
+///
+/// Own to this project.
+pub fn by_steps_messages_leave_in_turn<T>()
+    ensures in_turn { LeaveInTurn T }
+    ensures later { LaterLeavesLater T }
+{}
+
+/// On any such way a call that refuses the message which it was to send, or goes on waiting with it, has let nothing in: it has made
+/// no mark. The message is handed back, or stays with its operation.
+///
+/// Own to this project.
+pub fn by_steps_a_refused_message_is_not_held<T>()
+    ensures kept_out { RefusedIsKeptOut T }
+{}
+
+/// With no call under way each scene in which the world stands is the state that the world is: it has the same messages, capacity and
+/// counts, and is closed or not. So what left since whatever scene it came from, followed by the messages of that state, is what
+/// the scene held followed by what came, message by message.
+///
+/// Own to this project.
+pub fn a_scene_at_rest_is_its_state<T: Drop>(world: &World<T>)
+    ensures state { StandsAsItsState world.now }
+    ensures accounts { HasItsAccounts world.now }
 {}

@@ -6,13 +6,14 @@
 //! its list, for a reason that [`WorldRefusal`] names. [`script::run_script`] runs a script over a world, from bytes to bytes.
 //!
 //! What is said of calls made one at a time stands in `channel_model`. What is said of runs of steps is one record, in
-//! `specs/Headline`; each of its sentences is written out in `specs/Sentences`, in the words of `channel_steps` and
+//! `specs/Headline`; what it says of each moment and of each step is in `specs/Sentences`, in the words of `channel_steps` and
 //! `channel_interleaving`.
 #![tactic(auto)]
 
 pub mod call;
 pub mod laws;
 pub mod name;
+mod party;
 pub mod recorded;
 mod room;
 mod run;
@@ -26,6 +27,7 @@ pub use channel_calls::error::{
     OpenError, RecvError, Refused, SendError, TryRecvError, TrySendError,
 };
 pub use channel_calls::mark::Mark;
+pub use channel_calls::several::Messages;
 pub use event_listener::id::EventIds;
 pub use name::{Handle, HandleId, HandleKind, OpId, Waiter};
 pub use recorded::{

@@ -1,8 +1,6 @@
 //! Settling: those who are pending and were woken are polled, the one whose wake is oldest first, until nobody is woken.
 
-ghost use Rattle.std.specs.Prelude.{◌≡◌, ◌≤◌, [], length, vec_capacity, IfSome};
-ghost use Rattle.std.specs.List.{filter};
-ghost use Rattle.channel_model.specs.Lines.{is_stream};
+ghost use Rattle.std.specs.Prelude.{◌≡◌, ◌≤◌, [], vec_capacity, IfSome};
 
 use super::call::Reply;
 use super::name::Waiter;
@@ -31,19 +29,6 @@ struct Room<T> {
     polls: Vec<Settled<T>>,
 }
 
-/// How many of these names are streams. None where there is no such number.
-fn count_streams(names: &Vec<Waiter>) -> Option<usize>
-    ensures { IfSome result (λ n. n ≡ length (filter is_stream names.now.items)) }
-{
-    let mut count = 0usize;
-    for k in 0..names.len() {
-        if let Waiter::Stream(_) = names[k] {
-            count = count.checked_add(1)?;
-        }
-    }
-    Some(count)
-}
-
 /// Room for so many polls more than these names, and for what they answer. None where it was refused.
 fn take_room<T: Drop>(mut names: Vec<Waiter>, most: usize, alloc: Global) -> Option<Room<T>>
     ensures names { IfSome result (λ r. r.names.items ≡ names.items) }
@@ -65,23 +50,55 @@ impl<T: Drop> World<T> {
     ghost use Rattle.std.specs.Prelude.{◌≡◌, ◌≤◌, ◌<◌, ◌+◌, ◌^◌, [], ◌∷◌, true, length, vec_len, vec_capacity, IfSome, OnSome, IsTrue};
     ghost use Rattle.channel_interleaving.specs.Floor.{IsQuiet, LeadsOn};
     ghost use Rattle.channel_model.specs.Answer.{Answer};
+    ghost use Rattle.channel_model.specs.Laws.{count_of, is_line, line_of};
     ghost use Rattle.channel_model.specs.Lines.{is_among};
     ghost use Rattle.channel_model.specs.Refused.{Answers};
     ghost use Rattle.channel_model.specs.Settling.{poll_of};
-    ghost use Rattle.channel_world.specs.Settled.{Polls, most_polls};
+    ghost use Rattle.channel_world.specs.Settled.{Polls, most_polls, pending_on};
     ghost use Rattle.channel_world.specs.World.{at_rest};
+
+    /// Whether what has this name belongs to this line.
+    fn is_on(&self, line: Line, name: Waiter) -> bool
+        ensures { result ≡ is_line line (line_of (at_rest self.now).names name) }
+    {
+        self.steps.is_on(line, name)
+    }
+
+    /// How many of these names belong to this line. None where there is no such number.
+    fn count_on(&self, line: Line, names: &Vec<Waiter>) -> Option<usize>
+        ensures { IfSome result (λ n. n ≡ count_of (line_of (at_rest self.now).names) line names.now.items) }
+    {
+        let mut count = 0usize;
+        for k in 0..names.len() {
+            if self.is_on(line, names[k]) {
+                count = count.checked_add(1)?;
+            }
+        }
+        Some(count)
+    }
+
+    /// How many are pending on this line, where these are woken. None where there is no such number.
+    fn pending_on(&self, line: Line, woken: &Vec<Waiter>) -> Option<usize>
+        requires { woken.now.items ≡ (at_rest self.now).waiting.woken }
+        ensures { IfSome result (λ n. pending_on line (at_rest self.now) ≤ n) }
+    {
+        let told = self.count_on(line, woken)?;
+        self.steps.waiting(line).checked_add(told)
+    }
 
     /// How many polls settling makes at most, where these are woken. None where there is no such number.
     fn most_polls(&self, woken: &Vec<Waiter>) -> Option<usize>
         requires { woken.now.items ≡ (at_rest self.now).waiting.woken }
-        ensures { IfSome result (λ n. most_polls (at_rest self.now).waiting ≤ n) }
+        ensures { IfSome result (λ n. most_polls (at_rest self.now) ≤ n) }
     {
-        let untold = self.untold_count()?;
-        let pending = untold.checked_add(woken.len())?;
-        let told = count_streams(woken)?;
-        let streams = self.steps.waiting(Line::Streams).checked_add(told)?;
+        let sends = self.pending_on(Line::Sends, woken)?;
+        let receives = self.pending_on(Line::Receives, woken)?;
+        let streams = self.pending_on(Line::Streams, woken)?;
         let each = streams.checked_add(2)?;
-        let later = each.checked_mul(pending)?;
+        let by_sends = sends.checked_mul(each)?;
+        let by_receives = receives.checked_mul(2)?;
+        let others = by_receives.checked_add(streams)?;
+        let later = by_sends.checked_add(others)?;
         later.checked_add(woken.len())
     }
 
@@ -96,9 +113,9 @@ impl<T: Drop> World<T> {
     fn room_to_settle(&self) -> Option<Room<T>>
         ensures names { IfSome result (λ r. r.names.items ≡ (at_rest self.now).waiting.woken) }
         ensures polls { IfSome result (λ r. r.polls.items ≡ []) }
-        ensures room { IfSome result (λ r. most_polls (at_rest self.now).waiting ≤ vec_capacity r.names) }
-        ensures answers { IfSome result (λ r. most_polls (at_rest self.now).waiting ≤ vec_capacity r.polls) }
-        ensures places { OnSome result (self.now.accepted + most_polls (at_rest self.now).waiting < 2 ^ 61) }
+        ensures room { IfSome result (λ r. most_polls (at_rest self.now) ≤ vec_capacity r.names) }
+        ensures answers { IfSome result (λ r. most_polls (at_rest self.now) ≤ vec_capacity r.polls) }
+        ensures places { OnSome result (self.now.accepted + most_polls (at_rest self.now) < 2 ^ 61) }
     {
         let Ok(names) = self.steps.woken_names() else {
             return None;
@@ -130,21 +147,24 @@ impl<T: Drop> World<T> {
 }
 
 impl<T: Drop> World<T> {
-    ghost use Rattle.std.specs.Prelude.{◌≡◌, ◌≤◌, ◌+◌, ◌*◌, [], vec_len, IfOk, OnOk, OnErr};
-    ghost use Rattle.channel_interleaving.specs.Floor.{IsQuiet, LeadsOn, Stands};
+    ghost use Rattle.std.specs.Prelude.{◌≡◌, ◌≤◌, ◌<◌, ◌+◌, ◌*◌, [], vec_len, IfOk, OnOk, OnErr};
+    ghost use Rattle.channel_interleaving.specs.Floor.{messages_in, IsQuiet, LeadsOn, Stands};
+    ghost use Rattle.channel_interleaving.specs.Pending.{is_pending, how_many};
     ghost use Rattle.channel_model.specs.Settling.{Settles, pending_count};
     ghost use Rattle.channel_world.specs.Carried.{polls_replied};
-    ghost use Rattle.channel_world.specs.Settled.{polls_in, NoReceiveGoesOn, NoSendGoesOn, NoStreamGoesOn, NobodyMissesTheClosing};
+    ghost use Rattle.channel_world.specs.Settled.{polls_in, most_polls, NoReceiveGoesOn, NoSendGoesOn, NoStreamGoesOn, NobodyMissesTheClosing};
     ghost use Rattle.channel_world.specs.World.{at_rest};
 
     /// Polls those who are pending and were woken, the one whose wake is oldest first, again and again until nobody is woken;
     /// and says whom it polled, in order, and what each poll answered.
     ///
     /// Whom a poll wakes is polled in its turn; who was not woken is not polled. A stream is polled even while a live operation
-    /// borrows its receiver. Where w operations and streams are pending, there are w(w+1)/2 polls at most. After them nobody is
-    /// woken, and nobody is pending whom a message, a free place or a closing lets go on.
+    /// borrows its receiver. Where w operations and streams are pending, there are w(w+1)/2 polls at most. Where k of them are woken,
+    /// s are sends, r receives and n streams, there are k + s(n + 2) + 2r + n at most: only a send whose message is accepted wakes
+    /// streams. After them nobody is woken, and nobody is pending whom a message, a free place or a closing lets go on. So where
+    /// `pending()` was 1 there is one poll at most; and where `messages()` is above 0 after it no receive and no stream is pending.
     ///
-    /// Room for all answers, and for the names of those who are woken, is taken before the first poll. Where it is refused, or
+    /// Room for that many answers, and for as many names, is taken before the first poll. Where it is refused, or
     /// where so many messages were accepted that polls of sends could pass 2^61, it is `NoMemory`, and nothing is changed. Where a poll itself is refused
     /// memory or serials, for its listener or a block of the queue, its reply says so, and it is pending no more; all the rest
     /// holds as before. No call is to be under way, and none is after it; from each scene in which the world stood steps lead to one
@@ -155,11 +175,17 @@ impl<T: Drop> World<T> {
         ensures polls { IfOk result (λ polls. Settles (at_rest self.old) (polls_in polls.items) (at_rest self.new)) }
         ensures few { IfOk result (λ polls. 2 * vec_len polls
             ≤ pending_count (at_rest self.old).waiting * (pending_count (at_rest self.old).waiting + 1)) }
+        ensures short { IfOk result (λ polls. vec_len polls ≤ most_polls (at_rest self.old)) }
+        ensures few_pending { IfOk result (λ polls. 2 * vec_len polls
+            ≤ how_many is_pending self.old.roll * (how_many is_pending self.old.roll + 1)) }
+        ensures one_pending { IfOk result (λ polls. how_many is_pending self.old.roll ≡ 1 → vec_len polls ≤ 1) }
         ensures nobody_woken { OnOk result ((at_rest self.new).waiting.woken ≡ []) }
         ensures receives { OnOk result (NoReceiveGoesOn (at_rest self.new)) }
         ensures sends { OnOk result (NoSendGoesOn (at_rest self.new)) }
         ensures streams { OnOk result (NoStreamGoesOn (at_rest self.new)) }
         ensures closing { OnOk result (NobodyMissesTheClosing (at_rest self.new)) }
+        ensures no_receive { OnOk result (0 < messages_in self.new → (at_rest self.new).waiting.receives ≡ []) }
+        ensures no_stream { OnOk result (0 < messages_in self.new → (at_rest self.new).waiting.streams ≡ []) }
         ensures unchanged { OnErr result (self.new ≡ self.old) }
         ensures quiet { IsQuiet self.new }
         ensures leads { IfOk result (λ polls. LeadsOn self.old (polls_replied polls.items) self.new) }
@@ -167,6 +193,7 @@ impl<T: Drop> World<T> {
     {
         a_channel_at_rest_is_a_world::<T>();
         self.steps.keeps();
+        self.steps.names_are_apart();
         let Some(room) = self.room_to_settle() else {
             return Err(NoMemory);
         };

@@ -78,7 +78,7 @@ impl<T: Drop> World<T> {
 }
 
 impl<T: Drop> World<T> {
-    ghost use Rattle.std.specs.Prelude.{◌≡◌, ◌+◌, List, ◌++◌};
+    ghost use Rattle.std.specs.Prelude.{◌≡◌, ◌+◌, List, [], ◌++◌, length, None, IfSome, vec_len};
     ghost use Rattle.channel_calls.specs.declared.reply.Reply.{Reply};
     ghost use Rattle.channel_model.specs.declared.name.Waiter.{Waiter};
     ghost use Rattle.channel_steps.specs.Scene.{Scene};
@@ -86,10 +86,11 @@ impl<T: Drop> World<T> {
     ghost use Rattle.channel_interleaving.specs.Roll.{is_woken};
     ghost use Rattle.channel_interleaving.specs.Pending.{is_pending, how_many};
     ghost use Rattle.channel_interleaving.specs.Runs.{accepted_in, left_in};
-    ghost use Rattle.channel_interleaving.specs.Floor.{calls_in, messages_in, Led, LeadsOn, Stands, StandsIn, TellsQuiet};
+    ghost use Rattle.channel_interleaving.specs.Floor.{calls_in, messages_in, AreAtWork, Led, LeadsOn, Stands, StandsIn, TellsQuiet};
     ghost use Rattle.channel_interleaving.specs.Way.{replies_in};
     ghost use Rattle.channel_world.specs.Headline.{Headline};
     ghost use Rattle.channel_world.specs.StepsLeft.{EndsInFront};
+    ghost use Rattle.channel_world.specs.TheEnd.{NothingComesAfter};
 
     /// Runs steps of any parties, from the front. The first one that is refused stays in front, with nothing of it done;
     /// `stopped` says at which place of the list, counted from 0, and why.
@@ -98,12 +99,13 @@ impl<T: Drop> World<T> {
     /// way or not, and wherever the list ends: what left the channel, followed by what it holds, is what it held followed by
     /// what it accepted, in order; each reply is a plain closable list's at moments of its call; and at no moment does a
     /// pending operation stay unwoken beside a message, free place or closing that no woken operation or call under way answers
-    /// for. `specs/Headline` has this sentence by sentence, each of which `specs/Sentences` writes out.
+    /// for. `specs/Headline` has this sentence by sentence, of the run; `specs/Sentences` of each moment and of each step.
     ///
     /// The promise is of every scene in which the world stood: a plain channel with the calls under way on it, each with its
     /// moments and marks so far. Some such scene there always is, and a run or a list of calls that comes after leads on from
     /// the one to which this one came: the replies that were given since a scene, and the accounts of all that was done since, are
-    /// carried through each of them. The numbers of messages before and after it need none.
+    /// carried through each of them. The numbers of messages before and after it need none, nor do those of the steps: those that
+    /// were made, of which the trace has an entry each, and those that are left are all; and where it didn't stop none is left.
     ///
     /// A step is refused for the first of these reasons that there is: the party that begins is at work; the one that steps
     /// isn't; a used name doesn't live; what lives there is of another kind; its operation or its receiver's stream is being
@@ -114,10 +116,14 @@ impl<T: Drop> World<T> {
         ensures headline { (s : Scene T Waiter) → StandsIn self.old s
             → Headline steps.old.items steps.new.items self.old result.trace.items result.stopped self.new s }
         ensures soon { EndsInFront self.old steps.old.items result.trace.items }
+        ensures the_end { NothingComesAfter steps.old.items result.trace.items }
         ensures leads { LeadsOn self.old (replies_in result.trace.items) self.new }
         ensures carries { (s : Scene T Waiter) (replies : List (Reply T)) → Led s replies self.old
             → Led s (replies ++ replies_in result.trace.items) self.new }
         ensures stands { Stands self.new }
+        ensures used_up { result.stopped ≡ None → steps.new.items ≡ [] }
+        ensures made { vec_len result.trace + length steps.new.items ≡ length steps.old.items }
+        ensures place { IfSome result.stopped (λ s. s.place ≡ vec_len result.trace) }
         ensures messages { messages_in self.new + left_in result.trace.items ≡ messages_in self.old + accepted_in result.trace.items }
     {
         self.steps.keeps();
@@ -131,11 +137,13 @@ impl<T: Drop> World<T> {
         self.steps.keeps();
     }
 
-    /// Says that no name stands twice, and does nothing.
-    pub(crate) fn names_are_apart(&self)
-        ensures { AreApart self.now.roll }
+    /// Says that no name stands twice, and that the parties at work are those whose calls are under way; and does nothing.
+    pub(crate) fn keeps_names(&self)
+        ensures apart { AreApart self.now.roll }
+        ensures at_work { AreAtWork self.now }
     {
         self.steps.names_are_apart();
+        self.steps.keeps();
     }
 
     /// Whether no call is under way. Own to this project.

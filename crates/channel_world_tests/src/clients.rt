@@ -1,6 +1,6 @@
 //! Clients of a world that know nothing of it but that it is one. They are proved; nothing runs them.
 
-ghost use Rattle.std.specs.Prelude.{◌≡◌, ◌+◌, ◌*◌, ◌≤◌, ℕ, List, ◌++◌, Option, None, IfOk, vec_len};
+ghost use Rattle.std.specs.Prelude.{◌≡◌, ◌+◌, ◌*◌, ◌<◌, ◌≤◌, ℕ, List, [], ◌++◌, length, slice_get, Option, None, true, IfOk, vec_len};
 ghost use Rattle.channel_calls.specs.declared.reply.Reply.{Reply};
 ghost use Rattle.channel_interleaving.specs.Floor.{IsQuiet, Led};
 ghost use Rattle.channel_interleaving.specs.Runs.{accepted_in, left_in};
@@ -10,14 +10,17 @@ ghost use Rattle.channel_model.specs.declared.name.Waiter.{Waiter};
 ghost use Rattle.channel_steps.specs.Run.{new_scene};
 ghost use Rattle.channel_steps.specs.Scene.{Scene};
 ghost use Rattle.channel_world.specs.Carried.{replied_in};
+ghost use Rattle.channel_world.specs.InTurn.{accepted_on, left_on};
 ghost use Rattle.channel_world.specs.Since.{closings_among, NoneSaysFull};
 ghost use Rattle.channel_world.specs.StepsLeft.{EndsInFront};
+ghost use Rattle.channel_world.specs.TheEnd.{NothingComesAfter};
 ghost use Rattle.channel_world.specs.World.{at_rest};
 ghost use Rattle.channel_world_tests.specs.Carry.{replied_if};
 
 use channel_world::call::{Call, CallRun};
 use channel_world::laws::{
-    an_unbounded_world_is_never_full, counts_are_live_handles, numbers_are_those_at_rest,
+    an_unbounded_world_is_never_full, at_rest_nobody_is_left_asleep,
+    by_steps_messages_leave_in_turn, counts_are_live_handles, numbers_are_those_at_rest,
     the_channel_is_closed_once,
 };
 use channel_world::settle::Settled;
@@ -52,6 +55,14 @@ pub fn count<T: Drop>(world: &mut World<T>, steps: &mut VecDeque<Step<T>>) -> Co
 /// front of the list with no reply among them, or, for a receive of several, 64 more for each message that it may take.
 pub fn ends_soon<T: Drop>(world: &mut World<T>, steps: &mut VecDeque<Step<T>>) -> Run<T>
     ensures { EndsInFront world.old steps.old.items result.trace.items }
+{
+    world.run_steps(steps)
+}
+
+/// Makes steps in whatever world: once one of them answered that the channel is closed and empty, or that a stream has ended, no call
+/// that begins later in the list gives a message.
+pub fn ends_for_good<T: Drop>(world: &mut World<T>, steps: &mut VecDeque<Step<T>>) -> Run<T>
+    ensures { NothingComesAfter steps.old.items result.trace.items }
 {
     world.run_steps(steps)
 }
@@ -161,4 +172,31 @@ pub fn never_full<T: Drop>(world: &mut World<T>, steps: &mut VecDeque<Step<T>>) 
 {
     an_unbounded_world_is_never_full::<T>();
     world.run_steps(steps)
+}
+
+/// Looks at whatever world has no call under way: where it says that nobody is woken and a message is held, no receive is pending.
+pub fn none_is_left<T: Drop>(world: &World<T>) -> bool
+    requires { IsQuiet world.now }
+    ensures { result ≡ true → (at_rest world.now).waiting.receives ≡ [] }
+{
+    at_rest_nobody_is_left_asleep(world);
+    world.woken() == 0 && world.messages() > 0
+}
+
+/// Says of whatever world whether no call is under way, by the number alone.
+pub fn is_idle<T: Drop>(world: &World<T>) -> bool
+    ensures { result ≡ true → IsQuiet world.now }
+{
+    numbers_are_those_at_rest(world);
+    world.under_way() == 0
+}
+
+/// Looks at whatever world: what has left since a scene that it came from, as the n-th, was held there or came as the n-th.
+pub fn leaves_in_turn<T: Drop>(world: &World<T>)
+    ensures { (s : Scene T Waiter) (replies : List (Reply T)) (led : Led s replies world.now) (n : ℕ)
+        → n < length (left_on s led.way.paces led.last led.way.is)
+        → slice_get (left_on s led.way.paces led.last led.way.is) n ≡ slice_get (accepted_on s led.way.paces led.last led.way.is) n }
+{
+    by_steps_messages_leave_in_turn::<T>();
+    world.keeps();
 }

@@ -3,27 +3,20 @@
 #![tactic(auto)]
 
 #[cfg(test)]
-mod ask;
-#[cfg(test)]
 mod call_rows;
 #[cfg(test)]
 mod checks;
 pub mod clients;
 #[cfg(test)]
-mod memory;
+mod crowds;
 #[cfg(test)]
 mod openings;
 #[cfg(test)]
-mod refusals;
+mod printed;
 #[cfg(test)]
-mod row;
+mod refusals;
 #[cfg(test)]
 mod rows;
 #[cfg(test)]
-mod said;
-#[cfg(test)]
-mod scarce;
-#[cfg(test)]
-mod scarce_steps;
-#[cfg(test)]
-mod settle;
+mod step_counts;
+pub mod unaided;

@@ -11,8 +11,6 @@ mod four;
 #[cfg(test)]
 mod gather;
 #[cfg(test)]
-mod memory;
-#[cfg(test)]
 mod refused;
 #[cfg(test)]
 mod replay;

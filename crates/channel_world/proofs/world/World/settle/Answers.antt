@@ -2,14 +2,17 @@
 use Rattle.std.proofs.Common.{arith, rules, ◌≡◌, ◌∙◌, slice_get, Some, vec_len, sym, subst}
 use Rattle.std.proofs.lemmas.Option.{slice_get_read}
 use Rattle.channel_interleaving.proofs.Interface.{leads_nowhere, stands_led}
+use Rattle.channel_interleaving.specs.Apart.{AreApart}
 use Rattle.channel_interleaving.specs.Floor.{IsQuiet, Stands}
 use Rattle.channel_interleaving.specs.declared.floor.Floor.{Floor}
 use Rattle.channel_model.specs.Awake.{AwakeIn}
 use Rattle.channel_world.specs.Settled.{polls_in}
 use Rattle.channel_world.specs.World.{at_rest}
+use Rattle.channel_world.proofs.AsleepFacts.{no_receive_goes_on, no_stream_goes_on}
 use Rattle.channel_world.proofs.Leading.{leads_polled}
+use Rattle.channel_world.proofs.NumberFacts.{messages_at_rest, pending_at_rest}
 use Rattle.channel_world.proofs.Polls.{awake_at_rest}
-use Rattle.channel_world.proofs.SettleFacts.{goes_first, goes_on, goes_pushed, goes_end, next_poll}
+use Rattle.channel_world.proofs.SettleFacts.{few_told, goes_first, goes_on, goes_pushed, goes_end, next_poll, one_poll}
 use Rattle.channel_world.proofs.world.World.settle.Goals as goal
 
 pub loop-names-init : goal.loop-names-init
@@ -156,6 +159,14 @@ returns-clause-few g c =
     (let a = names.ok.0 in let b = polls.ok.0 in omega (arith, a, b, c.loop-names-test.false)) in
     let few = end.few in let b = polls.ok.0 in rw b few
 
+pub returns-clause-short : goal.returns-clause-short
+returns-clause-short g c =
+    let names = c.loop-names.names in
+    let polls = c.loop-names.polls in
+    let end = goes_end (at_rest c.args.self.now) (at_rest c.loop-names.self) polls.items names.items c.loop-names.invariant.goes
+    (let a = names.ok.0 in let b = polls.ok.0 in omega (arith, a, b, c.loop-names-test.false)) in
+    let short = end.short in let b = polls.ok.0 in rw b short
+
 pub returns-clause-nobody_woken : goal.returns-clause-nobody_woken
 returns-clause-nobody_woken g c =
     let names = c.loop-names.names in
@@ -208,3 +219,36 @@ pub returns-clause-stands : goal.returns-clause-stands
 returns-clause-stands g c =
     let before = subst (λ (f : Floor g.row.T.Denot). Stands f) c.self.view_is c.keeps.ensures.stands in
     stands_led c.args.self.now c.loop-names.self _ before c.loop-names.invariant.leads
+
+pub returns-clause-few_pending : goal.returns-clause-few_pending
+returns-clause-few_pending g c =
+    let names = c.loop-names.names in
+    let polls = c.loop-names.polls in
+    let end = goes_end (at_rest c.args.self.now) (at_rest c.loop-names.self) polls.items names.items c.loop-names.invariant.goes
+    (let a = names.ok.0 in let b = polls.ok.0 in omega (arith, a, b, c.loop-names-test.false)) in
+    let before = subst (λ (f : Floor g.row.T.Denot). Stands f) c.self.view_is c.keeps.ensures.stands in
+    let apart = subst (λ (f : Floor g.row.T.Denot). AreApart f.roll) c.self.view_is c.names_are_apart.ensures in
+    let pending = pending_at_rest c.args.self.now before c.a_channel_at_rest_is_a_world.ensures.as_in_the_world apart c.requires.quiet in
+    let few = end.few in
+    let b = polls.ok.0 in
+    few_told _ _ _ _ b pending few
+
+pub returns-clause-one_pending : goal.returns-clause-one_pending
+returns-clause-one_pending g c =
+    λ one. one_poll _ _ one (returns-clause-few_pending g c)
+
+pub returns-clause-no_receive : goal.returns-clause-no_receive
+returns-clause-no_receive g c =
+    let names = c.loop-names.names in
+    let polls = c.loop-names.polls in
+    let end = goes_end (at_rest c.args.self.now) (at_rest c.loop-names.self) polls.items names.items c.loop-names.invariant.goes
+    (let a = names.ok.0 in let b = polls.ok.0 in omega (arith, a, b, c.loop-names-test.false)) in
+    no_receive_goes_on c.loop-names.self (messages_at_rest c.loop-names.self (returns-clause-stands g c) c.loop-names.invariant.quiet) end.rests.1
+
+pub returns-clause-no_stream : goal.returns-clause-no_stream
+returns-clause-no_stream g c =
+    let names = c.loop-names.names in
+    let polls = c.loop-names.polls in
+    let end = goes_end (at_rest c.args.self.now) (at_rest c.loop-names.self) polls.items names.items c.loop-names.invariant.goes
+    (let a = names.ok.0 in let b = polls.ok.0 in omega (arith, a, b, c.loop-names-test.false)) in
+    no_stream_goes_on c.loop-names.self (messages_at_rest c.loop-names.self (returns-clause-stands g c) c.loop-names.invariant.quiet) end.rests.1

@@ -11,10 +11,10 @@ invariant-loop-names g l = record {
   goes : Goes (at_rest l.fn.self) (at_rest l.self) (polls_in l.polls.items) l.names.items;
   quiet : IsQuiet l.self;
   leads : LeadsOn l.fn.self (polls_replied l.polls.items) l.self;
-  names : most_polls (at_rest l.fn.self).waiting ≤ vec_capacity l.names;
-  polls : most_polls (at_rest l.fn.self).waiting ≤ vec_capacity l.polls;
-  places : l.self.accepted + most_polls (at_rest l.fn.self).waiting < 2 ^ 61 + vec_len l.polls;
+  names : most_polls (at_rest l.fn.self) ≤ vec_capacity l.names;
+  polls : most_polls (at_rest l.fn.self) ≤ vec_capacity l.polls;
+  places : l.self.accepted + most_polls (at_rest l.fn.self) < 2 ^ 61 + vec_len l.polls;
 }
 
 abbrev pub decreases-loop-names : goal.decreases-loop-names
-decreases-loop-names g l = most_polls (at_rest l.fn.self).waiting - vec_len l.polls
+decreases-loop-names g l = most_polls (at_rest l.fn.self) - vec_len l.polls

@@ -1,0 +1,95 @@
+-- What answers for who sleeps, in the numbers that a world tells.
+use Rattle.std.proofs.Common.{arith, ◌≡◌, ◌⊎◌, ◌<◌, ℕ, List, [], ◌∷◌, length, Option, None, Some, inl, inr, refl, sym, ap, subst, ◌∙◌}
+use Rattle.std.proofs.lemmas.List.{length-map}
+use Rattle.channel_model.specs.Awake.{AwakeIn}
+use Rattle.channel_model.specs.Laws.{free_places}
+use Rattle.channel_model.specs.Settling.{NobodyGoesOn}
+use Rattle.channel_model.specs.State.{State}
+use Rattle.channel_model.specs.declared.name.Waiter.{Waiter}
+use Rattle.channel_model.proofs.Settle.{at_rest as settled_rest}
+use Rattle.channel_steps.specs.declared.party.Party.{Party}
+use Rattle.channel_interleaving.specs.Apart.{AreApart}
+use Rattle.channel_interleaving.specs.Floor.{calls_in, messages_in, book_of, AreAtWork, IsQuiet, Stands}
+use Rattle.channel_interleaving.specs.declared.floor.Floor.{Floor}
+use Rattle.channel_interleaving.specs.declared.names.Agent.{Agent}
+use Rattle.channel_interleaving.proofs.Interface.{none_under_way}
+use Rattle.channel_rest.specs.Rest.{RestIsAWorld}
+use Rattle.channel_world.proofs.Opening.{at_rest_is}
+use Rattle.channel_world.proofs.NumberFacts.{messages_at_rest, woken_at_rest}
+use Rattle.channel_world.specs.Asleep.{NobodyIsLeftAtRest, NoReceiveIsLeft, NoStreamIsLeft, NoSendIsLeft, NobodyIsLeftOnAClosed, HasAPlace, NoReceiveGoesOn, NoSendGoesOn, NoStreamGoesOn, woken_among}
+use Rattle.channel_world.specs.Numbers.{CallsAtRest}
+use Rattle.channel_world.specs.World.{at_rest}
+
+none_of : {A : Type 0} (xs : List A) → length xs ≡ 0 → xs ≡ []
+none_of [] e = refl
+none_of (x ∷ xs) e = absurd (omega (arith, e))
+
+module _ {T : Type 0} (w : Floor T) (at_work : AreAtWork w) where
+  parties_number : length w.parties.items ≡ calls_in w
+  parties_number =
+      let a = length-map w.agents.items (λ (x : Agent T). x.party) in
+      let b = length-map w.parties.items (λ (x : Party T Waiter). x.id) in
+      let same = ap (λ (ns : List ℕ). length ns) at_work in
+      omega (arith, a, b, same)
+
+  pub calls_at_rest : CallsAtRest w
+  calls_at_rest = record {
+    none = λ e. none_of w.parties.items (parties_number ∙ e);
+    quiet = λ q. sym parties_number ∙ ap (λ (ps : List (Party T Waiter)). length ps) q;
+  }
+
+-- ---- at rest
+
+none_beside : {A : Type 0} (xs : List A) (n : ℕ) → (xs ≡ []) ⊎ (n ≡ 0) → 0 < n → xs ≡ []
+none_beside xs n (inl e) some = e
+none_beside xs n (inr z) some = absurd (omega (arith, z, some))
+
+module _ {T : Type 0} (w : Floor T) (held : messages_in w ≡ length (at_rest w).channel.messages) (rest : NobodyGoesOn (at_rest w)) where
+  pub no_receive_goes_on : NoReceiveGoesOn w
+  no_receive_goes_on some = let r = rest in none_beside _ _ r.receives (omega (arith, held, some))
+
+  pub no_stream_goes_on : NoStreamGoesOn w
+  no_stream_goes_on some = let r = rest in none_beside _ _ r.streams (omega (arith, held, some))
+
+  pub no_send_goes_on : NoSendGoesOn w
+  no_send_goes_on is_open place = by (at_rest w).channel.capacity refl place
+    where
+      by : (cap : Option ℕ) → (at_rest w).channel.capacity ≡ cap → HasAPlace cap (messages_in w) → (at_rest w).waiting.sends ≡ []
+      by None e p = let r = rest in r.unbounded e
+      by (Some c) e p =
+          let r = rest in
+          none_beside _ _
+          (subst (λ (o : Option ℕ). ((at_rest w).waiting.sends ≡ []) ⊎ (free_places o (length (at_rest w).channel.messages) ≡ 0)) e (r.sends is_open))
+          (omega (arith, held, p))
+
+module _ {T : Type 0} (w : Floor T) (k : Stands w) (rests : RestIsAWorld T) where
+  awake : IsQuiet w → AwakeIn (at_rest w)
+  awake quiet =
+      let world = rests (book_of w) k.scene k.stands.kept (none_under_way w k.scene quiet k.stands.shown) in
+      subst (λ (x : State T). AwakeIn x) (sym (at_rest_is w k.scene k.stands.shown quiet)) world.awake
+
+  pub left_at_rest : NobodyIsLeftAtRest w
+  left_at_rest quiet =
+      let a = awake quiet in
+      record { receives = a.receives; sends = a.sends; unbounded = a.unbounded; streams = a.streams; opened = a.opened }
+
+  pub no_stream_left : NoStreamIsLeft w
+  no_stream_left quiet some =
+      let a = awake quiet in
+      let held = messages_at_rest w k quiet in
+      none_beside _ _ a.streams (omega (arith, held, some))
+
+  pub left_on_a_closed : NobodyIsLeftOnAClosed w
+  left_on_a_closed quiet shut line = let a = awake quiet in a.opened shut line
+
+  module _ (apart : AreApart w.roll) where
+    none_goes_on : IsQuiet w → woken_among w ≡ 0 → NobodyGoesOn (at_rest w)
+    none_goes_on quiet none =
+        let nobody = none_of (at_rest w).waiting.woken (sym (woken_at_rest w k rests apart quiet) ∙ none) in
+        (settled_rest (at_rest w) (at_rest w) [] (awake quiet) (nobody, refl)).1
+
+    pub no_receive_left : NoReceiveIsLeft w
+    no_receive_left quiet none = no_receive_goes_on w (messages_at_rest w k quiet) (none_goes_on quiet none)
+
+    pub no_send_left : NoSendIsLeft w
+    no_send_left quiet none = no_send_goes_on w (messages_at_rest w k quiet) (none_goes_on quiet none)

@@ -1,0 +1,261 @@
+-- Steps of one party, made one at a time, are one run.
+use Rattle.std.proofs.Common.{arith, ◌≡◌, ℕ, zero, suc, ◌==◌, ◌<◌, ◌+◌, ◌++◌, List, [], ◌∷◌, length, replicate, Bool, true, false, is_some, Option, None, Some, refl, sym, ap, ◌∙◌, subst, append-nil, append_assoc}
+use Rattle.std.specs.Prelude.{IfSome}
+use Rattle.std.proofs.lemmas.Bool.{eqb-true}
+use Rattle.std.proofs.lemmas.List.{replicate_more}
+use Rattle.channel_calls.specs.declared.reply.Reply.{Reply}
+use Rattle.channel_model.specs.declared.name.Waiter.{Waiter}
+use Rattle.channel_model.specs.declared.refusal.WorldRefusal.{WorldRefusal}
+use Rattle.channel_model.specs.declared.run.Stopped.{Stopped}
+use Rattle.channel_steps.specs.Scene.{Scene}
+use Rattle.channel_interleaving.specs.Floor.{book_of, Stands}
+use Rattle.channel_interleaving.specs.Refusal.{step_refusal}
+use Rattle.channel_interleaving.specs.Run.{Book, Made, MayRefuse, Stops, ended, with_woken}
+use Rattle.channel_interleaving.specs.Runs.{Moment, LeadsBy, IsRun, RanTo, accepted_in, left_in, end_of, moment_of}
+use Rattle.channel_interleaving.specs.declared.floor.Floor.{Floor}
+use Rattle.channel_interleaving.specs.declared.names.Agent.{Agent}
+use Rattle.channel_interleaving.specs.declared.step.Entry.{Entry}
+use Rattle.channel_interleaving.specs.declared.step.PartyId.{PartyId}
+use Rattle.channel_interleaving.specs.declared.step.Step.{Step}
+use Rattle.channel_interleaving.specs.declared.step.Step.TheVariants as step
+use Rattle.channel_interleaving.proofs.AccountFacts.{no_accounts, accounts_both}
+use Rattle.channel_world.specs.PartyRun.{asked, refused_of, AreSilent, EndsWithAnswer, StepsOnce}
+
+-- a list of one in two parts, of which the second has its element
+pub first_of : {A : Type 0} (x y : A) (made ys : List A) → x ∷ [] ≡ made ++ y ∷ ys → (made ≡ []) × (y ∷ ys ≡ x ∷ [])
+first_of x y [] ys e = (refl, sym e)
+first_of x y (z ∷ []) ys e = absurd (cc e)
+first_of x y (z ∷ w ∷ ws) ys e = absurd (cc e)
+
+-- how many are written, by the test that was made of a list with as many
+pub some_written : {A : Type 0} (n : ℕ) (xs ys : List A) → (n == 0) ≡ false → n ≡ length xs → xs ≡ ys → 0 < length ys
+some_written {A = A} zero xs ys e long same = absurd (cc e)
+some_written {A = A} (suc n) xs ys e long same = let l = ap (λ (zs : List A). length zs) same in omega (arith, long, l)
+
+pub none_written : {A : Type 0} (n : ℕ) (xs ys : List A) → (n == 0) ≡ true → n ≡ length xs → xs ≡ ys → length ys ≡ 0
+none_written {A = A} n xs ys e long same =
+    let z = eqb-true n 0 e in
+    let l = ap (λ (zs : List A). length zs) same in
+    omega (arith, z, long, l)
+
+every : {A P : Type 0} (o : Option A) → P → IfSome o (λ r. P)
+every None p = tt
+every (Some r) p = p
+
+module _ {T : Type 0} where
+  -- ---- one run after another
+
+  run_on : (m : Moment T) (xs : List (Step T)) (es : List (Entry T)) (ns : List (Moment T)) (ys : List (Step T)) (fs : List (Entry T))
+      (os : List (Moment T)) → IsRun m xs es ns → IsRun (end_of m ns) ys fs os → IsRun m (xs ++ ys) (es ++ fs) (ns ++ os)
+  run_on m [] [] [] ys fs os h k = k
+  run_on m (x ∷ xs) (e ∷ es) (n ∷ ns) ys fs os h k = (h.0, run_on n xs es ns ys fs os h.1 k)
+  run_on m [] [] (n ∷ ns) ys fs os h k = absurd h
+  run_on m [] (e ∷ es) ns ys fs os h k = absurd h
+  run_on m (x ∷ xs) [] ns ys fs os h k = absurd h
+  run_on m (x ∷ xs) (e ∷ es) [] ys fs os h k = absurd h
+
+  end_on : (m : Moment T) (ns os : List (Moment T)) → end_of m (ns ++ os) ≡ end_of (end_of m ns) os
+  end_on m [] os = refl
+  end_on m (n ∷ ns) os = end_on n ns os
+
+  accepted_on : (es fs : List (Entry T)) → accepted_in (es ++ fs) ≡ accepted_in es + accepted_in fs
+  accepted_on [] fs = omega arith
+  accepted_on (e ∷ es) fs = let h = accepted_on es fs in omega (arith, h)
+
+  left_on : (es fs : List (Entry T)) → left_in (es ++ fs) ≡ left_in es + left_in fs
+  left_on [] fs = omega arith
+  left_on (e ∷ es) fs = let h = left_on es fs in omega (arith, h)
+
+  ran_on : (xs ys left : List (Step T)) (f g h : Floor T) (trace more : List (Entry T)) → RanTo xs [] f trace g → RanTo ys left g more h
+      → RanTo (xs ++ ys) left f (trace ++ more) h
+  ran_on xs ys left f g h trace more a b s k =
+      let r = a s k in
+      let t = b r.last r.stands in
+      let m : Moment T = moment_of f s in
+      let on : IsRun (end_of m r.moments) t.made more t.moments =
+      subst (λ (o : Moment T). IsRun o t.made more t.moments) (sym r.ends) t.run in
+      record {
+        made = r.made ++ t.made;
+        moments = r.moments ++ t.moments;
+        last = t.last;
+        first = ap (λ (l : List (Step T)). l ++ ys) (r.first ∙ append-nil r.made)
+            ∙ (ap (λ (l : List (Step T)). r.made ++ l) t.first ∙ sym (append_assoc r.made t.made left));
+        run = run_on m r.made trace r.moments t.made more t.moments r.run on;
+        ends = end_on m r.moments t.moments ∙ (ap (λ (o : Moment T). end_of o t.moments) r.ends ∙ t.ends);
+        stands = t.stands;
+        accounts = accounts_both s r.last t.last r.accounts t.accounts;
+        numbers = (
+            let one = r.numbers in
+            let two = t.numbers in
+            omega (arith, one, two, accepted_on trace more, left_on trace more)
+            );
+      }
+
+  -- no step at all, of a list that is left as it is
+  pub ran_nothing : (xs : List (Step T)) (f : Floor T) → RanTo xs xs f [] f
+  ran_nothing xs f s k = record {
+    made = [];
+    moments = [];
+    last = s;
+    first = refl;
+    run = tt;
+    ends = refl;
+    stands = k;
+    accounts = no_accounts s;
+    numbers = refl;
+  }
+
+  -- ---- one step
+
+  made_all : (x : Step T) (made left : List (Step T)) → x ∷ [] ≡ made ++ left → left ≡ [] → made ≡ x ∷ []
+  made_all x made left e none =
+      sym (e ∙ (ap (λ (l : List (Step T)). made ++ l) none ∙ append-nil made))
+
+  -- a run of one step has one entry
+  record One (m : Moment T) (x : Step T) (es : List (Entry T)) (ns : List (Moment T)) : Type 0 where
+    pub entry : Entry T
+    pub moment : Moment T
+    pub entries : es ≡ entry ∷ []
+    pub moments : ns ≡ moment ∷ []
+    pub by : LeadsBy m x entry moment
+
+  only : (m : Moment T) (x : Step T) (es : List (Entry T)) (ns : List (Moment T)) → IsRun m (x ∷ []) es ns → One m x es ns
+  only m x [] ns h = absurd h
+  only m x (e ∷ es) [] h = absurd h
+  only m x (e ∷ []) (n ∷ []) h = record { entry = e; moment = n; entries = refl; moments = refl; by = h.0 }
+  only m x (e ∷ []) (n ∷ o ∷ os) h = absurd h.1
+  only m x (e ∷ f ∷ es) (n ∷ ns) h = absurd h.1
+
+  -- and one of none has none
+  none : (m : Moment T) (es : List (Entry T)) (ns : List (Moment T)) → IsRun m [] es ns → es ≡ []
+  none m [] ns h = refl
+  none m (e ∷ es) ns h = absurd h
+
+  -- a party whose step did not answer is at work still
+  still_at_work : (b : Book T) (s : Scene T Waiter) (p : PartyId) (e : Entry T) (c : Book T) (t : Scene T Waiter)
+      → Made b s (step.Step p) e c t → e.reply ≡ None → step_refusal c.roll c.agents (step.Step p) ≡ None
+  still_at_work b s p e c t made silent =
+      let k = made.book.0 in
+      let a = made.book.1 in
+      let is : c ≡ ended k a None made.kept (with_woken e.woken.items b) =
+      subst (λ (r : Option (Reply T)). c ≡ ended k a r made.kept (with_woken e.woken.items b)) silent made.book.4 in
+      let same : c.agents ≡ b.agents = ap (λ (d : Book T). d.agents) is in
+      subst (λ (agents : List (Agent T)). step_refusal c.roll agents (step.Step p) ≡ None) (sym same) made.not_refused
+
+  -- a list of one step that was used up: it was made
+  pub record OneMade (p : PartyId) (old : Floor T) (trace : List (Entry T)) (new : Floor T) : Type 0 where
+    pub entry : Entry T
+    pub entries : trace ≡ entry ∷ []
+    pub ran : RanTo (step.Step p ∷ []) [] old (entry ∷ []) new
+    pub goes_on : entry.reply ≡ None → step_refusal new.roll new.agents.items (step.Step p) ≡ None
+
+  pub one_made : (p : PartyId) (left : List (Step T)) (old : Floor T) (trace : List (Entry T)) (new : Floor T) → Stands old
+      → RanTo (step.Step p ∷ []) left old trace new → left ≡ [] → OneMade p old trace new
+  one_made p left old trace new before ran used =
+      let s = before.scene in
+      let r = ran s before.stands in
+      let m : Moment T = moment_of old s in
+      let made : r.made ≡ step.Step p ∷ [] = made_all (step.Step p) r.made left r.first used in
+      let o = only m (step.Step p) trace r.moments (subst (λ (l : List (Step T)). IsRun m l trace r.moments) made r.run) in
+      let ends : o.moment ≡ moment_of new r.last =
+      subst (λ (l : List (Moment T)). end_of m l ≡ moment_of new r.last) o.moments r.ends in
+      let led : LeadsBy m (step.Step p) o.entry (moment_of new r.last) =
+      subst (λ (n : Moment T). LeadsBy m (step.Step p) o.entry n) ends o.by in
+      let all : RanTo (step.Step p ∷ []) [] old trace new =
+      subst (λ (l : List (Step T)). RanTo (step.Step p ∷ []) l old trace new) used ran in
+      record {
+        entry = o.entry;
+        entries = o.entries;
+        ran = subst (λ (l : List (Entry T)). RanTo (step.Step p ∷ []) [] old l new) o.entries all;
+        goes_on = λ silent. still_at_work (book_of old) s p o.entry (book_of new) r.last led.made silent;
+      }
+
+  -- one that stopped: nothing was made, and it is refused
+  pub record NoneMade (p : PartyId) (old : Floor T) (trace : List (Entry T)) (why : WorldRefusal) (new : Floor T) : Type 0 where
+    pub ran : RanTo (step.Step p ∷ []) (step.Step p ∷ []) old [] new
+    pub reason : MayRefuse (book_of new) (step.Step p) why
+
+  pub none_made : (p : PartyId) (left : List (Step T)) (old : Floor T) (trace : List (Entry T)) (stopped : Stopped) (new : Floor T)
+      → Stands old → RanTo (step.Step p ∷ []) left old trace new → Stops (book_of new) left (length trace) (Some stopped)
+      → NoneMade p old trace stopped.why new
+  none_made p [] old trace stopped new before ran stops = absurd stops
+  none_made p (y ∷ ys) old trace stopped new before ran stops =
+      let x : Step T = step.Step p in
+      let r = ran before.scene before.stands in
+      let m : Moment T = moment_of old before.scene in
+      let f = first_of x y r.made ys r.first in
+      let no : trace ≡ [] = none m trace r.moments (subst (λ (l : List (Step T)). IsRun m l trace r.moments) f.0 r.run) in
+      let same : RanTo (x ∷ []) (x ∷ []) old trace new = subst (λ (l : List (Step T)). RanTo (x ∷ []) l old trace new) f.1 ran in
+      let it : y ≡ x = cc f.1 in
+      record {
+        ran = subst (λ (l : List (Entry T)). RanTo (x ∷ []) (x ∷ []) old l new) no same;
+        reason = subst (λ (z : Step T). MayRefuse (book_of new) z stopped.why) it stops.1;
+      }
+
+  -- ---- the run so far
+
+  pub silent_more : (es : List (Entry T)) (e : Entry T) → AreSilent es → e.reply ≡ None → AreSilent (es ++ e ∷ [])
+  silent_more [] e h k = (k, tt)
+  silent_more (f ∷ es) e h k = (h.0, silent_more es e h.1 k)
+
+  pub silent_ends : (es : List (Entry T)) (stopped : Option Stopped) → AreSilent es → EndsWithAnswer es stopped
+  silent_ends [] stopped h = tt
+  silent_ends (e ∷ es) stopped h = (rw h.0 tt, silent_ends es stopped h.1)
+
+  pub answer_ends : (es : List (Entry T)) (e : Entry T) → AreSilent es → EndsWithAnswer (es ++ e ∷ []) None
+  answer_ends [] e h = (every e.reply (refl, refl), tt)
+  answer_ends (f ∷ es) e h = (rw h.0 tt, answer_ends es e h.1)
+
+  silent_of : (o : Option (Reply T)) → false ≡ is_some o → o ≡ None
+  silent_of None e = refl
+  silent_of (Some r) e = absurd (cc e)
+
+  pub not_silent : (es : List (Entry T)) (e : Entry T) → true ≡ is_some e.reply → AreSilent (es ++ e ∷ []) → ⊥
+  not_silent [] e t h = cc (t ∙ ap (λ (o : Option (Reply T)). is_some o) h.0)
+  not_silent (f ∷ es) e t h = not_silent es e t h.1
+
+  -- one more step of the party
+  pub party_more : (p : PartyId) (n : ℕ) (f : Floor T) (trace : List (Entry T)) (g : Floor T) (answered : Bool) (after : List (Entry T))
+      (h : Floor T) → RanTo (replicate n (step.Step p)) [] f trace g → StepsOnce p g trace answered after h
+      → RanTo (replicate (n + 1) (step.Step p)) [] f after h
+  party_more p n f trace g answered after h so_far once =
+      let x : Step T = step.Step p in
+      let both : RanTo (replicate n x ++ x ∷ []) [] f (trace ++ once.entry ∷ []) h =
+      ran_on (replicate n x) (x ∷ []) [] f g h trace (once.entry ∷ []) so_far once.ran in
+      subst (λ (l : List (Step T)). RanTo l [] f after h) (replicate_more n x)
+      (subst (λ (t : List (Entry T)). RanTo (replicate n x ++ x ∷ []) [] f t h) (sym once.written) both)
+
+  pub once_silent : (p : PartyId) (g : Floor T) (trace : List (Entry T)) (after : List (Entry T)) (h : Floor T)
+      → (once : StepsOnce p g trace false after h) → once.entry.reply ≡ None
+  once_silent p g trace after h once = silent_of once.entry.reply once.told
+
+  -- ---- the end of the run
+
+  pub record Ended (p : PartyId) (f : Floor T) (trace : List (Entry T)) (stopped : Option Stopped) (h : Floor T) : Type 0 where
+    pub ran : RanTo (replicate (asked trace stopped) (step.Step p)) (refused_of p stopped) f trace h
+    pub stops : Stops (book_of h) (refused_of p stopped) (length trace) stopped
+
+  pub ended_well : (p : PartyId) (n : ℕ) (f : Floor T) (trace : List (Entry T)) (h : Floor T) → length trace ≡ n
+      → RanTo (replicate n (step.Step p)) [] f trace h → Ended p f trace None h
+  ended_well p n f trace h count so_far = record {
+    ran = subst (λ (k : ℕ). RanTo (replicate k (step.Step p)) [] f trace h) (sym count) so_far;
+    stops = refl;
+  }
+
+  pub ended_refused : (p : PartyId) (n : ℕ) (f : Floor T) (trace : List (Entry T)) (g h : Floor T) (why : WorldRefusal)
+      (made : List (Entry T)) (stopped : Option Stopped) (place : ℕ) → length trace ≡ n
+      → RanTo (replicate n (step.Step p)) [] f trace g → RanTo (step.Step p ∷ []) (step.Step p ∷ []) g [] h
+      → MayRefuse (book_of h) (step.Step p) why → made ≡ trace → stopped ≡ Some (record { place = place; why = why })
+      → place ≡ length trace → Ended p f made stopped h
+  ended_refused p n f trace g h why made stopped place count so_far one reason same stop at =
+      let x : Step T = step.Step p in
+      let both : RanTo (replicate n x ++ x ∷ []) (x ∷ []) f (trace ++ []) h =
+      ran_on (replicate n x) (x ∷ []) (x ∷ []) f g h trace [] so_far one in
+      let steps : replicate n x ++ x ∷ [] ≡ replicate (length trace + 1) x =
+      replicate_more n x ∙ ap (λ (k : ℕ). replicate (k + 1) x) (sym count) in
+      let ran : RanTo (replicate (length trace + 1) x) (x ∷ []) f trace h =
+      subst (λ (l : List (Step T)). RanTo l (x ∷ []) f trace h) steps
+      (subst (λ (t : List (Entry T)). RanTo (replicate n x ++ x ∷ []) (x ∷ []) f t h) (append-nil trace) both) in
+      subst (λ (o : Option Stopped). Ended p f made o h) (sym stop)
+      (subst (λ (t : List (Entry T)). Ended p f t (Some (record { place = place; why = why })) h) (sym same)
+      (record { ran = ran; stops = (at, reason) }))

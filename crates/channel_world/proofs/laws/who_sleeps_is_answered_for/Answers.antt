@@ -1,0 +1,20 @@
+-- From what is owed to who sleeps, since no name stands twice.
+use Rattle.channel_world.proofs.SleepFacts.{receives_answered, sends_answered, streams_answered, closing_answered, no_receive_beside_a_message, no_stream_beside_a_message, no_send_beside_a_place, nobody_on_a_closed, all_awake}
+use Rattle.channel_world.proofs.laws.who_sleeps_is_answered_for.Goals as goal
+
+pub returns : goal.returns
+returns g c =
+    let w = c.args.world.now in
+    let k = c.keeps.ensures in
+    let apart = c.keeps_names.ensures.apart in
+    record {
+      receives = receives_answered w k apart;
+      sends = sends_answered w k apart;
+      streams = streams_answered w k apart;
+      closing = closing_answered w k apart;
+      receive_beside = no_receive_beside_a_message w k apart;
+      stream_beside = no_stream_beside_a_message w k apart;
+      beside_a_place = no_send_beside_a_place w k apart;
+      on_a_closed = nobody_on_a_closed w k apart;
+      awake = all_awake w k apart;
+    }

@@ -1,0 +1,18 @@
+use Rattle.std.proofs.Common.{◌≡◌, ◌<◌, [], length, replicate, None}
+use Rattle.channel_interleaving.specs.Floor.{Stands}
+use Rattle.channel_interleaving.specs.Refusal.{step_refusal}
+use Rattle.channel_interleaving.specs.Runs.{RanTo}
+use Rattle.channel_interleaving.specs.declared.step.Step.TheVariants as step
+use Rattle.channel_world.specs.PartyRun.{AreSilent}
+use Rattle.channel_world.proofs.world.World.run_party.Given as goal
+
+abbrev pub invariant-loop-made : goal.invariant-loop-made
+invariant-loop-made g l = record {
+  count : length l.trace.items ≡ l._made;
+  ran : RanTo (replicate l._made (step.Step l.party)) [] l.fn.self l.trace.items l.self;
+  silent : AreSilent l.trace.items;
+  at_work : 0 < length l.trace.items → step_refusal l.self.roll l.self.agents.items (step.Step l.party) ≡ None;
+  unmoved : length l.trace.items ≡ 0 → l.self ≡ l.fn.self;
+  stands : Stands l.self;
+  empty : l.steps.items ≡ [];
+}

@@ -1,0 +1,119 @@
+-- What leaves and what comes on any way from one scene to another, by runs of steps, lists of calls and settlings in turn: message by
+-- message, each with the party whose call brought it; in which order they leave, and what becomes of a refused one.
+use Rattle.std.specs.Prelude.{◌≡◌, ℕ, ◌<◌, List, [], ◌∷◌, ◌++◌, map, length, slice_get, Some, Err}
+use Rattle.futures.specs.declared.task.Poll.TheVariants.{Ready, Pending}
+use Rattle.channel_calls.specs.Errors.{unsent, handed_back, try_handed_back}
+use Rattle.channel_calls.specs.declared.ask.ChannelAsk.{ChannelAsk}
+use Rattle.channel_calls.specs.declared.ask.ChannelAsk.TheVariants as ask
+use Rattle.channel_calls.specs.declared.error.Refused.TheVariants as refused
+use Rattle.channel_calls.specs.declared.reply.Reply.{Reply}
+use Rattle.channel_calls.specs.declared.reply.Reply.TheVariants as reply
+use Rattle.channel_calls.specs.declared.stage.Kept.{Kept}
+use Rattle.channel_model.specs.State.{State}
+use Rattle.channel_model.specs.declared.name.Waiter.{Waiter}
+use Rattle.channel_steps.specs.Moments.{Deed, with_deed}
+use Rattle.channel_steps.specs.Run.{Next}
+use Rattle.channel_steps.specs.Scene.{Scene, came_by, gone_by}
+use Rattle.channel_steps.specs.declared.party.Entry.{Entry as ChannelEntry}
+use Rattle.channel_steps.specs.declared.run.Step.{Step as ChannelStep}
+use Rattle.channel_steps.specs.declared.run.Step.TheVariants as step
+use Rattle.channel_interleaving.specs.Floor.{IsQuiet, Led, StandsIn}
+use Rattle.channel_interleaving.specs.Way.{Pace, IsWay}
+use Rattle.channel_interleaving.specs.declared.floor.Floor.{Floor}
+use Rattle.channel_world.specs.World.{at_rest}
+
+module _ {T : Type 0} where
+  -- ---- one step
+
+  -- what it lets in, with the party whose call brought it
+  abbrev pub let_in : (s : Scene T Waiter) (x : ChannelStep T Waiter) (e : ChannelEntry T) (names : List Waiter) (t : Scene T Waiter)
+      → Next s x e names t → List (ℕ × T)
+  let_in s (step.Begin p a) e names t n = []
+  let_in s (step.Step p) e names t n = map (λ m. (p, m)) (came_by e.mark n.mine.ask)
+
+  -- what it takes out
+  abbrev pub let_out : (s : Scene T Waiter) (x : ChannelStep T Waiter) (e : ChannelEntry T) (names : List Waiter) (t : Scene T Waiter)
+      → Next s x e names t → List T
+  let_out s (step.Begin p a) e names t n = []
+  let_out s (step.Step p) e names t n = gone_by e.mark s.now.queue.items
+
+  -- A call that asks this and refuses its message with this reply, or goes on waiting with it, has made no mark, so it let nothing
+  -- in; and the message is handed back, or left to its operation.
+  abbrev pub KeepsItOut : ChannelAsk T Waiter → List (Deed T Waiter) → Reply T → Kept T → Type 0
+  KeepsItOut (ask.TrySend m) ds (reply.TrySend (Err e)) k = (ds ≡ []) × (try_handed_back e ≡ m)
+  KeepsItOut (ask.ForceSend m) ds (reply.ForceSend (Err e)) k = (ds ≡ []) × (handed_back e ≡ m)
+  KeepsItOut (ask.PollSend m key task) ds (reply.SendPoll (Ready (Err (refused.Plain e)))) k = (ds ≡ []) × (unsent e ≡ m)
+  KeepsItOut (ask.PollSend m key task) ds (reply.SendPoll (Ready (Err (refused.NoMemory u)))) k = (ds ≡ []) × (k.message ≡ Some m)
+  KeepsItOut (ask.PollSend m key task) ds (reply.SendPoll (Ready (Err (refused.SerialsUsedUp u)))) k = (ds ≡ []) × (k.message ≡ Some m)
+  KeepsItOut (ask.PollSend m key task) ds (reply.SendPoll Pending) k = (ds ≡ []) × (k.message ≡ Some m)
+  KeepsItOut (ask.RefusePoll line message key) ds r k = (ds ≡ []) × (k.message ≡ message)
+  KeepsItOut a ds r k = Unit {0}
+
+  -- so it is of a step that ends its call
+  abbrev pub EndsWithItOut : (s : Scene T Waiter) (x : ChannelStep T Waiter) (e : ChannelEntry T) (names : List Waiter) (t : Scene T Waiter)
+      → Next s x e names t → Type 0
+  EndsWithItOut s (step.Begin p a) e names t n = Unit {0}
+  EndsWithItOut s (step.Step p) e names t n =
+      (r : Reply T) → e.reply ≡ Some r
+      → (k : Kept T) × (e.kept ≡ Some k) × KeepsItOut n.mine.ask (with_deed n.mine.deeds e.mark s.now n.mine.seen) r k
+
+  -- ---- a way
+
+  -- what came on it, in order
+  abbrev pub brought_on : (s : Scene T Waiter) (xs : List (Pace T)) (t : Scene T Waiter) → IsWay s xs t → List (ℕ × T)
+  brought_on s [] t w = []
+  brought_on s (x ∷ xs) t w = let_in s x.step x.entry x.woken w.0 w.1 ++ brought_on w.0 xs t w.2
+
+  -- what left, in order
+  abbrev pub left_on : (s : Scene T Waiter) (xs : List (Pace T)) (t : Scene T Waiter) → IsWay s xs t → List T
+  left_on s [] t w = []
+  left_on s (x ∷ xs) t w = let_out s x.step x.entry x.woken w.0 w.1 ++ left_on w.0 xs t w.2
+
+  -- what was held at first, and after it what came
+  abbrev pub accepted_on : (s : Scene T Waiter) (xs : List (Pace T)) (t : Scene T Waiter) → IsWay s xs t → List T
+  accepted_on s xs t w = s.now.queue.items ++ map (λ (m : ℕ × T). m.1) (brought_on s xs t w)
+
+  -- each refused send of it
+  abbrev pub EachKeepsItOut : (s : Scene T Waiter) (xs : List (Pace T)) (t : Scene T Waiter) → IsWay s xs t → Type 0
+  EachKeepsItOut s [] t w = Unit {0}
+  EachKeepsItOut s (x ∷ xs) t w = EndsWithItOut s x.step x.entry x.woken w.0 w.1 × EachKeepsItOut w.0 xs t w.2
+
+  -- ---- at rest
+
+  -- with no call under way a scene is the state of the model
+  pub record IsStateOf (s : Scene T Waiter) (t : State T) : Type 0 where
+    pub nobody : s.under_way ≡ []
+    pub messages : s.now.queue.items ≡ t.channel.messages
+    pub capacity : s.now.queue.capacity ≡ t.channel.capacity
+    pub closed : s.now.queue.closed ≡ t.channel.closed
+    pub senders : s.now.roster.senders ≡ t.channel.senders
+    pub receivers : s.now.roster.receivers ≡ t.channel.receivers
+
+  -- so is each in which the world stands
+  abbrev pub StandsAsItsState : Floor T → Type 0
+  StandsAsItsState w = IsQuiet w → (s : Scene T Waiter) → StandsIn w s → IsStateOf s (at_rest w)
+
+  -- what left since a scene, followed by the messages of the state, is what it held followed by what came
+  abbrev pub HasItsAccounts : Floor T → Type 0
+  HasItsAccounts w =
+      IsQuiet w → (s : Scene T Waiter) (replies : List (Reply T)) (led : Led s replies w)
+      → left_on s led.way.paces led.last led.way.is ++ (at_rest w).channel.messages ≡ accepted_on s led.way.paces led.last led.way.is
+
+-- What leaves as the n-th is what was held or came as the n-th.
+abbrev pub LeaveInTurn : Type 0 → Type 0
+LeaveInTurn T =
+    (s t : Scene T Waiter) (xs : List (Pace T)) (way : IsWay s xs t) (n : ℕ) → n < length (left_on s xs t way)
+    → slice_get (left_on s xs t way) n ≡ slice_get (accepted_on s xs t way) n
+
+-- So of two messages of which one came later, as of successive calls of one party, it has left only where the other one has, and
+-- as an earlier one.
+abbrev pub LaterLeavesLater : Type 0 → Type 0
+LaterLeavesLater T =
+    (s t : Scene T Waiter) (xs : List (Pace T)) (way : IsWay s xs t) (i j : ℕ) (first later : T) → i < j
+    → slice_get (accepted_on s xs t way) i ≡ Some first → slice_get (accepted_on s xs t way) j ≡ Some later
+    → j < length (left_on s xs t way)
+    → (slice_get (left_on s xs t way) i ≡ Some first) × (slice_get (left_on s xs t way) j ≡ Some later)
+
+-- No refused send lets its message in.
+abbrev pub RefusedIsKeptOut : Type 0 → Type 0
+RefusedIsKeptOut T = (s t : Scene T Waiter) (xs : List (Pace T)) (way : IsWay s xs t) → EachKeepsItOut s xs t way

@@ -1,0 +1,135 @@
+//! Steps of one party, up to the answer of its call.
+ghost use Rattle.std.specs.Prelude.{◌≡◌, ◌<◌, Some, IsTrue, vec_len, vec_capacity};
+ghost use Rattle.std.specs.VecDeque.{deque_len, deque_capacity};
+
+use super::call::{Stopped, WorldRefusal};
+use super::step::{Entry, PartyId, Run, Step};
+use super::world::World;
+use event_listener::error::NoMemory;
+use std::collections::VecDeque;
+
+/// What was done before a refused step.
+fn stopped<T: Drop>(trace: Vec<Entry<T>>, why: WorldRefusal) -> Run<T>
+    ensures trace { result.trace ≡ trace }
+    ensures stopped { result.stopped ≡ Some (record { place = vec_len trace; why = why }) }
+{
+    let place = trace.len();
+    Run {
+        trace,
+        stopped: Some(Stopped { place, why }),
+    }
+}
+
+/// Takes room for one more step and for its entry, if there is any.
+fn have_room<T: Drop>(steps: &mut VecDeque<Step<T>>, trace: &mut Vec<Entry<T>>) -> bool
+    ensures steps { steps.new.items ≡ steps.old.items }
+    ensures trace { trace.new.items ≡ trace.old.items }
+    ensures of_steps { IsTrue result → deque_len steps.new < deque_capacity steps.new }
+    ensures of_trace { IsTrue result → vec_len trace.new < vec_capacity trace.new }
+{
+    steps.reserve(1).is_ok() && trace.reserve(1).is_ok()
+}
+
+impl<T: Drop> World<T> {
+    ghost use Rattle.std.specs.Prelude.{◌≡◌, ◌≤◌, ◌<◌, ◌+◌, List, [], ◌++◌, replicate, vec_len, vec_capacity, None, IfOk, IfErr, OnErr};
+    ghost use Rattle.std.specs.VecDeque.{deque_len, deque_capacity};
+    ghost use Rattle.channel_calls.specs.declared.reply.Reply.{Reply};
+    ghost use Rattle.channel_model.specs.declared.name.Waiter.{Waiter};
+    ghost use Rattle.channel_steps.specs.Scene.{Scene};
+    ghost use Rattle.channel_interleaving.specs.Floor.{messages_in, Led, LeadsOn, Stands, StandsIn};
+    ghost use Rattle.channel_interleaving.specs.Runs.{accepted_in, left_in};
+    ghost use Rattle.channel_interleaving.specs.Way.{replies_in};
+    ghost use Rattle.channel_world.specs.Headline.{Headline};
+    ghost use Rattle.channel_world.specs.PartyRun.{asked, refused_of, AreSilent, EndsWithAnswer, IsRefused, StepsOnce};
+
+    /// Makes one step of this party in the room that was taken, and says whether its call answered; or why the step is refused.
+    fn step_party(
+        &mut self,
+        party: PartyId,
+        steps: &mut VecDeque<Step<T>>,
+        trace: &mut Vec<Entry<T>>,
+    ) -> Result<bool, WorldRefusal>
+        requires empty { steps.old.items ≡ [] }
+        requires of_steps { deque_len steps.old < deque_capacity steps.old }
+        requires of_trace { vec_len trace.old < vec_capacity trace.old }
+        ensures made { IfOk result (λ answered. StepsOnce party self.old trace.old.items answered trace.new.items self.new) }
+        ensures refused { IfErr result (λ why. IsRefused party self.old trace.old.items why trace.new.items self.new) }
+        ensures empty { steps.new.items ≡ [] }
+        ensures stands { Stands self.new }
+    {
+        self.steps.keeps();
+        steps.push_back_reserved(Step::Step { party });
+        let Run {
+            trace: mut made,
+            stopped,
+        } = self.steps.run_steps(steps);
+        steps.clear();
+        if let Some(Stopped { place: _, why }) = stopped {
+            return Err(why);
+        }
+        match made.pop() {
+            Some(entry) => {
+                let answered = entry.reply.is_some();
+                trace.push_reserved(entry);
+                Ok(answered)
+            }
+            None => unreachable!(),
+        }
+    }
+
+    /// Runs steps of one party, so many at most, up to the one in which its call answers; for whoever doesn't want to count the
+    /// steps of a call. A call that begins is one step of [`World::run_steps`], and is not made here.
+    ///
+    /// It is `run_steps` of a list of so many steps of this party, with the same trace, an entry for each step, and all that is
+    /// promised of that. No step is asked for after the one that answers, which is the last entry then. There are fewer than
+    /// `most` only where the call answered, or where a step was refused: `stopped` says after how many and why. So after `most`
+    /// steps without a reply its call is still under way, and a further run goes on with it.
+    ///
+    /// A party with no call under way is refused as `Idle`, also one whose name is not known; nothing is done then. Else a step is
+    /// refused only for want of memory, `NoMemory`, with nothing of it done: its call is under way still. The positions of messages
+    /// can't be used up here, since a send is refused for them as it begins. Room for the first step is taken before anything else;
+    /// where that is refused it is `Err(NoMemory)`, whether the party has a call under way or not, and nothing is changed. Nothing
+    /// waits. Own to this project.
+    pub fn run_party(&mut self, party: PartyId, most: usize) -> Result<Run<T>, NoMemory>
+        ensures headline { IfOk result (λ run. (s : Scene T Waiter) → StandsIn self.old s → Headline
+            (replicate (asked run.trace.items run.stopped) (Step.Step party)) (refused_of party run.stopped)
+            self.old run.trace.items run.stopped self.new s) }
+        ensures within { IfOk result (λ run. asked run.trace.items run.stopped ≤ most) }
+        ensures answered { IfOk result (λ run. EndsWithAnswer run.trace.items run.stopped) }
+        ensures short { IfOk result (λ run. run.stopped ≡ None → AreSilent run.trace.items → vec_len run.trace ≡ most) }
+        ensures leads { IfOk result (λ run. LeadsOn self.old (replies_in run.trace.items) self.new) }
+        ensures carries { IfOk result (λ run. (s : Scene T Waiter) (replies : List (Reply T)) → Led s replies self.old
+            → Led s (replies ++ replies_in run.trace.items) self.new) }
+        ensures messages { IfOk result (λ run. messages_in self.new + left_in run.trace.items
+            ≡ messages_in self.old + accepted_in run.trace.items) }
+        ensures unchanged { OnErr result (self.new ≡ self.old) }
+        ensures stands { Stands self.new }
+    {
+        self.keeps();
+        let mut steps = VecDeque::new(self.alloc());
+        let mut trace = Vec::new(self.alloc());
+        for _made in 0..most {
+            if !have_room(&mut steps, &mut trace) {
+                if trace.is_empty() {
+                    return Err(NoMemory);
+                }
+                return Ok(stopped(trace, WorldRefusal::NoMemory));
+            }
+            match self.step_party(party, &mut steps, &mut trace) {
+                Ok(answered) => {
+                    if answered {
+                        return Ok(Run {
+                            trace,
+                            stopped: None,
+                        });
+                    }
+                }
+                Err(why) => return Ok(stopped(trace, why)),
+            }
+        }
+        Ok(Run {
+            trace,
+            stopped: None,
+        })
+    }
+}

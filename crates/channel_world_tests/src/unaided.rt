@@ -1,0 +1,62 @@
+//! Clients of a world whose promises follow from its own clauses and laws, in the numbers that it tells, with no file of proofs
+//! here. They are proved; nothing runs them.
+
+ghost use Rattle.std.specs.Prelude.{◌≡◌, ◌+◌, ◌≤◌, [], length, None, true, IfOk, IfSome, vec_len};
+ghost use Rattle.channel_calls.specs.declared.stage.Line.TheVariants.{Receives, Streams};
+ghost use Rattle.channel_interleaving.specs.Floor.{IsQuiet};
+ghost use Rattle.channel_world.specs.Asleep.{NobodySleeps};
+ghost use Rattle.channel_world.specs.World.{at_rest};
+
+use crate::clients::Settling;
+use channel_world::laws::who_sleeps_is_answered_for;
+use channel_world::step::{Run, Step};
+use channel_world::world::World;
+use std::collections::VecDeque;
+
+/// Makes steps in whatever world: where the run did not stop, the list of steps is used up; and where it did, its place says how many
+/// were made.
+pub fn use_up<T: Drop>(world: &mut World<T>, steps: &mut VecDeque<Step<T>>) -> Run<T>
+    ensures used_up { result.stopped ≡ None → steps.new.items ≡ [] }
+    ensures place { IfSome result.stopped (λ s. s.place ≡ vec_len result.trace) }
+{
+    world.run_steps(steps)
+}
+
+/// Makes steps in whatever world, and says how many: they and those that are left are all.
+pub fn make<T: Drop>(world: &mut World<T>, steps: &mut VecDeque<Step<T>>) -> usize
+    ensures { result + length steps.new.items ≡ length steps.old.items }
+{
+    let run = world.run_steps(steps);
+    run.trace.len()
+}
+
+/// Settles whatever world has no call under way, and says whether a message is held after it: then nobody receives in vain.
+pub fn settle_and_look<T: Drop>(world: &mut World<T>) -> bool
+    requires { IsQuiet world.old }
+    ensures { result ≡ true → (at_rest world.new).waiting.receives ≡ [] }
+{
+    let Ok(_polls) = world.settle() else {
+        return false;
+    };
+    world.messages() > 0
+}
+
+/// Settles whatever world has no call under way: where one is pending, it makes one poll at most.
+pub fn settle_one<T: Drop>(world: &mut World<T>) -> Settling<T>
+    requires { IsQuiet world.old }
+    ensures { IfOk result.polls (λ polls. result.pending ≡ 1 → vec_len polls ≤ 1) }
+{
+    let pending = world.pending();
+    let polls = world.settle();
+    Settling { pending, polls }
+}
+
+/// Looks at whatever world, and says whether it holds a message while nobody is under way and nobody is woken: then nobody sleeps
+/// beside it.
+pub fn nobody_sleeps<T: Drop>(world: &World<T>) -> bool
+    ensures receives { result ≡ true → NobodySleeps Receives world.now }
+    ensures streams { result ≡ true → NobodySleeps Streams world.now }
+{
+    who_sleeps_is_answered_for(world);
+    world.under_way() == 0 && world.woken() == 0 && world.messages() > 0
+}
