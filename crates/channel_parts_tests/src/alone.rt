@@ -9,7 +9,7 @@ use crate::checks::{expect_equal, expect_true};
 use crate::names::{Names, no_names};
 use crate::said::{Said, answer_of};
 use channel_alone::run::run_alone;
-use channel_calls::ask::ChannelAsk;
+use channel_calls::ask::{ChannelAsk, lent, woken};
 use channel_calls::plain::PlainChannel;
 use channel_calls::stage::{Line, Side};
 use concurrent_queue::cells::QueueForm;
@@ -91,8 +91,8 @@ fn messages_go_in_and_out(rt: HostRuntime) -> Result<(), Fail> {
 #[test]
 fn those_who_wait_are_told_in_order(rt: HostRuntime) -> Result<(), Fail> {
     let mut all = make_alone(&rt)?;
-    let (first, first_key) = all.poll(ChannelAsk::PollRecv(None, 1));
-    let (second, second_key) = all.poll(ChannelAsk::PollRecv(None, 2));
+    let (first, first_key) = all.poll(ChannelAsk::PollRecv(lent(None), 1));
+    let (second, second_key) = all.poll(ChannelAsk::PollRecv(lent(None), 2));
     let (stream, stream_key) = all.poll(ChannelAsk::PollNext(None, 3));
     let sent = all.call(ChannelAsk::TrySend(5));
     let by_the_send = all.names.woken.len();
@@ -100,7 +100,7 @@ fn those_who_wait_are_told_in_order(rt: HostRuntime) -> Result<(), Fail> {
     let refused = all.call(refuse);
     let by_the_refusal = all.names.woken.len();
     let next = all.call(ChannelAsk::PollNext(stream_key, 3));
-    let (last, last_key) = all.poll(ChannelAsk::PollRecv(second_key, 2));
+    let (last, last_key) = all.poll(ChannelAsk::PollRecv(lent(second_key), 2));
     let Alone { channel, names } = all;
     drop(channel);
     expect_equal(&rt, &names.woken.as_slice(), &[1, 3, 2].as_slice());
@@ -126,16 +126,37 @@ fn those_who_wait_are_told_in_order(rt: HostRuntime) -> Result<(), Fail> {
 }
 
 #[test]
+fn a_woken_poll_asks_its_listener_first(rt: HostRuntime) -> Result<(), Fail> {
+    let mut all = make_alone(&rt)?;
+    let (_, first_key) = all.poll(ChannelAsk::PollRecv(lent(None), 1));
+    let (_, second_key) = all.poll(ChannelAsk::PollRecv(lent(None), 2));
+    let sent = all.call(ChannelAsk::TrySend(5));
+    let (Some(told), Some(waits)) = (first_key, second_key) else {
+        return Err(Fail::new(format_args!("a poll left no listener")));
+    };
+    let (beside, kept) = all.poll(ChannelAsk::PollRecv(woken(waits), 2));
+    let (received, gone) = all.poll(ChannelAsk::PollRecv(woken(told), 1));
+    drop(all);
+    expect_equal(
+        &rt,
+        &[sent, beside, received],
+        &[Said::Sent(None), Said::Pending, Said::Received(5)],
+    );
+    expect_equal(&rt, &[kept.is_some(), gone.is_some()], &[true, false]);
+    Ok(())
+}
+
+#[test]
 fn a_full_channel_keeps_the_message_of_a_send(rt: HostRuntime) -> Result<(), Fail> {
     let mut all = make_alone(&rt)?;
-    let sent = all.call(ChannelAsk::PollSend(1, None, 1));
-    let (second, second_key) = all.poll(ChannelAsk::PollSend(2, None, 2));
-    let (third, third_key) = all.poll(ChannelAsk::PollSend(3, None, 3));
+    let sent = all.call(ChannelAsk::PollSend(1, lent(None), 1));
+    let (second, second_key) = all.poll(ChannelAsk::PollSend(2, lent(None), 2));
+    let (third, third_key) = all.poll(ChannelAsk::PollSend(3, lent(None), 3));
     let received = all.call(ChannelAsk::TryRecv);
     let by_the_receive = all.names.woken.len();
     let give_up = ChannelAsk::GiveUp(Line::Sends, Some(2), second_key);
     let given_up = all.call(give_up);
-    let last = all.call(ChannelAsk::PollSend(3, third_key, 3));
+    let last = all.call(ChannelAsk::PollSend(3, lent(third_key), 3));
     let Alone { channel, names } = all;
     drop(channel);
     expect_equal(&rt, &names.woken.as_slice(), &[2, 3].as_slice());
@@ -160,8 +181,8 @@ fn a_closed_channel_refuses(rt: HostRuntime) -> Result<(), Fail> {
     let answers = [
         all.call(ChannelAsk::Close),
         all.call(ChannelAsk::Close),
-        all.call(ChannelAsk::PollSend(3, None, 3)),
-        all.call(ChannelAsk::PollRecv(None, 4)),
+        all.call(ChannelAsk::PollSend(3, lent(None), 3)),
+        all.call(ChannelAsk::PollRecv(lent(None), 4)),
     ];
     drop(all);
     expect_equal(
@@ -284,7 +305,7 @@ fn an_unbounded_channel_keeps_a_listener(rt: HostRuntime) -> Result<(), Fail> {
     let mut channel = at_rest(QueueForm::Unbounded, rt.alloc())?;
     let mut names = no_names(&rt);
     let mut messages = 0;
-    let ask = ChannelAsk::PollRecv(None, 1);
+    let ask = ChannelAsk::PollRecv(lent(None), 1);
     let done = run_alone(ask, &mut channel, &mut messages, &mut names);
     let (answer, key) = (answer_of(done.reply), done.kept.key);
     drop(channel);

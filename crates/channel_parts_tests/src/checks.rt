@@ -12,3 +12,8 @@ pub fn expect_equal<A: Abort, T: PartialEq + Debug>(rt: &A, found: &T, wanted: &
 pub fn expect_true<A: Abort>(rt: &A, it: bool) {
     assert!(rt; it);
 }
+
+/// Ends the test where something is found, and shows at what and what.
+pub fn expect_none<A: Abort, S: Debug, T: Debug>(rt: &A, place: &S, found: &Option<T>) {
+    assert!(rt; found.is_none(), "{place:?}: {found:?}");
+}

@@ -1,7 +1,8 @@
 //! What a call answered, as a value that can be copied, so that a test notes all answers and compares them at its end.
 
-use channel_calls::error::{Refused, TryRecvError, TrySendError};
+use channel_calls::error::{Refused, SendError, TryRecvError, TrySendError};
 use channel_calls::reply::Reply;
+use channel_calls::several::Messages;
 use futures::task::Poll;
 
 /// What a call answered, in short.
@@ -19,6 +20,8 @@ pub(crate) enum Said {
     Closed(Option<u64>),
     /// This message was received.
     Received(u64),
+    /// These two messages were received at once.
+    Several(u64, u64),
     /// The channel is empty.
     Empty,
     /// The poll is pending.
@@ -60,12 +63,32 @@ fn received(reply: Result<u64, TryRecvError>) -> Said {
     }
 }
 
+fn received_many(messages: &Messages<u64>) -> Said {
+    match messages.as_slice() {
+        [message] => Said::Received(*message),
+        [first, second] => Said::Several(*first, *second),
+        _ => Said::Else,
+    }
+}
+
+/// What a send is in short that blocks its thread.
+pub(crate) fn sent_blocking(reply: Result<(), Refused<SendError<u64>, u64>>) -> Said {
+    match reply {
+        Ok(()) => Said::Sent(None),
+        Err(Refused::Plain(refused)) => Said::Closed(Some(refused.0)),
+        Err(_) => Said::Refused,
+    }
+}
+
 /// What this reply is in short.
 pub(crate) fn answer_of(reply: Reply<u64>) -> Said {
     match reply {
         Reply::TrySend(reply) => sent(reply),
         Reply::ForceSend(Ok(displaced)) => Said::Sent(displaced),
+        Reply::ForceSend(Err(Refused::Plain(refused))) => Said::Closed(Some(refused.0)),
         Reply::TryRecv(reply) => received(reply),
+        Reply::RecvMany(Ok(messages)) => received_many(&messages),
+        Reply::RecvMany(Err(Refused::Plain(refused))) => received(Err(refused)),
         Reply::SendPoll(Poll::Ready(Ok(()))) => Said::Sent(None),
         Reply::SendPoll(Poll::Ready(Err(Refused::Plain(refused)))) => {
             Said::Closed(Some(refused.0))
@@ -74,6 +97,7 @@ pub(crate) fn answer_of(reply: Reply<u64>) -> Said {
         Reply::RecvPoll(Poll::Ready(Err(Refused::Plain(_)))) => Said::Closed(None),
         Reply::RecvPoll(Poll::Ready(Err(Refused::NoMemory(())))) => Said::Refused,
         Reply::Next(Poll::Ready(Some(Ok(message)))) => Said::Received(message),
+        Reply::Next(Poll::Ready(None)) => Said::Closed(None),
         Reply::ClosedPoll(Poll::Ready(Ok(()))) => Said::Ended,
         Reply::SendPoll(Poll::Pending)
         | Reply::RecvPoll(Poll::Pending)

@@ -5,7 +5,7 @@ ghost use Rattle.channel_calls.specs.Plain.{parts_of};
 use crate::checks::{expect_equal, expect_true};
 use crate::names::Names;
 use crate::said::{Said, answer_of};
-use channel_calls::ask::ChannelAsk;
+use channel_calls::ask::{ChannelAsk, lent};
 use channel_calls::cells::ChannelCells;
 use channel_calls::mark::Mark;
 use channel_calls::plain::PlainChannel;
@@ -169,7 +169,7 @@ fn in_short(entry: Option<Entry<u64>>) -> (Said, Option<Key>) {
 fn a_message_between_two_tries_is_taken(rt: HostRuntime) -> Result<(), Fail> {
     let mut all = make_fixture(one_slot(rt.alloc())?, rt.alloc());
     let answers = [
-        all.begin(0, ChannelAsk::PollRecv(None, 7), 2).0,
+        all.begin(0, ChannelAsk::PollRecv(lent(None), 7), 2).0,
         all.begin(1, ChannelAsk::TrySend(5), 3).0,
         all.go_on(0, 5).0,
         all.go_on(1, 2).0,
@@ -195,7 +195,7 @@ fn a_message_between_two_tries_is_taken(rt: HostRuntime) -> Result<(), Fail> {
 #[test]
 fn a_pending_receive_is_woken_after_the_push(rt: HostRuntime) -> Result<(), Fail> {
     let mut all = make_fixture(one_slot(rt.alloc())?, rt.alloc());
-    let pending = all.begin(0, ChannelAsk::PollRecv(None, 7), 4).0;
+    let pending = all.begin(0, ChannelAsk::PollRecv(lent(None), 7), 4).0;
     let pushed = all.begin(1, ChannelAsk::TrySend(5), 3).0;
     let before = (all.names.woken.len(), under_way(&all.parties));
     let told = all.go_on(1, 1).0;
@@ -218,15 +218,17 @@ fn a_pending_receive_is_woken_after_the_push(rt: HostRuntime) -> Result<(), Fail
 fn a_taking_wakes_the_send_that_still_waits(rt: HostRuntime) -> Result<(), Fail> {
     let mut all = make_fixture(one_slot(rt.alloc())?, rt.alloc());
     let sent = all.begin(0, ChannelAsk::TrySend(1), 5).0;
-    let (first, first_key) = all.begin(1, ChannelAsk::PollSend(2, None, 2), 4);
-    let (second, second_key) = all.begin(2, ChannelAsk::PollSend(3, None, 3), 4);
+    let (first, first_key) = all.begin(1, ChannelAsk::PollSend(2, lent(None), 2), 4);
+    let (second, second_key) = all.begin(2, ChannelAsk::PollSend(3, lent(None), 3), 4);
     let taking = all.begin(3, ChannelAsk::TryRecv, 3).0;
     let give_up = ChannelAsk::GiveUp(Line::Sends, Some(2), first_key);
     let given_up = all.begin(1, give_up, 1).0;
     let before = all.names.woken.len();
     let received = all.go_on(3, 1).0;
     let woken = (all.names.woken.len(), all.names.woken.first().copied());
-    let last = all.begin(2, ChannelAsk::PollSend(3, second_key, 3), 6).0;
+    let last = all
+        .begin(2, ChannelAsk::PollSend(3, lent(second_key), 3), 6)
+        .0;
     let quiet = is_quiet(&all.parties);
     drop(all);
     expect_equal(
@@ -252,7 +254,7 @@ fn a_poll_that_may_not_listen_is_not_pending(rt: HostRuntime) -> Result<(), Fail
         channel: one_slot(rt.alloc())?,
     };
     let mut all = make_fixture(cells, rt.alloc());
-    let (refused, key) = all.begin(0, ChannelAsk::PollRecv(None, 7), 2);
+    let (refused, key) = all.begin(0, ChannelAsk::PollRecv(lent(None), 7), 2);
     let sent = all.begin(1, ChannelAsk::TrySend(5), 5).0;
     let woken = all.names.woken.len();
     let received = all.begin(2, ChannelAsk::TryRecv, 4).0;
