@@ -4,7 +4,7 @@
  * 32,768 bytes, and the last 24, which is refused. What comes then, up to the next of these or to the end, is the attempt; before
  * it the rest of a block of 65,536 may be taken, which leaves a hole. For each attempt a line is written to the file that
  * SEEN_REFUSALS names: how large the hole was, how many requests there were, and the number of the first one that was refused, or
- * 0. */
+ * 0. What is made with ample memory has no line. */
 #define _GNU_SOURCE
 #include <fcntl.h>
 #include <malloc.h>
@@ -12,13 +12,15 @@
 #include <stdlib.h>
 #include <unistd.h>
 
-enum { FILLER = 65536, SMALLEST = 24, LEAST_REST = 9000, LARGE = 100000 };
+enum { FILLER = 65536, SMALLEST = 24, LEAST_REST = 9000, LARGE = 100000, AMPLE = 48000 };
 
 static enum { ELSEWHERE, TAKING, TRYING } at;
 static size_t hole, requests, first_refused;
 
 static void tell(void)
 {
+    if (hole == AMPLE)
+        return;
     static int file = -1;
     const char *path = getenv("SEEN_REFUSALS");
     if (file < 0 && path)

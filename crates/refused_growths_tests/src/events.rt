@@ -19,6 +19,7 @@ use std::alloc::{AllocError, Global};
 use std::marker::Model;
 use std::sync::Wait;
 use std::test::Fail;
+use std::time::{Clock, Duration};
 
 /// How many listen.
 const COUNT: usize = 40;
@@ -90,21 +91,38 @@ fn listening(rt: HostRuntime) -> Result<(), Fail> {
     Ok(())
 }
 
-/// A told listener that waits. Where what it would sleep on is refused it comes back, told as before.
+/// A told listener that waits, for no time at all or without an end. Where what it would sleep on is refused it comes back, told as
+/// before.
 #[derive(Drop)]
-struct Waits<R: Wait + Copy> {
+struct Waits<R: Wait + Clock + Copy> {
     rt: R,
     event: Event<()>,
     listener: Option<EventListener<(), R>>,
+    is_timed: bool,
 }
 
-impl<R: Wait + Copy> Attempt for Waits<R> {
+/// Whether a wait gave the tag.
+fn wait<R: Wait + Clock + Copy>(
+    rt: R,
+    listener: EventListener<(), R>,
+    is_timed: bool,
+) -> Result<bool, WaitError<EventListener<(), R>>> {
+    if is_timed {
+        Ok(listener.wait_timeout(&rt, Duration::ZERO)?.is_some())
+    } else {
+        listener.wait()?;
+        Ok(true)
+    }
+}
+
+impl<R: Wait + Clock + Copy> Attempt for Waits<R> {
     fn make(&mut self) -> Tried {
         let Some(listener) = self.listener.take() else {
             return Tried::Wrong;
         };
-        match listener.wait() {
-            Ok(()) => made(self.event.total_listeners(&self.rt) == 0),
+        let left = usize::from(!self.is_timed);
+        match wait(self.rt, listener, self.is_timed) {
+            Ok(is_told) => made(is_told && self.event.total_listeners(&self.rt) == left),
             Err(WaitError::NoMemory(back)) => {
                 self.listener = Some(back);
                 refused(self.event.is_notified(&self.rt))
@@ -114,26 +132,32 @@ impl<R: Wait + Copy> Attempt for Waits<R> {
     }
 }
 
-fn wait_once<R: Wait + Copy>(rt: R, alloc: Global) -> Option<Seen> {
-    let event = Event::new(alloc, EventIds::new().next().ok()?);
-    let listener = event.listen(&rt).ok()?;
-    event.notify_additional(&rt, 1);
+/// Two listeners are told, and wait, first one without an end, and then the other for no time.
+fn wait_twice<R: Wait + Clock + Copy>(rt: R, alloc: Global) -> Option<Seen> {
     let mut waits = Waits {
         rt,
-        event,
-        listener: Some(listener),
+        event: Event::new(alloc, EventIds::new().next().ok()?),
+        listener: None,
+        is_timed: false,
     };
+    let first = waits.event.listen(&rt).ok()?;
+    let second = waits.event.listen(&rt).ok()?;
+    waits.event.notify_additional(&rt, 2);
     let mut scarcity = Scarcity::new(alloc);
+    waits.listener = Some(first);
+    scarcity.refuse_each(&mut waits);
+    waits.listener = Some(second);
+    waits.is_timed = true;
     scarcity.refuse_each(&mut waits);
     Some(scarcity.end())
 }
 
 /// A refused wait hands its listener back.
 #[test]
-fn a_told_listener_waits(rt: HostRuntime) -> Result<(), Fail> {
-    let seen = wait_once(rt, rt.alloc()).expect(&rt, "memory");
+fn told_listeners_wait(rt: HostRuntime) -> Result<(), Fail> {
+    let seen = wait_twice(rt, rt.alloc()).expect(&rt, "memory");
     assert!(rt;
-        seen.right && seen.calls == 1 && seen.refusals >= 1,
+        seen.right && seen.calls == 2 && seen.refusals >= 2,
         "{seen:?}"
     );
     Ok(())
@@ -232,8 +256,22 @@ impl Attempt for Reserves {
     }
 }
 
-/// So many are inserted, room for a hundred more is made, and a hundred are inserted with no memory at hand. Then how many there are,
-/// and how many a notice for five told.
+/// Notices of plain counts for listeners of a list.
+#[derive(Drop)]
+struct Tellings {
+    list: List<(), u32>,
+}
+
+impl Attempt for Tellings {
+    fn make(&mut self) -> Tried {
+        let five = self.list.notify(5usize.into_notification(), &mut Nowhere);
+        let three = self.list.notify(3usize.additional(), &mut Nowhere);
+        made(five == Ok(5) && three == Ok(3))
+    }
+}
+
+/// So many are inserted, room for a hundred more is made, and a hundred are inserted and eight told with no memory at hand. Then how
+/// many there are, and how many are told.
 fn insert_all(alloc: Global) -> (Seen, [usize; 2]) {
     let mut inserts = Inserts {
         list: List::new(alloc),
@@ -249,11 +287,10 @@ fn insert_all(alloc: Global) -> (Seen, [usize; 2]) {
     for _ in 0..100 {
         scarcity.refuse_none(&mut inserts);
     }
+    let mut tellings = Tellings { list: inserts.list };
+    scarcity.refuse_none(&mut tellings);
     let seen = scarcity.end();
-    let told = inserts
-        .list
-        .notify(5usize.into_notification(), &mut Nowhere);
-    (seen, [inserts.list.total(), told.unwrap_or(0)])
+    (seen, [tellings.list.total(), tellings.list.told()])
 }
 
 /// A list grows by doubling: some of the insertions are refused, and the making of room is.
@@ -264,7 +301,94 @@ fn insertions(rt: HostRuntime) -> Result<(), Fail> {
         seen.right && seen.calls == 6 && seen.refusals >= 6,
         "{seen:?}"
     );
-    expect_equal(&rt, &counts, &[140, 5]);
+    expect_equal(&rt, &counts, &[140, 8]);
+    Ok(())
+}
+
+/// Two events are made, each of an identity of its own, and get notices for nobody.
+#[derive(Drop)]
+struct Makes<R: Wait + Copy> {
+    rt: R,
+    alloc: Global,
+    ids: EventIds,
+}
+
+impl<R: Wait + Copy> Attempt for Makes<R> {
+    fn make(&mut self) -> Tried {
+        let (Ok(first), Ok(second)) = (self.ids.next(), self.ids.next()) else {
+            return Tried::Wrong;
+        };
+        let numbers = (first.number(), second.number()) == (0, 1);
+        let plain = Event::new(self.alloc, first);
+        let tagged: Event<u32> = Event::with_tag(self.alloc, second);
+        let nobody = plain.notify(&self.rt, 5u8) == Ok(0)
+            && tagged.notify(&self.rt, 5u8.tag(7)) == Ok(0);
+        let asked = !plain.is_notified(&self.rt) && tagged.total_listeners(&self.rt) == 0;
+        made(numbers && nobody && asked)
+    }
+}
+
+/// Three listeners, which are told by notices of plain counts and leave.
+#[derive(Drop)]
+struct Tells<R: Wait + Copy> {
+    rt: R,
+    event: Event<()>,
+    first: Option<EventListener<(), R>>,
+    second: Option<EventListener<(), R>>,
+    third: Option<EventListener<(), R>>,
+}
+
+impl<R: Wait + Copy> Attempt for Tells<R> {
+    fn make(&mut self) -> Tried {
+        let (first, second, third) = (self.first.take(), self.second.take(), self.third.take());
+        let told = [
+            self.event.notify(&self.rt, 1u8) == Ok(1),
+            self.event.notify(&self.rt, 1i64) == Ok(0),
+            self.event.notify_additional(&self.rt, 1) == 1,
+            self.event.notify_relaxed(&self.rt, 3) == 1,
+        ];
+        let asked = self.event.is_notified(&self.rt) && self.event.total_listeners(&self.rt) == 3;
+        let left = [leaves(first), leaves(second), leaves(third)];
+        made(told == [true; 4] && asked && left == [true; 3])
+    }
+}
+
+/// Whether a listener was there, was told and leaves.
+fn leaves<R: Wait + Copy>(listener: Option<EventListener<(), R>>) -> bool {
+    match listener {
+        Some(listener) => listener.discard(),
+        None => false,
+    }
+}
+
+fn tell_all<R: Wait + Copy>(rt: R, alloc: Global) -> Option<(Seen, usize)> {
+    let event = Event::new(alloc, EventIds::new().next().ok()?);
+    let first = event.listen(&rt).ok()?;
+    let second = event.listen(&rt).ok()?;
+    let third = event.listen(&rt).ok()?;
+    let mut tells = Tells {
+        rt,
+        event,
+        first: Some(first),
+        second: Some(second),
+        third: Some(third),
+    };
+    let mut makes = Makes {
+        rt,
+        alloc,
+        ids: EventIds::new(),
+    };
+    let mut scarcity = Scarcity::new(alloc);
+    scarcity.refuse_none(&mut makes);
+    scarcity.refuse_none(&mut tells);
+    Some((scarcity.end(), tells.event.total_listeners(&rt)))
+}
+
+/// Identities and events are made, and notices of plain counts, questions and leaving are answered, where nothing is to be had.
+#[test]
+fn calls_of_events_that_take_no_memory(rt: HostRuntime) -> Result<(), Fail> {
+    let (seen, left) = tell_all(rt, rt.alloc()).expect(&rt, "memory");
+    assert!(rt; seen.right && left == 0, "{seen:?}");
     Ok(())
 }
 
@@ -361,7 +485,7 @@ fn notify_all<R: Wait + Copy>(rt: R, alloc: Global) -> Option<(Seen, [bool; 3])>
 fn notices_with_costly_tags(rt: HostRuntime) -> Result<(), Fail> {
     let (seen, tagged) = notify_all(rt, rt.alloc()).expect(&rt, "memory");
     assert!(rt;
-        seen.right && seen.calls == 1 && seen.refusals >= 3,
+        seen.right && seen.calls == 1 && seen.refusals >= 2,
         "{seen:?}"
     );
     expect_equal(&rt, &tagged, &[true, true, true]);

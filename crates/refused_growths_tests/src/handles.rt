@@ -25,7 +25,7 @@ fn opened<R: Wait + Copy>(rt: R, alloc: Global, capacity: usize) -> Option<Ends<
     }
 }
 
-/// The opening of a channel with one place, with a hundred, or without a bound where that is 0.
+/// The opening of a channel with so many places, or without a bound where that is 0.
 #[derive(Drop)]
 struct Openings<R: Wait + Copy> {
     rt: R,
@@ -49,7 +49,8 @@ impl<R: Wait + Copy> Attempt for Openings<R> {
     }
 }
 
-/// Opens three channels; then the number of the next identity.
+/// Opens three channels, of which one has so many places that none of their lists, let go, serves for the value that the handles share;
+/// then the number of the next identity.
 fn open_all<R: Wait + Copy>(rt: R, alloc: Global) -> (Seen, u64) {
     let mut openings = Openings {
         rt,
@@ -58,7 +59,7 @@ fn open_all<R: Wait + Copy>(rt: R, alloc: Global) -> (Seen, u64) {
         capacity: 0,
     };
     let mut scarcity = Scarcity::new(alloc);
-    for capacity in [0, 1, 100] {
+    for capacity in [0, 1, 40] {
         openings.capacity = capacity;
         scarcity.refuse_each(&mut openings);
     }
@@ -75,7 +76,7 @@ fn open_all<R: Wait + Copy>(rt: R, alloc: Global) -> (Seen, u64) {
 fn openings_of_channels(rt: HostRuntime) -> Result<(), Fail> {
     let (seen, next) = open_all(rt, rt.alloc());
     assert!(rt;
-        seen.right && seen.calls == 3 && seen.refusals >= 17,
+        seen.right && seen.calls == 3 && seen.refusals >= 18,
         "{seen:?}"
     );
     expect_equal(&rt, &next, &12);

@@ -11,3 +11,5 @@ mod events;
 mod handles;
 #[cfg(test)]
 mod queues;
+#[cfg(test)]
+mod rows;

@@ -21,20 +21,26 @@ const PARTS: u64 = 2;
 /// How many messages are sent, and then received: more than a first room of the record has.
 const COUNT: u64 = 40;
 
-/// Opens a channel with more and more memory at hand. Where that is refused the blank comes back.
+/// Opens a channel of one place, or without a bound, with more and more memory at hand. Where that is refused the blank comes back.
 fn open<L: Ledger>(
     scarcity: &mut Scarcity,
     alloc: Global,
-    ids: &mut EventIds,
+    is_bounded: bool,
     first: Blank,
 ) -> Option<RecordedChannel<u64, L>>
     requires name { first.name ≡ L.name }
     requires parts { (first.parts ≡ L.parts) × (first.parts ≡ 2) }
 {
+    let mut ids = EventIds::new();
     let mut blank = first;
     for number in 0..scarcity.holes() {
         scarcity.leave(number);
-        match RecordedChannel::unbounded(alloc, ids, blank, PARTS) {
+        let opened = if is_bounded {
+            RecordedChannel::bounded(alloc, 1, &mut ids, blank, PARTS)
+        } else {
+            RecordedChannel::unbounded(alloc, &mut ids, blank, PARTS)
+        };
+        match opened {
             Ok(channel) => {
                 scarcity.note(number, true);
                 return Some(channel);
@@ -56,6 +62,8 @@ struct RecordedCalls<'a, L: Ledger, R: Wait> {
     is_sent: bool,
     /// How many receipts there were.
     receipts: usize,
+    /// How often the record had no room for a call.
+    roomless: u32,
 }
 
 impl<L: Ledger, R: Wait> RecordedCalls<'_, L, R> {
@@ -73,9 +81,12 @@ impl<L: Ledger, R: Wait> RecordedCalls<'_, L, R> {
     }
 
     /// Whether a refused call is the one that was asked.
-    fn is_refused(&self, error: &RecordError<u64>) -> bool {
+    fn is_refused(&mut self, error: &RecordError<u64>) -> bool {
         match error {
-            RecordError::NoRoom { call } => *call == self.asked(),
+            RecordError::NoRoom { call } => {
+                self.roomless = self.roomless.wrapping_add(1);
+                *call == self.asked()
+            }
             RecordError::World { why, call } => {
                 *why == WorldRefusal::NoMemory && *call == self.asked()
             }
@@ -126,32 +137,44 @@ fn room<L: Ledger>(alloc: Global) -> Option<Vec<RecordSeat<L>>> {
     Vec::with_capacity(alloc, 1).ok()
 }
 
-/// What came of a channel's opening and its calls: how many receipts there were, and how many entries its record has.
+/// What came of a channel's opening and its calls: how many receipts there were, how many entries its record has, and how often a call
+/// got no room in it.
 #[derive(Clone, Copy)]
 struct Passed {
     seen: Seen,
     receipts: usize,
     entries: usize,
+    roomless: u32,
 }
 
-fn pass<L: Ledger, R: Wait>(rt: &R, alloc: Global, blank: Blank) -> Option<Passed>
+/// Sends 4 into a channel of one place, or passes all messages through one without a bound.
+fn pass<L: Ledger, R: Wait>(rt: &R, alloc: Global, is_bounded: bool, blank: Blank) -> Option<Passed>
     requires name { blank.name ≡ L.name }
     requires parts { (blank.parts ≡ L.parts) × (blank.parts ≡ 2) }
 {
-    let mut ids = EventIds::new();
     let mut scarcity = Scarcity::new(alloc);
-    let channel = open::<L>(&mut scarcity, alloc, &mut ids, blank)?;
+    let channel = open::<L>(&mut scarcity, alloc, is_bounded, blank)?;
     let mut calls = RecordedCalls {
         rt,
         channel: &channel,
         seat: channel.seat(rt).ok()?,
-        message: 0,
+        message: 4,
         is_sent: false,
         receipts: 0,
+        roomless: 0,
     };
-    call_all(&mut scarcity, &mut calls);
+    if is_bounded {
+        scarcity.refuse_each(&mut calls);
+    } else {
+        call_all(&mut scarcity, &mut calls);
+    }
     let seen = scarcity.end();
-    let RecordedCalls { seat, receipts, .. } = calls;
+    let RecordedCalls {
+        seat,
+        receipts,
+        roomless,
+        ..
+    } = calls;
     let mut seats = room(alloc)?;
     seats.push(seat).ok()?;
     let record = channel.finish(seats).ok()?;
@@ -159,6 +182,7 @@ fn pass<L: Ledger, R: Wait>(rt: &R, alloc: Global, blank: Blank) -> Option<Passe
         seen,
         receipts,
         entries: record.len(),
+        roomless,
     })
 }
 
@@ -166,13 +190,27 @@ fn pass<L: Ledger, R: Wait>(rt: &R, alloc: Global, blank: Blank) -> Option<Passe
 /// an entry for each receipt.
 #[test]
 fn recorded_channels(rt: HostRuntime) -> Result<(), Fail> {
-    let passed = pass::<Brand, HostRuntime>(&rt, rt.alloc(), Blank::new(PARTS));
+    let passed = pass::<Brand, HostRuntime>(&rt, rt.alloc(), false, Blank::new(PARTS));
     let passed = passed.expect(&rt, "memory");
     let seen = passed.seen;
     assert!(rt;
-        seen.right && seen.calls == 81 && seen.refusals >= 254,
+        seen.right && seen.calls == 81 && seen.refusals >= 257,
         "{seen:?}"
     );
     expect_equal(&rt, &passed.receipts, &passed.entries);
+    Ok(())
+}
+
+/// A send that gets no room in the record comes back; made once more it is accepted, and the record has one entry.
+#[test]
+fn a_send_without_room_comes_back(rt: HostRuntime) -> Result<(), Fail> {
+    let passed = pass::<Brand, HostRuntime>(&rt, rt.alloc(), true, Blank::new(PARTS));
+    let passed = passed.expect(&rt, "memory");
+    let seen = passed.seen;
+    assert!(rt;
+        seen.right && seen.calls == 2 && seen.refusals >= 17 && passed.roomless > 0,
+        "{seen:?}"
+    );
+    expect_equal(&rt, &(passed.receipts, passed.entries), &(1, 1));
     Ok(())
 }

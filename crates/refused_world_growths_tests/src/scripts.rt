@@ -69,7 +69,7 @@ fn run_until_done(alloc: Global) -> Option<(Seen, usize)> {
 fn scripts(rt: HostRuntime) -> Result<(), Fail> {
     let (seen, written) = run_until_done(rt.alloc()).expect(&rt, "memory");
     assert!(rt;
-        seen.right && seen.calls == 1 && seen.refusals >= 48,
+        seen.right && seen.calls == 1 && seen.refusals >= 91,
         "{seen:?}"
     );
     expect_true(&rt, written > 0);

@@ -2,10 +2,11 @@
 
 use crate::checks::expect_equal;
 use crate::worlds::{Ask, NO_ROOM, Numbers, Said, call, is_refusal, numbers_of, says};
+use channel_world::call::{Stopped, WorldRefusal};
 use channel_world::step::{PartyId, Run, Step};
 use channel_world::world::World;
 use event_listener::id::EventIds;
-use scarcity::{Attempt, Scarcity, Seen, Tried, refused};
+use scarcity::{Attempt, Scarcity, Seen, Tried, made, refused};
 use std::alloc::Global;
 use std::collections::VecDeque;
 use std::test::Fail;
@@ -203,9 +204,71 @@ fn step_all(alloc: Global) -> Option<(Seen, Numbers)> {
 fn steps_of_a_world(rt: HostRuntime) -> Result<(), Fail> {
     let (seen, numbers) = step_all(rt.alloc()).expect(&rt, "memory");
     assert!(rt;
-        seen.right && seen.calls >= 400 && seen.refusals >= 770,
+        seen.right && seen.calls >= 485 && seen.refusals >= 926,
         "{seen:?}"
     );
     expect_equal(&rt, &numbers, &NOTHING);
+    Ok(())
+}
+
+/// A list of steps, which goes on from where it was refused.
+#[derive(Drop)]
+struct Lists {
+    world: World<u64>,
+    steps: VecDeque<Step<u64>>,
+}
+
+impl Attempt for Lists {
+    fn make(&mut self) -> Tried {
+        let before = self.steps.len();
+        let run = self.world.run_steps(&mut self.steps);
+        let place = run.trace.len();
+        let stopped = run.stopped;
+        drop(run);
+        let is_left = self.steps.len().wrapping_add(place) == before;
+        match stopped {
+            None => made(is_left && self.steps.is_empty()),
+            Some(stopped) => {
+                let due = Stopped {
+                    place,
+                    why: WorldRefusal::NoMemory,
+                };
+                refused(is_left && stopped == due)
+            }
+        }
+    }
+}
+
+/// Adds a call that ends by its first step.
+fn add(steps: &mut VecDeque<Step<u64>>, ask: Ask) -> Option<()> {
+    let party = PARTY;
+    let call = call(ask);
+    steps.push_back(Step::Begin { party, call }).ok()?;
+    steps.push_back(Step::Step { party }).ok()
+}
+
+/// Operations and handles are made, all in one list.
+fn make_all(alloc: Global) -> Option<Seen> {
+    let mut lists = Lists {
+        world: World::bounded(alloc, 1, &mut EventIds::new()).ok()?,
+        steps: VecDeque::new(alloc),
+    };
+    for number in 0..COUNT {
+        add(&mut lists.steps, Ask::Recv(number))?;
+        add(&mut lists.steps, Ask::Downgrade(number.wrapping_add(2)))?;
+    }
+    let mut scarcity = Scarcity::new(alloc);
+    scarcity.refuse_each(&mut lists);
+    Some(scarcity.end())
+}
+
+/// A list that is refused in its midst is left from that step on, and goes on from there.
+#[test]
+fn lists_of_steps(rt: HostRuntime) -> Result<(), Fail> {
+    let seen = make_all(rt.alloc()).expect(&rt, "memory");
+    assert!(rt;
+        seen.right && seen.calls == 1 && seen.refusals >= 3,
+        "{seen:?}"
+    );
     Ok(())
 }

@@ -5,6 +5,7 @@ use channel_calls::error::{OpenError, Refused};
 use channel_world::call::{Call, CallRun, Reply, Stopped, WorldRefusal};
 use channel_world::name::{HandleId, OpId};
 use channel_world::world::World;
+use event_listener::error::ListenError;
 use event_listener::id::EventIds;
 use futures::task::Poll;
 use scarcity::{Attempt, Scarcity, Seen, Tried, made, refused};
@@ -77,13 +78,18 @@ pub const R: HandleId = HandleId(1);
 pub enum Ask {
     Recv(u32),
     Send(u32, u64),
+    Closed(u32),
     Poll(u32),
+    /// A poll of the receiver of this number as a stream.
+    Next(u32),
     GiveUp(u32),
     TrySend(u64),
     TryRecv,
     RecvMany(usize),
     Clone(u32),
+    CloneReceiver(u32),
     Downgrade(u32),
+    Close,
 }
 
 /// The call itself.
@@ -98,7 +104,14 @@ pub fn call(ask: Ask) -> Call<u64> {
             sender: S,
             msg,
         },
+        Ask::Closed(number) => Call::NewClosed {
+            op: OpId(number),
+            sender: S,
+        },
         Ask::Poll(number) => Call::Poll { op: OpId(number) },
+        Ask::Next(number) => Call::PollNext {
+            receiver: HandleId(number),
+        },
         Ask::GiveUp(number) => Call::GiveUp { op: OpId(number) },
         Ask::TrySend(msg) => Call::TrySend { sender: S, msg },
         Ask::TryRecv => Call::TryRecv { receiver: R },
@@ -107,10 +120,15 @@ pub fn call(ask: Ask) -> Call<u64> {
             handle: S,
             new: HandleId(new),
         },
+        Ask::CloneReceiver(new) => Call::TryClone {
+            handle: R,
+            new: HandleId(new),
+        },
         Ask::Downgrade(new) => Call::Downgrade {
             handle: R,
             new: HandleId(new),
         },
+        Ask::Close => Call::Close { handle: S },
     }
 }
 
@@ -127,6 +145,8 @@ pub enum Said {
     GotFrom(u64, usize),
     /// The poll is pending.
     Pending,
+    /// The channel was closed by this call.
+    Shut,
     /// The operation was given up, and handed this back.
     GivenUp(Option<u64>),
     /// Memory was refused.
@@ -161,6 +181,10 @@ fn poll_says(reply: &Reply<u64>) -> Said {
         Reply::RecvPoll(Poll::Ready(Ok(msg))) => Said::Got(*msg),
         Reply::RecvPoll(Poll::Ready(Err(Refused::NoMemory(())))) => Said::NoMemory,
         Reply::RecvPoll(Poll::Pending) => Said::Pending,
+        Reply::ClosedPoll(Poll::Ready(Err(ListenError::NoMemory))) => Said::NoMemory,
+        Reply::ClosedPoll(Poll::Pending) => Said::Pending,
+        Reply::Next(Poll::Ready(Some(Err(ListenError::NoMemory)))) => Said::NoMemory,
+        Reply::Next(Poll::Pending) => Said::Pending,
         _ => Said::Else,
     }
 }
@@ -169,6 +193,7 @@ fn poll_says(reply: &Reply<u64>) -> Said {
 pub fn says(reply: &Reply<u64>) -> Said {
     match reply {
         Reply::Made => Said::Made,
+        Reply::Closed(true) => Said::Shut,
         Reply::GivenUp(msg) => Said::GivenUp(*msg),
         Reply::TrySend(Ok(())) => Said::Sent,
         Reply::TrySend(Err(Refused::NoMemory(msg))) => Said::Back(*msg),
@@ -219,6 +244,8 @@ pub struct Calls {
     calls: VecDeque<Call<u64>>,
     ask: Ask,
     said: Said,
+    /// How often a call answered that it was refused memory, for which there was room then.
+    pub named: u32,
 }
 
 /// What was said of the one call of a list, and how many it woke.
@@ -244,6 +271,7 @@ impl Attempt for Calls {
         match said {
             Some((said, _)) if said == self.said => made(put && self.calls.is_empty()),
             Some((said, woken)) => {
+                self.named = self.named.wrapping_add(1);
                 let named = is_refusal(self.ask, said) && woken == 0;
                 refused(named && is_as_before && self.calls.is_empty())
             }
@@ -253,13 +281,19 @@ impl Attempt for Calls {
 }
 
 impl Calls {
-    /// A world without a bound, of which nothing has been asked yet; none where it was refused memory.
-    pub fn unbounded(alloc: Global) -> Option<Calls> {
+    /// A world of one place, or without a bound, of which nothing has been asked yet; none where it was refused memory.
+    pub fn open(alloc: Global, is_bounded: bool) -> Option<Calls> {
+        let world: Result<World<u64>, OpenError> = if is_bounded {
+            World::bounded(alloc, 1, &mut EventIds::new())
+        } else {
+            World::unbounded(alloc, &mut EventIds::new())
+        };
         Some(Calls {
-            world: World::unbounded(alloc, &mut EventIds::new()).ok()?,
+            world: world.ok()?,
             calls: VecDeque::with_capacity(alloc, 1).ok()?,
             ask: Ask::TryRecv,
             said: Said::Else,
+            named: 0,
         })
     }
 
@@ -269,6 +303,81 @@ impl Calls {
         self.said = said;
         scarcity.refuse_each(self);
     }
+}
+
+/// How many messages are held at once: more than two blocks of a channel without a bound have places for.
+const MESSAGES: u32 = 70;
+
+/// The first message of a channel without a bound, and then so many at once; how often a call answered that its block was refused.
+fn send_all(alloc: Global) -> Option<(Seen, [u32; 2])> {
+    let mut calls = Calls::open(alloc, false)?;
+    let mut scarcity = Scarcity::new(alloc);
+    calls.make_call(&mut scarcity, Ask::TrySend(5), Said::Sent);
+    let first = calls.named;
+    calls.make_call(&mut scarcity, Ask::TryRecv, Said::Got(5));
+    for number in 0..MESSAGES {
+        calls.make_call(&mut scarcity, Ask::TrySend(u64::from(number)), Said::Sent);
+    }
+    let others = calls.named.wrapping_sub(first);
+    calls.make_call(&mut scarcity, Ask::RecvMany(100), Said::GotFrom(0, 70));
+    Some((scarcity.end(), [first, others]))
+}
+
+/// A message whose block is refused comes back, and the channel holds what it held; sent again it is received in its turn.
+#[test]
+fn a_refused_block_hands_the_message_back(rt: HostRuntime) -> Result<(), Fail> {
+    let (seen, blocks) = send_all(rt.alloc()).expect(&rt, "memory");
+    assert!(rt;
+        seen.right && seen.calls == 73 && seen.refusals >= 150 && blocks[0] > 0 && blocks[1] > 1,
+        "{seen:?}, {blocks:?}"
+    );
+    Ok(())
+}
+
+/// A receive, a stream, a wait for the closing and, once a message fills the channel, a send: each waits, and the closing wakes those
+/// whom the message has not.
+const WAITS: [(Ask, Said); 12] = [
+    (Ask::Recv(0), Said::Made),
+    (Ask::Poll(0), Said::Pending),
+    (Ask::CloneReceiver(2), Said::Made),
+    (Ask::Next(2), Said::Pending),
+    (Ask::Closed(1), Said::Made),
+    (Ask::Poll(1), Said::Pending),
+    (Ask::TrySend(7), Said::Sent),
+    (Ask::Send(2, 8), Said::Made),
+    (Ask::Poll(2), Said::Pending),
+    (Ask::Close, Said::Shut),
+    (Ask::Poll(0), Said::Got(7)),
+    (Ask::GiveUp(2), Said::GivenUp(Some(8))),
+];
+
+/// Makes the calls of all who wait; then the numbers, and how often a call answered that it was refused.
+fn wait_all(alloc: Global) -> Option<(Seen, Numbers, u32)> {
+    let mut calls = Calls::open(alloc, true)?;
+    let mut scarcity = Scarcity::new(alloc);
+    for (ask, said) in WAITS {
+        calls.make_call(&mut scarcity, ask, said);
+    }
+    let seen = scarcity.end();
+    Some((seen, numbers_of(&calls.world), calls.named))
+}
+
+/// Each of the four is refused its listener, and waits when it is polled again; a send keeps its message.
+#[test]
+fn waits_of_each_kind(rt: HostRuntime) -> Result<(), Fail> {
+    let (seen, numbers, listeners) = wait_all(rt.alloc()).expect(&rt, "memory");
+    assert!(rt;
+        seen.right && seen.calls == 12 && seen.refusals >= 38 && listeners > 3,
+        "{seen:?}, {listeners} listeners"
+    );
+    let due = Numbers {
+        messages: 0,
+        under_way: 0,
+        pending: 2,
+        woken: 2,
+    };
+    expect_equal(&rt, &numbers, &due);
+    Ok(())
 }
 
 /// How many receives wait at once.
@@ -309,7 +418,7 @@ fn empty(scarcity: &mut Scarcity, calls: &mut Calls) {
 
 /// Makes all calls; then the numbers.
 fn call_all(alloc: Global) -> Option<(Seen, Numbers)> {
-    let mut calls = Calls::unbounded(alloc)?;
+    let mut calls = Calls::open(alloc, false)?;
     let mut scarcity = Scarcity::new(alloc);
     fill(&mut scarcity, &mut calls);
     empty(&mut scarcity, &mut calls);

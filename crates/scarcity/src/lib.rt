@@ -47,6 +47,9 @@ const GRAIN: usize = 16;
 /// How many sizes of a hole are tried for a call, at most.
 const HOLES: u32 = 3_500;
 
+/// So many times 16 bytes are ample memory.
+const AMPLE: u32 = 3_000;
+
 type Blocks = Vec<Vec<u8>>;
 
 /// What came of making a call.
@@ -198,6 +201,11 @@ impl Scarcity {
             refusals: self.seen.refusals.wrapping_add(count),
             right: self.seen.right && right,
         };
+    }
+
+    /// Leaves ample memory, for what comes before a call.
+    pub fn relent(&mut self) {
+        self.leave(AMPLE);
     }
 
     /// Takes what there is, and then leaves a hole of so many times 16 bytes.
