@@ -4,7 +4,7 @@
 ghost use Rattle.std.specs.Prelude.{◌<◌};
 
 use crate::decimal::Decimal;
-use channel_calls::ask::ChannelAsk;
+use channel_calls::ask::{ChannelAsk, lent};
 use channel_calls::reply::Reply;
 use channel_steps::party::Entry;
 use channel_steps::run::{Refusal, Step, run_steps};
@@ -83,8 +83,8 @@ impl Waits {
     /// A poll of it, which holds this listener.
     fn poll(self, key: Option<Key>) -> ChannelAsk<u64, u64> {
         match self {
-            Waits::Send => ChannelAsk::PollSend(0, key, 1),
-            Waits::Receive => ChannelAsk::PollRecv(key, 1),
+            Waits::Send => ChannelAsk::PollSend(0, lent(key), 1),
+            Waits::Receive => ChannelAsk::PollRecv(lent(key), 1),
         }
     }
 

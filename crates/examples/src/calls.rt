@@ -1,62 +1,123 @@
-//! A world whose calls are made one at a time.
+//! The calls that are used most, one small function each: the documentation of each of them shows what stands here.
 
-ghost use Rattle.channel_interleaving.specs.Floor.{IsQuiet};
+use async_channel::{Receiver, Sender, bounded, unbounded};
+use event_listener::id::EventIds;
+use futures::executor::block_on;
+use std::alloc::{AllocGlobal, Global};
+use std::random::RandomSource;
+use std::sync::Wait;
 
-use channel_world::{Call, Done, HandleId, OpId, World};
-use event_listener::EventIds;
-use std::alloc::Global;
-use std::collections::VecDeque;
-use std::io;
+/// Both ends of a channel.
+type Ends<R> = (Sender<u64, R>, Receiver<u64, R>);
 
-/// The first handle is a sender, the second a receiver.
-const SENDER: HandleId = HandleId(0);
-
-const RECEIVER: HandleId = HandleId(1);
-
-fn add(calls: &mut VecDeque<Call<u64>>, call: Call<u64>) -> io::Result<()> {
-    calls.push_back(call)?;
-    Ok(())
+fn opens<R: Wait + Copy>(rt: R, alloc: Global, ids: &mut EventIds) -> Option<bool> {
+    let (sender, receiver) = bounded(rt, alloc, 2, ids).ok()?;
+    sender.try_send(1).ok()?;
+    Some(receiver.capacity() == Some(2) && receiver.len() == 1)
 }
 
-/// A receive that is polled, a send, and the receive polled again.
-fn plan(calls: &mut VecDeque<Call<u64>>) -> io::Result<()> {
-    let op = OpId(0);
-    add(
-        calls,
-        Call::NewRecv {
-            op,
-            receiver: RECEIVER,
-        },
-    )?;
-    add(calls, Call::Poll { op })?;
-    add(
-        calls,
-        Call::TrySend {
-            sender: SENDER,
-            msg: 5,
-        },
-    )?;
-    add(calls, Call::Poll { op })
+fn opens_unbounded<R: Wait + Copy>(rt: R, alloc: Global, ids: &mut EventIds) -> Option<bool> {
+    let (sender, receiver) = unbounded(rt, alloc, ids).ok()?;
+    sender.try_send(1).ok()?;
+    Some(receiver.capacity().is_none() && !sender.is_full())
 }
 
-fn print_done<R: Print>(rt: &R, done: &[Done<u64>]) -> io::Result<()> {
-    for call in done {
-        println!(rt; "calls: {:?}, wakes {:?}", call.reply, call.woken)?;
-    }
-    Ok(())
+fn tries_to_send<R: Wait + Copy>(ends: &Ends<R>) -> Option<bool> {
+    let (sender, _) = ends; // of a channel of one place
+    sender.try_send(1).ok()?;
+    let refused = sender.try_send(2).err()?;
+    Some(refused.is_full() && refused.into_inner() == 2)
 }
 
-fn run<R: Print>(rt: &R, world: &mut World<u64>, calls: &mut VecDeque<Call<u64>>) -> io::Result<()>
-    requires { IsQuiet world.old }
+fn displaces<R: Wait + Copy>(ends: &Ends<R>) -> Option<bool> {
+    let (sender, receiver) = ends; // of a channel of one place
+    sender.try_send(1).ok()?;
+    let oldest = sender.force_send(2).ok()?;
+    Some(oldest == Some(1) && receiver.try_recv().ok() == Some(2))
+}
+
+fn sends<R>(rt: R, ends: &Ends<R>) -> Option<bool>
+where
+    R: Wait + Copy + RandomSource + AllocGlobal,
 {
-    plan(calls)?;
-    print_done(rt, world.run_calls(calls).done.as_slice())
+    let (sender, receiver) = ends;
+    let message = 1;
+    let mut send = sender.send(message);
+    if !matches!(block_on(&rt, &mut send), Ok(Ok(()))) {
+        let unsent = send.give_up();
+        return Some(unsent.is_none());
+    }
+    Some(receiver.try_recv().ok() == Some(message))
 }
 
-/// Prints what the calls answer and whom they wake.
-pub fn show<R: Print>(rt: &R, alloc: Global, ids: &mut EventIds) -> io::Result<()> {
-    match World::bounded(alloc, 1, ids) {
-        Ok(mut world) => run(rt, &mut world, &mut VecDeque::new(alloc)),
-        Err(error) => println!(rt; "calls: {error}"),
+fn tries_to_receive<R: Wait + Copy>(ends: &Ends<R>) -> Option<bool> {
+    let (sender, receiver) = ends;
+    let none_yet = receiver.try_recv().err()?.is_empty();
+    sender.try_send(1).ok()?;
+    sender.close();
+    let message = receiver.try_recv().ok()?; // what was sent before is still received
+    let over = receiver.try_recv().err()?.is_closed();
+    Some(none_yet && message == 1 && over)
+}
+
+fn receives<R>(rt: R, ends: &Ends<R>) -> Option<bool>
+where
+    R: Wait + Copy + RandomSource + AllocGlobal,
+{
+    let (sender, receiver) = ends;
+    sender.try_send(1).ok()?;
+    let received = block_on(&rt, receiver.recv()).ok()?;
+    Some(received.ok() == Some(1))
+}
+
+fn receives_several<R: Wait + Copy>(ends: &Ends<R>) -> Option<bool> {
+    let (sender, receiver) = ends; // of a channel without a bound
+    sender.try_send(1).ok()?;
+    sender.try_send(2).ok()?;
+    sender.try_send(3).ok()?;
+    let batch = receiver.recv_many(2).ok()?;
+    Some(batch.len() == 2 && batch.first() == Some(&1) && receiver.len() == 1)
+}
+
+fn closes<R: Wait + Copy>(ends: &Ends<R>) -> Option<bool> {
+    let (sender, receiver) = ends;
+    let first = receiver.close();
+    let second = sender.close();
+    Some(first && !second && sender.try_send(1).err()?.is_closed())
+}
+
+fn clones<R: Wait + Copy>(ends: Ends<R>) -> Option<bool> {
+    let (sender, receiver) = ends;
+    let weak = sender.downgrade().ok()?;
+    let second = sender.try_clone().ok()?;
+    drop(sender);
+    let open = !receiver.is_closed(); // the second one lives
+    drop(second);
+    Some(open && receiver.is_closed() && weak.upgrade().ok()?.is_none())
+}
+
+/// How many of them answer as they are told to.
+pub(crate) fn right<R>(rt: R, alloc: Global, ids: &mut EventIds) -> Option<u64>
+where
+    R: Wait + Copy + RandomSource + AllocGlobal,
+{
+    let answers = [
+        opens(rt, alloc, ids)?,
+        opens_unbounded(rt, alloc, ids)?,
+        tries_to_send(&bounded(rt, alloc, 1, ids).ok()?)?,
+        displaces(&bounded(rt, alloc, 1, ids).ok()?)?,
+        sends(rt, &bounded(rt, alloc, 1, ids).ok()?)?,
+        tries_to_receive(&bounded(rt, alloc, 1, ids).ok()?)?,
+        receives(rt, &bounded(rt, alloc, 1, ids).ok()?)?,
+        receives_several(&unbounded(rt, alloc, ids).ok()?)?,
+        closes(&bounded(rt, alloc, 1, ids).ok()?)?,
+        clones(bounded(rt, alloc, 1, ids).ok()?)?,
+    ];
+    let mut right = 0u64;
+    for answer in answers {
+        if answer {
+            right = right.wrapping_add(1);
+        }
     }
+    Some(right)
 }

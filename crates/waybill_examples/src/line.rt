@@ -19,8 +19,8 @@ pub struct Handles<P: Drop, R: Wait + Copy> {
 
 impl<P: Drop, R: Wait + Copy> Handles<P, R> {
     /// A channel without a bound. `None` where there is no memory.
-    pub fn new(rt: R, alloc: Global) -> Option<Handles<P, R>> {
-        let (sender, receiver) = unbounded(rt, alloc, &mut EventIds::new()).ok()?;
+    pub fn new(rt: R, alloc: Global, ids: &mut EventIds) -> Option<Handles<P, R>> {
+        let (sender, receiver) = unbounded(rt, alloc, ids).ok()?;
         Some(Handles { sender, receiver })
     }
 }

@@ -27,11 +27,12 @@ const SECOND: [u32; 4] = [2, 6, 5, 3];
 fn over_a_line<R: Threads + Wait + Copy + Send + Sync>(
     rt: R,
     alloc: Global,
+    ids: &mut EventIds,
     kind: Kind,
 ) -> Option<(usize, usize, u128)> {
-    let sole = ordered::sole(rt, alloc, kind, &FIRST, &SECOND)?;
-    let (one, other) = ordered::shared(rt, alloc, kind, &FIRST, &SECOND)?;
-    let (sums, sums_too) = sums::sums(rt, alloc, kind, &FIRST, &SECOND)?;
+    let sole = ordered::sole(rt, alloc, ids, kind, &FIRST, &SECOND)?;
+    let (one, other) = ordered::shared(rt, alloc, ids, kind, &FIRST, &SECOND)?;
+    let (sums, sums_too) = sums::sums(rt, alloc, ids, kind, &FIRST, &SECOND)?;
     let shared = one.len().wrapping_add(other.len());
     Some((sole.len(), shared, sums.total.wrapping_add(sums_too.total)))
 }
@@ -40,6 +41,7 @@ fn over_a_line<R: Threads + Wait + Copy + Send + Sync>(
 fn print_lines<R: Threads + Wait + Copy + Send + Sync + Print>(
     rt: R,
     alloc: Global,
+    ids: &mut EventIds,
 ) -> io::Result<bool> {
     let kinds = [
         ("slot", Kind::Slot),
@@ -48,7 +50,7 @@ fn print_lines<R: Threads + Wait + Copy + Send + Sync + Print>(
         ("handles", Kind::Handles),
     ];
     for (name, kind) in kinds {
-        let Some((sole, shared, total)) = over_a_line(rt, alloc, kind) else {
+        let Some((sole, shared, total)) = over_a_line(rt, alloc, ids, kind) else {
             return Ok(false);
         };
         println!(&rt; "{name}: one receiver {sole}, two {shared}, sum {total}")?;
@@ -86,7 +88,9 @@ fn print_channels<R: Threads + Wait + Copy + Send + Sync + Print + RandomSource 
 fn main(rt: HostRuntime) -> ExitCode {
     let alloc = rt.alloc();
     let mut ids = EventIds::new();
-    match (print_channels(rt, alloc, &mut ids), print_lines(rt, alloc)) {
+    let channels = print_channels(rt, alloc, &mut ids);
+    let lines = print_lines(rt, alloc, &mut ids);
+    match (channels, lines) {
         (Ok(true), Ok(true)) => ExitCode::SUCCESS,
         _ => ExitCode::FAILURE,
     }

@@ -8,6 +8,7 @@ ghost use Rattle.waybill.specs.Sides.{sends, takes};
 ghost use Rattle.waybill.specs.declared.numbered.Numbered.{Numbered};
 
 use crate::line::{Handles, Kind, Queue};
+use event_listener::id::EventIds;
 use std::alloc::Global;
 use std::marker::Brand;
 use std::sync::Wait;
@@ -93,6 +94,7 @@ fn sole_over<
 fn sole_in<B: Room + Send + Sync, R: Threads + Wait + Copy + Send + Sync>(
     rt: R,
     alloc: Global,
+    ids: &mut EventIds,
     kind: Kind,
     opened: Opened<Numbered<u32>>,
     first: &[u32],
@@ -102,7 +104,7 @@ fn sole_in<B: Room + Send + Sync, R: Threads + Wait + Copy + Send + Sync>(
     ensures { IfSome result (λ got. AreBeginnings got.items (first.now ∷ second.now ∷ [])) }
 {
     if let Kind::Handles = kind {
-        let line = Handles::new(rt, alloc)?;
+        let line = Handles::new(rt, alloc, ids)?;
         return sole_over::<B, _, R>(rt, alloc, &line, opened, first, second);
     }
     let line = Queue::new(rt, alloc, kind.bound())?;
@@ -114,6 +116,7 @@ fn sole_in<B: Room + Send + Sync, R: Threads + Wait + Copy + Send + Sync>(
 pub fn sole<R: Threads + Wait + Copy + Send + Sync>(
     rt: R,
     alloc: Global,
+    ids: &mut EventIds,
     kind: Kind,
     first: &[u32],
     second: &[u32],
@@ -121,7 +124,7 @@ pub fn sole<R: Threads + Wait + Copy + Send + Sync>(
     ensures { IfSome result (λ got. AreBeginnings got.items (first.now ∷ second.now ∷ [])) }
 {
     let opened = Opened::new(alloc).ok()?;
-    sole_in::<Brand, R>(rt, alloc, kind, opened, first, second)
+    sole_in::<Brand, R>(rt, alloc, ids, kind, opened, first, second)
 }
 
 type Received<B> = Result<(Pass<Numbered<u32>, B>, Vec<Numbered<u32>>), Stopped<Message<B>>>;
@@ -202,6 +205,7 @@ fn shared_over<
 fn shared_in<B: Room + Send + Sync, R: Threads + Wait + Copy + Send + Sync>(
     rt: R,
     alloc: Global,
+    ids: &mut EventIds,
     kind: Kind,
     opened: Opened<Numbered<u32>>,
     first: &[u32],
@@ -212,7 +216,7 @@ fn shared_in<B: Room + Send + Sync, R: Threads + Wait + Copy + Send + Sync>(
     ensures other { IfSome result (λ got. AreInOrder got.1.items (first.now ∷ second.now ∷ [])) }
 {
     if let Kind::Handles = kind {
-        let line = Handles::new(rt, alloc)?;
+        let line = Handles::new(rt, alloc, ids)?;
         return shared_over::<B, _, R>(rt, alloc, &line, opened, first, second);
     }
     let line = Queue::new(rt, alloc, kind.bound())?;
@@ -224,6 +228,7 @@ fn shared_in<B: Room + Send + Sync, R: Threads + Wait + Copy + Send + Sync>(
 pub fn shared<R: Threads + Wait + Copy + Send + Sync>(
     rt: R,
     alloc: Global,
+    ids: &mut EventIds,
     kind: Kind,
     first: &[u32],
     second: &[u32],
@@ -232,5 +237,5 @@ pub fn shared<R: Threads + Wait + Copy + Send + Sync>(
     ensures other { IfSome result (λ got. AreInOrder got.1.items (first.now ∷ second.now ∷ [])) }
 {
     let opened = Opened::new(alloc).ok()?;
-    shared_in::<Brand, R>(rt, alloc, kind, opened, first, second)
+    shared_in::<Brand, R>(rt, alloc, ids, kind, opened, first, second)
 }

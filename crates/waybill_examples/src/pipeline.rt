@@ -32,8 +32,8 @@ fn work_and_gather<
     let (done, done_receiver) = done;
     thread::join(
         &rt,
-        move || work::<B, C, R>(rt, jobs, results, todo, done, worker),
-        move || gather::<C, R>(rt, results, done_receiver, inbox),
+        move || work::<B, C, R>(jobs, results, todo, done, worker),
+        move || gather::<C, R>(results, done_receiver, inbox),
     )
 }
 

@@ -69,20 +69,17 @@ impl<B: Room, C: Room> Worker<B, C> {
 
 /// Does jobs until there are no more.
 pub(crate) fn work<B: Room, C: Room, R: Wait + Copy>(
-    rt: R,
     jobs: &Office<u32, B>,
     results: &Office<u64, C>,
     todo: Receiver<Parcel<u32, B>, R>,
     done: Sender<Parcel<u64, C>, R>,
     mut worker: Worker<B, C>,
 ) -> Worker<B, C> {
-    for _ in rt.forever() {
-        match todo.recv_blocking() {
-            Ok(job) => {
-                let _ = done.send_blocking(worker.square(jobs, results, job));
-            }
-            Err(_) => break,
-        }
+    for job in todo.iter() {
+        let Ok(job) = job else {
+            break;
+        };
+        let _ = done.send_blocking(worker.square(jobs, results, job));
     }
     worker
 }
@@ -99,19 +96,16 @@ pub(crate) fn give<B: Room, R: Wait + Copy>(
 
 /// Gathers results until there are no more.
 pub(crate) fn gather<C: Room, R: Wait + Copy>(
-    rt: R,
     results: &Office<u64, C>,
     done: Receiver<Parcel<u64, C>, R>,
     mut inbox: Inbox<u64, C>,
 ) -> Inbox<u64, C> {
-    for _ in rt.forever() {
-        match done.recv_blocking() {
-            Ok(parcel) => {
-                if inbox.unpack(results, parcel).is_err() {
-                    break;
-                }
-            }
-            Err(_) => break,
+    for parcel in done.iter() {
+        let Ok(parcel) = parcel else {
+            break;
+        };
+        if inbox.unpack(results, parcel).is_err() {
+            break;
         }
     }
     inbox
@@ -135,8 +129,8 @@ fn two_workers<
     let (worker, worker_too) = workers;
     thread::join(
         &rt,
-        move || work::<B, C, R>(rt, jobs, results, todo, done, worker),
-        move || work::<B, C, R>(rt, jobs, results, todo_too, done_too, worker_too),
+        move || work::<B, C, R>(jobs, results, todo, done, worker),
+        move || work::<B, C, R>(jobs, results, todo_too, done_too, worker_too),
     )
 }
 
@@ -181,7 +175,7 @@ fn pool_in<B: Room + Send + Sync, C: Room + Send + Sync, R: Threads + Wait + Cop
     );
     let (took, gave) = worker.into_passes();
     let (took_too, gave_too) = worker_too.into_passes();
-    let (gathered, got) = gather(rt, &results, done_receiver, inbox).into_parts();
+    let (gathered, got) = gather(&results, done_receiver, inbox).into_parts();
     jobs.absorb(&mut every_job, took);
     jobs.absorb(&mut every_job, took_too);
     results.absorb(&mut every_result, gave);

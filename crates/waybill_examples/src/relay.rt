@@ -28,13 +28,12 @@ fn send_all<B: Room, R: Wait + Copy>(
 }
 
 fn receive_all<B: Room, R: Wait + Copy>(
-    rt: R,
     office: &Office<u32, B>,
     receiver: Receiver<Parcel<u32, B>, R>,
     mut inbox: Inbox<u32, B>,
 ) -> Inbox<u32, B> {
-    for _ in rt.forever() {
-        let Ok(parcel) = receiver.recv_blocking() else {
+    for parcel in receiver.iter() {
+        let Ok(parcel) = parcel else {
             break;
         };
         if inbox.unpack(office, parcel).is_err() {
@@ -67,7 +66,7 @@ fn relay_in<B: Room + Send + Sync, R: Threads + Wait + Copy + Send + Sync>(
             requires { writer ≡ fresh 1 }
             ensures { result ≡ account 1 all.entry.now [] [] }
         { send_all::<B, R>(here, sender, writer, all) },
-        move || receive_all::<B, R>(rt, here, receiver, inbox),
+        move || receive_all::<B, R>(here, receiver, inbox),
     );
     let (reader, got) = inbox.into_parts();
     office.absorb(&mut whole, writer);

@@ -4,6 +4,7 @@ ghost use Rattle.std.specs.Prelude.{◌≡◌, ◌+◌, ◌++◌, [], length, su
 ghost use Rattle.waybill.specs.Accounts.{fresh, account};
 
 use crate::line::{Handles, Kind, Queue};
+use event_listener::id::EventIds;
 use std::alloc::Global;
 use std::marker::{Brand, Model};
 use std::sync::Wait;
@@ -177,6 +178,7 @@ fn sums_over<
 fn sums_in<B: Room + Send + Sync, R: Threads + Wait + Copy + Send + Sync>(
     rt: R,
     alloc: Global,
+    ids: &mut EventIds,
     kind: Kind,
     opened: Opened<u32>,
     first: &[u32],
@@ -186,7 +188,7 @@ fn sums_in<B: Room + Send + Sync, R: Threads + Wait + Copy + Send + Sync>(
     ensures { IfSome result (λ r. r.0.count + r.1.count ≡ length first.now + length second.now → r.0.total + r.1.total ≡ sum first.now + sum second.now) }
 {
     if let Kind::Handles = kind {
-        let line = Handles::new(rt, alloc)?;
+        let line = Handles::new(rt, alloc, ids)?;
         return sums_over::<B, _, R>(rt, alloc, &line, opened, first, second);
     }
     let line = Queue::new(rt, alloc, kind.bound())?;
@@ -198,6 +200,7 @@ fn sums_in<B: Room + Send + Sync, R: Threads + Wait + Copy + Send + Sync>(
 pub fn sums<R: Threads + Wait + Copy + Send + Sync>(
     rt: R,
     alloc: Global,
+    ids: &mut EventIds,
     kind: Kind,
     first: &[u32],
     second: &[u32],
@@ -205,5 +208,5 @@ pub fn sums<R: Threads + Wait + Copy + Send + Sync>(
     ensures { IfSome result (λ r. r.0.count + r.1.count ≡ length first.now + length second.now → r.0.total + r.1.total ≡ sum first.now + sum second.now) }
 {
     let opened = Opened::new(alloc).ok()?;
-    sums_in::<Brand, R>(rt, alloc, kind, opened, first, second)
+    sums_in::<Brand, R>(rt, alloc, ids, kind, opened, first, second)
 }

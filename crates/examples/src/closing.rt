@@ -1,18 +1,12 @@
 //! Everybody is told of the closing: who waits for it, and who waits for a message that won't come.
 
-use async_channel::{Receiver, Sender, unbounded};
-use event_listener::id::EventIds;
+use async_channel::{EventIds, Receiver, Runtime, Sender, unbounded};
 use futures::executor::block_on;
-use std::alloc::{AllocGlobal, Global};
-use std::random::RandomSource;
+use std::alloc::Global;
 use std::sync::Wait;
 use std::thread;
-use std::thread::Threads;
 
-fn waits_for_closing<R>(rt: R, sender: &Sender<u64, R>) -> u64
-where
-    R: Wait + Copy + RandomSource + AllocGlobal,
-{
+fn waits_for_closing<R: Runtime>(rt: R, sender: &Sender<u64, R>) -> u64 {
     match block_on(&rt, sender.closed()) {
         Ok(Ok(())) => 1,
         _ => 0,
@@ -27,10 +21,7 @@ fn waits_for_message<R: Wait + Copy>(receiver: &Receiver<u64, R>) -> u64 {
 }
 
 /// How many were told.
-pub(crate) fn told<R>(rt: R, alloc: Global, ids: &mut EventIds) -> Option<u64>
-where
-    R: Wait + Threads + Copy + RandomSource + AllocGlobal + Send + Sync,
-{
+pub(crate) fn told<R: Runtime>(rt: R, alloc: Global, ids: &mut EventIds) -> Option<u64> {
     let (sender, receiver) = unbounded(rt, alloc, ids).ok()?;
     let (closed, (a, b)) = thread::join(
         &rt,
