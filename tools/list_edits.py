@@ -48,7 +48,7 @@ BODIES = {
         "event_listener_tests/reserved_room_takes_as_many_insertions",
         "channel_world_tests/channels_are_opened_from_one_source",
         "channel_world_tests/one_message_settles_two_of_three_receives",
-        "recorded_channel_tests/a_send_without_room_comes_back",
+        "refused_world_growths_tests/a_send_without_room_comes_back",
     ],
     "each begin of a call is refused": ["channel_interleaving_tests/a_message_between_two_tries_is_taken"],
     "a receive of several tells one send for all that it took": [],
@@ -80,6 +80,16 @@ BODIES = {
     "a send in straight code tells no receive": ["async_channel_tests/a_told_receive_that_leaves_passes_its_notice_on"],
     "a send in straight code tells the streams twice": [],
     "a receive of several hands them out reversed": [],
+    "messages that are received into a list's room stand reversed": [
+        "async_channel_tests/messages_fill_the_room_that_is_there",
+    ],
+    "a receive into a list's room asks for memory": [
+        "async_channel_tests/messages_fill_the_room_that_is_there",
+    ],
+    "a walk over messages swallows its refusal": ["async_channel_tests/a_walk_gives_its_refusals"],
+    "a walk over messages goes on after its end": [
+        "async_channel_tests/a_walk_that_does_not_wait_stays_ended",
+    ],
     "a receive drops what it took": [],
     "a blocking call makes its second try before it listens": [],
     "a blocking call leaves its listener listed": [],

@@ -13,10 +13,14 @@ import sys
 PAGE = "docs/ROWS.md"
 # Crate, file, constant, what a line of it goes through, the test that plays it.
 TEXTS = [
+    ("concurrent_queue_tests", "queue_rows", "QUEUES", "`Exclusive`, its walks, and `ConcurrentQueue` on one thread (`queues`)", "rows::queues"),
+    ("concurrent_queue_tests", "turn_rows", "TURNS", "`run_queue_steps` (`turns`)", "rows::turns"),
     ("event_listener_tests", "list_rows", "ROWS", "`List` of one owner, and `List::run` (`lists`)", "list::rows"),
     ("event_listener_tests", "event_rows", "UNIT_ROWS", "`Event<()>`, its four notices, and `EventListener`, polled by hand and as a future (`units`, `listening`)", "event::rows"),
     ("event_listener_tests", "event_rows", "TAG_ROWS", "`Event<u32>`, and `EventListener` with its waits (`tags`, `listening`)", "event::rows_of_tags"),
     ("event_listener_tests", "recorded", "ROWS", "`RecordedEvent` and its record (`records`)", "recorded::rows"),
+    ("async_channel_tests", "handle_rows", "OPERATIONS", "`Sender` and `Receiver`, and `Send`, `Recv`, `Closed` and streams, polled by hand (`lent`, `said`)", "rows::operations"),
+    ("async_channel_tests", "handle_rows", "HANDLES", "all handles, made and dropped, and operations polled up to their ends (`owned`, `said`)", "rows::handles"),
     ("channel_interleaving_tests", "step_rows", "ROWS", "`World::run_steps` (`channel_rows`)", "rows::steps_by_names"),
     ("channel_interleaving_tests", "step_rows", "REFUSED", "lists of `World::run_steps` that stop (`channel_rows`)", "rows::refused_steps"),
     ("channel_world_tests", "call_rows", "SENDS", "`World::run_calls` (`channel_rows`)", "rows::sends"),
@@ -38,12 +42,12 @@ brackets. One more row costs no proof.
 |---|---|---|---|
 """
 TAIL = """
-Three rows are texts that a loop writes: `rows::messages_beyond_one_block_come_in_order` and `rows::clones_are_counted` of
-`channel_world_tests`, and `rows::several_at_once_beside_a_displacing_send` of `channel_interleaving_tests`, which plays a text for each
-place between the steps of a call.
+Four rows are texts that a loop writes: `rows::messages_beyond_one_block_come_in_order` and `rows::clones_are_counted` of
+`channel_world_tests`, `rows::lengths_after_each_call` of `async_channel_tests`, and `rows::several_at_once_beside_a_displacing_send` of
+`channel_interleaving_tests`, which plays a text for each place between the steps of a call.
 
 What needs threads, clocks that pass, types of its own or proofs, and what refuses memory, is code: the other tests of these crates. So
-are the rows of queues (`concurrent_queue_tests`), of handles polled by hand (`async_channel_tests`), and giving up at every place
+are calls of a channel step by step over one slot (`async_channel_tests`, `calls`), and giving up at every place
 (`channel_interleaving_tests`, `giving_up`). The rows of scripts are texts in `channel_script` (`rows`, `faults`, `bounds`), which has the
 one stored run too.
 """
