@@ -7,8 +7,7 @@ use std::test::Fail;
 use worked_rows::answers_of;
 
 /// Calls, the last of which is counted; what it answers; and how many steps it takes after its begin over one place, over three
-/// places
-/// and without a bound. A line stands for those forms alone that have a number.
+/// places and without a bound. A line stands for those forms alone that have a number.
 const COUNTS: &str = "
 try_send s 1 = sent in 5 7 10
 try_send s 1; try_send s 2 = sent in - 7 7
@@ -83,14 +82,15 @@ const FORMS: [&str; 3] = ["bounded 1", "bounded 3", "unbounded"];
 fn count(alloc: Global, form: &str, calls: &str) -> Result<String, AllocError> {
     let mut lines = String::new(alloc);
     lines.push_str(form)?;
-    let mut last = "";
-    for call in calls.split("; ") {
-        if !last.is_empty() {
-            write!(lines, "\n{last}")?;
+    match calls.rsplit_once("; ") {
+        Some((before, last)) => {
+            for call in before.split("; ") {
+                write!(lines, "\n{call}")?;
+            }
+            write!(lines, "\ncount {last}")?;
         }
-        last = call;
+        None => write!(lines, "\ncount {calls}")?,
     }
-    write!(lines, "\ncount {last}")?;
     let mut worlds = Worlds::new(alloc);
     answers_of(alloc, lines.as_str(), &mut worlds)
 }
