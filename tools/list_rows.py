@@ -42,9 +42,9 @@ brackets. One more row costs no proof.
 |---|---|---|---|
 """
 TAIL = """
-Four rows are texts that a loop writes: `rows::messages_beyond_one_block_come_in_order` and `rows::clones_are_counted` of
+Four rows are texts that a loop writes. They are `rows::messages_beyond_one_block_come_in_order` and `rows::clones_are_counted` of
 `channel_world_tests`, `rows::lengths_after_each_call` of `async_channel_tests`, and `rows::several_at_once_beside_a_displacing_send` of
-`channel_interleaving_tests`, which plays a text for each place between the steps of a call.
+`channel_interleaving_tests`. The last one plays a text for each place between the steps of a call.
 
 What needs threads, clocks that pass, types of its own or proofs, and what refuses memory, is code: the other tests of these crates. So
 are calls of a channel step by step over one slot (`async_channel_tests`, `calls`), and giving up at every place
