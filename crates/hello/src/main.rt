@@ -1,40 +1,20 @@
-//! Two threads and a channel.
+//! Two threads and a channel: one sends the numbers up to ten, the other prints what comes.
 #![tactic(auto)]
 
-use async_channel::{EventIds, ListenError, Receiver, Sender, bounded};
-use std::process::ExitCode;
-use std::sync::Wait;
+use async_channel::{EventIds, bounded};
 use std::thread;
 
-/// Sends the numbers up to ten, and closes the channel by letting the sender go.
-fn send_all<R: Wait + Copy>(sender: Sender<u64, R>) {
-    for number in 1..11 {
-        if sender.send_blocking(number).is_err() {
-            return;
-        }
-    }
-}
-
-/// The sum of what comes until the channel is closed and empty.
-fn receive_all<R: Wait + Copy>(receiver: Receiver<u64, R>) -> Result<u64, ListenError> {
-    let mut sum: u64 = 0;
-    for number in receiver.iter() {
-        sum = sum.wrapping_add(number?);
-    }
-    Ok(sum)
-}
-
-fn main(rt: HostRuntime) -> ExitCode {
+fn main(rt: HostRuntime) -> anyhow::Result<()> {
     let mut ids = EventIds::new(); // one for all channels of a program
-    let Ok((sender, receiver)) = bounded(rt, rt.alloc(), 3, &mut ids) else {
-        return ExitCode::FAILURE;
+    let (sender, receiver) = bounded(rt, rt.alloc(), 3, &mut ids)?;
+    let send = move || (1..11u64).try_for_each(|number| sender.send_blocking(number));
+    let show = move || {
+        for number in receiver.iter() {
+            println!(&rt; "{}", number?)?;
+        }
+        Ok(())
     };
-    let ((), sum) = thread::join(&rt, move || send_all(sender), move || receive_all(receiver));
-    let Ok(sum) = sum else {
-        return ExitCode::FAILURE;
-    };
-    match println!(&rt; "{sum}") {
-        Ok(()) => ExitCode::SUCCESS,
-        Err(_) => ExitCode::FAILURE,
-    }
+    let (sent, shown) = thread::join(&rt, send, show);
+    sent?;
+    shown
 }
