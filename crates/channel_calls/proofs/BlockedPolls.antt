@@ -412,7 +412,7 @@ module _ {T : Type 0} (W : Type 0) where
   leaves_fair (Send v) key = refl
   leaves_fair Receive key = refl
 
-no_key : (key : Option Key) → is_some key ≡ false → key ≡ None
+pub no_key : (key : Option Key) → is_some key ≡ false → key ≡ None
 no_key None e = refl
 no_key (Some k) e = absurd (let never : true ≡ false = e in cc)
 

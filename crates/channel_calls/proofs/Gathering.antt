@@ -1,5 +1,5 @@
 -- The steps of a receive of several that has got its room, from what each pop answered.
-use Rattle.std.proofs.Common.{arith, ◌≡◌, ℕ, zero, suc, ◌+◌, List, [], ◌∷◌, ◌++◌, length, None, Some, Ok, Err, inl, refl, sym, subst}
+use Rattle.std.proofs.Common.{arith, ◌≡◌, ℕ, zero, suc, ◌+◌, List, [], ◌∷◌, ◌++◌, length, None, Some, Ok, Err, ◌<◌, inl, inr, refl, sym, subst}
 use Rattle.concurrent_queue.specs.Replies.{IsAsking}
 use Rattle.concurrent_queue.specs.Step.{Starts, mark_of}
 use Rattle.concurrent_queue.specs.declared.call.QueueAsk.TheVariants as queue_ask
@@ -12,10 +12,10 @@ use Rattle.channel_calls.specs.Deeds.{Deed, stepped, more_told}
 use Rattle.channel_calls.specs.Filling.{popped_as}
 use Rattle.channel_calls.specs.Marks.{mark_of_queue}
 use Rattle.channel_calls.specs.Several.{Gathered, gathering}
-use Rattle.channel_calls.specs.Turns.{says, nothing_kept, room_next}
+use Rattle.channel_calls.specs.Turns.{says, nothing_kept, room_next, roomless}
 use Rattle.channel_calls.specs.Walks.{Takes, Leads, WalkedTo}
 use Rattle.channel_calls.specs.declared.ask.ChannelAsk.TheVariants as ask
-use Rattle.channel_calls.specs.declared.error.Refused.TheVariants.{Plain}
+use Rattle.channel_calls.specs.declared.error.Refused.TheVariants.{Plain, NoMemory}
 use Rattle.channel_calls.specs.declared.error.TryRecvError.{TryRecvError}
 use Rattle.channel_calls.specs.declared.error.TryRecvError.TheVariants as try_recv_error
 use Rattle.channel_calls.specs.declared.mark.Mark.TheVariants.{Nothing}
@@ -74,6 +74,10 @@ module _ {T W X : Type 0} (did : Deed T W → X → X → Type 0) where
 
   pub none_wanted : (s : X) → WalkedTo did (first (ask.RecvMany 0)) s (reply.RecvMany (Ok [])) s
   none_wanted s = (nothing_kept, (Working (TakeRoom 0), (refl, refl), (0, s, Working (TakeRoom 0), Nothing, Finished nothing_kept, (refl, refl), (room_next 0, refl, inl refl, (refl, (refl, refl))), refl)))
+
+  -- memory is refused at the first step
+  pub none_had : (n : ℕ) → 0 < n → (s : X) → WalkedTo did (first (ask.RecvMany n)) s (reply.RecvMany (Err (NoMemory tt))) s
+  none_had n some s = (nothing_kept, (Working (TakeRoom n), (refl, refl), (0, s, Working (TakeRoom n), Nothing, Finished nothing_kept, (refl, refl), (roomless, refl, inr (some, refl), (refl, (refl, refl))), refl)))
 
   pub begins : (more : ℕ) (s : X) (call : QueueCall T) → Starts call queue_ask.Pop → IsAsking call queue_ask.Pop → Gathers (suc more) s call [] more s
   begins more s call starts asks =

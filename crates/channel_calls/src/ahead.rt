@@ -51,7 +51,10 @@ fn popped<T: Drop>(answer: QueueReply<T>) -> Result<T, QueueReply<T>>
 
 /// What a call has come to by its turn after a step of the queue: its answer, or the call that has to be stepped on.
 #[inline(always)]
-fn turned<T: Drop, W: Drop>(turn: Turn<T, W>, mark: Mark) -> Result<Reply<T>, ChannelCall<T, W>>
+pub(crate) fn turned<T: Drop, W: Drop>(
+    turn: Turn<T, W>,
+    mark: Mark,
+) -> Result<Reply<T>, ChannelCall<T, W>>
     requires unraised { is_up mark ≡ false }
     ensures goes { MatchResult result (λ r. (s : Stage (QueueCall T) T W) × Takes turn s (Some r)) (λ call. Takes turn call.stage None) }
     ensures taken { MatchResult result (λ r. (s : Stage (QueueCall T) T W) × IsTaken turn (Some r) s × ((b : QueueForm) → FollowsTurn b turn s (Some r)))

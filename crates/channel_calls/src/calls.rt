@@ -18,8 +18,8 @@ use crate::ahead::{receive_ahead, send_ahead};
 use crate::ask::ChannelAsk;
 use crate::cells::ChannelCells;
 use crate::error::{Refused, SendError, TryRecvError, TrySendError};
+use crate::filling::recv_many_into;
 use crate::reply::Reply;
-use crate::several::Limit;
 use crate::whole::{Given, complete, make};
 use event_listener::wakes::Wakes;
 use std::alloc::Global;
@@ -117,7 +117,8 @@ pub fn try_recv<T: Drop, W: Drop, R: Wait, C: ChannelCells<T, W>, S: Wakes<W>>(
     }
 }
 
-/// A receive of several messages, at most so many, that waits for none.
+/// A receive of several messages, at most so many, that waits for none. Room for all of them is its first step, so that what was taken
+/// never waits for memory; then it is the receive into room that its caller has.
 pub fn recv_many<T: Drop, W: Drop, R: Wait, C: ChannelCells<T, W>, S: Wakes<W>>(
     rt: &R,
     limit: usize,
@@ -131,13 +132,15 @@ pub fn recv_many<T: Drop, W: Drop, R: Wait, C: ChannelCells<T, W>, S: Wakes<W>>(
     ensures most { MatchResult result (λ messages. GivesUpTo limit (reply.RecvMany (Ok messages.items))) (λ e. GivesUpTo {T = T} limit (reply.RecvMany (Err e))) }
     ensures form { (f : QueueForm) → C.has_form cells.old f → C.has_form cells.new f }
 {
-    let ask = ChannelAsk::RecvMany(Limit::new(limit, alloc));
-    let Given { reply, kept } = make(rt, ask, cells, sink);
-    drop(kept);
-    match reply {
-        Reply::RecvMany(Ok(messages)) => Ok(messages.into_vec()),
-        Reply::RecvMany(Err(error)) => Err(error),
-        _ => unreachable!(),
+    let Ok(mut messages) = Vec::with_capacity(alloc, limit) else {
+        return Err(Refused::NoMemory(()));
+    };
+    match recv_many_into(rt, &mut messages, cells, sink) {
+        Ok(_) => Ok(messages),
+        Err(error) => {
+            drop(messages);
+            Err(Refused::Plain(error))
+        }
     }
 }
 

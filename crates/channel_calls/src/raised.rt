@@ -10,17 +10,22 @@ ghost use Rattle.std.specs.Prelude.{◌≡◌, IfErr};
 ghost use Rattle.channel_calls.specs.Asks.{first};
 ghost use Rattle.channel_calls.specs.Calls.{made_answer, upgraded_answer};
 ghost use Rattle.channel_calls.specs.Deeds.{Done};
-ghost use Rattle.channel_calls.specs.Walks.{WalkedTo};
+ghost use Rattle.channel_calls.specs.Walks.{Walked, WalkedTo};
 ghost use Rattle.channel_calls.specs.declared.ask.ChannelAsk.TheVariants as ask;
 ghost use Rattle.channel_calls.specs.declared.reply.Reply.{Reply as Answer};
+ghost use Rattle.channel_calls.specs.declared.stage.Kept.{Kept as Left};
 
+use crate::ahead::turned;
 use crate::ask::ChannelAsk;
+use crate::call::ChannelCall;
 use crate::cells::ChannelCells;
 use crate::error::HandleError;
 use crate::kind::{Kind, OfReceivers, OfSenders};
+use crate::mark::Mark;
 use crate::reply::Reply;
-use crate::stage::Side;
-use crate::whole::make;
+use crate::stage::{Making, Side, Stage, Turn, Work};
+use crate::turn::{is_too_many, lowered_next};
+use crate::whole::{Given, complete, make};
 use crossbeam_utils::CachePadded;
 use event_listener::key::Key;
 use event_listener::wakes::Wakes;
@@ -90,15 +95,21 @@ impl Opening {
     }
 }
 
+/// One more of these handles, given where a count was raised for it.
+#[inline(always)]
+fn one_more<K: Kind>() -> Raised<K> {
+    Raised {
+        one: (),
+        kind: PhantomData,
+    }
+}
+
 /// What a clone answers.
 fn made_answer<K: Kind, T: Drop>(answer: Reply<T>) -> Result<Raised<K>, HandleError>
     ensures { result ≡ made_answer answer }
 {
     match answer {
-        Reply::Made => Ok(Raised {
-            one: (),
-            kind: PhantomData,
-        }),
+        Reply::Made => Ok(one_more()),
         _ => Err(HandleError::TooMany),
     }
 }
@@ -108,16 +119,33 @@ fn upgraded_answer<K: Kind, T: Drop>(answer: Reply<T>) -> Result<Option<Raised<K
     ensures { result ≡ upgraded_answer answer }
 {
     match answer {
-        Reply::Made => Ok(Some(Raised {
-            one: (),
-            kind: PhantomData,
-        })),
+        Reply::Made => Ok(Some(one_more())),
         Reply::NotMade => Ok(None),
         _ => Err(HandleError::TooMany),
     }
 }
 
-/// One more strong handle of this kind is counted, or more than half of `usize::MAX` live and nothing is changed.
+/// The steps of a clone after another handle came between: the count is read again.
+#[inline(never)]
+fn count_again<T: Drop, W: Drop, R: Wait, C: ChannelCells<T, W>, S: Wakes<W>>(
+    rt: &R,
+    side: Side,
+    cells: &mut C,
+    sink: &mut S,
+) -> Reply<T>
+    ensures deeds { (kept : Left T) × Walked (Done C.did S.wakes) (Stage.Working (Work.Load side Making.Clone)) (cells.old, sink.old) result kept (cells.new, sink.new) }
+{
+    let call = ChannelCall {
+        stage: Stage::Working(Work::Load(side, Making::Clone)),
+        mark: Mark::Nothing,
+    };
+    let Given { reply, kept } = complete(rt, call, cells, sink);
+    drop(kept);
+    reply
+}
+
+/// One more strong handle of this kind is counted, or more than half of `usize::MAX` live and nothing is changed. Two steps where no
+/// other handle comes between.
 pub fn clone_handle<K: Kind, T: Drop, W: Drop, R: Wait, C: ChannelCells<T, W>, S: Wakes<W>>(
     rt: &R,
     cells: &mut C,
@@ -126,8 +154,15 @@ pub fn clone_handle<K: Kind, T: Drop, W: Drop, R: Wait, C: ChannelCells<T, W>, S
     ensures deeds { (r : Answer T) × WalkedTo (Done C.did S.wakes) (first (ask.CloneHandle K.side)) (cells.old, sink.old) r (cells.new, sink.new) × (result ≡ made_answer r) }
     ensures reason { IfErr result (λ e. e ≡ HandleError.TooMany) }
 {
-    let given = make(rt, ChannelAsk::CloneHandle(K::side()), cells, sink);
-    made_answer(given.reply)
+    let side = K::side();
+    let count = cells.count(side);
+    if is_too_many(count) {
+        return Err(HandleError::TooMany);
+    }
+    if cells.raise(side, count) {
+        return Ok(one_more());
+    }
+    made_answer(count_again(rt, side, cells, sink))
 }
 
 /// One more strong handle of this kind is counted, where the channel is open and one lives; `None` elsewhere. Refused as a clone is.
@@ -143,6 +178,27 @@ pub fn upgrade<K: Kind, T: Drop, W: Drop, R: Wait, C: ChannelCells<T, W>, S: Wak
     upgraded_answer(given.reply)
 }
 
+/// A strong handle is dropped, with the listener that a receiver may have as a stream. One step, where others of its kind live and it
+/// has none.
+fn lowered<T: Drop, W: Drop, R: Wait, C: ChannelCells<T, W>, S: Wakes<W>>(
+    rt: &R,
+    side: Side,
+    stream_key: Option<Key>,
+    cells: &mut C,
+    sink: &mut S,
+)
+    ensures deeds { (r : Answer T) × WalkedTo (Done C.did S.wakes) (Turn.Works (Work.Lower side stream_key)) (cells.old, sink.old) r (cells.new, sink.new) }
+{
+    let before = cells.lower(side);
+    if before != 1 && stream_key.is_none() {
+        return;
+    }
+    match turned(lowered_next(side, stream_key, before), Mark::down(side)) {
+        Ok(reply) => drop(reply),
+        Err(call) => drop(complete(rt, call, cells, sink)),
+    }
+}
+
 /// A sender is dropped: its count is lowered, and the last one closes.
 pub fn drop_sender<T: Drop, W: Drop, R: Wait, C: ChannelCells<T, W>, S: Wakes<W>>(
     rt: &R,
@@ -153,7 +209,7 @@ pub fn drop_sender<T: Drop, W: Drop, R: Wait, C: ChannelCells<T, W>, S: Wakes<W>
     ensures deeds { (r : Answer T) × WalkedTo (Done C.did S.wakes) (first ask.DropSender) (cells.old, sink.old) r (cells.new, sink.new) }
 {
     let Raised { one: _, kind: _ } = raised;
-    drop(make(rt, ChannelAsk::DropSender, cells, sink));
+    lowered(rt, Side::Senders, None, cells, sink);
 }
 
 /// A receiver is dropped, which may have a listener as a stream: its count is lowered, and the last one closes.
@@ -167,5 +223,5 @@ pub fn drop_receiver<T: Drop, W: Drop, R: Wait, C: ChannelCells<T, W>, S: Wakes<
     ensures deeds { (r : Answer T) × WalkedTo (Done C.did S.wakes) (first (ask.DropReceiver stream_key)) (cells.old, sink.old) r (cells.new, sink.new) }
 {
     let Raised { one: _, kind: _ } = raised;
-    drop(make(rt, ChannelAsk::DropReceiver(stream_key), cells, sink));
+    lowered(rt, Side::Receivers, stream_key, cells, sink);
 }

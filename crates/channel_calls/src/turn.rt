@@ -1,7 +1,7 @@
 //! What comes after each step of a call on a list or on a count.
 
-ghost use Rattle.std.specs.Prelude.{◌≡◌};
-ghost use Rattle.channel_calls.specs.Turns.{line_of, message_of, ask_of, nothing_kept, says, held_on, ends_by, again, refused_next, pending_reply, pends_by, want, refused_reply, unlistened, closer_ending, dropper, told_all_next, TakesRoom, lowered_next, loaded_next, raised_next};
+ghost use Rattle.std.specs.Prelude.{◌≡◌, nat_lt};
+ghost use Rattle.channel_calls.specs.Turns.{most, line_of, message_of, ask_of, nothing_kept, says, held_on, ends_by, again, refused_next, pending_reply, pends_by, want, refused_reply, unlistened, closer_ending, dropper, told_all_next, TakesRoom, lowered_next, loaded_next, raised_next};
 
 use crate::error::Refused;
 use crate::reply::Reply;
@@ -246,6 +246,14 @@ pub(crate) fn room_next<T: Drop, W>(limit: Limit) -> Turn<T, W>
     }
 }
 
+/// Whether more handles are counted than one may be added to: more than half of `usize::MAX`.
+#[inline(always)]
+pub(crate) fn is_too_many(count: usize) -> bool
+    ensures { result ≡ nat_lt most count }
+{
+    count > MOST
+}
+
 /// A count was read that is to be raised.
 pub(crate) fn loaded_next<T, W>(side: Side, making: Making, count: usize) -> Turn<T, W>
     ensures { result ≡ loaded_next side making count }
@@ -253,7 +261,7 @@ pub(crate) fn loaded_next<T, W>(side: Side, making: Making, count: usize) -> Tur
     if making == Making::Upgrade && count == 0 {
         return Turn::Ends(Reply::NotMade, Kept::nothing());
     }
-    if count > MOST {
+    if is_too_many(count) {
         return Turn::Ends(Reply::TooMany, Kept::nothing());
     }
     Turn::Works(Work::Raise(side, count, making))
