@@ -25,12 +25,13 @@ lacks_memory (reply.ClosedPoll (Ready (Err listen_error.NoMemory))) = true
 lacks_memory (reply.Next (Ready (Some (Err listen_error.NoMemory)))) = true
 lacks_memory _ = false
 
-module _ {T W : Type 0} where
+module _ {W : Type 0} where
   -- this listener is held, and is on this list
   abbrev pub IsListed : Line → Option Key → Roster W → Type 0
   IsListed line None a = ⊥
   IsListed line (Some key) a = is_some (kind_of (listeners line a) key) ≡ true
 
+module _ {T W : Type 0} where
   -- A poll that holds a listener which is on its list. Of a send it is one on a channel with a bound: without one no send waits, and
   -- a message may want a block.
   abbrev pub HasNode : ChannelAsk T W → Parts T W → Type 0

@@ -117,7 +117,7 @@ module _ {T : Type 0} where
 
     -- a receiver that is pending as a stream
     by_stream : (k : HandleKind) (s : Standing) (key : Option Key) → key ≡ key_of s → stream_post k s ≡ waits h true
-        → IsListed {T = T} Streams key p.roster
+        → IsListed Streams key p.roster
     by_stream handle_kind.Receiver Rests key e f = absurd (let no : rests Streams ≡ waits h true = f in cc)
     by_stream handle_kind.Receiver (IsPolled z) key e f = absurd (let no : polled Streams ≡ waits h true = f in cc)
     by_stream handle_kind.Receiver (Waits own z) key e f =

@@ -63,5 +63,5 @@ returns-in-Some-clause-ample g c =
     let l = c.loop-reply in
     let call = c.step-reply.new.self in
     λ h. (ample_next g.S.Wakes.wakes c.args.ask c.args.channel.now c.args.sink.now c.requires.at_rest (l.channel, l.sink)
-        (c.step-reply.new.cells, c.step-reply.new.sink) call.mark l.call.stage call.stage (Some c.in-Some.reply) l.invariant.0
-        c.in-Some.ensures.deed l.invariant.2 h).1
+    (c.step-reply.new.cells, c.step-reply.new.sink) call.mark l.call.stage call.stage (Some c.in-Some.reply) l.invariant.0
+    c.in-Some.ensures.deed l.invariant.2 h).1
