@@ -1,5 +1,6 @@
 -- A poll that holds a listener is refused no memory where it is alone: its list has room for the next as soon as that one has left.
-use Rattle.std.proofs.Common.{arith, nat_tests, ◌≡◌, ◌+◌, ◌<◌, ℕ, Bool, true, false, if◌then◌else◌, not, List, [], ◌∷◌, ◌++◌, Option, None, Some, Result, Ok, Err, is_some, refl, sym, ap, ◌∙◌, subst}
+use Rattle.std.proofs.lemmas.Bool.Decides.{nat_tests}
+use Rattle.std.proofs.Common.{arith, cond, ◌≡◌, ◌+◌, ◌<◌, ℕ, Bool, true, false, if◌then◌else◌, not, List, [], ◌∷◌, ◌++◌, Option, None, Some, Result, Ok, Err, is_some, refl, sym, ap, ◌∙◌, subst}
 use Rattle.std.specs.Map.{lookup}
 use Rattle.concurrent_queue.specs.Capacity.{capacity_of}
 use Rattle.concurrent_queue.specs.Queue.{Queue, Phase}
@@ -30,6 +31,7 @@ use Rattle.channel_calls.specs.declared.ask.ChannelAsk.{ChannelAsk}
 use Rattle.channel_calls.specs.declared.ask.ChannelAsk.TheVariants.{PollSend, PollRecv, PollClosed, PollNext}
 use Rattle.channel_calls.specs.declared.ask.Loan.{Loan}
 use Rattle.channel_calls.specs.declared.mark.Mark.{Mark}
+use Rattle.channel_calls.specs.declared.mark.Mark.TheVariants.{Nothing}
 use Rattle.channel_calls.specs.declared.plain.PlainChannel.{PlainChannel}
 use Rattle.channel_calls.specs.declared.reply.Reply.{Reply}
 use Rattle.channel_calls.specs.declared.stage.Aim.{Aim}
@@ -57,10 +59,11 @@ use Rattle.channel_alone.proofs.TryFacts.{Found, tries_end}
 module _ {W : Type 0} where
   there_last : (key : Key) (xs : List (Key × Option W)) → is_some (lookup (same_key key) (xs ++ (key, None) ∷ [])) ≡ true
   there_last key [] = let same : same_key key key ≡ true = grind (arith, nat_tests) in rw same refl
-  there_last key (x ∷ xs) = by (same_key key x.0) where
-    by : (b : Bool) → is_some (cond b (Some x.1) (lookup (same_key key) (xs ++ (key, None) ∷ []))) ≡ true
-    by true = refl
-    by false = there_last key xs
+  there_last key (x ∷ xs) = by (same_key key x.0) (there_last key xs) where
+    by : (b : Bool) → is_some (lookup (same_key key) (xs ++ (key, None) ∷ [])) ≡ true
+        → is_some (cond b (Some x.1) (lookup (same_key key) (xs ++ (key, None) ∷ []))) ≡ true
+    by true more = refl
+    by false more = more
 
   -- one that has come is listed
   listed_now : (key : Key) (l : Listeners W) → is_some (kind_of (listened key l) key) ≡ true
@@ -98,6 +101,31 @@ abbrev pub HasBound : Option ℕ → Line → Type 0
 HasBound cap Sends = is_some cap ≡ true
 HasBound cap line = Unit {0}
 
+pending_ample : (T : Type 0) (line : Line) → lacks_memory (pending_reply {T = T} line) ≡ false
+pending_ample T Sends = refl
+pending_ample T Receives = refl
+pending_ample T Streams = refl
+pending_ample T Closings = refl
+
+serials_ample : (T : Type 0) (line : Line) → lacks_memory (refused_reply {T = T} line listen_error.SerialsUsedUp) ≡ false
+serials_ample T Sends = refl
+serials_ample T Receives = refl
+serials_ample T Streams = refl
+serials_ample T Closings = refl
+
+module _ {T : Type 0} where
+  abbrev pub NoneLacks : Option (Reply T) → Type 0
+  NoneLacks None = Unit {0}
+  NoneLacks (Some x) = lacks_memory x ≡ false
+
+  -- no message was refused memory, where the queue has a bound
+  abbrev pub HasMemory : Option ℕ → QueueReply T → Type 0
+  HasMemory cap x = is_some cap ≡ true → (v : T) → x ≡ answer.Push (Err (push_error.NoMemory v)) → ⊥
+
+module _ {T W : Type 0} where
+  abbrev lists_in : PlainChannel T W → Roster W
+  lists_in c = (parts_of c).roster
+
 module _ {T W : Type 0} (cap : Option ℕ) where
   -- ---- stages from which no call comes to be refused memory, over a queue of this capacity, and these lists and their room
 
@@ -125,10 +153,6 @@ module _ {T W : Type 0} (cap : Option ℕ) where
   ReadyStage a m (Working w) = ReadyWork a m w
   ReadyStage a m (Finished kept) = Unit {0}
 
-  abbrev pub NoneLacks : Option (Reply T) → Type 0
-  NoneLacks None = Unit {0}
-  NoneLacks (Some x) = lacks_memory x ≡ false
-
   -- after a step
   abbrev pub StaysReady : Roster W → Rooms → Stage (QueueCall T) T W → Option (Reply T) → Type 0
   StaysReady a m next r = ReadyStage a m next × NoneLacks r
@@ -150,12 +174,8 @@ module _ {T W : Type 0} (cap : Option ℕ) where
 
   -- ---- an answer of the queue
 
-  -- no message was refused memory, where the queue has a bound
-  abbrev pub HasMemory : QueueReply T → Type 0
-  HasMemory x = is_some cap ≡ true → (v : T) → x ≡ answer.Push (Err (push_error.NoMemory v)) → ⊥
-
   module _ (a : Roster W) (m : Rooms) where
-    sent : (key : Option Key) (task : W) (x : QueueReply T) → HasMemory x
+    sent : (key : Option Key) (task : W) (x : QueueReply T) → HasMemory cap x
         → ReadyAim a m (aim.Poll Sends key task) → ReadyTurn a m (answered_next (aim.Poll Sends key task) x)
     sent key task (answer.Push (Ok u)) ample h = refl
     sent None task (answer.Push (Err (push_error.Full v))) ample h = h
@@ -192,29 +212,14 @@ module _ {T W : Type 0} (cap : Option ℕ) where
     looked (Some key) task (answer.Flag false) h = h
     looked key task x h = refl
 
-    answered : (y : Aim T W) (x : QueueReply T) → HasMemory x → ReadyAim a m y → ReadyTurn a m (answered_next y x)
+    answered : (y : Aim T W) (x : QueueReply T) → HasMemory cap x → ReadyAim a m y → ReadyTurn a m (answered_next y x)
     answered (aim.Poll Sends key task) x ample h = sent key task x ample h
     answered (aim.Poll Receives key task) x ample h = received key task x h
     answered (aim.Poll Streams key task) x ample h = streamed key task x h
     answered (aim.Poll Closings key task) x ample h = looked key task x h
     answered y x ample h = absurd h
 
-  pending_ample : (line : Line) → lacks_memory (pending_reply {T = T} line) ≡ false
-  pending_ample Sends = refl
-  pending_ample Receives = refl
-  pending_ample Streams = refl
-  pending_ample Closings = refl
-
-  serials_ample : (line : Line) → lacks_memory (refused_reply {T = T} line listen_error.SerialsUsedUp) ≡ false
-  serials_ample Sends = refl
-  serials_ample Receives = refl
-  serials_ample Streams = refl
-  serials_ample Closings = refl
-
   -- ---- a step on a list
-
-  abbrev lists_in : PlainChannel T W → Roster W
-  lists_in c = (parts_of c).roster
 
   came : (w : Waiting T) (task : W) (o : Result Key ListenError) (c d : PlainChannel T W) → DoesPlain (inserted (line_of w) o) c d
       → ReadyWork (lists_in c) (rooms_of c) (Insert w task) → ReadyTurn (lists_in d) (rooms_of d) (inserted_next w task o)
@@ -224,11 +229,11 @@ module _ {T W : Type 0} (cap : Option ℕ) where
       ap (λ (p : Parts T W). listeners (line_of w) p.roster) h.0.1 ∙ same_list (line_of w) (listened key l) (lists_in c) in
       (subst (λ (k : Listeners W). is_some (kind_of k key) ≡ true) (sym there) (listed_now key l), ready.1)
   came w task (Err listen_error.NoMemory) c d h ready = let none = h.1.1 in let room = ready.0 in absurd (omega (arith, none, room))
-  came w task (Err listen_error.SerialsUsedUp) c d h ready = serials_ample (line_of w)
+  came w task (Err listen_error.SerialsUsedUp) c d h ready = serials_ample T (line_of w)
 
   heard : (w : Waiting T) (key : Key) (task : W) (o : Option W) (c d : PlainChannel T W) → DoesPlain (registered (line_of w) key task o) c d
       → ReadyWork (lists_in c) (rooms_of c) (Register w key task) → ReadyTurn (lists_in d) (rooms_of d) (registered_next w key o)
-  heard w key task None c d h ready = pending_ample (line_of w)
+  heard w key task None c d h ready = pending_ample T (line_of w)
   heard w key task (Some back) c d h ready =
       let line = line_of w in
       let l = listeners line (lists_in c) in
@@ -259,7 +264,7 @@ module _ {T W : Type 0} (cap : Option ℕ) where
 
     -- the queue's call goes on, or has answered
     tried : (y : Aim T W) (after : QueueCall T) (o : Option (QueueReply T)) → lists_in t.0 ≡ lists_in s.0 → rooms_of t.0 ≡ rooms_of s.0
-        → ((x : QueueReply T) → o ≡ Some x → HasMemory x) → Heard y after o next r → ReadyAim (lists_in s.0) (rooms_of s.0) y → Stays
+        → ((x : QueueReply T) → o ≡ Some x → HasMemory cap x) → Heard y after o next r → ReadyAim (lists_in s.0) (rooms_of s.0) y → Stays
     tried y after None lists rooms ample (on, none) k = (
       subst (λ (z : Stage (QueueCall T) T W). ReadyStage (lists_in t.0) (rooms_of t.0) z) (sym on) (rw (lists, rooms) k),
       subst (λ (z : Option (Reply T)). NoneLacks z) (sym none) tt,
@@ -279,7 +284,7 @@ module _ {T W : Type 0} where
       → IsQueueStep parts.cells call parts'.cells after (Some z) → HasMemory c0.queue.capacity z
   memory_there a c0 parts parts' so_far call after y x z step bound v e =
       let q = x.now in
-      let made = step x.fits.0 q x.at [] [] (in_range a c0 parts so_far (Trying call y) x) x.fits.1 in
+      let made = step x.fits.0 q x.at [] [] (in_range a c0 parts so_far [] parts' (Trying call y) Nothing None (Trying call y) x) x.fits.1 in
       let finds : Finds x.at.ask x.from z = (tries_end x.from q x.at (mark_of after) z x.idle made.effect.0 x.known).finds in
       let none : x.from.capacity ≡ None = no_bound x.at.ask x.from v (subst (λ (b : QueueReply T). Finds x.at.ask x.from b) e finds) in
       let off : is_some c0.queue.capacity ≡ false = ap (λ (b : Option ℕ). is_some b) (sym x.capacity ∙ none) in

@@ -1,5 +1,5 @@
 -- Who is pending and was woken holds a listener that is on its list, so that its poll, made alone, is refused no memory.
-use Rattle.std.proofs.Common.{◌≡◌, nat_eq, ℕ, Bool, true, false, if◌then◌else◌, List, [], ◌∷◌, Option, None, Some, is_some, inl, inr, refl, sym, ap, ◌∙◌, subst}
+use Rattle.std.proofs.Common.{cond, ◌≡◌, nat_eq, ℕ, Bool, true, false, if◌then◌else◌, List, [], ◌∷◌, Option, None, Some, is_some, inl, inr, refl, sym, ap, ◌∙◌, subst}
 use Rattle.std.specs.Map.{lookup, keys_of}
 use Rattle.std.specs.Option.{option_map, option_map_or}
 use Rattle.concurrent_queue.specs.Capacity.{capacity_of}
@@ -50,23 +50,22 @@ use Rattle.channel_interleaving.proofs.WokenPolls.{among_filter, woken_waits}
 told_there : (key : Key) (xs : List (Key × Notice Unit)) → IsAmong key (keys_of xs) → is_some (lookup (same_key key) xs) ≡ true
 told_there key [] i = absurd i
 told_there key (x ∷ xs) (inl e) = let same : same_key key x.0 ≡ true = ap (same_key key) e ∙ same_self key in rw same refl
-told_there key (x ∷ xs) (inr i) = by (same_key key x.0) where
-  by : (b : Bool) → is_some (cond b (Some x.1) (lookup (same_key key) xs)) ≡ true
-  by true = refl
-  by false = told_there key xs i
+told_there key (x ∷ xs) (inr i) = by (same_key key x.0) (told_there key xs i) where
+  by : (b : Bool) → is_some (lookup (same_key key) xs) ≡ true → is_some (cond b (Some x.1) (lookup (same_key key) xs)) ≡ true
+  by true more = refl
+  by false more = more
 
 -- this listener is on its list
 abbrev IsThere : Held → Roster Waiter → Type 0
 IsThere h a = is_some (kind_of (listeners h.line a) h.key) ≡ true
 
 told_listed : (h : Held) (a : Roster Waiter) → IsAmong h.key (keys_of (listeners h.line a).told) → IsThere h a
-told_listed h a i = by (is_some (told_as l h.key)) (is_some (waits_as l h.key)) (told_there h.key l.told i) where
-  l : Listeners Waiter
-  l = listeners h.line a
-
-  by : (told waiting : Bool) → told ≡ true → is_some (if told then Some true else (if waiting then Some false else None)) ≡ true
-  by true waiting e = refl
-  by false waiting e = cc e
+told_listed h a i =
+    let l = listeners h.line a in by (is_some (told_as l h.key)) (is_some (waits_as l h.key)) (told_there h.key l.told i)
+  where
+    by : (told waiting : Bool) → told ≡ true → is_some (if told then Some true else (if waiting then Some false else None)) ≡ true
+    by true waiting e = refl
+    by false waiting e = cc e
 
 -- what is no receiver is pending as no stream
 no_stream : (s : Standing) (h : Held) → no_stream_post s ≡ waits h true → ⊥
