@@ -356,7 +356,7 @@ module _ {T W : Type 0} where
     accepts_one (Working w) x = (let n = ap (λ (q : Queue T). q.accepted) x.known in let k = x.accepted in omega (arith, n, k))
     accepts_one (Finished kept) x = absurd x.known
 
-    in_range : (stage : Stage (QueueCall T) T W) (x : IsAlone a c0 parts stage so_far) → IsInRange x.now
+    pub in_range : (stage : Stage (QueueCall T) T W) (x : IsAlone a c0 parts stage so_far) → IsInRange x.now
     in_range (Trying call y) x =
         let d : Does x.from x.now x.at = does x.from x.now x.at x.idle x.known in
         let n = d.most in let e = x.unspent (try_is_late parts.roster y) in

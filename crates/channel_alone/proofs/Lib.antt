@@ -7,3 +7,4 @@ pub mod FirstFacts
 pub mod AloneFacts
 pub mod LoopFacts
 pub mod SceneLoop
+pub mod AmpleFacts

@@ -1,6 +1,8 @@
 //! A call of a channel that is stepped to its end.
 
+ghost use Rattle.std.specs.Prelude.{◌≡◌, false};
 ghost use Rattle.channel_calls.specs.Plain.{parts_of};
+ghost use Rattle.channel_alone.specs.Ample.{lacks_memory, HasNode};
 ghost use Rattle.channel_alone.specs.Run.{IsAtRest, RunsAlone};
 ghost use Rattle.channel_alone.specs.Scenes.{RunsInScenes};
 
@@ -25,6 +27,9 @@ pub struct Done<T> {
 /// Tasks that it wakes go to the sink in order. Want of memory is answered as the call's own refusal, with the message kept
 /// or handed back. Where it is told how many messages the channel holds, it says so of the channel after it.
 ///
+/// A poll that holds a listener wants no memory: where that one was told and there is still cause to wait, the node that it leaves
+/// serves the next listener. What can still be refused to it is a serial number, once all 2^64 - 1 of its list were given.
+///
 /// Its steps lead from scene to scene, as those of one party where no other is at work. Own to this project.
 pub fn run_alone<T: Drop, W: Drop, S: Wakes<W>>(
     ask: ChannelAsk<T, W>,
@@ -36,6 +41,7 @@ pub fn run_alone<T: Drop, W: Drop, S: Wakes<W>>(
     ensures alone { RunsAlone S.wakes ask (parts_of channel.old) sink.old result (parts_of channel.new) sink.new }
     ensures scenes { RunsInScenes S.wakes ask (parts_of channel.old) sink.old messages.old
         result (parts_of channel.new) sink.new messages.new }
+    ensures ample { HasNode ask (parts_of channel.old) → lacks_memory result.reply ≡ false }
 {
     let mut call = ChannelCall::new(ask);
     loop {

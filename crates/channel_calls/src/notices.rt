@@ -3,6 +3,7 @@
 ghost use Rattle.std.specs.Prelude.{◌≡◌};
 ghost use Rattle.event_listener.specs.Notices.{Woken};
 ghost use Rattle.event_listener.specs.Lists.{registration};
+ghost use Rattle.event_listener.specs.Runs.{room_polled};
 ghost use Rattle.channel_calls.specs.Parts.{told_one, told_one_wakes, told_more, told_more_wakes, told_all, told_all_wakes, Registers};
 
 use event_listener::key::Key;
@@ -15,6 +16,7 @@ use event_listener::wakes::Wakes;
 pub fn tell_one<W: Drop, S: Wakes<W>>(list: &mut List<(), W>, sink: &mut S)
     ensures lists { list.new.lists ≡ told_one list.old.lists }
     ensures woken { Woken S.wakes sink.old (told_one_wakes list.old.lists) sink.new }
+    ensures room { list.new.room ≡ list.old.room }
 {
     let notice = Additional {
         inner: Notify { count: 1 },
@@ -26,6 +28,7 @@ pub fn tell_one<W: Drop, S: Wakes<W>>(list: &mut List<(), W>, sink: &mut S)
 pub fn tell_more<W: Drop, S: Wakes<W>>(list: &mut List<(), W>, count: usize, sink: &mut S)
     ensures lists { list.new.lists ≡ told_more count list.old.lists }
     ensures woken { Woken S.wakes sink.old (told_more_wakes count list.old.lists) sink.new }
+    ensures room { list.new.room ≡ list.old.room }
 {
     let notices = Additional {
         inner: Notify { count },
@@ -38,6 +41,7 @@ pub fn tell_more<W: Drop, S: Wakes<W>>(list: &mut List<(), W>, count: usize, sin
 pub fn tell_all<W: Drop, S: Wakes<W>>(list: &mut List<(), W>, sink: &mut S)
     ensures lists { list.new.lists ≡ told_all list.old.lists }
     ensures woken { Woken S.wakes sink.old (told_all_wakes list.old.lists) sink.new }
+    ensures room { list.new.room ≡ list.old.room }
 {
     let _total = list.total();
     let notice = Notify { count: usize::MAX };
@@ -49,6 +53,7 @@ pub fn tell_all<W: Drop, S: Wakes<W>>(list: &mut List<(), W>, sink: &mut S)
 pub fn register<W: Drop>(list: &mut List<(), W>, key: Key, task: W) -> Option<W>
     ensures answer { Registers list.old.lists key task result }
     ensures lists { list.new.lists ≡ registration key task list.old.lists }
+    ensures room { list.new.room ≡ room_polled list.old.lists key list.old.room }
 {
     match list.poll(key) {
         Ok(None) => {

@@ -123,8 +123,7 @@ impl<T: Drop, W: Drop> PlainChannel<T, W> {
 
 impl<T: Drop, W: Drop> ChannelCells<T, W> for PlainChannel<T, W> {
     ghost use Rattle.std.specs.Prelude.{◌≡◌};
-    ghost use Rattle.channel_calls.specs.Effects.{Does};
-    ghost use Rattle.channel_calls.specs.Plain.{form_of, parts_of};
+    ghost use Rattle.channel_calls.specs.Plain.{form_of, parts_of, DoesPlain};
 
     ghost known = { Unit {0} };
 
@@ -132,7 +131,7 @@ impl<T: Drop, W: Drop> ChannelCells<T, W> for PlainChannel<T, W> {
 
     ghost has_form = { λ c f. f ≡ form_of c };
 
-    ghost did = { λ d a b. Does d (parts_of a) (parts_of b) };
+    ghost did = { DoesPlain };
 
     fn step_queue(&mut self, call: &mut QueueCall<T>) -> Option<QueueReply<T>> {
         call.step(&mut self.cells)

@@ -50,3 +50,4 @@ pub mod LeftFacts
 pub mod FloorFacts
 pub mod PendingFacts
 pub mod PollFacts
+pub mod NodeFacts

@@ -162,9 +162,10 @@ impl<T: Drop> Interleaved<T> {
 }
 
 impl<T: Drop> Interleaved<T> {
-    ghost use Rattle.std.specs.Prelude.{◌≡◌, ◌≤◌, ◌<◌, ◌+◌, ◌-◌, ◌^◌, [], ◌∷◌, None, length, IfOk, IfErr, OnErr, IsTrue, vec_len, vec_capacity};
+    ghost use Rattle.std.specs.Prelude.{◌≡◌, ◌≤◌, ◌<◌, ◌+◌, ◌-◌, ◌^◌, [], ◌∷◌, None, false, length, IfOk, IfErr, OnErr, IsTrue, vec_len, vec_capacity};
     ghost use Rattle.channel_model.specs.Laws.{is_line, line_of};
     ghost use Rattle.channel_model.specs.Settling.{poll_of};
+    ghost use Rattle.channel_alone.specs.Ample.{lacks_memory};
     ghost use Rattle.channel_calls.specs.Parts.{listeners};
     ghost use Rattle.channel_interleaving.specs.Apart.{AreApart};
     ghost use Rattle.channel_interleaving.specs.Refusal.{refusal};
@@ -198,9 +199,9 @@ impl<T: Drop> Interleaved<T> {
     /// Polls one that is pending and was woken, where no call is under way, from the poll's beginning to its end.
     ///
     /// A stream is polled even while a live operation borrows its receiver. The poll takes nothing: its name has its place in the
-    /// order of waking, and those whom it wakes go after the given names, where there is room for them. Where the listener of a
-    /// poll that goes on waiting, or a block of the queue, is refused memory or serials, the reply says so. Nothing waits. Own to
-    /// this project.
+    /// order of waking, and those whom it wakes go after the given names, where there is room for them. It isn't refused memory: where
+    /// it goes on waiting, the node of the listener that was told serves the next one. Once all serial numbers of a list were given,
+    /// the reply says that none was left. Nothing waits. Own to this project.
     pub fn poll_alone(&mut self, name: Waiter, names: Vec<Waiter>) -> Polled<T>
         requires quiet { IsQuiet self.old }
         requires woken { IsWoken name self.old }
@@ -212,6 +213,7 @@ impl<T: Drop> Interleaved<T> {
         ensures quiet { IsQuiet self.new }
         ensures accepted { self.new.accepted ≤ self.old.accepted + 1 }
         ensures capacity { vec_capacity names ≤ vec_capacity result.names }
+        ensures ample { lacks_memory result.reply ≡ false }
     {
         self.floor.poll_alone(name, names)
     }

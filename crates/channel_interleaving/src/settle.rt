@@ -84,7 +84,8 @@ impl Order {
 }
 
 impl<T: Drop> Floor<T> {
-    ghost use Rattle.std.specs.Prelude.{◌≡◌, ◌≤◌, ◌<◌, ◌+◌, ◌-◌, ◌^◌, vec_len, vec_capacity};
+    ghost use Rattle.std.specs.Prelude.{◌≡◌, ◌≤◌, ◌<◌, ◌+◌, ◌-◌, ◌^◌, false, vec_len, vec_capacity};
+    ghost use Rattle.channel_alone.specs.Ample.{lacks_memory};
     ghost use Rattle.channel_model.specs.Settling.{poll_of};
     ghost use Rattle.channel_interleaving.specs.Floor.{AreAtWork, AreOwned, IsQuiet};
     ghost use Rattle.channel_interleaving.specs.Lone.{WakesAtMost};
@@ -92,7 +93,7 @@ impl<T: Drop> Floor<T> {
 
     /// Polls one that is pending and was woken, from the poll's beginning to its end, where no call is under way. Nothing is
     /// taken for it: it has its place in the order of waking, and those whom it wakes go where there is room for them, after
-    /// the names that are given.
+    /// the names that are given. So it isn't refused memory: the node of the listener that was told serves the next one.
     pub(crate) fn poll_alone(&mut self, name: Waiter, names: Vec<Waiter>) -> Polled<T>
         requires owned { AreOwned self.old }
         requires at_work { AreAtWork self.old }
@@ -105,6 +106,7 @@ impl<T: Drop> Floor<T> {
         ensures quiet { IsQuiet self.new }
         ensures accepted { self.new.accepted ≤ self.old.accepted + 1 }
         ensures capacity { vec_capacity names ≤ vec_capacity result.names }
+        ensures ample { lacks_memory result.reply ≡ false }
     {
         let from = names.len();
         let brings = self.roll.brings_polled(name);

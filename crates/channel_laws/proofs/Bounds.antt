@@ -53,14 +53,14 @@ module _ {T W : Type 0} where
             (λ k. (refl, all_moved n.mine.seen s.now.queue.capacity t.now.queue.capacity b.capacity k)) h.alike;
       }
 
-  capacity_next : (s : Scene T W) (x : Step T W) (e : Entry T) (names : List W) (t : Scene T W) → Next s x e names t → t.now.queue.capacity ≡ s.now.queue.capacity
+  pub capacity_next : (s : Scene T W) (x : Step T W) (e : Entry T) (names : List W) (t : Scene T W) → Next s x e names t → t.now.queue.capacity ≡ s.now.queue.capacity
   capacity_next s (step.Begin p a) e names t n = ap (λ (c : Channel T W). c.queue.capacity) n.0.now
   capacity_next s (step.Step p) e names t n = let b = step_bounded s t p e names n in b.capacity
 
   -- ---- without a bound
 
   -- without a bound it is full at no moment
-  never_crowded : (cs : List (Channel T W)) → AllOf None cs → Once Crowded cs → ⊥
+  pub never_crowded : (cs : List (Channel T W)) → AllOf None cs → Once Crowded cs → ⊥
   never_crowded [] all h = h
   never_crowded (c ∷ cs) all (inl h) =
       let filled : false ≡ true = subst (λ (o : Option ℕ). is_full_at o c.queue.items ≡ true) all.0 h.1 in cc filled

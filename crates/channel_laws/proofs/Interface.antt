@@ -16,6 +16,7 @@ use Rattle.channel_laws.proofs.Receives.{receives_next, receives_new}
 use Rattle.channel_laws.proofs.Sends.{sends_next, sends_new}
 use Rattle.channel_laws.proofs.Over as over
 use Rattle.channel_laws.proofs.Streams as streams
+use Rattle.channel_laws.proofs.Unlisted.{unlisted_new, unlisted_next}
 
 module _ {T W : Type 0} where
   pub all_sound_new : (cap : Option ℕ) → AllSound (new_scene {T = T} {W = W} cap)
@@ -27,6 +28,7 @@ module _ {T W : Type 0} where
         sends = sends_new cap;
         tellings = (let h = tellings_new {T = T} {W = W} cap in h.fit);
         ends = over.end_new cap;
+        unlisted = unlisted_new cap;
       }
 
   pub all_sound_next : (s : Scene T W) (x : Step T W) (e : Entry T) (names : List W) (t : Scene T W) → AllSound s
@@ -40,6 +42,7 @@ module _ {T W : Type 0} where
         sends = sends_next s x e names t n sound.sends;
         tellings = receives.tellings.fit;
         ends = over.end_next s x e names t n sound.streams.known sound.ends;
+        unlisted = unlisted_next s x e names t n sound.streams.known sound.unlisted;
       }
 
   -- what is over stays so, and nothing comes or leaves

@@ -26,6 +26,7 @@ pub mod SendMoves
 pub mod Sends
 pub mod BoundMoves
 pub mod Bounds
+pub mod Unlisted
 pub mod Closers
 pub mod Interface
 mod BridgeSteps

@@ -8,9 +8,10 @@ pub mod Amounts
 pub mod Notices
 pub mod Receives
 pub mod Sends
+pub mod Bounds
+pub mod Unlisted
 pub mod Sound
 pub mod Bridge
 pub mod BridgeRow
 pub mod BridgeBlocks
 pub mod BridgeHeadline
-pub mod Bounds

@@ -6,9 +6,11 @@ use Rattle.channel_laws.specs.Over.{EndSound}
 use Rattle.channel_laws.specs.Receives.{ReceivesSound}
 use Rattle.channel_laws.specs.Sends.{SendsSound}
 use Rattle.channel_laws.specs.Streams.{StreamsSound}
+use Rattle.channel_laws.specs.Unlisted.{SendsUnlisted}
 
 module _ {T W : Type 0} where
-  -- nobody who waits is forgotten, for whatever he waits, those who are told were told as they may be, and what is over stays so
+  -- nobody who waits is forgotten, for whatever he waits, those who are told were told as they may be, what is over stays so, and without
+  -- a bound no send listens
   pub record AllSound (s : Scene T W) : Type 0 where
     pub streams : StreamsSound s
     pub closing : ClosingSound s
@@ -16,3 +18,4 @@ module _ {T W : Type 0} where
     pub sends : SendsSound s
     pub tellings : TellingsFit s
     pub ends : EndSound s
+    pub unlisted : SendsUnlisted s

@@ -4,10 +4,9 @@ ghost use Rattle.std.specs.Prelude.{◌≡◌, IfErr, is_some};
 ghost use Rattle.concurrent_queue.specs.Replies.{room_of};
 ghost use Rattle.channel_calls.specs.Asks.{first};
 ghost use Rattle.channel_calls.specs.Deeds.{Done};
-ghost use Rattle.channel_calls.specs.Effects.{Does};
 ghost use Rattle.channel_calls.specs.Errors.{try_handed_back};
 ghost use Rattle.channel_calls.specs.Listed.{is_pending};
-ghost use Rattle.channel_calls.specs.Plain.{form_of, parts_of};
+ghost use Rattle.channel_calls.specs.Plain.{form_of, DoesPlain};
 ghost use Rattle.channel_calls.specs.Walks.{WalkedTo};
 ghost use Rattle.channel_calls.specs.declared.ask.ChannelAsk.TheVariants as ask;
 ghost use Rattle.channel_calls.specs.declared.plain.PlainChannel.{PlainChannel as Owned};
@@ -33,7 +32,7 @@ pub fn sends<T: Drop, W: Drop, R: Wait, S: Wakes<W>>(
     sink: &mut S,
 ) -> Result<(), Refused<TrySendError<T>, T>>
     ensures back { IfErr result (λ e. try_handed_back e ≡ message) }
-    ensures deeds { WalkedTo (Done (λ d (a b : Owned T W). Does d (parts_of a) (parts_of b)) S.wakes) (first (ask.TrySend message)) (channel.old, sink.old) (reply.TrySend result) (channel.new, sink.new) }
+    ensures deeds { WalkedTo (Done (λ d (a b : Owned T W). DoesPlain d a b) S.wakes) (first (ask.TrySend message)) (channel.old, sink.old) (reply.TrySend result) (channel.new, sink.new) }
 {
     try_send(rt, message, channel, sink)
 }

@@ -1,6 +1,8 @@
 -- The loop of settling: its polls so far, who is woken, and how many polls are still to come.
-use Rattle.std.proofs.Common.{arith, ◌≡◌, ◌≤◌, ◌+◌, ◌*◌, ℕ, suc, List, [], ◌∷◌, ◌++◌, map, length, drop, Some, slice_get, true, refl, sym, ap, subst, ◌∙◌, append_assoc, length-append}
+use Rattle.std.proofs.Common.{arith, ◌≡◌, ◌≤◌, ◌+◌, ◌*◌, ℕ, suc, Bool, true, false, ◌||◌, List, [], ◌∷◌, ◌++◌, map, length, drop, Some, slice_get, refl, sym, ap, subst, ◌∙◌, append_assoc, length-append}
 use Rattle.std.proofs.lemmas.List.{length-map, map-append}
+use Rattle.std.specs.List.{list_any}
+use Rattle.channel_alone.specs.Ample.{lacks_memory}
 use Rattle.channel_calls.specs.declared.reply.Reply.{Reply}
 use Rattle.channel_calls.specs.declared.stage.Line.TheVariants.{Sends, Receives, Streams}
 use Rattle.channel_model.specs.Answer.{Answer}
@@ -12,7 +14,7 @@ use Rattle.channel_model.specs.State.{State}
 use Rattle.channel_model.specs.declared.name.Waiter.{Waiter}
 use Rattle.channel_model.proofs.LawSteps.{poll_awake}
 use Rattle.channel_model.proofs.Settle.{first_there, settle_more, settle_ends, settling_ends, at_rest, woken_next}
-use Rattle.channel_world.specs.Settled.{Polls, polls_in, most_polls, pending_on}
+use Rattle.channel_world.specs.Settled.{Polls, polls_in, most_polls, pending_on, NoneLackedMemory}
 use Rattle.channel_world.specs.declared.settle.Settled.{Settled}
 use Rattle.channel_world.proofs.Short.{weight_of, shorter, within, woken_within}
 use Rattle.channel_world.proofs.Weights.{no_more}
@@ -41,7 +43,22 @@ few_told polls count told pending same told_so few = rw (same, told_so) few
 pub one_poll : (count told : ℕ) → told ≡ 1 → 2 * count ≤ told * (told + 1) → count ≤ 1
 one_poll count told one few = let so = (rw one at few) in omega (arith, so)
 
+any_more : {A : Type 0} (p : A → Bool) (xs : List A) (x : A) → list_any p xs ≡ false → p x ≡ false → list_any p (xs ++ x ∷ []) ≡ false
+any_more p [] x h e = rw e refl
+any_more p (y ∷ ys) x h e = by (λ k. any_more p ys x k e) (p y) h
+  where
+    by : (list_any p ys ≡ false → list_any p (ys ++ x ∷ []) ≡ false) → (b : Bool) → (b || list_any p ys) ≡ false → (b || list_any p (ys ++ x ∷ [])) ≡ false
+    by on true i = i
+    by on false i = on i
+
 module _ {T : Type 0} where
+  -- one more poll that was refused no memory
+  pub ample_pushed : (polls pushed : List (Settled T)) (w : Waiter) (x : Reply T) → pushed ≡ polls ++ record { name = w; reply = x } ∷ []
+      → NoneLackedMemory polls → lacks_memory x ≡ false → NoneLackedMemory pushed
+  ample_pushed polls pushed w x e h k =
+      subst (λ (ps : List (Settled T)). NoneLackedMemory ps) (sym e)
+      (any_more (λ (p : Settled T). lacks_memory p.reply) polls (record { name = w; reply = x }) h k)
+
   -- ---- the loop
 
   -- the polls so far have led from s to t; the names are those that were polled, and after them those who are woken

@@ -1,6 +1,7 @@
 -- What settling answers, and whom it leaves pending.
 use Rattle.std.specs.Prelude.{◌≡◌, ◌⊎◌, ◌+◌, ◌*◌, ◌≤◌, ◌++◌, ℕ, List, [], length, map, true, false, None}
 use Rattle.std.specs.List.{list_any}
+use Rattle.channel_alone.specs.Ample.{lacks_memory}
 use Rattle.channel_language.specs.Text.{wants_growth}
 use Rattle.channel_calls.specs.declared.reply.Reply.{Reply}
 use Rattle.channel_calls.specs.declared.stage.Line.{Line}
@@ -18,6 +19,10 @@ module _ {T : Type 0} where
   -- the polls of a settling, each with its name and its reply, in order
   abbrev pub polls_in : List (Settled T) → List (Waiter × Reply T)
   polls_in polls = map (λ (p : Settled T). (p.name, p.reply)) polls
+
+  -- no poll of these was refused memory
+  abbrev pub NoneLackedMemory : List (Settled T) → Type 0
+  NoneLackedMemory polls = list_any (λ (p : Settled T). lacks_memory p.reply) polls ≡ false
 
   -- ---- whom a message, a free place or a closing lets go on
 

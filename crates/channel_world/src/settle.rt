@@ -47,7 +47,8 @@ fn take_room<T: Drop>(mut names: Vec<Waiter>, most: usize, alloc: Global) -> Opt
 }
 
 impl<T: Drop> World<T> {
-    ghost use Rattle.std.specs.Prelude.{◌≡◌, ◌≤◌, ◌<◌, ◌+◌, ◌^◌, [], ◌∷◌, true, length, vec_len, vec_capacity, IfSome, OnSome, IsTrue};
+    ghost use Rattle.std.specs.Prelude.{◌≡◌, ◌≤◌, ◌<◌, ◌+◌, ◌^◌, [], ◌∷◌, true, false, length, vec_len, vec_capacity, IfSome, OnSome, IsTrue};
+    ghost use Rattle.channel_alone.specs.Ample.{lacks_memory};
     ghost use Rattle.channel_interleaving.specs.Floor.{IsQuiet, LeadsOn};
     ghost use Rattle.channel_model.specs.Answer.{Answer};
     ghost use Rattle.channel_model.specs.Laws.{count_of, is_line, line_of};
@@ -139,6 +140,7 @@ impl<T: Drop> World<T> {
         ensures leads { LeadsOn self.old (result.reply ∷ []) self.new }
         ensures accepted { self.new.accepted ≤ self.old.accepted + 1 }
         ensures capacity { vec_capacity names ≤ vec_capacity result.names }
+        ensures ample { lacks_memory result.reply ≡ false }
     {
         a_poll_of_settling_is_the_models::<T>();
         self.steps.keeps();
@@ -152,7 +154,7 @@ impl<T: Drop> World<T> {
     ghost use Rattle.channel_interleaving.specs.Pending.{is_pending, how_many};
     ghost use Rattle.channel_model.specs.Settling.{Settles, pending_count};
     ghost use Rattle.channel_world.specs.Carried.{polls_replied};
-    ghost use Rattle.channel_world.specs.Settled.{polls_in, most_polls, NoReceiveGoesOn, NoSendGoesOn, NoStreamGoesOn, NobodyMissesTheClosing};
+    ghost use Rattle.channel_world.specs.Settled.{polls_in, most_polls, NoneLackedMemory, NoReceiveGoesOn, NoSendGoesOn, NoStreamGoesOn, NobodyMissesTheClosing};
     ghost use Rattle.channel_world.specs.World.{at_rest};
 
     /// Polls those who are pending and were woken, the one whose wake is oldest first, again and again until nobody is woken;
@@ -165,8 +167,10 @@ impl<T: Drop> World<T> {
     /// `pending()` was 1 there is one poll at most; and where `messages()` is above 0 after it no receive and no stream is pending.
     ///
     /// Room for that many answers, and for as many names, is taken before the first poll. Where it is refused, or
-    /// where so many messages were accepted that polls of sends could pass 2^61, it is `NoMemory`, and nothing is changed. Where a poll itself is refused
-    /// memory or serials, for its listener or a block of the queue, its reply says so, and it is pending no more; all the rest
+    /// where so many messages were accepted that polls of sends could pass 2^61, it is `NoMemory`, and nothing is changed. No poll is
+    /// refused memory: where it goes on waiting, the node of the listener that was told serves the next one. So a settling is refused
+    /// its room, or it settles. Only once all 2^64 - 1 serial numbers of a list of listeners were given, the reply of a poll that
+    /// would go on waiting there says that none was left, and it is pending no more; all the rest
     /// holds as before. No call is to be under way, and none is after it; from each scene in which the world stood steps lead to one
     /// in which it stands, on which just the replies of these polls were given, in order; and what left the channel, followed by
     /// what it holds, is what it held followed by what came, in order. Nothing waits. Own to this project.
@@ -179,6 +183,7 @@ impl<T: Drop> World<T> {
         ensures few_pending { IfOk result (λ polls. 2 * vec_len polls
             ≤ how_many is_pending self.old.roll * (how_many is_pending self.old.roll + 1)) }
         ensures one_pending { IfOk result (λ polls. how_many is_pending self.old.roll ≡ 1 → vec_len polls ≤ 1) }
+        ensures ample { IfOk result (λ polls. NoneLackedMemory polls.items) }
         ensures nobody_woken { OnOk result ((at_rest self.new).waiting.woken ≡ []) }
         ensures receives { OnOk result (NoReceiveGoesOn (at_rest self.new)) }
         ensures sends { OnOk result (NoSendGoesOn (at_rest self.new)) }

@@ -1,4 +1,6 @@
+use Rattle.std.proofs.Common.{None, Some}
 use Rattle.channel_calls.specs.Plain.{parts_of}
+use Rattle.channel_alone.proofs.AmpleFacts.{ample_first, ample_next}
 use Rattle.channel_alone.proofs.LoopFacts.{way_starts, way_nearer, way_more, way_ends}
 use Rattle.channel_alone.proofs.SceneLoop.{scenes_start, scenes_more, scenes_end}
 use Rattle.channel_alone.proofs.run.run_alone.Goals as goal
@@ -9,6 +11,7 @@ loop-reply-init g c =
       way_starts g.S.Wakes.wakes c.args.ask before c.args.sink.now c.new-call.result c.new-call.ensures.begins,
       scenes_start g.S.Wakes.wakes c.args.ask before c.args.sink.now c.args.messages.now c.new-call.result
           c.new-call.ensures.begins,
+      ample_first c.args.ask c.args.channel.now c.new-call.result.stage c.new-call.ensures.takes,
     )
 
 pub returns-in-Some-clause-alone : goal.returns-in-Some-clause-alone
@@ -50,4 +53,15 @@ loop-reply-preserved g c =
           l.messages l.invariant.1
           now call.stage call.mark c.step-reply.new.sink c.counted.result c.last_mark.result c.last_mark.ensures c.counted.ensures
           (c.in-None.ensures.steps tt),
+      λ h. (ample_next g.S.Wakes.wakes c.args.ask c.args.channel.now c.args.sink.now c.requires.at_rest (l.channel, l.sink)
+          (c.step-reply.new.cells, c.step-reply.new.sink) call.mark l.call.stage call.stage None l.invariant.0 c.in-None.ensures.deed
+          l.invariant.2 h).0,
     )
+
+pub returns-in-Some-clause-ample : goal.returns-in-Some-clause-ample
+returns-in-Some-clause-ample g c =
+    let l = c.loop-reply in
+    let call = c.step-reply.new.self in
+    λ h. (ample_next g.S.Wakes.wakes c.args.ask c.args.channel.now c.args.sink.now c.requires.at_rest (l.channel, l.sink)
+    (c.step-reply.new.cells, c.step-reply.new.sink) call.mark l.call.stage call.stage (Some c.in-Some.reply) l.invariant.0
+    c.in-Some.ensures.deed l.invariant.2 h).1

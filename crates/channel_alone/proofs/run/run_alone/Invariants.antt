@@ -1,4 +1,5 @@
 use Rattle.channel_calls.specs.Plain.{parts_of}
+use Rattle.channel_alone.proofs.AmpleFacts.{StaysAmple}
 use Rattle.channel_alone.proofs.Order.{measure}
 use Rattle.channel_alone.proofs.LoopFacts.{IsOnItsWay}
 use Rattle.channel_alone.proofs.SceneLoop.{IsBetween}
@@ -11,6 +12,7 @@ invariant-loop-reply g l =
     let now = parts_of l.channel in
     IsOnItsWay g.S.Wakes.wakes a before l.initial.sink now l.call.stage l.sink
     × IsBetween g.S.Wakes.wakes a before l.initial.sink l.initial.messages now l.call.stage l.sink l.messages
+    × StaysAmple a l.initial.channel l.channel l.call.stage
 
 abbrev pub decreases-loop-reply : goal.decreases-loop-reply
 decreases-loop-reply g l = let p = parts_of l.channel in measure p.cells p.roster l.call.stage

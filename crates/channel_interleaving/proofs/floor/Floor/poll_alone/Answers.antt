@@ -2,6 +2,7 @@ use Rattle.std.proofs.Common.{arith, ◌≡◌, ◌-◌, Bool, drop, length, vec
 use Rattle.channel_model.specs.Settling.{poll_of}
 use Rattle.channel_interleaving.specs.Positions.{accepted_by}
 use Rattle.channel_interleaving.proofs.LoneFacts.{no_agents, is_at_rest, is_called}
+use Rattle.channel_interleaving.proofs.NodeFacts.{is_ample}
 use Rattle.channel_interleaving.proofs.PollFacts.{Heard, names_heard}
 use Rattle.channel_interleaving.proofs.PlaceFacts.{accepted_most}
 use Rattle.channel_interleaving.proofs.WokenPolls.{poll_keeps_order}
@@ -99,3 +100,8 @@ pub returns-clause-accepted : goal.returns-clause-accepted
 returns-clause-accepted g c =
     let most = accepted_most c.brings_polled-brings.result c.run_alone-reply.result.reply in
     omega (arith, most, c.accepted_by.ensures, c.saturating_add-self.ensures)
+
+pub returns-clause-ample : goal.returns-clause-ample
+returns-clause-ample g c =
+    is_ample c.args.self.now c.args.name c.begin_poll-ask.result.ask c.run_alone-reply.result.reply c.requires.owned c.requires.woken
+    c.begin_poll-ask.ensures.ask c.run_alone-reply.ensures.ample

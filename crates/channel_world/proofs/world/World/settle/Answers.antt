@@ -1,5 +1,5 @@
 -- From the loop: the polls so far, and what is to come.
-use Rattle.std.proofs.Common.{arith, rules, ◌≡◌, ◌∙◌, slice_get, Some, vec_len, sym, subst}
+use Rattle.std.proofs.Common.{arith, rules, ◌≡◌, ◌∙◌, slice_get, Some, vec_len, refl, sym, subst}
 use Rattle.std.proofs.lemmas.Option.{slice_get_read}
 use Rattle.channel_interleaving.proofs.Interface.{leads_nowhere, stands_led}
 use Rattle.channel_interleaving.specs.Apart.{AreApart}
@@ -12,7 +12,7 @@ use Rattle.channel_world.proofs.AsleepFacts.{no_receive_goes_on, no_stream_goes_
 use Rattle.channel_world.proofs.Leading.{leads_polled}
 use Rattle.channel_world.proofs.NumberFacts.{messages_at_rest, pending_at_rest}
 use Rattle.channel_world.proofs.Polls.{awake_at_rest}
-use Rattle.channel_world.proofs.SettleFacts.{few_told, goes_first, goes_on, goes_pushed, goes_end, next_poll, one_poll}
+use Rattle.channel_world.proofs.SettleFacts.{ample_pushed, few_told, goes_first, goes_on, goes_pushed, goes_end, next_poll, one_poll}
 use Rattle.channel_world.proofs.world.World.settle.Goals as goal
 
 pub loop-names-init : goal.loop-names-init
@@ -28,6 +28,7 @@ loop-names-init g c =
     record {
       goes = rw r.polls (goes_first (at_rest now) c.in-Some.room.names.items awake r.names);
       quiet = c.requires.quiet;
+      ample = rw r.polls refl;
       leads = rw r.polls (leads_nowhere now);
       names = r.room;
       polls = r.answers;
@@ -122,6 +123,7 @@ loop-names-preserved g c =
       goes = goes_pushed (at_rest c.args.self.now) u polls.items c.push_reserved.new.self.items name after.reply after.names.items pushed.items
           (goes_on (at_rest c.args.self.now) (at_rest c.loop-names.self) (polls_in polls.items) names.items name i.goes next.front u after.reply after.names.items e.polled);
       quiet = e.quiet;
+      ample = ample_pushed polls.items c.push_reserved.new.self.items name after.reply pushed.items i.ample e.ample;
       leads = leads_polled c.args.self.now c.loop-names.self c.poll_woken-reply.new.self polls.items c.push_reserved.new.self.items _ pushed.items i.leads e.leads;
       names = omega (arith, more, a);
       polls = omega (arith, wider, b);
@@ -166,6 +168,9 @@ returns-clause-short g c =
     let end = goes_end (at_rest c.args.self.now) (at_rest c.loop-names.self) polls.items names.items c.loop-names.invariant.goes
     (let a = names.ok.0 in let b = polls.ok.0 in omega (arith, a, b, c.loop-names-test.false)) in
     let short = end.short in let b = polls.ok.0 in rw b short
+
+pub returns-clause-ample : goal.returns-clause-ample
+returns-clause-ample g c = c.loop-names.invariant.ample
 
 pub returns-clause-nobody_woken : goal.returns-clause-nobody_woken
 returns-clause-nobody_woken g c =

@@ -2,7 +2,7 @@ use Rattle.std.proofs.Common.{◌<◌, ◌≤◌, ◌+◌, ◌-◌, ◌^◌, vec
 use Rattle.channel_interleaving.specs.Floor.{IsQuiet, LeadsOn}
 use Rattle.channel_world.proofs.SettleFacts.{Goes}
 use Rattle.channel_world.specs.Carried.{polls_replied}
-use Rattle.channel_world.specs.Settled.{polls_in, most_polls}
+use Rattle.channel_world.specs.Settled.{polls_in, most_polls, NoneLackedMemory}
 use Rattle.channel_world.specs.World.{at_rest}
 use Rattle.channel_world.proofs.world.World.settle.Given as goal
 
@@ -10,6 +10,7 @@ abbrev pub invariant-loop-names : goal.invariant-loop-names
 invariant-loop-names g l = record {
   goes : Goes (at_rest l.fn.self) (at_rest l.self) (polls_in l.polls.items) l.names.items;
   quiet : IsQuiet l.self;
+  ample : NoneLackedMemory l.polls.items;
   leads : LeadsOn l.fn.self (polls_replied l.polls.items) l.self;
   names : most_polls (at_rest l.fn.self) ≤ vec_capacity l.names;
   polls : most_polls (at_rest l.fn.self) ≤ vec_capacity l.polls;

@@ -1,0 +1,127 @@
+-- Over steps: on a channel without a bound no send listens.
+use Rattle.std.proofs.Common.{◌≡◌, ℕ, zero, suc, ◌+◌, Bool, true, false, if◌then◌else◌, List, ◌∷◌, Option, None, Some, inl, inr, refl, sym, ap, ◌∙◌, subst}
+use Rattle.concurrent_queue.specs.Queue.{Phase}
+use Rattle.event_listener.specs.Lists.{registration, removed}
+use Rattle.channel_calls.specs.Moves.{Channel, Effect, queued, untouched, on_line, on_count, leaves, Moves}
+use Rattle.channel_calls.specs.Parts.{Listeners, Roster, nobody_listens, listeners, with_listeners, with_count, is_raised, told_one, told_more, told_all}
+use Rattle.channel_calls.specs.declared.ask.ChannelAsk.{ChannelAsk}
+use Rattle.channel_calls.specs.Turns.{line_of}
+use Rattle.channel_calls.specs.declared.mark.Mark.{Mark}
+use Rattle.channel_calls.specs.declared.reply.Reply.{Reply}
+use Rattle.channel_calls.specs.declared.stage.Held.{Held}
+use Rattle.channel_calls.specs.declared.stage.Line.{Line}
+use Rattle.channel_calls.specs.declared.stage.Line.TheVariants.{Sends, Receives, Streams, Closings}
+use Rattle.channel_calls.specs.declared.stage.Side.{Side}
+use Rattle.channel_calls.specs.declared.stage.Side.TheVariants.{Senders, Receivers}
+use Rattle.channel_calls.specs.declared.stage.Stage.{Stage}
+use Rattle.channel_calls.specs.declared.stage.Stage.TheVariants.{Trying, Working, Finished}
+use Rattle.channel_calls.specs.declared.stage.Waiting.{Waiting}
+use Rattle.channel_calls.specs.declared.stage.Waiting.TheVariants as waiting
+use Rattle.channel_calls.specs.declared.stage.Work.{Work}
+use Rattle.channel_calls.specs.declared.stage.Work.TheVariants.{TellReceive, TellStreams, TellSend, TellSends, TakeRoom, TellAll, Insert, Register, Leave, Lower, Count, Load, Raise}
+use Rattle.channel_steps.specs.Known.{StageAt}
+use Rattle.channel_steps.specs.Moments.{Deed}
+use Rattle.channel_steps.specs.Run.{Next, new_scene}
+use Rattle.channel_steps.specs.Scene.{Scene, Steps, Known, AllKnown}
+use Rattle.channel_steps.specs.declared.party.Entry.{Entry}
+use Rattle.channel_steps.specs.declared.run.Step.{Step}
+use Rattle.channel_steps.specs.declared.run.Step.TheVariants as step
+use Rattle.channel_laws.specs.Bounds.{AllOf}
+use Rattle.channel_laws.specs.Unlisted.{NoSendListens, SendsUnlisted}
+use Rattle.channel_laws.proofs.Bounds.{bound_new, bound_next, capacity_next, never_crowded}
+use Rattle.channel_laws.proofs.EachFacts.{of_mine, each_known}
+
+module _ {W : Type 0} where
+  -- on a list with nobody nobody is told
+  none_told : (n : ℕ) → told_more n (nobody_listens {W = W}) ≡ nobody_listens
+  none_told zero = refl
+  none_told (suc n) = none_told n
+
+  counted_same : (side : Side) (n : ℕ) (a : Roster W) → (with_count side n a).sends ≡ a.sends
+  counted_same Senders n a = refl
+  counted_same Receivers n a = refl
+
+module _ {T W : Type 0} (c : Channel T W) (none : c.roster.sends ≡ nobody_listens) where
+  abbrev Stays : Effect T W → Type 0
+  Stays e = e.channel.roster.sends ≡ nobody_listens
+
+  -- one list is changed by a change that leaves nobody's alone
+  on_list : (line : Line) (change : Listeners W → Listeners W) (names : List W) → change nobody_listens ≡ nobody_listens
+      → Stays (on_line line (change (listeners line c.roster)) names c)
+  on_list Sends change names same = ap change none ∙ same
+  on_list Receives change names same = none
+  on_list Streams change names same = none
+  on_list Closings change names same = none
+
+  -- a list that is not of sends
+  on_other : (line : Line) (l : Listeners W) (names : List W) → (line ≡ Sends → ⊥) → Stays (on_line line l names c)
+  on_other Sends l names other = absurd (other refl)
+  on_other Receives l names other = none
+  on_other Streams l names other = none
+  on_other Closings l names other = none
+
+  by : (e d : Effect T W) → e ≡ d → Stays d → Stays e
+  by e d same k = ap (λ (x : Effect T W). x.channel.roster.sends) same ∙ k
+
+  raised : (side : Side) (n : ℕ) (b : Bool) (m : Mark) → Stays (if b then on_count side n m c else untouched c)
+  raised side n true m = counted_same side n c.roster ∙ none
+  raised side n false m = none
+
+  left : (h : Option Held) → Stays (leaves h c)
+  left None = none
+  left (Some h) = on_list h.line (λ l. removed h.key true l) _ refl
+
+  -- no step makes a send listen but one that inserts it
+  stays : (at : Stage (Phase T) T W) (e : Effect T W) (r : Option (Reply T)) (s : Stage (Phase T) T W) → Moves c at e r s
+      → ((m : T) (task : W) → at ≡ Working (Insert (waiting.Send m) task) → ⊥) → Stays e
+  stays (Trying f aim) e r s h no = by e (queued f h.mark c) h.effect none
+  stays (Working (TellReceive x)) e r s h no = by e _ h.0 none
+  stays (Working (TellStreams x)) e r s h no = by e _ h.0 none
+  stays (Working (TellSend x)) e r s h no = by e _ h.0 (on_list Sends told_one _ refl)
+  stays (Working (TellSends n x)) e r s h no = by e _ h.0 (on_list Sends (told_more n) _ (none_told n))
+  stays (Working (TakeRoom n)) e r s h no = by e _ h.0 none
+  stays (Working (TellAll line x)) e r s h no = by e _ h.0 (on_list line told_all _ refl)
+  stays (Working (Insert (waiting.Send m) task)) e r s h no = absurd (no m task refl)
+  stays (Working (Insert waiting.Receive task)) e r s (inl (key, new, is, t)) no = by e _ is none
+  stays (Working (Insert waiting.Receive task)) e r s (inr (error, is, t)) no = by e _ is none
+  stays (Working (Insert waiting.Stream task)) e r s (inl (key, new, is, t)) no = by e _ is none
+  stays (Working (Insert waiting.Stream task)) e r s (inr (error, is, t)) no = by e _ is none
+  stays (Working (Insert waiting.Closing task)) e r s (inl (key, new, is, t)) no = by e _ is none
+  stays (Working (Insert waiting.Closing task)) e r s (inr (error, is, t)) no = by e _ is none
+  stays (Working (Register w key task)) e r s h no = by e _ h.0 (on_list (line_of w) (registration key task) _ refl)
+  stays (Working (Leave x)) e r s h no = by e _ h.0 (left x.held)
+  stays (Working (Lower side key)) e r s h no = by e _ h.0 (counted_same side _ c.roster ∙ none)
+  stays (Working (Count side)) e r s h no = by e _ h.0 none
+  stays (Working (Load side making)) e r s h no = by e _ h.0 none
+  stays (Working (Raise side n making)) e r s h no = by e _ h.0 (raised side (n + 1) (is_raised side n c.roster) _)
+  stays (Finished kept) e r s h no = by e _ h.0 none
+
+module _ {T W : Type 0} where
+  -- a send that inserts its listener has found the channel full
+  found_full : (now : Channel T W) (a : ChannelAsk T W) (at : Stage (Phase T) T W) (ds : List (Deed T W)) (seen : List (Channel T W))
+      → StageAt now a at ds seen → AllOf None seen → (m : T) (task : W) → at ≡ Working (Insert (waiting.Send m) task) → ⊥
+  found_full now a at ds seen k all m task e =
+      let h : StageAt now a (Working (Insert (waiting.Send m) task)) ds seen =
+      subst (λ (s : Stage (Phase T) T W). StageAt now a s ds seen) e k in
+      never_crowded seen all h.2
+
+  pub unlisted_new : (cap : Option ℕ) → SendsUnlisted (new_scene {T = T} {W = W} cap)
+  unlisted_new cap = record { bound = bound_new cap; unlisted = λ none. refl }
+
+  pub unlisted_next : (s : Scene T W) (x : Step T W) (e : Entry T) (names : List W) (t : Scene T W) → Next s x e names t
+      → AllKnown s.now s.under_way → SendsUnlisted s → SendsUnlisted t
+  unlisted_next s (step.Begin p a) e names t n known h = record {
+    bound = bound_next s (step.Begin p a) e names t n h.bound;
+    unlisted = subst (λ (c : Channel T W). NoSendListens c) (sym n.0.now) h.unlisted;
+  }
+  unlisted_next s (step.Step p) e names t n known h =
+      let mine = of_mine (Known s.now) s t p e names n (each_known s.now s.under_way known) in
+      let alike = of_mine (λ u. AllOf s.now.queue.capacity u.seen) s t p e names n h.bound.alike in
+      record {
+        bound = bound_next s (step.Step p) e names t n h.bound;
+        unlisted = λ none.
+            let before = sym (capacity_next s (step.Step p) e names t n) ∙ none in
+            stays s.now (h.unlisted before) n.mine.at (record { channel = t.now; mark = e.mark; woken = names }) e.reply n.at_now n.moves
+            (found_full s.now n.mine.ask n.mine.at n.mine.deeds n.mine.seen mine.stands
+            (subst (λ (o : Option ℕ). AllOf o n.mine.seen) before alike));
+      }
