@@ -1,5 +1,5 @@
 use crate::calls::call_of;
-use crate::replies::{waiter_said, write_reply, write_stop, write_woken};
+use crate::replies::{OF_ROWS, waiter_said, write_reply, write_stop, write_woken};
 use channel_calls::error::OpenError;
 use channel_world::call::{Call, CallRun};
 use channel_world::settle::Settled;
@@ -34,8 +34,8 @@ fn open(alloc: Global, capacity: Option<usize>) -> Result<World<u64>, OpenError>
 /// Writes what came of a list of calls, of which so many are left.
 fn write_calls(run: &CallRun<u64>, left: usize, answer: &mut String) -> Result<(), AllocError> {
     for done in run.done.iter() {
-        write_reply(&done.reply, answer)?;
-        write_woken(done.woken.as_slice(), answer)?;
+        write_reply(&OF_ROWS, &done.reply, answer)?;
+        write_woken(&OF_ROWS, done.woken.as_slice(), answer)?;
     }
     write_stop(run.stopped, run.done.len(), left, answer)
 }
@@ -52,17 +52,17 @@ fn goes_on(run: &Run<u64>) -> bool {
 fn write_steps(run: &Run<u64>, left: usize, answer: &mut String) -> Result<(), AllocError> {
     for entry in run.trace.iter() {
         if let Some(reply) = &entry.reply {
-            write_reply(reply, answer)?;
+            write_reply(&OF_ROWS, reply, answer)?;
         }
-        write_woken(entry.woken.as_slice(), answer)?;
+        write_woken(&OF_ROWS, entry.woken.as_slice(), answer)?;
     }
     write_stop(run.stopped, run.trace.len(), left, answer)
 }
 
 fn write_polls(polls: &Vec<Settled<u64>>, answer: &mut String) -> Result<(), AllocError> {
     for poll in polls.iter() {
-        waiter_said(poll.name).write(answer)?;
-        write_reply(&poll.reply, answer)?;
+        waiter_said(&OF_ROWS, poll.name).write(answer)?;
+        write_reply(&OF_ROWS, &poll.reply, answer)?;
     }
     if polls.is_empty() {
         answer.push_str("nobody")?;

@@ -6,6 +6,7 @@ use crate::count::Count;
 use crate::differs::Differs;
 use crate::due::is_due;
 use crate::names::{Names, is_fit};
+use crate::numbers::Numbers;
 use crate::plan::{Kind, LARGE, Plan, Target};
 use crate::takings::Takings;
 use crate::under_way::UnderWay;
@@ -15,16 +16,6 @@ use channel_calls::stage::Line;
 use channel_world::call::{Done, Reply, WorldRefusal};
 use channel_world::name::{HandleKind, Waiter};
 use std::alloc::Global;
-
-/// The numbers that a channel tells of itself.
-#[derive(Clone, Copy, PartialEq, Eq)]
-pub struct Numbers {
-    pub messages: u64,
-    pub pending: usize,
-    pub woken: usize,
-    pub under_way: usize,
-    pub is_quiet: bool,
-}
 
 /// A plain count.
 #[derive(Drop)]

@@ -3,7 +3,7 @@
 use std::fmt;
 
 /// What differs.
-#[derive(Clone, Copy, PartialEq, Eq, Debug)]
+#[derive(Clone, Copy, PartialEq, Eq)]
 pub enum Differs {
     /// A mark that its call may not make, or not over what is held.
     Mark,

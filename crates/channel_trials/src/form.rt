@@ -16,6 +16,9 @@ pub enum Form {
     Unbounded,
 }
 
+/// Each form.
+pub const FORMS: [Form; 3] = [Form::OneSlot, Form::RingOfThree, Form::Unbounded];
+
 impl Form {
     /// What it is called.
     pub fn name(self) -> &'static str {

@@ -3,17 +3,17 @@
 use rand_core::utils::NextWord;
 use rand_pcg::Pcg32;
 
-/// A generator that was started from a seed.
+/// A generator that was started from a seed and a stream of its own.
 #[derive(Drop)]
 pub struct Random {
     words: Pcg32,
 }
 
 impl Random {
-    /// The generator of this seed.
-    pub fn new(seed: u64) -> Self {
+    /// The generator of this seed and stream.
+    pub fn new(seed: u64, stream: u64) -> Self {
         Random {
-            words: Pcg32::new(seed, 0),
+            words: Pcg32::new(seed, stream),
         }
     }
 
@@ -27,6 +27,11 @@ impl Random {
     pub fn name_below(&mut self, bound: u32) -> u32 {
         let word = self.words.next_word();
         word.checked_rem(bound).unwrap_or(0)
+    }
+
+    /// Any byte.
+    pub fn byte(&mut self) -> u8 {
+        self.words.next_word().to_le_bytes()[0]
     }
 
     /// True one time in so many.

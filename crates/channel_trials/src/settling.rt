@@ -204,7 +204,7 @@ fn settle_random(
         world,
         plain: Plain::new(capacity, alloc),
         calls: VecDeque::new(alloc),
-        random: Random::new(seed),
+        random: Random::new(seed, 0),
         next: 0,
         handle: 2,
         message: 0,

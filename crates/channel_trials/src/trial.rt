@@ -1,9 +1,10 @@
 //! One random interleaving, with calls made alone where none is under way, beside a plain count.
 
-use crate::book::{Book, Numbers};
+use crate::book::Book;
 use crate::differs::Differs;
 use crate::draw::draw;
 use crate::made::Made;
+use crate::numbers::Numbers;
 use crate::owed::{is_nothing_owed, one_place_each_is_enough};
 use crate::plan::{Kind, Plan};
 use crate::random::Random;
@@ -65,7 +66,7 @@ impl Trial {
         seed: u64,
         alloc: Global,
     ) -> Result<Self, Differs> {
-        let mut random = Random::new(seed);
+        let mut random = Random::new(seed, 0);
         let is_flood = random.once_in(FLOODS);
         Ok(Trial {
             world,
@@ -85,20 +86,9 @@ impl Trial {
         self.made
     }
 
-    /// What the world tells of itself.
-    fn numbers(&self) -> Numbers {
-        Numbers {
-            messages: self.world.messages(),
-            pending: self.world.pending(),
-            woken: self.world.woken(),
-            under_way: self.world.under_way(),
-            is_quiet: self.world.is_quiet(),
-        }
-    }
-
     /// One more moment: the numbers agree, and nothing is owed.
     fn observe(&mut self) -> Result<(), Differs> {
-        if self.numbers() != self.book.numbers() {
+        if Numbers::of(&self.world) != self.book.numbers() {
             return Err(Differs::Numbers);
         }
         if !is_nothing_owed(&self.book) {

@@ -1,17 +1,17 @@
 //! What the plain count refuses of receives of several messages.
 
-use crate::checks::expect_equal;
+use crate::answer::Answer;
+use crate::book::Book;
+use crate::differs::Differs;
+use crate::due::is_due;
+use crate::owed::{is_nothing_owed, one_place_each_is_enough};
+use crate::plan::{Kind, Plan, TOO_LARGE};
+use crate::refusals::tally::Tally;
+use crate::takings::Takings;
+use crate::under_way::UnderWay;
+use crate::waiting::Came;
 use channel_calls::mark::Mark;
 use channel_calls::stage::Line;
-use channel_trials::answer::Answer;
-use channel_trials::book::Book;
-use channel_trials::differs::Differs;
-use channel_trials::due::is_due;
-use channel_trials::owed::{is_nothing_owed, one_place_each_is_enough};
-use channel_trials::plan::{Kind, Plan, TOO_LARGE};
-use channel_trials::takings::Takings;
-use channel_trials::under_way::UnderWay;
-use channel_trials::waiting::Came;
 use channel_world::name::{OpId, Waiter};
 use std::alloc::Global;
 
@@ -55,8 +55,8 @@ fn may_answer(limit: usize, takings: usize, answer: Answer, alloc: Global) -> Op
     Some(is_due(&call, answer, &book.count))
 }
 
-#[test]
-fn several_are_as_many_as_were_taken(rt: HostRuntime) {
+fn several_are_as_many_as_were_taken(tally: &mut Tally, alloc: Global) {
+    tally.begin("several are as many as were taken");
     let rows = [
         (2, 2, Answer::Several(2), true),
         (2, 2, Answer::Several(1), false),
@@ -75,8 +75,8 @@ fn several_are_as_many_as_were_taken(rt: HostRuntime) {
         (TOO_LARGE, 2, Answer::Several(2), false),
     ];
     for (limit, takings, answer, want) in rows {
-        let found = may_answer(limit, takings, answer, rt.alloc());
-        assert_eq!(rt; found, Some(want), "{limit}, {takings}");
+        let found = may_answer(limit, takings, answer, alloc);
+        tally.row(found == Some(want));
     }
 }
 
@@ -90,8 +90,8 @@ fn may_find_nothing(is_closed: bool, answer: Answer, alloc: Global) -> Option<bo
     Some(is_due(&call, answer, &book.count))
 }
 
-#[test]
-fn none_are_for_a_reason(rt: HostRuntime) {
+fn none_are_for_a_reason(tally: &mut Tally, alloc: Global) {
+    tally.begin("none are for a reason");
     let rows = [
         (false, Answer::Empty, true),
         (false, Answer::ReceiveClosed, false),
@@ -101,13 +101,13 @@ fn none_are_for_a_reason(rt: HostRuntime) {
         (true, Answer::Several(0), false),
     ];
     for (is_closed, answer, want) in rows {
-        let found = may_find_nothing(is_closed, answer, rt.alloc());
-        assert_eq!(rt; found, Some(want), "{is_closed}");
+        let found = may_find_nothing(is_closed, answer, alloc);
+        tally.row(found == Some(want));
     }
 }
 
-#[test]
-fn none_is_taken_past_the_limit(rt: HostRuntime) {
+fn none_is_taken_past_the_limit(tally: &mut Tally, alloc: Global) {
+    tally.begin("none is taken past the limit");
     let rows = [
         (1, Mark::Take, Ok(())),
         (0, Mark::Take, Err(Differs::Mark)),
@@ -115,14 +115,14 @@ fn none_is_taken_past_the_limit(rt: HostRuntime) {
         (1, Mark::Close, Err(Differs::Mark)),
     ];
     for (limit, mark, want) in rows {
-        let found = match full_book(rt.alloc()) {
+        let found = match full_book(alloc) {
             Some(mut book) => match after_takings(&mut book, limit, 0) {
                 Ok(_) => book.step(3, mark),
                 Err(differs) => Err(differs),
             },
             None => Err(Differs::NoMemory),
         };
-        assert_eq!(rt; found, want, "{limit}");
+        tally.row(found == want);
     }
 }
 
@@ -135,14 +135,13 @@ fn are(messages: &[u64], alloc: Global) -> Option<bool> {
     Some(takings.are(3, messages))
 }
 
-#[test]
-fn messages_are_handed_out_in_order(rt: HostRuntime) {
-    let alloc = rt.alloc();
-    expect_equal(&rt, &are(&[1, 5], alloc), &Some(true));
-    expect_equal(&rt, &are(&[5, 1], alloc), &Some(false));
-    expect_equal(&rt, &are(&[1], alloc), &Some(false));
-    expect_equal(&rt, &are(&[1, 2, 5], alloc), &Some(false));
-    expect_equal(&rt, &are(&[], alloc), &Some(false));
+fn messages_are_handed_out_in_order(tally: &mut Tally, alloc: Global) {
+    tally.begin("messages are handed out in order");
+    tally.row(are(&[1, 5], alloc) == Some(true));
+    tally.row(are(&[5, 1], alloc) == Some(false));
+    tally.row(are(&[1], alloc) == Some(false));
+    tally.row(are(&[1, 2, 5], alloc) == Some(false));
+    tally.row(are(&[], alloc) == Some(false));
 }
 
 /// Whether nothing is owed to two sends that sleep, where a receive of two has taken so many, and whether one place for each call
@@ -163,8 +162,8 @@ fn owes(takings: usize, wakes: bool, alloc: Global) -> Option<(bool, bool)> {
     Some((is_nothing_owed(&book), one_place_each_is_enough(&book)))
 }
 
-#[test]
-fn several_places_are_answered_for_until_they_are_told(rt: HostRuntime) {
+fn several_places_are_answered_for_until_they_are_told(tally: &mut Tally, alloc: Global) {
+    tally.begin("several places are answered for until they are told");
     let rows = [
         (0, false, Some((true, true))),
         (1, false, Some((true, true))),
@@ -173,7 +172,16 @@ fn several_places_are_answered_for_until_they_are_told(rt: HostRuntime) {
         (2, true, Some((false, true))),
     ];
     for (takings, wakes, want) in rows {
-        let found = owes(takings, wakes, rt.alloc());
-        assert_eq!(rt; found, want, "{takings}");
+        let found = owes(takings, wakes, alloc);
+        tally.row(found == want);
     }
+}
+
+/// Plays all tables of this file.
+pub fn play(tally: &mut Tally, alloc: Global) {
+    several_are_as_many_as_were_taken(tally, alloc);
+    none_are_for_a_reason(tally, alloc);
+    none_is_taken_past_the_limit(tally, alloc);
+    messages_are_handed_out_in_order(tally, alloc);
+    several_places_are_answered_for_until_they_are_told(tally, alloc);
 }

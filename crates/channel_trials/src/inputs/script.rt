@@ -1,8 +1,8 @@
 //! What can be seen of a script's text without a second account of the channel.
 
-use crate::Fault;
-use crate::mutate::{after_line, between};
-use crate::pieces::{PieceReader, PieceWriter};
+use crate::inputs::Fault;
+use crate::inputs::mutate::{after_line, between};
+use crate::inputs::pieces::{PieceReader, PieceWriter};
 use crate::random::Random;
 use channel_world::script::{ScriptEnd, run_script};
 use std::alloc::Global;

@@ -1,7 +1,7 @@
 //! The shortest input that is at fault.
 
-use crate::Fault;
-use crate::kind::Kind;
+use crate::inputs::Fault;
+use crate::inputs::kind::Kind;
 use std::alloc::{AllocError, Global};
 
 /// The input without some bytes from this place on.

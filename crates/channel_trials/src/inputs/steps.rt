@@ -1,8 +1,10 @@
 //! What can be seen of a world's steps with no second account of the channel.
 
-use crate::Fault;
-use crate::decode::{Names, PARTIES};
-use crate::messages::HandedOut;
+use crate::form::Form;
+use crate::inputs::Fault;
+use crate::inputs::decode::{Names, PARTIES};
+use crate::inputs::messages::HandedOut;
+use crate::numbers::Numbers;
 use channel_calls::mark::Mark;
 use channel_calls::reply::Reply;
 use channel_world::call::{Call, WorldRefusal};
@@ -10,7 +12,6 @@ use channel_world::name::{HandleId, OpId};
 use channel_world::settle::Settled;
 use channel_world::step::{Entry, PartyId, Run, Step};
 use channel_world::world::World;
-use event_listener::id::EventIds;
 use futures::task::Poll;
 use std::alloc::Global;
 use std::collections::VecDeque;
@@ -22,18 +23,9 @@ const ROUNDS: usize = 400;
 
 const NO_MEMORY: Fault = "want of memory";
 
-/// The numbers that a world says of itself.
-#[derive(Clone, Copy, PartialEq, Eq)]
-struct Numbers {
-    messages: u64,
-    pending: usize,
-    woken: usize,
-    under_way: usize,
-}
-
 /// A world, the steps that are left of a list, what was handed out, and how many steps were made.
 #[derive(Drop)]
-struct Trial {
+struct Stepped {
     alloc: Global,
     world: World<u64>,
     names: Names,
@@ -44,21 +36,12 @@ struct Trial {
     made: u64,
 }
 
-/// How many messages a world of the form that this byte says holds at most, 0 for any number.
-fn capacity(form: u8) -> u64 {
-    match form % 3 {
-        0 => 1,
-        1 => 3,
-        _ => 0,
-    }
-}
-
-fn open(form: u8, alloc: Global) -> Option<World<u64>> {
-    let mut ids = EventIds::new();
-    match capacity(form) {
-        1 => World::bounded(alloc, 1, &mut ids).ok(),
-        3 => World::bounded(alloc, 3, &mut ids).ok(),
-        _ => World::unbounded(alloc, &mut ids).ok(),
+/// The form that this byte says.
+fn form_of(byte: u8) -> Form {
+    match byte % 3 {
+        0 => Form::OneSlot,
+        1 => Form::RingOfThree,
+        _ => Form::Unbounded,
     }
 }
 
@@ -105,19 +88,10 @@ fn so(is_so: bool, fault: Fault) -> Result<(), Fault> {
     if is_so { Ok(()) } else { Err(fault) }
 }
 
-impl Trial {
-    fn numbers(&self) -> Numbers {
-        Numbers {
-            messages: self.world.messages(),
-            pending: self.world.pending(),
-            woken: self.world.woken(),
-            under_way: self.world.under_way(),
-        }
-    }
-
+impl Stepped {
     /// The numbers fit one another, and those before with what was done since.
     fn fits(&self, before: Numbers, came: u64, left: u64) -> Result<(), Fault> {
-        let now = self.numbers();
+        let now = Numbers::of(&self.world);
         let names = self.names.handles.saturating_add(self.names.operations);
         so(
             now.messages.wrapping_add(left) == before.messages.wrapping_add(came),
@@ -156,7 +130,7 @@ impl Trial {
 
     /// Runs the steps that are left, up to the first that is refused: why it is.
     fn run(&mut self) -> Result<Option<WorldRefusal>, Fault> {
-        let before = self.numbers();
+        let before = Numbers::of(&self.world);
         let (given, beginning) = (self.steps.len(), begins(&self.steps));
         let run = self.world.run_steps(&mut self.steps);
         let made = run.trace.len();
@@ -175,10 +149,10 @@ impl Trial {
     /// A step that was refused is refused again for the same reason, nothing changes, and it is left out.
     fn leave_out(&mut self, why: WorldRefusal) -> Result<(), Fault> {
         so(why != WorldRefusal::NoMemory, NO_MEMORY)?;
-        let before = self.numbers();
+        let before = Numbers::of(&self.world);
         let again = self.run()?;
         so(
-            again == Some(why) && self.numbers() == before,
+            again == Some(why) && Numbers::of(&self.world) == before,
             "a refused step changed something",
         )?;
         let _ = self.steps.pop_front();
@@ -213,7 +187,7 @@ impl Trial {
         if !self.world.is_quiet() {
             return Ok(());
         }
-        let before = self.numbers();
+        let before = Numbers::of(&self.world);
         let Ok(polls) = self.world.settle() else {
             return Err(NO_MEMORY);
         };
@@ -248,7 +222,7 @@ impl Trial {
         if !self.world.is_quiet() {
             return Ok(());
         }
-        let before = self.numbers();
+        let before = Numbers::of(&self.world);
         let mut calls = VecDeque::new(self.alloc);
         so(calls.push_back(poll).is_ok(), NO_MEMORY)?;
         let run = self.world.run_calls(&mut calls);
@@ -302,13 +276,14 @@ impl Trial {
 /// Runs the steps that bytes say on a world of the form that the first one says, settling where no call is under way after a list;
 /// then lets all calls end, settles, and polls everybody who wasn't woken. How many steps were made.
 pub fn check_steps(bytes: &[u8], alloc: Global) -> Result<u64, Fault> {
-    let Some((form, rest)) = bytes.split_first() else {
+    let Some((byte, rest)) = bytes.split_first() else {
         return Ok(0);
     };
-    let Some(world) = open(*form, alloc) else {
+    let form = form_of(*byte);
+    let Ok(world) = form.open(alloc) else {
         return Err(NO_MEMORY);
     };
-    let mut trial = Trial {
+    let mut trial = Stepped {
         alloc,
         world,
         names: Names {
@@ -324,13 +299,10 @@ pub fn check_steps(bytes: &[u8], alloc: Global) -> Result<u64, Fault> {
         left: 0,
         made: 0,
     };
-    let most = capacity(*form);
+    let most = form.capacity().unwrap_or(usize::MAX) as u64;
     for list in rest.chunks(LIST) {
         trial.run_bytes(list)?;
-        so(
-            most == 0 || trial.world.messages() <= most,
-            "more messages than fit",
-        )?;
+        so(trial.world.messages() <= most, "more messages than fit")?;
         trial.settle()?;
     }
     trial.finish()?;

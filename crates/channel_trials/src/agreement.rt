@@ -2,15 +2,13 @@
 //! says how many of them came to a moment at which one free place for each call under way, and for each send that was woken, were
 //! not all; or one line that says which interleaving differs, at which step and after how many calls made alone. Then random worlds
 //! of each form that are settled, each beside a plain channel, with a line for each form.
-#![tactic(auto)]
 
-use channel_trials::form::Form;
-use channel_trials::interleaving::interleave;
-use channel_trials::made::Made;
-use channel_trials::settling::settle;
+use crate::form::{FORMS, Form};
+use crate::interleaving::interleave;
+use crate::made::Made;
+use crate::settling::settle;
 use std::alloc::Global;
 use std::io;
-use std::process::ExitCode;
 
 /// How many interleavings a world of each form has.
 const INTERLEAVINGS: u64 = 10_000;
@@ -76,18 +74,17 @@ fn settle_all<R: Print>(rt: &R, form: Form, alloc: Global) -> io::Result<bool> {
     Ok(true)
 }
 
-fn main(rt: HostRuntime) -> ExitCode {
-    for form in [Form::OneSlot, Form::RingOfThree, Form::Unbounded] {
-        match compare(&rt, form, rt.alloc()) {
-            Ok(true) => {}
-            _ => return ExitCode::FAILURE,
+/// All interleavings and all settlings. Whether they agree.
+pub fn agree<R: Print>(rt: &R, alloc: Global) -> io::Result<bool> {
+    for form in FORMS {
+        if !compare(rt, form, alloc)? {
+            return Ok(false);
         }
     }
-    for form in [Form::OneSlot, Form::RingOfThree, Form::Unbounded] {
-        match settle_all(&rt, form, rt.alloc()) {
-            Ok(true) => {}
-            _ => return ExitCode::FAILURE,
+    for form in FORMS {
+        if !settle_all(rt, form, alloc)? {
+            return Ok(false);
         }
     }
-    ExitCode::SUCCESS
+    Ok(true)
 }

@@ -1,19 +1,19 @@
 //! What the plain count refuses by itself.
 
-use crate::checks::{expect_equal, expect_true};
+use crate::answer::Answer;
+use crate::book::Book;
+use crate::count::Count;
+use crate::differs::Differs;
+use crate::due::is_due;
+use crate::form::Form;
+use crate::owed::is_nothing_owed;
+use crate::plan::{Kind, Plan};
+use crate::refusals::tally::Tally;
+use crate::settling::settle;
+use crate::under_way::{Subject, UnderWay};
+use crate::waiting::{Came, Waiting};
 use channel_calls::mark::Mark;
 use channel_calls::stage::Line;
-use channel_trials::answer::Answer;
-use channel_trials::book::Book;
-use channel_trials::count::Count;
-use channel_trials::differs::Differs;
-use channel_trials::due::is_due;
-use channel_trials::form::Form;
-use channel_trials::owed::is_nothing_owed;
-use channel_trials::plan::{Kind, Plan};
-use channel_trials::settling::settle;
-use channel_trials::under_way::{Subject, UnderWay};
-use channel_trials::waiting::{Came, Waiting};
 use channel_world::name::{OpId, Waiter};
 use std::alloc::Global;
 
@@ -37,9 +37,9 @@ fn call_of(kind: Kind, handle: u32, message: Option<u64>) -> UnderWay {
     UnderWay::new(0, plan, subject)
 }
 
-#[test]
-fn a_mark_is_made_over_what_is_held(rt: HostRuntime) {
-    let mut count = Count::new(Some(1), rt.alloc());
+fn a_mark_is_made_over_what_is_held(tally: &mut Tally, alloc: Global) {
+    tally.begin("a mark is made over what is held");
+    let mut count = Count::new(Some(1), alloc);
     let rows = [
         (Mark::Take, None, Err(Differs::Mark)),
         (Mark::TakeDisplaced, None, Err(Differs::Mark)),
@@ -55,14 +55,14 @@ fn a_mark_is_made_over_what_is_held(rt: HostRuntime) {
         (Mark::SenderUp, None, Err(Differs::Mark)),
     ];
     for (mark, message, want) in rows {
-        expect_equal(&rt, &count.apply(mark, message, false), &want);
+        tally.row(count.apply(mark, message, false) == want);
     }
-    expect_true(&rt, count.came_as(1, 6) && !count.came_as(0, 6));
+    tally.row(count.came_as(1, 6) && !count.came_as(0, 6));
 }
 
-#[test]
-fn an_answer_needs_its_mark_or_its_moment(rt: HostRuntime) {
-    let mut count = Count::new(Some(1), rt.alloc());
+fn an_answer_needs_its_mark_or_its_moment(tally: &mut Tally, alloc: Global) {
+    tally.begin("an answer needs its mark or its moment");
+    let mut count = Count::new(Some(1), alloc);
     let mut call = call_of(Kind::TryRecv, 1, None);
     let rows = [
         (Answer::Empty, false, true, false),
@@ -73,16 +73,16 @@ fn an_answer_needs_its_mark_or_its_moment(rt: HostRuntime) {
         (Answer::NoMemory, false, false, false),
     ];
     for (answer, due, _, _) in rows {
-        expect_equal(&rt, &is_due(&call, answer, &count), &due);
+        tally.row(is_due(&call, answer, &count) == due);
     }
     call.saw = call.saw.with(&count);
     for (answer, _, due, _) in rows {
-        expect_equal(&rt, &is_due(&call, answer, &count), &due);
+        tally.row(is_due(&call, answer, &count) == due);
     }
-    expect_equal(&rt, &count.apply(Mark::Append, Some(4), false), &Ok(()));
-    expect_equal(&rt, &call.step(Mark::Take, &mut count), &Ok(()));
+    tally.row(count.apply(Mark::Append, Some(4), false) == Ok(()));
+    tally.row(call.step(Mark::Take, &mut count) == Ok(()));
     for (answer, _, _, due) in rows {
-        expect_equal(&rt, &is_due(&call, answer, &count), &due);
+        tally.row(is_due(&call, answer, &count) == due);
     }
 }
 
@@ -101,8 +101,8 @@ fn owes(line: Line, kind: Kind, alloc: Global) -> Option<(bool, bool, bool)> {
     Some((alone, beside, closed))
 }
 
-#[test]
-fn one_who_sleeps_is_owed(rt: HostRuntime) {
+fn one_who_sleeps_is_owed(tally: &mut Tally, alloc: Global) {
+    tally.begin("one who sleeps is owed");
     let rows = [
         (Line::Sends, Kind::TrySend, Some((false, true, false))),
         (Line::Sends, Kind::TryRecv, Some((false, false, false))),
@@ -113,7 +113,7 @@ fn one_who_sleeps_is_owed(rt: HostRuntime) {
         (Line::Closings, Kind::Close, Some((true, true, false))),
     ];
     for (line, kind, want) in rows {
-        expect_equal(&rt, &owes(line, kind, rt.alloc()), &want);
+        tally.row(owes(line, kind, alloc) == want);
     }
 }
 
@@ -128,19 +128,28 @@ fn wakes_second(from: u64, to: u64, alloc: Global) -> Option<Result<(), Differs>
     Some(waiting.wake(second).map(|_| ()))
 }
 
-#[test]
-fn who_came_first_is_woken_first(rt: HostRuntime) {
+fn who_came_first_is_woken_first(tally: &mut Tally, alloc: Global) {
+    tally.begin("who came first is woken first");
     let rows = [(0, 1, Ok(())), (4, 6, Ok(())), (5, 6, Err(Differs::Woken))];
     for (from, to, want) in rows {
-        expect_equal(&rt, &wakes_second(from, to, rt.alloc()), &Some(want));
+        tally.row(wakes_second(from, to, alloc) == Some(want));
     }
 }
 
-#[test]
-fn random_worlds_settle_as_plain_channels(rt: HostRuntime) {
+fn random_worlds_settle_as_plain_channels(tally: &mut Tally, alloc: Global) {
+    tally.begin("random worlds settle as plain channels");
     for form in [Form::OneSlot, Form::RingOfThree, Form::Unbounded] {
         for seed in 0..25u64 {
-            expect_equal(&rt, &settle(form, seed, rt.alloc()).err(), &None);
+            tally.row(settle(form, seed, alloc).err() == None);
         }
     }
+}
+
+/// Plays all tables of this file.
+pub fn play(tally: &mut Tally, alloc: Global) {
+    a_mark_is_made_over_what_is_held(tally, alloc);
+    an_answer_needs_its_mark_or_its_moment(tally, alloc);
+    one_who_sleeps_is_owed(tally, alloc);
+    who_came_first_is_woken_first(tally, alloc);
+    random_worlds_settle_as_plain_channels(tally, alloc);
 }

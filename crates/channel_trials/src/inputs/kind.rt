@@ -1,11 +1,11 @@
 //! The kinds of inputs.
 
-use crate::Fault;
-use crate::grammar::draw_script;
-use crate::mutate::{draw_bytes, mutate};
+use crate::inputs::Fault;
+use crate::inputs::grammar::draw_script;
+use crate::inputs::mutate::{draw_bytes, mutate};
+use crate::inputs::script::check_script;
+use crate::inputs::steps::check_steps;
 use crate::random::Random;
-use crate::script::check_script;
-use crate::steps::check_steps;
 use std::alloc::{AllocError, Global};
 
 /// How many bytes the steps of a world are at most, and the byte of its form.

@@ -1,19 +1,20 @@
 //! What a trial refuses whose plain count is wrong.
 
+use crate::book::Book;
+use crate::differs::Differs;
+use crate::plan::{Kind, Plan};
+use crate::refusals::tally::Tally;
+use crate::trial::Trial;
+use crate::waiting::Came;
 use channel_calls::mark::Mark;
 use channel_calls::stage::Line;
-use channel_trials::book::Book;
-use channel_trials::differs::Differs;
-use channel_trials::plan::{Kind, Plan};
-use channel_trials::trial::Trial;
-use channel_trials::waiting::Came;
 use channel_world::name::{OpId, Waiter};
 use channel_world::world::World;
 use event_listener::id::EventIds;
 use std::alloc::Global;
 
 /// What is wrong in a plain count.
-#[derive(Clone, Copy, Debug)]
+#[derive(Clone, Copy)]
 enum Wrong {
     Nothing,
     MessageMore,
@@ -71,8 +72,8 @@ fn differs(before: Wrong, kind: Kind, after: Wrong, alloc: Global) -> Option<Dif
     trial.settle().err()
 }
 
-#[test]
-fn a_wrong_count_is_refused(rt: HostRuntime) {
+fn a_wrong_count_is_refused(tally: &mut Tally, alloc: Global) {
+    tally.begin("a wrong count is refused");
     let numbers = Some(Differs::Numbers);
     let refusal = Some(Differs::Refusal);
     let rows = [
@@ -97,8 +98,8 @@ fn a_wrong_count_is_refused(rt: HostRuntime) {
         ),
     ];
     for (before, kind, after, want) in rows {
-        let found = differs(before, kind, after, rt.alloc());
-        assert!(rt; found == want, "{before:?}, {after:?}");
+        let found = differs(before, kind, after, alloc);
+        tally.row(found == want);
     }
 }
 
@@ -118,8 +119,8 @@ fn differs_alone(wrong: Wrong, kind: Kind, alloc: Global) -> Option<Result<(), D
     Some(trial.count_alone(11, plan(kind, handle), run?))
 }
 
-#[test]
-fn a_wrong_count_is_refused_of_a_call_made_alone(rt: HostRuntime) {
+fn a_wrong_count_is_refused_of_a_call_made_alone(tally: &mut Tally, alloc: Global) {
+    tally.begin("a wrong count is refused of a call made alone");
     let numbers = Some(Err(Differs::Numbers));
     let refusal = Some(Err(Differs::Refusal));
     let rows = [
@@ -140,7 +141,13 @@ fn a_wrong_count_is_refused_of_a_call_made_alone(rt: HostRuntime) {
         (Wrong::NameMore, Kind::TryClone, refusal),
     ];
     for (wrong, kind, want) in rows {
-        let found = differs_alone(wrong, kind, rt.alloc());
-        assert!(rt; found == want, "{wrong:?}");
+        let found = differs_alone(wrong, kind, alloc);
+        tally.row(found == want);
     }
+}
+
+/// Plays all tables of this file.
+pub fn play(tally: &mut Tally, alloc: Global) {
+    a_wrong_count_is_refused(tally, alloc);
+    a_wrong_count_is_refused_of_a_call_made_alone(tally, alloc);
 }
