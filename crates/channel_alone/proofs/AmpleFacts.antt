@@ -3,7 +3,7 @@ use Rattle.std.proofs.lemmas.Bool.Decides.{nat_tests}
 use Rattle.std.proofs.Common.{arith, cond, ◌≡◌, ◌+◌, ◌<◌, ℕ, Bool, true, false, if◌then◌else◌, not, List, [], ◌∷◌, ◌++◌, Option, None, Some, Result, Ok, Err, is_some, refl, sym, ap, ◌∙◌, subst}
 use Rattle.std.specs.Map.{lookup}
 use Rattle.concurrent_queue.specs.Capacity.{capacity_of}
-use Rattle.concurrent_queue.specs.Queue.{Queue, Phase}
+use Rattle.concurrent_queue.specs.Queue.{Queue}
 use Rattle.concurrent_queue.specs.Step.{IsQueueStep, mark_of}
 use Rattle.concurrent_queue.specs.declared.call.QueueAsk.{QueueAsk}
 use Rattle.concurrent_queue.specs.declared.call.QueueAsk.TheVariants as ask
@@ -22,14 +22,13 @@ use Rattle.channel_calls.specs.Answered.{answered_next}
 use Rattle.channel_calls.specs.Asks.{asks_listener, first}
 use Rattle.channel_calls.specs.Deeds.{inserted, registered, Done}
 use Rattle.channel_calls.specs.Moves.{Channel, channel}
-use Rattle.channel_calls.specs.Parts.{Parts, Roster, Listeners, listeners, with_listeners, waits, Registers}
+use Rattle.channel_calls.specs.Parts.{Parts, Roster, Listeners, listeners, with_listeners, waits}
 use Rattle.channel_calls.specs.Plain.{parts_of, rooms_of, DoesPlain}
-use Rattle.channel_calls.specs.Rooms.{Rooms, room_on, with_room, KeepsRoom}
+use Rattle.channel_calls.specs.Rooms.{Rooms, room_on, with_room}
 use Rattle.channel_calls.specs.Turns.{line_of, leaving, pending_reply, refused_reply, ends_by, again, inserted_next, registered_next}
 use Rattle.channel_calls.specs.Walks.{Takes, Heard, WorkMakes, ChannelMakes}
 use Rattle.channel_calls.specs.declared.ask.ChannelAsk.{ChannelAsk}
 use Rattle.channel_calls.specs.declared.ask.ChannelAsk.TheVariants.{PollSend, PollRecv, PollClosed, PollNext}
-use Rattle.channel_calls.specs.declared.ask.Loan.{Loan}
 use Rattle.channel_calls.specs.declared.mark.Mark.{Mark}
 use Rattle.channel_calls.specs.declared.mark.Mark.TheVariants.{Nothing}
 use Rattle.channel_calls.specs.declared.plain.PlainChannel.{PlainChannel}
@@ -52,7 +51,7 @@ use Rattle.channel_alone.specs.Ample.{lacks_memory, IsListed, HasNode}
 use Rattle.channel_alone.specs.Run.{IsAtRest}
 use Rattle.channel_alone.proofs.AloneFacts.{IsAlone, in_range}
 use Rattle.channel_alone.proofs.LoopFacts.{IsOnItsWay}
-use Rattle.channel_alone.proofs.TryFacts.{Found, tries_end}
+use Rattle.channel_alone.proofs.TryFacts.{tries_end}
 
 -- ---- lists and rooms
 

@@ -27,7 +27,7 @@ use Rattle.channel_calls.specs.declared.stage.Side.{Side}
 use Rattle.channel_calls.specs.declared.stage.Work.TheVariants.{Insert}
 use Rattle.channel_calls.specs.declared.stage.Waiting.{Waiting}
 use Rattle.channel_calls.specs.declared.stage.Waiting.TheVariants as waiting
-use Rattle.channel_calls.specs.Parts.{Roster, Listeners, listeners, with_listeners, waits}
+use Rattle.channel_calls.specs.Parts.{Listeners, listeners, waits}
 use Rattle.channel_calls.specs.Turns.{says, line_of, ask_of, refused_next}
 use Rattle.channel_calls.specs.Answered.{over, sent_next, forced_next, received_next, gathered_next, short_next, several_next, send_next, receive_next, stream_next, closing_next, closed_next, asked_next, terminated_next, upgraded_next, answered_next}
 use Rattle.channel_calls.specs.Several.{Gathered, with_last}
@@ -63,10 +63,6 @@ given_then false A B e h = absurd cc
 pub given_else : (b : Bool) (A B : Type 0) → b ≡ false → Where b A B → B
 given_else true A B e h = absurd cc
 given_else false A B e h = h
-
-where_map : (b : Bool) (A B C : Type 0) → (B → C) → Where b A B → Where b A C
-where_map true A B C f h = h
-where_map false A B C f h = f h
 
 shut_is : (b : Bool) → false ≡ not b → b ≡ true
 shut_is true e = refl

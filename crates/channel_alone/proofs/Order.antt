@@ -49,10 +49,6 @@ among_orders : (b : Bool) (n i j : ℕ) → n < i → n < j → n < (if b then i
 among_orders true n i j h k = h
 among_orders false n i j h k = k
 
-pub below_both : (b : Bool) (n i j : ℕ) → i < n → j < n → (if b then i else j) < n
-below_both true n i j h k = h
-below_both false n i j h k = k
-
 waits_or_told : (b : Bool) → (if b then 6 else 10) < (if b then 7 else 11)
 waits_or_told true = omega arith
 waits_or_told false = omega arith

@@ -132,9 +132,6 @@ module _ {T W : Type 0} where
     not_inserted : (w : Waiting T) (task : W) (error : ListenError) → Turned (unlistened w error) r s → Backs c (Insert w task) (untouched c) r s
     not_inserted w task error h = record { turn = unlistened w error; turned = h; back = λ o k. inr (error, k); queue = refl; falls = omega arith }
 
-    registers_turn : Bool → Waiting T → Key → W → Turn T W
-    registers_turn b w key task = if b then pends_by w key else again w None task
-
     registered_back : (b : Bool) (w : Waiting T) (key : Key) (task : W) (d : Channel T W) (o : Outcome T W) → RestTurn (if b then pends_by w key else again w None task) d o
         → Where b (o ≡ answers (pending_reply (line_of w)) (leaving (Some key) (message_of w)) d) (RestTry (ask_of w) (aim.Poll (line_of w) None task) d o)
     registered_back true w key task d o k = k
@@ -237,9 +234,6 @@ module _ {T W : Type 0} where
           queue = refl;
           falls = upgraded_falls (n == 0) side;
         }
-
-    raise_effect : Bool → Side → ℕ → Effect T W
-    raise_effect b side n = if b then on_count side (n + 1) (up side) c else untouched c
 
     raised_as : (b : Bool) (side : Side) (n : ℕ) (m : Making) (o : Outcome T W) → RestTurn (raised_next side m b) (if b then on_count side (n + 1) (up side) c else untouched c).channel o
         → Where b (after_waking (if b then on_count side (n + 1) (up side) c else untouched c).woken o ≡ answers reply.Made nothing_kept (if b then on_count side (n + 1) (up side) c else untouched c).channel)

@@ -1,12 +1,12 @@
 -- A clone and a drop of a strong handle, made on end: the steps of their machine by the deeds on the count.
-use Rattle.std.proofs.Common.{◌≡◌, ℕ, Bool, true, false, nat_eq, nat_lt, Option, None, Some, is_some, refl, sym, subst, if◌then◌else◌}
+use Rattle.std.proofs.Common.{◌≡◌, ℕ, Bool, true, false, nat_eq, nat_lt, Option, None, Some, refl, sym, subst, if◌then◌else◌}
 use Rattle.concurrent_queue.specs.declared.queue_call.QueueCall.{QueueCall}
 use Rattle.event_listener.specs.declared.key.Key.{Key}
 use Rattle.channel_calls.proofs.Walking.{walks_on}
 use Rattle.channel_calls.specs.Asks.{kept_by}
 use Rattle.channel_calls.specs.Deeds.{Deed, counted, lowered, raised}
 use Rattle.channel_calls.specs.Marks.{up, down}
-use Rattle.channel_calls.specs.Turns.{most, nothing_kept, dropper, closer_ending, ends_by, lowered_next, loaded_next}
+use Rattle.channel_calls.specs.Turns.{most, nothing_kept, dropper, closer_ending, ends_by, lowered_next}
 use Rattle.channel_calls.specs.Walks.{Takes, ChannelMakes, Leads, Walked, WalkedTo}
 use Rattle.channel_calls.specs.declared.mark.Mark.TheVariants.{Nothing}
 use Rattle.channel_calls.specs.declared.reply.Reply.{Reply}
@@ -18,7 +18,6 @@ use Rattle.channel_calls.specs.declared.stage.Side.{Side}
 use Rattle.channel_calls.specs.declared.stage.Side.TheVariants.{Senders, Receivers}
 use Rattle.channel_calls.specs.declared.stage.Stage.{Stage}
 use Rattle.channel_calls.specs.declared.stage.Stage.TheVariants.{Working, Finished}
-use Rattle.channel_calls.specs.declared.stage.Turn.{Turn}
 use Rattle.channel_calls.specs.declared.stage.Turn.TheVariants.{Tries, Works, Ends}
 use Rattle.channel_calls.specs.declared.stage.Work.TheVariants.{Load, Raise, Lower}
 use Rattle.concurrent_queue.specs.declared.call.QueueAsk.TheVariants as queue_ask

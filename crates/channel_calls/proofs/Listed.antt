@@ -15,7 +15,7 @@ use Rattle.channel_calls.specs.Calls.{send_ask, recv_ask, closed_ask, next_ask}
 use Rattle.channel_calls.specs.Deeds.{Deed}
 use Rattle.channel_calls.specs.Listed.{is_pending, pends, SendLists}
 use Rattle.channel_calls.specs.Several.{Gathered, with_one}
-use Rattle.channel_calls.specs.Turns.{ends_by, refused_next, again, pends_by, unlistened, inserted_next, registered_next, closer_ending, told_all_next, room_next, roomless, TakesRoom, lowered_next, counted_next, leaving, held_on, says, loaded_next, raised_next, dropper, most, nothing_kept}
+use Rattle.channel_calls.specs.Turns.{ends_by, refused_next, pends_by, unlistened, inserted_next, registered_next, closer_ending, told_all_next, room_next, TakesRoom, lowered_next, counted_next, leaving, held_on, says, loaded_next, raised_next, dropper, most, nothing_kept}
 use Rattle.channel_calls.specs.Walks.{Takes, Heard, ChannelMakes, Leads, Walked, WalkedFrom}
 use Rattle.channel_calls.specs.declared.error.RecvError.{RecvError}
 use Rattle.channel_calls.specs.declared.error.Refused.{Refused}
@@ -40,7 +40,6 @@ use Rattle.channel_calls.specs.declared.stage.Line.TheVariants.{Sends, Receives,
 use Rattle.channel_calls.specs.declared.stage.Making.{Making}
 use Rattle.channel_calls.specs.declared.stage.Making.TheVariants as making
 use Rattle.channel_calls.specs.declared.stage.Side.{Side}
-use Rattle.channel_calls.specs.declared.stage.Side.TheVariants.{Senders, Receivers}
 use Rattle.channel_calls.specs.declared.stage.Stage.{Stage}
 use Rattle.channel_calls.specs.declared.stage.Stage.TheVariants.{Trying, Working, Finished}
 use Rattle.channel_calls.specs.declared.stage.Turn.{Turn}

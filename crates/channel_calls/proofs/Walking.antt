@@ -1,5 +1,5 @@
 -- Steps of a channel's call, and walks of it, by the deeds that its methods did.
-use Rattle.std.proofs.Common.{◌≡◌, ℕ, zero, suc, Option, None, Some, Result, Ok, Err, MatchResult, refl, sym, ◌∙◌, ap, subst}
+use Rattle.std.proofs.Common.{◌≡◌, ℕ, zero, suc, Option, None, Some, Result, Ok, Err, MatchResult, refl, sym, ap, subst}
 use Rattle.concurrent_queue.specs.Replies.{IsAsking}
 use Rattle.concurrent_queue.specs.Step.{Starts, mark_of}
 use Rattle.concurrent_queue.specs.declared.call.QueueAsk.{QueueAsk}
@@ -19,7 +19,7 @@ use Rattle.channel_calls.specs.declared.reply.Reply.{Reply}
 use Rattle.channel_calls.specs.declared.stage.Aim.{Aim}
 use Rattle.channel_calls.specs.declared.stage.Kept.{Kept}
 use Rattle.channel_calls.specs.declared.stage.Stage.{Stage}
-use Rattle.channel_calls.specs.declared.stage.Stage.TheVariants.{Trying, Finished}
+use Rattle.channel_calls.specs.declared.stage.Stage.TheVariants.{Trying}
 use Rattle.channel_calls.specs.declared.stage.Turn.{Turn}
 use Rattle.channel_calls.specs.declared.stage.Turn.TheVariants.{Tries, Works, Ends}
 

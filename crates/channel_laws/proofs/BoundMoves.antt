@@ -1,7 +1,7 @@
 -- What a step does to the number of messages, to the capacity and to the flag.
 use Rattle.std.proofs.Common.{arith, ◌≡◌, ℕ, ◌+◌, ◌≤◌, ◌==◌, Bool, true, false, List, [], ◌∷◌, length, drop, Option, Some, ◌⊎◌, inl, inr, refl, sym, ap, ◌∙◌, subst, length-append}
 use Rattle.std.proofs.lemmas.Bool.Decides.{nat_tests}
-use Rattle.concurrent_queue.specs.Queue.{Queue, Phase, trying, displaced, is_filled, is_full_at, IsOpen, IsOldest, message, marked, after, is_displaced, ContinuesPush, ContinuesForce, ContinuesPop, ContinuesBy, Continues, AnswersTo, Answers}
+use Rattle.concurrent_queue.specs.Queue.{Queue, Phase, trying, displaced, is_filled, is_full_at, IsOpen, IsOldest, message, marked, is_displaced, ContinuesPush, ContinuesForce, ContinuesPop, ContinuesBy, Continues, AnswersTo, Answers}
 use Rattle.concurrent_queue.specs.Queue as queue
 use Rattle.concurrent_queue.specs.declared.call.QueueAsk.{QueueAsk}
 use Rattle.concurrent_queue.specs.declared.call.QueueAsk.TheVariants as ask

@@ -1,7 +1,6 @@
 -- Calls that walk their machines over a channel's cells in one order make a run.
 use Rattle.std.proofs.Common.{◌≡◌, ℕ, ◌==◌, Bool, true, false, List, [], ◌∷◌, ◌++◌, Option, None, Some, Ok, Err, MatchOption, slice_get, slice_set, if◌then◌else◌, refl, sym, ap, ◌∙◌, subst, append_assoc, append-nil}
 use Rattle.std.specs.List.{remove}
-use Rattle.concurrent_queue.specs.Bridge.{HasCells}
 use Rattle.concurrent_queue.specs.Bridge as queue
 use Rattle.concurrent_queue.specs.Contents.{Contents}
 use Rattle.concurrent_queue.specs.Deeds as cell

@@ -1,13 +1,12 @@
 -- A call that blocks its thread makes whole calls.
-use Rattle.std.proofs.Common.{◌≡◌, ◌⊎◌, inl, inr, ℕ, zero, suc, Option, None, Some, List, refl, sym, ap, ◌∙◌, subst}
+use Rattle.std.proofs.Common.{◌≡◌, ◌⊎◌, inl, inr, ℕ, zero, suc, Option, None, Some, refl, sym, subst}
 use Rattle.concurrent_queue.specs.declared.queue_call.QueueCall.{QueueCall}
 use Rattle.event_listener.specs.declared.key.Key.{Key}
 use Rattle.channel_calls.specs.Asks.{first, is_refused}
-use Rattle.channel_calls.specs.Blocks.{waiting_of, at_once, not_yet, poll_woken, still_waits, Looks, Begins, Listens, Round, Rounds, Wakens, SleepsOn, Blocks}
-use Rattle.channel_calls.specs.Deeds.{Deed, stepped, inserted, registered, taken_off, one_told, more_told, all_told, counted, lowered, raised}
+use Rattle.channel_calls.specs.Blocks.{waiting_of, at_once, not_yet, poll_woken, still_waits, Looks, Begins, Listens, Round, Rounds, Wakens, SleepsOn}
+use Rattle.channel_calls.specs.Deeds.{Deed}
 use Rattle.channel_calls.specs.Turns.{again, line_of, message_of}
-use Rattle.channel_calls.specs.Walks.{Takes, Leaves, WorkMakes, ChannelMakes, Leads, Walked, WalkedFrom, WalkedTo}
-use Rattle.channel_calls.specs.declared.ask.ChannelAsk.{ChannelAsk}
+use Rattle.channel_calls.specs.Walks.{Takes, Leaves, WorkMakes, ChannelMakes, Leads, Walked, WalkedFrom}
 use Rattle.channel_calls.specs.declared.blocked.Blocked.{Blocked}
 use Rattle.channel_calls.specs.declared.blocked.Blocked.TheVariants.{Send, Receive}
 use Rattle.channel_calls.specs.declared.mark.Mark.{Mark}
@@ -46,18 +45,6 @@ module _ {T W X : Type 0} (did : Deed T W → X → X → Type 0) (asked : Optio
   rests_both (suc n) m s x t (y, one, more) h = let k = rests_both n m y x t more h in (suc k.0, (y, one, k.1))
 
   -- ---- with no rest
-
-  at_once_done : (d : Deed T W) (s t : X) → did d s t → after d s t
-  at_once_done (stepped call next o) s t h = h
-  at_once_done (inserted line o) s t h = h
-  at_once_done (registered line key task o) s t h = (zero, s, refl, h)
-  at_once_done (taken_off line key names) s t h = (zero, s, refl, h)
-  at_once_done (one_told line names) s t h = h
-  at_once_done (more_told line n names) s t h = h
-  at_once_done (all_told line names) s t h = h
-  at_once_done (counted side n) s t h = h
-  at_once_done (lowered side n) s t h = h
-  at_once_done (raised side n b) s t h = h
 
   left : (held : Option Held) (s t : X) → Leaves did held s t → Leaves after held s t
   left None s t h = h
@@ -160,12 +147,6 @@ module _ {T W X : Type 0} (did : Deed T W → X → X → Type 0) (asked : Optio
       wakens key x (inr (task, y, ask, walk, over)) k s rest =
           let more = rests_both k (suc zero) s x y rest (y, inl (Some task, ask), refl) in
           inl (task, zero, from_woken key task s r kept t (woken key task more.0 s y r kept t more.1 walk))
-
-      -- a poll that waits, before those that go on from the listener that it left
-      waits_first : (key next : Key) (task : W) (s y : X) → WalkedFrom after (first (poll_woken b key task)) s (still_waits b next).reply (still_waits b next).kept y
-          → GoesOn next y r kept t → GoesOn key s r kept t
-      waits_first key next task s y walk (inl (other, m, more)) = inl (task, suc m, (next, y, walk, poll_woken b next other, inl (other, refl), more))
-      waits_first key next task s y walk (inr last) = inl (task, suc zero, (next, y, walk, poll_refused b next, inr refl, last))
 
       round : (key : Key) (x : X) (next : Key) (z : X) → Round did asked slept b key x next z → From next z r kept t → From key x r kept t
       round key x next z (task, y, u, ask, walk, sleep) tail k s rest =

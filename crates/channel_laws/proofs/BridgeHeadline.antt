@@ -1,5 +1,5 @@
 -- Each step of a run says what the headline says.
-use Rattle.std.proofs.Common.{arith, ◌≡◌, ℕ, ◌+◌, ◌<◌, ◌^◌, List, [], ◌∷◌, ◌++◌, length, Option, None, Some, IfSome, inl, inr, refl, sym, ap, ◌∙◌, subst, append_assoc, append-nil}
+use Rattle.std.proofs.Common.{arith, ◌≡◌, ℕ, ◌+◌, List, [], ◌∷◌, ◌++◌, length, Option, None, Some, IfSome, inr, refl, sym, ap, ◌∙◌, subst, append_assoc, append-nil}
 use Rattle.concurrent_queue.specs.Capacity.{capacity_of}
 use Rattle.channel_calls.specs.Moves.{Channel}
 use Rattle.channel_calls.specs.Parts.{Parts}
@@ -8,13 +8,13 @@ use Rattle.channel_calls.specs.declared.stage.Kept.{Kept}
 use Rattle.channel_steps.specs.Answers.{Met}
 use Rattle.channel_steps.specs.Moments.{Spent}
 use Rattle.channel_steps.specs.Run.{Next, IsRun, Ran, new_scene}
-use Rattle.channel_steps.specs.Scene.{Under, Scene, Steps, MayFinish, gone_by, came_by}
+use Rattle.channel_steps.specs.Scene.{Under, Scene, MayFinish, gone_by, came_by}
 use Rattle.channel_steps.specs.declared.party.Entry.{Entry}
 use Rattle.channel_steps.specs.declared.run.Step.{Step}
 use Rattle.channel_steps.specs.declared.run.Step.TheVariants as step
 use Rattle.channel_laws.specs.Bounds.{BoundSound}
 use Rattle.channel_laws.specs.Bridge.{Happening, steps_of, opened_parts}
-use Rattle.channel_laws.specs.BridgeHeadline.{HoldsAt, OwnCall, OfOwnCall, StepSays, EachStep, MergesKeepTheHeadline}
+use Rattle.channel_laws.specs.BridgeHeadline.{HoldsAt, OfOwnCall, StepSays, EachStep, MergesKeepTheHeadline}
 use Rattle.channel_laws.specs.Ends.{SaysTheEnd, Replies}
 use Rattle.channel_laws.specs.Receives.{MessagesAreFew, counts_for_receives}
 use Rattle.channel_laws.specs.Sends.{PlacesAreFew, counts_for_sends}

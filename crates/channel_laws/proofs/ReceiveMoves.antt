@@ -1,6 +1,6 @@
 -- Each step pays for what it brings or uses up, as those count it who wait for a message.
 use Rattle.std.proofs.Common.{◌≡◌, ℕ, ◌+◌, ◌≤◌, false, List, [], length, Option, None, Some, Ok, Err, ◌⊎◌, inl, inr, refl, sym, ap, subst, arith}
-use Rattle.concurrent_queue.specs.Queue.{Queue, Phase, trying, appended, taken, marked, is_displaced, asked, AnswersPush, AnswersForce, AnswersPop, AnswersTo, ContinuesBy}
+use Rattle.concurrent_queue.specs.Queue.{Queue, Phase, trying, appended, taken, marked, is_displaced, AnswersPush, AnswersForce, AnswersPop, AnswersTo, ContinuesBy}
 use Rattle.concurrent_queue.specs.Queue as queue
 use Rattle.concurrent_queue.specs.declared.call.QueueAsk.{QueueAsk}
 use Rattle.concurrent_queue.specs.declared.call.QueueAsk.TheVariants as ask

@@ -5,7 +5,7 @@ use Rattle.channel_calls.specs.declared.error.TryRecvError.{TryRecvError}
 use Rattle.channel_calls.specs.declared.error.TryRecvError.TheVariants as try_recv_error
 use Rattle.std.proofs.Common.{◌≡◌, ℕ, zero, suc, ◌+◌, ◌≤◌, true, false, List, [], ◌∷◌, ◌++◌, length, Option, None, Some, Ok, Err, ◌⊎◌, inl, inr, refl, sym, ap, subst, arith}
 use Rattle.std.proofs.lemmas.Bool.Decides.{nat_tests}
-use Rattle.concurrent_queue.specs.Queue.{Queue, Phase, IsShut, trying, appended, taken, marked, is_displaced, is_full_at, is_filled, AnswersPush, AnswersForce, AnswersPop, AnswersTo, ContinuesBy}
+use Rattle.concurrent_queue.specs.Queue.{Queue, Phase, IsShut, trying, appended, taken, is_displaced, is_full_at, is_filled, AnswersPush, AnswersForce, AnswersPop, AnswersTo, ContinuesBy}
 use Rattle.concurrent_queue.specs.Queue as queue
 use Rattle.concurrent_queue.specs.declared.call.QueueAsk.{QueueAsk}
 use Rattle.concurrent_queue.specs.declared.call.QueueAsk.TheVariants as ask
@@ -219,14 +219,6 @@ module _ {T W : Type 0} where
   full_places c n h =
       inr (has_more c.queue.capacity (length c.queue.items + 0) (length c.queue.items + length (told_of Sends c) + n)
       (omega arith) (filled_as c.queue.capacity c.queue.items 0 h))
-
-  -- a refusal leaves places as few as can be
-  refused_places : (c : Channel T W) (n k : ℕ) → Refuses c.queue → PlacesAreFew c n → PlacesAreFew c k
-  refused_places c n k (inl full) h = full_places c k full
-  refused_places c n k (inr (inl shut)) h = inl shut
-  refused_places c n k (inr (inr none)) (inl shut) = inl shut
-  refused_places c n k (inr (inr none)) (inr h) =
-      absurd (subst (λ (o : Option ℕ). HasPlaces o (length c.queue.items + length (told_of Sends c) + n)) none h)
 
   module _ (c : Channel T W) (x : ChannelAsk T W) (f : Phase T) (y : Aim T W) (m : QueueMark) (ds : List (Deed T W))
       (seen : List (Channel T W)) (r : Option (Reply T)) (s : Stage (Phase T) T W)

@@ -1,9 +1,9 @@
 -- Over steps: on a channel without a bound no send listens.
-use Rattle.std.proofs.Common.{◌≡◌, ℕ, zero, suc, ◌+◌, Bool, true, false, if◌then◌else◌, List, ◌∷◌, Option, None, Some, inl, inr, refl, sym, ap, ◌∙◌, subst}
+use Rattle.std.proofs.Common.{◌≡◌, ℕ, zero, suc, ◌+◌, Bool, true, false, if◌then◌else◌, List, Option, None, Some, inl, inr, refl, sym, ap, ◌∙◌, subst}
 use Rattle.concurrent_queue.specs.Queue.{Phase}
 use Rattle.event_listener.specs.Lists.{registration, removed}
 use Rattle.channel_calls.specs.Moves.{Channel, Effect, queued, untouched, on_line, on_count, leaves, Moves}
-use Rattle.channel_calls.specs.Parts.{Listeners, Roster, nobody_listens, listeners, with_listeners, with_count, is_raised, told_one, told_more, told_all}
+use Rattle.channel_calls.specs.Parts.{Listeners, Roster, nobody_listens, listeners, with_count, is_raised, told_one, told_more, told_all}
 use Rattle.channel_calls.specs.declared.ask.ChannelAsk.{ChannelAsk}
 use Rattle.channel_calls.specs.Turns.{line_of}
 use Rattle.channel_calls.specs.declared.mark.Mark.{Mark}
@@ -15,14 +15,12 @@ use Rattle.channel_calls.specs.declared.stage.Side.{Side}
 use Rattle.channel_calls.specs.declared.stage.Side.TheVariants.{Senders, Receivers}
 use Rattle.channel_calls.specs.declared.stage.Stage.{Stage}
 use Rattle.channel_calls.specs.declared.stage.Stage.TheVariants.{Trying, Working, Finished}
-use Rattle.channel_calls.specs.declared.stage.Waiting.{Waiting}
 use Rattle.channel_calls.specs.declared.stage.Waiting.TheVariants as waiting
-use Rattle.channel_calls.specs.declared.stage.Work.{Work}
 use Rattle.channel_calls.specs.declared.stage.Work.TheVariants.{TellReceive, TellStreams, TellSend, TellSends, TakeRoom, TellAll, Insert, Register, Leave, Lower, Count, Load, Raise}
 use Rattle.channel_steps.specs.Known.{StageAt}
 use Rattle.channel_steps.specs.Moments.{Deed}
 use Rattle.channel_steps.specs.Run.{Next, new_scene}
-use Rattle.channel_steps.specs.Scene.{Scene, Steps, Known, AllKnown}
+use Rattle.channel_steps.specs.Scene.{Scene, Known, AllKnown}
 use Rattle.channel_steps.specs.declared.party.Entry.{Entry}
 use Rattle.channel_steps.specs.declared.run.Step.{Step}
 use Rattle.channel_steps.specs.declared.run.Step.TheVariants as step
@@ -52,13 +50,6 @@ module _ {T W : Type 0} (c : Channel T W) (none : c.roster.sends ≡ nobody_list
   on_list Receives change names same = none
   on_list Streams change names same = none
   on_list Closings change names same = none
-
-  -- a list that is not of sends
-  on_other : (line : Line) (l : Listeners W) (names : List W) → (line ≡ Sends → ⊥) → Stays (on_line line l names c)
-  on_other Sends l names other = absurd (other refl)
-  on_other Receives l names other = none
-  on_other Streams l names other = none
-  on_other Closings l names other = none
 
   by : (e d : Effect T W) → e ≡ d → Stays d → Stays e
   by e d same k = ap (λ (x : Effect T W). x.channel.roster.sends) same ∙ k

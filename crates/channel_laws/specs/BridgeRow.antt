@@ -7,7 +7,7 @@ use Rattle.channel_calls.specs.Turns.{nothing_kept}
 use Rattle.channel_calls.specs.declared.ask.ChannelAsk.TheVariants.{CloneHandle}
 use Rattle.channel_calls.specs.declared.reply.Reply.TheVariants.{Made}
 use Rattle.channel_calls.specs.declared.stage.Side.TheVariants.{Senders}
-use Rattle.channel_laws.specs.Bridge.{Happening, Event, begins, does, on_roster, Given, Acts, own, opened_parts, InOneOrder}
+use Rattle.channel_laws.specs.Bridge.{Happening, begins, does, on_roster, Given, Acts, own, opened_parts, InOneOrder}
 
 module _ {T W : Type 0} where
   -- both read one; the first finds two where it would raise one, reads again and raises two

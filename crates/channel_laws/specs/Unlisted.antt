@@ -1,5 +1,5 @@
 -- On a channel without a bound no send listens: it is never full, so no send ever waits.
-use Rattle.std.specs.Prelude.{◌≡◌, ℕ, List, Option, None}
+use Rattle.std.specs.Prelude.{◌≡◌, None}
 use Rattle.channel_calls.specs.Moves.{Channel}
 use Rattle.channel_calls.specs.Parts.{nobody_listens}
 use Rattle.channel_steps.specs.Scene.{Scene}

@@ -1,6 +1,6 @@
 -- Each call, one at a time, keeps the accounts of messages and leaves nobody asleep.
 use Rattle.std.proofs.lemmas.List.{take-append-drop}
-use Rattle.std.proofs.Common.{zero, suc, take, drop, arith, ◌≡◌, ◌⊎◌, ◌≤◌, ◌+◌, ◌-◌, ◌^◌, ◌==◌, ℕ, nat_eq, nat_lt, List, [], ◌∷◌, ◌++◌, length, Bool, true, false, ◌||◌, ◌&&◌, not, cond, if◌then◌else◌, Option, None, Some, IsSome, is_some, is_none, Result, Ok, Err, IfOk, OnErr, refl, sym, ap, subst, ◌∙◌, inl, inr, append-nil, append_assoc, length-append}
+use Rattle.std.proofs.Common.{zero, suc, take, drop, arith, ◌≡◌, ◌⊎◌, ◌≤◌, ◌+◌, ◌-◌, ◌^◌, ◌==◌, ℕ, nat_eq, nat_lt, List, [], ◌∷◌, ◌++◌, length, Bool, true, false, ◌||◌, ◌&&◌, not, cond, if◌then◌else◌, Option, None, Some, IsSome, is_some, is_none, Ok, Err, refl, sym, ap, subst, ◌∙◌, inl, inr, append-nil, append_assoc, length-append}
 use Rattle.std.proofs.lemmas.Cmp.{nat_eq_equiv}
 use Rattle.std.specs.List.{list_all}
 use Rattle.std.specs.Option.{option_map_or, option_to_list}
@@ -47,10 +47,6 @@ chosen_no b x y e = rw e refl
 
 chosen_yes : {A : Type 0} (b : Bool) (x y : A) → b ≡ true → cond b x y ≡ x
 chosen_yes b x y e = rw e refl
-
-no_line : {A : Type 0} (o : Option Line) → IsSome o → o ≡ None → A
-no_line None h e = cc h
-no_line (Some l) h e = cc e
 
 full_idle : (o : Option ℕ) (n : ℕ) → option_map_or (λ (capacity : ℕ). n == capacity) o false ≡ true → (free_places o n ≡ 0) × (o ≡ None → ⊥)
 full_idle None n e = cc e
@@ -140,9 +136,6 @@ module _ {T : Type 0} where
   found_yet [] true e = cc e
   found_yet [] false e = (refl, refl)
   found_yet (x ∷ xs) closed e = cc e
-
-  space_open : (c : Channel T) → space_of c ≡ Open → c.closed ≡ false
-  space_open c e = elim (decided c.closed) [ inl t ↦ cc (rw t at e) | inr t ↦ t ]
 
   space_filled : (c : Channel T) → space_of c ≡ Filled → (c.closed ≡ false) × (is_full c ≡ true)
   space_filled c e = elim (decided c.closed) [
@@ -781,12 +774,6 @@ module _ {T : Type 0} where
   -- and so does a poll of settling
   pub poll_awake : (s : State T) (w : Waiter) (a : Answer T) → AwakeIn s → Answers s (poll_of w) a → AwakeIn a.after
   poll_awake s w a awake e = (poll_good (sends_of s.names.operations) s awake (sends_found s.names.operations) w a e).awake
-
-  -- a call that is run, or handed back with nothing changed
-  pub awake_kept : (s t : State T) (c : Call T) (r : Result (Done T) (Call T)) → AwakeIn s → refusal s c ≡ None
-      → IfOk r (λ d. Answers s c (record { after = t; reply = d.reply; woken = d.woken.items })) → OnErr r (t ≡ s) → AwakeIn t
-  awake_kept s t c (Ok d) awake ok good same = still_awake s c (record { after = t; reply = d.reply; woken = d.woken.items }) awake ok good
-  awake_kept s t c (Err back) awake ok good same = subst (λ (x : State T). AwakeIn x) (sym same) awake
 
   pub in_order : (capacity : Option ℕ) (calls rest : List (Call T)) (done : List (Done T)) (why : Option WorldRefusal) (world : State T)
       → Runs (start capacity) calls done why rest world → removed done ++ world.channel.messages ≡ accepted [] calls done

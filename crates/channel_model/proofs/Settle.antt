@@ -3,18 +3,15 @@ use Rattle.std.proofs.Common.{arith, ◌≡◌, ◌⊎◌, ◌≤◌, ◌+◌, �
 use Rattle.std.proofs.Math.Nat.{suc-mul, mul-suc}
 use Rattle.std.specs.List.{filter, list_any}
 use Rattle.std.proofs.lemmas.List.Elements.{filter-append}
-use Rattle.std.specs.Option.{option_map_or}
 use Rattle.std.specs.Prelude.{slice_get}
-use Rattle.channel_model.specs.Answer.{Answer, replying, telling, leaving, pending, space_of, Found, first, none_yet, none_ever, found, send_poll_answer, recv_poll_answer, next_answer, poll_next_answer, closed_poll_answer, poll_answer, answer, finished}
-use Rattle.channel_model.specs.Awake.{Awake, AwakeIn, Enough, Kind, Placed, times, times_in}
+use Rattle.channel_model.specs.Answer.{Answer, replying, leaving, pending, space_of, Found, first, none_yet, none_ever, found, send_poll_answer, recv_poll_answer, next_answer, closed_poll_answer, poll_answer, answer}
+use Rattle.channel_model.specs.Awake.{AwakeIn, Enough, Kind, Placed, times}
 use Rattle.channel_model.specs.Laws.{count_of, free_places, line_of, line_of_operation}
 use Rattle.channel_model.specs.Lines.{Waiting, same_waiter, is_among, untold, told_by, after_news, without, gone, passed_on, left_after, told_after, at_end, standing, is_stream}
 use Rattle.channel_model.specs.Names.{Names, Operation, send, recv, closing, at}
 use Rattle.channel_model.specs.Refused.{Lack, memory, serials, refused, not_listening, not_standing, not_held, send_not_polled, recv_not_polled, not_polled, next_not_polled, answer_without, Answers}
-use Rattle.channel_model.specs.Settling.{poll_of, Settles, SettlesTo, NobodyGoesOn, pending_count, pairs, polls_left, settled, state_settled}
-use Rattle.channel_model.specs.State.{State, with_channel, with_names, with_waiting}
-use Rattle.channel_model.specs.declared.call.Call.{Call}
-use Rattle.channel_model.specs.declared.call.Call.TheVariants as call
+use Rattle.channel_model.specs.Settling.{poll_of, Settles, SettlesTo, NobodyGoesOn, pending_count, pairs, polls_left}
+use Rattle.channel_model.specs.State.{State, with_waiting}
 use Rattle.channel_calls.specs.declared.reply.Reply.{Reply}
 use Rattle.channel_calls.specs.declared.reply.Reply.TheVariants as reply
 use Rattle.channel_calls.specs.declared.stage.Line.{Line}
@@ -27,7 +24,6 @@ use Rattle.channel_model.specs.declared.name.Waiter.{Waiter}
 use Rattle.channel_model.specs.declared.name.Waiter.TheVariants.{Op, Stream}
 use Rattle.channel_model.specs.declared.name.OpId.{OpId}
 use Rattle.channel_model.specs.declared.name.HandleId.{HandleId}
-use Rattle.channel_calls.specs.declared.error.Refused.TheVariants.{Plain, NoMemory}
 use Rattle.futures.specs.declared.task.Poll.TheVariants.{Ready, Pending}
 use Rattle.channel_model.proofs.WaiterLemmas.{decided, same_refl, same_sound, none_left, without_absent}
 use Rattle.channel_model.proofs.Counting.{among_counts, among_self, count_append, count_split, or_right}
@@ -295,8 +291,6 @@ module _ {T : Type 0} where
       unanswered_so lack (Op op) c = poll_refused lack op (at op.0 s.names.operations) c
       unanswered_so lack (Stream receiver) c = next_refused lack (Stream receiver) (found s.channel) c
 
-      -- however the poll of one that is woken is answered
-      pub poll_cases : (w : Waiter) (a : Answer T) → is_among w s.waiting.woken ≡ true → Answers s (poll_of w) a → Cases w s.waiting P → P a.after.waiting a.woken
       unfolding AllSo
       poll_cases w a e (inl x) c = subst (λ (y : Answer T). So y) (sym x) (answered_so w e c)
       poll_cases w a e (inr (lack, x)) c = unanswered_so lack w c a x
@@ -703,34 +697,6 @@ module _ {T : Type 0} where
   settle_ends s t (p ∷ ps) (f, (mid, ns, a, more)) none = (f, (mid, ns, a, settle_ends mid t ps more none))
 
   -- ---- with ample memory there is one settling
-
-  none_left_woken : (s : State T) → polls_left s.waiting ≤ 0 → s.waiting.woken ≡ []
-  none_left_woken s h = empty s.waiting.woken (omega (arith, h))
-    where
-      empty : (ws : List Waiter) → length ws ≤ 0 → ws ≡ []
-      empty [] h = refl
-      empty (w ∷ ws) h = absurd (omega (arith, h))
-
-  -- n more polls at most, the first of them of this one, if any
-  abbrev FuelSettles : ℕ → State T → Option Waiter → Type 0
-  FuelSettles n s o = Settles s (option_map_or (λ (w : Waiter). let a = answer s (poll_of w) in (w, a.reply) ∷ settled n a.after) o [])
-      (option_map_or (λ (w : Waiter). state_settled n (answer s (poll_of w)).after) o s)
-
-  fuel_settles : (n : ℕ) (s : State T) → AwakeIn s → polls_left s.waiting ≤ suc n
-      → ((u : State T) → AwakeIn u → polls_left u.waiting ≤ n → Settles u (settled n u) (state_settled n u))
-      → (ws : List Waiter) → s.waiting.woken ≡ ws → FuelSettles n s (slice_get s.waiting.woken 0)
-  fuel_settles n s awake h later [] e = subst (λ (xs : List Waiter). FuelSettles n s (slice_get xs 0)) (sym e) (e, refl)
-  fuel_settles n s awake h later (w ∷ ws) e =
-      let front : slice_get s.waiting.woken 0 ≡ Some w = ap (λ (xs : List Waiter). slice_get xs 0) e in
-      let a = answer s (poll_of w) in
-      let near = nearer s awake w a (first_there w s.waiting.woken front) (inl refl) in
-      let fewer = fewer_left s.waiting a.after.waiting (first_some w s.waiting.woken front) near in
-      let on = later a.after (poll_awake s w a awake (inl refl)) (omega (arith, fewer, h)) in
-      subst (λ (o : Option Waiter). FuelSettles n s o) (sym front) (front, (a.after, a.woken, inl refl, on))
-
-  pub settled_settles : (n : ℕ) (s : State T) → AwakeIn s → polls_left s.waiting ≤ n → Settles s (settled n s) (state_settled n s)
-  settled_settles zero s awake h = (none_left_woken s h, refl)
-  settled_settles (suc n) s awake h = fuel_settles n s awake h (settled_settles n) s.waiting.woken refl
 
   -- ---- at rest
 

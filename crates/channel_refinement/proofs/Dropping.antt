@@ -12,7 +12,7 @@ use Rattle.channel_calls.specs.declared.stage.Side.TheVariants.{Senders, Receive
 use Rattle.channel_alone.specs.Alone as alone
 use Rattle.channel_alone.specs.Alone.{Outcome, ends, of_closing, over_queue, drops}
 use Rattle.channel_model.specs.Answer as model
-use Rattle.channel_model.specs.Answer.{Answer, telling, leaving, shut, without_one, news_without_one, drop_one, dropped, drop_answer}
+use Rattle.channel_model.specs.Answer.{telling, leaving, shut, without_one, news_without_one, dropped, drop_answer}
 use Rattle.channel_model.specs.Awake.{AwakeIn, Awake, Kind}
 use Rattle.channel_model.specs.Channel as plain
 use Rattle.channel_model.specs.Laws.{line_of}

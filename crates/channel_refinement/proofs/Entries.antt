@@ -61,12 +61,6 @@ module _ (held : Held) where
   none_untold (e ∷ es) [] h n = absurd h
   none_untold (e ∷ es) (w ∷ ws) h n = cc n
 
-  pub same_lengths : (es : List (Key × Option Waiter)) (ws : List Waiter) → AreUntold held es ws → length es ≡ length ws
-  same_lengths [] [] h = refl
-  same_lengths [] (w ∷ ws) h = absurd h
-  same_lengths (e ∷ es) [] h = absurd h
-  same_lengths (e ∷ es) (w ∷ ws) h = let on = same_lengths es ws h.2 in omega (arith, on)
-
   -- whoever stands untold holds a key
   pub untold_holds : (w : Waiter) (es : List (Key × Option Waiter)) (ws : List Waiter) → AreUntold held es ws → is_among w ws ≡ true → (key : Key) × (held w ≡ Some key)
   untold_holds w [] [] h e = cc e

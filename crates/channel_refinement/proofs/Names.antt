@@ -77,10 +77,6 @@ of_other_line kind line other off (x ∷ xs) h =
     let here : is_line other (kind x) ≡ false = rw (h x (among_self x xs)) off in
     rw here (of_other_line kind line other off xs (all_rest kind line x xs h))
 
-pub absent_of_line : (kind : Kind) (line : Line) (w : Waiter) (ws : List Waiter) → is_among w ws ≡ false → is_among w (of_line kind line ws) ≡ false
-absent_of_line kind line w ws e = elim (decided (is_among w (of_line kind line ws))) [
-  | inr t ↦ t
-  | inl t ↦ cc (sym (among_of_line kind line w ws t).0 ∙ e)
 ]
 
 -- a name of another kind is not of the line

@@ -13,7 +13,7 @@ use Rattle.channel_calls.specs.declared.reply.Reply.TheVariants as reply
 use Rattle.channel_calls.specs.declared.stage.Line.TheVariants as list
 use Rattle.channel_calls.specs.declared.stage.Waiting.TheVariants as waiting
 use Rattle.channel_alone.specs.Alone as alone
-use Rattle.channel_alone.specs.Alone.{Outcome, Where, ends, of_message, over_queue, Waits, PollsFor, PollsReceive, PollsSend, MayLackRoom}
+use Rattle.channel_alone.specs.Alone.{Outcome, ends, of_message, over_queue, Waits, PollsSend, MayLackRoom}
 use Rattle.channel_model.specs.Answer.{replying, leaving, send_poll_answer, poll_answer, finished, space_of}
 use Rattle.channel_model.specs.declared.call.Call.TheVariants as call
 use Rattle.channel_model.specs.Refused.{memory, refused, not_polled, send_not_polled}

@@ -14,7 +14,7 @@ use Rattle.channel_calls.specs.declared.reply.Reply.TheVariants as reply
 use Rattle.channel_calls.specs.declared.stage.Line.TheVariants as list
 use Rattle.channel_calls.specs.declared.stage.Waiting.TheVariants as waiting
 use Rattle.channel_alone.specs.Alone as alone
-use Rattle.channel_alone.specs.Alone.{Outcome, Alone, ends, of_room, over_queue, answers, PollsFor, PollsStream}
+use Rattle.channel_alone.specs.Alone.{Outcome, Alone, ends, of_room, over_queue, PollsFor}
 use Rattle.channel_model.specs.Answer.{Found, first, none_yet, none_ever, found, replying, next_answer, poll_next_answer}
 use Rattle.channel_model.specs.Awake.{AwakeIn}
 use Rattle.channel_model.specs.Laws.{line_of}
@@ -26,7 +26,7 @@ use Rattle.channel_model.specs.declared.name.HandleId.{HandleId}
 use Rattle.channel_model.specs.declared.name.Waiter.{Waiter}
 use Rattle.channel_model.specs.declared.name.Waiter.TheVariants.{Stream}
 use Rattle.channel_model.specs.declared.news.News.TheVariants.{Room}
-use Rattle.channel_calls.specs.declared.stage.Line.TheVariants.{Sends, Streams}
+use Rattle.channel_calls.specs.declared.stage.Line.TheVariants.{Streams}
 use Rattle.channel_model.proofs.Awake.{awake_without_stream}
 use Rattle.channel_model.proofs.WaiterLemmas.{decided, same_refl, without_absent, none_left}
 use Rattle.channel_refinement.specs.Over.{Matches}
@@ -144,9 +144,6 @@ module _ {T : Type 0} (held : Held) (s : State T) (receiver : HandleId) (awake :
           (wait_ends Streams (reply.Next poll.Pending) (λ e. refused_reply list.Streams e) None (Stream receiver) unheld c used_up h still_awake refl None o
           (with_own (Stream receiver) (Stream receiver) None held (same_refl (Stream receiver))) (where_false c.queue.closed _ _ t x))
     ]
-
-    pub polls_used : (o : Outcome T Waiter) → PollsStream None (Stream receiver) c o → Matches held s (call.PollNext receiver) o
-    polls_used o x = polls c.queue.items o refl x
 
 -- ---- from what the stream holds
 

@@ -1,5 +1,5 @@
 -- No call under way has more than 197 steps left that nobody holds up, and 64 for each message that it may take more than one.
-use Rattle.std.proofs.Common.{◌+◌, ◌*◌, arith, length, ◌≡◌, ◌≤◌, ℕ, zero, suc, List, [], ◌∷◌, ◌++◌, map, slice_get, Some, refl, sym, ap, ◌∙◌, subst, append_assoc}
+use Rattle.std.proofs.Common.{◌+◌, ◌*◌, arith, ◌≡◌, ◌≤◌, ℕ, zero, suc, List, [], ◌∷◌, ◌++◌, map, slice_get, Some, sym, subst, append_assoc}
 use Rattle.concurrent_queue.specs.Queue.{Queue}
 use Rattle.concurrent_queue.specs.Step.{Seat, Fits}
 use Rattle.channel_calls.specs.Parts.{Parts}

@@ -3,7 +3,7 @@ use Rattle.std.proofs.Common.{◌≡◌, ◌≤◌, ◌<◌, ◌+◌, ◌-◌, �
 use Rattle.std.proofs.lemmas.Bool.Decides.{nat_tests}
 use Rattle.concurrent_queue.specs.Contents.{Contents}
 use Rattle.concurrent_queue.specs.Queue.{Queue, Phase, asked}
-use Rattle.concurrent_queue.specs.Step.{Seat, Fits, HoldsNobodyUp, phases, rank}
+use Rattle.concurrent_queue.specs.Step.{Seat, Fits, HoldsNobodyUp, phases}
 use Rattle.concurrent_queue.specs.declared.call.QueueAsk.TheVariants as ask
 use Rattle.concurrent_queue.specs.declared.call.QueueReply.{QueueReply}
 use Rattle.concurrent_queue.specs.declared.call.QueueReply.TheVariants as answer
@@ -13,7 +13,6 @@ use Rattle.concurrent_queue.specs.declared.error.PopError.TheVariants as pop_err
 use Rattle.concurrent_queue.specs.declared.queue_call.QueueCall.{QueueCall}
 use Rattle.concurrent_queue.proofs.Interface.{ranks}
 use Rattle.event_listener.specs.declared.key.Key.{Key}
-use Rattle.event_listener.specs.declared.error.ListenError.{ListenError}
 use Rattle.event_listener.specs.Lists.{kind_of, listened}
 use Rattle.channel_calls.specs.Several.{Gathered, with_last}
 use Rattle.channel_calls.specs.declared.error.TryRecvError.{TryRecvError}
@@ -26,7 +25,6 @@ use Rattle.channel_calls.specs.declared.stage.Aim.TheVariants as aim
 use Rattle.channel_calls.specs.declared.stage.Closer.{Closer}
 use Rattle.channel_calls.specs.declared.stage.Ending.{Ending}
 use Rattle.channel_calls.specs.declared.stage.Held.{Held}
-use Rattle.channel_calls.specs.declared.stage.Kept.{Kept}
 use Rattle.channel_calls.specs.declared.stage.Line.{Line}
 use Rattle.channel_calls.specs.declared.stage.Line.TheVariants.{Sends, Receives, Streams, Closings}
 use Rattle.channel_calls.specs.declared.stage.Making.{Making}
@@ -43,7 +41,7 @@ use Rattle.channel_calls.specs.declared.stage.Work.TheVariants.{TellReceive, Tel
 use Rattle.channel_calls.specs.Parts.{Parts, Roster, Listeners, listeners, with_listeners, waits, count, is_raised}
 use Rattle.channel_calls.specs.Turns.{most, line_of, leaving, nothing_kept, ends_by, again, pends_by, unlistened, refused_next, closer_ending, dropper, told_all_next, room_next, roomless, lowered_next, counted_next, loaded_next, raised_next}
 use Rattle.channel_calls.specs.Answered.{sent_next, forced_next, received_next, gathered_next, short_next, several_next, send_next, receive_next, stream_next, closing_next, polled_next, closed_next, asked_next, terminated_next, upgraded_next, answered_next}
-use Rattle.channel_calls.specs.Moves.{Channel, Effect, channel, Turned, Worked, Tried, Moves, seats, phase, IsTaken, Hastens, Made}
+use Rattle.channel_calls.specs.Moves.{Channel, Effect, channel, Turned, Worked, Tried, seats, phase, IsTaken, Hastens, Made}
 use Rattle.channel_steps.specs.Known.{left_to_tell}
 use Rattle.channel_steps.specs.Left.{left_after, left_to_work, steps_left}
 use Rattle.channel_steps.proofs.LineFacts.{fresh_waits, same_line}
@@ -252,10 +250,6 @@ module _ {T W : Type 0} where
     told_left Receives by = omega arith
     told_left Streams by = omega arith
     told_left Closings by = let h = ends_soon {T = T} e.channel.roster (closer_ending by true) in omega (arith, h)
-
-    try_less : (b : Bool) → b ≡ true → 64 + (if b then 3 else 133) < 68
-    try_less true h = omega arith
-    try_less false h = absurd cc
 
     inserted_less : (w : Waiting T) (task : W) (key : Key) (l : Listeners W) → kind_of l key ≡ None
         → e.channel.roster ≡ with_listeners (line_of w) (listened key l) c.roster

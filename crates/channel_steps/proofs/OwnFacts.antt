@@ -1,6 +1,6 @@
 -- A step of a call: what is known of it after, whom it wakes, and what it takes and brings.
 use Rattle.std.proofs.Common.{◌≡◌, map, ℕ, ◌+◌, ◌<◌, ◌≤◌, Bool, true, false, if◌then◌else◌, List, [], ◌∷◌, ◌++◌, take, drop, Option, None, Some, ◌⊎◌, inl, inr, refl, sym, ap, ◌∙◌, subst, arith, append-nil, append_assoc}
-use Rattle.concurrent_queue.specs.Queue.{Queue, Phase, trying, displaced, appended, taken, read, measured, after, message, Continues, ContinuesBy, Answers}
+use Rattle.concurrent_queue.specs.Queue.{Queue, Phase, after, message, Continues, ContinuesBy, Answers}
 use Rattle.concurrent_queue.specs.Queue as queue
 use Rattle.concurrent_queue.specs.declared.call.QueueAsk.{QueueAsk}
 use Rattle.concurrent_queue.specs.declared.call.QueueAsk.TheVariants as ask
@@ -195,14 +195,6 @@ module _ {T W : Type 0} where
   queue_held x f queue_mark.Replace q e =
       sym (append_assoc (take 1 q.items) (drop 1 q.items) (message f.ask)) ∙ (ap (λ (vs : List T). vs ++ message f.ask) (split_first q.items) ∙ ap (λ (vs : List T). q.items ++ vs) e)
   queue_held x f queue_mark.Close q e = sym (append-nil q.items)
-
-  other_held : (m : Mark) (x : ChannelAsk T W) (items items' : List T) → IsOther m → items' ≡ items → Held_by m x items items'
-  other_held mark.Nothing x items items' h e = e ∙ sym (append-nil items)
-  other_held mark.SenderUp x items items' h e = e ∙ sym (append-nil items)
-  other_held mark.SenderDown x items items' h e = e ∙ sym (append-nil items)
-  other_held mark.ReceiverUp x items items' h e = e ∙ sym (append-nil items)
-  other_held mark.ReceiverDown x items items' h e = e ∙ sym (append-nil items)
-  other_held m x items items' h e = absurd h
 
   other_mark : (e f : Effect T W) → e ≡ f → IsOther f.mark → IsOther e.mark
   other_mark e f h k = subst (λ (m : Mark). IsOther m) (sym (ap (λ (z : Effect T W). z.mark) h)) k

@@ -1,5 +1,5 @@
 -- How many more steps of its own a call under way makes at most, where nobody holds it up.
-use Rattle.std.specs.Prelude.{ℕ, ◌+◌, ◌*◌, if◌then◌else◌, List, map, slice_get, unwrap_or, Option, None, Some}
+use Rattle.std.specs.Prelude.{ℕ, ◌+◌, ◌*◌, if◌then◌else◌, List, map, slice_get, unwrap_or, None, Some}
 use Rattle.concurrent_queue.specs.Contents.{Contents}
 use Rattle.concurrent_queue.specs.Step.{rank}
 use Rattle.concurrent_queue.specs.declared.queue_call.QueueCall.{QueueCall}
@@ -17,10 +17,11 @@ use Rattle.channel_steps.specs.Known.{left_to_tell}
 use Rattle.channel_steps.specs.declared.party.Party.{Party}
 
 -- after a call of the queue, by what that is for: a poll that holds no listener listens and tries once more; one whose listener
--- waits ends pending; one whose listener was told goes on without it. For each further message there is one more call of the queue
+-- waits ends pending; one whose listener was told goes on without it. For each further message there is one more call of the queue.
+-- A call of the queue has 64 steps at most
 abbrev pub left_after : {T W : Type 0} → Roster W → Aim T W → ℕ
-left_after a (aim.Poll line None task) = 68
-left_after a (aim.Poll line (Some key) task) = if waits key (listeners line a) then 3 else 133
+left_after a (aim.Poll line None task) = 1 + 64 + 3
+left_after a (aim.Poll line (Some key) task) = if waits key (listeners line a) then 3 else 1 + 64 + (1 + 64 + 3)
 left_after a aim.TrySend = 3
 left_after a aim.ForceSend = 3
 left_after a aim.TryRecv = 2
@@ -39,10 +40,10 @@ module _ {T W : Type 0} where
   left_to_work a (TellSends n x) = 2
   left_to_work a (TakeRoom n) = 3 + 64 * n
   left_to_work a (TellAll line c) = left_to_tell line
-  left_to_work a (Insert w task) = 68
-  left_to_work a (Register w key task) = if waits key (listeners (line_of w) a) then 1 else 133
+  left_to_work a (Insert w task) = 1 + 64 + 3
+  left_to_work a (Register w key task) = if waits key (listeners (line_of w) a) then 1 else 1 + 64 + (1 + 64 + 3)
   left_to_work a (Leave x) = 1
-  left_to_work a (Lower side key) = 70
+  left_to_work a (Lower side key) = 1 + 64 + 5
   left_to_work a (Count side) = 1
   left_to_work a (Load side m) = 2
   left_to_work a (Raise side n m) = if is_raised side n a then 1 else 3

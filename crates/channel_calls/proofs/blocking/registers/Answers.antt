@@ -1,4 +1,4 @@
-use Rattle.std.proofs.Common.{◌≡◌, is_some, subst}
+use Rattle.std.proofs.Common.{subst}
 use Rattle.channel_calls.specs.Asks.{first}
 use Rattle.channel_calls.specs.Blocks.{waiting_of, poll_woken}
 use Rattle.channel_calls.specs.Deeds.{Done}

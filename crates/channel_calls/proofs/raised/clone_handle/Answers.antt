@@ -1,6 +1,5 @@
 use Rattle.std.proofs.Common.{◌≡◌, Bool, true, false, nat_lt, refl, sym, ◌∙◌, subst}
 use Rattle.channel_calls.proofs.Counting.{too_many, made, again}
-use Rattle.channel_calls.specs.Calls.{made_answer}
 use Rattle.channel_calls.specs.Deeds.{Done, raised}
 use Rattle.channel_calls.specs.Turns.{most}
 use Rattle.channel_calls.specs.Walks.{WalkedTo}

@@ -1,4 +1,4 @@
-use Rattle.std.proofs.Common.{◌≡◌, suc, Option, None, Some, sym, subst}
+use Rattle.std.proofs.Common.{suc, Option, None, Some, sym, subst}
 use Rattle.channel_calls.specs.Asks.{kept_by}
 use Rattle.channel_calls.specs.Replies.{MayEnd, FollowsStage}
 use Rattle.channel_calls.specs.declared.stage.Kept.{Kept}

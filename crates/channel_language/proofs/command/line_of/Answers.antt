@@ -3,7 +3,7 @@ use Rattle.std.proofs.Common.{rules, ◌≡◌, ◌∷◌, [], Some, codes}
 use Rattle.channel_language.specs.Command.{call_commands, for_word, settle, that_is}
 use Rattle.channel_language.specs.Language.{today}
 use Rattle.channel_language.specs.Said.{form_of}
-use Rattle.channel_language.proofs.CommandLemmas.{word_in_front, word_behind}
+use Rattle.channel_language.proofs.CommandLemmas.{word_in_front}
 use Rattle.channel_language.proofs.command.line_of.Goals as goal
 
 pub returns-in-Some-complete : goal.returns-in-Some-complete

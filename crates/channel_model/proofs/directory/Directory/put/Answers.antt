@@ -1,4 +1,4 @@
-use Rattle.std.proofs.Common.{arith, rules, ◌≡◌, ◌∙◌, ap, sym, None, ◌∷◌, nat_eq, length, ◌<◌, ◌^◌, is_some}
+use Rattle.std.proofs.Common.{arith, ◌≡◌, ◌∙◌, ap, None, ◌∷◌, nat_eq, length, ◌<◌, ◌^◌, is_some}
 use Rattle.std.specs.Map.{lookup}
 use Rattle.channel_model.proofs.DirectoryLemmas.{no_value, put_new, nothing_displaced}
 use Rattle.channel_model.proofs.directory.Directory.put.Goals.{in-Ok-None, in-Ok-Some, in-Err}

@@ -1,4 +1,4 @@
-use Rattle.std.proofs.Common.{◌∙◌, ap, nat_eq}
+use Rattle.std.proofs.Common.{◌∙◌, ap}
 use Rattle.channel_model.specs.Names.{with_changed}
 use Rattle.channel_model.proofs.DirectoryLemmas.{set_twice}
 use Rattle.channel_model.proofs.directory.Directory.set.Goals as goal

@@ -1,5 +1,5 @@
-use Rattle.std.proofs.Common.{◌≡◌, ◌∙◌, ap, sym, None, nat_eq}
-use Rattle.std.specs.Map.{lookup, set_value}
+use Rattle.std.proofs.Common.{◌∙◌, ap, sym, None, nat_eq}
+use Rattle.std.specs.Map.{set_value}
 use Rattle.channel_model.proofs.DirectoryLemmas.{set_absent}
 use Rattle.channel_model.proofs.directory.Directory.take_out.Goals.{in-Some, in-None}
 use Rattle.channel_model.proofs.directory.Directory.take_out.Goals as goal
