@@ -64,6 +64,10 @@ pub given_else : (b : Bool) (A B : Type 0) → b ≡ false → Where b A B → B
 given_else true A B e h = absurd cc
 given_else false A B e h = h
 
+where_map : (b : Bool) (A B C : Type 0) → (B → C) → Where b A B → Where b A C
+where_map true A B C f h = h
+where_map false A B C f h = f h
+
 shut_is : (b : Bool) → false ≡ not b → b ≡ true
 shut_is true e = refl
 shut_is false e = absurd cc

@@ -1,5 +1,5 @@
 -- What a call that is alone at work does from each of its stages on.
-use Rattle.std.proofs.Common.{◌≡◌, ℕ, zero, suc, ◌+◌, ◌==◌, true, if◌then◌else◌, List, [], ◌∷◌, ◌++◌, length, take, drop, Ok, Err, refl, ap, ◌∙◌, arith, Option, None, Some, ◌⊎◌, subst}
+use Rattle.std.proofs.Common.{◌≡◌, ℕ, zero, suc, ◌+◌, ◌==◌, true, if◌then◌else◌, List, [], ◌∷◌, ◌++◌, length, take, drop, Ok, Err, refl, sym, ap, ◌∙◌, arith, append-nil, append_assoc, Option, None, Some, ◌⊎◌, subst}
 use Rattle.concurrent_queue.specs.Queue.{Phase}
 use Rattle.concurrent_queue.specs.declared.call.QueueAsk.{QueueAsk}
 use Rattle.concurrent_queue.specs.declared.call.QueueAsk.TheVariants as ask
@@ -46,6 +46,18 @@ module _ {T W : Type 0} where
   -- what was taken, and what is there still, in all
   abbrev all_of_them : List T → List T → ℕ → Channel T W → Outcome T W
   all_of_them ws rest n c = ends (of_rooms (length ws)) (says (reply.RecvMany (Ok ws))) (with_items rest n c)
+
+  gathers_on : (ms vs : List T) (v : T) (n k : ℕ) (c : Channel T W)
+      → gathers ms (v ∷ vs) n (with_items ms k c) ≡ all_of_them ((v ∷ vs) ++ take (suc n) ms) (drop (suc n) ms) (k + length (take (suc n) ms)) c
+  gathers_on [] vs v n k c =
+      let none : k ≡ k + 0 = omega arith in
+      ap (λ (i : ℕ). all_of_them (v ∷ vs) [] i c) none ∙ ap (λ (ws : List T). all_of_them ws [] (k + 0) c) (sym (append-nil (v ∷ vs)))
+  gathers_on (m ∷ ms) vs v zero k c = refl
+  gathers_on (m ∷ ms) vs v (suc n) k c =
+      let more : (k + 1) + length (take (suc n) ms) ≡ k + suc (length (take (suc n) ms)) = omega arith in
+      gathers_on ms (vs ++ m ∷ []) v n (k + 1) c
+      ∙ (ap (λ (i : ℕ). all_of_them ((v ∷ vs ++ m ∷ []) ++ take (suc n) ms) (drop (suc n) ms) i c) more
+      ∙ ap (λ (ws : List T). all_of_them ws (drop (suc n) ms) (k + suc (length (take (suc n) ms))) c) (append_assoc (v ∷ vs) (m ∷ []) (take (suc n) ms)))
 
   gathers_first : (ms : List T) (n k : ℕ) (c : Channel T W) → gathers ms [] n (with_items ms k c) ≡ receives_these (suc n) (take (suc n) ms) (with_items ms k c)
   gathers_first [] n k c = refl

@@ -1,5 +1,5 @@
 -- The steps of a call that is alone at work, one after another, from scene to scene.
-use Rattle.std.proofs.Common.{◌≡◌, ℕ, ◌+◌, ◌≤◌, ◌^◌, List, [], ◌∷◌, ◌++◌, map, length, append-nil, Option, None, Some, inl, inr, refl, sym, ap, ◌∙◌, subst, arith}
+use Rattle.std.proofs.Common.{◌≡◌, ℕ, ◌+◌, ◌≤◌, ◌^◌, List, [], ◌∷◌, ◌++◌, map, length, append-nil, append_assoc, Option, None, Some, inl, inr, refl, sym, ap, ◌∙◌, subst, arith}
 use Rattle.concurrent_queue.specs.Queue.{Queue, Phase}
 use Rattle.concurrent_queue.specs.Step.{Seat, Fits}
 use Rattle.concurrent_queue.specs.declared.queue_call.QueueCall.{QueueCall}
@@ -19,18 +19,31 @@ use Rattle.channel_steps.specs.declared.party.Party.{Party}
 use Rattle.channel_steps.specs.declared.run.Step.TheVariants as step
 use Rattle.channel_steps.specs.Count.{counted}
 use Rattle.channel_steps.specs.Run.{Begins}
+use Rattle.channel_steps.specs.Run as steps
 use Rattle.channel_steps.specs.Scene.{Under, Scene, Sitting, does, under_of, all_seats, Known, AllKnown, IsBalanced, Steps, Shows}
-use Rattle.channel_steps.proofs.Interface.{known_next, after_lone, lone_ends}
+use Rattle.channel_steps.proofs.Interface.{known_next, after_lone, lone_goes, lone_ends, messages_counted}
 use Rattle.channel_alone.specs.Alone.{Outcome, Alone, after_waking, answers}
 use Rattle.channel_alone.specs.Run.{HasPosition}
 use Rattle.channel_alone.specs.Scenes.{Goes, names_of_all, RanInScenes, RunsInScenes}
 use Rattle.channel_alone.specs.declared.run.Done.{Done}
 use Rattle.channel_alone.proofs.FirstFacts.{first_goes_on, Begun, begun}
-use Rattle.channel_alone.proofs.AloneFacts.{IsAlone, Advances, Answered, StepsTo, woken_on, answered, finished_kept, goes_on_so, made_by, next}
+use Rattle.channel_alone.proofs.AloneFacts.{IsAlone, Advances, Answered, StepsTo, woken_on, answered, finished_kept, goes_on_so, accepts_one, made_by, next}
 use Rattle.channel_alone.proofs.LoopFacts.{starts_over}
 
 module _ {T W : Type 0} where
   -- ---- steps, one after another
+
+  goes_more : (s : Scene T W) (p : ℕ) (xs : List (Entry T × List W)) (m : Scene T W) (e : Entry T) (names : List W)
+      (t : Scene T W)
+      → Goes s p xs m → e.reply ≡ None → e.kept ≡ None → Steps m p e names t → Goes s p (xs ++ (e, names) ∷ []) t
+  goes_more s p [] m e names t same reply kept x = (reply, kept, t, subst (λ (z : Scene T W). Steps z p e names t) same x, refl)
+  goes_more s p (y ∷ xs) m e names t g reply kept x = (g.0, g.1, g.2, g.3, goes_more g.2 p xs m e names t g.4 reply kept x)
+
+  names_more : (xs : List (Entry T × List W)) (e : Entry T) (names : List W)
+      → names_of_all (xs ++ (e, names) ∷ []) ≡ names_of_all xs ++ names
+  names_more [] e names = append-nil names
+  names_more (y ∷ xs) e names = ap (λ (ws : List W). y.1 ++ ws) (names_more xs e names)
+      ∙ sym (append_assoc y.1 (names_of_all xs) names)
 
   -- ---- a scene with nobody at work
 
@@ -75,6 +88,46 @@ module _ {T W : Type 0} where
 
     -- ---- it begins
 
+    begins_between : (stage : Stage (QueueCall T) T W) (t : Begun (first a) parts0.cells sh.queue stage)
+        → (y : IsAlone a start parts0 stage []) × (y.now ≡ sh.queue) × (y.at ≡ t.at)
+        → Between a s p start messages0 parts0 stage [] messages0
+    begins_between stage t y =
+        let mine : Under T W = steps.begun p a (phase t.at stage) s.now in
+        let after : Scene T W = record { now = s.now; under_way = mine ∷ []; gone = s.gone; came = s.came } in
+        let entry : Entry T = record { mark = Nothing; reply = None; kept = None } in
+        let begins : Begins s p a entry after =
+        record {
+          entry = refl;
+          at = phase t.at stage;
+          answer = None;
+          turned = t.turned;
+          now = refl;
+          under_way = ap (λ (us : List (Under T W)). us ++ mine ∷ []) (sym (none_under_way parts0 s sh));
+          gone = refl;
+          came = refl;
+        }
+        in
+        let bal : IsBalanced s.now.queue = subst (λ (c : Channel T W). IsBalanced c.queue) (sym sh.now) sh.balanced in
+        let k : AllKnown s.now (mine ∷ []) × IsBalanced s.now.queue =
+        known_next s (step.Begin p a) entry [] after (begins, refl) sh.known bal in
+        record {
+          alone = y.0;
+          begun = after;
+          begins = begins;
+          silent = [];
+          mid = after;
+          goes = refl;
+          named = refl;
+          mine = mine;
+          only = refl;
+          whose = refl;
+          at = ap (λ (f : Phase T). phase f stage) (sym y.2);
+          now = sh.now ∙ ap (λ (q : Queue T). channel q parts0) (sym y.1);
+          known = k.0.0;
+          balanced = k.1;
+          counts = λ h low. h ∙ ap (λ (c : Channel T W). length c.queue.items) (sym sh.now);
+        }
+
     begins_so : HasPosition s.now.queue → (call : ChannelCall T W) → IsNewCall call (first a)
         → Between a s p start messages0 parts0 call.stage [] messages0
     begins_so position call begins =
@@ -106,6 +159,46 @@ module _ {T W : Type 0} where
       follows : (e : Entry T) (t : Scene T W) → Steps x.mid p e names t → AllKnown t.now t.under_way × IsBalanced t.now.queue
       follows e t n = known_next x.mid (step.Step p) e names t n
           (subst (λ (us : List (Under T W)). AllKnown x.mid.now us) (sym x.only) (x.known, tt)) x.balanced
+
+      counts_on : (e : Entry T) (t : Scene T W) → Steps x.mid p e names t → messages0 ≡ length start.queue.items
+          → start.queue.accepted ≤ 2 ^ 61 → counted messages e.mark ≡ length t.now.queue.items
+      counts_on e t n h low =
+          let most : x.alone.now.accepted ≤ start.queue.accepted + 1 =
+          accepts_one a start parts so_far names parts' stage' m None stage x.alone in
+          let same : x.mid.now.queue.accepted ≡ x.alone.now.accepted = ap (λ (c : Channel T W). c.queue.accepted) x.now in
+          ap (λ (k : ℕ). counted k e.mark) (x.counts h low)
+          ∙ messages_counted x.mid p e names t n x.balanced (let k = follows e t n in k.1) (omega (arith, most, same, low))
+
+      -- one that does not answer
+      goes_between : (made : MadeOne None) → (y : IsAlone a start parts' stage' (so_far ++ names)) × (y.now ≡ made.queue)
+          × (y.at ≡ made.phase_now)
+          → Between a s p start messages0 parts' stage' (so_far ++ names) (counted messages m)
+      goes_between made y =
+          let d : Channel T W = channel made.queue parts' in
+          let at_now : Stage (Phase T) T W = phase made.phase_now stage' in
+          let after : Scene T W = after_lone x.mid x.mine at_now m None d in
+          let e : Entry T = record { mark = m; reply = None; kept = None } in
+          let n : Steps x.mid p e names after =
+          subst (λ (i : ℕ). Steps x.mid i e names after) x.whose
+          (lone_goes x.mid x.mine x.only x.known x.balanced m names d at_now (moves_there None made)) in
+          let k : AllKnown after.now after.under_way × IsBalanced after.now.queue = follows e after n in
+          record {
+            alone = y.0;
+            begun = x.begun;
+            begins = x.begins;
+            silent = x.silent ++ (e, names) ∷ [];
+            mid = after;
+            goes = goes_more x.begun p x.silent x.mid e names after x.goes refl refl n;
+            named = names_more x.silent e names ∙ ap (λ (ws : List W). ws ++ names) x.named;
+            mine = does x.mine at_now m x.mid.now d;
+            only = refl;
+            whose = x.whose;
+            at = ap (λ (f : Phase T). phase f stage') (sym y.2);
+            now = ap (λ (q : Queue T). channel q parts') (sym y.1);
+            known = k.0.0;
+            balanced = k.1;
+            counts = counts_on e after n;
+          }
 
       goes_so : IsStepOver parts stage names parts' stage' m None
           → Between a s p start messages0 parts' stage' (so_far ++ names) (counted messages m)
@@ -190,6 +283,11 @@ module _ {T W : Type 0} where
             answers_at made made.queue made.phase_now (λ z. ends_between made z)
             (next a start parts so_far names parts' stage' m (Some y) stage x.alone made)
           where
+            answers_at : (made : MadeOne (Some y)) (q : Queue T) (f : Phase T)
+                → ((z : Advances a start parts' stage' (so_far ++ names) (Some y)) × (z.queue ≡ q) × (z.at ≡ f) → Over)
+                → StepsTo a start parts so_far names parts' stage' m (Some y) q f → Over
+            answers_at made q f by (inl h) = absurd (let no : Some y ≡ None = h.1 in cc)
+            answers_at made q f by (inr h) = by h
 
 module _ {T W S : Type 0} (wakes : S → W → S → Type 0) where
   -- how far a call has come, with the sink

@@ -1,6 +1,7 @@
 -- The polls of a call that blocks: its tries are those of calls that don't wait, whichever task such a poll has.
 use Rattle.std.proofs.Common.{◌≡◌, ℕ, zero, suc, Bool, true, false, List, Option, None, Some, is_some, Result, Ok, Err, IfErr, IfOk, MatchResult, refl, sym, ◌∙◌, ap, subst}
 use Rattle.concurrent_queue.specs.Step.{mark_of}
+use Rattle.concurrent_queue.specs.declared.call.QueueAsk.{QueueAsk}
 use Rattle.concurrent_queue.specs.declared.call.QueueReply.{QueueReply}
 use Rattle.concurrent_queue.specs.declared.call.QueueReply.TheVariants.{Push, Force, Pop, Close, Flag, Count, Cap}
 use Rattle.concurrent_queue.specs.declared.error.PushError.TheVariants as push_error
@@ -11,7 +12,8 @@ use Rattle.event_listener.specs.declared.error.ListenError.{ListenError}
 use Rattle.event_listener.specs.declared.error.ListenError.TheVariants as listen_error
 use Rattle.event_listener.specs.declared.key.Key.{Key}
 use Rattle.futures.specs.declared.task.Poll.{Poll}
-use Rattle.channel_calls.specs.Answered.{sent_next, received_next, over}
+use Rattle.futures.specs.declared.task.Poll.TheVariants.{Ready}
+use Rattle.channel_calls.specs.Answered.{sent_next, received_next, polled_next, over}
 use Rattle.channel_calls.specs.Asks.{first}
 use Rattle.channel_calls.specs.Blocks.{waiting_of, at_once, not_yet, poll_woken, still_waits, Begins, Listens}
 use Rattle.channel_calls.specs.Deeds.{Deed, stepped, inserted, taken_off}
@@ -19,7 +21,7 @@ use Rattle.channel_calls.specs.Listed.{pends}
 use Rattle.channel_calls.specs.Marks.{mark_of_queue}
 use Rattle.channel_calls.specs.Replies.{RefusesTrySend, MayGive, MayPoll}
 use Rattle.channel_calls.specs.Tried.{polled, IsOver, sent_by, received_by, tried_turn, Comes}
-use Rattle.channel_calls.specs.Turns.{line_of, message_of, leaving, nothing_kept, again, unlistened, refused_reply}
+use Rattle.channel_calls.specs.Turns.{line_of, message_of, leaving, nothing_kept, says, again, unlistened, refused_reply}
 use Rattle.channel_calls.specs.Walks.{Takes, ChannelMakes, Leads, WalkedFrom, WalkedTo}
 use Rattle.channel_calls.specs.declared.ask.ChannelAsk.TheVariants as ask
 use Rattle.channel_calls.specs.declared.blocked.Blocked.{Blocked}
@@ -35,24 +37,31 @@ use Rattle.channel_calls.specs.declared.mark.Mark.{Mark}
 use Rattle.channel_calls.specs.declared.mark.Mark.TheVariants.{Nothing}
 use Rattle.channel_calls.specs.declared.reply.Reply.{Reply}
 use Rattle.channel_calls.specs.declared.reply.Reply.TheVariants as reply
+use Rattle.channel_calls.specs.declared.stage.Aim.{Aim}
 use Rattle.channel_calls.specs.declared.stage.Aim.TheVariants as aim
 use Rattle.channel_calls.specs.declared.stage.Kept.{Kept}
 use Rattle.channel_calls.specs.declared.stage.Line.{Line}
 use Rattle.channel_calls.specs.declared.stage.Line.TheVariants.{Sends, Receives}
 use Rattle.channel_calls.specs.declared.stage.Stage.{Stage}
-use Rattle.channel_calls.specs.declared.stage.Stage.TheVariants.{Trying, Finished}
+use Rattle.channel_calls.specs.declared.stage.Stage.TheVariants.{Trying, Working, Finished}
 use Rattle.channel_calls.specs.declared.stage.Turn.{Turn}
-use Rattle.channel_calls.specs.declared.stage.Turn.TheVariants.{Works, Ends}
+use Rattle.channel_calls.specs.declared.stage.Turn.TheVariants.{Tries, Works, Ends}
 use Rattle.channel_calls.specs.declared.stage.Waiting.{Waiting}
 use Rattle.channel_calls.specs.declared.stage.Waiting.TheVariants as waiting
-use Rattle.channel_calls.specs.declared.stage.Work.TheVariants.{Insert, Register, Leave}
+use Rattle.channel_calls.specs.declared.stage.Work.{Work}
+use Rattle.channel_calls.specs.declared.stage.Work.TheVariants.{TellReceive, TellStreams, TellSend, Insert, Register, Leave}
 use Rattle.channel_calls.specs.declared.whole.Given.{Given}
 use Rattle.channel_calls.proofs.Listed.{TurnFair}
+use Rattle.channel_calls.proofs.Walking.{leads_on}
 
 module _ {T : Type 0} where
   abbrev as_sent : Option (Reply T) → Result Unit (Refused (TrySendError T) T)
   as_sent (Some (reply.TrySend r)) = r
   as_sent _ = Ok tt
+
+  abbrev as_received : Result T TryRecvError → Option (Reply T) → Result T TryRecvError
+  as_received z (Some (reply.TryRecv r)) = r
+  as_received z _ = z
 
   abbrev unit_reply : Reply T
   unit_reply = reply.Unit
@@ -68,6 +77,17 @@ module _ {T W X : Type 0} (did : Deed T W → X → X → Type 0) where
   pub comes_ends : (turn : Turn T W) (s : X) (r : Reply T) (kept : Kept T) (t : X) → Comes did turn s (Ends r kept) t → WalkedFrom did turn s r kept t
   comes_ends turn s r kept t (a, takes, n, x, b, m, leads, made) = (a, takes, (n, x, b, m, Finished kept, leads, made (Finished kept) (Some r) (refl, refl), refl))
 
+  pub comes_before : (turn : Turn T W) (s : X) (w : Work T W) (t : X) → Comes did turn s (Works w) t
+      → (a : Stage (QueueCall T) T W) × Takes turn a None × (n : ℕ) × Leads did n s a t (Working w)
+  comes_before turn s w t (a, takes, n, x, b, m, leads, made) = (a, takes, suc n, leads_on did n s a x b m t (Working w) leads (made (Working w) None (refl, refl)))
+
+  -- a step on a list after it
+  pub comes_on : (turn : Turn T W) (s x : X) (w : Work T W) (then : Turn T W) (k : Mark) (t : X) → Comes did turn s (Works w) x
+      → ((next : Stage (QueueCall T) T W) (r : Option (Reply T)) → Takes then next r → ChannelMakes did (Working w) x t k next r) → Comes did turn s then t
+  comes_on turn s x w then k t way step =
+      let before = comes_before turn s w x way in
+      (before.0, before.1, before.2, x, Working w, k, before.3, step)
+
   joined : (n : ℕ) (s : X) (a : Stage (QueueCall T) T W) (x : X) (b : Stage (QueueCall T) T W) (l : ℕ) (t : X) (c : Stage (QueueCall T) T W)
       → Leads did n s a x b → Leads did l x b t c → (k : ℕ) × Leads did k s a t c
   joined zero s a x b l t c (e, f) rest =
@@ -75,6 +95,12 @@ module _ {T W X : Type 0} (did : Deed T W → X → X → Type 0) where
   joined (suc n) s a x b l t c (y, d, k, made, on) rest =
       let w = joined n y d x b l t c on rest in
       (suc w.0, (y, d, k, made, w.1))
+
+  -- a further call of the queue after it
+  pub comes_then : (turn : Turn T W) (s x : X) (q : QueueAsk T) (a : Aim T W) (then : Turn T W) (t : X) → Comes did turn s (Tries q a) x → Comes did (Tries q a) x then t → Comes did turn s then t
+  comes_then turn s x q a then t (b, takes, n, y, c, m, leads, made) (d, begins, l, z, e, k, on, makes) =
+      let way = joined (suc n) s b x d l z e (leads_on did n s b y c m x d leads (made d None begins)) on in
+      (b, takes, way.0, z, e, k, way.1, makes)
 
 -- ---- a send that doesn't wait
 module _ {T W X : Type 0} (did : Deed T W → X → X → Type 0) (key : Option Key) (task : W) where
@@ -88,6 +114,66 @@ module _ {T W X : Type 0} (did : Deed T W → X → X → Type 0) (key : Option 
 
   same_turn : (r q : Result Unit (Refused (TrySendError T) T)) → Some (reply.TrySend r) ≡ Some (reply.TrySend q) → SentTurn q ≡ SentTurn r
   same_turn r q e = sym (ap (λ (o : Option (Reply T)). SentTurn (as_sent o)) e)
+
+  sent_last : (y : QueueReply T) (c : Stage (QueueCall T) T W) (r : Result Unit (Refused (TrySendError T) T)) → Takes (sent_next y) c (Some (reply.TrySend r)) → polled_next Sends y key task ≡ SentTurn r
+  sent_last (Push (Ok u)) c r (some, at) = absurd (let never : Some (reply.TrySend r) ≡ None = some in cc)
+  sent_last (Push (Err (push_error.Full m))) c r (some, at) = same_turn r _ some
+  sent_last (Push (Err (push_error.Closed m))) c r (some, at) = same_turn r _ some
+  sent_last (Push (Err (push_error.NoMemory m))) c r (some, at) = same_turn r _ some
+  sent_last (Force z) c r (some, at) = absurd (let never : Some (reply.TrySend r) ≡ Some reply.Unit = some in cc)
+  sent_last (Pop z) c r (some, at) = absurd (let never : Some (reply.TrySend r) ≡ Some reply.Unit = some in cc)
+  sent_last (Close z) c r (some, at) = absurd (let never : Some (reply.TrySend r) ≡ Some reply.Unit = some in cc)
+  sent_last (Flag z) c r (some, at) = absurd (let never : Some (reply.TrySend r) ≡ Some reply.Unit = some in cc)
+  sent_last (Count z) c r (some, at) = absurd (let never : Some (reply.TrySend r) ≡ Some reply.Unit = some in cc)
+  sent_last (Cap z) c r (some, at) = absurd (let never : Some (reply.TrySend r) ≡ Some reply.Unit = some in cc)
+
+  -- its queue's call answers by its last step
+  sent_at_once : (s : X) (call : QueueCall T) (t : X) (m : Mark) (c : Stage (QueueCall T) T W) (r : Result Unit (Refused (TrySendError T) T))
+      → ChannelMakes did (Trying call aim.TrySend) s t m c (Some (reply.TrySend r)) → Way s call (SentTurn r) t
+  sent_at_once s call t m c r (after, None, deed, mark, (at, some)) = absurd (let never : Some (reply.TrySend r) ≡ None = some in cc)
+  sent_at_once s call t m c r (after, Some y, deed, mark, takes) =
+      let e = sent_last y c r takes in (
+        0,
+        s,
+        Trying call (aim.Poll Sends key task),
+        mark_of_queue (mark_of after),
+        (refl, refl),
+        λ next o there. (after, Some y, deed, refl, subst (λ (z : Turn T W). Takes z next o) (sym e) there),
+      )
+
+  -- or has answered before, and whom the message is for is told
+  sent_then : (s : X) (call after : QueueCall T) (u : Unit) (y : X) → did (stepped call after (Some (Push (Ok u)))) s y
+      → (n : ℕ) (x : X) (b : Stage (QueueCall T) T W) (m : Mark) (t : X) (c : Stage (QueueCall T) T W) (r : Result Unit (Refused (TrySendError T) T))
+      → Leads did n y (Working (TellReceive (says (reply.TrySend (Ok tt))))) x b → ChannelMakes did b x t m c (Some (reply.TrySend r)) → Way s call (SentTurn r) t
+  sent_then s call after u y deed zero x b m t c r (e, f) made =
+      let there : ChannelMakes did (Working (TellReceive (says (reply.TrySend (Ok tt))))) x t m c (Some (reply.TrySend r)) = subst (λ (z : Stage (QueueCall T) T W). ChannelMakes did z x t m c (Some (reply.TrySend r))) f made in
+      absurd (let never : Some (reply.TrySend r) ≡ None = there.2.1.0 in cc)
+  sent_then s call after u y deed (suc zero) x b m t c r (z, d, k, (names, one, (mark, (none, at))), (e, f)) made =
+      let tells : Stage (QueueCall T) T W = Working (TellStreams (says (reply.TrySend (Ok tt)))) in
+      let last : ChannelMakes did tells z t m c (Some (reply.TrySend r)) =
+      subst (λ (w : X). ChannelMakes did tells w t m c (Some (reply.TrySend r))) e (subst (λ (w : Stage (QueueCall T) T W). ChannelMakes did w x t m c (Some (reply.TrySend r))) (f ∙ at) made)
+      in
+      let ended = over (reply.SendPoll (Ready (Ok tt))) None Sends key in
+      let way : Way s call (SentTurn (Ok tt)) t = (
+        2,
+        z,
+        Working (TellStreams ended),
+        Nothing,
+        (
+          y,
+          Working (TellReceive ended),
+          mark_of_queue (mark_of after),
+          (after, Some (Push (Ok u)), deed, refl, (refl, refl)),
+          (z, Working (TellStreams ended), Nothing, (names, one, (refl, (refl, refl))), (refl, refl)),
+        ),
+        λ next o there. (last.0, last.1, (refl, there)),
+      )
+      in
+      subst (λ (then : Turn T W). Way s call then t) (same_turn r (Ok tt) last.2.1.0) way
+  sent_then s call after u y deed (suc (suc n)) x b m t c r (z, d, k, (names, one, (mark, (none, at))), (w, g, j, second, rest)) made =
+      let tells : Stage (QueueCall T) T W = Working (TellStreams (says (reply.TrySend (Ok tt)))) in
+      let last : ChannelMakes did tells z w j g None = subst (λ (w' : Stage (QueueCall T) T W). ChannelMakes did w' z w j g None) at second in
+      absurd (let never : None ≡ Some (reply.TrySend (Ok tt)) = last.2.1.0 in cc)
 
   -- what led on from this call
   sent_led : (s : X) (call after : QueueCall T) (y : QueueReply T) (z : X) → did (stepped call after (Some y)) s z
@@ -130,6 +216,55 @@ module _ {T W X : Type 0} (did : Deed T W → X → X → Type 0) (key : Option 
 
   abbrev GotTurn : Result T TryRecvError → Turn T W
   GotTurn r = tried_turn Receives (received_by r) key task
+
+  like_turn : (r q : Result T TryRecvError) → Some (reply.TryRecv r) ≡ Some (reply.TryRecv q) → GotTurn q ≡ GotTurn r
+  like_turn r q e = sym (ap (λ (o : Option (Reply T)). GotTurn (as_received r o)) e)
+
+  got_last : (y : QueueReply T) (c : Stage (QueueCall T) T W) (r : Result T TryRecvError) → Takes (received_next y) c (Some (reply.TryRecv r)) → polled_next Receives y key task ≡ GotTurn r
+  got_last (Pop (Ok v)) c r (some, at) = absurd (let never : Some (reply.TryRecv r) ≡ None = some in cc)
+  got_last (Pop (Err pop_error.Empty)) c r (some, at) = like_turn r _ some
+  got_last (Pop (Err pop_error.Closed)) c r (some, at) = like_turn r _ some
+  got_last (Push z) c r (some, at) = absurd (let never : Some (reply.TryRecv r) ≡ Some reply.Unit = some in cc)
+  got_last (Force z) c r (some, at) = absurd (let never : Some (reply.TryRecv r) ≡ Some reply.Unit = some in cc)
+  got_last (Close z) c r (some, at) = absurd (let never : Some (reply.TryRecv r) ≡ Some reply.Unit = some in cc)
+  got_last (Flag z) c r (some, at) = absurd (let never : Some (reply.TryRecv r) ≡ Some reply.Unit = some in cc)
+  got_last (Count z) c r (some, at) = absurd (let never : Some (reply.TryRecv r) ≡ Some reply.Unit = some in cc)
+  got_last (Cap z) c r (some, at) = absurd (let never : Some (reply.TryRecv r) ≡ Some reply.Unit = some in cc)
+
+  got_at_once : (s : X) (call : QueueCall T) (t : X) (m : Mark) (c : Stage (QueueCall T) T W) (r : Result T TryRecvError)
+      → ChannelMakes did (Trying call aim.TryRecv) s t m c (Some (reply.TryRecv r)) → Path s call (GotTurn r) t
+  got_at_once s call t m c r (after, None, deed, mark, (at, some)) = absurd (let never : Some (reply.TryRecv r) ≡ None = some in cc)
+  got_at_once s call t m c r (after, Some y, deed, mark, takes) =
+      let e = got_last y c r takes in (
+        0,
+        s,
+        Trying call (aim.Poll Receives key task),
+        mark_of_queue (mark_of after),
+        (refl, refl),
+        λ next o there. (after, Some y, deed, refl, subst (λ (z : Turn T W). Takes z next o) (sym e) there),
+      )
+
+  got_then : (s : X) (call after : QueueCall T) (v : T) (y : X) → did (stepped call after (Some (Pop (Ok v)))) s y
+      → (n : ℕ) (x : X) (b : Stage (QueueCall T) T W) (m : Mark) (t : X) (c : Stage (QueueCall T) T W) (r : Result T TryRecvError)
+      → Leads did n y (Working (TellSend (says (reply.TryRecv (Ok v))))) x b → ChannelMakes did b x t m c (Some (reply.TryRecv r)) → Path s call (GotTurn r) t
+  got_then s call after v y deed zero x b m t c r (e, f) made =
+      let tells : Stage (QueueCall T) T W = Working (TellSend (says (reply.TryRecv (Ok v)))) in
+      let last : ChannelMakes did tells y t m c (Some (reply.TryRecv r)) =
+      subst (λ (w : X). ChannelMakes did tells w t m c (Some (reply.TryRecv r))) e (subst (λ (w : Stage (QueueCall T) T W). ChannelMakes did w x t m c (Some (reply.TryRecv r))) f made)
+      in
+      let ended = over (reply.RecvPoll (Ready (Ok v))) None Receives key in
+      let way : Path s call (GotTurn (Ok v)) t = (
+        1,
+        y,
+        Working (TellSend ended),
+        Nothing,
+        (y, Working (TellSend ended), mark_of_queue (mark_of after), (after, Some (Pop (Ok v)), deed, refl, (refl, refl)), (refl, refl)),
+        λ next o there. (last.0, last.1, (refl, there)),
+      )
+      in
+      subst (λ (then : Turn T W). Path s call then t) (like_turn r (Ok v) last.2.1.0) way
+  got_then s call after v y deed (suc n) x b m t c r (z, d, k, (names, one, (mark, (none, at))), rest) made =
+      absurd (let never : None ≡ Some (reply.TryRecv (Ok v)) = none in cc)
 
   got_led : (s : X) (call after : QueueCall T) (y : QueueReply T) (z : X) → did (stepped call after (Some y)) s z
       → (n : ℕ) (x : X) (b : Stage (QueueCall T) T W) (m : Mark) (t : X) (c d : Stage (QueueCall T) T W) (r : Result T TryRecvError)
@@ -195,6 +330,9 @@ module _ {T W X : Type 0} (did : Deed T W → X → X → Type 0) (b c : Blocked
 module _ {T W X : Type 0} (did : Deed T W → X → X → Type 0) (b : Blocked T) where
   abbrev pub TriesSo : X → Result (Given T) (Blocked T) → X → Type 0
   TriesSo s o t = (key : Option Key) (task : W) → Comes did (again (waiting_of b) key task) s (tried_turn (line_of (waiting_of b)) o key task) t
+
+  with_kept : (turn : Turn T W) (s : X) (given : Given T) (t : X) → given.kept.key ≡ None → WalkedFrom did turn s given.reply (leaving None given.kept.message) t → WalkedFrom did turn s given.reply given.kept t
+  with_kept turn s given t none walk = subst (λ (k : Option Key). WalkedFrom did turn s given.reply (leaving k given.kept.message) t) (sym none) walk
 
   pub begun_over : (s : X) (given : Given T) (t : X) → IsOver b given → TriesSo s (Ok given) t → Begins did b s given.reply given.kept t
   begun_over s given t is tried task =

@@ -1,11 +1,24 @@
 -- A table of names with one more.
-use Rattle.std.proofs.Common.{◌≡◌, ℕ, ◌+◌, nat_lt, List, [], ◌∷◌, ◌++◌, length, Option, Some, None, Bool, true, false, cond, position, refl, sym, subst, ◌∙◌}
+use Rattle.std.proofs.Common.{arith, ◌≡◌, ℕ, ◌+◌, ◌≤◌, nat_lt, List, [], ◌∷◌, ◌++◌, length, Option, Some, None, Bool, true, false, cond, position, length-append, refl, sym, subst, ◌∙◌}
 use Rattle.std.specs.List.{position_or_len}
 use Rattle.std.specs.Str.{bytes_eq}
+use Rattle.std.proofs.lemmas.List.Folds.{position_or_len_push}
+use Rattle.std.proofs.lemmas.List.Sums.{prefix_len-le-length}
 use Rattle.std.proofs.lemmas.Slice.Eq.{bytes_eq-Decides}
+use Rattle.std.proofs.lemmas.Bool.Decides.{nat_tests}
+use Rattle.std.proofs.Math.Dec.{eqb}
 use Rattle.channel_language.specs.Words.{Name}
 use Rattle.channel_language.specs.Table.{Table, number_in}
 use Rattle.channel_language.specs.declared.table.Sort.{Sort}
+
+-- a place k of n, where the next element passes (b) or not
+place_pushed : (k n j m : ℕ) (b : Bool) → k ≤ n → j ≡ cond (eqb k n) (n + cond b 0 1) k → m ≡ n + 1 → cond (nat_lt j m) (Some j) None ≡ cond (nat_lt k n) (Some k) (cond b (Some n) None)
+place_pushed k n j m true h e f = grind (arith, nat_tests)
+place_pushed k n j m false h e f = grind (arith, nat_tests)
+
+position-push : {X : Type 0} (p : X → Bool) (xs : List X) (y : X) → position p (xs ++ y ∷ []) ≡ cond (nat_lt (position_or_len p xs) (length xs)) (Some (position_or_len p xs)) (cond (p y) (Some (length xs)) None)
+position-push p xs y =
+    place_pushed (position_or_len p xs) (length xs) (position_or_len p (xs ++ y ∷ [])) (length (xs ++ y ∷ [])) (p y) (prefix_len-le-length _ xs) (position_or_len_push p xs y) (length-append xs (y ∷ []))
 
 none_first : (b : Bool) (k : ℕ) (o : Option ℕ) → cond b (Some k) None ≡ None → cond b (Some k) o ≡ o
 none_first true k o e = cc

@@ -1,13 +1,22 @@
 -- Over runs: no more messages than fit, never full without a bound, and closed once.
-use Rattle.std.proofs.Common.{arith, ◌≡◌, ℕ, true, false, List, [], ◌∷◌, Option, None, inl, inr, refl, sym, ap, ◌∙◌, subst}
+use Rattle.std.proofs.Common.{arith, ◌≡◌, ℕ, true, false, List, [], ◌∷◌, ◌++◌, Option, None, Some, Err, inl, inr, refl, sym, ap, ◌∙◌, subst}
 use Rattle.concurrent_queue.specs.Queue.{is_filled, is_full_at}
 use Rattle.channel_calls.specs.Moves.{Channel}
 use Rattle.channel_calls.specs.Parts.{Parts}
+use Rattle.channel_calls.specs.declared.ask.ChannelAsk.{ChannelAsk}
+use Rattle.channel_calls.specs.declared.ask.ChannelAsk.TheVariants as ask
+use Rattle.channel_calls.specs.declared.error.Refused.TheVariants as refused
+use Rattle.channel_calls.specs.declared.error.TrySendError.TheVariants as try_send_error
 use Rattle.channel_calls.specs.declared.mark.Mark.{Mark}
 use Rattle.channel_calls.specs.declared.mark.Mark.TheVariants as mark
-use Rattle.channel_steps.specs.Moments.{Crowded, Once}
+use Rattle.channel_calls.specs.declared.reply.Reply.{Reply}
+use Rattle.channel_calls.specs.declared.reply.Reply.TheVariants as reply
+use Rattle.channel_calls.specs.declared.stage.Kept.{Kept}
+use Rattle.channel_calls.specs.declared.stage.Line.TheVariants.{Sends, Receives, Streams, Closings}
+use Rattle.channel_steps.specs.Answers.{Row}
+use Rattle.channel_steps.specs.Moments.{Deed, Crowded, Once}
 use Rattle.channel_steps.specs.Run.{Next, IsRun, new_scene}
-use Rattle.channel_steps.specs.Scene.{Scene, Steps, does}
+use Rattle.channel_steps.specs.Scene.{Under, Scene, Steps, MayFinish, does}
 use Rattle.channel_steps.specs.declared.party.Entry.{Entry}
 use Rattle.channel_steps.specs.declared.run.Step.{Step}
 use Rattle.channel_steps.specs.declared.run.Step.TheVariants as step
@@ -56,6 +65,35 @@ module _ {T W : Type 0} where
   never_crowded (c ∷ cs) all (inl h) =
       let filled : false ≡ true = subst (λ (o : Option ℕ). is_full_at o c.queue.items ≡ true) all.0 h.1 in cc filled
   never_crowded (c ∷ cs) all (inr h) = never_crowded cs all.1 h
+
+  older_all : (capacity : Option ℕ) (newer older : List (Channel T W)) → AllOf capacity (newer ++ older) → AllOf capacity older
+  older_all capacity [] older all = all
+  older_all capacity (c ∷ newer) older all = older_all capacity newer older all.1
+
+  row_full : (a : ChannelAsk T W) (ds : List (Deed T W)) (seen : List (Channel T W)) (m : T)
+      → Row a ds seen (reply.TrySend (Err (refused.Plain (try_send_error.Full m)))) → Once Crowded seen
+  row_full (ask.TrySend v) ds seen m h = h.2
+  row_full ask.PollFinishedSend ds seen m h = absurd (cc h.1)
+  row_full (ask.RefusePoll Sends message key) ds seen m h = absurd (cc h.1)
+  row_full (ask.RefusePoll Receives message key) ds seen m h = absurd (cc h.1)
+  row_full (ask.RefusePoll Streams message key) ds seen m h = absurd (cc h.1)
+  row_full (ask.RefusePoll Closings message key) ds seen m h = absurd (cc h.1)
+  row_full (ask.GiveUp line message key) ds seen m h = absurd (cc h.1)
+  row_full ask.DropSender ds seen m h = absurd (cc h.1)
+  row_full (ask.DropReceiver key) ds seen m h = absurd (cc h.1)
+  row_full (ask.SendIsTerminated b) ds seen m h = absurd (cc h.1)
+  row_full (ask.SameChannel b) ds seen m h = absurd (cc h.1)
+  row_full ask.Make ds seen m h = absurd (cc h.1)
+  row_full ask.DropWeak ds seen m h = absurd (cc h.1)
+  row_full a ds seen m h = absurd h
+
+  finish_full : (u : Under T W) (r : Option (Reply T)) (left : Option (Kept T)) → MayFinish u r left → AllOf None u.seen → Replies SaysFull r → ⊥
+  finish_full u None left h all full = full
+  finish_full u (Some (reply.TrySend (Err (refused.Plain (try_send_error.Full m))))) left h all full =
+      let met = h.met in
+      let seen = subst (λ (cs : List (Channel T W)). AllOf None cs) met.2 all in
+      never_crowded met.1 (older_all None met.0 met.1 seen) (row_full u.ask u.deeds met.1 m met.3)
+  finish_full u (Some r) left h all full = absurd full
 
   displaces_full : (m : Mark) (c : Channel T W) → SaysOf m c → IsDisplacing m → is_filled c.queue ≡ true
   displaces_full mark.TakeDisplaced c h k = h

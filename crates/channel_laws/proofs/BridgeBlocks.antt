@@ -148,6 +148,12 @@ module _ {T W X : Type 0} (did : Deed T W → X → X → Type 0) (asked : Optio
           let more = rests_both k (suc zero) s x y rest (y, inl (Some task, ask), refl) in
           inl (task, zero, from_woken key task s r kept t (woken key task more.0 s y r kept t more.1 walk))
 
+      -- a poll that waits, before those that go on from the listener that it left
+      waits_first : (key next : Key) (task : W) (s y : X) → WalkedFrom after (first (poll_woken b key task)) s (still_waits b next).reply (still_waits b next).kept y
+          → GoesOn next y r kept t → GoesOn key s r kept t
+      waits_first key next task s y walk (inl (other, m, more)) = inl (task, suc m, (next, y, walk, poll_woken b next other, inl (other, refl), more))
+      waits_first key next task s y walk (inr last) = inl (task, suc zero, (next, y, walk, poll_refused b next, inr refl, last))
+
       round : (key : Key) (x : X) (next : Key) (z : X) → Round did asked slept b key x next z → From next z r kept t → From key x r kept t
       round key x next z (task, y, u, ask, walk, sleep) tail k s rest =
           let more = rests_both k (suc zero) s x y rest (y, inl (Some task, ask), refl) in

@@ -25,6 +25,12 @@ use Rattle.channel_calls.specs.declared.stage.Work.TheVariants.{TellReceive, Tel
 use Rattle.channel_laws.specs.Bridge.{Act, on_queue, on_roster, on_nothing, Event, does, Given, Notes, Acts, QueueIsWalked, Along, StandsAct, WalksAct}
 
 module _ {T W X : Type 0} (did : Deed T W → X → X → Type 0) (cells_did : cell.Deed T → X → X → Type 0) (form : QueueForm) where
+  along_both : (os ps : List (Act T W)) (s m t : X) → Along did cells_did os s m → Along did cells_did ps m t → Along did cells_did (os ++ ps) s t
+  along_both [] ps s m t e h = subst (λ (x : X). Along did cells_did ps x t) e h
+  along_both (on_queue (Some d) ∷ os) ps s m t (x, h, g) k = (x, h, along_both os ps x m t g k)
+  along_both (on_queue None ∷ os) ps s m t g k = along_both os ps s m t g k
+  along_both (on_roster d ∷ os) ps s m t (x, h, g) k = (x, h, along_both os ps x m t g k)
+  along_both (on_nothing ∷ os) ps s m t g k = along_both os ps s m t g k
 
   map_both : (os ps : List (Act T W)) (xs : List (Event T W)) → map does os ++ (map does ps ++ xs) ≡ map does (os ++ ps) ++ xs
   map_both [] ps xs = refl

@@ -1,6 +1,6 @@
 -- What a step leaves owed to those who wait on a closed channel.
 use Rattle.std.proofs.Common.{◌≡◌, Bool, true, false, if◌then◌else◌, List, Option, None, Some, Ok, Err, ◌⊎◌, inl, inr, refl, sym, ap, ◌∙◌, subst, [], ◌∷◌, ◌++◌}
-use Rattle.concurrent_queue.specs.Queue.{Queue, Phase, trying, appended, taken, marked, IsOpen, IsShut, may_refuse_at, seen_after, ContinuesPush, ContinuesPop, ContinuesBy, AnswersPush, AnswersPop, AnswersShut, AnswersTo}
+use Rattle.concurrent_queue.specs.Queue.{Queue, Phase, trying, appended, taken, marked, is_displaced, IsOpen, IsShut, may_refuse_at, seen_after, ContinuesPush, ContinuesPop, ContinuesBy, AnswersPush, AnswersPop, AnswersShut, AnswersTo}
 use Rattle.concurrent_queue.specs.Queue as queue
 use Rattle.concurrent_queue.specs.declared.call.QueueAsk.{QueueAsk}
 use Rattle.concurrent_queue.specs.declared.call.QueueAsk.TheVariants as ask
@@ -43,6 +43,26 @@ use Rattle.channel_laws.proofs.StreamMoves.{How, stream_pops, leaves_next}
 
 module _ {T : Type 0} where
   -- ---- the queue's call
+
+  no_goes_closes : (q : Queue T) (a : QueueAsk T) (s t : queue.Stage T) → ContinuesBy q a Close s t → ⊥
+  no_goes_closes q (ask.Push v) s t g = g
+  no_goes_closes q (ask.ForcePush v) s t g = g
+  no_goes_closes q ask.Pop s t g = g
+  no_goes_closes q ask.Close s t g = g
+  no_goes_closes q ask.IsClosed s t g = g
+  no_goes_closes q ask.IsEmpty s t g = g
+  no_goes_closes q ask.IsFull s t g = g
+  no_goes_closes q ask.Len s t g = g
+  no_goes_closes q ask.Capacity s t g = g
+
+  -- a step that goes on closes nothing
+  goes_same : (q : Queue T) (a : QueueAsk T) (b : Bool) (m : QueueMark) (s t : queue.Stage T) → ContinuesBy q a m s t → IsShut (marked a b m q) → IsShut q
+  goes_same q a b Close s t g h = absurd (no_goes_closes q a s t g)
+  goes_same q a b Nothing s t g h = h
+  goes_same q a b Append s t g h = h
+  goes_same q a b Take s t g h = h
+  goes_same q a b TakeDisplaced s t g h = h
+  goes_same q a b Replace s t g h = h
 
   closing_says : (q : Queue T) (a : QueueAsk T) (r : QueueReply T) (s : queue.Stage T) → AnswersTo q a Close r s → (a ≡ ask.Close) × (r ≡ answer.Close true)
   closing_says q ask.Close (answer.Close true) (trying b) h = (refl, refl)
@@ -106,6 +126,11 @@ module _ {T W : Type 0} where
   Drops line key (Works (TellSend x)) = x.held ≡ Some (record { line = line; key = key })
   Drops line key (Works (Leave x)) = x.held ≡ Some (record { line = line; key = key })
   Drops line key turn = ⊥
+
+  turned_drops : (line : Line) (key : Key) (turn : Turn T W) (r : Option (Reply T)) (s : Stage (Phase T) T W) → Drops line key turn → Turned turn r s → (r ≡ None) × LooksAgain line key s
+  turned_drops line key (Works (TellSend x)) r s h t = (t.0, subst (λ (z : Stage (Phase T) T W). LooksAgain line key z) (sym t.1) h)
+  turned_drops line key (Works (Leave x)) r s h t = (t.0, subst (λ (z : Stage (Phase T) T W). LooksAgain line key z) (sym t.1) h)
+  turned_drops line key turn r s h t = absurd h
 
   module _ (q : Queue T) (shut : IsShut q) (k : Key) (task : W) where
     push_drops : (v : T) (m : QueueMark) (reply : QueueReply T) (s : queue.Stage T) → AnswersPush q v m reply s → HasNoCauseToWait s → Drops Sends k (polled_next Sends reply (Some k) task)
@@ -184,6 +209,10 @@ module _ {T W : Type 0} where
   pub has_now : (ds : List (Deed T W)) (m : Mark) (c : Channel T W) (seen : List (Channel T W)) → m ≡ mark.Close → HasClosed (with_deed ds m c seen)
   has_now ds m c seen e =
       subst (λ (z : Mark). HasClosed (with_deed ds z c seen)) (sym e) (has_last ds (record { mark = mark.Close; before = c; seen = seen }) refl)
+
+  looking : (done : List (Deed T W)) (line at : Line) (key k : Key) (r : Option (Reply T)) (s : Stage (Phase T) T W) → at ≡ line → k ≡ key → (r ≡ None) × LooksAgain at k s → GoesOnFor done line key r s
+  looking done line at key k r s e f h =
+      (h.0, inr (subst (λ (l : Line). LooksAgain l key s) e (subst (λ (z : Key). LooksAgain at z s) f h.1)))
 
   pub left_line : (line : Line) (key : Key) (c : Channel T W) → WaitApart line c → Waits line key (removes (record { line = line; key = key }) c).channel → ⊥
   left_line Sends key c apart w = removed_leaves key c.roster.sends apart w
@@ -274,6 +303,12 @@ module _ {T W : Type 0} where
       inr (turned_first done (answered_next y (answer.Close true)) line key r s (closes now)
       (close_next x y ds seen (subst (λ (a : QueueAsk T). TriesFor x y a ds seen) asks h))
       (subst (λ (z : QueueReply T). Turned (answered_next y z) r s) says turned))
+
+  tried_shut : (done : List (Deed T W)) (c : Channel T W) (x : ChannelAsk T W) (f : Phase T) (y : Aim T W) (m : QueueMark) (ds : List (Deed T W)) (seen : List (Channel T W)) (r : Option (Reply T)) (s : Stage (Phase T) T W) (line : Line) (key : Key)
+      → (m ≡ Close → HasClosed done) → TriesFor x y f.ask ds seen → How c f y m r s → IsShut (marked f.ask (is_displaced f.stage) m c.queue) → Shut c ⊎ GoesOnFor done line key r s
+  tried_shut done c x f y m ds seen r s line key closes h (inl (f', goes, none, there)) shut = inl (goes_same c.queue f.ask (is_displaced f.stage) m f.stage f'.stage goes.1 shut)
+  tried_shut done c x f y m ds seen r s line key closes h (inr (reply, ans, turned)) shut =
+      closed_by done c x f y ds seen r s line key reply m closes h turned (answers_same c.queue f.ask (is_displaced f.stage) m reply f.stage ans shut)
 
   -- where the channel is closed after a step it was so before, or the step closed it and has all lists to tell
   pub shut_before : (done : List (Deed T W)) (c : Channel T W) (x : ChannelAsk T W) (at : Stage (Phase T) T W) (ds : List (Deed T W)) (seen : List (Channel T W)) (e : Effect T W) (r : Option (Reply T)) (s : Stage (Phase T) T W) (line : Line) (key : Key)

@@ -16,7 +16,7 @@ use Rattle.channel_laws.specs.Closings.{HasClosed, HasToTell, LooksAgain, Closin
 use Rattle.channel_laws.proofs.AnyFacts.{any_but, any_mine, any_steps, any_begins}
 use Rattle.channel_laws.proofs.RunFacts.{kept_long}
 use Rattle.channel_laws.proofs.EachFacts.{of_mine, each_known}
-use Rattle.channel_laws.proofs.ListMoves.{Tries, moved_lists, stays_apart}
+use Rattle.channel_laws.proofs.ListMoves.{Tries, moved_lists, waited, stays_apart}
 use Rattle.channel_laws.proofs.ClosingMoves.{GoesOnFor, has_still, has_now, answering_on, shut_before, newcomer_looks}
 
 module _ {T W : Type 0} where
@@ -51,6 +51,11 @@ module _ {T W : Type 0} where
       waited_or_new : Shut s.now → Waits line key s.now ⊎ Tries line s.now effect e.reply st.at_now key → Answered
       waited_or_new before (inl h) = one_of_them before (any_steps (AnswersClosed line key) s t p e names st stays (sound.owed line key before h))
       waited_or_new before (inr h) = goes_on (newcomer_looks done s.now effect e.reply st.at_now line key h)
+
+      closed_or_closes : Shut s.now ⊎ GoesOnFor done line key e.reply st.at_now → Answered
+      closed_or_closes (inl before) =
+          waited_or_new before (waited line s.now effect e.reply st.at_now key (moved_lists line s.now st.mine.at effect e.reply st.at_now st.moves) w)
+      closed_or_closes (inr h) = goes_on h
 
       answered_after : Answered
       answered_after =

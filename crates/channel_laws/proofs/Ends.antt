@@ -7,16 +7,16 @@ use Rattle.channel_calls.specs.declared.ask.ChannelAsk.{ChannelAsk}
 use Rattle.channel_calls.specs.declared.mark.Mark.{Mark}
 use Rattle.channel_calls.specs.declared.mark.Mark.TheVariants.{Append, Take, TakeDisplaced, Replace, Close}
 use Rattle.channel_steps.specs.Moments.{Spent, Once}
-use Rattle.channel_steps.specs.Scene.{Under, Scene, does, gone_by, came_by}
+use Rattle.channel_steps.specs.Scene.{Under, Scene, Steps, does, gone_by, came_by}
 use Rattle.channel_steps.specs.Run.{Next, IsRun}
 use Rattle.channel_steps.specs.declared.party.Entry.{Entry}
 use Rattle.channel_steps.specs.declared.run.Step.{Step}
 use Rattle.channel_steps.specs.declared.run.Step.TheVariants as step
-use Rattle.channel_laws.specs.Ends.{IsStill, Each, KnowsTheEnd, StaysOver, EndIsForGood, EndIsKnown, NothingComesAfterTheEnd}
+use Rattle.channel_laws.specs.Ends.{IsStill, GivesMessage, Replies, Each, KnowsTheEnd, GetsNothing, StaysOver, EndIsForGood, EndIsKnown, NothingComesAfterTheEnd}
 use Rattle.channel_laws.specs.Over.{StillDeeds}
 use Rattle.channel_laws.proofs.EachFacts.{of_mine, each_steps, each_begins}
 use Rattle.channel_laws.proofs.ClosedMoves.{over_spares}
-use Rattle.channel_laws.proofs.ReplyFacts.{finish_ends}
+use Rattle.channel_laws.proofs.ReplyFacts.{with_still, finish_gives, finish_ends}
 
 module _ {T : Type 0} where
   nothing_gone : (m : Mark) (items : List T) → IsStill m → gone_by m items ≡ []
@@ -94,6 +94,17 @@ module _ {T W : Type 0} where
   abbrev Silent : ℕ → Under T W → Type 0
   Silent q u = u.party ≡ q → StillDeeds u.deeds
 
+  silent_next : (q : ℕ) (s : Scene T W) (x : Step T W) (e : Entry T) (names : List W) (t : Scene T W) → Next s x e names t → IsStill e.mark → Each (Silent q) s.under_way → Each (Silent q) t.under_way
+  silent_next q s (step.Begin p ask) e names t n still h =
+      each_begins (Silent q) (Silent q) s t p ask e n.0 (λ u k. k) (λ same. tt) h
+  silent_next q s (step.Step p) e names t n still h =
+      each_steps (Silent q) (Silent q) s t p e names n (λ u k. k) (λ k same. with_still n.mine.deeds e.mark s.now n.mine.seen (k same) still) h
+
+  gives_none : (q : ℕ) (s : Scene T W) (p : ℕ) (e : Entry T) (names : List W) (t : Scene T W) → Steps s p e names t → IsStill e.mark → Each (Silent q) s.under_way → p ≡ q → Replies GivesMessage e.reply → ⊥
+  gives_none q s p e names t st still h same g =
+      let k = of_mine (Silent q) s t p e names st h in
+      finish_gives (does st.mine st.at_now e.mark s.now t.now) e.reply e.kept st.finishes (with_still st.mine.deeds e.mark s.now st.mine.seen (k (st.whose ∙ same)) still) g
+
   silent_from : (q : ℕ) (us : List (Under T W)) → Each (λ u. u.party ≡ q → ⊥) us → Each (Silent q) us
   silent_from q [] h = tt
   silent_from q (u ∷ us) h = (λ same. absurd (h.0 same), silent_from q us h.1)
@@ -122,6 +133,19 @@ module _ {T W : Type 0} where
         true_long run.0 parts' run.1 t run.2 b xs es (true_next s x e run.3 run.1 run.5 h) run.7
     true_long parts parts' s t a b [] (e ∷ es) h run = absurd run
     true_long parts parts' s t a b (x ∷ xs) [] h run = absurd run
+
+    silent_long : (q : ℕ) (parts parts' : Parts T W) (s t : Scene T W) (a b : S) (xs : List (Step T W)) (es : List (Entry T)) → Spent s.now → Each (Silent q) s.under_way → IsRun wakes parts s a xs es parts' t b → GetsNothing q xs es
+    silent_long q parts parts' s t a b [] [] over h run = tt
+    silent_long q parts parts' s t a b (step.Begin p ask ∷ xs) (e ∷ es) over h run =
+        let r = rests s (step.Begin p ask) e run.3 run.1 over run.5 in
+        silent_long q run.0 parts' run.1 t run.2 b xs es r.over (silent_next q s (step.Begin p ask) e run.3 run.1 run.5 r.still h) run.7
+    silent_long q parts parts' s t a b (step.Step p ∷ xs) (e ∷ es) over h run =
+        let r = rests s (step.Step p) e run.3 run.1 over run.5 in (
+          λ same g. gives_none q s p e run.3 run.1 run.5 r.still h same g,
+          silent_long q run.0 parts' run.1 t run.2 b xs es r.over (silent_next q s (step.Step p) e run.3 run.1 run.5 r.still h) run.7,
+        )
+    silent_long q parts parts' s t a b [] (e ∷ es) over h run = absurd run
+    silent_long q parts parts' s t a b (x ∷ xs) [] over h run = absurd run
 
 module _ (T W S : Type 0) (wakes : S → W → S → Type 0) where
   pub end_is_for_good : EndIsForGood T W S wakes

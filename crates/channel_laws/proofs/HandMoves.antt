@@ -1,12 +1,13 @@
 -- A poll that has a listener in hand keeps it, leaves the list, or finds cause to wait.
 use Rattle.std.proofs.Common.{◌≡◌, true, List, [], Option, None, Some, Ok, Err, ◌⊎◌, inl, inr, refl, sym, ap, ◌∙◌, subst}
-use Rattle.concurrent_queue.specs.Queue.{Queue, Phase, trying, appended, is_filled, AnswersPush, AnswersTo}
+use Rattle.concurrent_queue.specs.Queue.{Queue, Phase, trying, appended, taken, is_filled, AnswersPush, AnswersPop, AnswersTo}
 use Rattle.concurrent_queue.specs.Queue as queue
 use Rattle.concurrent_queue.specs.declared.call.QueueAsk.{QueueAsk}
 use Rattle.concurrent_queue.specs.declared.call.QueueMark.{QueueMark}
 use Rattle.concurrent_queue.specs.declared.call.QueueMark.TheVariants.{Nothing}
 use Rattle.concurrent_queue.specs.declared.call.QueueReply.{QueueReply}
 use Rattle.concurrent_queue.specs.declared.call.QueueReply.TheVariants as answer
+use Rattle.concurrent_queue.specs.declared.error.PopError.TheVariants as pop_error
 use Rattle.concurrent_queue.specs.declared.error.PushError.TheVariants as push_error
 use Rattle.event_listener.specs.declared.key.Key.{Key}
 use Rattle.channel_calls.specs.Answered.{polled_next}
@@ -85,6 +86,13 @@ module _ {T W : Type 0} where
     push_answered v Nothing (answer.Push (Err (push_error.Closed w))) (trying b) h = inl refl
     push_answered v Nothing (answer.Push (Err (push_error.NoMemory w))) (trying b) h = inl refl
     push_answered v m reply s h = absurd h
+
+    pop_answered : (m : QueueMark) (reply : QueueReply T) (s : queue.Stage T) → AnswersPop q m reply s
+        → DropsLater Receives k (polled_next Receives reply (Some k) task) ⊎ ((m ≡ Nothing) × HasCause Receives q)
+    pop_answered Nothing (answer.Pop (Ok w)) (taken v) h = inl refl
+    pop_answered Nothing (answer.Pop (Err pop_error.Empty)) (trying b) h = inr (refl, h.1.0)
+    pop_answered Nothing (answer.Pop (Err pop_error.Closed)) (trying b) h = inl refl
+    pop_answered m reply s h = absurd h
 
     poll_answered : (line : Line) → IsOneByOne line
         → (x : ChannelAsk T W) (a : QueueAsk T) (ds : List (Deed T W)) (seen : List (Channel T W)) (m : QueueMark)

@@ -54,6 +54,9 @@ module _ {W : Type 0} where
   pub thin_same : (ws : List (Key × Option W)) → Thinner ws ws
   thin_same ws = (λ key h. h, λ h. h)
 
+  thin_both : (us vs ws : List (Key × Option W)) → Thinner us vs → Thinner vs ws → Thinner us ws
+  thin_both us vs ws f g = (λ key h. f.0 key (g.0 key h), λ h. g.1 (f.1 h))
+
   thin_none : (ws : List (Key × Option W)) → Thinner ws []
   thin_none ws = (λ key h. absurd h, λ h. tt)
 

@@ -1,5 +1,5 @@
 -- Who tells all of a list has closed the channel, and it is closed.
-use Rattle.std.proofs.Common.{◌≡◌, List, [], ◌∷◌, ◌++◌, Option, ◌⊎◌, inl, inr, refl, sym, ap, ◌∙◌, subst}
+use Rattle.std.proofs.Common.{◌≡◌, ℕ, zero, suc, List, [], ◌∷◌, ◌++◌, Option, ◌⊎◌, inl, inr, refl, sym, ap, ◌∙◌, subst}
 use Rattle.concurrent_queue.specs.Queue.{Phase}
 use Rattle.concurrent_queue.specs.declared.call.QueueMark.{QueueMark}
 use Rattle.concurrent_queue.specs.declared.call.QueueMark.TheVariants as queue
@@ -17,7 +17,7 @@ use Rattle.channel_calls.specs.declared.stage.Work.TheVariants.{TellAll}
 use Rattle.event_listener.specs.declared.key.Key.{Key}
 use Rattle.channel_steps.specs.Known.{all_from, ToldAt}
 use Rattle.channel_steps.specs.Moments.{Deed, with_deed, Shut}
-use Rattle.channel_steps.specs.Tellings.{Telling, one_of, all_of, owed_for, owed_besides}
+use Rattle.channel_steps.specs.Tellings.{Telling, one_of, more_of, all_of, owed_for, owed_takings, takings, owed_besides, owed}
 use Rattle.channel_laws.specs.Closings.{HasClosed}
 use Rattle.channel_laws.specs.Ends.{IsStill}
 use Rattle.channel_laws.specs.Waits.{Waits}
@@ -34,12 +34,27 @@ module _ (x : Telling) where
   among_right [] ys h = h
   among_right (y ∷ xs) ys h = inr (among_right xs ys h)
 
+  among_either : (xs ys : List Telling) → IsAmong (xs ++ ys) → IsAmong xs ⊎ IsAmong ys
+  among_either [] ys h = inr h
+  among_either (y ∷ xs) ys (inl h) = inl (inl h)
+  among_either (y ∷ xs) ys (inr h) = deeper (among_either xs ys h)
+    where
+      deeper : IsAmong xs ⊎ IsAmong ys → IsAmong (y ∷ xs) ⊎ IsAmong ys
+      deeper (inl h) = inl (inr h)
+      deeper (inr h) = inr h
+
 -- a closing tells those last who wait for it
 closings_last : (line : Line) → IsAmong (all_of Closings) (all_from line)
 closings_last Sends = inr (inr (inr (inl refl)))
 closings_last Receives = inr (inr (inl refl))
 closings_last Streams = inr (inl refl)
 closings_last Closings = inl refl
+
+-- takings do not
+takings_owe : (n : ℕ) → IsAmong (all_of Closings) (owed_takings n) → ⊥
+takings_owe zero h = h
+takings_owe (suc n) (inl e) = absurd (let never : more_of (suc n) Sends ≡ all_of Closings = e in cc)
+takings_owe (suc n) (inr h) = h
 
 -- and nothing else does
 closing_owes : (m : Mark) → IsAmong (all_of Closings) (owed_for m) → m ≡ Close
@@ -57,6 +72,16 @@ module _ {T W : Type 0} where
       → IsAmong (all_of Closings) (owed_for d.mark) ⊎ IsAmong (all_of Closings) (owed_besides ds) → HasClosed (d ∷ ds)
   by_mark d ds f (inl h) = inl (closing_owes d.mark h)
   by_mark d ds f (inr h) = inr (f h)
+
+  has_besides : (ds : List (Deed T W)) → IsAmong (all_of Closings) (owed_besides ds) → HasClosed ds
+  has_besides [] h = absurd h
+  has_besides (d ∷ ds) h = by_mark d ds (has_besides ds) (among_either (all_of Closings) (owed_for d.mark) (owed_besides ds) h)
+
+  has_owed : (ds : List (Deed T W)) → IsAmong (all_of Closings) (owed ds) → HasClosed ds
+  has_owed ds h = by (among_either (all_of Closings) (owed_takings (takings ds)) (owed_besides ds) h) where
+    by : IsAmong (all_of Closings) (owed_takings (takings ds)) ⊎ IsAmong (all_of Closings) (owed_besides ds) → HasClosed ds
+    by (inl h) = absurd (takings_owe (takings ds) h)
+    by (inr h) = has_besides ds h
 
   -- who tells all of a list has closed the channel
   pub teller_has_closed : (told : List Telling) (line : Line) (closer : Closer) (ds : List (Deed T W))

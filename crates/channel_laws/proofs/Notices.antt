@@ -2,9 +2,10 @@
 use Rattle.std.proofs.Common.{◌≡◌, ℕ, Bool, true, false, List, [], Option, ◌⊎◌, inl, inr, refl, sym, ◌∙◌, subst}
 use Rattle.concurrent_queue.specs.Queue.{Phase}
 use Rattle.event_listener.specs.declared.key.Key.{Key}
-use Rattle.channel_calls.specs.Moves.{Channel, Effect}
+use Rattle.channel_calls.specs.Moves.{Channel, Effect, tells_all, Moves}
 use Rattle.channel_calls.specs.declared.ask.ChannelAsk.{ChannelAsk}
 use Rattle.channel_calls.specs.declared.mark.Mark.TheVariants as mark
+use Rattle.channel_calls.specs.declared.reply.Reply.{Reply}
 use Rattle.channel_calls.specs.declared.stage.Line.{Line}
 use Rattle.channel_calls.specs.declared.stage.Line.TheVariants.{Sends, Receives, Streams, Closings}
 use Rattle.channel_calls.specs.declared.stage.Stage.{Stage}
@@ -23,13 +24,13 @@ use Rattle.channel_laws.specs.Closings.{HasClosed, LooksAgain}
 use Rattle.channel_laws.specs.Ends.{Each}
 use Rattle.channel_laws.specs.Notices.{MayBeTold, IsOneByOne, EachTold, AnyTold, told_of, TellingsSound, TellingsStayFit, TellingsAlwaysFit}
 use Rattle.channel_laws.specs.Waits.{Waits, WaitApart, Any}
-use Rattle.channel_laws.proofs.AnyFacts.{any_mine, any_begins}
+use Rattle.channel_laws.proofs.AnyFacts.{any_mine, any_steps, any_begins}
 use Rattle.channel_laws.proofs.Closed.{shut_does}
 use Rattle.channel_laws.proofs.Closings.{new_apart}
-use Rattle.channel_laws.proofs.ClosingMoves.{GoesOnFor}
+use Rattle.channel_laws.proofs.ClosingMoves.{GoesOnFor, looks_goes, newcomer_looks}
 use Rattle.channel_laws.proofs.EachFacts.{of_mine, each_known, each_steps, each_begins}
-use Rattle.channel_laws.proofs.ListMoves.{moved_lists, waited, stays_apart}
-use Rattle.channel_laws.proofs.NoticeMoves.{teller_has_closed, closed_before, close_shuts}
+use Rattle.channel_laws.proofs.ListMoves.{Tries, moved_lists, waited, stays_apart}
+use Rattle.channel_laws.proofs.NoticeMoves.{teller_has_closed, closed_before, close_shuts, nobody_left}
 use Rattle.channel_laws.proofs.RunFacts.{kept_long}
 use Rattle.channel_laws.proofs.ToldFacts.{each_as, any_as}
 use Rattle.channel_laws.proofs.ToldMoves.{Tells, moved_told}
@@ -52,6 +53,19 @@ module _ {T W : Type 0} where
   tells_as line b told (Working (TellAll at closer)) ds k h = inr (teller_has_closed told at closer ds k)
   tells_as line b told at ds k h = absurd h
 
+  -- who tells a send or a receive by the default tells all of its list, and has closed the channel
+  by_default_as : (line : Line) (one : IsOneByOne line) (told : List Telling) (c : Channel T W) (at : Stage (Phase T) T W)
+      (e : Effect T W) (r : Option (Reply T)) (s : Stage (Phase T) T W) (ds : List (Deed T W))
+      → ToldAt told at ds → Moves c at e r s → Tells line false at → HasClosed ds × ((key : Key) → Waits line key e.channel → ⊥)
+  by_default_as line one told c (Working (TellReceive x)) e r s ds k g h = absurd (let never : true ≡ false = h.1 in cc)
+  by_default_as line one told c (Working (TellStreams x)) e r s ds k g h = absurd (subst IsOneByOne h.0 one)
+  by_default_as line one told c (Working (TellSend x)) e r s ds k g h = absurd (let never : true ≡ false = h.1 in cc)
+  by_default_as line one told c (Working (TellSends n x)) e r s ds k g h = absurd (let never : true ≡ false = h.1 in cc)
+  by_default_as line one told c (Working (TellAll at closer)) e r s ds k g h = (
+    teller_has_closed told at closer ds k,
+    λ key w. nobody_left at key c
+        (subst (λ (z : Line). Waits z key (let e : Effect T W = tells_all at c in e.channel)) h.0
+        (subst (λ (z : Effect T W). Waits line key z.channel) g.0 w)),
   )
   by_default_as line one told c at e r s ds k g h = absurd h
 
@@ -110,6 +124,19 @@ module _ {T W : Type 0} where
         goes_on (none, inl h) = absurd h.0
         goes_on (none, inr h) = any_mine (λ u. LooksAgain line key u.at) s t p e names st (λ u h. h) none h
 
+        still_looks : Looked ⊎ LooksAgain line key st.mine.at → Looked
+        still_looks (inl h) = h
+        still_looks (inr h) =
+            let k = mine_known in
+            goes_on (looks_goes [] s.now st.mine.ask st.mine.at st.mine.deeds st.mine.seen effect e.reply st.at_now line key
+            k.stands st.moves shut h (sound.apart line) w)
+
+        looks_or_new : ((key : Key) → Waits line key s.now → Any (λ u. LooksAgain line key u.at) s.under_way)
+            → Waits line key s.now ⊎ Tries line s.now effect e.reply st.at_now key → Looked
+        looks_or_new before (inl h) =
+            still_looks (any_steps (λ u. LooksAgain line key u.at) s t p e names st (λ u h. h) (before key h))
+        looks_or_new before (inr h) = goes_on (newcomer_looks [] s.now effect e.reply st.at_now line key h)
+
         looked : ((key : Key) → Waits line key s.now → Any (λ u. LooksAgain line key u.at) s.under_way) → Looked
         looked before =
             looks_or_new before (waited line s.now effect e.reply st.at_now key
@@ -117,6 +144,14 @@ module _ {T W : Type 0} where
 
       abbrev ClosedThen : Scene T W → Type 0
       ClosedThen z = Shut z.now × ((key : Key) → Waits line key z.now → Any (λ u. LooksAgain line key u.at) z.under_way)
+
+      default_then : IsOneByOne line → ClosedThen s ⊎ Tells line false st.mine.at → ClosedThen t
+      default_then one (inl h) = (shut_on h.0, λ key w. looked key w h.0 h.1)
+      default_then one (inr h) =
+          let k = mine_known in
+          let all = by_default_as line one st.mine.told s.now st.mine.at effect e.reply st.at_now st.mine.deeds k.tells st.moves
+          h in
+          (mine_closed all.0, λ key w. absurd (all.1 key w))
 
       was_default : IsOneByOne line → AnyTold false (told_of line s.now) ⊎ Tells line false st.mine.at → ClosedThen s
           ⊎ Tells line false st.mine.at

@@ -15,13 +15,14 @@ use Rattle.channel_steps.specs.declared.party.Entry.{Entry}
 use Rattle.channel_steps.specs.declared.run.Step.{Step}
 use Rattle.channel_steps.specs.declared.run.Step.TheVariants as step
 use Rattle.channel_laws.specs.Amounts.{total, HoldsListener, AreOwed, PendingAreOwed}
+use Rattle.channel_laws.specs.Closings.{LooksAgain}
 use Rattle.channel_laws.specs.Notices.{IsOneByOne, AnyTold, told_of, TellingsSound}
 use Rattle.channel_laws.specs.Waits.{Waits, Any}
-use Rattle.channel_laws.proofs.AnyFacts.{any_none, any_mine, any_steps, any_begins}
+use Rattle.channel_laws.proofs.AnyFacts.{any_none, any_weaker, any_mine, any_steps, any_begins}
 use Rattle.channel_laws.proofs.EachFacts.{of_mine, each_known}
-use Rattle.channel_laws.proofs.HandMoves.{StillHolds, HasCause, newcomer_holds, holds_on}
+use Rattle.channel_laws.proofs.HandMoves.{StillHolds, HasCause, looks_holds, newcomer_holds, holds_on}
 use Rattle.channel_laws.proofs.ListMoves.{Tries, moved_lists, waited}
-use Rattle.channel_laws.proofs.TotalFacts.{left_over, total_begins}
+use Rattle.channel_laws.proofs.TotalFacts.{left_over, of_others, total_before, total_after, total_begins}
 
 module _ {T W : Type 0} (line : Line) (one : IsOneByOne line) (Enough : Channel T W → ℕ → Type 0)
     (weigh : ChannelAsk T W → Stage (Phase T) T W → ℕ) where
@@ -56,12 +57,31 @@ module _ {T W : Type 0} (line : Line) (one : IsOneByOne line) (Enough : Channel 
         goes_on : StillHolds line key e.reply st.at_now → Owed
         goes_on h = inr (any_mine (λ u. HoldsListener line key u.at) s t p e names st (λ u h. h) h.0 h.1)
 
+        or_waits : StillHolds line key e.reply st.at_now ⊎ HasCause line t.now.queue → Owed
+        or_waits (inl h) = goes_on h
+        or_waits (inr h) = inl (ledger.caused t.now (total weigh t.under_way) h)
+
         held : Any (λ u. HoldsListener line key u.at) t.under_way ⊎ HoldsListener line key st.mine.at → Owed
         held (inl h) = inr h
         held (inr h) =
             let k = mine_known in
             or_waits (holds_on line key one s.now st.mine.ask st.mine.deeds st.mine.seen effect e.reply st.at_now st.mine.at
             k.stands st.moves h (sound.apart line) w)
+
+        defaulted : Waits line key s.now → AnyTold false (told_of line s.now) → Owed
+        defaulted before h =
+            let k = sound.fit.by_default line one h in
+            let looks = any_weaker (λ u. LooksAgain line key u.at) (λ u. HoldsListener line key u.at)
+            (λ u. looks_holds line key u.at) s.under_way (k.1 key before) in
+            held (any_steps (λ u. HoldsListener line key u.at) s t p e names st (λ u h. h) looks)
+
+        paid : Waits line key s.now → Enough s.now (total weigh s.under_way)
+            → Pays s.now st.mine.ask st.mine.at effect e.reply st.at_now ⊎ AnyTold false (told_of line s.now) → Owed
+        paid before h (inl f) =
+            let others = of_others weigh s t p e names st in
+            let was = subst (λ (n : ℕ). Enough s.now n) (total_before weigh s t p e names st) h in
+            inl (subst (λ (n : ℕ). Enough t.now n) (sym (total_after weigh s t p e names st)) (f others was))
+        paid before h (inr d) = defaulted before d
 
         was_owed : Waits line key s.now → Enough s.now (total weigh s.under_way)
             ⊎ Any (λ u. HoldsListener line key u.at) s.under_way → Owed

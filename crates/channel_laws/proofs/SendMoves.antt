@@ -220,6 +220,14 @@ module _ {T W : Type 0} where
       inr (has_more c.queue.capacity (length c.queue.items + 0) (length c.queue.items + length (told_of Sends c) + n)
       (omega arith) (filled_as c.queue.capacity c.queue.items 0 h))
 
+  -- a refusal leaves places as few as can be
+  refused_places : (c : Channel T W) (n k : ℕ) → Refuses c.queue → PlacesAreFew c n → PlacesAreFew c k
+  refused_places c n k (inl full) h = full_places c k full
+  refused_places c n k (inr (inl shut)) h = inl shut
+  refused_places c n k (inr (inr none)) (inl shut) = inl shut
+  refused_places c n k (inr (inr none)) (inr h) =
+      absurd (subst (λ (o : Option ℕ). HasPlaces o (length c.queue.items + length (told_of Sends c) + n)) none h)
+
   module _ (c : Channel T W) (x : ChannelAsk T W) (f : Phase T) (y : Aim T W) (m : QueueMark) (ds : List (Deed T W))
       (seen : List (Channel T W)) (r : Option (Reply T)) (s : Stage (Phase T) T W)
       (shut : Shut c → Shut (let e : Effect T W = queued f m c in e.channel)) where

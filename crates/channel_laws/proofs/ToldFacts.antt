@@ -22,6 +22,12 @@ module _ {X : Type 0} where
   remove_less key [] = omega arith
   remove_less key (w ∷ ws) = cut_less (same_key key w.0) w ws (remove_entry (same_key key) ws) (remove_less key ws)
 
+  cut_same : (b : Bool) (w : Key × X) (ws vs : List (Key × X)) (o : Option X) → (is_some o ≡ false → length vs ≡ length ws)
+      → is_some (cond b (Some w.1) o) ≡ false
+      → length (cond b ws (w ∷ vs)) ≡ length (w ∷ ws)
+  cut_same true w ws vs o f e = absurd (let never : true ≡ false = e in cc)
+  cut_same false w ws vs o f e = let h = f e in omega (arith, h)
+
   -- none where the key is not there
   remove_same : (key : Key) (ws : List (Key × X)) → is_some (lookup (same_key key) ws) ≡ false
       → length (remove_entry (same_key key) ws) ≡ length ws
@@ -68,7 +74,17 @@ module _ (b : Bool) where
   any_found key [] n e k = absurd (let never : None ≡ Some n = e in cc)
   any_found key (w ∷ ws) n e k = found_at (same_key key w.0) w ws (lookup (same_key key) ws) n (any_found key ws n) e k
 
+  any_with : {W : Type 0} → (a : Bool) (ws : List (Key × Option W)) (tags : List Unit) → AnyTold b (told_with a ws tags) → a ≡ b
+  any_with a [] tags h = absurd h
+  any_with a (w ∷ ws) [] h = absurd h
+  any_with a (w ∷ ws) (t ∷ ts) (inl h) = h
+  any_with a (w ∷ ws) (t ∷ ts) (inr h) = any_with a ws ts h
+
   module _ {W : Type 0} where
+    or_so : {A : Type 0} → (a : Bool) (ws : List (Key × Option W)) (tags : List Unit) → A ⊎ AnyTold b (told_with a ws tags) → A
+        ⊎ (a ≡ b)
+    or_so a ws tags (inl h) = inl h
+    or_so a ws tags (inr h) = inr (any_with a ws tags h)
 
     any_passed : (n : Notice Unit) (l : Listeners W) → AnyTold b (passed n l).told → AnyTold b l.told ⊎ (n.additional ≡ b)
     any_passed n l h =

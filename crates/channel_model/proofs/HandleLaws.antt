@@ -1,12 +1,12 @@
 -- That counts count handles, and what an upgrade gives.
-use Rattle.std.proofs.Common.{arith, ◌≡◌, ◌⊎◌, ◌≤◌, ◌<◌, ◌-◌, ◌^◌, ◌==◌, ℕ, zero, suc, nat_lt, List, [], Bool, true, false, ◌&&◌, ◌||◌, not, if◌then◌else◌, Option, None, Some, is_some, refl, sym, ap, subst, ◌∙◌, inl, inr}
+use Rattle.std.proofs.Common.{arith, ◌≡◌, ◌⊎◌, ◌≤◌, ◌<◌, ◌+◌, ◌-◌, ◌^◌, ◌==◌, ℕ, zero, suc, nat_lt, List, [], ◌∷◌, Bool, true, false, ◌&&◌, ◌||◌, not, cond, if◌then◌else◌, Option, None, Some, is_some, refl, sym, ap, subst, ◌∙◌, inl, inr}
 use Rattle.std.proofs.lemmas.Bool.Decides.{nat_tests}
 use Rattle.std.specs.List.{list_all}
-use Rattle.channel_model.specs.Answer.{Answer, replying, count, strong_of, spent, upgrade_answer, upgrade_to, one_more}
+use Rattle.channel_model.specs.Answer.{Answer, replying, count, strong_of, with_count, without_one, shut, spent, upgrade_answer, upgrade_to, one_more}
 use Rattle.channel_model.specs.Channel.{Channel}
 use Rattle.channel_model.specs.Handles.{HandlesAreCounted, UpgradesAsOpen, live_of}
-use Rattle.channel_model.specs.Names.{Directory, at, with_new}
-use Rattle.channel_model.specs.Refusal.{is_live, uses, are_fit, takes_borrowed, names_taken}
+use Rattle.channel_model.specs.Names.{Directory, at, with_new, without}
+use Rattle.channel_model.specs.Refusal.{are_alike, is_live, uses, are_fit, takes_borrowed, names_taken}
 use Rattle.channel_model.specs.Run.{Does, Runs}
 use Rattle.channel_model.specs.State.{State, start}
 use Rattle.channel_model.specs.declared.call.Call.{Call}
@@ -20,6 +20,8 @@ use Rattle.channel_model.specs.declared.name.HandleKind.TheVariants.{Sender, Rec
 use Rattle.channel_model.specs.declared.refusal.WorldRefusal.{WorldRefusal}
 use Rattle.channel_model.specs.declared.refusal.WorldRefusal.TheVariants.{UnknownName, WrongKind, Borrowed, NameTaken}
 use Rattle.channel_model.specs.declared.run.Done.{Done}
+use Rattle.channel_model.proofs.Deeds.{Deed, stays, grows, holds, shuts, adds, drops, deed_of}
+use Rattle.channel_model.proofs.Live.{gone_less}
 use Rattle.channel_model.proofs.WaiterLemmas.{decided}
 
 more_than_one : (n : ℕ) → (n == 1) ≡ false → 1 ≤ n → 1 ≤ n - 1
@@ -50,6 +52,12 @@ module _ {T : Type 0} where
       receiving = λ h. subst (λ (n : ℕ). 1 ≤ n) (sym r) (counted.receiving (o h));
     }
 
+    one_added : (name : ℕ) (kind : HandleKind) → HandlesAreCounted (with_count kind (count kind c + 1) c) (with_new name (record { kind = kind; borrowers = 0 }) d)
+    one_added name Sender = record {
+      senders = omega (arith, counted.senders);
+      receivers = counted.receivers;
+      sending = λ h. omega arith;
+      receiving = counted.receiving;
     }
     one_added name Receiver = record {
       senders = counted.senders;
@@ -70,6 +78,14 @@ module _ {T : Type 0} where
       weak_too WeakSender = refl
       weak_too WeakReceiver = refl
 
+    -- the last of a side closes the channel
+    sender_dropped : (e : Directory Handle) → live_of Sender d ≡ live_of Sender e + 1 → live_of Receiver d ≡ live_of Receiver e + 0
+        → (last : Bool) → (c.senders == 1) ≡ last → HandlesAreCounted (let left = with_count Sender (c.senders - 1) c in if last then shut left else left) e
+    sender_dropped e less same true t = record {
+      senders = omega (arith, counted.senders, less);
+      receivers = omega (arith, counted.receivers, same);
+      sending = λ h. cc h;
+      receiving = λ h. cc h;
     }
     sender_dropped e less same false t = record {
       senders = omega (arith, counted.senders, less);
@@ -78,6 +94,13 @@ module _ {T : Type 0} where
       receiving = counted.receiving;
     }
 
+    receiver_dropped : (e : Directory Handle) → live_of Receiver d ≡ live_of Receiver e + 1 → live_of Sender d ≡ live_of Sender e + 0
+        → (last : Bool) → (c.receivers == 1) ≡ last → HandlesAreCounted (let left = with_count Receiver (c.receivers - 1) c in if last then shut left else left) e
+    receiver_dropped e less same true t = record {
+      senders = omega (arith, counted.senders, same);
+      receivers = omega (arith, counted.receivers, less);
+      sending = λ h. cc h;
+      receiving = λ h. cc h;
     }
     receiver_dropped e less same false t = record {
       senders = omega (arith, counted.senders, same);
@@ -86,7 +109,64 @@ module _ {T : Type 0} where
       receiving = λ h. more_than_one c.receivers t (counted.receiving h);
     }
 
+    one_dropped : (name : ℕ) (h : Handle) (kind : HandleKind) → at name d ≡ Some h → h.kind ≡ kind → HandlesAreCounted (without_one kind c) (without name d)
+    one_dropped name h kind there e = of kind (λ side. less side) where
+      less : (side : HandleKind) → live_of side d ≡ live_of side (without name d) + cond (are_alike side kind) 1 0
+      less side = subst (λ (k : HandleKind). live_of side d ≡ live_of side (without name d) + cond (are_alike side k) 1 0) e (gone_less side name h d there)
+
+      weak_too : (k : HandleKind) → ((side : HandleKind) → are_alike side k ≡ false) → ((side : HandleKind) → live_of side d ≡ live_of side (without name d) + cond (are_alike side k) 1 0)
+          → (side : HandleKind) → live_of side (without name d) ≡ live_of side d
+      weak_too k off l side =
+          let now : live_of side d ≡ live_of side (without name d) + 0 = subst (λ (b : Bool). live_of side d ≡ live_of side (without name d) + cond b 1 0) (off side) (l side) in
+          omega (arith, now)
+
+      no_sender : (side : HandleKind) → are_alike side WeakSender ≡ false
+      no_sender Sender = refl
+      no_sender Receiver = refl
+      no_sender WeakSender = refl
+      no_sender WeakReceiver = refl
+
+      no_receiver : (side : HandleKind) → are_alike side WeakReceiver ≡ false
+      no_receiver Sender = refl
+      no_receiver Receiver = refl
+      no_receiver WeakSender = refl
+      no_receiver WeakReceiver = refl
+
+      of : (k : HandleKind) → ((side : HandleKind) → live_of side d ≡ live_of side (without name d) + cond (are_alike side k) 1 0) → HandlesAreCounted (without_one k c) (without name d)
+      of Sender l = sender_dropped (without name d) (l Sender) (l Receiver) (c.senders == 1) refl
+      of Receiver l = receiver_dropped (without name d) (l Receiver) (l Sender) (c.receivers == 1) refl
+      of WeakSender l = as_before c (without name d) refl refl (λ o. o) (weak_too WeakSender no_sender l)
+      of WeakReceiver l = as_before c (without name d) refl refl (λ o. o) (weak_too WeakReceiver no_receiver l)
+
   -- ---- whole runs
+
+  step_counted : (s : State T) (a : Answer T) → Deed s a → HandlesAreCounted s.channel s.names.handles → HandlesAreCounted a.after.channel a.after.names.handles
+  step_counted s a (stays same alike none) k =
+      as_before s.channel s.names.handles k a.after.channel a.after.names.handles (ap (λ (c : Channel T). c.senders) same) (ap (λ (c : Channel T). c.receivers) same)
+      (λ o. ap (λ (c : Channel T). c.closed) (sym same) ∙ o) alike
+  step_counted s a (grows m room same alike none) k =
+      as_before s.channel s.names.handles k a.after.channel a.after.names.handles (ap (λ (c : Channel T). c.senders) same) (ap (λ (c : Channel T). c.receivers) same)
+      (λ o. ap (λ (c : Channel T). c.closed) (sym same) ∙ o) alike
+  step_counted s a (holds ms n less same alike none) k =
+      as_before s.channel s.names.handles k a.after.channel a.after.names.handles (ap (λ (c : Channel T). c.senders) same) (ap (λ (c : Channel T). c.receivers) same)
+      (λ o. ap (λ (c : Channel T). c.closed) (sym same) ∙ o) alike
+  step_counted s a (shuts opened same alike) k =
+      as_before s.channel s.names.handles k a.after.channel a.after.names.handles (ap (λ (c : Channel T). c.senders) same) (ap (λ (c : Channel T). c.receivers) same)
+      (λ o. opened) alike
+  step_counted s a (adds name kind same handles none) k =
+      subst (λ (c : Channel T). HandlesAreCounted c a.after.names.handles) (sym same)
+      (subst (λ (d : Directory Handle). HandlesAreCounted (with_count kind (count kind s.channel + 1) s.channel) d) (sym handles) (one_added s.channel s.names.handles k name kind))
+  step_counted s a (drops name h kind there is same handles none) k =
+      subst (λ (c : Channel T). HandlesAreCounted c a.after.names.handles) (sym same)
+      (subst (λ (d : Directory Handle). HandlesAreCounted (without_one kind s.channel) d) (sym handles) (one_dropped s.channel s.names.handles k name h kind there is))
+
+  run_counted : (s : State T) (cs : List (Call T)) (ds : List (Done T)) (why : Option WorldRefusal) (rest : List (Call T)) (t : State T)
+      → HandlesAreCounted s.channel s.names.handles → Runs s cs ds why rest t → HandlesAreCounted t.channel t.names.handles
+  run_counted s cs [] why rest t k (left, same, stops) = subst (λ (x : State T). HandlesAreCounted x.channel x.names.handles) (sym same) k
+  run_counted s [] (d ∷ ds) why rest t k r = absurd r
+  run_counted s (c ∷ cs) (d ∷ ds) why rest t k (mid, does, runs) =
+      let a : Answer T = record { after = mid; reply = d.reply; woken = d.woken.items } in
+      run_counted mid cs ds why rest t (step_counted s a (deed_of s c a does.1) k) runs
 
   pub counts : (capacity : Option ℕ) (calls rest : List (Call T)) (done : List (Done T)) (why : Option WorldRefusal) (world : State T)
       → Runs (start capacity) calls done why rest world → HandlesAreCounted world.channel world.names.handles

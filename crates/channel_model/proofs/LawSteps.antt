@@ -48,6 +48,10 @@ chosen_no b x y e = rw e refl
 chosen_yes : {A : Type 0} (b : Bool) (x y : A) → b ≡ true → cond b x y ≡ x
 chosen_yes b x y e = rw e refl
 
+no_line : {A : Type 0} (o : Option Line) → IsSome o → o ≡ None → A
+no_line None h e = cc h
+no_line (Some l) h e = cc e
+
 full_idle : (o : Option ℕ) (n : ℕ) → option_map_or (λ (capacity : ℕ). n == capacity) o false ≡ true → (free_places o n ≡ 0) × (o ≡ None → ⊥)
 full_idle None n e = cc e
 full_idle (Some c) n e = let same : n ≡ c = same_number n c e in (omega (arith, same), λ h. cc h)

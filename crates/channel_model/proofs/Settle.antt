@@ -291,6 +291,8 @@ module _ {T : Type 0} where
       unanswered_so lack (Op op) c = poll_refused lack op (at op.0 s.names.operations) c
       unanswered_so lack (Stream receiver) c = next_refused lack (Stream receiver) (found s.channel) c
 
+      -- however the poll of one that is woken is answered
+      pub poll_cases : (w : Waiter) (a : Answer T) → is_among w s.waiting.woken ≡ true → Answers s (poll_of w) a → Cases w s.waiting P → P a.after.waiting a.woken
       unfolding AllSo
       poll_cases w a e (inl x) c = subst (λ (y : Answer T). So y) (sym x) (answered_so w e c)
       poll_cases w a e (inr (lack, x)) c = unanswered_so lack w c a x

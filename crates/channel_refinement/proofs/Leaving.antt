@@ -96,6 +96,9 @@ module _ (kind : Kind) (held : Held) (closed : Bool) where
   as_the_only : (a : Bool) (t : ℕ) (ws : List (Key × Option Waiter)) → a ≡ false → t ≡ 0 → min (if a then 1 else 1 - t) (length ws) ≡ min 1 (length ws)
   as_the_only a t ws e f = rw (e, f) refl
 
+  as_one_of_many : (a : Bool) (t : ℕ) (ws : List (Key × Option Waiter)) → a ≡ false → 1 ≤ t → min (if a then 1 else 1 - t) (length ws) ≡ 0
+  as_one_of_many a t ws e f = rw e (omega (arith, f))
+
   -- how a told one of this line passes its notice on, once it is gone
   abbrev pub heir : Line → Waiting → News
   heir Sends m = NextIn Sends
@@ -234,6 +237,12 @@ module _ (kind : Kind) (held : Held) (closed : Bool) where
     passed_untold Streams t = rw t refl
     passed_untold Closings t = refl
 
+    relisted : (y : Listeners Waiter) (names : List Waiter) (news : News) → removed key true x ≡ y → removed_wakes key true x ≡ names → Left kind held closed own y names news (gone w l)
+        → Left kind held closed own (removed key true x) (removed_wakes key true x) news (gone w l)
+    relisted y names news e f g = record {
+      own = subst (λ (z : Listeners Waiter). ShowsLine kind held closed own z (after_news news (gone w l))) (sym e) g.own;
+      wakes = f ∙ g.wakes;
+      quiet = g.quiet;
     }
 
     after_told : is_among w l.woken ≡ true → Left kind held closed own (removed key true x) (removed_wakes key true x) (passed_on own w l) (gone w l)

@@ -21,7 +21,7 @@ use Rattle.channel_refinement.specs.Shows.{with_held, Shows, list_of}
 use Rattle.channel_refinement.proofs.Standing.{Nowhere, keyless_nowhere, away_holds_none}
 use Rattle.channel_refinement.proofs.Departing.{streams_are}
 use Rattle.channel_refinement.proofs.Told.{not_both}
-use Rattle.channel_refinement.proofs.Pending.{Waited, away_unheld, away_told, stays}
+use Rattle.channel_refinement.proofs.Pending.{Waited, away_unheld, away_told, stays, listens_so}
 
 pub where_true : (b : Bool) (A B : Type 0) → b ≡ true → Where b A B → A
 where_true true A B e x = x
@@ -63,6 +63,18 @@ module _ {T : Type 0} (line : Line) (pends : Reply T) (refuses : ListenError →
       lines = g.lines;
       keys = g.keys;
     }
+
+    listened_ends : (b : Channel T Waiter) (o : Outcome T Waiter) → b.queue ≡ c.queue → is_among w (untold line s.waiting) ≡ false
+        → Waited (line_of s.names) held s.channel.closed w c.roster b.roster None (gone w s.waiting) → ListensAs b o → WaitEnds held s o
+    listened_ends b o e u g (inl (key, none, f)) =
+        inl (
+          key,
+          (registers (list_of line) key w (listens (list_of line) key b).channel).channel,
+          f,
+          shown (Some key) (standing line w s.waiting) (registers (list_of line) key w (listens (list_of line) key b).channel).channel e
+              (listens_so (line_of s.names) held s.channel.closed (streams_are s.names) line w k s.waiting awake.placed h.keys awake.opened c.roster h.lines b.roster key u none g),
+        )
+    listened_ends b o e u g (inr (error, f)) = inr (error, b, f, u, shown None (gone w s.waiting) b e g)
 
     -- one that was told stands untold nowhere
     told_not_untold : is_among w s.waiting.woken ≡ true → is_among w (untold line s.waiting) ≡ false

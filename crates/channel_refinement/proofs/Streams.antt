@@ -14,7 +14,7 @@ use Rattle.channel_calls.specs.declared.reply.Reply.TheVariants as reply
 use Rattle.channel_calls.specs.declared.stage.Line.TheVariants as list
 use Rattle.channel_calls.specs.declared.stage.Waiting.TheVariants as waiting
 use Rattle.channel_alone.specs.Alone as alone
-use Rattle.channel_alone.specs.Alone.{Outcome, Alone, ends, of_room, over_queue, PollsFor}
+use Rattle.channel_alone.specs.Alone.{Outcome, Alone, ends, of_room, over_queue, PollsFor, PollsStream}
 use Rattle.channel_model.specs.Answer.{Found, first, none_yet, none_ever, found, replying, next_answer, poll_next_answer}
 use Rattle.channel_model.specs.Awake.{AwakeIn}
 use Rattle.channel_model.specs.Laws.{line_of}
@@ -144,6 +144,9 @@ module _ {T : Type 0} (held : Held) (s : State T) (receiver : HandleId) (awake :
           (wait_ends Streams (reply.Next poll.Pending) (λ e. refused_reply list.Streams e) None (Stream receiver) unheld c used_up h still_awake refl None o
           (with_own (Stream receiver) (Stream receiver) None held (same_refl (Stream receiver))) (where_false c.queue.closed _ _ t x))
     ]
+
+    pub polls_used : (o : Outcome T Waiter) → PollsStream None (Stream receiver) c o → Matches held s (call.PollNext receiver) o
+    polls_used o x = polls c.queue.items o refl x
 
 -- ---- from what the stream holds
 

@@ -1,7 +1,7 @@
 -- Calls of handles that do not wait.
 use Rattle.std.proofs.Common.{arith, zero, suc, ◌<◌, take, ◌≡◌, ℕ, List, [], ◌∷◌, ◌++◌, length, drop, slice_get, ◌==◌, Bool, true, false, Option, None, Some, Ok, Err, if◌then◌else◌, refl, sym, ap, subst, ◌∙◌, inl, inr, append-nil}
 use Rattle.std.specs.Option.{option_map_or}
-use Rattle.concurrent_queue.specs.Queue.{Queue, is_filled}
+use Rattle.concurrent_queue.specs.Queue.{Queue, is_full_at, is_filled}
 use Rattle.channel_calls.specs.Moves.{Channel}
 use Rattle.channel_calls.specs.Turns.{says, closer_ending}
 use Rattle.channel_calls.specs.declared.error.Refused.TheVariants as unmade
@@ -32,6 +32,10 @@ use Rattle.channel_refinement.specs.Shows.{Shows}
 use Rattle.channel_refinement.proofs.Matching.{matching}
 use Rattle.channel_refinement.proofs.News.{shut_lines, keys_news, keys_rooms, rooms_woken, room_lines, room_wakes, rooms_lines, rooms_wakes, message_lines, message_wakes, closing_lines, closing_wakes}
 use Rattle.channel_refinement.proofs.Telling.{Lined}
+
+pub full_as : {T : Type 0} → (cap : Option ℕ) (items : List T) → is_full_at cap items ≡ option_map_or (λ (n : ℕ). length items == n) cap false
+full_as None items = refl
+full_as (Some n) items = refl
 
 module _ {T : Type 0} (held : Held) (c : Channel T Waiter) (s : State T) (h : Shows held c s) where
   -- ---- what a channel that shows a state has, in the words of the state
@@ -65,6 +69,14 @@ module _ {T : Type 0} (held : Held) (c : Channel T Waiter) (s : State T) (h : Sh
   only_answers call r o nobody allowed names e =
       subst (λ (x : Outcome T Waiter). Matches held s call x) (sym e)
       (matching held s call None nobody (ends [] (says r) c) (replying s r) allowed refl refl h names (sym (append-nil s.waiting.woken)))
+
+  -- memory is refused to a message
+  pub lacks_room : (call : Call T) (r : Reply T) (o : Outcome T Waiter) → keeper s call ≡ None → s.names ≡ names_after s call (ends [] (says r) c)
+      → ((x : Space) → space_of s.channel ≡ x → not_held memory s.channel x (replying s r) ≡ Some (replying s r) → Answers s call (replying s r))
+      → MayLackRoom (says r) c o → Matches held s call o
+  lacks_room call r o nobody names allowed lack =
+      let free : not_held memory s.channel Open (replying s r) ≡ Some (replying s r) = rw (sym h.capacity ∙ lack.1) refl in
+      only_answers call r o nobody (allowed Open (lacking_space lack.0 lack.1) free) names lack.2
 
   module _ (awake : AwakeIn s) where
     lined : Lined (line_of s.names) s.waiting

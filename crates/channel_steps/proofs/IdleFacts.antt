@@ -2,7 +2,7 @@
 use Rattle.std.proofs.Common.{arith, ◌≡◌, ◌<◌, ◌≤◌, ℕ, List, [], ◌∷◌, ◌++◌, map, None, Some, ◌⊎◌, inl, inr, refl, sym, ap, ◌∙◌, subst}
 use Rattle.concurrent_queue.specs.Queue.{Phase, trying, displaced, appended, taken, read, measured}
 use Rattle.concurrent_queue.specs.Queue as queue
-use Rattle.concurrent_queue.specs.Step.{IsQuiet, AllQuiet, HoldsNobodyUp, phases}
+use Rattle.concurrent_queue.specs.Step.{Seat, IsQuiet, AllQuiet, HoldsNobodyUp, phases}
 use Rattle.concurrent_queue.specs.declared.call.QueueAsk.{QueueAsk}
 use Rattle.concurrent_queue.specs.declared.call.QueueAsk.TheVariants as ask
 use Rattle.concurrent_queue.specs.declared.queue_call.QueueCall.{QueueCall}
@@ -17,6 +17,10 @@ use Rattle.channel_steps.specs.Moments.{Deed}
 use Rattle.channel_steps.specs.Scene.{Under, Scene, Steps, Sitting, sees, under_of, seats_of, all_seats, AllKnown, AreIdle, HoldNobodyUp}
 use Rattle.channel_steps.specs.declared.party.Entry.{Entry}
 use Rattle.channel_steps.proofs.MoveFacts.{grows}
+
+quiet_append : {T : Type 0} → (xs ys : List (Seat T)) → AllQuiet (phases xs) → AllQuiet (phases ys) → AllQuiet (phases (xs ++ ys))
+quiet_append [] ys h k = k
+quiet_append (x ∷ xs) ys h k = (h.0, quiet_append xs ys h.1 k)
 
 module _ {T W : Type 0} where
   idle_try : (now : Channel T W) (a : QueueAsk T) (s : queue.Stage T) (seen : List (Channel T W)) → TryAt now a s [] seen → IsQuiet s
@@ -80,6 +84,10 @@ module _ {T W : Type 0} where
   idle_right : (us vs : List (Under T W)) → AreIdle (us ++ vs) → AreIdle vs
   idle_right [] vs h = h
   idle_right (u ∷ us) vs h = idle_right us vs h.1
+
+  idle_both : (us vs : List (Under T W)) → AreIdle us → AreIdle vs → AreIdle (us ++ vs)
+  idle_both [] vs h k = k
+  idle_both (u ∷ us) vs h k = (h.0, idle_both us vs h.1 k)
 
   pub hold_still : (s : Scene T W) (p : ℕ) (e : Entry T) (names : List W) (t : Scene T W) (n : Steps s p e names t)
       → HoldNobodyUp s.now (n.before ++ n.behind) → HoldNobodyUp t.now (map (sees t.now) n.before ++ map (sees t.now) n.behind)

@@ -251,6 +251,10 @@ module _ {T W : Type 0} where
     told_left Streams by = omega arith
     told_left Closings by = let h = ends_soon {T = T} e.channel.roster (closer_ending by true) in omega (arith, h)
 
+    try_less : (b : Bool) → b ≡ true → 64 + (if b then 3 else 133) < 68
+    try_less true h = omega arith
+    try_less false h = absurd cc
+
     inserted_less : (w : Waiting T) (task : W) (key : Key) (l : Listeners W) → kind_of l key ≡ None
         → e.channel.roster ≡ with_listeners (line_of w) (listened key l) c.roster
         → left_to_turn e.channel.roster (again w (Some key) task) < 68

@@ -1,5 +1,5 @@
 -- What every step of a call leaves as it is, and where it ends.
-use Rattle.std.proofs.Common.{◌≡◌, ℕ, suc, ◌+◌, ◌≤◌, [], Bool, true, false, if◌then◌else◌, Option, None, Some, inl, inr, refl, sym, ap, ◌∙◌, subst, arith}
+use Rattle.std.proofs.Common.{◌≡◌, ℕ, suc, ◌+◌, ◌≤◌, [], Bool, true, false, if◌then◌else◌, Option, None, Some, ◌⊎◌, inl, inr, refl, sym, ap, ◌∙◌, subst, arith}
 use Rattle.concurrent_queue.specs.Queue.{Queue, Phase, after, IsInRange}
 use Rattle.concurrent_queue.specs.declared.call.QueueMark.{QueueMark}
 use Rattle.concurrent_queue.specs.declared.call.QueueMark.TheVariants.{Nothing, Append, Take, TakeDisplaced, Replace, Close}
@@ -100,6 +100,10 @@ module _ {T W : Type 0} where
   worked_ends c (Count side) e y s h = turned_ends (Ends (reply.Count (count side c.roster)) nothing_kept) y s h.1
   worked_ends c (Load side making) e y s h = turned_ends (loaded_next side making (count side c.roster)) y s h.1
   worked_ends c (Raise side n making) e y s h = turned_ends (raised_next side making (is_raised side n c.roster)) y s h.1
+
+  tried_ends : (a b : Type 0) (y : Reply T) (s : Stage (Phase T) T W) → (a → (kept : Kept T) × (s ≡ Finished kept)) → (b → (kept : Kept T) × (s ≡ Finished kept)) → a ⊎ b → (kept : Kept T) × (s ≡ Finished kept)
+  tried_ends a b y s f g (inl h) = f h
+  tried_ends a b y s f g (inr h) = g h
 
   moves_end : (c : Channel T W) (at : Stage (Phase T) T W) (e : Effect T W) (y : Reply T) (s : Stage (Phase T) T W) → Moves c at e (Some y) s → (kept : Kept T) × (s ≡ Finished kept)
   moves_end c (Trying f aim) e y s h =

@@ -196,6 +196,14 @@ module _ {T W : Type 0} where
       sym (append_assoc (take 1 q.items) (drop 1 q.items) (message f.ask)) ∙ (ap (λ (vs : List T). vs ++ message f.ask) (split_first q.items) ∙ ap (λ (vs : List T). q.items ++ vs) e)
   queue_held x f queue_mark.Close q e = sym (append-nil q.items)
 
+  other_held : (m : Mark) (x : ChannelAsk T W) (items items' : List T) → IsOther m → items' ≡ items → Held_by m x items items'
+  other_held mark.Nothing x items items' h e = e ∙ sym (append-nil items)
+  other_held mark.SenderUp x items items' h e = e ∙ sym (append-nil items)
+  other_held mark.SenderDown x items items' h e = e ∙ sym (append-nil items)
+  other_held mark.ReceiverUp x items items' h e = e ∙ sym (append-nil items)
+  other_held mark.ReceiverDown x items items' h e = e ∙ sym (append-nil items)
+  other_held m x items items' h e = absurd h
+
   other_mark : (e f : Effect T W) → e ≡ f → IsOther f.mark → IsOther e.mark
   other_mark e f h k = subst (λ (m : Mark). IsOther m) (sym (ap (λ (z : Effect T W). z.mark) h)) k
 

@@ -68,6 +68,14 @@ module _ {A B : Type 0} (g : A → B) where
   map-round [] r = refl
   map-round (x ∷ l) r = ap (λ zs. g x ∷ zs) (map-round l r)
 
+  pub set-round : (l : List A) (x : A) (r : List A) (y : B) → slice_set (map g (l ++ (x ∷ r))) (length l) y ≡ map g l ++ (y ∷ map g r)
+  set-round [] x r y = refl
+  set-round (z ∷ l) x r y = ap (λ zs. g z ∷ zs) (set-round l x r y)
+
+  pub remove-round : (l : List A) (x : A) (r : List A) → remove (map g (l ++ (x ∷ r))) (length l) ≡ map g l ++ map g r
+  remove-round [] x r = refl
+  remove-round (z ∷ l) x r = ap (λ zs. g z ∷ zs) (remove-round l x r)
+
 module _ {A B : Type 0} (g : A → B) (n : B → ℕ) where
   -- the number of the one in the midst, and of what is put in its place
   number-round : (l : List A) (x : A) (r : List A) → unwrap_or (slice_get (map n (map g (l ++ (x ∷ r)))) (length l)) 0 ≡ n (g x)
