@@ -98,9 +98,11 @@ impl<L: Ledger, R: Wait> RecordedCalls<'_, L, R> {
         let stands = receipt.place == self.receipts && receipt.call == self.asked();
         match &receipt.reply {
             Reply::TrySend(Ok(())) => made(stands && !self.is_sent),
-            Reply::TrySend(Err(Refused::NoMemory(back))) => refused(
-                stands && *back == self.message,
-            ),
+            Reply::TrySend(Err(Refused::NoMemory(back))) => if stands && *back == self.message {
+                Tried::Noted
+            } else {
+                Tried::Wrong
+            },
             Reply::TryRecv(Ok(got)) => made(stands && *got == self.message),
             _ => Tried::Wrong,
         }
