@@ -126,7 +126,10 @@ pub struct Scarcity {
 
 /// How many bytes of the heap a block takes.
 fn cost(block: &Vec<u8>) -> usize {
-    let whole = block.capacity().saturating_add(HEADER).saturating_add(GRAIN - 1);
+    let whole = block
+        .capacity()
+        .saturating_add(HEADER)
+        .saturating_add(GRAIN - 1);
     whole / GRAIN * GRAIN
 }
 
@@ -284,7 +287,11 @@ impl Scarcity {
         drop(self.plug.take());
         let first = self.fillers.len();
         take_blocks(self.alloc, &mut self.fillers, FILLER, FILLERS);
-        let fillers = self.fillers.len().saturating_sub(first).saturating_mul(FILLER + GRAIN);
+        let fillers = self
+            .fillers
+            .len()
+            .saturating_sub(first)
+            .saturating_mul(FILLER + GRAIN);
         let first = self.scraps.len();
         self.take_scraps();
         let scraps = cost_from(&mut self.scraps, first);
