@@ -179,7 +179,7 @@ fn calls_of_one_party(rt: HostRuntime) -> Result<(), Fail> {
     let ample = make_all(rt.alloc()).expect(&rt, "memory");
     let (seen, taken, cut) = refuse_all(rt.alloc()).expect(&rt, "memory");
     assert!(rt;
-        seen.right && seen.calls == 14 && seen.refusals >= 60 && cut > 0,
+        seen.right && seen.calls == 14 && seen.refusals >= 78 && cut > 0,
         "{seen:?}, {cut} in the midst"
     );
     expect_equal(&rt, &taken, &ample);

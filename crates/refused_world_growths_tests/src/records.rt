@@ -210,7 +210,7 @@ fn recorded_channels(rt: HostRuntime) -> Result<(), Fail> {
     let passed = passed.expect(&rt, "memory");
     let seen = passed.seen;
     assert!(rt;
-        seen.right && seen.calls == 15 && seen.refusals >= 60,
+        seen.right && seen.calls == 15 && seen.refusals >= 63,
         "{seen:?}"
     );
     expect_equal(&rt, &passed.receipts, &passed.entries);
@@ -224,7 +224,7 @@ fn records_that_grow(rt: HostRuntime) -> Result<(), Fail> {
     let passed = passed.expect(&rt, "memory");
     let seen = passed.seen;
     assert!(rt;
-        seen.right && seen.calls == 81 && seen.refusals >= 262,
+        seen.right && seen.calls == 81 && seen.refusals >= 267,
         "{seen:?}"
     );
     expect_equal(&rt, &passed.receipts, &passed.entries);
@@ -238,7 +238,7 @@ fn a_send_without_room_comes_back(rt: HostRuntime) -> Result<(), Fail> {
     let passed = passed.expect(&rt, "memory");
     let seen = passed.seen;
     assert!(rt;
-        seen.right && seen.calls == 2 && seen.refusals >= 17 && passed.roomless > 0,
+        seen.right && seen.calls == 2 && seen.refusals >= 19 && passed.roomless > 0,
         "{seen:?}"
     );
     expect_equal(&rt, &(passed.receipts, passed.entries), &(1, 1));

@@ -123,7 +123,7 @@ fn scripts(rt: HostRuntime) -> Result<(), Fail> {
 fn lines_of_each_kind(rt: HostRuntime) -> Result<(), Fail> {
     let (seen, some) = run_until_done(rt.alloc(), SHORT.as_slice()).expect(&rt, "memory");
     assert!(rt;
-        seen.right && seen.calls == 22 && seen.refusals >= 440,
+        seen.right && seen.calls == 22 && seen.refusals >= 493,
         "{seen:?}"
     );
     expect_true(&rt, some);

@@ -213,7 +213,7 @@ fn step_all(alloc: Global) -> Option<(Seen, Numbers)> {
 fn steps_of_a_world(rt: HostRuntime) -> Result<(), Fail> {
     let (seen, numbers) = step_all(rt.alloc()).expect(&rt, "memory");
     assert!(rt;
-        seen.right && seen.calls >= 485 && seen.refusals >= 900,
+        seen.right && seen.calls >= 485 && seen.refusals >= 923,
         "{seen:?}"
     );
     expect_equal(&rt, &numbers, &NOTHING);
@@ -279,7 +279,7 @@ fn make_all(alloc: Global) -> Option<Seen> {
 fn lists_of_steps(rt: HostRuntime) -> Result<(), Fail> {
     let seen = make_all(rt.alloc()).expect(&rt, "memory");
     assert!(rt;
-        seen.right && seen.calls == 1 && seen.refusals >= 3,
+        seen.right && seen.calls == 1 && seen.refusals >= 23,
         "{seen:?}"
     );
     Ok(())
