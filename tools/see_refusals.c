@@ -3,8 +3,10 @@
  * Those tests take all memory before each attempt of a call, in blocks of falling sizes: the first that is asked for has 65,536 or
  * 32,768 bytes, and the last 24, which is refused. What comes then, up to the next of these or to the end, is the attempt; before
  * it the rest of a block of 65,536 may be taken, which leaves a hole. For each attempt a line is written to the file that
- * SEEN_REFUSALS names: how large the hole was, how many requests there were, and the number of the first one that was refused, or
- * 0. What is made with ample memory has no line. */
+ * SEEN_REFUSALS names: the number of the first request that was refused, or 0, and how many bytes each request up to that one was
+ * for, or each of all. What is made with ample memory has no line. A block that is to grow within what it has already makes no
+ * request: the C library meets that whatever there is. Nor do blocks of 1,032 bytes or more that are to grow by 16 at most before
+ * the attempt: by these it is counted how much was taken. */
 #define _GNU_SOURCE
 #include <fcntl.h>
 #include <malloc.h>
@@ -12,10 +14,10 @@
 #include <stdlib.h>
 #include <unistd.h>
 
-enum { FILLER = 65536, SMALLEST = 24, LEAST_REST = 9000, LARGE = 100000, AMPLE = 48000 };
+enum { FILLER = 65536, SMALLEST = 24, LEAST_REST = 9000, LARGE = 100000, AMPLE = 48000, COUNTED = 1032, MOST = 1000 };
 
 static enum { ELSEWHERE, TAKING, TRYING } at;
-static size_t hole, requests, first_refused;
+static size_t hole, requests, first_refused, sizes[MOST];
 
 static void tell(void)
 {
@@ -25,8 +27,12 @@ static void tell(void)
     const char *path = getenv("SEEN_REFUSALS");
     if (file < 0 && path)
         file = open(path, O_WRONLY | O_CREAT | O_APPEND, 0666);
-    char line[80];
-    int length = snprintf(line, sizeof line, "%zu %zu %zu\n", hole, requests, first_refused);
+    static char line[20 * MOST];
+    int length = sprintf(line, "%zu", first_refused);
+    size_t told = first_refused ? first_refused : requests;
+    for (size_t at = 0; at < told; at++)
+        length += sprintf(line + length, " %zu", sizes[at]);
+    line[length++] = '\n';
     if (file >= 0 && write(file, line, length) != length)
         _exit(3);
 }
@@ -43,7 +49,9 @@ static void *seen(size_t size, void *block)
     } else if (at == TRYING && !hole && !requests && size > LEAST_REST && (FILLER - size) % 16 == 0) {
         hole = FILLER - size;
     } else if (at == TRYING) {
-        requests++;
+        if (requests == MOST)
+            _exit(4);
+        sizes[requests++] = size;
         if (!block && !first_refused)
             first_refused = requests;
     }
@@ -68,7 +76,10 @@ void *calloc(size_t count, size_t size)
 
 void *realloc(void *old, size_t size)
 {
-    return seen(size, __libc_realloc(old, size));
+    size_t had = old ? malloc_usable_size(old) : 0;
+    void *block = __libc_realloc(old, size);
+    int counts = at == TRYING && !hole && !requests && had >= COUNTED && size <= had + 16;
+    return counts || (size && size <= had) ? block : seen(size, block);
 }
 
 /* A large block is let go only once the last attempt is made. */

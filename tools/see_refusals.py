@@ -31,7 +31,7 @@ def names_of(tests, word):
 
 
 def calls_of(tests, name, library, room):
-    """The calls of a test, each with its attempts: how many requests each made, and which one was refused first."""
+    """The calls of a test, each with its attempts: for how many bytes each request was, and whether the last of them was refused."""
     seen = f"{room}/seen"
     open(seen, "wb").close()
     environment = {**os.environ, "LD_PRELOAD": library, "SEEN_REFUSALS": seen}
@@ -39,21 +39,43 @@ def calls_of(tests, name, library, room):
     calls, attempts = [], []
     with open(seen) as it:
         for line in it:
-            _hole, requests, refused = map(int, line.split())
-            attempts.append((requests, refused))
-            if not refused:
+            first_refused, *sizes = map(int, line.split())
+            attempts.append((sizes, first_refused > 0))
+            if not first_refused:
                 calls, attempts = [*calls, attempts], []
     return calls
 
 
+def met_in(last, sizes):
+    """Which request of the last attempt was refused in one whose requests up to the refused one were for so many bytes. An attempt
+    may have more requests than the last one, which kept what it was granted: none where the refused one is of these."""
+    place = 0
+    for size in sizes[:-1]:
+        if place < len(last) and last[place] == size:
+            place += 1
+    return place if place < len(last) and last[place] == sizes[-1] else None
+
+
+def missed_of(attempts):
+    """The last attempt's requests that were never refused, and how many of others were."""
+    last = attempts[-1][0]
+    met, others = set(), set()
+    for sizes, _refused in attempts[:-1]:
+        place = met_in(last, sizes)
+        if place is None:
+            others.add(tuple(sizes))
+        else:
+            met.add(place)
+    return [place + 1 for place in range(len(last)) if place not in met], len(others)
+
+
 def show(tests, name, library, room):
-    calls = [it for it in calls_of(tests, name, library, room) if it[-1][0]]
+    calls = [it for it in calls_of(tests, name, library, room) if len(it) > 1 or it[-1][0]]
     requests = refused = 0
     for number, attempts in enumerate(calls, 1):
-        last = attempts[-1][0]
-        met = {it[1] for it in attempts}
-        missed = [it for it in range(1, last + 1) if it not in met]
-        requests, refused = requests + last, refused + last - len(missed)
+        last = len(attempts[-1][0])
+        missed, others = missed_of(attempts)
+        requests, refused = requests + last + others, refused + last + others - len(missed)
         if missed:
             print(f"{name}: call {number} of those that ask: of {last} requests never refused: {', '.join(map(str, missed))}")
     often = sum(len(it) - 1 for it in calls)

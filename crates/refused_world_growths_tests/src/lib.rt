@@ -8,6 +8,8 @@ mod checks;
 #[cfg(test)]
 mod listening;
 #[cfg(test)]
+mod parties;
+#[cfg(test)]
 mod records;
 #[cfg(test)]
 mod scripts;

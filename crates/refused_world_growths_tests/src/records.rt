@@ -18,8 +18,11 @@ use std::test::Fail;
 /// A seat, and the channel's own part of the ledger.
 const PARTS: u64 = 2;
 
-/// How many messages are sent, and then received: more than a first room of the record has.
-const COUNT: u64 = 40;
+/// How many messages are sent, and then received. With them the record outgrows its first room, and two more.
+const FEW: u64 = 7;
+
+/// So many that the record outgrows a room from which, once it is let go, all else of a call can be served.
+const MANY: u64 = 40;
 
 /// Opens a channel of one place, or without a bound, with more and more memory at hand. Where that is refused the blank comes back.
 fn open<L: Ledger>(
@@ -60,6 +63,9 @@ struct RecordedCalls<'a, L: Ledger, R: Wait> {
     seat: RecordSeat<L>,
     message: u64,
     is_sent: bool,
+    /// Whether this call was refused memory with a receipt before. By the first of these the record may have grown, of whose old room all
+    /// else was served: so the call is refused from nothing on again.
+    is_noted: bool,
     /// How many receipts there were.
     receipts: usize,
     /// How often the record had no room for a call.
@@ -98,9 +104,11 @@ impl<L: Ledger, R: Wait> RecordedCalls<'_, L, R> {
         let stands = receipt.place == self.receipts && receipt.call == self.asked();
         match &receipt.reply {
             Reply::TrySend(Ok(())) => made(stands && !self.is_sent),
-            Reply::TrySend(Err(Refused::NoMemory(back))) => refused(
-                stands && *back == self.message,
-            ),
+            Reply::TrySend(Err(Refused::NoMemory(back))) => if stands && *back == self.message {
+                Tried::Noted
+            } else {
+                Tried::Wrong
+            },
             Reply::TryRecv(Ok(got)) => made(stands && *got == self.message),
             _ => Tried::Wrong,
         }
@@ -114,19 +122,26 @@ impl<L: Ledger, R: Wait> Attempt for RecordedCalls<'_, L, R> {
             Ok(receipt) => {
                 let tried = self.judge(&receipt);
                 self.receipts = self.receipts.wrapping_add(1);
-                tried
+                let is_first = tried == Tried::Noted && !self.is_noted;
+                self.is_noted = self.is_noted || is_first;
+                if is_first { Tried::Farther } else { tried }
             }
             Err(error) => refused(self.is_refused(&error)),
         }
     }
 }
 
-/// Sends all messages, and receives them.
-fn call_all<L: Ledger, R: Wait>(scarcity: &mut Scarcity, calls: &mut RecordedCalls<'_, L, R>) {
+/// Sends so many messages, and receives them.
+fn call_all<L: Ledger, R: Wait>(
+    scarcity: &mut Scarcity,
+    calls: &mut RecordedCalls<'_, L, R>,
+    count: u64,
+) {
     for is_sent in [false, true] {
         calls.is_sent = is_sent;
-        for message in 0..COUNT {
+        for message in 0..count {
             calls.message = message;
+            calls.is_noted = false;
             scarcity.refuse_each(calls);
         }
     }
@@ -147,26 +162,27 @@ struct Passed {
     roomless: u32,
 }
 
-/// Sends 4 into a channel of one place, or passes all messages through one without a bound.
-fn pass<L: Ledger, R: Wait>(rt: &R, alloc: Global, is_bounded: bool, blank: Blank) -> Option<Passed>
+/// Passes so many messages through a channel without a bound; or, of none, sends 4 into one of one place.
+fn pass<L: Ledger, R: Wait>(rt: &R, alloc: Global, count: u64, blank: Blank) -> Option<Passed>
     requires name { blank.name ≡ L.name }
     requires parts { (blank.parts ≡ L.parts) × (blank.parts ≡ 2) }
 {
     let mut scarcity = Scarcity::new(alloc);
-    let channel = open::<L>(&mut scarcity, alloc, is_bounded, blank)?;
+    let channel = open::<L>(&mut scarcity, alloc, count == 0, blank)?;
     let mut calls = RecordedCalls {
         rt,
         channel: &channel,
         seat: channel.seat(rt).ok()?,
         message: 4,
         is_sent: false,
+        is_noted: false,
         receipts: 0,
         roomless: 0,
     };
-    if is_bounded {
+    if count == 0 {
         scarcity.refuse_each(&mut calls);
     } else {
-        call_all(&mut scarcity, &mut calls);
+        call_all(&mut scarcity, &mut calls, count);
     }
     let seen = scarcity.end();
     let RecordedCalls {
@@ -190,11 +206,25 @@ fn pass<L: Ledger, R: Wait>(rt: &R, alloc: Global, is_bounded: bool, blank: Blan
 /// an entry for each receipt.
 #[test]
 fn recorded_channels(rt: HostRuntime) -> Result<(), Fail> {
-    let passed = pass::<Brand, HostRuntime>(&rt, rt.alloc(), false, Blank::new(PARTS));
+    let passed = pass::<Brand, HostRuntime>(&rt, rt.alloc(), FEW, Blank::new(PARTS));
     let passed = passed.expect(&rt, "memory");
     let seen = passed.seen;
     assert!(rt;
-        seen.right && seen.calls == 81 && seen.refusals >= 257,
+        seen.right && seen.calls == 15 && seen.refusals >= 63,
+        "{seen:?}"
+    );
+    expect_equal(&rt, &passed.receipts, &passed.entries);
+    Ok(())
+}
+
+/// The same of a record that grows on.
+#[test]
+fn records_that_grow(rt: HostRuntime) -> Result<(), Fail> {
+    let passed = pass::<Brand, HostRuntime>(&rt, rt.alloc(), MANY, Blank::new(PARTS));
+    let passed = passed.expect(&rt, "memory");
+    let seen = passed.seen;
+    assert!(rt;
+        seen.right && seen.calls == 81 && seen.refusals >= 267,
         "{seen:?}"
     );
     expect_equal(&rt, &passed.receipts, &passed.entries);
@@ -204,11 +234,11 @@ fn recorded_channels(rt: HostRuntime) -> Result<(), Fail> {
 /// A send that gets no room in the record comes back; made once more it is accepted, and the record has one entry.
 #[test]
 fn a_send_without_room_comes_back(rt: HostRuntime) -> Result<(), Fail> {
-    let passed = pass::<Brand, HostRuntime>(&rt, rt.alloc(), true, Blank::new(PARTS));
+    let passed = pass::<Brand, HostRuntime>(&rt, rt.alloc(), 0, Blank::new(PARTS));
     let passed = passed.expect(&rt, "memory");
     let seen = passed.seen;
     assert!(rt;
-        seen.right && seen.calls == 2 && seen.refusals >= 17 && passed.roomless > 0,
+        seen.right && seen.calls == 2 && seen.refusals >= 19 && passed.roomless > 0,
         "{seen:?}"
     );
     expect_equal(&rt, &(passed.receipts, passed.entries), &(1, 1));

@@ -6,12 +6,43 @@ use scarcity::{Attempt, Scarcity, Seen, Tried, made, refused};
 use std::alloc::Global;
 use std::test::Fail;
 
-/// Operations and handles are made, messages wait, are settled and received at once.
-const SCRIPT: &str =
-    "unbounded\nclone q r\ndowngrade w s\nrecv a r\nrecv b r\npoll a\npoll b\nnext q\nsend c s 1\npoll c\nsettle\ntry_send s 3\ntry_send s 4\ntry_send s 5\nrecv_many r 9\nclose s\n";
+/// A script, and its text.
+type Lines = (&'static str, &'static str);
 
-const TEXT: &str =
-    "ok\nok\nok\nok\nok\npending\npending\npending\nok\nok wakes a q\npolls 3: a ok 1, q pending, b pending\nok wakes b q\nok\nok\nok 3 4 5\ntrue\n";
+/// Operations and handles are made, messages wait, are settled and received at once.
+const LONG: [Lines; 1] = [(
+    "unbounded\nclone q r\ndowngrade w s\nrecv a r\nrecv b r\npoll a\npoll b\nnext q\nsend c s 1\npoll c\nsettle\ntry_send s 3\ntry_send s 4\ntry_send s 5\nrecv_many r 9\nclose s\n",
+    "ok\nok\nok\nok\nok\npending\npending\npending\nok\nok wakes a q\npolls 3: a ok 1, q pending, b pending\nok wakes b q\nok\nok\nok 3 4 5\ntrue\n",
+)];
+
+/// How many scripts have one line behind the first.
+const COUNT: usize = 22;
+
+/// A line of each kind, alone behind the first one: no line before it has let go of memory that it could get.
+const SHORT: [Lines; COUNT] = [
+    ("unbounded\ntry_send s 3\n", "ok\nok\n"),
+    ("bounded 2\ntry_send s 3\n", "ok\nok\n"),
+    ("unbounded\nforce_send s 3\n", "ok\nok\n"),
+    ("bounded 1\ntry_recv r\n", "ok\nempty\n"),
+    ("unbounded\nrecv_many r 9\n", "ok\nempty\n"),
+    ("unbounded\nsend c s 1\n", "ok\nok\n"),
+    ("unbounded\nrecv a r\n", "ok\nok\n"),
+    ("unbounded\nclosed e s\n", "ok\nok\n"),
+    ("unbounded\nnext r\n", "ok\npending\n"),
+    ("unbounded\npoll a\n", "ok\nrefused 3\n"),
+    ("unbounded\ndrop s\n", "ok\nok\n"),
+    ("unbounded\nclose s\n", "ok\ntrue\n"),
+    ("unbounded\nclone q r\n", "ok\nok\n"),
+    ("unbounded\ndowngrade w s\n", "ok\nok\n"),
+    ("unbounded\nupgrade t s\n", "ok\nrefused 7\n"),
+    ("bounded 2\nis_full s\n", "ok\nfalse\n"),
+    ("unbounded\nsame_channel s s\n", "ok\ntrue\n"),
+    ("unbounded\nis_terminated r\n", "ok\nfalse\n"),
+    ("unbounded\nlen r\n", "ok\n0\n"),
+    ("unbounded\nsender_count r\n", "ok\n1\n"),
+    ("bounded 2\ncapacity r\n", "ok\n2\n"),
+    ("unbounded\nsettle\n", "ok\npolls 0\n"),
+];
 
 /// The last line of a script to which memory was refused.
 const LAST_LINE: &[u8] = b"want of memory\n";
@@ -20,6 +51,8 @@ const LAST_LINE: &[u8] = b"want of memory\n";
 #[derive(Drop)]
 struct Script {
     alloc: Global,
+    script: &'static str,
+    text: &'static str,
     out: Vec<u8>,
     /// How many bytes stood before the last line when it was refused last.
     written: usize,
@@ -32,16 +65,16 @@ impl Script {
             return false;
         };
         let is_whole = lines.is_empty() || lines.ends_with(b"\n");
-        is_whole && TEXT.as_bytes().starts_with(lines) && lines.len() >= self.written
+        is_whole && self.text.as_bytes().starts_with(lines) && lines.len() >= self.written
     }
 }
 
 impl Attempt for Script {
     fn make(&mut self) -> Tried {
         self.out.clear();
-        let end = run_script(self.alloc, &mut SCRIPT.as_bytes(), &mut self.out);
+        let end = run_script(self.alloc, &mut self.script.as_bytes(), &mut self.out);
         match end {
-            ScriptEnd::Done => made(self.out.as_slice() == TEXT.as_bytes()),
+            ScriptEnd::Done => made(self.out.as_slice() == self.text.as_bytes()),
             ScriptEnd::Memory => {
                 let is_cut = self.is_cut();
                 self.written = self.out.len().saturating_sub(LAST_LINE.len());
@@ -52,26 +85,47 @@ impl Attempt for Script {
     }
 }
 
-/// Runs the script until it isn't refused; then how many bytes of its text the last refusal left.
-fn run_until_done(alloc: Global) -> Option<(Seen, usize)> {
+/// Runs each script until it isn't refused; then whether its last refusal left some lines of each.
+fn run_until_done(alloc: Global, scripts: &[Lines]) -> Option<(Seen, bool)> {
     let mut script = Script {
         alloc,
+        script: "",
+        text: "",
         out: Vec::with_capacity(alloc, 1_000).ok()?,
         written: 0,
     };
+    let mut some = true;
     let mut scarcity = Scarcity::new(alloc);
-    scarcity.refuse_each(&mut script);
-    Some((scarcity.end(), script.written))
+    for (lines, text) in scripts {
+        script.script = lines;
+        script.text = text;
+        script.written = 0;
+        scarcity.refuse_each(&mut script);
+        some = some & (script.written > 0);
+    }
+    Some((scarcity.end(), some))
 }
 
 /// With more memory at hand a script comes as far or farther, and ends with the line that says what it wanted.
 #[test]
 fn scripts(rt: HostRuntime) -> Result<(), Fail> {
-    let (seen, written) = run_until_done(rt.alloc()).expect(&rt, "memory");
+    let (seen, some) = run_until_done(rt.alloc(), LONG.as_slice()).expect(&rt, "memory");
     assert!(rt;
-        seen.right && seen.calls == 1 && seen.refusals >= 91,
+        seen.right && seen.calls == 1 && seen.refusals >= 84,
         "{seen:?}"
     );
-    expect_true(&rt, written > 0);
+    expect_true(&rt, some);
+    Ok(())
+}
+
+/// The same of a line of each kind.
+#[test]
+fn lines_of_each_kind(rt: HostRuntime) -> Result<(), Fail> {
+    let (seen, some) = run_until_done(rt.alloc(), SHORT.as_slice()).expect(&rt, "memory");
+    assert!(rt;
+        seen.right && seen.calls == 22 && seen.refusals >= 493,
+        "{seen:?}"
+    );
+    expect_true(&rt, some);
     Ok(())
 }

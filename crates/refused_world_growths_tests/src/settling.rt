@@ -79,7 +79,7 @@ fn settle_three(alloc: Global) -> Option<(Seen, u32, Numbers)> {
 fn settlings(rt: HostRuntime) -> Result<(), Fail> {
     let (seen, refused, numbers) = settle_three(rt.alloc()).expect(&rt, "memory");
     assert!(rt;
-        seen.right && seen.calls == 8 && seen.refusals >= 26 && refused > 0,
+        seen.right && seen.calls == 8 && seen.refusals >= 34 && refused > 0,
         "{seen:?}, {refused} settlings"
     );
     expect_equal(&rt, &numbers, &AFTER);

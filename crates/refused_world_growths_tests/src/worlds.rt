@@ -328,7 +328,7 @@ fn send_all(alloc: Global) -> Option<(Seen, [u32; 2])> {
 fn a_refused_block_hands_the_message_back(rt: HostRuntime) -> Result<(), Fail> {
     let (seen, blocks) = send_all(rt.alloc()).expect(&rt, "memory");
     assert!(rt;
-        seen.right && seen.calls == 73 && seen.refusals >= 150 && blocks[0] > 0 && blocks[1] > 1,
+        seen.right && seen.calls == 73 && seen.refusals >= 151 && blocks[0] > 0 && blocks[1] > 1,
         "{seen:?}, {blocks:?}"
     );
     Ok(())
@@ -367,7 +367,7 @@ fn wait_all(alloc: Global) -> Option<(Seen, Numbers, u32)> {
 fn waits_of_each_kind(rt: HostRuntime) -> Result<(), Fail> {
     let (seen, numbers, listeners) = wait_all(rt.alloc()).expect(&rt, "memory");
     assert!(rt;
-        seen.right && seen.calls == 12 && seen.refusals >= 38 && listeners > 3,
+        seen.right && seen.calls == 12 && seen.refusals >= 46 && listeners > 3,
         "{seen:?}, {listeners} listeners"
     );
     let due = Numbers {
@@ -431,7 +431,7 @@ fn call_all(alloc: Global) -> Option<(Seen, Numbers)> {
 fn calls_of_a_world(rt: HostRuntime) -> Result<(), Fail> {
     let (seen, numbers) = call_all(rt.alloc()).expect(&rt, "memory");
     assert!(rt;
-        seen.right && seen.calls == 112 && seen.refusals >= 311,
+        seen.right && seen.calls == 112 && seen.refusals >= 337,
         "{seen:?}"
     );
     expect_equal(

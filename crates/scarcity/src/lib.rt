@@ -1,6 +1,7 @@
 //! A process without memory, for tests of what stands after a growth is refused. [`Scarcity`] holds all that there is, and
-//! [`Scarcity::refuse_each`] makes a call with none at hand, then with 32 bytes, with 48, with 64, until it is refused no more. So each
-//! request of the call is refused at least once, unless it needs no more than what the call gave back before it.
+//! [`Scarcity::refuse_each`] makes a call with none at hand, then with 32 bytes, with 48, with 64, until it is refused no more. A
+//! refused call may keep what it was granted, or let go of what it had: then it is made with none at hand again. So each request of
+//! the call is refused at least once, unless it needs no more than what the same attempt let go before it.
 //!
 //! What holds memory asks [`Global`] for it, of which no two values differ, and which asks the C library: so nothing less than the whole
 //! process can be out of memory. What is held is never written to. The C library asks the system for addresses, and the system counts
@@ -44,6 +45,9 @@ const LARGEST: usize = 1_032;
 /// All blocks have lengths that are multiples of this.
 const GRAIN: usize = 16;
 
+/// What a block takes of the heap beside its bytes.
+const HEADER: usize = 8;
+
 /// How many sizes of a hole are tried for a call, at most.
 const HOLES: u32 = 3_500;
 
@@ -59,6 +63,10 @@ pub enum Tried {
     Made,
     /// It was refused memory, by the error that is named for it, and all is as it was before.
     Refused,
+    /// The same, but a part of it was made, and it goes on from there.
+    Farther,
+    /// The same, but that it was refused is noted, in memory that stays taken.
+    Noted,
     /// Anything else.
     Wrong,
 }
@@ -75,6 +83,14 @@ pub fn refused(right: bool) -> Tried {
 
 /// A call that is made until it isn't refused.
 pub trait Attempt {
+    /// Whether something comes before the next attempt, for which there is ample memory.
+    fn is_behind(&self) -> bool {
+        false
+    }
+
+    /// Does that.
+    fn catch_up(&mut self) {}
+
     /// Makes the call, and compares.
     fn make(&mut self) -> Tried;
 }
@@ -99,7 +115,38 @@ pub struct Scarcity {
     scraps: Blocks,
     /// What is left of the filler in which the last hole was made.
     plug: Option<Vec<u8>>,
+    /// How many bytes of the heap the fillers and scraps take.
+    held: usize,
+    /// How many these were before the last attempt.
+    before: usize,
+    /// How large the last attempt's hole was.
+    number: u32,
     seen: Seen,
+}
+
+/// How many bytes of the heap a block takes.
+fn cost(block: &Vec<u8>) -> usize {
+    let whole = block
+        .capacity()
+        .saturating_add(HEADER)
+        .saturating_add(GRAIN - 1);
+    whole / GRAIN * GRAIN
+}
+
+/// How many bytes of the heap these blocks take, from one on. A block may have 16 bytes more than it was asked for, where no block can
+/// be made of them: then it grows into them, whatever there is.
+fn cost_from(blocks: &mut Blocks, first: usize) -> usize {
+    let mut sum = 0usize;
+    for place in first..blocks.len() {
+        if let Some(block) = blocks.get_mut(place) {
+            if block.capacity() >= LARGEST {
+                let more = block.capacity().saturating_add(GRAIN);
+                drop(block.reserve_exact(more));
+            }
+            sum = sum.saturating_add(cost(block));
+        }
+    }
+    sum
 }
 
 /// Takes blocks of a size until one is refused, or the list has so many. Whether one was refused.
@@ -151,6 +198,9 @@ impl Scarcity {
             fillers,
             scraps,
             plug: None,
+            held: 0,
+            before: 0,
+            number: 0,
             seen: Seen {
                 calls: 0,
                 refusals: 0,
@@ -167,17 +217,35 @@ impl Scarcity {
     /// Makes a call until it isn't refused, with more memory at hand each time. How often it was refused.
     pub fn refuse_each<A: Attempt>(&mut self, call: &mut A) -> u32 {
         let mut count = 0u32;
-        let mut last = Tried::Wrong;
-        for number in 0..self.holes() {
-            self.leave(number);
+        let mut last = Tried::Farther;
+        for _ in 0..self.holes() {
+            if call.is_behind() {
+                self.relent();
+                call.catch_up();
+            }
+            self.leave_more(last);
             last = call.make();
-            if last != Tried::Refused {
+            if matches!(last, Tried::Made | Tried::Wrong) {
                 break;
             }
             count = count.wrapping_add(1);
         }
         self.note(count, last == Tried::Made);
         count
+    }
+
+    /// Leaves memory for the next attempt of a call, by what its last one came to: 16 bytes more than for that. But none, where the call
+    /// came farther, or something of it now takes more memory than before that attempt, or less.
+    fn leave_more(&mut self, last: Tried) {
+        self.take_all();
+        let as_before = last == Tried::Noted || last == Tried::Refused && self.before == self.held;
+        self.number = if as_before {
+            self.number.wrapping_add(1)
+        } else {
+            0
+        };
+        self.before = self.held;
+        self.open_hole(self.number);
     }
 
     /// Makes a call with no memory at hand that is to need none.
@@ -210,9 +278,28 @@ impl Scarcity {
 
     /// Takes what there is, and then leaves a hole of so many times 16 bytes.
     pub fn leave(&mut self, number: u32) {
+        self.take_all();
+        self.open_hole(number);
+    }
+
+    /// Takes what there is.
+    fn take_all(&mut self) {
         drop(self.plug.take());
+        let first = self.fillers.len();
         take_blocks(self.alloc, &mut self.fillers, FILLER, FILLERS);
+        let fillers = self
+            .fillers
+            .len()
+            .saturating_sub(first)
+            .saturating_mul(FILLER + GRAIN);
+        let first = self.scraps.len();
         self.take_scraps();
+        let scraps = cost_from(&mut self.scraps, first);
+        self.held = self.held.saturating_add(fillers).saturating_add(scraps);
+    }
+
+    /// Leaves a hole of so many times 16 bytes, where all is taken.
+    fn open_hole(&mut self, number: u32) {
         if number == 0 {
             return;
         }
@@ -220,6 +307,7 @@ impl Scarcity {
             Some(filler) => drop(filler),
             None => self.note(0, false),
         }
+        self.held = self.held.saturating_sub(FILLER + GRAIN);
         self.plug = Vec::with_capacity(
             self.alloc,
             FILLER.saturating_sub(GRAIN.wrapping_mul(number as usize)),
