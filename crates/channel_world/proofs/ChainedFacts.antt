@@ -22,7 +22,7 @@ use Rattle.concurrent_queue.specs.declared.unbounded.action.UnboundedAction.{Unb
 use Rattle.concurrent_queue.specs.declared.unbounded.action.UnboundedAction.TheVariants as blocks
 use Rattle.concurrent_queue.specs.declared.unbounded.action.UnboundedCall.{UnboundedCall}
 use Rattle.channel_world.proofs.PutFacts.{some_is, by_bool, by_eq, same_not, taken_all, taken_full, get_inside, head_number}
-use Rattle.channel_world.specs.Chained.{first_named, pair_linked, Names, Links, AreBlocks, ChainBy}
+use Rattle.channel_world.specs.Chained.{TurnsTheHead, Turns, first_named, pair_linked, Names, Links, AreBlocks, ChainBy}
 
 none_some : {A : Type 0} {x : A} → None ≡ Some x → ⊥
 none_some e = absurd cc
@@ -84,6 +84,19 @@ module _ {T : Type 0} where
   links_is b d (Ring y) a e g = absurd e
   links_is b d Finished a e g = absurd e
 
+  turns_is : (stored : Bool) (s : CallState T) (a : UnboundedCall T) → IsAtBlocks s a → TurnsTheHead stored a.action → Turns stored s
+  turns_is stored (Blocks y) a e g = subst (λ (z : UnboundedCall T). TurnsTheHead stored z.action) e g
+  turns_is stored (Asked k) a e g = absurd (start_none stored k (subst (λ (z : UnboundedCall T). TurnsTheHead stored z.action) e g))
+    where
+      start_none : (stored : Bool) (k : QueueAsk T) → TurnsTheHead stored (begin k).action → ⊥
+      start_none true (ask.Push v) h = h
+      start_none false (ask.Push v) h = h
+      start_none true k h = h
+      start_none false k h = h
+  turns_is stored (Single y) a e g = absurd e
+  turns_is stored (Ring y) a e g = absurd e
+  turns_is stored Finished a e g = absurd e
+
   module _ (r : BlocksNumbers T) where
     -- a call that owes this
     owner : {P : Type 0} (Q : UnboundedAction T → Type 0) (e : Duty) (ps : List (Place (UnboundedCall T) T)) → 1 ≤ owners e (map seat_of ps)
@@ -129,26 +142,27 @@ module _ {T : Type 0} where
     tail_page a p f l = absurd (omega arith)
 
     -- where the head's page is being turned, the head's block is the next one, or still the one before it, which is in use
-    abbrev HeadPage : Type 0
-    HeadPage = (r.first ≡ r.head / 31 + 1) ⊎ ((r.first ≡ r.head / 31) × (1 ≤ r.first) × ((r.block (r.first - 1)).retired ≡ false))
+    abbrev HeadPage : UnboundedAction T → Type 0
+    HeadPage a = ((r.first ≡ r.head / 31 + 1) × TurnsTheHead true a)
+        ⊎ ((r.first ≡ r.head / 31) × (1 ≤ r.first) × ((r.block (r.first - 1)).retired ≡ false) × TurnsTheHead false a)
 
     module _ (items : List T) (s : SoundBlocks r items) where
       in_use : (n : ℕ) (v : T) → ((r.cell n).written ≡ true → (r.cell n).slot ≡ Some v) → (r.block (n / 31)).retired ≡ false
       in_use n v full = by_bool (r.block (n / 31)).retired (λ f. f)
           (λ f. absurd (let done = s.done n (s.retired (n / 31) f) in none_some (sym done.1 ∙ full done.0)))
 
-      head_page : (a : UnboundedAction T) (p : Phase T) → KnowsBlocks r (act_of a) p → 1 ≤ owes (act_of a) turn_head → HeadPage ⊎ ⊥
+      head_page : (a : UnboundedAction T) (p : Phase T) → KnowsBlocks r (act_of a) p → 1 ≤ owes (act_of a) turn_head → ⊥ ⊎ HeadPage a
       head_page (blocks.PopNext j b) p f l =
           let x = f.2 in let y = f.3 in let z = f.5 in
           let at : number j / 31 ≡ r.first - 1 = omega (arith, z) in
-          inl (inr (omega (arith, x, y, z), omega (arith, z), subst
-          (λ (k : ℕ). (r.block k).retired ≡ false) at (in_use (number j) f.0 f.1.5)))
+          inr (inr (omega (arith, x, y, z), omega (arith, z), subst
+          (λ (k : ℕ). (r.block k).retired ≡ false) at (in_use (number j) f.0 f.1.5), tt))
       head_page (blocks.PopBlock j b c) p f l =
           let x = f.2 in let y = f.3 in let z = f.5 in
           let at : number j / 31 ≡ r.first - 1 = omega (arith, z) in
-          inl (inr (omega (arith, x, y, z), omega (arith, z), subst
-          (λ (k : ℕ). (r.block k).retired ≡ false) at (in_use (number j) f.0 f.1.5)))
-      head_page (blocks.PopHead j b) p f l = let x = f.2 in let y = f.3 in let z = f.5 in inl (inl (omega (arith, x, y, z)))
+          inr (inr (omega (arith, x, y, z), omega (arith, z), subst
+          (λ (k : ℕ). (r.block k).retired ≡ false) at (in_use (number j) f.0 f.1.5), tt))
+      head_page (blocks.PopHead j b) p f l = let x = f.2 in let y = f.3 in let z = f.5 in inr (inl (omega (arith, x, y, z), tt))
       head_page a p f l = absurd (omega arith)
 
   no_place : (ps : List (Place (UnboundedCall T) T)) → SomePlace (λ a. ⊥) ps → ⊥
@@ -173,33 +187,46 @@ module _ {T : Type 0} where
         (λ f. ⊎_elim (λ g. g) (λ g. absurd (no_place ps g)) (owing (λ a. ⊥) turn_tail (ap one_if f) (tail_page r)))
 
     abbrev HeadAt : Type 0
-    HeadAt = ((r.first ≡ 0) × (r.head ≡ 0)) ⊎ ((r.first ≡ r.head / 31 + 1)
-        ⊎ ((r.first ≡ r.head / 31) × (1 ≤ r.first) × ((r.block (r.first - 1)).retired ≡ false) × (c.head % 32 ≡ 31)))
+    HeadAt = ((c.head % 32 < 31) × (((r.first ≡ 0) × (r.head ≡ 0)) ⊎ (r.first ≡ r.head / 31 + 1)))
+        ⊎ ((c.head % 32 ≡ 31) × ((r.first ≡ r.head / 31 + 1) × SomeSeat ss (Turns true))
+        ⊎ ((c.head % 32 ≡ 31) × (r.first ≡ r.head / 31) × (1 ≤ r.first) × ((r.block (r.first - 1)).retired ≡ false)
+        × SomeSeat ss (Turns false)))
+
+    at_turn : (b : Bool) → r.head_turns ≡ b → c.head ≡ position r.head b
+    at_turn b f = subst (λ (x : Bool). c.head ≡ position r.head x) f d.head
+
+    -- by whom the head's page is turned
+    by_whom : (qs : List (Place (UnboundedCall T) T)) (ts : List (Seat T)) → AreAt IsAtBlocks ts qs → SomePlace (HeadPage r) qs
+        → ((r.first ≡ r.head / 31 + 1) × SomeSeat ts (Turns true))
+        ⊎ ((r.first ≡ r.head / 31) × (1 ≤ r.first) × ((r.block (r.first - 1)).retired ≡ false) × SomeSeat ts (Turns false))
+    by_whom [] [] h g = absurd g
+    by_whom [] (t ∷ ts) h g = absurd h
+    by_whom (p ∷ qs) [] h g = absurd h
+    by_whom (p ∷ qs) (t ∷ ts) h (inl (inl g)) = inl (g.0, inl (turns_is true t.call.state p.action h.0.0 g.1))
+    by_whom (p ∷ qs) (t ∷ ts) h (inl (inr g)) = inr (g.0, g.1, g.2, inl (turns_is false t.call.state p.action h.0.0 g.3))
+    by_whom (p ∷ qs) (t ∷ ts) h (inr g) =
+        ⊎_elim (λ x. inl (x.0, inr x.1)) (λ x. inr (x.0, x.1, x.2, inr x.3)) (by_whom qs ts h.1 g)
 
     head_at : HeadAt
     head_at = by_bool r.head_turns
-        (λ f. ⊎_elim (λ g. inr (inl g)) (λ g. inl g) (s.first f))
-        (λ f. ⊎_elim
-        (λ g. ⊎_elim (λ h. inr (inl h)) (λ h. inr (inr (h.0, h.1, h.2, at_turn f))) g)
-        (λ g. absurd (no_place ps g)) (owing (λ a. ⊥) turn_head (ap one_if f) (head_page r q.items s)))
-      where
-        at_turn : r.head_turns ≡ true → c.head % 32 ≡ 31
-        at_turn f =
-            let at : c.head ≡ position r.head true = subst (λ (b : Bool). c.head ≡ position r.head b) f d.head in
-            let t = s.turned f in let a = t.0 in let b = t.3 in omega (arith, at, a, b)
+        (λ f. inl (let at = at_turn false f in omega (arith, at), ⊎_elim (λ g. inr g) (λ g. inl g) (s.first f)))
+        (λ f. let t = s.turned f in let a = t.0 in let b = t.3 in let at = at_turn true f in
+        let turning : c.head % 32 ≡ 31 = omega (arith, at, a, b) in
+        ⊎_elim (λ g. absurd g)
+        (λ g. ⊎_elim (λ x. inr (inl (turning, x))) (λ x. inr (inr (turning, x.0, x.1, x.2, x.3))) (by_whom ps ss are g))
+        (owing (HeadPage r) turn_head (ap one_if f) (head_page r q.items s)))
 
     -- the blocks from the head's on are in use
     used_from : (k : ℕ) → r.first - 1 ≤ k → (r.block k).retired ≡ false
     used_from k low = by_bool (r.block k).retired (λ f. f)
         (λ f. absurd (
-        let z = s.retired k f in let t = s.reads k in let u = taken_all r.head k in
-        let full : k < r.head / 31 = taken_full r.head k (omega (arith, z, t, u)) in
-        ⊎_elim (λ g. let y = g.1 in omega (arith, y, full))
-        (λ g. ⊎_elim (λ h. omega (arith, h, low, full))
-        (λ h. let y = h.0 in
-        let same_one : k ≡ r.first - 1 = omega (arith, y, low, full) in false≢true (sym h.2 ∙ ap
-        (λ (j : ℕ). (r.block j).retired) (sym same_one) ∙ f)) g)
-        head_at))
+            let z = s.retired k f in let t = s.reads k in let u = taken_all r.head k in
+            let full : k < r.head / 31 = taken_full r.head k (omega (arith, z, t, u)) in
+            ⊎_elim (λ g. ⊎_elim (λ h. let y = h.1 in omega (arith, y, full)) (λ h. omega (arith, h, low, full)) g.1)
+            (λ g. ⊎_elim (λ h. let y = h.1.0 in omega (arith, y, low, full))
+            (λ h. let y = h.1 in let same_one : k ≡ r.first - 1 = omega (arith, y, low, full) in
+            false≢true (sym h.3 ∙ ap (λ (j : ℕ). (r.block j).retired) (sym same_one) ∙ f)) g)
+            head_at))
 
     chain_is : (k b : ℕ) → slice_get chain k ≡ Some b → (k < r.last) × (b ≡ r.num k)
     chain_is k b e =
@@ -257,8 +284,9 @@ module _ {T : Type 0} where
       first = r.first - 1;
       place = (
           let h = head_number c q ps r d means in
-          ⊎_elim (λ g. let x = g.0 in let y = g.1 in inl (omega (arith, h, x, y)))
-          (λ g. ⊎_elim (λ x. inl (omega (arith, h, x))) (λ x. let y = x.0 in let z = x.1 in inr (x.3, omega (arith, h, y, z))) g) head_at);
+          ⊎_elim (λ g. inl (g.0, ⊎_elim (λ x. let y = x.0 in let z = x.1 in omega (arith, h, y, z)) (λ x. omega (arith, h, x)) g.1))
+          (λ g. inr (⊎_elim (λ x. let y = x.1.0 in inl (x.0, omega (arith, h, y), x.1.1))
+          (λ x. let y = x.1 in let z = x.2 in inr (x.0, omega (arith, h, y, z), x.4)) g)) head_at);
       named = first_named_by;
       linked = linked_by;
       last = last_is;
@@ -293,7 +321,8 @@ module _ {T : Type 0} where
   by_others some other (Bounded capacity) c chain goes h = h
   by_others some other Unbounded c chain goes h = record {
     first = h.first;
-    place = h.place;
+    place = ⊎_elim (λ x. inl x) (λ y. inr (⊎_elim (λ x. inl (x.0, x.1, goes (Turns true) x.2))
+    (λ x. inr (x.0, x.1, goes (Turns false) x.2)) y)) h.place;
     named = λ b e. ⊎_elim (λ g. inl g) (λ g. inr (g.0, goes (Names b) g.1)) (h.named b e);
     linked = λ k b d low e f. ⊎_elim (λ g. inl g) (λ g. inr (goes (Links b d) g)) (h.linked k b d low e f);
     last = h.last;

@@ -1,6 +1,6 @@
 -- Which blocks the messages of a channel without a bound lie in: what its words name, and what its calls under way are yet to store
 -- in them.
-use Rattle.std.specs.Prelude.{◌≡◌, ℕ, ◌+◌, ◌-◌, ◌/◌, ◌%◌, ◌≤◌, List, [], ◌∷◌, length, Option, None, Some, slice_get, ◌⊎◌}
+use Rattle.std.specs.Prelude.{◌≡◌, ℕ, ◌+◌, ◌-◌, ◌/◌, ◌%◌, ◌<◌, ◌≤◌, Bool, true, false, List, [], ◌∷◌, length, Option, None, Some, slice_get, ◌⊎◌}
 use Rattle.concurrent_queue.specs.Contents.{Contents, block_at}
 use Rattle.concurrent_queue.specs.machine.BlocksState.{number}
 use Rattle.concurrent_queue.specs.declared.cells.QueueForm.{QueueForm}
@@ -26,6 +26,18 @@ module _ {T : Type 0} where
   pair_linked (blocks.PushLink v tail block next) = Some (block, next)
   pair_linked _ = None
 
+  -- a taking call that turns the head's page is yet to store the next block in the head's word, or has stored it and is yet to move
+  -- the head
+  abbrev pub TurnsTheHead : Bool → UnboundedAction T → Type 0
+  TurnsTheHead false (blocks.PopNext head block) = Unit {0}
+  TurnsTheHead false (blocks.PopBlock head block next) = Unit {0}
+  TurnsTheHead true (blocks.PopHead head block) = Unit {0}
+  TurnsTheHead stored a = ⊥
+
+  abbrev pub Turns : Bool → CallState T → Type 0
+  Turns stored (Blocks a) = TurnsTheHead stored a.action
+  Turns stored state = ⊥
+
   abbrev pub Names : ℕ → CallState T → Type 0
   Names b (Blocks a) = first_named a.action ≡ Some b
   Names b state = ⊥
@@ -36,12 +48,19 @@ module _ {T : Type 0} where
 
   -- Some call under way is so: by which list of them, is left open here.
   module _ (some_call : (CallState T → Type 0) → Type 0) where
+    -- The head's block is that of the head's position. While a call turns the head's page, which the position tells, it is the one
+    -- before, until that call has stored the next one.
+    abbrev pub IsHeadAt : Contents T → ℕ → Type 0
+    IsHeadAt c first =
+        ((c.head % 32 < 31) × (number c.head / 31 ≡ first))
+        ⊎ (((c.head % 32 ≡ 31) × (number c.head / 31 ≡ first) × some_call (Turns true))
+        ⊎ ((c.head % 32 ≡ 31) × (number c.head / 31 ≡ first + 1) × some_call (Turns false)))
+
     -- From the block that the head's word names on these follow one another, each named by the link of the one before it, up to the
-    -- one that the tail's word names. What a word doesn't name yet, a call under way is yet to store there. The head's block is that
-    -- of the head's position; while the head's page is being turned it may be the one before.
+    -- one that the tail's word names. What a word doesn't name yet, a call under way is yet to store there.
     pub record AreBlocks (c : Contents T) (chain : List ℕ) : Type 0 where
       pub first : ℕ
-      pub place : (number c.head / 31 ≡ first) ⊎ ((c.head % 32 ≡ 31) × (number c.head / 31 ≡ first + 1))
+      pub place : IsHeadAt c first
       pub named : (b : ℕ) → slice_get chain first ≡ Some b → (c.head_block ≡ b + 1) ⊎ ((c.head_block ≡ 0) × some_call (Names b))
       pub linked : (k b d : ℕ) → first ≤ k → slice_get chain k ≡ Some b → slice_get chain (k + 1) ≡ Some d
           → ((block_at c b).next ≡ d + 1) ⊎ some_call (Links b d)
