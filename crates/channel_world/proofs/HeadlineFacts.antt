@@ -43,7 +43,7 @@ use Rattle.channel_world.specs.Sentences.{MomentSays, BeginSays, LeavesNothing, 
 module _ {T : Type 0} where
   -- ---- a moment
 
-  say_words : (f : Floor T) (s : Scene T Waiter) → StandsIn f s → WordsSay (parts_in f).cells s
+  say_words : (f : Floor T) (s : Scene T Waiter) → StandsIn f s → WordsSay (parts_in f).cells f.parties.items s
   say_words f s k = words_say (parts_in f) f.parties.items s k.shown.shows
 
   moment_says : (m : Moment T) → Holds m → MomentSays m
@@ -58,7 +58,7 @@ module _ {T : Type 0} where
         stands = is.stands;
         begun = all_begin m.scene.now m.scene.under_way known.known;
         owed = owed_at m.book m.scene kept;
-        words = subst (λ (p : Parts T Waiter). WordsSay p.cells m.scene) (sym same) (say_words h.floor m.scene is.stands);
+        words = subst (λ (p : Parts T Waiter). WordsSay p.cells h.floor.parties.items m.scene) (sym same) (say_words h.floor m.scene is.stands);
         few = h.few;
       }
 

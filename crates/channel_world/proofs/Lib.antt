@@ -15,6 +15,8 @@ pub mod SoonFacts
 pub mod MarkFacts
 pub mod MarkedFacts
 pub mod TheEndFacts
+pub mod PutFacts
+pub mod ChainedFacts
 pub mod WordsFacts
 pub mod HeadlineFacts
 pub mod PartyFacts

@@ -1,12 +1,17 @@
 -- What a channel's words say, of what its cells and its calls under way show.
-use Rattle.std.proofs.Common.{◌≡◌, List, [], ◌∷◌, ◌++◌, map, length, None, Some, ◌⊎◌, ⊎_elim, inl, inr, refl, sym, ap, ◌∙◌, subst}
+use Rattle.std.proofs.Common.{◌≡◌, ℕ, ◌<◌, List, [], ◌∷◌, ◌++◌, map, length, None, Some, slice_get, ◌⊎◌, ⊎_elim, inl, inr, refl, sym, ap, ◌∙◌, subst}
+use Rattle.concurrent_queue.specs.Contents.{Contents, slot_at}
 use Rattle.concurrent_queue.specs.Queue.{Queue, Phase, appended, message}
 use Rattle.concurrent_queue.specs.Queue as queue
-use Rattle.concurrent_queue.specs.Step.{Seat, Fits, phases, HasBrought, IsBrought, Lies, closed_in, length_in, items_in}
+use Rattle.concurrent_queue.specs.Step.{Seat, Fits, FitsAt, phases, HasBrought, closed_in, length_in, items_in, slot_in}
 use Rattle.concurrent_queue.specs.declared.call.QueueAsk.{QueueAsk}
 use Rattle.concurrent_queue.specs.declared.call.QueueAsk.TheVariants as q
+use Rattle.concurrent_queue.specs.declared.cells.QueueForm.{QueueForm}
+use Rattle.concurrent_queue.specs.declared.cells.Slot.{Slot}
+use Rattle.concurrent_queue.specs.declared.queue_call.CallState.{CallState}
 use Rattle.concurrent_queue.specs.declared.queue_call.QueueCall.{QueueCall}
-use Rattle.concurrent_queue.proofs.Interface.{shows, lies}
+use Rattle.concurrent_queue.proofs.FitsFacts as fits_facts
+use Rattle.concurrent_queue.proofs.Interface.{shows}
 use Rattle.channel_calls.specs.Moves.{Channel, seats, phase}
 use Rattle.channel_calls.specs.Parts.{Parts}
 use Rattle.channel_calls.specs.declared.ask.ChannelAsk.{ChannelAsk}
@@ -23,7 +28,11 @@ use Rattle.channel_steps.specs.Moments.{Deed, Appended, Replaced, Displaced}
 use Rattle.channel_steps.specs.Scene.{Under, Scene, Sitting, Known, AllKnown, Shows, under_of, all_seats, brought}
 use Rattle.channel_steps.specs.Tellings.{Telling}
 use Rattle.channel_steps.specs.declared.party.Party.{Party}
+use Rattle.channel_world.specs.Chained.{IsInState, SomeCall, ChainBy, AreChained}
+use Rattle.channel_world.specs.Put.{yet_to_put}
 use Rattle.channel_world.specs.Words.{IsAtQueue, HasLetIn, IsWith, IsWithOne, WordsSay}
+use Rattle.channel_world.proofs.ChainedFacts.{SomeSeat, blocks_in, are_chained, still_fits, by_others}
+use Rattle.channel_world.proofs.PutFacts.{IsHeldFor, held}
 
 module _ {T : Type 0} where
   -- the message that the queue's call brings is the one that the call was made with
@@ -95,7 +104,8 @@ module _ {T W : Type 0} where
   Brought v (Trying f y) = (message f.ask ≡ v ∷ []) × HasBrought f.stage
   Brought v at = ⊥
 
-  stands_with : (v : T) (now : Channel T W) (a : ChannelAsk T W) (at : Stage (Phase T) T W) (ds : List (Deed T W)) (seen : List (Channel T W))
+  stands_with : (v : T) (now : Channel T W)
+      (a : ChannelAsk T W) (at : Stage (Phase T) T W) (ds : List (Deed T W)) (seen : List (Channel T W))
       → StageAt now a at ds seen → Brought v at → Brings v a ds × IsAtQueue at
   stands_with v now a (Trying f y) ds seen k b = (tries v now a y f.ask f.stage ds seen b.0 b.1 k.0 k.1, tt)
   stands_with v now a (Working w) ds seen k b = absurd b
@@ -106,25 +116,30 @@ module _ {T W : Type 0} where
   nothing_told told (Working w) ds k at_queue = absurd at_queue
   nothing_told told (Finished kept) ds k at_queue = absurd at_queue
 
-  is_with : (v : T) (now : Channel T W) (u : Under T W) → Known now u → Brought v u.at → IsWith v u
-  is_with v now u k b =
-      let h = stands_with v now u.ask u.at u.deeds u.seen k.stands b in
-      record { brings = h.0.0; let_in = h.0.1; at_queue = h.1; untold = nothing_told u.told u.at u.deeds k.tells h.1 }
-
   -- ---- all calls
 
-  of_seats : (v : T) (f : Phase T) (stage : Stage (QueueCall T) T W) (rest : List (Seat T)) → IsBrought (phases (seats f stage ++ rest)) v
-      → Brought v (phase f stage) ⊎ IsBrought (phases rest) v
-  of_seats v f (Trying call y) rest h = h
-  of_seats v f (Working w) rest h = inr h
-  of_seats v f (Finished kept) rest h = inr h
+  -- where a call of the queue is yet to put the message there, a call of the channel is
+  of_seats : (form : QueueForm) (at : Slot) (v : T) (f : Phase T) (stage : Stage (QueueCall T) T W) (rest : List (Seat T))
+      → IsHeldFor form at v (seats f stage ++ rest)
+      → ((yet_to_put form stage ≡ Some (at, v)) × Brought v (phase f stage)) ⊎ IsHeldFor form at v rest
+  unfolding yet_to_put
+  of_seats form at v f (Trying call y) rest h = h
+  of_seats form at v f (Working w) rest h = inr h
+  of_seats form at v f (Finished kept) rest h = inr h
 
-  with_one : (v : T) (now : Channel T W) (xs : List (Sitting T W)) → AllKnown now (map under_of xs) → IsBrought (phases (all_seats xs)) v
-      → IsWithOne v (map under_of xs)
-  with_one v now [] k h = absurd h
-  with_one v now (x ∷ xs) k h =
-      ⊎_elim (λ b. inl (is_with v now (under_of x) k.0 b)) (λ later. inr (with_one v now xs k.1 later))
-      (of_seats v x.inner x.party.call.stage (all_seats xs) h)
+  is_with : (form : QueueForm) (at : Slot) (v : T) (now : Channel T W) (x : Sitting T W) → Known now (under_of x)
+      → (yet_to_put form x.party.call.stage ≡ Some (at, v)) × Brought v (under_of x).at → IsWith form at v x.party (under_of x)
+  is_with form at v now x k b =
+      let u : Under T W = under_of x in
+      let h = stands_with v now u.ask u.at u.deeds u.seen k.stands b.1 in
+      record { party = refl; brings = h.0.0; let_in = h.0.1; untold = nothing_told u.told u.at u.deeds k.tells h.1; puts = b.0 }
+
+  with_one : (form : QueueForm) (at : Slot) (v : T) (now : Channel T W) (xs : List (Sitting T W)) → AllKnown now (map under_of xs)
+      → IsHeldFor form at v (all_seats xs) → IsWithOne form at v (map (λ (x : Sitting T W). x.party) xs) (map under_of xs)
+  with_one form at v now [] k h = absurd h
+  with_one form at v now (x ∷ xs) k h =
+      ⊎_elim (λ b. inl (is_with form at v now x k.0 b)) (λ later. inr (with_one form at v now xs k.1 later))
+      (of_seats form at v x.inner x.party.call.stage (all_seats xs) h)
 
   -- where none is at the queue, the queue has no call under way
   no_seats : (f : Phase T) (stage : Stage (QueueCall T) T W) (rest : List (Seat T)) → (IsAtQueue (phase f stage) → ⊥)
@@ -137,30 +152,62 @@ module _ {T W : Type 0} where
   none_at_queue [] h = refl
   none_at_queue (x ∷ xs) h = no_seats x.inner x.party.call.stage (all_seats xs) h.0 ∙ none_at_queue xs h.1
 
+  -- ---- the blocks
+
+  some_seat : (P : CallState T → Type 0) (f : Phase T) (stage : Stage (QueueCall T) T W) (rest : List (Seat T))
+      → SomeSeat (seats f stage ++ rest) P
+      → IsInState stage P ⊎ SomeSeat rest P
+  some_seat P f (Trying call y) rest h = h
+  some_seat P f (Working w) rest h = inr h
+  some_seat P f (Finished kept) rest h = inr h
+
+  some_call : (xs : List (Sitting T W)) (P : CallState T → Type 0) → SomeSeat (all_seats xs) P
+      → SomeCall (map (λ (x : Sitting T W). x.party) xs) P
+  some_call [] P h = absurd h
+  some_call (x ∷ xs) P h =
+      ⊎_elim (λ g. inl g) (λ g. inr (some_call xs P g)) (some_seat P x.inner x.party.call.stage (all_seats xs) h)
+
+  are_chained_by : (chain : List ℕ) (c : Contents T) (q : Queue T) (xs : List (Sitting T W)) (codes : List (Party T W))
+      → codes ≡ map (λ (x : Sitting T W). x.party) xs → FitsAt chain c q (all_seats xs) → AreChained c codes (blocks_in c.form chain)
+  unfolding AreChained
+  are_chained_by chain c q xs codes same_codes fits =
+      subst (λ (ps : List (Party T W)). ChainBy (SomeCall ps) c.form c (blocks_in c.form chain)) (sym same_codes)
+      (by_others (SomeSeat (all_seats xs)) (SomeCall (map
+      (λ (x : Sitting T W). x.party) xs)) c.form c (blocks_in c.form chain) (some_call xs)
+      (are_chained chain c q (all_seats xs) fits))
+
   -- ---- the words
 
-  of_queue : (parts : Parts T W) (s : Scene T W) (xs : List (Sitting T W)) (p : Queue T) → p ≡ s.now.queue → s.under_way ≡ map under_of xs
-      → Fits parts.cells p (all_seats xs) → AllKnown s.now s.under_way → WordsSay parts.cells s
-  of_queue parts s xs p same_queue calls fits known =
-      let say = shows parts.cells p (all_seats xs) fits in
-      let lie = lies parts.cells p (all_seats xs) fits in
+  of_queue : (parts : Parts T W) (codes : List (Party T W)) (s : Scene T W) (xs : List (Sitting T W)) (p : Queue T) → p ≡ s.now.queue
+      → codes ≡ map (λ (x : Sitting T W). x.party) xs → s.under_way ≡ map under_of xs
+      → Fits parts.cells p (all_seats xs) → AllKnown s.now s.under_way → WordsSay parts.cells codes s
+  of_queue parts codes s xs p same_queue same_codes calls fits known =
+      let c : Contents T = parts.cells in
+      let chain : List ℕ = blocks_in c.form fits.0 in
+      let fit = still_fits fits.0 c p (all_seats xs) fits.1 in
+      let say = shows c p (all_seats xs) fits in
+      let lie = fits_facts.lies chain c p (all_seats xs) fit in
       let here : AllKnown s.now (map under_of xs) = subst (λ (us : List (Under T W)). AllKnown s.now us) calls known in
-      let brought_by : (v : T) → IsBrought (phases (all_seats xs)) v → IsWithOne v s.under_way =
-      λ v b. subst (λ (us : List (Under T W)). IsWithOne v us) (sym calls) (with_one v s.now xs here b) in
+      let held_by : (at : Slot) (v : T) → IsHeldFor c.form at v (all_seats xs) → IsWithOne c.form at v codes s.under_way =
+      λ at v h. subst (λ (ps : List (Party T W)). IsWithOne c.form at v ps s.under_way) (sym same_codes)
+      (subst (λ (us : List (Under T W)). IsWithOne c.form at v (map (λ (x : Sitting T W). x.party) xs) us) (sym calls)
+      (with_one c.form at v s.now xs here h)) in
       record {
-        flag = subst (λ (x : Queue T). closed_in parts.cells ≡ x.closed) same_queue say.flag;
-        long = subst (λ (x : Queue T). length_in parts.cells ≡ length x.items) same_queue say.long;
-        blocks = lie.0;
-        lies = subst (λ (x : Queue T). Lies lie.0 parts.cells x.items (λ v. IsWithOne v s.under_way)) same_queue (record {
-          apart = lie.1.apart;
-          there = λ i v at. ⊎_elim (λ there. inl there) (λ b. inr (brought_by v b)) (lie.1.there i v at);
-        });
+        flag = subst (λ (x : Queue T). closed_in c ≡ x.closed) same_queue say.flag;
+        long = subst (λ (x : Queue T). length_in c ≡ length x.items) same_queue say.long;
+        blocks = chain;
+        chained = are_chained_by fits.0 c p xs codes same_codes fits.1;
+        apart = subst (λ (x : Queue T). (i j : ℕ) → i < length x.items → j < length x.items → slot_in chain c i ≡ slot_in chain c j → i ≡ j)
+            same_queue lie.apart;
+        lies = subst (λ (x : Queue T). (i : ℕ) (v : T) → slice_get x.items i ≡ Some v
+            → (slot_at c (slot_in chain c i) ≡ Some v) ⊎ IsWithOne c.form (slot_in chain c i) v codes s.under_way) same_queue
+            (λ i v e. ⊎_elim (λ there. inl there) (λ h. inr (held_by (slot_in chain c i) v h)) (held chain c p (all_seats xs) fit i v e));
         at_rest = λ none.
             let none_here = subst (λ (us : List (Under T W)). All (λ (u : Under T W). IsAtQueue u.at → ⊥) us) calls none in
             let rest = say.at_rest (none_at_queue xs none_here) in
-            subst (λ (x : Queue T). x.items ≡ items_in parts.cells) same_queue rest.0;
+            subst (λ (x : Queue T). x.items ≡ items_in c) same_queue rest.0;
       }
 
-  pub words_say : (parts : Parts T W) (parties : List (Party T W)) (s : Scene T W) → Shows parts parties s → WordsSay parts.cells s
+  pub words_say : (parts : Parts T W) (parties : List (Party T W)) (s : Scene T W) → Shows parts parties s → WordsSay parts.cells parties s
   words_say parts parties s h =
-      of_queue parts s h.sittings h.queue (sym (ap (λ (c : Channel T W). c.queue) h.now)) h.under_way h.fits h.known
+      of_queue parts parties s h.sittings h.queue (sym (ap (λ (c : Channel T W). c.queue) h.now)) h.parties_are h.under_way h.fits h.known

@@ -1,5 +1,7 @@
 pub mod World
 pub mod Marks
+pub mod Put
+pub mod Chained
 pub mod Words
 pub mod StepsLeft
 pub mod Marked

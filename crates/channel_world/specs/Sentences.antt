@@ -55,8 +55,8 @@ module _ {T : Type 0} where
     -- under way answers for
     pub owed : Owed (sight_at m.book.roll m.scene)
     -- the channel is closed or not and holds so many messages as its queue's words say; and each message lies in the slot that
-    -- they name for it alone, without a bound they and the blocks used so far, or is with the call that brought it
-    pub words : WordsSay m.parts.cells m.scene
+    -- they name for it alone, without a bound by the blocks that follow one another, or is with the call that is yet to put it there
+    pub words : WordsSay m.parts.cells world.parties.items m.scene
     -- no call has more steps left than 197, and 64 for each message that a receive of several may take, where none holds it up
     pub few : FewLeft m
 
