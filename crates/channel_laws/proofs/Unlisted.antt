@@ -1,9 +1,10 @@
 -- Over steps: on a channel without a bound no send listens.
-use Rattle.std.proofs.Common.{◌≡◌, ℕ, zero, suc, ◌+◌, Bool, true, false, if◌then◌else◌, List, Option, None, Some, inl, inr, refl, sym, ap, ◌∙◌, subst}
+use Rattle.std.proofs.Common.{◌≡◌, ℕ, zero, suc, ◌+◌, ◌-◌, Bool, true, false, if◌then◌else◌, List, Option, None, Some, inl, inr, refl, sym, ap, ◌∙◌, subst}
 use Rattle.concurrent_queue.specs.Queue.{Phase}
 use Rattle.event_listener.specs.Lists.{registration, removed}
-use Rattle.channel_calls.specs.Moves.{Channel, Effect, queued, untouched, on_line, on_count, leaves, Moves}
-use Rattle.channel_calls.specs.Parts.{Listeners, Roster, nobody_listens, listeners, with_count, is_raised, told_one, told_more, told_all}
+use Rattle.channel_calls.specs.Marks.{up}
+use Rattle.channel_calls.specs.Moves.{Channel, Effect, queued, untouched, on_count, tells_one, tells_more, tells_all, listens, registers, leaves, lowers, raises, Moves}
+use Rattle.channel_calls.specs.Parts.{Listeners, Roster, nobody_listens, listeners, with_listeners, count, with_count, is_raised, told_one, told_more, told_all}
 use Rattle.channel_calls.specs.declared.ask.ChannelAsk.{ChannelAsk}
 use Rattle.channel_calls.specs.Turns.{line_of}
 use Rattle.channel_calls.specs.declared.mark.Mark.{Mark}
@@ -44,48 +45,53 @@ module _ {T W : Type 0} (c : Channel T W) (none : c.roster.sends ≡ nobody_list
   Stays e = e.channel.roster.sends ≡ nobody_listens
 
   -- one list is changed by a change that leaves nobody's alone
-  on_list : (line : Line) (change : Listeners W → Listeners W) (names : List W) → change nobody_listens ≡ nobody_listens
-      → Stays (on_line line (change (listeners line c.roster)) names c)
-  on_list Sends change names same = ap change none ∙ same
-  on_list Receives change names same = none
-  on_list Streams change names same = none
-  on_list Closings change names same = none
+  on_list : (line : Line) (change : Listeners W → Listeners W) → change nobody_listens ≡ nobody_listens
+      → (with_listeners line (change (listeners line c.roster)) c.roster).sends ≡ nobody_listens
+  on_list Sends change same = ap change none ∙ same
+  on_list Receives change same = none
+  on_list Streams change same = none
+  on_list Closings change same = none
 
   by : (e d : Effect T W) → e ≡ d → Stays d → Stays e
   by e d same k = ap (λ (x : Effect T W). x.channel.roster.sends) same ∙ k
 
+  lowered : (side : Side) (n : ℕ) → (with_count side n c.roster).sends ≡ nobody_listens
+  lowered side n = counted_same side n c.roster ∙ none
+
   raised : (side : Side) (n : ℕ) (b : Bool) (m : Mark) → Stays (if b then on_count side n m c else untouched c)
-  raised side n true m = counted_same side n c.roster ∙ none
+  raised side n true m = lowered side n
   raised side n false m = none
 
   left : (h : Option Held) → Stays (leaves h c)
   left None = none
-  left (Some h) = on_list h.line (λ l. removed h.key true l) _ refl
+  left (Some h) = on_list h.line (λ (l : Listeners W). removed h.key true l) refl
 
   -- no step makes a send listen but one that inserts it
   stays : (at : Stage (Phase T) T W) (e : Effect T W) (r : Option (Reply T)) (s : Stage (Phase T) T W) → Moves c at e r s
       → ((m : T) (task : W) → at ≡ Working (Insert (waiting.Send m) task) → ⊥) → Stays e
-  stays (Trying f aim) e r s h no = by e (queued f h.mark c) h.effect none
-  stays (Working (TellReceive x)) e r s h no = by e _ h.0 none
-  stays (Working (TellStreams x)) e r s h no = by e _ h.0 none
-  stays (Working (TellSend x)) e r s h no = by e _ h.0 (on_list Sends told_one _ refl)
-  stays (Working (TellSends n x)) e r s h no = by e _ h.0 (on_list Sends (told_more n) _ (none_told n))
-  stays (Working (TakeRoom n)) e r s h no = by e _ h.0 none
-  stays (Working (TellAll line x)) e r s h no = by e _ h.0 (on_list line told_all _ refl)
-  stays (Working (Insert (waiting.Send m) task)) e r s h no = absurd (no m task refl)
-  stays (Working (Insert waiting.Receive task)) e r s (inl (key, new, is, t)) no = by e _ is none
-  stays (Working (Insert waiting.Receive task)) e r s (inr (error, is, t)) no = by e _ is none
-  stays (Working (Insert waiting.Stream task)) e r s (inl (key, new, is, t)) no = by e _ is none
-  stays (Working (Insert waiting.Stream task)) e r s (inr (error, is, t)) no = by e _ is none
-  stays (Working (Insert waiting.Closing task)) e r s (inl (key, new, is, t)) no = by e _ is none
-  stays (Working (Insert waiting.Closing task)) e r s (inr (error, is, t)) no = by e _ is none
-  stays (Working (Register w key task)) e r s h no = by e _ h.0 (on_list (line_of w) (registration key task) _ refl)
-  stays (Working (Leave x)) e r s h no = by e _ h.0 (left x.held)
-  stays (Working (Lower side key)) e r s h no = by e _ h.0 (counted_same side _ c.roster ∙ none)
-  stays (Working (Count side)) e r s h no = by e _ h.0 none
-  stays (Working (Load side making)) e r s h no = by e _ h.0 none
-  stays (Working (Raise side n making)) e r s h no = by e _ h.0 (raised side (n + 1) (is_raised side n c.roster) _)
-  stays (Finished kept) e r s h no = by e _ h.0 none
+  stays (Trying f aim) e r s h never = by e (queued f h.mark c) h.effect none
+  stays (Working (TellReceive x)) e r s h never = by e (tells_one Receives c) h.0 none
+  stays (Working (TellStreams x)) e r s h never = by e (tells_all Streams c) h.0 none
+  stays (Working (TellSend x)) e r s h never = by e (tells_one Sends c) h.0 (on_list Sends told_one refl)
+  stays (Working (TellSends n x)) e r s h never = by e (tells_more n Sends c) h.0 (on_list Sends (told_more n) (none_told n))
+  stays (Working (TakeRoom n)) e r s h never = by e (untouched c) h.0 none
+  stays (Working (TellAll line x)) e r s h never = by e (tells_all line c) h.0 (on_list line told_all refl)
+  stays (Working (Insert (waiting.Send m) task)) e r s h never = absurd (never m task refl)
+  stays (Working (Insert waiting.Receive task)) e r s (inl (key, new, is, t)) never = by e (listens Receives key c) is none
+  stays (Working (Insert waiting.Receive task)) e r s (inr (error, is, t)) never = by e (untouched c) is none
+  stays (Working (Insert waiting.Stream task)) e r s (inl (key, new, is, t)) never = by e (listens Streams key c) is none
+  stays (Working (Insert waiting.Stream task)) e r s (inr (error, is, t)) never = by e (untouched c) is none
+  stays (Working (Insert waiting.Closing task)) e r s (inl (key, new, is, t)) never = by e (listens Closings key c) is none
+  stays (Working (Insert waiting.Closing task)) e r s (inr (error, is, t)) never = by e (untouched c) is none
+  stays (Working (Register w key task)) e r s h never =
+      by e (registers (line_of w) key task c) h.0 (on_list (line_of w) (λ (l : Listeners W). registration key task l) refl)
+  stays (Working (Leave x)) e r s h never = by e (leaves x.held c) h.0 (left x.held)
+  stays (Working (Lower side key)) e r s h never = by e (lowers side c) h.0 (lowered side (count side c.roster - 1))
+  stays (Working (Count side)) e r s h never = by e (untouched c) h.0 none
+  stays (Working (Load side making)) e r s h never = by e (untouched c) h.0 none
+  stays (Working (Raise side n making)) e r s h never =
+      by e (raises side n c) h.0 (raised side (n + 1) (is_raised side n c.roster) (up side))
+  stays (Finished kept) e r s h never = by e (untouched c) h.0 none
 
 module _ {T W : Type 0} where
   -- a send that inserts its listener has found the channel full
