@@ -84,8 +84,8 @@ module _ {T : Type 0} where
       → (s.now.queue.accepted ≤ old.accepted → Counted old.accepted b x t) → place.HasPosition c old → came ≡ accepted_by b x
       → new.accepted ≡ min (old.accepted + came) (2 ^ 64 - 1) → new.has_one_place ≡ old.has_one_place → t.under_way ≡ []
       → HasOnePlace old ⊎ AreCounted old s → HasOnePlace new ⊎ AreCounted new t
-  counted_then c old new b x came s t e counted room same counts place over (inl one) = inl (place ∙ one)
-  counted_then c old new b x came s t e counted room same counts place over (inr k) = by b e where
+  counted_then c old new b x came s t e counted room same counts kept over (inl one) = inl (kept ∙ one)
+  counted_then c old new b x came s t e counted room same counts kept over (inr k) = by b refl where
     now : Counted old.accepted b x t
     now = counted k.accepted
 
@@ -98,7 +98,7 @@ module _ {T : Type 0} where
         record { accepted = omega (arith, accepted, same, counts, most); within = omega (arith, none, counts, most) }
 
     brings_one : place.HasPositions (length old.parties.items + 1) old → HasOnePlace new ⊎ AreCounted new t
-    brings_one (inl one) = inl (place ∙ one)
+    brings_one (inl one) = inl (kept ∙ one)
     brings_one (inr left) = let one = now.most in inr (counted_in (omega (arith, left, one, same)))
 
     by : (y : Bool) → b ≡ y → HasOnePlace new ⊎ AreCounted new t
@@ -117,7 +117,7 @@ module _ {T : Type 0} where
         agents = [];
       }
       → CallsAlone c old d.reply fresh new
-  is_called c old new a d empty full fresh room came ran asked quiet still place_left brought counts place behind enough few doings book s sh all =
+  is_called c old new a d empty full fresh room came ran asked quiet still place_left brought counts same_place behind enough few doings book s sh all =
       let r = ran s 0 (has_position old s sh) (subst (λ ps. Shows (parts_in old) ps s) quiet sh.shows) in
       let alone : Alone (asks old.roll c) s.now r.outcome =
       subst (λ (x : ChannelAsk T Waiter). Alone x s.now r.outcome) asked r.does in
@@ -141,10 +141,10 @@ module _ {T : Type 0} where
         now = r.now;
         shown = record {
           shows = subst (λ ps. Shows (parts_in new) ps r.after) (sym still) r.shown;
-          place = place ∙ (sh.place ∙ sym (ap (λ (cap : Option ℕ). is_one_place cap) capacity));
+          place = same_place ∙ (sh.place ∙ sym (ap (λ (cap : Option ℕ). is_one_place cap) capacity));
           positions = counted_then c old new (brings old.roll c) r.outcome.reply came s r.after refl
               (counted_alone old.roll c old.accepted s r.after r.outcome 0 run alone r.now (none_under_way old s quiet sh))
-              place_left (brought ∙ ap (λ (y : Reply T). accepted_by (brings old.roll c) y) r.reply) counts place run.over sh.positions;
+              place_left (brought ∙ ap (λ (y : Reply T). accepted_by (brings old.roll c) y) r.reply) counts same_place run.over sh.positions;
           messages = r.counted sh.messages;
           doings = doings ∙ (sh.doings ∙ (ap (λ (us : List (Under T Waiter)). map doing_of us) (none_under_way old s quiet sh)
               ∙ sym (ap (λ (us : List (Under T Waiter)). map doing_of us) run.over)));

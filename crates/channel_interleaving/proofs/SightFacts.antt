@@ -105,8 +105,8 @@ module _ {T : Type 0} where
     all_no_more n low [] k few = omega arith
     all_no_more n low (x ∷ xs) k few =
         let known = k.0 in
-        let most = unless_most x.told (takings x.deeds) in
-        let took = few.0 in
+        let most : freed_by (under_of x) ≤ takings x.deeds = unless_most x.told (takings x.deeds) in
+        let took : takings x.deeds ≤ n = few.0 in
         let one = no_more x.inner x.party.call.stage (under_of x) known.tells in
         let rest = all_no_more n low xs k.1 few.1 in
         omega (arith, one, rest, most, took, low)
