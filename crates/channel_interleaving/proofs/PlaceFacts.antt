@@ -1,5 +1,5 @@
 -- Messages that a call made alone brings in, and the positions that are left.
-use Rattle.std.proofs.Common.{arith, ◌≡◌, ℕ, ◌+◌, ◌≤◌, Bool, true, false, if◌then◌else◌, List, [], ◌∷◌, length, slice_get, Option, None, Some, Ok, Err, inl, inr, ◌⊎◌, refl, sym, ap, subst}
+use Rattle.std.proofs.Common.{arith, ◌≡◌, ℕ, ◌+◌, ◌≤◌, Bool, true, false, if◌then◌else◌, List, [], ◌∷◌, length, slice_get, Option, None, Some, Ok, Err, inl, inr, ◌⊎◌, refl, sym, ap, ◌∙◌, subst}
 use Rattle.std.specs.Option.{option_map, option_map_or}
 use Rattle.futures.specs.declared.task.Poll.TheVariants as poll
 use Rattle.concurrent_queue.specs.Queue.{Queue, is_filled}

@@ -113,6 +113,17 @@ impl<T: Drop> World<T> {
         self.steps.has_positions(count)
     }
 
+    /// Whether the queue has positions for the messages of all pending sends, where these are woken.
+    fn has_positions_to_settle(&self, woken: &Vec<Waiter>) -> bool
+        requires { woken.now.items ≡ (at_rest self.now).waiting.woken }
+        ensures { IsTrue result → HasPositions (pending_on Sends (at_rest self.now)) self.now }
+    {
+        match self.pending_on(Line::Sends, woken) {
+            Some(sends) => self.has_positions(sends),
+            None => false,
+        }
+    }
+
     /// Room for all that settling answers. None where it was refused, or where the queue has no positions for the messages of all
     /// pending sends.
     fn room_to_settle(&self) -> Option<Room<T>>
@@ -126,8 +137,7 @@ impl<T: Drop> World<T> {
             return None;
         };
         let most = self.most_polls(&names)?;
-        let sends = self.pending_on(Line::Sends, &names)?;
-        if self.has_positions(sends) {
+        if self.has_positions_to_settle(&names) {
             take_room(names, most, self.alloc())
         } else {
             None
