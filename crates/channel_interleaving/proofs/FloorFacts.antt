@@ -1,7 +1,7 @@
 -- Steps of an interleaved channel, and runs of them.
 use Rattle.std.specs.List.{remove}
 use Rattle.std.proofs.Common.{arith, ◌≡◌, ℕ, zero, suc, ◌+◌, ◌-◌, ◌^◌, ◌≤◌, ◌<◌, min, Bool, true, false, nat_lt, slice_index_or, List, [], ◌∷◌, ◌++◌, map, length, slice_get, vec_len, vec_capacity, Option, None, Some, ◌⊎◌, inl, inr, refl, sym, ap, ◌∙◌, subst, append_assoc}
-use Rattle.concurrent_queue.specs.Queue.{Queue, IsInRange}
+use Rattle.concurrent_queue.specs.Queue.{IsInRange}
 use Rattle.concurrent_queue.proofs.Interface.{shows}
 use Rattle.channel_alone.specs.Run as queue
 use Rattle.channel_alone.proofs.Counts.{counted_few}

@@ -1,5 +1,5 @@
 -- What follows of a scene that is shown: that its messages are balanced, how large its queue is, and that it has a position more.
-use Rattle.std.proofs.Common.{arith, ◌≡◌, ℕ, ◌+◌, ◌<◌, ◌≤◌, ◌^◌, ◌==◌, Bool, true, false, List, Option, None, Some, ◌⊎◌, inl, inr, sym, ap, ◌∙◌, subst}
+use Rattle.std.proofs.Common.{arith, ◌≡◌, ℕ, ◌==◌, true, false, List, Option, None, Some, ◌⊎◌, inl, inr, sym, ap, ◌∙◌, subst}
 use Rattle.std.proofs.lemmas.Bool.Decides.{nat_tests}
 use Rattle.concurrent_queue.proofs.Interface.{shows}
 use Rattle.concurrent_queue.specs.Capacity.{capacity_of}

@@ -200,8 +200,8 @@ impl<T: Drop> Interleaved<T> {
     ///
     /// A stream is polled even while a live operation borrows its receiver. The poll takes nothing: its name has its place in the
     /// order of waking, and those whom it wakes go after the given names, where there is room for them. Where the listener of a
-    /// poll that goes on waiting, or a block of the queue, is refused memory or serials, the reply says so. Nothing waits. Own to
-    /// this project.
+    /// poll that goes on waiting, or a block of the queue, is refused memory or serials, the reply says so. Only the poll of a send
+    /// may bring a message, so only that needs a position of the queue. Nothing waits. Own to this project.
     pub fn poll_alone(&mut self, name: Waiter, names: Vec<Waiter>) -> Polled<T>
         requires quiet { IsQuiet self.old }
         requires woken { IsWoken name self.old }

@@ -1,5 +1,5 @@
 -- The positions that a settling needs: one for each send that is pending.
-use Rattle.std.proofs.Common.{arith, ◌≡◌, ◌≤◌, ◌<◌, ◌+◌, ◌^◌, ℕ, Bool, true, false, Some, List, length, slice_get, inl, inr, ap, ◌∙◌}
+use Rattle.std.proofs.Common.{arith, ◌≡◌, ◌≤◌, ◌+◌, ℕ, Bool, true, false, Some, List, length, slice_get, inl, inr, ap, ◌∙◌}
 use Rattle.channel_calls.specs.declared.reply.Reply.{Reply}
 use Rattle.channel_interleaving.proofs.Interface.{only_sends_bring}
 use Rattle.channel_interleaving.specs.Floor.{HasPosition, HasPositions, IsQuiet}

@@ -23,11 +23,7 @@ const ROWS: [(usize, [bool; 3], [bool; 3]); 6] = [
 
 /// A party displaces, or sends, so many messages, with as many steps for each as any form needs: those too many are refused, since
 /// the party is idle.
-fn send(
-    channel: &mut Interleaved<u64>,
-    alloc: Global,
-    messages: u64,
-) -> Result<(), AllocError> {
+fn send(channel: &mut Interleaved<u64>, alloc: Global, messages: u64) -> Result<(), AllocError> {
     let party = PartyId(0);
     for msg in 0..messages {
         let mut steps = VecDeque::new(alloc);
