@@ -171,6 +171,14 @@ module _ {T W : Type 0} where
   unfolding goes_on
   goes_on_so a c0 parts' stage' woken x = (goes_on a c0 parts' stage' woken x, refl, refl)
 
+  -- the queue is as large as it was
+  pub capacity_now : (a : ChannelAsk T W) (c0 : Channel T W) (parts : Parts T W) (stage : Stage (QueueCall T) T W)
+      (so_far : List W) (x : IsAlone a c0 parts stage so_far) → x.now.capacity ≡ c0.queue.capacity
+  capacity_now a c0 parts (Trying call y) so_far x =
+      let d : Does x.from x.now x.at = does x.from x.now x.at x.idle x.known in d.capacity ∙ x.capacity
+  capacity_now a c0 parts (Working w) so_far x = ap (λ (q : Queue T). q.capacity) x.known ∙ x.capacity
+  capacity_now a c0 parts (Finished kept) so_far x = absurd x.known
+
   module _ (a : ChannelAsk T W) (c0 : Channel T W) (parts : Parts T W) (so_far names : List W) (parts' : Parts T W)
       (stage' : Stage (QueueCall T) T W) (m : Mark) (r : Option (Reply T)) where
     -- after a step a turn was taken, or the queue's call goes on, with this queue and this phase

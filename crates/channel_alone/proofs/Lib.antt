@@ -2,6 +2,7 @@ pub mod TryFacts
 pub mod Order
 pub mod Rest
 pub mod AnswerFacts
+pub mod Counts
 pub mod WorkFacts
 pub mod FirstFacts
 pub mod AloneFacts

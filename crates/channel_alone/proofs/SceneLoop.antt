@@ -1,8 +1,9 @@
 -- The steps of a call that is alone at work, one after another, from scene to scene.
-use Rattle.std.proofs.Common.{◌≡◌, ℕ, ◌+◌, ◌≤◌, ◌^◌, List, [], ◌∷◌, ◌++◌, map, length, append-nil, append_assoc, Option, None, Some, inl, inr, refl, sym, ap, ◌∙◌, subst, arith}
+use Rattle.std.proofs.Common.{◌≡◌, ℕ, ◌+◌, ◌≤◌, List, [], ◌∷◌, ◌++◌, map, length, append-nil, append_assoc, Option, None, Some, inl, inr, refl, sym, ap, ◌∙◌, subst, arith}
 use Rattle.concurrent_queue.specs.Queue.{Queue, Phase}
 use Rattle.concurrent_queue.specs.Step.{Seat, Fits}
 use Rattle.concurrent_queue.specs.declared.queue_call.QueueCall.{QueueCall}
+use Rattle.concurrent_queue.proofs.Interface.{shows}
 use Rattle.event_listener.specs.Notices.{Woken}
 use Rattle.channel_calls.specs.declared.ask.ChannelAsk.{ChannelAsk}
 use Rattle.channel_calls.specs.declared.call.ChannelCall.{ChannelCall}
@@ -13,7 +14,7 @@ use Rattle.channel_calls.specs.declared.stage.Kept.{Kept}
 use Rattle.channel_calls.specs.declared.stage.Stage.{Stage}
 use Rattle.channel_calls.specs.Parts.{Parts}
 use Rattle.channel_calls.specs.Asks.{first, kept_by}
-use Rattle.channel_calls.specs.Moves.{Channel, Effect, channel, phase, Moves, Made, IsNewCall, IsStepOver, IsChannelStep}
+use Rattle.channel_calls.specs.Moves.{Channel, Effect, channel, phase, seats, Moves, Made, IsNewCall, IsStepOver, IsChannelStep}
 use Rattle.channel_steps.specs.declared.party.Entry.{Entry}
 use Rattle.channel_steps.specs.declared.party.Party.{Party}
 use Rattle.channel_steps.specs.declared.run.Step.TheVariants as step
@@ -21,13 +22,14 @@ use Rattle.channel_steps.specs.Count.{counted}
 use Rattle.channel_steps.specs.Run.{Begins}
 use Rattle.channel_steps.specs.Run as steps
 use Rattle.channel_steps.specs.Scene.{Under, Scene, Sitting, does, under_of, all_seats, Known, AllKnown, IsBalanced, Steps, Shows}
-use Rattle.channel_steps.proofs.Interface.{known_next, after_lone, lone_goes, lone_ends, messages_counted}
+use Rattle.channel_steps.proofs.Interface.{known_next, after_lone, lone_goes, lone_ends, messages_counted, messages_moved}
 use Rattle.channel_alone.specs.Alone.{Outcome, Alone, after_waking, answers}
 use Rattle.channel_alone.specs.Run.{HasPosition}
 use Rattle.channel_alone.specs.Scenes.{Goes, names_of_all, RanInScenes, RunsInScenes}
 use Rattle.channel_alone.specs.declared.run.Done.{Done}
 use Rattle.channel_alone.proofs.FirstFacts.{first_goes_on, Begun, begun}
-use Rattle.channel_alone.proofs.AloneFacts.{IsAlone, Advances, Answered, StepsTo, woken_on, answered, finished_kept, goes_on_so, accepts_one, made_by, next}
+use Rattle.channel_alone.proofs.AloneFacts.{IsAlone, Advances, Answered, StepsTo, woken_on, answered, finished_kept, goes_on_so, capacity_now, accepts_one, made_by, next}
+use Rattle.channel_alone.proofs.Counts.{counted_few}
 use Rattle.channel_alone.proofs.LoopFacts.{starts_over}
 
 module _ {T W : Type 0} where
@@ -80,7 +82,7 @@ module _ {T W : Type 0} where
     pub now : mid.now ≡ channel alone.now parts
     pub known : Known mid.now mine
     pub balanced : IsBalanced mid.now.queue
-    pub counts : messages0 ≡ length c0.queue.items → c0.queue.accepted ≤ 2 ^ 61 → messages ≡ length mid.now.queue.items
+    pub counts : messages0 ≡ length c0.queue.items → messages ≡ length mid.now.queue.items
 
   module _ (a : ChannelAsk T W) (parts0 : Parts T W) (messages0 : ℕ) (s : Scene T W) (p : ℕ) (sh : Shows parts0 [] s) where
     abbrev start : Channel T W
@@ -125,7 +127,7 @@ module _ {T W : Type 0} where
           now = sh.now ∙ ap (λ (q : Queue T). channel q parts0) (sym y.1);
           known = k.0.0;
           balanced = k.1;
-          counts = λ h low. h ∙ ap (λ (c : Channel T W). length c.queue.items) (sym sh.now);
+          counts = λ h. h ∙ ap (λ (c : Channel T W). length c.queue.items) (sym sh.now);
         }
 
     begins_so : HasPosition s.now.queue → (call : ChannelCall T W) → IsNewCall call (first a)
@@ -160,14 +162,30 @@ module _ {T W : Type 0} where
       follows e t n = known_next x.mid (step.Step p) e names t n
           (subst (λ (us : List (Under T W)). AllKnown x.mid.now us) (sym x.only) (x.known, tt)) x.balanced
 
-      counts_on : (e : Entry T) (t : Scene T W) → Steps x.mid p e names t → messages0 ≡ length start.queue.items
-          → start.queue.accepted ≤ 2 ^ 61 → counted messages e.mark ≡ length t.now.queue.items
-      counts_on e t n h low =
-          let most : x.alone.now.accepted ≤ start.queue.accepted + 1 =
-          accepts_one a start parts so_far names parts' stage' m None stage x.alone in
-          let same : x.mid.now.queue.accepted ≡ x.alone.now.accepted = ap (λ (c : Channel T W). c.queue.accepted) x.now in
-          ap (λ (k : ℕ). counted k e.mark) (x.counts h low)
-          ∙ messages_counted x.mid p e names t n x.balanced (let k = follows e t n in k.1) (omega (arith, most, same, low))
+      -- one slot holds one message at most, and in another queue so few were accepted that no count ends
+      counts_on : (e : Entry T) (t : Scene T W) → Steps x.mid p e names t
+          → (start.queue.capacity ≡ Some 1 → length t.now.queue.items ≤ 1)
+          → messages0 ≡ length start.queue.items → counted messages e.mark ≡ length t.now.queue.items
+      counts_on e t n short h = ap (λ (k : ℕ). counted k e.mark) (x.counts h) ∙ by x.alone.place where
+        balanced : IsBalanced t.now.queue
+        balanced = let k = follows e t n in k.1
+
+        by : HasPosition start.queue → counted (length x.mid.now.queue.items) e.mark ≡ length t.now.queue.items
+        by (inl one) = counted_few (length x.mid.now.queue.items) (length t.now.queue.items) e.mark
+            (messages_moved x.mid p e names t n x.balanced balanced) (short one)
+        by (inr low) =
+            let most : x.alone.now.accepted ≤ start.queue.accepted + 1 =
+            accepts_one a start parts so_far names parts' stage' m None stage x.alone in
+            let same : x.mid.now.queue.accepted ≡ x.alone.now.accepted = ap (λ (c : Channel T W). c.queue.accepted) x.now in
+            messages_counted x.mid p e names t n x.balanced balanced (omega (arith, most, same, low))
+
+      -- one slot holds one message at most
+      short_in : (q d : Queue T) (seats : List (Seat T)) → Fits parts'.cells q seats → q.capacity ≡ start.queue.capacity → q ≡ d
+          → start.queue.capacity ≡ Some 1 → length d.items ≤ 1
+      short_in q d seats fits same is one =
+          let most = (shows parts'.cells q seats fits).within 1 (same ∙ one) in
+          let here = ap (λ (r : Queue T). length r.items) is in
+          omega (arith, most, here)
 
       -- one that does not answer
       goes_between : (made : MadeOne None) → (y : IsAlone a start parts' stage' (so_far ++ names)) × (y.now ≡ made.queue)
@@ -197,7 +215,8 @@ module _ {T W : Type 0} where
             now = ap (λ (q : Queue T). channel q parts') (sym y.1);
             known = k.0.0;
             balanced = k.1;
-            counts = counts_on e after n;
+            counts = counts_on e after n (short_in y.0.now made.queue (seats y.0.at stage' ++ []) y.0.fits
+                (capacity_now a start parts' stage' (so_far ++ names) y.0) y.1);
           }
 
       goes_so : IsStepOver parts stage names parts' stage' m None
@@ -272,9 +291,9 @@ module _ {T W : Type 0} where
               capacity = z.0.capacity ∙ ap (λ (c : Channel T W). c.queue.capacity) (sym from);
               accepted = (let most = z.0.accepted in let same = ap (λ (c : Channel T W). c.queue.accepted) from in
                   omega (arith, most, same));
-              counted = λ h low.
-                  counts_on last after n (h ∙ ap (λ (c : Channel T W). length c.queue.items) from)
-                  (let same = ap (λ (c : Channel T W). c.queue.accepted) from in omega (arith, same, low));
+              counted = λ h.
+                  counts_on last after n (short_in z.0.queue made.queue (seats z.0.at stage' ++ []) z.0.fits z.0.capacity z.1)
+                  (h ∙ ap (λ (c : Channel T W). length c.queue.items) from);
             }
 
         ends_so : IsStepOver parts stage names parts' stage' m (Some y) → Over

@@ -1,5 +1,5 @@
 -- A call that is made alone, as a run of scenes: it begins in a scene with nobody at work, makes its steps, and ends.
-use Rattle.std.specs.Prelude.{◌≡◌, ℕ, ◌+◌, ◌^◌, ◌≤◌, List, [], ◌∷◌, ◌++◌, length, None, Some}
+use Rattle.std.specs.Prelude.{◌≡◌, ℕ, ◌+◌, ◌≤◌, List, [], ◌∷◌, ◌++◌, length, None, Some}
 use Rattle.event_listener.specs.Notices.{Woken}
 use Rattle.channel_calls.specs.Parts.{Parts}
 use Rattle.channel_calls.specs.declared.ask.ChannelAsk.{ChannelAsk}
@@ -53,7 +53,7 @@ module _ {T W : Type 0} where
       pub now : after.now ≡ outcome.channel
       pub capacity : outcome.channel.queue.capacity ≡ s.now.queue.capacity
       pub accepted : outcome.channel.queue.accepted ≤ s.now.queue.accepted + 1
-      pub counted : messages ≡ length s.now.queue.items → s.now.queue.accepted ≤ 2 ^ 61 → messages' ≡ length after.now.queue.items
+      pub counted : messages ≡ length s.now.queue.items → messages' ≡ length after.now.queue.items
 
     -- in every scene with nobody at work that the cells show, whatever party the call is said to be of
     abbrev pub RunsInScenes : ChannelAsk T W → Parts T W → S → ℕ → Done T → Parts T W → S → ℕ → Type 0

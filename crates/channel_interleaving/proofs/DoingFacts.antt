@@ -1,5 +1,5 @@
 -- What is noted of the calls under way is what they are and have done, from one step to the next.
-use Rattle.std.proofs.Common.{arith, ◌≡◌, ℕ, suc, ◌+◌, ◌-◌, ◌^◌, ◌≤◌, ◌<◌, min, Bool, true, false, ◌||◌, List, [], ◌∷◌, ◌++◌, map, length, slice_get, slice_set, Option, None, Some, refl, sym, ap, ◌∙◌, subst}
+use Rattle.std.proofs.Common.{arith, ◌≡◌, ℕ, suc, ◌+◌, ◌-◌, ◌^◌, ◌≤◌, min, Bool, true, false, ◌||◌, List, [], ◌∷◌, ◌++◌, map, length, slice_get, slice_set, Option, None, Some, refl, sym, ap, ◌∙◌, subst}
 use Rattle.std.specs.List.{remove}
 use Rattle.channel_calls.specs.Moves.{Channel}
 use Rattle.channel_calls.specs.declared.ask.ChannelAsk.{ChannelAsk}
@@ -73,13 +73,18 @@ taking_out : (m : Mark) → with_taking m 0 ≤ taken_out m
 taking_out mark.Take = omega arith
 taking_out m = omega arith
 
+-- as far as a machine number goes
+abbrev at_most : ℕ → ℕ
+at_most n = min n (2 ^ 64 - 1)
+
 -- what is noted after a step with this mark
-noted_so : (r : Role) (b : Bool) (n : ℕ) (m : Mark) → n < 2 ^ 64 - 1
-    → doing_after m (record { role = r; has_closed = b; taken = n })
-    ≡ record { role = r; has_closed = b || is_close m; taken = n + with_taking m 0 }
-noted_so r b n mark.Close low = same_doing r true (b || true) n (n + 0) (sym (or_true b)) (omega arith)
-noted_so r b n mark.Take low = same_doing r b (b || false) (min (n + 1) (2 ^ 64 - 1)) (n + 1) (sym (or_false b)) (omega (arith, low))
-noted_so r b n m low = same_doing r b (b || false) n (n + 0) (sym (or_false b)) (omega arith)
+noted_so : (r : Role) (b : Bool) (n : ℕ) (m : Mark)
+    → doing_after m (record { role = r; has_closed = b; taken = at_most n })
+    ≡ record { role = r; has_closed = b || is_close m; taken = at_most (n + with_taking m 0) }
+noted_so r b n mark.Close = same_doing r true (b || true) (at_most n) (at_most (n + 0)) (sym (or_true b)) (omega arith)
+noted_so r b n mark.Take =
+    same_doing r b (b || false) (min (at_most n + 1) (2 ^ 64 - 1)) (at_most (n + 1)) (sym (or_false b)) (omega arith)
+noted_so r b n m = same_doing r b (b || false) (at_most n) (at_most (n + 0)) (sym (or_false b)) (omega arith)
 
 module _ {T W : Type 0} where
   close_more : (ds : List (Deed T W)) (d : Deed T W) → any_close (ds ++ (d ∷ [])) ≡ (any_close ds || is_close d.mark)
@@ -119,11 +124,12 @@ module _ {T W : Type 0} where
   close_by ds mark.ReceiverUp c seen = close_more ds (record { mark = mark.ReceiverUp; before = c; seen = seen })
   close_by ds mark.ReceiverDown c seen = close_more ds (record { mark = mark.ReceiverDown; before = c; seen = seen })
 
-  does_noted : (u : Under T W) (at : Stage (Phase T) T W) (m : Mark) (c d : Channel T W) → takings u.deeds < 2 ^ 64 - 1
+  does_noted : (u : Under T W) (at : Stage (Phase T) T W) (m : Mark) (c d : Channel T W)
       → doing_after m (doing_of u) ≡ doing_of (does u at m c d)
-  does_noted u at m c d low =
-      noted_so (role_of u.ask) (any_close u.deeds) (takings u.deeds) m low
-      ∙ same_doing (role_of u.ask) _ _ _ _ (sym (close_by u.deeds m c u.seen)) (sym (takings_by u.deeds m c u.seen))
+  does_noted u at m c d =
+      noted_so (role_of u.ask) (any_close u.deeds) (takings u.deeds) m
+      ∙ same_doing (role_of u.ask) _ _ _ _ (sym (close_by u.deeds m c u.seen))
+      (ap (λ (n : ℕ). at_most n) (sym (takings_by u.deeds m c u.seen)))
 
   -- others only see a step
   seen_same : (c : Channel T W) (us : List (Under T W)) → map doing_of (map (sees c) us) ≡ map doing_of us
@@ -226,15 +232,12 @@ module _ {T : Type 0} where
   noted_parts before d d' behind m (Some r) u e f = remove_there before d behind
 
   pub stepped_noted : (s : Scene T Waiter) (p : ℕ) (e : Entry T) (names : List Waiter) (t : Scene T Waiter) (n : Steps s p e names t) (k : ℕ)
-      → length n.before ≡ k → s.now.queue.removed < 2 ^ 64 - 1 → All (TookFew s.now.queue.removed) s.under_way
-      → noted k (doing_of n.mine) e.mark e.reply (map doing_of s.under_way) ≡ map doing_of t.under_way
-  stepped_noted s p e names t n k place low few =
-      let all = subst (λ (us : List (Under T Waiter)). All (TookFew s.now.queue.removed) us) n.there few in
-      let own = (all_right (TookFew s.now.queue.removed) n.before (n.mine ∷ n.behind) all).0 in
+      → length n.before ≡ k → noted k (doing_of n.mine) e.mark e.reply (map doing_of s.under_way) ≡ map doing_of t.under_way
+  stepped_noted s p e names t n k place =
       let after = does n.mine n.at_now e.mark s.now t.now in
       ap (λ (ds : List Doing). noted k (doing_of n.mine) e.mark e.reply ds) (was s p e names t n)
       ∙ (ap (λ (i : ℕ). noted i (doing_of n.mine) e.mark e.reply (map doing_of n.before ++ (doing_of n.mine ∷ map doing_of n.behind)))
       (sym (map_long doing_of n.before ∙ place))
       ∙ (noted_parts (map doing_of n.before) (doing_of n.mine) (doing_of after) (map doing_of n.behind) e.mark e.reply after
-      (does_noted n.mine n.at_now e.mark s.now t.now (omega (arith, own, low))) refl
+      (does_noted n.mine n.at_now e.mark s.now t.now) refl
       ∙ sym (now_is s p e names t n)))

@@ -1,7 +1,11 @@
 -- Steps of an interleaved channel, and runs of them.
 use Rattle.std.specs.List.{remove}
-use Rattle.std.proofs.Common.{arith, ◌≡◌, ℕ, zero, suc, ◌+◌, ◌-◌, ◌^◌, ◌≤◌, ◌<◌, min, Bool, true, false, nat_lt, slice_index_or, List, [], ◌∷◌, ◌++◌, map, length, slice_get, vec_len, vec_capacity, Option, None, Some, inr, refl, sym, ap, ◌∙◌, subst, append_assoc}
-use Rattle.concurrent_queue.specs.Queue.{Queue, IsInRange}
+use Rattle.std.proofs.Common.{arith, ◌≡◌, ℕ, zero, suc, ◌+◌, ◌-◌, ◌^◌, ◌≤◌, ◌<◌, min, Bool, true, false, nat_lt, slice_index_or, List, [], ◌∷◌, ◌++◌, map, length, slice_get, vec_len, vec_capacity, Option, None, Some, ◌⊎◌, inl, inr, refl, sym, ap, ◌∙◌, subst, append_assoc}
+use Rattle.concurrent_queue.specs.Queue.{IsInRange}
+use Rattle.concurrent_queue.proofs.Interface.{shows}
+use Rattle.channel_alone.specs.Run as queue
+use Rattle.channel_alone.proofs.Counts.{counted_few}
+use Rattle.channel_laws.proofs.Bounds.{step_bounded}
 use Rattle.channel_calls.specs.Parts.{Parts, Roster, listeners}
 use Rattle.channel_calls.specs.Moves.{Channel}
 use Rattle.channel_calls.specs.Plain.{parts_of}
@@ -16,7 +20,7 @@ use Rattle.channel_steps.specs.Count.{counted, brought_in, taken_out}
 use Rattle.channel_steps.specs.Run.{new_scene, HasBegun, Begins}
 use Rattle.channel_steps.specs.Tellings.{telling, dropping}
 use Rattle.channel_steps.specs.Left.{left_at}
-use Rattle.channel_steps.specs.Scene.{Scene, Sitting, under_of, IsBalanced, Shows, StepsAt, StepsNearer, parties_in, unless_answered, brought}
+use Rattle.channel_steps.specs.Scene.{Scene, Sitting, under_of, all_seats, IsBalanced, Shows, StepsAt, StepsNearer, parties_in, unless_answered, brought}
 use Rattle.channel_steps.specs.Scene.{Steps as ChannelSteps}
 use Rattle.channel_steps.specs.declared.party.Entry.{Entry as ChannelEntry}
 use Rattle.channel_steps.specs.declared.party.Party.{Party}
@@ -24,8 +28,8 @@ use Rattle.channel_interleaving.specs.Bookkeeping.{asks}
 use Rattle.channel_interleaving.specs.Doing.{doing_begun, doing_of, noted}
 use Rattle.channel_interleaving.specs.Left.{left_of}
 use Rattle.channel_interleaving.specs.Owed.{Sight, Owed}
-use Rattle.channel_interleaving.specs.Floor.{parts_in, book_of, lefts_in, Shown, StandsIn, Stands, AreAtWork, AreOwned, IsSame, Stepped, Steps, HasPosition}
-use Rattle.channel_interleaving.specs.Positions.{brings, yet_in}
+use Rattle.channel_interleaving.specs.Floor.{parts_in, book_of, lefts_in, AreCounted, HasOnePlace, Shown, StandsIn, Stands, AreAtWork, AreOwned, IsSame, Stepped, Steps, HasPositions, HasPosition}
+use Rattle.channel_interleaving.specs.Positions.{brings, is_one_place, yet_in}
 use Rattle.channel_model.specs.declared.refusal.WorldRefusal.{WorldRefusal}
 use Rattle.channel_model.specs.declared.run.Stopped.{Stopped}
 use Rattle.std.proofs.lemmas.Bool.Decides.{nat_tests}
@@ -49,6 +53,7 @@ use Rattle.channel_interleaving.proofs.AllKept.{kept_first, kept_next}
 use Rattle.channel_interleaving.proofs.LeftFacts.{comes_nearer, few_of, parties_shown}
 use Rattle.channel_interleaving.proofs.DoingFacts.{begun_noted, begun_few, stepped_at, stepped_noted, stepped_few}
 use Rattle.channel_interleaving.proofs.OwedFacts.{owed}
+use Rattle.channel_interleaving.proofs.ShownFacts.{balanced_in, has_position, in_range}
 use Rattle.channel_interleaving.proofs.SightFacts.{sight_owed, sight_same}
 use Rattle.channel_interleaving.proofs.PlaceFacts.{brought_most, no_message}
 use Rattle.channel_interleaving.proofs.PositionFacts.{step_brings, begin_brings, yet_most}
@@ -82,11 +87,11 @@ module _ {T : Type 0} where
     none (x ∷ xs) e = absurd cc
 
   pub new_shown : (f : Floor T) (cap : Option ℕ) → Shows (parts_in f) f.parties.items (new_scene cap) → f.messages ≡ 0
-      → f.accepted ≡ 0 → f.doings.items ≡ [] → Shown f (new_scene cap)
-  new_shown f cap sh none nothing nobody = record {
+      → f.accepted ≡ 0 → f.has_one_place ≡ is_one_place cap → f.doings.items ≡ [] → Shown f (new_scene cap)
+  new_shown f cap sh none nothing place nobody = record {
     shows = sh;
-    accepted = omega arith;
-    within = omega (arith, nothing);
+    place = place;
+    positions = inr (record { accepted = omega arith; within = omega (arith, nothing) });
     messages = none;
     doings = nobody;
     few = tt;
@@ -120,28 +125,48 @@ module _ {T : Type 0} where
       omega (arith, most, calls, parties, same)
 
   -- where a call begins that has a position, the messages that may yet come are within the positions
-  begun_within : (p : PartyId) (c : Call T) (f : Floor T) (s t : Scene T Waiter) (entry : ChannelEntry T) → HasPosition c f → Shown f s
-      → Begins s p.0 (asks f.roll c) entry t → f.accepted + yet_in t.under_way < 2 ^ 61
-  begun_within p c f s t entry place sh b = by (brings f.roll c) refl where
+  begun_counted : (p : PartyId) (c : Call T) (f g : Floor T) (s t : Scene T Waiter) (entry : ChannelEntry T) → HasPosition c f
+      → Shown f s → Begins s p.0 (asks f.roll c) entry t → g.accepted ≡ f.accepted → g.has_one_place ≡ f.has_one_place
+      → HasOnePlace g ⊎ AreCounted g t
+  begun_counted p c f g s t entry room sh b counts place = by sh.positions where
     more : yet_in t.under_way ≤ yet_in s.under_way + length (brought (asks f.roll c))
     more = begin_brings s p.0 (asks f.roll c) entry t b
 
-    by : (x : Bool) → brings f.roll c ≡ x → f.accepted + yet_in t.under_way < 2 ^ 61
-    by true e =
-        let room = place e in
+    same : t.now.queue.accepted ≡ s.now.queue.accepted
+    same = ap (λ (x : Channel T Waiter). x.queue.accepted) b.now
+
+    counted_in : AreCounted f s → f.accepted + yet_in t.under_way < 2 ^ 61 → AreCounted g t
+    counted_in k within =
+        let least = k.accepted in
+        record { accepted = omega (arith, counts, same, least); within = omega (arith, counts, within) }
+
+    brings_one : AreCounted f s → HasPositions (length f.parties.items + 1) f → HasOnePlace g ⊎ AreCounted g t
+    brings_one k (inl one) = inl (place ∙ one)
+    brings_one k (inr left) =
         let few = yet_few f s sh.shows in
         let one = brought_most (asks f.roll c) in
-        omega (arith, more, room, few, one)
-    by false e = let none = no_message f.roll c e in let before = sh.within in omega (arith, more, none, before)
+        inr (counted_in k (omega (arith, more, left, few, one)))
+
+    may_bring : AreCounted f s → (x : Bool) → brings f.roll c ≡ x → HasOnePlace g ⊎ AreCounted g t
+    may_bring k true e = brings_one k (room e)
+    may_bring k false e =
+        let none = no_message f.roll c e in
+        let before = k.within in
+        inr (counted_in k (omega (arith, more, none, before)))
+
+    by : HasOnePlace f ⊎ AreCounted f s → HasOnePlace g ⊎ AreCounted g t
+    by (inl one) = inl (place ∙ one)
+    by (inr k) = may_bring k (brings f.roll c) refl
 
   pub has_begun : (p : PartyId) (c : Call T) (old new : Floor T) (e : Entry T) (entry : ChannelEntry T)
       → HasBegun p.0 (asks old.roll c) old.parties.items entry new.parties.items
       → e.mark ≡ Nothing → e.reply ≡ None → e.woken.items ≡ []
       → new.channel ≡ old.channel → book_of new ≡ begun p c (book_of old) → new.messages ≡ old.messages → new.accepted ≡ old.accepted
+      → new.has_one_place ≡ old.has_one_place
       → new.doings.items ≡ old.doings.items ++ (doing_begun (asks old.roll c) ∷ [])
       → HasPosition c old → step_refusal old.roll old.agents.items (step.Begin p c) ≡ None
       → Steps (step.Begin p c) old e new
-  has_begun p c old new e entry h mark reply woken same book messages counts doings place fine s sh =
+  has_begun p c old new e entry h mark reply woken same book messages counts place doings room fine s sh =
       let b = h (parts_in old) s sh.shows in
       let parts : parts_in new ≡ parts_in old = ap parts_of same in
       record {
@@ -157,8 +182,8 @@ module _ {T : Type 0} where
         nearer = tt;
         shown = record {
           shows = rw parts b.shown;
-          accepted = rw (counts, ap (λ (x : Channel T Waiter). x.queue.accepted) b.begins.now) sh.accepted;
-          within = rw counts (begun_within p c old s b.after entry place sh b.begins);
+          place = place ∙ (sh.place ∙ sym (ap (λ (x : Channel T Waiter). is_one_place x.queue.capacity) b.begins.now));
+          positions = begun_counted p c old new s b.after entry room sh b.begins counts place;
           messages = messages ∙ (sh.messages ∙ sym (ap (λ (x : Channel T Waiter). length x.queue.items) b.begins.now));
           doings = doings ∙ begun_noted s p.0 (asks old.roll c) entry b.after old.doings.items b.begins sh.doings;
           few = begun_few s p.0 (asks old.roll c) entry b.after b.begins sh.few;
@@ -196,24 +221,52 @@ module _ {T : Type 0} where
       ap (λ (b : Book T). map (λ (x : Agent T). x.party) b.agents) book
       ∙ (ended_at_work k a r kept (with_woken names (book_of old)) ∙ (ap (unless_answered k r) at_work ∙ sym after))
 
-  pub balanced_in : (parts : Parts T Waiter) (parties : List (Party T Waiter)) (s : Scene T Waiter) → Shows parts parties s
-      → IsBalanced s.now.queue
-  balanced_in parts parties s sh =
-      subst (λ (q : Queue T). IsBalanced q) (sym (ap (λ (c : Channel T Waiter). c.queue) sh.now)) sh.balanced
+  -- the messages after a step are counted by its mark: one slot holds one at most
+  counted_now : (new : Floor T) (s : Scene T Waiter) (p : ℕ) (e : ChannelEntry T) (names : List Waiter) (t : Scene T Waiter)
+      → ChannelSteps s p e names t → IsBalanced s.now.queue → Shows (parts_in new) new.parties.items t
+      → queue.HasPosition s.now.queue → counted (length s.now.queue.items) e.mark ≡ length t.now.queue.items
+  counted_now new s p e names t n balanced sh (inr low) =
+      messages_counted s p e names t n balanced (balanced_in _ _ t sh) (omega (arith, low))
+  counted_now new s p e names t n balanced sh (inl one) =
+      counted_few (length s.now.queue.items) (length t.now.queue.items) e.mark
+      (messages_moved s p e names t n balanced (balanced_in _ _ t sh)) (omega (arith, most, here))
+    where
+      here : length t.now.queue.items ≡ length sh.queue.items
+      here = ap (λ (c : Channel T Waiter). length c.queue.items) sh.now
+
+      same : sh.queue.capacity ≡ s.now.queue.capacity
+      same = sym (ap (λ (c : Channel T Waiter). c.queue.capacity) sh.now) ∙ (step_bounded s t p e names n).capacity
+
+      most : length sh.queue.items ≤ 1
+      most = (shows (parts_in new).cells sh.queue (all_seats sh.sittings) sh.fits).within 1 (same ∙ one)
+
+  -- those that were accepted after it, with those that may yet come
+  counted_then : (old new : Floor T) (s : Scene T Waiter) (p : ℕ) (e : ChannelEntry T) (names : List Waiter) (t : Scene T Waiter)
+      (came : ℕ) → ChannelSteps s p e names t → came ≡ brought_in e.mark → new.accepted ≡ min (old.accepted + came) (2 ^ 64 - 1)
+      → new.has_one_place ≡ old.has_one_place → HasOnePlace old ⊎ AreCounted old s → HasOnePlace new ⊎ AreCounted new t
+  counted_then old new s p e names t came n brought counts place (inl one) = inl (place ∙ one)
+  counted_then old new s p e names t came n brought counts place (inr k) =
+      let b = step_brings s p e names t n in
+      let grown = b.accepted in
+      let fewer = b.fewer in
+      let accepted = k.accepted in
+      let within = k.within in
+      inr (record {
+        accepted = omega (arith, accepted, within, grown, fewer, brought, counts);
+        within = omega (arith, within, fewer, brought, counts);
+      })
 
   -- what is noted of the calls under way after it
   doings_now : (k : ℕ) (old new : Floor T) (entry : ChannelEntry T) (s : Scene T Waiter) (p : ℕ) (names : List Waiter)
-      (t : Scene T Waiter) (n : ChannelSteps s p entry names t) → length n.before ≡ k → IsBalanced s.now.queue
-      → s.now.queue.accepted < 2 ^ 61 → Shown old s
+      (t : Scene T Waiter) (n : ChannelSteps s p entry names t) → length n.before ≡ k → Shown old s
       → ((d : Doing) → slice_get old.doings.items k ≡ Some d
       → new.doings.items ≡ noted k d entry.mark entry.reply old.doings.items)
       → new.doings.items ≡ map doing_of t.under_way
-  doings_now k old new entry s p names t n place balanced low sh doings =
+  doings_now k old new entry s p names t n place sh doings =
       let his = ap (λ (ds : List Doing). slice_get ds k) sh.doings ∙ stepped_at s p entry names t n k place in
-      let removed : s.now.queue.removed < 2 ^ 64 - 1 = omega (arith, balanced, low) in
       doings (doing_of n.mine) his
       ∙ (ap (λ (ds : List Doing). noted k (doing_of n.mine) entry.mark entry.reply ds) sh.doings
-      ∙ stepped_noted s p entry names t n k place removed sh.few)
+      ∙ stepped_noted s p entry names t n k place)
 
   pub has_stepped : (p : PartyId) (k n came : ℕ) (a : Agent T) (x : Party T Waiter) (old new : Floor T) (empty full : Sink)
       (e : Entry T) (entry : ChannelEntry T)
@@ -224,16 +277,15 @@ module _ {T : Type 0} where
       → e.mark ≡ entry.mark → e.reply ≡ entry.reply → e.woken.items ≡ full.names.items
       → book_of new ≡ ended k a entry.reply entry.kept (with_woken full.names.items (book_of old))
       → new.messages ≡ counted old.messages entry.mark → came ≡ brought_in entry.mark
-      → new.accepted ≡ min (old.accepted + came) (2 ^ 64 - 1)
+      → new.accepted ≡ min (old.accepted + came) (2 ^ 64 - 1) → new.has_one_place ≡ old.has_one_place
       → ((d : Doing) → slice_get old.doings.items k ≡ Some d
       → new.doings.items ≡ noted k d entry.mark entry.reply old.doings.items)
       → step_refusal old.roll old.agents.items (step.Step p) ≡ None
       → Steps (step.Step p) old e new
   has_stepped p k n came a x old new empty full e entry there whose agent own steps none most room mark reply woken book messages
-      brought counts doings fine s sh =
-      let accepted = sh.accepted in
-      let within = sh.within in
-      let range : IsInRange s.now.queue = inr (omega (arith, accepted, within)) in
+      brought counts place doings fine s sh =
+      let position = has_position old s sh in
+      let range : IsInRange s.now.queue = in_range s.now.queue position in
       let h = steps s x range sh.shows there in
       let roster : (parts_in old).roster ≡ s.now.roster = sym (ap (λ (c : Channel T Waiter). c.roster) sh.shows.now) in
       let most_now : ((line : Line) → length (listeners line s.now.roster).waiting ≤ n) =
@@ -243,11 +295,8 @@ module _ {T : Type 0} where
       let nobody : length empty.names.items ≡ 0 = ap length none in
       let heard : full.names.items ≡ h.names = all_heard empty h.names full h.woken (omega (arith, few, room, start, nobody))
       ∙ ap (λ (ws : List Waiter). ws ++ h.names) none in
-      let b = step_brings s x.id entry h.names h.after h.steps.step in
-      let grown = b.accepted in
-      let fewer = b.fewer in
-      let messages_now = messages_counted s x.id entry h.names h.after h.steps.step (balanced_in _ _ s sh.shows)
-      (balanced_in _ _ h.after h.shown) (omega (arith, accepted, within)) in
+      let messages_now = counted_now new s x.id entry h.names h.after h.steps.step (balanced_in _ _ s sh.shows) h.shown position in
+      let kept_capacity = (step_bounded s h.after x.id entry h.names h.steps.step).capacity in
       let his : StepsNearer k (lefts_in old) (lefts_in new) s p.0 (record { mark = e.mark; reply = e.reply; kept = entry.kept }) e.woken.items h.after =
       rw (mark, reply, woken, heard, sym whose) h.steps in
       record {
@@ -263,11 +312,10 @@ module _ {T : Type 0} where
             subst (λ (j : ℕ). left_at j (lefts_in new) < left_at j (lefts_in old)) (sym his.place) (his.nearer goes_on hold);
         shown = record {
           shows = h.shown;
-          accepted = omega (arith, accepted, within, grown, fewer, brought, counts);
-          within = omega (arith, within, fewer, brought, counts);
+          place = place ∙ (sh.place ∙ sym (ap (λ (cap : Option ℕ). is_one_place cap) kept_capacity));
+          positions = counted_then old new s x.id entry h.names h.after came h.steps.step brought counts place sh.positions;
           messages = messages ∙ (ap (λ m. counted m entry.mark) sh.messages ∙ messages_now);
-          doings = doings_now k old new entry s x.id h.names h.after h.steps.step h.steps.place
-              (balanced_in _ _ s sh.shows) (omega (arith, accepted, within)) sh doings;
+          doings = doings_now k old new entry s x.id h.names h.after h.steps.step h.steps.place sh doings;
           few = stepped_few s x.id entry h.names h.after h.steps.step (balanced_in _ _ s sh.shows)
               (balanced_in _ _ h.after h.shown) sh.few;
         };
@@ -422,12 +470,16 @@ module _ {T : Type 0} where
       let parts : parts_in h ≡ parts_in g = ap (λ c. parts_of c) same.channel in
       record {
         shows = rw (parts, same.parties) sh.shows;
-        accepted = rw same.accepted sh.accepted;
-        within = rw same.accepted sh.within;
+        place = same.place ∙ sh.place;
+        positions = by sh.positions;
         messages = rw same.messages sh.messages;
         doings = same.doings ∙ sh.doings;
         few = sh.few;
       }
+    where
+      by : HasOnePlace g ⊎ AreCounted g s → HasOnePlace h ⊎ AreCounted h s
+      by (inl one) = inl (same.place ∙ one)
+      by (inr k) = inr (record { accepted = rw same.accepted k.accepted; within = rw same.accepted k.within })
 
   pub stands_same : (g h : Floor T) (s : Scene T Waiter) → IsSame g h → StandsIn g s → StandsIn h s
   stands_same g h s same k = record {

@@ -1,7 +1,11 @@
 -- What layers above may use: of a channel with no call under way, of what leads on from one scene to another, how few steps
--- are left to the calls under way, that each party has one call, and what is owed to those who are pending.
-use Rattle.std.proofs.Common.{◌≡◌, false, List, [], ◌∷◌, ◌++◌, None, subst}
+-- are left to the calls under way, that each party has one call, and what is owed to those who are pending, and
+-- that only sends bring messages.
+use Rattle.std.proofs.Common.{◌≡◌, false, true, List, [], ◌∷◌, ◌++◌, None, subst}
 use Rattle.channel_calls.specs.declared.reply.Reply.{Reply}
+use Rattle.channel_calls.specs.declared.stage.Line.TheVariants.{Sends}
+use Rattle.channel_model.specs.Laws.{is_line, line_of}
+use Rattle.channel_model.specs.Settling.{poll_of}
 use Rattle.channel_model.specs.declared.call.Call.{Call}
 use Rattle.channel_model.specs.declared.name.Waiter.{Waiter}
 use Rattle.channel_steps.specs.Answers.{asks_first}
@@ -11,7 +15,10 @@ use Rattle.channel_interleaving.specs.Kept.{AllKept}
 use Rattle.channel_interleaving.specs.Left.{others_of}
 use Rattle.channel_interleaving.specs.Owed.{Owed}
 use Rattle.channel_interleaving.specs.Owners.{All, post, Together}
+use Rattle.channel_interleaving.specs.Positions.{brings}
 use Rattle.channel_interleaving.specs.Refusal.{step_refusal}
+use Rattle.channel_interleaving.specs.Roll.{names_of}
+use Rattle.channel_interleaving.specs.declared.roll.Roll.{Roll}
 use Rattle.channel_interleaving.specs.Run.{Book}
 use Rattle.channel_interleaving.specs.Runs.{Moment, FewLeft, LeadsBy, RanTo, moment_of}
 use Rattle.channel_interleaving.specs.SightAt.{sight_at}
@@ -27,6 +34,7 @@ use Rattle.channel_interleaving.proofs.LeftFacts as left_facts
 use Rattle.channel_interleaving.proofs.LoneFacts as facts
 use Rattle.channel_interleaving.proofs.OwnerRuns.{idle_and_free}
 use Rattle.channel_interleaving.proofs.OwnerTogether as together
+use Rattle.channel_interleaving.proofs.PlaceFacts as place_facts
 use Rattle.channel_interleaving.proofs.SightFacts as sight_facts
 use Rattle.channel_interleaving.proofs.WayFacts as way_facts
 use Rattle.channel_interleaving.proofs.WayFacts.{no_way, ways_on}
@@ -45,6 +53,10 @@ module _ {T : Type 0} where
       → asks_first u.ask ≡ false
   tries_at b s before u behind kept there =
       together.tries_at (post b.roll) b.agents before u behind (subst (λ (us : List (Under T Waiter)). Together (post b.roll) b.agents us) there kept.owned.together)
+
+  -- a poll that may bring a message is that of a send
+  pub only_sends_bring : (r : Roll T) (w : Waiter) → brings r (poll_of w) ≡ true → is_line Sends (line_of (names_of r) w) ≡ true
+  only_sends_bring r w e = place_facts.only_sends_bring r w e
 
   -- nothing done leads on
   pub leads_nowhere : (f : Floor T) → LeadsOn f [] f

@@ -29,6 +29,7 @@ pub mod OwedScenes
 pub mod OwedCounts
 pub mod OwedFacts
 mod OwedRows
+pub mod ShownFacts
 pub mod SightFacts
 pub mod DoingFacts
 pub mod UserFacts

@@ -1,5 +1,5 @@
 -- A call made alone, by names: what its code does, and what is kept.
-use Rattle.std.proofs.Common.{arith, ◌≡◌, ◌+◌, ◌-◌, ◌≤◌, ◌<◌, ◌^◌, min, ℕ, Bool, true, false, List, [], ◌∷◌, map, length, drop, None, Result, Ok, Err, IfOk, OnErr, inr, refl, sym, ap, ◌∙◌, subst, vec_len, vec_capacity}
+use Rattle.std.proofs.Common.{arith, ◌≡◌, ◌+◌, ◌-◌, ◌≤◌, ◌<◌, ◌^◌, min, ℕ, Bool, true, false, List, [], ◌∷◌, map, length, drop, Option, None, Result, Ok, Err, IfOk, OnErr, ◌⊎◌, inl, inr, refl, sym, ap, ◌∙◌, subst, vec_len, vec_capacity}
 use Rattle.channel_calls.specs.Moves.{Channel}
 use Rattle.channel_calls.specs.declared.ask.ChannelAsk.{ChannelAsk}
 use Rattle.channel_calls.specs.declared.reply.Reply.{Reply}
@@ -14,13 +14,13 @@ use Rattle.concurrent_queue.specs.Step.{Fits}
 use Rattle.channel_steps.specs.Scene.{Under, Scene, Sitting, under_of, all_seats, Shows, parties_in}
 use Rattle.channel_steps.specs.Start.{TellsQuiet as Tells}
 use Rattle.channel_interleaving.specs.Bookkeeping.{asks}
-use Rattle.channel_interleaving.specs.Floor.{parts_in, book_of, Shown, AreAtWork, AreOwned, IsKept, IsQuiet, IsSame, LeadsOn, TellsQuiet}
+use Rattle.channel_interleaving.specs.Floor.{parts_in, book_of, AreCounted, HasOnePlace, Shown, AreAtWork, AreOwned, IsKept, IsQuiet, IsSame, LeadsOn, TellsQuiet}
 use Rattle.channel_interleaving.specs.Floor as place
 use Rattle.channel_interleaving.specs.Doing.{doing_of}
 use Rattle.channel_interleaving.specs.Kept.{AllKept}
 use Rattle.channel_interleaving.specs.Owners.{All}
 use Rattle.channel_interleaving.specs.Lone.{names_alone, order_alone, CallsAlone, WakesAtMost}
-use Rattle.channel_interleaving.specs.Positions.{brings, accepted_by, yet_in}
+use Rattle.channel_interleaving.specs.Positions.{brings, accepted_by, is_one_place, yet_in}
 use Rattle.channel_interleaving.specs.Refusal.{refusal}
 use Rattle.channel_interleaving.specs.Run.{Book}
 use Rattle.channel_interleaving.specs.Way.{Way, reply_of}
@@ -34,6 +34,7 @@ use Rattle.channel_interleaving.proofs.DoingFacts.{TookFew}
 use Rattle.channel_interleaving.proofs.OwnerBegins.{Admitted, admitted}
 use Rattle.channel_interleaving.proofs.FloorFacts.{no_parties, owned_same, owned_where, stands_in, stands_same}
 use Rattle.channel_interleaving.proofs.PlaceFacts.{Counted, counted_alone}
+use Rattle.channel_interleaving.proofs.ShownFacts.{has_position}
 use Rattle.channel_interleaving.proofs.WayFacts.{no_way, lone_way}
 use Rattle.channel_interleaving.proofs.WokenFacts.{all_heard, drop_front}
 
@@ -64,20 +65,13 @@ module _ {T : Type 0} where
       none [] e = refl
       none (x ∷ xs) e = absurd cc
 
-  -- a queue that is shown has a position more
-  pub has_position : (f : Floor T) (s : Scene T Waiter) → Shown f s → HasPosition s.now.queue
-  has_position f s sh = let accepted = sh.accepted in let within = sh.within in inr (omega (arith, accepted, within))
-
   -- the cells are at rest
   pub is_at_rest : (f : Floor T) (s : Scene T Waiter) → Shown f s → IsQuiet f → IsAtRest (parts_in f)
   is_at_rest f s sh quiet =
       let q = sh.shows.queue in
-      let accepted = sh.accepted in
-      let within = sh.within in
-      let same : s.now.queue.accepted ≡ q.accepted = ap (λ (x : Channel T Waiter). x.queue.accepted) sh.shows.now in
       let none = nobody sh.shows.sittings (sym sh.shows.parties_are ∙ quiet) in (
         q,
-        inr (omega (arith, accepted, same, within)),
+        subst (λ (x : Channel T Waiter). HasPosition x.queue) sh.shows.now (has_position f s sh),
         subst (λ (xs : List (Sitting T Waiter)). Fits (parts_in f).cells q (all_seats xs)) none sh.shows.fits,
       )
     where
@@ -86,26 +80,35 @@ module _ {T : Type 0} where
       nobody (x ∷ xs) e = absurd cc
 
   -- a call that was made alone left the messages that were counted within the positions
-  within_alone : (c : Call T) (old new : Floor T) (b : Bool) (x : Reply T) (came : ℕ) (s t : Scene T Waiter) → brings old.roll c ≡ b
-      → Counted old.accepted b x t → Shown old s → IsQuiet old → place.HasPosition c old → came ≡ accepted_by b x
-      → new.accepted ≡ min (old.accepted + came) (2 ^ 64 - 1) → t.under_way ≡ []
-      → (t.now.queue.accepted ≤ new.accepted) × (new.accepted + yet_in t.under_way < 2 ^ 61)
-  within_alone c old new b x came s t e counted sh quiet room same counts over =
-      let accepted = counted.accepted in
-      let most = counted.most in
-      let within = sh.within in
-      let none : yet_in t.under_way ≡ 0 = ap yet_in over in
-      let new_most : old.accepted + came < 2 ^ 61 = by b e counted.none in
-      (omega (arith, accepted, same, counts, new_most), omega (arith, none, counts, new_most))
-    where
-      by : (y : Bool) → brings old.roll c ≡ y → (b ≡ false → accepted_by b x ≡ 0) → old.accepted + came < 2 ^ 61
-      by true f given = let left = room f in let one = counted.most in omega (arith, left, one, same)
-      by false f given = let nothing = given (sym e ∙ f) in let within = sh.within in omega (arith, nothing, within, same)
+  counted_then : (c : Call T) (old new : Floor T) (b : Bool) (x : Reply T) (came : ℕ) (s t : Scene T Waiter) → brings old.roll c ≡ b
+      → (s.now.queue.accepted ≤ old.accepted → Counted old.accepted b x t) → place.HasPosition c old → came ≡ accepted_by b x
+      → new.accepted ≡ min (old.accepted + came) (2 ^ 64 - 1) → new.has_one_place ≡ old.has_one_place → t.under_way ≡ []
+      → HasOnePlace old ⊎ AreCounted old s → HasOnePlace new ⊎ AreCounted new t
+  counted_then c old new b x came s t e counted room same counts kept over (inl one) = inl (kept ∙ one)
+  counted_then c old new b x came s t e counted room same counts kept over (inr k) = by b refl where
+    now : Counted old.accepted b x t
+    now = counted k.accepted
+
+    none : yet_in t.under_way ≡ 0
+    none = ap yet_in over
+
+    counted_in : old.accepted + came < 2 ^ 61 → AreCounted new t
+    counted_in most =
+        let accepted = now.accepted in
+        record { accepted = omega (arith, accepted, same, counts, most); within = omega (arith, none, counts, most) }
+
+    brings_one : place.HasPositions (length old.parties.items + 1) old → HasOnePlace new ⊎ AreCounted new t
+    brings_one (inl one) = inl (kept ∙ one)
+    brings_one (inr left) = let one = now.most in inr (counted_in (omega (arith, left, one, same)))
+
+    by : (y : Bool) → b ≡ y → HasOnePlace new ⊎ AreCounted new t
+    by true f = brings_one (room (e ∙ f))
+    by false f = let nothing = now.none f in let within = k.within in inr (counted_in (omega (arith, nothing, within, same)))
 
   pub is_called : (c : Call T) (old new : Floor T) (a : ChannelAsk T Waiter) (d : Done T) (empty full : Sink) (fresh : List Waiter) (room came : ℕ)
       → RunsInScenes Hears a (parts_in old) empty old.messages d (parts_in new) full new.messages
       → a ≡ asks old.roll c → IsQuiet old → IsQuiet new → place.HasPosition c old → came ≡ accepted_by (brings old.roll c) d.reply
-      → new.accepted ≡ min (old.accepted + came) (2 ^ 64 - 1)
+      → new.accepted ≡ min (old.accepted + came) (2 ^ 64 - 1) → new.has_one_place ≡ old.has_one_place
       → drop (length empty.names.items) full.names.items ≡ fresh → length empty.names.items + room ≤ vec_capacity empty.names
       → WakesAtMost room c old → new.doings.items ≡ old.doings.items
       → book_of new ≡ record {
@@ -114,7 +117,7 @@ module _ {T : Type 0} where
         agents = [];
       }
       → CallsAlone c old d.reply fresh new
-  is_called c old new a d empty full fresh room came ran asked quiet still place_left brought counts behind enough few doings book s sh all =
+  is_called c old new a d empty full fresh room came ran asked quiet still place_left brought counts same_place behind enough few doings book s sh all =
       let r = ran s 0 (has_position old s sh) (subst (λ ps. Shows (parts_in old) ps s) quiet sh.shows) in
       let alone : Alone (asks old.roll c) s.now r.outcome =
       subst (λ (x : ChannelAsk T Waiter). Alone x s.now r.outcome) asked r.does in
@@ -124,13 +127,10 @@ module _ {T : Type 0} where
       sym behind
       ∙ (ap (λ (ws : List Waiter). drop (length empty.names.items) ws) (all_heard empty r.outcome.woken full r.woken (omega (arith, most, enough, start)))
       ∙ drop_front empty.names.items r.outcome.woken) in
-      let least = sh.accepted in
-      let within = sh.within in
       let run : LoneRun s 0 (asks old.roll c) r.outcome r.after =
       subst (λ (x : ChannelAsk T Waiter). LoneRun s 0 x r.outcome r.after) asked r.run in
-      let counted = counted_alone old.roll c old.accepted s r.after r.outcome 0 run alone r.now (none_under_way old s quiet sh) sh.accepted in
-      let left = within_alone c old new (brings old.roll c) r.outcome.reply came s r.after refl counted sh quiet place_left
-      (brought ∙ ap (λ (y : Reply T). accepted_by (brings old.roll c) y) r.reply) counts run.over in
+      let capacity : r.after.now.queue.capacity ≡ s.now.queue.capacity =
+      ap (λ (x : Channel T Waiter). x.queue.capacity) r.now ∙ r.capacity in
       record {
         outcome = r.outcome;
         after = r.after;
@@ -141,9 +141,11 @@ module _ {T : Type 0} where
         now = r.now;
         shown = record {
           shows = subst (λ ps. Shows (parts_in new) ps r.after) (sym still) r.shown;
-          accepted = left.0;
-          within = left.1;
-          messages = r.counted sh.messages (omega (arith, least, within));
+          place = same_place ∙ (sh.place ∙ sym (ap (λ (cap : Option ℕ). is_one_place cap) capacity));
+          positions = counted_then c old new (brings old.roll c) r.outcome.reply came s r.after refl
+              (counted_alone old.roll c old.accepted s r.after r.outcome 0 run alone r.now (none_under_way old s quiet sh))
+              place_left (brought ∙ ap (λ (y : Reply T). accepted_by (brings old.roll c) y) r.reply) counts same_place run.over sh.positions;
+          messages = r.counted sh.messages;
           doings = doings ∙ (sh.doings ∙ (ap (λ (us : List (Under T Waiter)). map doing_of us) (none_under_way old s quiet sh)
               ∙ sym (ap (λ (us : List (Under T Waiter)). map doing_of us) run.over)));
           few = subst (λ (us : List (Under T Waiter)). All (TookFew r.after.now.queue.removed) us) (sym run.over) tt;

@@ -1,5 +1,5 @@
 -- Messages that a call made alone brings in, and the positions that are left.
-use Rattle.std.proofs.Common.{arith, ◌≡◌, ℕ, ◌+◌, ◌≤◌, Bool, true, false, if◌then◌else◌, List, [], ◌∷◌, length, slice_get, Option, None, Some, Ok, Err, inl, inr, ◌⊎◌, refl, sym, ap, subst}
+use Rattle.std.proofs.Common.{arith, ◌≡◌, ℕ, ◌+◌, ◌≤◌, Bool, true, false, if◌then◌else◌, List, [], ◌∷◌, length, slice_get, Option, None, Some, Ok, Err, inl, inr, ◌⊎◌, refl, sym, ap, ◌∙◌, subst}
 use Rattle.std.specs.Option.{option_map, option_map_or}
 use Rattle.futures.specs.declared.task.Poll.TheVariants as poll
 use Rattle.concurrent_queue.specs.Queue.{Queue, is_filled}
@@ -22,6 +22,9 @@ use Rattle.channel_calls.specs.declared.stage.Side.TheVariants.{Senders, Receive
 use Rattle.channel_calls.specs.declared.stage.Waiting.{Waiting}
 use Rattle.channel_calls.specs.declared.stage.Waiting.TheVariants as waiting
 use Rattle.channel_model.specs.Asked.{poll_asked, refusal_asked, giving_up_asked, drop_asked, clone_asked, upgrade_asked}
+use Rattle.channel_model.specs.Laws.{is_line, line_of_operation}
+use Rattle.channel_model.specs.Laws as laws
+use Rattle.channel_model.specs.Settling.{poll_of}
 use Rattle.channel_model.specs.Names.{at}
 use Rattle.channel_model.specs.Names as model
 use Rattle.channel_model.specs.declared.call.Call.{Call}
@@ -32,17 +35,18 @@ use Rattle.channel_model.specs.declared.name.HandleKind.{HandleKind}
 use Rattle.channel_model.specs.declared.name.HandleKind.TheVariants as handle_kind
 use Rattle.channel_model.specs.declared.name.OpId.{OpId}
 use Rattle.channel_model.specs.declared.name.Waiter.{Waiter}
-use Rattle.channel_model.specs.declared.name.Waiter.TheVariants.{Stream}
+use Rattle.channel_model.specs.declared.name.Waiter.TheVariants.{Op, Stream}
 use Rattle.channel_steps.specs.Scene.{Scene, brought}
 use Rattle.channel_steps.specs.declared.party.Entry.{Entry}
 use Rattle.channel_interleaving.specs.Bookkeeping.{asks}
 use Rattle.channel_interleaving.specs.Positions.{has_message, brings, came_in, accepted_by, yet_in}
-use Rattle.channel_interleaving.specs.Roll.{held_of, handle_at, operation_at, operation_of}
+use Rattle.channel_interleaving.specs.Roll.{held_of, handle_at, names_of, operation_at, operation_of}
 use Rattle.channel_interleaving.specs.declared.names.Operation.{Operation}
 use Rattle.channel_interleaving.specs.declared.names.OperationKind.{OperationKind}
 use Rattle.channel_interleaving.specs.declared.names.OperationKind.TheVariants as kind
 use Rattle.channel_interleaving.specs.declared.roll.Roll.{Roll}
 use Rattle.channel_interleaving.proofs.PositionFacts.{left_queue, step_brings, begin_brings}
+use Rattle.channel_interleaving.proofs.RefusalLemmas as refusals
 
 module _ (T : Type 0) where
   none_cloned : (o : Option Handle) → length (brought (let a : ChannelAsk T Waiter = clone_asked o in a)) ≡ 0
@@ -135,6 +139,25 @@ module _ {T : Type 0} where
   no_message r (call.TryClone handle new) e = none_cloned T (handle_at handle r)
   no_message r (call.Upgrade weak new) e = none_upgraded T (handle_at weak r)
   no_message r c e = refl
+
+  -- a poll that may bring one is that of a send
+  pub only_sends_bring : (r : Roll T) (w : Waiter) → brings r (poll_of w) ≡ true → is_line Sends (laws.line_of (names_of r) w) ≡ true
+  only_sends_bring r (Stream receiver) e = absurd (let no : false ≡ true = e in cc)
+  only_sends_bring r (Op op) e =
+      ap (λ (o : Option (model.Operation T)). is_line Sends (line_of_operation o)) (refusals.operation_at r op.0)
+      ∙ by (at op.0 r.operations) e
+    where
+      kinds : (handle : HandleId) (k : OperationKind) (m : Option T) → has_message k m ≡ true
+          → is_line Sends (line_of_operation (Some (elim k [ kind.Send ↦ model.send handle m | kind.Receive ↦ model.recv handle | kind.Closing ↦ model.closing handle ]))) ≡ true
+      kinds handle kind.Send (Some m) has = refl
+      kinds handle kind.Send None has = absurd (let no : false ≡ true = has in cc)
+      kinds handle kind.Receive m has = absurd (let no : false ≡ true = has in cc)
+      kinds handle kind.Closing m has = absurd (let no : false ≡ true = has in cc)
+
+      by : (o : Option (Operation T)) → option_map_or (λ (x : Operation T). has_message x.kind x.message) o false ≡ true
+          → is_line Sends (line_of_operation (option_map operation_of o)) ≡ true
+      by None has = absurd (let no : false ≡ true = has in cc)
+      by (Some o) has = kinds o.handle o.kind o.message has
 
   -- ---- what a call made alone brings in, its reply says
 
@@ -256,10 +279,6 @@ module _ {T : Type 0} where
   came_most (reply.ForceSend (Ok d)) = omega arith
   came_most (reply.SendPoll (poll.Ready (Ok u))) = omega arith
   came_most x = omega arith
-
-  pub accepted_most : (b : Bool) (x : Reply T) → accepted_by b x ≤ 1
-  accepted_most true x = came_most x
-  accepted_most false x = omega arith
 
   -- ---- the count of the accepted
 

@@ -14,7 +14,7 @@ use Rattle.channel_interleaving.specs.Lone.{WakesAtMost}
 use Rattle.channel_interleaving.specs.Woken.{Hears}
 use Rattle.channel_interleaving.specs.declared.floor.Floor.{Floor}
 use Rattle.channel_interleaving.specs.declared.woken.Woken.{Woken as Sink}
-use Rattle.channel_interleaving.proofs.LoneFacts.{has_position}
+use Rattle.channel_interleaving.proofs.ShownFacts.{has_position}
 use Rattle.channel_interleaving.proofs.WokenFacts.{all_heard, room_stays, drop_front}
 
 -- what a sink has heard stands behind what it had

@@ -1,5 +1,5 @@
 -- What is owed in a scene that is shown, a world owes as it is.
-use Rattle.std.proofs.Common.{arith, ◌≡◌, ℕ, zero, suc, ◌+◌, ◌≤◌, ◌<◌, Bool, true, false, ◌||◌, List, [], ◌∷◌, ◌++◌, map, length, Option, ◌⊎◌, inl, inr, refl, sym, ap, ◌∙◌, subst}
+use Rattle.std.proofs.Common.{arith, ◌≡◌, ℕ, zero, suc, ◌+◌, ◌-◌, ◌^◌, ◌≤◌, ◌<◌, min, Bool, true, false, ◌||◌, List, [], ◌∷◌, ◌++◌, map, length, Option, ◌⊎◌, inl, inr, refl, sym, ap, ◌∙◌, subst}
 use Rattle.std.specs.List.{count_by}
 use Rattle.concurrent_queue.proofs.Interface.{shows}
 use Rattle.concurrent_queue.specs.Capacity.{capacity_of}
@@ -24,19 +24,21 @@ use Rattle.channel_steps.specs.Scene.{Under, Scene, Sitting, AllKnown, under_of,
 use Rattle.channel_steps.specs.Tellings.{Telling, takings, owed_takings, owed_besides}
 use Rattle.channel_steps.specs.declared.party.Party.{Party}
 use Rattle.channel_interleaving.specs.Doing.{is_close, any_close, doing_of}
-use Rattle.channel_interleaving.specs.Floor.{book_of, parts_in, sight_of, Shown, IsSame}
+use Rattle.channel_interleaving.specs.Floor.{book_of, parts_in, sight_of, AreCounted, HasOnePlace, Shown, IsSame}
 use Rattle.channel_interleaving.specs.Owed.{Sight, Owed, is_sending, is_receiving, unannounced, all_unannounced, woken_on}
-use Rattle.channel_interleaving.specs.Owners.{AnyOf}
+use Rattle.channel_interleaving.specs.Owners.{All, AnyOf}
 use Rattle.channel_interleaving.specs.Kept.{AllKept}
 use Rattle.channel_interleaving.specs.Run.{Book}
 use Rattle.channel_interleaving.specs.SightAt.{unless_told, freed_by, all_freed, sight_at}
 use Rattle.channel_interleaving.specs.declared.doing.Doing.{Doing}
 use Rattle.channel_interleaving.specs.declared.floor.Floor.{Floor}
 use Rattle.channel_interleaving.specs.declared.roll.Roll.{Roll}
+use Rattle.channel_interleaving.proofs.DoingFacts.{TookFew}
 use Rattle.channel_interleaving.proofs.OwedCounts.{one_if, count_first}
 use Rattle.channel_interleaving.proofs.OwedFacts.{places, owed}
 use Rattle.channel_interleaving.proofs.OwedScenes.{OwedIn}
 use Rattle.channel_interleaving.proofs.OwedScenes as scenes
+use Rattle.channel_interleaving.proofs.ShownFacts.{balanced_in, capacity_is, one_slot}
 
 -- ---- what was told
 
@@ -87,31 +89,44 @@ module _ {T : Type 0} where
 
   -- ---- what was freed
 
+  -- as far as a machine number goes
   no_more : (f : Phase T) (at : Stage (QueueCall T) T Waiter) (u : Under T Waiter) → ToldAt u.told (phase f at) u.deeds
-      → freed_by u ≤ unannounced at (doing_of u)
-  no_more f (Working (Leave x)) u h = all_announced u.told (takings u.deeds) (owed_besides u.deeds) h
-  no_more f at u h = unless_most u.told (takings u.deeds)
+      → min (freed_by u) (2 ^ 64 - 1) ≤ unannounced at (doing_of u)
+  no_more f (Working (Leave x)) u h =
+      let none = all_announced u.told (takings u.deeds) (owed_besides u.deeds) h in omega (arith, none)
+  no_more f at u h = let most = unless_most u.told (takings u.deeds) in omega (arith, most)
 
-  all_no_more : (now : Channel T Waiter) (xs : List (Sitting T Waiter)) → AllKnown now (map under_of xs)
-      → all_freed (map under_of xs)
-      ≤ all_unannounced (map (λ (x : Sitting T Waiter). x.party) xs) (map doing_of (map under_of xs))
-  all_no_more now [] k = omega arith
-  all_no_more now (x ∷ xs) k =
-      let known = k.0 in
-      let one = no_more x.inner x.party.call.stage (under_of x) known.tells in
-      let rest = all_no_more now xs k.1 in
-      omega (arith, one, rest)
+  module _ (now : Channel T Waiter) where
+    -- where few were taken, all are counted
+    all_no_more : (n : ℕ) → n < 2 ^ 61 → (xs : List (Sitting T Waiter)) → AllKnown now (map under_of xs)
+        → All (TookFew n) (map under_of xs)
+        → all_freed (map under_of xs)
+        ≤ all_unannounced (map (λ (x : Sitting T Waiter). x.party) xs) (map doing_of (map under_of xs))
+    all_no_more n low [] k few = omega arith
+    all_no_more n low (x ∷ xs) k few =
+        let known = k.0 in
+        let most : freed_by (under_of x) ≤ takings x.deeds = unless_most x.told (takings x.deeds) in
+        let took : takings x.deeds ≤ n = few.0 in
+        let one = no_more x.inner x.party.call.stage (under_of x) known.tells in
+        let rest = all_no_more n low xs k.1 few.1 in
+        omega (arith, one, rest, most, took, low)
+
+    -- and where any were, one is
+    some_no_more : (xs : List (Sitting T Waiter)) → AllKnown now (map under_of xs)
+        → min (all_freed (map under_of xs)) 1
+        ≤ all_unannounced (map (λ (x : Sitting T Waiter). x.party) xs) (map doing_of (map under_of xs))
+    some_no_more [] k = omega arith
+    some_no_more (x ∷ xs) k =
+        let known = k.0 in
+        let one = no_more x.inner x.party.call.stage (under_of x) known.tells in
+        let rest = some_no_more xs k.1 in
+        omega (arith, one, rest)
 
   -- ---- a world as it is
 
   module _ (f : Floor T) (s : Scene T Waiter) (sh : Shown f s) where
     shown_queue : s.now.queue ≡ sh.shows.queue
     shown_queue = ap (λ (c : Channel T Waiter). c.queue) sh.shows.now
-
-    capacity_is : s.now.queue.capacity ≡ capacity_of (parts_in f).cells.form
-    capacity_is =
-        let shown = shows (parts_in f).cells sh.shows.queue (all_seats sh.shows.sittings) sh.shows.fits in
-        ap (λ (q : Queue T). q.capacity) shown_queue ∙ shown.limit
 
     closed_is_so : s.now.queue.closed ≡ closed_in (parts_in f).cells
     closed_is_so =
@@ -121,16 +136,44 @@ module _ {T : Type 0} where
     by_role : (test : Doing → Bool) → count_by test f.doings.items ≡ count_by (λ (u : Under T Waiter). test (doing_of u)) s.under_way
     by_role test = ap (λ (ds : List Doing). count_by test ds) sh.doings ∙ counted test s.under_way
 
-    freed : all_freed s.under_way ≤ all_unannounced f.parties.items f.doings.items
-    freed =
-        let k = subst (λ (us : List (Under T Waiter)). AllKnown s.now us) sh.shows.under_way sh.shows.known in
-        let least = all_no_more s.now sh.shows.sittings k in
-        let here = ap (λ (us : List (Under T Waiter)). all_freed us) sh.shows.under_way in
-        let doings : f.doings.items ≡ map doing_of (map under_of sh.shows.sittings) =
-        sh.doings ∙ ap (λ (us : List (Under T Waiter)). map doing_of us) sh.shows.under_way in
-        let there = ap (λ (ps : List (Party T Waiter)). all_unannounced ps f.doings.items) sh.shows.parties_are in
-        let noted = ap (λ (ds : List Doing). all_unannounced (map (λ (x : Sitting T Waiter). x.party) sh.shows.sittings) ds) doings in
-        omega (arith, least, here, there, noted)
+    known : AllKnown s.now (map under_of sh.shows.sittings)
+    known = subst (λ (us : List (Under T Waiter)). AllKnown s.now us) sh.shows.under_way sh.shows.known
+
+    freed_here : all_freed s.under_way ≡ all_freed (map under_of sh.shows.sittings)
+    freed_here = ap (λ (us : List (Under T Waiter)). all_freed us) sh.shows.under_way
+
+    noted_here : all_unannounced f.parties.items f.doings.items
+        ≡ all_unannounced (map (λ (x : Sitting T Waiter). x.party) sh.shows.sittings) (map doing_of (map under_of sh.shows.sittings))
+    noted_here =
+        ap (λ (ps : List (Party T Waiter)). all_unannounced ps f.doings.items) sh.shows.parties_are
+        ∙ ap (λ (ds : List Doing). all_unannounced (map (λ (x : Sitting T Waiter). x.party) sh.shows.sittings) ds)
+        (sh.doings ∙ ap (λ (us : List (Under T Waiter)). map doing_of us) sh.shows.under_way)
+
+    -- no more places than those that are counted, with so many besides
+    places_noted : (items messages woken sends sending : ℕ) → messages ≡ items → sending ≡ sends
+        → HasPlaces s.now.queue.capacity (items + (woken + (sends + all_freed s.under_way)))
+        → HasPlaces s.now.queue.capacity (messages + (woken + (sending + all_unannounced f.parties.items f.doings.items)))
+    places_noted items messages woken sends sending same same_sends h = by sh.positions where
+      before : ℕ
+      before = items + (woken + (sends + all_freed s.under_way))
+
+      after : ℕ
+      after = messages + (woken + (sending + all_unannounced f.parties.items f.doings.items))
+
+      by : HasOnePlace f ⊎ AreCounted f s → HasPlaces s.now.queue.capacity after
+      by (inl one) =
+          let slot = one_slot f s sh one in
+          let enough : 1 ≤ before = subst (λ (c : Option ℕ). HasPlaces c before) slot h in
+          let some = some_no_more s.now sh.shows.sittings known in
+          let now : 1 ≤ after = omega (arith, same, same_sends, enough, some, freed_here, noted_here) in
+          subst (λ (c : Option ℕ). HasPlaces c after) (sym slot) now
+      by (inr k) =
+          let balanced = balanced_in (parts_in f) f.parties.items s sh.shows in
+          let accepted = k.accepted in
+          let within = k.within in
+          let few = subst (λ (us : List (Under T Waiter)). All (TookFew s.now.queue.removed) us) sh.shows.under_way sh.few in
+          let all = all_no_more s.now s.now.queue.removed (omega (arith, balanced, accepted, within)) sh.shows.sittings known few in
+          places s.now.queue.capacity before after (omega (arith, same, same_sends, all, freed_here, noted_here)) h
 
     pub sight_owed : OwedIn (book_of f) s → Owed (sight_of f)
     sight_owed o = record {
@@ -139,8 +182,8 @@ module _ {T : Type 0} where
           omega (arith, h, sh.messages, by_role (λ (d : Doing). is_sending d.role), by_role (λ (d : Doing). is_receiving d.role));
       sends = λ name i is_open.
           let h = o.sends name i.0 i.1 (closed_is_so ∙ is_open) in
-          subst (λ (c : Option ℕ). HasPlaces c ((sight_of f).messages + (woken_on Sends f.roll + ((sight_of f).sending + (sight_of f).freed)))) capacity_is
-          (places s.now.queue.capacity _ _ (omega (arith, sh.messages, by_role (λ (d : Doing). is_sending d.role), freed)) h);
+          subst (λ (c : Option ℕ). HasPlaces c ((sight_of f).messages + (woken_on Sends f.roll + ((sight_of f).sending + (sight_of f).freed)))) (capacity_is f s sh)
+          (places_noted _ _ _ _ _ sh.messages (by_role (λ (d : Doing). is_sending d.role)) h);
       streams = λ name i some. stream (o.streams name i.0 i.1) some;
       closing = λ line name i shut.
           let h = o.closing name (record { line = line; key = i.0 }) i.1 (closed_is_so ∙ shut) in

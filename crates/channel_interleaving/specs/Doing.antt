@@ -50,9 +50,9 @@ module _ {T W : Type 0} where
   any_close [] = false
   any_close (d ∷ ds) = is_close d.mark || any_close ds
 
-  -- what a call under way is in a scene
+  -- what a call under way is in a scene; its takings are counted as far as a machine number goes
   abbrev pub doing_of : Under T W → Doing
-  doing_of u = record { role = role_of u.ask; has_closed = any_close u.deeds; taken = takings u.deeds }
+  doing_of u = record { role = role_of u.ask; has_closed = any_close u.deeds; taken = min (takings u.deeds) (2 ^ 64 - 1) }
 
 module _ {T : Type 0} where
   -- the calls under way after a step of the k-th with this mark, which is under way no more if it has answered

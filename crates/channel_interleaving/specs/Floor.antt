@@ -1,5 +1,5 @@
 -- What the parts of an interleaved channel stand for.
-use Rattle.std.specs.Prelude.{◌≡◌, ℕ, Bool, true, false, ◌+◌, ◌≤◌, ◌<◌, List, [], ◌++◌, map, length, Option, None, ◌^◌}
+use Rattle.std.specs.Prelude.{◌≡◌, ◌⊎◌, ℕ, Bool, true, false, ◌+◌, ◌≤◌, ◌<◌, List, [], ◌++◌, map, length, Option, None, ◌^◌}
 use Rattle.std.specs.List.{count_by}
 use Rattle.concurrent_queue.specs.Capacity.{capacity_of}
 use Rattle.concurrent_queue.specs.Step.{closed_in}
@@ -16,7 +16,7 @@ use Rattle.channel_interleaving.specs.Doing.{doing_of}
 use Rattle.channel_interleaving.specs.Owed.{Sight, Owed, is_sending, is_receiving, all_unannounced}
 use Rattle.channel_interleaving.specs.Owners.{All}
 use Rattle.channel_interleaving.specs.Kept.{AllKept}
-use Rattle.channel_interleaving.specs.Positions.{brings, yet_in}
+use Rattle.channel_interleaving.specs.Positions.{brings, is_one_place, yet_in}
 use Rattle.channel_interleaving.specs.Roll.{first_roll}
 use Rattle.channel_interleaving.specs.Run.{Book, Made, channel_step}
 use Rattle.channel_interleaving.specs.Way.{Way}
@@ -47,13 +47,23 @@ module _ {T : Type 0} where
     freed = all_unannounced f.parties.items f.doings.items;
   }
 
-  -- The cells and the calls under way stand for this scene, which has accepted no more messages than are counted, and holds as
-  -- many as are counted. With those that the calls under way may yet bring, they are within the positions of a queue. What is
-  -- noted of each call under way is what it is and has done there; none has taken more than were removed.
-  pub record Shown (f : Floor T) (s : Scene T Waiter) : Type 0 where
-    pub shows : Shows (parts_in f) f.parties.items s
+  -- no more messages were accepted than are counted, and with those that the calls under way may yet bring they are within the
+  -- positions of a queue
+  pub record AreCounted (f : Floor T) (s : Scene T Waiter) : Type 0 where
     pub accepted : s.now.queue.accepted ≤ f.accepted
     pub within : f.accepted + yet_in s.under_way < 2 ^ 61
+
+  -- it has one place alone, so there are no positions to be used up
+  abbrev pub HasOnePlace : Floor T → Type 0
+  HasOnePlace f = f.has_one_place ≡ true
+
+  -- The cells and the calls under way stand for this scene, which holds as many messages as are counted. Where it has more than one
+  -- place, those that were accepted are counted too. What is noted of each call under way is what it is and has done there; none
+  -- has taken more than were removed.
+  pub record Shown (f : Floor T) (s : Scene T Waiter) : Type 0 where
+    pub shows : Shows (parts_in f) f.parties.items s
+    pub place : f.has_one_place ≡ is_one_place s.now.queue.capacity
+    pub positions : HasOnePlace f ⊎ AreCounted f s
     pub messages : f.messages ≡ length s.now.queue.items
     pub doings : f.doings.items ≡ map doing_of s.under_way
     pub few : All (λ (u : Under T Waiter). takings u.deeds ≤ s.now.queue.removed) s.under_way
@@ -79,9 +89,13 @@ module _ {T : Type 0} where
   abbrev pub calls_in : Floor T → ℕ
   calls_in f = length f.agents.items
 
+  -- there are positions for so many more messages; one place alone needs none
+  abbrev pub HasPositions : ℕ → Floor T → Type 0
+  HasPositions n f = HasOnePlace f ⊎ (f.accepted + n < 2 ^ 61)
+
   -- a call that may bring a message has a position for it, beside those that the calls under way may yet bring
   abbrev pub HasPosition : Call T → Floor T → Type 0
-  HasPosition c f = brings f.roll c ≡ true → f.accepted + length f.parties.items + 1 < 2 ^ 61
+  HasPosition c f = brings f.roll c ≡ true → HasPositions (length f.parties.items + 1) f
 
   -- nothing is changed but the room that was taken
   pub record IsSame (f g : Floor T) : Type 0 where
@@ -90,6 +104,7 @@ module _ {T : Type 0} where
     pub book : book_of g ≡ book_of f
     pub messages : g.messages ≡ f.messages
     pub accepted : g.accepted ≡ f.accepted
+    pub place : g.has_one_place ≡ f.has_one_place
     pub doings : g.doings.items ≡ f.doings.items
 
   -- each listener has its owner, those who were woken are told, in the order of their waking, and nobody who waits is forgotten,

@@ -1,5 +1,5 @@
 -- Messages that are accepted, and those that calls under way may yet bring.
-use Rattle.std.specs.Prelude.{ℕ, ◌+◌, Bool, true, false, List, [], ◌∷◌, Option, is_some, Ok}
+use Rattle.std.specs.Prelude.{ℕ, ◌+◌, ◌==◌, Bool, true, false, List, [], ◌∷◌, Option, None, Some, is_some, Ok}
 use Rattle.std.specs.Option.{option_map_or}
 use Rattle.futures.specs.declared.task.Poll.TheVariants.{Ready}
 use Rattle.concurrent_queue.specs.Queue.{Phase, trying, displaced}
@@ -21,6 +21,11 @@ use Rattle.channel_interleaving.specs.declared.names.Operation.{Operation}
 use Rattle.channel_interleaving.specs.declared.names.OperationKind.{OperationKind}
 use Rattle.channel_interleaving.specs.declared.names.OperationKind.TheVariants.{Send, Receive, Closing}
 use Rattle.channel_interleaving.specs.declared.roll.Roll.{Roll}
+
+-- whether a queue of this capacity has one place alone: it counts no positions
+abbrev pub is_one_place : Option ℕ → Bool
+is_one_place None = false
+is_one_place (Some n) = n == 1
 
 -- ---- by the stage of a call
 

@@ -5,7 +5,7 @@ use crate::doing::{Doing, note};
 use crate::ending::write_back;
 use crate::names::{Agent, find_agent, is_at_work};
 use crate::order::Order;
-use crate::position::brought_in;
+use crate::position::{brought_in, is_one_place};
 use crate::roll::Roll;
 use crate::step::{Entry, PartyId, Step};
 use crate::woken::Woken;
@@ -38,7 +38,9 @@ pub struct Floor<T> {
     pub doings: Vec<Doing>,
     /// How many messages the channel holds.
     pub messages: u64,
-    /// How many messages the channel has accepted.
+    /// Whether it has one place alone, so that its queue counts no positions.
+    pub has_one_place: bool,
+    /// How many messages the channel has accepted; of one place nothing follows from it.
     pub accepted: u64,
     /// Where memory comes from.
     pub alloc: Global,
@@ -109,6 +111,7 @@ impl<T: Drop> Floor<T> {
             agents: Vec::new(alloc),
             doings: Vec::new(alloc),
             messages: 0,
+            has_one_place: is_one_place(form),
             accepted: 0,
             alloc,
         })

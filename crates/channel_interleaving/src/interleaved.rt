@@ -1,7 +1,6 @@
 //! A channel whose handles and operations are called by name, with the calls of several parties under way.
 
 use crate::floor::Floor;
-use crate::position::MOST_MESSAGES;
 use crate::settle::Polled;
 use crate::step::{Run, Step};
 use channel_calls::error::OpenError;
@@ -114,8 +113,9 @@ impl<T: Drop> Interleaved<T> {
     /// A step is refused for the first of these reasons that there is: the party that begins is at work; the one that steps
     /// isn't; a used name doesn't live; what lives there is of another kind; its operation or its receiver's stream is being
     /// polled; it drops, or polls as a stream, a handle in use; a new name was taken. Else it may be refused for want of
-    /// memory, as the begin of a send is that might bring the 2^61st message. Nothing is refused for the number of steps.
-    /// Nothing waits. Own to this project.
+    /// memory. So is the begin of a send that might bring the 2^61st message, where the channel has more than one place; one place
+    /// counts no positions, so there no send is refused for them. Nothing is refused for the number of steps. Nothing waits. Own to
+    /// this project.
     pub fn run_steps(&mut self, steps: &mut VecDeque<Step<T>>) -> Run<T>
         ensures ran { RanTo steps.old.items steps.new.items self.old result.trace.items self.new }
         ensures stopped { Stops (book_of self.new) steps.new.items (vec_len result.trace) result.stopped }
@@ -162,16 +162,17 @@ impl<T: Drop> Interleaved<T> {
 }
 
 impl<T: Drop> Interleaved<T> {
-    ghost use Rattle.std.specs.Prelude.{◌≡◌, ◌≤◌, ◌<◌, ◌+◌, ◌-◌, ◌^◌, [], ◌∷◌, None, false, length, IfOk, IfErr, OnErr, IsTrue, vec_len, vec_capacity};
+    ghost use Rattle.std.specs.Prelude.{◌≡◌, ◌≤◌, ◌<◌, ◌+◌, ◌-◌, ◌^◌, [], ◌∷◌, None, Some, false, length, IfOk, IfErr, OnErr, IsTrue, vec_len, vec_capacity};
     ghost use Rattle.channel_model.specs.Laws.{is_line, line_of};
     ghost use Rattle.channel_model.specs.Settling.{poll_of};
     ghost use Rattle.channel_alone.specs.Ample.{lacks_memory};
     ghost use Rattle.channel_calls.specs.Parts.{listeners};
     ghost use Rattle.channel_interleaving.specs.Apart.{AreApart};
     ghost use Rattle.channel_interleaving.specs.Refusal.{refusal};
-    ghost use Rattle.channel_interleaving.specs.Floor.{parts_in, IsKept, IsQuiet, IsSame, LeadsOn, Stands};
+    ghost use Rattle.channel_interleaving.specs.Floor.{parts_in, sight_of, HasPosition, HasPositions, IsKept, IsQuiet, IsSame, LeadsOn, Stands};
     ghost use Rattle.channel_interleaving.specs.Lone.{CallsAlone, WakesAtMost};
     ghost use Rattle.channel_interleaving.specs.OwnerOrder.{woken_in};
+    ghost use Rattle.channel_interleaving.specs.Positions.{accepted_by, brings};
     ghost use Rattle.channel_interleaving.specs.Roll.{names_of};
     ghost use Rattle.channel_interleaving.specs.Settle.{IsWoken, PollsAlone};
     ghost use Rattle.channel_interleaving.specs.Way.{reply_of};
@@ -201,17 +202,19 @@ impl<T: Drop> Interleaved<T> {
     /// A stream is polled even while a live operation borrows its receiver. The poll takes nothing: its name has its place in the
     /// order of waking, and those whom it wakes go after the given names, where there is room for them. It isn't refused memory: where
     /// it goes on waiting, the node of the listener that was told serves the next one. Once all serial numbers of a list were given,
-    /// the reply says that none was left. Nothing waits. Own to this project.
+    /// the reply says that none was left. Only the poll of a send may bring a message, so only that needs a position of the queue.
+    /// Nothing waits. Own to this project.
     pub fn poll_alone(&mut self, name: Waiter, names: Vec<Waiter>) -> Polled<T>
         requires quiet { IsQuiet self.old }
         requires woken { IsWoken name self.old }
-        requires limit { self.old.accepted + 1 < 2 ^ 61 }
+        requires limit { HasPosition (poll_of name) self.old }
         requires room { WakesAtMost (vec_capacity names - vec_len names) (poll_of name) self.old }
         ensures polled { PollsAlone name self.old names.items result.reply result.names.items self.new }
         ensures stands { Stands self.new }
         ensures leads { LeadsOn self.old (result.reply ∷ []) self.new }
         ensures quiet { IsQuiet self.new }
-        ensures accepted { self.new.accepted ≤ self.old.accepted + 1 }
+        ensures place { self.new.has_one_place ≡ self.old.has_one_place }
+        ensures accepted { self.new.accepted ≤ self.old.accepted + accepted_by (brings self.old.roll (poll_of name)) result.reply }
         ensures capacity { vec_capacity names ≤ vec_capacity result.names }
         ensures ample { lacks_memory result.reply ≡ false }
     {
@@ -226,14 +229,14 @@ impl<T: Drop> Interleaved<T> {
         self.floor.order.woken(&self.floor.roll, self.floor.alloc)
     }
 
-    /// Whether so many more calls may be made alone, even if each brings a message. Own to this project.
-    pub fn has_calls(&self, count: usize) -> bool
-        ensures { IsTrue result → self.now.accepted + count < 2 ^ 61 }
+    /// Whether the queue has positions for so many more messages. One place alone needs none, so there it is always so. Own to
+    /// this project.
+    pub fn has_positions(&self, count: usize) -> bool
+        ensures enough { IsTrue result → HasPositions count self.now }
+        ensures all { HasPositions count self.now → IsTrue result }
+        ensures one_place { (sight_of self.now).capacity ≡ Some 1 → IsTrue result }
     {
-        match self.floor.accepted.checked_add(count as u64) {
-            Some(accepted) => accepted <= MOST_MESSAGES,
-            None => false,
-        }
+        self.floor.has_positions(count)
     }
 
     /// Says what is always so of a channel by names, and does nothing. Own to this project.

@@ -7,14 +7,26 @@ use channel_calls::mark::Mark;
 use channel_calls::reply::Reply;
 use channel_model::call::Call;
 use channel_model::name::{OpId, Waiter};
+use concurrent_queue::cells::QueueForm;
 use futures::task::Poll;
 
 /// How many messages a channel accepts at most: the positions of a queue end there.
 pub(crate) const MOST_MESSAGES: u64 = (1 << 61) - 1;
 
 ghost use Rattle.std.specs.Prelude.{◌≡◌};
+ghost use Rattle.concurrent_queue.specs.Capacity.{capacity_of};
 ghost use Rattle.channel_steps.specs.Count.{brought_in};
-ghost use Rattle.channel_interleaving.specs.Positions.{came_in, accepted_by};
+ghost use Rattle.channel_interleaving.specs.Positions.{is_one_place, came_in, accepted_by};
+
+/// Whether a queue of this form has one place alone: it counts no positions.
+pub(crate) fn is_one_place(form: QueueForm) -> bool
+    ensures { result ≡ is_one_place (capacity_of form) }
+{
+    match form {
+        QueueForm::Bounded(capacity) => capacity == 1,
+        QueueForm::Unbounded => false,
+    }
+}
 
 /// How many messages a step with this mark brings in.
 pub(crate) fn brought_in(mark: Mark) -> u64
@@ -86,14 +98,22 @@ impl<T> Roll<T> {
 
 impl<T> Floor<T> {
     ghost use Rattle.std.specs.Prelude.{IsTrue};
-    ghost use Rattle.channel_interleaving.specs.Floor.{HasPosition};
+    ghost use Rattle.channel_interleaving.specs.Floor.{HasPosition, HasPositions};
+
+    /// Whether there are positions of the queue for so many more messages. One place alone needs none.
+    pub(crate) fn has_positions(&self, count: usize) -> bool
+        ensures enough { IsTrue result → HasPositions count self.now }
+        ensures all { HasPositions count self.now → IsTrue result }
+    {
+        self.has_one_place || self.accepted.saturating_add(count as u64) <= MOST_MESSAGES
+    }
 
     /// Whether there is a position of the queue for a message that the call may bring, beside those that the calls under way
     /// may yet bring.
     pub(crate) fn has_position(&self, call: &Call<T>) -> bool
-        ensures { IsTrue result → HasPosition call.now self.now }
+        ensures enough { IsTrue result → HasPosition call.now self.now }
+        ensures all { HasPosition call.now self.now → IsTrue result }
     {
-        !self.roll.brings(call)
-            || self.accepted.saturating_add(self.parties.len() as u64) < MOST_MESSAGES
+        !self.roll.brings(call) || self.has_positions(self.parties.len().saturating_add(1))
     }
 }

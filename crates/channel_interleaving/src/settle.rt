@@ -84,11 +84,12 @@ impl Order {
 }
 
 impl<T: Drop> Floor<T> {
-    ghost use Rattle.std.specs.Prelude.{◌≡◌, ◌≤◌, ◌<◌, ◌+◌, ◌-◌, ◌^◌, false, vec_len, vec_capacity};
+    ghost use Rattle.std.specs.Prelude.{◌≡◌, ◌≤◌, ◌+◌, ◌-◌, false, vec_len, vec_capacity};
     ghost use Rattle.channel_alone.specs.Ample.{lacks_memory};
     ghost use Rattle.channel_model.specs.Settling.{poll_of};
-    ghost use Rattle.channel_interleaving.specs.Floor.{AreAtWork, AreOwned, IsQuiet};
+    ghost use Rattle.channel_interleaving.specs.Floor.{AreAtWork, AreOwned, HasPosition, IsQuiet};
     ghost use Rattle.channel_interleaving.specs.Lone.{WakesAtMost};
+    ghost use Rattle.channel_interleaving.specs.Positions.{accepted_by, brings};
     ghost use Rattle.channel_interleaving.specs.Settle.{IsWoken, PollsAlone};
 
     /// Polls one that is pending and was woken, from the poll's beginning to its end, where no call is under way. Nothing is
@@ -99,12 +100,13 @@ impl<T: Drop> Floor<T> {
         requires at_work { AreAtWork self.old }
         requires quiet { IsQuiet self.old }
         requires woken { IsWoken name self.old }
-        requires limit { self.old.accepted + 1 < 2 ^ 61 }
+        requires limit { HasPosition (poll_of name) self.old }
         requires room { WakesAtMost (vec_capacity names - vec_len names) (poll_of name) self.old }
         ensures polled { PollsAlone name self.old names.items result.reply result.names.items self.new }
         ensures at_work { AreAtWork self.new }
         ensures quiet { IsQuiet self.new }
-        ensures accepted { self.new.accepted ≤ self.old.accepted + 1 }
+        ensures place { self.new.has_one_place ≡ self.old.has_one_place }
+        ensures accepted { self.new.accepted ≤ self.old.accepted + accepted_by (brings self.old.roll (poll_of name)) result.reply }
         ensures capacity { vec_capacity names ≤ vec_capacity result.names }
         ensures ample { lacks_memory result.reply ≡ false }
     {

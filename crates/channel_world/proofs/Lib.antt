@@ -26,6 +26,7 @@ pub mod Tasks
 pub mod Polls
 pub mod Weights
 pub mod Short
+pub mod Positions
 pub mod SettleFacts
 pub mod ScriptLemmas
 pub mod IoLemmas

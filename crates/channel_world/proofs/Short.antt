@@ -25,9 +25,10 @@ use Rattle.channel_model.specs.declared.space.Space.TheVariants.{Open, Filled, S
 use Rattle.channel_model.proofs.LawSteps.{found_name, poll_awake, set_elsewhere, set_here}
 use Rattle.channel_model.proofs.Settle.{count_all, count_news, count_gone, count_gone_one, count_end, few_passed, first_one, first_there, front_stays, not_untold, one_if, woken_next}
 use Rattle.channel_model.proofs.WaiterLemmas.{decided, none_left}
+use Rattle.channel_interleaving.specs.Positions.{came_in}
 use Rattle.futures.specs.declared.task.Poll.TheVariants.{Ready, Pending}
 use Rattle.channel_world.specs.Settled.{SettlingIsShort, most_polls, pending_on}
-use Rattle.channel_world.proofs.Weights.{on, weight, no_more, by_one, by_send, by_receive, by_stream, count_on, all_streams, fewer_kinds}
+use Rattle.channel_world.proofs.Weights.{on, weight, no_more, by_one, by_send, by_receive, by_stream, count_more, count_on, all_streams, fewer_kinds}
 
 -- ---- one poll
 
@@ -71,14 +72,14 @@ module _ (k : Kind) (w : Waiter) (l : Waiting) (placed : Placed k l) (e : is_amo
   leaves line = inl (record { fewer = fewer_left Nothing line; few = few_passed_on line })
 
   -- a send's message is accepted
-  brings : LeftOrStood w Sends l (left_after Message Sends w l) (told_after Message Sends w l)
-  brings =
+  accepted : Left w Sends l (left_after Message Sends w l) (told_after Message Sends w l)
+  accepted =
       let told = after_news Message l in
       let all = length-append (told_by Message l) (told_by (passed_on Sends w told) (gone w told)) in
       let both = length-append (take 1 l.receives) l.streams in
       let one = first_one l.receives in
       let passed = few_passed Sends w told (gone w told) in
-      inl (record { fewer = fewer_left Message Sends; few = omega (arith, all, both, one, passed) })
+      record { fewer = fewer_left Message Sends; few = omega (arith, all, both, one, passed) }
 
   -- a receive takes a message
   takes : LeftOrStood w Receives l (left_after Room Receives w l) (told_after Room Receives w l)
@@ -167,9 +168,13 @@ module _ {T : Type 0} where
     abbrev KeepsLines : Names T → Type 0
     KeepsLines names = (line : Line) (v : Waiter) → is_line line (line_of names v) ≡ true → is_line line (line_of s.names v) ≡ true
 
+    -- it brought no message in, or is a send that left
+    abbrev Brings : Line → Waiter → Answer T → Type 0
+    Brings line w a = (came_in a.reply ≡ 0) ⊎ ((line ≡ Sends) × (came_in a.reply ≡ 1) × Left w line s.waiting a.after.waiting a.woken)
+
     -- so a poll of one of this line leaves those who wait, and the names
     abbrev Polled : Line → Waiter → Answer T → Type 0
-    Polled line w a = LeftOrStood w line s.waiting a.after.waiting a.woken × KeepsLines a.after.names
+    Polled line w a = LeftOrStood w line s.waiting a.after.waiting a.woken × KeepsLines a.after.names × Brings line w a
 
     kept : KeepsLines s.names
     kept line v e = e
@@ -209,10 +214,10 @@ module _ {T : Type 0} where
       abbrev k : Kind
       k = line_of s.names
 
-      out_of_line : (line : Line) (r : Reply T) → AllPolled line w (not_standing line w s r)
-      out_of_line line r =
+      out_of_line : (line : Line) (r : Reply T) → came_in r ≡ 0 → AllPolled line w (not_standing line w s r)
+      out_of_line line r none =
           either_polled line w (is_among w (untold line s.waiting)) None (Some (replying (with_waiting (gone w s.waiting) s) r)) (none_polled line w)
-          (one_polled line w _ (is_gone k w s.waiting awake.placed e line, kept))
+          (one_polled line w _ (is_gone k w s.waiting awake.placed e line, kept, inl none))
 
       unheld : (line : Line) (lack : Lack) (x : Space) (a : Answer T) → Polled line w a → AllPolled line w (not_held lack s.channel x a)
       unheld line memory Open a h = either_polled line w (is_none s.channel.capacity) (Some a) None (one_polled line w a h) (none_polled line w)
@@ -223,38 +228,40 @@ module _ {T : Type 0} where
     module _ (awake : AwakeIn s) (op : OpId) (e : is_among (Op op) s.waiting.woken ≡ true) where
       send_so : (handle : HandleId) (m : T) (x : Space) → at op.0 s.names.operations ≡ Some (send handle (Some m))
           → Polled Sends (Op op) (send_poll_answer s op handle m x)
-      send_so handle m Open there = (brings (line_of s.names) (Op op) s.waiting awake.placed e, finishes op handle _ there)
-      send_so handle m Filled there = (stood (line_of s.names) (Op op) s.waiting awake.placed e Sends Sends, kept)
-      send_so handle m Shut there = (leaves (line_of s.names) (Op op) s.waiting awake.placed e Sends, finishes op handle _ there)
+      send_so handle m Open there =
+          let left = accepted (line_of s.names) (Op op) s.waiting awake.placed e in
+          (inl left, finishes op handle _ there, inr (refl, refl, left))
+      send_so handle m Filled there = (stood (line_of s.names) (Op op) s.waiting awake.placed e Sends Sends, kept, inl refl)
+      send_so handle m Shut there = (leaves (line_of s.names) (Op op) s.waiting awake.placed e Sends, finishes op handle _ there, inl refl)
 
       recv_so : (x : Found T) → Polled Receives (Op op) (recv_poll_answer s op x)
-      recv_so (first m ms) = (takes (line_of s.names) (Op op) s.waiting awake.placed e, kept)
-      recv_so none_yet = (stood (line_of s.names) (Op op) s.waiting awake.placed e Receives Receives, kept)
-      recv_so none_ever = (leaves (line_of s.names) (Op op) s.waiting awake.placed e Receives, kept)
+      recv_so (first m ms) = (takes (line_of s.names) (Op op) s.waiting awake.placed e, kept, inl refl)
+      recv_so none_yet = (stood (line_of s.names) (Op op) s.waiting awake.placed e Receives Receives, kept, inl refl)
+      recv_so none_ever = (leaves (line_of s.names) (Op op) s.waiting awake.placed e Receives, kept, inl refl)
 
       closed_so : Polled Closings (Op op) (closed_poll_answer s op)
       closed_so =
           either_way (Polled Closings (Op op)) s.channel.closed (leaving Nothing Closings (Op op) s (reply.ClosedPoll (Ready (Ok tt))))
-          (pending Closings (Op op) s (reply.ClosedPoll Pending)) (leaves (line_of s.names) (Op op) s.waiting awake.placed e Closings, kept)
-          (stood (line_of s.names) (Op op) s.waiting awake.placed e Closings Closings, kept)
+          (pending Closings (Op op) s (reply.ClosedPoll Pending)) (leaves (line_of s.names) (Op op) s.waiting awake.placed e Closings, kept, inl refl)
+          (stood (line_of s.names) (Op op) s.waiting awake.placed e Closings Closings, kept, inl refl)
 
       send_lacks : (lack : Lack) (x : Space) → AllPolled Sends (Op op) (send_not_polled lack s op x)
       send_lacks lack Open =
           unheld awake (Op op) e Sends lack Open (leaving Nothing Sends (Op op) s (reply.SendPoll (Ready (Err (refused lack)))))
-          (leaves (line_of s.names) (Op op) s.waiting awake.placed e Sends, kept)
-      send_lacks lack Filled = out_of_line awake (Op op) e Sends (reply.SendPoll (Ready (Err (refused lack))))
+          (leaves (line_of s.names) (Op op) s.waiting awake.placed e Sends, kept, inl refl)
+      send_lacks lack Filled = out_of_line awake (Op op) e Sends (reply.SendPoll (Ready (Err (refused lack)))) refl
       send_lacks lack Shut = none_polled Sends (Op op)
 
       recv_lacks : (lack : Lack) (x : Found T) → AllPolled Receives (Op op) (recv_not_polled lack s op x)
       recv_lacks lack (first m ms) = none_polled Receives (Op op)
-      recv_lacks lack none_yet = out_of_line awake (Op op) e Receives (reply.RecvPoll (Ready (Err (refused lack))))
+      recv_lacks lack none_yet = out_of_line awake (Op op) e Receives (reply.RecvPoll (Ready (Err (refused lack)))) refl
       recv_lacks lack none_ever = none_polled Receives (Op op)
 
       closed_lacks : (lack : Lack)
           → AllPolled Closings (Op op) (if s.channel.closed then None else not_standing Closings (Op op) s (reply.ClosedPoll (Ready (Err (not_listening lack)))))
       closed_lacks lack =
           either_polled Closings (Op op) s.channel.closed None (not_standing Closings (Op op) s (reply.ClosedPoll (Ready (Err (not_listening lack)))))
-          (none_polled Closings (Op op)) (out_of_line awake (Op op) e Closings (reply.ClosedPoll (Ready (Err (not_listening lack)))))
+          (none_polled Closings (Op op)) (out_of_line awake (Op op) e Closings (reply.ClosedPoll (Ready (Err (not_listening lack)))) refl)
 
     -- of one that belongs to this line
     record PolledOn (w : Waiter) : Type 0 where
@@ -289,14 +296,14 @@ module _ {T : Type 0} where
 
       next_so : (r : HandleId) → is_among (Stream r) s.waiting.woken ≡ true → (x : Found T)
           → Polled Streams (Stream r) (next_answer (with_waiting (gone (Stream r) s.waiting) s) r x)
-      next_so r e (first m ms) = (gives (line_of s.names) (Stream r) s.waiting awake.placed e, kept)
-      next_so r e none_yet = (stood_again (line_of s.names) (Stream r) s.waiting awake.placed e, kept)
-      next_so r e none_ever = (is_gone (line_of s.names) (Stream r) s.waiting awake.placed e Streams, kept)
+      next_so r e (first m ms) = (gives (line_of s.names) (Stream r) s.waiting awake.placed e, kept, inl refl)
+      next_so r e none_yet = (stood_again (line_of s.names) (Stream r) s.waiting awake.placed e, kept, inl refl)
+      next_so r e none_ever = (is_gone (line_of s.names) (Stream r) s.waiting awake.placed e Streams, kept, inl refl)
 
       next_lacks : (r : HandleId) → is_among (Stream r) s.waiting.woken ≡ true → (lack : Lack) (x : Found T)
           → AllPolled Streams (Stream r) (next_not_polled lack s (Stream r) x)
       next_lacks r e lack (first m ms) = none_polled Streams (Stream r)
-      next_lacks r e lack none_yet = out_of_line awake (Stream r) e Streams (reply.Next (Ready (Some (Err (not_listening lack)))))
+      next_lacks r e lack none_yet = out_of_line awake (Stream r) e Streams (reply.Next (Ready (Some (Err (not_listening lack))))) refl
       next_lacks r e lack none_ever = none_polled Streams (Stream r)
 
       polled_on : (w : Waiter) → is_among w s.waiting.woken ≡ true → PolledOn w
@@ -338,6 +345,44 @@ module _ {T : Type 0} where
       let near = nearer k w s.waiting a.after.waiting a.woken (all_streams k s.waiting awake.placed) (omega (arith, next, one)) p.line p.own so.0 in
       let fewer = fewer_kinds k (line_of a.after.names) a.after.waiting so.1 in
       omega (arith, near, fewer)
+
+  -- how many sends are pending
+  pub sends_of : State T → ℕ
+  sends_of s = count_all (on (line_of s.names) Sends) s.waiting
+
+  pub sends_within : (s : State T) → AwakeIn s → sends_of s ≤ pending_on Sends s
+  unfolding sends_of
+  sends_within s awake = count_on (line_of s.names) s.waiting awake.placed Sends
+
+  -- one of them is woken
+  pub sends_one : (s : State T) (w : Waiter) → is_among w s.waiting.woken ≡ true → is_line Sends (line_of s.names w) ≡ true → 1 ≤ sends_of s
+  unfolding sends_of
+  sends_one s w there own =
+      let gone_one = count_gone_one (on (line_of s.names) Sends) w s.waiting there in
+      let one : one_if (is_line Sends (line_of s.names w)) ≡ 1 = ap (λ (b : Bool). one_if b) own in
+      omega (arith, gone_one, one)
+
+  -- a poll of the first of those who are woken brings a message in only where a send leaves
+  pub brings_one : (s : State T) → AwakeIn s → (w : Waiter) (a : Answer T) → slice_get s.waiting.woken 0 ≡ Some w → Answers s (poll_of w) a
+      → came_in a.reply + sends_of a.after ≤ sends_of s
+  unfolding sends_of
+  brings_one s awake w a front answers =
+      let p = polled_on s awake w (first_there w s.waiting.woken front) in
+      let so = polled_so s awake w a p answers in
+      let k = line_of s.names in
+      let fewer = count_more (on (line_of a.after.names) Sends) (on k Sends) (λ v e. so.1 Sends v e) a.after.waiting in
+      by k p.line p.own fewer so.0 so.2
+    where
+      by : (k : Kind) (line : Line) → k w ≡ Some line
+          → count_all (on (line_of a.after.names) Sends) a.after.waiting ≤ count_all (on k Sends) a.after.waiting
+          → LeftOrStood w line s.waiting a.after.waiting a.woken → Brings s line w a
+          → came_in a.reply + count_all (on (line_of a.after.names) Sends) a.after.waiting ≤ count_all (on k Sends) s.waiting
+      by k line own fewer lors (inr (same, one, left)) =
+          let mine : one_if (is_line Sends (k w)) ≡ 1 = ap (λ (o : Option Line). one_if (is_line Sends o)) (own ∙ ap (λ (l : Line). Some l) same) in
+          let gone_one = left.fewer (on k Sends) in
+          omega (arith, fewer, one, mine, gone_one)
+      by k line own fewer (inl left) (inl none) = let more = left.fewer (on k Sends) in omega (arith, fewer, none, more)
+      by k line own fewer (inr stood_so) (inl none) = let more = stood_so.same (on k Sends) in omega (arith, fewer, none, more)
 
   pub within : (s : State T) → AwakeIn s → weight_of s ≤ most_polls s
   unfolding weight_of

@@ -124,7 +124,7 @@ module _ (p q : Waiter → Bool) (h : (w : Waiter) → p w ≡ true → q w ≡ 
         | inr t ↦ elim (decided (q v)) [ inl u ↦ rw (t, u) (omega (arith, rest)) | inr u ↦ rw (t, u) rest ]
       ]
 
-  count_more : (l : Waiting) → count_all p l ≤ count_all q l
+  pub count_more : (l : Waiting) → count_all p l ≤ count_all q l
   count_more l =
       let a = filter_more l.sends in
       let b = filter_more l.receives in

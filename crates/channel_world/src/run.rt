@@ -31,7 +31,9 @@ impl<T: Drop> World<T> {
     /// Makes calls from the front, each from its begin to its end, up to the first that is refused.
     ///
     /// A refused call stays in front, with nothing of it done; `stopped` says at which place of the list, counted from
-    /// 0, and why. The room for a call's answer is taken before it begins, and where that is refused the call is too.
+    /// 0, and why. The room for a call's answer is taken before it begins, and where that is refused the call is too. So is a send
+    /// that might bring the 2^61st message, where the channel has more than one place.
+    ///
     /// No call is under way when this begins, and none when it ends; however the world came about, by calls or by steps of
     /// any parties. From each scene in which the world stood steps lead to one in which it stands, on which just those replies were
     /// given, in order, that are answered here; and what left the channel, followed by what it holds, is what it held followed by

@@ -47,9 +47,11 @@ fn take_room<T: Drop>(mut names: Vec<Waiter>, most: usize, alloc: Global) -> Opt
 }
 
 impl<T: Drop> World<T> {
-    ghost use Rattle.std.specs.Prelude.{◌≡◌, ◌≤◌, ◌<◌, ◌+◌, ◌^◌, [], ◌∷◌, true, false, length, vec_len, vec_capacity, IfSome, OnSome, IsTrue};
+    ghost use Rattle.std.specs.Prelude.{◌≡◌, ◌≤◌, ◌+◌, [], ◌∷◌, true, false, length, vec_len, vec_capacity, Some, IfSome, OnSome, IsTrue};
     ghost use Rattle.channel_alone.specs.Ample.{lacks_memory};
-    ghost use Rattle.channel_interleaving.specs.Floor.{IsQuiet, LeadsOn};
+    ghost use Rattle.channel_calls.specs.declared.stage.Line.TheVariants.{Sends};
+    ghost use Rattle.channel_interleaving.specs.Floor.{HasPosition, HasPositions, IsQuiet, LeadsOn};
+    ghost use Rattle.channel_interleaving.specs.Positions.{accepted_by, brings};
     ghost use Rattle.channel_model.specs.Answer.{Answer};
     ghost use Rattle.channel_model.specs.Laws.{count_of, is_line, line_of};
     ghost use Rattle.channel_model.specs.Lines.{is_among};
@@ -103,26 +105,40 @@ impl<T: Drop> World<T> {
         later.checked_add(woken.len())
     }
 
-    /// Whether so many more calls may be made, even if each brings a message.
-    fn has_calls(&self, count: usize) -> bool
-        ensures { IsTrue result → self.now.accepted + count < 2 ^ 61 }
+    /// Whether the queue has positions for so many more messages. One place alone needs none, so there it is always so.
+    fn has_positions(&self, count: usize) -> bool
+        ensures enough { IsTrue result → HasPositions count self.now }
+        ensures all { HasPositions count self.now → IsTrue result }
+        ensures one_place { (at_rest self.now).channel.capacity ≡ Some 1 → IsTrue result }
     {
-        self.steps.has_calls(count)
+        self.steps.has_positions(count)
     }
 
-    /// Room for all that settling answers. None where it was refused, or where the positions of messages leave none.
+    /// Whether the queue has positions for the messages of all pending sends, where these are woken.
+    fn has_positions_to_settle(&self, woken: &Vec<Waiter>) -> bool
+        requires { woken.now.items ≡ (at_rest self.now).waiting.woken }
+        ensures { IsTrue result → HasPositions (pending_on Sends (at_rest self.now)) self.now }
+    {
+        match self.pending_on(Line::Sends, woken) {
+            Some(sends) => self.has_positions(sends),
+            None => false,
+        }
+    }
+
+    /// Room for all that settling answers. None where it was refused, or where the queue has no positions for the messages of all
+    /// pending sends.
     fn room_to_settle(&self) -> Option<Room<T>>
         ensures names { IfSome result (λ r. r.names.items ≡ (at_rest self.now).waiting.woken) }
         ensures polls { IfSome result (λ r. r.polls.items ≡ []) }
         ensures room { IfSome result (λ r. most_polls (at_rest self.now) ≤ vec_capacity r.names) }
         ensures answers { IfSome result (λ r. most_polls (at_rest self.now) ≤ vec_capacity r.polls) }
-        ensures places { OnSome result (self.now.accepted + most_polls (at_rest self.now) < 2 ^ 61) }
+        ensures places { OnSome result (HasPositions (pending_on Sends (at_rest self.now)) self.now) }
     {
         let Ok(names) = self.steps.woken_names() else {
             return None;
         };
         let most = self.most_polls(&names)?;
-        if self.has_calls(most) {
+        if self.has_positions_to_settle(&names) {
             take_room(names, most, self.alloc())
         } else {
             None
@@ -133,12 +149,13 @@ impl<T: Drop> World<T> {
     fn poll_woken(&mut self, name: Waiter, names: Vec<Waiter>) -> Polled<T>
         requires quiet { IsQuiet self.old }
         requires woken { is_among name (at_rest self.old).waiting.woken ≡ true }
-        requires limit { self.old.accepted + 1 < 2 ^ 61 }
+        requires limit { HasPosition (poll_of name) self.old }
         requires room { (a : Answer T) → Answers (at_rest self.old) (poll_of name) a → vec_len names + length a.woken ≤ vec_capacity names }
         ensures polled { Polls name (at_rest self.old) names.items result.reply result.names.items (at_rest self.new) }
         ensures quiet { IsQuiet self.new }
         ensures leads { LeadsOn self.old (result.reply ∷ []) self.new }
-        ensures accepted { self.new.accepted ≤ self.old.accepted + 1 }
+        ensures place { self.new.has_one_place ≡ self.old.has_one_place }
+        ensures accepted { self.new.accepted ≤ self.old.accepted + accepted_by (brings self.old.roll (poll_of name)) result.reply }
         ensures capacity { vec_capacity names ≤ vec_capacity result.names }
         ensures ample { lacks_memory result.reply ≡ false }
     {
@@ -166,14 +183,16 @@ impl<T: Drop> World<T> {
     /// streams. After them nobody is woken, and nobody is pending whom a message, a free place or a closing lets go on. So where
     /// `pending()` was 1 there is one poll at most; and where `messages()` is above 0 after it no receive and no stream is pending.
     ///
-    /// Room for that many answers, and for as many names, is taken before the first poll. Where it is refused, or
-    /// where so many messages were accepted that polls of sends could pass 2^61, it is `NoMemory`, and nothing is changed. No poll is
-    /// refused memory: where it goes on waiting, the node of the listener that was told serves the next one. So a settling is refused
-    /// its room, or it settles. Only once all 2^64 - 1 serial numbers of a list of listeners were given, the reply of a poll that
-    /// would go on waiting there says that none was left, and it is pending no more; all the rest
-    /// holds as before. No call is to be under way, and none is after it; from each scene in which the world stood steps lead to one
-    /// in which it stands, on which just the replies of these polls were given, in order; and what left the channel, followed by
-    /// what it holds, is what it held followed by what came, in order. Nothing waits. Own to this project.
+    /// Room for that many answers, and for as many names, is taken before the first poll. Where it is refused, it is `NoMemory`, and
+    /// nothing is changed. So it is, where the channel has more than one place, if the messages that were accepted and those of
+    /// the pending sends come to 2^61: only a pending send brings one. No poll is refused memory: where it goes on waiting, the node of
+    /// the listener that was told serves the next one. So a settling is refused its room, or it settles. Only once all 2^64 - 1 serial
+    /// numbers of a list of listeners were given, the reply of a poll that would go on waiting there says that none was left, and it is
+    /// pending no more; all the rest holds as before.
+    ///
+    /// No call is to be under way, and none is after it. From each scene in which the world stood steps lead to one in which it stands,
+    /// on which just the replies of these polls were given, in order. What left the channel, followed by what it holds, is what it held
+    /// followed by what came, in order. Nothing waits. Own to this project.
     pub fn settle(&mut self) -> Result<Vec<Settled<T>>, NoMemory>
         requires quiet { IsQuiet self.old }
         ensures polls { IfOk result (λ polls. Settles (at_rest self.old) (polls_in polls.items) (at_rest self.new)) }

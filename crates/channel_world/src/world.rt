@@ -110,8 +110,9 @@ impl<T: Drop> World<T> {
     /// A step is refused for the first of these reasons that there is: the party that begins is at work; the one that steps
     /// isn't; a used name doesn't live; what lives there is of another kind; its operation or its receiver's stream is being
     /// polled; it drops, or polls as a stream, a handle in use; a new name was taken. Else it may be refused for want of
-    /// memory, as the begin of a send is that might bring the 2^61st message. Nothing is refused for the number of steps or
-    /// calls. Nothing waits. Own to this project.
+    /// memory. So is the begin of a send that might bring the 2^61st message, where the channel has more than one place; one place
+    /// counts no positions, so there no send is refused for them. Nothing is refused for the number of steps or calls. Nothing
+    /// waits. Own to this project.
     pub fn run_steps(&mut self, steps: &mut VecDeque<Step<T>>) -> Run<T>
         ensures headline { (s : Scene T Waiter) → StandsIn self.old s
             → Headline steps.old.items steps.new.items self.old result.trace.items result.stopped self.new s }

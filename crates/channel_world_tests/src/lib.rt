@@ -12,6 +12,8 @@ mod crowds;
 #[cfg(test)]
 mod openings;
 #[cfg(test)]
+mod positions;
+#[cfg(test)]
 mod printed;
 #[cfg(test)]
 mod refusals;

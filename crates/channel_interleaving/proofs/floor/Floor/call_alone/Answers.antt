@@ -27,12 +27,13 @@ returns-clause-ok g c =
       agents = c.args.self.now.agents;
       doings = c.args.self.now.doings;
       messages = c.run_alone-reply.new.messages;
+      has_one_place = c.args.self.now.has_one_place;
       accepted = c.saturating_add-self.result;
       alloc = c.args.self.now.alloc;
     })
     c.in_ok-ask.field-0.ask c.run_alone-reply.result c.in-Ok.sink c.run_alone-reply.new.sink full c.args.room c.accepted_by.result
-    c.run_alone-reply.ensures.scenes b.ask c.requires.quiet c.requires.quiet (c.if-not-has_position.ensures refl)
-    (c.accepted_by.ensures ∙ ap (λ (b : Bool). accepted_by b c.run_alone-reply.result.reply) c.brings-brings.ensures) c.saturating_add-self.ensures
+    c.run_alone-reply.ensures.scenes b.ask c.requires.quiet c.requires.quiet (c.if-not-has_position.ensures.enough refl)
+    (c.accepted_by.ensures ∙ ap (λ (b : Bool). accepted_by b c.run_alone-reply.result.reply) c.brings-brings.ensures) c.saturating_add-self.ensures refl
     (ap (λ (ws : List Waiter). drop (length ws) full) c.in-Ok.ensures.none)
     (let start = ap (λ (ws : List Waiter). length ws) c.in-Ok.ensures.none in omega (arith, start, c.in-Ok.ensures.room))
     c.requires.room refl

@@ -29,7 +29,7 @@ returns-clause-some g c =
     c.in-Ok.ensures.none c.most_listeners-room.ensures c.in-Ok.ensures.room
     refl refl refl
     (rw (sym c.wake_all.ensures, sym c.wake_all-2.ensures) (c.write_back.ensures a there))
-    c.counted-self.ensures c.brought_in.ensures c.saturating_add-self.ensures c.note.ensures c.requires.accepted
+    c.counted-self.ensures c.brought_in.ensures c.saturating_add-self.ensures refl c.note.ensures c.requires.accepted
 
 pub returns-clause-at_work : goal.returns-clause-at_work
 returns-clause-at_work g c =

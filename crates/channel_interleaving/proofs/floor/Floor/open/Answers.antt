@@ -4,7 +4,7 @@ use Rattle.concurrent_queue.specs.Capacity.{capacity_of}
 use Rattle.channel_interleaving.proofs.floor.Floor.open.Goals as goal
 
 pub returns-clause-shown : goal.returns-clause-shown
-returns-clause-shown g c = new_shown _ (capacity_of c.args.form) c.in_ok-opened.ensures.shown refl refl c.new-4.ensures.items
+returns-clause-shown g c = new_shown _ (capacity_of c.args.form) c.in_ok-opened.ensures.shown refl refl c.is_one_place.ensures c.new-4.ensures.items
 
 pub returns-clause-at_work : goal.returns-clause-at_work
 returns-clause-at_work g c = new_at_work
@@ -16,6 +16,7 @@ returns-clause-at_work g c = new_at_work
       agents = c.new-3.result;
       doings = c.new-4.result;
       messages = 0;
+      has_one_place = c.is_one_place.result;
       accepted = 0;
       alloc = c.args.alloc;
     })
@@ -23,5 +24,5 @@ returns-clause-at_work g c = new_at_work
 
 pub returns-clause-owned : goal.returns-clause-owned
 returns-clause-owned g c = new_owned _ (capacity_of c.args.form)
-    (new_shown _ (capacity_of c.args.form) c.in_ok-opened.ensures.shown refl refl c.new-4.ensures.items)
+    (new_shown _ (capacity_of c.args.form) c.in_ok-opened.ensures.shown refl refl c.is_one_place.ensures c.new-4.ensures.items)
     (rw (c.new-3.ensures.items, c.in_ok-roll.ensures, c.in_ok-order.ensures) refl)

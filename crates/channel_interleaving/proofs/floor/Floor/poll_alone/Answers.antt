@@ -4,7 +4,6 @@ use Rattle.channel_interleaving.specs.Positions.{accepted_by}
 use Rattle.channel_interleaving.proofs.LoneFacts.{no_agents, is_at_rest, is_called}
 use Rattle.channel_interleaving.proofs.NodeFacts.{is_ample}
 use Rattle.channel_interleaving.proofs.PollFacts.{Heard, names_heard}
-use Rattle.channel_interleaving.proofs.PlaceFacts.{accepted_most}
 use Rattle.channel_interleaving.proofs.WokenPolls.{poll_keeps_order}
 use Rattle.channel_interleaving.specs.declared.woken.Woken.{Woken as Sink}
 use Rattle.channel_calls.specs.Plain.{parts_of}
@@ -75,14 +74,15 @@ returns-clause-polled g c =
             agents = old.agents;
             doings = old.doings;
             messages = c.run_alone-reply.new.messages;
+            has_one_place = old.has_one_place;
             accepted = c.saturating_add-self.result;
             alloc = old.alloc;
           })
           c.begin_poll-ask.result.ask c.run_alone-reply.result empty c.run_alone-reply.new.sink fresh
           (vec_capacity c.args.names - vec_len c.args.names) c.accepted_by.result c.run_alone-reply.ensures.scenes b.ask c.requires.quiet
-          c.requires.quiet (λ e. let nobody = ap length c.requires.quiet in omega (arith, nobody, c.requires.limit))
+          c.requires.quiet c.requires.limit
           (c.accepted_by.ensures ∙ ap (λ (b : Bool). accepted_by b c.run_alone-reply.result.reply) c.brings_polled-brings.ensures)
-          c.saturating_add-self.ensures refl (omega (arith, start)) c.requires.room refl
+          c.saturating_add-self.ensures refl refl (omega (arith, start)) c.requires.room refl
           (rw (
             c.settle-2.ensures,
             c.settle.ensures,
@@ -98,8 +98,9 @@ returns-clause-polled g c =
 
 pub returns-clause-accepted : goal.returns-clause-accepted
 returns-clause-accepted g c =
-    let most = accepted_most c.brings_polled-brings.result c.run_alone-reply.result.reply in
-    omega (arith, most, c.accepted_by.ensures, c.saturating_add-self.ensures)
+    let said = c.accepted_by.ensures
+    ∙ ap (λ (b : Bool). accepted_by b c.run_alone-reply.result.reply) c.brings_polled-brings.ensures in
+    omega (arith, said, c.saturating_add-self.ensures)
 
 pub returns-clause-ample : goal.returns-clause-ample
 returns-clause-ample g c =

@@ -9,5 +9,5 @@ returns-clause-ok g c =
     (rw (← c.have_room.ensures.parties, ← b.ask) c.begin-3.ensures.begins)
     refl refl c.new.ensures.items refl
     (rw (c.append-2.ensures, c.have_room.ensures.agents, ← b.errand, b.names, c.in-Ok.ensures.ok) refl)
-    refl refl (rw (c.append.ensures, c.have_room.ensures.doings, c.begun.ensures, b.ask) refl)
-    (c.if-not-has_position.ensures refl) c.requires.accepted
+    refl refl refl (rw (c.append.ensures, c.have_room.ensures.doings, c.begun.ensures, b.ask) refl)
+    (c.if-not-has_position.ensures.enough refl) c.requires.accepted

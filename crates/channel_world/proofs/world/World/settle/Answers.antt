@@ -12,6 +12,8 @@ use Rattle.channel_world.proofs.AsleepFacts.{no_receive_goes_on, no_stream_goes_
 use Rattle.channel_world.proofs.Leading.{leads_polled}
 use Rattle.channel_world.proofs.NumberFacts.{messages_at_rest, pending_at_rest}
 use Rattle.channel_world.proofs.Polls.{awake_at_rest}
+use Rattle.channel_world.proofs.Positions.{fewer_positions, sends_positions, positions_on}
+use Rattle.channel_world.proofs.Short.{sends_within}
 use Rattle.channel_world.proofs.SettleFacts.{ample_pushed, few_told, goes_first, goes_on, goes_pushed, goes_end, next_poll, one_poll}
 use Rattle.channel_world.proofs.world.World.settle.Goals as goal
 
@@ -24,7 +26,6 @@ loop-names-init g c =
     subst (λ (x : Floor g.row.T.Denot). AwakeIn (at_rest x)) c.self.view_is
     (awake_at_rest f c.keeps.ensures.kept quiet c.a_channel_at_rest_is_a_world.ensures.as_in_the_world) in
     let r = c.in-Some.ensures in
-    let places = r.places in
     record {
       goes = rw r.polls (goes_first (at_rest now) c.in-Some.room.names.items awake r.names);
       quiet = c.requires.quiet;
@@ -32,7 +33,7 @@ loop-names-init g c =
       leads = rw r.polls (leads_nowhere now);
       names = r.room;
       polls = r.answers;
-      places = omega (arith, places);
+      places = fewer_positions now _ _ (sends_within (at_rest now) awake) r.places;
     }
 
 pub poll_woken-reply-requires-clause-quiet : goal.poll_woken-reply-requires-clause-quiet
@@ -61,10 +62,7 @@ poll_woken-reply-requires-clause-limit g c =
     slice_get_read names.items (vec_len names) place name names.ok.0 (search rules) c.index-name.ensures in
     let next = next_poll (at_rest c.args.self.now) (at_rest c.loop-names.self) polls.items names.items place name c.loop-names.invariant.goes
     (c.len-in-loop-names-2.ensures ∙ polls.ok.0) here in
-    let left = next.left in
-    let places = c.loop-names.invariant.places in
-    let count = polls.ok.0 in
-    omega (arith, left, places, count)
+    sends_positions c.loop-names.self name c.loop-names.invariant.quiet next.woken c.loop-names.invariant.places
 
 pub poll_woken-reply-requires-clause-room : goal.poll_woken-reply-requires-clause-room
 poll_woken-reply-requires-clause-room g c =
@@ -113,12 +111,9 @@ loop-names-preserved g c =
     let pushed = c.push_reserved.ensures in
     let i = c.loop-names.invariant in
     let more = e.capacity in
-    let accepted = e.accepted in
     let wider = pushed.capacity in
-    let longer = pushed.len in
     let a = i.names in
     let b = i.polls in
-    let d = i.places in
     record {
       goes = goes_pushed (at_rest c.args.self.now) u polls.items c.push_reserved.new.self.items name after.reply after.names.items pushed.items
           (goes_on (at_rest c.args.self.now) (at_rest c.loop-names.self) (polls_in polls.items) names.items name i.goes next.front u after.reply after.names.items e.polled);
@@ -127,7 +122,8 @@ loop-names-preserved g c =
       leads = leads_polled c.args.self.now c.loop-names.self c.poll_woken-reply.new.self polls.items c.push_reserved.new.self.items _ pushed.items i.leads e.leads;
       names = omega (arith, more, a);
       polls = omega (arith, wider, b);
-      places = omega (arith, accepted, longer, d);
+      places = positions_on c.loop-names.self c.poll_woken-reply.new.self name names.items after.reply after.names.items
+          (let goes = i.goes in goes.awake) next.front e.polled e.place e.accepted i.places;
     }
 
 pub loop-names-smaller : goal.loop-names-smaller

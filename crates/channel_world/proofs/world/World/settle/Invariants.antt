@@ -1,6 +1,7 @@
-use Rattle.std.proofs.Common.{◌<◌, ◌≤◌, ◌+◌, ◌-◌, ◌^◌, vec_len, vec_capacity}
-use Rattle.channel_interleaving.specs.Floor.{IsQuiet, LeadsOn}
+use Rattle.std.proofs.Common.{◌≤◌, ◌-◌, vec_len, vec_capacity}
+use Rattle.channel_interleaving.specs.Floor.{HasPositions, IsQuiet, LeadsOn}
 use Rattle.channel_world.proofs.SettleFacts.{Goes}
+use Rattle.channel_world.proofs.Short.{sends_of}
 use Rattle.channel_world.specs.Carried.{polls_replied}
 use Rattle.channel_world.specs.Settled.{polls_in, most_polls, NoneLackedMemory}
 use Rattle.channel_world.specs.World.{at_rest}
@@ -14,7 +15,7 @@ invariant-loop-names g l = record {
   leads : LeadsOn l.fn.self (polls_replied l.polls.items) l.self;
   names : most_polls (at_rest l.fn.self) ≤ vec_capacity l.names;
   polls : most_polls (at_rest l.fn.self) ≤ vec_capacity l.polls;
-  places : l.self.accepted + most_polls (at_rest l.fn.self) < 2 ^ 61 + vec_len l.polls;
+  places : HasPositions (sends_of (at_rest l.self)) l.self;
 }
 
 abbrev pub decreases-loop-names : goal.decreases-loop-names
