@@ -36,7 +36,7 @@ HEAD = """# Where the worked rows stand
 Made by `tools/list_rows.py` of the texts of rows, not by hand. A worked row is a text: lines that name calls, each with what it is to
 answer. One test plays all rows of a text, and stops at the first line that answers another thing, whose row, call and both answers it
 shows. `worked_rows` reads the texts, and says in its head how; what a line calls is said in the file or the crate that stands in
-brackets. A row that has values, as the forms of a channel, is played once for each. One more row costs no proof.
+brackets. One more row costs no proof.
 
 | Text | Each line goes through | Test | Rows |
 |---|---|---|---|
@@ -68,12 +68,6 @@ def texts():
     return found
 
 
-def rows_of(text):
-    """Returns the names of a text's rows, each with how often it is played where it has values."""
-    for name, values in re.findall(r"^row (\w+)\n(?:each (.*)\n)?", text, re.M):
-        yield f"`{name}` ({len(values.split(', '))} times)" if values else f"`{name}`"
-
-
 def has_test(crate, test):
     module, _, name = test.partition("::")
     return f"#[test]\nfn {name}(" in read(f"crates/{crate}/src/{module}.rt")
@@ -85,10 +79,10 @@ def main(words):
     found, wrong, page = texts(), [], HEAD
     for crate, file, name, goes_through, test in TEXTS:
         text = found.pop((crate, file, name), "")
-        rows = list(rows_of(text))
+        rows = re.findall(r"^row (\w+)$", text, re.M)
         if not rows or not has_test(crate, test):
             wrong.append(f"there are no rows {name} in {crate}/{file}, or no test {test}")
-        page += f"| `{crate}/src/{file}.rt`, `{name}` | {goes_through} | `{test}` | {', '.join(rows)} |\n"
+        page += f"| `{crate}/src/{file}.rt`, `{name}` | {goes_through} | `{test}` | {', '.join(f'`{row}`' for row in rows)} |\n"
     wrong += [f"tools/list_rows.py doesn't know {name} of {crate}/{file}" for crate, file, name in found]
     page += TAIL
     if not words:

@@ -189,9 +189,18 @@ send_to_end s 8 = sent
 recv_to_end r = received 8
 try_recv r = empty
 
-row a_channel_is_used_by_blocking_calls
-each bounded 1, unbounded
-$
+row one_place_is_used_by_blocking_calls
+bounded 1
+send_blocking s 7 = sent
+try_recv r = received 7
+send_blocking s 8 = sent
+recv_to_end r = received 8
+send_to_end s 9 = sent
+recv_blocking r = received 9
+try_recv r = empty
+
+row no_bound_is_used_by_blocking_calls
+unbounded
 send_blocking s 7 = sent
 try_recv r = received 7
 send_blocking s 8 = sent
@@ -285,9 +294,8 @@ unbounded
 capacity 18 = none
 capacity 19 = none
 
-row sends_after_the_closing
-each bounded 100, unbounded
-$
+row sends_after_the_closing_of_a_hundred_places
+bounded 100
 send_to_end s 1 = sent
 send_to_end s 2 = sent
 send_to_end s 3 = sent
@@ -297,9 +305,30 @@ try_send s 5 = closed 5
 send_to_end s 6 = closed 6
 send_blocking s 7 = closed 7
 
-row receives_after_the_closing
-each bounded 100, unbounded
-$
+row sends_after_the_closing_without_a_bound
+unbounded
+send_to_end s 1 = sent
+send_to_end s 2 = sent
+send_to_end s 3 = sent
+drop r
+send_to_end s 4 = closed 4
+try_send s 5 = closed 5
+send_to_end s 6 = closed 6
+send_blocking s 7 = closed 7
+
+row receives_after_the_closing_of_a_hundred_places
+bounded 100
+send_to_end s 1 = sent
+send_to_end s 2 = sent
+send_to_end s 3 = sent
+drop s
+recv_to_end r = received 1
+recv_to_end r = received 2
+recv_to_end r = received 3
+recv_to_end r = over
+
+row receives_after_the_closing_without_a_bound
+unbounded
 send_to_end s 1 = sent
 send_to_end s 2 = sent
 send_to_end s 3 = sent
@@ -317,9 +346,27 @@ drop r
 try_send s 777 = closed 777
 send_to_end s 777 = closed 777
 
-row handles_are_counted
-each bounded 5, unbounded
-$
+row handles_of_five_places_are_counted
+bounded 5
+clones s 20 = 20
+same_channel s 2 = true
+same_channel s 21 = true
+clones r 20 = 20
+same_channel r 22 = true
+same_channel r 41 = true
+sender_count s = 21
+receiver_count s = 21
+sender_count r = 21
+receiver_count r = 21
+drops 2 20
+drops 22 20
+sender_count s = 1
+receiver_count s = 1
+sender_count r = 1
+receiver_count r = 1
+
+row handles_without_a_bound_are_counted
+unbounded
 clones s 20 = 20
 same_channel s 2 = true
 same_channel s 21 = true
@@ -338,9 +385,31 @@ sender_count r = 1
 receiver_count r = 1
 
 # The weak handles' clones upgrade, and a message goes through what they gave. Weak handles don't keep the channel open.
-row weak_handles
-each bounded 3, unbounded
-$
+row weak_handles_of_three_places
+bounded 3
+downgrade s = made
+downgrade r = made
+clone 2 = made
+clone 3 = made
+upgrade 4 = made
+upgrade 5 = made
+sender_count 6 = 2
+receiver_count 7 = 2
+send_blocking 6 3 = sent
+recv_blocking 7 = received 3
+drops 2 6
+sender_count s = 1
+receiver_count r = 1
+downgrade s = made
+downgrade r = made
+drop s
+drop r
+upgrade 8 = none
+upgrade 9 = none
+
+# The weak handles' clones upgrade, and a message goes through what they gave. Weak handles don't keep the channel open.
+row weak_handles_without_a_bound
+unbounded
 downgrade s = made
 downgrade r = made
 clone 2 = made

@@ -15,16 +15,16 @@ mod plain;
 mod start;
 mod woken;
 
-use crate::beside::plain::change_of;
+use crate::beside::plain::Event;
 use crate::beside::woken::Woken;
 use crate::said::{Said, answer_of};
 use channel_calls::ask::ChannelAsk;
 use channel_calls::call::ChannelCall;
+use channel_calls::mark::Mark;
 use channel_calls::plain::PlainChannel;
 use channel_calls::questions::is_closed;
 use channel_calls::stage::Line;
 use event_listener::key::Key;
-use worked_rows::Events;
 
 /// More steps than a call alone has.
 const ALL: u32 = 64;
@@ -63,7 +63,7 @@ impl Other {
         if let Some(reply) = self.call.step(cells, woken) {
             self.said = Some(answer_of(reply));
         }
-        events.note(change_of(self.call.last_mark()), self.message, by);
+        events.note(self.call.last_mark(), self.message, by);
     }
 
     /// Makes up to so many steps.
@@ -91,7 +91,7 @@ fn alone(
 ) -> (Said, Option<Key>)
     ensures { form_of cells.new ≡ form_of cells.old }
 {
-    let mut events = Events::none();
+    let mut events = Events::new();
     let mut other = Other::new(ask, 0);
     other.go_on(0, ALL, cells, woken, &mut events);
     let Other {
@@ -100,6 +100,32 @@ fn alone(
         said,
     } = other;
     (said.unwrap_or(Said::GoesOn), call.into_kept().key)
+}
+
+/// What steps of others did to the list, in their order.
+#[derive(Clone, Copy, Debug)]
+struct Events {
+    events: [Option<Event>; 6],
+    count: usize,
+}
+
+impl Events {
+    fn new() -> Events {
+        Events {
+            events: [None; 6],
+            count: 0,
+        }
+    }
+
+    fn note(&mut self, mark: Mark, message: u64, by: usize) {
+        if mark == Mark::Nothing {
+            return;
+        }
+        if let Some(place) = self.events.get_mut(self.count) {
+            *place = Some(Event { mark, message, by });
+            self.count = self.count.wrapping_add(1);
+        }
+    }
 }
 
 /// Whether somebody sleeps on this list beside what nobody who was woken answers for: a message, a free place or the closing.

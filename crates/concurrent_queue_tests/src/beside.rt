@@ -6,13 +6,13 @@
 mod cases;
 mod plain;
 
-use crate::beside::plain::{Kind, change_of};
+use crate::beside::plain::{Event, Kind};
 use crate::said::{Said, replied};
+use concurrent_queue::call::QueueMark;
 use concurrent_queue::cells::{Cells, QueueForm, Slot, Word};
 use concurrent_queue::error::NoMemory;
 use concurrent_queue::plain::PlainCells;
 use concurrent_queue::queue_call::QueueCall;
-use worked_rows::Events;
 
 /// So many operations after the others came between, they go on, one step before each operation: a call may wait for them.
 const LATE: u32 = 40;
@@ -55,7 +55,33 @@ impl Other {
             if let Some(reply) = self.call.step(cells) {
                 self.said = Some(replied(&reply));
             }
-            events.note(change_of(self.call.last_mark()), self.message, by);
+            events.note(self.call.last_mark(), self.message, by);
+        }
+    }
+}
+
+/// What steps of others did to the list, in their order.
+#[derive(Clone, Copy, Debug)]
+struct Events {
+    events: [Option<Event>; 6],
+    count: usize,
+}
+
+impl Events {
+    fn new() -> Events {
+        Events {
+            events: [None; 6],
+            count: 0,
+        }
+    }
+
+    fn note(&mut self, mark: QueueMark, message: u64, by: usize) {
+        if mark == QueueMark::Nothing {
+            return;
+        }
+        if let Some(place) = self.events.get_mut(self.count) {
+            *place = Some(Event { mark, message, by });
+            self.count = self.count.wrapping_add(1);
         }
     }
 }

@@ -44,8 +44,19 @@ shared 288230376151711745 = memory
 
 # A walk that ends early leaves the rest, and one to its end gives it and leaves nothing.
 row walked_to_its_end_or_dropped_early
-each 1, 2, 0
-alone $
+alone 1
+push 10 = pushed
+walk_unread
+len = 1
+walk 10 = 1
+is_empty = true
+alone 2
+push 10 = pushed
+walk_unread
+len = 1
+walk 10 = 1
+is_empty = true
+alone 0
 push 10 = pushed
 walk_unread
 len = 1
@@ -74,25 +85,36 @@ pop = shut
 
 # Again and again.
 row messages_come_in_order
-each 1, 2, 3, 4, 5
-shared $
-rounds 10 $ = $0
+shared 1
+rounds 10 1 = 10
 pop = empty
 is_empty = true
-
-# Again and again.
-row messages_without_a_bound_come_again_and_again
+shared 2
+rounds 10 2 = 20
+pop = empty
+is_empty = true
+shared 3
+rounds 10 3 = 30
+pop = empty
+is_empty = true
+shared 4
+rounds 10 4 = 40
+pop = empty
+is_empty = true
+shared 5
+rounds 10 5 = 50
+pop = empty
+is_empty = true
 shared 0
 rounds 10 100 = 1000
 pop = empty
 is_empty = true
 
 row a_full_queue_refuses_or_displaces
-each 1, 2, 3
-shared $
-forces 0 $ = $
+shared 1
+forces 0 1 = 1
 is_full = true
-len = $
+len = 1
 push 7 = full 7
 force 8 = displaced 0
 close = true
@@ -100,8 +122,34 @@ close = false
 is_closed = true
 push 9 = closed 9
 force 9 = closed 9
-len = $
-capacity = $
+len = 1
+capacity = 1
+shared 2
+forces 0 2 = 2
+is_full = true
+len = 2
+push 7 = full 7
+force 8 = displaced 0
+close = true
+close = false
+is_closed = true
+push 9 = closed 9
+force 9 = closed 9
+len = 2
+capacity = 2
+shared 3
+forces 0 3 = 3
+is_full = true
+len = 3
+push 7 = full 7
+force 8 = displaced 0
+close = true
+close = false
+is_closed = true
+push 9 = closed 9
+force 9 = closed 9
+len = 3
+capacity = 3
 
 row an_unbounded_queue_is_never_full
 shared 0

@@ -12,7 +12,7 @@ use worked_rows::play_rows;
 fn queues(rt: HostRuntime) -> Result<(), Fail> {
     let mut queues = Queues::new(rt, rt.alloc());
     let played = play_rows(rt.alloc(), QUEUES, &mut queues)?;
-    expect_rows(&rt, &played, 18);
+    expect_rows(&rt, &played, 9);
     Ok(())
 }
 

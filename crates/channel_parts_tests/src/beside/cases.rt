@@ -5,7 +5,7 @@ use crate::beside::kind::{Called, Kind, said_at_once};
 use crate::beside::outcome::Outcome;
 use crate::beside::start::{Begun, Start, WAITING, left_in};
 use crate::beside::woken::{LINES, Woken, place_of, task_of};
-use crate::beside::{ALL, Other, is_owed};
+use crate::beside::{ALL, Events, Other, is_owed};
 use crate::checks::expect_none;
 use crate::said::Said;
 use channel_calls::plain::PlainChannel;
@@ -15,7 +15,6 @@ use std::alloc::{AllocError, Global};
 use std::process::Abort;
 use std::sync::Wait;
 use std::test::Fail;
-use worked_rows::Events;
 
 /// The calls that come between.
 const OTHERS: [Kind; 6] = [
@@ -131,7 +130,7 @@ fn laid<'a, R: Wait>(
         steps: case.steps,
         first: Other::new(case.first.ask(8, 3), 8),
         second: Other::new(case.second.ask(9, 4), 9),
-        events: Events::none(),
+        events: Events::new(),
         came_whole: false,
         woken: Woken::new(),
         line: case.kind.line().unwrap_or(Line::Closings),
@@ -149,7 +148,7 @@ fn make<R: Wait>(rt: &R, alloc: Global, start: Start, begun: Begun, case: Case) 
     let mut beside = laid(rt, begun.cells, start.bound, case, called.task);
     let mut sink = Woken::new();
     let said = said_at_once(rt, alloc, called, &mut beside, &mut sink);
-    let ended = beside.events.len();
+    let ended = beside.events.count;
     if said != Said::Pending {
         beside.woken.clear(called.task);
         sink.clear(called.task);

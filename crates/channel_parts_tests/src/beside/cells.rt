@@ -6,7 +6,7 @@ ghost use Rattle.channel_calls.specs.Plain.{form_of, parts_of};
 
 use crate::beside::kind::Kind;
 use crate::beside::woken::Woken;
-use crate::beside::{ALL, Other, is_owed};
+use crate::beside::{ALL, Events, Other, is_owed};
 use channel_calls::cells::ChannelCells;
 use channel_calls::plain::PlainChannel;
 use channel_calls::sleeps::Sleeps;
@@ -18,7 +18,6 @@ use event_listener::error::ListenError;
 use event_listener::key::Key;
 use event_listener::wakes::Wakes;
 use std::sync::Wait;
-use worked_rows::Events;
 
 /// So many operations after the others came between, they go on, one step before each operation: a call may wait for them.
 const LATE: u32 = 40;

@@ -1,9 +1,9 @@
 //! What came of a call and of those beside it, and whether a plain list explains it.
 
+use crate::beside::Events;
 use crate::beside::kind::Kind;
-use crate::beside::plain::{Later, answer, end};
+use crate::beside::plain::{Later, Plain};
 use crate::said::Said;
-use worked_rows::{Events, PlainList};
 
 /// What came of it.
 #[derive(Clone, Copy, Debug)]
@@ -16,7 +16,7 @@ pub(crate) struct Outcome {
     pub(crate) events: Events,
     pub(crate) ended: usize,
     /// What is left in the channel.
-    pub(crate) left: PlainList,
+    pub(crate) left: Plain,
     /// Whether somebody was left asleep beside what nobody answers for.
     pub(crate) is_lost: bool,
     /// Whether each list has those who wait there, and each one told has been woken.
@@ -39,27 +39,20 @@ fn taken(said: Said) -> u64 {
 impl Outcome {
     /// Whether a list explains it, to which the others' steps did what they did: the call had its moment before the step of
     /// this place among them, and what it did later came before another one, not earlier.
-    fn is_so(
-        &self,
-        kind: Kind,
-        message: u64,
-        start: PlainList,
-        moment: usize,
-        comes: usize,
-    ) -> bool {
+    fn is_so(&self, kind: Kind, message: u64, start: Plain, moment: usize, comes: usize) -> bool {
         let mut plain = start;
         let mut took = [0; 2];
         let mut said = Said::Missing;
         let mut later = Later::Nothing;
-        for place in 0..self.events.len().saturating_add(1) {
+        for place in 0..self.events.count.saturating_add(1) {
             if place == moment {
-                (said, later) = answer(&mut plain, kind, message);
+                (said, later) = plain.answer(kind, message);
             }
             if place == comes {
-                said = end(&mut plain, said, later, message);
+                said = plain.end(said, later, message);
             }
-            if let Some(event) = self.events.at(place) {
-                let out = plain.apply(event);
+            if let Some(Some(event)) = self.events.events.get(place) {
+                let out = plain.do_event(event);
                 if out != 0 && event.by < 2 {
                     took[event.by] = out;
                 }
@@ -71,7 +64,7 @@ impl Outcome {
     }
 
     /// Whether there are such moments while the call is under way, and nobody sleeps who shouldn't.
-    pub(crate) fn is_explained(&self, kind: Kind, message: u64, start: PlainList) -> bool {
+    pub(crate) fn is_explained(&self, kind: Kind, message: u64, start: Plain) -> bool {
         if self.is_lost || !self.is_counted {
             return false;
         }

@@ -2,6 +2,7 @@
 
 use crate::beside::alone;
 use crate::beside::kind::Kind;
+use crate::beside::plain::Plain;
 use crate::beside::woken::{Woken, place_of};
 use crate::said::Said;
 use channel_calls::ask::ChannelAsk;
@@ -10,7 +11,6 @@ use channel_calls::stage::Line;
 use concurrent_queue::cells::QueueForm;
 use event_listener::key::Key;
 use std::alloc::{AllocError, Global};
-use worked_rows::PlainList;
 
 /// A channel, and what is in it when the calls begin. Where somebody waits, two sends wait on a full one, two receives and a stream
 /// on an empty one, and on each somebody waits for the closing.
@@ -28,7 +28,7 @@ pub(crate) struct Start {
 #[derive(Drop)]
 pub(crate) struct Begun {
     pub(crate) cells: PlainChannel<u64, u32>,
-    pub(crate) plain: PlainList,
+    pub(crate) plain: Plain,
     pub(crate) waiting: [usize; 4],
     pub(crate) keys: [Option<Key>; 4],
 }
@@ -48,7 +48,7 @@ impl Start {
         };
         let mut begun = Begun {
             cells,
-            plain: PlainList::new(self.bound),
+            plain: Plain::new(self.bound),
             waiting: [0; 4],
             keys: [None; 4],
         };
@@ -104,9 +104,9 @@ impl Begun {
 }
 
 /// What is left in the channel.
-pub(crate) fn left_in(cells: &mut PlainChannel<u64, u32>, bound: usize) -> PlainList {
+pub(crate) fn left_in(cells: &mut PlainChannel<u64, u32>, bound: usize) -> Plain {
     let mut woken = Woken::new();
-    let mut plain = PlainList::new(bound);
+    let mut plain = Plain::new(bound);
     let (closed, _) = alone(ChannelAsk::Close, cells, &mut woken);
     for _ in 0..8 {
         match alone(ChannelAsk::TryRecv, cells, &mut woken).0 {

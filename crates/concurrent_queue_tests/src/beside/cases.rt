@@ -1,7 +1,7 @@
 //! Each call of each form beside each two others, at each of its operations.
 
-use crate::beside::plain::{Kind, answer};
-use crate::beside::{ALL, Beside, Other};
+use crate::beside::plain::{Kind, Plain};
+use crate::beside::{ALL, Beside, Events, Other};
 use crate::checks::expect_none;
 use crate::said::{Said, replied};
 use concurrent_queue::cells::QueueForm;
@@ -11,7 +11,6 @@ use std::alloc::{AllocError, Global};
 use std::process::Abort;
 use std::sync::Wait;
 use std::test::Fail;
-use worked_rows::{Events, PlainList};
 
 /// The calls.
 const KINDS: [Kind; 7] = [
@@ -54,7 +53,7 @@ struct Outcome {
     said: Said,
     others: [Said; 2],
     events: Events,
-    left: PlainList,
+    left: Plain,
     came: bool,
     came_whole: bool,
 }
@@ -74,7 +73,7 @@ fn alone(cells: &mut PlainCells<u64>, kind: Kind, message: u64) -> Said {
 
 impl Start {
     /// The cells of the queue, and the list that they stand for. So many messages have passed through it before.
-    fn begin(self, alloc: Global) -> Result<(PlainCells<u64>, PlainList), AllocError> {
+    fn begin(self, alloc: Global) -> Result<(PlainCells<u64>, Plain), AllocError> {
         let mut cells = match self.form {
             QueueForm::Unbounded => PlainCells::new(alloc, QueueForm::Unbounded)?,
             QueueForm::Bounded(bound) if bound > 0 => {
@@ -82,7 +81,7 @@ impl Start {
             }
             QueueForm::Bounded(_) => return Err(AllocError),
         };
-        let mut plain = PlainList::new(self.bound);
+        let mut plain = Plain::new(self.bound);
         for message in 0..self.passed {
             alone(&mut cells, Kind::Push, message);
             alone(&mut cells, Kind::Pop, 0);
@@ -100,8 +99,8 @@ impl Start {
 }
 
 /// What is left in the queue.
-fn left_in(cells: &mut PlainCells<u64>, bound: usize) -> PlainList {
-    let mut plain = PlainList::new(bound);
+fn left_in(cells: &mut PlainCells<u64>, bound: usize) -> Plain {
+    let mut plain = Plain::new(bound);
     for _ in 0..8 {
         match alone(cells, Kind::Pop, 0) {
             ("popped", message) => plain.append(message),
@@ -120,7 +119,7 @@ fn make<R: Wait>(rt: &R, start: Start, cells: PlainCells<u64>, case: Case) -> Ou
         turn: case.turn,
         first: Other::new(case.first, 8, case.steps),
         second: Other::new(case.second, 9, ALL),
-        events: Events::none(),
+        events: Events::new(),
         came_whole: false,
     };
     let call = QueueCall::new(case.kind.ask(7));
@@ -159,20 +158,20 @@ fn taken(said: Said) -> u64 {
 impl Outcome {
     /// Whether a list explains it, to which the others' steps did what they did: the call had its moment before the step of
     /// this place among them, and the message of a displacing push came before another, not earlier.
-    fn is_so(&self, kind: Kind, start: PlainList, moment: usize, comes: usize) -> bool {
+    fn is_so(&self, kind: Kind, start: Plain, moment: usize, comes: usize) -> bool {
         let mut plain = start;
         let mut took = [0; 2];
         let mut said = ("nothing", 0);
         let mut is_to_come = false;
-        for place in 0..self.events.len().saturating_add(1) {
+        for place in 0..self.events.count.saturating_add(1) {
             if place == moment {
-                (said, is_to_come) = answer(&mut plain, kind, 7);
+                (said, is_to_come) = plain.answer(kind, 7);
             }
             if place == comes && is_to_come {
                 plain.append(7);
             }
-            if let Some(event) = self.events.at(place) {
-                let message = plain.apply(event);
+            if let Some(Some(event)) = self.events.events.get(place) {
+                let message = plain.do_event(event);
                 if message != 0 && event.by < 2 {
                     took[event.by] = message;
                 }
@@ -184,8 +183,8 @@ impl Outcome {
     }
 
     /// Whether there are such moments.
-    fn is_explained(&self, kind: Kind, start: PlainList) -> bool {
-        let end = self.events.len().saturating_add(1);
+    fn is_explained(&self, kind: Kind, start: Plain) -> bool {
+        let end = self.events.count.saturating_add(1);
         for moment in 0..end {
             for comes in moment..end {
                 if self.is_so(kind, start, moment, comes) {

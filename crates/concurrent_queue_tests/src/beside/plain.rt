@@ -1,8 +1,7 @@
-//! What calls of a queue ask, what their steps do to a plain list, and what calls of such a list answer.
+//! A list of messages that can be closed, and what calls of it answer.
 
 use crate::said::Said;
 use concurrent_queue::call::{QueueAsk, QueueMark};
-use worked_rows::{Change, PlainList};
 
 /// What a call asks.
 #[derive(Clone, Copy, Debug, PartialEq, Eq)]
@@ -31,72 +30,138 @@ impl Kind {
     }
 }
 
-/// What a step with this mark did to the list.
-pub(crate) fn change_of(mark: QueueMark) -> Change {
-    match mark {
-        QueueMark::Nothing => Change::Nothing,
-        QueueMark::Append => Change::Append,
-        QueueMark::Take | QueueMark::TakeDisplaced => Change::Take,
-        QueueMark::Replace => Change::Replace,
-        QueueMark::Close => Change::Close,
-    }
+/// What a step of a call did to the list, with the call's message, and which call it was.
+#[derive(Clone, Copy, Debug)]
+pub(crate) struct Event {
+    pub(crate) mark: QueueMark,
+    pub(crate) message: u64,
+    pub(crate) by: usize,
 }
 
-/// What a pop says, at one moment.
-fn pop(list: &mut PlainList) -> Said {
-    if !list.is_empty() {
-        ("popped", list.take())
-    } else if list.is_closed() {
-        ("shut", 0)
-    } else {
-        ("empty", 0)
-    }
+/// How many messages a list of these tests has room for.
+const ROOM: usize = 8;
+
+/// A list of messages, oldest first, with a bound or without one.
+#[derive(Clone, Copy, Debug, PartialEq, Eq)]
+pub(crate) struct Plain {
+    messages: [u64; ROOM],
+    count: usize,
+    closed: bool,
+    bound: usize,
 }
 
-/// What a push says, at one moment.
-fn push(list: &mut PlainList, message: u64) -> Said {
-    if list.is_closed() {
-        ("closed", message)
-    } else if list.is_full() {
-        ("full", message)
-    } else {
-        list.append(message);
-        ("pushed", 0)
-    }
-}
-
-/// What a displacing push says, at its first moment; whether its message is still to come, at a later one.
-fn make_room(list: &mut PlainList, message: u64) -> (Said, bool) {
-    if list.is_closed() {
-        (("closed", message), false)
-    } else if list.is_full() {
-        (("displaced", list.take()), true)
-    } else {
-        (("forced", 0), true)
-    }
-}
-
-fn flag(it: bool) -> Said {
-    if it { ("yes", 0) } else { ("no", 0) }
-}
-
-/// What a call says at one moment, and whether its message is still to come.
-pub(crate) fn answer(list: &mut PlainList, kind: Kind, message: u64) -> (Said, bool) {
-    match kind {
-        Kind::Push => (push(list, message), false),
-        Kind::ForcePush => make_room(list, message),
-        Kind::Pop => (pop(list), false),
-        Kind::Close => {
-            let said = if list.is_closed() {
-                "was closed"
-            } else {
-                "closed it"
-            };
-            list.close();
-            ((said, 0), false)
+impl Plain {
+    /// An open and empty list with this bound.
+    pub(crate) fn new(bound: usize) -> Plain {
+        Plain {
+            messages: [0; ROOM],
+            count: 0,
+            closed: false,
+            bound,
         }
-        Kind::IsEmpty => (flag(list.is_empty()), false),
-        Kind::IsFull => (flag(list.is_full()), false),
-        Kind::Len => (("holds", list.len() as u64), false),
+    }
+
+    pub(crate) fn append(&mut self, message: u64) {
+        if let Some(place) = self.messages.get_mut(self.count) {
+            *place = message;
+            self.count = self.count.wrapping_add(1);
+        }
+    }
+
+    pub(crate) fn close(&mut self) {
+        self.closed = true;
+    }
+
+    /// Takes the oldest message; 0 where there is none.
+    fn take(&mut self) -> u64 {
+        if self.count == 0 {
+            return 0;
+        }
+        let oldest = self.messages[0];
+        for place in 1..ROOM {
+            self.messages[place - 1] = self.messages[place];
+        }
+        self.messages[ROOM - 1] = 0;
+        self.count = self.count.saturating_sub(1);
+        oldest
+    }
+
+    fn is_full(&self) -> bool {
+        self.count >= self.bound
+    }
+
+    /// Does what a step did, and answers the message that it took, or 0.
+    pub(crate) fn do_event(&mut self, event: &Event) -> u64 {
+        let mut taken = 0;
+        match event.mark {
+            QueueMark::Nothing => {}
+            QueueMark::Append => self.append(event.message),
+            QueueMark::Take | QueueMark::TakeDisplaced => taken = self.take(),
+            QueueMark::Replace => {
+                taken = self.take();
+                self.append(event.message);
+            }
+            QueueMark::Close => self.close(),
+        }
+        taken
+    }
+
+    /// What a pop says, at one moment.
+    fn pop(&mut self) -> Said {
+        if self.count > 0 {
+            ("popped", self.take())
+        } else if self.closed {
+            ("shut", 0)
+        } else {
+            ("empty", 0)
+        }
+    }
+
+    /// What a push says, at one moment.
+    fn push(&mut self, message: u64) -> Said {
+        if self.closed {
+            ("closed", message)
+        } else if self.is_full() {
+            ("full", message)
+        } else {
+            self.append(message);
+            ("pushed", 0)
+        }
+    }
+
+    /// What a displacing push says, at its first moment; whether its message is still to come, at a later one.
+    fn make_room(&mut self, message: u64) -> (Said, bool) {
+        if self.closed {
+            (("closed", message), false)
+        } else if self.is_full() {
+            (("displaced", self.take()), true)
+        } else {
+            (("forced", 0), true)
+        }
+    }
+
+    fn flag(it: bool) -> Said {
+        if it { ("yes", 0) } else { ("no", 0) }
+    }
+
+    /// What a call says at one moment, and whether its message is still to come.
+    pub(crate) fn answer(&mut self, kind: Kind, message: u64) -> (Said, bool) {
+        match kind {
+            Kind::Push => (self.push(message), false),
+            Kind::ForcePush => self.make_room(message),
+            Kind::Pop => (self.pop(), false),
+            Kind::Close => {
+                let said = if self.closed {
+                    "was closed"
+                } else {
+                    "closed it"
+                };
+                self.close();
+                ((said, 0), false)
+            }
+            Kind::IsEmpty => (Plain::flag(self.count == 0), false),
+            Kind::IsFull => (Plain::flag(self.is_full()), false),
+            Kind::Len => (("holds", self.count as u64), false),
+        }
     }
 }
