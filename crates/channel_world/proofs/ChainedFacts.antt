@@ -120,7 +120,7 @@ module _ {T : Type 0} where
         → ◌≡◌ {A = Option (ℕ × ℕ)} (Some (b, h)) (Some (r.num k, r.num (k + 1)))
     next_pair k m b h e f g =
         let one : ◌≡◌ {A = Option (ℕ × ℕ)} (Some (b, h)) (Some (r.num k, h)) = ap (λ (x : ℕ). let z : Option (ℕ
-            × ℕ) = Some (x, h) in z) (f ∙ ap r.num e) in
+        × ℕ) = Some (x, h) in z) (f ∙ ap r.num e) in
         one ∙ ap (λ (x : ℕ). let z : Option (ℕ × ℕ) = Some (r.num k, x) in z) (g ∙ ap (λ (j : ℕ). r.num (j + 1)) e)
 
     -- who owes the link of a block that is not the last one knows the next
@@ -155,13 +155,23 @@ module _ {T : Type 0} where
       head_page (blocks.PopNext j b) p f l =
           let x = f.2 in let y = f.3 in let z = f.5 in
           let at : number j / 31 ≡ r.first - 1 = omega (arith, z) in
-          inr (inr (omega (arith, x, y, z), omega (arith, z), subst
-          (λ (k : ℕ). (r.block k).retired ≡ false) at (in_use (number j) f.0 f.1.5), tt))
+          inr (inr (
+            omega (arith, x, y, z),
+            omega (arith, z),
+            subst
+                (λ (k : ℕ). (r.block k).retired ≡ false) at (in_use (number j) f.0 f.1.5),
+            tt,
+          ))
       head_page (blocks.PopBlock j b c) p f l =
           let x = f.2 in let y = f.3 in let z = f.5 in
           let at : number j / 31 ≡ r.first - 1 = omega (arith, z) in
-          inr (inr (omega (arith, x, y, z), omega (arith, z), subst
-          (λ (k : ℕ). (r.block k).retired ≡ false) at (in_use (number j) f.0 f.1.5), tt))
+          inr (inr (
+            omega (arith, x, y, z),
+            omega (arith, z),
+            subst
+                (λ (k : ℕ). (r.block k).retired ≡ false) at (in_use (number j) f.0 f.1.5),
+            tt,
+          ))
       head_page (blocks.PopHead j b) p f l = let x = f.2 in let y = f.3 in let z = f.5 in inr (inl (omega (arith, x, y, z), tt))
       head_page a p f l = absurd (omega arith)
 
@@ -220,13 +230,13 @@ module _ {T : Type 0} where
     used_from : (k : ℕ) → r.first - 1 ≤ k → (r.block k).retired ≡ false
     used_from k low = by_bool (r.block k).retired (λ f. f)
         (λ f. absurd (
-            let z = s.retired k f in let t = s.reads k in let u = taken_all r.head k in
-            let full : k < r.head / 31 = taken_full r.head k (omega (arith, z, t, u)) in
-            ⊎_elim (λ g. ⊎_elim (λ h. let y = h.1 in omega (arith, y, full)) (λ h. omega (arith, h, low, full)) g.1)
-            (λ g. ⊎_elim (λ h. let y = h.1.0 in omega (arith, y, low, full))
-            (λ h. let y = h.1 in let same_one : k ≡ r.first - 1 = omega (arith, y, low, full) in
-            false≢true (sym h.3 ∙ ap (λ (j : ℕ). (r.block j).retired) (sym same_one) ∙ f)) g)
-            head_at))
+        let z = s.retired k f in let t = s.reads k in let u = taken_all r.head k in
+        let full : k < r.head / 31 = taken_full r.head k (omega (arith, z, t, u)) in
+        ⊎_elim (λ g. ⊎_elim (λ h. let y = h.1 in omega (arith, y, full)) (λ h. omega (arith, h, low, full)) g.1)
+        (λ g. ⊎_elim (λ h. let y = h.1.0 in omega (arith, y, low, full))
+        (λ h. let y = h.1 in let same_one : k ≡ r.first - 1 = omega (arith, y, low, full) in
+        false≢true (sym h.3 ∙ ap (λ (j : ℕ). (r.block j).retired) (sym same_one) ∙ f)) g)
+        head_at))
 
     chain_is : (k b : ℕ) → slice_get chain k ≡ Some b → (k < r.last) × (b ≡ r.num k)
     chain_is k b e =
@@ -322,7 +332,7 @@ module _ {T : Type 0} where
   by_others some other Unbounded c chain goes h = record {
     first = h.first;
     place = ⊎_elim (λ x. inl x) (λ y. inr (⊎_elim (λ x. inl (x.0, x.1, goes (Turns true) x.2))
-    (λ x. inr (x.0, x.1, goes (Turns false) x.2)) y)) h.place;
+        (λ x. inr (x.0, x.1, goes (Turns false) x.2)) y)) h.place;
     named = λ b e. ⊎_elim (λ g. inl g) (λ g. inr (g.0, goes (Names b) g.1)) (h.named b e);
     linked = λ k b d low e f. ⊎_elim (λ g. inl g) (λ g. inr (goes (Links b d) g)) (h.linked k b d low e f);
     last = h.last;

@@ -134,8 +134,14 @@ module _ {T : Type 0} where
         → p.ask ≡ k → p.stage ≡ appended o → Some v ≡ Some w → OneSlot a p
     one_put a p k w o put m e f g =
         let same_one : w ≡ v = sym (some_is g) in
-        inr (put ∙ ap (λ (x : T). Some (At 0, x)) same_one, (ap message e ∙ m ∙ ap (λ (x : T). x ∷ []) same_one, subst
-        (λ (s : Stage T). HasBrought s) (sym f) tt))
+        inr (
+          put ∙ ap (λ (x : T). Some (At 0, x)) same_one,
+          (
+            ap message e ∙ m ∙ ap (λ (x : T). x ∷ []) same_one,
+            subst
+                (λ (s : Stage T). HasBrought s) (sym f) tt,
+          ),
+        )
 
     one_slot : (a : SingleAction T) (p : Phase T) → KnowsSingle slot (Some v) a p → (holds a ≡ 0) ⊎ OneSlot a p
     one_slot (single.PushPut x) p f = inr (one_put (single.PushPut x) p _ x _ refl refl f.0.0 f.0.1 f.2)
@@ -332,7 +338,7 @@ module _ {T : Type 0} where
         let it : slice_get r.all n ≡ Some v = sym (get_drop r.all r.head i) ∙ ap (λ (xs : List T). slice_get xs i) (sym w.items) ∙ e in
         let high : n < r.tail = (let x = get_inside r.all n v it in omega arith) in
         let h = ring_there cap m some mark r s n v
-            (omega arith) high it means.calls (means.owners (hold (n % cap)) (mod_below n cap some)) means.knows in
+        (omega arith) high it means.calls (means.owners (hold (n % cap)) (mod_below n cap some)) means.knows in
         subst (λ (at : ℕ). (slot_at c (At ((at + i) % cap)) ≡ Some v) ⊎ IsPutBy (puts_ring m) (At ((at + i) % cap)) v ps) (sym head)
         (⊎_elim
         (λ g. inl (slot_of c.slots (n % cap) _ (d.slots (n % cap) (mod_below n cap some)) ∙ g))
@@ -359,7 +365,7 @@ module _ {T : Type 0} where
         let small = tail.1 in
         let offset : t / 2 % 32 ≡ n % 31 = omega (arith, k, small) in
         let brings : message p.ask ≡ w ∷ [] = ⊎_elim (λ (g : p.ask ≡ ask.Push w). ap message g)
-            (λ (g : p.ask ≡ ask.ForcePush w). ap message g) f.0 in
+        (λ (g : p.ask ≡ ask.ForcePush w). ap message g) f.0 in
         inr (
           put ∙ (ap (λ (x : ℕ). Some (In x (t / 2 % 32), w)) block
               ∙ (ap (λ (x : ℕ). Some (In (r.num (n / 31)) x, w)) offset ∙ ap (λ (x : T). Some (In (r.num (n / 31)) (n % 31), x)) is)),

@@ -84,7 +84,7 @@ fn listen_all<R: Wait + Copy>(rt: R, alloc: Global) -> Option<(Seen, [usize; 3])
 fn listening(rt: HostRuntime) -> Result<(), Fail> {
     let (seen, counts) = listen_all(rt, rt.alloc()).expect(&rt, "memory");
     assert!(rt;
-        seen.right && seen.calls == 40 && seen.refusals >= 45,
+        seen.right && seen.calls == 40 && seen.refusals >= 46,
         "{seen:?}"
     );
     expect_equal(&rt, &counts, &[40, 10, 10]);
@@ -205,7 +205,7 @@ fn listen_in_a_slot<R: Wait + Copy>(rt: R, alloc: Global) -> Option<(Seen, usize
 fn slots_that_listen(rt: HostRuntime) -> Result<(), Fail> {
     let (seen, left) = listen_in_a_slot(rt, rt.alloc()).expect(&rt, "memory");
     assert!(rt;
-        seen.right && left == 0 && seen.calls == 1 && seen.refusals >= 2,
+        seen.right && left == 0 && seen.calls == 1 && seen.refusals >= 3,
         "{seen:?}"
     );
     Ok(())
@@ -423,7 +423,7 @@ impl Clone for Costly {
 struct Notices<R: Wait + Copy> {
     rt: R,
     event: Event<Costly>,
-    /// The tags, one for each attempt.
+    /// The tags, one for each attempt, which lets it go.
     tags: Vec<Costly>,
     told: usize,
 }
@@ -437,7 +437,11 @@ impl<R: Wait + Copy> Attempt for Notices<R> {
             Ok(told) => made(self.told.wrapping_add(told) == 3),
             Err(NotifyError { told }) => {
                 self.told = self.told.wrapping_add(told);
-                refused(self.told < 3)
+                if self.told < 3 {
+                    Tried::Noted
+                } else {
+                    Tried::Wrong
+                }
             }
         }
     }
@@ -623,7 +627,7 @@ fn record_all<R: Wait + Copy>(rt: R, alloc: Global) -> (Seen, [usize; 3]) {
 fn recorded_events(rt: HostRuntime) -> Result<(), Fail> {
     let (seen, counts) = record_all(rt, rt.alloc());
     assert!(rt;
-        seen.right && seen.calls == 27 && seen.refusals >= 47,
+        seen.right && seen.calls == 27 && seen.refusals >= 48,
         "{seen:?}"
     );
     expect_equal(&rt, &counts, &[20, 20, 120]);

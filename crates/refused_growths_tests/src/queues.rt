@@ -283,7 +283,7 @@ fn push_all_shared<R: Wait + Copy>(rt: R, alloc: Global) -> Option<(Seen, bool)>
 fn pushes_of_a_shared_queue(rt: HostRuntime) -> Result<(), Fail> {
     let (seen, in_order) = push_all_shared(rt, rt.alloc()).expect(&rt, "memory");
     assert!(rt;
-        seen.right && in_order && seen.calls == 4 && seen.refusals >= 17,
+        seen.right && in_order && seen.calls == 4 && seen.refusals >= 18,
         "{seen:?}"
     );
     Ok(())

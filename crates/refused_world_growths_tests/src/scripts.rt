@@ -10,10 +10,45 @@ use std::test::Fail;
 type Lines = (&'static str, &'static str);
 
 /// Operations and handles are made, messages wait, are settled and received at once.
-const LONG: [Lines; 1] = [(
-    "unbounded\nclone q r\ndowngrade w s\nrecv a r\nrecv b r\npoll a\npoll b\nnext q\nsend c s 1\npoll c\nsettle\ntry_send s 3\ntry_send s 4\ntry_send s 5\nrecv_many r 9\nclose s\n",
-    "ok\nok\nok\nok\nok\npending\npending\npending\nok\nok wakes a q\npolls 3: a ok 1, q pending, b pending\nok wakes b q\nok\nok\nok 3 4 5\ntrue\n",
-)];
+const SCRIPT: &str = "\
+unbounded
+clone q r
+downgrade w s
+recv a r
+recv b r
+poll a
+poll b
+next q
+send c s 1
+poll c
+settle
+try_send s 3
+try_send s 4
+try_send s 5
+recv_many r 9
+close s
+";
+
+const TEXT: &str = "\
+ok
+ok
+ok
+ok
+ok
+pending
+pending
+pending
+ok
+ok wakes a q
+polls 3: a ok 1, q pending, b pending
+ok wakes b q
+ok
+ok
+ok 3 4 5
+true
+";
+
+const LONG: [Lines; 1] = [(SCRIPT, TEXT)];
 
 /// How many scripts have one line behind the first.
 const COUNT: usize = 22;

@@ -48,7 +48,7 @@ const GRAIN: usize = 16;
 /// What a block takes of the heap beside its bytes.
 const HEADER: usize = 8;
 
-/// How many sizes of a hole are tried for a call, at most.
+/// How often a call is tried, at most.
 const HOLES: u32 = 3_500;
 
 /// So many times 16 bytes are ample memory.
@@ -65,7 +65,7 @@ pub enum Tried {
     Refused,
     /// The same, but a part of it was made, and it goes on from there.
     Farther,
-    /// The same, but that it was refused is noted, in memory that stays taken.
+    /// The same, but each attempt takes memory for good, or lets some go: one whose refusal is noted, say.
     Noted,
     /// Anything else.
     Wrong,
@@ -257,7 +257,7 @@ impl Scarcity {
         }
     }
 
-    /// How many holes are tried for a call, at most: none once something was wrong.
+    /// How often a call is tried, at most: never once something was wrong.
     pub fn holes(&self) -> u32 {
         if self.seen.right { HOLES } else { 0 }
     }
