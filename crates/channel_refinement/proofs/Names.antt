@@ -77,8 +77,6 @@ of_other_line kind line other off (x ∷ xs) h =
     let here : is_line other (kind x) ≡ false = rw (h x (among_self x xs)) off in
     rw here (of_other_line kind line other off xs (all_rest kind line x xs h))
 
-]
-
 -- a name of another kind is not of the line
 pub not_of_line : (kind : Kind) (line other : Line) (w : Waiter) (ws : List Waiter) → kind w ≡ Some line → same_line other line ≡ false → is_among w (of_line kind other ws) ≡ false
 not_of_line kind line other w ws k off = elim (decided (is_among w (of_line kind other ws))) [
