@@ -21,3 +21,6 @@ returns-clause-leads g c =
     let kept : IsKept c.args.self.now = subst (λ (f : Floor g.row.T.Denot). IsKept f) c.self.view_is c.self.invariant in
     leads_whatever c.args.call c.args.self.now c.call_alone.new.self c.call_alone.result kept.at_work c.requires.quiet
     c.requires.accepted (rw (sym c.self.view_is) a.ok) (rw (sym c.self.view_is) a.err)
+
+pub returns-clause-ok : goal.returns-clause-ok
+returns-clause-ok g c = rw (sym c.self.view_is) c.call_alone.ensures.ok
