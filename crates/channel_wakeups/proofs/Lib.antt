@@ -1,0 +1,9 @@
+pub mod Sums
+pub mod Moves
+pub mod Seats
+pub mod Stages
+pub mod Machine
+pub mod Left
+pub mod From
+pub mod Listed
+pub mod Sections

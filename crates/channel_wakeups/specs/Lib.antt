@@ -1,0 +1,6 @@
+pub mod Lists
+pub mod Views
+pub mod Stages
+pub mod Cells
+pub mod Seats
+pub mod Calls

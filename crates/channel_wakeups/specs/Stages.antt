@@ -1,0 +1,49 @@
+-- What a call has of the slot, stage by stage, and what its seat knows then.
+use Rattle.std.specs.Prelude.{◌≡◌, ℕ, ◌+◌, ◌<◌, List, [], ◌∷◌, Option, None, Some}
+use Rattle.channel_wakeups.specs.declared.rule.View.{View}
+use Rattle.channel_wakeups.specs.declared.stage.Stage.{Stage}
+use Rattle.channel_wakeups.specs.declared.stage.Stage.TheVariants.{Free, Won, Filled, Caught, Emptied}
+use Rattle.channel_wakeups.specs.Views.{pass, Known}
+
+module _ {W : Type 0} where
+  -- a pass whose call knows the word to be n while it has the slot; with 0 it has none
+  abbrev pub having : ℕ → View W → View W
+  having n v = pass v.parts v.answers v.holds n v.ticket
+
+  -- a push won the slot, and answers for one message more
+  abbrev pub filling : View W → View W
+  filling v = pass v.parts (v.answers + 1) v.holds 3 v.ticket
+
+  -- a pop won the message, or found none: its call answers for nothing and has no listener in hand
+  abbrev pub taking : View W → View W
+  taking v = pass v.parts 0 0 1 v.ticket
+
+  abbrev pub resting : View W → View W
+  resting v = pass v.parts 0 0 0 v.ticket
+
+-- what the word is while a call at this stage has the slot, or 0
+abbrev pub word_at : Stage → ℕ
+word_at Free = 0
+word_at Won = 3
+word_at Filled = 3
+word_at Caught = 1
+word_at Emptied = 1
+
+module _ {T : Type 0} where
+  -- the slot with its message, of which it is so that it is the slot with its message
+  abbrev pub with_message : List (ℕ × Option T) → List (ℕ × Option T)
+  with_message [] = (0, None) ∷ []
+  with_message ((i, Some x) ∷ c) = (0, Some x) ∷ []
+  with_message ((i, None) ∷ c) = []
+
+  -- the slot that a call at this stage has at hand
+  abbrev pub slot_at : Stage → List (ℕ × Option T) → List (ℕ × Option T)
+  slot_at Free c = []
+  slot_at Won c = (0, None) ∷ []
+  slot_at Filled c = with_message c
+  slot_at Caught c = with_message c
+  slot_at Emptied c = (0, None) ∷ []
+
+-- what a seat knows and has at hand at each stage
+abbrev pub IsAt : {T W : Type 0} → Stage → Known T W → Type 0
+IsAt s m = (0 < m.0.parts) × (m.0 ≡ having (word_at s) m.0) × (m.1 ≡ slot_at s m.1)

@@ -1,0 +1,95 @@
+//! The queue's push and pop of one slot, made with a pass.
+
+ghost use Rattle.std.specs.Prelude.{◌≡◌, ◌<◌, IfErr, IfOk};
+ghost use Rattle.concurrent_queue.specs.Replies.{MayAnswer};
+ghost use Rattle.concurrent_queue.specs.declared.call.QueueAsk.TheVariants as ask;
+ghost use Rattle.concurrent_queue.specs.declared.cells.QueueForm.TheVariants.{Bounded};
+ghost use Rattle.channel_wakeups.specs.Calls.{PushLeaves, PopLeaves};
+ghost use Rattle.channel_wakeups.specs.Seats.{IsCall, IsIdle};
+
+use crate::cells::{Place, SlotCells, SlotTable};
+use crate::stage::Stage;
+use concurrent_queue::queue_call::whole::complete;
+use concurrent_queue::{QueueCall, QueueReply};
+use std::sync::Wait;
+
+/// Every step of the queue's push on the slot.
+#[inline(always)]
+fn make_push<T: Drop, W: Drop, R: Wait>(
+    rt: &R,
+    table: &SlotTable<T, W>,
+    seat: Place<T, W>,
+    message: T,
+) -> (QueueReply<T>, Place<T, W>)
+    requires table { 0 < table.now.shared.table_id.words }
+    requires call { IsIdle table.now.shared.table_id seat seat.me.0.parts }
+    ensures leaves { PushLeaves table.now.shared.table_id seat.me.0.parts result.0 result.1 }
+    ensures answers { MayAnswer (Bounded 1) (ask.Push message) result.0 }
+{
+    let mut cells = SlotCells {
+        table,
+        seat,
+        stage: Stage::Free,
+    };
+    let reply = complete(rt, QueueCall::push(message), &mut cells);
+    (reply, cells.into_seat())
+}
+
+/// Every step of the queue's pop on the slot.
+#[inline(always)]
+fn make_pop<T: Drop, W: Drop, R: Wait>(
+    rt: &R,
+    table: &SlotTable<T, W>,
+    seat: Place<T, W>,
+) -> (QueueReply<T>, Place<T, W>)
+    requires table { 0 < table.now.shared.table_id.words }
+    requires call { IsCall table.now.shared.table_id seat seat.me.0.parts seat.me.0.answers seat.me.0.holds 0 }
+    ensures leaves { PopLeaves table.now.shared.table_id seat.me.0.parts result.0 result.1 }
+{
+    let mut cells = SlotCells {
+        table,
+        seat,
+        stage: Stage::Free,
+    };
+    let reply = complete(rt, QueueCall::pop(), &mut cells);
+    (reply, cells.into_seat())
+}
+
+/// Pushes the message, for which the call answers then. `Err` hands it back: the slot was full.
+pub(crate) fn push<T: Drop, W: Drop, R: Wait>(
+    rt: &R,
+    table: &SlotTable<T, W>,
+    call: Place<T, W>,
+    message: T,
+) -> (Result<(), T>, Place<T, W>)
+    requires table { 0 < table.now.shared.table_id.words }
+    requires call { IsIdle table.now.shared.table_id call call.me.0.parts }
+    ensures ok { IfOk result.0 (λ _. IsCall table.now.shared.table_id result.1 call.me.0.parts 1 0 0) }
+    ensures err { IfErr result.0 (λ m. (m ≡ message) × IsIdle table.now.shared.table_id result.1 call.me.0.parts) }
+{
+    let (reply, call) = make_push(rt, table, call, message);
+    match reply {
+        QueueReply::Push(Ok(())) => (Ok(()), call),
+        QueueReply::Push(Err(refused)) => (Err(refused.into_inner()), call),
+        _ => unreachable!(),
+    }
+}
+
+/// Pops the message. Whatever it answers, the call answers for no message then, and has no listener in hand: there was a moment
+/// without a message.
+pub(crate) fn pop<T: Drop, W: Drop, R: Wait>(
+    rt: &R,
+    table: &SlotTable<T, W>,
+    call: Place<T, W>,
+) -> (Option<T>, Place<T, W>)
+    requires table { 0 < table.now.shared.table_id.words }
+    requires call { IsCall table.now.shared.table_id call call.me.0.parts call.me.0.answers call.me.0.holds 0 }
+    ensures { IsIdle table.now.shared.table_id result.1 call.me.0.parts }
+{
+    let (reply, call) = make_pop(rt, table, call);
+    match reply {
+        QueueReply::Pop(Ok(message)) => (Some(message), call),
+        QueueReply::Pop(Err(_)) => (None, call),
+        _ => unreachable!(),
+    }
+}

@@ -1,0 +1,167 @@
+//! The operations on a channel's cells. Each is one step of the table, or a plain write of the slot that the call has won. What the
+//! machine of one slot would not do here is not done: such an exchange finds a slot that is won, and all else changes nothing.
+
+ghost use Rattle.std.specs.Prelude.{◌≡◌, ◌⊎◌};
+ghost use Rattle.concurrent_queue.specs.Deeds.{exchanged, bits_kept};
+ghost use Rattle.concurrent_queue.specs.declared.cells.Word.TheVariants.{State};
+ghost use Rattle.channel_wakeups.specs.Cells.{Did};
+
+use crate::cells::SlotCells;
+use crate::rule::{Fills, Unlocks, Wins};
+use crate::stage::Stage;
+use concurrent_queue::NoMemory;
+use concurrent_queue::cells::{Cells, QueueForm, Slot, Word};
+
+/// The state of an empty slot, of a full one, of one that a push has won, and of one whose message a pop has won.
+const EMPTY: u64 = 0;
+
+const FULL: u64 = 2;
+
+const FILLING: u64 = 3;
+
+const TAKING: u64 = 1;
+
+const NOT_LOCKED: u64 = 0xffff_ffff_ffff_fffe;
+
+impl<'a, T: Drop, W: Drop> SlotCells<'a, T, W> {
+    /// A push wins the empty slot.
+    #[inline(always)]
+    fn fill(&mut self) -> Result<u64, u64>
+        requires { self.old.stage ≡ Stage.Free }
+        ensures { Did (exchanged State 0 3 result) self.old self.new }
+    {
+        let found = self
+            .table
+            .shared
+            .compare_exchange::<Fills>(&mut self.seat, 0, EMPTY, FILLING);
+        if found == EMPTY {
+            self.stage = Stage::Won;
+            Ok(found)
+        } else {
+            Err(found)
+        }
+    }
+
+    /// A pop wins the message.
+    #[inline(always)]
+    fn catch(&mut self) -> Result<u64, u64>
+        requires { self.old.stage ≡ Stage.Free }
+        ensures { Did (exchanged State 2 1 result) self.old self.new }
+    {
+        let found = self
+            .table
+            .shared
+            .compare_exchange::<Wins>(&mut self.seat, 0, FULL, TAKING);
+        if found == FULL {
+            self.stage = Stage::Caught;
+            Ok(found)
+        } else {
+            Err(found)
+        }
+    }
+
+    /// The slot is given back.
+    #[inline(always)]
+    fn unlock(&mut self) -> u64
+        requires { (self.old.stage ≡ Stage.Filled) ⊎ (self.old.stage ≡ Stage.Emptied) }
+        ensures { Did (bits_kept State 0xffff_ffff_ffff_fffe result) self.old self.new }
+    {
+        let found = self
+            .table
+            .shared
+            .fetch_and::<Unlocks>(&mut self.seat, 0, NOT_LOCKED);
+        self.stage = Stage::Free;
+        found
+    }
+}
+
+impl<'a, T: Drop, W: Drop> Cells<T> for SlotCells<'a, T, W> {
+    ghost use Rattle.std.specs.Prelude.{◌≡◌, refl};
+    ghost use Rattle.concurrent_queue.specs.Contents.{no_contents};
+    ghost use Rattle.concurrent_queue.specs.declared.cells.QueueForm.TheVariants.{Bounded};
+    ghost use Rattle.channel_wakeups.specs.Cells.{Did};
+
+    ghost known = { ⊥ };
+
+    ghost contents = { λ c. no_contents (Bounded 1) };
+
+    ghost form_of = { λ c. Bounded 1 };
+
+    ghost did = { λ d a b. Did d a b };
+
+    ghost keeps_form = { λ d a b did. refl };
+
+    #[inline(always)]
+    fn form(&self) -> QueueForm {
+        QueueForm::Bounded(1)
+    }
+
+    #[inline(always)]
+    fn load(&mut self, at: Word) -> u64 {
+        match at {
+            Word::State => self.table.shared.peek(0),
+            _ => 0,
+        }
+    }
+
+    fn store(&mut self, _at: Word, _value: u64) {}
+
+    #[inline(always)]
+    fn compare_exchange(&mut self, at: Word, expected: u64, next: u64) -> Result<u64, u64> {
+        if let (Word::State, Stage::Free) = (at, self.stage) {
+            if expected == EMPTY && next == FILLING {
+                return self.fill();
+            }
+            if expected == FULL && next == TAKING {
+                return self.catch();
+            }
+        }
+        Err(FILLING)
+    }
+
+    fn fetch_add(&mut self, _at: Word, _by: u64) -> u64 {
+        0
+    }
+
+    fn fetch_or(&mut self, _at: Word, _bits: u64) -> u64 {
+        0
+    }
+
+    #[inline(always)]
+    fn fetch_and(&mut self, at: Word, bits: u64) -> u64 {
+        match (at, self.stage) {
+            (Word::State, Stage::Filled | Stage::Emptied) if bits == NOT_LOCKED => self.unlock(),
+            _ => 0,
+        }
+    }
+
+    #[inline(always)]
+    fn put(&mut self, _at: Slot, value: T) -> Result<(), T> {
+        match self.stage {
+            Stage::Won => {
+                drop(self.table.shared.exchange(&mut self.seat, 0, Some(value)));
+                self.stage = Stage::Filled;
+                Ok(())
+            }
+            _ => Err(value),
+        }
+    }
+
+    #[inline(always)]
+    fn take(&mut self, _at: Slot) -> Option<T> {
+        match self.stage {
+            Stage::Caught => {
+                let found = self.table.shared.exchange(&mut self.seat, 0, None);
+                self.stage = Stage::Emptied;
+                found
+            }
+            _ => None,
+        }
+    }
+
+    fn spare(&mut self) -> Result<u64, NoMemory> {
+        Err(NoMemory)
+    }
+
+    fn retire(&mut self, _block: u64) {}
+}
