@@ -36,10 +36,15 @@ pub fn settle_and_look<T: Drop>(world: &mut World<T>) -> bool
     requires { IsQuiet world.old }
     ensures { result ≡ true → (at_rest world.new).waiting.receives ≡ [] }
 {
-    let Ok(_polls) = world.settle() else {
+    let Ok(polls) = world.settle() else {
         return false;
     };
-    world.messages() > 0
+    if world.messages() == 0 {
+        drop(polls);
+        return false;
+    }
+    drop(polls);
+    true
 }
 
 /// Settles whatever world has no call under way: where one is pending, it makes one poll at most.
