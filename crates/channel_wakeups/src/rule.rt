@@ -34,8 +34,8 @@ impl<W> Aim<W> for Brand {
     ghost view = { nobody };
 }
 
-// What a seat knows: the parts of a pass, for how many messages its call answers, the listener that it has in hand, what the word
-// is while its call has the slot, and of which listener it is the ticket; of the list's seat, all listeners. No value is made.
+/// What a seat knows: the parts of a pass, for how many messages its call answers, the listener that it has in hand, what the word
+/// is while its call has the slot, and of which listener it is the ticket; of the list's seat, all listeners. No value is made.
 pub struct View<W> {
     pub parts: u64,
     pub answers: u64,
