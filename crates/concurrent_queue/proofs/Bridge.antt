@@ -344,6 +344,20 @@ module _ {T S : Type 0} (did : Deed T → S → S → Type 0) where
       let rest = goes form j y c x b t z m r path last in
       (n.0 ∷ rest.0, along_more n.0 rest.0 s y t n.2 rest.1, λ k' xs more h. (call_at c k, None, n.1, rest.2 k xs more h))
 
+-- ---- a step over cells that show what they hold
+
+module _ {T S : Type 0} (did : Deed T → S → S → Type 0) (held : S → Contents T) (exact : (d : Deed T) (s t : S) → did d s t → Does d (held s) (held t)) where
+  changed : (o : Option (Deed T)) (s t : S) → Along did (o ∷ []) s t → Changes (does o) (held s) (held t)
+  changed None s t same = ap held same
+  changed (Some d) s t (m, h, same) = subst (λ (x : S). Does d (held s) (held x)) (sym same) (exact d s m h)
+
+  -- a step of a call is one of the contract, where each operation does to what the cells hold just what it says
+  pub made_is_step : (form : QueueForm) (s : S) (call : QueueCall T) (t : S) (next : QueueCall T) (answer : Option (QueueReply T)) → (held s).form ≡ form
+      → CallMakes did form s call t next answer → IsQueueStep (held s) call (held t) next answer
+  made_is_step form s call t next answer e h =
+      let n = note_state did form s call.state t (record { action = next.state; mark = next.mark; reply = answer }) h in
+      call_noted (held s) (held t) form call n.0 next answer e n.1 (changed n.0 s t n.2)
+
 pub walks_act : {T S : Type 0} (did : Deed T → S → S → Type 0) → WalksAct did
 walks_act did form a s t r (n, (x, y, z, m, path, last)) =
     let g = goes did form n s (Asked a) x y t z m r path last in
