@@ -1,5 +1,6 @@
 //! What sends and receives through Rust's own channels cost: `mpsc`, and a deque behind a lock with two condition variables. The same
 //! four things are measured as by `channel_bench handles`: tries on one thread and between two, blocking calls in a stream and in turns.
+//! With `--cfg ported` the crates that are ported here stand beside them, in the versions that the system packages.
 use std::collections::VecDeque;
 use std::hint::black_box;
 use std::sync::mpsc::{Receiver, Sender, SyncSender, channel, sync_channel};
@@ -165,9 +166,67 @@ fn locked(capacity: usize) -> Locked {
     Locked { most, items: Mutex::new(VecDeque::new()), came: Condvar::new(), left: Condvar::new() }
 }
 
+/// Rust's `async-channel`.
+#[cfg(ported)]
+struct Ported {
+    to: async_channel::Sender<u64>,
+    from: async_channel::Receiver<u64>,
+}
+
+#[cfg(ported)]
+impl Channel for Ported {
+    fn put(&self, message: u64) -> bool {
+        self.to.try_send(message).is_ok()
+    }
+    fn get(&self) -> Option<u64> {
+        self.from.try_recv().ok()
+    }
+    fn send(&self, message: u64) {
+        self.to.send_blocking(message).unwrap()
+    }
+    fn receive(&self) -> u64 {
+        self.from.recv_blocking().unwrap()
+    }
+}
+
+#[cfg(ported)]
+fn ported(capacity: usize) -> Ported {
+    let (to, from) = match capacity {
+        0 => async_channel::unbounded(),
+        _ => async_channel::bounded(capacity),
+    };
+    Ported { to, from }
+}
+
+/// A clone of a sender and its drop, a listener and its drop, and a pair of calls of a queue, on one thread.
+#[cfg(ported)]
+fn measure_parts() {
+    let channel = ported(128);
+    measure("async-channel", "a clone and its drop", ALONE, || {
+        (0..ALONE).map(|_| drop(black_box(channel.to.clone()))).count() as u64
+    });
+    let event = event_listener::Event::new();
+    measure("event-listener", "a listener and its drop", ALONE, || {
+        (0..ALONE).map(|_| drop(black_box(event.listen()))).count() as u64
+    });
+    for capacity in [1, 3, 128, 0] {
+        let queue = match capacity {
+            0 => concurrent_queue::ConcurrentQueue::unbounded(),
+            _ => concurrent_queue::ConcurrentQueue::bounded(capacity),
+        };
+        measure("concurrent-queue", &format!("a push and a pop, capacity {capacity}"), ALONE, || {
+            (0..ALONE).filter(|message| queue.push(*message).is_ok()).map(|_| queue.pop().unwrap()).sum()
+        });
+    }
+}
+
 fn main() {
+    #[cfg(ported)]
+    measure_parts();
     for capacity in [1, 3, 128, 0] {
         println!("capacity {capacity}, which is none where it is 0");
+        #[cfg(ported)]
+        compare("async-channel", &ported(capacity), &ported(capacity));
         compare("mpsc", &mpsc(capacity), &mpsc(capacity));
         compare("a deque behind a lock", &locked(capacity), &locked(capacity));
     }
