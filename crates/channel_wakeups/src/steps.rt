@@ -91,6 +91,10 @@ impl<'a, T: Drop, W: Drop> Cells<T> for SlotCells<'a, T, W> {
 
     ghost keeps_form = { λ d a b did. refl };
 
+    ghost exact_form = { λ known. absurd known };
+
+    ghost exact = { λ known. absurd known };
+
     #[inline(always)]
     fn form(&self) -> QueueForm {
         QueueForm::Bounded(1)

@@ -272,7 +272,6 @@ fn push_load<T: Drop, C: Cells<T>>(
     value: T,
     cells: &mut C,
 ) -> Stepped<RingAction<T>, T>
-    ensures steps { C.known → (C.contents cells.new, result) ≡ push_load shape.cap shape.mark (C.contents cells.old) when_full value }
     ensures answers { RingFollows shape.cap (RingAction.Push when_full value) result }
     ensures deed { RingMakes shape.cap shape.mark C.did cells.old (RingAction.Push when_full value) cells.new result }
 {
@@ -294,7 +293,6 @@ fn push_shut<T: Drop, C: Cells<T>>(
     value: T,
     cells: &mut C,
 ) -> Stepped<RingAction<T>, T>
-    ensures steps { C.known → (C.contents cells.new, result) ≡ push_shut shape.cap shape.mark (C.contents cells.old) when_full value }
     ensures answers { RingFollows shape.cap (RingAction.PushShut when_full value) result }
     ensures deed { RingMakes shape.cap shape.mark C.did cells.old (RingAction.PushShut when_full value) cells.new result }
 {
@@ -315,7 +313,6 @@ fn push_look<T: Drop, C: Cells<T>>(
     tail: u64,
     cells: &mut C,
 ) -> Stepped<RingAction<T>, T>
-    ensures steps { C.known → (C.contents cells.new, result) ≡ push_look shape.cap shape.mark (C.contents cells.old) when_full value tail }
     ensures answers { RingFollows shape.cap (RingAction.PushStamp when_full value tail) result }
     ensures deed { RingMakes shape.cap shape.mark C.did cells.old (RingAction.PushStamp when_full value tail) cells.new result }
 {
@@ -342,7 +339,6 @@ fn push_swap<T: Drop, C: Cells<T>>(
     tail: u64,
     cells: &mut C,
 ) -> Stepped<RingAction<T>, T>
-    ensures steps { C.known → (C.contents cells.new, result) ≡ push_swap shape.cap shape.mark (C.contents cells.old) when_full value tail }
     ensures answers { RingFollows shape.cap (RingAction.PushSwap when_full value tail) result }
     ensures deed { RingMakes shape.cap shape.mark C.did cells.old (RingAction.PushSwap when_full value tail) cells.new result }
 {
@@ -362,7 +358,6 @@ fn push_put<T: Drop, C: Cells<T>>(
     tail: u64,
     cells: &mut C,
 ) -> Stepped<RingAction<T>, T>
-    ensures steps { C.known → (C.contents cells.new, result) ≡ push_put shape.cap shape.mark (C.contents cells.old) when_full value tail }
     ensures answers { RingFollows shape.cap (RingAction.PushPut when_full value tail) result }
     ensures deed { RingMakes shape.cap shape.mark C.did cells.old (RingAction.PushPut when_full value tail) cells.new result }
 {
@@ -378,7 +373,6 @@ fn push_store<T: Drop, C: Cells<T>>(
     tail: u64,
     cells: &mut C,
 ) -> Stepped<RingAction<T>, T>
-    ensures steps { C.known → (C.contents cells.new, result) ≡ push_store shape.cap shape.mark (C.contents cells.old) when_full tail }
     ensures answers { RingFollows shape.cap (RingAction.PushStore when_full tail) result }
     ensures deed { RingMakes shape.cap shape.mark C.did cells.old (RingAction.PushStore when_full tail) cells.new result }
 {
@@ -388,7 +382,6 @@ fn push_store<T: Drop, C: Cells<T>>(
 
 /// The queue is full where the message of the lap before is the oldest.
 fn push_head<T: Drop, C: Cells<T>>(value: T, head: u64, cells: &mut C) -> Stepped<RingAction<T>, T>
-    ensures steps { C.known → (C.contents cells.new, result) ≡ push_head (C.contents cells.old) value head }
     ensures answers { (cap : ℕ) → RingFollows cap (RingAction.PushHead value head) result }
     ensures deed { (cap m : ℕ) → RingMakes cap m C.did cells.old (RingAction.PushHead value head) cells.new result }
 {
@@ -407,7 +400,6 @@ fn force_head<T: Drop, C: Cells<T>>(
     head: u64,
     cells: &mut C,
 ) -> Stepped<RingAction<T>, T>
-    ensures steps { C.known → (C.contents cells.new, result) ≡ force_head shape.cap shape.mark (C.contents cells.old) value head }
     ensures answers { RingFollows shape.cap (RingAction.ForceHead value head) result }
     ensures deed { RingMakes shape.cap shape.mark C.did cells.old (RingAction.ForceHead value head) cells.new result }
 {
@@ -424,7 +416,6 @@ fn force_add<T: Drop, C: Cells<T>>(
     head: u64,
     cells: &mut C,
 ) -> Stepped<RingAction<T>, T>
-    ensures steps { C.known → (C.contents cells.new, result) ≡ force_add shape.cap shape.mark (C.contents cells.old) value head }
     ensures answers { RingFollows shape.cap (RingAction.ForceAdd value head) result }
     ensures deed { RingMakes shape.cap shape.mark C.did cells.old (RingAction.ForceAdd value head) cells.new result }
 {
@@ -438,7 +429,6 @@ fn force_take<T: Drop, C: Cells<T>>(
     head: u64,
     cells: &mut C,
 ) -> Stepped<RingAction<T>, T>
-    ensures steps { C.known → (C.contents cells.new, result) ≡ force_take shape.cap shape.mark (C.contents cells.old) value head }
     ensures answers { RingFollows shape.cap (RingAction.ForceTake value head) result }
     ensures deed { RingMakes shape.cap shape.mark C.did cells.old (RingAction.ForceTake value head) cells.new result }
 {
@@ -455,7 +445,6 @@ fn force_put<T: Drop, C: Cells<T>>(
     old: T,
     cells: &mut C,
 ) -> Stepped<RingAction<T>, T>
-    ensures steps { C.known → (C.contents cells.new, result) ≡ force_put shape.cap shape.mark (C.contents cells.old) value head old }
     ensures answers { RingFollows shape.cap (RingAction.ForcePut value head old) result }
     ensures deed { RingMakes shape.cap shape.mark C.did cells.old (RingAction.ForcePut value head old) cells.new result }
 {
@@ -471,7 +460,6 @@ fn force_store<T: Drop, C: Cells<T>>(
     old: T,
     cells: &mut C,
 ) -> Stepped<RingAction<T>, T>
-    ensures steps { C.known → (C.contents cells.new, result) ≡ force_store shape.cap shape.mark (C.contents cells.old) head old }
     ensures answers { RingFollows shape.cap (RingAction.ForceStore head old) result }
     ensures deed { RingMakes shape.cap shape.mark C.did cells.old (RingAction.ForceStore head old) cells.new result }
 {
@@ -485,7 +473,6 @@ fn pop_look<T: Drop, C: Cells<T>>(
     head: u64,
     cells: &mut C,
 ) -> Stepped<RingAction<T>, T>
-    ensures steps { C.known → (C.contents cells.new, result) ≡ pop_look shape.cap shape.mark (C.contents cells.old) head }
     ensures answers { RingFollows shape.cap (RingAction.PopStamp head) result }
     ensures deed { RingMakes shape.cap shape.mark C.did cells.old (RingAction.PopStamp head) cells.new result }
 {
@@ -504,7 +491,6 @@ fn pop_swap<T: Drop, C: Cells<T>>(
     head: u64,
     cells: &mut C,
 ) -> Stepped<RingAction<T>, T>
-    ensures steps { C.known → (C.contents cells.new, result) ≡ pop_swap shape.cap shape.mark (C.contents cells.old) head }
     ensures answers { RingFollows shape.cap (RingAction.PopSwap head) result }
     ensures deed { RingMakes shape.cap shape.mark C.did cells.old (RingAction.PopSwap head) cells.new result }
 {
@@ -521,7 +507,6 @@ fn pop_tail<T: Drop, C: Cells<T>>(
     head: u64,
     cells: &mut C,
 ) -> Stepped<RingAction<T>, T>
-    ensures steps { C.known → (C.contents cells.new, result) ≡ pop_tail shape.cap shape.mark (C.contents cells.old) head }
     ensures answers { RingFollows shape.cap (RingAction.PopTail head) result }
     ensures deed { RingMakes shape.cap shape.mark C.did cells.old (RingAction.PopTail head) cells.new result }
 {
@@ -541,7 +526,6 @@ fn pop_take<T: Drop, C: Cells<T>>(
     head: u64,
     cells: &mut C,
 ) -> Stepped<RingAction<T>, T>
-    ensures steps { C.known → (C.contents cells.new, result) ≡ pop_take shape.cap shape.mark (C.contents cells.old) head }
     ensures answers { RingFollows shape.cap (RingAction.PopTake head) result }
     ensures deed { RingMakes shape.cap shape.mark C.did cells.old (RingAction.PopTake head) cells.new result }
 {
@@ -557,7 +541,6 @@ fn pop_store<T: Drop, C: Cells<T>>(
     value: T,
     cells: &mut C,
 ) -> Stepped<RingAction<T>, T>
-    ensures steps { C.known → (C.contents cells.new, result) ≡ pop_store shape.cap shape.mark (C.contents cells.old) head value }
     ensures answers { RingFollows shape.cap (RingAction.PopStore head value) result }
     ensures deed { RingMakes shape.cap shape.mark C.did cells.old (RingAction.PopStore head value) cells.new result }
 {
@@ -566,7 +549,6 @@ fn pop_store<T: Drop, C: Cells<T>>(
 }
 
 fn close<T: Drop, C: Cells<T>>(shape: Shape, cells: &mut C) -> Stepped<RingAction<T>, T>
-    ensures steps { C.known → (C.contents cells.new, result) ≡ close_step shape.cap shape.mark (C.contents cells.old) }
     ensures answers { RingFollows shape.cap RingAction.Close result }
     ensures deed { RingMakes shape.cap shape.mark C.did cells.old RingAction.Close cells.new result }
 {
@@ -579,7 +561,6 @@ fn close<T: Drop, C: Cells<T>>(shape: Shape, cells: &mut C) -> Stepped<RingActio
 }
 
 fn is_closed<T: Drop, C: Cells<T>>(shape: Shape, cells: &mut C) -> Stepped<RingAction<T>, T>
-    ensures steps { C.known → (C.contents cells.new, result) ≡ ask_is_closed shape.cap shape.mark (C.contents cells.old) }
     ensures answers { RingFollows shape.cap RingAction.IsClosed result }
     ensures deed { RingMakes shape.cap shape.mark C.did cells.old RingAction.IsClosed cells.new result }
 {
@@ -592,7 +573,6 @@ fn empty_look<T: Drop, C: Cells<T>>(
     head: u64,
     cells: &mut C,
 ) -> Stepped<RingAction<T>, T>
-    ensures steps { C.known → (C.contents cells.new, result) ≡ empty_look shape.cap shape.mark (C.contents cells.old) head }
     ensures answers { RingFollows shape.cap (RingAction.IsEmptyTail head) result }
     ensures deed { RingMakes shape.cap shape.mark C.did cells.old (RingAction.IsEmptyTail head) cells.new result }
 {
@@ -601,7 +581,6 @@ fn empty_look<T: Drop, C: Cells<T>>(
 }
 
 fn full_load<T: Drop, C: Cells<T>>(shape: Shape, cells: &mut C) -> Stepped<RingAction<T>, T>
-    ensures steps { C.known → (C.contents cells.new, result) ≡ full_load shape.cap shape.mark (C.contents cells.old) }
     ensures answers { RingFollows shape.cap RingAction.IsFull result }
     ensures deed { RingMakes shape.cap shape.mark C.did cells.old RingAction.IsFull cells.new result }
 {
@@ -614,7 +593,6 @@ fn full_look<T: Drop, C: Cells<T>>(
     tail: u64,
     cells: &mut C,
 ) -> Stepped<RingAction<T>, T>
-    ensures steps { C.known → (C.contents cells.new, result) ≡ full_look shape.cap shape.mark (C.contents cells.old) tail }
     ensures answers { RingFollows shape.cap (RingAction.IsFullHead tail) result }
     ensures deed { RingMakes shape.cap shape.mark C.did cells.old (RingAction.IsFullHead tail) cells.new result }
 {
@@ -624,7 +602,6 @@ fn full_look<T: Drop, C: Cells<T>>(
 }
 
 fn len_load<T: Drop, C: Cells<T>>(shape: Shape, cells: &mut C) -> Stepped<RingAction<T>, T>
-    ensures steps { C.known → (C.contents cells.new, result) ≡ len_load shape.cap shape.mark (C.contents cells.old) }
     ensures answers { RingFollows shape.cap RingAction.Len result }
     ensures deed { RingMakes shape.cap shape.mark C.did cells.old RingAction.Len cells.new result }
 {
@@ -640,7 +617,6 @@ fn len_again<T: Drop, C: Cells<T>>(
     head: u64,
     cells: &mut C,
 ) -> Stepped<RingAction<T>, T>
-    ensures steps { C.known → (C.contents cells.new, result) ≡ len_again shape.cap shape.mark (C.contents cells.old) tail marked head }
     ensures answers { RingFollows shape.cap (RingAction.LenTail tail marked head) result }
     ensures deed { RingMakes shape.cap shape.mark C.did cells.old (RingAction.LenTail tail marked head) cells.new result }
 {
@@ -679,7 +655,6 @@ pub(crate) fn step<T: Drop, C: Cells<T>>(
     action: RingAction<T>,
     cells: &mut C,
 ) -> Stepped<RingAction<T>, T>
-    ensures steps { C.known → IsRingStep (ring_cap (C.contents cells.old).form) (C.contents cells.old) action (C.contents cells.new) result }
     ensures answers { RingFollows (ring_cap (C.form_of cells.old)) action result }
     ensures deed { RingMakes (ring_cap (C.form_of cells.old)) (ring_mark (ring_cap (C.form_of cells.old))) C.did cells.old action cells.new result }
 {
@@ -695,7 +670,6 @@ fn step_ring<T: Drop, C: Cells<T>>(
     action: RingAction<T>,
     cells: &mut C,
 ) -> Stepped<RingAction<T>, T>
-    ensures steps { C.known → (C.contents cells.new, result) ≡ ring_step shape.cap shape.mark (C.contents cells.old) action }
     ensures answers { RingFollows shape.cap action result }
     ensures deed { RingMakes shape.cap shape.mark C.did cells.old action cells.new result }
 {

@@ -1,9 +1,9 @@
 //! The words and slots that the steps of a queue work on, one operation on one of them at a time.
 
-ghost use Rattle.std.specs.Prelude.{◌≡◌, ℕ, ◌+◌, ◌%◌, ◌^◌, Option, Result};
-ghost use Rattle.std.specs.Prelude.{bit_or, bit_and, MatchResult, IfErr};
+ghost use Rattle.std.specs.Prelude.{◌≡◌, IfErr};
 ghost use Rattle.concurrent_queue.specs.Deeds.{Deed, loaded, stored, exchanged, added, bits_set, bits_kept, did_put, did_take, spared, retired};
-ghost use Rattle.concurrent_queue.specs.Contents.{Contents, read, write, slot_at, write_slot, PutGives, SpareGives, with_retired};
+ghost use Rattle.concurrent_queue.specs.Contents.{Contents};
+ghost use Rattle.concurrent_queue.specs.Effects.{Does};
 
 use crate::error::NoMemory;
 
@@ -52,94 +52,87 @@ pub enum Slot {
 /// the block that enters or leaves it. A word that does not exist reads 0 and stays so; a slot that does not exist holds
 /// nothing and takes nothing.
 ///
-/// `contents` is what the cells hold. Where several parties work on them nobody can know it, and then `known` is false:
-/// nothing is promised of what is found, and the steps of the queue are merely safe.
+/// Each method says which operation was done, with its answer, and nothing else: what it did to what the cells hold follows by
+/// the law `exact`. Where several parties work on them nobody can know what they hold, and then `known` is false.
 pub trait Cells<T> {
     ghost use Rattle.concurrent_queue.specs.declared.cells.QueueForm.{QueueForm};
 
+    /// Whether it is known what the cells hold.
     ghost known: { Type 0 };
 
+    /// What the cells hold.
     ghost contents: { Self → Contents T };
 
+    /// Which kind of queue they are of.
     ghost form_of: { Self → QueueForm };
 
     /// Whether this operation, with this answer, was done between the two. Each method says so of itself, also where nothing
-    /// is known of what is held; any relation may stand here that keeps the form.
+    /// is known of what is held; any relation may stand here that keeps the laws below.
     ghost did: { Deed T → Self → Self → Type 0 };
 
     /// Which kind of queue it is; no operation changes that.
     fn form(&self) -> QueueForm
-        ensures form { result ≡ form_of self.now }
-        ensures found { known → result ≡ (contents self.now).form };
+        ensures form { result ≡ form_of self.now };
 
     /// What the word holds.
     fn load(&mut self, at: Word) -> u64
         ensures deed { did (loaded at result) self.old self.new }
-        ensures found { known → result ≡ read (contents self.old) at }
-        ensures left { known → contents self.new ≡ contents self.old }
         ensures form { form_of self.new ≡ form_of self.old };
 
     /// Writes the word.
     fn store(&mut self, at: Word, value: u64)
         ensures deed { did (stored at value) self.old self.new }
-        ensures left { known → contents self.new ≡ write (contents self.old) at value }
         ensures form { form_of self.new ≡ form_of self.old };
 
     /// Writes the word where it holds `expected`; `Err` with what it holds where it does not.
     fn compare_exchange(&mut self, at: Word, expected: u64, next: u64) -> Result<u64, u64>
         ensures deed { did (exchanged at expected next result) self.old self.new }
-        ensures found { known → MatchResult result (λ w. (w ≡ expected) × (read (contents self.old) at ≡ expected) × (contents self.new ≡ write (contents self.old) at next)) (λ w. (w ≡ read (contents self.old) at) × (¬ (w ≡ expected)) × (contents self.new ≡ contents self.old)) }
         ensures form { form_of self.new ≡ form_of self.old };
 
     /// Adds to the word, and answers what it held. The sum wraps at 2^64.
     fn fetch_add(&mut self, at: Word, by: u64) -> u64
         ensures deed { did (added at by result) self.old self.new }
-        ensures found { known → result ≡ read (contents self.old) at }
-        ensures left { known → contents self.new ≡ write (contents self.old) at ((read (contents self.old) at + by) % 2 ^ 64) }
         ensures form { form_of self.new ≡ form_of self.old };
 
     /// Sets these bits of the word, and answers what it held.
     fn fetch_or(&mut self, at: Word, bits: u64) -> u64
         ensures deed { did (bits_set at bits result) self.old self.new }
-        ensures found { known → result ≡ read (contents self.old) at }
-        ensures left { known → contents self.new ≡ write (contents self.old) at (bit_or (read (contents self.old) at) bits) }
         ensures form { form_of self.new ≡ form_of self.old };
 
     /// Keeps these bits of the word and clears all others, and answers what it held.
     fn fetch_and(&mut self, at: Word, bits: u64) -> u64
         ensures deed { did (bits_kept at bits result) self.old self.new }
-        ensures found { known → result ≡ read (contents self.old) at }
-        ensures left { known → contents self.new ≡ write (contents self.old) at (bit_and (read (contents self.old) at) bits) }
         ensures form { form_of self.new ≡ form_of self.old };
 
     /// Fills an empty slot. `Err` hands the message back: it isn't time yet, since the slot is not empty or in another's hands.
     fn put(&mut self, at: Slot, value: T) -> Result<(), T>
         ensures deed { did (did_put at value result) self.old self.new }
         ensures back { IfErr result (λ back. back ≡ value) }
-        ensures gives { known → PutGives (contents self.old) at value result (contents self.new) }
         ensures form { form_of self.new ≡ form_of self.old };
 
     /// Empties a slot. `None`: it isn't time yet, since the slot is empty or in another's hands.
     fn take(&mut self, at: Slot) -> Option<T>
         ensures deed { did (did_take at result) self.old self.new }
-        ensures found { known → result ≡ slot_at (contents self.old) at }
-        ensures left { known → contents self.new ≡ write_slot (contents self.old) at None }
         ensures form { form_of self.new ≡ form_of self.old };
 
     /// The number of a blank block: the spare one that was given back last, or a new one, which is made together with its
     /// place in the spare list. `Err`, and nothing is changed, where no block is spare and there is no memory for a new one.
     fn spare(&mut self) -> Result<u64, NoMemory>
         ensures deed { did (spared result) self.old self.new }
-        ensures gives { known → SpareGives (contents self.old) result (contents self.new) }
         ensures form { form_of self.new ≡ form_of self.old };
 
     /// Blanks a block and puts its number on the spare list, which has a place for each block that was made. It takes no
     /// memory.
     fn retire(&mut self, block: u64)
         ensures deed { did (retired block) self.old self.new }
-        ensures left { known → contents self.new ≡ with_retired (contents self.old) block }
         ensures form { form_of self.new ≡ form_of self.old };
 
     /// No operation makes cells of one form into cells of another.
     ghost keeps_form: { (d : Deed T) (a b : Self) → did d a b → form_of b ≡ form_of a };
+
+    /// What is known to be held is of the cells' form.
+    ghost exact_form: { known → (a : Self) → (contents a).form ≡ form_of a };
+
+    /// An operation does to what is known to be held just what it says.
+    ghost exact: { known → (d : Deed T) (a b : Self) → did d a b → Does d (contents a) (contents b) };
 }

@@ -73,6 +73,7 @@ fn empty_slots<T: Drop>(alloc: Global, capacity: usize) -> Result<Vec<Option<T>>
 }
 
 impl<T: Drop> Cells<T> for PlainCells<T> {
+    ghost use Rattle.std.specs.Prelude.{refl};
     ghost use Rattle.concurrent_queue.specs.Plain.{contents_of};
     ghost use Rattle.concurrent_queue.specs.Effects.{Does, does_keep_form};
 
@@ -81,6 +82,10 @@ impl<T: Drop> Cells<T> for PlainCells<T> {
     ghost did = { λ d a b. Does d (contents_of a) (contents_of b) };
 
     ghost keeps_form = { λ d a b. does_keep_form d (contents_of a) (contents_of b) };
+
+    ghost exact_form = { λ _ a. refl };
+
+    ghost exact = { λ _ d a b done. done };
 
     ghost contents = { contents_of };
 

@@ -78,7 +78,6 @@ fn wrap_blocks<T: Drop>(stepped: Stepped<UnboundedCall<T>, T>) -> Stepped<CallSt
 
 /// The first step of a call, in the form of its queue.
 fn first_step<T: Drop, C: Cells<T>>(ask: QueueAsk<T>, cells: &mut C) -> Stepped<CallState<T>, T>
-    ensures steps { C.known → IsStateStep (C.contents cells.old) (CallState.Asked ask) (C.contents cells.new) result }
     ensures answers { StateFollows (C.form_of cells.old) (CallState.Asked ask) result.action result.reply }
     ensures deed { StateMakes C.did (C.form_of cells.old) cells.old (CallState.Asked ask) cells.new result }
 {
@@ -90,7 +89,6 @@ fn first_step<T: Drop, C: Cells<T>>(ask: QueueAsk<T>, cells: &mut C) -> Stepped<
 }
 
 fn step_state<T: Drop, C: Cells<T>>(state: CallState<T>, cells: &mut C) -> Stepped<CallState<T>, T>
-    ensures steps { C.known → IsStateStep (C.contents cells.old) state (C.contents cells.new) result }
     ensures answers { StateFollows (C.form_of cells.old) state result.action result.reply }
     ensures deed { StateMakes C.did (C.form_of cells.old) cells.old state cells.new result }
 {
@@ -156,7 +154,6 @@ impl<T: Drop> QueueCall<T> {
 
     /// One step: one operation on the cells, as the machine of their form makes it, and what follows its answer.
     pub fn step<C: Cells<T>>(&mut self, cells: &mut C) -> Option<QueueReply<T>>
-        ensures steps { C.known → IsQueueStep (C.contents cells.old) self.old (C.contents cells.new) self.new result }
         ensures answers { Follows (C.form_of cells.old) self.old self.new result }
         ensures deed { CallMakes C.did (C.form_of cells.old) cells.old self.old cells.new self.new result }
     {

@@ -96,6 +96,10 @@ impl<T, C: Cells<T>, S: Trace<T>> Cells<T> for Seen<C, S> {
 
     ghost keeps_form = { λ d a b done. C.keeps_form d a.cells b.cells (done.0) };
 
+    ghost exact_form = { λ known a. C.exact_form known a.cells };
+
+    ghost exact = { λ known d a b done. C.exact known d a.cells b.cells (done.0) };
+
     #[inline(always)]
     fn form(&self) -> QueueForm {
         self.cells.form()

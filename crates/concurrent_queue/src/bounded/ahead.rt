@@ -22,39 +22,6 @@ pub(crate) fn push_ahead<T: Drop, C: Cells<T>>(
     value: T,
     cells: &mut C,
 ) -> Result<Result<(), PushError<T>>, RingAction<T>>
-    ensures steps { C.known → PushesOnEnd (MadeBy (ring_step shape.cap shape.mark)) (C.contents cells.old)
-        (RingAction.Push WhenFull.Refuse value) result (C.contents cells.new) }
-    ensures deeds { PushesOnEnd (RingMakes shape.cap shape.mark C.did) cells.old (RingAction.Push WhenFull.Refuse value) result cells.new }
-    ensures answers { MatchResult result (λ r. MayPush true value (reply.Push r))
-        (λ a. (cap : ℕ) (r : QueueReply T) → MayRing cap a r → MayPush true value r) }
-{
-    make_push(shape, value, cells)
-}
-
-/// Pops or is refused, or answers the action at which the machine has to go on: its first where another call was quicker or is on
-/// its way.
-#[inline(always)]
-pub(crate) fn pop_ahead<T: Drop, C: Cells<T>>(
-    shape: Shape,
-    cells: &mut C,
-) -> Result<Result<T, PopError>, RingAction<T>>
-    ensures steps { C.known → PopsOnEnd (MadeBy (ring_step shape.cap shape.mark)) (C.contents cells.old)
-        RingAction.Pop result (C.contents cells.new) }
-    ensures deeds { PopsOnEnd (RingMakes shape.cap shape.mark C.did) cells.old RingAction.Pop result cells.new }
-    ensures answers { MatchResult result (λ _. Unit {0})
-        (λ a. (cap : ℕ) (r : QueueReply T) → MayRing cap a r → MayPop r) }
-{
-    make_pop(shape, cells)
-}
-
-/// The steps of a push, and what they do to the cells.
-#[inline(always)]
-fn make_push<T: Drop, C: Cells<T>>(
-    shape: Shape,
-    value: T,
-    cells: &mut C,
-) -> Result<Result<(), PushError<T>>, RingAction<T>>
-    ensures cells { C.known → PushesRing shape.cap shape.mark (C.contents cells.old) value result (C.contents cells.new) }
     ensures deeds { PushesOnEnd (RingMakes shape.cap shape.mark C.did) cells.old (RingAction.Push WhenFull.Refuse value) result cells.new }
     ensures answers { MatchResult result (λ r. MayPush true value (reply.Push r))
         (λ a. (cap : ℕ) (r : QueueReply T) → MayRing cap a r → MayPush true value r) }
@@ -87,13 +54,13 @@ fn make_push<T: Drop, C: Cells<T>>(
     Ok(Ok(()))
 }
 
-/// The steps of a pop, and what they do to the cells.
+/// Pops or is refused, or answers the action at which the machine has to go on: its first where another call was quicker or is on
+/// its way.
 #[inline(always)]
-fn make_pop<T: Drop, C: Cells<T>>(
+pub(crate) fn pop_ahead<T: Drop, C: Cells<T>>(
     shape: Shape,
     cells: &mut C,
 ) -> Result<Result<T, PopError>, RingAction<T>>
-    ensures cells { C.known → PopsRing shape.cap shape.mark (C.contents cells.old) result (C.contents cells.new) }
     ensures deeds { PopsOnEnd (RingMakes shape.cap shape.mark C.did) cells.old RingAction.Pop result cells.new }
     ensures answers { MatchResult result (λ _. Unit {0})
         (λ a. (cap : ℕ) (r : QueueReply T) → MayRing cap a r → MayPop r) }
@@ -128,7 +95,6 @@ fn pop_empty<T: Drop, C: Cells<T>>(
     head: u64,
     cells: &mut C,
 ) -> Result<Result<T, PopError>, RingAction<T>>
-    ensures cells { C.known → PopsNothing shape.cap shape.mark (C.contents cells.old) head result (C.contents cells.new) }
     ensures deeds { PopsOnEnd (RingMakes shape.cap shape.mark C.did) cells.old (RingAction.PopTail head) result cells.new }
     ensures answers { MatchResult result (λ _. Unit {0})
         (λ a. (cap : ℕ) (r : QueueReply T) → MayRing cap a r → MayPop r) }

@@ -32,7 +32,6 @@ pub(crate) fn push_ahead<T: Drop, C: Cells<T>>(
     value: T,
     cells: &mut C,
 ) -> Result<Result<(), PushError<T>>, QueueCall<T>>
-    ensures steps { C.known → PushesAhead (C.contents cells.old).form (C.contents cells.old) value result (C.contents cells.new) }
     ensures deeds { WalkedAhead C.did (λ r. reply.Push r) (C.form_of cells.old) (first_of (C.form_of cells.old) (ask.Push value)) cells.old result cells.new }
     ensures answers { MatchResult result (λ r. MayAnswer (C.form_of cells.old) (ask.Push value) (reply.Push r)) (λ call. (f : QueueForm) (r : QueueReply T) → MayCall f call.state r →
         MayAnswer (C.form_of cells.old) (ask.Push value) r) }
@@ -63,7 +62,6 @@ pub(crate) fn push_ahead<T: Drop, C: Cells<T>>(
 pub(crate) fn pop_ahead<T: Drop, C: Cells<T>>(
     cells: &mut C,
 ) -> Result<Result<T, PopError>, QueueCall<T>>
-    ensures steps { C.known → PopsAhead (C.contents cells.old).form (C.contents cells.old) result (C.contents cells.new) }
     ensures deeds { WalkedAhead C.did (λ r. reply.Pop r) (C.form_of cells.old) (first_of (C.form_of cells.old) ask.Pop) cells.old result cells.new }
     ensures answers { MatchResult result (λ _. Unit {0}) (λ call. (f : QueueForm) (r : QueueReply T) → MayCall f call.state r →
         MayAnswer (C.form_of cells.old) ask.Pop r) }

@@ -112,6 +112,10 @@ impl<'a, T: Drop> Cells<T> for WordCells<'a, T> {
 
     ghost keeps_form = { λ _ a b kept. kept };
 
+    ghost exact_form = { λ known. absurd known };
+
+    ghost exact = { λ known. absurd known };
+
     #[inline(always)]
     fn form(&self) -> QueueForm {
         self.form
@@ -276,6 +280,10 @@ impl<'a, T: Drop, R: Wait> Cells<T> for SharedCells<'a, T, R> {
     ghost did = { λ _ a b. b.words.form ≡ a.words.form };
 
     ghost keeps_form = { λ _ a b kept. kept };
+
+    ghost exact_form = { λ known. absurd known };
+
+    ghost exact = { λ known. absurd known };
 
     #[inline(always)]
     fn form(&self) -> QueueForm {

@@ -17,35 +17,6 @@ pub(crate) fn push_ahead<T: Drop, C: Cells<T>>(
     value: T,
     cells: &mut C,
 ) -> Result<Result<(), PushError<T>>, SingleAction<T>>
-    ensures steps { C.known → PushesOnEnd (MadeBy single_step) (C.contents cells.old) (SingleAction.Push value) result (C.contents cells.new) }
-    ensures deeds { PushesOnEnd (SingleMakes C.did) cells.old (SingleAction.Push value) result cells.new }
-    ensures answers { MatchResult result (λ r. MayPush true value (reply.Push r))
-        (λ a. (r : QueueReply T) → MaySingle a r → MayPush true value r) }
-{
-    make_push(value, cells)
-}
-
-/// Pops or is refused, or answers the action at which the machine has to go on: its first where another call holds the slot, or
-/// the queue is closed and not empty.
-#[inline(always)]
-pub(crate) fn pop_ahead<T: Drop, C: Cells<T>>(
-    cells: &mut C,
-) -> Result<Result<T, PopError>, SingleAction<T>>
-    ensures steps { C.known → PopsOnEnd (MadeBy single_step) (C.contents cells.old) (SingleAction.Pop 2) result (C.contents cells.new) }
-    ensures deeds { PopsOnEnd (SingleMakes C.did) cells.old (SingleAction.Pop 2) result cells.new }
-    ensures answers { MatchResult result (λ _. Unit {0})
-        (λ a. (r : QueueReply T) → MaySingle a r → MayPop r) }
-{
-    make_pop(cells)
-}
-
-/// The steps of a push, and what they do to the cells.
-#[inline(always)]
-fn make_push<T: Drop, C: Cells<T>>(
-    value: T,
-    cells: &mut C,
-) -> Result<Result<(), PushError<T>>, SingleAction<T>>
-    ensures cells { C.known → PushesSingle (C.contents cells.old) value result (C.contents cells.new) }
     ensures deeds { PushesOnEnd (SingleMakes C.did) cells.old (SingleAction.Push value) result cells.new }
     ensures answers { MatchResult result (λ r. MayPush true value (reply.Push r))
         (λ a. (r : QueueReply T) → MaySingle a r → MayPush true value r) }
@@ -66,10 +37,12 @@ fn make_push<T: Drop, C: Cells<T>>(
     Ok(Ok(()))
 }
 
-/// The steps of a pop, and what they do to the cells.
+/// Pops or is refused, or answers the action at which the machine has to go on: its first where another call holds the slot, or
+/// the queue is closed and not empty.
 #[inline(always)]
-fn make_pop<T: Drop, C: Cells<T>>(cells: &mut C) -> Result<Result<T, PopError>, SingleAction<T>>
-    ensures cells { C.known → PopsSingle (C.contents cells.old) result (C.contents cells.new) }
+pub(crate) fn pop_ahead<T: Drop, C: Cells<T>>(
+    cells: &mut C,
+) -> Result<Result<T, PopError>, SingleAction<T>>
     ensures deeds { PopsOnEnd (SingleMakes C.did) cells.old (SingleAction.Pop 2) result cells.new }
     ensures answers { MatchResult result (λ _. Unit {0})
         (λ a. (r : QueueReply T) → MaySingle a r → MayPop r) }

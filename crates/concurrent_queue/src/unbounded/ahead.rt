@@ -20,8 +20,6 @@ pub(crate) fn push_ahead<T: Drop, C: Cells<T>>(
     value: T,
     cells: &mut C,
 ) -> Result<Result<(), PushError<T>>, UnboundedAction<T>>
-    ensures steps { C.known → PushesOnEnd ActionStep (C.contents cells.old)
-        (UnboundedAction.Push value None) result (C.contents cells.new) }
     ensures deeds { PushesOnEnd (ActionMakes C.did) cells.old (UnboundedAction.Push value None) result cells.new }
     ensures answers { MatchResult result (λ r. MayPush false value (reply.Push r)) (λ a. (e : Ending T) → MayEnd a e → Sends value e) }
 {
@@ -64,8 +62,6 @@ fn push_last<T: Drop, C: Cells<T>>(
     block: u64,
     cells: &mut C,
 ) -> Result<Result<(), PushError<T>>, UnboundedAction<T>>
-    ensures steps { C.known → tail / 2 % 32 ≡ 30 → PushesOnEnd ActionStep (C.contents cells.old)
-        (UnboundedAction.PushMore value tail block) result (C.contents cells.new) }
     ensures deeds { tail / 2 % 32 ≡ 30 → PushesOnEnd (ActionMakes C.did) cells.old (UnboundedAction.PushMore value tail block) result cells.new }
     ensures answers { MatchResult result (λ r. MayPush false value (reply.Push r)) (λ a. (e : Ending T) → MayEnd a e → Sends value e) }
 {
@@ -94,8 +90,6 @@ fn push_last<T: Drop, C: Cells<T>>(
 pub(crate) fn pop_ahead<T: Drop, C: Cells<T>>(
     cells: &mut C,
 ) -> Result<Result<T, PopError>, UnboundedAction<T>>
-    ensures steps { C.known → PopsOnEnd ActionStep (C.contents cells.old)
-        UnboundedAction.Pop result (C.contents cells.new) }
     ensures deeds { PopsOnEnd (ActionMakes C.did) cells.old UnboundedAction.Pop result cells.new }
     ensures answers { MatchResult result (λ _. Unit {0}) (λ a. (e : Ending T) → MayEnd a e → Tells ask.Pop e) }
 {
@@ -148,8 +142,6 @@ fn pop_written<T: Drop, C: Cells<T>>(
     block: u64,
     cells: &mut C,
 ) -> Result<Result<T, PopError>, UnboundedAction<T>>
-    ensures steps { C.known → PopsOnEnd ActionStep (C.contents cells.old)
-        (UnboundedAction.PopWait head block) result (C.contents cells.new) }
     ensures deeds { PopsOnEnd (ActionMakes C.did) cells.old (UnboundedAction.PopWait head block) result cells.new }
     ensures answers { MatchResult result (λ _. Unit {0}) (λ a. (e : Ending T) → MayEnd a e → Tells ask.Pop e) }
 {

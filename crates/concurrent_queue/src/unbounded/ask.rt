@@ -18,7 +18,6 @@ pub(crate) fn tell<T>(reply: QueueReply<T>) -> Progress<T>
 }
 
 pub(crate) fn close_load<T: Drop, C: Cells<T>>(cells: &mut C) -> Progress<T>
-    ensures steps { C.known → (C.contents cells.new, result) ≡ close_tail (C.contents cells.old) }
     ensures form { C.form_of cells.new ≡ C.form_of cells.old }
     ensures ends { EndFollows UnboundedAction.Close result }
     ensures deed { ProgressMakes C.did cells.old UnboundedAction.Close cells.new result }
@@ -36,7 +35,6 @@ pub(crate) fn close_load<T: Drop, C: Cells<T>>(cells: &mut C) -> Progress<T>
 }
 
 pub(crate) fn ask_closed<T: Drop, C: Cells<T>>(cells: &mut C) -> Progress<T>
-    ensures steps { C.known → (C.contents cells.new, result) ≡ ask_tail (C.contents cells.old) }
     ensures form { C.form_of cells.new ≡ C.form_of cells.old }
     ensures ends { EndFollows UnboundedAction.AskClosed result }
     ensures deed { ProgressMakes C.did cells.old UnboundedAction.AskClosed cells.new result }
@@ -46,7 +44,6 @@ pub(crate) fn ask_closed<T: Drop, C: Cells<T>>(cells: &mut C) -> Progress<T>
 }
 
 pub(crate) fn ask_empty<T: Drop, C: Cells<T>>(cells: &mut C) -> Progress<T>
-    ensures steps { C.known → (C.contents cells.new, result) ≡ empty_load_head (C.contents cells.old) }
     ensures form { C.form_of cells.new ≡ C.form_of cells.old }
     ensures ends { EndFollows UnboundedAction.AskEmpty result }
     ensures deed { ProgressMakes C.did cells.old UnboundedAction.AskEmpty cells.new result }
@@ -56,7 +53,6 @@ pub(crate) fn ask_empty<T: Drop, C: Cells<T>>(cells: &mut C) -> Progress<T>
 }
 
 pub(crate) fn empty_tail<T: Drop, C: Cells<T>>(head: u64, cells: &mut C) -> Progress<T>
-    ensures steps { C.known → (C.contents cells.new, result) ≡ empty_load_tail (C.contents cells.old) head }
     ensures form { C.form_of cells.new ≡ C.form_of cells.old }
     ensures ends { EndFollows (UnboundedAction.EmptyTail head) result }
     ensures deed { ProgressMakes C.did cells.old (UnboundedAction.EmptyTail head) cells.new result }
@@ -66,7 +62,6 @@ pub(crate) fn empty_tail<T: Drop, C: Cells<T>>(head: u64, cells: &mut C) -> Prog
 }
 
 pub(crate) fn ask_len<T: Drop, C: Cells<T>>(cells: &mut C) -> Progress<T>
-    ensures steps { C.known → (C.contents cells.new, result) ≡ len_load_tail (C.contents cells.old) }
     ensures form { C.form_of cells.new ≡ C.form_of cells.old }
     ensures ends { EndFollows UnboundedAction.AskLen result }
     ensures deed { ProgressMakes C.did cells.old UnboundedAction.AskLen cells.new result }
@@ -76,7 +71,6 @@ pub(crate) fn ask_len<T: Drop, C: Cells<T>>(cells: &mut C) -> Progress<T>
 }
 
 pub(crate) fn len_head<T: Drop, C: Cells<T>>(tail: u64, cells: &mut C) -> Progress<T>
-    ensures steps { C.known → (C.contents cells.new, result) ≡ len_load_head (C.contents cells.old) tail }
     ensures form { C.form_of cells.new ≡ C.form_of cells.old }
     ensures ends { EndFollows (UnboundedAction.LenHead tail) result }
     ensures deed { ProgressMakes C.did cells.old (UnboundedAction.LenHead tail) cells.new result }
@@ -86,7 +80,6 @@ pub(crate) fn len_head<T: Drop, C: Cells<T>>(tail: u64, cells: &mut C) -> Progre
 }
 
 pub(crate) fn len_tail<T: Drop, C: Cells<T>>(tail: u64, head: u64, cells: &mut C) -> Progress<T>
-    ensures steps { C.known → (C.contents cells.new, result) ≡ len_again (C.contents cells.old) tail head }
     ensures form { C.form_of cells.new ≡ C.form_of cells.old }
     ensures ends { EndFollows (UnboundedAction.LenTail tail head) result }
     ensures deed { ProgressMakes C.did cells.old (UnboundedAction.LenTail tail head) cells.new result }

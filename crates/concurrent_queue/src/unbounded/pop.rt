@@ -20,7 +20,6 @@ pub(crate) fn number_of(p: u64) -> u64
 }
 
 pub(crate) fn pop_load<T: Drop, C: Cells<T>>(cells: &mut C) -> Progress<T>
-    ensures steps { C.known → (C.contents cells.new, result) ≡ load_head (C.contents cells.old) }
     ensures form { C.form_of cells.new ≡ C.form_of cells.old }
     ensures ends { EndFollows UnboundedAction.Pop result }
     ensures deed { ProgressMakes C.did cells.old UnboundedAction.Pop cells.new result }
@@ -34,7 +33,6 @@ pub(crate) fn pop_load<T: Drop, C: Cells<T>>(cells: &mut C) -> Progress<T>
 }
 
 pub(crate) fn pop_look<T: Drop, C: Cells<T>>(head: u64, cells: &mut C) -> Progress<T>
-    ensures steps { C.known → (C.contents cells.new, result) ≡ look_head_block (C.contents cells.old) head }
     ensures form { C.form_of cells.new ≡ C.form_of cells.old }
     ensures ends { EndFollows (UnboundedAction.PopLook head) result }
     ensures deed { ProgressMakes C.did cells.old (UnboundedAction.PopLook head) cells.new result }
@@ -44,7 +42,6 @@ pub(crate) fn pop_look<T: Drop, C: Cells<T>>(head: u64, cells: &mut C) -> Progre
 }
 
 pub(crate) fn pop_tail<T: Drop, C: Cells<T>>(head: u64, block: u64, cells: &mut C) -> Progress<T>
-    ensures steps { C.known → (C.contents cells.new, result) ≡ look_tail (C.contents cells.old) head block }
     ensures form { C.form_of cells.new ≡ C.form_of cells.old }
     ensures ends { EndFollows (UnboundedAction.PopTail head block) result }
     ensures deed { ProgressMakes C.did cells.old (UnboundedAction.PopTail head block) cells.new result }
@@ -64,7 +61,6 @@ pub(crate) fn pop_tail<T: Drop, C: Cells<T>>(head: u64, block: u64, cells: &mut 
 }
 
 pub(crate) fn pop_swap<T: Drop, C: Cells<T>>(head: u64, block: u64, cells: &mut C) -> Progress<T>
-    ensures steps { C.known → (C.contents cells.new, result) ≡ swap_head (C.contents cells.old) head block }
     ensures form { C.form_of cells.new ≡ C.form_of cells.old }
     ensures ends { EndFollows (UnboundedAction.PopSwap head block) result }
     ensures deed { ProgressMakes C.did cells.old (UnboundedAction.PopSwap head block) cells.new result }
@@ -82,7 +78,6 @@ pub(crate) fn pop_swap<T: Drop, C: Cells<T>>(head: u64, block: u64, cells: &mut 
 }
 
 pub(crate) fn pop_next<T: Drop, C: Cells<T>>(head: u64, block: u64, cells: &mut C) -> Progress<T>
-    ensures steps { C.known → (C.contents cells.new, result) ≡ load_next (C.contents cells.old) head block }
     ensures form { C.form_of cells.new ≡ C.form_of cells.old }
     ensures ends { EndFollows (UnboundedAction.PopNext head block) result }
     ensures deed { ProgressMakes C.did cells.old (UnboundedAction.PopNext head block) cells.new result }
@@ -101,7 +96,6 @@ pub(crate) fn pop_block<T: Drop, C: Cells<T>>(
     next: u64,
     cells: &mut C,
 ) -> Progress<T>
-    ensures steps { C.known → (C.contents cells.new, result) ≡ store_head_block (C.contents cells.old) head block next }
     ensures form { C.form_of cells.new ≡ C.form_of cells.old }
     ensures ends { EndFollows (UnboundedAction.PopBlock head block next) result }
     ensures deed { ProgressMakes C.did cells.old (UnboundedAction.PopBlock head block next) cells.new result }
@@ -111,7 +105,6 @@ pub(crate) fn pop_block<T: Drop, C: Cells<T>>(
 }
 
 pub(crate) fn pop_head<T: Drop, C: Cells<T>>(head: u64, block: u64, cells: &mut C) -> Progress<T>
-    ensures steps { C.known → (C.contents cells.new, result) ≡ store_head (C.contents cells.old) head block }
     ensures form { C.form_of cells.new ≡ C.form_of cells.old }
     ensures ends { EndFollows (UnboundedAction.PopHead head block) result }
     ensures deed { ProgressMakes C.did cells.old (UnboundedAction.PopHead head block) cells.new result }
@@ -121,7 +114,6 @@ pub(crate) fn pop_head<T: Drop, C: Cells<T>>(head: u64, block: u64, cells: &mut 
 }
 
 pub(crate) fn pop_wait<T: Drop, C: Cells<T>>(head: u64, block: u64, cells: &mut C) -> Progress<T>
-    ensures steps { C.known → (C.contents cells.new, result) ≡ wait_written (C.contents cells.old) head block }
     ensures form { C.form_of cells.new ≡ C.form_of cells.old }
     ensures ends { EndFollows (UnboundedAction.PopWait head block) result }
     ensures deed { ProgressMakes C.did cells.old (UnboundedAction.PopWait head block) cells.new result }
@@ -134,7 +126,6 @@ pub(crate) fn pop_wait<T: Drop, C: Cells<T>>(head: u64, block: u64, cells: &mut 
 }
 
 pub(crate) fn pop_take<T: Drop, C: Cells<T>>(head: u64, block: u64, cells: &mut C) -> Progress<T>
-    ensures steps { C.known → (C.contents cells.new, result) ≡ take_message (C.contents cells.old) head block }
     ensures form { C.form_of cells.new ≡ C.form_of cells.old }
     ensures ends { EndFollows (UnboundedAction.PopTake head block) result }
     ensures deed { ProgressMakes C.did cells.old (UnboundedAction.PopTake head block) cells.new result }
@@ -151,7 +142,6 @@ pub(crate) fn pop_count<T: Drop, C: Cells<T>>(
     value: T,
     cells: &mut C,
 ) -> Progress<T>
-    ensures steps { C.known → (C.contents cells.new, result) ≡ count_read (C.contents cells.old) head block value }
     ensures form { C.form_of cells.new ≡ C.form_of cells.old }
     ensures ends { EndFollows (UnboundedAction.PopCount head block value) result }
     ensures deed { ProgressMakes C.did cells.old (UnboundedAction.PopCount head block value) cells.new result }
@@ -164,7 +154,6 @@ pub(crate) fn pop_count<T: Drop, C: Cells<T>>(
 }
 
 pub(crate) fn pop_retire<T: Drop, C: Cells<T>>(block: u64, value: T, cells: &mut C) -> Progress<T>
-    ensures steps { C.known → (C.contents cells.new, result) ≡ retire_block (C.contents cells.old) block value }
     ensures form { C.form_of cells.new ≡ C.form_of cells.old }
     ensures ends { (h : ℕ) → EndFollows (UnboundedAction.PopRetire h block value) result }
     ensures deed { (h : ℕ) → ProgressMakes C.did cells.old (UnboundedAction.PopRetire h block value) cells.new result }

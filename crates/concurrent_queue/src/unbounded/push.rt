@@ -68,7 +68,6 @@ pub(crate) fn push_load<T: Drop, C: Cells<T>>(
     held: Option<u64>,
     cells: &mut C,
 ) -> Progress<T>
-    ensures steps { C.known → (C.contents cells.new, result) ≡ load_tail (C.contents cells.old) value held }
     ensures form { C.form_of cells.new ≡ C.form_of cells.old }
     ensures ends { EndFollows (UnboundedAction.Push value held) result }
     ensures deed { ProgressMakes C.did cells.old (UnboundedAction.Push value held) cells.new result }
@@ -90,7 +89,6 @@ pub(crate) fn push_shut<T: Drop, C: Cells<T>>(
     held: Option<u64>,
     cells: &mut C,
 ) -> Progress<T>
-    ensures steps { C.known → (C.contents cells.new, result) ≡ shut_tail (C.contents cells.old) value held }
     ensures form { C.form_of cells.new ≡ C.form_of cells.old }
     ensures ends { EndFollows (UnboundedAction.PushShut value held) result }
     ensures deed { ProgressMakes C.did cells.old (UnboundedAction.PushShut value held) cells.new result }
@@ -109,7 +107,6 @@ pub(crate) fn push_shut<T: Drop, C: Cells<T>>(
 }
 
 pub(crate) fn push_return<T: Drop, C: Cells<T>>(value: T, held: u64, cells: &mut C) -> Progress<T>
-    ensures steps { C.known → (C.contents cells.new, result) ≡ give_back (C.contents cells.old) value held }
     ensures form { C.form_of cells.new ≡ C.form_of cells.old }
     ensures ends { EndFollows (UnboundedAction.PushReturn value held) result }
     ensures deed { ProgressMakes C.did cells.old (UnboundedAction.PushReturn value held) cells.new result }
@@ -124,7 +121,6 @@ pub(crate) fn push_look<T: Drop, C: Cells<T>>(
     held: Option<u64>,
     cells: &mut C,
 ) -> Progress<T>
-    ensures steps { C.known → (C.contents cells.new, result) ≡ look_tail_block (C.contents cells.old) value tail held }
     ensures form { C.form_of cells.new ≡ C.form_of cells.old }
     ensures ends { EndFollows (UnboundedAction.PushLook value tail held) result }
     ensures deed { ProgressMakes C.did cells.old (UnboundedAction.PushLook value tail held) cells.new result }
@@ -138,7 +134,6 @@ pub(crate) fn push_look<T: Drop, C: Cells<T>>(
 }
 
 pub(crate) fn push_make<T: Drop, C: Cells<T>>(value: T, tail: u64, cells: &mut C) -> Progress<T>
-    ensures steps { C.known → Obtains (C.contents cells.old) value (λ h. UnboundedAction.PushFirst value tail h) (C.contents cells.new, result) }
     ensures form { C.form_of cells.new ≡ C.form_of cells.old }
     ensures ends { EndFollows (UnboundedAction.PushMake value tail) result }
     ensures deed { ProgressMakes C.did cells.old (UnboundedAction.PushMake value tail) cells.new result }
@@ -155,7 +150,6 @@ pub(crate) fn push_more<T: Drop, C: Cells<T>>(
     block: u64,
     cells: &mut C,
 ) -> Progress<T>
-    ensures steps { C.known → Obtains (C.contents cells.old) value (λ h. UnboundedAction.PushSwap value tail block (Some h)) (C.contents cells.new, result) }
     ensures form { C.form_of cells.new ≡ C.form_of cells.old }
     ensures ends { EndFollows (UnboundedAction.PushMore value tail block) result }
     ensures deed { ProgressMakes C.did cells.old (UnboundedAction.PushMore value tail block) cells.new result }
@@ -172,7 +166,6 @@ pub(crate) fn push_first<T: Drop, C: Cells<T>>(
     held: u64,
     cells: &mut C,
 ) -> Progress<T>
-    ensures steps { C.known → (C.contents cells.new, result) ≡ swap_first (C.contents cells.old) value tail held }
     ensures form { C.form_of cells.new ≡ C.form_of cells.old }
     ensures ends { EndFollows (UnboundedAction.PushFirst value tail held) result }
     ensures deed { ProgressMakes C.did cells.old (UnboundedAction.PushFirst value tail held) cells.new result }
@@ -189,7 +182,6 @@ pub(crate) fn push_start<T: Drop, C: Cells<T>>(
     block: u64,
     cells: &mut C,
 ) -> Progress<T>
-    ensures steps { C.known → (C.contents cells.new, result) ≡ start_head (C.contents cells.old) value tail block }
     ensures form { C.form_of cells.new ≡ C.form_of cells.old }
     ensures ends { EndFollows (UnboundedAction.PushStart value tail block) result }
     ensures deed { ProgressMakes C.did cells.old (UnboundedAction.PushStart value tail block) cells.new result }
@@ -205,7 +197,6 @@ pub(crate) fn push_swap<T: Drop, C: Cells<T>>(
     held: Option<u64>,
     cells: &mut C,
 ) -> Progress<T>
-    ensures steps { C.known → (C.contents cells.new, result) ≡ swap_tail (C.contents cells.old) value tail block held }
     ensures form { C.form_of cells.new ≡ C.form_of cells.old }
     ensures ends { EndFollows (UnboundedAction.PushSwap value tail block held) result }
     ensures deed { ProgressMakes C.did cells.old (UnboundedAction.PushSwap value tail block held) cells.new result }
@@ -223,7 +214,6 @@ pub(crate) fn push_turn<T: Drop, C: Cells<T>>(
     next: u64,
     cells: &mut C,
 ) -> Progress<T>
-    ensures steps { C.known → (C.contents cells.new, result) ≡ turn_tail_block (C.contents cells.old) value tail block next }
     ensures form { C.form_of cells.new ≡ C.form_of cells.old }
     ensures ends { EndFollows (UnboundedAction.PushTurn value tail block next) result }
     ensures deed { ProgressMakes C.did cells.old (UnboundedAction.PushTurn value tail block next) cells.new result }
@@ -239,7 +229,6 @@ pub(crate) fn push_add<T: Drop, C: Cells<T>>(
     next: u64,
     cells: &mut C,
 ) -> Progress<T>
-    ensures steps { C.known → (C.contents cells.new, result) ≡ add_tail (C.contents cells.old) value tail block next }
     ensures form { C.form_of cells.new ≡ C.form_of cells.old }
     ensures ends { EndFollows (UnboundedAction.PushAdd value tail block next) result }
     ensures deed { ProgressMakes C.did cells.old (UnboundedAction.PushAdd value tail block next) cells.new result }
@@ -255,7 +244,6 @@ pub(crate) fn push_link<T: Drop, C: Cells<T>>(
     next: u64,
     cells: &mut C,
 ) -> Progress<T>
-    ensures steps { C.known → (C.contents cells.new, result) ≡ link_next (C.contents cells.old) value tail block next }
     ensures form { C.form_of cells.new ≡ C.form_of cells.old }
     ensures ends { EndFollows (UnboundedAction.PushLink value tail block next) result }
     ensures deed { ProgressMakes C.did cells.old (UnboundedAction.PushLink value tail block next) cells.new result }
@@ -271,7 +259,6 @@ pub(crate) fn push_put<T: Drop, C: Cells<T>>(
     held: Option<u64>,
     cells: &mut C,
 ) -> Progress<T>
-    ensures steps { C.known → (C.contents cells.new, result) ≡ put_message (C.contents cells.old) value tail block held }
     ensures form { C.form_of cells.new ≡ C.form_of cells.old }
     ensures ends { EndFollows (UnboundedAction.PushPut value tail block held) result }
     ensures deed { ProgressMakes C.did cells.old (UnboundedAction.PushPut value tail block held) cells.new result }
@@ -288,7 +275,6 @@ pub(crate) fn push_store<T: Drop, C: Cells<T>>(
     held: Option<u64>,
     cells: &mut C,
 ) -> Progress<T>
-    ensures steps { C.known → (C.contents cells.new, result) ≡ store_written (C.contents cells.old) tail block held }
     ensures form { C.form_of cells.new ≡ C.form_of cells.old }
     ensures ends { EndFollows (UnboundedAction.PushStore tail block held) result }
     ensures deed { ProgressMakes C.did cells.old (UnboundedAction.PushStore tail block held) cells.new result }
@@ -301,7 +287,6 @@ pub(crate) fn push_store<T: Drop, C: Cells<T>>(
 }
 
 pub(crate) fn push_give<T: Drop, C: Cells<T>>(held: u64, cells: &mut C) -> Progress<T>
-    ensures steps { C.known → (C.contents cells.new, result) ≡ give_spare (C.contents cells.old) held }
     ensures form { C.form_of cells.new ≡ C.form_of cells.old }
     ensures ends { EndFollows (UnboundedAction.PushGive held) result }
     ensures deed { ProgressMakes C.did cells.old (UnboundedAction.PushGive held) cells.new result }

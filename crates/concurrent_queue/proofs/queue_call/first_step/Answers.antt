@@ -19,12 +19,3 @@ returns-in-Bounded-clause-answers g c =
 pub returns-in-Unbounded-clause-answers : goal.returns-in-Unbounded-clause-answers
 returns-in-Unbounded-clause-answers g c =
     blocks_wrapped (g.C.Cells.form_of c.args.cells.now) c.args.ask _ c.step-in-Unbounded.result _ (sym c.form.ensures.form ∙ c.in-Unbounded.is) c.first-in-Unbounded.ensures c.wrap_blocks.ensures c.step-in-Unbounded.ensures.answers
-
-pub returns-in-Unbounded-clause-steps : goal.returns-in-Unbounded-clause-steps
-returns-in-Unbounded-clause-steps g c known =
-    let before = g.C.Cells.contents c.args.cells.now in
-    let after = g.C.Cells.contents c.step-in-Unbounded.new.cells in
-    let s = c.step-in-Unbounded.result in
-    let here : before.form ≡ Unbounded = sym (c.form.ensures.found known) ∙ c.in-Unbounded.is in
-    subst (λ (f : QueueForm). IsFirstStep f before c.args.ask after c.wrap_blocks.result) (sym here)
-    (s, subst (λ (x : UnboundedCall g.row.T.Denot). IsBlocksStep before x after s) c.first-in-Unbounded.ensures (c.step-in-Unbounded.ensures.steps known), c.wrap_blocks.ensures)

@@ -1,6 +1,8 @@
 use Rattle.std.proofs.Common.{◌≡◌, rules, arith, refl}
 use Rattle.std.proofs.lemmas.Option.{slice_get_read}
+use Rattle.concurrent_queue.proofs.Bridge.{made_is_step}
 use Rattle.concurrent_queue.proofs.PartyFacts.{stepped, remove-set}
+use Rattle.concurrent_queue.specs.Effects.{Does}
 use Rattle.concurrent_queue.specs.Plain.{contents_of}
 use Rattle.concurrent_queue.specs.Parties.{parties_after, party}
 use Rattle.concurrent_queue.proofs.run.step_at.Goals as goal
@@ -16,4 +18,5 @@ returns g c =
       | in-Some w ↦ rw (w.in-Some.is, w.parties-is, w.leave.ensures) (remove-set ps.items c.args.k _)
       | in-None w ↦ rw (w.in-None.is, w.parties-is) refl
     ] in
-    stepped (contents_of c.args.cells.now) (contents_of c.step-reply.new.cells) ps.items c.match-reply.parties.items c.args.k x c.step-reply.new.self c.step-reply.result c.last_mark-mark.result there (c.step-reply.ensures.steps tt) c.last_mark-mark.ensures after
+    let made = made_is_step (λ d a b. Does d (contents_of a) (contents_of b)) contents_of (λ d a b done. done) c.args.cells.now.form c.args.cells.now x.call c.step-reply.new.cells c.step-reply.new.self c.step-reply.result refl c.step-reply.ensures.deed in
+    stepped (contents_of c.args.cells.now) (contents_of c.step-reply.new.cells) ps.items c.match-reply.parties.items c.args.k x c.step-reply.new.self c.step-reply.result c.last_mark-mark.result there made c.last_mark-mark.ensures after

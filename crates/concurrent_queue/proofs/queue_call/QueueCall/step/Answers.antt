@@ -7,16 +7,6 @@ use Rattle.concurrent_queue.specs.declared.queue_call.CallState.{CallState}
 use Rattle.concurrent_queue.proofs.FitsFacts.{is_queue_step}
 use Rattle.concurrent_queue.proofs.queue_call.QueueCall.step.Goals as goal
 
-pub returns-clause-steps : goal.returns-clause-steps
-returns-clause-steps g c known =
-    let cells = g.C.Cells.contents c.args.cells.now in
-    let left = g.C.Cells.contents c.step_state-stepped.new.cells in
-    let s = c.step_state-stepped.result in
-    let e : c.replace-state.result ≡ c.args.self.now.state = search rules in
-    let kept : c.replace.new.dest ≡ s.action = search rules in
-    subst (λ (x : CallState g.row.T.Denot). IsQueueStep cells c.args.self.now left (record { state = x; mark = s.mark }) s.reply) (sym kept)
-    (is_queue_step cells c.args.self.now left s (subst (λ (x : CallState g.row.T.Denot). IsStateStep cells x left s) e (c.step_state-stepped.ensures.steps known)))
-
 pub returns-clause-answers : goal.returns-clause-answers
 returns-clause-answers g c =
     let s = c.step_state-stepped.result in

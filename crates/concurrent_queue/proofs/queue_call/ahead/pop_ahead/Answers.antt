@@ -8,10 +8,6 @@ use Rattle.concurrent_queue.proofs.Evidence.{ne_of}
 use Rattle.concurrent_queue.proofs.AheadFacts.{ring_pop_ahead}
 use Rattle.concurrent_queue.proofs.queue_call.ahead.pop_ahead.Goals as goal
 
-pub returns-in-Ok-pop_ahead-clause-steps : goal.returns-in-Ok-pop_ahead-clause-steps
-returns-in-Ok-pop_ahead-clause-steps g c known =
-    ring_pop_ahead _ c.in-Bounded.capacity c.of.result.cap c.of.result.mark _ _ (sym (c.form.ensures.found known) ∙ c.in-Bounded.is) (ne_of _ _ c.in-Bounded.capacity-test.1) c.of.ensures.cap c.of.ensures.mark _ (c.in-Ok-pop_ahead.ensures.steps known)
-
 pub returns-in-Ok-clause-deeds : goal.returns-in-Ok-clause-deeds
 returns-in-Ok-clause-deeds g c =
     let one : c.in-Bounded-eq1.field-0 ≡ 1 = search rules in

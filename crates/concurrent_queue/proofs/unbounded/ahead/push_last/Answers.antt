@@ -8,67 +8,6 @@ use Rattle.concurrent_queue.proofs.RingDeeds.{pushes_after, pushes_stand}
 use Rattle.concurrent_queue.proofs.BlocksAhead.{exchanged, not_exchanged, block_got, block_refused, last_won, last_lost, turned, added, linked, brought, told}
 use Rattle.concurrent_queue.proofs.unbounded.ahead.push_last.Goals as goal
 
-pub returns-then-is_err-clause-steps : goal.returns-then-is_err-clause-steps
-returns-then-is_err-clause-steps g c known last =
-    let holds = g.C.Cells.contents in
-    let v = c.args.value in
-    let t = c.args.tail in
-    let b = c.args.block in
-    let h = c.in-Ok.next in
-    let c0 = holds c.args.cells.now in
-    let c1 = holds c.spare.new.self in
-    let c2 = holds c.compare_exchange.new.self in
-    let lost = not_exchanged Tail c1 c2 t ((t + 2) % 2 ^ 64) c.compare_exchange.result (sym c.is_err.ensures.value ∙ c.if-is_err.true) (c.compare_exchange.ensures.found known) in (
-      2,
-      (c1, act.PushSwap v t b (Some h), block_got c0 c1 v t b h (c.in-Ok.ensures.gives known), (c2, act.Push v (Some h), last_lost c1 c2 v t b h lost.0 lost.1, (refl, refl))),
-    )
-
-pub returns-in-Err-clause-steps : goal.returns-in-Err-clause-steps
-returns-in-Err-clause-steps g c known last =
-    let holds = g.C.Cells.contents in
-    let v = c.args.value in
-    let t = c.args.tail in
-    let b = c.args.block in
-    let h = c.in-Ok.next in
-    let c0 = holds c.args.cells.now in
-    let c1 = holds c.spare.new.self in
-    let c2 = holds c.compare_exchange.new.self in
-    let c3 = holds c.store.new.self in
-    let c4 = holds c.fetch_add.new.self in
-    let c5 = holds c.store-2.new.self in
-    let c6 = holds c.put.new.self in
-    let won = exchanged Tail c1 c2 t ((t + 2) % 2 ^ 64) c.compare_exchange.result (sym c.is_err.ensures.value ∙ c.if-is_err.false) (c.compare_exchange.ensures.found known) in
-    let back = c.in-Err.ensures.gives known in
-    pushes_after ActionStep c0 (act.PushMore v t b) c1 (act.PushSwap v t b (Some h)) c6 (Err (act.PushPut c.in-Err.value t b None)) (block_got c0 c1 v t b h (c.in-Ok.ensures.gives known))
-    (pushes_after ActionStep c1 (act.PushSwap v t b (Some h)) c2 (act.PushTurn v t b h) c6 (Err (act.PushPut c.in-Err.value t b None)) (last_won c1 c2 v t b h last won.0 won.1)
-    (pushes_after ActionStep c2 (act.PushTurn v t b h) c3 (act.PushAdd v t b h) c6 (Err (act.PushPut c.in-Err.value t b None)) (turned c2 c3 v t b h (c.store.ensures.left known))
-    (pushes_after ActionStep c3 (act.PushAdd v t b h) c4 (act.PushLink v t b h) c6 (Err (act.PushPut c.in-Err.value t b None)) (added c3 c4 v t b h (c.fetch_add.ensures.left known))
-    (pushes_after ActionStep c4 (act.PushLink v t b h) c5 (act.PushPut v t b None) c6 (Err (act.PushPut c.in-Err.value t b None)) (linked c4 c5 v t b h (c.store-2.ensures.left known)) (0, (back.2, ap (λ x. act.PushPut x t b None) back.1))))))
-
-pub returns-clause-steps : goal.returns-clause-steps
-returns-clause-steps g c known last =
-    let holds = g.C.Cells.contents in
-    let v = c.args.value in
-    let t = c.args.tail in
-    let b = c.args.block in
-    let h = c.in-Ok.next in
-    let c0 = holds c.args.cells.now in
-    let c1 = holds c.spare.new.self in
-    let c2 = holds c.compare_exchange.new.self in
-    let c3 = holds c.store.new.self in
-    let c4 = holds c.fetch_add.new.self in
-    let c5 = holds c.store-2.new.self in
-    let c6 = holds c.put.new.self in
-    let d = holds c.store-3.new.self in
-    let won = exchanged Tail c1 c2 t ((t + 2) % 2 ^ 64) c.compare_exchange.result (sym c.is_err.ensures.value ∙ c.if-is_err.false) (c.compare_exchange.ensures.found known) in
-    pushes_after ActionStep c0 (act.PushMore v t b) c1 (act.PushSwap v t b (Some h)) d (Ok (Ok tt)) (block_got c0 c1 v t b h (c.in-Ok.ensures.gives known))
-    (pushes_after ActionStep c1 (act.PushSwap v t b (Some h)) c2 (act.PushTurn v t b h) d (Ok (Ok tt)) (last_won c1 c2 v t b h last won.0 won.1)
-    (pushes_after ActionStep c2 (act.PushTurn v t b h) c3 (act.PushAdd v t b h) d (Ok (Ok tt)) (turned c2 c3 v t b h (c.store.ensures.left known))
-    (pushes_after ActionStep c3 (act.PushAdd v t b h) c4 (act.PushLink v t b h) d (Ok (Ok tt)) (added c3 c4 v t b h (c.fetch_add.ensures.left known))
-    (pushes_after ActionStep c4 (act.PushLink v t b h) c5 (act.PushPut v t b None) d (Ok (Ok tt)) (linked c4 c5 v t b h (c.store-2.ensures.left known))
-    (pushes_after ActionStep c5 (act.PushPut v t b None) c6 (act.PushStore t b None) d (Ok (Ok tt)) (brought c5 c6 v t b 30 last (c.in_default-put.ensures.gives known))
-    (told c6 d t b 30 last (c.store-3.ensures.left known)))))))
-
 pub returns-then-is_err-clause-deeds : goal.returns-then-is_err-clause-deeds
 returns-then-is_err-clause-deeds g c last =
     let did = g.C.Cells.did in
@@ -131,11 +70,6 @@ returns-clause-deeds g c last =
     (pushes_after (ActionMakes did) s4 (act.PushLink v t b h) s5 (act.PushPut v t b None) d r (deed.linked did s4 s5 v t b h c.store-2.ensures.deed)
     (pushes_after (ActionMakes did) s5 (act.PushPut v t b None) s6 (act.PushStore t b None) d r (deed.message_put did s5 s6 v t b 30 last c.in_default-put.field-0 c.in_default-put.ensures.deed)
     (deed.push_ends did s6 d t b 30 last c.store-3.ensures.deed))))))
-
-pub returns-in_default-clause-steps : goal.returns-in_default-clause-steps
-returns-in_default-clause-steps g c known last =
-    let holds = g.C.Cells.contents in
-    block_refused (holds c.args.cells.now) (holds c.spare.new.self) c.args.value c.args.tail c.args.block c.in_default.field-0 (c.in_default.ensures.gives known)
 
 pub returns-in_default-clause-deeds : goal.returns-in_default-clause-deeds
 returns-in_default-clause-deeds g c last =
