@@ -64,5 +64,3 @@ pub mod AloneFacts
 pub mod Interface
 pub mod Guards
 mod ReplyFacts
-mod AheadFacts
-mod BlocksAhead

@@ -1,11 +1,10 @@
 -- What a push and a pop of one slot answer where their exchange is lost.
 use Rattle.std.proofs.Common.{◌≡◌, ℕ, ◌==◌, true, false, Err, refl, arith, bit_and, ap}
 use Rattle.std.proofs.lemmas.Bool.Decides.{nat_tests}
-use Rattle.concurrent_queue.specs.machine.Single.{finishes, stays, after_push, after_pop, clear}
+use Rattle.concurrent_queue.specs.machine.Single.{finishes, after_push, after_pop, clear}
 use Rattle.concurrent_queue.specs.declared.call.QueueReply.TheVariants as reply
 use Rattle.concurrent_queue.specs.declared.error.PopError.TheVariants as pop_error
 use Rattle.concurrent_queue.specs.declared.error.PushError.TheVariants as push_error
-use Rattle.concurrent_queue.specs.declared.single.SingleAction.TheVariants as single
 
 set : (n : ℕ) → (n ≡ 0 → ⊥) → (n == 0) ≡ false
 set n some = grind (arith, nat_tests, some)
@@ -19,12 +18,6 @@ module _ {T : Type 0} (w : ℕ) where
 
   pub push_full : (v : T) → bit_and w 4 ≡ 0 → (bit_and w 2 ≡ 0 → ⊥) → finishes (reply.Push (Err (push_error.Full v))) ≡ after_push v (Err w)
   push_full v open_ full = let e : clear w 4 ≡ true = unset _ open_ in let f : clear w 2 ≡ false = set _ full in rw (e, f) refl
-
-  pub push_again : (v : T) → bit_and w 4 ≡ 0 → bit_and w 2 ≡ 0 → stays (single.Push v) ≡ after_push v (Err w)
-  push_again v open_ none = let e : clear w 4 ≡ true = unset _ open_ in let f : clear w 2 ≡ true = unset _ none in rw (e, f) refl
-
-  pub pop_again : (bit_and w 2 ≡ 0 → ⊥) → stays {T = T} (single.Pop (bit_and w 0xffff_ffff_ffff_fffe)) ≡ after_pop (Err w)
-  pop_again some = let f : clear w 2 ≡ false = set _ some in rw f refl
 
   pub pop_shut : bit_and w 2 ≡ 0 → (bit_and w 4 ≡ 0 → ⊥) → finishes {T = T} (reply.Pop (Err pop_error.Closed)) ≡ after_pop (Err w)
   pop_shut none shut = let e : clear w 4 ≡ false = set _ shut in let f : clear w 2 ≡ true = unset _ none in rw (e, f) refl

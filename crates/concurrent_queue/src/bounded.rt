@@ -11,9 +11,9 @@
 //! steps keeps the mark, since it adds to the tail and never stores it.
 
 ghost use Rattle.std.specs.Prelude.{◌≡◌, ℕ, ◌<◌, ◌^◌, ◌*◌, ◌+◌, ◌-◌, ◌%◌, None, Some, if◌then◌else◌, bit_and};
-ghost use Rattle.concurrent_queue.specs.machine.RingWords.{cap_of, ring_mark, index, is_marked, unmarked, stride, next_word, count_of, between, shut_reply, pushed_reply, behind, stays, marks, finishes, push_load, push_shut, push_look, push_swap, push_put, push_store, push_head, force_head, force_add, force_take, force_put, force_store, pop_load, pop_look, pop_swap, pop_tail, pop_take, pop_store, close_step, ring_start, ask_is_closed, empty_load, empty_look, full_load, full_look, len_load, len_look, len_again, ring_step};
+ghost use Rattle.concurrent_queue.specs.machine.RingWords.{cap_of, ring_mark, index, is_marked, unmarked, stride, next_word, count_of, shut_reply, pushed_reply, stays, marks, finishes, ring_start};
 ghost use Rattle.concurrent_queue.specs.machine.RingMoves.{RingMakes};
-ghost use Rattle.concurrent_queue.specs.machine.Dispatch.{IsRingStep, ring_cap};
+ghost use Rattle.concurrent_queue.specs.machine.Dispatch.{ring_cap};
 ghost use Rattle.concurrent_queue.specs.Replies.{RingFollows, MaySend};
 
 pub(crate) mod ahead;

@@ -1,7 +1,7 @@
 //! A call of a queue, made one step at a time.
 
 ghost use Rattle.std.specs.Prelude.{◌≡◌};
-ghost use Rattle.concurrent_queue.specs.machine.Dispatch.{IsStateStep, in_single, in_ring, in_blocks, ended};
+ghost use Rattle.concurrent_queue.specs.machine.Dispatch.{in_single, in_ring, in_blocks, ended};
 ghost use Rattle.concurrent_queue.specs.Replies.{StateFollows};
 ghost use Rattle.concurrent_queue.specs.Walked.{StateMakes};
 
@@ -107,7 +107,7 @@ fn step_state<T: Drop, C: Cells<T>>(state: CallState<T>, cells: &mut C) -> Stepp
 
 impl<T: Drop> QueueCall<T> {
     ghost use Rattle.std.specs.Prelude.{◌≡◌};
-    ghost use Rattle.concurrent_queue.specs.Step.{Starts, IsQueueStep, mark_of};
+    ghost use Rattle.concurrent_queue.specs.Step.{Starts, mark_of};
     ghost use Rattle.concurrent_queue.specs.Replies.{Follows, IsAsking};
     ghost use Rattle.concurrent_queue.specs.Walked.{CallMakes, HasEnded};
 

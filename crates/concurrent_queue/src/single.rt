@@ -5,7 +5,7 @@
 //! taken but still being read tries again, since it may not answer that the queue is full.
 
 ghost use Rattle.std.specs.Prelude.{◌≡◌, ℕ};
-ghost use Rattle.concurrent_queue.specs.machine.Single.{single_step, close_step, push_step, force_step, pop_step, stays, marks, finishes, start};
+ghost use Rattle.concurrent_queue.specs.machine.Single.{stays, marks, finishes, start};
 ghost use Rattle.concurrent_queue.specs.Replies.{SingleFollows};
 ghost use Rattle.concurrent_queue.specs.machine.Single.{SingleMakes};
 

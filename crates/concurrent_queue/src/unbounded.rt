@@ -4,7 +4,7 @@
 ghost use Rattle.std.specs.Prelude.{◌≡◌, None};
 ghost use Rattle.concurrent_queue.specs.machine.BlocksMoves.{answer_as};
 ghost use Rattle.concurrent_queue.specs.machine.BlocksMakes.{BlocksMakes, ProgressMakes};
-ghost use Rattle.concurrent_queue.specs.machine.BlocksWords.{IsUnboundedStep, IsBlocksStep, begin, reply_of};
+ghost use Rattle.concurrent_queue.specs.machine.BlocksWords.{begin, reply_of};
 ghost use Rattle.concurrent_queue.specs.Replies.{EndFollows, BlocksFollows};
 
 pub(crate) mod action;
@@ -80,7 +80,6 @@ pub(crate) fn step<T: Drop, C: Cells<T>>(
     call: UnboundedCall<T>,
     cells: &mut C,
 ) -> Stepped<UnboundedCall<T>, T>
-    ensures form { C.form_of cells.new ≡ C.form_of cells.old }
     ensures answers { BlocksFollows call result }
     ensures deed { BlocksMakes C.did cells.old call cells.new result }
 {
@@ -108,7 +107,6 @@ fn answer<T: Drop>(displacing: bool, ending: Option<Ending<T>>) -> Option<QueueR
 
 /// One step of the machine that a push and a displacing push share, and of all others.
 fn step_unbounded<T: Drop, C: Cells<T>>(action: UnboundedAction<T>, cells: &mut C) -> Progress<T>
-    ensures form { C.form_of cells.new ≡ C.form_of cells.old }
     ensures ends { EndFollows action result }
     ensures deed { ProgressMakes C.did cells.old action cells.new result }
 {

@@ -3,8 +3,7 @@
 //! handed on. Over cells that threads share it is proved which answers they may give.
 
 ghost use Rattle.std.specs.Prelude.{ℕ, true, MatchResult};
-ghost use Rattle.concurrent_queue.specs.machine.Ahead.{MadeBy, PushesOnEnd, PopsOnEnd, PushesRing, PopsRing, PopsNothing};
-ghost use Rattle.concurrent_queue.specs.machine.RingWords.{ring_step};
+ghost use Rattle.concurrent_queue.specs.machine.Ahead.{PushesOnEnd, PopsOnEnd};
 ghost use Rattle.concurrent_queue.specs.machine.RingMoves.{RingMakes};
 ghost use Rattle.concurrent_queue.specs.Replies.{MayRing, MayPush, MayPop};
 ghost use Rattle.concurrent_queue.specs.declared.call.QueueReply.{QueueReply};

@@ -1,7 +1,6 @@
 //! The steps of a push and of a pop made on end, in the form of their queue.
 
 ghost use Rattle.std.specs.Prelude.{◌≡◌, MatchResult};
-ghost use Rattle.concurrent_queue.specs.machine.Ahead.{PushesAhead, PopsAhead};
 ghost use Rattle.concurrent_queue.specs.Replies.{MayCall, MayAnswer};
 ghost use Rattle.concurrent_queue.specs.Walked.{WalkedAhead, first_of, standing};
 ghost use Rattle.concurrent_queue.specs.declared.call.QueueAsk.TheVariants as ask;

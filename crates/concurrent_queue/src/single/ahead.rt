@@ -1,8 +1,8 @@
 //! The steps of a push and of a pop of one slot made on end, as `bounded::ahead` makes them of a ring.
 
 ghost use Rattle.std.specs.Prelude.{true, MatchResult};
-ghost use Rattle.concurrent_queue.specs.machine.Ahead.{MadeBy, PushesOnEnd, PopsOnEnd, PushesSingle, PopsSingle};
-ghost use Rattle.concurrent_queue.specs.machine.Single.{single_step, SingleMakes};
+ghost use Rattle.concurrent_queue.specs.machine.Ahead.{PushesOnEnd, PopsOnEnd};
+ghost use Rattle.concurrent_queue.specs.machine.Single.{SingleMakes};
 ghost use Rattle.concurrent_queue.specs.Replies.{MaySingle, MayPush, MayPop};
 ghost use Rattle.concurrent_queue.specs.declared.call.QueueReply.{QueueReply};
 ghost use Rattle.concurrent_queue.specs.declared.call.QueueReply.TheVariants as reply;

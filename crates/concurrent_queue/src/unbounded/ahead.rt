@@ -1,7 +1,7 @@
 //! The steps of a push and of a pop of an unbounded queue made on end, as `bounded::ahead` makes them of a ring.
 
 ghost use Rattle.std.specs.Prelude.{◌≡◌, ◌/◌, ◌%◌, ◌==◌, if◌then◌else◌, false, true, None, MatchResult};
-ghost use Rattle.concurrent_queue.specs.machine.Ahead.{ActionStep, PushesOnEnd, PopsOnEnd};
+ghost use Rattle.concurrent_queue.specs.machine.Ahead.{PushesOnEnd, PopsOnEnd};
 ghost use Rattle.concurrent_queue.specs.machine.BlocksMakes.{ActionMakes};
 ghost use Rattle.concurrent_queue.specs.Replies.{MayEnd, MayPush, Sends, Tells};
 ghost use Rattle.concurrent_queue.specs.declared.call.QueueAsk.TheVariants as ask;

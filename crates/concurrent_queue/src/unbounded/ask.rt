@@ -1,7 +1,7 @@
 //! Closing an unbounded queue, and its questions.
 
 ghost use Rattle.std.specs.Prelude.{◌≡◌, ℕ, None};
-ghost use Rattle.concurrent_queue.specs.machine.BlocksWords.{tells, close_tail, ask_tail, empty_load_head, empty_load_tail, len_load_tail, len_load_head, len_again};
+ghost use Rattle.concurrent_queue.specs.machine.BlocksWords.{tells};
 ghost use Rattle.concurrent_queue.specs.machine.BlocksMakes.{ProgressMakes};
 ghost use Rattle.concurrent_queue.specs.Replies.{EndFollows};
 
@@ -18,7 +18,6 @@ pub(crate) fn tell<T>(reply: QueueReply<T>) -> Progress<T>
 }
 
 pub(crate) fn close_load<T: Drop, C: Cells<T>>(cells: &mut C) -> Progress<T>
-    ensures form { C.form_of cells.new ≡ C.form_of cells.old }
     ensures ends { EndFollows UnboundedAction.Close result }
     ensures deed { ProgressMakes C.did cells.old UnboundedAction.Close cells.new result }
 {
@@ -35,7 +34,6 @@ pub(crate) fn close_load<T: Drop, C: Cells<T>>(cells: &mut C) -> Progress<T>
 }
 
 pub(crate) fn ask_closed<T: Drop, C: Cells<T>>(cells: &mut C) -> Progress<T>
-    ensures form { C.form_of cells.new ≡ C.form_of cells.old }
     ensures ends { EndFollows UnboundedAction.AskClosed result }
     ensures deed { ProgressMakes C.did cells.old UnboundedAction.AskClosed cells.new result }
 {
@@ -44,7 +42,6 @@ pub(crate) fn ask_closed<T: Drop, C: Cells<T>>(cells: &mut C) -> Progress<T>
 }
 
 pub(crate) fn ask_empty<T: Drop, C: Cells<T>>(cells: &mut C) -> Progress<T>
-    ensures form { C.form_of cells.new ≡ C.form_of cells.old }
     ensures ends { EndFollows UnboundedAction.AskEmpty result }
     ensures deed { ProgressMakes C.did cells.old UnboundedAction.AskEmpty cells.new result }
 {
@@ -53,7 +50,6 @@ pub(crate) fn ask_empty<T: Drop, C: Cells<T>>(cells: &mut C) -> Progress<T>
 }
 
 pub(crate) fn empty_tail<T: Drop, C: Cells<T>>(head: u64, cells: &mut C) -> Progress<T>
-    ensures form { C.form_of cells.new ≡ C.form_of cells.old }
     ensures ends { EndFollows (UnboundedAction.EmptyTail head) result }
     ensures deed { ProgressMakes C.did cells.old (UnboundedAction.EmptyTail head) cells.new result }
 {
@@ -62,7 +58,6 @@ pub(crate) fn empty_tail<T: Drop, C: Cells<T>>(head: u64, cells: &mut C) -> Prog
 }
 
 pub(crate) fn ask_len<T: Drop, C: Cells<T>>(cells: &mut C) -> Progress<T>
-    ensures form { C.form_of cells.new ≡ C.form_of cells.old }
     ensures ends { EndFollows UnboundedAction.AskLen result }
     ensures deed { ProgressMakes C.did cells.old UnboundedAction.AskLen cells.new result }
 {
@@ -71,7 +66,6 @@ pub(crate) fn ask_len<T: Drop, C: Cells<T>>(cells: &mut C) -> Progress<T>
 }
 
 pub(crate) fn len_head<T: Drop, C: Cells<T>>(tail: u64, cells: &mut C) -> Progress<T>
-    ensures form { C.form_of cells.new ≡ C.form_of cells.old }
     ensures ends { EndFollows (UnboundedAction.LenHead tail) result }
     ensures deed { ProgressMakes C.did cells.old (UnboundedAction.LenHead tail) cells.new result }
 {
@@ -80,7 +74,6 @@ pub(crate) fn len_head<T: Drop, C: Cells<T>>(tail: u64, cells: &mut C) -> Progre
 }
 
 pub(crate) fn len_tail<T: Drop, C: Cells<T>>(tail: u64, head: u64, cells: &mut C) -> Progress<T>
-    ensures form { C.form_of cells.new ≡ C.form_of cells.old }
     ensures ends { EndFollows (UnboundedAction.LenTail tail head) result }
     ensures deed { ProgressMakes C.did cells.old (UnboundedAction.LenTail tail head) cells.new result }
 {

@@ -2,7 +2,6 @@
 
 ghost use Rattle.std.specs.Prelude.{◌≡◌, ℕ};
 ghost use Rattle.concurrent_queue.specs.machine.BlocksState.{number};
-ghost use Rattle.concurrent_queue.specs.machine.BlocksWords.{load_head, look_head_block, look_tail, swap_head, load_next, store_head_block, store_head, wait_written, take_message, count_read, retire_block};
 ghost use Rattle.concurrent_queue.specs.machine.BlocksMakes.{ProgressMakes};
 ghost use Rattle.concurrent_queue.specs.Replies.{EndFollows};
 
@@ -20,7 +19,6 @@ pub(crate) fn number_of(p: u64) -> u64
 }
 
 pub(crate) fn pop_load<T: Drop, C: Cells<T>>(cells: &mut C) -> Progress<T>
-    ensures form { C.form_of cells.new ≡ C.form_of cells.old }
     ensures ends { EndFollows UnboundedAction.Pop result }
     ensures deed { ProgressMakes C.did cells.old UnboundedAction.Pop cells.new result }
 {
@@ -33,7 +31,6 @@ pub(crate) fn pop_load<T: Drop, C: Cells<T>>(cells: &mut C) -> Progress<T>
 }
 
 pub(crate) fn pop_look<T: Drop, C: Cells<T>>(head: u64, cells: &mut C) -> Progress<T>
-    ensures form { C.form_of cells.new ≡ C.form_of cells.old }
     ensures ends { EndFollows (UnboundedAction.PopLook head) result }
     ensures deed { ProgressMakes C.did cells.old (UnboundedAction.PopLook head) cells.new result }
 {
@@ -42,7 +39,6 @@ pub(crate) fn pop_look<T: Drop, C: Cells<T>>(head: u64, cells: &mut C) -> Progre
 }
 
 pub(crate) fn pop_tail<T: Drop, C: Cells<T>>(head: u64, block: u64, cells: &mut C) -> Progress<T>
-    ensures form { C.form_of cells.new ≡ C.form_of cells.old }
     ensures ends { EndFollows (UnboundedAction.PopTail head block) result }
     ensures deed { ProgressMakes C.did cells.old (UnboundedAction.PopTail head block) cells.new result }
 {
@@ -61,7 +57,6 @@ pub(crate) fn pop_tail<T: Drop, C: Cells<T>>(head: u64, block: u64, cells: &mut 
 }
 
 pub(crate) fn pop_swap<T: Drop, C: Cells<T>>(head: u64, block: u64, cells: &mut C) -> Progress<T>
-    ensures form { C.form_of cells.new ≡ C.form_of cells.old }
     ensures ends { EndFollows (UnboundedAction.PopSwap head block) result }
     ensures deed { ProgressMakes C.did cells.old (UnboundedAction.PopSwap head block) cells.new result }
 {
@@ -78,7 +73,6 @@ pub(crate) fn pop_swap<T: Drop, C: Cells<T>>(head: u64, block: u64, cells: &mut 
 }
 
 pub(crate) fn pop_next<T: Drop, C: Cells<T>>(head: u64, block: u64, cells: &mut C) -> Progress<T>
-    ensures form { C.form_of cells.new ≡ C.form_of cells.old }
     ensures ends { EndFollows (UnboundedAction.PopNext head block) result }
     ensures deed { ProgressMakes C.did cells.old (UnboundedAction.PopNext head block) cells.new result }
 {
@@ -96,7 +90,6 @@ pub(crate) fn pop_block<T: Drop, C: Cells<T>>(
     next: u64,
     cells: &mut C,
 ) -> Progress<T>
-    ensures form { C.form_of cells.new ≡ C.form_of cells.old }
     ensures ends { EndFollows (UnboundedAction.PopBlock head block next) result }
     ensures deed { ProgressMakes C.did cells.old (UnboundedAction.PopBlock head block next) cells.new result }
 {
@@ -105,7 +98,6 @@ pub(crate) fn pop_block<T: Drop, C: Cells<T>>(
 }
 
 pub(crate) fn pop_head<T: Drop, C: Cells<T>>(head: u64, block: u64, cells: &mut C) -> Progress<T>
-    ensures form { C.form_of cells.new ≡ C.form_of cells.old }
     ensures ends { EndFollows (UnboundedAction.PopHead head block) result }
     ensures deed { ProgressMakes C.did cells.old (UnboundedAction.PopHead head block) cells.new result }
 {
@@ -114,7 +106,6 @@ pub(crate) fn pop_head<T: Drop, C: Cells<T>>(head: u64, block: u64, cells: &mut 
 }
 
 pub(crate) fn pop_wait<T: Drop, C: Cells<T>>(head: u64, block: u64, cells: &mut C) -> Progress<T>
-    ensures form { C.form_of cells.new ≡ C.form_of cells.old }
     ensures ends { EndFollows (UnboundedAction.PopWait head block) result }
     ensures deed { ProgressMakes C.did cells.old (UnboundedAction.PopWait head block) cells.new result }
 {
@@ -126,7 +117,6 @@ pub(crate) fn pop_wait<T: Drop, C: Cells<T>>(head: u64, block: u64, cells: &mut 
 }
 
 pub(crate) fn pop_take<T: Drop, C: Cells<T>>(head: u64, block: u64, cells: &mut C) -> Progress<T>
-    ensures form { C.form_of cells.new ≡ C.form_of cells.old }
     ensures ends { EndFollows (UnboundedAction.PopTake head block) result }
     ensures deed { ProgressMakes C.did cells.old (UnboundedAction.PopTake head block) cells.new result }
 {
@@ -142,7 +132,6 @@ pub(crate) fn pop_count<T: Drop, C: Cells<T>>(
     value: T,
     cells: &mut C,
 ) -> Progress<T>
-    ensures form { C.form_of cells.new ≡ C.form_of cells.old }
     ensures ends { EndFollows (UnboundedAction.PopCount head block value) result }
     ensures deed { ProgressMakes C.did cells.old (UnboundedAction.PopCount head block value) cells.new result }
 {
@@ -154,7 +143,6 @@ pub(crate) fn pop_count<T: Drop, C: Cells<T>>(
 }
 
 pub(crate) fn pop_retire<T: Drop, C: Cells<T>>(block: u64, value: T, cells: &mut C) -> Progress<T>
-    ensures form { C.form_of cells.new ≡ C.form_of cells.old }
     ensures ends { (h : ℕ) → EndFollows (UnboundedAction.PopRetire h block value) result }
     ensures deed { (h : ℕ) → ProgressMakes C.did cells.old (UnboundedAction.PopRetire h block value) cells.new result }
 {

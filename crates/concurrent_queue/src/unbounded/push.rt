@@ -1,7 +1,7 @@
 //! The steps of a push into an unbounded queue.
 
 ghost use Rattle.std.specs.Prelude.{◌≡◌, ℕ};
-ghost use Rattle.concurrent_queue.specs.machine.BlocksWords.{load_tail, shut_tail, give_back, look_with, look_first, when_shut, look_tail_block, Obtains, swap_first, start_head, after_swap, swap_tail, turn_tail_block, add_tail, link_next, put_message, after_store, store_written, give_spare};
+ghost use Rattle.concurrent_queue.specs.machine.BlocksWords.{look_with, look_first, when_shut, after_swap};
 ghost use Rattle.concurrent_queue.specs.machine.BlocksMakes.{ProgressMakes};
 ghost use Rattle.concurrent_queue.specs.Replies.{EndFollows, MayEnd, Sends};
 
@@ -68,7 +68,6 @@ pub(crate) fn push_load<T: Drop, C: Cells<T>>(
     held: Option<u64>,
     cells: &mut C,
 ) -> Progress<T>
-    ensures form { C.form_of cells.new ≡ C.form_of cells.old }
     ensures ends { EndFollows (UnboundedAction.Push value held) result }
     ensures deed { ProgressMakes C.did cells.old (UnboundedAction.Push value held) cells.new result }
 {
@@ -89,7 +88,6 @@ pub(crate) fn push_shut<T: Drop, C: Cells<T>>(
     held: Option<u64>,
     cells: &mut C,
 ) -> Progress<T>
-    ensures form { C.form_of cells.new ≡ C.form_of cells.old }
     ensures ends { EndFollows (UnboundedAction.PushShut value held) result }
     ensures deed { ProgressMakes C.did cells.old (UnboundedAction.PushShut value held) cells.new result }
 {
@@ -107,7 +105,6 @@ pub(crate) fn push_shut<T: Drop, C: Cells<T>>(
 }
 
 pub(crate) fn push_return<T: Drop, C: Cells<T>>(value: T, held: u64, cells: &mut C) -> Progress<T>
-    ensures form { C.form_of cells.new ≡ C.form_of cells.old }
     ensures ends { EndFollows (UnboundedAction.PushReturn value held) result }
     ensures deed { ProgressMakes C.did cells.old (UnboundedAction.PushReturn value held) cells.new result }
 {
@@ -121,7 +118,6 @@ pub(crate) fn push_look<T: Drop, C: Cells<T>>(
     held: Option<u64>,
     cells: &mut C,
 ) -> Progress<T>
-    ensures form { C.form_of cells.new ≡ C.form_of cells.old }
     ensures ends { EndFollows (UnboundedAction.PushLook value tail held) result }
     ensures deed { ProgressMakes C.did cells.old (UnboundedAction.PushLook value tail held) cells.new result }
 {
@@ -134,7 +130,6 @@ pub(crate) fn push_look<T: Drop, C: Cells<T>>(
 }
 
 pub(crate) fn push_make<T: Drop, C: Cells<T>>(value: T, tail: u64, cells: &mut C) -> Progress<T>
-    ensures form { C.form_of cells.new ≡ C.form_of cells.old }
     ensures ends { EndFollows (UnboundedAction.PushMake value tail) result }
     ensures deed { ProgressMakes C.did cells.old (UnboundedAction.PushMake value tail) cells.new result }
 {
@@ -150,7 +145,6 @@ pub(crate) fn push_more<T: Drop, C: Cells<T>>(
     block: u64,
     cells: &mut C,
 ) -> Progress<T>
-    ensures form { C.form_of cells.new ≡ C.form_of cells.old }
     ensures ends { EndFollows (UnboundedAction.PushMore value tail block) result }
     ensures deed { ProgressMakes C.did cells.old (UnboundedAction.PushMore value tail block) cells.new result }
 {
@@ -166,7 +160,6 @@ pub(crate) fn push_first<T: Drop, C: Cells<T>>(
     held: u64,
     cells: &mut C,
 ) -> Progress<T>
-    ensures form { C.form_of cells.new ≡ C.form_of cells.old }
     ensures ends { EndFollows (UnboundedAction.PushFirst value tail held) result }
     ensures deed { ProgressMakes C.did cells.old (UnboundedAction.PushFirst value tail held) cells.new result }
 {
@@ -182,7 +175,6 @@ pub(crate) fn push_start<T: Drop, C: Cells<T>>(
     block: u64,
     cells: &mut C,
 ) -> Progress<T>
-    ensures form { C.form_of cells.new ≡ C.form_of cells.old }
     ensures ends { EndFollows (UnboundedAction.PushStart value tail block) result }
     ensures deed { ProgressMakes C.did cells.old (UnboundedAction.PushStart value tail block) cells.new result }
 {
@@ -197,7 +189,6 @@ pub(crate) fn push_swap<T: Drop, C: Cells<T>>(
     held: Option<u64>,
     cells: &mut C,
 ) -> Progress<T>
-    ensures form { C.form_of cells.new ≡ C.form_of cells.old }
     ensures ends { EndFollows (UnboundedAction.PushSwap value tail block held) result }
     ensures deed { ProgressMakes C.did cells.old (UnboundedAction.PushSwap value tail block held) cells.new result }
 {
@@ -214,7 +205,6 @@ pub(crate) fn push_turn<T: Drop, C: Cells<T>>(
     next: u64,
     cells: &mut C,
 ) -> Progress<T>
-    ensures form { C.form_of cells.new ≡ C.form_of cells.old }
     ensures ends { EndFollows (UnboundedAction.PushTurn value tail block next) result }
     ensures deed { ProgressMakes C.did cells.old (UnboundedAction.PushTurn value tail block next) cells.new result }
 {
@@ -229,7 +219,6 @@ pub(crate) fn push_add<T: Drop, C: Cells<T>>(
     next: u64,
     cells: &mut C,
 ) -> Progress<T>
-    ensures form { C.form_of cells.new ≡ C.form_of cells.old }
     ensures ends { EndFollows (UnboundedAction.PushAdd value tail block next) result }
     ensures deed { ProgressMakes C.did cells.old (UnboundedAction.PushAdd value tail block next) cells.new result }
 {
@@ -244,7 +233,6 @@ pub(crate) fn push_link<T: Drop, C: Cells<T>>(
     next: u64,
     cells: &mut C,
 ) -> Progress<T>
-    ensures form { C.form_of cells.new ≡ C.form_of cells.old }
     ensures ends { EndFollows (UnboundedAction.PushLink value tail block next) result }
     ensures deed { ProgressMakes C.did cells.old (UnboundedAction.PushLink value tail block next) cells.new result }
 {
@@ -259,7 +247,6 @@ pub(crate) fn push_put<T: Drop, C: Cells<T>>(
     held: Option<u64>,
     cells: &mut C,
 ) -> Progress<T>
-    ensures form { C.form_of cells.new ≡ C.form_of cells.old }
     ensures ends { EndFollows (UnboundedAction.PushPut value tail block held) result }
     ensures deed { ProgressMakes C.did cells.old (UnboundedAction.PushPut value tail block held) cells.new result }
 {
@@ -275,7 +262,6 @@ pub(crate) fn push_store<T: Drop, C: Cells<T>>(
     held: Option<u64>,
     cells: &mut C,
 ) -> Progress<T>
-    ensures form { C.form_of cells.new ≡ C.form_of cells.old }
     ensures ends { EndFollows (UnboundedAction.PushStore tail block held) result }
     ensures deed { ProgressMakes C.did cells.old (UnboundedAction.PushStore tail block held) cells.new result }
 {
@@ -287,7 +273,6 @@ pub(crate) fn push_store<T: Drop, C: Cells<T>>(
 }
 
 pub(crate) fn push_give<T: Drop, C: Cells<T>>(held: u64, cells: &mut C) -> Progress<T>
-    ensures form { C.form_of cells.new ≡ C.form_of cells.old }
     ensures ends { EndFollows (UnboundedAction.PushGive held) result }
     ensures deed { ProgressMakes C.did cells.old (UnboundedAction.PushGive held) cells.new result }
 {

@@ -1,9 +1,5 @@
-use Rattle.std.proofs.Common.{◌≡◌, sym, subst, ap, rules, ◌∙◌}
-use Rattle.concurrent_queue.specs.declared.cells.QueueForm.TheVariants.{Bounded, Unbounded}
-use Rattle.concurrent_queue.specs.declared.cells.QueueForm.{QueueForm}
-use Rattle.concurrent_queue.specs.declared.unbounded.action.UnboundedCall.{UnboundedCall}
-use Rattle.concurrent_queue.specs.machine.Dispatch.{IsFirstStep}
-use Rattle.concurrent_queue.specs.machine.BlocksWords.{IsBlocksStep}
+use Rattle.std.proofs.Common.{◌≡◌, sym, ap, rules, ◌∙◌}
+use Rattle.concurrent_queue.specs.declared.cells.QueueForm.TheVariants.{Bounded}
 use Rattle.concurrent_queue.proofs.ReplyFacts.{single_wrapped, ring_wrapped, blocks_wrapped}
 use Rattle.concurrent_queue.proofs.queue_call.first_step.Goals as goal
 

@@ -1,10 +1,7 @@
 use Rattle.std.proofs.Common.{◌≡◌, rules, subst, sym}
-use Rattle.concurrent_queue.specs.machine.Dispatch.{IsStateStep}
 use Rattle.concurrent_queue.specs.Replies.{StateFollows}
 use Rattle.concurrent_queue.specs.Walked.{StateMakes}
-use Rattle.concurrent_queue.specs.Step.{IsQueueStep}
 use Rattle.concurrent_queue.specs.declared.queue_call.CallState.{CallState}
-use Rattle.concurrent_queue.proofs.FitsFacts.{is_queue_step}
 use Rattle.concurrent_queue.proofs.queue_call.QueueCall.step.Goals as goal
 
 pub returns-clause-answers : goal.returns-clause-answers

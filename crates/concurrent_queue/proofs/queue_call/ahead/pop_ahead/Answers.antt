@@ -5,7 +5,6 @@ use Rattle.concurrent_queue.specs.declared.call.QueueReply.TheVariants as reply
 use Rattle.concurrent_queue.specs.declared.cells.QueueForm.TheVariants.{Bounded}
 use Rattle.concurrent_queue.specs.declared.unbounded.action.UnboundedAction.TheVariants as blocks
 use Rattle.concurrent_queue.proofs.Evidence.{ne_of}
-use Rattle.concurrent_queue.proofs.AheadFacts.{ring_pop_ahead}
 use Rattle.concurrent_queue.proofs.queue_call.ahead.pop_ahead.Goals as goal
 
 pub returns-in-Ok-clause-deeds : goal.returns-in-Ok-clause-deeds

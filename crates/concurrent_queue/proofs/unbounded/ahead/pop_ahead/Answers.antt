@@ -1,11 +1,9 @@
-use Rattle.std.proofs.Common.{◌+◌, ◌-◌, ◌%◌, ◌^◌, ◌∙◌, sym, subst, ap, refl, Ok, Err}
-use Rattle.concurrent_queue.specs.machine.Ahead.{ActionStep, PopsOnEnd}
+use Rattle.std.proofs.Common.{◌-◌, ◌∙◌, sym, subst, Ok, Err}
+use Rattle.concurrent_queue.specs.machine.Ahead.{PopsOnEnd}
 use Rattle.concurrent_queue.specs.machine.BlocksMakes.{ActionMakes}
-use Rattle.concurrent_queue.specs.declared.cells.Word.TheVariants.{Head}
 use Rattle.concurrent_queue.specs.declared.unbounded.action.UnboundedAction.TheVariants as act
 use Rattle.concurrent_queue.proofs.BlocksDeeds as deed
 use Rattle.concurrent_queue.proofs.RingDeeds.{pops_after, pops_stand}
-use Rattle.concurrent_queue.proofs.BlocksAhead.{exchanged, head_loaded, head_block, message_there, nothing_there, message_won, last_taken, next_found, block_left, head_moved}
 use Rattle.concurrent_queue.proofs.unbounded.ahead.pop_ahead.Goals.{then-offset-eq30+else-next-eq0, else-offset-eq30}
 use Rattle.concurrent_queue.proofs.unbounded.ahead.pop_ahead.Goals as goal
 

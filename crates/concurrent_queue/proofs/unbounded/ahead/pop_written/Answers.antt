@@ -1,12 +1,10 @@
-use Rattle.std.proofs.Common.{◌∙◌, ap, refl, sym, subst, Ok, Err}
+use Rattle.std.proofs.Common.{sym, subst, Ok, Err}
 use Rattle.concurrent_queue.specs.Deeds.{added, retired}
-use Rattle.concurrent_queue.specs.machine.Ahead.{ActionStep}
 use Rattle.concurrent_queue.specs.machine.BlocksMakes.{ActionMakes}
 use Rattle.concurrent_queue.specs.declared.cells.Word.TheVariants.{Reads}
 use Rattle.concurrent_queue.specs.declared.unbounded.action.UnboundedAction.TheVariants as act
 use Rattle.concurrent_queue.proofs.BlocksDeeds as deed
 use Rattle.concurrent_queue.proofs.RingDeeds.{pops_after, pops_stand}
-use Rattle.concurrent_queue.proofs.BlocksAhead.{written_found, message_taken, message_waited, read_counted, last_counted, block_retired}
 use Rattle.concurrent_queue.proofs.unbounded.ahead.pop_written.Goals.{then-fetch_add-eq30, else-fetch_add-eq30}
 use Rattle.concurrent_queue.proofs.unbounded.ahead.pop_written.Goals as goal
 

@@ -1,12 +1,8 @@
-use Rattle.std.proofs.Common.{◌+◌, ◌-◌, ◌/◌, ◌%◌, ◌^◌, ◌∙◌, sym, ap, refl, Ok, Err, None}
-use Rattle.concurrent_queue.specs.declared.cells.Word.TheVariants.{Tail}
-use Rattle.concurrent_queue.specs.declared.call.QueueMark.TheVariants.{Nothing}
+use Rattle.std.proofs.Common.{◌-◌, ◌/◌, ◌%◌, ◌∙◌, sym, refl, Ok, Err, None}
 use Rattle.concurrent_queue.specs.declared.unbounded.action.UnboundedAction.TheVariants as act
-use Rattle.concurrent_queue.specs.machine.Ahead.{ActionStep}
 use Rattle.concurrent_queue.specs.machine.BlocksMakes.{ActionMakes}
 use Rattle.concurrent_queue.proofs.BlocksDeeds as deed
 use Rattle.concurrent_queue.proofs.RingDeeds.{pushes_after, pushes_stand}
-use Rattle.concurrent_queue.proofs.BlocksAhead.{exchanged, tail_loaded, tail_closed, positions_end, no_block, block_found, last_found, place_won, brought, told}
 use Rattle.concurrent_queue.proofs.unbounded.ahead.push_ahead.Goals as goal
 
 pub returns-then-tail-eq1-clause-deeds : goal.returns-then-tail-eq1-clause-deeds

@@ -1,11 +1,8 @@
-use Rattle.std.proofs.Common.{◌+◌, ◌%◌, ◌^◌, ◌∙◌, sym, ap, refl, Ok, Err, Some, None}
-use Rattle.concurrent_queue.specs.declared.cells.Word.TheVariants.{Tail}
+use Rattle.std.proofs.Common.{◌∙◌, sym, Ok, Err, Some, None}
 use Rattle.concurrent_queue.specs.declared.unbounded.action.UnboundedAction.TheVariants as act
-use Rattle.concurrent_queue.specs.machine.Ahead.{ActionStep}
 use Rattle.concurrent_queue.specs.machine.BlocksMakes.{ActionMakes}
 use Rattle.concurrent_queue.proofs.BlocksDeeds as deed
 use Rattle.concurrent_queue.proofs.RingDeeds.{pushes_after, pushes_stand}
-use Rattle.concurrent_queue.proofs.BlocksAhead.{exchanged, not_exchanged, block_got, block_refused, last_won, last_lost, turned, added, linked, brought, told}
 use Rattle.concurrent_queue.proofs.unbounded.ahead.push_last.Goals as goal
 
 pub returns-then-is_err-clause-deeds : goal.returns-then-is_err-clause-deeds
