@@ -1,6 +1,6 @@
 //! The steps of a push and of a pop of a ring made on end, each of them atomic; what is saved is the choice of the next action
-//! at each of them. Over cells of one owner they are proved to be steps of the machine, to the answer or to the action that is
-//! handed on. Over cells that threads share it is proved which answers they may give.
+//! at each of them. Over cells of any kind they are proved to be steps of the machine, to the answer or to the action that is
+//! handed on, and it is proved which answers they may give.
 
 ghost use Rattle.std.specs.Prelude.{ℕ, true, MatchResult};
 ghost use Rattle.concurrent_queue.specs.machine.Ahead.{PushesOnEnd, PopsOnEnd};
