@@ -1,12 +1,11 @@
 //! A call of a channel, which is made one step at a time.
 
 ghost use Rattle.std.specs.Prelude.{◌≡◌, true, Some};
-ghost use Rattle.channel_calls.specs.Moves.{IsChannelStep, IsNewCall};
+ghost use Rattle.channel_calls.specs.Moves.{IsNewCall};
 ghost use Rattle.channel_calls.specs.Replies.{FollowsStage};
 ghost use Rattle.channel_calls.specs.Marks.{is_up};
 ghost use Rattle.channel_calls.specs.Deeds.{Done};
 ghost use Rattle.channel_calls.specs.Walks.{ChannelMakes, Takes};
-ghost use Rattle.concurrent_queue.specs.Replies.{is_bounded};
 ghost use Rattle.concurrent_queue.specs.declared.cells.QueueForm.{QueueForm};
 
 use crate::ask::ChannelAsk;
@@ -59,7 +58,6 @@ impl<T: Drop, W: Drop> ChannelCall<T, W> {
         sink: &mut S,
     ) -> Option<Reply<T>>
         ensures deed { ChannelMakes (Done C.did S.wakes) self.old.stage (cells.old, sink.old) (cells.new, sink.new) self.new.mark self.new.stage result }
-        ensures steps { C.known → IsChannelStep S.wakes (C.parts cells.old) self.old.stage sink.old (C.parts cells.new) self.new.stage self.new.mark result sink.new }
         ensures answers { (f : QueueForm) → C.has_form cells.old f → FollowsStage f self.old.stage self.new.stage result }
         ensures form { (f : QueueForm) → C.has_form cells.old f → C.has_form cells.new f }
         ensures raises { is_up self.new.mark ≡ true → result ≡ Some Reply.Made }
