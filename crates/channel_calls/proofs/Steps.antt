@@ -31,7 +31,7 @@ use Rattle.channel_calls.specs.declared.stage.Work.TheVariants.{TellReceive, Tel
 use Rattle.channel_calls.specs.Deeds.{Deed, Done}
 use Rattle.channel_calls.specs.Effects.{Does, OnList}
 use Rattle.channel_calls.specs.Marks.{mark_of_queue, up, down}
-use Rattle.channel_calls.specs.Parts.{Parts, Roster, Listeners, with_cells, with_roster, listeners, with_listeners, count, with_count, is_raised, told_one, told_one_wakes, told_more, told_more_wakes, told_all, told_all_wakes, waits}
+use Rattle.channel_calls.specs.Parts.{Parts, Roster, Listeners, with_cells, with_roster, listeners, count, with_count, is_raised, told_one, told_one_wakes, told_more, told_more_wakes, told_all, told_all_wakes, waits}
 use Rattle.channel_calls.specs.Turns.{line_of, leaving, nothing_kept, ends_by, again, unlistened, pends_by, told_all_next, TakesRoom, lowered_next, loaded_next, raised_next}
 use Rattle.channel_calls.specs.Answered.{answered_next}
 use Rattle.channel_calls.specs.Moves.{Channel, Effect, channel, queued, untouched, on_line, on_count, leaves, Turned, TakesRoomFor, Worked, seats, phase, OnePlace, IsTaken, IsStepOver, IsChannelStep}
