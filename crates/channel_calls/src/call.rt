@@ -47,7 +47,8 @@ impl<T: Drop, W: Drop> ChannelCall<T, W> {
     /// Makes the next step. Tasks that it wakes go to the sink in order. It gives the reply with the call's last step,
     /// and does nothing after that.
     ///
-    /// Over any cells it does the one deed that the call's machine does at this stage, and goes by its answer. Over cells whose
+    /// Over any cells it does the one deed that the call's machine does at this stage, and goes by its answer. Where the contents
+    /// are known that deed is its whole effect on them, and so it is one step whatever other calls are under way. Over cells whose
     /// contents are unknown, what may be answered after the step, and what it answers, might have been
     /// answered before it. Over any cells a step that counts one handle more is its call's last, and answers that it was made:
     /// a clone or an upgrade that is refused has counted none.
