@@ -36,6 +36,8 @@ impl<'a, T: Drop, R: Wait, B: Drop> ChannelCells<T, Task> for SharedCells<'a, T,
 
     ghost did = { λ d before now. Answers d };
 
+    ghost exact = { λ unknown. absurd unknown };
+
     // The steps of the queue's call up to its answer, one after another: nothing else of the channel's call comes between
     // them, while the steps of other threads may. The call is given away for it, so one that has answered stands in its place.
     #[inline(always)]

@@ -86,6 +86,8 @@ impl<'a, R: Wait> ChannelCells<u64, u32> for Beside<'a, R> {
 
     ghost has_form = { λ c f. f ≡ c.queue.form };
 
+    ghost exact = { λ unknown. absurd unknown };
+
     fn step_queue(&mut self, call: &mut QueueCall<u64>) -> Option<QueueReply<u64>> {
         let whole = mem::replace(call, QueueCall::ended());
         Some(self.queue.complete(self.rt, whole))

@@ -30,6 +30,8 @@ impl ChannelCells<u64, u32> for Crowded {
 
     ghost parts = { λ c. no_parts Unbounded };
 
+    ghost exact = { λ unknown. absurd unknown };
+
     fn step_queue(&mut self, _call: &mut QueueCall<u64>) -> Option<QueueReply<u64>> {
         Some(QueueReply::Flag(false))
     }

@@ -1,9 +1,7 @@
--- Steps of a channel's call that are made on end, from what the queue and the lists promise of each.
-use Rattle.std.proofs.Common.{◌≡◌, refl, subst, [], Option, None, Some, Ok, Err, Result, MatchResult}
+-- Steps of a channel's call that are made on end: what they may answer, and that they leave nothing.
+use Rattle.std.proofs.Common.{◌≡◌, refl, subst, Option, None, Some, Ok, Err, Result, MatchResult}
 use Rattle.concurrent_queue.specs.Replies.{IsAsking, MayCall}
-use Rattle.concurrent_queue.specs.Step.{Starts}
 use Rattle.concurrent_queue.specs.declared.cells.QueueForm.{QueueForm}
-use Rattle.concurrent_queue.specs.declared.call.QueueAsk.{QueueAsk}
 use Rattle.concurrent_queue.specs.declared.call.QueueAsk.TheVariants as ask
 use Rattle.concurrent_queue.specs.declared.call.QueueReply.{QueueReply}
 use Rattle.concurrent_queue.specs.declared.call.QueueReply.TheVariants.{Push, Force, Pop, Close, Flag, Count, Cap}
@@ -14,21 +12,17 @@ use Rattle.concurrent_queue.specs.declared.queue_call.QueueCall.{QueueCall}
 use Rattle.channel_calls.specs.declared.ask.ChannelAsk.{ChannelAsk}
 use Rattle.channel_calls.specs.declared.ask.ChannelAsk.TheVariants as call
 use Rattle.channel_calls.specs.declared.call.ChannelCall.{ChannelCall}
-use Rattle.channel_calls.specs.declared.mark.Mark.{Mark}
 use Rattle.channel_calls.specs.declared.reply.Reply.{Reply}
 use Rattle.channel_calls.specs.declared.stage.Aim.{Aim}
 use Rattle.channel_calls.specs.declared.stage.Aim.TheVariants as aim
 use Rattle.channel_calls.specs.declared.stage.Stage.{Stage}
 use Rattle.channel_calls.specs.declared.stage.Stage.TheVariants.{Trying, Finished}
 use Rattle.channel_calls.specs.declared.stage.Turn.{Turn}
-use Rattle.channel_calls.specs.declared.stage.Turn.TheVariants.{Tries}
-use Rattle.channel_calls.specs.Ahead.{IsMadeOnEnd}
 use Rattle.channel_calls.specs.Asks.{kept_by}
 use Rattle.channel_calls.specs.Answered.{sent_next, received_next}
-use Rattle.channel_calls.specs.Moves.{IsTaken, IsStepOver}
-use Rattle.channel_calls.specs.Parts.{Parts}
 use Rattle.channel_calls.specs.Replies.{FollowsTurn, FollowsStage, MayEnd, MayGive}
 use Rattle.channel_calls.specs.Turns.{nothing_kept}
+use Rattle.channel_calls.specs.Walks.{Takes}
 
 module _ {T : Type 0} (W : Type 0) (f : QueueForm) (one : QueueCall T) where
   pub sends : (v : T) → IsAsking one (ask.Push v) → (r : Reply T) (m : Option T) → MayEnd {W = W} f (Trying one aim.TrySend) r m → MayGive {W = W} f (call.TrySend v) r m
@@ -40,7 +34,7 @@ module _ {T : Type 0} (W : Type 0) (f : QueueForm) (one : QueueCall T) where
 module _ {T W : Type 0} where
   -- a turn that answers leaves nothing
   abbrev pub KeepsNothing : Turn T W → Type 0
-  KeepsNothing turn = (r : Reply T) (s : Stage (QueueCall T) T W) → IsTaken turn (Some r) s → s ≡ Finished nothing_kept
+  KeepsNothing turn = (r : Reply T) (s : Stage (QueueCall T) T W) → Takes turn s (Some r) → s ≡ Finished nothing_kept
 
   pub sent_keeps : (y : QueueReply T) → KeepsNothing (sent_next y)
   sent_keeps (Push (Ok u)) r s t = let e = t.0 in cc
@@ -66,13 +60,13 @@ module _ {T W : Type 0} where
   received_keeps (Cap y) r s t = t.1
 
   pub keeps_by : (turn turn0 : Turn T W) → turn ≡ turn0 → KeepsNothing turn0 → KeepsNothing turn
-  keeps_by turn turn0 e h r s t = h r s (subst (λ (x : Turn T W). IsTaken x (Some r) s) e t)
+  keeps_by turn turn0 e h r s t = h r s (subst (λ (x : Turn T W). Takes x s (Some r)) e t)
 
   -- what `turned` says of a call after its turn
   abbrev pub Turned : Turn T W → Result (Reply T) (ChannelCall T W) → Type 0
   Turned turn result =
-      MatchResult result (λ r. (s : Stage (QueueCall T) T W) × IsTaken turn (Some r) s × ((b : QueueForm) → FollowsTurn b turn s (Some r)))
-      (λ call. IsTaken turn None call.stage × ((b : QueueForm) → FollowsTurn b turn call.stage None))
+      MatchResult result (λ r. (s : Stage (QueueCall T) T W) × Takes turn s (Some r) × ((b : QueueForm) → FollowsTurn b turn s (Some r)))
+      (λ call. Takes turn call.stage None × ((b : QueueForm) → FollowsTurn b turn call.stage None))
 
   -- what may be given to a call that is made on end
   abbrev pub GivesOnEnd : QueueForm → ChannelAsk T W → Result (Reply T) (ChannelCall T W) → Type 0
@@ -85,18 +79,3 @@ module _ {T W : Type 0} where
     gives_by turn (Ok r) (s, taken, follows) keeps through =
         gives r None (subst (λ (t : Stage (QueueCall T) T W). MayEnd f (Trying one x) r (kept_by t).message) (keeps r s taken) (through s (Some r) (follows f)))
     gives_by turn (Err left) (taken, follows) keeps through = λ r m may. gives r m (through left.stage None (follows f) r m may)
-
-module _ {T W S : Type 0} (wakes : S → W → S → Type 0) (p p' : Parts T W) (k : S) (a : QueueAsk T) (x : Aim T W) (one : QueueCall T) (starts : Starts one a) (m : Mark) where
-  -- the queue's call goes on
-  pub goes_on : (left : ChannelCall T W) → IsStepOver p (Trying one x) [] p' left.stage m None → IsMadeOnEnd wakes (Tries a x) p k (Err left) p' k
-  goes_on left step = (Trying one x, (one, starts, refl, refl), (1, (p', left.stage, k, m, ([], refl, step), (refl, refl, refl))))
-
-  -- it answers, and the call answers with it or goes on
-  pub answers_by : (turn : Turn T W) (result : Result (Reply T) (ChannelCall T W)) → Turned turn result → KeepsNothing turn
-      → ((r : Option (Reply T)) (s : Stage (QueueCall T) T W) → IsTaken turn r s → IsStepOver p (Trying one x) [] p' s m r) → IsMadeOnEnd wakes (Tries a x) p k result p' k
-  answers_by turn (Ok r) (s, taken, follows) keeps step =
-      let last : IsStepOver p (Trying one x) [] p' (Finished nothing_kept) m (Some r) =
-      subst (λ (t : Stage (QueueCall T) T W). IsStepOver p (Trying one x) [] p' t m (Some r)) (keeps r s taken) (step (Some r) s taken)
-      in
-      (Trying one x, (one, starts, refl, refl), (0, (p, Trying one x, k, m, (refl, refl, refl), ([], refl, last))))
-  answers_by turn (Err left) (taken, follows) keeps step = goes_on left (step None left.stage taken)

@@ -38,11 +38,11 @@ use Rattle.channel_calls.specs.declared.stage.Work.TheVariants as work
 use Rattle.channel_calls.specs.declared.ask.ChannelAsk.{ChannelAsk}
 use Rattle.channel_calls.specs.declared.ask.ChannelAsk.TheVariants as call
 use Rattle.channel_calls.specs.Asks.{asks_listener, first, kept_by}
-use Rattle.channel_calls.specs.Moves.{IsTaken}
 use Rattle.event_listener.specs.declared.error.ListenError.{ListenError}
 use Rattle.event_listener.specs.declared.error.ListenError.TheVariants as listen_error
 use Rattle.concurrent_queue.specs.Replies.{Follows, is_bounded}
 use Rattle.concurrent_queue.specs.declared.cells.QueueForm.{QueueForm}
+use Rattle.channel_calls.specs.Walks.{Takes}
 use Rattle.channel_calls.specs.Turns.{most, again, ends_by, closer_ending, nothing_kept, told_all_next, room_next, TakesRoom, counted_next, loaded_next, raised_next, pends_by, unlistened}
 use Rattle.channel_calls.specs.Answered.{sent_next, forced_next, received_next, hands_out, gathered_next, short_next, several_next, send_next, receive_next, stream_next, closing_next, closed_next, asked_next, terminated_next, upgraded_next, answered_next}
 use Rattle.channel_calls.specs.Replies.{MayGive, EndsBy, MayEnd, FollowsTurn, FollowsStage, IsCount, SendsAtOnce, ForcesIn, IsTryRecv, GivesUpTo, IsFlag, IsClosing, IsMaking, MayPoll, MayTell, MayTry, MayTurn}
@@ -439,10 +439,10 @@ module _ {T : Type 0} (W : Type 0) (b : QueueForm) where
   through turn turn' e stage s None h p = λ r m x. p r m (subst (λ (t : Turn T W). MayTurn b t r m) e (h r m x))
   through turn turn' e stage s (Some r) h p = p r (kept_by s).message (subst (λ (t : Turn T W). MayTurn b t r (kept_by s).message) e h)
 
-  pub begun : (turn turn' : Turn T W) → turn ≡ turn' → (o : Option (Reply T)) (s : Stage (QueueCall T) T W) → IsTaken turn o s → FollowsTurn b turn s o
+  pub begun : (turn turn' : Turn T W) → turn ≡ turn' → (o : Option (Reply T)) (s : Stage (QueueCall T) T W) → Takes turn s o → FollowsTurn b turn s o
       → (r : Reply T) (m : Option T) → MayEnd b s r m → MayTurn b turn' r m
   begun (Tries a x) turn' e o s taken h r m w =
-      subst (λ (t : Turn T W). MayTurn b t r m) e (subst (λ (z : Option (Reply T)). FollowsTurn b (Tries a x) s z) taken.2 h r m w)
+      subst (λ (t : Turn T W). MayTurn b t r m) e (subst (λ (z : Option (Reply T)). FollowsTurn b (Tries a x) s z) taken.3 h r m w)
   begun (Works x) turn' e o s taken h r m w =
       subst (λ (t : Turn T W). MayTurn b t r m) e (subst (λ (z : Option (Reply T)). FollowsTurn b (Works x) s z) taken.0 h r m w)
   begun (Ends x kept) turn' e o s taken h r m w = absurd (subst (λ (z : Stage (QueueCall T) T W). MayEnd b z r m) taken.1 w)

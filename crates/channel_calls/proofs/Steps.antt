@@ -1,15 +1,16 @@
--- A step of a channel's call, from what its queue and its lists promise.
-use Rattle.std.proofs.Common.{◌≡◌, ℕ, ◌+◌, Bool, true, false, if◌then◌else◌, List, [], ◌++◌, Option, None, Some, inl, inr, refl, sym, ap, ◌∙◌, subst}
+-- One step of a call's machine over parts of a channel that change just as each deed says: it is the step of the contract.
+use Rattle.std.proofs.Common.{◌≡◌, ℕ, ◌+◌, ◌-◌, Bool, true, false, if◌then◌else◌, List, [], ◌++◌, Option, None, Some, Ok, Err, inl, inr, refl, sym, ap, ◌∙◌, subst}
 use Rattle.concurrent_queue.specs.Contents.{Contents}
 use Rattle.concurrent_queue.specs.Queue.{Queue, Phase, after, asked}
 use Rattle.concurrent_queue.specs.Step.{Seat, Fits, mark_of, IsQueueStep}
 use Rattle.concurrent_queue.specs.declared.queue_call.QueueCall.{QueueCall}
 use Rattle.concurrent_queue.specs.declared.call.QueueReply.{QueueReply}
-use Rattle.event_listener.specs.Lists.{kind_of, listened, registration, removed, removed_wakes}
-use Rattle.event_listener.specs.declared.error.ListenError.{ListenError}
+use Rattle.event_listener.specs.Lists.{listened, registration, removed, removed_wakes}
+use Rattle.event_listener.specs.Notices.{Woken}
 use Rattle.event_listener.specs.declared.key.Key.{Key}
+use Rattle.channel_calls.proofs.Walking.{taken_of}
 use Rattle.channel_calls.specs.declared.mark.Mark.{Mark}
-use Rattle.channel_calls.specs.declared.mark.Mark.TheVariants as mark
+use Rattle.channel_calls.specs.declared.mark.Mark.TheVariants.{Nothing}
 use Rattle.channel_calls.specs.declared.reply.Reply.{Reply}
 use Rattle.channel_calls.specs.declared.reply.Reply.TheVariants as reply
 use Rattle.channel_calls.specs.declared.stage.Aim.{Aim}
@@ -17,7 +18,7 @@ use Rattle.channel_calls.specs.declared.stage.Ending.{Ending}
 use Rattle.channel_calls.specs.declared.stage.Held.{Held}
 use Rattle.channel_calls.specs.declared.stage.Kept.{Kept}
 use Rattle.channel_calls.specs.declared.stage.Line.{Line}
-use Rattle.channel_calls.specs.declared.stage.Line.TheVariants as line
+use Rattle.channel_calls.specs.declared.stage.Line.TheVariants.{Sends, Receives, Streams}
 use Rattle.channel_calls.specs.declared.stage.Making.{Making}
 use Rattle.channel_calls.specs.declared.stage.Side.{Side}
 use Rattle.channel_calls.specs.declared.stage.Stage.{Stage}
@@ -26,12 +27,15 @@ use Rattle.channel_calls.specs.declared.stage.Turn.{Turn}
 use Rattle.channel_calls.specs.declared.stage.Turn.TheVariants.{Tries, Works, Ends}
 use Rattle.channel_calls.specs.declared.stage.Waiting.{Waiting}
 use Rattle.channel_calls.specs.declared.stage.Work.{Work}
-use Rattle.channel_calls.specs.declared.stage.Work.TheVariants.{TakeRoom, Insert, Register, Leave, Raise}
-use Rattle.channel_calls.specs.Marks.{mark_of_queue, up}
-use Rattle.channel_calls.specs.Parts.{Parts, Roster, Listeners, with_cells, with_roster, listeners, with_listeners, with_count, is_raised, waits}
-use Rattle.channel_calls.specs.Turns.{line_of, leaving, nothing_kept, again, pends_by, unlistened, room_next, roomless, TakesRoom, raised_next}
+use Rattle.channel_calls.specs.declared.stage.Work.TheVariants.{TellReceive, TellStreams, TellSend, TellSends, TakeRoom, TellAll, Insert, Register, Leave, Lower, Count, Load, Raise}
+use Rattle.channel_calls.specs.Deeds.{Deed, Done}
+use Rattle.channel_calls.specs.Effects.{Does, OnList}
+use Rattle.channel_calls.specs.Marks.{mark_of_queue, up, down}
+use Rattle.channel_calls.specs.Parts.{Parts, Roster, Listeners, with_cells, with_roster, listeners, count, with_count, is_raised, told_one, told_one_wakes, told_more, told_more_wakes, told_all, told_all_wakes, waits}
+use Rattle.channel_calls.specs.Turns.{line_of, leaving, nothing_kept, ends_by, again, unlistened, pends_by, told_all_next, TakesRoom, lowered_next, loaded_next, raised_next}
 use Rattle.channel_calls.specs.Answered.{answered_next}
-use Rattle.channel_calls.specs.Moves.{Channel, Effect, channel, queued, untouched, on_line, on_count, leaves, Turned, Worked, seats, phase, OnePlace, IsTaken, IsStepOver, IsChannelStep}
+use Rattle.channel_calls.specs.Moves.{Channel, Effect, channel, queued, untouched, on_line, on_count, leaves, Turned, TakesRoomFor, Worked, seats, phase, OnePlace, IsTaken, IsStepOver, IsChannelStep}
+use Rattle.channel_calls.specs.Walks.{Marked, Heard, Leaves, WorkMakes, ChannelMakes}
 
 module _ {T W : Type 0} where
   -- a turn that was taken: over cells that fit the other calls, the new call of the queue fits beside them
@@ -46,7 +50,7 @@ module _ {T W : Type 0} where
         let same : seats f s ≡ [] = ap (λ (x : Stage (QueueCall T) T W). seats f x) e ∙ none in
         subst (λ (ss : List (Seat T)). Fits cells q (left ++ (ss ++ right))) (sym same) h
 
-    pub entered : (turn : Turn T W) (r : Option (Reply T)) (s : Stage (QueueCall T) T W) → IsTaken turn r s → Entered turn cells q left right r s
+    entered : (turn : Turn T W) (r : Option (Reply T)) (s : Stage (QueueCall T) T W) → IsTaken turn r s → Entered turn cells q left right r s
     entered (Tries x aim) r s (call, starts, none, e) =
         record {
           phase_now = asked x;
@@ -59,6 +63,12 @@ module _ {T W : Type 0} where
         record { phase_now = f; turned = (some, ap (λ (z : Stage (QueueCall T) T W). phase f z) e); fits = fits_beside s (Finished kept) e refl }
 
   module _ (parts parts' : Parts T W) where
+    at_next : (stage s s0 : Stage (QueueCall T) T W) (m m0 : Mark) (r r0 : Option (Reply T)) → s ≡ s0 → m ≡ m0 → r ≡ r0 → IsStepOver parts stage [] parts' s0 m0 r0 → IsStepOver parts stage [] parts' s m r
+    at_next stage s s0 m m0 r r0 e f g h =
+        let by_reply : IsStepOver parts stage [] parts' s0 m0 r = subst (λ (x : Option (Reply T)). IsStepOver parts stage [] parts' s0 m0 x) (sym g) h in
+        let by_mark : IsStepOver parts stage [] parts' s0 m r = subst (λ (x : Mark). IsStepOver parts stage [] parts' s0 x r) (sym f) by_reply in
+        subst (λ (x : Stage (QueueCall T) T W). IsStepOver parts stage [] parts' x m r) (sym e) by_mark
+
     -- ---- a step of the queue's call
 
     roster_stays : (q' : Queue T) (q : Queue T) → parts'.roster ≡ parts.roster → channel q' parts' ≡ record (channel q parts) { queue = q' }
@@ -73,7 +83,7 @@ module _ {T W : Type 0} where
       queue_effect q f =
           ap (λ (c : Channel T W). let e : Effect T W = record { channel = c; mark = mark_of_queue (mark_of call'); woken = [] } in e) (roster_stays (after f (mark_of call') q) q roster)
 
-      pub queue_goes : IsQueueStep parts.cells call parts'.cells call' None → IsStepOver parts (Trying call aim) [] parts' (Trying call' aim) (mark_of_queue (mark_of call')) None
+      queue_goes : IsQueueStep parts.cells call parts'.cells call' None → IsStepOver parts (Trying call aim) [] parts' (Trying call' aim) (mark_of_queue (mark_of call')) None
       queue_goes step q f left right range fits =
           let s = step fits.0 q f left right range fits.1 in
           let d = s.effect in
@@ -86,7 +96,7 @@ module _ {T W : Type 0} where
             moves = record { mark = mark_of call'; effect = queue_effect q f; how = inl (d.0, d.1, refl, refl) };
           }
 
-      pub queue_answers : (x : QueueReply T) (r : Option (Reply T)) (stage' : Stage (QueueCall T) T W) → IsQueueStep parts.cells call parts'.cells call' (Some x) → IsTaken (answered_next aim x) r stage'
+      queue_answers : (x : QueueReply T) (r : Option (Reply T)) (stage' : Stage (QueueCall T) T W) → IsQueueStep parts.cells call parts'.cells call' (Some x) → IsTaken (answered_next aim x) r stage'
           → IsStepOver parts (Trying call aim) [] parts' stage' (mark_of_queue (mark_of call')) r
       queue_answers x r stage' step taken q f left right range fits =
           let s = step fits.0 q f left right range fits.1 in
@@ -101,190 +111,154 @@ module _ {T W : Type 0} where
             moves = record { mark = mark_of call'; effect = queue_effect q f; how = inr (x, d.0, t.turned) };
           }
 
-    -- ---- a step on a list or on a count
+    heard : (call after : QueueCall T) (aim : Aim T W) (o : Option (QueueReply T)) (m : Mark) (next : Stage (QueueCall T) T W) (r : Option (Reply T)) → IsQueueStep parts.cells call parts'.cells after o → parts'.roster ≡ parts.roster
+        → m ≡ mark_of_queue (mark_of after) → Heard aim after o next r → IsStepOver parts (Trying call aim) [] parts' next m r
+    heard call after aim None m next r step roster e (n, none) =
+        at_next (Trying call aim) next (Trying after aim) m (mark_of_queue (mark_of after)) r None n e none (queue_goes call after aim roster step)
+    heard call after aim (Some x) m next r step roster e h =
+        at_next (Trying call aim) next next m (mark_of_queue (mark_of after)) r r refl e refl (queue_answers call after aim roster x r next step (taken_of (answered_next aim x) next r h))
 
-    same_cells : (a : Roster W) → parts' ≡ with_roster a parts → parts'.cells ≡ parts.cells
-    same_cells a e = ap (λ (p : Parts T W). p.cells) e
+    -- ---- a step on a list or on a count
 
     still_fits : (q : Queue T) (ss : List (Seat T)) → parts'.cells ≡ parts.cells → Fits parts.cells q ss → Fits parts'.cells q ss
     still_fits q ss e h = subst (λ (c : Contents T). Fits c q ss) (sym e) h
 
-    -- whatever it changed in the roster, a step beside the queue's cells takes its turn
-    pub beside : (work : Work T W) (turn : Turn T W) (names : List W) (m : Mark) (r : Option (Reply T)) (stage' : Stage (QueueCall T) T W)
-        → parts'.cells ≡ parts.cells → OnePlace parts parts' → IsTaken turn r stage'
-        → ((q : Queue T) (s : Stage (Phase T) T W) → Turned turn r s → Worked (channel q parts) work (record { channel = channel q parts'; mark = m; woken = names }) r s)
-        → IsStepOver parts (Working work) names parts' stage' m r
-    beside work turn names m r stage' same one taken ok q f left right range fits =
-        let t = entered parts'.cells q f left right (still_fits q (left ++ right) same fits) turn r stage' taken in
-        record {
-          queue = q;
-          phase_now = t.phase_now;
-          one_place = one;
-          fits = t.fits;
-          ends = λ free. tt;
-          moves = ok q (phase t.phase_now stage') t.turned;
-        }
-
-    line_effect : (line : Line) (l : Listeners W) (names : List W) (q : Queue T) → parts' ≡ with_roster (with_listeners line l parts.roster) parts
-        → (let e : Effect T W = record { channel = channel q parts'; mark = mark.Nothing; woken = names } in e) ≡ on_line line l names (channel q parts)
-    line_effect line l names q e = ap (λ (p : Parts T W). let x : Effect T W = record { channel = channel q p; mark = mark.Nothing; woken = names } in x) e
-
-    count_effect : (side : Side) (n : ℕ) (m : Mark) (q : Queue T) → parts' ≡ with_roster (with_count side n parts.roster) parts
-        → (let e : Effect T W = record { channel = channel q parts'; mark = m; woken = [] } in e) ≡ on_count side n m (channel q parts)
-    count_effect side n m q e = ap (λ (p : Parts T W). let x : Effect T W = record { channel = channel q p; mark = m; woken = [] } in x) e
-
     no_effect : (q : Queue T) → parts' ≡ parts
-        → (let e : Effect T W = record { channel = channel q parts'; mark = mark.Nothing; woken = [] } in e) ≡ untouched (channel q parts)
-    no_effect q e = ap (λ (p : Parts T W). let x : Effect T W = record { channel = channel q p; mark = mark.Nothing; woken = [] } in x) e
-
-    -- a turn, and the mark of a step, by what they are equal to
-    module _ (work : Work T W) (turn turn0 : Turn T W) (same_turn : turn ≡ turn0) (r : Option (Reply T)) (stage' : Stage (QueueCall T) T W) (taken : IsTaken turn r stage') where
-      by_turn : IsTaken turn0 r stage'
-      by_turn = subst (λ (t : Turn T W). IsTaken t r stage') same_turn taken
-
-      -- one section on a list
-      pub on_list : (line : Line) (l : Listeners W) (names : List W) (m : Mark) → m ≡ mark.Nothing
-          → parts' ≡ with_roster (with_listeners line l parts.roster) parts
-          → ((q : Queue T) (e : Effect T W) (s : Stage (Phase T) T W) → e ≡ on_line line l names (channel q parts) → Turned turn0 r s → Worked (channel q parts) work e r s)
-          → IsStepOver parts (Working work) names parts' stage' m r
-      on_list line l names m no_mark e ok =
-          subst (λ (x : Mark). IsStepOver parts (Working work) names parts' stage' x r) (sym no_mark)
-          (beside work turn0 names mark.Nothing r stage' (same_cells (with_listeners line l parts.roster) e) (inr (inl (line, l, e))) by_turn
-          (λ q s turned. ok q _ s (line_effect line l names q e) turned))
-
-      -- one operation on a count
-      pub on_number : (side : Side) (n : ℕ) (m m0 : Mark) → m ≡ m0
-          → parts' ≡ with_roster (with_count side n parts.roster) parts
-          → ((q : Queue T) (e : Effect T W) (s : Stage (Phase T) T W) → e ≡ on_count side n m0 (channel q parts) → Turned turn0 r s → Worked (channel q parts) work e r s)
-          → IsStepOver parts (Working work) [] parts' stage' m r
-      on_number side n m m0 same_mark e ok =
-          subst (λ (x : Mark). IsStepOver parts (Working work) [] parts' stage' x r) (sym same_mark)
-          (beside work turn0 [] m0 r stage' (same_cells (with_count side n parts.roster) e) (inr (inr (side, n, e))) by_turn
-          (λ q s turned. ok q _ s (count_effect side n m0 q e) turned))
-
-      -- a step that changes nothing
-      pub on_nothing : (m : Mark) → m ≡ mark.Nothing → parts' ≡ parts
-          → ((q : Queue T) (e : Effect T W) (s : Stage (Phase T) T W) → e ≡ untouched (channel q parts) → Turned turn0 r s → Worked (channel q parts) work e r s)
-          → IsStepOver parts (Working work) [] parts' stage' m r
-      on_nothing m no_mark e ok =
-          subst (λ (x : Mark). IsStepOver parts (Working work) [] parts' stage' x r) (sym no_mark)
-          (beside work turn0 [] mark.Nothing r stage' (ap (λ (p : Parts T W). p.cells) e) (inr (inl (line.Sends, parts.roster.sends, e))) by_turn
-          (λ q s turned. ok q _ s (no_effect q e) turned))
-
-    -- room is taken, or refused
-    pub takes_room : parts' ≡ parts → (n : ℕ) (turn : Turn T W) → TakesRoom n turn → (r : Option (Reply T)) (stage' : Stage (QueueCall T) T W) → IsTaken turn r stage' → (m : Mark) → m ≡ mark.Nothing
-        → IsStepOver parts (Working (TakeRoom n)) [] parts' stage' m r
-    takes_room same n turn (inl e) r stage' taken m no_mark =
-        on_nothing (TakeRoom n) turn (room_next n) e r stage' taken m no_mark same (λ q e s effect turned. (effect, inl turned))
-    takes_room same n turn (inr (some, e)) r stage' taken m no_mark =
-        on_nothing (TakeRoom n) turn roomless e r stage' taken m no_mark same (λ q e s effect turned. (effect, inr (some, turned)))
+        → (let e : Effect T W = record { channel = channel q parts'; mark = Nothing; woken = [] } in e) ≡ untouched (channel q parts)
+    no_effect q e = ap (λ (p : Parts T W). let x : Effect T W = record { channel = channel q p; mark = Nothing; woken = [] } in x) e
 
     -- a call that has answered
-    pub rests : (kept : Kept T) → parts' ≡ parts → IsStepOver parts (Finished kept) [] parts' (Finished kept) mark.Nothing None
+    rests : (kept : Kept T) → parts' ≡ parts → IsStepOver parts (Finished kept) [] parts' (Finished kept) Nothing None
     rests kept e q f left right range fits =
         record {
           queue = q;
           phase_now = f;
-          one_place = inr (inl (line.Sends, parts.roster.sends, e));
+          one_place = inr (inl (Sends, parts.roster.sends, e));
           fits = still_fits q (left ++ right) (ap (λ (p : Parts T W). p.cells) e) fits;
           ends = λ free. tt;
           moves = (no_effect q e, refl, refl);
         }
 
-    -- ---- what needs a word more than the section
+    module _ (work : Work T W) (turn : Turn T W) (m : Mark) (next : Stage (QueueCall T) T W) (r : Option (Reply T)) where
+      -- whatever it changed in the roster, a step beside the queue's cells takes its turn
+      beside : (names : List W) (m0 : Mark) → parts'.cells ≡ parts.cells → OnePlace parts parts' → Marked m0 turn m next r
+          → ((q : Queue T) (s : Stage (Phase T) T W) → Turned turn r s → Worked (channel q parts) work (record { channel = channel q parts'; mark = m0; woken = names }) r s)
+          → IsStepOver parts (Working work) names parts' next m r
+      beside names m0 same one (e, takes) ok =
+          subst (λ (x : Mark). IsStepOver parts (Working work) names parts' next x r) (sym e)
+          (λ q f left right range fits.
+              let t = entered parts'.cells q f left right (still_fits q (left ++ right) same fits) turn r next (taken_of turn next r takes) in
+              record { queue = q; phase_now = t.phase_now; one_place = one; fits = t.fits; ends = λ free. tt; moves = ok q (phase t.phase_now next) t.turned })
 
-    module _ (w : Waiting T) (line : Line) (is_line : line ≡ line_of w) (task : W) (r : Option (Reply T)) (stage' : Stage (QueueCall T) T W) (turn : Turn T W) (taken : IsTaken turn r stage') (m : Mark) (no_mark : m ≡ mark.Nothing) where
-      pub inserted : (key : Key) → turn ≡ again w (Some key) task → kind_of (listeners line parts.roster) key ≡ None
-          → parts' ≡ with_roster (with_listeners line (listened key (listeners line parts.roster)) parts.roster) parts
-          → IsStepOver parts (Working (Insert w task)) [] parts' stage' m r
-      inserted key same_turn unlisted lists =
-          let there : (kind_of (listeners (line_of w) parts.roster) key ≡ None) × (parts' ≡ with_roster (with_listeners (line_of w) (listened key (listeners (line_of w) parts.roster)) parts.roster) parts) =
-          subst (λ (x : Line). (kind_of (listeners x parts.roster) key ≡ None) × (parts' ≡ with_roster (with_listeners x (listened key (listeners x parts.roster)) parts.roster) parts)) is_line (unlisted, lists)
-          in
-          on_list (Insert w task) turn (again w (Some key) task) same_turn r stage' taken (line_of w) (listened key (listeners (line_of w) parts.roster)) [] m no_mark there.1
-          (λ q e s effect turned. inl (key, there.0, effect, turned))
+      -- what follows from the effect of such a step
+      abbrev Follows : (Channel T W → Effect T W) → Type 0
+      Follows effect = (q : Queue T) (e : Effect T W) (s : Stage (Phase T) T W) → e ≡ effect (channel q parts) → Turned turn r s → Worked (channel q parts) work e r s
 
-      pub not_inserted : (error : ListenError) → turn ≡ unlistened w error → parts' ≡ parts → IsStepOver parts (Working (Insert w task)) [] parts' stage' m r
-      not_inserted error same_turn same =
-          on_nothing (Insert w task) turn (unlistened w error) same_turn r stage' taken m no_mark same (λ q e s effect turned. inr (error, effect, turned))
+      module _ {S : Type 0} (wakes : S → W → S → Type 0) (a b : S) where
+        -- one section on a list
+        on_list : (line : Line) (l : Listeners W) (names names' : List W) → (names ≡ names') × OnList line l parts parts' → Woken wakes a names b → Marked Nothing turn m next r
+            → Follows (on_line line l names') → IsChannelStep wakes parts (Working work) a parts' next m r b
+        on_list line l names names' (how, e) woken marked ok = (
+          names',
+          subst (λ (ns : List W). Woken wakes a ns b) how woken,
+          beside names' Nothing (ap (λ (p : Parts T W). p.cells) e) (inr (inl (line, l, e))) marked
+              (λ q s turned. ok q _ s (ap (λ (p : Parts T W). let x : Effect T W = record { channel = channel q p; mark = Nothing; woken = names' } in x) e) turned),
+        )
 
-      pub registered : (key : Key) (b : Bool) → turn ≡ (if b then pends_by w key else again w None task) → waits key (listeners line parts.roster) ≡ b
-          → parts' ≡ with_roster (with_listeners line (registration key task (listeners line parts.roster)) parts.roster) parts
-          → IsStepOver parts (Working (Register w key task)) [] parts' stage' m r
-      registered key b same_turn answer lists =
-          let there : (waits key (listeners (line_of w) parts.roster) ≡ b) × (parts' ≡ with_roster (with_listeners (line_of w) (registration key task (listeners (line_of w) parts.roster)) parts.roster) parts) =
-          subst (λ (x : Line). (waits key (listeners x parts.roster) ≡ b) × (parts' ≡ with_roster (with_listeners x (registration key task (listeners x parts.roster)) parts.roster) parts)) is_line (answer, lists)
-          in
-          let now : turn ≡ (if waits key (listeners (line_of w) parts.roster) then pends_by w key else again w None task) =
-          same_turn ∙ ap (λ (x : Bool). if x then pends_by w key else again w None task) (sym there.0)
-          in
-          on_list (Register w key task) turn (if waits key (listeners (line_of w) parts.roster) then pends_by w key else again w None task) now r stage' taken
-          (line_of w) (registration key task (listeners (line_of w) parts.roster)) [] m no_mark there.1
-          (λ q e s effect turned. (effect, turned))
+        -- one operation on a count
+        on_number : (side : Side) (n : ℕ) (m0 : Mark) → parts' ≡ with_roster (with_count side n parts.roster) parts → b ≡ a → Marked m0 turn m next r
+            → Follows (on_count side n m0) → IsChannelStep wakes parts (Working work) a parts' next m r b
+        on_number side n m0 e silent marked ok = (
+          [],
+          silent,
+          beside [] m0 (ap (λ (p : Parts T W). p.cells) e) (inr (inr (side, n, e))) marked
+              (λ q s turned. ok q _ s (ap (λ (p : Parts T W). let x : Effect T W = record { channel = channel q p; mark = m0; woken = [] } in x) e) turned),
+        )
 
-    module _ (ending : Ending T) (r : Option (Reply T)) (stage' : Stage (QueueCall T) T W) (taken : IsTaken (Ends ending.reply (leaving None ending.message)) r stage') (m : Mark) (no_mark : m ≡ mark.Nothing) where
-      pub left_none : ending.held ≡ None → parts' ≡ parts → IsStepOver parts (Working (Leave ending)) [] parts' stage' m r
-      left_none none same =
-          on_nothing (Leave ending) (Ends ending.reply (leaving None ending.message)) (Ends ending.reply (leaving None ending.message)) refl r stage' taken m no_mark same
-          (λ q e s effect turned. (effect ∙ ap (λ (h : Option Held). leaves h (channel q parts)) (sym none), turned))
+        -- a step that changes nothing
+        on_nothing : parts' ≡ parts → b ≡ a → Marked Nothing turn m next r → Follows (λ c. untouched c) → IsChannelStep wakes parts (Working work) a parts' next m r b
+        on_nothing e silent marked ok = (
+          [],
+          silent,
+          beside [] Nothing (ap (λ (p : Parts T W). p.cells) e) (inr (inl (Sends, parts.roster.sends, e))) marked (λ q s turned. ok q _ s (no_effect q e) turned),
+        )
 
-      pub left_one : (h : Held) → ending.held ≡ Some h
-          → parts' ≡ with_roster (with_listeners h.line (removed h.key true (listeners h.line parts.roster)) parts.roster) parts
-          → IsStepOver parts (Working (Leave ending)) (removed_wakes h.key true (listeners h.line parts.roster)) parts' stage' m r
-      left_one h some lists =
-          on_list (Leave ending) (Ends ending.reply (leaving None ending.message)) (Ends ending.reply (leaving None ending.message)) refl r stage' taken
-          h.line (removed h.key true (listeners h.line parts.roster)) (removed_wakes h.key true (listeners h.line parts.roster)) m no_mark lists
-          (λ q e s effect turned. (effect ∙ ap (λ (x : Option Held). leaves x (channel q parts)) (sym some), turned))
+module _ {T W S : Type 0} (wakes : S → W → S → Type 0) (p p' : Parts T W) (a b : S) where
+  abbrev did : Deed T W → Parts T W × S → Parts T W × S → Type 0
+  did = Done Does wakes
 
-    module _ (side : Side) (n : ℕ) (making : Making) (r : Option (Reply T)) (stage' : Stage (QueueCall T) T W) (turn : Turn T W) (taken : IsTaken turn r stage') (m : Mark) where
-      raised_as : (b : Bool) → is_raised side n parts.roster ≡ b → turn ≡ raised_next side making b → turn ≡ raised_next side making (is_raised side n parts.roster)
-      raised_as b answer e = e ∙ ap (λ (x : Bool). raised_next side making x) (sym answer)
+  room_so : (n : ℕ) (turn : Turn T W) (r : Option (Reply T)) (s : Stage (Phase T) T W) → TakesRoom n turn → Turned turn r s → TakesRoomFor n r s
+  room_so n turn r s (inl e) h = inl (subst (λ (x : Turn T W). Turned x r s) e h)
+  room_so n turn r s (inr (some, e)) h = inr (some, subst (λ (x : Turn T W). Turned x r s) e h)
 
-      pub raised : is_raised side n parts.roster ≡ true → turn ≡ raised_next side making true → m ≡ up side
-          → parts' ≡ (if is_raised side n parts.roster then with_roster (with_count side (n + 1) parts.roster) parts else parts)
-          → IsStepOver parts (Working (Raise side n making)) [] parts' stage' m r
-      raised answer same_turn same_mark lists =
-          let now : parts' ≡ with_roster (with_count side (n + 1) parts.roster) parts =
-          lists ∙ ap (λ (x : Bool). if x then with_roster (with_count side (n + 1) parts.roster) parts else parts) answer
-          in
-          on_number (Raise side n making) turn (raised_next side making (is_raised side n parts.roster)) (raised_as true answer same_turn) r stage' taken side (n + 1) m (up side) same_mark now
-          (λ q e s effect turned. (effect ∙ ap (λ (x : Bool). if x then on_count side (n + 1) (up side) (channel q parts) else untouched (channel q parts)) (sym answer), turned))
+  module _ (m : Mark) (next : Stage (QueueCall T) T W) (r : Option (Reply T)) where
+    registers_so : (w : Waiting T) (key : Key) (task : W) (k : Bool) → waits key (listeners (line_of w) p.roster) ≡ k → OnList (line_of w) (registration key task (listeners (line_of w) p.roster)) p p' → b ≡ a
+        → Marked Nothing (if k then pends_by w key else again w None task) m next r → IsChannelStep wakes p (Working (Register w key task)) a p' next m r b
+    registers_so w key task k answer lists silent marked =
+        let turn : Bool → Turn T W = λ x. if x then pends_by w key else again w None task in
+        on_list p p' (Register w key task) (turn (waits key (listeners (line_of w) p.roster))) m next r wakes a b (line_of w) _ [] [] (refl, lists) silent
+        (subst (λ (x : Bool). Marked Nothing (turn x) m next r) (sym answer) marked) (λ q e s effect turned. (effect, turned))
 
-      pub not_raised : is_raised side n parts.roster ≡ false → turn ≡ raised_next side making false → m ≡ mark.Nothing
-          → parts' ≡ (if is_raised side n parts.roster then with_roster (with_count side (n + 1) parts.roster) parts else parts)
-          → IsStepOver parts (Working (Raise side n making)) [] parts' stage' m r
-      not_raised answer same_turn same_mark lists =
-          let now : parts' ≡ parts =
-          lists ∙ ap (λ (x : Bool). if x then with_roster (with_count side (n + 1) parts.roster) parts else parts) answer
-          in
-          on_nothing (Raise side n making) turn (raised_next side making (is_raised side n parts.roster)) (raised_as false answer same_turn) r stage' taken m same_mark now
-          (λ q e s effect turned. (effect ∙ ap (λ (x : Bool). if x then on_count side (n + 1) (up side) (channel q parts) else untouched (channel q parts)) (sym answer), turned))
+    left : (e : Ending T) (held : Option Held) → e.held ≡ held → Leaves did held (p, a) (p', b) → Marked Nothing (Ends e.reply (leaving None e.message)) m next r → IsChannelStep wakes p (Working (Leave e)) a p' next m r b
+    left e None is h marked =
+        on_nothing p p' (Leave e) (Ends e.reply (leaving None e.message)) m next r wakes a b (ap (λ (x : Parts T W × S). x.0) h) (ap (λ (x : Parts T W × S). x.1) h) marked
+        (λ q x s effect turned. (effect ∙ ap (λ (o : Option Held). leaves o (channel q p)) (sym is), turned))
+    left e (Some held) is (names, (deed, woken)) marked =
+        on_list p p' (Leave e) (Ends e.reply (leaving None e.message)) m next r wakes a b held.line (removed held.key true (listeners held.line p.roster)) names (removed_wakes held.key true (listeners held.line p.roster)) deed woken marked
+        (λ q x s effect turned. (effect ∙ ap (λ (o : Option Held). leaves o (channel q p)) (sym is), turned))
 
--- ---- by equal stages, marks and answers
+    raised_so : (side : Side) (n : ℕ) (making : Making) (k : Bool) → k ≡ is_raised side n p.roster → (q : Queue T) (e : Effect T W) (s : Stage (Phase T) T W)
+        → e ≡ (if k then on_count side (n + 1) (up side) (channel q p) else untouched (channel q p)) → Turned (raised_next side making k) r s → Worked (channel q p) (Raise side n making) e r s
+    raised_so side n making k is q e s effect turned = (
+      effect ∙ ap (λ (x : Bool). if x then on_count side (n + 1) (up side) (channel q p) else untouched (channel q p)) is,
+      subst (λ (x : Bool). Turned (raised_next side making x) r s) is turned,
+    )
 
-module _ {T W : Type 0} (parts : Parts T W) (names : List W) (parts' : Parts T W) where
-  pub at_mark : (stage stage' : Stage (QueueCall T) T W) (m m0 : Mark) (r : Option (Reply T)) → m ≡ m0 → IsStepOver parts stage names parts' stage' m0 r → IsStepOver parts stage names parts' stage' m r
-  at_mark stage stage' m m0 r e h = subst (λ (x : Mark). IsStepOver parts stage names parts' stage' x r) (sym e) h
+    worked : (w : Work T W) → WorkMakes did w (p, a) (p', b) m next r → IsChannelStep wakes p (Working w) a p' next m r b
+    worked (TellReceive e) (names, (deed, woken), marked) =
+        on_list p p' (TellReceive e) (Works (TellStreams e)) m next r wakes a b Receives (told_one p.roster.receives) names (told_one_wakes p.roster.receives) deed woken marked (λ q x s effect turned. (effect, turned))
+    worked (TellStreams e) (names, (deed, woken), marked) =
+        on_list p p' (TellStreams e) (ends_by e) m next r wakes a b Streams (told_all p.roster.streams) names (told_all_wakes p.roster.streams) deed woken marked (λ q x s effect turned. (effect, turned))
+    worked (TellSend e) (names, (deed, woken), marked) =
+        on_list p p' (TellSend e) (ends_by e) m next r wakes a b Sends (told_one p.roster.sends) names (told_one_wakes p.roster.sends) deed woken marked (λ q x s effect turned. (effect, turned))
+    worked (TellSends n e) (names, (deed, woken), marked) =
+        on_list p p' (TellSends n e) (ends_by e) m next r wakes a b Sends (told_more n p.roster.sends) names (told_more_wakes n p.roster.sends) deed woken marked (λ q x s effect turned. (effect, turned))
+    worked (TakeRoom n) (turn, same, room, marked) =
+        on_nothing p p' (TakeRoom n) turn m next r wakes a b (ap (λ (x : Parts T W × S). x.0) same) (ap (λ (x : Parts T W × S). x.1) same) marked
+        (λ q x s effect turned. (effect, room_so n turn r s room turned))
+    worked (TellAll line c) (names, (deed, woken), marked) =
+        on_list p p' (TellAll line c) (told_all_next line c) m next r wakes a b line (told_all (listeners line p.roster)) names (told_all_wakes (listeners line p.roster)) deed woken marked (λ q x s effect turned. (effect, turned))
+    worked (Insert w task) (Ok key, ((unlisted, lists), woken), marked) =
+        on_list p p' (Insert w task) (again w (Some key) task) m next r wakes a b (line_of w) (listened key (listeners (line_of w) p.roster)) [] [] (refl, lists) woken marked
+        (λ q x s effect turned. inl (key, unlisted, effect, turned))
+    worked (Insert w task) (Err error, (same, woken), marked) =
+        on_nothing p p' (Insert w task) (unlistened w error) m next r wakes a b same woken marked (λ q x s effect turned. inr (error, effect, turned))
+    worked (Register w key task) (Some back, (((is, answer), lists), woken), marked) =
+        registers_so w key task false answer lists woken (subst (λ (x : W). Marked Nothing (again w None x) m next r) is marked)
+    worked (Register w key task) (None, ((answer, lists), woken), marked) = registers_so w key task true answer lists woken marked
+    worked (Leave e) (h, marked) = left e e.held refl h marked
+    worked (Lower side key) (n, ((is, lists), woken), marked) =
+        let k = count side p.roster in
+        let now : (p' ≡ with_roster (with_count side (k - 1) p.roster) p) × Marked (down side) (lowered_next side key k) m next r =
+        subst (λ (i : ℕ). (p' ≡ with_roster (with_count side (i - 1) p.roster) p) × Marked (down side) (lowered_next side key i) m next r) is (lists, marked)
+        in
+        on_number p p' (Lower side key) (lowered_next side key k) m next r wakes a b side (k - 1) (down side) now.0 woken now.1 (λ q x s effect turned. (effect, turned))
+    worked (Count side) (n, ((is, same), woken), marked) =
+        let turn : ℕ → Turn T W = λ i. Ends (reply.Count i) nothing_kept in
+        on_nothing p p' (Count side) (turn (count side p.roster)) m next r wakes a b same woken (subst (λ (i : ℕ). Marked Nothing (turn i) m next r) is marked) (λ q x s effect turned. (effect, turned))
+    worked (Load side making) (n, ((is, same), woken), marked) =
+        on_nothing p p' (Load side making) (loaded_next side making (count side p.roster)) m next r wakes a b same woken
+        (subst (λ (i : ℕ). Marked Nothing (loaded_next side making i) m next r) is marked) (λ q x s effect turned. (effect, turned))
+    worked (Raise side n making) (true, ((is, lists), woken), marked) =
+        on_number p p' (Raise side n making) (raised_next side making true) m next r wakes a b side (n + 1) (up side) lists woken marked (raised_so side n making true is)
+    worked (Raise side n making) (false, ((is, same), woken), marked) =
+        on_nothing p p' (Raise side n making) (raised_next side making false) m next r wakes a b same woken marked (raised_so side n making false is)
 
-  pub at_next : (stage s s0 : Stage (QueueCall T) T W) (m m0 : Mark) (r r0 : Option (Reply T)) → s ≡ s0 → m ≡ m0 → r ≡ r0 → IsStepOver parts stage names parts' s0 m0 r0 → IsStepOver parts stage names parts' s m r
-  at_next stage s s0 m m0 r r0 e f g h =
-      let by_reply : IsStepOver parts stage names parts' s0 m0 r = subst (λ (x : Option (Reply T)). IsStepOver parts stage names parts' s0 m0 x) (sym g) h in
-      let by_mark : IsStepOver parts stage names parts' s0 m r = subst (λ (x : Mark). IsStepOver parts stage names parts' s0 x r) (sym f) by_reply in
-      subst (λ (x : Stage (QueueCall T) T W). IsStepOver parts stage names parts' x m r) (sym e) by_mark
-
-pub at_reply : {T : Type 0} (c d : Contents T) (call call' : QueueCall T) (x y : Option (QueueReply T)) → x ≡ y → IsQueueStep c call d call' x → IsQueueStep c call d call' y
-at_reply {T} c d call call' x y e h = subst (λ (z : Option (QueueReply T)). IsQueueStep c call d call' z) e h
-
-pub at_turn : {T W : Type 0} (turn turn0 : Turn T W) (r : Option (Reply T)) (s : Stage (QueueCall T) T W) → turn ≡ turn0 → IsTaken turn r s → IsTaken turn0 r s
-at_turn {T} {W} turn turn0 r s e h = subst (λ (t : Turn T W). IsTaken t r s) e h
-
-module _ {T W S : Type 0} (wakes : S → W → S → Type 0) (parts : Parts T W) (sink : S) (parts' : Parts T W) (stage' : Stage (QueueCall T) T W) (m : Mark) (r : Option (Reply T)) (sink' : S) where
-  pub at_stage : (stage stage0 : Stage (QueueCall T) T W) → stage0 ≡ stage → IsChannelStep wakes parts stage sink parts' stage' m r sink' → IsChannelStep wakes parts stage0 sink parts' stage' m r sink'
-  at_stage stage stage0 e h = subst (λ (x : Stage (QueueCall T) T W). IsChannelStep wakes parts x sink parts' stage' m r sink') (sym e) h
-
-  pub at_work : (work work0 : Work T W) → work0 ≡ work → IsChannelStep wakes parts (Working work) sink parts' stage' m r sink' → IsChannelStep wakes parts (Working work0) sink parts' stage' m r sink'
-  at_work work work0 e h = subst (λ (x : Work T W). IsChannelStep wakes parts (Working x) sink parts' stage' m r sink') (sym e) h
-
-pub counted_as : {T W : Type 0} (n k : ℕ) (kept : Kept T) → kept ≡ nothing_kept → n ≡ k → (let turn : Turn T W = Ends (reply.Count n) kept in turn) ≡ Ends (reply.Count k) nothing_kept
-counted_as {T} {W} n k kept e same =
-    ap (λ (x : Kept T). let turn : Turn T W = Ends (reply.Count n) x in turn) e ∙ ap (λ (i : ℕ). let turn : Turn T W = Ends (reply.Count i) nothing_kept in turn) same
+    pub made : (at : Stage (QueueCall T) T W) → ChannelMakes did at (p, a) (p', b) m next r → IsChannelStep wakes p at a p' next m r b
+    made (Trying call aim) (after, o, ((step, roster), silent), e, h) = ([], silent, heard p p' call after aim o m next r step roster e h)
+    made (Working w) h = worked w h
+    made (Finished kept) (same, m0, e, none) = (
+      [],
+      ap (λ (x : Parts T W × S). x.1) same,
+      at_next p p' (Finished kept) next (Finished kept) m Nothing r None e m0 none (rests p p' kept (ap (λ (x : Parts T W × S). x.0) same)),
+    )

@@ -1,11 +1,11 @@
 -- Steps of a channel's call, and walks of it, by the deeds that its methods did.
-use Rattle.std.proofs.Common.{◌≡◌, ℕ, zero, suc, Option, None, Some, Result, Ok, Err, MatchResult, refl, sym, ap, subst}
+use Rattle.std.proofs.Common.{◌≡◌, ℕ, zero, suc, Option, None, Some, Result, Ok, Err, refl, sym, ap, subst}
 use Rattle.concurrent_queue.specs.Replies.{IsAsking}
 use Rattle.concurrent_queue.specs.Step.{Starts, mark_of}
 use Rattle.concurrent_queue.specs.declared.call.QueueAsk.{QueueAsk}
 use Rattle.concurrent_queue.specs.declared.call.QueueReply.{QueueReply}
 use Rattle.concurrent_queue.specs.declared.queue_call.QueueCall.{QueueCall}
-use Rattle.channel_calls.proofs.AheadSteps.{KeepsNothing}
+use Rattle.channel_calls.proofs.AheadSteps.{KeepsNothing, Turned}
 use Rattle.channel_calls.specs.Answered.{answered_next}
 use Rattle.channel_calls.specs.Asks.{kept_by}
 use Rattle.channel_calls.specs.Deeds.{Deed, stepped}
@@ -24,10 +24,6 @@ use Rattle.channel_calls.specs.declared.stage.Turn.{Turn}
 use Rattle.channel_calls.specs.declared.stage.Turn.TheVariants.{Tries, Works, Ends}
 
 module _ {T W : Type 0} where
-  -- the answer to a turn, or the call that goes on after it
-  abbrev pub Goes : Turn T W → Result (Reply T) (ChannelCall T W) → Type 0
-  Goes turn result = MatchResult result (λ r. (s : Stage (QueueCall T) T W) × Takes turn s (Some r)) (λ call. Takes turn call.stage None)
-
   pub taken_of : (turn : Turn T W) (s : Stage (QueueCall T) T W) (r : Option (Reply T)) → Takes turn s r → IsTaken turn r s
   taken_of (Tries x aim) s r (call, starts, asks, none, e) = (call, starts, none, e)
   taken_of (Works w) s r h = h
@@ -73,13 +69,13 @@ module _ {T W X : Type 0} (did : Deed T W → X → X → Type 0) where
         (Trying one aim, (one, starts, asks, refl, refl), 1, (t, Trying two aim, mark_of_queue (mark_of two), (two, None, d, refl, (refl, refl)), (refl, refl)))
 
     pub answers : (y : QueueReply T) → o ≡ Some y → (turn : Turn T W) → turn ≡ answered_next aim y → KeepsNothing turn
-        → (result : Result (Reply T) (ChannelCall T W)) → Goes turn result → WalkedOn did (Tries x aim) s result t
-    answers y some turn next keeps (Ok r) (c, takes) =
+        → (result : Result (Reply T) (ChannelCall T W)) → Turned turn result → WalkedOn did (Tries x aim) s result t
+    answers y some turn next keeps (Ok r) (c, takes, follows) =
         let d : did (stepped one two (Some y)) s t = subst (λ (z : Option (QueueReply T)). did (stepped one two z) s t) some deed in
         let now : Takes (answered_next aim y) c (Some r) = subst (λ (z : Turn T W). Takes z c (Some r)) next takes in
-        let none : nothing_kept ≡ kept_by c = sym (ap (λ (z : Stage (QueueCall T) T W). kept_by z) (keeps r c (taken_of turn c (Some r) takes))) in
+        let none : nothing_kept ≡ kept_by c = sym (ap (λ (z : Stage (QueueCall T) T W). kept_by z) (keeps r c takes)) in
         (Trying one aim, (one, starts, asks, refl, refl), (0, s, Trying one aim, mark_of_queue (mark_of two), c, (refl, refl), (two, Some y, d, refl, now), none))
-    answers y some turn next keeps (Err call) takes =
+    answers y some turn next keeps (Err call) (takes, follows) =
         let d : did (stepped one two (Some y)) s t = subst (λ (z : Option (QueueReply T)). did (stepped one two z) s t) some deed in
         let now : Takes (answered_next aim y) call.stage None = subst (λ (z : Turn T W). Takes z call.stage None) next takes in
         (Trying one aim, (one, starts, asks, refl, refl), 1, (t, call.stage, mark_of_queue (mark_of two), (two, Some y, d, refl, now), (refl, refl)))

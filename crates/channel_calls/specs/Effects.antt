@@ -24,3 +24,7 @@ module _ {T W : Type 0} where
   Does (lowered side n) p q = (n ≡ count side p.roster) × (q ≡ with_roster (with_count side (n - 1) p.roster) p)
   Does (raised side n b) p q =
       (b ≡ is_raised side n p.roster) × (q ≡ (if b then with_roster (with_count side (n + 1) p.roster) p else p))
+
+  -- a deed by this relation is this effect on the parts
+  abbrev pub IsExact : {C : Type 0} → (Deed T W → C → C → Type 0) → (C → Parts T W) → Type 0
+  IsExact {C} did parts = (d : Deed T W) (a b : C) → did d a b → Does d (parts a) (parts b)

@@ -5,12 +5,10 @@ ghost use Rattle.std.specs.Prelude.{◌≡◌, false, None, Some, Ok, Option, Ma
 ghost use Rattle.concurrent_queue.specs.declared.call.QueueReply.TheVariants as queue;
 ghost use Rattle.concurrent_queue.specs.declared.cells.QueueForm.{QueueForm};
 ghost use Rattle.concurrent_queue.specs.declared.queue_call.QueueCall.{QueueCall};
-ghost use Rattle.channel_calls.specs.Ahead.{IsMadeOnEnd};
 ghost use Rattle.channel_calls.specs.Deeds.{Done};
 ghost use Rattle.channel_calls.specs.Walks.{Takes, WalkedOn};
 ghost use Rattle.channel_calls.specs.Asks.{first};
 ghost use Rattle.channel_calls.specs.Marks.{is_up};
-ghost use Rattle.channel_calls.specs.Moves.{IsTaken};
 ghost use Rattle.channel_calls.specs.Replies.{FollowsTurn, MayEnd, MayGive};
 ghost use Rattle.channel_calls.specs.declared.ask.ChannelAsk.TheVariants as ask;
 ghost use Rattle.channel_calls.specs.declared.reply.Reply.{Reply};
@@ -56,9 +54,8 @@ pub(crate) fn turned<T: Drop, W: Drop>(
     mark: Mark,
 ) -> Result<Reply<T>, ChannelCall<T, W>>
     requires unraised { is_up mark ≡ false }
-    ensures goes { MatchResult result (λ r. (s : Stage (QueueCall T) T W) × Takes turn s (Some r)) (λ call. Takes turn call.stage None) }
-    ensures taken { MatchResult result (λ r. (s : Stage (QueueCall T) T W) × IsTaken turn (Some r) s × ((b : QueueForm) → FollowsTurn b turn s (Some r)))
-        (λ call. IsTaken turn None call.stage × ((b : QueueForm) → FollowsTurn b turn call.stage None)) }
+    ensures goes { MatchResult result (λ r. (s : Stage (QueueCall T) T W) × Takes turn s (Some r) × ((b : QueueForm) → FollowsTurn b turn s (Some r)))
+        (λ call. Takes turn call.stage None × ((b : QueueForm) → FollowsTurn b turn call.stage None)) }
 {
     let Stepped { stage, mark, reply } = takes(turn, mark);
     match reply {
@@ -79,7 +76,6 @@ pub fn send_ahead<T: Drop, W: Drop, C: ChannelCells<T, W>, S: Wakes<W>>(
     sink: &mut S,
 ) -> Result<Reply<T>, ChannelCall<T, W>>
     ensures deeds { WalkedOn (Done C.did S.wakes) (first (ask.TrySend message)) (cells.old, sink.old) result (cells.new, sink.new) }
-    ensures steps { C.known → IsMadeOnEnd S.wakes (first (ask.TrySend message)) (C.parts cells.old) sink.old result (C.parts cells.new) sink.new }
     ensures answers { (f : QueueForm) → C.has_form cells.old f → MatchResult result (λ r. MayGive {W = W} f (ask.TrySend message) r None)
         (λ call. (r : Reply T) (m : Option T) → MayEnd f call.stage r m → MayGive {W = W} f (ask.TrySend message) r m) }
     ensures form { (f : QueueForm) → C.has_form cells.old f → C.has_form cells.new f }
@@ -114,7 +110,6 @@ pub fn receive_ahead<T: Drop, W: Drop, C: ChannelCells<T, W>, S: Wakes<W>>(
     sink: &mut S,
 ) -> Result<Reply<T>, ChannelCall<T, W>>
     ensures deeds { WalkedOn (Done C.did S.wakes) (first ask.TryRecv) (cells.old, sink.old) result (cells.new, sink.new) }
-    ensures steps { C.known → IsMadeOnEnd S.wakes (first ask.TryRecv) (C.parts cells.old) sink.old result (C.parts cells.new) sink.new }
     ensures answers { (f : QueueForm) → C.has_form cells.old f → MatchResult result (λ r. MayGive {W = W} f ask.TryRecv r None)
         (λ call. (r : Reply T) (m : Option T) → MayEnd f call.stage r m → MayGive {W = W} f ask.TryRecv r m) }
     ensures form { (f : QueueForm) → C.has_form cells.old f → C.has_form cells.new f }

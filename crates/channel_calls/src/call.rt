@@ -1,12 +1,11 @@
 //! A call of a channel, which is made one step at a time.
 
 ghost use Rattle.std.specs.Prelude.{◌≡◌, true, Some};
-ghost use Rattle.channel_calls.specs.Moves.{IsChannelStep, IsNewCall};
+ghost use Rattle.channel_calls.specs.Moves.{IsNewCall};
 ghost use Rattle.channel_calls.specs.Replies.{FollowsStage};
 ghost use Rattle.channel_calls.specs.Marks.{is_up};
 ghost use Rattle.channel_calls.specs.Deeds.{Done};
 ghost use Rattle.channel_calls.specs.Walks.{ChannelMakes, Takes};
-ghost use Rattle.concurrent_queue.specs.Replies.{is_bounded};
 ghost use Rattle.concurrent_queue.specs.declared.cells.QueueForm.{QueueForm};
 
 use crate::ask::ChannelAsk;
@@ -48,7 +47,8 @@ impl<T: Drop, W: Drop> ChannelCall<T, W> {
     /// Makes the next step. Tasks that it wakes go to the sink in order. It gives the reply with the call's last step,
     /// and does nothing after that.
     ///
-    /// Over any cells it does the one deed that the call's machine does at this stage, and goes by its answer. Over cells whose
+    /// Over any cells it does the one deed that the call's machine does at this stage, and goes by its answer. Where the contents
+    /// are known that deed is its whole effect on them, and so it is one step whatever other calls are under way. Over cells whose
     /// contents are unknown, what may be answered after the step, and what it answers, might have been
     /// answered before it. Over any cells a step that counts one handle more is its call's last, and answers that it was made:
     /// a clone or an upgrade that is refused has counted none.
@@ -59,7 +59,6 @@ impl<T: Drop, W: Drop> ChannelCall<T, W> {
         sink: &mut S,
     ) -> Option<Reply<T>>
         ensures deed { ChannelMakes (Done C.did S.wakes) self.old.stage (cells.old, sink.old) (cells.new, sink.new) self.new.mark self.new.stage result }
-        ensures steps { C.known → IsChannelStep S.wakes (C.parts cells.old) self.old.stage sink.old (C.parts cells.new) self.new.stage self.new.mark result sink.new }
         ensures answers { (f : QueueForm) → C.has_form cells.old f → FollowsStage f self.old.stage self.new.stage result }
         ensures form { (f : QueueForm) → C.has_form cells.old f → C.has_form cells.new f }
         ensures raises { is_up self.new.mark ≡ true → result ≡ Some Reply.Made }

@@ -1,13 +1,11 @@
 //! What a channel's steps work on.
 
-ghost use Rattle.std.specs.Prelude.{◌≡◌, ◌-◌, true, List, None, MatchResult};
-ghost use Rattle.std.specs.Prelude.{◌+◌, if◌then◌else◌};
-ghost use Rattle.event_listener.specs.Lists.{kind_of, listened, registration, removed, removed_wakes};
+ghost use Rattle.std.specs.Prelude.{List};
 ghost use Rattle.event_listener.specs.Notices.{Woken};
-ghost use Rattle.concurrent_queue.specs.Step.{IsQueueStep};
 ghost use Rattle.concurrent_queue.specs.Replies.{Follows};
-ghost use Rattle.channel_calls.specs.Parts.{Parts, Roster, with_roster, listeners, with_listeners, count, with_count, is_raised, told_one, told_one_wakes, told_more, told_more_wakes, told_all, told_all_wakes, Registers};
+ghost use Rattle.channel_calls.specs.Parts.{Parts};
 ghost use Rattle.channel_calls.specs.Deeds.{Deed, stepped, inserted, registered, taken_off, one_told, more_told, all_told, counted, lowered, raised};
+ghost use Rattle.channel_calls.specs.Effects.{IsExact};
 
 use crate::stage::{Line, Side};
 use concurrent_queue::call::QueueReply;
@@ -20,9 +18,9 @@ use event_listener::wakes::Wakes;
 /// operation on one of its two counts. Of the queue's call cells whose contents are known make one step; those that threads share
 /// make all that are left, between which steps of others may come.
 ///
-/// The methods of one that a single owner has say exactly what they do. Of one that threads share only that much is known
-/// as every other party keeps to: nothing of the contents, but the form of the queue, which says what a step of its call may
-/// answer. `known` tells the two apart. Own to this project.
+/// Each method says which deed it did, with its answer. Of one that a single owner has a deed is its whole effect, by the law
+/// `exact`. Of one that threads share only that much is known as every other party keeps to: nothing of the contents, but the form
+/// of the queue, which says what a step of its call may answer. `known` tells the two apart. Own to this project.
 pub trait ChannelCells<T, W> {
     ghost use Rattle.concurrent_queue.specs.declared.cells.QueueForm.{QueueForm};
 
@@ -39,75 +37,58 @@ pub trait ChannelCells<T, W> {
     /// that such deeds were done has called the methods that do them, in that order.
     ghost did: { Deed T W → Self → Self → Type 0 } = { λ _ _ _. Unit {0} };
 
+    /// Where what the cells hold is known, a deed did just this to it, and this was its answer.
+    ghost exact: { known → IsExact did parts };
+
     /// One step of a call of the queue, or several up to its answer where the contents are unknown.
     fn step_queue(&mut self, call: &mut QueueCall<T>) -> Option<QueueReply<T>>
         ensures deed { did (stepped call.old call.new result) self.old self.new }
         ensures answers { (f : QueueForm) → has_form self.old f → Follows f call.old call.new result }
-        ensures form { (f : QueueForm) → has_form self.old f → has_form self.new f }
-        ensures queue { known → IsQueueStep (parts self.old).cells call.old (parts self.new).cells call.new result }
-        ensures roster { known → (parts self.new).roster ≡ (parts self.old).roster };
+        ensures form { (f : QueueForm) → has_form self.old f → has_form self.new f };
 
     /// Adds a listener without a task, or is refused for memory or for serials with nothing changed.
     fn insert(&mut self, line: Line) -> Result<Key, ListenError>
         ensures deed { did (inserted line result) self.old self.new }
-        ensures form { (f : QueueForm) → has_form self.old f → has_form self.new f }
-        ensures new { known → MatchResult result (λ key. kind_of (listeners line (parts self.old).roster) key ≡ None) (λ e. Unit {0}) }
-        ensures lists { known → MatchResult result (λ key. parts self.new ≡ with_roster (with_listeners line (listened key (listeners line (parts self.old).roster)) (parts self.old).roster) (parts self.old)) (λ e. parts self.new ≡ parts self.old) };
+        ensures form { (f : QueueForm) → has_form self.old f → has_form self.new f };
 
     /// Gives a waiting listener its task. One that was told is gone after it, and the task comes back.
     fn register(&mut self, line: Line, key: Key, task: W) -> Option<W>
         ensures deed { did (registered line key task result) self.old self.new }
-        ensures form { (f : QueueForm) → has_form self.old f → has_form self.new f }
-        ensures answer { known → Registers (listeners line (parts self.old).roster) key task result }
-        ensures lists { known → parts self.new ≡ with_roster (with_listeners line (registration key task (listeners line (parts self.old).roster)) (parts self.old).roster) (parts self.old) };
+        ensures form { (f : QueueForm) → has_form self.old f → has_form self.new f };
 
     /// Takes a listener off. One that was told passes its notice on.
     fn remove<S: Wakes<W>>(&mut self, line: Line, key: Key, sink: &mut S)
         ensures deed { (names : List W) × did (taken_off line key names) self.old self.new × Woken S.wakes sink.old names sink.new }
-        ensures form { (f : QueueForm) → has_form self.old f → has_form self.new f }
-        ensures lists { known → parts self.new ≡ with_roster (with_listeners line (removed key true (listeners line (parts self.old).roster)) (parts self.old).roster) (parts self.old) }
-        ensures woken { known → Woken S.wakes sink.old (removed_wakes key true (listeners line (parts self.old).roster)) sink.new };
+        ensures form { (f : QueueForm) → has_form self.old f → has_form self.new f };
 
     /// Tells one more of those who wait.
     fn tell_one<S: Wakes<W>>(&mut self, line: Line, sink: &mut S)
         ensures deed { (names : List W) × did (one_told line names) self.old self.new × Woken S.wakes sink.old names sink.new }
-        ensures form { (f : QueueForm) → has_form self.old f → has_form self.new f }
-        ensures lists { known → parts self.new ≡ with_roster (with_listeners line (told_one (listeners line (parts self.old).roster)) (parts self.old).roster) (parts self.old) }
-        ensures woken { known → Woken S.wakes sink.old (told_one_wakes (listeners line (parts self.old).roster)) sink.new };
+        ensures form { (f : QueueForm) → has_form self.old f → has_form self.new f };
 
     /// Tells so many more of those who wait, in one section.
     fn tell_more<S: Wakes<W>>(&mut self, line: Line, count: usize, sink: &mut S)
         ensures deed { (names : List W) × did (more_told line count names) self.old self.new × Woken S.wakes sink.old names sink.new }
-        ensures form { (f : QueueForm) → has_form self.old f → has_form self.new f }
-        ensures lists { known → parts self.new ≡ with_roster (with_listeners line (told_more count (listeners line (parts self.old).roster)) (parts self.old).roster) (parts self.old) }
-        ensures woken { known → Woken S.wakes sink.old (told_more_wakes count (listeners line (parts self.old).roster)) sink.new };
+        ensures form { (f : QueueForm) → has_form self.old f → has_form self.new f };
 
     /// Tells all who wait.
     fn tell_all<S: Wakes<W>>(&mut self, line: Line, sink: &mut S)
         ensures deed { (names : List W) × did (all_told line names) self.old self.new × Woken S.wakes sink.old names sink.new }
-        ensures form { (f : QueueForm) → has_form self.old f → has_form self.new f }
-        ensures lists { known → parts self.new ≡ with_roster (with_listeners line (told_all (listeners line (parts self.old).roster)) (parts self.old).roster) (parts self.old) }
-        ensures woken { known → Woken S.wakes sink.old (told_all_wakes (listeners line (parts self.old).roster)) sink.new };
+        ensures form { (f : QueueForm) → has_form self.old f → has_form self.new f };
 
     /// The number of handles of this kind.
     fn count(&mut self, side: Side) -> usize
         ensures deed { did (counted side result) self.old self.new }
-        ensures form { (f : QueueForm) → has_form self.old f → has_form self.new f }
-        ensures number { known → result ≡ count side (parts self.old).roster }
-        ensures unchanged { known → parts self.new ≡ parts self.old };
+        ensures form { (f : QueueForm) → has_form self.old f → has_form self.new f };
 
     /// Lowers the number of handles of this kind by one, unless it is 0, and gives the number before.
     fn lower(&mut self, side: Side) -> usize
         ensures deed { did (lowered side result) self.old self.new }
-        ensures form { (f : QueueForm) → has_form self.old f → has_form self.new f }
-        ensures before { known → result ≡ count side (parts self.old).roster }
-        ensures lowered { known → parts self.new ≡ with_roster (with_count side (count side (parts self.old).roster - 1) (parts self.old).roster) (parts self.old) };
+        ensures form { (f : QueueForm) → has_form self.old f → has_form self.new f };
 
     /// Raises the number of handles of this kind by one where it is `from` and one more fits a `usize`, and tells whether
     /// it did.
     fn raise(&mut self, side: Side, from: usize) -> bool
         ensures deed { did (raised side from result) self.old self.new }
-        ensures form { (f : QueueForm) → has_form self.old f → has_form self.new f }
-        ensures answer { known → result ≡ is_raised side from (parts self.old).roster }
-        ensures raised { known → parts self.new ≡ (if is_raised side from (parts self.old).roster then with_roster (with_count side (from + 1) (parts self.old).roster) (parts self.old) else parts self.old) };
+        ensures form { (f : QueueForm) → has_form self.old f → has_form self.new f };
 }

@@ -133,6 +133,8 @@ impl<T: Drop, W: Drop> ChannelCells<T, W> for PlainChannel<T, W> {
 
     ghost did = { DoesPlain };
 
+    ghost exact = { λ known d a b done. done.0 };
+
     fn step_queue(&mut self, call: &mut QueueCall<T>) -> Option<QueueReply<T>> {
         call.step(&mut self.cells)
     }

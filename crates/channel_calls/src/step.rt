@@ -1,16 +1,12 @@
 //! One step of a channel's call.
 
-ghost use Rattle.std.specs.Prelude.{◌≡◌, [], None, true, false};
-ghost use Rattle.event_listener.specs.Notices.{Woken};
-ghost use Rattle.channel_calls.specs.Moves.{IsTaken, IsStepOver, IsChannelStep};
+ghost use Rattle.std.specs.Prelude.{◌≡◌, None, true, false};
 ghost use Rattle.channel_calls.specs.Turns.{leaving, answer_of};
 ghost use Rattle.channel_calls.specs.Marks.{is_up, is_made};
 ghost use Rattle.channel_calls.specs.Replies.{FollowsTurn, FollowsStage};
-ghost use Rattle.concurrent_queue.specs.Replies.{is_bounded};
 ghost use Rattle.concurrent_queue.specs.declared.cells.QueueForm.{QueueForm};
-ghost use Rattle.std.specs.Prelude.{Bool};
 ghost use Rattle.channel_calls.specs.Deeds.{Done};
-ghost use Rattle.channel_calls.specs.Walks.{Takes, WorkMakes, ChannelMakes};
+ghost use Rattle.channel_calls.specs.Walks.{Takes, ChannelMakes};
 
 use crate::answered::answered_next;
 use crate::cells::ChannelCells;
@@ -38,7 +34,6 @@ pub(crate) struct Stepped<T, W> {
 #[inline(always)]
 pub(crate) fn takes<T: Drop, W: Drop>(turn: Turn<T, W>, mark: Mark) -> Stepped<T, W>
     requires raises { is_up mark ≡ true → is_made (answer_of turn) ≡ true }
-    ensures taken { IsTaken turn result.reply result.stage }
     ensures goes { Takes turn result.stage result.reply }
     ensures mark { result.mark ≡ mark }
     ensures follows { (b : QueueForm) → FollowsTurn b turn result.stage result.reply }
@@ -85,7 +80,6 @@ fn try_step<T: Drop, W: Drop, C: ChannelCells<T, W>>(
     cells: &mut C,
 ) -> Stepped<T, W>
     ensures deed { ChannelMakes C.did (Stage.Trying call aim) cells.old cells.new result.mark result.stage result.reply }
-    ensures steps { C.known → IsStepOver (C.parts cells.old) (Stage.Trying call aim) [] (C.parts cells.new) result.stage result.mark result.reply }
     ensures answers { (f : QueueForm) → C.has_form cells.old f → FollowsStage f (Stage.Trying call aim) result.stage result.reply }
     ensures form { (f : QueueForm) → C.has_form cells.old f → C.has_form cells.new f }
 {
@@ -107,7 +101,6 @@ fn insert<T: Drop, W: Drop, C: ChannelCells<T, W>>(
     cells: &mut C,
 ) -> Stepped<T, W>
     ensures deed { ChannelMakes C.did (Stage.Working (Work.Insert waiting task)) cells.old cells.new result.mark result.stage result.reply }
-    ensures steps { C.known → IsStepOver (C.parts cells.old) (Stage.Working (Work.Insert waiting task)) [] (C.parts cells.new) result.stage result.mark result.reply }
     ensures answers { (b : QueueForm) → FollowsStage b (Stage.Working (Work.Insert waiting task)) result.stage result.reply }
     ensures form { (f : QueueForm) → C.has_form cells.old f → C.has_form cells.new f }
 {
@@ -125,7 +118,6 @@ fn register<T: Drop, W: Drop, C: ChannelCells<T, W>>(
     cells: &mut C,
 ) -> Stepped<T, W>
     ensures deed { ChannelMakes C.did (Stage.Working (Work.Register waiting key task)) cells.old cells.new result.mark result.stage result.reply }
-    ensures steps { C.known → IsStepOver (C.parts cells.old) (Stage.Working (Work.Register waiting key task)) [] (C.parts cells.new) result.stage result.mark result.reply }
     ensures answers { (b : QueueForm) → FollowsStage b (Stage.Working (Work.Register waiting key task)) result.stage result.reply }
     ensures form { (f : QueueForm) → C.has_form cells.old f → C.has_form cells.new f }
 {
@@ -137,7 +129,6 @@ fn register<T: Drop, W: Drop, C: ChannelCells<T, W>>(
 
 /// A call answers, with nothing more to do.
 fn answers<T: Drop, W: Drop>(ending: Ending<T>) -> Stepped<T, W>
-    ensures taken { IsTaken (Turn.Ends ending.reply (leaving None ending.message)) result.reply result.stage }
     ensures goes { Takes (Turn.Ends ending.reply (leaving None ending.message)) result.stage result.reply }
     ensures mark { result.mark ≡ Mark.Nothing }
     ensures follows { (b : QueueForm) → FollowsTurn b (Turn.Ends ending.reply (leaving None ending.message)) result.stage result.reply }
@@ -156,7 +147,6 @@ fn leave<T: Drop, W: Drop, C: ChannelCells<T, W>, S: Wakes<W>>(
     sink: &mut S,
 ) -> Stepped<T, W>
     ensures deed { ChannelMakes (Done C.did S.wakes) (Stage.Working (Work.Leave ending)) (cells.old, sink.old) (cells.new, sink.new) result.mark result.stage result.reply }
-    ensures steps { C.known → IsChannelStep S.wakes (C.parts cells.old) (Stage.Working (Work.Leave ending)) sink.old (C.parts cells.new) result.stage result.mark result.reply sink.new }
     ensures answers { (b : QueueForm) → FollowsStage b (Stage.Working (Work.Leave ending)) result.stage result.reply }
     ensures form { (f : QueueForm) → C.has_form cells.old f → C.has_form cells.new f }
 {
@@ -176,7 +166,6 @@ fn lower<T: Drop, W: Drop, C: ChannelCells<T, W>>(
     cells: &mut C,
 ) -> Stepped<T, W>
     ensures deed { ChannelMakes C.did (Stage.Working (Work.Lower side key)) cells.old cells.new result.mark result.stage result.reply }
-    ensures steps { C.known → IsStepOver (C.parts cells.old) (Stage.Working (Work.Lower side key)) [] (C.parts cells.new) result.stage result.mark result.reply }
     ensures answers { (b : QueueForm) → FollowsStage b (Stage.Working (Work.Lower side key)) result.stage result.reply }
     ensures form { (f : QueueForm) → C.has_form cells.old f → C.has_form cells.new f }
 {
@@ -192,7 +181,6 @@ fn raise<T: Drop, W: Drop, C: ChannelCells<T, W>>(
     cells: &mut C,
 ) -> Stepped<T, W>
     ensures deed { ChannelMakes C.did (Stage.Working (Work.Raise side from making)) cells.old cells.new result.mark result.stage result.reply }
-    ensures steps { C.known → IsStepOver (C.parts cells.old) (Stage.Working (Work.Raise side from making)) [] (C.parts cells.new) result.stage result.mark result.reply }
     ensures answers { (b : QueueForm) → FollowsStage b (Stage.Working (Work.Raise side from making)) result.stage result.reply }
     ensures form { (f : QueueForm) → C.has_form cells.old f → C.has_form cells.new f }
 {
@@ -211,7 +199,6 @@ fn work_step<T: Drop, W: Drop, C: ChannelCells<T, W>, S: Wakes<W>>(
     sink: &mut S,
 ) -> Stepped<T, W>
     ensures deed { ChannelMakes (Done C.did S.wakes) (Stage.Working work) (cells.old, sink.old) (cells.new, sink.new) result.mark result.stage result.reply }
-    ensures steps { C.known → IsChannelStep S.wakes (C.parts cells.old) (Stage.Working work) sink.old (C.parts cells.new) result.stage result.mark result.reply sink.new }
     ensures answers { (b : QueueForm) → FollowsStage b (Stage.Working work) result.stage result.reply }
     ensures form { (f : QueueForm) → C.has_form cells.old f → C.has_form cells.new f }
 {
@@ -264,7 +251,6 @@ pub(crate) fn stage_step<T: Drop, W: Drop, C: ChannelCells<T, W>, S: Wakes<W>>(
     sink: &mut S,
 ) -> Stepped<T, W>
     ensures deed { ChannelMakes (Done C.did S.wakes) stage (cells.old, sink.old) (cells.new, sink.new) result.mark result.stage result.reply }
-    ensures steps { C.known → IsChannelStep S.wakes (C.parts cells.old) stage sink.old (C.parts cells.new) result.stage result.mark result.reply sink.new }
     ensures answers { (f : QueueForm) → C.has_form cells.old f → FollowsStage f stage result.stage result.reply }
     ensures form { (f : QueueForm) → C.has_form cells.old f → C.has_form cells.new f }
 {

@@ -12,8 +12,10 @@ use Rattle.concurrent_queue.specs.declared.cells.QueueForm.{QueueForm}
 use Rattle.concurrent_queue.specs.declared.queue_call.QueueCall.{QueueCall}
 use Rattle.concurrent_queue.proofs.Bridge.{call_noted, change_keeps_form, new_is}
 use Rattle.concurrent_queue.proofs.Callers.{is_same, itself, either, call_of, place_of, AllApart, has_at, begun_mine, begun_other, begun_apart, set_mine, set_other, set_apart, gone_other, gone_mine, gone_apart}
+use Rattle.channel_calls.proofs.Interface.{carried, exact_step}
+use Rattle.channel_calls.proofs.Walking.{taken_of}
 use Rattle.channel_calls.specs.Asks.{first, kept_by}
-use Rattle.channel_calls.specs.Deeds.{Deed, stepped, taken_off, Done}
+use Rattle.channel_calls.specs.Deeds.{Deed, stepped, inserted, registered, taken_off, one_told, more_told, all_told, counted, lowered, raised, Done}
 use Rattle.channel_calls.specs.Effects.{Does}
 use Rattle.channel_calls.specs.Moves.{IsChannelStep, IsNewCall}
 use Rattle.channel_calls.specs.Parts.{Parts}
@@ -37,7 +39,6 @@ use Rattle.channel_steps.proofs.RunFacts as runs
 use Rattle.channel_steps.proofs.SceneFacts.{stepped_at, made_at}
 use Rattle.channel_steps.proofs.StartFacts.{new_shown}
 use Rattle.channel_laws.specs.Bridge.{Act, on_queue, on_roster, on_nothing, Event, begins, does, Happening, Given, Notes, Acts, own, step_of, steps_of, given_by, given_to, opened_parts, Changes, InOneOrder, MergesAreRuns}
-use Rattle.channel_laws.proofs.BridgeSteps.{taken, made}
 
 -- ---- a step that was noted, over cells that it changes
 
@@ -66,29 +67,20 @@ module _ {T W S : Type 0} (wakes : S → W → S → Type 0) (form : QueueForm) 
       let r = roster_stays x g in
       ((call_noted c.0.cells e.0.cells form call x next answer same_form makes (cells_change x g), r.0), r.1)
 
-  left : (held : Option Held) (o : Act T W) → Leaves (Notes form) held on_nothing o → Changes wakes (does o) c e → Leaves did held c e
-  left None o is h = none o is h
-  left (Some held) o (names, is) h = (names, on o (taken_off held.line held.key names) is h)
+  noted : (d : Deed T W) (o : Act T W) → Notes form d on_nothing o → Changes wakes (does o) c e → did d c e
+  noted (stepped call next answer) o is h = tried call next answer o is h
+  noted (inserted line x) o is h = on o _ is h
+  noted (registered line key task x) o is h = on o _ is h
+  noted (taken_off line key names) o is h = on o _ is h
+  noted (one_told line names) o is h = on o _ is h
+  noted (more_told line n names) o is h = on o _ is h
+  noted (all_told line names) o is h = on o _ is h
+  noted (counted side n) o is h = on o _ is h
+  noted (lowered side n) o is h = on o _ is h
+  noted (raised side n x) o is h = on o _ is h
 
-  worked : (w : Work T W) (o : Act T W) (m : Mark) (next : Stage (QueueCall T) T W) (r : Option (Reply T)) → WorkMakes (Notes form) w on_nothing o m next r → Changes wakes (does o) c e → WorkMakes did w c e m next r
-  worked (TellReceive x) o m next r (names, is, t) h = (names, on o _ is h, t)
-  worked (TellStreams x) o m next r (names, is, t) h = (names, on o _ is h, t)
-  worked (TellSend x) o m next r (names, is, t) h = (names, on o _ is h, t)
-  worked (TellSends n x) o m next r (names, is, t) h = (names, on o _ is h, t)
-  worked (TakeRoom n) o m next r (turn, is, room, t) h = (turn, none o is h, room, t)
-  worked (TellAll line x) o m next r (names, is, t) h = (names, on o _ is h, t)
-  worked (Insert w task) o m next r (x, is, t) h = (x, on o _ is h, t)
-  worked (Register w key task) o m next r (x, is, t) h = (x, on o _ is h, t)
-  worked (Leave x) o m next r (l, t) h = (left x.held o l h, t)
-  worked (Lower side key) o m next r (n, is, t) h = (n, on o _ is h, t)
-  worked (Count side) o m next r (n, is, t) h = (n, on o _ is h, t)
-  worked (Load side making) o m next r (n, is, t) h = (n, on o _ is h, t)
-  worked (Raise side n making) o m next r (b, is, t) h = (b, on o _ is h, t)
-
-  noted : (at : Stage (QueueCall T) T W) (o : Act T W) (m : Mark) (next : Stage (QueueCall T) T W) (r : Option (Reply T)) → ChannelMakes (Notes form) at on_nothing o m next r → Changes wakes (does o) c e → ChannelMakes did at c e m next r
-  noted (Trying call aim) o m next r (after, answer, n, k, t) h = (after, answer, tried call after answer o n h, k, t)
-  noted (Working w) o m next r n h = worked w o m next r n h
-  noted (Finished kept) o m next r (is, k, e', t) h = (none o is h, k, e', t)
+  made : (at : Stage (QueueCall T) T W) (o : Act T W) (m : Mark) (next : Stage (QueueCall T) T W) (r : Option (Reply T)) → ChannelMakes (Notes form) at on_nothing o m next r → Changes wakes (does o) c e → ChannelMakes did at c e m next r
+  made at o m next r n h = carried (Notes form) did on_nothing o c e (λ d is. noted d o is h) (λ is. none o is h) m next r at n
 
   -- ---- the queue keeps its form
 
@@ -123,13 +115,13 @@ module _ {T W S : Type 0} (wakes : S → W → S → Type 0) (form : QueueForm) 
   form_after (Trying call aim) o m next r (after, answer, (x, makes, is), k, t) h =
       let g : Changes wakes (does (on_queue x)) c e = subst (λ (y : Act T W). Changes wakes (does y) c e) is h in
       change_keeps_form c.0.cells e.0.cells (queue.does x) (cells_change x g) ∙ same_form
-  form_after (Working w) o m next r n h = work_form w m next r (worked w o m next r n h) ∙ same_form
+  form_after (Working w) o m next r n h = work_form w m next r (made (Working w) o m next r n h) ∙ same_form
   form_after (Finished kept) o m next r (is, k, e', t) h = ap (λ (x : Parts T W × S). form_in x.0) (none o is h) ∙ same_form
 
   -- a party's step is one of the contract
   step_noted : (at : Stage (QueueCall T) T W) (o : Act T W) (m : Mark) (next : Stage (QueueCall T) T W) (r : Option (Reply T)) → ChannelMakes (Notes form) at on_nothing o m next r → Changes wakes (does o) c e
       → IsChannelStep wakes c.0 at c.1 e.0 next m r e.1
-  step_noted at o m next r n h = made wakes c.0 e.0 c.1 e.1 at next m r (noted at o m next r n h)
+  step_noted at o m next r n h = exact_step Does (λ p. p) (λ d p q h. h) wakes c.0 e.0 c.1 e.1 m next r at (made at o m next r n h)
 
 -- ---- the merge
 
@@ -209,7 +201,7 @@ module _ {T W S : Type 0} (wakes : S → W → S → Type 0) (form : QueueForm) 
       let at = mine.1.0 in
       let new : Party T W = party p at Nothing in
       let after : List (Party T W) = parties ++ new ∷ [] in
-      let is_new : IsNewCall new.call (first ask) = (None, taken (first ask) at None mine.1.1) in
+      let is_new : IsNewCall new.call (first ask) = (None, taken_of (first ask) at None mine.1.1) in
       let begins_so : HasBegun p ask parties unmarked after = runs.begun (asked queue_ask.Pop) p ask new.call parties unmarked after is_new refl refl in
       let turns_here : Turns wakes (step.Begin p ask) c.0 parties c.1 unmarked c.0 after c.1 = runs.turns_begun wakes p ask c.0 parties c.1 unmarked after begins_so in
       let turns : Turns wakes (step.Begin p ask) c.0 parties c.1 unmarked d.0 after d.1 = subst (λ (x : Parts T W × S). Turns wakes (step.Begin p ask) c.0 parties c.1 unmarked x.0 after x.1) (sym same) turns_here in

@@ -29,7 +29,6 @@ pub mod Bounds
 pub mod Unlisted
 pub mod Closers
 pub mod Interface
-mod BridgeSteps
 mod Bridge
 mod BridgeWalks
 mod BridgeRow

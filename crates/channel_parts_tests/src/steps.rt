@@ -34,6 +34,8 @@ impl ChannelCells<u64, u32> for Cramped {
 
     ghost parts = { λ c. parts_of c.channel };
 
+    ghost exact = { λ unknown. absurd unknown };
+
     fn step_queue(&mut self, call: &mut QueueCall<u64>) -> Option<QueueReply<u64>> {
         self.channel.step_queue(call)
     }

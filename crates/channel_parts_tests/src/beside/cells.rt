@@ -104,6 +104,8 @@ impl<'a, R: Wait> ChannelCells<u64, u32> for Beside<'a, R> {
 
     ghost has_form = { λ c f. f ≡ form_of c.cells };
 
+    ghost exact = { λ unknown. absurd unknown };
+
     fn step_queue(&mut self, call: &mut QueueCall<u64>) -> Option<QueueReply<u64>> {
         Some(self.all_steps(call))
     }

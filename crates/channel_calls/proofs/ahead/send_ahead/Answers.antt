@@ -1,4 +1,4 @@
-use Rattle.std.proofs.Common.{◌≡◌, refl, ap, ◌∙◌, subst, Option, None, Some, Ok, []}
+use Rattle.std.proofs.Common.{◌≡◌, refl, ap, ◌∙◌, subst, Option, Some, Ok}
 use Rattle.channel_calls.specs.Deeds.{stepped, Done}
 use Rattle.channel_calls.proofs.Walking as walking
 use Rattle.concurrent_queue.specs.Step.{mark_of}
@@ -6,29 +6,16 @@ use Rattle.concurrent_queue.specs.declared.call.QueueAsk.TheVariants as queue_as
 use Rattle.concurrent_queue.specs.declared.call.QueueReply.{QueueReply}
 use Rattle.concurrent_queue.specs.declared.call.QueueReply.TheVariants.{Push}
 use Rattle.channel_calls.specs.Marks.{mark_of_queue}
-use Rattle.channel_calls.specs.Moves.{IsStepOver}
-use Rattle.channel_calls.specs.Parts.{told_one, told_one_wakes, told_all, told_all_wakes}
-use Rattle.channel_calls.specs.Turns.{says, ends_by, nothing_kept}
+use Rattle.channel_calls.specs.Turns.{says, nothing_kept}
 use Rattle.channel_calls.specs.declared.ask.ChannelAsk.TheVariants as ask
 use Rattle.channel_calls.specs.declared.mark.Mark.TheVariants as mark
 use Rattle.channel_calls.specs.declared.reply.Reply.TheVariants as reply
 use Rattle.channel_calls.specs.declared.stage.Aim.TheVariants as aim
-use Rattle.channel_calls.specs.declared.stage.Line.TheVariants.{Receives, Streams}
 use Rattle.channel_calls.specs.declared.stage.Stage.TheVariants.{Trying, Working, Finished}
-use Rattle.channel_calls.specs.declared.stage.Turn.TheVariants.{Works}
 use Rattle.channel_calls.specs.declared.stage.Work.TheVariants.{TellReceive, TellStreams}
 use Rattle.channel_calls.proofs.Replying as replying
-use Rattle.channel_calls.proofs.Steps.{queue_goes, queue_answers, at_reply, at_turn, on_list}
 use Rattle.channel_calls.proofs.AheadSteps as ahead
 use Rattle.channel_calls.proofs.ahead.send_ahead.Goals as goal
-
-pub returns-in-None-clause-steps : goal.returns-in-None-clause-steps
-returns-in-None-clause-steps g c known =
-    let p = g.C.ChannelCells.parts c.args.cells.now in
-    let one = c.push-call.result in
-    let two = c.step_queue-answer.new.call in
-    ahead.goes_on g.S.Wakes.wakes p _ _ (queue_ask.Push c.args.message) aim.TrySend one c.push-call.ensures.starts (mark_of_queue (mark_of two)) (record { stage = Trying two aim.TrySend; mark = c.of_queue-mark.result })
-    (queue_goes p _ one two aim.TrySend (c.step_queue-answer.ensures.roster known) (at_reply _ _ _ _ _ _ c.in-None.is (c.step_queue-answer.ensures.queue known)))
 
 pub returns-in-None-clause-answers : goal.returns-in-None-clause-answers
 returns-in-None-clause-answers g c f has r m may =
@@ -37,58 +24,12 @@ returns-in-None-clause-answers g c f has r m may =
     ahead.sends g.row.W.Denot f one c.args.message c.push-call.ensures.asked r m
     (replying.goes_on {W = g.row.W.Denot} f one two aim.TrySend _ c.in-None.is (c.step_queue-answer.ensures.answers f has) r m may)
 
-pub returns-in-Ok-clause-steps : goal.returns-in-Ok-clause-steps
-returns-in-Ok-clause-steps g c known =
-    let p = g.C.ChannelCells.parts c.args.cells.now in
-    let p1 = g.C.ChannelCells.parts c.step_queue-answer.new.self in
-    let p2 = g.C.ChannelCells.parts c.tell_one.new.self in
-    let one = c.push-call.result in
-    let two = c.step_queue-answer.new.call in
-    let ending = says (reply.TrySend (Ok tt)) in
-    let is : c.step_queue-answer.result ≡ Some (Push (Ok tt)) = c.in-Some.is ∙ ap (λ (z : QueueReply g.row.T.Denot). Some z) c.in-Ok.ensures in
-    let asks : IsStepOver p (Trying one aim.TrySend) [] p1 (Working (TellReceive ending)) (mark_of_queue (mark_of two)) None =
-    queue_answers p p1 one two aim.TrySend (c.step_queue-answer.ensures.roster known) (Push (Ok tt)) None (Working (TellReceive ending))
-    (at_reply _ _ _ _ _ _ is (c.step_queue-answer.ensures.queue known)) (refl, refl)
-    in
-    let tells = on_list p1 p2 (TellReceive ending) _ (Works (TellStreams ending)) refl None (Working (TellStreams ending)) (refl, refl) Receives (told_one p1.roster.receives) (told_one_wakes p1.roster.receives) mark.Nothing refl (c.tell_one.ensures.lists known)
-    (λ q e s effect turned. (effect, turned))
-    in
-    let ends = on_list p2 _ (TellStreams ending) _ (ends_by ending) refl (Some (reply.TrySend (Ok tt))) _ (refl, refl) Streams (told_all p2.roster.streams) (told_all_wakes p2.roster.streams) mark.Nothing refl (c.tell_all.ensures.lists known)
-    (λ q e s effect turned. (effect, turned))
-    in (
-      Trying one aim.TrySend,
-      (one, c.push-call.ensures.starts, refl, refl),
-      (
-        2,
-        (
-          p2,
-          Working (TellStreams ending),
-          c.tell_one.new.sink,
-          mark.Nothing,
-          (p1, Working (TellReceive ending), c.args.sink.now, mark_of_queue (mark_of two), ([], refl, asks), (p2, Working (TellStreams ending), c.tell_one.new.sink, mark.Nothing, (_, c.tell_one.ensures.woken known, tells), (refl, refl, refl))),
-          (_, c.tell_all.ensures.woken known, ends),
-        ),
-      ),
-    )
-
-pub returns-in-Err-clause-steps : goal.returns-in-Err-clause-steps
-returns-in-Err-clause-steps g c known =
-    let is = c.in-Some.is ∙ ap (λ (z : QueueReply g.row.T.Denot). Some z) c.in-Err.ensures in
-    let p = g.C.ChannelCells.parts c.args.cells.now in
-    let p1 = g.C.ChannelCells.parts c.step_queue-answer.new.self in
-    let one = c.push-call.result in
-    let two = c.step_queue-answer.new.call in
-    ahead.answers_by g.S.Wakes.wakes p p1 _ (queue_ask.Push c.args.message) aim.TrySend one c.push-call.ensures.starts (mark_of_queue (mark_of two)) _ _ c.turned.ensures.taken
-    (ahead.keeps_by _ _ c.sent_next.ensures (ahead.sent_keeps c.in-Err.answer))
-    (λ r s taken. queue_answers p p1 one two aim.TrySend (c.step_queue-answer.ensures.roster known) c.in-Err.answer r s
-    (at_reply _ _ _ _ _ _ is (c.step_queue-answer.ensures.queue known)) (at_turn _ _ _ _ c.sent_next.ensures taken))
-
 pub returns-in-Err-clause-answers : goal.returns-in-Err-clause-answers
 returns-in-Err-clause-answers g c f has =
     let is = c.in-Some.is ∙ ap (λ (z : QueueReply g.row.T.Denot). Some z) c.in-Err.ensures in
     let one = c.push-call.result in
     let two = c.step_queue-answer.new.call in
-    ahead.gives_by f one aim.TrySend (ask.TrySend c.args.message) (ahead.sends g.row.W.Denot f one c.args.message c.push-call.ensures.asked) _ _ c.turned.ensures.taken
+    ahead.gives_by f one aim.TrySend (ask.TrySend c.args.message) (ahead.sends g.row.W.Denot f one c.args.message c.push-call.ensures.asked) _ _ c.turned.ensures.goes
     (ahead.keeps_by _ _ c.sent_next.ensures (ahead.sent_keeps c.in-Err.answer))
     (replying.answers f one two aim.TrySend _ c.in-Err.answer is (c.step_queue-answer.ensures.answers f has) _ c.sent_next.ensures)
 

@@ -1,5 +1,4 @@
 use Rattle.std.proofs.Common.{Option, subst}
-use Rattle.channel_calls.specs.Moves.{IsTaken}
 use Rattle.channel_calls.specs.Walks.{Takes}
 use Rattle.channel_calls.specs.Replies.{FollowsTurn}
 use Rattle.channel_calls.specs.declared.reply.Reply.{Reply}
@@ -9,9 +8,8 @@ pub returns-in-None : goal.returns-in-None
 returns-in-None g c =
     let s = c.takes-stage.result.stage in
     record {
-      goes = subst (λ (o : Option (Reply g.row.T.Denot)). Takes c.args.turn s o) c.in-None.is c.takes-stage.ensures.goes;
-      taken = (
-        subst (λ (o : Option (Reply g.row.T.Denot)). IsTaken c.args.turn o s) c.in-None.is c.takes-stage.ensures.taken,
+      goes = (
+        subst (λ (o : Option (Reply g.row.T.Denot)). Takes c.args.turn s o) c.in-None.is c.takes-stage.ensures.goes,
         λ b. subst (λ (o : Option (Reply g.row.T.Denot)). FollowsTurn b c.args.turn s o) c.in-None.is (c.takes-stage.ensures.follows b),
       );
     }

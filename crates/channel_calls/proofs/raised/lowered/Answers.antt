@@ -36,7 +36,7 @@ returns-in-Err g c =
     let did = Done g.C.ChannelCells.did g.S.Wakes.wakes in
     let s : g.row.C.Denot × g.row.S.Denot = (c.args.cells.now, c.args.sink.now) in
     let t : g.row.C.Denot × g.row.S.Denot = (c.lower-before.new.self, c.args.sink.now) in
-    let takes = subst (λ (z : Turn g.row.T.Denot g.row.W.Denot). Takes z c.in-Err.call.stage None) c.lowered_next.ensures c.in-Err.ensures.goes in
+    let takes = subst (λ (z : Turn g.row.T.Denot g.row.W.Denot). Takes z c.in-Err.call.stage None) c.lowered_next.ensures c.in-Err.ensures.goes.0 in
     record {
       deeds = (
         c.complete.result.reply,

@@ -1,20 +1,7 @@
-use Rattle.channel_calls.proofs.Steps.{inserted, not_inserted}
 use Rattle.channel_calls.specs.declared.stage.Stage.TheVariants.{Working}
 use Rattle.channel_calls.specs.declared.stage.Work.TheVariants.{Insert}
 use Rattle.channel_calls.proofs.Replying as replying
 use Rattle.channel_calls.proofs.step.insert.Goals as goal
-
-pub returns-in-Ok-clause-steps : goal.returns-in-Ok-clause-steps
-returns-in-Ok-clause-steps g c known =
-    let p = g.C.ChannelCells.parts c.args.cells.now in
-    inserted p _ c.args.waiting c.line.result c.line.ensures c.args.task _ _ c.again.result c.takes.ensures.taken _ c.takes.ensures.mark
-    c.in-Ok.key c.again.ensures (c.in-Ok.ensures.new known) (c.in-Ok.ensures.lists known)
-
-pub returns-in-Err-clause-steps : goal.returns-in-Err-clause-steps
-returns-in-Err-clause-steps g c known =
-    let p = g.C.ChannelCells.parts c.args.cells.now in
-    not_inserted p _ c.args.waiting c.line.result c.line.ensures c.args.task _ _ c.unlistened.result c.takes-in-Err.ensures.taken _ c.takes-in-Err.ensures.mark
-    c.in-Err.error c.unlistened.ensures (c.in-Err.ensures.lists known)
 
 pub returns-in-Ok-clause-answers : goal.returns-in-Ok-clause-answers
 returns-in-Ok-clause-answers g c b = replying.through _ b _ _ c.again.ensures (Working (Insert c.args.waiting c.args.task)) _ _ (c.takes.ensures.follows b) (λ r m t. replying.retried _ b c.args.waiting _ c.args.task r m t)

@@ -1,18 +1,8 @@
-use Rattle.std.proofs.Common.{[], refl, None}
+use Rattle.std.proofs.Common.{None}
 use Rattle.channel_calls.specs.declared.stage.Stage.TheVariants.{Trying, Working, Finished}
-use Rattle.channel_calls.proofs.Steps.{rests, at_next, at_stage}
 use Rattle.channel_calls.specs.Replies.{FollowsStage}
 use Rattle.channel_calls.proofs.Replying as replying
 use Rattle.channel_calls.proofs.step.stage_step.Goals as goal
-
-pub returns-in-Trying-clause-steps : goal.returns-in-Trying-clause-steps
-returns-in-Trying-clause-steps g c known = at_stage _ _ _ _ _ _ _ _ (Trying c.in-Trying.call c.in-Trying.aim) _ c.in-Trying.is ([], refl, c.try_step.ensures.steps known)
-
-pub returns-in-Working-clause-steps : goal.returns-in-Working-clause-steps
-returns-in-Working-clause-steps g c known = at_stage _ _ _ _ _ _ _ _ (Working c.in-Working.work) _ c.in-Working.is (c.work_step.ensures.steps known)
-
-pub returns-in-Finished-clause-steps : goal.returns-in-Finished-clause-steps
-returns-in-Finished-clause-steps g c known = at_stage _ _ _ _ _ _ _ _ (Finished c.in-Finished.kept) _ c.in-Finished.is ([], refl, at_next _ _ _ _ _ _ _ _ _ _ c.goes_on.ensures.stage c.goes_on.ensures.mark c.goes_on.ensures.reply (rests _ _ c.in-Finished.kept refl))
 
 pub returns-in-Trying-clause-answers : goal.returns-in-Trying-clause-answers
 returns-in-Trying-clause-answers g c f has = replying.at_stage _ f _ (Trying c.in-Trying.call c.in-Trying.aim) c.in-Trying.is _ _ (c.try_step.ensures.answers f has)

@@ -1,5 +1,6 @@
 use Rattle.std.proofs.Common.{◌≡◌, rules, arith, refl, ap, Some}
 use Rattle.std.proofs.lemmas.Option.{slice_get_read}
+use Rattle.channel_calls.proofs.Interface.{exact_step}
 use Rattle.channel_calls.specs.declared.stage.Kept.{Kept}
 use Rattle.channel_steps.specs.declared.party.Party.{Party}
 use Rattle.channel_steps.specs.Scene.{parties_after, left_by}
@@ -20,7 +21,9 @@ returns-clause-steps g c known =
       | in-Some w ↦ rw (w.in-Some.is, w.kept-is) (ap (λ (k : Kept g.row.T.Denot). Some k) (w.leave.ensures.kept next (get-set ps.items c.args.k next x there)))
       | in-None w ↦ rw (w.in-None.is, w.kept-is) refl
     ] in
-    stepped_at _ _ _ _ _ _ _ _ _ (made_at _ _ _ _ _ _ _ _ x c.step-reply.new.self c.last_mark-mark.result c.step-reply.result c.match-reply.kept there c.last_mark-mark.ensures (c.step-reply.ensures.steps known) given after)
+    let cells = g.C.ChannelCells in
+    let step = exact_step cells.did cells.parts (cells.exact known) g.S.Wakes.wakes _ _ _ _ _ _ _ x.call.stage c.step-reply.ensures.deed in
+    stepped_at _ _ _ _ _ _ _ _ _ (made_at _ _ _ _ _ _ _ _ x c.step-reply.new.self c.last_mark-mark.result c.step-reply.result c.match-reply.kept there c.last_mark-mark.ensures step given after)
 
 pub returns-clause-parties : goal.returns-clause-parties
 returns-clause-parties g c =

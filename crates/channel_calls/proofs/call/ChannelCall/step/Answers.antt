@@ -1,5 +1,4 @@
 use Rattle.std.proofs.Common.{◌≡◌, rules, sym}
-use Rattle.channel_calls.proofs.Steps.{at_stage}
 use Rattle.channel_calls.proofs.Replying as replying
 use Rattle.channel_calls.proofs.Walking as walking
 use Rattle.channel_calls.specs.Deeds.{Done}
@@ -9,11 +8,6 @@ pub returns-clause-deed : goal.returns-clause-deed
 returns-clause-deed g c =
     let e : c.replace-stage.result ≡ c.args.self.now.stage = search rules in
     rw c.replace.ensures.after (walking.at_stage (Done g.C.ChannelCells.did g.S.Wakes.wakes) _ _ (sym e) _ _ _ _ _ c.stage_step-stepped.ensures.deed)
-
-pub returns-clause-steps : goal.returns-clause-steps
-returns-clause-steps g c known =
-    let e : c.replace-stage.result ≡ c.args.self.now.stage = search rules in
-    rw c.replace.ensures.after (at_stage _ _ _ _ _ _ _ _ _ _ (sym e) (c.stage_step-stepped.ensures.steps known))
 
 pub returns-clause-answers : goal.returns-clause-answers
 returns-clause-answers g c f has =
