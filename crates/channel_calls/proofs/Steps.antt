@@ -147,8 +147,8 @@ module _ {T W : Type 0} where
       beside names m0 same one (e, takes) ok =
           subst (λ (x : Mark). IsStepOver parts (Working work) names parts' next x r) (sym e)
           (λ q f left right range fits.
-              let t = entered parts'.cells q f left right (still_fits q (left ++ right) same fits) turn r next (taken_of turn next r takes) in
-              record { queue = q; phase_now = t.phase_now; one_place = one; fits = t.fits; ends = λ free. tt; moves = ok q (phase t.phase_now next) t.turned })
+          let t = entered parts'.cells q f left right (still_fits q (left ++ right) same fits) turn r next (taken_of turn next r takes) in
+          record { queue = q; phase_now = t.phase_now; one_place = one; fits = t.fits; ends = λ free. tt; moves = ok q (phase t.phase_now next) t.turned })
 
       -- what follows from the effect of such a step
       abbrev Follows : (Channel T W → Effect T W) → Type 0
