@@ -1,0 +1,115 @@
+-- What a step of a party leads to, with the parties before it and after it.
+use Rattle.std.proofs.Common.{◌≡◌, ℕ, ◌<◌, suc, List, [], ◌∷◌, ◌++◌, length, None, refl, sym, ap, subst}
+use Rattle.concurrent_queue.specs.Queue.{IsInRange}
+use Rattle.event_listener.specs.Notices.{Woken}
+use Rattle.channel_calls.specs.Parts.{Parts}
+use Rattle.channel_calls.specs.declared.ask.ChannelAsk.{ChannelAsk}
+use Rattle.channel_steps.specs.Run.{HasBegun, Touches, Next, HasRange, IsRun}
+use Rattle.channel_steps.specs.Scene.{Scene, HoldNobodyUp, Shows, StepsAt, HasParty}
+use Rattle.channel_steps.specs.declared.party.Entry.{Entry}
+use Rattle.channel_steps.specs.declared.party.Party.{Party}
+use Rattle.channel_steps.specs.declared.run.Step.{Step}
+use Rattle.channel_steps.specs.declared.run.Step.TheVariants as step
+use Rattle.channel_steps.proofs.MoveFacts.{in_range}
+use Rattle.channel_steps.proofs.RunFacts.{next_range}
+use Rattle.channel_laws.specs.BridgeMoments.{Moment, left_to, EachStep, end_of}
+use Rattle.channel_laws.specs.Ends.{IsIdle}
+
+module _ {T W S : Type 0} where
+  abbrev pub at : Parts T W × S → List (Party T W) → Scene T W → Moment T W S
+  at c parties s = record { parts = c.0; parties = parties; scene = s; sink = c.1 }
+
+  -- where the others hold a call up no more, a step that doesn't end it leaves it fewer steps
+  abbrev pub Nearer : (m : Moment T W S) (x : Step T W) (e : Entry T) (names : List W) (n : Moment T W S) → Next m.scene x e names n.scene → Type 0
+  Nearer m (step.Begin p ask) e names n next = Unit {0}
+  Nearer m (step.Step p) e names n next =
+      e.reply ≡ None → HoldNobodyUp m.scene.now (next.before ++ next.behind) → left_to (length next.before) n < left_to (length next.before) m
+
+  -- a party that begins a call has none under way
+  abbrev pub MayBegin : Moment T W S → Step T W → Type 0
+  MayBegin m (step.Begin p ask) = IsIdle p m.scene
+  MayBegin m (step.Step p) = Unit {0}
+
+module _ {T W S : Type 0} (wakes : S → W → S → Type 0) where
+  pub record Leads (m : Moment T W S) (x : Step T W) (e : Entry T) (n : Moment T W S) : Type 0 where
+    pub begins : MayBegin m x
+    pub names : List W
+    pub touches : Touches x m.parts n.parts
+    pub next : Next m.scene x e names n.scene
+    pub woken : Woken wakes m.sink names n.sink
+    pub shows : Shows n.parts n.parties n.scene
+    pub nearer : Nearer m x e names n next
+
+  -- so it does from each scene that the cells and the parties show
+  pub record Led (c : Parts T W × S) (parties : List (Party T W)) (s : Scene T W) (x : Step T W) (e : Entry T) (d : Parts T W × S) (after : List (Party T W)) : Type 0 where
+    pub scene : Scene T W
+    pub leads : Leads (at c parties s) x e (at d after scene)
+
+  abbrev pub LeadsOn : Parts T W × S → List (Party T W) → Step T W → Entry T → Parts T W × S → List (Party T W) → Type 0
+  LeadsOn c parties x e d after = (s : Scene T W) → IsInRange s.now.queue → Shows c.0 parties s → Led c parties s x e d after
+
+  pub leads_begun : (p : ℕ) (ask : ChannelAsk T W) (c : Parts T W × S) (parties : List (Party T W)) (e : Entry T) (after : List (Party T W))
+      → ((s : Scene T W) → Shows c.0 parties s → IsIdle p s) → HasBegun p ask parties e after → LeadsOn c parties (step.Begin p ask) e c after
+  leads_begun p ask c parties e after idle begun s range sh =
+      let b = begun c.0 s sh in
+      record {
+        scene = b.after;
+        leads = record { begins = idle s sh; names = []; touches = refl; next = (b.begins, refl); woken = refl; shows = b.shown; nearer = tt };
+      }
+
+  pub leads_stepped : (p k : ℕ) (c : Parts T W × S) (parties : List (Party T W)) (e : Entry T) (d : Parts T W × S) (after : List (Party T W))
+      → HasParty p parties k → StepsAt wakes c.0 parties k c.1 e d.0 after d.1 → LeadsOn c parties (step.Step p) e d after
+  leads_stepped p k c parties e d after has steps s range sh =
+      let h = steps s (record { id = p; call = has.0 }) range sh has.1 in
+      let near = h.steps in
+      let m : Moment T W S = at c parties s in
+      let n : Moment T W S = at d after h.after in
+      record {
+        scene = h.after;
+        leads = record {
+          begins = tt;
+          names = h.names;
+          touches = h.one_place;
+          next = near.step;
+          woken = h.woken;
+          shows = h.shown;
+          nearer = λ goes_on hold. subst (λ (j : ℕ). left_to j n < left_to j m) (sym near.place) (near.nearer goes_on hold);
+        };
+      }
+
+  -- ---- many steps
+
+  -- these steps lead from a scene to a last one, by these moments
+  pub record Through (xs : List (Step T W)) (es : List (Entry T)) (c : Parts T W × S) (parties : List (Party T W)) (s : Scene T W) (last : Parts T W × S) (left : List (Party T W)) : Type 0 where
+    pub moments : List (Moment T W S)
+    pub each : EachStep (Leads) (at c parties s) xs es moments
+    pub end : Scene T W
+    pub ends : end_of (at c parties s) moments ≡ at last left end
+
+  -- from each scene that is shown
+  abbrev pub GoThrough : List (Step T W) → List (Entry T) → Parts T W × S → List (Party T W) → Parts T W × S → List (Party T W) → Type 0
+  GoThrough xs es c parties last left =
+      (s : Scene T W) → HasRange (length xs) s.now.queue → Shows c.0 parties s → Through xs es c parties s last left
+
+  pub through_none : (c : Parts T W × S) (parties : List (Party T W)) (last : Parts T W × S) → last ≡ c → GoThrough [] [] c parties last parties
+  through_none c parties last same s range sh =
+      record { moments = []; each = tt; end = s; ends = ap (λ (x : Parts T W × S). at x parties s) (sym same) }
+
+  pub through_more : (x : Step T W) (xs : List (Step T W)) (e : Entry T) (es : List (Entry T)) (c : Parts T W × S) (parties : List (Party T W)) (d : Parts T W × S) (after : List (Party T W)) (last : Parts T W × S) (left : List (Party T W))
+      → LeadsOn c parties x e d after → GoThrough xs es d after last left → GoThrough (x ∷ xs) (e ∷ es) c parties last left
+  through_more x xs e es c parties d after last left one more s range sh =
+      let h = one s (in_range (suc (length xs)) s.now.queue range) sh in
+      let g = more h.scene (next_range wakes (length xs) s x e h.leads.names h.scene h.leads.next range) h.leads.shows in
+      record { moments = at d after h.scene ∷ g.moments; each = (h.leads, g.each); end = g.end; ends = g.ends }
+
+  -- such steps are a run
+  pub is_run : (m : Moment T W S) (xs : List (Step T W)) (es : List (Entry T)) (ns : List (Moment T W S)) → EachStep Leads m xs es ns
+      → let n = end_of m ns in IsRun wakes m.parts m.scene m.sink xs es n.parts n.scene n.sink
+  is_run m [] [] [] h = (refl, refl, refl)
+  is_run m (x ∷ xs) (e ∷ es) (n ∷ ns) h =
+      let l = h.0 in
+      (n.parts, n.scene, n.sink, l.names, l.touches, l.next, l.woken, is_run n xs es ns h.1)
+  is_run m [] [] (n ∷ ns) h = absurd h
+  is_run m [] (e ∷ es) ns h = absurd h
+  is_run m (x ∷ xs) [] ns h = absurd h
+  is_run m (x ∷ xs) (e ∷ es) [] h = absurd h
