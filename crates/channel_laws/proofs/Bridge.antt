@@ -42,7 +42,8 @@ use Rattle.channel_steps.proofs.SceneFacts.{stepped_at, made_at}
 use Rattle.channel_steps.proofs.StartFacts.{new_shown}
 use Rattle.channel_laws.specs.Bridge.{Act, on_queue, on_roster, on_nothing, Event, begins, does, Happening, Given, Notes, Acts, own, step_of, steps_of, given_by, given_to, opened_parts, Changes, InOneOrder, MergesAreRuns}
 use Rattle.channel_laws.specs.Ends.{Each, IsIdle}
-use Rattle.channel_laws.proofs.BridgeLeads.{LeadsOn, GoThrough, leads_begun, leads_stepped, through_none, through_more}
+use Rattle.channel_laws.specs.Ends.{Each, IsIdle}
+use Rattle.channel_laws.proofs.BridgeLeads.{id_of, of, LeadsOn, GoThrough, leads_begun, leads_stepped, through_none, through_more}
 
 -- ---- a step that was noted, over cells that it changes
 
@@ -134,12 +135,6 @@ module _ {T : Type 0} where
   unmarked = record { mark = Nothing; reply = None; kept = None }
 
 module _ {T W : Type 0} where
-  abbrev id_of : Party T W → ℕ
-  id_of x = x.id
-
-  abbrev of : Party T W → Stage (QueueCall T) T W
-  of x = x.call.stage
-
   abbrev party : ℕ → Stage (QueueCall T) T W → Mark → Party T W
   party p at m = record { id = p; call = record { stage = at; mark = m } }
 
@@ -278,7 +273,7 @@ module _ {T W S : Type 0} (wakes : S → W → S → Type 0) (form : QueueForm) 
         runs.stepped_by wakes p k c.0 parties c.1 (entry answer) d.0 (parties_after parties k mine answer) d.1 is_there (steps_so answer makes)
 
     leads : (answer : Option (Reply T)) → ChannelMakes (Notes form) at on_nothing o m next answer → LeadsOn wakes c parties (step.Step p) (entry answer) d (parties_after parties k mine answer)
-    leads answer makes = leads_stepped wakes p k c parties (entry answer) d (parties_after parties k mine answer) is_there (steps_so answer makes)
+    leads answer makes = leads_stepped wakes p c parties (entry answer) d (parties_after parties k mine answer) apart (is_there, steps_so answer makes)
 
     ran_on : (answer : Option (Reply T)) → ChannelMakes (Notes form) at on_nothing o m next answer
         → RanTo wakes steps (steps_of xs) first_parts [] first_sink (trace ++ entry answer ∷ []) d.0 (parties_after parties k mine answer) d.1

@@ -1,5 +1,8 @@
 -- Each moment and each step of a merge says what the headline says.
-use Rattle.std.proofs.Common.{arith, ◌≡◌, ℕ, ◌+◌, ◌*◌, ◌≤◌, List, [], ◌∷◌, ◌++◌, length, slice_get, unwrap_or, Option, None, Some, inr, refl, sym, ap, ◌∙◌, subst, append_assoc}
+use Rattle.std.proofs.Common.{Bool, true, false, ◌==◌, ◌&&◌, ◌<◌, suc, is_none, if◌then◌else◌, map, arith, ◌≡◌, ℕ, ◌+◌, ◌*◌, ◌≤◌, List, [], ◌∷◌, ◌++◌, length, slice_get, unwrap_or, Option, None, Some, inr, refl, sym, ap, ◌∙◌, subst, append_assoc}
+use Rattle.std.specs.List.{remove}
+use Rattle.std.proofs.lemmas.List.{length-map}
+use Rattle.concurrent_queue.proofs.Callers.{is_same}
 use Rattle.concurrent_queue.specs.Capacity.{capacity_of}
 use Rattle.event_listener.specs.Notices.{Woken}
 use Rattle.channel_calls.specs.Moves.{Channel}
@@ -8,16 +11,16 @@ use Rattle.channel_calls.specs.declared.reply.Reply.{Reply}
 use Rattle.channel_steps.specs.Left.{all_left}
 use Rattle.channel_steps.specs.Moments.{Spent}
 use Rattle.channel_steps.specs.Run.{Next, new_scene}
-use Rattle.channel_steps.specs.Scene.{Under, Scene, Shows, brought, does, gone_by, came_by, wanted_at}
+use Rattle.channel_steps.specs.Scene.{Under, Scene, Shows, brought, does, gone_by, came_by, wanted_at, HoldNobodyUp, sees, unless_ended}
 use Rattle.channel_steps.specs.declared.party.Entry.{Entry}
 use Rattle.channel_steps.specs.declared.run.Step.{Step}
 use Rattle.channel_steps.specs.declared.run.Step.TheVariants as step
-use Rattle.channel_steps.proofs.Interface.{few_left}
+use Rattle.channel_steps.proofs.Interface.{few_left, hold_still}
 use Rattle.channel_laws.specs.Bounds.{BoundSound}
 use Rattle.channel_laws.specs.Bridge.{Happening, steps_of}
 use Rattle.channel_laws.specs.BridgeEnd.{GiveNothing, NothingComesAfter}
 use Rattle.channel_laws.specs.BridgeHeadline.{MomentSays, BeginSays, WorkSays, CallSays, StepSays, MergesKeepTheHeadline}
-use Rattle.channel_laws.specs.BridgeMoments.{Moment, EachStep, opened, end_of}
+use Rattle.channel_laws.specs.BridgeMoments.{Moment, EachStep, opened, end_of, EndInARow, NobodyHoldsUp, in_a_row, left_to, FewLeft}
 use Rattle.channel_laws.specs.Ends.{SaysTheEnd, Replies}
 use Rattle.channel_laws.specs.Marked.{AddUp, brought_by}
 use Rattle.channel_laws.specs.Receives.{MessagesAreFew, counts_for_receives}
@@ -209,6 +212,85 @@ module _ {T W S : Type 0} (wakes : S → W → S → Type 0) where
   nothing_comes m (x ∷ xs) [] ns k h = absurd h
   nothing_comes m (x ∷ xs) (e ∷ es) [] k h = absurd h
 
+-- ---- steps in a row
+
+module _ {T W : Type 0} where
+  removed : (us : List (Under T W)) (u : Under T W) (vs : List (Under T W)) → remove (us ++ (u ∷ vs)) (length us) ≡ us ++ vs
+  removed [] u vs = refl
+  removed (v ∷ us) u vs = ap (λ (ws : List (Under T W)). v ∷ ws) (removed us u vs)
+
+  found : (us : List (Under T W)) (u : Under T W) (vs : List (Under T W)) → slice_get (us ++ (u ∷ vs)) (length us) ≡ Some u
+  found [] u vs = refl
+  found (v ∷ us) u vs = found us u vs
+
+  -- at which place a call stands, and which are the others
+  pub record Stands (k : ℕ) (mine : Under T W) (others : List (Under T W)) (us : List (Under T W)) : Type 0 where
+    pub there : slice_get us k ≡ Some mine
+    pub others_are : remove us k ≡ others
+
+  stands : (us : List (Under T W)) (u : Under T W) (vs ws : List (Under T W)) → ws ≡ us ++ (u ∷ vs) → Stands (length us) u (us ++ vs) ws
+  stands us u vs ws e =
+      subst (λ (xs : List (Under T W)). Stands (length us) u (us ++ vs) xs) (sym e) (record { there = found us u vs; others_are = removed us u vs })
+
+module _ {T W S : Type 0} (wakes : S → W → S → Type 0) where
+  row_left : (k p : ℕ) (u : Under T W) (m : Moment T W S) (xs : List (Step T W)) (es : List (Entry T)) (ns : List (Moment T W S))
+      → EachStep (Leads wakes) m xs es ns → slice_get m.scene.under_way k ≡ Some u → u.party ≡ p → NobodyHoldsUp k m → in_a_row p xs es ≤ left_to k m
+  row_left k p u m [] [] [] h there his free = omega arith
+  row_left k p u m (step.Begin q ask ∷ xs) (e ∷ es) (n ∷ ns) h there his free = omega arith
+  row_left k p u m (step.Step q ∷ xs) (e ∷ es) (n ∷ ns) h there his free =
+      by (λ v here mine still. row_left k p v n xs es ns h.1 here mine still) (q == p) refl e.reply refl
+    where
+      by : ((v : Under T W) → slice_get n.scene.under_way k ≡ Some v → v.party ≡ p → NobodyHoldsUp k n → in_a_row p xs es ≤ left_to k n)
+          → (b : Bool) → (q == p) ≡ b → (r : Option (Reply T)) → e.reply ≡ r → (if b && is_none r then suc (in_a_row p xs es) else 0) ≤ left_to k m
+      by more false same r goes_on = omega arith
+      by more true same (Some x) goes_on = omega arith
+      by more true same None goes_on =
+          let l = h.0 in
+          let s = l.next in
+          let one : k ≡ length s.before = l.only k u there (his ∙ sym (is_same q p same)) in
+          let was = stands s.before s.mine s.behind m.scene.under_way s.there in
+          let free_there : HoldNobodyUp m.scene.now (remove m.scene.under_way (length s.before)) =
+          subst (λ (j : ℕ). HoldNobodyUp m.scene.now (remove m.scene.under_way j)) one free in
+          let hold : HoldNobodyUp m.scene.now (s.before ++ s.behind) =
+          subst (λ (us : List (Under T W)). HoldNobodyUp m.scene.now us) was.others_are free_there in
+          let less : left_to k n < left_to k m = subst (λ (j : ℕ). left_to j n < left_to j m) (sym one) (l.nearer goes_on hold) in
+          let before : List (Under T W) = map (sees n.scene.now) s.before in
+          let behind : List (Under T W) = map (sees n.scene.now) s.behind in
+          let after : Under T W = does s.mine s.at_now e.mark m.scene.now n.scene.now in
+          let goes : n.scene.under_way ≡ before ++ (after ∷ behind) =
+          subst (λ (r : Option (Reply T)). n.scene.under_way ≡ before ++ (unless_ended after r ++ behind)) goes_on s.left in
+          let is = stands before after behind n.scene.under_way goes in
+          let place : length before ≡ k = length-map s.before (sees n.scene.now) ∙ sym one in
+          let still : HoldNobodyUp n.scene.now (remove n.scene.under_way (length before)) =
+          subst (λ (us : List (Under T W)). HoldNobodyUp n.scene.now us) (sym is.others_are) (hold_still m.scene q e l.names n.scene s hold) in
+          let rest = more after
+          (subst (λ (j : ℕ). slice_get n.scene.under_way j ≡ Some after) place is.there) (s.whose ∙ is_same q p same)
+          (subst (λ (j : ℕ). HoldNobodyUp n.scene.now (remove n.scene.under_way j)) place still) in
+          omega (arith, less, rest)
+  row_left k p u m [] [] (n ∷ ns) h there his free = absurd h
+  row_left k p u m [] (e ∷ es) ns h there his free = absurd h
+  row_left k p u m (x ∷ xs) [] ns h there his free = absurd h
+  row_left k p u m (x ∷ xs) (e ∷ es) [] h there his free = absurd h
+
+  few_now : (m : Moment T W S) → Shows m.parts m.parties m.scene → FewLeft m
+  few_now m sh = few_at (all_left m.parts m.parties) m.scene.under_way (few_left m.parts m.parties m.scene sh)
+
+  end_in_a_row : (m : Moment T W S) (xs : List (Step T W)) (es : List (Entry T)) (ns : List (Moment T W S)) → Shows m.parts m.parties m.scene
+      → EachStep (Leads wakes) m xs es ns → EndInARow m xs es ns
+  end_in_a_row m [] [] [] sh h = tt
+  end_in_a_row m (x ∷ xs) (e ∷ es) (n ∷ ns) sh h =
+      let l = h.0 in (
+        λ k u there free.
+            let row = row_left k u.party u m (x ∷ xs) (e ∷ es) (n ∷ ns) h there refl free in
+            let most = few_now m sh k in
+            omega (arith, row, most),
+        end_in_a_row n xs es ns l.shows h.1,
+      )
+  end_in_a_row m [] [] (n ∷ ns) sh h = absurd h
+  end_in_a_row m [] (e ∷ es) ns sh h = absurd h
+  end_in_a_row m (x ∷ xs) [] ns sh h = absurd h
+  end_in_a_row m (x ∷ xs) (e ∷ es) [] sh h = absurd h
+
 -- ---- a merge
 
 module _ {T W : Type 0} where
@@ -235,4 +317,5 @@ merges_keep_the_headline T W S wakes form events given sink last woken has few a
       at_first = says_moment first shown kept;
       each = each_says wakes first (steps_of events) m.more g.moments kept g.each;
       after_the_end = nothing_comes wakes first (steps_of events) m.more g.moments kept g.each;
+      ends_soon = end_in_a_row wakes first (steps_of events) m.more g.moments shown g.each;
     }

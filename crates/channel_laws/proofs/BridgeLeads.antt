@@ -1,11 +1,14 @@
 -- What a step of a party leads to, with the parties before it and after it.
-use Rattle.std.proofs.Common.{◌≡◌, ℕ, ◌<◌, suc, List, [], ◌∷◌, ◌++◌, length, None, refl, sym, ap, subst}
+use Rattle.std.proofs.Common.{◌≡◌, ℕ, zero, suc, ◌<◌, ◌==◌, Bool, true, false, if◌then◌else◌, List, [], ◌∷◌, ◌++◌, map, length, slice_get, None, Some, refl, sym, ap, ◌∙◌, subst}
 use Rattle.concurrent_queue.specs.Queue.{IsInRange}
+use Rattle.concurrent_queue.specs.declared.queue_call.QueueCall.{QueueCall}
+use Rattle.concurrent_queue.proofs.Callers.{AllApart, is_same, is_other, none_has, place_of}
 use Rattle.event_listener.specs.Notices.{Woken}
 use Rattle.channel_calls.specs.Parts.{Parts}
 use Rattle.channel_calls.specs.declared.ask.ChannelAsk.{ChannelAsk}
+use Rattle.channel_calls.specs.declared.stage.Stage.{Stage}
 use Rattle.channel_steps.specs.Run.{HasBegun, Touches, Next, HasRange, IsRun}
-use Rattle.channel_steps.specs.Scene.{Scene, HoldNobodyUp, Shows, StepsAt, HasParty}
+use Rattle.channel_steps.specs.Scene.{Scene, HoldNobodyUp, Shows, StepsAt, HasParty, Under, Sitting, under_of}
 use Rattle.channel_steps.specs.declared.party.Entry.{Entry}
 use Rattle.channel_steps.specs.declared.party.Party.{Party}
 use Rattle.channel_steps.specs.declared.run.Step.{Step}
@@ -14,6 +17,37 @@ use Rattle.channel_steps.proofs.MoveFacts.{in_range}
 use Rattle.channel_steps.proofs.RunFacts.{next_range}
 use Rattle.channel_laws.specs.BridgeMoments.{Moment, left_to, EachStep, end_of}
 use Rattle.channel_laws.specs.Ends.{IsIdle}
+
+module _ {T W : Type 0} where
+  abbrev pub id_of : Party T W → ℕ
+  id_of x = x.id
+
+  abbrev pub of : Party T W → Stage (QueueCall T) T W
+  of x = x.call.stage
+
+  -- which is at one place
+  at_one_place : (p : ℕ) (xs : List (Party T W)) → AllApart id_of of xs → (k : ℕ) (x : Party T W) → slice_get xs k ≡ Some x → x.id ≡ p → k ≡ place_of id_of of p xs
+  at_one_place p [] apart k x there his = absurd cc
+  at_one_place p (y ∷ ys) apart k x there his = by (at_one_place p ys apart.1) (y.id == p) refl k there where
+    by : ((j : ℕ) (z : Party T W) → slice_get ys j ≡ Some z → z.id ≡ p → j ≡ place_of id_of of p ys) → (b : Bool) → (y.id == p) ≡ b
+        → (j : ℕ) → slice_get (y ∷ ys) j ≡ Some x → j ≡ (if b then 0 else suc (place_of id_of of p ys))
+    by more true e zero h = refl
+    by more true e (suc j) h = absurd (none_has id_of of y.id ys apart.0 j x h (his ∙ sym (is_same y.id p e)))
+    by more false e zero h = absurd (is_other y.id p e (let same : y ≡ x = cc in ap id_of same ∙ his))
+    by more false e (suc j) h = ap (λ (n : ℕ). suc n) (more j x h his)
+
+  -- a call under way is that of the party at its place
+  party_at : (xs : List (Sitting T W)) (k : ℕ) (u : Under T W) → slice_get (map under_of xs) k ≡ Some u
+      → (x : Party T W) × (slice_get (map (λ (y : Sitting T W). y.party) xs) k ≡ Some x) × (x.id ≡ u.party)
+  party_at [] k u e = absurd cc
+  party_at (x ∷ xs) zero u e = (x.party, refl, (let same : under_of x ≡ u = cc in ap (λ (v : Under T W). v.party) same))
+  party_at (x ∷ xs) (suc k) u e = party_at xs k u e
+
+  only_one : (p : ℕ) (parts : Parts T W) (parties : List (Party T W)) (s : Scene T W) → Shows parts parties s → AllApart id_of of parties
+      → (k : ℕ) (u : Under T W) → slice_get s.under_way k ≡ Some u → u.party ≡ p → k ≡ place_of id_of of p parties
+  only_one p parts parties s sh apart k u there his =
+      let x = party_at sh.sittings k u (subst (λ (us : List (Under T W)). slice_get us k ≡ Some u) sh.under_way there) in
+      at_one_place p parties apart k x.0 (subst (λ (ps : List (Party T W)). slice_get ps k ≡ Some x.0) (sym sh.parties_are) x.1) (x.2 ∙ his)
 
 module _ {T W S : Type 0} where
   abbrev pub at : Parts T W × S → List (Party T W) → Scene T W → Moment T W S
@@ -30,6 +64,12 @@ module _ {T W S : Type 0} where
   MayBegin m (step.Begin p ask) = IsIdle p m.scene
   MayBegin m (step.Step p) = Unit {0}
 
+  -- the call that makes the step is the only one of its party
+  abbrev pub Only : (m : Moment T W S) (x : Step T W) (e : Entry T) (names : List W) (n : Moment T W S) → Next m.scene x e names n.scene → Type 0
+  Only m (step.Begin p ask) e names n next = Unit {0}
+  Only m (step.Step p) e names n next =
+      (k : ℕ) (u : Under T W) → slice_get m.scene.under_way k ≡ Some u → u.party ≡ p → k ≡ length next.before
+
 module _ {T W S : Type 0} (wakes : S → W → S → Type 0) where
   pub record Leads (m : Moment T W S) (x : Step T W) (e : Entry T) (n : Moment T W S) : Type 0 where
     pub begins : MayBegin m x
@@ -39,6 +79,7 @@ module _ {T W S : Type 0} (wakes : S → W → S → Type 0) where
     pub woken : Woken wakes m.sink names n.sink
     pub shows : Shows n.parts n.parties n.scene
     pub nearer : Nearer m x e names n next
+    pub only : Only m x e names n next
 
   -- so it does from each scene that the cells and the parties show
   pub record Led (c : Parts T W × S) (parties : List (Party T W)) (s : Scene T W) (x : Step T W) (e : Entry T) (d : Parts T W × S) (after : List (Party T W)) : Type 0 where
@@ -54,12 +95,13 @@ module _ {T W S : Type 0} (wakes : S → W → S → Type 0) where
       let b = begun c.0 s sh in
       record {
         scene = b.after;
-        leads = record { begins = idle s sh; names = []; touches = refl; next = (b.begins, refl); woken = refl; shows = b.shown; nearer = tt };
+        leads = record { begins = idle s sh; names = []; touches = refl; next = (b.begins, refl); woken = refl; shows = b.shown; nearer = tt; only = tt };
       }
 
-  pub leads_stepped : (p k : ℕ) (c : Parts T W × S) (parties : List (Party T W)) (e : Entry T) (d : Parts T W × S) (after : List (Party T W))
-      → HasParty p parties k → StepsAt wakes c.0 parties k c.1 e d.0 after d.1 → LeadsOn c parties (step.Step p) e d after
-  leads_stepped p k c parties e d after has steps s range sh =
+  pub leads_stepped : (p : ℕ) (c : Parts T W × S) (parties : List (Party T W)) (e : Entry T) (d : Parts T W × S) (after : List (Party T W))
+      → AllApart id_of of parties → (let k = place_of id_of of p parties in HasParty p parties k × StepsAt wakes c.0 parties k c.1 e d.0 after d.1)
+      → LeadsOn c parties (step.Step p) e d after
+  leads_stepped p c parties e d after apart (has, steps) s range sh =
       let h = steps s (record { id = p; call = has.0 }) range sh has.1 in
       let near = h.steps in
       let m : Moment T W S = at c parties s in
@@ -74,6 +116,7 @@ module _ {T W S : Type 0} (wakes : S → W → S → Type 0) where
           woken = h.woken;
           shows = h.shown;
           nearer = λ goes_on hold. subst (λ (j : ℕ). left_to j n < left_to j m) (sym near.place) (near.nearer goes_on hold);
+          only = λ k u there his. only_one p c.0 parties s sh apart k u there his ∙ sym near.place;
         };
       }
 

@@ -22,7 +22,7 @@ use Rattle.channel_steps.specs.declared.run.Step.TheVariants as step
 use Rattle.channel_laws.specs.Bounds.{Fits}
 use Rattle.channel_laws.specs.Bridge.{Happening, Given, Acts, own, steps_of, given_to, opened_parts, InOneOrder}
 use Rattle.channel_laws.specs.BridgeEnd.{NothingComesAfter}
-use Rattle.channel_laws.specs.BridgeMoments.{Moment, FewLeft, EachStep, opened, left_to, end_of}
+use Rattle.channel_laws.specs.BridgeMoments.{Moment, FewLeft, EachStep, EndInARow, opened, left_to, end_of}
 use Rattle.channel_laws.specs.Closings.{PendingIsOwedTheClosing}
 use Rattle.channel_laws.specs.EndSays.{EndSays}
 use Rattle.channel_laws.specs.Ends.{Each, IsIdle, IsStill, GivesMessage, SaysTheEnd, Replies}
@@ -147,6 +147,9 @@ module _ {T W S : Type 0} (wakes : S → W → S → Type 0) where
     pub each : EachStep StepSays (opened form sink) (steps_of events) trace moments
     -- once a receive answered closed, or a stream ended, no call that begins later gives a message
     pub after_the_end : NothingComesAfter (steps_of events) trace
+    -- where no other call under way has a mark but Nothing, and an unbounded channel has had its first taking or there is no other
+    -- call, a call ends among its next 198 steps, and 64 more for each message that a receive of several may take, if these are next
+    pub ends_soon : EndInARow (opened form sink) (steps_of events) trace moments
 
 -- whatever parties do to a new channel, each by the machine and all in one order, as long as its positions last
 abbrev pub MergesKeepTheHeadline : (T W S : Type 0) → (S → W → S → Type 0) → Type 0

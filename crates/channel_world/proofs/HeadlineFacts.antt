@@ -1,23 +1,14 @@
 -- A run has each of the headline's sentences.
-use Rattle.std.proofs.Common.{arith, ◌≡◌, ◌+◌, List, [], ◌∷◌, length, Option, None, Some, Err, refl, sym, ap, subst}
-use Rattle.std.specs.Prelude.{IfSome}
-use Rattle.futures.specs.declared.task.Poll.TheVariants.{Ready}
-use Rattle.channel_calls.specs.Moves.{Channel}
+use Rattle.std.proofs.Common.{arith, ◌≡◌, ◌+◌, List, [], ◌∷◌, length, Option, None, refl, sym, ap, subst}
 use Rattle.channel_calls.specs.Parts.{Parts}
-use Rattle.channel_calls.specs.declared.ask.ChannelAsk.{ChannelAsk}
-use Rattle.channel_calls.specs.declared.ask.ChannelAsk.TheVariants as ask
-use Rattle.channel_calls.specs.declared.error.Refused.TheVariants as refused
 use Rattle.channel_calls.specs.declared.reply.Reply.{Reply}
-use Rattle.channel_calls.specs.declared.reply.Reply.TheVariants as reply
-use Rattle.channel_calls.specs.declared.stage.Kept.{Kept}
 use Rattle.channel_model.specs.declared.call.Call.{Call}
 use Rattle.channel_model.specs.declared.name.Waiter.{Waiter}
 use Rattle.channel_model.specs.declared.run.Stopped.{Stopped}
 use Rattle.channel_laws.specs.Ends.{SaysTheEnd, Replies}
 use Rattle.channel_laws.proofs.Interface.{stays_closed, stays_over, says_over, late_gives}
-use Rattle.channel_steps.specs.Answers.{Row, Keeps}
-use Rattle.channel_steps.specs.Moments.{Deed, Spent}
-use Rattle.channel_steps.specs.Scene.{Under, Scene, Finishes, MayFinish, does}
+use Rattle.channel_steps.specs.Moments.{Spent}
+use Rattle.channel_steps.specs.Scene.{Under, Scene, does}
 use Rattle.channel_steps.specs.declared.party.Entry.{Entry as ChannelEntry}
 use Rattle.channel_steps.specs.declared.run.Step.{Step as ChannelStep}
 use Rattle.channel_interleaving.specs.Kept.{AllKept}

@@ -1,28 +1,21 @@
 -- The sentences of the headline: what is said of each moment of a run, and of each step, from the moment m before it to the
 -- moment n after it.
-use Rattle.std.specs.Prelude.{◌≡◌, ◌<◌, false, List, [], ◌∷◌, ◌++◌, map, Option, None, Some, Err, IfSome}
-use Rattle.futures.specs.declared.task.Poll.TheVariants.{Ready}
+use Rattle.std.specs.Prelude.{◌≡◌, ◌<◌, false, List, [], ◌∷◌, ◌++◌, map, Option, None, IfSome}
 use Rattle.concurrent_queue.specs.Queue.{Phase}
 use Rattle.channel_calls.specs.Moves.{OnePlace}
-use Rattle.channel_calls.specs.Turns.{leaving, nothing_kept}
-use Rattle.channel_calls.specs.declared.ask.ChannelAsk.{ChannelAsk}
-use Rattle.channel_calls.specs.declared.ask.ChannelAsk.TheVariants as ask
-use Rattle.channel_calls.specs.declared.error.Refused.TheVariants as refused
 use Rattle.channel_calls.specs.declared.mark.Mark.TheVariants.{Nothing}
-use Rattle.channel_calls.specs.declared.reply.Reply.{Reply}
-use Rattle.channel_calls.specs.declared.reply.Reply.TheVariants as reply
 use Rattle.channel_calls.specs.declared.stage.Kept.{Kept}
 use Rattle.channel_calls.specs.declared.stage.Stage.{Stage}
 use Rattle.channel_laws.specs.Ends.{Each, IsStill, SaysTheEnd, GivesMessage, Replies}
 use Rattle.channel_laws.specs.Over.{AllSpent}
 use Rattle.channel_model.specs.declared.call.Call.{Call}
 use Rattle.channel_model.specs.declared.name.Waiter.{Waiter}
-use Rattle.channel_steps.specs.Answers.{asks_first, Keeps, Met}
+use Rattle.channel_steps.specs.Answers.{asks_first}
 use Rattle.channel_steps.specs.Known.{IsQuick}
-use Rattle.channel_steps.specs.Moments.{Deed, Shut, Spent}
+use Rattle.channel_steps.specs.Moments.{Shut, Spent}
 use Rattle.channel_steps.specs.Run.{begun as call_begun}
 use Rattle.channel_steps.specs.Scene.{Under, EndsInTime, brought, does, sees, unless_ended}
-use Rattle.channel_steps.specs.Tellings.{owed, telling, dropping, Names}
+use Rattle.channel_steps.specs.Tellings.{telling, dropping, Names}
 use Rattle.channel_interleaving.specs.Bookkeeping.{asks}
 use Rattle.channel_interleaving.specs.Floor.{StandsIn}
 use Rattle.channel_interleaving.specs.Owed.{Owed}
