@@ -42,7 +42,6 @@ use Rattle.channel_steps.proofs.SceneFacts.{stepped_at, made_at}
 use Rattle.channel_steps.proofs.StartFacts.{new_shown}
 use Rattle.channel_laws.specs.Bridge.{Act, on_queue, on_roster, on_nothing, Event, begins, does, Happening, Given, Notes, Acts, own, step_of, steps_of, given_by, given_to, opened_parts, Changes, InOneOrder, MergesAreRuns}
 use Rattle.channel_laws.specs.Ends.{Each, IsIdle}
-use Rattle.channel_laws.specs.Ends.{Each, IsIdle}
 use Rattle.channel_laws.proofs.BridgeLeads.{id_of, of, LeadsOn, GoThrough, leads_begun, leads_stepped, through_none, through_more}
 
 -- ---- a step that was noted, over cells that it changes
