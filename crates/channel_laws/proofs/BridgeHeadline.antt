@@ -1,30 +1,43 @@
--- Each step of a run says what the headline says.
-use Rattle.std.proofs.Common.{arith, ◌≡◌, ℕ, ◌+◌, List, [], ◌∷◌, ◌++◌, length, Option, None, Some, IfSome, inr, refl, sym, ap, ◌∙◌, subst, append_assoc, append-nil}
+-- Each moment and each step of a merge says what the headline says.
+use Rattle.std.proofs.Common.{Bool, true, false, ◌==◌, ◌&&◌, ◌<◌, suc, is_none, if◌then◌else◌, map, arith, ◌≡◌, ℕ, ◌+◌, ◌*◌, ◌≤◌, List, [], ◌∷◌, ◌++◌, length, slice_get, unwrap_or, Option, None, Some, inr, refl, sym, ap, ◌∙◌, subst, append_assoc}
+use Rattle.std.specs.List.{remove}
+use Rattle.std.proofs.lemmas.List.{length-map}
+use Rattle.concurrent_queue.proofs.Callers.{is_same}
 use Rattle.concurrent_queue.specs.Capacity.{capacity_of}
+use Rattle.event_listener.specs.Notices.{Woken}
 use Rattle.channel_calls.specs.Moves.{Channel}
-use Rattle.channel_calls.specs.Parts.{Parts}
+use Rattle.channel_calls.specs.declared.ask.ChannelAsk.{ChannelAsk}
 use Rattle.channel_calls.specs.declared.reply.Reply.{Reply}
-use Rattle.channel_calls.specs.declared.stage.Kept.{Kept}
-use Rattle.channel_steps.specs.Answers.{Met}
+use Rattle.channel_steps.specs.Left.{all_left}
 use Rattle.channel_steps.specs.Moments.{Spent}
-use Rattle.channel_steps.specs.Run.{Next, IsRun, Ran, new_scene}
-use Rattle.channel_steps.specs.Scene.{Under, Scene, MayFinish, gone_by, came_by}
+use Rattle.channel_steps.specs.Run.{Next, new_scene}
+use Rattle.channel_steps.specs.Scene.{Under, Scene, Shows, brought, does, gone_by, came_by, wanted_at, HoldNobodyUp, sees, unless_ended}
 use Rattle.channel_steps.specs.declared.party.Entry.{Entry}
 use Rattle.channel_steps.specs.declared.run.Step.{Step}
 use Rattle.channel_steps.specs.declared.run.Step.TheVariants as step
+use Rattle.channel_steps.proofs.Interface.{few_left, hold_still}
 use Rattle.channel_laws.specs.Bounds.{BoundSound}
-use Rattle.channel_laws.specs.Bridge.{Happening, steps_of, opened_parts}
-use Rattle.channel_laws.specs.BridgeHeadline.{HoldsAt, OfOwnCall, StepSays, EachStep, MergesKeepTheHeadline}
+use Rattle.channel_laws.specs.Bridge.{Happening, steps_of}
+use Rattle.channel_laws.specs.BridgeEnd.{GiveNothing, NothingComesAfter}
+use Rattle.channel_laws.specs.BridgeHeadline.{MomentSays, BeginSays, WorkSays, CallSays, StepSays, MergesKeepTheHeadline}
+use Rattle.channel_laws.specs.BridgeMoments.{Moment, EachStep, opened, end_of, EndInARow, NobodyHoldsUp, in_a_row, left_to, FewLeft}
 use Rattle.channel_laws.specs.Ends.{SaysTheEnd, Replies}
+use Rattle.channel_laws.specs.Marked.{AddUp, brought_by}
 use Rattle.channel_laws.specs.Receives.{MessagesAreFew, counts_for_receives}
 use Rattle.channel_laws.specs.Sends.{PlacesAreFew, counts_for_sends}
 use Rattle.channel_laws.specs.Sound.{AllSound}
 use Rattle.channel_laws.proofs.Bounds.{bound_new, bound_next}
-use Rattle.channel_laws.proofs.Bridge.{merges_are_runs}
+use Rattle.channel_laws.proofs.Bridge.{merged, shown_first}
+use Rattle.channel_laws.proofs.BridgeLeads.{Leads, is_run}
 use Rattle.channel_laws.proofs.Closings as closings
+use Rattle.channel_laws.proofs.EndFacts.{may_end}
+use Rattle.channel_laws.proofs.Ends.{silent_from, silent_long}
 use Rattle.channel_laws.proofs.Interface.{all_sound_new, all_sound_next, stays_over, stays_closed, says_over, late_gives}
+use Rattle.channel_laws.proofs.MarkFacts.{all_begin}
+use Rattle.channel_laws.proofs.MarkedFacts.{came_is, step_marked}
 use Rattle.channel_laws.proofs.Owed.{pending_owed}
 use Rattle.channel_laws.proofs.Streams as streams
+use Rattle.channel_laws.proofs.WordsFacts.{words_say}
 use Rattle.channel_calls.specs.declared.stage.Line.TheVariants.{Sends, Receives}
 
 module _ {T : Type 0} where
@@ -63,78 +76,246 @@ module _ {T W : Type 0} where
   kept_next s x e names t n k =
       record { sound = all_sound_next s x e names t k.sound n; bound = bound_next s x e names t n k.bound; order = order_next s x e names t n k.order }
 
-  -- ---- what a step says
+  -- ---- a moment
 
-  holds : (s : Scene T W) → StaysSo s → HoldsAt s
-  holds s k =
+  few_at : (ns : List ℕ) (us : List (Under T W)) → ((k n : ℕ) → slice_get ns k ≡ Some n → n ≤ 197 + 64 * wanted_at k us)
+      → (k : ℕ) → unwrap_or (slice_get ns k) 0 ≤ 197 + 64 * wanted_at k us
+  few_at ns us few k = by (slice_get ns k) refl where
+    by : (o : Option ℕ) → slice_get ns k ≡ o → unwrap_or o 0 ≤ 197 + 64 * wanted_at k us
+    by None e = omega arith
+    by (Some n) e = few k n e
+
+module _ {T W S : Type 0} where
+  says_moment : (m : Moment T W S) → Shows m.parts m.parties m.scene → StaysSo m.scene → MomentSays m
+  says_moment m sh k =
       record {
+        shows = sh;
         in_order = k.order;
         fits = k.bound.fits;
-        receives = pending_owed Receives tt MessagesAreFew counts_for_receives s k.sound.receives.owed;
-        sends = pending_owed Sends tt PlacesAreFew counts_for_sends s k.sound.sends.owed;
-        streams = streams.pending_owed s k.sound.streams.owed;
-        closing = closings.pending_owed s k.sound.closing.owed;
+        begun = all_begin m.scene.now m.scene.under_way sh.known;
+        receives = pending_owed Receives tt MessagesAreFew counts_for_receives m.scene k.sound.receives.owed;
+        sends = pending_owed Sends tt PlacesAreFew counts_for_sends m.scene k.sound.sends.owed;
+        streams = streams.pending_owed m.scene k.sound.streams.owed;
+        closing = closings.pending_owed m.scene k.sound.closing.owed;
+        words = words_say m.parts m.parties m.scene sh;
+        few = few_at (all_left m.parts m.parties) m.scene.under_way (few_left m.parts m.parties m.scene sh);
       }
 
-  met : (u : Under T W) (o : Option (Reply T)) (left : Option (Kept T)) → MayFinish u o left → IfSome o (λ r. Met u.ask u.deeds u.seen r)
-  met u None left h = tt
-  met u (Some r) left h = h.met
+module _ {T W S : Type 0} (wakes : S → W → S → Type 0) where
+  -- ---- a step
 
-  own_call : (s : Scene T W) (x : Step T W) (e : Entry T) (names : List W) (t : Scene T W) → Next s x e names t → StaysSo s → OfOwnCall s x e t
-  own_call s (step.Begin p ask) e names t n k = tt
-  own_call s (step.Step p) e names t n k =
+  says_begin : (m : Moment T W S) (p : ℕ) (ask : ChannelAsk T W) (e : Entry T) (n : Moment T W S) → Leads wakes m (step.Begin p ask) e n → BeginSays m p ask e n
+  says_begin m p ask e n l =
+      let b = l.next.0 in
       record {
-        before = n.before;
-        call = n.mine;
-        behind = n.behind;
-        there = n.there;
-        whose = n.whose;
-        replies = met _ e.reply e.kept n.finishes;
-        late = late_gives s p e names t n k.sound;
+        idle = l.begins;
+        mark = ap (λ (x : Entry T). x.mark) b.entry;
+        reply = ap (λ (x : Entry T). x.reply) b.entry;
+        woken = subst (λ (ws : List W). Woken wakes m.sink ws n.sink) l.next.1 l.woken;
+        parts = l.touches;
+        now = b.now;
+        at_first = b.at;
+        under_way = b.under_way;
       }
 
-  says_end : (s : Scene T W) (x : Step T W) (e : Entry T) (names : List W) (t : Scene T W) → Next s x e names t → StaysSo s → Replies SaysTheEnd e.reply → Spent t.now
-  says_end s (step.Begin p ask) e names t n k end = absurd (no_reply e (let b = n.0 in ap (λ (x : Entry T). x.reply) b.entry) end)
-  says_end s (step.Step p) e names t n k end = says_over s p e names t n k.sound end
-
-  says : (s : Scene T W) (x : Step T W) (e : Entry T) (names : List W) (t : Scene T W) → Next s x e names t → StaysSo s → StepSays s x e t
-  says s x e names t n k =
+  says_work : (m : Moment T W S) (p : ℕ) (e : Entry T) (n : Moment T W S) → Leads wakes m (step.Step p) e n → StaysSo m.scene → WorkSays wakes m p e n
+  says_work m p e n l k =
+      let s = l.next in
+      let after : Under T W = does s.mine s.at_now e.mark m.scene.now n.scene.now in
+      let came : came_by e.mark s.mine.ask ≡ brought_by e.mark (brought s.mine.ask) = came_is e.mark s.mine.ask in
       record {
-        holds = holds t (kept_next s x e names t n k);
-        call = own_call s x e names t n k;
-        closed = stays_closed s x e names t n;
-        over = λ h. (let o = stays_over s x e names t n h in o.0);
-        still = λ h. (let o = stays_over s x e names t n h in o.1);
-        ended = says_end s x e names t n k;
+        before = s.before;
+        call = s.mine;
+        behind = s.behind;
+        under_way = s.there;
+        party = s.whose;
+        at_now = s.at_now;
+        after = after;
+        is = refl;
+        goes_on = s.left;
+        work = record {
+          effect = step_marked m.scene p e l.names n.scene s;
+          touches = l.touches;
+          accounts = subst (λ (ms : List T). AddUp m.scene (gone_by e.mark m.scene.now.queue.items) ms n.scene) came
+              (record { held = s.held; gone = s.gone; came = s.came });
+          names = l.names;
+          told = s.named;
+          woken = l.woken;
+          ends = may_end after e.reply e.kept s.finishes;
+          in_time = s.quick;
+          late = late_gives m.scene p e l.names n.scene s k.sound;
+        };
+        nearer = l.nearer;
       }
 
+  says_call : (m : Moment T W S) (x : Step T W) (e : Entry T) (n : Moment T W S) → Leads wakes m x e n → StaysSo m.scene → CallSays wakes m x e n
+  says_call m (step.Begin p ask) e n l k = says_begin m p ask e n l
+  says_call m (step.Step p) e n l k = says_work m p e n l k
+
+  says_end : (m : Moment T W S) (x : Step T W) (e : Entry T) (n : Moment T W S) → Leads wakes m x e n → StaysSo m.scene → Replies SaysTheEnd e.reply → Spent n.scene.now
+  says_end m (step.Begin p ask) e n l k end = absurd (no_reply e (let b = l.next.0 in ap (λ (x : Entry T). x.reply) b.entry) end)
+  says_end m (step.Step p) e n l k end = says_over m.scene p e l.names n.scene l.next k.sound end
+
+  says : (m : Moment T W S) (x : Step T W) (e : Entry T) (n : Moment T W S) → Leads wakes m x e n → StaysSo m.scene → StepSays wakes m x e n
+  says m x e n l k =
+      record {
+        call = says_call m x e n l k;
+        closed = stays_closed m.scene x e l.names n.scene l.next;
+        over = stays_over m.scene x e l.names n.scene l.next;
+        the_end = says_end m x e n l k;
+        after = says_moment n l.shows (kept_next m.scene x e l.names n.scene l.next k);
+      }
+
+  each_says : (m : Moment T W S) (xs : List (Step T W)) (es : List (Entry T)) (ns : List (Moment T W S)) → StaysSo m.scene
+      → EachStep (Leads wakes) m xs es ns → EachStep (StepSays wakes) m xs es ns
+  each_says m [] [] [] k h = tt
+  each_says m (x ∷ xs) (e ∷ es) (n ∷ ns) k h =
+      let l = h.0 in
+      (says m x e n h.0 k, each_says n xs es ns (kept_next m.scene x e l.names n.scene l.next k) h.1)
+  each_says m [] [] (n ∷ ns) k h = absurd h
+  each_says m [] (e ∷ es) ns k h = absurd h
+  each_says m (x ∷ xs) [] ns k h = absurd h
+  each_says m (x ∷ xs) (e ∷ es) [] k h = absurd h
+
+  -- ---- the end
+
+  give_nothing : (m : Moment T W S) (xs : List (Step T W)) (es : List (Entry T)) (ns : List (Moment T W S)) → EachStep (Leads wakes) m xs es ns
+      → Spent m.scene.now → GiveNothing xs es
+  give_nothing m [] [] [] h over = tt
+  give_nothing m (step.Begin p ask ∷ xs) (e ∷ es) (n ∷ ns) h over =
+      let l = h.0 in
+      let last = end_of n ns in
+      let first = stays_over m.scene (step.Begin p ask) e l.names n.scene l.next over in (
+        silent_long wakes p m.parts last.parts m.scene last.scene m.sink last.sink (step.Begin p ask ∷ xs) (e ∷ es) over
+            (silent_from p m.scene.under_way l.begins) (is_run wakes m (step.Begin p ask ∷ xs) (e ∷ es) (n ∷ ns) h),
+        give_nothing n xs es ns h.1 first.0,
+      )
+  give_nothing m (step.Step p ∷ xs) (e ∷ es) (n ∷ ns) h over =
+      let l = h.0 in
+      let first = stays_over m.scene (step.Step p) e l.names n.scene l.next over in
+      give_nothing n xs es ns h.1 first.0
+  give_nothing m [] [] (n ∷ ns) h over = absurd h
+  give_nothing m [] (e ∷ es) ns h over = absurd h
+  give_nothing m (x ∷ xs) [] ns h over = absurd h
+  give_nothing m (x ∷ xs) (e ∷ es) [] h over = absurd h
+
+  nothing_comes : (m : Moment T W S) (xs : List (Step T W)) (es : List (Entry T)) (ns : List (Moment T W S)) → StaysSo m.scene
+      → EachStep (Leads wakes) m xs es ns → NothingComesAfter xs es
+  nothing_comes m [] [] [] k h = tt
+  nothing_comes m (x ∷ xs) (e ∷ es) (n ∷ ns) k h =
+      let l = h.0 in (
+        λ ended. give_nothing n xs es ns h.1 (says_end m x e n h.0 k ended),
+        nothing_comes n xs es ns (kept_next m.scene x e l.names n.scene l.next k) h.1,
+      )
+  nothing_comes m [] [] (n ∷ ns) k h = absurd h
+  nothing_comes m [] (e ∷ es) ns k h = absurd h
+  nothing_comes m (x ∷ xs) [] ns k h = absurd h
+  nothing_comes m (x ∷ xs) (e ∷ es) [] k h = absurd h
+
+-- ---- steps in a row
+
+module _ {T W : Type 0} where
+  removed : (us : List (Under T W)) (u : Under T W) (vs : List (Under T W)) → remove (us ++ (u ∷ vs)) (length us) ≡ us ++ vs
+  removed [] u vs = refl
+  removed (v ∷ us) u vs = ap (λ (ws : List (Under T W)). v ∷ ws) (removed us u vs)
+
+  found : (us : List (Under T W)) (u : Under T W) (vs : List (Under T W)) → slice_get (us ++ (u ∷ vs)) (length us) ≡ Some u
+  found [] u vs = refl
+  found (v ∷ us) u vs = found us u vs
+
+  -- at which place a call stands, and which are the others
+  pub record Stands (k : ℕ) (mine : Under T W) (others : List (Under T W)) (us : List (Under T W)) : Type 0 where
+    pub there : slice_get us k ≡ Some mine
+    pub others_are : remove us k ≡ others
+
+  stands : (us : List (Under T W)) (u : Under T W) (vs ws : List (Under T W)) → ws ≡ us ++ (u ∷ vs) → Stands (length us) u (us ++ vs) ws
+  stands us u vs ws e =
+      subst (λ (xs : List (Under T W)). Stands (length us) u (us ++ vs) xs) (sym e) (record { there = found us u vs; others_are = removed us u vs })
+
+module _ {T W S : Type 0} (wakes : S → W → S → Type 0) where
+  row_left : (k p : ℕ) (u : Under T W) (m : Moment T W S) (xs : List (Step T W)) (es : List (Entry T)) (ns : List (Moment T W S))
+      → EachStep (Leads wakes) m xs es ns → slice_get m.scene.under_way k ≡ Some u → u.party ≡ p → NobodyHoldsUp k m → in_a_row p xs es ≤ left_to k m
+  row_left k p u m [] [] [] h there his free = omega arith
+  row_left k p u m (step.Begin q ask ∷ xs) (e ∷ es) (n ∷ ns) h there his free = omega arith
+  row_left k p u m (step.Step q ∷ xs) (e ∷ es) (n ∷ ns) h there his free =
+      by (λ v here mine still. row_left k p v n xs es ns h.1 here mine still) (q == p) refl e.reply refl
+    where
+      by : ((v : Under T W) → slice_get n.scene.under_way k ≡ Some v → v.party ≡ p → NobodyHoldsUp k n → in_a_row p xs es ≤ left_to k n)
+          → (b : Bool) → (q == p) ≡ b → (r : Option (Reply T)) → e.reply ≡ r → (if b && is_none r then suc (in_a_row p xs es) else 0) ≤ left_to k m
+      by more false same r goes_on = omega arith
+      by more true same (Some x) goes_on = omega arith
+      by more true same None goes_on =
+          let l = h.0 in
+          let s = l.next in
+          let one : k ≡ length s.before = l.only k u there (his ∙ sym (is_same q p same)) in
+          let was = stands s.before s.mine s.behind m.scene.under_way s.there in
+          let free_there : HoldNobodyUp m.scene.now (remove m.scene.under_way (length s.before)) =
+          subst (λ (j : ℕ). HoldNobodyUp m.scene.now (remove m.scene.under_way j)) one free in
+          let hold : HoldNobodyUp m.scene.now (s.before ++ s.behind) =
+          subst (λ (us : List (Under T W)). HoldNobodyUp m.scene.now us) was.others_are free_there in
+          let less : left_to k n < left_to k m = subst (λ (j : ℕ). left_to j n < left_to j m) (sym one) (l.nearer goes_on hold) in
+          let before : List (Under T W) = map (sees n.scene.now) s.before in
+          let behind : List (Under T W) = map (sees n.scene.now) s.behind in
+          let after : Under T W = does s.mine s.at_now e.mark m.scene.now n.scene.now in
+          let goes : n.scene.under_way ≡ before ++ (after ∷ behind) =
+          subst (λ (r : Option (Reply T)). n.scene.under_way ≡ before ++ (unless_ended after r ++ behind)) goes_on s.left in
+          let is = stands before after behind n.scene.under_way goes in
+          let place : length before ≡ k = length-map s.before (sees n.scene.now) ∙ sym one in
+          let still : HoldNobodyUp n.scene.now (remove n.scene.under_way (length before)) =
+          subst (λ (us : List (Under T W)). HoldNobodyUp n.scene.now us) (sym is.others_are) (hold_still m.scene q e l.names n.scene s hold) in
+          let rest = more after
+          (subst (λ (j : ℕ). slice_get n.scene.under_way j ≡ Some after) place is.there) (s.whose ∙ is_same q p same)
+          (subst (λ (j : ℕ). HoldNobodyUp n.scene.now (remove n.scene.under_way j)) place still) in
+          omega (arith, less, rest)
+  row_left k p u m [] [] (n ∷ ns) h there his free = absurd h
+  row_left k p u m [] (e ∷ es) ns h there his free = absurd h
+  row_left k p u m (x ∷ xs) [] ns h there his free = absurd h
+  row_left k p u m (x ∷ xs) (e ∷ es) [] h there his free = absurd h
+
+  few_now : (m : Moment T W S) → Shows m.parts m.parties m.scene → FewLeft m
+  few_now m sh = few_at (all_left m.parts m.parties) m.scene.under_way (few_left m.parts m.parties m.scene sh)
+
+  end_in_a_row : (m : Moment T W S) (xs : List (Step T W)) (es : List (Entry T)) (ns : List (Moment T W S)) → Shows m.parts m.parties m.scene
+      → EachStep (Leads wakes) m xs es ns → EndInARow m xs es ns
+  end_in_a_row m [] [] [] sh h = tt
+  end_in_a_row m (x ∷ xs) (e ∷ es) (n ∷ ns) sh h =
+      let l = h.0 in (
+        λ k u there free.
+            let row = row_left k u.party u m (x ∷ xs) (e ∷ es) (n ∷ ns) h there refl free in
+            let most = few_now m sh k in
+            omega (arith, row, most),
+        end_in_a_row n xs es ns l.shows h.1,
+      )
+  end_in_a_row m [] [] (n ∷ ns) sh h = absurd h
+  end_in_a_row m [] (e ∷ es) ns sh h = absurd h
+  end_in_a_row m (x ∷ xs) [] ns sh h = absurd h
+  end_in_a_row m (x ∷ xs) (e ∷ es) [] sh h = absurd h
+
+-- ---- a merge
+
+module _ {T W : Type 0} where
   steps_many : (events : List (Happening T W)) → length (steps_of events) ≡ length events
   steps_many [] = refl
   steps_many (x ∷ xs) = let h = steps_many xs in omega (arith, h)
 
-module _ {T W S : Type 0} (wakes : S → W → S → Type 0) where
-  each : (p : Parts T W) (s : Scene T W) (a : S) (xs : List (Step T W)) (es : List (Entry T)) (q : Parts T W) (t : Scene T W) (b : S) (run : IsRun wakes p s a xs es q t b)
-      → StaysSo s → EachStep wakes StepSays p s a xs es q t b run
-  each p s a [] es q t b run k = tt
-  each p s a (x ∷ xs) [] q t b run k = tt
-  each p s a (x ∷ xs) (e ∷ es) q t b (o, m, c, names, touches, next, woken, more) k =
-      (says s x e names m next k, each o m c xs es q t b more (kept_next s x e names m next k))
-
 pub merges_keep_the_headline : (T W S : Type 0) (wakes : S → W → S → Type 0) → MergesKeepTheHeadline T W S wakes
 merges_keep_the_headline T W S wakes form events given sink last woken has few acts order =
-    let m = merges_are_runs T W S wakes form events given sink last woken has acts order in
-    let start : Scene T W = new_scene (capacity_of form) in
-    let r : Ran wakes (steps_of events) [] (opened_parts form) sink m.trace last m.parties woken start =
-    m.ran start (inr (let e = steps_many events in omega (arith, few, e))) m.opened in
-    let all : r.made ≡ steps_of events = sym (append-nil r.made) ∙ sym r.first in
-    let run : IsRun wakes (opened_parts form) start sink (steps_of events) m.trace last r.last woken =
-    subst (λ (xs : List (Step T W)). IsRun wakes (opened_parts form) start sink xs m.trace last r.last woken) all r.run in
+    let m = merged T W S wakes form events given sink last woken has acts order in
+    let shown = shown_first T W S wakes form events given sink last woken has acts order in
+    let first : Moment T W S = opened form sink in
+    let g = m.through first.scene (inr (let e = steps_many events in omega (arith, few, e))) shown in
+    let kept = kept_new (capacity_of form) in
     record {
-      trace = m.trace;
-      parties = m.parties;
-      end = r.last;
-      run = run;
+      trace = m.more;
+      moments = g.moments;
       answers = m.answers;
-      shows = r.shown;
-      says = each wakes (opened_parts form) start sink (steps_of events) m.trace last r.last woken run (kept_new (capacity_of form));
+      end = end_of first g.moments;
+      ends = refl;
+      left = ap (λ (n : Moment T W S). n.parts) g.ends;
+      woke = ap (λ (n : Moment T W S). n.sink) g.ends;
+      run = is_run wakes first (steps_of events) m.more g.moments g.each;
+      at_first = says_moment first shown kept;
+      each = each_says wakes first (steps_of events) m.more g.moments kept g.each;
+      after_the_end = nothing_comes wakes first (steps_of events) m.more g.moments kept g.each;
+      ends_soon = end_in_a_row wakes first (steps_of events) m.more g.moments shown g.each;
     }

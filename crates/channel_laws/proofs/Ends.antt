@@ -105,7 +105,7 @@ module _ {T W : Type 0} where
       let k = of_mine (Silent q) s t p e names st h in
       finish_gives (does st.mine st.at_now e.mark s.now t.now) e.reply e.kept st.finishes (with_still st.mine.deeds e.mark s.now st.mine.seen (k (st.whose ∙ same)) still) g
 
-  silent_from : (q : ℕ) (us : List (Under T W)) → Each (λ u. u.party ≡ q → ⊥) us → Each (Silent q) us
+  pub silent_from : (q : ℕ) (us : List (Under T W)) → Each (λ u. u.party ≡ q → ⊥) us → Each (Silent q) us
   silent_from q [] h = tt
   silent_from q (u ∷ us) h = (λ same. absurd (h.0 same), silent_from q us h.1)
 
@@ -134,7 +134,7 @@ module _ {T W : Type 0} where
     true_long parts parts' s t a b [] (e ∷ es) h run = absurd run
     true_long parts parts' s t a b (x ∷ xs) [] h run = absurd run
 
-    silent_long : (q : ℕ) (parts parts' : Parts T W) (s t : Scene T W) (a b : S) (xs : List (Step T W)) (es : List (Entry T)) → Spent s.now → Each (Silent q) s.under_way → IsRun wakes parts s a xs es parts' t b → GetsNothing q xs es
+    pub silent_long : (q : ℕ) (parts parts' : Parts T W) (s t : Scene T W) (a b : S) (xs : List (Step T W)) (es : List (Entry T)) → Spent s.now → Each (Silent q) s.under_way → IsRun wakes parts s a xs es parts' t b → GetsNothing q xs es
     silent_long q parts parts' s t a b [] [] over h run = tt
     silent_long q parts parts' s t a b (step.Begin p ask ∷ xs) (e ∷ es) over h run =
         let r = rests s (step.Begin p ask) e run.3 run.1 over run.5 in

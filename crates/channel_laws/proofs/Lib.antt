@@ -29,6 +29,13 @@ pub mod Bounds
 pub mod Unlisted
 pub mod Closers
 pub mod Interface
+pub mod PutFacts
+pub mod ChainedFacts
+pub mod WordsFacts
+pub mod MarkFacts
+pub mod MarkedFacts
+pub mod EndFacts
+mod BridgeLeads
 mod Bridge
 mod BridgeWalks
 mod BridgeRow

@@ -1,81 +1,155 @@
--- The headline, of calls of any number of parties whose deeds come in one order.
-use Rattle.std.specs.Prelude.{◌≡◌, ℕ, ◌<◌, ◌^◌, List, [], ◌∷◌, ◌++◌, length, None, IfSome}
+-- The headline, of calls of any number of parties whose deeds come in one order. Its sentences are those of the headline of a
+-- world by names, but what speaks of names.
+use Rattle.std.specs.Prelude.{◌≡◌, ℕ, ◌<◌, ◌^◌, List, [], ◌∷◌, ◌++◌, length, map, None, IfSome}
 use Rattle.concurrent_queue.specs.Bridge.{HasCells}
 use Rattle.concurrent_queue.specs.Capacity.{capacity_of}
+use Rattle.concurrent_queue.specs.Queue.{Phase}
 use Rattle.concurrent_queue.specs.declared.cells.QueueForm.{QueueForm}
+use Rattle.event_listener.specs.Notices.{Woken}
+use Rattle.channel_calls.specs.Moves.{OnePlace}
 use Rattle.channel_calls.specs.Parts.{Parts}
-use Rattle.channel_steps.specs.Answers.{Met}
-use Rattle.channel_steps.specs.Moments.{Shut, Spent, with_deed}
-use Rattle.channel_steps.specs.Run.{IsRun, new_scene}
-use Rattle.channel_steps.specs.Scene.{Under, Scene, Shows}
+use Rattle.channel_calls.specs.declared.ask.ChannelAsk.{ChannelAsk}
+use Rattle.channel_calls.specs.declared.mark.Mark.TheVariants.{Nothing}
+use Rattle.channel_calls.specs.declared.stage.Stage.{Stage}
+use Rattle.channel_steps.specs.Known.{IsQuick}
+use Rattle.channel_steps.specs.Moments.{Shut, Spent}
+use Rattle.channel_steps.specs.Run.{IsRun, begun as call_begun, new_scene}
+use Rattle.channel_steps.specs.Scene.{Under, Shows, EndsInTime, HoldNobodyUp, brought, does, gone_by, sees, unless_ended}
+use Rattle.channel_steps.specs.Tellings.{telling, dropping, Names}
 use Rattle.channel_steps.specs.declared.party.Entry.{Entry}
-use Rattle.channel_steps.specs.declared.party.Party.{Party}
 use Rattle.channel_steps.specs.declared.run.Step.{Step}
 use Rattle.channel_steps.specs.declared.run.Step.TheVariants as step
 use Rattle.channel_laws.specs.Bounds.{Fits}
 use Rattle.channel_laws.specs.Bridge.{Happening, Given, Acts, own, steps_of, given_to, opened_parts, InOneOrder}
+use Rattle.channel_laws.specs.BridgeEnd.{NothingComesAfter}
+use Rattle.channel_laws.specs.BridgeMoments.{Moment, FewLeft, EachStep, EndInARow, opened, left_to, end_of}
 use Rattle.channel_laws.specs.Closings.{PendingIsOwedTheClosing}
-use Rattle.channel_laws.specs.Ends.{IsStill, GivesMessage, SaysTheEnd, Replies}
+use Rattle.channel_laws.specs.EndSays.{EndSays}
+use Rattle.channel_laws.specs.Ends.{Each, IsIdle, IsStill, GivesMessage, SaysTheEnd, Replies}
+use Rattle.channel_laws.specs.Marked.{AddUp, brought_by, plain, marked}
+use Rattle.channel_laws.specs.Marks.{BeginsItsMarks}
 use Rattle.channel_laws.specs.Over.{AllSpent}
 use Rattle.channel_laws.specs.Receives.{PendingReceivesAreOwed}
 use Rattle.channel_laws.specs.Sends.{PendingSendsAreOwed}
 use Rattle.channel_laws.specs.Streams.{PendingStreamsAreOwed}
+use Rattle.channel_laws.specs.Words.{WordsSay}
 
-module _ {T W : Type 0} where
-  -- What holds at a moment: what left the channel, followed by what it holds, is what came into it, in order, and no more than fit.
-  -- Beside one who is pending and was not told, whose listener no call has in hand, there is no message, no free place and no
-  -- closing but such as a told one or a call under way answers for.
-  pub record HoldsAt (s : Scene T W) : Type 0 where
-    pub in_order : s.gone ++ s.now.queue.items ≡ s.came
-    pub fits : Fits s.now
-    pub receives : PendingReceivesAreOwed s
-    pub sends : PendingSendsAreOwed s
-    pub streams : PendingStreamsAreOwed s
-    pub closing : PendingIsOwedTheClosing s
+module _ {T W S : Type 0} where
+  -- ---- a moment
 
-  -- The call of the party that makes a step. Where the step ends it, the call's marks and moments, with the one after this step, are
-  -- what the row of its reply says; and a call that began when the channel was over gives no message.
-  pub record OwnCall (s : Scene T W) (p : ℕ) (e : Entry T) (t : Scene T W) : Type 0 where
+  pub record MomentSays (m : Moment T W S) : Type 0 where
+    -- the cells and the parties show its scene
+    pub shows : Shows m.parts m.parties m.scene
+    -- what left the channel, followed by what it holds, is what came into it, in order, and no more than fit
+    pub in_order : m.scene.gone ++ m.scene.now.queue.items ≡ m.scene.came
+    pub fits : Fits m.scene.now
+    -- of each call under way, the marks are the first of those that a call which asks this makes
+    pub begun : Each (λ u. BeginsItsMarks u) m.scene.under_way
+    -- beside one who is pending and was not told, whose listener no call has in hand, there is no message, no free place and no
+    -- closing but such as a told one or a call under way answers for
+    pub receives : PendingReceivesAreOwed m.scene
+    pub sends : PendingSendsAreOwed m.scene
+    pub streams : PendingStreamsAreOwed m.scene
+    pub closing : PendingIsOwedTheClosing m.scene
+    -- the channel is closed or not and holds so many messages as its queue's words say; and each message lies in the slot that
+    -- they name for it alone, without a bound by the blocks that follow one another, or is with the call that is yet to put it there
+    pub words : WordsSay m.parts.cells m.parties m.scene
+    -- no call has more steps left than 197, and 64 for each message that a receive of several may take, where none holds it up
+    pub few : FewLeft m
+
+  -- ---- the beginning of a call
+
+  pub record BeginSays (m : Moment T W S) (p : ℕ) (ask : ChannelAsk T W) (e : Entry T) (n : Moment T W S) : Type 0 where
+    -- its party has no call under way
+    pub idle : IsIdle p m.scene
+    -- it has no mark and wakes nobody, and touches nothing
+    pub mark : e.mark ≡ Nothing
+    pub reply : e.reply ≡ None
+    pub woken : n.sink ≡ m.sink
+    pub parts : n.parts ≡ m.parts
+    pub now : n.scene.now ≡ m.scene.now
+    -- a call of this party is under way from now on, whose only moment is the present one, with no mark and nothing told
+    pub at_first : Stage (Phase T) T W
+    pub under_way : n.scene.under_way ≡ m.scene.under_way ++ call_begun p ask at_first m.scene.now ∷ []
+
+module _ {T W S : Type 0} (wakes : S → W → S → Type 0) where
+  -- ---- a step of a call
+
+  -- what the step does, of a call that is `call` before it and `after` after it
+  pub record StepDoes (m : Moment T W S) (e : Entry T) (n : Moment T W S) (call after : Under T W) : Type 0 where
+    -- to the plain channel what its mark says, by touching one cell, one list or one count at most
+    pub effect : plain n.scene.now ≡ marked e.mark (brought call.ask) (plain m.scene.now)
+    pub touches : OnePlace m.parts n.parts
+    -- it takes out the oldest message and brings in the call's own where its mark says so
+    pub accounts : AddUp m.scene (gone_by e.mark m.scene.now.queue.items) (brought_by e.mark (brought call.ask)) n.scene
+    -- it wakes those whom its one telling finds waiting, in order, or him to whom a listener of its own that it drops passes its
+    -- notice on, and nobody else
+    pub names : List W
+    pub told : Names (telling call.at) (dropping call.at) m.scene.now names
+    pub woken : Woken wakes m.sink names n.sink
+    -- where it ends its call
+    pub ends : IfSome e.reply (λ r. EndSays after r e.kept)
+    -- closing, dropping, giving up, refused polls and the questions but the length end within eight steps of their own, whatever
+    -- others do
+    pub in_time : IsQuick call.ask → EndsInTime call.made e.reply
+    -- a call that began when the end was said gives no message
+    pub late : AllSpent call.seen → Replies GivesMessage e.reply → ⊥
+
+  pub record WorkSays (m : Moment T W S) (p : ℕ) (e : Entry T) (n : Moment T W S) : Type 0 where
+    -- the party's call, among those under way
     pub before : List (Under T W)
     pub call : Under T W
     pub behind : List (Under T W)
-    pub there : s.under_way ≡ before ++ (call ∷ behind)
-    pub whose : call.party ≡ p
-    pub replies : IfSome e.reply (λ r. Met call.ask (with_deed call.deeds e.mark s.now call.seen) (t.now ∷ call.seen) r)
-    pub late : AllSpent call.seen → Replies GivesMessage e.reply → ⊥
+    pub under_way : m.scene.under_way ≡ before ++ (call ∷ behind)
+    pub party : call.party ≡ p
+    -- the same call after the step: one moment more, the step's mark, and what the step told. It is under way no more if it has
+    -- answered; to all others the step is one more moment
+    pub at_now : Stage (Phase T) T W
+    pub after : Under T W
+    pub is : after ≡ does call at_now e.mark m.scene.now n.scene.now
+    pub goes_on : n.scene.under_way ≡ map (sees n.scene.now) before ++ (unless_ended after e.reply ++ map (sees n.scene.now) behind)
+    pub work : StepDoes m e n call after
+    -- where no other call holds it up, a step that does not end its call leaves it fewer steps
+    pub nearer : e.reply ≡ None → HoldNobodyUp m.scene.now (before ++ behind) → left_to (length before) n < left_to (length before) m
 
-  abbrev pub OfOwnCall : Scene T W → Step T W → Entry T → Scene T W → Type 0
-  OfOwnCall s (step.Begin p ask) e t = Unit {0}
-  OfOwnCall s (step.Step p) e t = OwnCall s p e t
+  -- ---- a step of a run
 
-  -- What a step says. What is closed stays closed; what is over, closed with nothing there and nothing on its way, stays over,
-  -- and nothing comes or leaves; a reply that says the end found it over.
-  pub record StepSays (s : Scene T W) (x : Step T W) (e : Entry T) (t : Scene T W) : Type 0 where
-    pub holds : HoldsAt t
-    pub call : OfOwnCall s x e t
-    pub closed : Shut s.now → Shut t.now
-    pub over : Spent s.now → Spent t.now
-    pub still : Spent s.now → IsStill e.mark
-    pub ended : Replies SaysTheEnd e.reply → Spent t.now
+  -- the party begins a call, or makes a step of the one that it has under way
+  abbrev pub CallSays : Moment T W S → Step T W → Entry T → Moment T W S → Type 0
+  CallSays m (step.Begin p ask) e n = BeginSays m p ask e n
+  CallSays m (step.Step p) e n = WorkSays m p e n
 
-module _ {T W S : Type 0} (wakes : S → W → S → Type 0) where
-  -- so it is of each step of a run, from the scene before it to the scene after it
-  abbrev pub EachStep : (Scene T W → Step T W → Entry T → Scene T W → Type 0)
-      → (p : Parts T W) (s : Scene T W) (a : S) (xs : List (Step T W)) (es : List (Entry T)) (q : Parts T W) (t : Scene T W) (b : S) → IsRun wakes p s a xs es q t b → Type 0
-  EachStep P p s a [] es q t b run = Unit {0}
-  EachStep P p s a (x ∷ xs) [] q t b run = Unit {0}
-  EachStep P p s a (x ∷ xs) (e ∷ es) q t b (o, m, c, names, touches, next, woken, more) = P s x e m × EachStep P o m c xs es q t b more
+  pub record StepSays (m : Moment T W S) (x : Step T W) (e : Entry T) (n : Moment T W S) : Type 0 where
+    pub call : CallSays m x e n
+    -- what is closed stays closed; what is over, closed with nothing there and nothing on its way, stays over, and no message comes
+    -- or leaves; and a reply that says the end found it over
+    pub closed : Shut m.scene.now → Shut n.scene.now
+    pub over : Spent m.scene.now → Spent n.scene.now × IsStill e.mark
+    pub the_end : Replies SaysTheEnd e.reply → Spent n.scene.now
+    pub after : MomentSays n
+
+  -- ---- a run
 
   -- A run made just the steps of these events, from a channel that was opened, gave each party this, and left these cells and this
-  -- sink; and each of its steps says what the headline says.
+  -- sink; and each of its moments and of its steps says what the headline says.
   pub record KeepsTheHeadline (form : QueueForm) (events : List (Happening T W)) (given : ℕ → List (Given T)) (sink : S) (last : Parts T W) (woken : S) : Type 0 where
     pub trace : List (Entry T)
-    pub parties : List (Party T W)
-    pub end : Scene T W
-    pub run : IsRun wakes (opened_parts form) (new_scene (capacity_of form)) sink (steps_of events) trace last end woken
+    pub moments : List (Moment T W S)
     pub answers : (p : ℕ) → given_to p events trace ≡ given p
-    pub shows : Shows last parties end
-    pub says : EachStep StepSays (opened_parts form) (new_scene (capacity_of form)) sink (steps_of events) trace last end woken run
+    -- the moment at which it ends
+    pub end : Moment T W S
+    pub ends : end_of (opened form sink) moments ≡ end
+    pub left : end.parts ≡ last
+    pub woke : end.sink ≡ woken
+    pub run : IsRun wakes (opened_parts form) (new_scene (capacity_of form)) sink (steps_of events) trace end.parts end.scene end.sink
+    -- what is said of a moment is said of the first one; and what is said of a step, and of the moment after it, of each step
+    pub at_first : MomentSays (opened {T = T} {W = W} form sink)
+    pub each : EachStep StepSays (opened form sink) (steps_of events) trace moments
+    -- once a receive answered closed, or a stream ended, no call that begins later gives a message
+    pub after_the_end : NothingComesAfter (steps_of events) trace
+    -- where no other call under way has a mark but Nothing, and an unbounded channel has had its first taking or there is no other
+    -- call, a call ends among its next 198 steps, and 64 more for each message that a receive of several may take, if these are next
+    pub ends_soon : EndInARow (opened form sink) (steps_of events) trace moments
 
 -- whatever parties do to a new channel, each by the machine and all in one order, as long as its positions last
 abbrev pub MergesKeepTheHeadline : (T W S : Type 0) → (S → W → S → Type 0) → Type 0

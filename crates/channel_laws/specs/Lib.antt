@@ -11,7 +11,15 @@ pub mod Sends
 pub mod Bounds
 pub mod Unlisted
 pub mod Sound
+pub mod Put
+pub mod Chained
+pub mod Words
+pub mod Marks
+pub mod Marked
+pub mod EndSays
 pub mod Bridge
+pub mod BridgeMoments
 pub mod BridgeRow
 pub mod BridgeBlocks
+pub mod BridgeEnd
 pub mod BridgeHeadline

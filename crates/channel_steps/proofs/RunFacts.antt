@@ -106,7 +106,7 @@ module _ {T W : Type 0} where
     run_more p s a [] (d ∷ es) o m b x e names q t c run one next woken = absurd run
     run_more p s a (y ∷ xs) [] o m b x e names q t c run one next woken = absurd run
 
-    next_range : (n : ℕ) (s : Scene T W) (x : Step T W) (e : Entry T) (names : List W) (t : Scene T W) → Next s x e names t → HasRange (suc n) s.now.queue → HasRange n t.now.queue
+    pub next_range : (n : ℕ) (s : Scene T W) (x : Step T W) (e : Entry T) (names : List W) (t : Scene T W) → Next s x e names t → HasRange (suc n) s.now.queue → HasRange n t.now.queue
     next_range n s (step.Begin p ask) e names t next h =
         let same : t.now.queue ≡ s.now.queue = ap (λ (c : Channel T W). c.queue) next.0.now in
         let a : t.now.queue.accepted ≡ s.now.queue.accepted = ap (λ (q : Queue T). q.accepted) same in

@@ -1,23 +1,14 @@
 -- A run has each of the headline's sentences.
-use Rattle.std.proofs.Common.{arith, ◌≡◌, ◌+◌, List, [], ◌∷◌, length, Option, None, Some, Err, refl, sym, ap, subst}
-use Rattle.std.specs.Prelude.{IfSome}
-use Rattle.futures.specs.declared.task.Poll.TheVariants.{Ready}
-use Rattle.channel_calls.specs.Moves.{Channel}
+use Rattle.std.proofs.Common.{arith, ◌≡◌, ◌+◌, List, [], ◌∷◌, length, Option, None, refl, sym, ap, subst}
 use Rattle.channel_calls.specs.Parts.{Parts}
-use Rattle.channel_calls.specs.declared.ask.ChannelAsk.{ChannelAsk}
-use Rattle.channel_calls.specs.declared.ask.ChannelAsk.TheVariants as ask
-use Rattle.channel_calls.specs.declared.error.Refused.TheVariants as refused
 use Rattle.channel_calls.specs.declared.reply.Reply.{Reply}
-use Rattle.channel_calls.specs.declared.reply.Reply.TheVariants as reply
-use Rattle.channel_calls.specs.declared.stage.Kept.{Kept}
 use Rattle.channel_model.specs.declared.call.Call.{Call}
 use Rattle.channel_model.specs.declared.name.Waiter.{Waiter}
 use Rattle.channel_model.specs.declared.run.Stopped.{Stopped}
 use Rattle.channel_laws.specs.Ends.{SaysTheEnd, Replies}
 use Rattle.channel_laws.proofs.Interface.{stays_closed, stays_over, says_over, late_gives}
-use Rattle.channel_steps.specs.Answers.{Row, Keeps}
-use Rattle.channel_steps.specs.Moments.{Deed, Spent}
-use Rattle.channel_steps.specs.Scene.{Under, Scene, Finishes, MayFinish, does}
+use Rattle.channel_steps.specs.Moments.{Spent}
+use Rattle.channel_steps.specs.Scene.{Under, Scene, does}
 use Rattle.channel_steps.specs.declared.party.Entry.{Entry as ChannelEntry}
 use Rattle.channel_steps.specs.declared.run.Step.{Step as ChannelStep}
 use Rattle.channel_interleaving.specs.Kept.{AllKept}
@@ -30,15 +21,18 @@ use Rattle.channel_interleaving.specs.declared.step.PartyId.{PartyId}
 use Rattle.channel_interleaving.specs.declared.step.Step.{Step}
 use Rattle.channel_interleaving.specs.declared.step.Step.TheVariants as step
 use Rattle.channel_interleaving.proofs.Interface.{few_in, owed_at, tries_at}
-use Rattle.channel_world.proofs.MarkFacts.{all_begin}
-use Rattle.channel_world.proofs.MarkedFacts.{step_marked, all_add}
+use Rattle.channel_laws.proofs.MarkFacts.{all_begin}
+use Rattle.channel_laws.proofs.EndFacts.{may_end}
+use Rattle.channel_laws.proofs.MarkedFacts.{step_marked}
+use Rattle.channel_world.proofs.MarkedFacts.{all_add}
 use Rattle.channel_world.proofs.SoonFacts.{all_in_a_row, in_front}
 use Rattle.channel_world.proofs.TheEndFacts.{ended_before, nothing_comes}
-use Rattle.channel_world.proofs.WordsFacts.{words_say}
+use Rattle.channel_laws.proofs.WordsFacts.{words_say}
 use Rattle.channel_world.specs.Headline.{Headline}
-use Rattle.channel_world.specs.Marked.{AddUp, all_brought, all_taken}
-use Rattle.channel_world.specs.Words.{WordsSay}
-use Rattle.channel_world.specs.Sentences.{MomentSays, BeginSays, LeavesNothing, EndSays, WorkSays, CallSays, StepSays}
+use Rattle.channel_laws.specs.Marked.{AddUp}
+use Rattle.channel_world.specs.Marked.{all_brought, all_taken}
+use Rattle.channel_laws.specs.Words.{WordsSay}
+use Rattle.channel_world.specs.Sentences.{MomentSays, BeginSays, WorkSays, CallSays, StepSays}
 
 module _ {T : Type 0} where
   -- ---- a moment
@@ -80,34 +74,6 @@ module _ {T : Type 0} where
         under_way = b.under_way;
         book = l.made.book;
       }
-
-  leaves : (a : ChannelAsk T Waiter) (ds : List (Deed T Waiter)) (seen : List (Channel T Waiter)) (r : Reply T) (k : Kept T)
-      → Row a ds seen r → Keeps a r k → LeavesNothing a ds r k
-  leaves (ask.TrySend m) ds seen (reply.TrySend (Err (refused.NoMemory v))) k h keeps = (h.1, h.0, keeps)
-  leaves (ask.ForceSend m) ds seen (reply.ForceSend (Err (refused.NoMemory v))) k h keeps = (h.1, h.0, keeps)
-  leaves (ask.RecvMany n) ds seen (reply.RecvMany (Err (refused.NoMemory u))) k h keeps = (h.0, keeps)
-  leaves (ask.PollSend m key task) ds seen (reply.SendPoll (Ready (Err (refused.NoMemory u)))) k h keeps = (h.0, keeps)
-  leaves (ask.PollSend m key task) ds seen (reply.SendPoll (Ready (Err (refused.SerialsUsedUp u)))) k h keeps = (h.0, keeps)
-  leaves (ask.PollRecv key task) ds seen (reply.RecvPoll (Ready (Err (refused.NoMemory u)))) k h keeps = (h.0, keeps)
-  leaves (ask.PollRecv key task) ds seen (reply.RecvPoll (Ready (Err (refused.SerialsUsedUp u)))) k h keeps = (h.0, keeps)
-  leaves (ask.PollClosed key task) ds seen (reply.ClosedPoll (Ready (Err e))) k h keeps = (h.0, keeps)
-  leaves (ask.PollNext key task) ds seen (reply.Next (Ready (Some (Err e)))) k h keeps = (h, keeps)
-  leaves (ask.RefusePoll line message key) ds seen r k h keeps = (h.0, keeps)
-  leaves a ds seen r k h keeps = tt
-
-  end_says : (u : Under T Waiter) (r : Reply T) (left : Option (Kept T)) → Finishes u r left → EndSays u r left
-  end_says u r left f = record {
-    row = f.met;
-    told = f.all_told;
-    kept = f.kept;
-    leaves = f.given;
-    keeps = f.keeps;
-    nothing = leaves u.ask u.deeds f.met.1 r f.kept f.met.3 f.keeps;
-  }
-
-  may_end : (u : Under T Waiter) (r : Option (Reply T)) (left : Option (Kept T)) → MayFinish u r left → IfSome r (λ x. EndSays u x left)
-  may_end u None left f = tt
-  may_end u (Some r) left f = end_says u r left f
 
   work_says : (m : Moment T) (p : PartyId) (e : Entry T) (n : Moment T) → AllKept m.book m.scene → LeadsBy m (step.Step p) e n → WorkSays m p e n
   work_says m p e n k l =

@@ -12,12 +12,8 @@ pub mod SleepFacts
 pub mod TurnFacts
 pub mod SinceFacts
 pub mod SoonFacts
-pub mod MarkFacts
 pub mod MarkedFacts
 pub mod TheEndFacts
-pub mod PutFacts
-pub mod ChainedFacts
-pub mod WordsFacts
 pub mod HeadlineFacts
 pub mod PartyFacts
 pub mod StopFacts

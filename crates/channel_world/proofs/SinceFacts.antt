@@ -182,13 +182,13 @@ module _ {T : Type 0} (world : Parts T Waiter) where
 -- ---- the laws
 
 module _ (T : Type 0) where
-  pub closes_what_is_left : ClosesWhatIsLeft T
-  closes_what_is_left s world replies led =
+  pub closes_what_is_left : (world : Floor T) → ClosesWhatIsLeft world
+  closes_what_is_left world s replies led =
       subst (λ (rs : List (Reply T)). closings_among rs ≤ closings_left s) led.way.given (way_closes s led.last led.way.paces led.way.is)
 
-  pub closes_once : ClosesOnce T
-  closes_once capacity world replies led =
-      let most = closes_what_is_left (new_scene capacity) world replies led in omega (arith, most)
+  pub closes_once : (world : Floor T) → ClosesOnce world
+  closes_once world capacity replies led =
+      let most = closes_what_is_left world (new_scene capacity) replies led in omega (arith, most)
 
   -- with no call under way none has closed it
   left_at_rest : (a : Floor T) (k : Stands a) → IsQuiet a → closings_left k.scene ≡ while_open (at_rest a).channel.closed
@@ -202,33 +202,33 @@ module _ (T : Type 0) where
   one_at_most true = omega arith
   one_at_most false = omega arith
 
-  pub closes_once_from_rest : ClosesOnceFromRest T
-  closes_once_from_rest a b replies k quiet leads =
-      let most = closes_what_is_left k.scene b replies (leads k.scene k.stands) in
+  pub closes_once_from_rest : (world : Floor T) → ClosesOnceFromRest world
+  closes_once_from_rest b a replies k quiet leads =
+      let most = closes_what_is_left b k.scene replies (leads k.scene k.stands) in
       let left = left_at_rest a k quiet in
       let one = one_at_most (at_rest a).channel.closed in
       omega (arith, most, left, one)
 
-  pub none_closes_again : NoneClosesAgain T
-  none_closes_again a b replies k quiet shut leads =
-      let most = closes_what_is_left k.scene b replies (leads k.scene k.stands) in
+  pub none_closes_again : (world : Floor T) → NoneClosesAgain world
+  none_closes_again b a replies k quiet shut leads =
+      let most = closes_what_is_left b k.scene replies (leads k.scene k.stands) in
       let left = left_at_rest a k quiet in
       let none : while_open (at_rest a).channel.closed ≡ 0 = ap while_open shut in
       omega (arith, most, left, none)
 
-  pub is_never_full_since : IsNeverFullSince T
-  is_never_full_since s world replies h led =
+  pub is_never_full_since : (world : Floor T) → IsNeverFullSince world
+  is_never_full_since world s replies h led =
       subst (λ (rs : List (Reply T)). NoneSaysFull rs) led.way.given
       (way_never_full (parts_in world) s led.last led.way.paces h led.way.is)
 
-  pub is_never_full : IsNeverFull T
-  is_never_full world replies led = is_never_full_since (new_scene None) world replies (record { now = refl; seen = tt }) led
+  pub is_never_full : (world : Floor T) → IsNeverFull world
+  is_never_full world replies led = is_never_full_since world (new_scene None) replies (record { now = refl; seen = tt }) led
 
-  pub is_never_full_from_rest : IsNeverFullFromRest T
-  is_never_full_from_rest a b replies k quiet bare leads =
+  pub is_never_full_from_rest : (world : Floor T) → IsNeverFullFromRest world
+  is_never_full_from_rest b a replies k quiet bare leads =
       let none = none_under_way a k.scene quiet k.stands.shown in
       let same = ap (λ (x : State T). x.channel.capacity) (sym (at_rest_is a k.scene k.stands.shown quiet)) in
-      is_never_full_since k.scene b replies
+      is_never_full_since b k.scene replies
       (record {
         now = same ∙ bare;
         seen = subst (λ (us : List (Under T Waiter)). Each (λ (u : Under T Waiter). AllOf None u.seen) us) (sym none) tt;

@@ -1,8 +1,9 @@
 -- What is carried through all that is done to a world, one thing after another; and how many messages a world holds at most.
-use Rattle.std.specs.Prelude.{◌≤◌, List, [], ◌++◌, map, IfSome}
+use Rattle.std.specs.Prelude.{◌≤◌, List, [], ◌++◌, map, Option, None, Some, IfSome}
 use Rattle.concurrent_queue.specs.Capacity.{capacity_of}
 use Rattle.channel_calls.specs.declared.reply.Reply.{Reply}
 use Rattle.channel_model.specs.declared.name.Waiter.{Waiter}
+use Rattle.channel_model.specs.declared.run.CallRun.{CallRun}
 use Rattle.channel_model.specs.declared.run.Done.{Done}
 use Rattle.channel_steps.specs.Scene.{Scene}
 use Rattle.channel_interleaving.specs.Floor.{parts_in, messages_in, Led, LeadsOn, Stands}
@@ -12,6 +13,11 @@ use Rattle.channel_world.specs.declared.settle.Settled.{Settled}
 -- what the calls of a list replied, in order
 abbrev pub replied_in : {T : Type 0} → List (Done T) → List (Reply T)
 replied_in {T} done = map (λ (d : Done T). d.reply) done
+
+-- the same of a list of calls that may not have been begun
+abbrev pub replied_if : {T : Type 0} → Option (CallRun T) → List (Reply T)
+replied_if None = []
+replied_if (Some run) = replied_in run.done.items
 
 -- and the polls of a settling
 abbrev pub polls_replied : {T : Type 0} → List (Settled T) → List (Reply T)

@@ -10,7 +10,8 @@ use Rattle.channel_model.specs.declared.name.Waiter.{Waiter}
 use Rattle.channel_model.specs.declared.run.Stopped.{Stopped}
 use Rattle.channel_steps.specs.Moments.{Spent}
 use Rattle.channel_steps.specs.Scene.{Scene}
-use Rattle.channel_world.specs.Marked.{AddUp, all_taken, all_brought}
+use Rattle.channel_laws.specs.Marked.{AddUp}
+use Rattle.channel_world.specs.Marked.{all_taken, all_brought}
 use Rattle.channel_world.specs.Sentences.{MomentSays, StepSays}
 use Rattle.channel_world.specs.StepsLeft.{EndInARow, EndInFront}
 use Rattle.channel_world.specs.TheEnd.{GiveNothing, NothingComesAfter}

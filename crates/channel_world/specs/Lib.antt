@@ -1,8 +1,4 @@
 pub mod World
-pub mod Marks
-pub mod Put
-pub mod Chained
-pub mod Words
 pub mod StepsLeft
 pub mod Marked
 pub mod Sentences

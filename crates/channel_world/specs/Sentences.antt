@@ -1,32 +1,24 @@
 -- The sentences of the headline: what is said of each moment of a run, and of each step, from the moment m before it to the
 -- moment n after it.
-use Rattle.std.specs.Prelude.{◌≡◌, ◌<◌, false, List, [], ◌∷◌, ◌++◌, map, Option, None, Some, Err, IfSome}
-use Rattle.futures.specs.declared.task.Poll.TheVariants.{Ready}
+use Rattle.std.specs.Prelude.{◌≡◌, ◌<◌, false, List, [], ◌∷◌, ◌++◌, map, Option, None, IfSome}
 use Rattle.concurrent_queue.specs.Queue.{Phase}
 use Rattle.channel_calls.specs.Moves.{OnePlace}
-use Rattle.channel_calls.specs.Turns.{leaving, nothing_kept}
-use Rattle.channel_calls.specs.declared.ask.ChannelAsk.{ChannelAsk}
-use Rattle.channel_calls.specs.declared.ask.ChannelAsk.TheVariants as ask
-use Rattle.channel_calls.specs.declared.error.Refused.TheVariants as refused
 use Rattle.channel_calls.specs.declared.mark.Mark.TheVariants.{Nothing}
-use Rattle.channel_calls.specs.declared.reply.Reply.{Reply}
-use Rattle.channel_calls.specs.declared.reply.Reply.TheVariants as reply
 use Rattle.channel_calls.specs.declared.stage.Kept.{Kept}
 use Rattle.channel_calls.specs.declared.stage.Stage.{Stage}
-use Rattle.channel_laws.specs.Ends.{IsStill, SaysTheEnd, GivesMessage, Replies}
+use Rattle.channel_laws.specs.Ends.{Each, IsStill, SaysTheEnd, GivesMessage, Replies}
 use Rattle.channel_laws.specs.Over.{AllSpent}
 use Rattle.channel_model.specs.declared.call.Call.{Call}
 use Rattle.channel_model.specs.declared.name.Waiter.{Waiter}
-use Rattle.channel_steps.specs.Answers.{asks_first, Keeps, Met}
+use Rattle.channel_steps.specs.Answers.{asks_first}
 use Rattle.channel_steps.specs.Known.{IsQuick}
-use Rattle.channel_steps.specs.Moments.{Deed, Shut, Spent}
+use Rattle.channel_steps.specs.Moments.{Shut, Spent}
 use Rattle.channel_steps.specs.Run.{begun as call_begun}
 use Rattle.channel_steps.specs.Scene.{Under, EndsInTime, brought, does, sees, unless_ended}
-use Rattle.channel_steps.specs.Tellings.{owed, telling, dropping, Names}
+use Rattle.channel_steps.specs.Tellings.{telling, dropping, Names}
 use Rattle.channel_interleaving.specs.Bookkeeping.{asks}
 use Rattle.channel_interleaving.specs.Floor.{StandsIn}
 use Rattle.channel_interleaving.specs.Owed.{Owed}
-use Rattle.channel_interleaving.specs.Owners.{All}
 use Rattle.channel_interleaving.specs.Refusal.{step_refusal}
 use Rattle.channel_interleaving.specs.Run.{IsBookAfter}
 use Rattle.channel_interleaving.specs.Runs.{Moment, FewLeft, moment_of}
@@ -36,10 +28,11 @@ use Rattle.channel_interleaving.specs.declared.step.Entry.{Entry}
 use Rattle.channel_interleaving.specs.declared.step.PartyId.{PartyId}
 use Rattle.channel_interleaving.specs.declared.step.Step.{Step}
 use Rattle.channel_interleaving.specs.declared.step.Step.TheVariants as step
-use Rattle.channel_world.specs.Marked.{plain, marked}
-use Rattle.channel_world.specs.Marks.{BeginsItsMarks}
+use Rattle.channel_laws.specs.EndSays.{EndSays}
+use Rattle.channel_laws.specs.Marked.{plain, marked}
+use Rattle.channel_laws.specs.Marks.{BeginsItsMarks}
 use Rattle.channel_world.specs.StepsLeft.{NobodyHoldsUp}
-use Rattle.channel_world.specs.Words.{WordsSay}
+use Rattle.channel_laws.specs.Words.{WordsSay}
 
 module _ {T : Type 0} where
   -- ---- a moment
@@ -50,7 +43,7 @@ module _ {T : Type 0} where
     pub is : m ≡ moment_of world m.scene
     pub stands : StandsIn world m.scene
     -- of each call under way, the marks are the first of those that a call which asks this makes
-    pub begun : All (λ (u : Under T Waiter). BeginsItsMarks u) m.scene.under_way
+    pub begun : Each (λ u. BeginsItsMarks u) m.scene.under_way
     -- beside one who is pending and was not woken, there is no message, free place or closing but such as a woken one or a call
     -- under way answers for
     pub owed : Owed (sight_at m.book.roll m.scene)
@@ -75,33 +68,6 @@ module _ {T : Type 0} where
     pub book : IsBookAfter (step.Begin p c) e None m.book n.book
 
   -- ---- a step of a call
-
-  -- a reply for memory or serials: the call made no mark, hands its message back or leaves it to its operation, and leaves no
-  -- listener, so that it isn't pending
-  abbrev pub LeavesNothing : ChannelAsk T Waiter → List (Deed T Waiter) → Reply T → Kept T → Type 0
-  LeavesNothing (ask.TrySend m) ds (reply.TrySend (Err (refused.NoMemory v))) k = (ds ≡ []) × (v ≡ m) × (k ≡ nothing_kept)
-  LeavesNothing (ask.ForceSend m) ds (reply.ForceSend (Err (refused.NoMemory v))) k = (ds ≡ []) × (v ≡ m) × (k ≡ nothing_kept)
-  LeavesNothing (ask.RecvMany n) ds (reply.RecvMany (Err (refused.NoMemory u))) k = (ds ≡ []) × (k ≡ nothing_kept)
-  LeavesNothing (ask.PollSend m key task) ds (reply.SendPoll (Ready (Err (refused.NoMemory u)))) k = (ds ≡ []) × (k ≡ leaving None (Some m))
-  LeavesNothing (ask.PollSend m key task) ds (reply.SendPoll (Ready (Err (refused.SerialsUsedUp u)))) k = (ds ≡ []) × (k ≡ leaving None (Some m))
-  LeavesNothing (ask.PollRecv key task) ds (reply.RecvPoll (Ready (Err (refused.NoMemory u)))) k = (ds ≡ []) × (k ≡ nothing_kept)
-  LeavesNothing (ask.PollRecv key task) ds (reply.RecvPoll (Ready (Err (refused.SerialsUsedUp u)))) k = (ds ≡ []) × (k ≡ nothing_kept)
-  LeavesNothing (ask.PollClosed key task) ds (reply.ClosedPoll (Ready (Err e))) k = (ds ≡ []) × (k ≡ nothing_kept)
-  LeavesNothing (ask.PollNext key task) ds (reply.Next (Ready (Some (Err e)))) k = (ds ≡ []) × (k ≡ nothing_kept)
-  LeavesNothing (ask.RefusePoll line message key) ds r k = (ds ≡ []) × (k ≡ leaving None message)
-  LeavesNothing a ds r k = Unit {0}
-
-  -- a call that ends with this reply, and leaves this to its operation
-  pub record EndSays (u : Under T Waiter) (r : Reply T) (left : Option (Kept T)) : Type 0 where
-    -- it has the marks that its reply's row names, and found what the row says at moments of its own
-    pub row : Met u.ask u.deeds u.seen r
-    -- all that its marks owe was told, in order, once each
-    pub told : u.told ≡ owed u.deeds
-    -- a pending one keeps its listener and its message, any other nothing; a reply for memory or serials leaves the message
-    pub kept : Kept T
-    pub leaves : left ≡ Some kept
-    pub keeps : Keeps u.ask r kept
-    pub nothing : LeavesNothing u.ask u.deeds r kept
 
   -- what the step does, of a call that is `call` before it and `after` after it
   pub record StepDoes (m : Moment T) (p : PartyId) (e : Entry T) (n : Moment T) (call after : Under T Waiter) : Type 0 where

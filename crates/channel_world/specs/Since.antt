@@ -36,40 +36,38 @@ module _ {T : Type 0} where
     pub now : s.now.queue.capacity ≡ None
     pub seen : Each (λ (u : Under T Waiter). AllOf None u.seen) s.under_way
 
--- Since the opening at most one reply says that it closed the channel.
-abbrev pub ClosesOnce : Type 0 → Type 0
-ClosesOnce T =
-    (capacity : Option ℕ) (world : Floor T) (replies : List (Reply T)) → Led (new_scene capacity) replies world
-    → closings_among replies ≤ 1
+-- of all replies on the way to this world
+module _ {T : Type 0} (world : Floor T) where
+  -- Since the opening at most one says that it closed the channel.
+  abbrev pub ClosesOnce : Type 0
+  ClosesOnce = (capacity : Option ℕ) (replies : List (Reply T)) → Led (new_scene capacity) replies world → closings_among replies ≤ 1
 
--- From whatever scene no more say so than may yet: one at most, where no call under way has closed it, and none, where it is
--- closed too.
-abbrev pub ClosesWhatIsLeft : Type 0 → Type 0
-ClosesWhatIsLeft T =
-    (s : Scene T Waiter) (world : Floor T) (replies : List (Reply T)) → Led s replies world → closings_among replies ≤ closings_left s
+  -- From whatever scene no more say so than may yet: one at most, where no call under way has closed it, and none, where it is
+  -- closed too.
+  abbrev pub ClosesWhatIsLeft : Type 0
+  ClosesWhatIsLeft = (s : Scene T Waiter) (replies : List (Reply T)) → Led s replies world → closings_among replies ≤ closings_left s
 
--- So of whatever world with no call under way: one at most,
-abbrev pub ClosesOnceFromRest : Type 0 → Type 0
-ClosesOnceFromRest T =
-    (a b : Floor T) (replies : List (Reply T)) → Stands a → IsQuiet a → LeadsOn a replies b → closings_among replies ≤ 1
+  -- So from whatever world with no call under way: one at most,
+  abbrev pub ClosesOnceFromRest : Type 0
+  ClosesOnceFromRest =
+      (a : Floor T) (replies : List (Reply T)) → Stands a → IsQuiet a → LeadsOn a replies world → closings_among replies ≤ 1
 
--- and none, where it is closed.
-abbrev pub NoneClosesAgain : Type 0 → Type 0
-NoneClosesAgain T =
-    (a b : Floor T) (replies : List (Reply T)) → Stands a → IsQuiet a → (at_rest a).channel.closed ≡ true → LeadsOn a replies b
-    → closings_among replies ≡ 0
+  -- and none, where it is closed.
+  abbrev pub NoneClosesAgain : Type 0
+  NoneClosesAgain =
+      (a : Floor T) (replies : List (Reply T)) → Stands a → IsQuiet a → (at_rest a).channel.closed ≡ true → LeadsOn a replies world
+      → closings_among replies ≡ 0
 
--- Since an opening without a bound no reply says that the channel is full,
-abbrev pub IsNeverFull : Type 0 → Type 0
-IsNeverFull T = (world : Floor T) (replies : List (Reply T)) → Led (new_scene None) replies world → NoneSaysFull replies
+  -- Since an opening without a bound none says that the channel is full,
+  abbrev pub IsNeverFull : Type 0
+  IsNeverFull = (replies : List (Reply T)) → Led (new_scene None) replies world → NoneSaysFull replies
 
--- nor from whatever scene without a bound.
-abbrev pub IsNeverFullSince : Type 0 → Type 0
-IsNeverFullSince T =
-    (s : Scene T Waiter) (world : Floor T) (replies : List (Reply T)) → HasNoBound s → Led s replies world → NoneSaysFull replies
+  -- nor from whatever scene without a bound.
+  abbrev pub IsNeverFullSince : Type 0
+  IsNeverFullSince = (s : Scene T Waiter) (replies : List (Reply T)) → HasNoBound s → Led s replies world → NoneSaysFull replies
 
--- So of whatever world with no call under way that has none.
-abbrev pub IsNeverFullFromRest : Type 0 → Type 0
-IsNeverFullFromRest T =
-    (a b : Floor T) (replies : List (Reply T)) → Stands a → IsQuiet a → (at_rest a).channel.capacity ≡ None → LeadsOn a replies b
-    → NoneSaysFull replies
+  -- So from whatever world with no call under way that has none.
+  abbrev pub IsNeverFullFromRest : Type 0
+  IsNeverFullFromRest =
+      (a : Floor T) (replies : List (Reply T)) → Stands a → IsQuiet a → (at_rest a).channel.capacity ≡ None → LeadsOn a replies world
+      → NoneSaysFull replies

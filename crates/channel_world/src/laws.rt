@@ -127,29 +127,29 @@ pub fn who_sleeps_is_answered_for<T: Drop>(world: &World<T>)
     world.keeps_names();
 }
 
-/// Of all replies that were given since the opening, by runs of steps, lists of calls and settlings in turn, at most one says that
-/// it closed the channel.
+/// Of all replies that were given since the opening of a world, by runs of steps, lists of calls and settlings in turn, at most one
+/// says that it closed the channel.
 ///
 /// From whatever scene on there are no more than those calls under way that have closed it and not answered, and one more while it
 /// is open. So from a world with no call under way there is one at most; and none, where it is closed.
 ///
 /// Own to this project.
-pub fn the_channel_is_closed_once<T>()
-    ensures since_opening { ClosesOnce T }
-    ensures left { ClosesWhatIsLeft T }
-    ensures from_rest { ClosesOnceFromRest T }
-    ensures again { NoneClosesAgain T }
+pub fn the_channel_is_closed_once<T: Drop>(world: &World<T>)
+    ensures since_opening { ClosesOnce world.now }
+    ensures left { ClosesWhatIsLeft world.now }
+    ensures from_rest { ClosesOnceFromRest world.now }
+    ensures again { NoneClosesAgain world.now }
 {}
 
-/// Of all replies that were given since an opening without a bound, by runs of steps, lists of calls and settlings in turn, none
-/// refuses a message since the channel is full. So it is from whatever scene without a bound, where no call under way has seen one;
-/// and from whatever world without a bound that has no call under way.
+/// Of all replies that were given since the opening of a world without a bound, by runs of steps, lists of calls and settlings in
+/// turn, none refuses a message since the channel is full. So it is from whatever scene without a bound, where no call under way has
+/// seen one; and from whatever world without a bound that has no call under way.
 ///
 /// Own to this project.
-pub fn an_unbounded_world_is_never_full<T>()
-    ensures since_opening { IsNeverFull T }
-    ensures since { IsNeverFullSince T }
-    ensures from_rest { IsNeverFullFromRest T }
+pub fn an_unbounded_world_is_never_full<T: Drop>(world: &World<T>)
+    ensures since_opening { IsNeverFull world.now }
+    ensures since { IsNeverFullSince world.now }
+    ensures from_rest { IsNeverFullFromRest world.now }
 {}
 
 /// On any way from one scene to another, by runs of steps, lists of calls and settlings in turn, what leaves as the n-th is what was

@@ -9,13 +9,12 @@ ghost use Rattle.channel_model.specs.Handles.{HandlesAreCounted};
 ghost use Rattle.channel_model.specs.declared.name.Waiter.{Waiter};
 ghost use Rattle.channel_steps.specs.Run.{new_scene};
 ghost use Rattle.channel_steps.specs.Scene.{Scene};
-ghost use Rattle.channel_world.specs.Carried.{replied_in};
+ghost use Rattle.channel_world.specs.Carried.{replied_if, replied_in};
 ghost use Rattle.channel_world.specs.InTurn.{accepted_on, left_on};
 ghost use Rattle.channel_world.specs.Since.{closings_among, NoneSaysFull};
 ghost use Rattle.channel_world.specs.StepsLeft.{EndsInFront};
 ghost use Rattle.channel_world.specs.TheEnd.{NothingComesAfter};
 ghost use Rattle.channel_world.specs.World.{at_rest};
-ghost use Rattle.channel_world_tests.specs.Carry.{replied_if};
 
 use channel_world::call::{Call, CallRun};
 use channel_world::laws::{
@@ -160,8 +159,9 @@ pub fn close_once<T: Drop>(world: &mut World<T>, steps: &mut VecDeque<Step<T>>) 
     ensures { (capacity : Option ℕ) (replies : List (Reply T)) → Led (new_scene capacity) replies world.old
         → closings_among (replies ++ replies_in result.trace.items) ≤ 1 }
 {
-    the_channel_is_closed_once::<T>();
-    world.run_steps(steps)
+    let run = world.run_steps(steps);
+    the_channel_is_closed_once(world);
+    run
 }
 
 /// Makes steps in whatever world: of all replies since an opening without a bound, with those of these steps, none refuses a
@@ -170,8 +170,9 @@ pub fn never_full<T: Drop>(world: &mut World<T>, steps: &mut VecDeque<Step<T>>) 
     ensures { (replies : List (Reply T)) → Led (new_scene None) replies world.old
         → NoneSaysFull (replies ++ replies_in result.trace.items) }
 {
-    an_unbounded_world_is_never_full::<T>();
-    world.run_steps(steps)
+    let run = world.run_steps(steps);
+    an_unbounded_world_is_never_full(world);
+    run
 }
 
 /// Looks at whatever world has no call under way: where it says that nobody is woken and a message is held, no receive is pending.

@@ -21,8 +21,8 @@ use Rattle.concurrent_queue.specs.declared.queue_call.CallState.TheVariants.{Ask
 use Rattle.concurrent_queue.specs.declared.unbounded.action.UnboundedAction.{UnboundedAction}
 use Rattle.concurrent_queue.specs.declared.unbounded.action.UnboundedAction.TheVariants as blocks
 use Rattle.concurrent_queue.specs.declared.unbounded.action.UnboundedCall.{UnboundedCall}
-use Rattle.channel_world.proofs.PutFacts.{some_is, by_bool, by_eq, same_not, taken_all, taken_full, get_inside, head_number}
-use Rattle.channel_world.specs.Chained.{TurnsTheHead, Turns, first_named, pair_linked, Names, Links, AreBlocks, ChainBy}
+use Rattle.channel_laws.proofs.PutFacts.{some_is, by_bool, by_eq, same_not, taken_all, taken_full, get_inside, head_number}
+use Rattle.channel_laws.specs.Chained.{TurnsTheHead, Turns, first_named, pair_linked, Names, Links, AreBlocks, ChainBy}
 
 none_some : {A : Type 0} {x : A} → None ≡ Some x → ⊥
 none_some e = absurd cc

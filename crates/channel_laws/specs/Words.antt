@@ -8,12 +8,12 @@ use Rattle.concurrent_queue.specs.declared.cells.Slot.{Slot}
 use Rattle.channel_calls.specs.declared.mark.Mark.TheVariants.{Append, Replace}
 use Rattle.channel_calls.specs.declared.stage.Stage.{Stage}
 use Rattle.channel_calls.specs.declared.stage.Stage.TheVariants.{Trying}
-use Rattle.channel_interleaving.specs.Owners.{All}
+use Rattle.channel_laws.specs.Ends.{Each}
 use Rattle.channel_steps.specs.Moments.{Deed}
 use Rattle.channel_steps.specs.Scene.{Under, Scene, brought}
 use Rattle.channel_steps.specs.declared.party.Party.{Party}
-use Rattle.channel_world.specs.Chained.{AreChained}
-use Rattle.channel_world.specs.Put.{yet_to_put}
+use Rattle.channel_laws.specs.Chained.{AreChained}
+use Rattle.channel_laws.specs.Put.{yet_to_put}
 
 module _ {T W : Type 0} where
   -- the queue has the next step of a call at this stage
@@ -55,4 +55,4 @@ module _ {T W : Type 0} where
     pub apart : (i j : ℕ) → i < length s.now.queue.items → j < length s.now.queue.items → slot_in blocks c i ≡ slot_in blocks c j → i ≡ j
     pub lies : (i : ℕ) (v : T) → slice_get s.now.queue.items i ≡ Some v
         → (slot_at c (slot_in blocks c i) ≡ Some v) ⊎ IsWithOne c.form (slot_in blocks c i) v codes s.under_way
-    pub at_rest : All (λ (u : Under T W). IsAtQueue u.at → ⊥) s.under_way → s.now.queue.items ≡ items_in c
+    pub at_rest : Each (λ (u : Under T W). IsAtQueue u.at → ⊥) s.under_way → s.now.queue.items ≡ items_in c

@@ -42,7 +42,7 @@ use Rattle.concurrent_queue.proofs.RingPlaces.{near_same, turn-index, pos-div}
 use Rattle.concurrent_queue.proofs.RingShape.{IsMark, mark_is}
 use Rattle.concurrent_queue.proofs.RingSteps.{slot_of}
 use Rattle.concurrent_queue.proofs.RingDenotes as denote
-use Rattle.channel_world.specs.Put.{puts_single, puts_ring, puts_blocks, puts_by}
+use Rattle.channel_laws.specs.Put.{puts_single, puts_ring, puts_blocks, puts_by}
 
 pub some_is : {A : Type 0} {x y : A} → Some x ≡ Some y → x ≡ y
 some_is e = cc

@@ -29,17 +29,16 @@ use Rattle.channel_calls.specs.declared.stage.Work.TheVariants.{TellReceive, Tel
 use Rattle.channel_calls.specs.declared.stage.Ending.{Ending}
 use Rattle.channel_calls.specs.Turns.{closer_ending}
 use Rattle.concurrent_queue.specs.Queue.{Phase}
-use Rattle.channel_model.specs.declared.name.Waiter.{Waiter}
 use Rattle.channel_steps.specs.Answers.{Row}
 use Rattle.channel_steps.specs.Known.{TriesFor, TryAt, TriesAt, HasTaken, WorkAt, StageAt, Answered}
 use Rattle.channel_steps.specs.Moments.{Deed, Appended, Took, TookAll, Replaced, MadeRoom, Displaced, ClosedIt, Raised, Upgraded, LeftLast, Dropped}
 use Rattle.channel_steps.specs.Scene.{Under, Known, AllKnown}
-use Rattle.channel_interleaving.specs.Owners.{All}
-use Rattle.channel_world.specs.Marks.{AreMarksOf, marks_of, BeginsItsMarks}
+use Rattle.channel_laws.specs.Ends.{Each}
+use Rattle.channel_laws.specs.Marks.{AreTakings, AreMarksOf, marks_of, BeginsItsMarks}
 
 -- takings, so many at most
 abbrev FewTakings : ℕ → List Mark → Type 0
-FewTakings n ms = All (λ (m : Mark). m ≡ Take) ms × (length ms ≤ n)
+FewTakings n ms = AreTakings ms × (length ms ≤ n)
 
 one_taking : (ms : List Mark) → (ms ≡ []) ⊎ (ms ≡ Take ∷ []) → FewTakings 1 ms
 one_taking ms (inl e) = subst (λ (xs : List Mark). FewTakings 1 xs) (sym e) (tt, omega arith)
@@ -323,7 +322,6 @@ module _ {T W : Type 0} where
   begins : (now : Channel T W) (u : Under T W) → Known now u → BeginsItsMarks u
   begins now u k = let b = stages now u.ask u.at u.deeds u.seen k.stands in record { later = b.0; all = b.1 }
 
-module _ {T : Type 0} where
-  pub all_begin : (now : Channel T Waiter) (us : List (Under T Waiter)) → AllKnown now us → All (λ (u : Under T Waiter). BeginsItsMarks u) us
+  pub all_begin : (now : Channel T W) (us : List (Under T W)) → AllKnown now us → Each (λ u. BeginsItsMarks u) us
   all_begin now [] k = tt
   all_begin now (u ∷ us) k = (begins now u k.0, all_begin now us k.1)

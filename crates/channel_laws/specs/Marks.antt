@@ -5,9 +5,13 @@ use Rattle.channel_calls.specs.declared.ask.ChannelAsk.{ChannelAsk}
 use Rattle.channel_calls.specs.declared.ask.ChannelAsk.TheVariants as ask
 use Rattle.channel_calls.specs.declared.mark.Mark.{Mark}
 use Rattle.channel_calls.specs.declared.mark.Mark.TheVariants.{Append, Take, TakeDisplaced, Replace, Close, SenderDown, ReceiverDown}
-use Rattle.channel_interleaving.specs.Owners.{All}
 use Rattle.channel_steps.specs.Moments.{Deed}
 use Rattle.channel_steps.specs.Scene.{Under}
+
+-- each of them takes a message
+abbrev pub AreTakings : List Mark → Type 0
+AreTakings [] = Unit {0}
+AreTakings (m ∷ ms) = (m ≡ Take) × AreTakings ms
 
 module _ {T W : Type 0} where
   -- all marks of a call that asks this, whatever it answers
@@ -16,7 +20,7 @@ module _ {T W : Type 0} where
   AreMarksOf (ask.PollSend m key task) ms = (ms ≡ []) ⊎ (ms ≡ Append ∷ [])
   AreMarksOf (ask.ForceSend m) ms = (ms ≡ []) ⊎ ((ms ≡ Append ∷ []) ⊎ ((ms ≡ Replace ∷ []) ⊎ (ms ≡ TakeDisplaced ∷ Append ∷ [])))
   AreMarksOf ask.TryRecv ms = (ms ≡ []) ⊎ (ms ≡ Take ∷ [])
-  AreMarksOf (ask.RecvMany n) ms = All (λ (m : Mark). m ≡ Take) ms × (length ms ≤ n)
+  AreMarksOf (ask.RecvMany n) ms = AreTakings ms × (length ms ≤ n)
   AreMarksOf (ask.PollRecv key task) ms = (ms ≡ []) ⊎ (ms ≡ Take ∷ [])
   AreMarksOf (ask.PollNext key task) ms = (ms ≡ []) ⊎ (ms ≡ Take ∷ [])
   AreMarksOf ask.Close ms = (ms ≡ []) ⊎ (ms ≡ Close ∷ [])

@@ -22,17 +22,17 @@ use Rattle.channel_calls.specs.declared.stage.Closer.TheVariants as closer
 use Rattle.channel_calls.specs.declared.stage.Line.TheVariants.{Sends, Receives, Streams, Closings}
 use Rattle.channel_calls.specs.declared.stage.Stage.{Stage}
 use Rattle.channel_calls.specs.declared.stage.Stage.TheVariants.{Trying, Working, Finished}
-use Rattle.channel_interleaving.specs.Owners.{All}
+use Rattle.channel_laws.specs.Ends.{Each}
 use Rattle.channel_steps.specs.Known.{TriesFor, TryAt, TriesAt, StageAt, ToldAt}
 use Rattle.channel_steps.specs.Moments.{Deed, Appended, Replaced, Displaced}
 use Rattle.channel_steps.specs.Scene.{Under, Scene, Sitting, Known, AllKnown, Shows, under_of, all_seats, brought}
 use Rattle.channel_steps.specs.Tellings.{Telling}
 use Rattle.channel_steps.specs.declared.party.Party.{Party}
-use Rattle.channel_world.specs.Chained.{IsInState, SomeCall, ChainBy, AreChained}
-use Rattle.channel_world.specs.Put.{yet_to_put}
-use Rattle.channel_world.specs.Words.{IsAtQueue, HasLetIn, IsWith, IsWithOne, WordsSay}
-use Rattle.channel_world.proofs.ChainedFacts.{SomeSeat, blocks_in, are_chained, still_fits, by_others}
-use Rattle.channel_world.proofs.PutFacts.{IsHeldFor, held}
+use Rattle.channel_laws.specs.Chained.{IsInState, SomeCall, ChainBy, AreChained}
+use Rattle.channel_laws.specs.Put.{yet_to_put}
+use Rattle.channel_laws.specs.Words.{IsAtQueue, HasLetIn, IsWith, IsWithOne, WordsSay}
+use Rattle.channel_laws.proofs.ChainedFacts.{SomeSeat, blocks_in, are_chained, still_fits, by_others}
+use Rattle.channel_laws.proofs.PutFacts.{IsHeldFor, held}
 
 module _ {T : Type 0} where
   -- the message that the queue's call brings is the one that the call was made with
@@ -148,7 +148,7 @@ module _ {T W : Type 0} where
   no_seats f (Working w) rest none = refl
   no_seats f (Finished kept) rest none = refl
 
-  none_at_queue : (xs : List (Sitting T W)) → All (λ (u : Under T W). IsAtQueue u.at → ⊥) (map under_of xs) → phases (all_seats xs) ≡ []
+  none_at_queue : (xs : List (Sitting T W)) → Each (λ (u : Under T W). IsAtQueue u.at → ⊥) (map under_of xs) → phases (all_seats xs) ≡ []
   none_at_queue [] h = refl
   none_at_queue (x ∷ xs) h = no_seats x.inner x.party.call.stage (all_seats xs) h.0 ∙ none_at_queue xs h.1
 
@@ -203,7 +203,7 @@ module _ {T W : Type 0} where
             → (slot_at c (slot_in chain c i) ≡ Some v) ⊎ IsWithOne c.form (slot_in chain c i) v codes s.under_way) same_queue
             (λ i v e. ⊎_elim (λ there. inl there) (λ h. inr (held_by (slot_in chain c i) v h)) (held chain c p (all_seats xs) fit i v e));
         at_rest = λ none.
-            let none_here = subst (λ (us : List (Under T W)). All (λ (u : Under T W). IsAtQueue u.at → ⊥) us) calls none in
+            let none_here = subst (λ (us : List (Under T W)). Each (λ (u : Under T W). IsAtQueue u.at → ⊥) us) calls none in
             let rest = say.at_rest (none_at_queue xs none_here) in
             subst (λ (x : Queue T). x.items ≡ items_in c) same_queue rest.0;
       }

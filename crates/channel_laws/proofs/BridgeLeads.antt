@@ -1,0 +1,158 @@
+-- What a step of a party leads to, with the parties before it and after it.
+use Rattle.std.proofs.Common.{◌≡◌, ℕ, zero, suc, ◌<◌, ◌==◌, Bool, true, false, if◌then◌else◌, List, [], ◌∷◌, ◌++◌, map, length, slice_get, None, Some, refl, sym, ap, ◌∙◌, subst}
+use Rattle.concurrent_queue.specs.Queue.{IsInRange}
+use Rattle.concurrent_queue.specs.declared.queue_call.QueueCall.{QueueCall}
+use Rattle.concurrent_queue.proofs.Callers.{AllApart, is_same, is_other, none_has, place_of}
+use Rattle.event_listener.specs.Notices.{Woken}
+use Rattle.channel_calls.specs.Parts.{Parts}
+use Rattle.channel_calls.specs.declared.ask.ChannelAsk.{ChannelAsk}
+use Rattle.channel_calls.specs.declared.stage.Stage.{Stage}
+use Rattle.channel_steps.specs.Run.{HasBegun, Touches, Next, HasRange, IsRun}
+use Rattle.channel_steps.specs.Scene.{Scene, HoldNobodyUp, Shows, StepsAt, HasParty, Under, Sitting, under_of}
+use Rattle.channel_steps.specs.declared.party.Entry.{Entry}
+use Rattle.channel_steps.specs.declared.party.Party.{Party}
+use Rattle.channel_steps.specs.declared.run.Step.{Step}
+use Rattle.channel_steps.specs.declared.run.Step.TheVariants as step
+use Rattle.channel_steps.proofs.MoveFacts.{in_range}
+use Rattle.channel_steps.proofs.RunFacts.{next_range}
+use Rattle.channel_laws.specs.BridgeMoments.{Moment, left_to, EachStep, end_of}
+use Rattle.channel_laws.specs.Ends.{IsIdle}
+
+module _ {T W : Type 0} where
+  abbrev pub id_of : Party T W → ℕ
+  id_of x = x.id
+
+  abbrev pub of : Party T W → Stage (QueueCall T) T W
+  of x = x.call.stage
+
+  -- which is at one place
+  at_one_place : (p : ℕ) (xs : List (Party T W)) → AllApart id_of of xs → (k : ℕ) (x : Party T W) → slice_get xs k ≡ Some x → x.id ≡ p → k ≡ place_of id_of of p xs
+  at_one_place p [] apart k x there his = absurd cc
+  at_one_place p (y ∷ ys) apart k x there his = by (at_one_place p ys apart.1) (y.id == p) refl k there where
+    by : ((j : ℕ) (z : Party T W) → slice_get ys j ≡ Some z → z.id ≡ p → j ≡ place_of id_of of p ys) → (b : Bool) → (y.id == p) ≡ b
+        → (j : ℕ) → slice_get (y ∷ ys) j ≡ Some x → j ≡ (if b then 0 else suc (place_of id_of of p ys))
+    by more true e zero h = refl
+    by more true e (suc j) h = absurd (none_has id_of of y.id ys apart.0 j x h (his ∙ sym (is_same y.id p e)))
+    by more false e zero h = absurd (is_other y.id p e (let same : y ≡ x = cc in ap id_of same ∙ his))
+    by more false e (suc j) h = ap (λ (n : ℕ). suc n) (more j x h his)
+
+  -- a call under way is that of the party at its place
+  party_at : (xs : List (Sitting T W)) (k : ℕ) (u : Under T W) → slice_get (map under_of xs) k ≡ Some u
+      → (x : Party T W) × (slice_get (map (λ (y : Sitting T W). y.party) xs) k ≡ Some x) × (x.id ≡ u.party)
+  party_at [] k u e = absurd cc
+  party_at (x ∷ xs) zero u e = (x.party, refl, (let same : under_of x ≡ u = cc in ap (λ (v : Under T W). v.party) same))
+  party_at (x ∷ xs) (suc k) u e = party_at xs k u e
+
+  only_one : (p : ℕ) (parts : Parts T W) (parties : List (Party T W)) (s : Scene T W) → Shows parts parties s → AllApart id_of of parties
+      → (k : ℕ) (u : Under T W) → slice_get s.under_way k ≡ Some u → u.party ≡ p → k ≡ place_of id_of of p parties
+  only_one p parts parties s sh apart k u there his =
+      let x = party_at sh.sittings k u (subst (λ (us : List (Under T W)). slice_get us k ≡ Some u) sh.under_way there) in
+      at_one_place p parties apart k x.0 (subst (λ (ps : List (Party T W)). slice_get ps k ≡ Some x.0) (sym sh.parties_are) x.1) (x.2 ∙ his)
+
+module _ {T W S : Type 0} where
+  abbrev pub at : Parts T W × S → List (Party T W) → Scene T W → Moment T W S
+  at c parties s = record { parts = c.0; parties = parties; scene = s; sink = c.1 }
+
+  -- where the others hold a call up no more, a step that doesn't end it leaves it fewer steps
+  abbrev pub Nearer : (m : Moment T W S) (x : Step T W) (e : Entry T) (names : List W) (n : Moment T W S) → Next m.scene x e names n.scene → Type 0
+  Nearer m (step.Begin p ask) e names n next = Unit {0}
+  Nearer m (step.Step p) e names n next =
+      e.reply ≡ None → HoldNobodyUp m.scene.now (next.before ++ next.behind) → left_to (length next.before) n < left_to (length next.before) m
+
+  -- a party that begins a call has none under way
+  abbrev pub MayBegin : Moment T W S → Step T W → Type 0
+  MayBegin m (step.Begin p ask) = IsIdle p m.scene
+  MayBegin m (step.Step p) = Unit {0}
+
+  -- the call that makes the step is the only one of its party
+  abbrev pub Only : (m : Moment T W S) (x : Step T W) (e : Entry T) (names : List W) (n : Moment T W S) → Next m.scene x e names n.scene → Type 0
+  Only m (step.Begin p ask) e names n next = Unit {0}
+  Only m (step.Step p) e names n next =
+      (k : ℕ) (u : Under T W) → slice_get m.scene.under_way k ≡ Some u → u.party ≡ p → k ≡ length next.before
+
+module _ {T W S : Type 0} (wakes : S → W → S → Type 0) where
+  pub record Leads (m : Moment T W S) (x : Step T W) (e : Entry T) (n : Moment T W S) : Type 0 where
+    pub begins : MayBegin m x
+    pub names : List W
+    pub touches : Touches x m.parts n.parts
+    pub next : Next m.scene x e names n.scene
+    pub woken : Woken wakes m.sink names n.sink
+    pub shows : Shows n.parts n.parties n.scene
+    pub nearer : Nearer m x e names n next
+    pub only : Only m x e names n next
+
+  -- so it does from each scene that the cells and the parties show
+  pub record Led (c : Parts T W × S) (parties : List (Party T W)) (s : Scene T W) (x : Step T W) (e : Entry T) (d : Parts T W × S) (after : List (Party T W)) : Type 0 where
+    pub scene : Scene T W
+    pub leads : Leads (at c parties s) x e (at d after scene)
+
+  abbrev pub LeadsOn : Parts T W × S → List (Party T W) → Step T W → Entry T → Parts T W × S → List (Party T W) → Type 0
+  LeadsOn c parties x e d after = (s : Scene T W) → IsInRange s.now.queue → Shows c.0 parties s → Led c parties s x e d after
+
+  pub leads_begun : (p : ℕ) (ask : ChannelAsk T W) (c : Parts T W × S) (parties : List (Party T W)) (e : Entry T) (after : List (Party T W))
+      → ((s : Scene T W) → Shows c.0 parties s → IsIdle p s) → HasBegun p ask parties e after → LeadsOn c parties (step.Begin p ask) e c after
+  leads_begun p ask c parties e after idle begun s range sh =
+      let b = begun c.0 s sh in
+      record {
+        scene = b.after;
+        leads = record { begins = idle s sh; names = []; touches = refl; next = (b.begins, refl); woken = refl; shows = b.shown; nearer = tt; only = tt };
+      }
+
+  pub leads_stepped : (p : ℕ) (c : Parts T W × S) (parties : List (Party T W)) (e : Entry T) (d : Parts T W × S) (after : List (Party T W))
+      → AllApart id_of of parties → (let k = place_of id_of of p parties in HasParty p parties k × StepsAt wakes c.0 parties k c.1 e d.0 after d.1)
+      → LeadsOn c parties (step.Step p) e d after
+  leads_stepped p c parties e d after apart (has, steps) s range sh =
+      let h = steps s (record { id = p; call = has.0 }) range sh has.1 in
+      let near = h.steps in
+      let m : Moment T W S = at c parties s in
+      let n : Moment T W S = at d after h.after in
+      record {
+        scene = h.after;
+        leads = record {
+          begins = tt;
+          names = h.names;
+          touches = h.one_place;
+          next = near.step;
+          woken = h.woken;
+          shows = h.shown;
+          nearer = λ goes_on hold. subst (λ (j : ℕ). left_to j n < left_to j m) (sym near.place) (near.nearer goes_on hold);
+          only = λ k u there his. only_one p c.0 parties s sh apart k u there his ∙ sym near.place;
+        };
+      }
+
+  -- ---- many steps
+
+  -- these steps lead from a scene to a last one, by these moments
+  pub record Through (xs : List (Step T W)) (es : List (Entry T)) (c : Parts T W × S) (parties : List (Party T W)) (s : Scene T W) (last : Parts T W × S) (left : List (Party T W)) : Type 0 where
+    pub moments : List (Moment T W S)
+    pub each : EachStep (Leads) (at c parties s) xs es moments
+    pub end : Scene T W
+    pub ends : end_of (at c parties s) moments ≡ at last left end
+
+  -- from each scene that is shown
+  abbrev pub GoThrough : List (Step T W) → List (Entry T) → Parts T W × S → List (Party T W) → Parts T W × S → List (Party T W) → Type 0
+  GoThrough xs es c parties last left =
+      (s : Scene T W) → HasRange (length xs) s.now.queue → Shows c.0 parties s → Through xs es c parties s last left
+
+  pub through_none : (c : Parts T W × S) (parties : List (Party T W)) (last : Parts T W × S) → last ≡ c → GoThrough [] [] c parties last parties
+  through_none c parties last same s range sh =
+      record { moments = []; each = tt; end = s; ends = ap (λ (x : Parts T W × S). at x parties s) (sym same) }
+
+  pub through_more : (x : Step T W) (xs : List (Step T W)) (e : Entry T) (es : List (Entry T)) (c : Parts T W × S) (parties : List (Party T W)) (d : Parts T W × S) (after : List (Party T W)) (last : Parts T W × S) (left : List (Party T W))
+      → LeadsOn c parties x e d after → GoThrough xs es d after last left → GoThrough (x ∷ xs) (e ∷ es) c parties last left
+  through_more x xs e es c parties d after last left one more s range sh =
+      let h = one s (in_range (suc (length xs)) s.now.queue range) sh in
+      let g = more h.scene (next_range wakes (length xs) s x e h.leads.names h.scene h.leads.next range) h.leads.shows in
+      record { moments = at d after h.scene ∷ g.moments; each = (h.leads, g.each); end = g.end; ends = g.ends }
+
+  -- such steps are a run
+  pub is_run : (m : Moment T W S) (xs : List (Step T W)) (es : List (Entry T)) (ns : List (Moment T W S)) → EachStep Leads m xs es ns
+      → let n = end_of m ns in IsRun wakes m.parts m.scene m.sink xs es n.parts n.scene n.sink
+  is_run m [] [] [] h = (refl, refl, refl)
+  is_run m (x ∷ xs) (e ∷ es) (n ∷ ns) h =
+      let l = h.0 in
+      (n.parts, n.scene, n.sink, l.names, l.touches, l.next, l.woken, is_run n xs es ns h.1)
+  is_run m [] [] (n ∷ ns) h = absurd h
+  is_run m [] (e ∷ es) ns h = absurd h
+  is_run m (x ∷ xs) [] ns h = absurd h
+  is_run m (x ∷ xs) (e ∷ es) [] h = absurd h

@@ -1,0 +1,18 @@
+-- Nothing comes after the end: once a reply says it, no call that begins later gives a message.
+use Rattle.std.specs.Prelude.{List, ◌∷◌}
+use Rattle.channel_steps.specs.declared.party.Entry.{Entry}
+use Rattle.channel_steps.specs.declared.run.Step.{Step}
+use Rattle.channel_steps.specs.declared.run.Step.TheVariants as step
+use Rattle.channel_laws.specs.Ends.{SaysTheEnd, Replies, GetsNothing}
+
+module _ {T W : Type 0} where
+  -- no call that begins by one of these steps gives a message
+  abbrev pub GiveNothing : List (Step T W) → List (Entry T) → Type 0
+  GiveNothing (step.Begin p ask ∷ xs) (e ∷ es) = GetsNothing p xs es × GiveNothing xs es
+  GiveNothing (step.Step p ∷ xs) (e ∷ es) = GiveNothing xs es
+  GiveNothing xs es = Unit {0}
+
+  -- a reply that says the end is followed by no message but from calls that had begun before it
+  abbrev pub NothingComesAfter : List (Step T W) → List (Entry T) → Type 0
+  NothingComesAfter (x ∷ xs) (e ∷ es) = (Replies SaysTheEnd e.reply → GiveNothing xs es) × NothingComesAfter xs es
+  NothingComesAfter xs es = Unit {0}
