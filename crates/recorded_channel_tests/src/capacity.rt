@@ -2,9 +2,10 @@
 ghost use Rattle.std.specs.Prelude.{◌≡◌};
 
 use crate::checks::expect_equal;
-use channel_world::RecordedChannel;
+use crate::seats::finish_one;
 use channel_world::call::{Call, Reply};
 use channel_world::name::HandleId;
+use channel_world::{Receipt, RecordedChannel};
 use event_listener::id::EventIds;
 use std::alloc::Global;
 use std::marker::Brand;
@@ -19,6 +20,14 @@ struct Said {
     record: Option<usize>,
 }
 
+/// The capacity that an answer gives; none where it answers another call.
+fn answered(receipt: &Receipt<u64>) -> Option<Option<usize>> {
+    match &receipt.reply {
+        Reply::Cap(capacity) => Some(*capacity),
+        _ => None,
+    }
+}
+
 fn ask<L: Ledger, R: Wait>(
     rt: &R,
     alloc: Global,
@@ -28,17 +37,15 @@ fn ask<L: Ledger, R: Wait>(
     let ask = Call::Capacity {
         handle: HandleId(0),
     };
-    let receipt = channel.call(rt, &mut seat, ask).ok()?;
-    let mut seats = Vec::new(alloc);
-    seats.push(seat).ok()?;
-    let record = channel.finish(seats).ok()?;
-    match &receipt.reply {
-        Reply::Cap(capacity) => Some(Said {
-            channel: *capacity,
-            record: record.capacity(),
-        }),
-        _ => None,
-    }
+    let said = match &channel.call(rt, &mut seat, ask) {
+        Ok(receipt) => answered(receipt),
+        Err(_) => None,
+    };
+    let record = finish_one(alloc, channel, seat)?;
+    Some(Said {
+        channel: said?,
+        record: record.capacity(),
+    })
 }
 
 fn bounded<L: Ledger, R: Wait>(rt: &R, alloc: Global, blank: Blank) -> Option<Said>

@@ -2,6 +2,7 @@
 ghost use Rattle.std.specs.Prelude.{◌≡◌};
 
 use crate::checks::expect_equal;
+use crate::seats::two_seats;
 use channel_world::call::{Call, Reply};
 use channel_world::name::{HandleId, OpId, Waiter};
 use channel_world::{Names, Receipt, Record, RecordSeat, RecordedChannel};
@@ -148,6 +149,28 @@ fn holding(alloc: Global, record: &Record<u64>, receipts: Vec<Receipt<u64>>) -> 
 }
 
 /// How many receipts of four seats hold so, and how many entries the record has.
+fn held_of<L: Ledger>(
+    alloc: Global,
+    channel: RecordedChannel<u64, L>,
+    left: (Half<L>, Half<L>),
+    right: (Half<L>, Half<L>),
+) -> Option<(usize, usize)> {
+    let mut seats = Vec::new(alloc);
+    let mut all = Vec::new(alloc);
+    for half in [left.0, left.1, right.0, right.1] {
+        let Half { seat, receipts } = half;
+        let _ = seats.push(seat);
+        let _ = all.push(receipts);
+    }
+    let record = channel.finish(seats).ok()?;
+    let mut held = 0usize;
+    for receipts in all {
+        held = held.wrapping_add(holding(alloc, &record, receipts));
+    }
+    Some((held, record.len()))
+}
+
+/// Four threads with a seat each.
 fn four<L: Ledger + Sync, R: Threads + Wait + Sync>(
     rt: &R,
     alloc: Global,
@@ -158,27 +181,15 @@ fn four<L: Ledger + Sync, R: Threads + Wait + Sync>(
 {
     let mut ids = EventIds::new();
     let channel = RecordedChannel::<u64, L>::bounded(alloc, 3, &mut ids, blank, 5).ok()?;
-    let (a, b) = (channel.seat(rt).ok()?, channel.seat(rt).ok()?);
-    let (c, d) = (channel.seat(rt).ok()?, channel.seat(rt).ok()?);
+    let (a, b) = two_seats(rt, &channel)?;
+    let (c, d) = two_seats(rt, &channel)?;
     let shared = &channel;
     let (left, right) = thread::join(
         rt,
         move || two(rt, alloc, shared, a, b),
         move || two(rt, alloc, shared, c, d),
     );
-    let mut seats = Vec::new(alloc);
-    let mut all = Vec::new(alloc);
-    for half in [left.0, left.1, right.0, right.1] {
-        let Half { seat, receipts } = half;
-        seats.push(seat).ok()?;
-        all.push(receipts).ok()?;
-    }
-    let record = channel.finish(seats).ok()?;
-    let mut held = 0usize;
-    for receipts in all {
-        held = held.wrapping_add(holding(alloc, &record, receipts));
-    }
-    Some((held, record.len()))
+    held_of(alloc, channel, left, right)
 }
 
 /// Each receipt of four seats is the entry at its place, an altered one is none, and a seat's places rise.

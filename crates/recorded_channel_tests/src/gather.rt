@@ -2,9 +2,10 @@
 ghost use Rattle.std.specs.Prelude.{◌≡◌};
 
 use crate::checks::expect_equal;
+use crate::seats::two_seats;
 use channel_world::call::Call;
 use channel_world::name::HandleId;
-use channel_world::{RecordedChannel, SeatsUsedUp};
+use channel_world::{MissingSeat, RecordSeat, RecordedChannel, SeatsUsedUp};
 use event_listener::id::EventIds;
 use std::alloc::Global;
 use std::marker::Brand;
@@ -27,6 +28,31 @@ struct Gathered {
     entries: usize,
 }
 
+/// A channel that ends with one seat, while another one is missing.
+fn without_first<L: Ledger>(
+    alloc: Global,
+    channel: RecordedChannel<u64, L>,
+    second: RecordSeat<L>,
+) -> Option<MissingSeat<u64, L>> {
+    let mut seats = Vec::new(alloc);
+    let _ = seats.push(second);
+    channel.finish(seats).err()
+}
+
+/// How many entries its record has after one more call of the missing seat.
+fn with_first<L: Ledger, R: Wait>(
+    rt: &R,
+    missing: MissingSeat<u64, L>,
+    first: RecordSeat<L>,
+) -> Option<usize> {
+    let mut first = first;
+    let _ = missing.channel.call(rt, &mut first, LEN);
+    let mut seats = missing.seats;
+    let _ = seats.push(first);
+    let record = missing.channel.finish(seats).ok()?;
+    Some(record.len())
+}
+
 /// A channel of a blank of three parts: two seats, of which the second is gathered first.
 fn gather<L: Ledger, R: Wait>(rt: &R, alloc: Global, blank: Blank) -> Option<Gathered>
     requires name { blank.name ≡ L.name }
@@ -34,25 +60,19 @@ fn gather<L: Ledger, R: Wait>(rt: &R, alloc: Global, blank: Blank) -> Option<Gat
 {
     let mut ids = EventIds::new();
     let channel = RecordedChannel::<u64, L>::bounded(alloc, 1, &mut ids, blank, 3).ok()?;
-    let mut first = channel.seat(rt).ok()?;
-    let mut second = channel.seat(rt).ok()?;
+    let (mut first, mut second) = two_seats(rt, &channel)?;
     let third = channel.seat(rt).err();
     let numbers = (first.number(), second.number());
-    channel.call(rt, &mut second, LEN).ok()?;
-    channel.call(rt, &mut first, LEN).ok()?;
-    let mut seats = Vec::new(alloc);
-    seats.push(second).ok()?;
-    let missing = channel.finish(seats).err()?;
+    let _ = channel.call(rt, &mut second, LEN);
+    let _ = channel.call(rt, &mut first, LEN);
+    let missing = without_first(alloc, channel, second)?;
     let back = missing.seats.len();
-    missing.channel.call(rt, &mut first, LEN).ok()?;
-    let mut seats = missing.seats;
-    seats.push(first).ok()?;
-    let record = missing.channel.finish(seats).ok()?;
+    let entries = with_first(rt, missing, first)?;
     Some(Gathered {
         numbers,
         third,
         back,
-        entries: record.len(),
+        entries,
     })
 }
 

@@ -2,6 +2,7 @@
 ghost use Rattle.std.specs.Prelude.{◌≡◌};
 
 use crate::checks::expect_equal;
+use crate::seats::two_seats;
 use channel_calls::error::{Refused, TryRecvError, TrySendError};
 use channel_world::call::{Call, Reply};
 use channel_world::name::HandleId;
@@ -151,7 +152,39 @@ fn replayed(alloc: Global, record: &Record<u64>) -> u64 {
     replayed
 }
 
-/// How many calls of three threads were accepted, and how many of them a plain channel replays.
+/// How many calls of three seats were accepted, and how many of them a plain channel replays.
+fn counted<L: Ledger>(
+    alloc: Global,
+    channel: RecordedChannel<u64, L>,
+    one: (RecordSeat<L>, u64),
+    others: ((RecordSeat<L>, u64), (RecordSeat<L>, u64)),
+) -> Option<(u64, u64)> {
+    let (two, three) = others;
+    let mut seats = Vec::new(alloc);
+    let mut accepted = 0u64;
+    for (seat, calls) in [one, two, three] {
+        let _ = seats.push(seat);
+        accepted = accepted.wrapping_add(calls);
+    }
+    let record = channel.finish(seats).ok()?;
+    Some((accepted, replayed(alloc, &record)))
+}
+
+/// Two threads with a seat each.
+fn two<L: Ledger + Sync, R: Threads + Wait + Sync>(
+    rt: &R,
+    channel: &RecordedChannel<u64, L>,
+    first: RecordSeat<L>,
+    second: RecordSeat<L>,
+) -> ((RecordSeat<L>, u64), (RecordSeat<L>, u64)) {
+    thread::join(
+        rt,
+        move || work(rt, channel, first),
+        move || work(rt, channel, second),
+    )
+}
+
+/// Three threads with a seat each.
 fn three<L: Ledger + Sync, R: Threads + Wait + Sync>(
     rt: &R,
     alloc: Global,
@@ -162,28 +195,15 @@ fn three<L: Ledger + Sync, R: Threads + Wait + Sync>(
 {
     let mut ids = EventIds::new();
     let channel = RecordedChannel::<u64, L>::bounded(alloc, CAPACITY, &mut ids, blank, 4).ok()?;
-    let (first, second) = (channel.seat(rt).ok()?, channel.seat(rt).ok()?);
+    let (first, second) = two_seats(rt, &channel)?;
     let third = channel.seat(rt).ok()?;
     let shared = &channel;
-    let (one, (two, three)) = thread::join(
+    let (one, others) = thread::join(
         rt,
         move || work(rt, shared, first),
-        move || {
-            thread::join(
-                rt,
-                move || work(rt, shared, second),
-                move || work(rt, shared, third),
-            )
-        },
+        move || two(rt, shared, second, third),
     );
-    let mut seats = Vec::new(alloc);
-    let mut accepted = 0u64;
-    for (seat, calls) in [one, two, three] {
-        seats.push(seat).ok()?;
-        accepted = accepted.wrapping_add(calls);
-    }
-    let record = channel.finish(seats).ok()?;
-    Some((accepted, replayed(alloc, &record)))
+    counted(alloc, channel, one, others)
 }
 
 /// Each call was accepted, and the record is what a plain channel does.

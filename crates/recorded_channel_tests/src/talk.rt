@@ -2,9 +2,10 @@
 ghost use Rattle.std.specs.Prelude.{◌≡◌};
 
 use crate::checks::expect_equal;
+use crate::seats::{finish_two, two_seats};
 use channel_world::call::{Call, Reply};
 use channel_world::name::HandleId;
-use channel_world::{Record, RecordSeat, RecordedChannel};
+use channel_world::{RecordSeat, RecordedChannel};
 use event_listener::id::EventIds;
 use std::alloc::Global;
 use std::marker::Brand;
@@ -76,25 +77,32 @@ fn speak<L: Ledger, M: Ledger, R: Wait>(
     back
 }
 
-/// The record of a channel whose two seats are gathered.
-fn finish<L: Ledger>(
-    alloc: Global,
-    channel: RecordedChannel<u64, L>,
-    first: RecordSeat<L>,
-    second: RecordSeat<L>,
-) -> Option<Record<u64>> {
-    let mut seats = Vec::new(alloc);
-    seats.push(first).ok()?;
-    seats.push(second).ok()?;
-    channel.finish(seats).ok()
-}
-
 /// What came of the talk: the words that were heard, how many calls were made on each channel, and how many were recorded.
 #[derive(Debug, PartialEq, Eq, Drop)]
 struct Outcome {
     heard: (Option<u64>, Option<u64>),
     made: (usize, usize),
     recorded: (usize, usize),
+}
+
+/// What came of it, where each thread is back and both channels end.
+fn outcome<L: Ledger, M: Ledger>(
+    alloc: Global,
+    one: RecordedChannel<u64, L>,
+    two: RecordedChannel<u64, M>,
+    a: Back<L, M>,
+    b: Back<M, L>,
+) -> Option<Outcome> {
+    let heard = (a.heard, b.heard);
+    let made = (a.said.wrapping_add(b.asked), b.said.wrapping_add(a.asked));
+    let first = finish_two(alloc, one, a.speaks, b.listens);
+    let second = finish_two(alloc, two, a.listens, b.speaks);
+    let recorded = (first?.len(), second?.len());
+    Some(Outcome {
+        heard,
+        made,
+        recorded,
+    })
 }
 
 fn talk<L: Ledger + Sync, M: Ledger + Sync, R: Threads + Wait + Sync>(
@@ -109,23 +117,15 @@ fn talk<L: Ledger + Sync, M: Ledger + Sync, R: Threads + Wait + Sync>(
     let mut ids = EventIds::new();
     let one = RecordedChannel::<u64, L>::bounded(alloc, 1, &mut ids, first, 3).ok()?;
     let two = RecordedChannel::<u64, M>::unbounded(alloc, &mut ids, second, 3).ok()?;
-    let (a1, b1) = (one.seat(rt).ok()?, one.seat(rt).ok()?);
-    let (a2, b2) = (two.seat(rt).ok()?, two.seat(rt).ok()?);
+    let (a1, b1) = two_seats(rt, &one)?;
+    let (a2, b2) = two_seats(rt, &two)?;
     let (x, y) = (&one, &two);
     let (a, b) = thread::join(
         rt,
         move || speak(rt, x, y, a1, a2, 1),
         move || speak(rt, y, x, b2, b1, 2),
     );
-    let heard = (a.heard, b.heard);
-    let made = (a.said.wrapping_add(b.asked), b.said.wrapping_add(a.asked));
-    let first = finish(alloc, one, a.speaks, b.listens)?;
-    let second = finish(alloc, two, a.listens, b.speaks)?;
-    Some(Outcome {
-        heard,
-        made,
-        recorded: (first.len(), second.len()),
-    })
+    outcome(alloc, one, two, a, b)
 }
 
 /// Each thread gets the other's word by an answer, and both records have as many entries as calls were made.

@@ -139,7 +139,7 @@ fn close_second<L: Ledger, R: Wait>(rt: &R, alloc: Global, blank: Blank) -> Opti
         sender: HandleId(0),
         msg: 1,
     };
-    channel.call(rt, &mut seat, send).ok()?;
+    let _ = channel.call(rt, &mut seat, send);
     let closed = close(rt, &channel, &mut seat)?;
     Some(closed.place)
 }
