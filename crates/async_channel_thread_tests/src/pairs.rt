@@ -4,7 +4,7 @@ use crate::checks::expect_true;
 use crate::gates::Gates;
 use async_channel::{Receiver, Sender, TryRecvError};
 use channel_test_helpers::{
-    Ends, displaces, goes, is_closed_for, is_full_for, opened, received, received_none, sent,
+    displaces, goes, is_closed_for, is_full_for, opened, received, received_none, sent,
 };
 use std::alloc::AllocGlobal;
 use std::random::RandomSource;
@@ -20,11 +20,13 @@ fn tried_by_receiver<R: Wait + Copy>(rt: R, gates: &Gates, r: &Receiver<u64, R>)
     empty && r.try_recv() == Ok(7) && r.try_recv() == Err(TryRecvError::Closed)
 }
 
-fn tries_to_receive<R>(rt: R, ends: Ends<R>) -> bool
+fn tries_to_receive<R>(rt: R, capacity: usize) -> bool
 where
     R: Wait + Threads + Copy + RandomSource + AllocGlobal + Send + Sync,
 {
-    let (s, r) = ends;
+    let Some((s, r)) = opened(rt, rt.alloc(), capacity) else {
+        return false;
+    };
     let gates = Gates::new();
     let (did, got) = thread::join(
         &rt,
@@ -40,11 +42,13 @@ where
     did && got
 }
 
-fn receives_three<R>(rt: R, ends: Ends<R>) -> bool
+fn receives_three<R>(rt: R, capacity: usize) -> bool
 where
     R: Wait + Threads + Copy + RandomSource + AllocGlobal + Send + Sync,
 {
-    let (s, r) = ends;
+    let Some((s, r)) = opened(rt, rt.alloc(), capacity) else {
+        return false;
+    };
     let (did, got) = thread::join(
         &rt,
         move || sent(rt, &s, 7) && sent(rt, &s, 8) && sent(rt, &s, 9),
@@ -58,23 +62,10 @@ where
 
 #[test]
 fn receives(rt: HostRuntime) -> Result<(), Fail> {
-    let alloc = rt.alloc();
-    expect_true(
-        &rt,
-        tries_to_receive(rt, opened(rt, alloc, 100).expect(&rt, "memory")),
-    );
-    expect_true(
-        &rt,
-        tries_to_receive(rt, opened(rt, alloc, 0).expect(&rt, "memory")),
-    );
-    expect_true(
-        &rt,
-        receives_three(rt, opened(rt, alloc, 100).expect(&rt, "memory")),
-    );
-    expect_true(
-        &rt,
-        receives_three(rt, opened(rt, alloc, 0).expect(&rt, "memory")),
-    );
+    expect_true(&rt, tries_to_receive(rt, 100));
+    expect_true(&rt, tries_to_receive(rt, 0));
+    expect_true(&rt, receives_three(rt, 100));
+    expect_true(&rt, receives_three(rt, 0));
     Ok(())
 }
 
@@ -88,11 +79,13 @@ fn tried_by_sender<R: Wait + Copy>(rt: R, gates: &Gates, s: &Sender<u64, R>) -> 
     first && full && third && is_closed_for(s, 4)
 }
 
-fn tries_to_send<R>(rt: R, ends: Ends<R>) -> bool
+fn tries_to_send<R>(rt: R, capacity: usize) -> bool
 where
     R: Wait + Threads + Copy + RandomSource + AllocGlobal + Send + Sync,
 {
-    let (s, r) = ends;
+    let Some((s, r)) = opened(rt, rt.alloc(), capacity) else {
+        return false;
+    };
     let gates = Gates::new();
     let (did, got) = thread::join(
         &rt,
@@ -110,11 +103,13 @@ where
     did && got
 }
 
-fn sends_four<R>(rt: R, ends: Ends<R>) -> bool
+fn sends_four<R>(rt: R, capacity: usize) -> bool
 where
     R: Wait + Threads + Copy + RandomSource + AllocGlobal + Send + Sync,
 {
-    let (s, r) = ends;
+    let Some((s, r)) = opened(rt, rt.alloc(), capacity) else {
+        return false;
+    };
     let (did, got) = thread::join(
         &rt,
         || sent(rt, &s, 7) && sent(rt, &s, 8) && sent(rt, &s, 9) && sent(rt, &s, 10),
@@ -125,15 +120,8 @@ where
 
 #[test]
 fn sends(rt: HostRuntime) -> Result<(), Fail> {
-    let alloc = rt.alloc();
-    expect_true(
-        &rt,
-        tries_to_send(rt, opened(rt, alloc, 1).expect(&rt, "memory")),
-    );
-    expect_true(
-        &rt,
-        sends_four(rt, opened(rt, alloc, 1).expect(&rt, "memory")),
-    );
+    expect_true(&rt, tries_to_send(rt, 1));
+    expect_true(&rt, sends_four(rt, 1));
     Ok(())
 }
 
@@ -149,11 +137,13 @@ fn forced_by_sender<R: Wait + Copy>(rt: R, gates: &Gates, s: &Sender<u64, R>) ->
     first && second && third
 }
 
-fn forces<R>(rt: R, ends: Ends<R>) -> bool
+fn forces<R>(rt: R, capacity: usize) -> bool
 where
     R: Wait + Threads + Copy + RandomSource + AllocGlobal + Send + Sync,
 {
-    let (s, r) = ends;
+    let Some((s, r)) = opened(rt, rt.alloc(), capacity) else {
+        return false;
+    };
     let gates = Gates::new();
     let (did, got) = thread::join(
         &rt,
@@ -174,10 +164,7 @@ where
 
 #[test]
 fn forced_sends(rt: HostRuntime) -> Result<(), Fail> {
-    expect_true(
-        &rt,
-        forces(rt, opened(rt, rt.alloc(), 1).expect(&rt, "memory")),
-    );
+    expect_true(&rt, forces(rt, 1));
     Ok(())
 }
 
@@ -223,11 +210,13 @@ where
     right && r.len() == 0
 }
 
-fn counts_between<R>(rt: R, ends: Ends<R>) -> bool
+fn counts_between<R>(rt: R, capacity: usize) -> bool
 where
     R: Wait + Threads + Copy + RandomSource + AllocGlobal + Send + Sync,
 {
-    let (s, r) = ends;
+    let Some((s, r)) = opened(rt, rt.alloc(), capacity) else {
+        return false;
+    };
     let filled = fills(rt, &s, &r);
     let (did, got) = thread::join(
         &rt,
@@ -239,18 +228,17 @@ where
 
 #[test]
 fn lengths_between_threads(rt: HostRuntime) -> Result<(), Fail> {
-    expect_true(
-        &rt,
-        counts_between(rt, opened(rt, rt.alloc(), 1000).expect(&rt, "memory")),
-    );
+    expect_true(&rt, counts_between(rt, 1000));
     Ok(())
 }
 
-fn one_to_one<R>(rt: R, ends: Ends<R>) -> bool
+fn one_to_one<R>(rt: R, capacity: usize) -> bool
 where
     R: Wait + Threads + Copy + RandomSource + AllocGlobal + Send + Sync,
 {
-    let (s, r) = ends;
+    let Some((s, r)) = opened(rt, rt.alloc(), capacity) else {
+        return false;
+    };
     let (did, got) = thread::join(
         &rt,
         move || sends_counted(rt, &s, 10_000, usize::MAX),
@@ -261,14 +249,7 @@ where
 
 #[test]
 fn one_sender_one_receiver(rt: HostRuntime) -> Result<(), Fail> {
-    let alloc = rt.alloc();
-    expect_true(
-        &rt,
-        one_to_one(rt, opened(rt, alloc, 3).expect(&rt, "memory")),
-    );
-    expect_true(
-        &rt,
-        one_to_one(rt, opened(rt, alloc, 0).expect(&rt, "memory")),
-    );
+    expect_true(&rt, one_to_one(rt, 3));
+    expect_true(&rt, one_to_one(rt, 0));
     Ok(())
 }
