@@ -2,7 +2,7 @@
 
 ghost use Rattle.std.specs.Prelude.{◌≡◌};
 
-use crate::checks::expect_equal;
+use crate::checks::{expect_equal, expect_right, expect_seen, expect_true};
 use event_listener::calls::Registered;
 use event_listener::error::{ListenError, NoMemory, NotifyError};
 use event_listener::event::Event;
@@ -83,10 +83,7 @@ fn listen_all<R: Wait + Copy>(rt: R, alloc: Global) -> Option<(Seen, [usize; 3])
 #[test]
 fn listening(rt: HostRuntime) -> Result<(), Fail> {
     let (seen, counts) = listen_all(rt, rt.alloc()).expect(&rt, "memory");
-    assert!(rt;
-        seen.right && seen.calls == 40 && seen.refusals >= 46,
-        "{seen:?}"
-    );
+    expect_seen(&rt, &seen, 40, 46);
     expect_equal(&rt, &counts, &[40, 10, 10]);
     Ok(())
 }
@@ -156,10 +153,7 @@ fn wait_twice<R: Wait + Clock + Copy>(rt: R, alloc: Global) -> Option<Seen> {
 #[test]
 fn told_listeners_wait(rt: HostRuntime) -> Result<(), Fail> {
     let seen = wait_twice(rt, rt.alloc()).expect(&rt, "memory");
-    assert!(rt;
-        seen.right && seen.calls == 2 && seen.refusals >= 2,
-        "{seen:?}"
-    );
+    expect_seen(&rt, &seen, 2, 2);
     Ok(())
 }
 
@@ -204,10 +198,8 @@ fn listen_in_a_slot<R: Wait + Copy>(rt: R, alloc: Global) -> Option<(Seen, usize
 #[test]
 fn slots_that_listen(rt: HostRuntime) -> Result<(), Fail> {
     let (seen, left) = listen_in_a_slot(rt, rt.alloc()).expect(&rt, "memory");
-    assert!(rt;
-        seen.right && left == 0 && seen.calls == 1 && seen.refusals >= 3,
-        "{seen:?}"
-    );
+    expect_seen(&rt, &seen, 1, 3);
+    expect_true(&rt, left == 0);
     Ok(())
 }
 
@@ -297,10 +289,7 @@ fn insert_all(alloc: Global) -> (Seen, [usize; 2]) {
 #[test]
 fn insertions(rt: HostRuntime) -> Result<(), Fail> {
     let (seen, counts) = insert_all(rt.alloc());
-    assert!(rt;
-        seen.right && seen.calls == 6 && seen.refusals >= 6,
-        "{seen:?}"
-    );
+    expect_seen(&rt, &seen, 6, 6);
     expect_equal(&rt, &counts, &[140, 8]);
     Ok(())
 }
@@ -388,7 +377,8 @@ fn tell_all<R: Wait + Copy>(rt: R, alloc: Global) -> Option<(Seen, usize)> {
 #[test]
 fn calls_of_events_that_take_no_memory(rt: HostRuntime) -> Result<(), Fail> {
     let (seen, left) = tell_all(rt, rt.alloc()).expect(&rt, "memory");
-    assert!(rt; seen.right && left == 0, "{seen:?}");
+    expect_right(&rt, &seen);
+    expect_true(&rt, left == 0);
     Ok(())
 }
 
@@ -488,10 +478,7 @@ fn notify_all<R: Wait + Copy>(rt: R, alloc: Global) -> Option<(Seen, [bool; 3])>
 #[test]
 fn notices_with_costly_tags(rt: HostRuntime) -> Result<(), Fail> {
     let (seen, tagged) = notify_all(rt, rt.alloc()).expect(&rt, "memory");
-    assert!(rt;
-        seen.right && seen.calls == 1 && seen.refusals >= 2,
-        "{seen:?}"
-    );
+    expect_seen(&rt, &seen, 1, 2);
     expect_equal(&rt, &tagged, &[true, true, true]);
     Ok(())
 }
@@ -626,10 +613,7 @@ fn record_all<R: Wait + Copy>(rt: R, alloc: Global) -> (Seen, [usize; 3]) {
 #[test]
 fn recorded_events(rt: HostRuntime) -> Result<(), Fail> {
     let (seen, counts) = record_all(rt, rt.alloc());
-    assert!(rt;
-        seen.right && seen.calls == 27 && seen.refusals >= 48,
-        "{seen:?}"
-    );
+    expect_seen(&rt, &seen, 27, 48);
     expect_equal(&rt, &counts, &[20, 20, 120]);
     Ok(())
 }

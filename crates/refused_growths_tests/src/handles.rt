@@ -1,6 +1,6 @@
 //! A channel's handles and polled operations.
 
-use crate::checks::{expect_equal, expect_true};
+use crate::checks::{expect_equal, expect_seen, expect_true};
 use async_channel::{Closed, OpenError, Receiver, Recv, Refused, Send, Sender, bounded, unbounded};
 use event_listener::error::ListenError;
 use event_listener::id::EventIds;
@@ -75,10 +75,7 @@ fn open_all<R: Wait + Copy>(rt: R, alloc: Global) -> (Seen, u64) {
 #[test]
 fn openings_of_channels(rt: HostRuntime) -> Result<(), Fail> {
     let (seen, next) = open_all(rt, rt.alloc());
-    assert!(rt;
-        seen.right && seen.calls == 3 && seen.refusals >= 18,
-        "{seen:?}"
-    );
+    expect_seen(&rt, &seen, 3, 18);
     expect_equal(&rt, &next, &12);
     Ok(())
 }
@@ -132,10 +129,8 @@ fn send_all<R: Wait + Copy>(rt: R, alloc: Global) -> Option<(Seen, bool)> {
 #[test]
 fn sends_without_a_bound(rt: HostRuntime) -> Result<(), Fail> {
     let (seen, in_order) = send_all(rt, rt.alloc()).expect(&rt, "memory");
-    assert!(rt;
-        seen.right && in_order && seen.calls == 4 && seen.refusals >= 18,
-        "{seen:?}"
-    );
+    expect_seen(&rt, &seen, 4, 18);
+    expect_true(&rt, in_order);
     Ok(())
 }
 
@@ -192,10 +187,8 @@ fn receive_several<R: Wait + Copy>(rt: R, alloc: Global) -> Option<(Seen, bool)>
 #[test]
 fn receives_of_several(rt: HostRuntime) -> Result<(), Fail> {
     let (seen, right) = receive_several(rt, rt.alloc()).expect(&rt, "memory");
-    assert!(rt;
-        seen.right && right && seen.calls == 1 && seen.refusals >= 1,
-        "{seen:?}"
-    );
+    expect_seen(&rt, &seen, 1, 1);
+    expect_true(&rt, right);
     Ok(())
 }
 
@@ -305,10 +298,7 @@ fn receives_that_wait(rt: HostRuntime) -> Result<(), Fail> {
     let ends = opened(rt, rt.alloc(), 2).expect(&rt, "memory");
     let (seen, right) = wait_two(rt.alloc(), &ends, [&one, &two]);
     drop(ends);
-    assert!(rt;
-        seen.right && seen.calls == 2 && seen.refusals >= 3,
-        "{seen:?}"
-    );
+    expect_seen(&rt, &seen, 2, 3);
     expect_equal(&rt, &right, &[true, true, false, true, true, true]);
     Ok(())
 }
@@ -355,10 +345,7 @@ fn sends_that_wait(rt: HostRuntime) -> Result<(), Fail> {
     let ends = opened(rt, rt.alloc(), 1).expect(&rt, "memory");
     let (seen, right) = send_two(rt.alloc(), &ends, [&one, &two]);
     drop(ends);
-    assert!(rt;
-        seen.right && seen.calls == 2 && seen.refusals >= 3,
-        "{seen:?}"
-    );
+    expect_seen(&rt, &seen, 2, 3);
     expect_equal(&rt, &right, &[true, true, false, true, true]);
     Ok(())
 }
@@ -395,10 +382,7 @@ fn streams_and_closings_that_wait(rt: HostRuntime) -> Result<(), Fail> {
     let (sender, receiver) = opened(rt, rt.alloc(), 1).expect(&rt, "memory");
     let (seen, right) = stream_and_close(rt.alloc(), &sender, receiver, [&one, &two]);
     drop(sender);
-    assert!(rt;
-        seen.right && seen.calls == 2 && seen.refusals >= 4,
-        "{seen:?}"
-    );
+    expect_seen(&rt, &seen, 2, 4);
     expect_equal(&rt, &right, &[true, true, false, true, true]);
     Ok(())
 }

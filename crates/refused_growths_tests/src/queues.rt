@@ -2,6 +2,7 @@
 
 ghost use Rattle.std.specs.Prelude.{◌<◌};
 
+use crate::checks::{expect_right, expect_seen, expect_true};
 use concurrent_queue::error::{ForcePushError, NoMemory, PopError, PushError};
 use concurrent_queue::exclusive::Exclusive;
 use concurrent_queue::shared::queue::ConcurrentQueue;
@@ -79,10 +80,8 @@ fn push_all(alloc: Global) -> (Seen, bool) {
 #[test]
 fn pushes_of_one_owner(rt: HostRuntime) -> Result<(), Fail> {
     let (seen, in_order) = push_all(rt.alloc());
-    assert!(rt;
-        seen.right && in_order && seen.calls == 6 && seen.refusals >= 6,
-        "{seen:?}"
-    );
+    expect_seen(&rt, &seen, 6, 6);
+    expect_true(&rt, in_order);
     Ok(())
 }
 
@@ -145,10 +144,8 @@ fn pass_all(alloc: Global) -> (Seen, bool, u64) {
 #[test]
 fn messages_one_by_one(rt: HostRuntime) -> Result<(), Fail> {
     let (seen, passed, next) = pass_all(rt.alloc());
-    assert!(rt;
-        seen.right && passed && seen.refusals == 0 && next == 1_001,
-        "{seen:?}"
-    );
+    expect_right(&rt, &seen);
+    expect_true(&rt, passed && seen.refusals == 0 && next == 1_001);
     Ok(())
 }
 
@@ -208,7 +205,7 @@ fn answer_all(alloc: Global) -> Option<Seen> {
 #[test]
 fn calls_of_one_owner_that_take_no_memory(rt: HostRuntime) -> Result<(), Fail> {
     let seen = answer_all(rt.alloc()).expect(&rt, "memory");
-    assert!(rt; seen.right, "{seen:?}");
+    expect_right(&rt, &seen);
     Ok(())
 }
 
@@ -282,10 +279,8 @@ fn push_all_shared<R: Wait + Copy>(rt: R, alloc: Global) -> Option<(Seen, bool)>
 #[test]
 fn pushes_of_a_shared_queue(rt: HostRuntime) -> Result<(), Fail> {
     let (seen, in_order) = push_all_shared(rt, rt.alloc()).expect(&rt, "memory");
-    assert!(rt;
-        seen.right && in_order && seen.calls == 4 && seen.refusals >= 18,
-        "{seen:?}"
-    );
+    expect_seen(&rt, &seen, 4, 18);
+    expect_true(&rt, in_order);
     Ok(())
 }
 
@@ -367,9 +362,6 @@ fn open_all(alloc: Global) -> Seen {
 #[test]
 fn openings_of_queues(rt: HostRuntime) -> Result<(), Fail> {
     let seen = open_all(rt.alloc());
-    assert!(rt;
-        seen.right && seen.calls == 5 && seen.refusals >= 17,
-        "{seen:?}"
-    );
+    expect_seen(&rt, &seen, 5, 17);
     Ok(())
 }
