@@ -2,7 +2,7 @@
 
 ghost use Rattle.std.specs.Prelude.{◌≡◌};
 
-use crate::checks::expect_equal;
+use crate::checks::{expect_equal, expect_seen, expect_true};
 use channel_calls::error::{OpenError, Refused};
 use channel_world::call::{Call, Reply, WorldRefusal};
 use channel_world::name::HandleId;
@@ -209,10 +209,7 @@ fn recorded_channels(rt: HostRuntime) -> Result<(), Fail> {
     let passed = pass::<Brand, HostRuntime>(&rt, rt.alloc(), FEW, Blank::new(PARTS));
     let passed = passed.expect(&rt, "memory");
     let seen = passed.seen;
-    assert!(rt;
-        seen.right && seen.calls == 15 && seen.refusals >= 63,
-        "{seen:?}"
-    );
+    expect_seen(&rt, &seen, 15, 63);
     expect_equal(&rt, &passed.receipts, &passed.entries);
     Ok(())
 }
@@ -223,10 +220,7 @@ fn records_that_grow(rt: HostRuntime) -> Result<(), Fail> {
     let passed = pass::<Brand, HostRuntime>(&rt, rt.alloc(), MANY, Blank::new(PARTS));
     let passed = passed.expect(&rt, "memory");
     let seen = passed.seen;
-    assert!(rt;
-        seen.right && seen.calls == 81 && seen.refusals >= 267,
-        "{seen:?}"
-    );
+    expect_seen(&rt, &seen, 81, 267);
     expect_equal(&rt, &passed.receipts, &passed.entries);
     Ok(())
 }
@@ -237,10 +231,8 @@ fn a_send_without_room_comes_back(rt: HostRuntime) -> Result<(), Fail> {
     let passed = pass::<Brand, HostRuntime>(&rt, rt.alloc(), 0, Blank::new(PARTS));
     let passed = passed.expect(&rt, "memory");
     let seen = passed.seen;
-    assert!(rt;
-        seen.right && seen.calls == 2 && seen.refusals >= 19 && passed.roomless > 0,
-        "{seen:?}"
-    );
+    expect_seen(&rt, &seen, 2, 19);
+    expect_true(&rt, passed.roomless > 0);
     expect_equal(&rt, &(passed.receipts, passed.entries), &(1, 1));
     Ok(())
 }

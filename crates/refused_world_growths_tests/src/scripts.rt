@@ -1,6 +1,6 @@
 //! Scripts.
 
-use crate::checks::expect_true;
+use crate::checks::{expect_seen, expect_true};
 use channel_world::script::{ScriptEnd, run_script};
 use scarcity::{Attempt, Scarcity, Seen, Tried, made, refused};
 use std::alloc::Global;
@@ -145,10 +145,7 @@ fn run_until_done(alloc: Global, scripts: &[Lines]) -> Option<(Seen, bool)> {
 #[test]
 fn scripts(rt: HostRuntime) -> Result<(), Fail> {
     let (seen, some) = run_until_done(rt.alloc(), LONG.as_slice()).expect(&rt, "memory");
-    assert!(rt;
-        seen.right && seen.calls == 1 && seen.refusals >= 84,
-        "{seen:?}"
-    );
+    expect_seen(&rt, &seen, 1, 84);
     expect_true(&rt, some);
     Ok(())
 }
@@ -157,10 +154,7 @@ fn scripts(rt: HostRuntime) -> Result<(), Fail> {
 #[test]
 fn lines_of_each_kind(rt: HostRuntime) -> Result<(), Fail> {
     let (seen, some) = run_until_done(rt.alloc(), SHORT.as_slice()).expect(&rt, "memory");
-    assert!(rt;
-        seen.right && seen.calls == 22 && seen.refusals >= 493,
-        "{seen:?}"
-    );
+    expect_seen(&rt, &seen, 22, 493);
     expect_true(&rt, some);
     Ok(())
 }

@@ -1,6 +1,6 @@
 //! Settling a world.
 
-use crate::checks::expect_equal;
+use crate::checks::{expect_equal, expect_seen, expect_true};
 use crate::worlds::{Ask, Calls, Numbers, Said, numbers_of, says};
 use channel_world::name::{OpId, Waiter};
 use channel_world::settle::Settled;
@@ -78,10 +78,8 @@ fn settle_three(alloc: Global) -> Option<(Seen, u32, Numbers)> {
 #[test]
 fn settlings(rt: HostRuntime) -> Result<(), Fail> {
     let (seen, refused, numbers) = settle_three(rt.alloc()).expect(&rt, "memory");
-    assert!(rt;
-        seen.right && seen.calls == 8 && seen.refusals >= 34 && refused > 0,
-        "{seen:?}, {refused} settlings"
-    );
+    expect_seen(&rt, &seen, 8, 34);
+    expect_true(&rt, refused > 0);
     expect_equal(&rt, &numbers, &AFTER);
     Ok(())
 }

@@ -1,6 +1,6 @@
 //! Calls of a world made step by step.
 
-use crate::checks::expect_equal;
+use crate::checks::{expect_equal, expect_right, expect_seen, expect_true};
 use crate::worlds::{Ask, NO_ROOM, Numbers, Said, call, is_refusal, numbers_of, says};
 use channel_world::call::{Stopped, WorldRefusal};
 use channel_world::step::{PartyId, Run, Step};
@@ -212,10 +212,8 @@ fn step_all(alloc: Global) -> Option<(Seen, Numbers)> {
 #[test]
 fn steps_of_a_world(rt: HostRuntime) -> Result<(), Fail> {
     let (seen, numbers) = step_all(rt.alloc()).expect(&rt, "memory");
-    assert!(rt;
-        seen.right && seen.calls >= 485 && seen.refusals >= 923,
-        "{seen:?}"
-    );
+    expect_right(&rt, &seen);
+    expect_true(&rt, seen.calls >= 485 && seen.refusals >= 923);
     expect_equal(&rt, &numbers, &NOTHING);
     Ok(())
 }
@@ -278,9 +276,6 @@ fn make_all(alloc: Global) -> Option<Seen> {
 #[test]
 fn lists_of_steps(rt: HostRuntime) -> Result<(), Fail> {
     let seen = make_all(rt.alloc()).expect(&rt, "memory");
-    assert!(rt;
-        seen.right && seen.calls == 1 && seen.refusals >= 23,
-        "{seen:?}"
-    );
+    expect_seen(&rt, &seen, 1, 23);
     Ok(())
 }

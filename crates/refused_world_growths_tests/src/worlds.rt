@@ -1,6 +1,6 @@
 //! Calls of a world, one at a time.
 
-use crate::checks::expect_equal;
+use crate::checks::{expect_equal, expect_seen, expect_true};
 use channel_calls::error::{OpenError, Refused};
 use channel_world::call::{Call, CallRun, Reply, Stopped, WorldRefusal};
 use channel_world::name::{HandleId, OpId};
@@ -59,10 +59,7 @@ fn open_all(alloc: Global) -> (Seen, u64) {
 #[test]
 fn openings_of_worlds(rt: HostRuntime) -> Result<(), Fail> {
     let (seen, next) = open_all(rt.alloc());
-    assert!(rt;
-        seen.right && seen.calls == 2 && seen.refusals >= 26,
-        "{seen:?}"
-    );
+    expect_seen(&rt, &seen, 2, 26);
     expect_equal(&rt, &next, &8);
     Ok(())
 }
@@ -327,10 +324,8 @@ fn send_all(alloc: Global) -> Option<(Seen, [u32; 2])> {
 #[test]
 fn a_refused_block_hands_the_message_back(rt: HostRuntime) -> Result<(), Fail> {
     let (seen, blocks) = send_all(rt.alloc()).expect(&rt, "memory");
-    assert!(rt;
-        seen.right && seen.calls == 73 && seen.refusals >= 151 && blocks[0] > 0 && blocks[1] > 1,
-        "{seen:?}, {blocks:?}"
-    );
+    expect_seen(&rt, &seen, 73, 151);
+    expect_true(&rt, blocks[0] > 0 && blocks[1] > 1);
     Ok(())
 }
 
@@ -366,10 +361,8 @@ fn wait_all(alloc: Global) -> Option<(Seen, Numbers, u32)> {
 #[test]
 fn waits_of_each_kind(rt: HostRuntime) -> Result<(), Fail> {
     let (seen, numbers, listeners) = wait_all(rt.alloc()).expect(&rt, "memory");
-    assert!(rt;
-        seen.right && seen.calls == 12 && seen.refusals >= 46 && listeners > 3,
-        "{seen:?}, {listeners} listeners"
-    );
+    expect_seen(&rt, &seen, 12, 46);
+    expect_true(&rt, listeners > 3);
     let due = Numbers {
         messages: 0,
         under_way: 0,
@@ -430,10 +423,7 @@ fn call_all(alloc: Global) -> Option<(Seen, Numbers)> {
 #[test]
 fn calls_of_a_world(rt: HostRuntime) -> Result<(), Fail> {
     let (seen, numbers) = call_all(rt.alloc()).expect(&rt, "memory");
-    assert!(rt;
-        seen.right && seen.calls == 112 && seen.refusals >= 337,
-        "{seen:?}"
-    );
+    expect_seen(&rt, &seen, 112, 337);
     expect_equal(
         &rt,
         &numbers,
