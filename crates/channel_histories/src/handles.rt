@@ -81,7 +81,7 @@ where
         return Err(Failure::Memory);
     };
     let work = move || run_job(rt, alloc, &shared, job);
-    thread::spawn(&rt, work).map_err(|_| Failure::Thread)
+    thread::spawn(&rt, work).ok().ok_or(Failure::Thread)
 }
 
 /// Starts a thread for each job.
@@ -97,7 +97,9 @@ where
     let mut started = Vec::new(alloc);
     for job in jobs {
         let one = start(rt, alloc, shared, job)?;
-        started.push(one).map_err(|_| Failure::Memory)?;
+        if started.push(one).is_err() {
+            return Err(Failure::Memory);
+        }
     }
     Ok(started)
 }
@@ -142,7 +144,9 @@ where
     let started = start_all(rt, alloc, &shared, jobs)?;
     let (log, rests) = referee.see_through(rt, alloc, &shared, may_block(seed))?;
     let mut logs = join_all(&rt, alloc, started).ok_or(Failure::Memory)?;
-    logs.push(log).map_err(|_| Failure::Memory)?;
+    if logs.push(log).is_err() {
+        return Err(Failure::Memory);
+    }
     let receivers = threads.wrapping_mul(2).wrapping_add(1);
     Ok(History {
         plain: Plain::new(form.capacity(), threads.wrapping_add(1), receivers, alloc),
