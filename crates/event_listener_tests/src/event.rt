@@ -14,8 +14,8 @@ use event_listener::notify::Notification;
 use futures::task::{Poll, Source, Waker};
 use futures::test::MockTask;
 use std::alloc::Global;
+use std::io;
 use std::test::Fail;
-use worked_rows::play_rows;
 
 /// Why a test can't go on.
 #[derive(Debug, Drop)]
@@ -41,6 +41,12 @@ impl From<ListenError> for Stuck {
 impl From<IdsUsedUp> for Stuck {
     fn from(_: IdsUsedUp) -> Stuck {
         Stuck::Ids
+    }
+}
+
+impl From<io::Error> for Stuck {
+    fn from(_: io::Error) -> Stuck {
+        Stuck::Waits
     }
 }
 
@@ -112,15 +118,13 @@ impl Notification for Scarce {
 #[test]
 fn rows(rt: HostRuntime) -> Result<(), Fail> {
     let all = open(rt, rt.alloc(), MockTask::new(&rt)?).expect(&rt, "identities");
-    let played = play_rows(rt.alloc(), UNIT_ROWS, &mut Units { rt, all })?;
-    expect_rows(&rt, &played, 8);
+    expect_rows(&rt, UNIT_ROWS, &mut Units { rt, all }, 8);
     Ok(())
 }
 
 #[test]
 fn rows_of_tags(rt: HostRuntime) -> Result<(), Fail> {
     let all = open(rt, rt.alloc(), MockTask::new(&rt)?).expect(&rt, "identities");
-    let played = play_rows(rt.alloc(), TAG_ROWS, &mut Tags { rt, all, made: 0 })?;
-    expect_rows(&rt, &played, 6);
+    expect_rows(&rt, TAG_ROWS, &mut Tags { rt, all, made: 0 }, 6);
     Ok(())
 }

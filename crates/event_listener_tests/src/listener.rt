@@ -83,58 +83,64 @@ fn no_notice_is_lost(rt: HostRuntime) -> Result<(), Fail> {
     Ok(())
 }
 
-/// One thread opens the gate and sleeps, the other one goes through the gate and notifies.
+/// One thread opens the gate and sleeps, the other one goes through the gate and notifies: whether the first went on, and how many the
+/// other one told.
+fn at_the_gate<R: Wait + Threads + Copy + Send + Sync>(
+    rt: R,
+    woken: &Event<()>,
+    gate: &Event<()>,
+) -> Result<(bool, usize), Stuck> {
+    let sleeper = woken.listen(&rt)?;
+    let at_gate = gate.listen(&rt)?;
+    Ok(thread::join(
+        &rt,
+        move || {
+            gate.notify_additional(&rt, 1);
+            goes_on(sleeper)
+        },
+        move || {
+            goes_on(at_gate);
+            woken.notify_additional(&rt, 1)
+        },
+    ))
+}
+
 fn parked<R: Wait + Threads + Copy + Send + Sync>(
     rt: R,
     alloc: Global,
 ) -> Result<(bool, usize), Stuck> {
     let woken: Event<()> = event(alloc)?;
     let gate: Event<()> = event(alloc)?;
-    let sleeper = woken.listen(&rt)?;
-    let at_gate = gate.listen(&rt)?;
-    let (out, inside) = (&gate, &woken);
-    let (went_on, told) = thread::join(
-        &rt,
-        move || {
-            out.notify_additional(&rt, 1);
-            goes_on(sleeper)
-        },
-        move || {
-            goes_on(at_gate);
-            inside.notify_additional(&rt, 1)
-        },
-    );
-    Ok((went_on, told))
+    at_the_gate(rt, &woken, &gate)
 }
 
+/// A listener that was told is dropped on another thread: whether all crosses threads, and what a poll of the second one gives.
 fn dropped_elsewhere<R: Wait + Threads + Copy + Send + Sync>(
     rt: R,
-    alloc: Global,
+    event: &Event<u32>,
     task: &MockTask,
-) -> Result<Polled<u32>, Stuck> {
-    let event: Event<u32> = event(alloc)?;
+) -> Result<(bool, Polled<u32>), Stuck> {
     let told = event.listen(&rt)?;
     let mut waiting = event.listen(&rt)?;
-    if !all_cross(&event, &told) {
-        return Err(Stuck::Waits);
-    }
+    let crosses = all_cross(event, &told);
     let _ = event.notify(&rt, 1u8.tag(7u32));
     thread::join(&rt, move || drop(told), || ());
-    Ok(poll(task, &mut waiting))
+    Ok((crosses, poll(task, &mut waiting)))
 }
 
 #[test]
 fn threads(rt: HostRuntime) -> Result<(), Fail> {
-    let task = MockTask::new(&rt)?;
     expect_equal(
         &rt,
         &parked(rt, rt.alloc()).expect(&rt, "memory"),
         &(true, 1),
     );
+    let task = MockTask::new(&rt)?;
+    let event: Event<u32> = event(rt.alloc()).expect(&rt, "memory");
     expect_equal(
         &rt,
-        &dropped_elsewhere(rt, rt.alloc(), &task).expect(&rt, "memory"),
-        &Polled::Tag(7),
+        &dropped_elsewhere(rt, &event, &task).expect(&rt, "memory"),
+        &(true, Polled::Tag(7)),
     );
     Ok(())
 }

@@ -4,7 +4,7 @@ use crate::checks::expect_equal;
 use crate::event::{Stuck, event};
 use event_listener::event::Event;
 use event_listener::into_notification::IntoNotification;
-use event_listener::listener::Listener;
+use event_listener::listener::{EventListener, Listener};
 use std::alloc::Global;
 use std::sync::Wait;
 use std::sync::atomic::{AtomicUsize, Ordering};
@@ -19,10 +19,10 @@ fn told_in_time<R: Wait + Threads + Clock + Copy + Send + Sync>(
     rt: R,
     alloc: Global,
 ) -> Result<(usize, Option<u32>, bool), Stuck> {
+    let start = Instant::now(&rt)?;
     let event: Event<u32> = event(alloc)?;
     let shared = &event;
     let listener = event.listen(&rt)?;
-    let start = Instant::now(&rt).map_err(|_| Stuck::Waits)?;
     let (tag, told) = thread::join(
         &rt,
         move || {
@@ -34,7 +34,7 @@ fn told_in_time<R: Wait + Threads + Clock + Copy + Send + Sync>(
             shared.notify(&rt, 1u8.tag(8u32)).unwrap_or(9)
         },
     );
-    let passed = start.elapsed(&rt).map_err(|_| Stuck::Waits)?;
+    let passed = start.elapsed(&rt)?;
     Ok((told, tag, passed < Duration::from_secs(20)))
 }
 
@@ -45,22 +45,39 @@ fn a_wait_that_is_told_in_time_gives_the_tag(rt: HostRuntime) -> Result<(), Fail
     Ok(())
 }
 
+/// Whether a wait gives nothing, and not before its time.
+fn wait_passes<R: Wait + Clock + Copy>(
+    rt: R,
+    event: &Event<()>,
+    limit: Duration,
+) -> Result<bool, Stuck> {
+    let start = Instant::now(&rt)?;
+    let listener = event.listen(&rt)?;
+    let none = matches!(listener.wait_timeout(&rt, limit), Ok(None));
+    Ok(none && start.elapsed(&rt)? >= limit)
+}
+
+/// The same with a deadline, of a listener that listened before.
+fn deadline_passes<R: Wait + Clock + Copy>(
+    rt: R,
+    listener: EventListener<(), R>,
+    limit: Duration,
+) -> Result<bool, Stuck> {
+    let start = Instant::now(&rt)?;
+    let none = match start.checked_add(limit) {
+        Some(deadline) => matches!(listener.wait_deadline(&rt, deadline), Ok(None)),
+        None => false,
+    };
+    Ok(none && start.elapsed(&rt)? >= limit)
+}
+
 /// Whether a wait and one with a deadline gave nothing, none of them before its time, and left.
 fn time_passes<R: Wait + Clock + Copy>(rt: R, alloc: Global) -> Result<[bool; 3], Stuck> {
     let event: Event<()> = event(alloc)?;
     let limit = Duration::from_millis(30);
-    let first = event.listen(&rt)?;
     let second = event.listen(&rt)?;
-    let start = Instant::now(&rt).map_err(|_| Stuck::Waits)?;
-    let none = matches!(first.wait_timeout(&rt, limit), Ok(None));
-    let now = Instant::now(&rt).map_err(|_| Stuck::Waits)?;
-    let waited = none && now.duration_since(start) >= limit;
-    let Some(deadline) = now.checked_add(limit) else {
-        return Err(Stuck::Waits);
-    };
-    let none = matches!(second.wait_deadline(&rt, deadline), Ok(None));
-    let end = Instant::now(&rt).map_err(|_| Stuck::Waits)?;
-    let to_deadline = none && end.duration_since(now) >= limit;
+    let waited = wait_passes(rt, &event, limit).unwrap_or(false);
+    let to_deadline = deadline_passes(rt, second, limit).unwrap_or(false);
     Ok([waited, to_deadline, event.total_listeners(&rt) == 0])
 }
 
