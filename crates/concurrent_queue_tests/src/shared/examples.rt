@@ -37,8 +37,13 @@ fn a_walk_goes_on_after_none(rt: HostRuntime) -> Result<(), Fail> {
     Ok(())
 }
 
-/// Pushes so many copies, and answers how many are left in the end.
-fn dropped_with<R: Wait>(rt: &R, queue: ConcurrentQueue<Arc<u8>>, shared: &Arc<u8>) -> usize {
+/// Pushes so many copies, and answers how many are left in the end. None where there is no queue.
+fn dropped_with<R: Wait>(
+    rt: &R,
+    opened: Option<ConcurrentQueue<Arc<u8>>>,
+    shared: &Arc<u8>,
+) -> Option<usize> {
+    let queue = opened?;
     for _ in 0..40 {
         if let Ok(copy) = Arc::try_clone(shared) {
             let _ = queue.push(rt, copy);
@@ -46,7 +51,7 @@ fn dropped_with<R: Wait>(rt: &R, queue: ConcurrentQueue<Arc<u8>>, shared: &Arc<u
     }
     let held = Arc::strong_count(shared);
     drop(queue);
-    held.wrapping_sub(Arc::strong_count(shared))
+    Some(held.wrapping_sub(Arc::strong_count(shared)))
 }
 
 #[test]
@@ -54,14 +59,18 @@ fn what_is_left_is_dropped_once(rt: HostRuntime) -> Result<(), Fail> {
     let alloc = rt.alloc();
     let shared = Arc::new(alloc, 7u8)?;
     let left = [
-        dropped_with(&rt, ConcurrentQueue::bounded(alloc, 1)?, &shared),
-        dropped_with(&rt, ConcurrentQueue::bounded(alloc, 2)?, &shared),
-        dropped_with(&rt, ConcurrentQueue::bounded(alloc, 3)?, &shared),
-        dropped_with(&rt, ConcurrentQueue::unbounded(alloc)?, &shared),
+        dropped_with(&rt, ConcurrentQueue::bounded(alloc, 1).ok(), &shared),
+        dropped_with(&rt, ConcurrentQueue::bounded(alloc, 2).ok(), &shared),
+        dropped_with(&rt, ConcurrentQueue::bounded(alloc, 3).ok(), &shared),
+        dropped_with(&rt, ConcurrentQueue::unbounded(alloc).ok(), &shared),
     ];
     let count = Arc::strong_count(&shared);
     drop(shared);
-    expect_equal(&rt, &(left, count), &([1, 2, 3, 40], 1));
+    expect_equal(
+        &rt,
+        &(left, count),
+        &([Some(1), Some(2), Some(3), Some(40)], 1),
+    );
     Ok(())
 }
 
