@@ -7,14 +7,12 @@ use crate::lent::{channels_of, play_on};
 use crate::owned::Owned;
 use channel_test_helpers::opened;
 use std::alloc::AllocError;
-use std::test::Fail;
 
 #[test]
-fn operations(rt: HostRuntime) -> Result<(), Fail> {
-    let channels = channels_of(rt, rt.alloc(), OPERATIONS)?;
+fn operations(rt: HostRuntime) {
+    let channels = channels_of(rt, rt.alloc(), OPERATIONS).expect(&rt, "memory");
     let mut lent = play_on(rt, rt.alloc(), &channels);
     expect_rows(&rt, OPERATIONS, &mut lent, 9);
-    Ok(())
 }
 
 #[test]
@@ -53,15 +51,14 @@ fn write_lengths(text: &mut String) -> Result<(), AllocError> {
 }
 
 #[test]
-fn lengths_after_each_call(rt: HostRuntime) -> Result<(), Fail> {
+fn lengths_after_each_call(rt: HostRuntime) {
     let mut text = String::new(rt.alloc());
-    write_lengths(&mut text)?;
+    write_lengths(&mut text).expect(&rt, "memory");
     expect_rows(&rt, text.as_str(), &mut Owned::new(rt, rt.alloc()), 2);
-    Ok(())
 }
 
 #[test]
-fn handles_have_their_texts(rt: HostRuntime) -> Result<(), Fail> {
+fn handles_have_their_texts(rt: HostRuntime) {
     let alloc = rt.alloc();
     let (s, r) = opened(rt, alloc, 1).expect(&rt, "memory");
     let ws = s.downgrade().expect(&rt, "handles");
@@ -69,5 +66,4 @@ fn handles_have_their_texts(rt: HostRuntime) -> Result<(), Fail> {
     let text = format!(in alloc; "{s:?} {r:?} {ws:?} {wr:?}").expect(&rt, "memory");
     let want = "Sender { .. } Receiver { .. } WeakSender { .. } WeakReceiver { .. }";
     expect_equal(&rt, &text.as_str(), &want);
-    Ok(())
 }

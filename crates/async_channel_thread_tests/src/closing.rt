@@ -10,7 +10,6 @@ use futures::test::MockTask;
 use std::alloc::AllocGlobal;
 use std::random::RandomSource;
 use std::sync::Wait;
-use std::test::Fail;
 use std::thread;
 use std::thread::Threads;
 
@@ -86,10 +85,9 @@ where
 }
 
 #[test]
-fn closings(rt: HostRuntime) -> Result<(), Fail> {
+fn closings(rt: HostRuntime) {
     expect_true(&rt, is_told_of_closing(rt, 1, new_task(&rt)));
     expect_true(&rt, wakes_a_sender(rt, 1));
     expect_true(&rt, wakes_a_receiver(rt, 1));
     expect_true(&rt, wakes_a_receiver(rt, 0));
-    Ok(())
 }

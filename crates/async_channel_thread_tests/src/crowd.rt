@@ -7,7 +7,6 @@ use channel_test_helpers::{Ends, next_message, next_of_stream, opened, sent};
 use std::alloc::{AllocError, AllocGlobal};
 use std::random::RandomSource;
 use std::sync::Wait;
-use std::test::Fail;
 use std::thread;
 use std::thread::Threads;
 
@@ -76,13 +75,12 @@ where
 }
 
 #[test]
-fn many_senders_many_receivers(rt: HostRuntime) -> Result<(), Fail> {
+fn many_senders_many_receivers(rt: HostRuntime) {
     for capacity in [3, 0] {
         let tally = Tally::new(rt.alloc(), COUNT).expect(&rt, "memory");
         let ends = opened(rt, rt.alloc(), capacity).expect(&rt, "memory");
         expect_true(&rt, each_four_times(rt, ends, &tally));
     }
-    Ok(())
 }
 
 fn streams<R>(rt: R, stream: &mut Receiver<u64, R>, tally: &Tally) -> bool
@@ -131,11 +129,10 @@ where
 }
 
 #[test]
-fn many_senders_many_streams(rt: HostRuntime) -> Result<(), Fail> {
+fn many_senders_many_streams(rt: HostRuntime) {
     for capacity in [3, 0] {
         let tally = Tally::new(rt.alloc(), COUNT).expect(&rt, "memory");
         let ends = opened(rt, rt.alloc(), capacity).expect(&rt, "memory");
         expect_true(&rt, each_four_times_streamed(rt, ends, &tally));
     }
-    Ok(())
 }

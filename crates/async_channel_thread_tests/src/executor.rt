@@ -10,7 +10,6 @@ use std::alloc::AllocGlobal;
 use std::random::RandomSource;
 use std::sync::Wait;
 use std::sync::atomic::{AtomicU64, Ordering};
-use std::test::Fail;
 use std::thread::Threads;
 use std::{io, thread};
 
@@ -109,10 +108,9 @@ where
 }
 
 #[test]
-fn tasks_of_two_executors(rt: HostRuntime) -> Result<(), Fail> {
+fn tasks_of_two_executors(rt: HostRuntime) {
     for capacity in [1, 3, 0] {
         let ends = opened(rt, rt.alloc(), capacity).expect(&rt, "memory");
         expect_equal(&rt, &runs_twenty(rt, ends), &(10, 55));
     }
-    Ok(())
 }

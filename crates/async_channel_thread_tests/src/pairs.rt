@@ -9,7 +9,6 @@ use channel_test_helpers::{
 use std::alloc::AllocGlobal;
 use std::random::RandomSource;
 use std::sync::Wait;
-use std::test::Fail;
 use std::thread;
 use std::thread::Threads;
 
@@ -61,12 +60,11 @@ where
 }
 
 #[test]
-fn receives(rt: HostRuntime) -> Result<(), Fail> {
+fn receives(rt: HostRuntime) {
     expect_true(&rt, tries_to_receive(rt, 100));
     expect_true(&rt, tries_to_receive(rt, 0));
     expect_true(&rt, receives_three(rt, 100));
     expect_true(&rt, receives_three(rt, 0));
-    Ok(())
 }
 
 fn tried_by_sender<R: Wait + Copy>(rt: R, gates: &Gates, s: &Sender<u64, R>) -> bool {
@@ -119,10 +117,9 @@ where
 }
 
 #[test]
-fn sends(rt: HostRuntime) -> Result<(), Fail> {
+fn sends(rt: HostRuntime) {
     expect_true(&rt, tries_to_send(rt, 1));
     expect_true(&rt, sends_four(rt, 1));
-    Ok(())
 }
 
 fn forced_by_sender<R: Wait + Copy>(rt: R, gates: &Gates, s: &Sender<u64, R>) -> bool {
@@ -163,9 +160,8 @@ where
 }
 
 #[test]
-fn forced_sends(rt: HostRuntime) -> Result<(), Fail> {
+fn forced_sends(rt: HostRuntime) {
     expect_true(&rt, forces(rt, 1));
-    Ok(())
 }
 
 /// Sends so many, and tells whether each length was at most the capacity.
@@ -227,9 +223,8 @@ where
 }
 
 #[test]
-fn lengths_between_threads(rt: HostRuntime) -> Result<(), Fail> {
+fn lengths_between_threads(rt: HostRuntime) {
     expect_true(&rt, counts_between(rt, 1000));
-    Ok(())
 }
 
 fn one_to_one<R>(rt: R, capacity: usize) -> bool
@@ -248,8 +243,7 @@ where
 }
 
 #[test]
-fn one_sender_one_receiver(rt: HostRuntime) -> Result<(), Fail> {
+fn one_sender_one_receiver(rt: HostRuntime) {
     expect_true(&rt, one_to_one(rt, 3));
     expect_true(&rt, one_to_one(rt, 0));
-    Ok(())
 }

@@ -9,10 +9,9 @@ use concurrent_queue::{
 use std::alloc::{AllocError, Global};
 use std::collections::VecDeque;
 use std::fmt::{Debug, Display};
-use std::test::Fail;
 
 #[test]
-fn refusals_hand_the_message_back(rt: HostRuntime) -> std::result::Result<(), Fail> {
+fn refusals_hand_the_message_back(rt: HostRuntime) {
     let back = [
         PushError::Full(1u64).into_inner(),
         PushError::Closed(2).into_inner(),
@@ -21,7 +20,6 @@ fn refusals_hand_the_message_back(rt: HostRuntime) -> std::result::Result<(), Fa
         ForcePushError::NoMemory(5).into_inner(),
     ];
     expect_equal(&rt, &back, &[1, 2, 3, 4, 5]);
-    Ok(())
 }
 
 /// Whether a refused push says that the queue was full, and that it was closed.
@@ -35,13 +33,12 @@ fn why_none(error: PopError) -> [bool; 2] {
 }
 
 #[test]
-fn refusals_say_why(rt: HostRuntime) -> std::result::Result<(), Fail> {
+fn refusals_say_why(rt: HostRuntime) {
     expect_equal(&rt, &why(PushError::Full(1)), &[true, false]);
     expect_equal(&rt, &why(PushError::Closed(1)), &[false, true]);
     expect_equal(&rt, &why(PushError::NoMemory(1)), &[false, false]);
     expect_equal(&rt, &why_none(PopError::Empty), &[true, false]);
     expect_equal(&rt, &why_none(PopError::Closed), &[false, true]);
-    Ok(())
 }
 
 /// The capacity of a queue without a bound and the length of a list with room for one, where one `?` serves both refusals.
@@ -52,9 +49,12 @@ fn queue_beside_list(alloc: Global) -> Result<(Option<usize>, usize), AllocError
 }
 
 #[test]
-fn a_refused_queue_is_a_refused_allocation(rt: HostRuntime) -> std::result::Result<(), Fail> {
-    expect_equal(&rt, &queue_beside_list(rt.alloc())?, &(None, 0));
-    Ok(())
+fn a_refused_queue_is_a_refused_allocation(rt: HostRuntime) {
+    expect_equal(
+        &rt,
+        &queue_beside_list(rt.alloc()).expect(&rt, "memory"),
+        &(None, 0),
+    );
 }
 
 /// Whether a refusal is equal to its copies and to no other.
@@ -68,7 +68,7 @@ fn is_itself<E: Copy + Clone + Drop + PartialEq>(error: E, other: E) -> bool {
 }
 
 #[test]
-fn refusals_are_compared_and_copied(rt: HostRuntime) -> std::result::Result<(), Fail> {
+fn refusals_are_compared_and_copied(rt: HostRuntime) {
     let told_apart = [
         is_itself(PushError::Full(1u64), PushError::Full(2)),
         is_itself(PushError::Full(1u64), PushError::Closed(1)),
@@ -76,7 +76,6 @@ fn refusals_are_compared_and_copied(rt: HostRuntime) -> std::result::Result<(), 
         is_itself(PopError::Empty, PopError::Closed),
     ];
     expect_equal(&rt, &told_apart, &[true; 4]);
-    Ok(())
 }
 
 /// Whether a refusal is shown and written so.
@@ -88,7 +87,7 @@ fn says<E: Display + Debug>(alloc: Global, error: &E, text: &str) -> bool {
 }
 
 #[test]
-fn texts_of_a_push(rt: HostRuntime) -> std::result::Result<(), Fail> {
+fn texts_of_a_push(rt: HostRuntime) {
     let alloc = rt.alloc();
     let said = [
         says(alloc, &PushError::Full(1u64), "Full Full(..)"),
@@ -96,11 +95,10 @@ fn texts_of_a_push(rt: HostRuntime) -> std::result::Result<(), Fail> {
         says(alloc, &PushError::NoMemory(1u64), "NoMemory NoMemory(..)"),
     ];
     expect_equal(&rt, &said, &[true; 3]);
-    Ok(())
 }
 
 #[test]
-fn texts_of_a_displacing_push_and_of_a_pop(rt: HostRuntime) -> std::result::Result<(), Fail> {
+fn texts_of_a_displacing_push_and_of_a_pop(rt: HostRuntime) {
     let alloc = rt.alloc();
     let said = [
         says(alloc, &ForcePushError::Closed(1u64), "Closed Closed(..)"),
@@ -113,13 +111,11 @@ fn texts_of_a_displacing_push_and_of_a_pop(rt: HostRuntime) -> std::result::Resu
         says(alloc, &PopError::Closed, "Closed Closed"),
     ];
     expect_equal(&rt, &said, &[true; 4]);
-    Ok(())
 }
 
 #[test]
-fn want_of_memory_says_so(rt: HostRuntime) -> std::result::Result<(), Fail> {
+fn want_of_memory_says_so(rt: HostRuntime) {
     expect_true(&rt, says(rt.alloc(), &NoMemory, "want of memory NoMemory"));
-    Ok(())
 }
 
 /// A pop that begins, and two steps of it.
@@ -164,7 +160,7 @@ fn shows<T: Debug>(alloc: Global, value: &T, text: &str) -> bool {
 }
 
 #[test]
-fn steps_are_compared_and_shown(rt: HostRuntime) -> std::result::Result<(), Fail> {
+fn steps_are_compared_and_shown(rt: HostRuntime) {
     let begin: QueueStep<u64> = QueueStep::Begin {
         party: 1,
         call: QueueAsk::Pop,
@@ -175,15 +171,13 @@ fn steps_are_compared_and_shown(rt: HostRuntime) -> std::result::Result<(), Fail
     let shown = shows(rt.alloc(), &begin, "Begin { party: 1, call: Pop }");
     drop(begin);
     expect_equal(&rt, &(compared, shown), &(true, true));
-    Ok(())
 }
 
 #[test]
-fn forms_are_compared_and_shown(rt: HostRuntime) -> std::result::Result<(), Fail> {
+fn forms_are_compared_and_shown(rt: HostRuntime) {
     let form = QueueForm::Bounded(1);
     expect_true(&rt, form != QueueForm::Unbounded);
     expect_true(&rt, shows(rt.alloc(), &form, "Bounded(1)"));
-    Ok(())
 }
 
 /// Whether its second entry and what stopped it are shown so.
@@ -215,10 +209,9 @@ fn is_right(alloc: Global, run: &QueueRun<u64>) -> bool {
 }
 
 #[test]
-fn runs_are_compared_and_shown(rt: HostRuntime) -> std::result::Result<(), Fail> {
-    let run = pop_alone(rt.alloc())?;
+fn runs_are_compared_and_shown(rt: HostRuntime) {
+    let run = pop_alone(rt.alloc()).expect(&rt, "memory");
     let seen = (is_right(rt.alloc(), &run), is_shown(rt.alloc(), &run));
     drop(run);
     expect_equal(&rt, &seen, &(true, [true; 2]));
-    Ok(())
 }

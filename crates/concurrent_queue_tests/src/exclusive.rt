@@ -3,7 +3,6 @@
 use crate::checks::expect_equal;
 use concurrent_queue::exclusive::Exclusive;
 use std::rc::Rc;
-use std::test::Fail;
 
 /// So many copies are pushed, and so many displace.
 fn put_copies(queue: &mut Exclusive<Rc<u64>>, counted: &Rc<u64>, pushes: u32, displacing: u32) {
@@ -36,9 +35,9 @@ fn copies_held(
 }
 
 #[test]
-fn what_is_left_is_dropped_once(rt: HostRuntime) -> Result<(), Fail> {
+fn what_is_left_is_dropped_once(rt: HostRuntime) {
     let alloc = rt.alloc();
-    let counted = Rc::new(alloc, 7u64)?;
+    let counted = Rc::new(alloc, 7u64).expect(&rt, "memory");
     let held = [
         copies_held(Exclusive::bounded(alloc, 1).ok(), &counted, [1, 1, 0]),
         copies_held(Exclusive::bounded(alloc, 2).ok(), &counted, [0, 3, 0]),
@@ -47,5 +46,4 @@ fn what_is_left_is_dropped_once(rt: HostRuntime) -> Result<(), Fail> {
     drop(counted);
     let wanted = [Some([1 + 1, 1]), Some([1 + 2, 1]), Some([1 + 37, 1])];
     expect_equal(&rt, &held, &wanted);
-    Ok(())
 }

@@ -15,7 +15,6 @@ use futures::task::{Poll, Source, Waker};
 use futures::test::MockTask;
 use std::alloc::Global;
 use std::io;
-use std::test::Fail;
 
 /// Why a test can't go on.
 #[derive(Debug, Drop)]
@@ -116,15 +115,19 @@ impl Notification for Scarce {
 }
 
 #[test]
-fn rows(rt: HostRuntime) -> Result<(), Fail> {
-    let all = open(rt, rt.alloc(), MockTask::new(&rt)?).expect(&rt, "identities");
+fn rows(rt: HostRuntime) {
+    let all = open(rt, rt.alloc(), MockTask::new(&rt).expect(&rt, "memory")).expect(
+        &rt,
+        "identities",
+    );
     expect_rows(&rt, UNIT_ROWS, &mut Units { rt, all }, 8);
-    Ok(())
 }
 
 #[test]
-fn rows_of_tags(rt: HostRuntime) -> Result<(), Fail> {
-    let all = open(rt, rt.alloc(), MockTask::new(&rt)?).expect(&rt, "identities");
+fn rows_of_tags(rt: HostRuntime) {
+    let all = open(rt, rt.alloc(), MockTask::new(&rt).expect(&rt, "memory")).expect(
+        &rt,
+        "identities",
+    );
     expect_rows(&rt, TAG_ROWS, &mut Tags { rt, all, made: 0 }, 6);
-    Ok(())
 }

@@ -9,7 +9,6 @@ use futures::test::MockTask;
 use std::alloc::Global;
 use std::sync::Wait;
 use std::sync::atomic::{AtomicUsize, Ordering};
-use std::test::Fail;
 use std::thread;
 use std::thread::Threads;
 
@@ -73,14 +72,13 @@ fn both_notify<R: Wait + Threads + Copy + Send + Sync>(
 }
 
 #[test]
-fn no_notice_is_lost(rt: HostRuntime) -> Result<(), Fail> {
+fn no_notice_is_lost(rt: HostRuntime) {
     let event: Event<()> = event(rt.alloc()).expect(&rt, "memory");
     for _ in 0..1000 {
         let (told, went_on) = four_threads(rt, &event).expect(&rt, "memory");
         expect_equal(&rt, &(told, went_on), &(2, 2));
     }
     expect_equal(&rt, &event.total_listeners(&rt), &0);
-    Ok(())
 }
 
 /// One thread opens the gate and sleeps, the other one goes through the gate and notifies: whether the first went on, and how many the
@@ -129,18 +127,17 @@ fn dropped_elsewhere<R: Wait + Threads + Copy + Send + Sync>(
 }
 
 #[test]
-fn threads(rt: HostRuntime) -> Result<(), Fail> {
+fn threads(rt: HostRuntime) {
     expect_equal(
         &rt,
         &parked(rt, rt.alloc()).expect(&rt, "memory"),
         &(true, 1),
     );
-    let task = MockTask::new(&rt)?;
+    let task = MockTask::new(&rt).expect(&rt, "memory");
     let event: Event<u32> = event(rt.alloc()).expect(&rt, "memory");
     expect_equal(
         &rt,
         &dropped_elsewhere(rt, &event, &task).expect(&rt, "memory"),
         &(true, Polled::Tag(7)),
     );
-    Ok(())
 }

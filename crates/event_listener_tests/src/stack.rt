@@ -7,7 +7,6 @@ use event_listener::stack::{StackListener, StackSlot};
 use futures::test::MockTask;
 use std::alloc::Global;
 use std::sync::Wait;
-use std::test::Fail;
 use std::time::{Clock, Duration, Instant};
 
 /// A third listener by name, of an event on which two listen: how many each of three notices told, and what a poll of it gives.
@@ -73,14 +72,13 @@ fn three_in_turn<R: Wait + Clock + Copy>(
 }
 
 #[test]
-fn a_slot_listens_again(rt: HostRuntime) -> Result<(), Fail> {
-    let task = MockTask::new(&rt)?;
+fn a_slot_listens_again(rt: HostRuntime) {
+    let task = MockTask::new(&rt).expect(&rt, "memory");
     let event: Event<u32> = event(rt.alloc()).expect(&rt, "memory");
     let mut slot = StackSlot::new(rt, rt.alloc(), &event).expect(&rt, "memory");
     let seen = three_in_turn(rt, &event, &mut slot, &task).expect(&rt, "memory");
     expect_equal(&rt, &seen, &(Some(4), [true; 2], [true; 3]));
     expect_equal(&rt, &event.total_listeners(&rt), &0);
-    Ok(())
 }
 
 /// As a user writes it: whether the listener under the name is pending once polled, and what its wait gives after a notice.
@@ -97,20 +95,18 @@ fn waits_by_name<R: Wait + Copy>(
 }
 
 #[test]
-fn a_listener_by_name(rt: HostRuntime) -> Result<(), Fail> {
-    let task = MockTask::new(&rt)?;
+fn a_listener_by_name(rt: HostRuntime) {
+    let task = MockTask::new(&rt).expect(&rt, "memory");
     let event: Event<u32> = event(rt.alloc()).expect(&rt, "memory");
     let seen = waits_by_name(rt, rt.alloc(), &event, &task).expect(&rt, "memory");
     expect_equal(&rt, &seen, &(true, Some(7)));
-    Ok(())
 }
 
 #[test]
-fn slots(rt: HostRuntime) -> Result<(), Fail> {
-    let task = MockTask::new(&rt)?;
+fn slots(rt: HostRuntime) {
+    let task = MockTask::new(&rt).expect(&rt, "memory");
     let event: Event<()> = event(rt.alloc()).expect(&rt, "memory");
     let (third, polled) = in_slots(rt, rt.alloc(), &event, &task).expect(&rt, "memory");
     expect_equal(&rt, &third, &Some(([1, 0, 1], Polled::Pending)));
     expect_equal(&rt, &polled, &[Polled::Tag(()), Polled::Tag(())]);
-    Ok(())
 }

@@ -37,7 +37,7 @@ fn tells_apart<T: PartialEq + Drop>(it: T, same: T, other: T) -> bool {
 }
 
 #[test]
-fn refusals_say_why(rt: HostRuntime) -> Result<(), Fail> {
+fn refusals_say_why(rt: HostRuntime) {
     let all = [
         prints(&rt, NoMemory, "want of memory"),
         prints(&rt, UnknownListener, "no such listener"),
@@ -58,11 +58,10 @@ fn refusals_say_why(rt: HostRuntime) -> Result<(), Fail> {
         prints(&rt, RegisterError::UnknownListener, "no such listener"),
     ];
     expect_equal(&rt, &all, &[true; 9]);
-    Ok(())
 }
 
 #[test]
-fn waits_that_did_not_begin_say_why(rt: HostRuntime) -> Result<(), Fail> {
+fn waits_that_did_not_begin_say_why(rt: HostRuntime) {
     let all = [
         prints(&rt, WaitError::NoMemory(5u8), "want of memory"),
         shows(&rt, WaitError::NoMemory(5u8), "NoMemory(..)"),
@@ -79,7 +78,6 @@ fn waits_that_did_not_begin_say_why(rt: HostRuntime) -> Result<(), Fail> {
         WaitError::NeverInserted(6u8).into_inner(),
     );
     expect_equal(&rt, &back, &(5, 6));
-    Ok(())
 }
 
 /// The key of the first listener of a list, which is that of any other list's.
@@ -99,7 +97,7 @@ impl Wakes<u8> for Nobody {
 }
 
 #[test]
-fn calls_are_compared_and_shown(rt: HostRuntime) -> Result<(), Fail> {
+fn calls_are_compared_and_shown(rt: HostRuntime) {
     let apart = tells_apart::<ListCall<u8, u8>>(
         ListCall::Insert,
         ListCall::Insert,
@@ -110,7 +108,6 @@ fn calls_are_compared_and_shown(rt: HostRuntime) -> Result<(), Fail> {
     };
     let shown = shows(&rt, poll, "Poll { listener: Place(0) }");
     expect_equal(&rt, &[apart, shown], &[true; 2]);
-    Ok(())
 }
 
 /// An insertion, and a poll of the listener that it gave.

@@ -8,7 +8,6 @@ use event_listener::listener::{EventListener, Listener};
 use std::alloc::Global;
 use std::sync::Wait;
 use std::sync::atomic::{AtomicUsize, Ordering};
-use std::test::Fail;
 use std::thread;
 use std::thread::Threads;
 use std::time::{Clock, Duration, Instant};
@@ -39,10 +38,9 @@ fn told_in_time<R: Wait + Threads + Clock + Copy + Send + Sync>(
 }
 
 #[test]
-fn a_wait_that_is_told_in_time_gives_the_tag(rt: HostRuntime) -> Result<(), Fail> {
+fn a_wait_that_is_told_in_time_gives_the_tag(rt: HostRuntime) {
     let (told, tag, soon) = told_in_time(rt, rt.alloc()).expect(&rt, "memory");
     expect_equal(&rt, &(told, tag, soon), &(1, Some(8), true));
-    Ok(())
 }
 
 /// Whether a wait gives nothing, and not before its time.
@@ -82,13 +80,12 @@ fn time_passes<R: Wait + Clock + Copy>(rt: R, alloc: Global) -> Result<[bool; 3]
 }
 
 #[test]
-fn a_wait_gives_nothing_before_its_time(rt: HostRuntime) -> Result<(), Fail> {
+fn a_wait_gives_nothing_before_its_time(rt: HostRuntime) {
     expect_equal(
         &rt,
         &time_passes(&rt, rt.alloc()).expect(&rt, "memory"),
         &[true; 3],
     );
-    Ok(())
 }
 
 const ROUNDS: usize = 20_000;
@@ -140,10 +137,9 @@ fn races<R: Wait + Threads + Clock + Copy + Send + Sync>(
 
 /// A notice that comes when the time is up is taken or tells nobody: none is lost.
 #[test]
-fn each_listener_that_was_told_wakes_with_its_tag(rt: HostRuntime) -> Result<(), Fail> {
+fn each_listener_that_was_told_wakes_with_its_tag(rt: HostRuntime) {
     let event: Event<()> = event(rt.alloc()).expect(&rt, "memory");
     let (woken, told) = races(rt, &event);
     expect_equal(&rt, &woken, &told);
     expect_equal(&rt, &event.total_listeners(&rt), &0);
-    Ok(())
 }

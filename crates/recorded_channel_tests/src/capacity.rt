@@ -11,7 +11,6 @@ use std::alloc::Global;
 use std::marker::Brand;
 use std::sync::Wait;
 use std::sync::ledger::{Blank, Ledger};
-use std::test::*;
 
 /// What a channel says of its capacity, and what its record does.
 #[derive(Clone, Copy, Debug, PartialEq, Eq)]
@@ -75,10 +74,9 @@ fn as_asked(capacity: Option<usize>) -> Option<Said> {
 }
 
 #[test]
-fn the_capacity_is_as_asked_for(rt: HostRuntime) -> Result<(), Fail> {
+fn the_capacity_is_as_asked_for(rt: HostRuntime) {
     let three = bounded::<Brand, HostRuntime>(&rt, rt.alloc(), Blank::new(2));
     expect_equal(&rt, &three, &as_asked(Some(3)));
     let any = unbounded::<Brand, HostRuntime>(&rt, rt.alloc(), Blank::new(2));
     expect_equal(&rt, &any, &as_asked(None));
-    Ok(())
 }

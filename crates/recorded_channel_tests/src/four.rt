@@ -11,7 +11,6 @@ use std::alloc::Global;
 use std::marker::Brand;
 use std::sync::Wait;
 use std::sync::ledger::{Blank, Ledger};
-use std::test::*;
 use std::thread::Threads;
 use std::{mem, thread};
 
@@ -194,8 +193,7 @@ fn four<L: Ledger + Sync, R: Threads + Wait + Sync>(
 
 /// Each receipt of four seats is the entry at its place, an altered one is none, and a seat's places rise.
 #[test]
-fn every_receipt_stands_in_the_record(rt: HostRuntime) -> Result<(), Fail> {
+fn every_receipt_stands_in_the_record(rt: HostRuntime) {
     let all = four::<Brand, HostRuntime>(&rt, rt.alloc(), Blank::new(5));
     expect_equal(&rt, &all, &Some((400, 400)));
-    Ok(())
 }

@@ -11,7 +11,6 @@ use std::alloc::Global;
 use std::marker::Brand;
 use std::sync::Wait;
 use std::sync::ledger::{Blank, Ledger};
-use std::test::*;
 
 const LEN: Call<u64> = Call::Len {
     handle: HandleId(0),
@@ -78,7 +77,7 @@ fn gather<L: Ledger, R: Wait>(rt: &R, alloc: Global, blank: Blank) -> Option<Gat
 
 /// With one seat missing channel and seat come back and are used on; with both there is the record.
 #[test]
-fn a_missing_seat_is_waited_for(rt: HostRuntime) -> Result<(), Fail> {
+fn a_missing_seat_is_waited_for(rt: HostRuntime) {
     let gathered = gather::<Brand, HostRuntime>(&rt, rt.alloc(), Blank::new(3));
     expect_equal(
         &rt,
@@ -90,7 +89,6 @@ fn a_missing_seat_is_waited_for(rt: HostRuntime) -> Result<(), Fail> {
             entries: 3,
         }),
     );
-    Ok(())
 }
 
 /// Whether no seat is made of so few parts, and how many entries the record then has.
@@ -112,10 +110,9 @@ fn nobody<L: Ledger, R: Wait>(
 
 /// The last part stays with the channel, and a channel without seats is finished with the empty list.
 #[test]
-fn no_seat_is_made_of_one_part(rt: HostRuntime) -> Result<(), Fail> {
+fn no_seat_is_made_of_one_part(rt: HostRuntime) {
     let none = nobody::<Brand, HostRuntime>(&rt, rt.alloc(), Blank::new(0), 0);
     expect_equal(&rt, &none, &Some((true, 0)));
     let one = nobody::<Brand, HostRuntime>(&rt, rt.alloc(), Blank::new(1), 1);
     expect_equal(&rt, &one, &Some((true, 0)));
-    Ok(())
 }

@@ -12,7 +12,6 @@ use std::fmt::Display;
 use std::marker::Brand;
 use std::sync::Wait;
 use std::sync::ledger::{Blank, Ledger};
-use std::test::*;
 
 /// A receive through a sender.
 const WRONG: Call<u64> = Call::TryRecv {
@@ -61,7 +60,7 @@ fn refusal(why: WorldRefusal, call: Call<u64>) -> Option<RecordError<u64>> {
 }
 
 #[test]
-fn a_refused_call_leaves_no_entry(rt: HostRuntime) -> Result<(), Fail> {
+fn a_refused_call_leaves_no_entry(rt: HostRuntime) {
     let told = refuse::<Brand, HostRuntime>(&rt, rt.alloc(), Blank::new(2));
     let wanted = Told {
         wrong: refusal(WorldRefusal::WrongKind, WRONG),
@@ -69,7 +68,6 @@ fn a_refused_call_leaves_no_entry(rt: HostRuntime) -> Result<(), Fail> {
         entries: 2,
     };
     expect_equal(&rt, &told, &Some(wanted));
-    Ok(())
 }
 
 /// Whether a value prints this text.
@@ -81,7 +79,7 @@ fn prints<E: Display + Drop>(rt: &impl AllocGlobal, it: E, text: &str) -> bool {
 }
 
 #[test]
-fn texts(rt: HostRuntime) -> Result<(), Fail> {
+fn texts(rt: HostRuntime) {
     let why = WorldRefusal::Borrowed;
     let all = [
         prints(
@@ -97,5 +95,4 @@ fn texts(rt: HostRuntime) -> Result<(), Fail> {
         prints(&rt, SeatsUsedUp, "seats used up"),
     ];
     expect_equal(&rt, &all, &[true; 3]);
-    Ok(())
 }

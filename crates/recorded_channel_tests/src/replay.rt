@@ -15,7 +15,6 @@ use std::alloc::Global;
 use std::marker::Brand;
 use std::sync::Wait;
 use std::sync::ledger::{Blank, Ledger};
-use std::test::*;
 use std::thread;
 use std::thread::Threads;
 
@@ -208,8 +207,7 @@ fn three<L: Ledger + Sync, R: Threads + Wait + Sync>(
 
 /// Each call was accepted, and the record is what a plain channel does.
 #[test]
-fn the_record_is_what_a_plain_channel_does(rt: HostRuntime) -> Result<(), Fail> {
+fn the_record_is_what_a_plain_channel_does(rt: HostRuntime) {
     let all = three::<Brand, HostRuntime>(&rt, rt.alloc(), Blank::new(4));
     expect_equal(&rt, &all, &Some((120, 120)));
-    Ok(())
 }

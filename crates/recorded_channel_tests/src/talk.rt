@@ -11,7 +11,6 @@ use std::alloc::Global;
 use std::marker::Brand;
 use std::sync::Wait;
 use std::sync::ledger::{Blank, Ledger};
-use std::test::*;
 use std::thread;
 use std::thread::Threads;
 
@@ -130,10 +129,9 @@ fn talk<L: Ledger + Sync, M: Ledger + Sync, R: Threads + Wait + Sync>(
 
 /// Each thread gets the other's word by an answer, and both records have as many entries as calls were made.
 #[test]
-fn each_hears_the_others_word(rt: HostRuntime) -> Result<(), Fail> {
+fn each_hears_the_others_word(rt: HostRuntime) {
     let talk = talk::<Brand, Brand, HostRuntime>(&rt, rt.alloc(), Blank::new(3), Blank::new(3));
     let talk = talk.expect(&rt, "memory");
     expect_equal(&rt, &talk.heard, &(Some(2), Some(1)));
     expect_equal(&rt, &talk.recorded, &talk.made);
-    Ok(())
 }

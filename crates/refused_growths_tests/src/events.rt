@@ -18,7 +18,6 @@ use scarcity::{Attempt, Scarcity, Seen, Tried, made, refused};
 use std::alloc::{AllocError, Global};
 use std::marker::Model;
 use std::sync::Wait;
-use std::test::Fail;
 use std::time::{Clock, Duration};
 
 /// How many listen.
@@ -81,11 +80,10 @@ fn listen_all<R: Wait + Copy>(rt: R, alloc: Global) -> Option<(Seen, [usize; 3])
 
 /// Each listener takes a cell of its own, so each is refused at least once.
 #[test]
-fn listening(rt: HostRuntime) -> Result<(), Fail> {
+fn listening(rt: HostRuntime) {
     let (seen, counts) = listen_all(rt, rt.alloc()).expect(&rt, "memory");
     expect_seen(&rt, &seen, 40, 46);
     expect_equal(&rt, &counts, &[40, 10, 10]);
-    Ok(())
 }
 
 /// A told listener that waits, for no time at all or without an end. Where what it would sleep on is refused it comes back, told as
@@ -151,10 +149,9 @@ fn wait_twice<R: Wait + Clock + Copy>(rt: R, alloc: Global) -> Option<Seen> {
 
 /// A refused wait hands its listener back.
 #[test]
-fn told_listeners_wait(rt: HostRuntime) -> Result<(), Fail> {
+fn told_listeners_wait(rt: HostRuntime) {
     let seen = wait_twice(rt, rt.alloc()).expect(&rt, "memory");
     expect_seen(&rt, &seen, 2, 2);
-    Ok(())
 }
 
 /// A slot of an event that is made and listens.
@@ -196,11 +193,10 @@ fn listen_in_a_slot<R: Wait + Copy>(rt: R, alloc: Global) -> Option<(Seen, usize
 
 /// A slot that is refused, or refused a listener, leaves nobody on the event.
 #[test]
-fn slots_that_listen(rt: HostRuntime) -> Result<(), Fail> {
+fn slots_that_listen(rt: HostRuntime) {
     let (seen, left) = listen_in_a_slot(rt, rt.alloc()).expect(&rt, "memory");
     expect_seen(&rt, &seen, 1, 3);
     expect_true(&rt, left == 0);
-    Ok(())
 }
 
 /// A sink for tasks that nobody reads.
@@ -287,11 +283,10 @@ fn insert_all(alloc: Global) -> (Seen, [usize; 2]) {
 
 /// A list grows by doubling: some of the insertions are refused, and the making of room is.
 #[test]
-fn insertions(rt: HostRuntime) -> Result<(), Fail> {
+fn insertions(rt: HostRuntime) {
     let (seen, counts) = insert_all(rt.alloc());
     expect_seen(&rt, &seen, 6, 6);
     expect_equal(&rt, &counts, &[140, 8]);
-    Ok(())
 }
 
 /// Two events are made, each of an identity of its own, and get notices for nobody.
@@ -375,11 +370,10 @@ fn tell_all<R: Wait + Copy>(rt: R, alloc: Global) -> Option<(Seen, usize)> {
 
 /// Identities and events are made, and notices of plain counts, questions and leaving are answered, where nothing is to be had.
 #[test]
-fn calls_of_events_that_take_no_memory(rt: HostRuntime) -> Result<(), Fail> {
+fn calls_of_events_that_take_no_memory(rt: HostRuntime) {
     let (seen, left) = tell_all(rt, rt.alloc()).expect(&rt, "memory");
     expect_right(&rt, &seen);
     expect_true(&rt, left == 0);
-    Ok(())
 }
 
 /// A tag whose copies take memory, and keep it.
@@ -476,11 +470,10 @@ fn notify_all<R: Wait + Copy>(rt: R, alloc: Global) -> Option<(Seen, [bool; 3])>
 
 /// Who was told before a tag was refused stays told, and the next notice tells the others.
 #[test]
-fn notices_with_costly_tags(rt: HostRuntime) -> Result<(), Fail> {
+fn notices_with_costly_tags(rt: HostRuntime) {
     let (seen, tagged) = notify_all(rt, rt.alloc()).expect(&rt, "memory");
     expect_seen(&rt, &seen, 1, 2);
     expect_equal(&rt, &tagged, &[true, true, true]);
-    Ok(())
 }
 
 /// What is done to a recorded event.
@@ -611,9 +604,8 @@ fn record_all<R: Wait + Copy>(rt: R, alloc: Global) -> (Seen, [usize; 3]) {
 
 /// After a refusal the record has as many entries as calls changed something, and the end of a listener needs no memory.
 #[test]
-fn recorded_events(rt: HostRuntime) -> Result<(), Fail> {
+fn recorded_events(rt: HostRuntime) {
     let (seen, counts) = record_all(rt, rt.alloc());
     expect_seen(&rt, &seen, 27, 48);
     expect_equal(&rt, &counts, &[20, 20, 120]);
-    Ok(())
 }

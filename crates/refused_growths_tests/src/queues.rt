@@ -9,7 +9,6 @@ use concurrent_queue::shared::queue::ConcurrentQueue;
 use scarcity::{Attempt, Scarcity, Seen, Tried, made, refused};
 use std::alloc::{AllocError, Global};
 use std::sync::Wait;
-use std::test::Fail;
 
 /// How many messages are pushed: as many as need four blocks of a shared queue.
 const COUNT: u64 = 100;
@@ -78,11 +77,10 @@ fn push_all(alloc: Global) -> (Seen, bool) {
 
 /// Each growth is refused; what was refused comes back, and goes when it is pushed again.
 #[test]
-fn pushes_of_one_owner(rt: HostRuntime) -> Result<(), Fail> {
+fn pushes_of_one_owner(rt: HostRuntime) {
     let (seen, in_order) = push_all(rt.alloc());
     expect_seen(&rt, &seen, 6, 6);
     expect_true(&rt, in_order);
-    Ok(())
 }
 
 /// The last message that goes through a queue one by one; the first is 1.
@@ -142,11 +140,10 @@ fn pass_all(alloc: Global) -> (Seen, bool, u64) {
 /// What the first messages took serves for any number of messages that go through one by one: with every request refused from the
 /// 32nd push on, each push is accepted and each message comes out in its turn.
 #[test]
-fn messages_one_by_one(rt: HostRuntime) -> Result<(), Fail> {
+fn messages_one_by_one(rt: HostRuntime) {
     let (seen, passed, next) = pass_all(rt.alloc());
     expect_right(&rt, &seen);
     expect_true(&rt, passed && seen.refusals == 0 && next == 1_001);
-    Ok(())
 }
 
 /// Whether a queue without a bound that holds nothing answers as ever: what it is asked, what is popped, its closing, and what comes
@@ -203,10 +200,9 @@ fn answer_all(alloc: Global) -> Option<Seen> {
 
 /// All calls on a queue with a bound, and all on a queue without one but pushes, are answered where nothing is to be had.
 #[test]
-fn calls_of_one_owner_that_take_no_memory(rt: HostRuntime) -> Result<(), Fail> {
+fn calls_of_one_owner_that_take_no_memory(rt: HostRuntime) {
     let seen = answer_all(rt.alloc()).expect(&rt, "memory");
     expect_right(&rt, &seen);
-    Ok(())
 }
 
 /// The next push into a queue that threads share.
@@ -277,11 +273,10 @@ fn push_all_shared<R: Wait + Copy>(rt: R, alloc: Global) -> Option<(Seen, bool)>
 }
 
 #[test]
-fn pushes_of_a_shared_queue(rt: HostRuntime) -> Result<(), Fail> {
+fn pushes_of_a_shared_queue(rt: HostRuntime) {
     let (seen, in_order) = push_all_shared(rt, rt.alloc()).expect(&rt, "memory");
     expect_seen(&rt, &seen, 4, 18);
     expect_true(&rt, in_order);
-    Ok(())
 }
 
 /// Which queue is opened.
@@ -360,8 +355,7 @@ fn open_all(alloc: Global) -> Seen {
 }
 
 #[test]
-fn openings_of_queues(rt: HostRuntime) -> Result<(), Fail> {
+fn openings_of_queues(rt: HostRuntime) {
     let seen = open_all(rt.alloc());
     expect_seen(&rt, &seen, 5, 17);
-    Ok(())
 }

@@ -13,7 +13,6 @@ use std::alloc::Global;
 use std::marker::Brand;
 use std::sync::Wait;
 use std::sync::ledger::{Blank, Ledger};
-use std::test::Fail;
 
 /// A seat, and the channel's own part of the ledger.
 const PARTS: u64 = 2;
@@ -205,34 +204,31 @@ fn pass<L: Ledger, R: Wait>(rt: &R, alloc: Global, count: u64, blank: Blank) -> 
 /// A refused opening hands the blank back. Each call takes room for its receipt, so each is refused at least once, and the record has
 /// an entry for each receipt.
 #[test]
-fn recorded_channels(rt: HostRuntime) -> Result<(), Fail> {
+fn recorded_channels(rt: HostRuntime) {
     let passed = pass::<Brand, HostRuntime>(&rt, rt.alloc(), FEW, Blank::new(PARTS));
     let passed = passed.expect(&rt, "memory");
     let seen = passed.seen;
     expect_seen(&rt, &seen, 15, 63);
     expect_equal(&rt, &passed.receipts, &passed.entries);
-    Ok(())
 }
 
 /// The same of a record that grows on.
 #[test]
-fn records_that_grow(rt: HostRuntime) -> Result<(), Fail> {
+fn records_that_grow(rt: HostRuntime) {
     let passed = pass::<Brand, HostRuntime>(&rt, rt.alloc(), MANY, Blank::new(PARTS));
     let passed = passed.expect(&rt, "memory");
     let seen = passed.seen;
     expect_seen(&rt, &seen, 81, 267);
     expect_equal(&rt, &passed.receipts, &passed.entries);
-    Ok(())
 }
 
 /// A send that gets no room in the record comes back; made once more it is accepted, and the record has one entry.
 #[test]
-fn a_send_without_room_comes_back(rt: HostRuntime) -> Result<(), Fail> {
+fn a_send_without_room_comes_back(rt: HostRuntime) {
     let passed = pass::<Brand, HostRuntime>(&rt, rt.alloc(), 0, Blank::new(PARTS));
     let passed = passed.expect(&rt, "memory");
     let seen = passed.seen;
     expect_seen(&rt, &seen, 2, 19);
     expect_true(&rt, passed.roomless > 0);
     expect_equal(&rt, &(passed.receipts, passed.entries), &(1, 1));
-    Ok(())
 }

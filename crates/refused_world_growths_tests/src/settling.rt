@@ -7,7 +7,6 @@ use channel_world::settle::Settled;
 use event_listener::error::NoMemory;
 use scarcity::{Attempt, Scarcity, Seen, Tried, made, refused};
 use std::alloc::Global;
-use std::test::Fail;
 
 /// A settling of a world in which one of three receives was woken by a message.
 #[derive(Drop)]
@@ -76,10 +75,9 @@ fn settle_three(alloc: Global) -> Option<(Seen, u32, Numbers)> {
 
 /// A settling that is refused changes nothing, and polls the same when it is made again.
 #[test]
-fn settlings(rt: HostRuntime) -> Result<(), Fail> {
+fn settlings(rt: HostRuntime) {
     let (seen, refused, numbers) = settle_three(rt.alloc()).expect(&rt, "memory");
     expect_seen(&rt, &seen, 8, 34);
     expect_true(&rt, refused > 0);
     expect_equal(&rt, &numbers, &AFTER);
-    Ok(())
 }

@@ -11,7 +11,6 @@ use futures::task::Poll;
 use scarcity::{Attempt, Scarcity, Seen, Tried, made, refused};
 use std::alloc::Global;
 use std::collections::VecDeque;
-use std::test::Fail;
 
 /// The opening of a world, with a bound or without.
 #[derive(Drop)]
@@ -57,11 +56,10 @@ fn open_all(alloc: Global) -> (Seen, u64) {
 
 /// An opening that is refused takes no identities: each of the two takes four.
 #[test]
-fn openings_of_worlds(rt: HostRuntime) -> Result<(), Fail> {
+fn openings_of_worlds(rt: HostRuntime) {
     let (seen, next) = open_all(rt.alloc());
     expect_seen(&rt, &seen, 2, 26);
     expect_equal(&rt, &next, &8);
-    Ok(())
 }
 
 /// The first sender.
@@ -322,11 +320,10 @@ fn send_all(alloc: Global) -> Option<(Seen, [u32; 2])> {
 
 /// A message whose block is refused comes back, and the channel holds what it held; sent again it is received in its turn.
 #[test]
-fn a_refused_block_hands_the_message_back(rt: HostRuntime) -> Result<(), Fail> {
+fn a_refused_block_hands_the_message_back(rt: HostRuntime) {
     let (seen, blocks) = send_all(rt.alloc()).expect(&rt, "memory");
     expect_seen(&rt, &seen, 73, 151);
     expect_true(&rt, blocks[0] > 0 && blocks[1] > 1);
-    Ok(())
 }
 
 /// A receive, a stream, a wait for the closing and, once a message fills the channel, a send: each waits, and the closing wakes those
@@ -359,7 +356,7 @@ fn wait_all(alloc: Global) -> Option<(Seen, Numbers, u32)> {
 
 /// Each of the four is refused its listener, and waits when it is polled again; a send keeps its message.
 #[test]
-fn waits_of_each_kind(rt: HostRuntime) -> Result<(), Fail> {
+fn waits_of_each_kind(rt: HostRuntime) {
     let (seen, numbers, listeners) = wait_all(rt.alloc()).expect(&rt, "memory");
     expect_seen(&rt, &seen, 12, 46);
     expect_true(&rt, listeners > 3);
@@ -370,7 +367,6 @@ fn waits_of_each_kind(rt: HostRuntime) -> Result<(), Fail> {
         woken: 2,
     };
     expect_equal(&rt, &numbers, &due);
-    Ok(())
 }
 
 /// How many receives wait at once.
@@ -421,7 +417,7 @@ fn call_all(alloc: Global) -> Option<(Seen, Numbers)> {
 
 /// Each call takes room for its answer, so each is refused at least once.
 #[test]
-fn calls_of_a_world(rt: HostRuntime) -> Result<(), Fail> {
+fn calls_of_a_world(rt: HostRuntime) {
     let (seen, numbers) = call_all(rt.alloc()).expect(&rt, "memory");
     expect_seen(&rt, &seen, 112, 337);
     expect_equal(
@@ -434,5 +430,4 @@ fn calls_of_a_world(rt: HostRuntime) -> Result<(), Fail> {
             woken: 0,
         },
     );
-    Ok(())
 }

@@ -11,7 +11,6 @@ use concurrent_queue::queue_call::QueueCall;
 use concurrent_queue::shared::queue::ConcurrentQueue;
 use std::alloc::AllocError;
 use std::sync::{Arc, Wait};
-use std::test::Fail;
 
 /// What a walk and a copy of it give of a queue into which messages come between.
 fn walked_by_turns<R: Wait>(
@@ -29,12 +28,11 @@ fn walked_by_turns<R: Wait>(
 }
 
 #[test]
-fn a_walk_goes_on_after_none(rt: HostRuntime) -> Result<(), Fail> {
-    let queue = ConcurrentQueue::bounded(rt.alloc(), 3)?;
-    let given = walked_by_turns(&rt, &queue)?;
+fn a_walk_goes_on_after_none(rt: HostRuntime) {
+    let queue = ConcurrentQueue::bounded(rt.alloc(), 3).expect(&rt, "memory");
+    let given = walked_by_turns(&rt, &queue).expect(&rt, "memory");
     drop(queue);
     expect_equal(&rt, &given, &[None, Some(7), None, Some(8)]);
-    Ok(())
 }
 
 /// Pushes so many copies, and answers how many are left in the end. None where there is no queue.
@@ -55,9 +53,9 @@ fn dropped_with<R: Wait>(
 }
 
 #[test]
-fn what_is_left_is_dropped_once(rt: HostRuntime) -> Result<(), Fail> {
+fn what_is_left_is_dropped_once(rt: HostRuntime) {
     let alloc = rt.alloc();
-    let shared = Arc::new(alloc, 7u8)?;
+    let shared = Arc::new(alloc, 7u8).expect(&rt, "memory");
     let left = [
         dropped_with(&rt, ConcurrentQueue::bounded(alloc, 1).ok(), &shared),
         dropped_with(&rt, ConcurrentQueue::bounded(alloc, 2).ok(), &shared),
@@ -71,7 +69,6 @@ fn what_is_left_is_dropped_once(rt: HostRuntime) -> Result<(), Fail> {
         &(left, count),
         &([Some(1), Some(2), Some(3), Some(40)], 1),
     );
-    Ok(())
 }
 
 /// What a step of a call over a shared queue answers.
@@ -83,8 +80,8 @@ fn answer_of(reply: Option<QueueReply<u64>>) -> Said {
 }
 
 #[test]
-fn calls_go_by_steps(rt: HostRuntime) -> Result<(), Fail> {
-    let queue = ConcurrentQueue::bounded(rt.alloc(), 1)?;
+fn calls_go_by_steps(rt: HostRuntime) {
+    let queue = ConcurrentQueue::bounded(rt.alloc(), 1).expect(&rt, "memory");
     let mut push = QueueCall::push(7u64);
     let pushing = [
         answer_of(queue.step(&rt, &mut push)),
@@ -95,7 +92,7 @@ fn calls_go_by_steps(rt: HostRuntime) -> Result<(), Fail> {
     let mut close = QueueCall::close();
     let closing = answer_of(queue.step_words(&mut close));
     drop(close);
-    let wide: ConcurrentQueue<u64> = ConcurrentQueue::bounded(rt.alloc(), 3)?;
+    let wide: ConcurrentQueue<u64> = ConcurrentQueue::bounded(rt.alloc(), 3).expect(&rt, "memory");
     let places = [capacity_by_steps(&queue), capacity_by_steps(&wide)];
     let then = (queue.is_closed(), places);
     drop(wide);
@@ -106,7 +103,6 @@ fn calls_go_by_steps(rt: HostRuntime) -> Result<(), Fail> {
         &(closing, then),
         &(("closed it", 0), (true, [Some(1), Some(3)])),
     );
-    Ok(())
 }
 
 /// A message that keeps a fact.
@@ -125,11 +121,10 @@ fn doubles<R: Wait>(rt: &R, queue: &ConcurrentQueue<Even>) -> Result<bool, PopEr
 }
 
 #[test]
-fn what_messages_keep_holds_of_popped_ones(rt: HostRuntime) -> Result<(), Fail> {
-    let queue = ConcurrentQueue::bounded(rt.alloc(), 2)?;
+fn what_messages_keep_holds_of_popped_ones(rt: HostRuntime) {
+    let queue = ConcurrentQueue::bounded(rt.alloc(), 2).expect(&rt, "memory");
     let went = queue.push(&rt, Even { number: 8 }).is_ok();
     let doubled = doubles(&rt, &queue).is_ok_and(|doubles| doubles);
     drop(queue);
     expect_equal(&rt, &(went, doubled), &(true, true));
-    Ok(())
 }
