@@ -8,21 +8,19 @@ use crate::tags::Tags;
 use crate::units::Units;
 use event_listener::error::{ListenError, NoMemory};
 use event_listener::event::Event;
-use event_listener::id::{EventIds, IdsUsedUp};
+use event_listener::id::EventIds;
 use event_listener::listener::{Listener, PollFault};
 use event_listener::notify::Notification;
 use futures::task::{Poll, Source, Waker};
 use futures::test::MockTask;
 use std::alloc::Global;
-use std::io;
+use std::process::Abort;
 
-/// Why a test can't go on.
+/// Why no listener is made by name.
 #[derive(Debug, Drop)]
 pub(crate) enum Stuck {
     NoMemory,
     Listen,
-    Ids,
-    Waits,
 }
 
 impl From<NoMemory> for Stuck {
@@ -34,18 +32,6 @@ impl From<NoMemory> for Stuck {
 impl From<ListenError> for Stuck {
     fn from(_: ListenError) -> Stuck {
         Stuck::Listen
-    }
-}
-
-impl From<IdsUsedUp> for Stuck {
-    fn from(_: IdsUsedUp) -> Stuck {
-        Stuck::Ids
-    }
-}
-
-impl From<io::Error> for Stuck {
-    fn from(_: io::Error) -> Stuck {
-        Stuck::Waits
     }
 }
 
@@ -75,9 +61,9 @@ pub(crate) fn poll<T, L: Listener<T>>(task: &MockTask, listener: &mut L) -> Poll
 }
 
 /// An event with an identity of its own.
-pub(crate) fn event<T: Drop>(alloc: Global) -> Result<Event<T>, Stuck> {
+pub(crate) fn event<T: Drop, A: Abort>(rt: &A, alloc: Global) -> Event<T> {
     let mut ids = EventIds::new();
-    Ok(Event::with_tag(alloc, ids.next()?))
+    Event::with_tag(alloc, ids.next().expect(rt, "an identity"))
 }
 
 /// An additional notice for three that can make so many tags, the last of which is 0.

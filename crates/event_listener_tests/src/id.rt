@@ -1,24 +1,23 @@
 use crate::checks::expect_true;
-use crate::event::Stuck;
 use event_listener::event::Event;
 use event_listener::id::EventIds;
 use event_listener::listener::{EventListener, Listener};
 use std::alloc::Global;
+use std::process::Abort;
 use std::sync::Wait;
 
-/// Six events of one supply of identities: one, four at once, and one more. What finds no memory is missing.
-fn six_events(alloc: Global) -> Result<Vec<Event<u8>>, Stuck> {
+/// Six events of one supply of identities: one, four at once, and one more.
+fn six_events<A: Abort>(rt: &A, alloc: Global) -> Vec<Event<u8>> {
     let mut ids = EventIds::new();
-    let first = ids.next()?;
-    let four = ids.next_four()?;
-    let last = ids.next()?;
-    let mut events = Vec::new(alloc);
+    let mut events = Vec::with_capacity(alloc, 6).expect(rt, "memory");
+    let first = ids.next().expect(rt, "an identity");
     let _ = events.push(Event::with_tag(alloc, first));
-    for id in four {
+    for id in ids.next_four().expect(rt, "identities") {
         let _ = events.push(Event::with_tag(alloc, id));
     }
+    let last = ids.next().expect(rt, "an identity");
     let _ = events.push(Event::with_tag(alloc, last));
-    Ok(events)
+    events
 }
 
 /// Whether a listener listens to the event at this place alone.
@@ -35,16 +34,17 @@ fn listens_alone<R: Wait + Copy>(
 }
 
 /// Whether all six are there, and each one's listener listens to it alone.
-fn six_apart<R: Wait + Copy>(rt: R, alloc: Global) -> Result<bool, Stuck> {
-    let events = six_events(alloc)?;
+fn six_apart<R: Wait + Abort + Copy>(rt: R, alloc: Global) -> bool {
+    let events = six_events(&rt, alloc);
     let mut apart = events.len() == 6;
     for (place, event) in events.iter().enumerate() {
-        apart = apart & listens_alone(event.listen(&rt)?, &events, place);
+        let listener = event.listen(&rt).expect(&rt, "memory");
+        apart = apart & listens_alone(listener, &events, place);
     }
-    Ok(apart)
+    apart
 }
 
 #[test]
 fn identities_tell_events_apart(rt: HostRuntime) {
-    expect_true(&rt, six_apart(&rt, rt.alloc()).expect(&rt, "memory"));
+    expect_true(&rt, six_apart(&rt, rt.alloc()));
 }

@@ -6,6 +6,7 @@ use event_listener::listener::Listener;
 use event_listener::stack::{StackListener, StackSlot};
 use futures::test::MockTask;
 use std::alloc::Global;
+use std::process::Abort;
 use std::sync::Wait;
 use std::time::{Clock, Duration, Instant};
 
@@ -51,15 +52,15 @@ fn is_handed_back<R: Wait + Clock + Copy>(rt: R, finished: StackListener<'_, u32
 
 /// The tag that the first one's wait gives, what a wait says of a finished one and of one whose time is up, and whether the last two are
 /// of one event and the second one waits until it is told.
-fn three_in_turn<R: Wait + Clock + Copy>(
+fn three_in_turn<R: Wait + Clock + Abort + Copy>(
     rt: R,
     event: &Event<u32>,
     slot: &mut StackSlot<'_, u32, R>,
     task: &MockTask,
-) -> Result<(Option<u32>, [bool; 2], [bool; 3]), Stuck> {
-    let first = slot.listen()?;
-    let mut second = slot.listen()?;
-    let third = slot.listen()?;
+) -> (Option<u32>, [bool; 2], [bool; 3]) {
+    let first = slot.listen().expect(&rt, "memory");
+    let mut second = slot.listen().expect(&rt, "memory");
+    let third = slot.listen().expect(&rt, "memory");
     let same = third.same_event(&second) && third.listens_to(event);
     let _ = event.notify(&rt, 1u8.tag(4u32));
     let tag = first.wait().ok();
@@ -68,15 +69,15 @@ fn three_in_turn<R: Wait + Clock + Copy>(
     let ready = task.poll(&mut second).is_ready();
     let back = is_handed_back(rt, second);
     let late = matches!(third.wait_timeout(&rt, Duration::ZERO), Ok(None));
-    Ok((tag, [back, late], [same, pending, ready]))
+    (tag, [back, late], [same, pending, ready])
 }
 
 #[test]
 fn a_slot_listens_again(rt: HostRuntime) {
     let task = MockTask::new(&rt).expect(&rt, "memory");
-    let event: Event<u32> = event(rt.alloc()).expect(&rt, "memory");
+    let event: Event<u32> = event(&rt, rt.alloc());
     let mut slot = StackSlot::new(rt, rt.alloc(), &event).expect(&rt, "memory");
-    let seen = three_in_turn(rt, &event, &mut slot, &task).expect(&rt, "memory");
+    let seen = three_in_turn(rt, &event, &mut slot, &task);
     expect_equal(&rt, &seen, &(Some(4), [true; 2], [true; 3]));
     expect_equal(&rt, &event.total_listeners(&rt), &0);
 }
@@ -97,7 +98,7 @@ fn waits_by_name<R: Wait + Copy>(
 #[test]
 fn a_listener_by_name(rt: HostRuntime) {
     let task = MockTask::new(&rt).expect(&rt, "memory");
-    let event: Event<u32> = event(rt.alloc()).expect(&rt, "memory");
+    let event: Event<u32> = event(&rt, rt.alloc());
     let seen = waits_by_name(rt, rt.alloc(), &event, &task).expect(&rt, "memory");
     expect_equal(&rt, &seen, &(true, Some(7)));
 }
@@ -105,7 +106,7 @@ fn a_listener_by_name(rt: HostRuntime) {
 #[test]
 fn slots(rt: HostRuntime) {
     let task = MockTask::new(&rt).expect(&rt, "memory");
-    let event: Event<()> = event(rt.alloc()).expect(&rt, "memory");
+    let event: Event<()> = event(&rt, rt.alloc());
     let (third, polled) = in_slots(rt, rt.alloc(), &event, &task).expect(&rt, "memory");
     expect_equal(&rt, &third, &Some(([1, 0, 1], Polled::Pending)));
     expect_equal(&rt, &polled, &[Polled::Tag(()), Polled::Tag(())]);

@@ -7,9 +7,10 @@ use channel_world::call::{Call, WorldRefusal};
 use channel_world::name::{HandleId, OpId};
 use channel_world::{RecordError, RecordedChannel, SeatsUsedUp};
 use event_listener::id::EventIds;
-use std::alloc::{AllocGlobal, Global};
+use std::alloc::AllocGlobal;
 use std::fmt::Display;
 use std::marker::Brand;
+use std::process::Abort;
 use std::sync::Wait;
 use std::sync::ledger::{Blank, Ledger};
 
@@ -29,13 +30,14 @@ struct Told {
     entries: usize,
 }
 
-fn refuse<L: Ledger, R: Wait>(rt: &R, alloc: Global, blank: Blank) -> Option<Told>
+fn refuse<L: Ledger, R: Wait + Abort + AllocGlobal>(rt: &R, blank: Blank) -> Told
     requires name { blank.name ≡ L.name }
     requires parts { (blank.parts ≡ L.parts) × (blank.parts ≡ 2) }
 {
     let mut ids = EventIds::new();
-    let channel = RecordedChannel::<u64, L>::bounded(alloc, 1, &mut ids, blank, 2).ok()?;
-    let mut seat = channel.seat(rt).ok()?;
+    let opened = RecordedChannel::<u64, L>::bounded(rt.alloc(), 1, &mut ids, blank, 2);
+    let channel = opened.ok().expect(rt, "memory");
+    let mut seat = channel.seat(rt).expect(rt, "seats");
     let wrong = channel.call(rt, &mut seat, WRONG).err();
     let unknown = channel.call(rt, &mut seat, UNKNOWN).err();
     let len = Call::Len {
@@ -46,12 +48,11 @@ fn refuse<L: Ledger, R: Wait>(rt: &R, alloc: Global, blank: Blank) -> Option<Tol
         handle: HandleId(1),
     };
     let _ = channel.call(rt, &mut seat, leave);
-    let entries = finish_one(alloc, channel, seat)?.len();
-    Some(Told {
+    Told {
         wrong,
         unknown,
-        entries,
-    })
+        entries: finish_one(rt, channel, seat).len(),
+    }
 }
 
 /// The refusal that hands this call back.
@@ -61,13 +62,13 @@ fn refusal(why: WorldRefusal, call: Call<u64>) -> Option<RecordError<u64>> {
 
 #[test]
 fn a_refused_call_leaves_no_entry(rt: HostRuntime) {
-    let told = refuse::<Brand, HostRuntime>(&rt, rt.alloc(), Blank::new(2));
+    let told = refuse::<Brand, HostRuntime>(&rt, Blank::new(2));
     let wanted = Told {
         wrong: refusal(WorldRefusal::WrongKind, WRONG),
         unknown: refusal(WorldRefusal::UnknownName, UNKNOWN),
         entries: 2,
     };
-    expect_equal(&rt, &told, &Some(wanted));
+    expect_equal(&rt, &told, &wanted);
 }
 
 /// Whether a value prints this text.

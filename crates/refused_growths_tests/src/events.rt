@@ -17,11 +17,18 @@ use event_listener::wakes::Wakes;
 use scarcity::{Attempt, Scarcity, Seen, Tried, made, refused};
 use std::alloc::{AllocError, Global};
 use std::marker::Model;
+use std::process::Abort;
 use std::sync::Wait;
 use std::time::{Clock, Duration};
 
 /// How many listen.
 const COUNT: usize = 40;
+
+/// An event with an identity of its own.
+fn new_event<T: Drop, A: Abort>(rt: &A, alloc: Global) -> Event<T> {
+    let mut ids = EventIds::new();
+    Event::with_tag(alloc, ids.next().expect(rt, "an identity"))
+}
 
 /// The next listener of an event.
 #[derive(Drop)]
@@ -128,15 +135,15 @@ impl<R: Wait + Clock + Copy> Attempt for Waits<R> {
 }
 
 /// Two listeners are told, and wait, first one without an end, and then the other for no time.
-fn wait_twice<R: Wait + Clock + Copy>(rt: R, alloc: Global) -> Option<Seen> {
+fn wait_twice<R: Wait + Clock + Abort + Copy>(rt: R, alloc: Global) -> Seen {
     let mut waits = Waits {
         rt,
-        event: Event::new(alloc, EventIds::new().next().ok()?),
+        event: new_event(&rt, alloc),
         listener: None,
         is_timed: false,
     };
-    let first = waits.event.listen(&rt).ok()?;
-    let second = waits.event.listen(&rt).ok()?;
+    let first = waits.event.listen(&rt).expect(&rt, "memory");
+    let second = waits.event.listen(&rt).expect(&rt, "memory");
     waits.event.notify_additional(&rt, 2);
     let mut scarcity = Scarcity::new(alloc);
     waits.listener = Some(first);
@@ -144,13 +151,13 @@ fn wait_twice<R: Wait + Clock + Copy>(rt: R, alloc: Global) -> Option<Seen> {
     waits.listener = Some(second);
     waits.is_timed = true;
     scarcity.refuse_each(&mut waits);
-    Some(scarcity.end())
+    scarcity.end()
 }
 
 /// A refused wait hands its listener back.
 #[test]
 fn told_listeners_wait(rt: HostRuntime) {
-    let seen = wait_twice(rt, rt.alloc()).expect(&rt, "memory");
+    let seen = wait_twice(rt, rt.alloc());
     expect_seen(&rt, &seen, 2, 2);
 }
 
@@ -345,11 +352,11 @@ fn leaves<R: Wait + Copy>(listener: Option<EventListener<(), R>>) -> bool {
     }
 }
 
-fn tell_all<R: Wait + Copy>(rt: R, alloc: Global) -> Option<(Seen, usize)> {
-    let event = Event::new(alloc, EventIds::new().next().ok()?);
-    let first = event.listen(&rt).ok()?;
-    let second = event.listen(&rt).ok()?;
-    let third = event.listen(&rt).ok()?;
+fn tell_all<R: Wait + Abort + Copy>(rt: R, alloc: Global) -> (Seen, usize) {
+    let event = new_event(&rt, alloc);
+    let first = event.listen(&rt).expect(&rt, "memory");
+    let second = event.listen(&rt).expect(&rt, "memory");
+    let third = event.listen(&rt).expect(&rt, "memory");
     let mut tells = Tells {
         rt,
         event,
@@ -365,13 +372,13 @@ fn tell_all<R: Wait + Copy>(rt: R, alloc: Global) -> Option<(Seen, usize)> {
     let mut scarcity = Scarcity::new(alloc);
     scarcity.refuse_none(&mut makes);
     scarcity.refuse_none(&mut tells);
-    Some((scarcity.end(), tells.event.total_listeners(&rt)))
+    (scarcity.end(), tells.event.total_listeners(&rt))
 }
 
 /// Identities and events are made, and notices of plain counts, questions and leaving are answered, where nothing is to be had.
 #[test]
 fn calls_of_events_that_take_no_memory(rt: HostRuntime) {
-    let (seen, left) = tell_all(rt, rt.alloc()).expect(&rt, "memory");
+    let (seen, left) = tell_all(rt, rt.alloc());
     expect_right(&rt, &seen);
     expect_true(&rt, left == 0);
 }
@@ -439,39 +446,36 @@ fn has_tag<R: Wait + Copy>(listener: EventListener<Costly, R>) -> bool {
     }
 }
 
-fn make_tags(alloc: Global) -> Option<Vec<Costly>> {
-    let mut tags = Vec::with_capacity(alloc, 100).ok()?;
+fn make_tags<A: Abort>(rt: &A, alloc: Global) -> Vec<Costly> {
+    let mut tags = Vec::with_capacity(alloc, 100).expect(rt, "memory");
     for _ in 0..100 {
-        tags.push(Costly {
-            alloc,
-            number: Box::new(alloc, 7u32).ok()?,
-        })
-        .ok()?;
+        let number = Box::new(alloc, 7u32).expect(rt, "memory");
+        let _ = tags.push(Costly { alloc, number });
     }
-    Some(tags)
+    tags
 }
 
 /// Three listen, and are told. Then whether each has the tag.
-fn notify_all<R: Wait + Copy>(rt: R, alloc: Global) -> Option<(Seen, [bool; 3])> {
+fn notify_all<R: Wait + Abort + Copy>(rt: R, alloc: Global) -> (Seen, [bool; 3]) {
     let mut notices = Notices {
         rt,
-        event: Event::with_tag(alloc, EventIds::new().next().ok()?),
-        tags: make_tags(alloc)?,
+        event: new_event(&rt, alloc),
+        tags: make_tags(&rt, alloc),
         told: 0,
     };
-    let first = notices.event.listen(&rt).ok()?;
-    let second = notices.event.listen(&rt).ok()?;
-    let third = notices.event.listen(&rt).ok()?;
+    let first = notices.event.listen(&rt).expect(&rt, "memory");
+    let second = notices.event.listen(&rt).expect(&rt, "memory");
+    let third = notices.event.listen(&rt).expect(&rt, "memory");
     let mut scarcity = Scarcity::new(alloc);
     scarcity.refuse_each(&mut notices);
     let seen = scarcity.end();
-    Some((seen, [has_tag(first), has_tag(second), has_tag(third)]))
+    (seen, [has_tag(first), has_tag(second), has_tag(third)])
 }
 
 /// Who was told before a tag was refused stays told, and the next notice tells the others.
 #[test]
 fn notices_with_costly_tags(rt: HostRuntime) {
-    let (seen, tagged) = notify_all(rt, rt.alloc()).expect(&rt, "memory");
+    let (seen, tagged) = notify_all(rt, rt.alloc());
     expect_seen(&rt, &seen, 1, 2);
     expect_equal(&rt, &tagged, &[true, true, true]);
 }
