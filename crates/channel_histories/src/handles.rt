@@ -32,20 +32,32 @@ fn open<R: Wait + Copy>(rt: R, alloc: Global, form: Form) -> Option<Ends<R>> {
     }
 }
 
+/// The place of one thread more, which the referee sees.
+fn new_place<R: RandomSource + AllocGlobal>(
+    rt: &R,
+    alloc: Global,
+    places: &mut Vec<Arc<Place>>,
+) -> Option<Arc<Place>> {
+    let place = Arc::new(alloc, Place::new(rt).ok()?).ok()?;
+    places.push(Arc::try_clone(&place).ok()?).ok()?;
+    Some(place)
+}
+
 /// The job of one thread; the referee sees its place.
 fn new_job<R>(rt: R, alloc: Global, referee: &mut Referee<R>, seed: u64) -> Option<Job<R>>
 where
     R: Wait + Copy + RandomSource + AllocGlobal,
 {
     let thread = referee.places.len();
-    let place = Arc::new(alloc, Place::new(&rt).ok()?).ok()?;
-    referee.places.push(Arc::try_clone(&place).ok()?).ok()?;
+    let hands = Hands::of(&referee.sender, &referee.receiver)?;
+    let stream = referee.receiver.try_clone().ok()?;
+    let place = new_place(&rt, alloc, &mut referee.places)?;
     Some(Job {
         thread,
         seed,
         place,
-        hands: Hands::of(&referee.sender, &referee.receiver)?,
-        stream: referee.receiver.try_clone().ok()?,
+        hands,
+        stream,
     })
 }
 
