@@ -48,8 +48,8 @@ Four rows are texts that a loop writes. They are `rows::messages_beyond_one_bloc
 
 What needs threads, clocks that pass, types of its own or proofs, and what refuses memory, is code: the other tests of these crates. So
 are calls of a channel step by step over one slot (`async_channel_tests`, `calls`), and giving up at every place
-(`channel_interleaving_tests`, `giving_up`). The rows of scripts are texts in `channel_script` (`rows`, `faults`, `bounds`), which has the
-one stored run too.
+(`channel_interleaving_tests`, `giving_up`). The rows of scripts are texts in `channel_world_tests` (`scripts`), one stored run in
+`channel_script`.
 """
 
 

@@ -19,7 +19,6 @@ use event_listener::wakes::Wakes;
 use std::alloc::{AllocError, Global};
 use std::mem;
 use std::sync::Wait;
-use std::test::Fail;
 
 /// The name of a send that waits beside the call.
 const OTHER: u32 = 7;
@@ -208,8 +207,8 @@ fn sends_blocking<R: Wait>(rt: &R, alloc: Global, refuses: bool) -> Result<Came,
 
 /// Its listener was told before its parker was refused: it leaves, the send beside it is told in its place, and the message comes back.
 #[test]
-fn a_refused_parker_passes_the_notice_on(rt: HostRuntime) -> Result<(), Fail> {
-    let came = sends_blocking(&rt, rt.alloc(), true)?;
+fn a_refused_parker_passes_the_notice_on(rt: HostRuntime) {
+    let came = sends_blocking(&rt, rt.alloc(), true).expect(&rt, "memory");
     let due = Came {
         answer: Err(Refused::NoMemory(20)),
         woke: (OTHER, 0),
@@ -217,13 +216,12 @@ fn a_refused_parker_passes_the_notice_on(rt: HostRuntime) -> Result<(), Fail> {
         listed: (1, 1),
     };
     expect_equal(&rt, &came, &due);
-    Ok(())
 }
 
 /// It is told in its sleep, registers once more, which uses the notice up, and sends without a listener.
 #[test]
-fn one_that_wakes_uses_its_notice_up(rt: HostRuntime) -> Result<(), Fail> {
-    let came = sends_blocking(&rt, rt.alloc(), false)?;
+fn one_that_wakes_uses_its_notice_up(rt: HostRuntime) {
+    let came = sends_blocking(&rt, rt.alloc(), false).expect(&rt, "memory");
     let due = Came {
         answer: Ok(()),
         woke: (0, OWN),
@@ -231,7 +229,6 @@ fn one_that_wakes_uses_its_notice_up(rt: HostRuntime) -> Result<(), Fail> {
         listed: (0, 0),
     };
     expect_equal(&rt, &came, &due);
-    Ok(())
 }
 
 /// What a walk over an empty channel gives where its parker is refused, then where a message is there, where the channel is closed
@@ -254,9 +251,8 @@ fn walks<R: Wait>(
 
 /// A refusal is an item, and the walk goes on after it up to its end.
 #[test]
-fn a_walk_gives_its_refusals(rt: HostRuntime) -> Result<(), Fail> {
-    let found = walks(&rt, rt.alloc())?;
+fn a_walk_gives_its_refusals(rt: HostRuntime) {
+    let found = walks(&rt, rt.alloc()).expect(&rt, "memory");
     let items = [Some(Err(ListenError::NoMemory)), Some(Ok(30)), None, None];
     expect_equal(&rt, &found, &(items, true, 1));
-    Ok(())
 }

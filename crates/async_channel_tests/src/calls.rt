@@ -15,7 +15,7 @@ use event_listener::wakes::Wakes;
 use futures::task::Poll;
 use std::alloc::Global;
 use std::fmt;
-use std::test::Fail;
+use std::process::Abort;
 
 /// A sink that keeps the names of those who were woken.
 #[derive(Drop)]
@@ -38,13 +38,13 @@ struct Fixture {
     names: Names,
 }
 
-fn make_fixture(rt: &impl AllocGlobal) -> Result<Fixture, Fail> {
-    Ok(Fixture {
-        channel: PlainChannel::new(QueueForm::Bounded(1), rt.alloc())?,
+fn make_fixture<A: Abort + AllocGlobal>(rt: &A) -> Fixture {
+    Fixture {
+        channel: PlainChannel::new(QueueForm::Bounded(1), rt.alloc()).expect(rt, "memory"),
         names: Names {
             woken: Vec::new(rt.alloc()),
         },
-    })
+    }
 }
 
 /// What a call says, in short.
@@ -214,16 +214,15 @@ fn shows_wants(alloc: Global) -> bool {
 }
 
 #[test]
-fn errors_have_their_texts(rt: HostRuntime) -> Result<(), Fail> {
+fn errors_have_their_texts(rt: HostRuntime) {
     let alloc = rt.alloc();
     expect_true(&rt, shows_sends(alloc));
     expect_true(&rt, shows_receives(alloc));
     expect_true(&rt, shows_wants(alloc));
-    Ok(())
 }
 
 #[test]
-fn errors_are_told_apart(rt: HostRuntime) -> Result<(), Fail> {
+fn errors_are_told_apart(rt: HostRuntime) {
     let full = TrySendError::Full(5);
     let closed = TrySendError::Closed(6);
     expect_equal(&rt, &(full.is_full(), full.is_closed()), &(true, false));
@@ -233,7 +232,6 @@ fn errors_are_told_apart(rt: HostRuntime) -> Result<(), Fail> {
     let (empty, over) = (TryRecvError::Empty, TryRecvError::Closed);
     expect_equal(&rt, &(empty.is_empty(), empty.is_closed()), &(true, false));
     expect_equal(&rt, &(over.is_empty(), over.is_closed()), &(false, true));
-    Ok(())
 }
 
 /// Whether it was full, whether it was closed, and the message that a refused send hands back.
@@ -250,7 +248,7 @@ fn keeps_its_own() -> bool {
 }
 
 #[test]
-fn refusals_hand_back_their_message(rt: HostRuntime) -> Result<(), Fail> {
+fn refusals_hand_back_their_message(rt: HostRuntime) {
     let full = told(Refused::Plain(TrySendError::Full(1)));
     let closed = told(Refused::Plain(TrySendError::Closed(2)));
     let memory = told(Refused::NoMemory(3));
@@ -260,7 +258,6 @@ fn refusals_hand_back_their_message(rt: HostRuntime) -> Result<(), Fail> {
         &[(true, false, 1), (false, true, 2), (false, false, 3)],
     );
     expect_true(&rt, keeps_its_own());
-    Ok(())
 }
 
 fn takes_between_two_tries(all: &mut Fixture) -> [Said; 4] {
@@ -273,8 +270,8 @@ fn takes_between_two_tries(all: &mut Fixture) -> [Said; 4] {
 }
 
 #[test]
-fn a_message_that_comes_between_two_tries_is_taken(rt: HostRuntime) -> Result<(), Fail> {
-    let mut all = make_fixture(&rt)?;
+fn a_message_that_comes_between_two_tries_is_taken(rt: HostRuntime) {
+    let mut all = make_fixture(&rt);
     let said = takes_between_two_tries(&mut all);
     let woke_nobody = all.woke([].as_slice());
     drop(all);
@@ -286,7 +283,6 @@ fn a_message_that_comes_between_two_tries_is_taken(rt: HostRuntime) -> Result<()
             true,
         ),
     );
-    Ok(())
 }
 
 /// What is said, and whether nobody was woken by the push and the receive by the section after it.
@@ -303,13 +299,12 @@ fn wakes_after_the_push(all: &mut Fixture) -> ([Said; 4], bool, bool) {
 }
 
 #[test]
-fn a_pending_receive_is_woken_by_the_section_after_the_push(rt: HostRuntime) -> Result<(), Fail> {
-    let mut all = make_fixture(&rt)?;
+fn a_pending_receive_is_woken_by_the_section_after_the_push(rt: HostRuntime) {
+    let mut all = make_fixture(&rt);
     let seen = wakes_after_the_push(&mut all);
     drop(all);
     let said = [Said::Pending, Said::GoesOn, Said::GoesOn, Said::Sent];
     expect_equal(&rt, &seen, &(said, true, true));
-    Ok(())
 }
 
 /// Two sends wait, and the first is given up after the taking and before its section, which wakes the second.
@@ -333,8 +328,8 @@ fn wakes_who_still_waits(all: &mut Fixture) -> ([Said; 6], bool, bool) {
 }
 
 #[test]
-fn a_taking_wakes_the_send_that_still_waits(rt: HostRuntime) -> Result<(), Fail> {
-    let mut all = make_fixture(&rt)?;
+fn a_taking_wakes_the_send_that_still_waits(rt: HostRuntime) {
+    let mut all = make_fixture(&rt);
     let seen = wakes_who_still_waits(&mut all);
     drop(all);
     let said = [
@@ -346,7 +341,6 @@ fn a_taking_wakes_the_send_that_still_waits(rt: HostRuntime) -> Result<(), Fail>
         Said::Sent,
     ];
     expect_equal(&rt, &seen, &(said, true, true));
-    Ok(())
 }
 
 /// Two receives, a stream and a wait for the closing wait. A forced message wakes the first and the stream; where the first is
@@ -386,8 +380,8 @@ fn last_sender_closes(
 }
 
 #[test]
-fn a_refused_poll_passes_on_and_the_last_sender_closes(rt: HostRuntime) -> Result<(), Fail> {
-    let mut all = make_fixture(&rt)?;
+fn a_refused_poll_passes_on_and_the_last_sender_closes(rt: HostRuntime) {
+    let mut all = make_fixture(&rt);
     let (_, first, _) = all.runs(ChannelAsk::PollRecv(lent(None), 1));
     let (_, second, _) = all.runs(ChannelAsk::PollRecv(lent(None), 2));
     let (_, stream, _) = all.runs(ChannelAsk::PollNext(None, 3));
@@ -413,5 +407,4 @@ fn a_refused_poll_passes_on_and_the_last_sender_closes(rt: HostRuntime) -> Resul
     ];
     expect_equal(&rt, &closed, &(said, true));
     expect_true(&rt, stream.is_some() && closing.is_some());
-    Ok(())
 }

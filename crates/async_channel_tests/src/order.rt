@@ -14,7 +14,6 @@ use std::alloc::AllocGlobal;
 use std::process::Abort;
 use std::random::RandomSource;
 use std::sync::{Mutex, Wait};
-use std::test::Fail;
 
 /// The names of those who were polled, in order.
 type Names = Mutex<Vec<u32>>;
@@ -119,17 +118,15 @@ where
 }
 
 #[test]
-fn a_closing_wakes_receives_streams_and_closings_in_order(rt: HostRuntime) -> Result<(), Fail> {
+fn a_closing_wakes_receives_streams_and_closings_in_order(rt: HostRuntime) {
     let ends = opened(rt, rt.alloc(), 0).expect(&rt, "memory");
     let want = [1, 2, 3, 3, 2, 1];
     expect_true(&rt, is_order(rt, &ends, true, want.as_slice()));
-    Ok(())
 }
 
 #[test]
-fn a_message_wakes_a_receive_before_the_streams(rt: HostRuntime) -> Result<(), Fail> {
+fn a_message_wakes_a_receive_before_the_streams(rt: HostRuntime) {
     let ends = opened(rt, rt.alloc(), 0).expect(&rt, "memory");
     let want = [1, 2, 3, 3, 2];
     expect_true(&rt, is_order(rt, &ends, false, want.as_slice()));
-    Ok(())
 }

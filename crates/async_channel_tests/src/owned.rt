@@ -51,20 +51,20 @@ fn number(words: &mut Words<'_>) -> usize {
 impl<R: Wait + Copy> Handle<R> {
     fn clone(&self) -> Result<Option<Handle<R>>, HandleError> {
         match self {
-            Handle::Sender(s) => s.try_clone().map(|it| Some(Handle::Sender(it))),
-            Handle::Receiver(r) => r.try_clone().map(|it| Some(Handle::Receiver(it))),
-            Handle::WeakSender(s) => s.try_clone().map(|it| Some(Handle::WeakSender(it))),
-            Handle::WeakReceiver(r) => r.try_clone().map(|it| Some(Handle::WeakReceiver(it))),
+            Handle::Sender(s) => Ok(Some(Handle::Sender(s.try_clone()?))),
+            Handle::Receiver(r) => Ok(Some(Handle::Receiver(r.try_clone()?))),
+            Handle::WeakSender(s) => Ok(Some(Handle::WeakSender(s.try_clone()?))),
+            Handle::WeakReceiver(r) => Ok(Some(Handle::WeakReceiver(r.try_clone()?))),
         }
     }
 
     /// The other kind of handle: a weak one of a strong one, or a strong one of a weak one.
     fn turned(&self) -> Result<Option<Handle<R>>, HandleError> {
         match self {
-            Handle::Sender(s) => s.downgrade().map(|it| Some(Handle::WeakSender(it))),
-            Handle::Receiver(r) => r.downgrade().map(|it| Some(Handle::WeakReceiver(it))),
-            Handle::WeakSender(s) => s.upgrade().map(|it| it.map(Handle::Sender)),
-            Handle::WeakReceiver(r) => r.upgrade().map(|it| it.map(Handle::Receiver)),
+            Handle::Sender(s) => Ok(Some(Handle::WeakSender(s.downgrade()?))),
+            Handle::Receiver(r) => Ok(Some(Handle::WeakReceiver(r.downgrade()?))),
+            Handle::WeakSender(s) => Ok(s.upgrade()?.map(Handle::Sender)),
+            Handle::WeakReceiver(r) => Ok(r.upgrade()?.map(Handle::Receiver)),
         }
     }
 

@@ -7,24 +7,17 @@ use crate::lent::{channels_of, play_on};
 use crate::owned::Owned;
 use channel_test_helpers::opened;
 use std::alloc::AllocError;
-use std::test::Fail;
-use worked_rows::play_rows;
 
 #[test]
-fn operations(rt: HostRuntime) -> Result<(), Fail> {
-    let channels = channels_of(rt, rt.alloc(), OPERATIONS)?;
+fn operations(rt: HostRuntime) {
+    let channels = channels_of(rt, rt.alloc(), OPERATIONS).expect(&rt, "memory");
     let mut lent = play_on(rt, rt.alloc(), &channels);
-    let played = play_rows(rt.alloc(), OPERATIONS, &mut lent)?;
-    expect_rows(&rt, &played, 9);
-    Ok(())
+    expect_rows(&rt, OPERATIONS, &mut lent, 9);
 }
 
 #[test]
-fn handles(rt: HostRuntime) -> Result<(), Fail> {
-    let mut owned = Owned::new(rt, rt.alloc());
-    let played = play_rows(rt.alloc(), HANDLES, &mut owned)?;
-    expect_rows(&rt, &played, 22);
-    Ok(())
+fn handles(rt: HostRuntime) {
+    expect_rows(&rt, HANDLES, &mut Owned::new(rt, rt.alloc()), 22);
 }
 
 /// Fifty sends and fifty receives, with the length right after each.
@@ -47,23 +40,25 @@ fn write_fifty(text: &mut String) -> Result<(), AllocError> {
 }
 
 /// Once without a bound, and a hundred times with one.
-#[test]
-fn lengths_after_each_call(rt: HostRuntime) -> Result<(), Fail> {
-    let mut text = String::new(rt.alloc());
+fn write_lengths(text: &mut String) -> Result<(), AllocError> {
     text.push_str("row without_a_bound\nunbounded\n")?;
-    write_fifty(&mut text)?;
+    write_fifty(text)?;
     text.push_str("row of_a_thousand_places\nbounded 1000\n")?;
     for _ in 0..100 {
-        write_fifty(&mut text)?;
+        write_fifty(text)?;
     }
-    let mut owned = Owned::new(rt, rt.alloc());
-    let played = play_rows(rt.alloc(), text.as_str(), &mut owned)?;
-    expect_rows(&rt, &played, 2);
     Ok(())
 }
 
 #[test]
-fn handles_have_their_texts(rt: HostRuntime) -> Result<(), Fail> {
+fn lengths_after_each_call(rt: HostRuntime) {
+    let mut text = String::new(rt.alloc());
+    write_lengths(&mut text).expect(&rt, "memory");
+    expect_rows(&rt, text.as_str(), &mut Owned::new(rt, rt.alloc()), 2);
+}
+
+#[test]
+fn handles_have_their_texts(rt: HostRuntime) {
     let alloc = rt.alloc();
     let (s, r) = opened(rt, alloc, 1).expect(&rt, "memory");
     let ws = s.downgrade().expect(&rt, "handles");
@@ -71,5 +66,4 @@ fn handles_have_their_texts(rt: HostRuntime) -> Result<(), Fail> {
     let text = format!(in alloc; "{s:?} {r:?} {ws:?} {wr:?}").expect(&rt, "memory");
     let want = "Sender { .. } Receiver { .. } WeakSender { .. } WeakReceiver { .. }";
     expect_equal(&rt, &text.as_str(), &want);
-    Ok(())
 }

@@ -4,7 +4,6 @@ use crate::checks::expect_equal;
 use async_channel::{ListenError, Receiver, Sender, TryRecvError};
 use channel_test_helpers::{goes, opened};
 use std::sync::Wait;
-use std::test::Fail;
 
 /// The items of a walk that waits, over three messages of a closed channel, and what it gives after its end, twice.
 fn waits<R: Wait + Copy>(
@@ -24,14 +23,13 @@ fn waits<R: Wait + Copy>(
 }
 
 #[test]
-fn a_walk_ends_where_the_channel_is_closed_and_empty(rt: HostRuntime) -> Result<(), Fail> {
+fn a_walk_ends_where_the_channel_is_closed_and_empty(rt: HostRuntime) {
     for capacity in [0, 3] {
         let (s, r) = opened(rt, rt.alloc(), capacity).expect(&rt, "memory");
         let (sent, items) = waits(&s, &r);
         let due = [Some(Ok(1)), Some(Ok(2)), Some(Ok(3)), None, None];
         expect_equal(&rt, &(sent, items), &(true, due));
     }
-    Ok(())
 }
 
 /// What a walk over an open channel of two messages gives, where a third is sent after its end; what the next walk gives; and what one
@@ -54,14 +52,13 @@ fn tries<R: Wait + Copy>(s: &Sender<u64, R>, r: &Receiver<u64, R>) -> (bool, [Op
 }
 
 #[test]
-fn a_walk_that_does_not_wait_stays_ended(rt: HostRuntime) -> Result<(), Fail> {
+fn a_walk_that_does_not_wait_stays_ended(rt: HostRuntime) {
     for capacity in [0, 3] {
         let (s, r) = opened(rt, rt.alloc(), capacity).expect(&rt, "memory");
         let found = tries(&s, &r);
         let due = [Some(1), Some(2), None, None, Some(3), Some(4), None];
         expect_equal(&rt, &found, &(true, due));
     }
-    Ok(())
 }
 
 /// Five messages, and a list with room for three more that holds one: what is taken into it, twice, and what it holds then; what is
@@ -89,10 +86,10 @@ fn fills<R: Wait + Copy>(
 }
 
 #[test]
-fn messages_fill_the_room_that_is_there(rt: HostRuntime) -> Result<(), Fail> {
+fn messages_fill_the_room_that_is_there(rt: HostRuntime) {
     for capacity in [0, 5] {
         let (s, r) = opened(rt, rt.alloc(), capacity).expect(&rt, "memory");
-        let mut into = Vec::with_capacity(rt.alloc(), 4)?;
+        let mut into = Vec::with_capacity(rt.alloc(), 4).expect(&rt, "memory");
         let found = fills(&s, &r, &mut into);
         let due = [
             Ok(3),
@@ -104,5 +101,4 @@ fn messages_fill_the_room_that_is_there(rt: HostRuntime) -> Result<(), Fail> {
         expect_equal(&rt, &found, &(due, [true; 3]));
         expect_equal(&rt, &into.capacity(), &4);
     }
-    Ok(())
 }

@@ -4,13 +4,12 @@ use crate::checks::{expect_true, new_task};
 use crate::gates::Gates;
 use async_channel::Sender;
 use channel_test_helpers::{
-    Ends, Said, closes, opened, received, received_none, sent, sent_back, told_of_closing,
+    Said, closes, opened, received, received_none, sent, sent_back, told_of_closing,
 };
 use futures::test::MockTask;
 use std::alloc::AllocGlobal;
 use std::random::RandomSource;
 use std::sync::Wait;
-use std::test::Fail;
 use std::thread;
 use std::thread::Threads;
 
@@ -28,11 +27,13 @@ where
     first && pending && woken && told_of_closing(rt, s)
 }
 
-fn is_told_of_closing<R>(rt: R, ends: Ends<R>, task: MockTask) -> bool
+fn is_told_of_closing<R>(rt: R, capacity: usize, task: MockTask) -> bool
 where
     R: Wait + Threads + Copy + RandomSource + AllocGlobal + Send + Sync,
 {
-    let (s, r) = ends;
+    let Some((s, r)) = opened(rt, rt.alloc(), capacity) else {
+        return false;
+    };
     let gates = Gates::new();
     let (did, got) = thread::join(
         &rt,
@@ -49,11 +50,13 @@ where
     did && got
 }
 
-fn wakes_a_sender<R>(rt: R, ends: Ends<R>) -> bool
+fn wakes_a_sender<R>(rt: R, capacity: usize) -> bool
 where
     R: Wait + Threads + Copy + RandomSource + AllocGlobal + Send + Sync,
 {
-    let (s, r) = ends;
+    let Some((s, r)) = opened(rt, rt.alloc(), capacity) else {
+        return false;
+    };
     let gates = Gates::new();
     let (did, _) = thread::join(
         &rt,
@@ -70,37 +73,21 @@ where
     did
 }
 
-fn wakes_a_receiver<R>(rt: R, ends: Ends<R>) -> bool
+fn wakes_a_receiver<R>(rt: R, capacity: usize) -> bool
 where
     R: Wait + Threads + Copy + RandomSource + AllocGlobal + Send + Sync,
 {
-    let (s, r) = ends;
+    let Some((s, r)) = opened(rt, rt.alloc(), capacity) else {
+        return false;
+    };
     let (over, _) = thread::join(&rt, || received_none(rt, &r), move || drop(s));
     over
 }
 
 #[test]
-fn closings(rt: HostRuntime) -> Result<(), Fail> {
-    let alloc = rt.alloc();
-    expect_true(
-        &rt,
-        is_told_of_closing(
-            rt,
-            opened(rt, alloc, 1).expect(&rt, "memory"),
-            new_task(&rt),
-        ),
-    );
-    expect_true(
-        &rt,
-        wakes_a_sender(rt, opened(rt, alloc, 1).expect(&rt, "memory")),
-    );
-    expect_true(
-        &rt,
-        wakes_a_receiver(rt, opened(rt, alloc, 1).expect(&rt, "memory")),
-    );
-    expect_true(
-        &rt,
-        wakes_a_receiver(rt, opened(rt, alloc, 0).expect(&rt, "memory")),
-    );
-    Ok(())
+fn closings(rt: HostRuntime) {
+    expect_true(&rt, is_told_of_closing(rt, 1, new_task(&rt)));
+    expect_true(&rt, wakes_a_sender(rt, 1));
+    expect_true(&rt, wakes_a_receiver(rt, 1));
+    expect_true(&rt, wakes_a_receiver(rt, 0));
 }

@@ -4,10 +4,9 @@ use crate::checks::expect_true;
 use crate::tally::Tally;
 use async_channel::{Receiver, Sender, TryRecvError};
 use channel_test_helpers::{Ends, next_message, next_of_stream, opened, sent};
-use std::alloc::AllocGlobal;
+use std::alloc::{AllocError, AllocGlobal};
 use std::random::RandomSource;
 use std::sync::Wait;
-use std::test::Fail;
 use std::thread;
 use std::thread::Threads;
 
@@ -25,16 +24,20 @@ where
     true
 }
 
+/// Whether all four threads did what they were to do.
+fn all_four(did: Result<Vec<bool>, AllocError>) -> bool {
+    match did {
+        Ok(did) => did.as_slice() == [true; 4].as_slice(),
+        Err(_) => false,
+    }
+}
+
 fn four_send<R>(rt: R, s: &Sender<u64, R>) -> bool
 where
     R: Wait + Threads + Copy + RandomSource + AllocGlobal + Send + Sync,
 {
-    let ((a, b), (c, d)) = thread::join(
-        &rt,
-        || thread::join(&rt, || sends_all(rt, s), || sends_all(rt, s)),
-        || thread::join(&rt, || sends_all(rt, s), || sends_all(rt, s)),
-    );
-    a && b && c && d
+    let work = |_: usize| sends_all(rt, s);
+    all_four(thread::map_indices(&rt, rt.alloc(), 4, &work))
 }
 
 fn takes<R>(rt: R, r: &Receiver<u64, R>, tally: &Tally) -> bool
@@ -58,12 +61,8 @@ fn four_take<R>(rt: R, r: &Receiver<u64, R>, tally: &Tally) -> bool
 where
     R: Wait + Threads + Copy + RandomSource + AllocGlobal + Send + Sync,
 {
-    let ((a, b), (c, d)) = thread::join(
-        &rt,
-        || thread::join(&rt, || takes(rt, r, tally), || takes(rt, r, tally)),
-        || thread::join(&rt, || takes(rt, r, tally), || takes(rt, r, tally)),
-    );
-    a && b && c && d
+    let work = |_: usize| takes(rt, r, tally);
+    all_four(thread::map_indices(&rt, rt.alloc(), 4, &work))
 }
 
 fn each_four_times<R>(rt: R, ends: Ends<R>, tally: &Tally) -> bool
@@ -76,13 +75,12 @@ where
 }
 
 #[test]
-fn many_senders_many_receivers(rt: HostRuntime) -> Result<(), Fail> {
+fn many_senders_many_receivers(rt: HostRuntime) {
     for capacity in [3, 0] {
         let tally = Tally::new(rt.alloc(), COUNT).expect(&rt, "memory");
         let ends = opened(rt, rt.alloc(), capacity).expect(&rt, "memory");
         expect_true(&rt, each_four_times(rt, ends, &tally));
     }
-    Ok(())
 }
 
 fn streams<R>(rt: R, stream: &mut Receiver<u64, R>, tally: &Tally) -> bool
@@ -113,28 +111,12 @@ where
     }
 }
 
-fn two_stream<R>(rt: R, r: &Receiver<u64, R>, tally: &Tally) -> bool
-where
-    R: Wait + Threads + Copy + RandomSource + AllocGlobal + Send + Sync,
-{
-    let (a, b) = thread::join(
-        &rt,
-        || clone_streams(rt, r, tally),
-        || clone_streams(rt, r, tally),
-    );
-    a && b
-}
-
 fn four_stream<R>(rt: R, r: &Receiver<u64, R>, tally: &Tally) -> bool
 where
     R: Wait + Threads + Copy + RandomSource + AllocGlobal + Send + Sync,
 {
-    let (a, b) = thread::join(
-        &rt,
-        || two_stream(rt, r, tally),
-        || two_stream(rt, r, tally),
-    );
-    a && b
+    let work = |_: usize| clone_streams(rt, r, tally);
+    all_four(thread::map_indices(&rt, rt.alloc(), 4, &work))
 }
 
 fn each_four_times_streamed<R>(rt: R, ends: Ends<R>, tally: &Tally) -> bool
@@ -147,11 +129,10 @@ where
 }
 
 #[test]
-fn many_senders_many_streams(rt: HostRuntime) -> Result<(), Fail> {
+fn many_senders_many_streams(rt: HostRuntime) {
     for capacity in [3, 0] {
         let tally = Tally::new(rt.alloc(), COUNT).expect(&rt, "memory");
         let ends = opened(rt, rt.alloc(), capacity).expect(&rt, "memory");
         expect_true(&rt, each_four_times_streamed(rt, ends, &tally));
     }
-    Ok(())
 }

@@ -7,7 +7,6 @@ use futures::task::Poll;
 use futures::test::MockTask;
 use std::alloc::Global;
 use std::sync::{Arc, Wait};
-use std::test::Fail;
 use std::thread;
 use std::thread::Threads;
 
@@ -122,9 +121,9 @@ where
 }
 
 #[test]
-fn each_message_is_let_go_once(rt: HostRuntime) -> Result<(), Fail> {
+fn each_message_is_let_go_once(rt: HostRuntime) {
     let alloc = rt.alloc();
-    let token: Token = Arc::new(alloc, 7)?;
+    let token: Token = Arc::new(alloc, 7).expect(&rt, "memory");
     let (one, two) = (new_task(&rt), new_task(&rt));
     let ends = opened(rt, alloc).expect(&rt, "memory");
     let s = ends.0.try_clone().expect(&rt, "handles");
@@ -136,5 +135,4 @@ fn each_message_is_let_go_once(rt: HostRuntime) -> Result<(), Fail> {
     let third = Arc::try_clone(&token).expect(&rt, "a token");
     let whole = drops_elsewhere(rt, again, &token, third, &new_task(&rt));
     expect_true(&rt, whole);
-    Ok(())
 }

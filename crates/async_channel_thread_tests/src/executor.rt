@@ -7,12 +7,12 @@ use futures::Future;
 use futures::executor::LocalPool;
 use futures::task::{Context, Poll};
 use std::alloc::AllocGlobal;
+use std::process::Abort;
 use std::random::RandomSource;
 use std::sync::Wait;
 use std::sync::atomic::{AtomicU64, Ordering};
-use std::test::Fail;
+use std::thread;
 use std::thread::Threads;
-use std::{io, thread};
 
 /// A task that sends one message, and counts it.
 #[derive(Drop)]
@@ -60,12 +60,12 @@ impl<R: Wait + Copy> Future for RecvTask<'_, R> {
     }
 }
 
-fn ten_send<'a, R>(rt: R, s: &'a Sender<u64, R>, sent: &'a AtomicU64) -> io::Result<()>
+fn ten_send<'a, R>(rt: R, s: &'a Sender<u64, R>, sent: &'a AtomicU64)
 where
-    R: Wait + Copy + RandomSource + AllocGlobal,
+    R: Wait + Copy + RandomSource + AllocGlobal + Abort,
 {
-    let mut pool = LocalPool::new(&rt)?;
-    let spawner = pool.spawner()?;
+    let mut pool = LocalPool::new(&rt).expect(&rt, "memory");
+    let spawner = pool.spawner().expect(&rt, "memory");
     for i in 1..11u64 {
         let _ = spawner.spawn(SendTask {
             send: s.send(i),
@@ -73,15 +73,14 @@ where
         });
     }
     pool.run(&rt);
-    Ok(())
 }
 
-fn ten_receive<'a, R>(rt: R, r: &'a Receiver<u64, R>, sum: &'a AtomicU64) -> io::Result<()>
+fn ten_receive<'a, R>(rt: R, r: &'a Receiver<u64, R>, sum: &'a AtomicU64)
 where
-    R: Wait + Copy + RandomSource + AllocGlobal,
+    R: Wait + Copy + RandomSource + AllocGlobal + Abort,
 {
-    let mut pool = LocalPool::new(&rt)?;
-    let spawner = pool.spawner()?;
+    let mut pool = LocalPool::new(&rt).expect(&rt, "memory");
+    let spawner = pool.spawner().expect(&rt, "memory");
     for _ in 0..10 {
         let _ = spawner.spawn(RecvTask {
             recv: r.recv(),
@@ -89,18 +88,17 @@ where
         });
     }
     pool.run(&rt);
-    Ok(())
 }
 
 /// How many were sent, and the sum of what was received.
 fn runs_twenty<R>(rt: R, ends: Ends<R>) -> (u64, u64)
 where
-    R: Wait + Threads + Copy + RandomSource + AllocGlobal + Send + Sync,
+    R: Wait + Threads + Copy + RandomSource + AllocGlobal + Abort + Send + Sync,
 {
     let (s, r) = ends;
     let sent = AtomicU64::new(0);
     let sum = AtomicU64::new(0);
-    let _ = thread::join(
+    thread::join(
         &rt,
         || ten_send(rt, &s, &sent),
         || ten_receive(rt, &r, &sum),
@@ -109,10 +107,9 @@ where
 }
 
 #[test]
-fn tasks_of_two_executors(rt: HostRuntime) -> Result<(), Fail> {
+fn tasks_of_two_executors(rt: HostRuntime) {
     for capacity in [1, 3, 0] {
         let ends = opened(rt, rt.alloc(), capacity).expect(&rt, "memory");
         expect_equal(&rt, &runs_twenty(rt, ends), &(10, 55));
     }
-    Ok(())
 }

@@ -8,7 +8,6 @@ use futures::test::MockTask;
 use std::alloc::AllocGlobal;
 use std::random::RandomSource;
 use std::sync::Wait;
-use std::test::Fail;
 use std::thread;
 use std::thread::Threads;
 
@@ -94,12 +93,11 @@ where
 }
 
 #[test]
-fn forgotten_operations(rt: HostRuntime) -> Result<(), Fail> {
+fn forgotten_operations(rt: HostRuntime) {
     let one = opened(rt, rt.alloc(), 2).expect(&rt, "memory");
     let sender = one.0.try_clone().expect(&rt, "handles");
     expect_true(&rt, blocked_sender(rt, one, sender, new_task(&rt)));
     let two = opened(rt, rt.alloc(), 2).expect(&rt, "memory");
     let receiver = two.1.try_clone().expect(&rt, "handles");
     expect_true(&rt, blocked_receiver(rt, two, receiver, new_task(&rt)));
-    Ok(())
 }

@@ -4,12 +4,11 @@ use crate::checks::expect_true;
 use crate::gates::Gates;
 use async_channel::{Receiver, Sender, TryRecvError};
 use channel_test_helpers::{
-    Ends, displaces, goes, is_closed_for, is_full_for, opened, received, received_none, sent,
+    displaces, goes, is_closed_for, is_full_for, opened, received, received_none, sent,
 };
 use std::alloc::AllocGlobal;
 use std::random::RandomSource;
 use std::sync::Wait;
-use std::test::Fail;
 use std::thread;
 use std::thread::Threads;
 
@@ -20,11 +19,13 @@ fn tried_by_receiver<R: Wait + Copy>(rt: R, gates: &Gates, r: &Receiver<u64, R>)
     empty && r.try_recv() == Ok(7) && r.try_recv() == Err(TryRecvError::Closed)
 }
 
-fn tries_to_receive<R>(rt: R, ends: Ends<R>) -> bool
+fn tries_to_receive<R>(rt: R, capacity: usize) -> bool
 where
     R: Wait + Threads + Copy + RandomSource + AllocGlobal + Send + Sync,
 {
-    let (s, r) = ends;
+    let Some((s, r)) = opened(rt, rt.alloc(), capacity) else {
+        return false;
+    };
     let gates = Gates::new();
     let (did, got) = thread::join(
         &rt,
@@ -40,11 +41,13 @@ where
     did && got
 }
 
-fn receives_three<R>(rt: R, ends: Ends<R>) -> bool
+fn receives_three<R>(rt: R, capacity: usize) -> bool
 where
     R: Wait + Threads + Copy + RandomSource + AllocGlobal + Send + Sync,
 {
-    let (s, r) = ends;
+    let Some((s, r)) = opened(rt, rt.alloc(), capacity) else {
+        return false;
+    };
     let (did, got) = thread::join(
         &rt,
         move || sent(rt, &s, 7) && sent(rt, &s, 8) && sent(rt, &s, 9),
@@ -57,25 +60,11 @@ where
 }
 
 #[test]
-fn receives(rt: HostRuntime) -> Result<(), Fail> {
-    let alloc = rt.alloc();
-    expect_true(
-        &rt,
-        tries_to_receive(rt, opened(rt, alloc, 100).expect(&rt, "memory")),
-    );
-    expect_true(
-        &rt,
-        tries_to_receive(rt, opened(rt, alloc, 0).expect(&rt, "memory")),
-    );
-    expect_true(
-        &rt,
-        receives_three(rt, opened(rt, alloc, 100).expect(&rt, "memory")),
-    );
-    expect_true(
-        &rt,
-        receives_three(rt, opened(rt, alloc, 0).expect(&rt, "memory")),
-    );
-    Ok(())
+fn receives(rt: HostRuntime) {
+    expect_true(&rt, tries_to_receive(rt, 100));
+    expect_true(&rt, tries_to_receive(rt, 0));
+    expect_true(&rt, receives_three(rt, 100));
+    expect_true(&rt, receives_three(rt, 0));
 }
 
 fn tried_by_sender<R: Wait + Copy>(rt: R, gates: &Gates, s: &Sender<u64, R>) -> bool {
@@ -88,11 +77,13 @@ fn tried_by_sender<R: Wait + Copy>(rt: R, gates: &Gates, s: &Sender<u64, R>) -> 
     first && full && third && is_closed_for(s, 4)
 }
 
-fn tries_to_send<R>(rt: R, ends: Ends<R>) -> bool
+fn tries_to_send<R>(rt: R, capacity: usize) -> bool
 where
     R: Wait + Threads + Copy + RandomSource + AllocGlobal + Send + Sync,
 {
-    let (s, r) = ends;
+    let Some((s, r)) = opened(rt, rt.alloc(), capacity) else {
+        return false;
+    };
     let gates = Gates::new();
     let (did, got) = thread::join(
         &rt,
@@ -110,11 +101,13 @@ where
     did && got
 }
 
-fn sends_four<R>(rt: R, ends: Ends<R>) -> bool
+fn sends_four<R>(rt: R, capacity: usize) -> bool
 where
     R: Wait + Threads + Copy + RandomSource + AllocGlobal + Send + Sync,
 {
-    let (s, r) = ends;
+    let Some((s, r)) = opened(rt, rt.alloc(), capacity) else {
+        return false;
+    };
     let (did, got) = thread::join(
         &rt,
         || sent(rt, &s, 7) && sent(rt, &s, 8) && sent(rt, &s, 9) && sent(rt, &s, 10),
@@ -124,17 +117,9 @@ where
 }
 
 #[test]
-fn sends(rt: HostRuntime) -> Result<(), Fail> {
-    let alloc = rt.alloc();
-    expect_true(
-        &rt,
-        tries_to_send(rt, opened(rt, alloc, 1).expect(&rt, "memory")),
-    );
-    expect_true(
-        &rt,
-        sends_four(rt, opened(rt, alloc, 1).expect(&rt, "memory")),
-    );
-    Ok(())
+fn sends(rt: HostRuntime) {
+    expect_true(&rt, tries_to_send(rt, 1));
+    expect_true(&rt, sends_four(rt, 1));
 }
 
 fn forced_by_sender<R: Wait + Copy>(rt: R, gates: &Gates, s: &Sender<u64, R>) -> bool {
@@ -149,11 +134,13 @@ fn forced_by_sender<R: Wait + Copy>(rt: R, gates: &Gates, s: &Sender<u64, R>) ->
     first && second && third
 }
 
-fn forces<R>(rt: R, ends: Ends<R>) -> bool
+fn forces<R>(rt: R, capacity: usize) -> bool
 where
     R: Wait + Threads + Copy + RandomSource + AllocGlobal + Send + Sync,
 {
-    let (s, r) = ends;
+    let Some((s, r)) = opened(rt, rt.alloc(), capacity) else {
+        return false;
+    };
     let gates = Gates::new();
     let (did, got) = thread::join(
         &rt,
@@ -173,12 +160,8 @@ where
 }
 
 #[test]
-fn forced_sends(rt: HostRuntime) -> Result<(), Fail> {
-    expect_true(
-        &rt,
-        forces(rt, opened(rt, rt.alloc(), 1).expect(&rt, "memory")),
-    );
-    Ok(())
+fn forced_sends(rt: HostRuntime) {
+    expect_true(&rt, forces(rt, 1));
 }
 
 /// Sends so many, and tells whether each length was at most the capacity.
@@ -223,11 +206,13 @@ where
     right && r.len() == 0
 }
 
-fn counts_between<R>(rt: R, ends: Ends<R>) -> bool
+fn counts_between<R>(rt: R, capacity: usize) -> bool
 where
     R: Wait + Threads + Copy + RandomSource + AllocGlobal + Send + Sync,
 {
-    let (s, r) = ends;
+    let Some((s, r)) = opened(rt, rt.alloc(), capacity) else {
+        return false;
+    };
     let filled = fills(rt, &s, &r);
     let (did, got) = thread::join(
         &rt,
@@ -238,19 +223,17 @@ where
 }
 
 #[test]
-fn lengths_between_threads(rt: HostRuntime) -> Result<(), Fail> {
-    expect_true(
-        &rt,
-        counts_between(rt, opened(rt, rt.alloc(), 1000).expect(&rt, "memory")),
-    );
-    Ok(())
+fn lengths_between_threads(rt: HostRuntime) {
+    expect_true(&rt, counts_between(rt, 1000));
 }
 
-fn one_to_one<R>(rt: R, ends: Ends<R>) -> bool
+fn one_to_one<R>(rt: R, capacity: usize) -> bool
 where
     R: Wait + Threads + Copy + RandomSource + AllocGlobal + Send + Sync,
 {
-    let (s, r) = ends;
+    let Some((s, r)) = opened(rt, rt.alloc(), capacity) else {
+        return false;
+    };
     let (did, got) = thread::join(
         &rt,
         move || sends_counted(rt, &s, 10_000, usize::MAX),
@@ -260,15 +243,7 @@ where
 }
 
 #[test]
-fn one_sender_one_receiver(rt: HostRuntime) -> Result<(), Fail> {
-    let alloc = rt.alloc();
-    expect_true(
-        &rt,
-        one_to_one(rt, opened(rt, alloc, 3).expect(&rt, "memory")),
-    );
-    expect_true(
-        &rt,
-        one_to_one(rt, opened(rt, alloc, 0).expect(&rt, "memory")),
-    );
-    Ok(())
+fn one_sender_one_receiver(rt: HostRuntime) {
+    expect_true(&rt, one_to_one(rt, 3));
+    expect_true(&rt, one_to_one(rt, 0));
 }

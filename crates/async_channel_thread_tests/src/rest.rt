@@ -9,7 +9,6 @@ use futures::test::MockTask;
 use std::alloc::AllocGlobal;
 use std::random::RandomSource;
 use std::sync::Wait;
-use std::test::Fail;
 use std::thread::Threads;
 use std::{mem, thread};
 
@@ -243,7 +242,7 @@ where
 }
 
 #[test]
-fn at_rest(rt: HostRuntime) -> Result<(), Fail> {
+fn at_rest(rt: HostRuntime) {
     for capacity in [1, 3, 0] {
         for _ in 0..5 {
             let tally = Tally::new(rt.alloc(), LIMIT).expect(&rt, "memory");
@@ -254,5 +253,4 @@ fn at_rest(rt: HostRuntime) -> Result<(), Fail> {
             expect_true(&rt, rests);
         }
     }
-    Ok(())
 }

@@ -4,7 +4,6 @@ use crate::checks::expect_equal;
 use async_channel::{Receiver, Sender};
 use channel_test_helpers::{Ends, opened, sends_blocking};
 use std::sync::Wait;
-use std::test::Fail;
 use std::thread;
 use std::thread::Threads;
 
@@ -35,9 +34,8 @@ where
 }
 
 #[test]
-fn both_get_a_word(rt: HostRuntime) -> Result<(), Fail> {
+fn both_get_a_word(rt: HostRuntime) {
     let one = opened(rt, rt.alloc(), 1).expect(&rt, "memory");
     let two = opened(rt, rt.alloc(), 0).expect(&rt, "memory");
     expect_equal(&rt, &words(rt, one, two), &(2, 1));
-    Ok(())
 }

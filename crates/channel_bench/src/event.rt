@@ -1,13 +1,13 @@
 //! What a notice for nobody costs, and a listening with its giving up, beside a lock alone.
 
 use crate::decimal::Decimal;
+use crate::watch::Watch;
 use event_listener::event::Event;
 use event_listener::id::EventIds;
 use std::alloc::Global;
 use std::io;
 use std::rt::Clock;
 use std::sync::{Mutex, Wait};
-use std::time::Instant;
 
 /// How many calls of one kind are timed together, and how many rounds there are. The best round counts.
 const CALLS: u64 = 100_000;
@@ -69,26 +69,26 @@ fn round<R: Clock + Wait + Copy>(
     count: &Mutex<u64>,
     new: &Event<()>,
     used: &Event<()>,
-) -> io::Result<(Costs, u64)> {
-    let start = Instant::now(&rt)?;
+) -> (Costs, u64) {
+    let watch = Watch::start(&rt);
     lock_alone(&rt, count);
-    let lock = start.elapsed(&rt)?.as_nanos();
-    let start = Instant::now(&rt)?;
+    let lock = watch.nanos(&rt);
+    let watch = Watch::start(&rt);
     let none = notify_nobody(&rt, new);
-    let notify_new = start.elapsed(&rt)?.as_nanos();
-    let start = Instant::now(&rt)?;
+    let notify_new = watch.nanos(&rt);
+    let watch = Watch::start(&rt);
     let refused = listen_and_drop(rt, used);
-    let listen_drop = start.elapsed(&rt)?.as_nanos();
-    let start = Instant::now(&rt)?;
+    let listen_drop = watch.nanos(&rt);
+    let watch = Watch::start(&rt);
     let nobody = notify_nobody(&rt, used);
-    let notify_empty = start.elapsed(&rt)?.as_nanos();
+    let notify_empty = watch.nanos(&rt);
     let costs = Costs {
         lock,
         notify_new,
         notify_empty,
         listen_drop,
     };
-    Ok((costs, none.wrapping_add(nobody).wrapping_add(refused)))
+    (costs, none.wrapping_add(nobody).wrapping_add(refused))
 }
 
 /// Prints what one call took, and how many times as long as a lock taken and given back.
@@ -107,29 +107,25 @@ fn compare_calls<R: Clock + Print + Wait + Copy>(
     new: &Event<()>,
     used: &Event<()>,
 ) -> io::Result<()> {
-    let (mut best, mut odd) = round(rt, count, new, used)?;
+    let (mut best, mut odd) = round(rt, count, new, used);
     for _ in 1..ROUNDS {
-        let (costs, more) = round(rt, count, new, used)?;
+        let (costs, more) = round(rt, count, new, used);
         best = best.least(costs);
         odd = odd.wrapping_add(more);
     }
     if odd != 0 {
         return println!(&rt; "event: {odd} calls were refused or told somebody");
     }
-    report(&rt, "a lock taken and given back", best.lock, best.lock)?;
-    report(
-        &rt,
-        "notify where nobody ever listened",
-        best.notify_new,
-        best.lock,
-    )?;
-    report(
-        &rt,
-        "notify where nobody listens now",
-        best.notify_empty,
-        best.lock,
-    )?;
-    report(&rt, "listen and drop", best.listen_drop, best.lock)
+    let lines = [
+        ("a lock taken and given back", best.lock),
+        ("notify where nobody ever listened", best.notify_new),
+        ("notify where nobody listens now", best.notify_empty),
+        ("listen and drop", best.listen_drop),
+    ];
+    for (call, nanos) in lines {
+        report(&rt, call, nanos, best.lock)?;
+    }
+    Ok(())
 }
 
 /// Measures a lock alone, notices for nobody and listenings in turns, and prints a line for each.

@@ -5,12 +5,13 @@ ghost use Rattle.std.specs.Prelude.{◌<◌};
 
 use crate::decimal::Decimal;
 use crate::rounds::Rounds;
+use crate::shared::{Shared, both, pass_on};
+use crate::watch::Watch;
 use event_listener::id::EventIds;
 use std::alloc::Global;
 use std::rt::Clock;
 use std::sync::Wait;
 use std::thread::Threads;
-use std::time::Instant;
 use std::{io, thread};
 
 /// How many messages go through a channel in one round, by tries on one thread, between two threads, and in turns.
@@ -22,13 +23,8 @@ const TURNS: u64 = 5_000;
 
 const ROUNDS: u32 = 12;
 
-/// Both ends of a channel of either kind.
-trait Channel {
-    /// Whether the message is in, without waiting.
-    fn put<R: Wait>(&self, rt: &R, message: u64) -> bool;
-
-    fn get<R: Wait>(&self, rt: &R) -> Option<u64>;
-
+/// Both ends of a channel of either kind, whose calls [`Shared`] has as tries.
+trait Channel: Shared {
     /// Whether the message is in, once there is a place.
     fn send<R: Wait>(&self, rt: &R, message: u64) -> bool;
 
@@ -41,7 +37,7 @@ struct Ours<H: Wait + Copy> {
     from: async_channel::Receiver<u64, H>,
 }
 
-impl<H: Wait + Copy> Channel for Ours<H> {
+impl<H: Wait + Copy> Shared for Ours<H> {
     fn put<R: Wait>(&self, _rt: &R, message: u64) -> bool {
         self.to.try_send(message).is_ok()
     }
@@ -49,7 +45,9 @@ impl<H: Wait + Copy> Channel for Ours<H> {
     fn get<R: Wait>(&self, _rt: &R) -> Option<u64> {
         self.from.try_recv().ok()
     }
+}
 
+impl<H: Wait + Copy> Channel for Ours<H> {
     fn send<R: Wait>(&self, _rt: &R, message: u64) -> bool {
         self.to.send_blocking(message).is_ok()
     }
@@ -65,7 +63,7 @@ struct Theirs {
     from: crossbeam_channel::Receiver<u64>,
 }
 
-impl Channel for Theirs {
+impl Shared for Theirs {
     fn put<R: Wait>(&self, rt: &R, message: u64) -> bool {
         self.to.try_send(rt, message).is_ok()
     }
@@ -73,7 +71,9 @@ impl Channel for Theirs {
     fn get<R: Wait>(&self, rt: &R) -> Option<u64> {
         self.from.try_recv(rt).ok()
     }
+}
 
+impl Channel for Theirs {
     fn send<R: Wait>(&self, rt: &R, message: u64) -> bool {
         self.to.send(rt, message).is_ok()
     }
@@ -88,45 +88,6 @@ impl Channel for Theirs {
 struct Pair<C> {
     there: C,
     back: C,
-}
-
-/// Sends a message and receives it, again and again.
-fn both<C: Channel, R: Wait>(rt: &R, channel: &C) -> u64 {
-    let mut sum = 0u64;
-    for message in 0..ALONE {
-        let _ = channel.put(rt, message);
-        if let Some(got) = channel.get(rt) {
-            sum = sum.wrapping_add(got);
-        }
-    }
-    sum
-}
-
-/// Sends each message until it is in.
-fn put_all<C: Channel, R: Wait>(rt: &R, channel: &C) {
-    for message in 0..BETWEEN {
-        for _ in rt.forever() {
-            if channel.put(rt, message) {
-                break;
-            }
-            thread::yield_now();
-        }
-    }
-}
-
-/// Receives as many.
-fn get_all<C: Channel, R: Wait>(rt: &R, channel: &C) -> u64 {
-    let mut sum = 0u64;
-    for _ in 0..BETWEEN {
-        for _ in rt.forever() {
-            if let Some(message) = channel.get(rt) {
-                sum = sum.wrapping_add(message);
-                break;
-            }
-            thread::yield_now();
-        }
-    }
-    sum
 }
 
 fn send_all<C: Channel, R: Wait>(rt: &R, channel: &C) {
@@ -197,24 +158,22 @@ fn round<C: Channel + Sync, R: Threads + Wait + Clock + Sync>(
     rt: &R,
     pair: &Pair<C>,
     costs: &mut Costs,
-) -> io::Result<()> {
+) {
     let channel = &pair.there;
-    let start = Instant::now(rt)?;
-    costs.add(both(rt, channel));
-    costs.alone.add(start.elapsed(rt)?.as_nanos());
-    let start = Instant::now(rt)?;
-    let (_, sum) = thread::join(rt, || put_all(rt, channel), || get_all(rt, channel));
-    costs.tries.add(start.elapsed(rt)?.as_nanos());
-    costs.add(sum);
-    let start = Instant::now(rt)?;
+    let watch = Watch::start(rt);
+    costs.add(both(rt, channel, ALONE));
+    costs.alone.add(watch.nanos(rt));
+    let watch = Watch::start(rt);
+    costs.add(pass_on(rt, channel, BETWEEN));
+    costs.tries.add(watch.nanos(rt));
+    let watch = Watch::start(rt);
     let (_, sum) = thread::join(rt, || send_all(rt, channel), || receive_all(rt, channel));
-    costs.stream.add(start.elapsed(rt)?.as_nanos());
+    costs.stream.add(watch.nanos(rt));
     costs.add(sum);
-    let start = Instant::now(rt)?;
+    let watch = Watch::start(rt);
     let (_, sum) = thread::join(rt, || answer_all(rt, pair), || call_all(rt, pair));
-    costs.turns.add(start.elapsed(rt)?.as_nanos());
+    costs.turns.add(watch.nanos(rt));
     costs.add(sum);
-    Ok(())
 }
 
 /// What a message takes at the least and in the median, and both beside the kit's.
@@ -234,6 +193,30 @@ fn report<R: Print>(
     )
 }
 
+/// A line for each of the four.
+fn report_all<R: Print>(rt: &R, ours: &Costs, theirs: &Costs) -> io::Result<()> {
+    let lines = [
+        ("tries on one thread", ALONE, &ours.alone, &theirs.alone),
+        (
+            "tries between two threads",
+            BETWEEN,
+            &ours.tries,
+            &theirs.tries,
+        ),
+        (
+            "a stream of blocking calls",
+            BETWEEN,
+            &ours.stream,
+            &theirs.stream,
+        ),
+        ("there and back", TURNS, &ours.turns, &theirs.turns),
+    ];
+    for (what, messages, ours, theirs) in lines {
+        report(rt, what, messages, ours, theirs)?;
+    }
+    Ok(())
+}
+
 /// Both kinds in turns.
 fn compare<H: Wait + Copy + Sync + Send, R: Threads + Wait + Clock + Print + Sync>(
     rt: &R,
@@ -244,28 +227,14 @@ fn compare<H: Wait + Copy + Sync + Send, R: Threads + Wait + Clock + Print + Syn
     let mut mine = Costs::none(alloc);
     let mut other = Costs::none(alloc);
     for _ in 0..ROUNDS {
-        round(rt, ours, &mut mine)?;
-        round(rt, theirs, &mut other)?;
+        round(rt, ours, &mut mine);
+        round(rt, theirs, &mut other);
     }
-    if mine.sum != other.sum {
-        return println!(rt; "handles: a message was lost");
+    if mine.sum == other.sum {
+        report_all(rt, &mine, &other)
+    } else {
+        println!(rt; "handles: a message was lost")
     }
-    report(rt, "tries on one thread", ALONE, &mine.alone, &other.alone)?;
-    report(
-        rt,
-        "tries between two threads",
-        BETWEEN,
-        &mine.tries,
-        &other.tries,
-    )?;
-    report(
-        rt,
-        "a stream of blocking calls",
-        BETWEEN,
-        &mine.stream,
-        &other.stream,
-    )?;
-    report(rt, "there and back", TURNS, &mine.turns, &other.turns)
 }
 
 /// A channel of this project, with no bound where the capacity is 0.
@@ -321,8 +290,8 @@ pub fn measure_handles<R>(rt: R, alloc: Global) -> io::Result<()>
 where
     R: Threads + Wait + Clock + Print + Sync + Send + Copy,
 {
-    measure_capacity(rt, alloc, 1)?;
-    measure_capacity(rt, alloc, 3)?;
-    measure_capacity(rt, alloc, 128)?;
-    measure_capacity(rt, alloc, 0)
+    for capacity in [1, 3, 128, 0] {
+        measure_capacity(rt, alloc, capacity)?;
+    }
+    Ok(())
 }

@@ -1,6 +1,7 @@
 //! What an insertion, a notice for one and a removal cost in a short list of listeners and in a long one.
 
 use crate::decimal::Decimal;
+use crate::watch::Watch;
 use event_listener::error::NoMemory;
 use event_listener::key::Key;
 use event_listener::list::List;
@@ -10,7 +11,6 @@ use std::alloc::Global;
 use std::collections::VecDeque;
 use std::io;
 use std::rt::Clock;
-use std::time::Instant;
 
 /// How many listeners the short list has, and the long one.
 const SHORT: usize = 10;
@@ -123,38 +123,36 @@ impl Bench {
     }
 
     /// Adds some listeners, tells as many and removes those, and counts what each kind of call took.
-    fn turn<R: Clock>(&mut self, rt: &R) -> io::Result<()> {
-        let start = Instant::now(rt)?;
+    fn turn<R: Clock>(&mut self, rt: &R) {
+        let watch = Watch::start(rt);
         for _ in 0..BATCH {
             let _ = self.add();
         }
-        let insert = start.elapsed(rt)?.as_nanos();
-        let start = Instant::now(rt)?;
+        let insert = watch.nanos(rt);
+        let watch = Watch::start(rt);
         for _ in 0..BATCH {
             self.tell_one();
         }
-        let notify = start.elapsed(rt)?.as_nanos();
-        let start = Instant::now(rt)?;
+        let notify = watch.nanos(rt);
+        let watch = Watch::start(rt);
         for _ in 0..BATCH {
             self.remove_first();
         }
-        let remove = start.elapsed(rt)?.as_nanos();
+        let remove = watch.nanos(rt);
         self.costs = Costs {
-            insert: self.costs.insert.wrapping_add(insert),
-            notify: self.costs.notify.wrapping_add(notify),
-            remove: self.costs.remove.wrapping_add(remove),
+            insert: self.costs.insert.saturating_add(insert),
+            notify: self.costs.notify.saturating_add(notify),
+            remove: self.costs.remove.saturating_add(remove),
         };
-        Ok(())
     }
 
     /// Keeps what the quickest round of each kind took.
-    fn round<R: Clock>(&mut self, rt: &R) -> io::Result<()> {
+    fn round<R: Clock>(&mut self, rt: &R) {
         self.costs = Costs::all(0);
         for _ in 0..TURNS {
-            self.turn(rt)?;
+            self.turn(rt);
         }
         self.best = self.best.least(self.costs);
-        Ok(())
     }
 }
 
@@ -176,15 +174,22 @@ fn compare_lists<R: Clock + Print>(rt: &R, short: &mut Bench, long: &mut Bench) 
         return println!(rt; "list: want of memory");
     }
     for _ in 0..ROUNDS {
-        short.round(rt)?;
-        long.round(rt)?;
+        short.round(rt);
+        long.round(rt);
     }
     if short.list.total() != SHORT || long.list.total() != LONG {
         return println!(rt; "list: a call was refused");
     }
-    report(rt, "insert", short.best.insert, long.best.insert)?;
-    report(rt, "notify(1)", short.best.notify, long.best.notify)?;
-    report(rt, "remove", short.best.remove, long.best.remove)
+    let (short, long) = (short.best, long.best);
+    let lines = [
+        ("insert", short.insert, long.insert),
+        ("notify(1)", short.notify, long.notify),
+        ("remove", short.remove, long.remove),
+    ];
+    for (call, short, long) in lines {
+        report(rt, call, short, long)?;
+    }
+    Ok(())
 }
 
 /// Measures lists of listeners.

@@ -15,6 +15,7 @@ mod settle;
 mod several;
 mod shared;
 mod steps;
+mod watch;
 mod waybills;
 
 use std::alloc::Global;

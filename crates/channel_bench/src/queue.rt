@@ -5,12 +5,12 @@ ghost use Rattle.std.specs.Prelude.{◌<◌};
 
 use crate::decimal::Decimal;
 use crate::rounds::Rounds;
+use crate::watch::Watch;
 use concurrent_queue::exclusive::Exclusive;
 use std::alloc::Global;
 use std::collections::VecDeque;
 use std::io;
 use std::rt::Clock;
-use std::time::Instant;
 
 /// How many messages the queue with a bound has room for.
 const ROOM: usize = 1_000;
@@ -62,11 +62,10 @@ impl Bench {
         }
     }
 
-    fn round<R: Clock>(&mut self, rt: &R) -> io::Result<()> {
-        let start = Instant::now(rt)?;
+    fn round<R: Clock>(&mut self, rt: &R) {
+        let watch = Watch::start(rt);
         self.pairs(PAIRS);
-        self.rounds.add(start.elapsed(rt)?.as_nanos());
-        Ok(())
+        self.rounds.add(watch.nanos(rt));
     }
 }
 
@@ -93,16 +92,15 @@ impl Plain {
         }
     }
 
-    fn round<R: Clock>(&mut self, rt: &R) -> io::Result<()> {
-        let start = Instant::now(rt)?;
+    fn round<R: Clock>(&mut self, rt: &R) {
+        let watch = Watch::start(rt);
         for message in 0..PAIRS {
             let _ = self.deque.push_back(message as u64);
             if let Some(popped) = self.deque.pop_front() {
                 self.sum = self.sum.wrapping_add(popped);
             }
         }
-        self.rounds.add(start.elapsed(rt)?.as_nanos());
-        Ok(())
+        self.rounds.add(watch.nanos(rt));
     }
 }
 
@@ -142,8 +140,8 @@ fn compare_deque<R: Clock + Print>(
     ours.fill(held);
     plain.fill(held);
     for _ in 0..ROUNDS {
-        ours.round(rt)?;
-        plain.round(rt)?;
+        ours.round(rt);
+        plain.round(rt);
     }
     if ours.sum != plain.sum {
         return println!(rt; "queue: a call was refused");
@@ -176,8 +174,8 @@ fn compare_lengths<R: Clock + Print>(
     long.fill(LONG);
     short.fill(HELD);
     for _ in 0..ROUNDS {
-        long.round(rt)?;
-        short.round(rt)?;
+        long.round(rt);
+        short.round(rt);
     }
     if long.queue.len() != LONG || short.queue.len() != HELD {
         return println!(rt; "queue: a call was refused");

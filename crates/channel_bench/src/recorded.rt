@@ -4,6 +4,7 @@ ghost use Rattle.std.specs.Prelude.{◌≡◌};
 ghost use Rattle.channel_interleaving.specs.Floor.{IsQuiet};
 
 use crate::decimal::Decimal;
+use crate::watch::Watch;
 use channel_world::call::Call;
 use channel_world::name::HandleId;
 use channel_world::world::World;
@@ -16,7 +17,6 @@ use std::rt::Clock;
 use std::sync::Wait;
 use std::sync::ledger::{Blank, Ledger};
 use std::thread::Threads;
-use std::time::Instant;
 use std::{io, thread};
 
 /// How many pairs of a send and a receive a thread makes in one round, and how many rounds there are. The best round counts.
@@ -65,24 +65,27 @@ fn send(msg: u32) -> Call<u64> {
     }
 }
 
-/// Sends and receives in turns, as one list of calls.
-fn alone<R: Clock>(rt: &R, alloc: Global) -> io::Result<Option<Round>> {
-    let mut ids = EventIds::new();
-    let Ok(mut world) = World::<u64>::bounded(alloc, CAPACITY, &mut ids) else {
-        return Ok(None);
-    };
+/// Sends and receives in turns. A call for which there is no memory is not made.
+fn calls(alloc: Global) -> VecDeque<Call<u64>> {
     let mut calls = VecDeque::new(alloc);
     for msg in 0..PAIRS {
-        calls.push_back(send(msg))?;
-        calls.push_back(RECEIVE)?;
+        let _ = calls.push_back(send(msg));
+        let _ = calls.push_back(RECEIVE);
     }
-    let start = Instant::now(rt)?;
+    calls
+}
+
+/// Makes these as one list of calls; None for want of memory.
+fn alone<R: Clock>(rt: &R, alloc: Global) -> Option<Round> {
+    let mut ids = EventIds::new();
+    let mut world = World::<u64>::bounded(alloc, CAPACITY, &mut ids).ok()?;
+    let mut calls = calls(alloc);
+    let watch = Watch::start(rt);
     let run = world.run_calls(&mut calls);
-    let nanos = start.elapsed(rt)?.as_nanos();
-    Ok(Some(Round {
-        nanos,
+    Some(Round {
+        nanos: watch.nanos(rt),
         calls: run.done.len() as u128,
-    }))
+    })
 }
 
 /// Sends and receives in turns, by a seat.
@@ -98,46 +101,59 @@ fn work<L: Ledger, R: Wait>(
     seat
 }
 
+/// The calls of one seat, or of both at once.
+fn work_by<L: Ledger + Sync, R: Wait + Threads + Sync>(
+    rt: &R,
+    channel: &RecordedChannel<u64, L>,
+    first: RecordSeat<L>,
+    second: RecordSeat<L>,
+    threads: u32,
+) -> (RecordSeat<L>, RecordSeat<L>) {
+    if threads == 1 {
+        return (work(rt, channel, first), second);
+    }
+    thread::join(
+        rt,
+        move || work(rt, channel, first),
+        move || work(rt, channel, second),
+    )
+}
+
+/// How many calls a channel recorded; None for want of memory.
+fn count<L: Ledger>(
+    alloc: Global,
+    channel: RecordedChannel<u64, L>,
+    first: RecordSeat<L>,
+    second: RecordSeat<L>,
+) -> Option<u128> {
+    let mut seats = Vec::new(alloc);
+    let _ = seats.push(first);
+    let _ = seats.push(second);
+    match channel.finish(seats) {
+        Ok(record) => Some(record.len() as u128),
+        Err(_) => None,
+    }
+}
+
 /// One thread's calls, and those of two; None for want of memory.
 fn recorded<L: Ledger + Sync, R: Clock + Wait + Threads + Sync>(
     rt: &R,
     alloc: Global,
     blank: Blank,
     threads: u32,
-) -> io::Result<Option<Round>>
+) -> Option<Round>
     requires name { blank.name ≡ L.name }
     requires parts { (blank.parts ≡ L.parts) × (blank.parts ≡ 3) }
 {
     let mut ids = EventIds::new();
-    let opened = RecordedChannel::<u64, L>::bounded(alloc, CAPACITY, &mut ids, blank, 3);
-    let Ok(channel) = opened else {
-        return Ok(None);
-    };
-    let (Ok(first), Ok(second)) = (channel.seat(rt), channel.seat(rt)) else {
-        return Ok(None);
-    };
-    let shared = &channel;
-    let start = Instant::now(rt)?;
-    let (first, second) = if threads == 1 {
-        (work(rt, shared, first), second)
-    } else {
-        thread::join(
-            rt,
-            move || work(rt, shared, first),
-            move || work(rt, shared, second),
-        )
-    };
-    let nanos = start.elapsed(rt)?.as_nanos();
-    let mut seats = Vec::new(alloc);
-    seats.push(first)?;
-    seats.push(second)?;
-    match channel.finish(seats) {
-        Ok(record) => Ok(Some(Round {
-            nanos,
-            calls: record.len() as u128,
-        })),
-        Err(_) => Ok(None),
-    }
+    let channel = RecordedChannel::<u64, L>::bounded(alloc, CAPACITY, &mut ids, blank, 3).ok()?;
+    let first = channel.seat(rt).ok()?;
+    let second = channel.seat(rt).ok()?;
+    let watch = Watch::start(rt);
+    let (first, second) = work_by(rt, &channel, first, second, threads);
+    let nanos = watch.nanos(rt);
+    let calls = count(alloc, channel, first, second)?;
+    Some(Round { nanos, calls })
 }
 
 /// One round of each, of which the quickest of all rounds counts; false for want of memory.
@@ -145,17 +161,17 @@ fn measure_round<R: Clock + Wait + Threads + Sync>(
     rt: &R,
     alloc: Global,
     best: &mut (Round, Round, Round),
-) -> io::Result<bool> {
-    let plain = alone(rt, alloc)?;
-    let one = recorded::<Brand, R>(rt, alloc, Blank::new(3), 1)?;
-    let two = recorded::<Brand, R>(rt, alloc, Blank::new(3), 2)?;
+) -> bool {
+    let plain = alone(rt, alloc);
+    let one = recorded::<Brand, R>(rt, alloc, Blank::new(3), 1);
+    let two = recorded::<Brand, R>(rt, alloc, Blank::new(3), 2);
     let (Some(plain), Some(one), Some(two)) = (plain, one, two) else {
-        return Ok(false);
+        return false;
     };
     best.0 = best.0.better(plain);
     best.1 = best.1.better(one);
     best.2 = best.2.better(two);
-    Ok(true)
+    true
 }
 
 /// Measures recorded calls.
@@ -165,7 +181,7 @@ pub fn measure_recorded<R: Clock + Print + Wait + Threads + Sync>(
 ) -> io::Result<()> {
     let mut best = (Round::none(), Round::none(), Round::none());
     for _ in 0..ROUNDS {
-        if !measure_round(rt, alloc, &mut best)? {
+        if !measure_round(rt, alloc, &mut best) {
             return println!(rt; "recorded: out of memory");
         }
     }

@@ -4,13 +4,13 @@ ghost use Rattle.std.specs.Prelude.{◌<◌};
 
 use crate::decimal::Decimal;
 use crate::rounds::Rounds;
+use crate::watch::Watch;
 use async_channel::{Receiver, Sender, bounded};
 use event_listener::id::EventIds;
 use std::alloc::Global;
 use std::rt::Clock;
 use std::sync::Wait;
 use std::thread::Threads;
-use std::time::Instant;
 use std::{io, thread};
 
 /// How many messages the channel holds at most, and how often it is filled and emptied in one round.
@@ -152,22 +152,16 @@ impl Costs {
     }
 
     /// A round on one thread: the channel is filled and emptied, again and again. Only the emptying counts.
-    fn measure_alone<H: Wait + Copy, R: Clock>(
-        &mut self,
-        rt: &R,
-        ends: &Ends<H>,
-        by: By,
-    ) -> io::Result<()> {
+    fn measure_alone<H: Wait + Copy, R: Clock>(&mut self, rt: &R, ends: &Ends<H>, by: By) {
         let mut nanos = 0u128;
         for _ in 0..FILLS {
             fill(&ends.to);
-            let start = Instant::now(rt)?;
+            let watch = Watch::start(rt);
             let got = empty(&ends.from, by);
-            nanos = nanos.wrapping_add(start.elapsed(rt)?.as_nanos());
+            nanos = nanos.saturating_add(watch.nanos(rt));
             self.got = self.got.and(got);
         }
         self.alone.add(nanos);
-        Ok(())
     }
 
     /// A round between two threads.
@@ -176,16 +170,15 @@ impl Costs {
         rt: &R,
         ends: &Ends<H>,
         by: By,
-    ) -> io::Result<()> {
-        let start = Instant::now(rt)?;
+    ) {
+        let watch = Watch::start(rt);
         let ((), got) = thread::join(
             rt,
             || send_all(rt, &ends.to),
             || receive_all(rt, &ends.from, by),
         );
-        self.between.add(start.elapsed(rt)?.as_nanos());
+        self.between.add(watch.nanos(rt));
         self.got = self.got.and(got);
-        Ok(())
     }
 }
 
@@ -207,24 +200,8 @@ fn report<R: Print>(
     )
 }
 
-/// Receives of at most so many and receives of one, in turns.
-fn compare<H: Wait + Copy + Send + Sync, R: Threads + Wait + Clock + Print + Sync>(
-    rt: &R,
-    alloc: Global,
-    ends: &Ends<H>,
-    limit: usize,
-) -> io::Result<()> {
-    let mut several = Costs::none(alloc);
-    let mut one = Costs::none(alloc);
-    for _ in 0..ROUNDS {
-        several.measure_alone(rt, ends, By::Several(limit))?;
-        one.measure_alone(rt, ends, By::One)?;
-        several.measure_between(rt, ends, By::Several(limit))?;
-        one.measure_between(rt, ends, By::One)?;
-    }
-    if several.got.sum != one.got.sum || several.got.count != one.got.count {
-        return println!(rt; "several: a message was lost");
-    }
+/// A line for one thread, and one for two.
+fn report_both<R: Print>(rt: &R, limit: usize, several: &Costs, one: &Costs) -> io::Result<()> {
     let filled = u128::from(FILLS).wrapping_mul(PLACES as u128);
     report(
         rt,
@@ -242,6 +219,28 @@ fn compare<H: Wait + Copy + Send + Sync, R: Threads + Wait + Clock + Print + Syn
         &several.between,
         &one.between,
     )
+}
+
+/// Receives of at most so many and receives of one, in turns.
+fn compare<H: Wait + Copy + Send + Sync, R: Threads + Wait + Clock + Print + Sync>(
+    rt: &R,
+    alloc: Global,
+    ends: &Ends<H>,
+    limit: usize,
+) -> io::Result<()> {
+    let mut several = Costs::none(alloc);
+    let mut one = Costs::none(alloc);
+    for _ in 0..ROUNDS {
+        several.measure_alone(rt, ends, By::Several(limit));
+        one.measure_alone(rt, ends, By::One);
+        several.measure_between(rt, ends, By::Several(limit));
+        one.measure_between(rt, ends, By::One);
+    }
+    if several.got.sum == one.got.sum && several.got.count == one.got.count {
+        report_both(rt, limit, &several, &one)
+    } else {
+        println!(rt; "several: a message was lost")
+    }
 }
 
 /// Measures receives of several messages.

@@ -4,6 +4,7 @@
 ghost use Rattle.std.specs.Prelude.{◌<◌};
 
 use crate::decimal::Decimal;
+use crate::watch::Watch;
 use concurrent_queue::shared::queue::ConcurrentQueue;
 use crossbeam_channel::{Receiver, Sender};
 use crossbeam_queue::{ArrayQueue, SegQueue};
@@ -11,7 +12,6 @@ use std::alloc::Global;
 use std::rt::Clock;
 use std::sync::Wait;
 use std::thread::Threads;
-use std::time::Instant;
 use std::{io, thread};
 
 /// How many messages go through a queue in one round, and how many rounds there are. The best round counts.
@@ -77,9 +77,9 @@ impl Shared for Ends {
 }
 
 /// Pushes a message and pops it, again and again.
-pub fn both<Q: Shared, R: Wait>(rt: &R, queue: &Q) -> u64 {
+pub fn both<Q: Shared, R: Wait>(rt: &R, queue: &Q, messages: u64) -> u64 {
     let mut sum = 0u64;
-    for message in 0..ALONE {
+    for message in 0..messages {
         let _ = queue.put(rt, message);
         if let Some(popped) = queue.get(rt) {
             sum = sum.wrapping_add(popped);
@@ -89,8 +89,8 @@ pub fn both<Q: Shared, R: Wait>(rt: &R, queue: &Q) -> u64 {
 }
 
 /// Pushes each message until it is in.
-fn put_all<Q: Shared, R: Wait>(rt: &R, queue: &Q) {
-    for message in 0..BETWEEN {
+fn put_all<Q: Shared, R: Wait>(rt: &R, queue: &Q, messages: u64) {
+    for message in 0..messages {
         for _ in rt.forever() {
             if queue.put(rt, message) {
                 break;
@@ -101,9 +101,9 @@ fn put_all<Q: Shared, R: Wait>(rt: &R, queue: &Q) {
 }
 
 /// Pops as many.
-fn get_all<Q: Shared, R: Wait>(rt: &R, queue: &Q) -> u64 {
+fn get_all<Q: Shared, R: Wait>(rt: &R, queue: &Q, messages: u64) -> u64 {
     let mut sum = 0u64;
-    for _ in 0..BETWEEN {
+    for _ in 0..messages {
         for _ in rt.forever() {
             if let Some(message) = queue.get(rt) {
                 sum = sum.wrapping_add(message);
@@ -112,6 +112,20 @@ fn get_all<Q: Shared, R: Wait>(rt: &R, queue: &Q) -> u64 {
             thread::yield_now();
         }
     }
+    sum
+}
+
+/// One thread pushes and one pops: the sum of what was popped.
+pub fn pass_on<Q: Shared + Sync, R: Threads + Wait + Sync>(
+    rt: &R,
+    queue: &Q,
+    messages: u64,
+) -> u64 {
+    let (_, sum) = thread::join(
+        rt,
+        || put_all(rt, queue, messages),
+        || get_all(rt, queue, messages),
+    );
     sum
 }
 
@@ -144,18 +158,18 @@ fn round<Q: Shared + Sync, R: Threads + Wait + Clock + Sync>(
     rt: &R,
     queue: &Q,
     costs: Costs,
-) -> io::Result<Costs> {
-    let start = Instant::now(rt)?;
-    let first = both(rt, queue);
-    let alone = start.elapsed(rt)?.as_nanos();
-    let start = Instant::now(rt)?;
-    let (_, second) = thread::join(rt, || put_all(rt, queue), || get_all(rt, queue));
-    let between = start.elapsed(rt)?.as_nanos();
-    Ok(Costs {
+) -> Costs {
+    let watch = Watch::start(rt);
+    let first = both(rt, queue, ALONE);
+    let alone = watch.nanos(rt);
+    let watch = Watch::start(rt);
+    let second = pass_on(rt, queue, BETWEEN);
+    let between = watch.nanos(rt);
+    Costs {
         alone: costs.alone.min(alone),
         between: costs.between.min(between),
         sum: costs.sum.wrapping_add(first).wrapping_add(second),
-    })
+    }
 }
 
 fn report<R: Print>(rt: &R, name: &str, costs: Costs) -> io::Result<()> {
@@ -172,9 +186,9 @@ fn compare_bounded<R: Threads + Wait + Clock + Print + Sync>(
 ) -> io::Result<()> {
     let mut costs = (Costs::none(), Costs::none(), Costs::none());
     for _ in 0..ROUNDS {
-        costs.0 = round(rt, ours, costs.0)?;
-        costs.1 = round(rt, array, costs.1)?;
-        costs.2 = round(rt, ends, costs.2)?;
+        costs.0 = round(rt, ours, costs.0);
+        costs.1 = round(rt, array, costs.1);
+        costs.2 = round(rt, ends, costs.2);
     }
     if costs.0.sum != costs.1.sum || costs.1.sum != costs.2.sum {
         return println!(rt; "shared: a message was lost");
@@ -209,8 +223,8 @@ fn compare_unbounded<R: Threads + Wait + Clock + Print + Sync>(
 ) -> io::Result<()> {
     let mut costs = (Costs::none(), Costs::none());
     for _ in 0..ROUNDS {
-        costs.0 = round(rt, ours, costs.0)?;
-        costs.1 = round(rt, segments, costs.1)?;
+        costs.0 = round(rt, ours, costs.0);
+        costs.1 = round(rt, segments, costs.1);
     }
     if costs.0.sum != costs.1.sum {
         return println!(rt; "shared: a message was lost");

@@ -4,6 +4,7 @@
 ghost use Rattle.std.specs.Prelude.{◌<◌};
 
 use crate::decimal::Decimal;
+use crate::watch::Watch;
 use channel_calls::ask::{ChannelAsk, lent};
 use channel_calls::reply::Reply;
 use channel_steps::party::Entry;
@@ -16,7 +17,6 @@ use std::alloc::Global;
 use std::collections::VecDeque;
 use std::io;
 use std::rt::Clock;
-use std::time::Instant;
 
 /// How many messages an unbounded channel holds, the short one and the long one.
 const SHORT: usize = 10;
@@ -305,34 +305,27 @@ impl Bench {
     }
 
     /// One round of waits, of which the quickest counts.
-    fn round_of_waits<R: Clock>(
-        &mut self,
-        rt: &R,
-        waits: Waits,
-        lengths: Lengths,
-    ) -> io::Result<()> {
-        let start = Instant::now(rt)?;
+    fn round_of_waits<R: Clock>(&mut self, rt: &R, waits: Waits, lengths: Lengths) {
+        let watch = Watch::start(rt);
         for _ in 0..PAIRS {
             let _ = self.wait(waits, lengths);
         }
-        self.best.nanos = self.best.nanos.min(start.elapsed(rt)?.as_nanos());
-        Ok(())
+        self.best.nanos = self.best.nanos.min(watch.nanos(rt));
     }
 
     /// One round, of which the quickest counts.
-    fn round<R: Clock>(&mut self, rt: &R) -> io::Result<()> {
+    fn round<R: Clock>(&mut self, rt: &R) {
         for message in 0..PAIRS {
             self.plan_pair(message as u64);
         }
-        let start = Instant::now(rt)?;
+        let watch = Watch::start(rt);
         let made = self.make_all();
-        let nanos = start.elapsed(rt)?.as_nanos();
+        let nanos = watch.nanos(rt);
         let cost = Cost {
             nanos,
             steps: made as u128,
         };
         self.best = self.best.least(cost);
-        Ok(())
     }
 }
 
@@ -345,7 +338,7 @@ fn measure_pair<R: Clock + Print>(
 ) -> io::Result<()> {
     bench.fill(messages);
     for _ in 0..ROUNDS {
-        bench.round(rt)?;
+        bench.round(rt);
     }
     if bench.refused || bench.held() > messages.saturating_add(1) {
         return println!(rt; "steps, {name}: a call was refused");
@@ -377,8 +370,8 @@ fn measure_held<R: Clock + Print>(rt: &R, short: &mut Bench, long: &mut Bench) -
     short.fill(SHORT);
     long.fill(LONG);
     for _ in 0..ROUNDS {
-        short.round(rt)?;
-        long.round(rt)?;
+        short.round(rt);
+        long.round(rt);
     }
     let untouched = short.held() == SHORT && long.held() == LONG;
     if short.refused || long.refused || !untouched {
@@ -426,7 +419,7 @@ fn measure_waits<R: Clock + Print>(
     };
     let lengths = bench.wait(waits, most);
     for _ in 0..ROUNDS {
-        bench.round_of_waits(rt, waits, lengths)?;
+        bench.round_of_waits(rt, waits, lengths);
     }
     if bench.refused || bench.held() != messages {
         return println!(rt; "steps, {name}: a call was refused");

@@ -152,8 +152,12 @@ where
             return Err(Failure::Memory);
         };
         let work = move || make_calls(rt, &mine, thread, seed);
-        let one = thread::spawn(&rt, work).map_err(|_| Failure::Thread)?;
-        started.push(one).map_err(|_| Failure::Memory)?;
+        let Ok(one) = thread::spawn(&rt, work) else {
+            return Err(Failure::Thread);
+        };
+        if started.push(one).is_err() {
+            return Err(Failure::Memory);
+        }
     }
     Ok(started)
 }

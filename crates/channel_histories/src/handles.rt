@@ -32,20 +32,32 @@ fn open<R: Wait + Copy>(rt: R, alloc: Global, form: Form) -> Option<Ends<R>> {
     }
 }
 
+/// The place of one thread more, which the referee sees.
+fn new_place<R: RandomSource + AllocGlobal>(
+    rt: &R,
+    alloc: Global,
+    places: &mut Vec<Arc<Place>>,
+) -> Option<Arc<Place>> {
+    let place = Arc::new(alloc, Place::new(rt).ok()?).ok()?;
+    places.push(Arc::try_clone(&place).ok()?).ok()?;
+    Some(place)
+}
+
 /// The job of one thread; the referee sees its place.
 fn new_job<R>(rt: R, alloc: Global, referee: &mut Referee<R>, seed: u64) -> Option<Job<R>>
 where
     R: Wait + Copy + RandomSource + AllocGlobal,
 {
     let thread = referee.places.len();
-    let place = Arc::new(alloc, Place::new(&rt).ok()?).ok()?;
-    referee.places.push(Arc::try_clone(&place).ok()?).ok()?;
+    let hands = Hands::of(&referee.sender, &referee.receiver)?;
+    let stream = referee.receiver.try_clone().ok()?;
+    let place = new_place(&rt, alloc, &mut referee.places)?;
     Some(Job {
         thread,
         seed,
         place,
-        hands: Hands::of(&referee.sender, &referee.receiver)?,
-        stream: referee.receiver.try_clone().ok()?,
+        hands,
+        stream,
     })
 }
 
@@ -81,7 +93,7 @@ where
         return Err(Failure::Memory);
     };
     let work = move || run_job(rt, alloc, &shared, job);
-    thread::spawn(&rt, work).map_err(|_| Failure::Thread)
+    thread::spawn(&rt, work).ok().ok_or(Failure::Thread)
 }
 
 /// Starts a thread for each job.
@@ -97,7 +109,9 @@ where
     let mut started = Vec::new(alloc);
     for job in jobs {
         let one = start(rt, alloc, shared, job)?;
-        started.push(one).map_err(|_| Failure::Memory)?;
+        if started.push(one).is_err() {
+            return Err(Failure::Memory);
+        }
     }
     Ok(started)
 }
@@ -142,7 +156,9 @@ where
     let started = start_all(rt, alloc, &shared, jobs)?;
     let (log, rests) = referee.see_through(rt, alloc, &shared, may_block(seed))?;
     let mut logs = join_all(&rt, alloc, started).ok_or(Failure::Memory)?;
-    logs.push(log).map_err(|_| Failure::Memory)?;
+    if logs.push(log).is_err() {
+        return Err(Failure::Memory);
+    }
     let receivers = threads.wrapping_mul(2).wrapping_add(1);
     Ok(History {
         plain: Plain::new(form.capacity(), threads.wrapping_add(1), receivers, alloc),

@@ -204,18 +204,19 @@ where
     Ok(true)
 }
 
+/// The number that a word says, if it says one.
+fn number(word: Option<String>) -> Option<u64> {
+    word?.as_str().parse::<u64>().ok()
+}
+
 /// What the words ask for.
 fn read_words<R: Env + Alloc<A = Global>>(rt: &R) -> io::Result<Asked> {
     let mut words = env::args(rt)?.skip(1);
-    let histories = words
-        .next()
-        .and_then(|word| word.as_str().parse::<u64>().ok());
+    let histories = number(words.next());
     let threads = words
         .next()
         .and_then(|word| word.as_str().parse::<usize>().ok());
-    let seed = words
-        .next()
-        .and_then(|word| word.as_str().parse::<u64>().ok());
+    let seed = number(words.next());
     Ok(Asked {
         histories: histories.unwrap_or(HISTORIES),
         threads,

@@ -95,7 +95,7 @@ impl<R: Wait + Copy> Referee<R> {
         let Some(rest) = self.await_rest(rt, stamps) else {
             return Err(self.still(rt, alloc));
         };
-        rests.push(rest).map_err(|_| Failure::Memory)
+        rests.push(rest).ok().ok_or(Failure::Memory)
     }
 
     /// Sees the threads through to their end: what it did itself, and the rests that it saw, one before a closing and one after it.

@@ -2,17 +2,6 @@
 //! output. Arguments are ignored, and nothing goes to standard error.
 #![tactic(auto)]
 
-#[cfg(test)]
-mod bounds;
-#[cfg(test)]
-mod checks;
-#[cfg(test)]
-mod cut;
-#[cfg(test)]
-mod faults;
-#[cfg(test)]
-mod rows;
-
 use channel_world::script::run_script;
 use std::io;
 use std::process::ExitCode;

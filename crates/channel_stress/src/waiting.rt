@@ -82,6 +82,24 @@ fn is_woken<R: Wait + Copy>(tasks: &[Receiving<'_, R>], number: usize) -> bool {
     }
 }
 
+/// How many of these were woken.
+fn woken<R: Wait + Copy>(tasks: &[Receiving<'_, R>]) -> u64 {
+    let mut woken = 0u64;
+    for one in tasks {
+        woken = woken.wrapping_add(u64::from(one.task.is_woken()));
+    }
+    woken
+}
+
+/// Whether none of these was woken.
+fn all_sleep<R: Wait + Copy>(tasks: &[Closing<'_, R>]) -> bool {
+    let mut sleep = true;
+    for one in tasks {
+        sleep = sleep && !one.task.is_woken();
+    }
+    sleep
+}
+
 /// Each message wakes one task, the one that has waited longest.
 fn wakes_in_order<R: Wait + Copy>(sender: &Sender<u64, R>, tasks: &[Receiving<'_, R>]) -> bool {
     let mut right = true;
@@ -93,8 +111,7 @@ fn wakes_in_order<R: Wait + Copy>(sender: &Sender<u64, R>, tasks: &[Receiving<'_
             && is_woken(tasks, number)
             && !is_woken(tasks, number.wrapping_add(1));
     }
-    let woken = tasks.iter().filter(|one| one.task.is_woken()).count();
-    right && woken as u64 == MESSAGES
+    right && woken(tasks) == MESSAGES
 }
 
 /// The first ones get the messages in order, the others find the channel closed; nobody is woken again.
@@ -111,7 +128,7 @@ fn receives_all<R: Wait + Copy>(tasks: &mut Vec<Receiving<'_, R>>) -> bool {
         next = next.wrapping_add(1);
         right = right && woken && due;
     }
-    right && tasks.iter().all(|one| !one.task.is_woken())
+    right && woken(tasks.as_slice()) == 0
 }
 
 /// All find the channel closed; nobody is woken again.
@@ -121,7 +138,7 @@ fn closes_all<R: Wait + Copy>(tasks: &mut Vec<Closing<'_, R>>) -> bool {
         let woken = one.task.is_woken();
         right = right && woken && one.task.poll(&mut one.closed).is_ready();
     }
-    right && tasks.iter().all(|one| !one.task.is_woken())
+    right && all_sleep(tasks.as_slice())
 }
 
 /// Messages come, and then a closing: whether each wakes whom it must.
@@ -137,7 +154,7 @@ where
     let mut receives = receive(rt, alloc, receiver, TASKS)?;
     let mut closings = await_closing(rt, alloc, sender)?;
     let in_order = wakes_in_order(sender, receives.as_slice());
-    let asleep = closings.iter().all(|one| !one.task.is_woken());
+    let asleep = all_sleep(closings.as_slice());
     let closed = sender.close();
     let received = receives_all(&mut receives);
     let told = closes_all(&mut closings);

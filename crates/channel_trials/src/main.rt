@@ -80,6 +80,11 @@ fn read_amount(count: Option<u64>, seed: Option<u64>, for_seconds: bool) -> Amou
     }
 }
 
+/// The number that a word says, if it says one.
+fn number(word: Option<String>) -> Option<u64> {
+    word?.as_str().parse::<u64>().ok()
+}
+
 /// What the words ask for.
 fn read_words<R: Env + Alloc<A = Global>>(rt: &R) -> io::Result<Asked> {
     let mut words = env::args(rt)?.skip(1);
@@ -95,10 +100,7 @@ fn read_words<R: Env + Alloc<A = Global>>(rt: &R) -> io::Result<Asked> {
     } else {
         Some(first)
     };
-    let count = count.and_then(|word| word.as_str().parse::<u64>().ok());
-    let seed = words
-        .next()
-        .and_then(|word| word.as_str().parse::<u64>().ok());
+    let (count, seed) = (number(count), number(words.next()));
     Ok(Asked::Inputs(read_amount(count, seed, for_seconds)))
 }
 

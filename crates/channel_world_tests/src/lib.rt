@@ -20,5 +20,7 @@ mod refusals;
 #[cfg(test)]
 mod rows;
 #[cfg(test)]
+mod scripts;
+#[cfg(test)]
 mod step_counts;
 pub mod unaided;

@@ -1,8 +1,9 @@
 //! What tests compare by. Proved once each; a test has no exit of its own at such a call, so it is cheap to prove.
 
+use std::alloc::AllocGlobal;
 use std::fmt::Debug;
 use std::process::Abort;
-use worked_rows::Played;
+use worked_rows::{Player, play_rows};
 
 /// Ends the test where these differ, and shows both.
 pub fn expect_equal<A: Abort, T: PartialEq + Debug>(rt: &A, found: &T, wanted: &T) {
@@ -19,8 +20,14 @@ pub fn expect_none<A: Abort, S: Debug, T: Debug>(rt: &A, place: &S, found: &Opti
     assert!(rt; found.is_none(), "{place:?}: {found:?}");
 }
 
-/// Ends the test at the first call that answered another thing than its row says, and where there are not so many rows.
-pub fn expect_rows<A: Abort>(rt: &A, played: &Played<'_>, rows: u64) {
+/// Plays these rows. Ends the test at the first call that answers another thing than its row says, and where there are not so many rows.
+pub fn expect_rows<A: Abort + AllocGlobal, P: Player>(
+    rt: &A,
+    text: &str,
+    player: &mut P,
+    rows: u64,
+) {
+    let played = play_rows(rt.alloc(), text, player).expect(rt, "memory");
     assert!(rt; played.differs.is_none(), "{:?}", played.differs);
     assert_eq!(rt; played.rows, rows);
 }

@@ -1,42 +1,49 @@
 //! What a queue of one owner does where memory is refused, and to messages of a type that counts.
 
-use crate::checks::{expect_equal, expect_true};
-use crate::said::{popped, pushed};
+use crate::checks::expect_equal;
 use concurrent_queue::exclusive::Exclusive;
-use std::alloc::AllocError;
 use std::rc::Rc;
-use std::test::Fail;
 
-/// So many copies are pushed, so many displace, and so many leave: how many there are then, and once the queue is gone.
-fn copies_held(
-    mut queue: Exclusive<Rc<u64>>,
-    counted: &Rc<u64>,
-    [pushes, displacing, pops]: [u32; 3],
-) -> Result<[usize; 2], AllocError> {
+/// So many copies are pushed, and so many displace.
+fn put_copies(queue: &mut Exclusive<Rc<u64>>, counted: &Rc<u64>, pushes: u32, displacing: u32) {
     for _ in 0..pushes {
-        drop(queue.push(counted.clone()?));
+        if let Ok(copy) = counted.clone() {
+            drop(queue.push(copy));
+        }
     }
     for _ in 0..displacing {
-        drop(queue.force_push(counted.clone()?));
+        if let Ok(copy) = counted.clone() {
+            drop(queue.force_push(copy));
+        }
     }
+}
+
+/// How many copies there are once so many were put and so many left, and how many once the queue is gone. None where there is no queue.
+fn copies_held(
+    opened: Option<Exclusive<Rc<u64>>>,
+    counted: &Rc<u64>,
+    [pushes, displacing, pops]: [u32; 3],
+) -> Option<[usize; 2]> {
+    let mut queue = opened?;
+    put_copies(&mut queue, counted, pushes, displacing);
     for _ in 0..pops {
         drop(queue.pop());
     }
     let held = Rc::strong_count(counted);
     drop(queue);
-    Ok([held, Rc::strong_count(counted)])
+    Some([held, Rc::strong_count(counted)])
 }
 
 #[test]
-fn what_is_left_is_dropped_once(rt: HostRuntime) -> Result<(), Fail> {
+fn what_is_left_is_dropped_once(rt: HostRuntime) {
     let alloc = rt.alloc();
-    let counted = Rc::new(alloc, 7u64)?;
+    let counted = Rc::new(alloc, 7u64).expect(&rt, "memory");
     let held = [
-        copies_held(Exclusive::bounded(alloc, 1)?, &counted, [1, 1, 0])?,
-        copies_held(Exclusive::bounded(alloc, 2)?, &counted, [0, 3, 0])?,
-        copies_held(Exclusive::unbounded(alloc), &counted, [40, 0, 3])?,
+        copies_held(Exclusive::bounded(alloc, 1).ok(), &counted, [1, 1, 0]),
+        copies_held(Exclusive::bounded(alloc, 2).ok(), &counted, [0, 3, 0]),
+        copies_held(Some(Exclusive::unbounded(alloc)), &counted, [40, 0, 3]),
     ];
     drop(counted);
-    expect_equal(&rt, &held, &[[1 + 1, 1], [1 + 2, 1], [1 + 37, 1]]);
-    Ok(())
+    let wanted = [Some([1 + 1, 1]), Some([1 + 2, 1]), Some([1 + 37, 1])];
+    expect_equal(&rt, &held, &wanted);
 }

@@ -5,7 +5,6 @@ use concurrent_queue::error::{PopError, PushError};
 use concurrent_queue::shared::queue::ConcurrentQueue;
 use std::alloc::Global;
 use std::sync::Wait;
-use std::test::Fail;
 use std::thread;
 use std::thread::Threads;
 
@@ -98,19 +97,17 @@ fn two_and_two<R: Threads + Wait + Sync>(
 }
 
 #[test]
-fn each_message_is_found_once_and_in_order(rt: HostRuntime) -> Result<(), Fail> {
+fn each_message_is_found_once_and_in_order(rt: HostRuntime) {
     for capacity in 1..5 {
-        let queue = ConcurrentQueue::bounded(rt.alloc(), capacity)?;
+        let queue = ConcurrentQueue::bounded(rt.alloc(), capacity).expect(&rt, "memory");
         expect_true(&rt, two_and_two(&rt, rt.alloc(), &queue));
     }
-    Ok(())
 }
 
 #[test]
-fn the_same_in_an_unbounded_queue(rt: HostRuntime) -> Result<(), Fail> {
-    let queue = ConcurrentQueue::unbounded(rt.alloc())?;
+fn the_same_in_an_unbounded_queue(rt: HostRuntime) {
+    let queue = ConcurrentQueue::unbounded(rt.alloc()).expect(&rt, "memory");
     expect_true(&rt, two_and_two(&rt, rt.alloc(), &queue));
-    Ok(())
 }
 
 fn crosses<X: Send + Sync>(_queue: &X) {}
@@ -121,8 +118,7 @@ fn queue_crosses<T: Drop + Send>(queue: &ConcurrentQueue<T>) {
 }
 
 #[test]
-fn queues_cross_threads(rt: HostRuntime) -> Result<(), Fail> {
-    let queue: ConcurrentQueue<u64> = ConcurrentQueue::unbounded(rt.alloc())?;
+fn queues_cross_threads(rt: HostRuntime) {
+    let queue: ConcurrentQueue<u64> = ConcurrentQueue::unbounded(rt.alloc()).expect(&rt, "memory");
     queue_crosses(&queue);
-    Ok(())
 }

@@ -8,22 +8,19 @@ use crate::tags::Tags;
 use crate::units::Units;
 use event_listener::error::{ListenError, NoMemory};
 use event_listener::event::Event;
-use event_listener::id::{EventIds, IdsUsedUp};
+use event_listener::id::EventIds;
 use event_listener::listener::{Listener, PollFault};
 use event_listener::notify::Notification;
 use futures::task::{Poll, Source, Waker};
 use futures::test::MockTask;
 use std::alloc::Global;
-use std::test::Fail;
-use worked_rows::play_rows;
+use std::process::Abort;
 
-/// Why a test can't go on.
+/// Why no listener is made by name.
 #[derive(Debug, Drop)]
 pub(crate) enum Stuck {
     NoMemory,
     Listen,
-    Ids,
-    Waits,
 }
 
 impl From<NoMemory> for Stuck {
@@ -35,12 +32,6 @@ impl From<NoMemory> for Stuck {
 impl From<ListenError> for Stuck {
     fn from(_: ListenError) -> Stuck {
         Stuck::Listen
-    }
-}
-
-impl From<IdsUsedUp> for Stuck {
-    fn from(_: IdsUsedUp) -> Stuck {
-        Stuck::Ids
     }
 }
 
@@ -70,9 +61,9 @@ pub(crate) fn poll<T, L: Listener<T>>(task: &MockTask, listener: &mut L) -> Poll
 }
 
 /// An event with an identity of its own.
-pub(crate) fn event<T: Drop>(alloc: Global) -> Result<Event<T>, Stuck> {
+pub(crate) fn event<T: Drop, A: Abort>(rt: &A, alloc: Global) -> Event<T> {
     let mut ids = EventIds::new();
-    Ok(Event::with_tag(alloc, ids.next()?))
+    Event::with_tag(alloc, ids.next().expect(rt, "an identity"))
 }
 
 /// An additional notice for three that can make so many tags, the last of which is 0.
@@ -110,17 +101,19 @@ impl Notification for Scarce {
 }
 
 #[test]
-fn rows(rt: HostRuntime) -> Result<(), Fail> {
-    let all = open(rt, rt.alloc(), MockTask::new(&rt)?).expect(&rt, "identities");
-    let played = play_rows(rt.alloc(), UNIT_ROWS, &mut Units { rt, all })?;
-    expect_rows(&rt, &played, 8);
-    Ok(())
+fn rows(rt: HostRuntime) {
+    let all = open(rt, rt.alloc(), MockTask::new(&rt).expect(&rt, "memory")).expect(
+        &rt,
+        "identities",
+    );
+    expect_rows(&rt, UNIT_ROWS, &mut Units { rt, all }, 8);
 }
 
 #[test]
-fn rows_of_tags(rt: HostRuntime) -> Result<(), Fail> {
-    let all = open(rt, rt.alloc(), MockTask::new(&rt)?).expect(&rt, "identities");
-    let played = play_rows(rt.alloc(), TAG_ROWS, &mut Tags { rt, all, made: 0 })?;
-    expect_rows(&rt, &played, 6);
-    Ok(())
+fn rows_of_tags(rt: HostRuntime) {
+    let all = open(rt, rt.alloc(), MockTask::new(&rt).expect(&rt, "memory")).expect(
+        &rt,
+        "identities",
+    );
+    expect_rows(&rt, TAG_ROWS, &mut Tags { rt, all, made: 0 }, 6);
 }

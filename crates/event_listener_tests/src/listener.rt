@@ -1,15 +1,14 @@
 //! Listeners among threads.
 
 use crate::checks::expect_equal;
-use crate::event::{Polled, Stuck, event, poll};
+use crate::event::{Polled, event, poll};
 use event_listener::event::Event;
 use event_listener::into_notification::IntoNotification;
 use event_listener::listener::{EventListener, Listener};
 use futures::test::MockTask;
-use std::alloc::Global;
+use std::process::Abort;
 use std::sync::Wait;
 use std::sync::atomic::{AtomicUsize, Ordering};
-use std::test::Fail;
 use std::thread;
 use std::thread::Threads;
 
@@ -26,12 +25,12 @@ fn all_cross<T: Drop + Send, R: Wait + Copy + Send + Sync>(
 }
 
 /// Two threads wait and two notify: how many were told, and how many went on.
-fn four_threads<R: Wait + Threads + Copy + Send + Sync>(
+fn four_threads<R: Wait + Threads + Abort + Copy + Send + Sync>(
     rt: R,
     event: &Event<()>,
-) -> Result<(usize, usize), Stuck> {
-    let first = event.listen(&rt)?;
-    let second = event.listen(&rt)?;
+) -> (usize, usize) {
+    let first = event.listen(&rt).expect(&rt, "memory");
+    let second = event.listen(&rt).expect(&rt, "memory");
     let told = AtomicUsize::new(0);
     let counted = &told;
     let (one, two) = thread::join(
@@ -40,7 +39,7 @@ fn four_threads<R: Wait + Threads + Copy + Send + Sync>(
         move || both_notify(rt, event, counted),
     );
     let _ = two;
-    Ok((told.load(Ordering::SeqCst), one))
+    (told.load(Ordering::SeqCst), one)
 }
 
 fn both_wait<R: Wait + Threads + Copy + Send + Sync>(
@@ -73,68 +72,56 @@ fn both_notify<R: Wait + Threads + Copy + Send + Sync>(
 }
 
 #[test]
-fn no_notice_is_lost(rt: HostRuntime) -> Result<(), Fail> {
-    let event: Event<()> = event(rt.alloc()).expect(&rt, "memory");
+fn no_notice_is_lost(rt: HostRuntime) {
+    let event: Event<()> = event(&rt, rt.alloc());
     for _ in 0..1000 {
-        let (told, went_on) = four_threads(rt, &event).expect(&rt, "memory");
-        expect_equal(&rt, &(told, went_on), &(2, 2));
+        expect_equal(&rt, &four_threads(rt, &event), &(2, 2));
     }
     expect_equal(&rt, &event.total_listeners(&rt), &0);
-    Ok(())
 }
 
-/// One thread opens the gate and sleeps, the other one goes through the gate and notifies.
-fn parked<R: Wait + Threads + Copy + Send + Sync>(
+/// One thread opens the gate and sleeps, the other one goes through the gate and notifies: whether the first went on, and how many the
+/// other one told.
+fn parked<R: Wait + Threads + Abort + Copy + Send + Sync>(
     rt: R,
-    alloc: Global,
-) -> Result<(bool, usize), Stuck> {
-    let woken: Event<()> = event(alloc)?;
-    let gate: Event<()> = event(alloc)?;
-    let sleeper = woken.listen(&rt)?;
-    let at_gate = gate.listen(&rt)?;
-    let (out, inside) = (&gate, &woken);
-    let (went_on, told) = thread::join(
+    woken: &Event<()>,
+    gate: &Event<()>,
+) -> (bool, usize) {
+    let sleeper = woken.listen(&rt).expect(&rt, "memory");
+    let at_gate = gate.listen(&rt).expect(&rt, "memory");
+    thread::join(
         &rt,
         move || {
-            out.notify_additional(&rt, 1);
+            gate.notify_additional(&rt, 1);
             goes_on(sleeper)
         },
         move || {
             goes_on(at_gate);
-            inside.notify_additional(&rt, 1)
+            woken.notify_additional(&rt, 1)
         },
-    );
-    Ok((went_on, told))
+    )
 }
 
-fn dropped_elsewhere<R: Wait + Threads + Copy + Send + Sync>(
+/// A listener that was told is dropped on another thread: whether all crosses threads, and what a poll of the second one gives.
+fn dropped_elsewhere<R: Wait + Threads + Abort + Copy + Send + Sync>(
     rt: R,
-    alloc: Global,
+    event: &Event<u32>,
     task: &MockTask,
-) -> Result<Polled<u32>, Stuck> {
-    let event: Event<u32> = event(alloc)?;
-    let told = event.listen(&rt)?;
-    let mut waiting = event.listen(&rt)?;
-    if !all_cross(&event, &told) {
-        return Err(Stuck::Waits);
-    }
+) -> (bool, Polled<u32>) {
+    let told = event.listen(&rt).expect(&rt, "memory");
+    let mut waiting = event.listen(&rt).expect(&rt, "memory");
+    let crosses = all_cross(event, &told);
     let _ = event.notify(&rt, 1u8.tag(7u32));
     thread::join(&rt, move || drop(told), || ());
-    Ok(poll(task, &mut waiting))
+    (crosses, poll(task, &mut waiting))
 }
 
 #[test]
-fn threads(rt: HostRuntime) -> Result<(), Fail> {
-    let task = MockTask::new(&rt)?;
-    expect_equal(
-        &rt,
-        &parked(rt, rt.alloc()).expect(&rt, "memory"),
-        &(true, 1),
-    );
-    expect_equal(
-        &rt,
-        &dropped_elsewhere(rt, rt.alloc(), &task).expect(&rt, "memory"),
-        &Polled::Tag(7),
-    );
-    Ok(())
+fn threads(rt: HostRuntime) {
+    let (woken, gate) = (event(&rt, rt.alloc()), event(&rt, rt.alloc()));
+    expect_equal(&rt, &parked(rt, &woken, &gate), &(true, 1));
+    let task = MockTask::new(&rt).expect(&rt, "memory");
+    let event = event(&rt, rt.alloc());
+    let seen = dropped_elsewhere(rt, &event, &task);
+    expect_equal(&rt, &seen, &(true, Polled::Tag(7)));
 }

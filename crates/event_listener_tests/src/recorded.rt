@@ -2,8 +2,6 @@
 
 use crate::checks::expect_rows;
 use crate::records::open;
-use std::test::Fail;
-use worked_rows::play_rows;
 
 const ROWS: &str = "
 # Three listened, three registered, two notices that told somebody, two polls that took a tag.
@@ -64,9 +62,6 @@ record = listened listened listened notified 1 2 polled 1 polled 2 told 0 of 1
 ";
 
 #[test]
-fn rows(rt: HostRuntime) -> Result<(), Fail> {
-    let mut records = open(&rt, rt.alloc());
-    let played = play_rows(rt.alloc(), ROWS, &mut records)?;
-    expect_rows(&rt, &played, 3);
-    Ok(())
+fn rows(rt: HostRuntime) {
+    expect_rows(&rt, ROWS, &mut open(&rt, rt.alloc()), 3);
 }

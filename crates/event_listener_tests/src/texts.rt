@@ -1,6 +1,6 @@
 //! What the refusals of this crate print.
 
-use crate::checks::{expect_equal, expect_true};
+use crate::checks::expect_equal;
 use event_listener::error::{ListenError, NoMemory, NotifyError, UnknownListener};
 use event_listener::id::IdsUsedUp;
 use event_listener::key::Key;
@@ -9,61 +9,75 @@ use event_listener::listener::{PollFault, WaitError};
 use event_listener::recorded::{RecordedCall, RecordedEvent, RegisterError};
 use event_listener::run::{ListCall, ListReply, ListRun, Target};
 use event_listener::wakes::Wakes;
-use std::alloc::{AllocError, Global};
+use std::alloc::{AllocGlobal, Global};
 use std::collections::VecDeque;
 use std::fmt;
+use std::sync::Wait;
 use std::test::Fail;
 
 /// Whether a value prints this text.
-fn prints<E: fmt::Display + Drop>(
-    rt: &impl AllocGlobal,
-    error: E,
-    text: &str,
-) -> Result<bool, Fail> {
-    Ok(format!(in rt.alloc(); "{error}")?.as_str() == text)
+fn prints<E: fmt::Display + Drop>(rt: &impl AllocGlobal, error: E, text: &str) -> bool {
+    match format!(in rt.alloc(); "{error}") {
+        Ok(printed) => printed.as_str() == text,
+        Err(_) => false,
+    }
+}
+
+/// Whether a value is shown so where a test fails.
+fn shows<T: fmt::Debug + Drop>(rt: &impl AllocGlobal, it: T, text: &str) -> bool {
+    match format!(in rt.alloc(); "{it:?}") {
+        Ok(shown) => shown.as_str() == text,
+        Err(_) => false,
+    }
+}
+
+/// Whether a value is the same as one, and another than the other.
+fn tells_apart<T: PartialEq + Drop>(it: T, same: T, other: T) -> bool {
+    it == same && it != other
 }
 
 #[test]
-fn refusals_say_why(rt: HostRuntime) -> Result<(), Fail> {
+fn refusals_say_why(rt: HostRuntime) {
     let all = [
-        prints(&rt, NoMemory, "want of memory")?,
-        prints(&rt, UnknownListener, "no such listener")?,
-        prints(&rt, ListenError::NoMemory, "want of memory")?,
-        prints(&rt, ListenError::SerialsUsedUp, "all serials were given")?,
+        prints(&rt, NoMemory, "want of memory"),
+        prints(&rt, UnknownListener, "no such listener"),
+        prints(&rt, ListenError::NoMemory, "want of memory"),
+        prints(&rt, ListenError::SerialsUsedUp, "all serials were given"),
         prints(
             &rt,
             NotifyError { told: 2 },
             "a tag was refused after 2 were told",
-        )?,
-        prints(&rt, IdsUsedUp, "all identities were given")?,
+        ),
+        prints(&rt, IdsUsedUp, "all identities were given"),
         prints(
             &rt,
             PollFault::NeverInserted,
             "the listener has given its tag",
-        )?,
-        prints(&rt, RegisterError::NoMemory, "want of memory")?,
-        prints(&rt, RegisterError::UnknownListener, "no such listener")?,
+        ),
+        prints(&rt, RegisterError::NoMemory, "want of memory"),
+        prints(&rt, RegisterError::UnknownListener, "no such listener"),
     ];
     expect_equal(&rt, &all, &[true; 9]);
-    Ok(())
 }
 
 #[test]
-fn waits_that_did_not_begin_say_why(rt: HostRuntime) -> Result<(), Fail> {
-    let memory = WaitError::NoMemory(5u8);
-    let finished = WaitError::NeverInserted(6u8);
-    expect_equal(
-        &rt,
-        &format!(in rt.alloc(); "{memory} {memory:?}")?.as_str(),
-        &"want of memory NoMemory(..)",
+fn waits_that_did_not_begin_say_why(rt: HostRuntime) {
+    let all = [
+        prints(&rt, WaitError::NoMemory(5u8), "want of memory"),
+        shows(&rt, WaitError::NoMemory(5u8), "NoMemory(..)"),
+        prints(
+            &rt,
+            WaitError::NeverInserted(6u8),
+            "the listener has given its tag",
+        ),
+        shows(&rt, WaitError::NeverInserted(6u8), "NeverInserted(..)"),
+    ];
+    expect_equal(&rt, &all, &[true; 4]);
+    let back = (
+        WaitError::NoMemory(5u8).into_inner(),
+        WaitError::NeverInserted(6u8).into_inner(),
     );
-    expect_equal(
-        &rt,
-        &format!(in rt.alloc(); "{finished} {finished:?}")?.as_str(),
-        &"the listener has given its tag NeverInserted(..)",
-    );
-    expect_equal(&rt, &(memory.into_inner(), finished.into_inner()), &(5, 6));
-    Ok(())
+    expect_equal(&rt, &back, &(5, 6));
 }
 
 /// The key of the first listener of a list, which is that of any other list's.
@@ -83,77 +97,100 @@ impl Wakes<u8> for Nobody {
 }
 
 #[test]
-fn calls_are_compared_and_shown(rt: HostRuntime) -> Result<(), Fail> {
-    let insert: ListCall<u8, u8> = ListCall::Insert;
+fn calls_are_compared_and_shown(rt: HostRuntime) {
+    let apart = tells_apart::<ListCall<u8, u8>>(
+        ListCall::Insert,
+        ListCall::Insert,
+        ListCall::Reserve { extra: 1 },
+    );
     let poll: ListCall<u8, u8> = ListCall::Poll {
         listener: Target::Place(0),
     };
-    let compared = insert == ListCall::Insert && insert != ListCall::Reserve { extra: 1 };
-    let text = format!(in rt.alloc(); "{poll:?}")?;
-    drop(insert);
-    drop(poll);
-    expect_true(&rt, compared);
-    expect_equal(&rt, &text.as_str(), &"Poll { listener: Place(0) }");
-    Ok(())
+    let shown = shows(&rt, poll, "Poll { listener: Place(0) }");
+    expect_equal(&rt, &[apart, shown], &[true; 2]);
 }
 
 /// An insertion, and a poll of the listener that it gave.
-fn listen_and_poll(alloc: Global) -> Result<ListRun<u8>, AllocError> {
+fn listen_and_poll(alloc: Global) -> Option<ListRun<u8>> {
     let mut list: List<u8, u8> = List::new(alloc);
     let mut calls: VecDeque<ListCall<u8, u8>> = VecDeque::new(alloc);
-    calls.push_back(ListCall::Insert)?;
-    calls.push_back(ListCall::Poll {
+    let listen = calls.push_back(ListCall::Insert);
+    let poll = calls.push_back(ListCall::Poll {
         listener: Target::Place(0),
-    })?;
-    Ok(list.run(alloc, &mut calls, &mut Nobody))
+    });
+    let run = list.run(alloc, &mut calls, &mut Nobody);
+    (listen.is_ok() && poll.is_ok()).then_some(run)
 }
 
 /// What that run is to answer.
-fn run_of_them(alloc: Global, key: Key) -> Result<ListRun<u8>, AllocError> {
+fn run_of_them(alloc: Global, key: Key) -> Option<ListRun<u8>> {
     let mut replies: Vec<ListReply<u8>> = Vec::new(alloc);
-    replies.push(ListReply::Insert(Ok(key)))?;
-    replies.push(ListReply::Poll(Ok(None)))?;
-    Ok(ListRun {
+    let insert = replies.push(ListReply::Insert(Ok(key)));
+    let poll = replies.push(ListReply::Poll(Ok(None)));
+    let run = ListRun {
         replies,
         stopped: None,
-    })
+    };
+    (insert.is_ok() && poll.is_ok()).then_some(run)
+}
+
+/// A run of no call, which stopped.
+fn stopped_run(alloc: Global) -> ListRun<u8> {
+    ListRun {
+        replies: Vec::new(alloc),
+        stopped: Some(NoMemory),
+    }
 }
 
 #[test]
 fn runs_are_compared_and_shown(rt: HostRuntime) -> Result<(), Fail> {
-    let run = listen_and_poll(rt.alloc())?;
-    let same = run_of_them(rt.alloc(), first_key(&rt)?)?;
-    let stopped = ListRun {
-        replies: Vec::new(rt.alloc()),
-        stopped: Some(NoMemory),
-    };
-    let compared = (run == same, run != stopped);
-    let text = format!(in rt.alloc(); "{:?} {stopped:?}", run.replies)?;
-    drop(run);
-    drop(same);
-    drop(stopped);
-    expect_equal(&rt, &compared, &(true, true));
-    expect_equal(
-        &rt,
-        &text.as_str(),
-        &"[Insert(Ok(Key { slot: 0, serial: 0 })), Poll(Ok(None))] ListRun { replies: [], stopped: Some(NoMemory) }",
-    );
+    let alloc = rt.alloc();
+    let key = first_key(&rt)?;
+    let all = [
+        tells_apart(
+            listen_and_poll(alloc),
+            run_of_them(alloc, key),
+            Some(stopped_run(alloc)),
+        ),
+        shows(
+            &rt,
+            listen_and_poll(alloc),
+            "Some(ListRun { replies: [Insert(Ok(Key { slot: 0, serial: 0 })), Poll(Ok(None))], stopped: None })",
+        ),
+        shows(
+            &rt,
+            stopped_run(alloc),
+            "ListRun { replies: [], stopped: Some(NoMemory) }",
+        ),
+    ];
+    expect_equal(&rt, &all, &[true; 3]);
     Ok(())
+}
+
+/// What a recorded event wrote down of an insertion.
+fn recorded_insertion<R: Wait + AllocGlobal>(rt: &R) -> Vec<RecordedCall<u8, u8>> {
+    let event: RecordedEvent<u8, u8> = RecordedEvent::new(rt.alloc());
+    let _ = event.insert(rt);
+    event.into_parts().1
 }
 
 #[test]
 fn records_are_compared_and_shown(rt: HostRuntime) -> Result<(), Fail> {
-    let event: RecordedEvent<u8, u8> = RecordedEvent::new(rt.alloc());
-    expect_true(&rt, event.insert(&rt).is_ok());
-    let (_, calls) = event.into_parts();
     let key = first_key(&rt)?;
     let listened = RecordedCall::Listened { key };
-    expect_true(&rt, listened != RecordedCall::Polled { key, tag: 1 });
-    expect_true(&rt, calls.as_slice() == [listened].as_slice());
-    expect_equal(
-        &rt,
-        &format!(in rt.alloc(); "{:?}", calls)?.as_str(),
-        &"[Listened { key: Key { slot: 0, serial: 0 } }]",
-    );
+    let all = [
+        tells_apart::<RecordedCall<u8, u8>>(
+            RecordedCall::Listened { key },
+            RecordedCall::Listened { key },
+            RecordedCall::Polled { key, tag: 1 },
+        ),
+        recorded_insertion(&rt).as_slice() == [listened].as_slice(),
+        shows(
+            &rt,
+            recorded_insertion(&rt),
+            "[Listened { key: Key { slot: 0, serial: 0 } }]",
+        ),
+    ];
+    expect_equal(&rt, &all, &[true; 3]);
     Ok(())
 }

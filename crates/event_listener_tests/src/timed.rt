@@ -1,28 +1,25 @@
 //! Waits with a timeout, measured on the clock and among threads.
 
 use crate::checks::expect_equal;
-use crate::event::{Stuck, event};
+use crate::event::event;
 use event_listener::event::Event;
 use event_listener::into_notification::IntoNotification;
-use event_listener::listener::Listener;
-use std::alloc::Global;
+use event_listener::listener::{EventListener, Listener};
+use std::process::Abort;
 use std::sync::Wait;
 use std::sync::atomic::{AtomicUsize, Ordering};
-use std::test::Fail;
 use std::thread;
 use std::thread::Threads;
 use std::time::{Clock, Duration, Instant};
 
 /// A listener waits for up to half a minute, and another thread tells it soon: how many that one told, the tag, and
 /// whether the wait ended in good time.
-fn told_in_time<R: Wait + Threads + Clock + Copy + Send + Sync>(
+fn told_in_time<R: Wait + Threads + Clock + Abort + Copy + Send + Sync>(
     rt: R,
-    alloc: Global,
-) -> Result<(usize, Option<u32>, bool), Stuck> {
-    let event: Event<u32> = event(alloc)?;
-    let shared = &event;
-    let listener = event.listen(&rt)?;
-    let start = Instant::now(&rt).map_err(|_| Stuck::Waits)?;
+    event: &Event<u32>,
+) -> (usize, Option<u32>, bool) {
+    let start = Instant::now(&rt).expect(&rt, "a clock");
+    let listener = event.listen(&rt).expect(&rt, "memory");
     let (tag, told) = thread::join(
         &rt,
         move || {
@@ -31,47 +28,52 @@ fn told_in_time<R: Wait + Threads + Clock + Copy + Send + Sync>(
         },
         move || {
             thread::sleep(&rt, Duration::from_millis(20));
-            shared.notify(&rt, 1u8.tag(8u32)).unwrap_or(9)
+            event.notify(&rt, 1u8.tag(8u32)).unwrap_or(9)
         },
     );
-    let passed = start.elapsed(&rt).map_err(|_| Stuck::Waits)?;
-    Ok((told, tag, passed < Duration::from_secs(20)))
+    let passed = start.elapsed(&rt).expect(&rt, "a clock");
+    (told, tag, passed < Duration::from_secs(20))
 }
 
 #[test]
-fn a_wait_that_is_told_in_time_gives_the_tag(rt: HostRuntime) -> Result<(), Fail> {
-    let (told, tag, soon) = told_in_time(rt, rt.alloc()).expect(&rt, "memory");
-    expect_equal(&rt, &(told, tag, soon), &(1, Some(8), true));
-    Ok(())
+fn a_wait_that_is_told_in_time_gives_the_tag(rt: HostRuntime) {
+    let event = event(&rt, rt.alloc());
+    expect_equal(&rt, &told_in_time(rt, &event), &(1, Some(8), true));
+}
+
+/// Whether a wait gives nothing, and not before its time.
+fn wait_passes<R: Wait + Clock + Abort + Copy>(rt: R, event: &Event<()>, limit: Duration) -> bool {
+    let start = Instant::now(&rt).expect(&rt, "a clock");
+    let listener = event.listen(&rt).expect(&rt, "memory");
+    let none = matches!(listener.wait_timeout(&rt, limit), Ok(None));
+    none && start.elapsed(&rt).expect(&rt, "a clock") >= limit
+}
+
+/// The same with a deadline, of a listener that listened before.
+fn deadline_passes<R: Wait + Clock + Abort + Copy>(
+    rt: R,
+    listener: EventListener<(), R>,
+    limit: Duration,
+) -> bool {
+    let start = Instant::now(&rt).expect(&rt, "a clock");
+    let deadline = start.checked_add(limit).expect(&rt, "a moment");
+    let none = matches!(listener.wait_deadline(&rt, deadline), Ok(None));
+    none && start.elapsed(&rt).expect(&rt, "a clock") >= limit
 }
 
 /// Whether a wait and one with a deadline gave nothing, none of them before its time, and left.
-fn time_passes<R: Wait + Clock + Copy>(rt: R, alloc: Global) -> Result<[bool; 3], Stuck> {
-    let event: Event<()> = event(alloc)?;
+fn time_passes<R: Wait + Clock + Abort + Copy>(rt: R, event: &Event<()>) -> [bool; 3] {
     let limit = Duration::from_millis(30);
-    let first = event.listen(&rt)?;
-    let second = event.listen(&rt)?;
-    let start = Instant::now(&rt).map_err(|_| Stuck::Waits)?;
-    let none = matches!(first.wait_timeout(&rt, limit), Ok(None));
-    let now = Instant::now(&rt).map_err(|_| Stuck::Waits)?;
-    let waited = none && now.duration_since(start) >= limit;
-    let Some(deadline) = now.checked_add(limit) else {
-        return Err(Stuck::Waits);
-    };
-    let none = matches!(second.wait_deadline(&rt, deadline), Ok(None));
-    let end = Instant::now(&rt).map_err(|_| Stuck::Waits)?;
-    let to_deadline = none && end.duration_since(now) >= limit;
-    Ok([waited, to_deadline, event.total_listeners(&rt) == 0])
+    let second = event.listen(&rt).expect(&rt, "memory");
+    let waited = wait_passes(rt, event, limit);
+    let to_deadline = deadline_passes(rt, second, limit);
+    [waited, to_deadline, event.total_listeners(&rt) == 0]
 }
 
 #[test]
-fn a_wait_gives_nothing_before_its_time(rt: HostRuntime) -> Result<(), Fail> {
-    expect_equal(
-        &rt,
-        &time_passes(&rt, rt.alloc()).expect(&rt, "memory"),
-        &[true; 3],
-    );
-    Ok(())
+fn a_wait_gives_nothing_before_its_time(rt: HostRuntime) {
+    let event = event(&rt, rt.alloc());
+    expect_equal(&rt, &time_passes(&rt, &event), &[true; 3]);
 }
 
 const ROUNDS: usize = 20_000;
@@ -123,10 +125,9 @@ fn races<R: Wait + Threads + Clock + Copy + Send + Sync>(
 
 /// A notice that comes when the time is up is taken or tells nobody: none is lost.
 #[test]
-fn each_listener_that_was_told_wakes_with_its_tag(rt: HostRuntime) -> Result<(), Fail> {
-    let event: Event<()> = event(rt.alloc()).expect(&rt, "memory");
+fn each_listener_that_was_told_wakes_with_its_tag(rt: HostRuntime) {
+    let event: Event<()> = event(&rt, rt.alloc());
     let (woken, told) = races(rt, &event);
     expect_equal(&rt, &woken, &told);
     expect_equal(&rt, &event.total_listeners(&rt), &0);
-    Ok(())
 }

@@ -96,28 +96,58 @@ fn clones<R: Wait + Copy>(ends: Ends<R>) -> Option<bool> {
     Some(open && receiver.is_closed() && weak.upgrade().ok()?.is_none())
 }
 
+/// Those that open a channel.
+fn openings<R: Wait + Copy>(rt: R, alloc: Global, ids: &mut EventIds) -> Option<[bool; 2]> {
+    Some([opens(rt, alloc, ids)?, opens_unbounded(rt, alloc, ids)?])
+}
+
+/// Those that wait for nobody.
+fn tries<R: Wait + Copy>(rt: R, alloc: Global, ids: &mut EventIds) -> Option<[bool; 4]> {
+    Some([
+        tries_to_send(&bounded(rt, alloc, 1, ids).ok()?)?,
+        displaces(&bounded(rt, alloc, 1, ids).ok()?)?,
+        tries_to_receive(&bounded(rt, alloc, 1, ids).ok()?)?,
+        receives_several(&unbounded(rt, alloc, ids).ok()?)?,
+    ])
+}
+
+/// Those that end a channel, or one of its handles.
+fn endings<R: Wait + Copy>(rt: R, alloc: Global, ids: &mut EventIds) -> Option<[bool; 2]> {
+    Some([
+        closes(&bounded(rt, alloc, 1, ids).ok()?)?,
+        clones(bounded(rt, alloc, 1, ids).ok()?)?,
+    ])
+}
+
+/// Those that are run to their end.
+fn runs<R>(rt: R, alloc: Global, ids: &mut EventIds) -> Option<[bool; 2]>
+where
+    R: Wait + Copy + RandomSource + AllocGlobal,
+{
+    Some([
+        sends(rt, &bounded(rt, alloc, 1, ids).ok()?)?,
+        receives(rt, &bounded(rt, alloc, 1, ids).ok()?)?,
+    ])
+}
+
+fn count(answers: &[bool]) -> u64 {
+    let mut right = 0u64;
+    for answer in answers {
+        if *answer {
+            right = right.wrapping_add(1);
+        }
+    }
+    right
+}
+
 /// How many of them answer as they are told to.
 pub(crate) fn right<R>(rt: R, alloc: Global, ids: &mut EventIds) -> Option<u64>
 where
     R: Wait + Copy + RandomSource + AllocGlobal,
 {
-    let answers = [
-        opens(rt, alloc, ids)?,
-        opens_unbounded(rt, alloc, ids)?,
-        tries_to_send(&bounded(rt, alloc, 1, ids).ok()?)?,
-        displaces(&bounded(rt, alloc, 1, ids).ok()?)?,
-        sends(rt, &bounded(rt, alloc, 1, ids).ok()?)?,
-        tries_to_receive(&bounded(rt, alloc, 1, ids).ok()?)?,
-        receives(rt, &bounded(rt, alloc, 1, ids).ok()?)?,
-        receives_several(&unbounded(rt, alloc, ids).ok()?)?,
-        closes(&bounded(rt, alloc, 1, ids).ok()?)?,
-        clones(bounded(rt, alloc, 1, ids).ok()?)?,
-    ];
-    let mut right = 0u64;
-    for answer in answers {
-        if answer {
-            right = right.wrapping_add(1);
-        }
-    }
+    let right = count(&openings(rt, alloc, ids)?)
+        .wrapping_add(count(&tries(rt, alloc, ids)?))
+        .wrapping_add(count(&endings(rt, alloc, ids)?))
+        .wrapping_add(count(&runs(rt, alloc, ids)?));
     Some(right)
 }

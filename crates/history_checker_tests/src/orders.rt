@@ -6,7 +6,6 @@ use history_checker::order::{Verdict, judge};
 use history_checker::plain::Plain;
 use history_checker::point::{Did, Point, Side, Sight};
 use std::alloc::Global;
-use std::test::Fail;
 
 /// A call: when it began, when it ended, what it did.
 type Call = (u64, u64, Did);
@@ -39,18 +38,17 @@ fn displaces(oldest: u64, message: u64) -> Did {
 }
 
 #[test]
-fn a_message_received_twice(rt: HostRuntime) -> Result<(), Fail> {
+fn a_message_received_twice(rt: HostRuntime) {
     let alloc = rt.alloc();
     let sent = [(0, 1, appends(1))];
     let twice = [(2, 3, takes(1)), (4, 5, takes(1))];
     let once = [(2, 3, takes(1)), (4, 5, Did::saw(Sight::Bare))];
     expect_equal(&rt, &verdict(alloc, &sent, &twice), &Verdict::Refused);
     expect_equal(&rt, &verdict(alloc, &sent, &once), &Verdict::Fits);
-    Ok(())
 }
 
 #[test]
-fn a_message_lost(rt: HostRuntime) -> Result<(), Fail> {
+fn a_message_lost(rt: HostRuntime) {
     let alloc = rt.alloc();
     let sent = [(0, 1, appends(1)), (2, 3, appends(2))];
     let last = [(4, 5, takes(2))];
@@ -62,11 +60,10 @@ fn a_message_lost(rt: HostRuntime) -> Result<(), Fail> {
     let next = [(6, 7, takes(2))];
     expect_equal(&rt, &verdict(alloc, &sent, &last), &Verdict::Refused);
     expect_equal(&rt, &verdict(alloc, &displaced, &next), &Verdict::Fits);
-    Ok(())
 }
 
 #[test]
-fn messages_out_of_order(rt: HostRuntime) -> Result<(), Fail> {
+fn messages_out_of_order(rt: HostRuntime) {
     let alloc = rt.alloc();
     let sent = [(0, 1, appends(1)), (2, 3, appends(2))];
     let turned = [(4, 5, takes(2)), (6, 7, takes(1))];
@@ -74,11 +71,10 @@ fn messages_out_of_order(rt: HostRuntime) -> Result<(), Fail> {
     let between = [(1, 2, appends(2)), (4, 5, takes(2)), (6, 7, takes(1))];
     expect_equal(&rt, &verdict(alloc, &sent, &turned), &Verdict::Refused);
     expect_equal(&rt, &verdict(alloc, &slow, &between), &Verdict::Fits);
-    Ok(())
 }
 
 #[test]
-fn empty_beside_a_message(rt: HostRuntime) -> Result<(), Fail> {
+fn empty_beside_a_message(rt: HostRuntime) {
     let alloc = rt.alloc();
     let found = [(2, 3, Did::saw(Sight::Bare)), (4, 5, takes(1))];
     expect_equal(
@@ -91,11 +87,10 @@ fn empty_beside_a_message(rt: HostRuntime) -> Result<(), Fail> {
         &verdict(alloc, &[(0, 3, appends(1))], &found),
         &Verdict::Fits,
     );
-    Ok(())
 }
 
 #[test]
-fn a_send_after_the_closing(rt: HostRuntime) -> Result<(), Fail> {
+fn a_send_after_the_closing(rt: HostRuntime) {
     let alloc = rt.alloc();
     let sent = [(2, 3, appends(1))];
     let closes = Did::Once(Point::Close);
@@ -109,11 +104,10 @@ fn a_send_after_the_closing(rt: HostRuntime) -> Result<(), Fail> {
         &verdict(alloc, &[(0, 3, closes)], &sent),
         &Verdict::Fits,
     );
-    Ok(())
 }
 
 #[test]
-fn between_the_steps_of_a_displacing_send(rt: HostRuntime) -> Result<(), Fail> {
+fn between_the_steps_of_a_displacing_send(rt: HostRuntime) {
     let alloc = rt.alloc();
     let displaced = [
         (0, 1, appends(1)),
@@ -138,11 +132,10 @@ fn between_the_steps_of_a_displacing_send(rt: HostRuntime) -> Result<(), Fail> {
         &Verdict::Refused,
     );
     expect_equal(&rt, &verdict(alloc, &displaced, &asked), &Verdict::Fits);
-    Ok(())
 }
 
 #[test]
-fn open_after_the_last_drop(rt: HostRuntime) -> Result<(), Fail> {
+fn open_after_the_last_drop(rt: HostRuntime) {
     let alloc = rt.alloc();
     let open = [(2, 3, Did::saw(Sight::Open))];
     let drops = Did::dropped(Side::Senders);
@@ -167,7 +160,6 @@ fn open_after_the_last_drop(rt: HostRuntime) -> Result<(), Fail> {
         &verdict(alloc, &[(0, 1, clones), (4, 5, drops)], &open),
         &Verdict::Fits,
     );
-    Ok(())
 }
 
 /// A log of an append, and of many handles that are made while it is under way.
@@ -181,7 +173,7 @@ fn busy(alloc: Global, message: u64, end: u64, side: Side) -> Log {
 }
 
 #[test]
-fn an_order_that_is_told_late(rt: HostRuntime) -> Result<(), Fail> {
+fn an_order_that_is_told_late(rt: HostRuntime) {
     let alloc = rt.alloc();
     let logs = [
         busy(alloc, 1, 100, Side::Senders),
@@ -190,5 +182,4 @@ fn an_order_that_is_told_late(rt: HostRuntime) -> Result<(), Fail> {
     ];
     let plain = Plain::new(Some(2), 1, 1, alloc);
     expect_equal(&rt, &judge(plain, &logs, alloc), &Verdict::Fits);
-    Ok(())
 }

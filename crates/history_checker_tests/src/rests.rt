@@ -3,7 +3,6 @@
 use crate::checks::expect_true;
 use history_checker::point::Side;
 use history_checker::rest::{Look, Rest};
-use std::test::Fail;
 
 /// Nothing waits beside one message of two places.
 const NOBODY: Look = Look {
@@ -63,7 +62,7 @@ fn awaits_closing(shut: bool) -> Look {
 }
 
 #[test]
-fn one_that_waits(rt: HostRuntime) -> Result<(), Fail> {
+fn one_that_waits(rt: HostRuntime) {
     let rows = [
         (NOBODY, true),
         (receives(false, 1), false),
@@ -83,11 +82,10 @@ fn one_that_waits(rt: HostRuntime) -> Result<(), Fail> {
     for (one, want) in rows {
         assert_eq!(rt; Rest::unseen().with(one).is_right(), want, "{one:?}");
     }
-    Ok(())
 }
 
 #[test]
-fn one_that_is_woken_answers_for_one_message(rt: HostRuntime) -> Result<(), Fail> {
+fn one_that_is_woken_answers_for_one_message(rt: HostRuntime) {
     let one = Rest::unseen()
         .with(receives(false, 1))
         .with(receives(true, 1));
@@ -100,5 +98,4 @@ fn one_that_is_woken_answers_for_one_message(rt: HostRuntime) -> Result<(), Fail
     expect_true(&rt, one.is_right());
     expect_true(&rt, !two.is_right());
     expect_true(&rt, asleep.is_right());
-    Ok(())
 }

@@ -7,7 +7,6 @@ use history_checker::order::{Verdict, judge};
 use history_checker::plain::Plain;
 use history_checker::point::{Did, Point};
 use std::alloc::Global;
-use std::test::Fail;
 
 /// A call: when it began, when it ended, what it did.
 type Call = (u64, u64, Did);
@@ -52,7 +51,7 @@ fn takes(message: u64) -> Did {
 }
 
 #[test]
-fn several_out_of_order(rt: HostRuntime) -> Result<(), Fail> {
+fn several_out_of_order(rt: HostRuntime) {
     let alloc = rt.alloc();
     let sent = [(0, 1, appends(1)), (2, 3, appends(2))];
     let together = [(0, 3, appends(1)), (1, 2, appends(2))];
@@ -68,11 +67,10 @@ fn several_out_of_order(rt: HostRuntime) -> Result<(), Fail> {
         &verdict(alloc, &together, LATE, &[1, 2]),
         &Verdict::Fits,
     );
-    Ok(())
 }
 
 #[test]
-fn fewer_than_wanted_beside_a_message(rt: HostRuntime) -> Result<(), Fail> {
+fn fewer_than_wanted_beside_a_message(rt: HostRuntime) {
     let alloc = rt.alloc();
     let before = [(0, 1, appends(1)), (2, 3, appends(2))];
     let meanwhile = [(0, 1, appends(1)), (2, 5, appends(2))];
@@ -80,11 +78,10 @@ fn fewer_than_wanted_beside_a_message(rt: HostRuntime) -> Result<(), Fail> {
     expect_equal(&rt, &verdict(alloc, &before, LATE, &[1]), &Verdict::Refused);
     expect_equal(&rt, &verdict(alloc, &meanwhile, LATE, &[1]), &Verdict::Fits);
     expect_equal(&rt, &verdict(alloc, &before, one, &[1]), &Verdict::Fits);
-    Ok(())
 }
 
 #[test]
-fn others_come_between(rt: HostRuntime) -> Result<(), Fail> {
+fn others_come_between(rt: HostRuntime) {
     let alloc = rt.alloc();
     let long = Several { end: 11, ..LATE };
     let between = [
@@ -114,11 +111,10 @@ fn others_come_between(rt: HostRuntime) -> Result<(), Fail> {
         &verdict(alloc, &after, long, &[1, 2]),
         &Verdict::Refused,
     );
-    Ok(())
 }
 
 #[test]
-fn fewer_than_wanted_beside_one_on_its_way(rt: HostRuntime) -> Result<(), Fail> {
+fn fewer_than_wanted_beside_one_on_its_way(rt: HostRuntime) {
     let alloc = rt.alloc();
     let displaced = [
         (0, 1, appends(1)),
@@ -140,7 +136,6 @@ fn fewer_than_wanted_beside_one_on_its_way(rt: HostRuntime) -> Result<(), Fail> 
         &verdict(alloc, &displaced, within, &[2, 3]),
         &Verdict::Fits,
     );
-    Ok(())
 }
 
 /// What is wrong where a receive that may take so many takes these of what was sent.
@@ -156,11 +151,10 @@ fn fault(alloc: Global, limit: usize, taken: &[u64]) -> Option<Fault> {
 }
 
 #[test]
-fn more_than_wanted_or_none(rt: HostRuntime) -> Result<(), Fail> {
+fn more_than_wanted_or_none(rt: HostRuntime) {
     let alloc = rt.alloc();
     expect_equal(&rt, &fault(alloc, 1, &[1, 2]), &Some(Fault::Spoiled));
     expect_equal(&rt, &fault(alloc, 2, &[]), &Some(Fault::Spoiled));
     expect_equal(&rt, &fault(alloc, 0, &[]), &None);
     expect_equal(&rt, &fault(alloc, 2, &[1, 2]), &None);
-    Ok(())
 }

@@ -2,15 +2,16 @@
 ghost use Rattle.std.specs.Prelude.{◌≡◌};
 
 use crate::checks::expect_equal;
+use crate::seats::{finish, two_seats};
 use channel_world::call::{Call, Reply};
 use channel_world::name::{HandleId, OpId, Waiter};
 use channel_world::{Names, Receipt, Record, RecordSeat, RecordedChannel};
 use event_listener::id::EventIds;
-use std::alloc::Global;
+use std::alloc::{AllocGlobal, Global};
 use std::marker::Brand;
+use std::process::Abort;
 use std::sync::Wait;
 use std::sync::ledger::{Blank, Ledger};
-use std::test::*;
 use std::thread::Threads;
 use std::{mem, thread};
 
@@ -148,43 +149,53 @@ fn holding(alloc: Global, record: &Record<u64>, receipts: Vec<Receipt<u64>>) -> 
 }
 
 /// How many receipts of four seats hold so, and how many entries the record has.
-fn four<L: Ledger + Sync, R: Threads + Wait + Sync>(
+fn held_of<L: Ledger, R: Abort + AllocGlobal>(
     rt: &R,
-    alloc: Global,
+    channel: RecordedChannel<u64, L>,
+    left: (Half<L>, Half<L>),
+    right: (Half<L>, Half<L>),
+) -> (usize, usize) {
+    let mut seats = Vec::new(rt.alloc());
+    let mut all = Vec::new(rt.alloc());
+    for half in [left.0, left.1, right.0, right.1] {
+        let Half { seat, receipts } = half;
+        let _ = seats.push(seat);
+        let _ = all.push(receipts);
+    }
+    let record = finish(rt, channel, seats);
+    let mut held = 0usize;
+    for receipts in all {
+        held = held.wrapping_add(holding(rt.alloc(), &record, receipts));
+    }
+    (held, record.len())
+}
+
+/// Four threads with a seat each.
+fn four<L: Ledger + Sync, R: Threads + Wait + Abort + AllocGlobal + Sync>(
+    rt: &R,
     blank: Blank,
-) -> Option<(usize, usize)>
+) -> (usize, usize)
     requires name { blank.name ≡ L.name }
     requires parts { (blank.parts ≡ L.parts) × (blank.parts ≡ 5) }
 {
     let mut ids = EventIds::new();
-    let channel = RecordedChannel::<u64, L>::bounded(alloc, 3, &mut ids, blank, 5).ok()?;
-    let (a, b) = (channel.seat(rt).ok()?, channel.seat(rt).ok()?);
-    let (c, d) = (channel.seat(rt).ok()?, channel.seat(rt).ok()?);
+    let alloc = rt.alloc();
+    let opened = RecordedChannel::<u64, L>::bounded(alloc, 3, &mut ids, blank, 5);
+    let channel = opened.ok().expect(rt, "memory");
+    let (a, b) = two_seats(rt, &channel);
+    let (c, d) = two_seats(rt, &channel);
     let shared = &channel;
     let (left, right) = thread::join(
         rt,
         move || two(rt, alloc, shared, a, b),
         move || two(rt, alloc, shared, c, d),
     );
-    let mut seats = Vec::new(alloc);
-    let mut all = Vec::new(alloc);
-    for half in [left.0, left.1, right.0, right.1] {
-        let Half { seat, receipts } = half;
-        seats.push(seat).ok()?;
-        all.push(receipts).ok()?;
-    }
-    let record = channel.finish(seats).ok()?;
-    let mut held = 0usize;
-    for receipts in all {
-        held = held.wrapping_add(holding(alloc, &record, receipts));
-    }
-    Some((held, record.len()))
+    held_of(rt, channel, left, right)
 }
 
 /// Each receipt of four seats is the entry at its place, an altered one is none, and a seat's places rise.
 #[test]
-fn every_receipt_stands_in_the_record(rt: HostRuntime) -> Result<(), Fail> {
-    let all = four::<Brand, HostRuntime>(&rt, rt.alloc(), Blank::new(5));
-    expect_equal(&rt, &all, &Some((400, 400)));
-    Ok(())
+fn every_receipt_stands_in_the_record(rt: HostRuntime) {
+    let all = four::<Brand, HostRuntime>(&rt, Blank::new(5));
+    expect_equal(&rt, &all, &(400, 400));
 }

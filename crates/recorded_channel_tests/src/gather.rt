@@ -2,15 +2,16 @@
 ghost use Rattle.std.specs.Prelude.{◌≡◌};
 
 use crate::checks::expect_equal;
+use crate::seats::{finish, two_seats};
 use channel_world::call::Call;
 use channel_world::name::HandleId;
-use channel_world::{RecordedChannel, SeatsUsedUp};
+use channel_world::{MissingSeat, RecordSeat, RecordedChannel, SeatsUsedUp};
 use event_listener::id::EventIds;
-use std::alloc::Global;
+use std::alloc::AllocGlobal;
 use std::marker::Brand;
+use std::process::Abort;
 use std::sync::Wait;
 use std::sync::ledger::{Blank, Ledger};
-use std::test::*;
 
 const LEN: Call<u64> = Call::Len {
     handle: HandleId(0),
@@ -27,75 +28,90 @@ struct Gathered {
     entries: usize,
 }
 
+/// A channel that ends with one seat, while another one is missing.
+fn without_first<L: Ledger, R: Abort + AllocGlobal>(
+    rt: &R,
+    channel: RecordedChannel<u64, L>,
+    second: RecordSeat<L>,
+) -> MissingSeat<u64, L> {
+    let mut seats = Vec::new(rt.alloc());
+    let _ = seats.push(second);
+    channel.finish(seats).err().expect(rt, "a missing seat")
+}
+
+/// How many entries its record has after one more call of the missing seat.
+fn with_first<L: Ledger, R: Wait + Abort>(
+    rt: &R,
+    missing: MissingSeat<u64, L>,
+    first: RecordSeat<L>,
+) -> usize {
+    let mut first = first;
+    let _ = missing.channel.call(rt, &mut first, LEN);
+    let mut seats = missing.seats;
+    let _ = seats.push(first);
+    finish(rt, missing.channel, seats).len()
+}
+
 /// A channel of a blank of three parts: two seats, of which the second is gathered first.
-fn gather<L: Ledger, R: Wait>(rt: &R, alloc: Global, blank: Blank) -> Option<Gathered>
+fn gather<L: Ledger, R: Wait + Abort + AllocGlobal>(rt: &R, blank: Blank) -> Gathered
     requires name { blank.name ≡ L.name }
     requires parts { (blank.parts ≡ L.parts) × (blank.parts ≡ 3) }
 {
     let mut ids = EventIds::new();
-    let channel = RecordedChannel::<u64, L>::bounded(alloc, 1, &mut ids, blank, 3).ok()?;
-    let mut first = channel.seat(rt).ok()?;
-    let mut second = channel.seat(rt).ok()?;
+    let opened = RecordedChannel::<u64, L>::bounded(rt.alloc(), 1, &mut ids, blank, 3);
+    let channel = opened.ok().expect(rt, "memory");
+    let (mut first, mut second) = two_seats(rt, &channel);
     let third = channel.seat(rt).err();
     let numbers = (first.number(), second.number());
-    channel.call(rt, &mut second, LEN).ok()?;
-    channel.call(rt, &mut first, LEN).ok()?;
-    let mut seats = Vec::new(alloc);
-    seats.push(second).ok()?;
-    let missing = channel.finish(seats).err()?;
+    let _ = channel.call(rt, &mut second, LEN);
+    let _ = channel.call(rt, &mut first, LEN);
+    let missing = without_first(rt, channel, second);
     let back = missing.seats.len();
-    missing.channel.call(rt, &mut first, LEN).ok()?;
-    let mut seats = missing.seats;
-    seats.push(first).ok()?;
-    let record = missing.channel.finish(seats).ok()?;
-    Some(Gathered {
+    Gathered {
         numbers,
         third,
         back,
-        entries: record.len(),
-    })
+        entries: with_first(rt, missing, first),
+    }
 }
 
 /// With one seat missing channel and seat come back and are used on; with both there is the record.
 #[test]
-fn a_missing_seat_is_waited_for(rt: HostRuntime) -> Result<(), Fail> {
-    let gathered = gather::<Brand, HostRuntime>(&rt, rt.alloc(), Blank::new(3));
+fn a_missing_seat_is_waited_for(rt: HostRuntime) {
+    let gathered = gather::<Brand, HostRuntime>(&rt, Blank::new(3));
     expect_equal(
         &rt,
         &gathered,
-        &Some(Gathered {
+        &Gathered {
             numbers: (0, 1),
             third: Some(SeatsUsedUp),
             back: 1,
             entries: 3,
-        }),
+        },
     );
-    Ok(())
 }
 
 /// Whether no seat is made of so few parts, and how many entries the record then has.
-fn nobody<L: Ledger, R: Wait>(
+fn nobody<L: Ledger, R: Wait + Abort + AllocGlobal>(
     rt: &R,
-    alloc: Global,
     blank: Blank,
     parts: u64,
-) -> Option<(bool, usize)>
+) -> (bool, usize)
     requires name { blank.name ≡ L.name }
     requires parts { (blank.parts ≡ L.parts) × (blank.parts ≡ parts) }
 {
     let mut ids = EventIds::new();
-    let channel = RecordedChannel::<u64, L>::unbounded(alloc, &mut ids, blank, parts).ok()?;
+    let opened = RecordedChannel::<u64, L>::unbounded(rt.alloc(), &mut ids, blank, parts);
+    let channel = opened.ok().expect(rt, "memory");
     let refused = channel.seat(rt).is_err();
-    let record = channel.finish(Vec::new(alloc)).ok()?;
-    Some((refused, record.len()))
+    (refused, finish(rt, channel, Vec::new(rt.alloc())).len())
 }
 
 /// The last part stays with the channel, and a channel without seats is finished with the empty list.
 #[test]
-fn no_seat_is_made_of_one_part(rt: HostRuntime) -> Result<(), Fail> {
-    let none = nobody::<Brand, HostRuntime>(&rt, rt.alloc(), Blank::new(0), 0);
-    expect_equal(&rt, &none, &Some((true, 0)));
-    let one = nobody::<Brand, HostRuntime>(&rt, rt.alloc(), Blank::new(1), 1);
-    expect_equal(&rt, &one, &Some((true, 0)));
-    Ok(())
+fn no_seat_is_made_of_one_part(rt: HostRuntime) {
+    let none = nobody::<Brand, HostRuntime>(&rt, Blank::new(0), 0);
+    expect_equal(&rt, &none, &(true, 0));
+    let one = nobody::<Brand, HostRuntime>(&rt, Blank::new(1), 1);
+    expect_equal(&rt, &one, &(true, 0));
 }

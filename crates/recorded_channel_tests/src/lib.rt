@@ -15,6 +15,8 @@ mod refused;
 #[cfg(test)]
 mod replay;
 #[cfg(test)]
+mod seats;
+#[cfg(test)]
 mod talk;
 #[cfg(test)]
 mod uses;

@@ -2,15 +2,17 @@
 ghost use Rattle.std.specs.Prelude.{◌≡◌};
 
 use crate::checks::expect_equal;
+use crate::seats::finish_one;
 use channel_world::call::{Call, WorldRefusal};
 use channel_world::name::{HandleId, OpId};
 use channel_world::{RecordError, RecordedChannel, SeatsUsedUp};
 use event_listener::id::EventIds;
-use std::alloc::Global;
+use std::alloc::AllocGlobal;
+use std::fmt::Display;
 use std::marker::Brand;
+use std::process::Abort;
 use std::sync::Wait;
 use std::sync::ledger::{Blank, Ledger};
-use std::test::*;
 
 /// A receive through a sender.
 const WRONG: Call<u64> = Call::TryRecv {
@@ -21,66 +23,77 @@ const WRONG: Call<u64> = Call::TryRecv {
 const UNKNOWN: Call<u64> = Call::Poll { op: OpId(7) };
 
 /// What two refused calls say, and how many entries the record has after them and two accepted ones.
-fn refuse<L: Ledger, R: Wait>(
-    rt: &R,
-    alloc: Global,
-    blank: Blank,
-) -> Option<(RecordError<u64>, RecordError<u64>, usize)>
+#[derive(Debug, PartialEq, Eq, Drop)]
+struct Told {
+    wrong: Option<RecordError<u64>>,
+    unknown: Option<RecordError<u64>>,
+    entries: usize,
+}
+
+fn refuse<L: Ledger, R: Wait + Abort + AllocGlobal>(rt: &R, blank: Blank) -> Told
     requires name { blank.name ≡ L.name }
     requires parts { (blank.parts ≡ L.parts) × (blank.parts ≡ 2) }
 {
     let mut ids = EventIds::new();
-    let channel = RecordedChannel::<u64, L>::bounded(alloc, 1, &mut ids, blank, 2).ok()?;
-    let mut seat = channel.seat(rt).ok()?;
-    let wrong = channel.call(rt, &mut seat, WRONG).err()?;
-    let unknown = channel.call(rt, &mut seat, UNKNOWN).err()?;
+    let opened = RecordedChannel::<u64, L>::bounded(rt.alloc(), 1, &mut ids, blank, 2);
+    let channel = opened.ok().expect(rt, "memory");
+    let mut seat = channel.seat(rt).expect(rt, "seats");
+    let wrong = channel.call(rt, &mut seat, WRONG).err();
+    let unknown = channel.call(rt, &mut seat, UNKNOWN).err();
     let len = Call::Len {
         handle: HandleId(0),
     };
-    channel.call(rt, &mut seat, len).ok()?;
+    let _ = channel.call(rt, &mut seat, len);
     let leave = Call::Drop {
         handle: HandleId(1),
     };
-    channel.call(rt, &mut seat, leave).ok()?;
-    let mut seats = Vec::new(alloc);
-    seats.push(seat).ok()?;
-    let record = channel.finish(seats).ok()?;
-    Some((wrong, unknown, record.len()))
+    let _ = channel.call(rt, &mut seat, leave);
+    Told {
+        wrong,
+        unknown,
+        entries: finish_one(rt, channel, seat).len(),
+    }
+}
+
+/// The refusal that hands this call back.
+fn refusal(why: WorldRefusal, call: Call<u64>) -> Option<RecordError<u64>> {
+    Some(RecordError::World { why, call })
 }
 
 #[test]
-fn a_refused_call_leaves_no_entry(rt: HostRuntime) -> Result<(), Fail> {
-    let said = refuse::<Brand, HostRuntime>(&rt, rt.alloc(), Blank::new(2));
-    let (wrong, unknown, entries) = said.expect(&rt, "memory");
-    expect_equal(
-        &rt,
-        &wrong,
-        &RecordError::World {
-            why: WorldRefusal::WrongKind,
-            call: WRONG,
-        },
-    );
-    expect_equal(
-        &rt,
-        &unknown,
-        &RecordError::World {
-            why: WorldRefusal::UnknownName,
-            call: UNKNOWN,
-        },
-    );
-    expect_equal(&rt, &entries, &2);
-    Ok(())
+fn a_refused_call_leaves_no_entry(rt: HostRuntime) {
+    let told = refuse::<Brand, HostRuntime>(&rt, Blank::new(2));
+    let wanted = Told {
+        wrong: refusal(WorldRefusal::WrongKind, WRONG),
+        unknown: refusal(WorldRefusal::UnknownName, UNKNOWN),
+        entries: 2,
+    };
+    expect_equal(&rt, &told, &wanted);
+}
+
+/// Whether a value prints this text.
+fn prints<E: Display + Drop>(rt: &impl AllocGlobal, it: E, text: &str) -> bool {
+    match format!(in rt.alloc(); "{it}") {
+        Ok(printed) => printed.as_str() == text,
+        Err(_) => false,
+    }
 }
 
 #[test]
-fn texts(rt: HostRuntime) -> Result<(), Fail> {
-    let alloc = rt.alloc();
+fn texts(rt: HostRuntime) {
     let why = WorldRefusal::Borrowed;
-    let world = format!(in alloc; "{}", RecordError::World { why, call: WRONG })?;
-    expect_equal(&rt, &world.as_str(), &"a live operation borrows the handle");
-    let room = format!(in alloc; "{}", RecordError::NoRoom { call: WRONG })?;
-    expect_equal(&rt, &room.as_str(), &"no room for the record");
-    let seats = format!(in alloc; "{SeatsUsedUp}")?;
-    expect_equal(&rt, &seats.as_str(), &"seats used up");
-    Ok(())
+    let all = [
+        prints(
+            &rt,
+            RecordError::World { why, call: WRONG },
+            "a live operation borrows the handle",
+        ),
+        prints(
+            &rt,
+            RecordError::NoRoom { call: WRONG },
+            "no room for the record",
+        ),
+        prints(&rt, SeatsUsedUp, "seats used up"),
+    ];
+    expect_equal(&rt, &all, &[true; 3]);
 }

@@ -2,6 +2,7 @@
 ghost use Rattle.std.specs.Prelude.{◌≡◌};
 
 use crate::checks::expect_equal;
+use crate::seats::{finish, two_seats};
 use channel_calls::error::{Refused, TryRecvError, TrySendError};
 use channel_world::call::{Call, Reply};
 use channel_world::name::HandleId;
@@ -10,11 +11,11 @@ use event_listener::id::EventIds;
 use futures::task::Poll;
 use history_checker::plain::Plain;
 use history_checker::point::{Point, Side, Sight};
-use std::alloc::Global;
+use std::alloc::{AllocGlobal, Global};
 use std::marker::Brand;
+use std::process::Abort;
 use std::sync::Wait;
 use std::sync::ledger::{Blank, Ledger};
-use std::test::*;
 use std::thread;
 use std::thread::Threads;
 
@@ -151,45 +152,63 @@ fn replayed(alloc: Global, record: &Record<u64>) -> u64 {
     replayed
 }
 
-/// How many calls of three threads were accepted, and how many of them a plain channel replays.
-fn three<L: Ledger + Sync, R: Threads + Wait + Sync>(
+/// How many calls of three seats were accepted, and how many of them a plain channel replays.
+fn counted<L: Ledger, R: Abort + AllocGlobal>(
     rt: &R,
-    alloc: Global,
+    channel: RecordedChannel<u64, L>,
+    one: (RecordSeat<L>, u64),
+    others: ((RecordSeat<L>, u64), (RecordSeat<L>, u64)),
+) -> (u64, u64) {
+    let (two, three) = others;
+    let mut seats = Vec::new(rt.alloc());
+    let mut accepted = 0u64;
+    for (seat, calls) in [one, two, three] {
+        let _ = seats.push(seat);
+        accepted = accepted.wrapping_add(calls);
+    }
+    let record = finish(rt, channel, seats);
+    (accepted, replayed(rt.alloc(), &record))
+}
+
+/// Two threads with a seat each.
+fn two<L: Ledger + Sync, R: Threads + Wait + Sync>(
+    rt: &R,
+    channel: &RecordedChannel<u64, L>,
+    first: RecordSeat<L>,
+    second: RecordSeat<L>,
+) -> ((RecordSeat<L>, u64), (RecordSeat<L>, u64)) {
+    thread::join(
+        rt,
+        move || work(rt, channel, first),
+        move || work(rt, channel, second),
+    )
+}
+
+/// Three threads with a seat each.
+fn three<L: Ledger + Sync, R: Threads + Wait + Abort + AllocGlobal + Sync>(
+    rt: &R,
     blank: Blank,
-) -> Option<(u64, u64)>
+) -> (u64, u64)
     requires name { blank.name ≡ L.name }
     requires parts { (blank.parts ≡ L.parts) × (blank.parts ≡ 4) }
 {
     let mut ids = EventIds::new();
-    let channel = RecordedChannel::<u64, L>::bounded(alloc, CAPACITY, &mut ids, blank, 4).ok()?;
-    let (first, second) = (channel.seat(rt).ok()?, channel.seat(rt).ok()?);
-    let third = channel.seat(rt).ok()?;
+    let opened = RecordedChannel::<u64, L>::bounded(rt.alloc(), CAPACITY, &mut ids, blank, 4);
+    let channel = opened.ok().expect(rt, "memory");
+    let (first, second) = two_seats(rt, &channel);
+    let third = channel.seat(rt).expect(rt, "seats");
     let shared = &channel;
-    let (one, (two, three)) = thread::join(
+    let (one, others) = thread::join(
         rt,
         move || work(rt, shared, first),
-        move || {
-            thread::join(
-                rt,
-                move || work(rt, shared, second),
-                move || work(rt, shared, third),
-            )
-        },
+        move || two(rt, shared, second, third),
     );
-    let mut seats = Vec::new(alloc);
-    let mut accepted = 0u64;
-    for (seat, calls) in [one, two, three] {
-        seats.push(seat).ok()?;
-        accepted = accepted.wrapping_add(calls);
-    }
-    let record = channel.finish(seats).ok()?;
-    Some((accepted, replayed(alloc, &record)))
+    counted(rt, channel, one, others)
 }
 
 /// Each call was accepted, and the record is what a plain channel does.
 #[test]
-fn the_record_is_what_a_plain_channel_does(rt: HostRuntime) -> Result<(), Fail> {
-    let all = three::<Brand, HostRuntime>(&rt, rt.alloc(), Blank::new(4));
-    expect_equal(&rt, &all, &Some((120, 120)));
-    Ok(())
+fn the_record_is_what_a_plain_channel_does(rt: HostRuntime) {
+    let all = three::<Brand, HostRuntime>(&rt, Blank::new(4));
+    expect_equal(&rt, &all, &(120, 120));
 }

@@ -2,15 +2,16 @@
 ghost use Rattle.std.specs.Prelude.{◌≡◌};
 
 use crate::checks::expect_equal;
+use crate::seats::{finish_two, two_seats};
 use channel_world::call::{Call, Reply};
 use channel_world::name::HandleId;
-use channel_world::{Record, RecordSeat, RecordedChannel};
+use channel_world::{RecordSeat, RecordedChannel};
 use event_listener::id::EventIds;
-use std::alloc::Global;
+use std::alloc::AllocGlobal;
 use std::marker::Brand;
+use std::process::Abort;
 use std::sync::Wait;
 use std::sync::ledger::{Blank, Ledger};
-use std::test::*;
 use std::thread;
 use std::thread::Threads;
 
@@ -76,19 +77,6 @@ fn speak<L: Ledger, M: Ledger, R: Wait>(
     back
 }
 
-/// The record of a channel whose two seats are gathered.
-fn finish<L: Ledger>(
-    alloc: Global,
-    channel: RecordedChannel<u64, L>,
-    first: RecordSeat<L>,
-    second: RecordSeat<L>,
-) -> Option<Record<u64>> {
-    let mut seats = Vec::new(alloc);
-    seats.push(first).ok()?;
-    seats.push(second).ok()?;
-    channel.finish(seats).ok()
-}
-
 /// What came of the talk: the words that were heard, how many calls were made on each channel, and how many were recorded.
 #[derive(Debug, PartialEq, Eq, Drop)]
 struct Outcome {
@@ -97,43 +85,53 @@ struct Outcome {
     recorded: (usize, usize),
 }
 
-fn talk<L: Ledger + Sync, M: Ledger + Sync, R: Threads + Wait + Sync>(
+/// What came of it, where each thread is back and both channels end.
+fn outcome<L: Ledger, M: Ledger, R: Abort + AllocGlobal>(
     rt: &R,
-    alloc: Global,
+    one: RecordedChannel<u64, L>,
+    two: RecordedChannel<u64, M>,
+    a: Back<L, M>,
+    b: Back<M, L>,
+) -> Outcome {
+    let heard = (a.heard, b.heard);
+    let made = (a.said.wrapping_add(b.asked), b.said.wrapping_add(a.asked));
+    let first = finish_two(rt, one, a.speaks, b.listens).len();
+    let second = finish_two(rt, two, a.listens, b.speaks).len();
+    Outcome {
+        heard,
+        made,
+        recorded: (first, second),
+    }
+}
+
+fn talk<L: Ledger + Sync, M: Ledger + Sync, R: Threads + Wait + Abort + AllocGlobal + Sync>(
+    rt: &R,
     first: Blank,
     second: Blank,
-) -> Option<Outcome>
+) -> Outcome
     requires first { (first.name ≡ L.name) × (first.parts ≡ L.parts) × (first.parts ≡ 3) }
     requires second { (second.name ≡ M.name) × (second.parts ≡ M.parts) × (second.parts ≡ 3) }
 {
     let mut ids = EventIds::new();
-    let one = RecordedChannel::<u64, L>::bounded(alloc, 1, &mut ids, first, 3).ok()?;
-    let two = RecordedChannel::<u64, M>::unbounded(alloc, &mut ids, second, 3).ok()?;
-    let (a1, b1) = (one.seat(rt).ok()?, one.seat(rt).ok()?);
-    let (a2, b2) = (two.seat(rt).ok()?, two.seat(rt).ok()?);
+    let one = RecordedChannel::<u64, L>::bounded(rt.alloc(), 1, &mut ids, first, 3);
+    let one = one.ok().expect(rt, "memory");
+    let two = RecordedChannel::<u64, M>::unbounded(rt.alloc(), &mut ids, second, 3);
+    let two = two.ok().expect(rt, "memory");
+    let (a1, b1) = two_seats(rt, &one);
+    let (a2, b2) = two_seats(rt, &two);
     let (x, y) = (&one, &two);
     let (a, b) = thread::join(
         rt,
         move || speak(rt, x, y, a1, a2, 1),
         move || speak(rt, y, x, b2, b1, 2),
     );
-    let heard = (a.heard, b.heard);
-    let made = (a.said.wrapping_add(b.asked), b.said.wrapping_add(a.asked));
-    let first = finish(alloc, one, a.speaks, b.listens)?;
-    let second = finish(alloc, two, a.listens, b.speaks)?;
-    Some(Outcome {
-        heard,
-        made,
-        recorded: (first.len(), second.len()),
-    })
+    outcome(rt, one, two, a, b)
 }
 
 /// Each thread gets the other's word by an answer, and both records have as many entries as calls were made.
 #[test]
-fn each_hears_the_others_word(rt: HostRuntime) -> Result<(), Fail> {
-    let talk = talk::<Brand, Brand, HostRuntime>(&rt, rt.alloc(), Blank::new(3), Blank::new(3));
-    let talk = talk.expect(&rt, "memory");
+fn each_hears_the_others_word(rt: HostRuntime) {
+    let talk = talk::<Brand, Brand, HostRuntime>(&rt, Blank::new(3), Blank::new(3));
     expect_equal(&rt, &talk.heard, &(Some(2), Some(1)));
     expect_equal(&rt, &talk.recorded, &talk.made);
-    Ok(())
 }

@@ -2,7 +2,7 @@
 
 ghost use Rattle.std.specs.Prelude.{◌≡◌};
 
-use crate::checks::expect_equal;
+use crate::checks::{expect_equal, expect_right, expect_seen, expect_true};
 use event_listener::calls::Registered;
 use event_listener::error::{ListenError, NoMemory, NotifyError};
 use event_listener::event::Event;
@@ -17,12 +17,18 @@ use event_listener::wakes::Wakes;
 use scarcity::{Attempt, Scarcity, Seen, Tried, made, refused};
 use std::alloc::{AllocError, Global};
 use std::marker::Model;
+use std::process::Abort;
 use std::sync::Wait;
-use std::test::Fail;
 use std::time::{Clock, Duration};
 
 /// How many listen.
 const COUNT: usize = 40;
+
+/// An event with an identity of its own.
+fn new_event<T: Drop, A: Abort>(rt: &A, alloc: Global) -> Event<T> {
+    let mut ids = EventIds::new();
+    Event::with_tag(alloc, ids.next().expect(rt, "an identity"))
+}
 
 /// The next listener of an event.
 #[derive(Drop)]
@@ -81,14 +87,10 @@ fn listen_all<R: Wait + Copy>(rt: R, alloc: Global) -> Option<(Seen, [usize; 3])
 
 /// Each listener takes a cell of its own, so each is refused at least once.
 #[test]
-fn listening(rt: HostRuntime) -> Result<(), Fail> {
+fn listening(rt: HostRuntime) {
     let (seen, counts) = listen_all(rt, rt.alloc()).expect(&rt, "memory");
-    assert!(rt;
-        seen.right && seen.calls == 40 && seen.refusals >= 46,
-        "{seen:?}"
-    );
+    expect_seen(&rt, &seen, 40, 46);
     expect_equal(&rt, &counts, &[40, 10, 10]);
-    Ok(())
 }
 
 /// A told listener that waits, for no time at all or without an end. Where what it would sleep on is refused it comes back, told as
@@ -133,15 +135,15 @@ impl<R: Wait + Clock + Copy> Attempt for Waits<R> {
 }
 
 /// Two listeners are told, and wait, first one without an end, and then the other for no time.
-fn wait_twice<R: Wait + Clock + Copy>(rt: R, alloc: Global) -> Option<Seen> {
+fn wait_twice<R: Wait + Clock + Abort + Copy>(rt: R, alloc: Global) -> Seen {
     let mut waits = Waits {
         rt,
-        event: Event::new(alloc, EventIds::new().next().ok()?),
+        event: new_event(&rt, alloc),
         listener: None,
         is_timed: false,
     };
-    let first = waits.event.listen(&rt).ok()?;
-    let second = waits.event.listen(&rt).ok()?;
+    let first = waits.event.listen(&rt).expect(&rt, "memory");
+    let second = waits.event.listen(&rt).expect(&rt, "memory");
     waits.event.notify_additional(&rt, 2);
     let mut scarcity = Scarcity::new(alloc);
     waits.listener = Some(first);
@@ -149,18 +151,14 @@ fn wait_twice<R: Wait + Clock + Copy>(rt: R, alloc: Global) -> Option<Seen> {
     waits.listener = Some(second);
     waits.is_timed = true;
     scarcity.refuse_each(&mut waits);
-    Some(scarcity.end())
+    scarcity.end()
 }
 
 /// A refused wait hands its listener back.
 #[test]
-fn told_listeners_wait(rt: HostRuntime) -> Result<(), Fail> {
-    let seen = wait_twice(rt, rt.alloc()).expect(&rt, "memory");
-    assert!(rt;
-        seen.right && seen.calls == 2 && seen.refusals >= 2,
-        "{seen:?}"
-    );
-    Ok(())
+fn told_listeners_wait(rt: HostRuntime) {
+    let seen = wait_twice(rt, rt.alloc());
+    expect_seen(&rt, &seen, 2, 2);
 }
 
 /// A slot of an event that is made and listens.
@@ -202,13 +200,10 @@ fn listen_in_a_slot<R: Wait + Copy>(rt: R, alloc: Global) -> Option<(Seen, usize
 
 /// A slot that is refused, or refused a listener, leaves nobody on the event.
 #[test]
-fn slots_that_listen(rt: HostRuntime) -> Result<(), Fail> {
+fn slots_that_listen(rt: HostRuntime) {
     let (seen, left) = listen_in_a_slot(rt, rt.alloc()).expect(&rt, "memory");
-    assert!(rt;
-        seen.right && left == 0 && seen.calls == 1 && seen.refusals >= 3,
-        "{seen:?}"
-    );
-    Ok(())
+    expect_seen(&rt, &seen, 1, 3);
+    expect_true(&rt, left == 0);
 }
 
 /// A sink for tasks that nobody reads.
@@ -295,14 +290,10 @@ fn insert_all(alloc: Global) -> (Seen, [usize; 2]) {
 
 /// A list grows by doubling: some of the insertions are refused, and the making of room is.
 #[test]
-fn insertions(rt: HostRuntime) -> Result<(), Fail> {
+fn insertions(rt: HostRuntime) {
     let (seen, counts) = insert_all(rt.alloc());
-    assert!(rt;
-        seen.right && seen.calls == 6 && seen.refusals >= 6,
-        "{seen:?}"
-    );
+    expect_seen(&rt, &seen, 6, 6);
     expect_equal(&rt, &counts, &[140, 8]);
-    Ok(())
 }
 
 /// Two events are made, each of an identity of its own, and get notices for nobody.
@@ -361,11 +352,11 @@ fn leaves<R: Wait + Copy>(listener: Option<EventListener<(), R>>) -> bool {
     }
 }
 
-fn tell_all<R: Wait + Copy>(rt: R, alloc: Global) -> Option<(Seen, usize)> {
-    let event = Event::new(alloc, EventIds::new().next().ok()?);
-    let first = event.listen(&rt).ok()?;
-    let second = event.listen(&rt).ok()?;
-    let third = event.listen(&rt).ok()?;
+fn tell_all<R: Wait + Abort + Copy>(rt: R, alloc: Global) -> (Seen, usize) {
+    let event = new_event(&rt, alloc);
+    let first = event.listen(&rt).expect(&rt, "memory");
+    let second = event.listen(&rt).expect(&rt, "memory");
+    let third = event.listen(&rt).expect(&rt, "memory");
     let mut tells = Tells {
         rt,
         event,
@@ -381,15 +372,15 @@ fn tell_all<R: Wait + Copy>(rt: R, alloc: Global) -> Option<(Seen, usize)> {
     let mut scarcity = Scarcity::new(alloc);
     scarcity.refuse_none(&mut makes);
     scarcity.refuse_none(&mut tells);
-    Some((scarcity.end(), tells.event.total_listeners(&rt)))
+    (scarcity.end(), tells.event.total_listeners(&rt))
 }
 
 /// Identities and events are made, and notices of plain counts, questions and leaving are answered, where nothing is to be had.
 #[test]
-fn calls_of_events_that_take_no_memory(rt: HostRuntime) -> Result<(), Fail> {
-    let (seen, left) = tell_all(rt, rt.alloc()).expect(&rt, "memory");
-    assert!(rt; seen.right && left == 0, "{seen:?}");
-    Ok(())
+fn calls_of_events_that_take_no_memory(rt: HostRuntime) {
+    let (seen, left) = tell_all(rt, rt.alloc());
+    expect_right(&rt, &seen);
+    expect_true(&rt, left == 0);
 }
 
 /// A tag whose copies take memory, and keep it.
@@ -455,45 +446,38 @@ fn has_tag<R: Wait + Copy>(listener: EventListener<Costly, R>) -> bool {
     }
 }
 
-fn make_tags(alloc: Global) -> Option<Vec<Costly>> {
-    let mut tags = Vec::with_capacity(alloc, 100).ok()?;
+fn make_tags<A: Abort>(rt: &A, alloc: Global) -> Vec<Costly> {
+    let mut tags = Vec::with_capacity(alloc, 100).expect(rt, "memory");
     for _ in 0..100 {
-        tags.push(Costly {
-            alloc,
-            number: Box::new(alloc, 7u32).ok()?,
-        })
-        .ok()?;
+        let number = Box::new(alloc, 7u32).expect(rt, "memory");
+        let _ = tags.push(Costly { alloc, number });
     }
-    Some(tags)
+    tags
 }
 
 /// Three listen, and are told. Then whether each has the tag.
-fn notify_all<R: Wait + Copy>(rt: R, alloc: Global) -> Option<(Seen, [bool; 3])> {
+fn notify_all<R: Wait + Abort + Copy>(rt: R, alloc: Global) -> (Seen, [bool; 3]) {
     let mut notices = Notices {
         rt,
-        event: Event::with_tag(alloc, EventIds::new().next().ok()?),
-        tags: make_tags(alloc)?,
+        event: new_event(&rt, alloc),
+        tags: make_tags(&rt, alloc),
         told: 0,
     };
-    let first = notices.event.listen(&rt).ok()?;
-    let second = notices.event.listen(&rt).ok()?;
-    let third = notices.event.listen(&rt).ok()?;
+    let first = notices.event.listen(&rt).expect(&rt, "memory");
+    let second = notices.event.listen(&rt).expect(&rt, "memory");
+    let third = notices.event.listen(&rt).expect(&rt, "memory");
     let mut scarcity = Scarcity::new(alloc);
     scarcity.refuse_each(&mut notices);
     let seen = scarcity.end();
-    Some((seen, [has_tag(first), has_tag(second), has_tag(third)]))
+    (seen, [has_tag(first), has_tag(second), has_tag(third)])
 }
 
 /// Who was told before a tag was refused stays told, and the next notice tells the others.
 #[test]
-fn notices_with_costly_tags(rt: HostRuntime) -> Result<(), Fail> {
-    let (seen, tagged) = notify_all(rt, rt.alloc()).expect(&rt, "memory");
-    assert!(rt;
-        seen.right && seen.calls == 1 && seen.refusals >= 2,
-        "{seen:?}"
-    );
+fn notices_with_costly_tags(rt: HostRuntime) {
+    let (seen, tagged) = notify_all(rt, rt.alloc());
+    expect_seen(&rt, &seen, 1, 2);
     expect_equal(&rt, &tagged, &[true, true, true]);
-    Ok(())
 }
 
 /// What is done to a recorded event.
@@ -624,12 +608,8 @@ fn record_all<R: Wait + Copy>(rt: R, alloc: Global) -> (Seen, [usize; 3]) {
 
 /// After a refusal the record has as many entries as calls changed something, and the end of a listener needs no memory.
 #[test]
-fn recorded_events(rt: HostRuntime) -> Result<(), Fail> {
+fn recorded_events(rt: HostRuntime) {
     let (seen, counts) = record_all(rt, rt.alloc());
-    assert!(rt;
-        seen.right && seen.calls == 27 && seen.refusals >= 48,
-        "{seen:?}"
-    );
+    expect_seen(&rt, &seen, 27, 48);
     expect_equal(&rt, &counts, &[20, 20, 120]);
-    Ok(())
 }

@@ -1,6 +1,6 @@
 //! A channel's handles and polled operations.
 
-use crate::checks::{expect_equal, expect_true};
+use crate::checks::{expect_equal, expect_seen, expect_true};
 use async_channel::{Closed, OpenError, Receiver, Recv, Refused, Send, Sender, bounded, unbounded};
 use event_listener::error::ListenError;
 use event_listener::id::EventIds;
@@ -10,7 +10,6 @@ use futures::test::MockTask;
 use scarcity::{Attempt, Scarcity, Seen, Tried, made, refused};
 use std::alloc::Global;
 use std::sync::Wait;
-use std::test::Fail;
 
 /// The first two handles of a channel.
 type Ends<R> = (Sender<u64, R>, Receiver<u64, R>);
@@ -73,14 +72,10 @@ fn open_all<R: Wait + Copy>(rt: R, alloc: Global) -> (Seen, u64) {
 
 /// An opening that is refused takes no identities: each of the three takes four.
 #[test]
-fn openings_of_channels(rt: HostRuntime) -> Result<(), Fail> {
+fn openings_of_channels(rt: HostRuntime) {
     let (seen, next) = open_all(rt, rt.alloc());
-    assert!(rt;
-        seen.right && seen.calls == 3 && seen.refusals >= 18,
-        "{seen:?}"
-    );
+    expect_seen(&rt, &seen, 3, 18);
     expect_equal(&rt, &next, &12);
-    Ok(())
 }
 
 /// The next send without a bound.
@@ -130,13 +125,10 @@ fn send_all<R: Wait + Copy>(rt: R, alloc: Global) -> Option<(Seen, bool)> {
 }
 
 #[test]
-fn sends_without_a_bound(rt: HostRuntime) -> Result<(), Fail> {
+fn sends_without_a_bound(rt: HostRuntime) {
     let (seen, in_order) = send_all(rt, rt.alloc()).expect(&rt, "memory");
-    assert!(rt;
-        seen.right && in_order && seen.calls == 4 && seen.refusals >= 18,
-        "{seen:?}"
-    );
-    Ok(())
+    expect_seen(&rt, &seen, 4, 18);
+    expect_true(&rt, in_order);
 }
 
 /// A receive of several.
@@ -190,13 +182,10 @@ fn receive_several<R: Wait + Copy>(rt: R, alloc: Global) -> Option<(Seen, bool)>
 
 /// A refused receive of several leaves all, and gets the first ones when it is made again.
 #[test]
-fn receives_of_several(rt: HostRuntime) -> Result<(), Fail> {
+fn receives_of_several(rt: HostRuntime) {
     let (seen, right) = receive_several(rt, rt.alloc()).expect(&rt, "memory");
-    assert!(rt;
-        seen.right && right && seen.calls == 1 && seen.refusals >= 1,
-        "{seen:?}"
-    );
-    Ok(())
+    expect_seen(&rt, &seen, 1, 1);
+    expect_true(&rt, right);
 }
 
 /// A poll of a receive that listens. One that is refused isn't pending.
@@ -300,17 +289,16 @@ fn wait_two<'a, R: Wait + Copy>(
 
 /// Nobody stays listed by a poll that was refused: the first notice is for the first who waits.
 #[test]
-fn receives_that_wait(rt: HostRuntime) -> Result<(), Fail> {
-    let (one, two) = (MockTask::new(&rt)?, MockTask::new(&rt)?);
+fn receives_that_wait(rt: HostRuntime) {
+    let (one, two) = (
+        MockTask::new(&rt).expect(&rt, "memory"),
+        MockTask::new(&rt).expect(&rt, "memory"),
+    );
     let ends = opened(rt, rt.alloc(), 2).expect(&rt, "memory");
     let (seen, right) = wait_two(rt.alloc(), &ends, [&one, &two]);
     drop(ends);
-    assert!(rt;
-        seen.right && seen.calls == 2 && seen.refusals >= 3,
-        "{seen:?}"
-    );
+    expect_seen(&rt, &seen, 2, 3);
     expect_equal(&rt, &right, &[true, true, false, true, true, true]);
-    Ok(())
 }
 
 /// Two sends wait on a full channel; then who is woken when a message is taken, and what the sends come to.
@@ -350,17 +338,16 @@ fn send_two<'a, R: Wait + Copy>(
 
 /// A send whose poll is refused keeps its message.
 #[test]
-fn sends_that_wait(rt: HostRuntime) -> Result<(), Fail> {
-    let (one, two) = (MockTask::new(&rt)?, MockTask::new(&rt)?);
+fn sends_that_wait(rt: HostRuntime) {
+    let (one, two) = (
+        MockTask::new(&rt).expect(&rt, "memory"),
+        MockTask::new(&rt).expect(&rt, "memory"),
+    );
     let ends = opened(rt, rt.alloc(), 1).expect(&rt, "memory");
     let (seen, right) = send_two(rt.alloc(), &ends, [&one, &two]);
     drop(ends);
-    assert!(rt;
-        seen.right && seen.calls == 2 && seen.refusals >= 3,
-        "{seen:?}"
-    );
+    expect_seen(&rt, &seen, 2, 3);
     expect_equal(&rt, &right, &[true, true, false, true, true]);
-    Ok(())
 }
 
 /// A stream and a wait for the closing wait; then who is woken by a message and by the closing.
@@ -390,17 +377,16 @@ fn stream_and_close<'a, R: Wait + Copy>(
 }
 
 #[test]
-fn streams_and_closings_that_wait(rt: HostRuntime) -> Result<(), Fail> {
-    let (one, two) = (MockTask::new(&rt)?, MockTask::new(&rt)?);
+fn streams_and_closings_that_wait(rt: HostRuntime) {
+    let (one, two) = (
+        MockTask::new(&rt).expect(&rt, "memory"),
+        MockTask::new(&rt).expect(&rt, "memory"),
+    );
     let (sender, receiver) = opened(rt, rt.alloc(), 1).expect(&rt, "memory");
     let (seen, right) = stream_and_close(rt.alloc(), &sender, receiver, [&one, &two]);
     drop(sender);
-    assert!(rt;
-        seen.right && seen.calls == 2 && seen.refusals >= 4,
-        "{seen:?}"
-    );
+    expect_seen(&rt, &seen, 2, 4);
     expect_equal(&rt, &right, &[true, true, false, true, true]);
-    Ok(())
 }
 
 /// More handles of a channel, each let go at once.
@@ -451,8 +437,7 @@ fn make_handles<R: Wait + Copy>(rt: R, alloc: Global) -> Option<Seen> {
 
 /// Clones, weak handles and upgrades ask for nothing, so they are made where nothing is to be had.
 #[test]
-fn more_handles_take_no_memory(rt: HostRuntime) -> Result<(), Fail> {
+fn more_handles_take_no_memory(rt: HostRuntime) {
     let seen = make_handles(rt, rt.alloc()).expect(&rt, "memory");
     expect_true(&rt, seen.right);
-    Ok(())
 }

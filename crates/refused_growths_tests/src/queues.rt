@@ -2,13 +2,13 @@
 
 ghost use Rattle.std.specs.Prelude.{◌<◌};
 
+use crate::checks::{expect_right, expect_seen, expect_true};
 use concurrent_queue::error::{ForcePushError, NoMemory, PopError, PushError};
 use concurrent_queue::exclusive::Exclusive;
 use concurrent_queue::shared::queue::ConcurrentQueue;
 use scarcity::{Attempt, Scarcity, Seen, Tried, made, refused};
 use std::alloc::{AllocError, Global};
 use std::sync::Wait;
-use std::test::Fail;
 
 /// How many messages are pushed: as many as need four blocks of a shared queue.
 const COUNT: u64 = 100;
@@ -77,13 +77,10 @@ fn push_all(alloc: Global) -> (Seen, bool) {
 
 /// Each growth is refused; what was refused comes back, and goes when it is pushed again.
 #[test]
-fn pushes_of_one_owner(rt: HostRuntime) -> Result<(), Fail> {
+fn pushes_of_one_owner(rt: HostRuntime) {
     let (seen, in_order) = push_all(rt.alloc());
-    assert!(rt;
-        seen.right && in_order && seen.calls == 6 && seen.refusals >= 6,
-        "{seen:?}"
-    );
-    Ok(())
+    expect_seen(&rt, &seen, 6, 6);
+    expect_true(&rt, in_order);
 }
 
 /// The last message that goes through a queue one by one; the first is 1.
@@ -143,13 +140,10 @@ fn pass_all(alloc: Global) -> (Seen, bool, u64) {
 /// What the first messages took serves for any number of messages that go through one by one: with every request refused from the
 /// 32nd push on, each push is accepted and each message comes out in its turn.
 #[test]
-fn messages_one_by_one(rt: HostRuntime) -> Result<(), Fail> {
+fn messages_one_by_one(rt: HostRuntime) {
     let (seen, passed, next) = pass_all(rt.alloc());
-    assert!(rt;
-        seen.right && passed && seen.refusals == 0 && next == 1_001,
-        "{seen:?}"
-    );
-    Ok(())
+    expect_right(&rt, &seen);
+    expect_true(&rt, passed && seen.refusals == 0 && next == 1_001);
 }
 
 /// Whether a queue without a bound that holds nothing answers as ever: what it is asked, what is popped, its closing, and what comes
@@ -206,10 +200,9 @@ fn answer_all(alloc: Global) -> Option<Seen> {
 
 /// All calls on a queue with a bound, and all on a queue without one but pushes, are answered where nothing is to be had.
 #[test]
-fn calls_of_one_owner_that_take_no_memory(rt: HostRuntime) -> Result<(), Fail> {
+fn calls_of_one_owner_that_take_no_memory(rt: HostRuntime) {
     let seen = answer_all(rt.alloc()).expect(&rt, "memory");
-    assert!(rt; seen.right, "{seen:?}");
-    Ok(())
+    expect_right(&rt, &seen);
 }
 
 /// The next push into a queue that threads share.
@@ -280,13 +273,10 @@ fn push_all_shared<R: Wait + Copy>(rt: R, alloc: Global) -> Option<(Seen, bool)>
 }
 
 #[test]
-fn pushes_of_a_shared_queue(rt: HostRuntime) -> Result<(), Fail> {
+fn pushes_of_a_shared_queue(rt: HostRuntime) {
     let (seen, in_order) = push_all_shared(rt, rt.alloc()).expect(&rt, "memory");
-    assert!(rt;
-        seen.right && in_order && seen.calls == 4 && seen.refusals >= 18,
-        "{seen:?}"
-    );
-    Ok(())
+    expect_seen(&rt, &seen, 4, 18);
+    expect_true(&rt, in_order);
 }
 
 /// Which queue is opened.
@@ -365,11 +355,7 @@ fn open_all(alloc: Global) -> Seen {
 }
 
 #[test]
-fn openings_of_queues(rt: HostRuntime) -> Result<(), Fail> {
+fn openings_of_queues(rt: HostRuntime) {
     let seen = open_all(rt.alloc());
-    assert!(rt;
-        seen.right && seen.calls == 5 && seen.refusals >= 17,
-        "{seen:?}"
-    );
-    Ok(())
+    expect_seen(&rt, &seen, 5, 17);
 }

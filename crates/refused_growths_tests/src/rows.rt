@@ -12,7 +12,6 @@ use scarcity::{Scarcity, Seen};
 use std::alloc::{AllocError, Global};
 use std::mem;
 use std::sync::Wait;
-use std::test::Fail;
 
 /// A call of a row.
 #[derive(Clone, Copy, PartialEq, Eq, Debug)]
@@ -683,13 +682,16 @@ fn play_all<R: Wait + Copy>(rt: R, alloc: Global, tasks: Tasks<'_>) -> Came {
 }
 
 #[test]
-fn calls_that_take_no_memory(rt: HostRuntime) -> Result<(), Fail> {
+fn calls_that_take_no_memory(rt: HostRuntime) {
     let (one, two, three) = (
-        MockTask::new(&rt)?,
-        MockTask::new(&rt)?,
-        MockTask::new(&rt)?,
+        MockTask::new(&rt).expect(&rt, "memory"),
+        MockTask::new(&rt).expect(&rt, "memory"),
+        MockTask::new(&rt).expect(&rt, "memory"),
     );
-    let (four, five) = (MockTask::new(&rt)?, MockTask::new(&rt)?);
+    let (four, five) = (
+        MockTask::new(&rt).expect(&rt, "memory"),
+        MockTask::new(&rt).expect(&rt, "memory"),
+    );
     let tasks = Tasks {
         first: &one,
         second: &two,
@@ -701,5 +703,4 @@ fn calls_that_take_no_memory(rt: HostRuntime) -> Result<(), Fail> {
     expect_equal(&rt, &came.differs, &[None; 11]);
     expect_equal(&rt, &came.plays, &PLAYS);
     expect_true(&rt, came.seen.right);
-    Ok(())
 }

@@ -1,6 +1,6 @@
 //! A receive that is refused its listener.
 
-use crate::checks::expect_equal;
+use crate::checks::{expect_equal, expect_seen};
 use crate::worlds::{Ask, NO_ROOM, Said, call, said_of};
 use channel_world::call::Call;
 use channel_world::world::World;
@@ -8,7 +8,6 @@ use event_listener::id::EventIds;
 use scarcity::{Attempt, Scarcity, Seen, Tried, made, refused};
 use std::alloc::Global;
 use std::collections::VecDeque;
-use std::test::Fail;
 
 /// A world, and a list of calls with room for one.
 #[derive(Drop)]
@@ -64,14 +63,13 @@ fn refuse_listener(alloc: Global) -> Option<(Seen, [Option<(Said, usize)>; 3])> 
 
 /// A receive that is refused its listener doesn't wait: a message wakes nobody and stays.
 #[test]
-fn a_receive_without_its_listener_does_not_wait(rt: HostRuntime) -> Result<(), Fail> {
+fn a_receive_without_its_listener_does_not_wait(rt: HostRuntime) {
     let (seen, said) = refuse_listener(rt.alloc()).expect(&rt, "memory");
-    assert!(rt; seen.right && seen.calls == 1, "{seen:?}");
+    expect_seen(&rt, &seen, 1, 0);
     let wanted = [
         Some((Said::Made, 0)),
         Some((Said::Sent, 0)),
         Some((Said::Got(5), 0)),
     ];
     expect_equal(&rt, &said, &wanted);
-    Ok(())
 }

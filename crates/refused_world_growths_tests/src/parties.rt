@@ -1,6 +1,6 @@
 //! Calls of one party, made by so many steps as they take.
 
-use crate::checks::expect_equal;
+use crate::checks::{expect_equal, expect_seen, expect_true};
 use crate::worlds::{Ask, Numbers, Said, call, is_refusal, numbers_of, says};
 use channel_world::call::{Stopped, WorldRefusal};
 use channel_world::step::{PartyId, Run, Step};
@@ -10,7 +10,6 @@ use event_listener::id::EventIds;
 use scarcity::{Attempt, Scarcity, Seen, Tried, made, refused};
 use std::alloc::Global;
 use std::collections::VecDeque;
-use std::test::Fail;
 
 /// More steps than a call takes.
 const MOST: usize = 200;
@@ -175,13 +174,10 @@ fn refuse_all(alloc: Global) -> Option<(Seen, [usize; COUNT], u32)> {
 
 /// A call that is refused goes on from there, and takes as many steps, with the same answer, as one that nothing is refused.
 #[test]
-fn calls_of_one_party(rt: HostRuntime) -> Result<(), Fail> {
+fn calls_of_one_party(rt: HostRuntime) {
     let ample = make_all(rt.alloc()).expect(&rt, "memory");
     let (seen, taken, cut) = refuse_all(rt.alloc()).expect(&rt, "memory");
-    assert!(rt;
-        seen.right && seen.calls == 14 && seen.refusals >= 78 && cut > 0,
-        "{seen:?}, {cut} in the midst"
-    );
+    expect_seen(&rt, &seen, 14, 78);
+    expect_true(&rt, cut > 0);
     expect_equal(&rt, &taken, &ample);
-    Ok(())
 }

@@ -2,7 +2,7 @@
 
 ghost use Rattle.std.specs.Prelude.{◌≡◌};
 
-use crate::checks::expect_equal;
+use crate::checks::{expect_equal, expect_seen, expect_true};
 use channel_calls::error::{OpenError, Refused};
 use channel_world::call::{Call, Reply, WorldRefusal};
 use channel_world::name::HandleId;
@@ -11,9 +11,9 @@ use event_listener::id::EventIds;
 use scarcity::{Attempt, Scarcity, Seen, Tried, made, refused};
 use std::alloc::Global;
 use std::marker::Brand;
+use std::process::Abort;
 use std::sync::Wait;
 use std::sync::ledger::{Blank, Ledger};
-use std::test::Fail;
 
 /// A seat, and the channel's own part of the ledger.
 const PARTS: u64 = 2;
@@ -147,11 +147,6 @@ fn call_all<L: Ledger, R: Wait>(
     }
 }
 
-/// A list with room for one seat.
-fn room<L: Ledger>(alloc: Global) -> Option<Vec<RecordSeat<L>>> {
-    Vec::with_capacity(alloc, 1).ok()
-}
-
 /// What came of a channel's opening and its calls: how many receipts there were, how many entries its record has, and how often a call
 /// got no room in it.
 #[derive(Clone, Copy)]
@@ -162,17 +157,31 @@ struct Passed {
     roomless: u32,
 }
 
+/// How many entries the record of a channel has whose only seat is this one.
+fn entries_of<L: Ledger, A: Abort>(
+    rt: &A,
+    alloc: Global,
+    channel: RecordedChannel<u64, L>,
+    seat: RecordSeat<L>,
+) -> usize {
+    let mut seats = Vec::with_capacity(alloc, 1).expect(rt, "memory");
+    let _ = seats.push(seat);
+    let record = channel.finish(seats).ok().expect(rt, "all seats");
+    record.len()
+}
+
 /// Passes so many messages through a channel without a bound; or, of none, sends 4 into one of one place.
-fn pass<L: Ledger, R: Wait>(rt: &R, alloc: Global, count: u64, blank: Blank) -> Option<Passed>
+fn pass<L: Ledger, R: Wait + Abort>(rt: &R, alloc: Global, count: u64, blank: Blank) -> Passed
     requires name { blank.name ≡ L.name }
     requires parts { (blank.parts ≡ L.parts) × (blank.parts ≡ 2) }
 {
     let mut scarcity = Scarcity::new(alloc);
-    let channel = open::<L>(&mut scarcity, alloc, count == 0, blank)?;
+    let opened = open::<L>(&mut scarcity, alloc, count == 0, blank);
+    let channel = opened.expect(rt, "memory");
     let mut calls = RecordedCalls {
         rt,
         channel: &channel,
-        seat: channel.seat(rt).ok()?,
+        seat: channel.seat(rt).expect(rt, "seats"),
         message: 4,
         is_sent: false,
         is_noted: false,
@@ -191,56 +200,36 @@ fn pass<L: Ledger, R: Wait>(rt: &R, alloc: Global, count: u64, blank: Blank) -> 
         roomless,
         ..
     } = calls;
-    let mut seats = room(alloc)?;
-    seats.push(seat).ok()?;
-    let record = channel.finish(seats).ok()?;
-    Some(Passed {
+    Passed {
         seen,
         receipts,
-        entries: record.len(),
+        entries: entries_of(rt, alloc, channel, seat),
         roomless,
-    })
+    }
 }
 
 /// A refused opening hands the blank back. Each call takes room for its receipt, so each is refused at least once, and the record has
 /// an entry for each receipt.
 #[test]
-fn recorded_channels(rt: HostRuntime) -> Result<(), Fail> {
+fn recorded_channels(rt: HostRuntime) {
     let passed = pass::<Brand, HostRuntime>(&rt, rt.alloc(), FEW, Blank::new(PARTS));
-    let passed = passed.expect(&rt, "memory");
-    let seen = passed.seen;
-    assert!(rt;
-        seen.right && seen.calls == 15 && seen.refusals >= 63,
-        "{seen:?}"
-    );
+    expect_seen(&rt, &passed.seen, 15, 63);
     expect_equal(&rt, &passed.receipts, &passed.entries);
-    Ok(())
 }
 
 /// The same of a record that grows on.
 #[test]
-fn records_that_grow(rt: HostRuntime) -> Result<(), Fail> {
+fn records_that_grow(rt: HostRuntime) {
     let passed = pass::<Brand, HostRuntime>(&rt, rt.alloc(), MANY, Blank::new(PARTS));
-    let passed = passed.expect(&rt, "memory");
-    let seen = passed.seen;
-    assert!(rt;
-        seen.right && seen.calls == 81 && seen.refusals >= 267,
-        "{seen:?}"
-    );
+    expect_seen(&rt, &passed.seen, 81, 267);
     expect_equal(&rt, &passed.receipts, &passed.entries);
-    Ok(())
 }
 
 /// A send that gets no room in the record comes back; made once more it is accepted, and the record has one entry.
 #[test]
-fn a_send_without_room_comes_back(rt: HostRuntime) -> Result<(), Fail> {
+fn a_send_without_room_comes_back(rt: HostRuntime) {
     let passed = pass::<Brand, HostRuntime>(&rt, rt.alloc(), 0, Blank::new(PARTS));
-    let passed = passed.expect(&rt, "memory");
-    let seen = passed.seen;
-    assert!(rt;
-        seen.right && seen.calls == 2 && seen.refusals >= 19 && passed.roomless > 0,
-        "{seen:?}"
-    );
+    expect_seen(&rt, &passed.seen, 2, 19);
+    expect_true(&rt, passed.roomless > 0);
     expect_equal(&rt, &(passed.receipts, passed.entries), &(1, 1));
-    Ok(())
 }

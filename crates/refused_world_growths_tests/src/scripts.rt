@@ -1,10 +1,9 @@
 //! Scripts.
 
-use crate::checks::expect_true;
+use crate::checks::{expect_seen, expect_true};
 use channel_world::script::{ScriptEnd, run_script};
 use scarcity::{Attempt, Scarcity, Seen, Tried, made, refused};
 use std::alloc::Global;
-use std::test::Fail;
 
 /// A script, and its text.
 type Lines = (&'static str, &'static str);
@@ -143,24 +142,16 @@ fn run_until_done(alloc: Global, scripts: &[Lines]) -> Option<(Seen, bool)> {
 
 /// With more memory at hand a script comes as far or farther, and ends with the line that says what it wanted.
 #[test]
-fn scripts(rt: HostRuntime) -> Result<(), Fail> {
+fn scripts(rt: HostRuntime) {
     let (seen, some) = run_until_done(rt.alloc(), LONG.as_slice()).expect(&rt, "memory");
-    assert!(rt;
-        seen.right && seen.calls == 1 && seen.refusals >= 84,
-        "{seen:?}"
-    );
+    expect_seen(&rt, &seen, 1, 84);
     expect_true(&rt, some);
-    Ok(())
 }
 
 /// The same of a line of each kind.
 #[test]
-fn lines_of_each_kind(rt: HostRuntime) -> Result<(), Fail> {
+fn lines_of_each_kind(rt: HostRuntime) {
     let (seen, some) = run_until_done(rt.alloc(), SHORT.as_slice()).expect(&rt, "memory");
-    assert!(rt;
-        seen.right && seen.calls == 22 && seen.refusals >= 493,
-        "{seen:?}"
-    );
+    expect_seen(&rt, &seen, 22, 493);
     expect_true(&rt, some);
-    Ok(())
 }

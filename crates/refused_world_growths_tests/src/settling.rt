@@ -1,13 +1,12 @@
 //! Settling a world.
 
-use crate::checks::expect_equal;
+use crate::checks::{expect_equal, expect_seen, expect_true};
 use crate::worlds::{Ask, Calls, Numbers, Said, numbers_of, says};
 use channel_world::name::{OpId, Waiter};
 use channel_world::settle::Settled;
 use event_listener::error::NoMemory;
 use scarcity::{Attempt, Scarcity, Seen, Tried, made, refused};
 use std::alloc::Global;
-use std::test::Fail;
 
 /// A settling of a world in which one of three receives was woken by a message.
 #[derive(Drop)]
@@ -76,12 +75,9 @@ fn settle_three(alloc: Global) -> Option<(Seen, u32, Numbers)> {
 
 /// A settling that is refused changes nothing, and polls the same when it is made again.
 #[test]
-fn settlings(rt: HostRuntime) -> Result<(), Fail> {
+fn settlings(rt: HostRuntime) {
     let (seen, refused, numbers) = settle_three(rt.alloc()).expect(&rt, "memory");
-    assert!(rt;
-        seen.right && seen.calls == 8 && seen.refusals >= 34 && refused > 0,
-        "{seen:?}, {refused} settlings"
-    );
+    expect_seen(&rt, &seen, 8, 34);
+    expect_true(&rt, refused > 0);
     expect_equal(&rt, &numbers, &AFTER);
-    Ok(())
 }

@@ -1,6 +1,6 @@
 //! Calls of a world made step by step.
 
-use crate::checks::expect_equal;
+use crate::checks::{expect_equal, expect_right, expect_seen, expect_true};
 use crate::worlds::{Ask, NO_ROOM, Numbers, Said, call, is_refusal, numbers_of, says};
 use channel_world::call::{Stopped, WorldRefusal};
 use channel_world::step::{PartyId, Run, Step};
@@ -9,7 +9,6 @@ use event_listener::id::EventIds;
 use scarcity::{Attempt, Scarcity, Seen, Tried, made, refused};
 use std::alloc::Global;
 use std::collections::VecDeque;
-use std::test::Fail;
 
 /// How many steps a call makes at most.
 const MOST: u32 = 200;
@@ -210,14 +209,11 @@ fn step_all(alloc: Global) -> Option<(Seen, Numbers)> {
 
 /// Each step takes room for what it says, so each is refused at least once.
 #[test]
-fn steps_of_a_world(rt: HostRuntime) -> Result<(), Fail> {
+fn steps_of_a_world(rt: HostRuntime) {
     let (seen, numbers) = step_all(rt.alloc()).expect(&rt, "memory");
-    assert!(rt;
-        seen.right && seen.calls >= 485 && seen.refusals >= 923,
-        "{seen:?}"
-    );
+    expect_right(&rt, &seen);
+    expect_true(&rt, seen.calls >= 485 && seen.refusals >= 923);
     expect_equal(&rt, &numbers, &NOTHING);
-    Ok(())
 }
 
 /// A list of steps, which goes on from where it was refused.
@@ -276,11 +272,7 @@ fn make_all(alloc: Global) -> Option<Seen> {
 
 /// A list that is refused in its midst is left from that step on, and goes on from there.
 #[test]
-fn lists_of_steps(rt: HostRuntime) -> Result<(), Fail> {
+fn lists_of_steps(rt: HostRuntime) {
     let seen = make_all(rt.alloc()).expect(&rt, "memory");
-    assert!(rt;
-        seen.right && seen.calls == 1 && seen.refusals >= 23,
-        "{seen:?}"
-    );
-    Ok(())
+    expect_seen(&rt, &seen, 1, 23);
 }

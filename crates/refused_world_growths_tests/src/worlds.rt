@@ -1,6 +1,6 @@
 //! Calls of a world, one at a time.
 
-use crate::checks::expect_equal;
+use crate::checks::{expect_equal, expect_seen, expect_true};
 use channel_calls::error::{OpenError, Refused};
 use channel_world::call::{Call, CallRun, Reply, Stopped, WorldRefusal};
 use channel_world::name::{HandleId, OpId};
@@ -11,7 +11,6 @@ use futures::task::Poll;
 use scarcity::{Attempt, Scarcity, Seen, Tried, made, refused};
 use std::alloc::Global;
 use std::collections::VecDeque;
-use std::test::Fail;
 
 /// The opening of a world, with a bound or without.
 #[derive(Drop)]
@@ -57,14 +56,10 @@ fn open_all(alloc: Global) -> (Seen, u64) {
 
 /// An opening that is refused takes no identities: each of the two takes four.
 #[test]
-fn openings_of_worlds(rt: HostRuntime) -> Result<(), Fail> {
+fn openings_of_worlds(rt: HostRuntime) {
     let (seen, next) = open_all(rt.alloc());
-    assert!(rt;
-        seen.right && seen.calls == 2 && seen.refusals >= 26,
-        "{seen:?}"
-    );
+    expect_seen(&rt, &seen, 2, 26);
     expect_equal(&rt, &next, &8);
-    Ok(())
 }
 
 /// The first sender.
@@ -325,13 +320,10 @@ fn send_all(alloc: Global) -> Option<(Seen, [u32; 2])> {
 
 /// A message whose block is refused comes back, and the channel holds what it held; sent again it is received in its turn.
 #[test]
-fn a_refused_block_hands_the_message_back(rt: HostRuntime) -> Result<(), Fail> {
+fn a_refused_block_hands_the_message_back(rt: HostRuntime) {
     let (seen, blocks) = send_all(rt.alloc()).expect(&rt, "memory");
-    assert!(rt;
-        seen.right && seen.calls == 73 && seen.refusals >= 151 && blocks[0] > 0 && blocks[1] > 1,
-        "{seen:?}, {blocks:?}"
-    );
-    Ok(())
+    expect_seen(&rt, &seen, 73, 151);
+    expect_true(&rt, blocks[0] > 0 && blocks[1] > 1);
 }
 
 /// A receive, a stream, a wait for the closing and, once a message fills the channel, a send: each waits, and the closing wakes those
@@ -364,12 +356,10 @@ fn wait_all(alloc: Global) -> Option<(Seen, Numbers, u32)> {
 
 /// Each of the four is refused its listener, and waits when it is polled again; a send keeps its message.
 #[test]
-fn waits_of_each_kind(rt: HostRuntime) -> Result<(), Fail> {
+fn waits_of_each_kind(rt: HostRuntime) {
     let (seen, numbers, listeners) = wait_all(rt.alloc()).expect(&rt, "memory");
-    assert!(rt;
-        seen.right && seen.calls == 12 && seen.refusals >= 46 && listeners > 3,
-        "{seen:?}, {listeners} listeners"
-    );
+    expect_seen(&rt, &seen, 12, 46);
+    expect_true(&rt, listeners > 3);
     let due = Numbers {
         messages: 0,
         under_way: 0,
@@ -377,7 +367,6 @@ fn waits_of_each_kind(rt: HostRuntime) -> Result<(), Fail> {
         woken: 2,
     };
     expect_equal(&rt, &numbers, &due);
-    Ok(())
 }
 
 /// How many receives wait at once.
@@ -428,12 +417,9 @@ fn call_all(alloc: Global) -> Option<(Seen, Numbers)> {
 
 /// Each call takes room for its answer, so each is refused at least once.
 #[test]
-fn calls_of_a_world(rt: HostRuntime) -> Result<(), Fail> {
+fn calls_of_a_world(rt: HostRuntime) {
     let (seen, numbers) = call_all(rt.alloc()).expect(&rt, "memory");
-    assert!(rt;
-        seen.right && seen.calls == 112 && seen.refusals >= 337,
-        "{seen:?}"
-    );
+    expect_seen(&rt, &seen, 112, 337);
     expect_equal(
         &rt,
         &numbers,
@@ -444,5 +430,4 @@ fn calls_of_a_world(rt: HostRuntime) -> Result<(), Fail> {
             woken: 0,
         },
     );
-    Ok(())
 }

@@ -216,10 +216,10 @@ fn each_way_in<B: Room, R: Wait + Copy + RandomSource + AllocGlobal>(
 ) -> Option<(u64, u64)>
     requires { opened ≡ B.table }
 {
-    let (office, mut pass) = opened.enter::<B>();
-    let inbox = Inbox::new(alloc, office.another(&mut pass));
     let (sender, mut receiver) = bounded(rt, alloc, 2, ids).ok()?;
     let queue = ConcurrentQueue::bounded(alloc, 1).ok()?;
+    let (office, mut pass) = opened.enter::<B>();
+    let inbox = Inbox::new(alloc, office.another(&mut pass));
     let back = [
         send::<B, R>(rt, &office, &sender, &mut pass, 1),
         try_send::<B, R>(&office, &sender, &mut pass, 2),

@@ -58,40 +58,56 @@ fn print_lines<R: Threads + Wait + Copy + Send + Sync + Print>(
     Ok(true)
 }
 
-/// Runs the clients over channels and handles.
-fn print_channels<R: Threads + Wait + Copy + Send + Sync + Print + RandomSource + AllocGlobal>(
+/// How many of ten messages came by way of each client that takes channels, and how many were received and taken back by handles.
+#[derive(Clone, Copy)]
+struct Came {
+    relayed: usize,
+    pooled: usize,
+    piped: usize,
+    received: u64,
+    back: u64,
+}
+
+/// Runs the clients over channels and handles. `None` where there is no memory.
+fn over_channels<R: Threads + Wait + Copy + Send + Sync + RandomSource + AllocGlobal>(
     rt: R,
     alloc: Global,
     ids: &mut EventIds,
-) -> io::Result<bool> {
+) -> Option<Came> {
     let all = [3, 1, 4, 1, 5, 9, 2, 6, 5, 3];
-    let Some(relayed) = relay::relay(rt, alloc, ids, 2, &all) else {
-        return Ok(false);
-    };
-    let Some(pooled) = pool::pool(rt, alloc, ids, &all) else {
-        return Ok(false);
-    };
-    let Some(piped) = pipeline::pipeline(rt, alloc, ids, &all) else {
-        return Ok(false);
-    };
-    let Some((came, back)) = handles::each_way(rt, alloc, ids) else {
-        return Ok(false);
-    };
-    println!(&rt; "relay: {}", relayed.len())?;
-    println!(&rt; "pool: {}", pooled.len())?;
-    println!(&rt; "pipeline: {}", piped.len())?;
-    println!(&rt; "each way, received: {came}")?;
-    println!(&rt; "each way, taken back: {back}")?;
-    Ok(true)
+    let relayed = relay::relay(rt, alloc, ids, 2, &all)?.len();
+    let pooled = pool::pool(rt, alloc, ids, &all)?.len();
+    let piped = pipeline::pipeline(rt, alloc, ids, &all)?.len();
+    let (received, back) = handles::each_way(rt, alloc, ids)?;
+    Some(Came {
+        relayed,
+        pooled,
+        piped,
+        received,
+        back,
+    })
+}
+
+/// Prints what came over channels and handles.
+fn print_channels<R: Print>(rt: &R, came: Came) -> io::Result<()> {
+    println!(rt; "relay: {}", came.relayed)?;
+    println!(rt; "pool: {}", came.pooled)?;
+    println!(rt; "pipeline: {}", came.piped)?;
+    println!(rt; "each way, received: {}", came.received)?;
+    println!(rt; "each way, taken back: {}", came.back)
 }
 
 fn main(rt: HostRuntime) -> ExitCode {
     let alloc = rt.alloc();
     let mut ids = EventIds::new();
-    let channels = print_channels(rt, alloc, &mut ids);
-    let lines = print_lines(rt, alloc, &mut ids);
-    match (channels, lines) {
-        (Ok(true), Ok(true)) => ExitCode::SUCCESS,
+    let Some(came) = over_channels(rt, alloc, &mut ids) else {
+        return ExitCode::FAILURE;
+    };
+    if print_channels(&rt, came).is_err() {
+        return ExitCode::FAILURE;
+    }
+    match print_lines(rt, alloc, &mut ids) {
+        Ok(true) => ExitCode::SUCCESS,
         _ => ExitCode::FAILURE,
     }
 }

@@ -37,6 +37,26 @@ fn work_and_gather<
     )
 }
 
+/// Worker and inbox after all jobs, which a third thread gives. `None` where there is no memory.
+fn all_done<B: Room + Send + Sync, C: Room + Send + Sync, R: Threads + Wait + Copy + Send + Sync>(
+    rt: R,
+    alloc: Global,
+    ids: &mut EventIds,
+    offices: (&Office<u32, B>, &Office<u64, C>),
+    parcels: Vec<Parcel<u32, B>>,
+    worker: Worker<B, C>,
+    inbox: Inbox<u64, C>,
+) -> Option<(Worker<B, C>, Inbox<u64, C>)> {
+    let (todo_sender, todo) = bounded(rt, alloc, 2, ids).ok()?;
+    let done = bounded(rt, alloc, 2, ids).ok()?;
+    let ((), back) = thread::join(
+        &rt,
+        move || give::<B, R>(todo_sender, parcels),
+        move || work_and_gather::<B, C, R>(rt, offices, todo, done, worker, inbox),
+    );
+    Some(back)
+}
+
 fn pipeline_in<
     B: Room + Send + Sync,
     C: Room + Send + Sync,
@@ -53,8 +73,6 @@ fn pipeline_in<
     ensures part { IfSome result (λ got. IsPartOf got.items (squares all.now)) }
     ensures each { IfSome result (λ got. length got.items ≡ length all.now → IsPermutation (squares all.now) got.items) }
 {
-    let (todo_sender, todo) = bounded(rt, alloc, 2, ids).ok()?;
-    let done = bounded(rt, alloc, 2, ids).ok()?;
     let (jobs, mut every_job) = jobs.enter::<B>();
     let (results, mut every_result) = results.enter::<C>();
     let Ok(parcels) = jobs.pack_each(alloc, &mut every_job, all) else {
@@ -66,11 +84,7 @@ fn pipeline_in<
     );
     let inbox = Inbox::new(alloc, results.another(&mut every_result));
     let offices = (&jobs, &results);
-    let ((), (worker, inbox)) = thread::join(
-        &rt,
-        move || give::<B, R>(todo_sender, parcels),
-        move || work_and_gather::<B, C, R>(rt, offices, todo, done, worker, inbox),
-    );
+    let (worker, inbox) = all_done(rt, alloc, ids, offices, parcels, worker, inbox)?;
     let (took, gave) = worker.into_passes();
     let (gathered, got) = inbox.into_parts();
     jobs.absorb(&mut every_job, took);

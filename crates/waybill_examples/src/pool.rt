@@ -134,6 +134,46 @@ fn two_workers<
     )
 }
 
+/// A channel with two receivers, by which jobs come.
+fn job_line<P: Drop, R: Wait + Copy>(
+    rt: R,
+    alloc: Global,
+    ids: &mut EventIds,
+) -> Option<(Sender<P, R>, (Receiver<P, R>, Receiver<P, R>))> {
+    let (sender, receiver) = unbounded(rt, alloc, ids).ok()?;
+    let receiver_too = receiver.try_clone().ok()?;
+    Some((sender, (receiver, receiver_too)))
+}
+
+/// A channel with two senders, by which results go.
+fn result_line<P: Drop, R: Wait + Copy>(
+    rt: R,
+    alloc: Global,
+    ids: &mut EventIds,
+) -> Option<((Sender<P, R>, Sender<P, R>), Receiver<P, R>)> {
+    let (sender, receiver) = unbounded(rt, alloc, ids).ok()?;
+    let sender_too = sender.try_clone().ok()?;
+    Some(((sender, sender_too), receiver))
+}
+
+/// Both workers and the inbox after all jobs. `None` where there is no memory.
+fn all_done<B: Room + Send + Sync, C: Room + Send + Sync, R: Threads + Wait + Copy + Send + Sync>(
+    rt: R,
+    alloc: Global,
+    ids: &mut EventIds,
+    offices: (&Office<u32, B>, &Office<u64, C>),
+    parcels: Vec<Parcel<u32, B>>,
+    workers: (Worker<B, C>, Worker<B, C>),
+    inbox: Inbox<u64, C>,
+) -> Option<((Worker<B, C>, Worker<B, C>), Inbox<u64, C>)> {
+    let (jobs, results) = offices;
+    let (todo_sender, todo) = job_line(rt, alloc, ids)?;
+    let (done, done_receiver) = result_line(rt, alloc, ids)?;
+    give(todo_sender, parcels);
+    let workers = two_workers(rt, jobs, results, todo, done, workers);
+    Some((workers, gather(results, done_receiver, inbox)))
+}
+
 fn pool_in<B: Room + Send + Sync, C: Room + Send + Sync, R: Threads + Wait + Copy + Send + Sync>(
     rt: R,
     alloc: Global,
@@ -146,16 +186,11 @@ fn pool_in<B: Room + Send + Sync, C: Room + Send + Sync, R: Threads + Wait + Cop
     ensures part { IfSome result (λ got. IsPartOf got.items (squares all.now)) }
     ensures each { IfSome result (λ got. length got.items ≡ length all.now → IsPermutation (squares all.now) got.items) }
 {
-    let (todo_sender, todo) = unbounded(rt, alloc, ids).ok()?;
-    let (done, done_receiver) = unbounded(rt, alloc, ids).ok()?;
-    let todo_too = todo.try_clone().ok()?;
-    let done_too = done.try_clone().ok()?;
     let (jobs, mut every_job) = jobs.enter::<B>();
     let (results, mut every_result) = results.enter::<C>();
     let Ok(parcels) = jobs.pack_each(alloc, &mut every_job, all) else {
         return None;
     };
-    give(todo_sender, parcels);
     let worker = Worker::new(
         jobs.another(&mut every_job),
         results.another(&mut every_result),
@@ -165,17 +200,12 @@ fn pool_in<B: Room + Send + Sync, C: Room + Send + Sync, R: Threads + Wait + Cop
         results.another(&mut every_result),
     );
     let inbox = Inbox::new(alloc, results.another(&mut every_result));
-    let (worker, worker_too) = two_workers(
-        rt,
-        &jobs,
-        &results,
-        (todo, todo_too),
-        (done, done_too),
-        (worker, worker_too),
-    );
+    let offices = (&jobs, &results);
+    let workers = (worker, worker_too);
+    let ((worker, worker_too), inbox) = all_done(rt, alloc, ids, offices, parcels, workers, inbox)?;
     let (took, gave) = worker.into_passes();
     let (took_too, gave_too) = worker_too.into_passes();
-    let (gathered, got) = gather(&results, done_receiver, inbox).into_parts();
+    let (gathered, got) = inbox.into_parts();
     jobs.absorb(&mut every_job, took);
     jobs.absorb(&mut every_job, took_too);
     results.absorb(&mut every_result, gave);

@@ -137,13 +137,13 @@ impl Stepped {
         self.made = self.made.wrapping_add(made as u64);
         let begun = beginning.saturating_sub(begins(&self.steps));
         self.compare(before, &run, begun)?;
-        let place = run.stopped.map(|stopped| stopped.place);
-        let due = (made < given).then_some(made);
-        so(
-            place == due && self.steps.len() == given.saturating_sub(made),
-            "a refused step doesn't stay in front",
-        )?;
-        Ok(run.stopped.map(|stopped| stopped.why))
+        let stands = self.steps.len() == given.saturating_sub(made);
+        let (due, why) = match run.stopped {
+            Some(stopped) => (made < given && stopped.place == made, Some(stopped.why)),
+            None => (made >= given, None),
+        };
+        so(due && stands, "a refused step doesn't stay in front")?;
+        Ok(why)
     }
 
     /// A step that was refused is refused again for the same reason, nothing changes, and it is left out.
@@ -188,13 +188,15 @@ impl Stepped {
             return Ok(());
         }
         let before = Numbers::of(&self.world);
-        let Ok(polls) = self.world.settle() else {
-            return Err(NO_MEMORY);
-        };
-        let (came, left) = (
-            passed(polls.as_slice(), true),
-            passed(polls.as_slice(), false),
-        );
+        match self.world.settle() {
+            Ok(polls) => self.settled(before, polls.as_slice()),
+            Err(_) => Err(NO_MEMORY),
+        }
+    }
+
+    /// Compares what a settling did by these polls.
+    fn settled(&mut self, before: Numbers, polls: &[Settled<u64>]) -> Result<(), Fault> {
+        let (came, left) = (passed(polls, true), passed(polls, false));
         self.fits(before, came, left)?;
         let most = before
             .pending
@@ -205,7 +207,7 @@ impl Stepped {
             "settling left somebody woken, or polled too often",
         )?;
         let mut right = true;
-        for poll in &polls {
+        for poll in polls {
             right = self.handed.add(&poll.reply) && right;
         }
         so(right, "a message left twice, or never came")?;
@@ -226,16 +228,21 @@ impl Stepped {
         let mut calls = VecDeque::new(self.alloc);
         so(calls.push_back(poll).is_ok(), NO_MEMORY)?;
         let run = self.world.run_calls(&mut calls);
-        let Some(done) = run.done.first() else {
-            return Ok(());
-        };
+        match run.done.first() {
+            Some(done) => self.polled_alone(before, &done.reply),
+            None => Ok(()),
+        }
+    }
+
+    /// Compares what a poll did that was made alone.
+    fn polled_alone(&mut self, before: Numbers, reply: &Reply<u64>) -> Result<(), Fault> {
         let (came, left) = (
-            u64::from(passes(&done.reply, true)),
-            u64::from(passes(&done.reply, false)),
+            u64::from(passes(reply, true)),
+            u64::from(passes(reply, false)),
         );
         self.fits(before, came, left)?;
         self.left = self.left.wrapping_add(left);
-        let is_first = self.handed.add(&done.reply);
+        let is_first = self.handed.add(reply);
         so(is_first, "a message left twice, or never came")?;
         so(
             before.pending <= self.world.pending(),
@@ -271,19 +278,24 @@ impl Stepped {
         }
         Err("a call doesn't end")
     }
+
+    /// Runs lists of steps, settling where no call is under way after one; then lets all calls end, settles, and polls everybody who wasn't
+    /// woken.
+    fn check(&mut self, lists: &[u8], most: u64) -> Result<(), Fault> {
+        for list in lists.chunks(LIST) {
+            self.run_bytes(list)?;
+            so(self.world.messages() <= most, "more messages than fit")?;
+            self.settle()?;
+        }
+        self.finish()?;
+        self.poll_sleepers()?;
+        self.settle()
+    }
 }
 
-/// Runs the steps that bytes say on a world of the form that the first one says, settling where no call is under way after a list;
-/// then lets all calls end, settles, and polls everybody who wasn't woken. How many steps were made.
-pub fn check_steps(bytes: &[u8], alloc: Global) -> Result<u64, Fault> {
-    let Some((byte, rest)) = bytes.split_first() else {
-        return Ok(0);
-    };
-    let form = form_of(*byte);
-    let Ok(world) = form.open(alloc) else {
-        return Err(NO_MEMORY);
-    };
-    let mut trial = Stepped {
+/// A world of which nothing was made yet.
+fn stepped(world: World<u64>, alloc: Global) -> Stepped {
+    Stepped {
         alloc,
         world,
         names: Names {
@@ -298,15 +310,20 @@ pub fn check_steps(bytes: &[u8], alloc: Global) -> Result<u64, Fault> {
         },
         left: 0,
         made: 0,
-    };
-    let most = form.capacity().unwrap_or(usize::MAX) as u64;
-    for list in rest.chunks(LIST) {
-        trial.run_bytes(list)?;
-        so(trial.world.messages() <= most, "more messages than fit")?;
-        trial.settle()?;
     }
-    trial.finish()?;
-    trial.poll_sleepers()?;
-    trial.settle()?;
+}
+
+/// Runs the steps that bytes say on a world of the form that the first one says. How many steps were made.
+pub fn check_steps(bytes: &[u8], alloc: Global) -> Result<u64, Fault> {
+    let Some((byte, rest)) = bytes.split_first() else {
+        return Ok(0);
+    };
+    let form = form_of(*byte);
+    let Ok(world) = form.open(alloc) else {
+        return Err(NO_MEMORY);
+    };
+    let mut trial = stepped(world, alloc);
+    let most = form.capacity().unwrap_or(usize::MAX) as u64;
+    trial.check(rest, most)?;
     Ok(trial.made)
 }

@@ -144,20 +144,28 @@ fn messages_are_handed_out_in_order(tally: &mut Tally, alloc: Global) {
     tally.row(are(&[], alloc) == Some(false));
 }
 
+/// Two sends come to sleep.
+fn two_sleep(book: &mut Book) -> Result<(), Differs> {
+    let came = Came { from: 0, to: 0 };
+    book.waiting.add(Waiter::Op(OpId(0)), Line::Sends, came)?;
+    book.waiting.add(Waiter::Op(OpId(1)), Line::Sends, came)
+}
+
+/// The party's call wakes the first of them.
+fn wake_first(book: &mut Book, alloc: Global) -> Option<()> {
+    let mut woken = Vec::new(alloc);
+    woken.push(Waiter::Op(OpId(0))).ok()?;
+    book.wake(3, &woken).ok()
+}
+
 /// Whether nothing is owed to two sends that sleep, where a receive of two has taken so many, and whether one place for each call
 /// were enough; the same once it has woken the first of them.
 fn owes(takings: usize, wakes: bool, alloc: Global) -> Option<(bool, bool)> {
     let mut book = full_book(alloc)?;
-    let came = Came { from: 0, to: 0 };
-    let first = Waiter::Op(OpId(0));
-    book.waiting.add(first, Line::Sends, came).ok()?;
-    let second = Waiter::Op(OpId(1));
-    book.waiting.add(second, Line::Sends, came).ok()?;
+    two_sleep(&mut book).ok()?;
     after_takings(&mut book, 2, takings).ok()?;
     if wakes {
-        let mut woken = Vec::new(alloc);
-        woken.push(first).ok()?;
-        book.wake(3, &woken).ok()?;
+        wake_first(&mut book, alloc)?;
     }
     Some((is_nothing_owed(&book), one_place_each_is_enough(&book)))
 }

@@ -103,20 +103,26 @@ fn a_wrong_count_is_refused(tally: &mut Tally, alloc: Global) {
     }
 }
 
+/// What differs where this call is made alone. `None` where it could not be made.
+fn alone(trial: &mut Trial, plan: Plan) -> Option<Result<(), Differs>> {
+    let run = trial.run_alone(plan).ok()?;
+    Some(trial.count_alone(11, plan, run?))
+}
+
 /// What differs where a call is made alone over a count that is spoilt, in a world with one message.
 fn differs_alone(wrong: Wrong, kind: Kind, alloc: Global) -> Option<Result<(), Differs>> {
     let mut ids = EventIds::new();
     let world = World::bounded(alloc, 2, &mut ids).ok()?;
     let mut trial = Trial::new(world, Some(2), 0, alloc).ok()?;
-    let first = trial.run_alone(plan(Kind::TrySend, 0)).ok()?;
-    trial.count_alone(11, plan(Kind::TrySend, 0), first?).ok()?;
+    if alone(&mut trial, plan(Kind::TrySend, 0)) != Some(Ok(())) {
+        return None;
+    }
     spoil(&mut trial.book, wrong);
     let handle = match kind {
         Kind::TryRecv | Kind::RecvMany => 1,
         _ => 0,
     };
-    let run = trial.run_alone(plan(kind, handle)).ok()?;
-    Some(trial.count_alone(11, plan(kind, handle), run?))
+    alone(&mut trial, plan(kind, handle))
 }
 
 fn a_wrong_count_is_refused_of_a_call_made_alone(tally: &mut Tally, alloc: Global) {

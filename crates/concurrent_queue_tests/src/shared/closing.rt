@@ -6,7 +6,6 @@ use concurrent_queue::error::{PopError, PushError};
 use concurrent_queue::shared::queue::ConcurrentQueue;
 use std::alloc::Global;
 use std::sync::Wait;
-use std::test::Fail;
 use std::thread;
 use std::thread::Threads;
 
@@ -58,13 +57,22 @@ fn gives_the_rest<R: Threads + Wait + Sync>(
 }
 
 #[test]
-fn a_closed_queue_gives_the_rest_and_then_closed(rt: HostRuntime) -> Result<(), Fail> {
+fn a_closed_queue_gives_the_rest_and_then_closed(rt: HostRuntime) {
     let alloc = rt.alloc();
     let mut right = true;
     for capacity in 1..4 {
-        right = right && gives_the_rest(&rt, alloc, &ConcurrentQueue::bounded(alloc, capacity)?);
+        right = right
+            && gives_the_rest(
+                &rt,
+                alloc,
+                &ConcurrentQueue::bounded(alloc, capacity).expect(&rt, "memory"),
+            );
     }
-    right = right && gives_the_rest(&rt, alloc, &ConcurrentQueue::unbounded(alloc)?);
+    right = right
+        && gives_the_rest(
+            &rt,
+            alloc,
+            &ConcurrentQueue::unbounded(alloc).expect(&rt, "memory"),
+        );
     expect_true(&rt, right);
-    Ok(())
 }

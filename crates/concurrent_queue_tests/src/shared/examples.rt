@@ -11,7 +11,6 @@ use concurrent_queue::queue_call::QueueCall;
 use concurrent_queue::shared::queue::ConcurrentQueue;
 use std::alloc::AllocError;
 use std::sync::{Arc, Wait};
-use std::test::Fail;
 
 /// What a walk and a copy of it give of a queue into which messages come between.
 fn walked_by_turns<R: Wait>(
@@ -29,16 +28,20 @@ fn walked_by_turns<R: Wait>(
 }
 
 #[test]
-fn a_walk_goes_on_after_none(rt: HostRuntime) -> Result<(), Fail> {
-    let queue = ConcurrentQueue::bounded(rt.alloc(), 3)?;
-    let given = walked_by_turns(&rt, &queue)?;
+fn a_walk_goes_on_after_none(rt: HostRuntime) {
+    let queue = ConcurrentQueue::bounded(rt.alloc(), 3).expect(&rt, "memory");
+    let given = walked_by_turns(&rt, &queue).expect(&rt, "memory");
     drop(queue);
     expect_equal(&rt, &given, &[None, Some(7), None, Some(8)]);
-    Ok(())
 }
 
-/// Pushes so many copies, and answers how many are left in the end.
-fn dropped_with<R: Wait>(rt: &R, queue: ConcurrentQueue<Arc<u8>>, shared: &Arc<u8>) -> usize {
+/// Pushes so many copies, and answers how many are left in the end. None where there is no queue.
+fn dropped_with<R: Wait>(
+    rt: &R,
+    opened: Option<ConcurrentQueue<Arc<u8>>>,
+    shared: &Arc<u8>,
+) -> Option<usize> {
+    let queue = opened?;
     for _ in 0..40 {
         if let Ok(copy) = Arc::try_clone(shared) {
             let _ = queue.push(rt, copy);
@@ -46,23 +49,26 @@ fn dropped_with<R: Wait>(rt: &R, queue: ConcurrentQueue<Arc<u8>>, shared: &Arc<u
     }
     let held = Arc::strong_count(shared);
     drop(queue);
-    held.wrapping_sub(Arc::strong_count(shared))
+    Some(held.wrapping_sub(Arc::strong_count(shared)))
 }
 
 #[test]
-fn what_is_left_is_dropped_once(rt: HostRuntime) -> Result<(), Fail> {
+fn what_is_left_is_dropped_once(rt: HostRuntime) {
     let alloc = rt.alloc();
-    let shared = Arc::new(alloc, 7u8)?;
+    let shared = Arc::new(alloc, 7u8).expect(&rt, "memory");
     let left = [
-        dropped_with(&rt, ConcurrentQueue::bounded(alloc, 1)?, &shared),
-        dropped_with(&rt, ConcurrentQueue::bounded(alloc, 2)?, &shared),
-        dropped_with(&rt, ConcurrentQueue::bounded(alloc, 3)?, &shared),
-        dropped_with(&rt, ConcurrentQueue::unbounded(alloc)?, &shared),
+        dropped_with(&rt, ConcurrentQueue::bounded(alloc, 1).ok(), &shared),
+        dropped_with(&rt, ConcurrentQueue::bounded(alloc, 2).ok(), &shared),
+        dropped_with(&rt, ConcurrentQueue::bounded(alloc, 3).ok(), &shared),
+        dropped_with(&rt, ConcurrentQueue::unbounded(alloc).ok(), &shared),
     ];
     let count = Arc::strong_count(&shared);
     drop(shared);
-    expect_equal(&rt, &(left, count), &([1, 2, 3, 40], 1));
-    Ok(())
+    expect_equal(
+        &rt,
+        &(left, count),
+        &([Some(1), Some(2), Some(3), Some(40)], 1),
+    );
 }
 
 /// What a step of a call over a shared queue answers.
@@ -74,8 +80,8 @@ fn answer_of(reply: Option<QueueReply<u64>>) -> Said {
 }
 
 #[test]
-fn calls_go_by_steps(rt: HostRuntime) -> Result<(), Fail> {
-    let queue = ConcurrentQueue::bounded(rt.alloc(), 1)?;
+fn calls_go_by_steps(rt: HostRuntime) {
+    let queue = ConcurrentQueue::bounded(rt.alloc(), 1).expect(&rt, "memory");
     let mut push = QueueCall::push(7u64);
     let pushing = [
         answer_of(queue.step(&rt, &mut push)),
@@ -86,7 +92,7 @@ fn calls_go_by_steps(rt: HostRuntime) -> Result<(), Fail> {
     let mut close = QueueCall::close();
     let closing = answer_of(queue.step_words(&mut close));
     drop(close);
-    let wide: ConcurrentQueue<u64> = ConcurrentQueue::bounded(rt.alloc(), 3)?;
+    let wide: ConcurrentQueue<u64> = ConcurrentQueue::bounded(rt.alloc(), 3).expect(&rt, "memory");
     let places = [capacity_by_steps(&queue), capacity_by_steps(&wide)];
     let then = (queue.is_closed(), places);
     drop(wide);
@@ -97,7 +103,6 @@ fn calls_go_by_steps(rt: HostRuntime) -> Result<(), Fail> {
         &(closing, then),
         &(("closed it", 0), (true, [Some(1), Some(3)])),
     );
-    Ok(())
 }
 
 /// A message that keeps a fact.
@@ -116,11 +121,10 @@ fn doubles<R: Wait>(rt: &R, queue: &ConcurrentQueue<Even>) -> Result<bool, PopEr
 }
 
 #[test]
-fn what_messages_keep_holds_of_popped_ones(rt: HostRuntime) -> Result<(), Fail> {
-    let queue = ConcurrentQueue::bounded(rt.alloc(), 2)?;
+fn what_messages_keep_holds_of_popped_ones(rt: HostRuntime) {
+    let queue = ConcurrentQueue::bounded(rt.alloc(), 2).expect(&rt, "memory");
     let went = queue.push(&rt, Even { number: 8 }).is_ok();
     let doubled = doubles(&rt, &queue).is_ok_and(|doubles| doubles);
     drop(queue);
     expect_equal(&rt, &(went, doubled), &(true, true));
-    Ok(())
 }

@@ -8,7 +8,6 @@ use concurrent_queue::queue_call::QueueCall;
 use concurrent_queue::shared::queue::ConcurrentQueue;
 use std::alloc::Global;
 use std::sync::Wait;
-use std::test::Fail;
 use std::thread;
 use std::thread::Threads;
 
@@ -37,8 +36,8 @@ fn logs_are<R: Wait>(
 }
 
 #[test]
-fn logs_of_calls_alone(rt: HostRuntime) -> Result<(), Fail> {
-    let slot = ConcurrentQueue::bounded(rt.alloc(), 1)?;
+fn logs_of_calls_alone(rt: HostRuntime) {
+    let slot = ConcurrentQueue::bounded(rt.alloc(), 1).expect(&rt, "memory");
     let of_a_slot = logs_are(
         &rt,
         rt.alloc(),
@@ -57,7 +56,7 @@ fn logs_of_calls_alone(rt: HostRuntime) -> Result<(), Fail> {
             &[("exchange", "state", 0)],
         ],
     );
-    let ring = ConcurrentQueue::bounded(rt.alloc(), 2)?;
+    let ring = ConcurrentQueue::bounded(rt.alloc(), 2).expect(&rt, "memory");
     let of_a_ring = logs_are(
         &rt,
         rt.alloc(),
@@ -85,7 +84,6 @@ fn logs_of_calls_alone(rt: HostRuntime) -> Result<(), Fail> {
         ],
     );
     expect_equal(&rt, &[of_a_slot, of_a_ring], &[true, true]);
-    Ok(())
 }
 
 /// How many lines of a log are of this operation and answered more than 0.
@@ -158,8 +156,7 @@ fn two_at_once<R: Threads + Wait + Sync>(
 }
 
 #[test]
-fn logs_of_calls_at_once(rt: HostRuntime) -> Result<(), Fail> {
-    let queue = ConcurrentQueue::bounded(rt.alloc(), 2)?;
+fn logs_of_calls_at_once(rt: HostRuntime) {
+    let queue = ConcurrentQueue::bounded(rt.alloc(), 2).expect(&rt, "memory");
     expect_true(&rt, two_at_once(&rt, rt.alloc(), &queue));
-    Ok(())
 }

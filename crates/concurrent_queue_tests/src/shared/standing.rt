@@ -9,7 +9,6 @@ use concurrent_queue::queue_call::QueueCall;
 use concurrent_queue::shared::queue::ConcurrentQueue;
 use std::alloc::Global;
 use std::sync::Wait;
-use std::test::Fail;
 
 /// What a call answers that makes so many steps at most; nothing where it is still under way after them.
 fn answer_within<R: Wait>(
@@ -111,12 +110,11 @@ fn places_passed<R: Wait>(rt: &R, alloc: Global, capacity: Option<usize>) -> Res
 }
 
 #[test]
-fn a_push_that_stands_still_holds_no_question_up(rt: HostRuntime) -> Result<(), Fail> {
+fn a_push_that_stands_still_holds_no_question_up(rt: HostRuntime) {
     let places = [
-        places_passed(&rt, rt.alloc(), Some(1))?,
-        places_passed(&rt, rt.alloc(), Some(2))?,
-        places_passed(&rt, rt.alloc(), None)?,
+        places_passed(&rt, rt.alloc(), Some(1)).expect(&rt, "memory"),
+        places_passed(&rt, rt.alloc(), Some(2)).expect(&rt, "memory"),
+        places_passed(&rt, rt.alloc(), None).expect(&rt, "memory"),
     ];
     expect_equal(&rt, &places, &[3, 5, 8]);
-    Ok(())
 }

@@ -1,7 +1,7 @@
 //! The greatest scripts.
-use super::cut::{check, writer};
+use super::cut::check_run;
 use crate::checks::expect_equal;
-use channel_world::script::{ScriptEnd, run_script};
+use channel_world::script::ScriptEnd;
 use std::alloc::{AllocError, Global};
 use std::test::Fail;
 
@@ -29,13 +29,10 @@ fn a_million_lines_can_be_read_and_no_more(rt: HostRuntime) -> Result<(), Fail> 
         if end != ScriptEnd::Done {
             text.extend_from_slice(b"line 1000001: can't be read\n")?;
         }
-        let mut out = writer(rt.alloc(), text.as_slice())?;
-        let ended = run_script(rt.alloc(), &mut script.as_slice(), &mut out);
-        check(
+        check_run(
             &rt,
-            out.as_slice(),
+            &mut script.as_slice(),
             text.as_slice(),
-            ended,
             end,
             "a million lines",
         )?;
@@ -47,10 +44,8 @@ fn a_million_lines_can_be_read_and_no_more(rt: HostRuntime) -> Result<(), Fail> 
 fn a_line_has_200_bytes_at_most(rt: HostRuntime) -> Result<(), Fail> {
     for times in [200, 201] {
         let script = repeated(rt.alloc(), "unbounded\n", "a", times)?;
-        let mut out = writer(rt.alloc(), UNREADABLE)?;
-        let ended = run_script(rt.alloc(), &mut script.as_slice(), &mut out);
         let end = ScriptEnd::Unreadable { line: 2 };
-        check(&rt, out.as_slice(), UNREADABLE, ended, end, "a long line")?;
+        check_run(&rt, &mut script.as_slice(), UNREADABLE, end, "a long line")?;
     }
     Ok(())
 }
@@ -62,24 +57,19 @@ fn the_greatest_script_is_read(rt: HostRuntime) -> Result<(), Fail> {
         (16_777_207, ScriptEnd::Fault, b"read fault\n"),
     ] {
         let script = repeated(rt.alloc(), "unbounded\n", "a", times)?;
-        let mut out = writer(rt.alloc(), text)?;
-        let ended = run_script(rt.alloc(), &mut script.as_slice(), &mut out);
-        check(&rt, out.as_slice(), text, ended, end, "many bytes")?;
+        check_run(&rt, &mut script.as_slice(), text, end, "many bytes")?;
     }
     Ok(())
 }
 
 #[test]
 fn bytes_past_ascii_cannot_be_read(rt: HostRuntime) -> Result<(), Fail> {
-    let mut out = writer(rt.alloc(), UNREADABLE)?;
     let script = b"unbounded\n\xff\n";
-    let ended = run_script(rt.alloc(), &mut script.as_slice(), &mut out);
     let end = ScriptEnd::Unreadable { line: 2 };
-    check(
+    check_run(
         &rt,
-        out.as_slice(),
+        &mut script.as_slice(),
         UNREADABLE,
-        ended,
         end,
         "a byte past ascii",
     )

@@ -1,7 +1,8 @@
 //! Texts that end early, because a growth was refused.
 use crate::checks::expect_true;
-use channel_world::script::ScriptEnd;
-use std::alloc::{AllocError, Global};
+use channel_world::script::{ScriptEnd, run_script};
+use std::alloc::{AllocError, AllocGlobal, Global};
+use std::io::Read;
 use std::process::Abort;
 use std::test::Fail;
 
@@ -44,6 +45,19 @@ pub fn check(
     assert_eq!(rt; ended, end, "{what}");
     assert_eq!(rt; held, text, "{what}");
     Ok(())
+}
+
+/// Runs the script that this reader gives, which is to write this text, and to end so. A growth that was refused ends this by its name.
+pub fn check_run<I: Read>(
+    rt: &(impl AllocGlobal + Abort),
+    reader: &mut I,
+    text: &[u8],
+    end: ScriptEnd,
+    what: &str,
+) -> Result<(), Fail> {
+    let mut out = writer(rt.alloc(), text)?;
+    let ended = run_script(rt.alloc(), reader, &mut out);
+    check(rt, out.as_slice(), text, ended, end, what)
 }
 
 /// Compares the front of a text that a failing writer holds: of the whole text; or, where a growth was refused, of some

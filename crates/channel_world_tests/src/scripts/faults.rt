@@ -1,5 +1,5 @@
 //! Readers and writers in memory that fail, at every place of a short script.
-use super::cut::{check, check_front, writer};
+use super::cut::{check, check_front, check_run, writer};
 use channel_world::script::{ScriptEnd, run_script};
 use std::io;
 use std::io::{ErrorKind, Read, Write};
@@ -122,33 +122,18 @@ impl Write for Limited {
 /// failed is refused here, and one that writes nothing.
 #[test]
 fn interrupted_reader_is_asked_again(rt: HostRuntime) -> Result<(), Fail> {
-    let mut out = writer(rt.alloc(), TEXT.as_bytes())?;
-    let end = run_script(
-        rt.alloc(),
-        &mut trickling(SCRIPT.as_bytes(), AtEnd::Ends),
-        &mut out,
-    );
-    check(
-        &rt,
-        out.as_slice(),
-        TEXT.as_bytes(),
-        end,
-        ScriptEnd::Done,
-        SCRIPT,
-    )
+    let mut reader = trickling(SCRIPT.as_bytes(), AtEnd::Ends);
+    check_run(&rt, &mut reader, TEXT.as_bytes(), ScriptEnd::Done, SCRIPT)
 }
 
 #[test]
 fn read_fault_stands_alone(rt: HostRuntime) -> Result<(), Fail> {
     for given in 0..=SCRIPT.len() {
-        let mut out = writer(rt.alloc(), READ_FAULT)?;
-        let text = &SCRIPT.as_bytes()[..given];
-        let end = run_script(rt.alloc(), &mut trickling(text, AtEnd::Fails), &mut out);
-        check(
+        let mut reader = trickling(&SCRIPT.as_bytes()[..given], AtEnd::Fails);
+        check_run(
             &rt,
-            out.as_slice(),
+            &mut reader,
             READ_FAULT,
-            end,
             ScriptEnd::Fault,
             "a reader that fails",
         )?;
@@ -159,13 +144,10 @@ fn read_fault_stands_alone(rt: HostRuntime) -> Result<(), Fail> {
 #[test]
 fn endless_reader_is_a_read_fault(rt: HostRuntime) -> Result<(), Fail> {
     for byte in [Some(b'\n'), None] {
-        let mut out = writer(rt.alloc(), READ_FAULT)?;
-        let end = run_script(rt.alloc(), &mut Endless { byte }, &mut out);
-        check(
+        check_run(
             &rt,
-            out.as_slice(),
+            &mut Endless { byte },
             READ_FAULT,
-            end,
             ScriptEnd::Fault,
             "an endless reader",
         )?;
@@ -180,16 +162,8 @@ fn a_reader_is_asked_33554432_times_at_most(rt: HostRuntime) -> Result<(), Fail>
         (33_554_432, READ_FAULT, ScriptEnd::Fault),
     ];
     for (left, text, end) in rows {
-        let mut out = writer(rt.alloc(), text)?;
-        let ended = run_script(rt.alloc(), &mut Interrupted { left }, &mut out);
-        check(
-            &rt,
-            out.as_slice(),
-            text,
-            ended,
-            end,
-            "a reader that ends late",
-        )?;
+        let mut reader = Interrupted { left };
+        check_run(&rt, &mut reader, text, end, "a reader that ends late")?;
     }
     Ok(())
 }
