@@ -154,11 +154,19 @@ pub fn merges_are_runs<T, W, S: Wakes<W>>()
 {}
 
 /// The headline holds of what any number of parties do to a new channel, if each call does what its machine does and goes by the
-/// answers, and all their deeds come in one order in which each answer is what the cells then held, fewer than 2^61 of them. At each
-/// moment what left the channel, followed by what it holds, is what came into it, in order, and it is no more than fit; beside
-/// one who is pending and was not told there is no message, no free place and no closing but such as a told one or a call under way
-/// answers for. Each reply's row holds of the marks and moments of its call. What is closed stays closed; once a reply says the
-/// end, nothing comes or leaves, and a call that begins then gives no message. Each party was given what these replies give it.
+/// answers, and all their deeds come in one order in which each answer is what the cells then held, fewer than 2^61 of them.
+///
+/// Of each moment, the first one too: what left the channel, followed by what it holds, is what came into it, in order, and it is no
+/// more than fit. Beside one who is pending and was not told there is no message, no free place and no closing but such as a told one
+/// or a call under way answers for. Each message lies in the slot that the words of the queue name for it alone, or is with the call
+/// that is yet to put it there. No call has more than 197 steps left, and 64 for each message that it may take more than one.
+///
+/// Of each step: it does to the plain channel what its mark says, touches one place at most, and wakes whom its telling finds waiting.
+/// Where it ends its call the row of the reply holds of the marks and moments of that call. Where the others hold the call up no
+/// more, it ends it or leaves it fewer steps. What is closed stays closed; once a reply says the end, nothing comes or leaves, and a call
+/// that begins then gives no message.
+///
+/// Each party was given what these replies give it. `specs/BridgeHeadline` has this sentence by sentence. Of names nothing is said.
 ///
 /// Own to this project.
 pub fn merges_keep_the_headline<T, W, S: Wakes<W>>()
