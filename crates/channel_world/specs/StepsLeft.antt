@@ -25,17 +25,16 @@ module _ {T : Type 0} where
   abbrev pub most_left : ℕ → Moment T → ℕ
   most_left p m = 197 + 64 * wanted_of p m.scene.under_way
 
-  -- at each moment, where the others hold a party's call up no more, it makes no more steps than these before it ends, if its are
-  -- the next
-  abbrev pub EndInARow : Moment T → List (Step T) → List (Entry T) → List (Moment T) → Type 0
-  EndInARow m [] [] [] = Unit {0}
-  EndInARow m (x ∷ xs) (e ∷ es) (n ∷ ns) =
-      ((p : ℕ) → NobodyHoldsUp p m → in_a_row p (x ∷ xs) (e ∷ es) ≤ most_left p m) × EndInARow n xs es ns
-  EndInARow m _ _ _ = ⊥
-
-  -- so it is of the steps in front of a list, also where not all of them are made
+  -- where the others hold a party's call up no more at this moment, it makes no more steps than these before it ends, if its are the
+  -- next: those in front of a list, also where not all of them are made
   abbrev pub EndInFront : Moment T → List (Step T) → List (Entry T) → Type 0
   EndInFront m steps trace = (party : ℕ) → NobodyHoldsUp party m → in_a_row party steps trace ≤ most_left party m
+
+  -- so it is at each moment
+  abbrev pub EndInARow : Moment T → List (Step T) → List (Entry T) → List (Moment T) → Type 0
+  EndInARow m [] [] [] = Unit {0}
+  EndInARow m (x ∷ xs) (e ∷ es) (n ∷ ns) = EndInFront m (x ∷ xs) (e ∷ es) × EndInARow n xs es ns
+  EndInARow m _ _ _ = ⊥
 
   -- from whatever scene the world stood in: a call that the others hold up no more makes no more steps than these in front of the
   -- list
