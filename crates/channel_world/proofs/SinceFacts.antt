@@ -181,7 +181,7 @@ module _ {T : Type 0} (world : Parts T Waiter) where
 
 -- ---- the laws
 
-module _ (T : Type 0) where
+module _ {T : Type 0} where
   pub closes_what_is_left : (world : Floor T) → ClosesWhatIsLeft world
   closes_what_is_left world s replies led =
       subst (λ (rs : List (Reply T)). closings_among rs ≤ closings_left s) led.way.given (way_closes s led.last led.way.paces led.way.is)

@@ -4,7 +4,7 @@ use Rattle.channel_world.proofs.laws.an_unbounded_world_is_never_full.Goals as g
 
 pub returns : goal.returns
 returns g c = record {
-  since_opening = is_never_full _ c.args.world.now;
-  since = is_never_full_since _ c.args.world.now;
-  from_rest = is_never_full_from_rest _ c.args.world.now;
+  since_opening = is_never_full c.args.world.now;
+  since = is_never_full_since c.args.world.now;
+  from_rest = is_never_full_from_rest c.args.world.now;
 }

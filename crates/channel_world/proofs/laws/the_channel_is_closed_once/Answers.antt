@@ -4,8 +4,8 @@ use Rattle.channel_world.proofs.laws.the_channel_is_closed_once.Goals as goal
 
 pub returns : goal.returns
 returns g c = record {
-  since_opening = closes_once _ c.args.world.now;
-  left = closes_what_is_left _ c.args.world.now;
-  from_rest = closes_once_from_rest _ c.args.world.now;
-  again = none_closes_again _ c.args.world.now;
+  since_opening = closes_once c.args.world.now;
+  left = closes_what_is_left c.args.world.now;
+  from_rest = closes_once_from_rest c.args.world.now;
+  again = none_closes_again c.args.world.now;
 }
