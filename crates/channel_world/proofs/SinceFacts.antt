@@ -181,6 +181,10 @@ module _ {T : Type 0} (world : Parts T Waiter) where
 
 -- ---- the laws
 
+one_at_most : (b : Bool) → while_open b ≤ 1
+one_at_most true = omega arith
+one_at_most false = omega arith
+
 module _ {T : Type 0} where
   pub closes_what_is_left : (world : Floor T) → ClosesWhatIsLeft world
   closes_what_is_left world s replies led =
@@ -197,10 +201,6 @@ module _ {T : Type 0} where
       let same : while_open (at_rest a).channel.closed ≡ while_open k.scene.now.queue.closed =
       ap (λ (x : State T). while_open x.channel.closed) (at_rest_is a k.scene k.stands.shown quiet) in
       omega (arith, none, same)
-
-  one_at_most : (b : Bool) → while_open b ≤ 1
-  one_at_most true = omega arith
-  one_at_most false = omega arith
 
   pub closes_once_from_rest : (world : Floor T) → ClosesOnceFromRest world
   closes_once_from_rest b a replies k quiet leads =
