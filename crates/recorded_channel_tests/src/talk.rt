@@ -86,7 +86,7 @@ struct Outcome {
 }
 
 /// What came of it, where each thread is back and both channels end.
-fn outcome<L: Ledger, M: Ledger, R: Abort + AllocGlobal>(
+fn end_both<L: Ledger, M: Ledger, R: Abort + AllocGlobal>(
     rt: &R,
     one: RecordedChannel<u64, L>,
     two: RecordedChannel<u64, M>,
@@ -125,7 +125,7 @@ fn talk<L: Ledger + Sync, M: Ledger + Sync, R: Threads + Wait + Abort + AllocGlo
         move || speak(rt, x, y, a1, a2, 1),
         move || speak(rt, y, x, b2, b1, 2),
     );
-    outcome(rt, one, two, a, b)
+    end_both(rt, one, two, a, b)
 }
 
 /// Each thread gets the other's word by an answer, and both records have as many entries as calls were made.

@@ -294,7 +294,7 @@ impl Stepped {
 }
 
 /// A world of which nothing was made yet.
-fn stepped(world: World<u64>, alloc: Global) -> Stepped {
+fn nothing_made(world: World<u64>, alloc: Global) -> Stepped {
     Stepped {
         alloc,
         world,
@@ -322,7 +322,7 @@ pub fn check_steps(bytes: &[u8], alloc: Global) -> Result<u64, Fault> {
     let Ok(world) = form.open(alloc) else {
         return Err(NO_MEMORY);
     };
-    let mut trial = stepped(world, alloc);
+    let mut trial = nothing_made(world, alloc);
     let most = form.capacity().unwrap_or(usize::MAX) as u64;
     trial.check(rest, most)?;
     Ok(trial.made)

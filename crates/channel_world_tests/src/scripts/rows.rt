@@ -15,7 +15,7 @@ fn show_all(rt: &(impl AllocGlobal + Abort), rows: &[Row]) -> Result<(), Fail> {
     Ok(())
 }
 
-static PLAIN_CALLS: [Row; 8] = [
+static PLAIN_CALLS_ROWS: [Row; 8] = [
     // stored run
     (
         "bounded 1\ntry_send s 10\ntry_send s 20\ntry_recv r\ntry_recv r\nclose s\ntry_send s 30\ntry_recv r\n",
@@ -60,10 +60,10 @@ static PLAIN_CALLS: [Row; 8] = [
 
 #[test]
 fn plain_calls(rt: HostRuntime) -> Result<(), Fail> {
-    show_all(&rt, &PLAIN_CALLS)
+    show_all(&rt, &PLAIN_CALLS_ROWS)
 }
 
-static WHAT_CANNOT_BE_READ: [Row; 11] = [
+static WHAT_CANNOT_BE_READ_ROWS: [Row; 11] = [
     // leading zero
     (
         "bounded 1\ntry_send s 01\n",
@@ -134,10 +134,10 @@ static WHAT_CANNOT_BE_READ: [Row; 11] = [
 
 #[test]
 fn what_cannot_be_read(rt: HostRuntime) -> Result<(), Fail> {
-    show_all(&rt, &WHAT_CANNOT_BE_READ)
+    show_all(&rt, &WHAT_CANNOT_BE_READ_ROWS)
 }
 
-static SETTLING: [Row; 8] = [
+static SETTLING_ROWS: [Row; 8] = [
     // settling three receives
     (
         "bounded 1\nrecv a r\nrecv b r\nrecv c r\npoll a\npoll b\npoll c\ntry_send s 9\nsettle\nlen r\nsettle\n",
@@ -190,10 +190,10 @@ static SETTLING: [Row; 8] = [
 
 #[test]
 fn settling(rt: HostRuntime) -> Result<(), Fail> {
-    show_all(&rt, &SETTLING)
+    show_all(&rt, &SETTLING_ROWS)
 }
 
-static POLLED_OPERATIONS: [Row; 9] = [
+static POLLED_OPERATIONS_ROWS: [Row; 9] = [
     // closing wakes a receive
     (
         "bounded 1\nrecv a r\npoll a\ndrop r\ntry_recv x\nclose s\n",
@@ -252,10 +252,10 @@ static POLLED_OPERATIONS: [Row; 9] = [
 
 #[test]
 fn polled_operations(rt: HostRuntime) -> Result<(), Fail> {
-    show_all(&rt, &POLLED_OPERATIONS)
+    show_all(&rt, &POLLED_OPERATIONS_ROWS)
 }
 
-static SEVERAL_AT_ONCE: [Row; 5] = [
+static SEVERAL_AT_ONCE_ROWS: [Row; 5] = [
     // as many sends are told as messages were taken
     (
         "bounded 3\ntry_send s 1\ntry_send s 2\ntry_send s 3\nsend a s 4\nsend b s 5\nsend c s 6\npoll a\npoll b\npoll c\nrecv_many r 2\npoll a\npoll b\npoll c\nrecv_many r 10\npoll c\nrecv_many r 10\nrecv_many r 10\nclose s\nrecv_many r 1\nrecv_many r 0\n",
@@ -290,10 +290,10 @@ static SEVERAL_AT_ONCE: [Row; 5] = [
 
 #[test]
 fn several_at_once(rt: HostRuntime) -> Result<(), Fail> {
-    show_all(&rt, &SEVERAL_AT_ONCE)
+    show_all(&rt, &SEVERAL_AT_ONCE_ROWS)
 }
 
-static SEVERAL_AT_ONCE_OVER_THE_END_OF_A_BLOCK: [Row; 1] = [(
+static SEVERAL_AT_ONCE_OVER_THE_END_OF_A_BLOCK_ROWS: [Row; 1] = [(
     "unbounded\ntry_send s 1\ntry_send s 2\ntry_send s 3\ntry_send s 4\ntry_send s 5\ntry_send s 6\ntry_send s 7\ntry_send s 8\ntry_send s 9\ntry_send s 10\ntry_send s 11\ntry_send s 12\ntry_send s 13\ntry_send s 14\ntry_send s 15\ntry_send s 16\ntry_send s 17\ntry_send s 18\ntry_send s 19\ntry_send s 20\ntry_send s 21\ntry_send s 22\ntry_send s 23\ntry_send s 24\ntry_send s 25\ntry_send s 26\ntry_send s 27\ntry_send s 28\ntry_send s 29\ntry_send s 30\ntry_send s 31\ntry_send s 32\ntry_send s 33\ntry_send s 34\ntry_send s 35\ntry_send s 36\ntry_send s 37\ntry_send s 38\ntry_send s 39\ntry_send s 40\nrecv_many r 35\nrecv_many r 35\nrecv_many r 35\n",
     "ok\nok\nok\nok\nok\nok\nok\nok\nok\nok\nok\nok\nok\nok\nok\nok\nok\nok\nok\nok\nok\nok\nok\nok\nok\nok\nok\nok\nok\nok\nok\nok\nok\nok\nok\nok\nok\nok\nok\nok\nok\nok 1 2 3 4 5 6 7 8 9 10 11 12 13 14 15 16 17 18 19 20 21 22 23 24 25 26 27 28 29 30 31 32 33 34 35\nok 36 37 38 39 40\nempty\n",
     ScriptEnd::Done,
@@ -301,10 +301,10 @@ static SEVERAL_AT_ONCE_OVER_THE_END_OF_A_BLOCK: [Row; 1] = [(
 
 #[test]
 fn several_at_once_over_the_end_of_a_block(rt: HostRuntime) -> Result<(), Fail> {
-    show_all(&rt, &SEVERAL_AT_ONCE_OVER_THE_END_OF_A_BLOCK)
+    show_all(&rt, &SEVERAL_AT_ONCE_OVER_THE_END_OF_A_BLOCK_ROWS)
 }
 
-static STREAMS_AND_NOTICES_OF_THE_CLOSING: [Row; 5] = [
+static STREAMS_AND_NOTICES_OF_THE_CLOSING_ROWS: [Row; 5] = [
     // closing wakes a receive, a stream and a notice
     (
         "unbounded\nclone q r\nrecv a r\nclosed c s\npoll a\nnext q\npoll c\nclose s\npoll a\nnext q\npoll c\n",
@@ -339,10 +339,10 @@ static STREAMS_AND_NOTICES_OF_THE_CLOSING: [Row; 5] = [
 
 #[test]
 fn streams_and_notices_of_the_closing(rt: HostRuntime) -> Result<(), Fail> {
-    show_all(&rt, &STREAMS_AND_NOTICES_OF_THE_CLOSING)
+    show_all(&rt, &STREAMS_AND_NOTICES_OF_THE_CLOSING_ROWS)
 }
 
-static HANDLES_AND_QUESTIONS: [Row; 7] = [
+static HANDLES_AND_QUESTIONS_ROWS: [Row; 7] = [
     // upgrade of a closed channel
     (
         "unbounded\ndowngrade w s\nclose s\nupgrade t w\nupgrade t w\nsender_count t\nsender_count s\n",
@@ -389,5 +389,5 @@ static HANDLES_AND_QUESTIONS: [Row; 7] = [
 
 #[test]
 fn handles_and_questions(rt: HostRuntime) -> Result<(), Fail> {
-    show_all(&rt, &HANDLES_AND_QUESTIONS)
+    show_all(&rt, &HANDLES_AND_QUESTIONS_ROWS)
 }
