@@ -1,10 +1,11 @@
 -- The section that takes a listener off is fair: it leaves nobody waiting that nobody answers for, and no ticket without a listener.
-use Rattle.std.proofs.Common.{◌⊎◌, inl, inr, ◌≡◌, ℕ, zero, suc, ◌+◌, ◌<◌, ◌≤◌, ◌==◌, Bool, true, false, List, [], ◌∷◌, ◌++◌, Option, None, Some, cond, is_some, true-eqb, sym, refl, ap, ◌∙◌, subst, ⊎_elim, arith}
+use Rattle.std.proofs.Common.{◌⊎◌, inl, inr, ◌≡◌, ℕ, zero, suc, ◌+◌, ◌<◌, ◌≤◌, ◌==◌, Bool, true, false, List, [], cond, true-eqb, sym, refl, ap, ◌∙◌, subst, ⊎_elim, arith}
 use Rattle.channel_wakeups.specs.declared.rule.View.{View}
 use Rattle.channel_wakeups.specs.declared.listeners.Listener.{Listener}
 use Rattle.channel_wakeups.specs.Lists.{told, waits, listed, is_this}
 use Rattle.channel_wakeups.proofs.Listed.{small_this}
 use Rattle.channel_wakeups.specs.Views.{Known, pass, busy, desk, entered, is_key, MayWait, MayTicket, Fair}
+use Rattle.channel_wakeups.specs.declared.rule.Transfer.{Transfer}
 
 -- a key and its successor
 is_key_of : (k key : ℕ) → is_key k (key + 1) ≡ is_this key k
@@ -18,11 +19,11 @@ zero_or_one zero small = inl refl
 zero_or_one (suc zero) small = inr refl
 zero_or_one (suc (suc n)) small = absurd (omega arith)
 
-module _ {W : Type 0} (ls ls' : List (Listener W)) (p : ℕ) where
+module _ {T W : Type 0} (lg : List (Transfer T)) (ls ls' : List (Listener W)) (p : ℕ) where
   -- a listener that waits no more under its key was taken off, and as many are told as before, or nobody waits
   pub off_fair : (h key : ℕ) → (h ≡ 0) ⊎ (h ≡ key + 1) → waits key ls' ≡ 0 → ((k : ℕ) → waits k ls' ≤ waits k ls) → (told ls ≤ told ls') ⊎ ((k : ℕ) → waits k ls' ≡ 0) → ((k : ℕ) → listed k ls ≤ listed k ls' + is_this key k)
-      → Fair (entered (desk ls) (pass p 0 h 0 (key + 1))) (busy (1 + p) 0 0 0 ls')
-  off_fair h key held gone fewer how off = (refl, refl, refl, may_wait, may_ticket)
+      → Fair (entered (desk ls) (pass p 0 h 0 (key + 1) lg)) (busy (1 + p) 0 0 0 ls' lg)
+  off_fair h key held gone fewer how off = (refl, refl, refl, refl, may_wait, may_ticket)
     where
       -- the listener in hand waits no more, and of all others none is in hand
       free : (k : ℕ) → 0 < waits k ls' → is_key k h ≡ 0
@@ -34,18 +35,18 @@ module _ {W : Type 0} (ls ls' : List (Listener W)) (p : ℕ) where
           none_there k true e some one = let same : waits k ls' ≡ waits key ls' = ap (λ (n : ℕ). waits n ls') (sym (true-eqb key k (sym e))) in absurd (omega arith)
           none_there k false e some one = let zero_is : is_this key k ≡ 0 = ap (λ (c : Bool). cond c 1 0) e in absurd (omega arith)
 
-      may_wait : (k : ℕ) → MayWait (entered (desk ls) (pass p 0 h 0 (key + 1))) (busy (1 + p) 0 0 0 ls') k
+      may_wait : (k : ℕ) → MayWait (entered (desk ls) (pass p 0 h 0 (key + 1) lg)) (busy (1 + p) 0 0 0 ls' lg) k
       may_wait k some =
           let f = free k some in
           let w = fewer k in
           ⊎_elim (λ (t : told ls ≤ told ls'). inr (omega arith, omega arith, omega arith)) (λ (t : (j : ℕ) → waits j ls' ≡ 0). let z = t k in absurd (omega arith)) how
 
-      may_ticket : (k : ℕ) → MayTicket (entered (desk ls) (pass p 0 h 0 (key + 1))) (busy (1 + p) 0 0 0 ls') k
+      may_ticket : (k : ℕ) → MayTicket (entered (desk ls) (pass p 0 h 0 (key + 1) lg)) (busy (1 + p) 0 0 0 ls' lg) k
       may_ticket k = let o = off k in let i = is_key_of k key in omega arith
 
 -- the same of seats
-pub off_from : {T W : Type 0} (n d c : Known T W) (ls ls' : List (Listener W)) (p h key : ℕ) → n ≡ (entered d.0 c.0, []) → d ≡ (desk ls, []) → c ≡ (pass p 0 h 0 (key + 1), []) → (h ≡ 0) ⊎ (h ≡ key + 1) → waits key ls' ≡ 0
-    → ((k : ℕ) → waits k ls' ≤ waits k ls) → (told ls ≤ told ls') ⊎ ((k : ℕ) → waits k ls' ≡ 0) → ((k : ℕ) → listed k ls ≤ listed k ls' + is_this key k) → Fair n.0 (busy n.0.parts 0 0 0 ls')
-off_from {W = W} n d c ls ls' p h key is at call held gone fewer how off =
-    let view : n.0 ≡ entered (desk ls) (pass p 0 h 0 (key + 1)) = (λ k. (is k).0) ∙ (λ k. entered (at k).0 (call k).0) in
-    subst (λ (v : View W). Fair v (busy v.parts 0 0 0 ls')) (sym view) (off_fair ls ls' p h key held gone fewer how off)
+pub off_from : {T W : Type 0} (n d c : Known T W) (ls ls' : List (Listener W)) (p h key : ℕ) (lg : List (Transfer T)) → n ≡ (entered d.0 c.0, []) → d ≡ (desk ls, []) → c ≡ (pass p 0 h 0 (key + 1) lg, []) → (h ≡ 0) ⊎ (h ≡ key + 1) → waits key ls' ≡ 0
+    → ((k : ℕ) → waits k ls' ≤ waits k ls) → (told ls ≤ told ls') ⊎ ((k : ℕ) → waits k ls' ≡ 0) → ((k : ℕ) → listed k ls ≤ listed k ls' + is_this key k) → Fair n.0 (busy n.0.parts 0 0 0 ls' n.0.log)
+off_from {T = T} {W = W} n d c ls ls' p h key lg is at call held gone fewer how off =
+    let view : n.0 ≡ entered (desk ls) (pass p 0 h 0 (key + 1) lg) = (λ k. (is k).0) ∙ (λ k. entered (at k).0 (call k).0) in
+    subst (λ (v : View T W). Fair v (busy v.parts 0 0 0 ls' v.log)) (sym view) (off_fair lg ls ls' p h key held gone fewer how off)

@@ -1,11 +1,12 @@
 -- What the seats count for together, and what becomes of the rule when one of them changes.
-use Rattle.std.proofs.Common.{◌⊎◌, inl, inr, ◌≡◌, ℕ, zero, suc, ◌+◌, ◌<◌, ◌≤◌, List, [], ◌∷◌, ◌++◌, Option, set, sym, refl, ap, ◌∙◌, subst, ⊎_elim, arith}
+use Rattle.std.proofs.Common.{◌⊎◌, inl, inr, ◌≡◌, ℕ, zero, suc, ◌+◌, ◌<◌, ◌≤◌, List, [], ◌∷◌, ◌++◌, Option, set, sym, refl, ap, ◌∙◌, ⊎_elim, arith}
 use mathlib.Core.Option as home
 use mathlib.Core.Option.{some, some-ne-none, some-injective}
 use lib.ListN.{get_elem?}
 use Rattle.channel_wakeups.specs.declared.rule.View.{View}
 use Rattle.channel_wakeups.specs.Lists.{total, told, waits, listed}
-use Rattle.channel_wakeups.specs.Views.{nobody, only, is_key, parts_of, lists_of, answers_of, holds_of, locks_of, owns_of, waits_of, told_of, listed_of, tickets_of, messages, Owed, IsSlot, empty, full, out, Kept}
+use Rattle.channel_wakeups.specs.Log.{Weight, Balanced, each, numbered, held}
+use Rattle.channel_wakeups.specs.Views.{nobody, only, parts_of, lists_of, answers_of, holds_of, locks_of, owns_of, waits_of, told_of, listed_of, tickets_of, puts_of, takes_of, messages, Owed, IsSlot, empty, full, out, Ordered, Kept}
 
 pub total_set : {V : Type 0} (f : V → ℕ) (vs : List V) (i : ℕ) (v w : V) → get_elem? vs i ≡ some v → total f (set vs i w) + f v ≡ total f vs + f w
 total_set f [] i v w e = absurd (some-ne-none v (sym e))
@@ -46,33 +47,54 @@ slot_by w s l o m p e f (empty a b c) = empty a b (sym e ∙ c)
 slot_by w s l o m p e f (full x a b c) = full x a b (sym e ∙ c)
 slot_by w s l o m p e f (out a b c d) = out a (sym e ∙ b) (sym f ∙ c) d
 
+-- the same sums balance as well
+pub balanced_by : {T : Type 0} (s : home.Option (Option T)) (p q p' q' : Weight T → ℕ) → ((f : Weight T) → p f ≡ p' f) → ((f : Weight T) → q f ≡ q' f) → Balanced s p q → Balanced s p' q'
+balanced_by {T = T} s p q p' q' e d b = (
+  (λ k.
+      let x = e each in
+      let y = e (numbered k) in
+      let once = b.0 k in
+      ((λ less. sym y ∙ once.0 (omega arith)), (λ more. sym y ∙ once.1 (omega arith)))),
+  (λ f. sym (e f) ∙ b.1 f ∙ (λ i. d f i + held (e each i) f s)),
+)
+
 -- ---- one seat's view changes
 
-module _ {W : Type 0} where
+module _ {T W : Type 0} where
   -- what the others count for
-  abbrev pub others : (View W → ℕ) → List (View W) → ℕ → ℕ
+  abbrev pub others : (View T W → ℕ) → List (View T W) → ℕ → ℕ
   others f vs id = total f (set vs id nobody)
 
-  pub was : (f : View W → ℕ) → f nobody ≡ 0 → (vs : List (View W)) (id : ℕ) (v : View W) → get_elem? vs id ≡ some v → total f vs ≡ others f vs id + f v
+  pub was : (f : View T W → ℕ) → f nobody ≡ 0 → (vs : List (View T W)) (id : ℕ) (v : View T W) → get_elem? vs id ≡ some v → total f vs ≡ others f vs id + f v
   was f z vs id v at = let t = total_set f vs id v nobody at in omega arith
 
-  pub becomes : (f : View W → ℕ) → f nobody ≡ 0 → (vs : List (View W)) (id : ℕ) (v w : View W) → get_elem? vs id ≡ some v → total f (set vs id w) ≡ others f vs id + f w
+  pub becomes : (f : View T W → ℕ) → f nobody ≡ 0 → (vs : List (View T W)) (id : ℕ) (v w : View T W) → get_elem? vs id ≡ some v → total f (set vs id w) ≡ others f vs id + f w
   becomes f z vs id v w at = let t = total_set f vs id v w at in let u = total_set f vs id v nobody at in omega arith
 
   -- whatever the others count for, the law goes from v to u
-  abbrev pub Goes : ℕ → ℕ → View W → View W → Type 0
+  abbrev pub Goes : ℕ → ℕ → View T W → View T W → Type 0
   Goes w x v u =
       (key b t a h : ℕ) → (v.lists ≡ 1 → (b ≡ 0) × (t ≡ 0)) → Owed (messages w) (b + waits_of key v) ((t + told_of v) + (a + answers_of v)) (h + holds_of key v)
       → Owed (messages x) (b + waits_of key u) ((t + told_of u) + (a + answers_of u)) (h + holds_of key u)
 
-  abbrev pub Tickets : View W → View W → Type 0
+  abbrev pub Tickets : View T W → View T W → Type 0
   Tickets v u = (key l p : ℕ) → p + tickets_of key v ≤ l + listed_of key v → p + tickets_of key u ≤ l + listed_of key u
 
-  abbrev pub Places : {T : Type 0} → ℕ → ℕ → home.Option (Option T) → home.Option (Option T) → View W → View W → Type 0
+  abbrev pub Places : ℕ → ℕ → home.Option (Option T) → home.Option (Option T) → View T W → View T W → Type 0
   Places w x s r v u = (l o : ℕ) → (l ≡ 0 → o ≡ 0) → IsSlot w s (l + locks_of v) (o + owns_of v) → IsSlot x r (l + locks_of u) (o + owns_of u)
 
+  -- whatever the others put in and took out, the balance goes from v to u
+  abbrev pub Logs : (Weight T → ℕ) → (Weight T → ℕ) → home.Option (Option T) → home.Option (Option T) → View T W → View T W → Type 0
+  Logs p q s r v u = Balanced s (λ f. p f + puts_of f v) (λ f. q f + takes_of f v) → Balanced r (λ f. p f + puts_of f u) (λ f. q f + takes_of f u)
+
+  abbrev pub put_else : List (View T W) → ℕ → Weight T → ℕ
+  put_else vs id f = others (puts_of f) vs id
+
+  abbrev pub took_else : List (View T W) → ℕ → Weight T → ℕ
+  took_else vs id f = others (takes_of f) vs id
+
   -- who has the list is alone with it
-  pub alone : (key : ℕ) (vs : List (View W)) (id : ℕ) (v : View W) → get_elem? vs id ≡ some v → total lists_of vs ≡ 1 → v.lists ≡ 1
+  pub alone : (key : ℕ) (vs : List (View T W)) (id : ℕ) (v : View T W) → get_elem? vs id ≡ some v → total lists_of vs ≡ 1 → v.lists ≡ 1
       → (others (waits_of key) vs id ≡ 0) × (others told_of vs id ≡ 0) × (others (listed_of key) vs id ≡ 0)
   alone key vs id v at one is =
       let p = was lists_of refl vs id v at in
@@ -82,10 +104,10 @@ module _ {W : Type 0} where
         none_here (listed_of key) lists_of (set vs id nobody) (λ x e. only_none x.lists (listed key x.listeners) e) rest,
       )
 
-  pub others_free : (vs : List (View W)) (id : ℕ) → others locks_of vs id ≡ 0 → others owns_of vs id ≡ 0
+  pub others_free : (vs : List (View T W)) (id : ℕ) → others locks_of vs id ≡ 0 → others owns_of vs id ≡ 0
   others_free vs id e = none_here owns_of locks_of (set vs id nobody) (λ x z. no_lock x.parts x.owns z) e
 
-  module _ (w x : ℕ) (vs : List (View W)) (id : ℕ) (v u : View W) (at : get_elem? vs id ≡ some v) where
+  module _ (w x : ℕ) (vs : List (View T W)) (id : ℕ) (v u : View T W) (at : get_elem? vs id ≡ some v) where
     owed_turned : (key : ℕ) → total lists_of vs ≡ 1 → Goes w x v u → Owed (messages w) (total (waits_of key) vs) (total told_of vs + total answers_of vs) (total (holds_of key) vs)
         → Owed (messages x) (total (waits_of key) (set vs id u)) (total told_of (set vs id u) + total answers_of (set vs id u)) (total (holds_of key) (set vs id u))
     owed_turned key one goes k some_waiting =
@@ -111,8 +133,8 @@ module _ {W : Type 0} where
         let after = goes key (others (listed_of key) vs id) (others (tickets_of key) vs id) (omega arith) in
         omega arith
 
-    pub turned : {T : Type 0} (s r : home.Option (Option T)) → u.parts ≡ v.parts → u.lists ≡ v.lists → Places w x s r v u → Goes w x v u → Tickets v u → Kept w s vs → Kept x r (set vs id u)
-    turned s r parts lists places goes tickets k =
+    pub turned : (s r : home.Option (Option T)) → u.parts ≡ v.parts → u.lists ≡ v.lists → Places w x s r v u → Goes w x v u → Tickets v u → Logs (put_else vs id) (took_else vs id) s r v u → (Ordered s vs → Ordered r (set vs id u)) → Kept w s vs → Kept x r (set vs id u)
+    turned s r parts lists places goes tickets logs order k =
         let whole = k.whole in
         let one = k.one in
         record {
@@ -122,4 +144,7 @@ module _ {W : Type 0} where
               (places (others locks_of vs id) (others owns_of vs id) (others_free vs id) (slot_by w s _ _ _ _ (was locks_of refl vs id v at) (was owns_of refl vs id v at) k.place));
           owed = λ key. owed_turned key one goes (k.owed key);
           tickets = λ key. tickets_turned key tickets (k.tickets key);
+          balance = balanced_by r _ _ _ _ (λ f. sym (becomes (puts_of f) refl vs id v u at)) (λ f. sym (becomes (takes_of f) refl vs id v u at))
+              (logs (balanced_by s _ _ _ _ (λ f. was (puts_of f) refl vs id v at) (λ f. was (takes_of f) refl vs id v at) k.balance));
+          order = order k.order;
         }

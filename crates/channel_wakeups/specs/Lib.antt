@@ -1,4 +1,5 @@
 pub mod Lists
+pub mod Log
 pub mod Views
 pub mod Stages
 pub mod Cells

@@ -1,25 +1,30 @@
 -- What a call has of the slot, stage by stage, and what its seat knows then.
-use Rattle.std.specs.Prelude.{◌≡◌, ℕ, ◌+◌, ◌<◌, List, [], ◌∷◌, Option, None, Some}
+use Rattle.std.specs.Prelude.{◌≡◌, ℕ, ◌+◌, ◌<◌, List, [], ◌∷◌, ◌++◌, Option, None, Some}
 use Rattle.channel_wakeups.specs.declared.rule.View.{View}
+use Rattle.channel_wakeups.specs.declared.rule.Transfer.TheVariants.{Out}
 use Rattle.channel_wakeups.specs.declared.stage.Stage.{Stage}
 use Rattle.channel_wakeups.specs.declared.stage.Stage.TheVariants.{Free, Won, Filled, Caught, Emptied}
-use Rattle.channel_wakeups.specs.Views.{pass, Known}
+use Rattle.channel_wakeups.specs.Views.{pass, Known, given}
 
-module _ {W : Type 0} where
+module _ {T W : Type 0} where
   -- a pass whose call knows the word to be n while it has the slot; with 0 it has none
-  abbrev pub having : ℕ → View W → View W
-  having n v = pass v.parts v.answers v.holds n v.ticket
+  abbrev pub having : ℕ → View T W → View T W
+  having n v = pass v.parts v.answers v.holds n v.ticket v.log
 
   -- a push won the slot, and answers for one message more
-  abbrev pub filling : View W → View W
-  filling v = pass v.parts (v.answers + 1) v.holds 3 v.ticket
+  abbrev pub filling : View T W → View T W
+  filling v = pass v.parts (v.answers + 1) v.holds 3 v.ticket v.log
 
-  -- a pop won the message, or found none: its call answers for nothing and has no listener in hand
-  abbrev pub taking : View W → View W
-  taking v = pass v.parts 0 0 1 v.ticket
+  -- a pop won this message, or found none: its call answers for nothing and has no listener in hand
+  abbrev pub taking : ℕ → T → View T W → View T W
+  taking k x v = pass v.parts 0 0 1 v.ticket (v.log ++ Out k x ∷ [])
 
-  abbrev pub resting : View W → View W
-  resting v = pass v.parts 0 0 0 v.ticket
+  abbrev pub resting : View T W → View T W
+  resting v = pass v.parts 0 0 0 v.ticket v.log
+
+  -- a push gives the slot back with this message in it; a pop without one
+  abbrev pub giving : ℕ → List (ℕ × Option T) → View T W → View T W
+  giving k c v = pass v.parts v.answers v.holds 0 v.ticket (given k c v.log)
 
 -- what the word is while a call at this stage has the slot, or 0
 abbrev pub word_at : Stage → ℕ

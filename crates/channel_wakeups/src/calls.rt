@@ -1,7 +1,7 @@
 //! What a channel's calls do, each with a pass that is idle before it and after it.
 
 ghost use Rattle.std.specs.Prelude.{◌≡◌, ◌⊎◌, ℕ, ◌+◌, ◌-◌, ◌<◌, true, is_some, IfErr, IfOk};
-ghost use Rattle.channel_wakeups.specs.Calls.{held, is_pending};
+ghost use Rattle.channel_wakeups.specs.Calls.{held, is_pending, Looked, Received, Sent};
 ghost use Rattle.channel_wakeups.specs.Seats.{IsCall, IsIdle};
 
 use crate::cells::{Place, SlotTable};
@@ -34,6 +34,7 @@ pub(crate) fn send<T: Drop, W: Wake, B: Room, R: Wait>(
     requires pass { IsIdle B.table pass.old pass.old.me.0.parts }
     ensures pass { IsIdle B.table pass.new pass.old.me.0.parts }
     ensures back { IfErr result (λ m. m ≡ message) }
+    ensures sent { Sent message result pass.old.me.0.log pass.new.me.0.log }
 {
     let call = mem::replace(pass, blank(table));
     let (sent, call) = push(rt, table, call, message);
@@ -62,7 +63,8 @@ fn take_off<T: Drop, W: Wake, B: Room, R: Wait>(
     requires table { (table.now.shared.table_id ≡ B.table) × (0 < B.table.words) }
     requires call { IsCall B.table call call.me.0.parts 0 call.me.0.holds 0 }
     requires holds { (call.me.0.holds ≡ 0) ⊎ (call.me.0.holds ≡ ticket.key + 1) }
-    ensures { IsIdle B.table result (call.me.0.parts + 1) }
+    ensures idle { IsIdle B.table result (call.me.0.parts + 1) }
+    ensures log { result.me.0.log ≡ call.me.0.log }
 {
     let Ticket { key, seat, room: _ } = ticket;
     take_ticket(table, &mut call, seat);
@@ -80,7 +82,8 @@ pub(crate) fn give_up<T: Drop, W: Wake, B: Room, R: Wait>(
 )
     requires table { (table.now.shared.table_id ≡ B.table) × (0 < B.table.words) }
     requires pass { IsIdle B.table pass.old pass.old.me.0.parts }
-    ensures { IsIdle B.table pass.new (pass.old.me.0.parts + held (is_some waiting)) }
+    ensures idle { IsIdle B.table pass.new (pass.old.me.0.parts + held (is_some waiting)) }
+    ensures log { pass.new.me.0.log ≡ pass.old.me.0.log }
 {
     if let Some(ticket) = waiting {
         let call = mem::replace(pass, blank(table));
@@ -102,6 +105,8 @@ fn notice<T: Drop, W: Wake, B: Room, R: Wait>(
     requires call { IsIdle B.table call call.me.0.parts }
     ensures told { IfOk result (λ r. IsCall B.table r.1 (call.me.0.parts + 1) 1 0 0) }
     ensures waits { IfErr result (λ r. IsIdle B.table r.1 call.me.0.parts) }
+    ensures log { IfOk result (λ r. r.1.me.0.log ≡ call.me.0.log) }
+    ensures same_log { IfErr result (λ r. r.1.me.0.log ≡ call.me.0.log) }
 {
     let Ticket { key, seat, room: _ } = ticket;
     take_ticket(table, &mut call, seat);
@@ -133,6 +138,7 @@ fn try_or_listen<T: Drop, W: Wake, B: Room, R: Wait>(
     requires parts { 1 < call.me.0.parts }
     ensures call { IsIdle B.table result.2 (call.me.0.parts - held (is_some result.1)) }
     ensures pending { is_some result.1 ≡ is_pending result.0 }
+    ensures received { Received result.0 call.me.0.log result.2.me.0.log }
 {
     let (found, call) = pop(rt, table, call);
     if let Some(message) = found {
@@ -173,6 +179,7 @@ pub(crate) fn poll<T: Drop, W: Wake, B: Room, R: Wait>(
     requires parts { 1 < pass.old.me.0.parts + held (is_some waiting.old) }
     ensures pass { IsIdle B.table pass.new (pass.old.me.0.parts + held (is_some waiting.old) - held (is_some waiting.new)) }
     ensures pending { is_some waiting.new ≡ is_pending result }
+    ensures received { Received result pass.old.me.0.log pass.new.me.0.log }
 {
     let mut call = mem::replace(pass, blank(table));
     let mut task = task;
@@ -208,6 +215,8 @@ pub(crate) fn look<T: Drop, W: Wake, B: Room, R: Wait>(
     ensures pass { IsIdle B.table pass.new pass.old.me.0.parts }
     ensures same { is_some waiting.new ≡ is_some waiting.old }
     ensures law { is_some waiting.old ≡ true → result.0 ≡ true → result.1 ≡ true }
+    ensures log { pass.new.me.0.log ≡ pass.old.me.0.log }
+    ensures accounts { Looked result.0 pass.old.me.0.log }
 {
     let mut call = mem::replace(pass, blank(table));
     match waiting.take() {

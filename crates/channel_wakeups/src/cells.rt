@@ -9,10 +9,10 @@ use atomic_table::{Seat, Table};
 use std::alloc::Global;
 
 /// One word, the state of the queue of one slot, and the slot.
-pub(crate) type SlotTable<T, W> = Table<Option<T>, View<W>, (), Answered, Global>;
+pub(crate) type SlotTable<T, W> = Table<Option<T>, View<T, W>, (), Answered, Global>;
 
 /// What is known of the table from one place. It has no bytes.
-pub(crate) type Place<T, W> = Seat<Option<T>, View<W>>;
+pub(crate) type Place<T, W> = Seat<Option<T>, View<T, W>>;
 
 /// The cells on which the queue's machine of one slot makes its steps.
 #[derive(Drop)]

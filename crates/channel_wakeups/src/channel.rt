@@ -1,8 +1,8 @@
 //! The channel, its passes and its receives.
 
-ghost use Rattle.std.specs.Prelude.{◌≡◌, ℕ, ◌+◌, ◌-◌, ◌/◌, ◌<◌, [], true, IfErr, is_some};
+ghost use Rattle.std.specs.Prelude.{◌≡◌, ℕ, ◌+◌, ◌-◌, ◌/◌, ◌<◌, [], ◌++◌, true, IfErr, is_some};
 ghost use Rattle.atomic_table.specs.Seated.{TableId};
-ghost use Rattle.channel_wakeups.specs.Calls.{held, is_pending};
+ghost use Rattle.channel_wakeups.specs.Calls.{held, is_pending, Hand, Looked, Received, Sent};
 ghost use Rattle.channel_wakeups.specs.Seats.{IsIdle, IsTicket};
 ghost use Rattle.channel_wakeups.specs.Views.{busy};
 
@@ -31,7 +31,7 @@ impl<T: Drop, W: Drop> Model for Opened<T, W> {
 
     ghost view = { λ o. o.table.shared.table_id };
 
-    ghost invariant = { λ o. (0 < o.table.shared.table_id.words) × (o.seat.table_id ≡ o.table.shared.table_id) × (o.seat.me ≡ (busy 1024 0 0 0 [], [])) };
+    ghost invariant = { λ o. (0 < o.table.shared.table_id.words) × (o.seat.table_id ≡ o.table.shared.table_id) × (o.seat.me ≡ (busy 1024 0 0 0 [] [], [])) };
 }
 
 /// A channel of one slot in room `B`, whose receives wait with tasks of type `W`.
@@ -49,7 +49,8 @@ impl<T: Drop, W: Drop, B: Room> Model for SlotChannel<T, W, B> {
     ghost invariant = { λ c. (c.table.shared.table_id ≡ B.table) × (0 < B.table.words) };
 }
 
-/// What a thread calls with, and which has no call under way: so many parts of the right to know the whole. It has no bytes.
+/// What a thread calls with, and which has no call under way: so many parts of the right to know the whole, and a log of what was put
+/// in and taken out with it. It has no bytes, and the log is there for contracts alone.
 #[derive(Drop)]
 pub struct Pass<T: Drop, W: Drop, B: Room> {
     pub(crate) seat: Place<T, W>,
@@ -57,9 +58,9 @@ pub struct Pass<T: Drop, W: Drop, B: Room> {
 }
 
 impl<T: Drop, W: Drop, B: Room> Model for Pass<T, W, B> {
-    ghost Value = { ℕ };
+    ghost Value = { Hand T };
 
-    ghost view = { λ p. p.seat.me.0.parts };
+    ghost view = { λ p. record { parts = p.seat.me.0.parts; log = p.seat.me.0.log } };
 
     ghost invariant = { λ p. IsIdle B.table p.seat p.seat.me.0.parts };
 }
@@ -97,7 +98,8 @@ impl<T: Drop, W: Drop> Opened<T, W> {
     /// The channel and its first pass in a room: values of a room fit one another and no other's.
     pub fn enter<B: Room>(self) -> (SlotChannel<T, W, B>, Pass<T, W, B>)
         requires { self ≡ B.table }
-        ensures { result.1 ≡ 1023 }
+        ensures parts { result.1.parts ≡ 1023 }
+        ensures log { result.1.log ≡ [] }
     {
         let Opened {
             alloc,
@@ -129,9 +131,10 @@ impl<T: Drop, W: Drop, B: Room> Receive<T, W, B> {
 impl<T: Drop, W: Wake, B: Room> SlotChannel<T, W, B> {
     /// A new pass, which gets half of the parts of this one.
     pub fn another(&self, pass: &mut Pass<T, W, B>) -> Pass<T, W, B>
-        requires { 1 < pass.old }
-        ensures same { pass.new ≡ pass.old - pass.old / 2 }
-        ensures new { result ≡ pass.old / 2 }
+        requires { 1 < pass.old.parts }
+        ensures same { pass.new.parts ≡ pass.old.parts - pass.old.parts / 2 }
+        ensures new { result.parts ≡ pass.old.parts / 2 }
+        ensures log { (pass.new.log ≡ pass.old.log) × (result.log ≡ []) }
     {
         let seat = share(&self.table, &mut pass.seat);
         Pass {
@@ -140,9 +143,10 @@ impl<T: Drop, W: Wake, B: Room> SlotChannel<T, W, B> {
         }
     }
 
-    /// This pass gets the parts of another.
+    /// This pass gets the parts of another, and its log.
     pub fn absorb(&self, pass: &mut Pass<T, W, B>, other: Pass<T, W, B>)
-        ensures { pass.new ≡ pass.old + other }
+        ensures parts { pass.new.parts ≡ pass.old.parts + other.parts }
+        ensures log { pass.new.log ≡ pass.old.log ++ other.log }
     {
         absorb(&self.table, &mut pass.seat, other.seat);
     }
@@ -151,8 +155,9 @@ impl<T: Drop, W: Wake, B: Room> SlotChannel<T, W, B> {
     /// the slot was full. It may wait, for the lock of the list and while another call is between the operations that it needs to take
     /// a message out.
     pub fn try_send<R: Wait>(&self, rt: &R, pass: &mut Pass<T, W, B>, message: T) -> Result<(), T>
-        ensures pass { pass.new ≡ pass.old }
+        ensures pass { pass.new.parts ≡ pass.old.parts }
         ensures back { IfErr result (λ m. m ≡ message) }
+        ensures sent { Sent message result pass.old.log pass.new.log }
     {
         calls::send(rt, &self.table, &self.desk, &mut pass.seat, message)
     }
@@ -166,9 +171,10 @@ impl<T: Drop, W: Wake, B: Room> SlotChannel<T, W, B> {
         receive: &mut Receive<T, W, B>,
         task: W,
     ) -> Polled<T>
-        requires { 1 < pass.old + receive.old }
-        ensures pass { pass.new + receive.new ≡ pass.old + receive.old }
+        requires { 1 < pass.old.parts + receive.old }
+        ensures pass { pass.new.parts + receive.new ≡ pass.old.parts + receive.old }
         ensures pending { receive.new ≡ held (is_pending result) }
+        ensures received { Received result pass.old.log pass.new.log }
     {
         calls::poll(
             rt,
@@ -182,22 +188,25 @@ impl<T: Drop, W: Wake, B: Room> SlotChannel<T, W, B> {
 
     /// Gives a receive up. If it was told, the notice goes to another one.
     pub fn give_up<R: Wait>(&self, rt: &R, pass: &mut Pass<T, W, B>, receive: Receive<T, W, B>)
-        ensures { pass.new ≡ pass.old + receive }
+        ensures parts { pass.new.parts ≡ pass.old.parts + receive }
+        ensures log { pass.new.log ≡ pass.old.log }
     {
         calls::give_up(rt, &self.table, &self.desk, &mut pass.seat, receive.waiting);
     }
 
-    /// All parts are back, so no call is under way and no other receive is pending. Whether a message is there, and whether some listener was woken. Beside a receive
-    /// that is pending a message has a woken listener.
+    /// All parts are back, so no call is under way and no other receive is pending. Whether a message is there, and whether some
+    /// listener was woken. Beside a receive that is pending a message has a woken listener. The log of all passes says that each
+    /// message that was put in was taken out once, but for the last where one is there.
     pub fn look<R: Wait>(
         &self,
         rt: &R,
         pass: &mut Pass<T, W, B>,
         receive: &mut Receive<T, W, B>,
     ) -> (bool, bool)
-        requires { pass.old + receive.old ≡ 1023 }
-        ensures same { (pass.new ≡ pass.old) × (receive.new ≡ receive.old) }
+        requires { pass.old.parts + receive.old ≡ 1023 }
+        ensures same { (pass.new.parts ≡ pass.old.parts) × (pass.new.log ≡ pass.old.log) × (receive.new ≡ receive.old) }
         ensures law { 0 < receive.old → result.0 ≡ true → result.1 ≡ true }
+        ensures accounts { Looked result.0 pass.old.log }
     {
         calls::look(
             rt,

@@ -1,6 +1,7 @@
 //! The list of listeners as it lies behind its lock, with the seat that says what it holds.
 
 ghost use Rattle.std.specs.Prelude.{◌≡◌, ◌⊎◌, ℕ, ◌+◌, ◌-◌, ◌<◌, ◌≤◌, [], true, IfSome, IfNone, IfOk, IfErr};
+ghost use Rattle.channel_wakeups.specs.Calls.{Looked};
 ghost use Rattle.channel_wakeups.specs.Lists.{told, waits, listed};
 ghost use Rattle.channel_wakeups.specs.Seats.{IsCall, IsIdle, IsTicket};
 ghost use Rattle.channel_wakeups.specs.Views.{desk};
@@ -46,7 +47,8 @@ impl<T: Drop, W: Drop, B: Room> Desk<T, W, B> {
     ) -> (Option<W>, Place<T, W>)
         requires table { (table.now.shared.table_id ≡ B.table) × (0 < B.table.words) }
         requires call { IsCall B.table call call.me.0.parts 1 0 0 }
-        ensures { IsIdle B.table result.1 call.me.0.parts }
+        ensures idle { IsIdle B.table result.1 call.me.0.parts }
+        ensures log { result.1.me.0.log ≡ call.me.0.log }
     {
         let task = tell_one(self.listeners.as_mut_slice());
         enter(table, &mut self.seat, call);
@@ -66,6 +68,8 @@ impl<T: Drop, W: Drop, B: Room> Desk<T, W, B> {
         requires parts { 1 < call.me.0.parts }
         ensures ok { IfOk result (λ r. IsCall B.table r.1 (call.me.0.parts - 1) 0 (r.0 + 1) 0 × IsTicket B.table r.2 (r.0 + 1)) }
         ensures err { IfErr result (λ r. IsIdle B.table r call.me.0.parts) }
+        ensures log { IfOk result (λ r. r.1.me.0.log ≡ call.me.0.log) }
+        ensures same_log { IfErr result (λ r. r.me.0.log ≡ call.me.0.log) }
     {
         let key = self.next;
         if key == u64::MAX || add(&mut self.listeners, key, task).is_err() {
@@ -92,6 +96,7 @@ impl<T: Drop, W: Drop, B: Room> Desk<T, W, B> {
         requires call { IsCall B.table call call.me.0.parts 0 0 (key + 1) }
         ensures told { IfSome result.0 (λ _. IsCall B.table result.1 call.me.0.parts 1 0 0) }
         ensures waits { IfNone result.0 (IsCall B.table result.1 call.me.0.parts 0 0 (key + 1)) }
+        ensures log { result.1.me.0.log ≡ call.me.0.log }
     {
         if take_told(&mut self.listeners, key) {
             enter(table, &mut self.seat, call);
@@ -115,7 +120,8 @@ impl<T: Drop, W: Drop, B: Room> Desk<T, W, B> {
         requires table { (table.now.shared.table_id ≡ B.table) × (0 < B.table.words) }
         requires call { IsCall B.table call call.me.0.parts 0 call.me.0.holds (key + 1) }
         requires holds { (call.me.0.holds ≡ 0) ⊎ (call.me.0.holds ≡ key + 1) }
-        ensures { IsIdle B.table result.1 call.me.0.parts }
+        ensures idle { IsIdle B.table result.1 call.me.0.parts }
+        ensures log { result.1.me.0.log ≡ call.me.0.log }
     {
         let task = remove(&mut self.listeners, key);
         enter(table, &mut self.seat, call);
@@ -134,6 +140,8 @@ impl<T: Drop, W: Drop, B: Room> Desk<T, W, B> {
         requires call { IsCall B.table call 1023 0 0 call.me.0.ticket }
         ensures same { IsCall B.table result.2 1023 0 0 call.me.0.ticket }
         ensures law { (0 < call.me.0.ticket) → result.0 ≡ true → result.1 ≡ true }
+        ensures log { result.2.me.0.log ≡ call.me.0.log }
+        ensures accounts { Looked result.0 call.me.0.log }
     {
         enter(table, &mut self.seat, call);
         let message = learn(table, &mut self.seat);

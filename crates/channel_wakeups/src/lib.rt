@@ -1,4 +1,5 @@
-//! A channel of one slot between threads, of which it is proved that no wake-up is lost.
+//! A channel of one slot between threads, of which it is proved that no wake-up is lost, and that what left, followed by what is held,
+//! is what was accepted, in order.
 #![tactic(auto)]
 
 mod calls;

@@ -4,7 +4,7 @@ ghost use Rattle.std.specs.Prelude.{◌≡◌, ◌<◌, IfErr, IfOk};
 ghost use Rattle.concurrent_queue.specs.Replies.{MayAnswer};
 ghost use Rattle.concurrent_queue.specs.declared.call.QueueAsk.TheVariants as ask;
 ghost use Rattle.concurrent_queue.specs.declared.cells.QueueForm.TheVariants.{Bounded};
-ghost use Rattle.channel_wakeups.specs.Calls.{PushLeaves, PopLeaves};
+ghost use Rattle.channel_wakeups.specs.Calls.{PushLeaves, PopLeaves, Sent, Found};
 ghost use Rattle.channel_wakeups.specs.Seats.{IsCall, IsIdle};
 
 use crate::cells::{Place, SlotCells, SlotTable};
@@ -23,7 +23,7 @@ fn make_push<T: Drop, W: Drop, R: Wait>(
 ) -> (QueueReply<T>, Place<T, W>)
     requires table { 0 < table.now.shared.table_id.words }
     requires call { IsIdle table.now.shared.table_id seat seat.me.0.parts }
-    ensures leaves { PushLeaves table.now.shared.table_id seat.me.0.parts result.0 result.1 }
+    ensures leaves { PushLeaves table.now.shared.table_id seat.me.0.parts seat.me.0.log message result.0 result.1 }
     ensures answers { MayAnswer (Bounded 1) (ask.Push message) result.0 }
 {
     let mut cells = SlotCells {
@@ -44,7 +44,7 @@ fn make_pop<T: Drop, W: Drop, R: Wait>(
 ) -> (QueueReply<T>, Place<T, W>)
     requires table { 0 < table.now.shared.table_id.words }
     requires call { IsCall table.now.shared.table_id seat seat.me.0.parts seat.me.0.answers seat.me.0.holds 0 }
-    ensures leaves { PopLeaves table.now.shared.table_id seat.me.0.parts result.0 result.1 }
+    ensures leaves { PopLeaves table.now.shared.table_id seat.me.0.parts seat.me.0.log result.0 result.1 }
 {
     let mut cells = SlotCells {
         table,
@@ -66,6 +66,7 @@ pub(crate) fn push<T: Drop, W: Drop, R: Wait>(
     requires call { IsIdle table.now.shared.table_id call call.me.0.parts }
     ensures ok { IfOk result.0 (λ _. IsCall table.now.shared.table_id result.1 call.me.0.parts 1 0 0) }
     ensures err { IfErr result.0 (λ m. (m ≡ message) × IsIdle table.now.shared.table_id result.1 call.me.0.parts) }
+    ensures log { Sent message result.0 call.me.0.log result.1.me.0.log }
 {
     let (reply, call) = make_push(rt, table, call, message);
     match reply {
@@ -84,7 +85,8 @@ pub(crate) fn pop<T: Drop, W: Drop, R: Wait>(
 ) -> (Option<T>, Place<T, W>)
     requires table { 0 < table.now.shared.table_id.words }
     requires call { IsCall table.now.shared.table_id call call.me.0.parts call.me.0.answers call.me.0.holds 0 }
-    ensures { IsIdle table.now.shared.table_id result.1 call.me.0.parts }
+    ensures idle { IsIdle table.now.shared.table_id result.1 call.me.0.parts }
+    ensures log { Found result.0 call.me.0.log result.1.me.0.log }
 {
     let (reply, call) = make_pop(rt, table, call);
     match reply {

@@ -1,6 +1,7 @@
 //! What is done to the seats of a channel's table besides the steps of the machine. Each function is one plain load.
 
-ghost use Rattle.std.specs.Prelude.{◌≡◌, ℕ, ◌+◌, ◌-◌, ◌/◌, ◌<◌, ◌≤◌, [], true};
+ghost use Rattle.std.specs.Prelude.{◌≡◌, ℕ, ◌+◌, ◌-◌, ◌/◌, ◌<◌, ◌≤◌, [], ◌++◌, true};
+ghost use Rattle.channel_wakeups.specs.Calls.{Looked};
 ghost use Rattle.channel_wakeups.specs.Lists.{told, waits, listed};
 ghost use Rattle.channel_wakeups.specs.Seats.{IsCall, IsIdle, IsTicket, IsList, IsBusy};
 ghost use Rattle.channel_wakeups.specs.Views.{desk, entered, is_key, HasAll, Fair};
@@ -38,7 +39,7 @@ pub(crate) fn enter<T: Drop, W: Drop>(
 /// The list was changed, and its seat now says so. What the list became, and what the call answers for and has in hand from now on,
 /// are arguments for the proof alone.
 #[inline(always)]
-pub(crate) fn aim<T: Drop, W: Drop, I: Aim<W>>(
+pub(crate) fn aim<T: Drop, W: Drop, I: Aim<T, W>>(
     table: &SlotTable<T, W>,
     seat: &mut Place<T, W>,
     _listeners: &[Listener<W>],
@@ -64,6 +65,7 @@ pub(crate) fn leave<T: Drop, W: Drop>(
     requires parts { 1 < seat.old.me.0.parts }
     ensures stays { (seat.new.table_id ≡ table.now.shared.table_id) × (seat.new.me ≡ (desk seat.old.me.0.listeners, [])) }
     ensures comes_out { IsCall table.now.shared.table_id result (seat.old.me.0.parts - 1) seat.old.me.0.answers seat.old.me.0.holds seat.old.me.0.ticket }
+    ensures log { result.me.0.log ≡ seat.old.me.0.log }
 {
     table.shared.split_seat::<Leaves>(seat)
 }
@@ -79,6 +81,7 @@ pub(crate) fn share<T: Drop, W: Drop>(
     requires parts { 1 < call.old.me.0.parts }
     ensures same { IsIdle table.now.shared.table_id call.new (call.old.me.0.parts - call.old.me.0.parts / 2) }
     ensures new { IsIdle table.now.shared.table_id result (call.old.me.0.parts / 2) }
+    ensures log { (call.new.me.0.log ≡ call.old.me.0.log) × (result.me.0.log ≡ []) }
 {
     table.shared.split_seat::<Shares>(call)
 }
@@ -93,7 +96,8 @@ pub(crate) fn absorb<T: Drop, W: Drop>(
     requires table { 0 < table.now.shared.table_id.words }
     requires call { IsIdle table.now.shared.table_id call.old call.old.me.0.parts }
     requires other { IsIdle table.now.shared.table_id other other.me.0.parts }
-    ensures { IsIdle table.now.shared.table_id call.new (call.old.me.0.parts + other.me.0.parts) }
+    ensures parts { IsIdle table.now.shared.table_id call.new (call.old.me.0.parts + other.me.0.parts) }
+    ensures log { call.new.me.0.log ≡ call.old.me.0.log ++ other.me.0.log }
 {
     table.shared.join_seat::<Absorbs>(call, other);
 }
@@ -109,6 +113,7 @@ pub(crate) fn give_ticket<T: Drop, W: Drop>(
     requires parts { 1 < call.old.me.0.parts }
     ensures same { IsCall table.now.shared.table_id call.new (call.old.me.0.parts - 1) call.old.me.0.answers call.old.me.0.holds 0 }
     ensures new { IsTicket table.now.shared.table_id result call.old.me.0.ticket }
+    ensures log { call.new.me.0.log ≡ call.old.me.0.log }
 {
     table.shared.split_seat::<GivesTicket>(call)
 }
@@ -123,7 +128,8 @@ pub(crate) fn take_ticket<T: Drop, W: Drop>(
     requires table { 0 < table.now.shared.table_id.words }
     requires call { IsCall table.now.shared.table_id call.old call.old.me.0.parts call.old.me.0.answers call.old.me.0.holds 0 }
     requires ticket { IsTicket table.now.shared.table_id ticket ticket.me.0.ticket }
-    ensures { IsCall table.now.shared.table_id call.new (call.old.me.0.parts + 1) call.old.me.0.answers call.old.me.0.holds ticket.me.0.ticket }
+    ensures call { IsCall table.now.shared.table_id call.new (call.old.me.0.parts + 1) call.old.me.0.answers call.old.me.0.holds ticket.me.0.ticket }
+    ensures log { call.new.me.0.log ≡ call.old.me.0.log }
 {
     table.shared.join_seat::<TakesTicket>(call, ticket);
 }
@@ -136,6 +142,7 @@ pub(crate) fn learn<T: Drop, W: Drop>(table: &SlotTable<T, W>, seat: &mut Place<
     ensures same { (seat.new.table_id ≡ table.now.shared.table_id) × (seat.new.me ≡ seat.old.me) }
     ensures law { result ≡ true → (key : ℕ) → 0 < waits key seat.old.me.0.listeners → 0 < told seat.old.me.0.listeners }
     ensures tickets { (key : ℕ) → is_key key seat.old.me.0.ticket ≤ listed key seat.old.me.0.listeners }
+    ensures accounts { Looked result seat.old.me.0.log }
 {
     table.shared.load::<Learns>(seat, 0) != 0
 }

@@ -22,21 +22,28 @@ impl Room for Brand {
 }
 
 /// What a section makes of the list's seat.
-pub(crate) trait Aim<W> {
+pub(crate) trait Aim<T, W> {
     ghost use Rattle.channel_wakeups.specs.declared.rule.View.{View};
 
-    ghost view: { View W };
+    ghost view: { View T W };
 }
 
-impl<W> Aim<W> for Brand {
+impl<T, W> Aim<T, W> for Brand {
     ghost use Rattle.channel_wakeups.specs.Views.{nobody};
 
     ghost view = { nobody };
 }
 
+/// A message that was put in or taken out, under its number.
+pub enum Transfer<T> {
+    In(u64, T),
+    Out(u64, T),
+}
+
 /// What a seat knows: the parts of a pass, for how many messages its call answers, the listener that it has in hand, what the word
-/// is while its call has the slot, and of which listener it is the ticket; of the list's seat, all listeners. No value is made.
-pub struct View<W> {
+/// is while its call has the slot, of which listener it is the ticket, and what it put in and took out; of the list's seat, all
+/// listeners. No value is made.
+pub struct View<T, W> {
     pub parts: u64,
     pub answers: u64,
     pub holds: u64,
@@ -44,25 +51,26 @@ pub struct View<W> {
     pub ticket: u64,
     pub lists: u64,
     pub listeners: LinkedList<Listener<W>>,
+    pub log: LinkedList<Transfer<T>>,
 }
 
 /// The rule: where a listener waits untold that no call has in hand, there are no more messages than told listeners and calls that
-/// answer for one.
+/// answer for one. And what was put in is what was taken out and what the slot holds, in one order.
 pub struct Answered;
 
-impl<T, W> TableRule<Option<T>, View<W>, ()> for Answered {
+impl<T, W> TableRule<Option<T>, View<T, W>, ()> for Answered {
     ghost use Rattle.std.specs.Prelude.{[]};
     ghost use Rattle.channel_wakeups.specs.Views.{busy, Woken};
 
     ghost holds = { λ _ s. Woken s };
 
-    ghost first = { λ _. busy 1024 0 0 0 [] };
+    ghost first = { λ _. busy 1024 0 0 0 [] [] };
 }
 
 /// A call's pass goes into the list's seat.
 pub(crate) struct Enters;
 
-impl<W> Join<View<W>> for Enters {
+impl<T, W> Join<View<T, W>> for Enters {
     ghost use Rattle.channel_wakeups.specs.Views.{entered, nobody};
 
     ghost both = { entered };
@@ -73,7 +81,7 @@ impl<W> Join<View<W>> for Enters {
 /// It comes out.
 pub(crate) struct Leaves;
 
-impl<W> Split<View<W>> for Leaves {
+impl<T, W> Split<View<T, W>> for Leaves {
     ghost use Rattle.channel_wakeups.specs.Views.{stays, comes_out};
 
     ghost left = { stays };
@@ -84,7 +92,7 @@ impl<W> Split<View<W>> for Leaves {
 /// A pass gets the parts of another.
 pub(crate) struct Absorbs;
 
-impl<W> Join<View<W>> for Absorbs {
+impl<T, W> Join<View<T, W>> for Absorbs {
     ghost use Rattle.channel_wakeups.specs.Views.{absorbed, nobody};
 
     ghost both = { absorbed };
@@ -95,7 +103,7 @@ impl<W> Join<View<W>> for Absorbs {
 /// A pass gives half of its parts to a new one.
 pub(crate) struct Shares;
 
-impl<W> Split<View<W>> for Shares {
+impl<T, W> Split<View<T, W>> for Shares {
     ghost use Rattle.channel_wakeups.specs.Views.{kept_half, given_half};
 
     ghost left = { kept_half };
@@ -106,7 +114,7 @@ impl<W> Split<View<W>> for Shares {
 /// A pass gives its ticket out, with a part.
 pub(crate) struct GivesTicket;
 
-impl<W> Split<View<W>> for GivesTicket {
+impl<T, W> Split<View<T, W>> for GivesTicket {
     ghost use Rattle.channel_wakeups.specs.Views.{no_ticket, ticket_of};
 
     ghost left = { no_ticket };
@@ -117,7 +125,7 @@ impl<W> Split<View<W>> for GivesTicket {
 /// A pass takes a ticket in, with its part.
 pub(crate) struct TakesTicket;
 
-impl<W> Join<View<W>> for TakesTicket {
+impl<T, W> Join<View<T, W>> for TakesTicket {
     ghost use Rattle.channel_wakeups.specs.Views.{with_ticket, nobody};
 
     ghost both = { with_ticket };
@@ -130,7 +138,7 @@ pub(crate) struct Becomes<I> {
     of: PhantomData<I>,
 }
 
-impl<T, W, I: Aim<W>> Play<Option<T>, View<W>> for Becomes<I> {
+impl<T, W, I: Aim<T, W>> Play<Option<T>, View<T, W>> for Becomes<I> {
     ghost use Rattle.std.specs.Prelude.{◌≡◌, []};
 
     ghost then = { λ st m found after. after ≡ (I.view, []) };
@@ -139,7 +147,7 @@ impl<T, W, I: Aim<W>> Play<Option<T>, View<W>> for Becomes<I> {
 /// A push wins the empty slot.
 pub(crate) struct Fills;
 
-impl<T, W> Play<Option<T>, View<W>> for Fills {
+impl<T, W> Play<Option<T>, View<T, W>> for Fills {
     ghost use Rattle.channel_wakeups.specs.Views.{fills};
 
     ghost then = { fills };
@@ -148,7 +156,7 @@ impl<T, W> Play<Option<T>, View<W>> for Fills {
 /// A pop wins the message, or finds none.
 pub(crate) struct Wins;
 
-impl<T, W> Play<Option<T>, View<W>> for Wins {
+impl<T, W> Play<Option<T>, View<T, W>> for Wins {
     ghost use Rattle.channel_wakeups.specs.Views.{wins};
 
     ghost then = { wins };
@@ -157,7 +165,7 @@ impl<T, W> Play<Option<T>, View<W>> for Wins {
 /// Who has the slot gives it back.
 pub(crate) struct Unlocks;
 
-impl<T, W> Play<Option<T>, View<W>> for Unlocks {
+impl<T, W> Play<Option<T>, View<T, W>> for Unlocks {
     ghost use Rattle.channel_wakeups.specs.Views.{unlocks};
 
     ghost then = { unlocks };
@@ -166,7 +174,7 @@ impl<T, W> Play<Option<T>, View<W>> for Unlocks {
 /// Who has every part learns the rule.
 pub(crate) struct Learns;
 
-impl<T, W> Play<Option<T>, View<W>> for Learns {
+impl<T, W> Play<Option<T>, View<T, W>> for Learns {
     ghost use Rattle.channel_wakeups.specs.Views.{learns};
 
     ghost then = { learns };
@@ -175,7 +183,7 @@ impl<T, W> Play<Option<T>, View<W>> for Learns {
 /// A new seat that has nothing.
 pub(crate) struct Blank;
 
-impl<T, W> Play<Option<T>, View<W>> for Blank {
+impl<T, W> Play<Option<T>, View<T, W>> for Blank {
     ghost use Rattle.std.specs.Prelude.{◌≡◌};
     ghost use Rattle.channel_wakeups.specs.Views.{nobody};
 

@@ -17,7 +17,7 @@ fn send_all<B: Room, R: Wait>(
     mut pass: Pass<u64, (), B>,
     count: u64,
 ) -> Pass<u64, (), B>
-    ensures { result ≡ pass }
+    ensures { result.parts ≡ pass.parts }
 {
     for number in 0..count {
         for _ in rt.forever() {
@@ -37,8 +37,8 @@ fn receive_all<B: Room, R: Wait>(
     mut pass: Pass<u64, (), B>,
     count: u64,
 ) -> (u64, Pass<u64, (), B>)
-    requires { 1 < pass }
-    ensures { result.1 ≡ pass }
+    requires { 1 < pass.parts }
+    ensures { result.1.parts ≡ pass.parts }
 {
     let mut sum = 0u64;
     for _ in 0..count {
@@ -86,22 +86,22 @@ fn rush_in<B: Room + Send + Sync, R: Threads + Wait + Sync>(
     let (sender, ((a, one), (b, two))) = thread::join(
         rt,
         move ||
-            requires { sender ≡ 511 }
-            ensures { result ≡ 511 }
+            requires { sender.parts ≡ 511 }
+            ensures { result.parts ≡ 511 }
         { send_all(rt, shared, sender, half.saturating_mul(2)) },
         move ||
-            requires { (one ≡ 256) × (two ≡ 128) }
-            ensures { (result.0.1 ≡ 256) × (result.1.1 ≡ 128) }
+            requires { (one.parts ≡ 256) × (two.parts ≡ 128) }
+            ensures { (result.0.1.parts ≡ 256) × (result.1.1.parts ≡ 128) }
         {
             thread::join(
                 rt,
                 move ||
-                    requires { one ≡ 256 }
-                    ensures { result.1 ≡ 256 }
+                    requires { one.parts ≡ 256 }
+                    ensures { result.1.parts ≡ 256 }
                 { receive_all(rt, shared, one, half) },
                 move ||
-                    requires { two ≡ 128 }
-                    ensures { result.1 ≡ 128 }
+                    requires { two.parts ≡ 128 }
+                    ensures { result.1.parts ≡ 128 }
                 { receive_all(rt, shared, two, half) },
             )
         },

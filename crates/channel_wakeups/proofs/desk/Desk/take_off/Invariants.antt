@@ -2,4 +2,4 @@ use Rattle.channel_wakeups.specs.Views.{busy}
 use Rattle.channel_wakeups.proofs.desk.Desk.take_off.Given as goal
 
 abbrev pub ghosts-aim : goal.ghosts-aim
-ghosts-aim g a = record { view = busy a.seat.now.me.0.parts a._answers a._holds 0 a._listeners.now }
+ghosts-aim g a = record { view = busy a.seat.now.me.0.parts a._answers a._holds 0 a._listeners.now a.seat.now.me.0.log }

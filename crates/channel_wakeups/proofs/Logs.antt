@@ -1,0 +1,177 @@
+-- What a step does to the balance of what was put in and taken out.
+use Rattle.std.proofs.Common.{◌≡◌, ℕ, zero, suc, ◌+◌, ◌-◌, ◌<◌, ◌≤◌, ◌==◌, Bool, true, false, List, [], ◌∷◌, ◌++◌, Option, Some, cond, true-eqb, eq-eqb, sym, refl, ap, ◌∙◌, arith}
+use mathlib.Core.Option as home
+use mathlib.Core.Option.{some, none}
+use lib.ListN.{get_elem?}
+use Rattle.channel_wakeups.specs.declared.rule.View.{View}
+use Rattle.channel_wakeups.specs.declared.rule.Transfer.{Transfer}
+use Rattle.channel_wakeups.specs.declared.rule.Transfer.TheVariants.{In, Out}
+use Rattle.channel_wakeups.specs.Lists.{total, is_this}
+use Rattle.channel_wakeups.specs.Log.{Weight, puts, takes, each, numbered, held, Once, Balanced, PutBefore, TookBefore}
+use Rattle.channel_wakeups.specs.Views.{pass, only, puts_of, takes_of}
+use Rattle.channel_wakeups.proofs.Sums.{only_some, balanced_by, was, Logs}
+
+module _ {T : Type 0} where
+  pub puts_append : (f : Weight T) (l m : List (Transfer T)) → puts f (l ++ m) ≡ puts f l + puts f m
+  puts_append f [] m = omega arith
+  puts_append f (In k x ∷ l) m = let t = puts_append f l m in omega arith
+  puts_append f (Out k x ∷ l) m = puts_append f l m
+
+  pub takes_append : (f : Weight T) (l m : List (Transfer T)) → takes f (l ++ m) ≡ takes f l + takes f m
+  takes_append f [] m = omega arith
+  takes_append f (In k x ∷ l) m = takes_append f l m
+  takes_append f (Out k x ∷ l) m = let t = takes_append f l m in omega arith
+
+  -- a weight of the number n is that of n
+  one_number : (f : Weight T) (m n : ℕ) (x : T) → m ≡ n → f m x ≡ f n x
+  one_number f m n x e = ap (λ (k : ℕ). f k x) e
+
+-- whether two numbers are the same
+pub this_same : (n k : ℕ) → n ≡ k → is_this n k ≡ 1
+this_same n k e = ap (λ (b : Bool). cond b 1 0) (eq-eqb n k e)
+
+this_other : (n k : ℕ) → (n ≡ k → ⊥) → is_this n k ≡ 0
+this_other n k ne = by_case (n == k) refl
+  where
+    by_case : (b : Bool) → (n == k) ≡ b → is_this n k ≡ 0
+    by_case true e = absurd (ne (true-eqb n k (sym e)))
+    by_case false e = ap (λ (b : Bool). cond b 1 0) e
+
+-- one number more was given
+more_once : (n k c : ℕ) → Once n k c → Once (n + 1) k (c + is_this n k)
+more_once n k c (here, later) =
+    ((λ less. by_case (n == k) refl less), (λ more. let none = later (omega arith) in let other = this_other n k (λ e. omega arith) in omega arith))
+  where
+    by_case : (b : Bool) → (n == k) ≡ b → k < n + 1 → c + is_this n k ≡ 1
+    by_case true e less = let same = true-eqb n k (sym e) in let one = this_same n k same in let none = later (omega arith) in omega arith
+    by_case false e less = let zero_is : is_this n k ≡ 0 = ap (λ (b : Bool). cond b 1 0) e in let one = here (other e less) in omega arith
+      where
+        other : (n == k) ≡ false → k < n + 1 → k < n
+        other e less = below n k less (λ same. absurd (false_no (sym (eq-eqb n k same) ∙ e)))
+          where
+            false_no : true ≡ false → ⊥
+            false_no e = absurd (cc)
+
+            below : (n k : ℕ) → k < n + 1 → (n ≡ k → ⊥) → k < n
+            below zero zero less ne = absurd (ne refl)
+            below zero (suc k) less ne = absurd (omega arith)
+            below (suc n) zero less ne = omega arith
+            below (suc n) (suc k) less ne = let b = below n k (omega arith) (λ e. ne (ap suc e)) in omega arith
+
+module _ {T : Type 0} (W : Type 0) (p q : Weight T → ℕ) where
+  -- the log stays, and the slot holds what it held: nothing
+  pub same_logs : (s r : home.Option (Option T)) (v u : View T W) → ((n : ℕ) (f : Weight T) → held n f s ≡ held n f r) → u.parts ≡ v.parts → u.log ≡ v.log → Logs p q s r v u
+  same_logs s r v u hold parts log b =
+      let back = sym parts in
+      let again = sym log in
+      balanced_by r _ _ _ _ (λ f i. p f + only (back i) (puts f (again i))) (λ f i. q f + only (back i) (takes f (again i))) (b.0, λ f. b.1 f ∙ (λ i. q f + takes_of f v + hold (p each + puts_of each v) f i))
+
+  -- a message was put in, as the last
+  pub put_logs : (n s a b h o g t : ℕ) (x : T) (l : List (Transfer T)) → 0 < s → n ≡ p each + puts_of each (pass {W = W} s a h o t l)
+      → Logs p q none (some (Some x)) (pass {W = W} s a h o t l) (pass s b h g t (l ++ In n x ∷ []))
+  put_logs n s a b h o g t x l some_part last before = (numbers, weighs)
+    where
+      now : (f : Weight T) → p f + puts_of f (pass {W = W} s b h g t (l ++ In n x ∷ [])) ≡ p f + puts_of f (pass {W = W} s a h o t l) + f n x
+      now f = let e = puts_append f l (In n x ∷ []) in let y = only_some s (puts f l) some_part in let z = only_some s (puts f (l ++ In n x ∷ [])) some_part in omega arith
+
+      out : (f : Weight T) → q f + takes_of f (pass {W = W} s b h g t (l ++ In n x ∷ [])) ≡ q f + takes_of f (pass {W = W} s a h o t l)
+      out f = let e = takes_append f l (In n x ∷ []) in let y = only_some s (takes f l) some_part in let z = only_some s (takes f (l ++ In n x ∷ [])) some_part in omega arith
+
+      numbers : (k : ℕ) → Once (p each + puts_of each (pass {W = W} s b h g t (l ++ In n x ∷ []))) k (p (numbered k) + puts_of (numbered k) (pass {W = W} s b h g t (l ++ In n x ∷ [])))
+      numbers k =
+          let e = now each in
+          let d = now (numbered k) in
+          let once = more_once n k (p (numbered k) + puts_of (numbered k) (pass {W = W} s a h o t l)) ((λ less. (before.0 k).0 (omega arith)), (λ more. (before.0 k).1 (omega arith))) in
+          ((λ less. d ∙ once.0 (omega arith)), (λ more. d ∙ once.1 (omega arith)))
+
+      weighs : (f : Weight T) → p f + puts_of f (pass {W = W} s b h g t (l ++ In n x ∷ []))
+          ≡ q f + takes_of f (pass {W = W} s b h g t (l ++ In n x ∷ [])) + held (p each + puts_of each (pass {W = W} s b h g t (l ++ In n x ∷ []))) f (some (Some x))
+      weighs f =
+          let e = now each in
+          let d = now f in
+          let c = out f in
+          let w = before.1 f in
+          let y = one_number f n (p each + puts_of each (pass {W = W} s b h g t (l ++ In n x ∷ [])) - 1) x (omega arith) in
+          omega arith
+
+  -- the last message was taken out
+  pub take_logs : (n s a h b g o r t : ℕ) (x : T) (l : List (Transfer T)) → 0 < s → n ≡ p each + puts_of each (pass {W = W} s a h o t l)
+      → Logs p q (some (Some x)) none (pass {W = W} s a h o t l) (pass s b g r t (l ++ Out (n - 1) x ∷ []))
+  take_logs n s a h b g o r t x l some_part last before = (numbers, weighs)
+    where
+      now : (f : Weight T) → p f + puts_of f (pass {W = W} s b g r t (l ++ Out (n - 1) x ∷ [])) ≡ p f + puts_of f (pass {W = W} s a h o t l)
+      now f = let e = puts_append f l (Out (n - 1) x ∷ []) in let y = only_some s (puts f l) some_part in let z = only_some s (puts f (l ++ Out (n - 1) x ∷ [])) some_part in omega arith
+
+      out : (f : Weight T) → q f + takes_of f (pass {W = W} s b g r t (l ++ Out (n - 1) x ∷ [])) ≡ q f + takes_of f (pass {W = W} s a h o t l) + f (n - 1) x
+      out f = let e = takes_append f l (Out (n - 1) x ∷ []) in let y = only_some s (takes f l) some_part in let z = only_some s (takes f (l ++ Out (n - 1) x ∷ [])) some_part in omega arith
+
+      numbers : (k : ℕ) → Once (p each + puts_of each (pass {W = W} s b g r t (l ++ Out (n - 1) x ∷ []))) k (p (numbered k) + puts_of (numbered k) (pass {W = W} s b g r t (l ++ Out (n - 1) x ∷ [])))
+      numbers k =
+          let e = now each in
+          let d = now (numbered k) in
+          ((λ less. d ∙ (before.0 k).0 (omega arith)), (λ more. d ∙ (before.0 k).1 (omega arith)))
+
+      weighs : (f : Weight T) → p f + puts_of f (pass {W = W} s b g r t (l ++ Out (n - 1) x ∷ [])) ≡ q f + takes_of f (pass {W = W} s b g r t (l ++ Out (n - 1) x ∷ [])) + 0
+      weighs f =
+          let d = now f in
+          let c = out f in
+          let w = before.1 f in
+          let y = one_number f (n - 1) (p each + puts_of each (pass {W = W} s a h o t l) - 1) x (ap (λ (k : ℕ). k - 1) last) in
+          omega arith
+
+-- ---- what comes next has a higher number than all that a pass has
+
+module _ {T : Type 0} (put took : Weight T → ℕ) (n : ℕ) (last : n ≡ put each) (log : List (Transfer T)) (puts_in : (f : Weight T) → puts f log ≤ put f) (takes_in : (f : Weight T) → takes f log ≤ took f) where
+  -- a message that is put in
+  pub next_put : (s : home.Option (Option T)) → Balanced s put took → PutBefore n log × TookBefore n log
+  next_put s b = (
+    (λ j more. let none = (b.0 j).1 (omega arith) in let mine = puts_in (numbered j) in omega arith),
+    (λ j more.
+        let none = (b.0 j).1 (omega arith) in
+        let mine = takes_in (numbered j) in
+        let all = b.1 (numbered j) in
+        omega arith),
+  )
+
+  -- the message that is taken out
+  pub next_taken : (x : T) → Balanced (some (Some x)) put took → TookBefore (n - 1) log
+  next_taken x b j more =
+      let mine = takes_in (numbered j) in
+      let all = b.1 (numbered j) in
+      let count = b.1 each in
+      by_case (n - 1 == j) refl mine all count
+    where
+      by_case : (b : Bool) → (n - 1 == j) ≡ b → takes (numbered j) log ≤ took (numbered j) → put (numbered j) ≡ took (numbered j) + is_this (put each - 1) j → put each ≡ took each + 1 → takes (numbered j) log ≡ 0
+      by_case true e mine all count =
+          let same = true-eqb (n - 1) j (sym e) in
+          let one = this_same (put each - 1) j (ap (λ (k : ℕ). k - 1) (sym last) ∙ same) in
+          let once = (b.0 j).0 (omega arith) in
+          omega arith
+      by_case false e mine all count = let none = (b.0 j).1 (above e) in omega arith
+        where
+          above : (n - 1 == j) ≡ false → put each ≤ j
+          above e = let ne : n - 1 ≡ j → ⊥ = (λ same. no (sym (eq-eqb (n - 1) j same) ∙ e)) in not_least n j (put each) last more (omega arith) ne
+            where
+              no : true ≡ false → ⊥
+              no e = absurd (cc)
+
+              not_least : (n j m : ℕ) → n ≡ m → n - 1 ≤ j → 0 < m → (n - 1 ≡ j → ⊥) → m ≤ j
+              not_least zero j m e more positive ne = absurd (omega arith)
+              not_least (suc n) zero m e more positive ne = absurd (ne (omega arith))
+              not_least (suc zero) (suc j) m e more positive ne = omega arith
+              not_least (suc (suc n)) (suc j) m e more positive ne =
+                  let r = not_least (suc n) j (suc n) refl (omega arith) (omega arith) (λ e. ne (omega arith)) in omega arith
+
+-- what a pass with parts has is among all that was put in and taken out
+module _ {T W : Type 0} (views : List (View T W)) (id : ℕ) (v : View T W) (at : get_elem? views id ≡ some v) (some_part : 0 < v.parts) where
+  own_puts : (f : Weight T) → puts f v.log ≤ total (puts_of f) views
+  own_puts f = let w = was (puts_of f) refl views id v at in let y = only_some v.parts (puts f v.log) some_part in omega arith
+
+  own_takes : (f : Weight T) → takes f v.log ≤ total (takes_of f) views
+  own_takes f = let w = was (takes_of f) refl views id v at in let y = only_some v.parts (takes f v.log) some_part in omega arith
+
+  pub comes_next : (s : home.Option (Option T)) → Balanced s (λ f. total (puts_of f) views) (λ f. total (takes_of f) views) → PutBefore (total (puts_of each) views) v.log × TookBefore (total (puts_of each) views) v.log
+  comes_next s b = next_put (λ f. total (puts_of f) views) (λ f. total (takes_of f) views) (total (puts_of each) views) refl v.log own_puts own_takes s b
+
+  pub goes_next : (x : T) → Balanced (some (Some x)) (λ f. total (puts_of f) views) (λ f. total (takes_of f) views) → TookBefore (total (puts_of each) views - 1) v.log
+  goes_next x b = next_taken (λ f. total (puts_of f) views) (λ f. total (takes_of f) views) (total (puts_of each) views) refl v.log own_puts own_takes x b

@@ -1,0 +1,83 @@
+-- What passes put in and took out: each message with its number, from 0 on, in the order in which messages were accepted.
+use Rattle.std.specs.Prelude.{◌≡◌, ◌⊎◌, ℕ, ◌+◌, ◌-◌, ◌<◌, ◌≤◌, List, [], ◌∷◌, ◌++◌, length, Option, None, Some}
+use mathlib.Core.Option as home
+use lib.ListN.{get_elem?}
+use Rattle.channel_wakeups.specs.declared.rule.Transfer.{Transfer}
+use Rattle.channel_wakeups.specs.declared.rule.Transfer.TheVariants.{In, Out}
+use Rattle.channel_wakeups.specs.Lists.{is_this}
+
+-- a weight for each numbered message
+abbrev pub Weight : Type 0 → Type 0
+Weight T = ℕ → T → ℕ
+
+-- every number below n was given once, and no other
+abbrev pub Once : ℕ → ℕ → ℕ → Type 0
+Once n k count = (k < n → count ≡ 1) × (n ≤ k → count ≡ 0)
+
+module _ {T : Type 0} where
+  -- what the messages weigh that were put in, and those that were taken out. Two logs that weigh the same by every weight have the
+  -- same messages under the same numbers, equally often.
+  abbrev pub puts : Weight T → List (Transfer T) → ℕ
+  puts f [] = 0
+  puts f (In k x ∷ l) = f k x + puts f l
+  puts f (Out k x ∷ l) = puts f l
+
+  abbrev pub takes : Weight T → List (Transfer T) → ℕ
+  takes f [] = 0
+  takes f (In k x ∷ l) = takes f l
+  takes f (Out k x ∷ l) = f k x + takes f l
+
+  -- each message weighs 1; those under this number alone weigh 1
+  abbrev pub each : Weight T
+  each = λ j x. 1
+
+  abbrev pub numbered : ℕ → Weight T
+  numbered k = λ j x. is_this j k
+
+  -- the message that the slot holds is the last of n
+  abbrev pub held : ℕ → Weight T → home.Option (Option T) → ℕ
+  held n f (home.some (Some x)) = f (n - 1) x
+  held n f (home.some None) = 0
+  held n f home.none = 0
+
+  -- THE BALANCE: what was put in is what was taken out and what the slot holds, message by message and number by number
+  abbrev pub Balanced : home.Option (Option T) → (Weight T → ℕ) → (Weight T → ℕ) → Type 0
+  Balanced slot put taken = ((k : ℕ) → Once (put each) k (put (numbered k))) × ((f : Weight T) → put f ≡ taken f + held (put each) f slot)
+
+  -- the message stands in the history under its number; so does each of a log
+  abbrev pub InHistory : List T → Transfer T → Type 0
+  InHistory history (In k x) = get_elem? history k ≡ home.some x
+  InHistory history (Out k x) = get_elem? history k ≡ home.some x
+
+  abbrev pub Agrees : List T → List (Transfer T) → Type 0
+  Agrees history [] = Unit {0}
+  Agrees history (e ∷ l) = InHistory history e × Agrees history l
+
+  -- this is one of the log
+  abbrev pub Has : Transfer T → List (Transfer T) → Type 0
+  Has e [] = ⊥
+  Has e (a ∷ l) = (e ≡ a) ⊎ Has e l
+
+  -- the history has n messages, and the slot holds the last of them, if it holds one
+  abbrev pub IsHistory : home.Option (Option T) → ℕ → List T → Type 0
+  IsHistory slot n history = (length history ≡ n) × ((x : T) → slot ≡ home.some (Some x) → get_elem? history (n - 1) ≡ home.some x)
+
+  -- the same of the logs of all passes, put together: there is one history of all that was accepted
+  abbrev pub Accounts : Option T → List (Transfer T) → Type 0
+  Accounts slot log =
+      Balanced (home.some slot) (λ f. puts f log) (λ f. takes f log) × ((history : List T) × IsHistory (home.some slot) (puts each log) history × Agrees history log)
+
+  -- the log has taken no message with this number or a later one
+  abbrev pub TookBefore : ℕ → List (Transfer T) → Type 0
+  TookBefore k log = (j : ℕ) → k ≤ j → takes (numbered j) log ≡ 0
+
+  abbrev pub PutBefore : ℕ → List (Transfer T) → Type 0
+  PutBefore k log = (j : ℕ) → k ≤ j → puts (numbered j) log ≡ 0
+
+  -- the message was put in, and came after all that the log had put in or taken out
+  abbrev pub HasPut : T → List (Transfer T) → List (Transfer T) → Type 0
+  HasPut x log after = (k : ℕ) × PutBefore k log × TookBefore k log × (after ≡ log ++ In k x ∷ [])
+
+  -- the message was taken out, and came after all that the log had taken out
+  abbrev pub HasTaken : T → List (Transfer T) → List (Transfer T) → Type 0
+  HasTaken x log after = (k : ℕ) × TookBefore k log × (after ≡ log ++ Out k x ∷ [])
