@@ -10,9 +10,14 @@ use Rattle.channel_calls.specs.declared.mark.Mark.{Mark}
 use Rattle.channel_calls.specs.declared.reply.Reply.{Reply}
 use Rattle.channel_calls.specs.declared.stage.Kept.{Kept}
 use Rattle.channel_calls.specs.declared.stage.Stage.{Stage}
+use Rattle.channel_calls.specs.declared.plain.PlainChannel.{PlainChannel}
 use Rattle.channel_calls.specs.Parts.{Parts}
 use Rattle.channel_calls.specs.Asks.{first, kept_by}
+use Rattle.channel_calls.specs.Deeds.{Done}
 use Rattle.channel_calls.specs.Moves.{Channel, channel, phase, IsNewCall, IsChannelStep}
+use Rattle.channel_calls.specs.Plain.{parts_of, DoesPlain}
+use Rattle.channel_calls.specs.Walks.{ChannelMakes}
+use Rattle.channel_calls.proofs.Interface.{exact_step}
 use Rattle.channel_alone.specs.Alone.{Outcome, after_waking, answers}
 use Rattle.channel_alone.specs.Run.{HasPosition, IsAtRest, Ran, RunsAlone}
 use Rattle.channel_alone.proofs.TryFacts.{idle}
@@ -44,6 +49,11 @@ module _ {T W : Type 0} (a : ChannelAsk T W) (parts0 : Parts T W) where
       goes_on_so a (channel q parts0) parts0 stage [] x
 
 module _ {T W S : Type 0} (wakes : S → W → S → Type 0) where
+  -- by its deed on the cells of one owner, whatever other calls are under way
+  pub plain_step : (a b : PlainChannel T W) (k l : S) (m : Mark) (next : Stage (QueueCall T) T W) (r : Option (Reply T)) (at : Stage (QueueCall T) T W)
+      → ChannelMakes (Done DoesPlain wakes) at (a, k) (b, l) m next r → IsChannelStep wakes (parts_of a) at k (parts_of b) next m r l
+  plain_step a b k l m next r at h = exact_step DoesPlain parts_of (λ d a b done. done.0) wakes a b k l m next r at h
+
   -- how far the call has come, over the queue that the cells meant where it began
   pub record Reached (a : ChannelAsk T W) (c0 : Channel T W) (sink0 : S) (parts : Parts T W) (stage : Stage (QueueCall T) T W)
       (sink : S) : Type 0 where

@@ -1,7 +1,7 @@
 use Rattle.std.proofs.Common.{None, Some}
 use Rattle.channel_calls.specs.Plain.{parts_of}
 use Rattle.channel_alone.proofs.AmpleFacts.{ample_first, ample_next}
-use Rattle.channel_alone.proofs.LoopFacts.{way_starts, way_nearer, way_more, way_ends}
+use Rattle.channel_alone.proofs.LoopFacts.{plain_step, way_starts, way_nearer, way_more, way_ends}
 use Rattle.channel_alone.proofs.SceneLoop.{scenes_start, scenes_more, scenes_end}
 use Rattle.channel_alone.proofs.run.run_alone.Goals as goal
 
@@ -20,7 +20,7 @@ returns-in-Some-clause-alone g c =
     let call = c.step-reply.new.self in
     way_ends g.S.Wakes.wakes c.args.ask (parts_of c.args.channel.now) c.args.sink.now (parts_of l.channel) l.call.stage
     l.sink l.invariant.0
-    (parts_of c.step-reply.new.cells) call.stage call.mark c.step-reply.new.sink c.in-Some.reply (c.in-Some.ensures.steps tt)
+    (parts_of c.step-reply.new.cells) call.stage call.mark c.step-reply.new.sink c.in-Some.reply (plain_step g.S.Wakes.wakes l.channel c.step-reply.new.cells l.sink c.step-reply.new.sink call.mark call.stage _ l.call.stage c.in-Some.ensures.deed)
     c.into_kept-kept.result c.into_kept-kept.ensures
 
 pub returns-in-Some-clause-scenes : goal.returns-in-Some-clause-scenes
@@ -31,7 +31,7 @@ returns-in-Some-clause-scenes g c =
     l.call.stage l.sink l.messages l.invariant.1
     (parts_of c.step-reply.new.cells) call.stage call.mark c.step-reply.new.sink c.counted.result c.last_mark.result
     c.last_mark.ensures c.counted.ensures
-    c.in-Some.reply (c.in-Some.ensures.steps tt) c.into_kept-kept.result c.into_kept-kept.ensures
+    c.in-Some.reply (plain_step g.S.Wakes.wakes l.channel c.step-reply.new.cells l.sink c.step-reply.new.sink call.mark call.stage _ l.call.stage c.in-Some.ensures.deed) c.into_kept-kept.result c.into_kept-kept.ensures
 
 pub loop-reply-smaller : goal.loop-reply-smaller
 loop-reply-smaller g c =
@@ -39,7 +39,7 @@ loop-reply-smaller g c =
     let call = c.step-reply.new.self in
     way_nearer g.S.Wakes.wakes c.args.ask (parts_of c.args.channel.now) c.args.sink.now (parts_of l.channel) l.call.stage
     l.sink l.invariant.0
-    (parts_of c.step-reply.new.cells) call.stage call.mark c.step-reply.new.sink (c.in-None.ensures.steps tt) c.requires.at_rest
+    (parts_of c.step-reply.new.cells) call.stage call.mark c.step-reply.new.sink (plain_step g.S.Wakes.wakes l.channel c.step-reply.new.cells l.sink c.step-reply.new.sink call.mark call.stage _ l.call.stage c.in-None.ensures.deed) c.requires.at_rest
 
 pub loop-reply-preserved : goal.loop-reply-preserved
 loop-reply-preserved g c =
@@ -48,11 +48,11 @@ loop-reply-preserved g c =
     let now = parts_of c.step-reply.new.cells in
     let call = c.step-reply.new.self in (
       way_more g.S.Wakes.wakes c.args.ask before c.args.sink.now (parts_of l.channel) l.call.stage l.sink l.invariant.0 now
-          call.stage call.mark c.step-reply.new.sink (c.in-None.ensures.steps tt),
+          call.stage call.mark c.step-reply.new.sink (plain_step g.S.Wakes.wakes l.channel c.step-reply.new.cells l.sink c.step-reply.new.sink call.mark call.stage _ l.call.stage c.in-None.ensures.deed),
       scenes_more g.S.Wakes.wakes c.args.ask before c.args.sink.now c.args.messages.now (parts_of l.channel) l.call.stage l.sink
           l.messages l.invariant.1
           now call.stage call.mark c.step-reply.new.sink c.counted.result c.last_mark.result c.last_mark.ensures c.counted.ensures
-          (c.in-None.ensures.steps tt),
+          (plain_step g.S.Wakes.wakes l.channel c.step-reply.new.cells l.sink c.step-reply.new.sink call.mark call.stage _ l.call.stage c.in-None.ensures.deed),
       λ h. (ample_next g.S.Wakes.wakes c.args.ask c.args.channel.now c.args.sink.now c.requires.at_rest (l.channel, l.sink)
           (c.step-reply.new.cells, c.step-reply.new.sink) call.mark l.call.stage call.stage None l.invariant.0 c.in-None.ensures.deed
           l.invariant.2 h).0,
