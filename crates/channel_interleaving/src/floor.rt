@@ -1,4 +1,4 @@
-//! The parts of an interleaved channel, and one step of it.
+//! The parts of a channel by names with the calls of several parties under way, and one step of it.
 
 use crate::beginning::Begun;
 use crate::doing::{Doing, note};
@@ -92,8 +92,8 @@ impl<T: Drop> Floor<T> {
     ghost use Rattle.channel_interleaving.specs.Refusal.{step_refusal};
     ghost use Rattle.channel_interleaving.specs.Floor.{book_of, Shown, AreAtWork, AreOwned, IsSame, Steps};
 
-    /// An open channel over a queue of this form, with its first two handles and nobody at work.
-    pub(crate) fn open(alloc: Global, form: QueueForm) -> Result<Floor<T>, AllocError>
+    /// An open channel over a queue of this form, with its first two handles and nobody at work. Own to this project.
+    pub fn open(alloc: Global, form: QueueForm) -> Result<Floor<T>, AllocError>
         requires form { CanBeMade form }
         ensures shown { IfOk result (λ f. Shown f (new_scene (capacity_of form))) }
         ensures book { IfOk result (λ f. book_of f ≡ record { roll = first_roll; order = []; agents = [] }) }

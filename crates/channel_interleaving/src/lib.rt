@@ -35,8 +35,7 @@
 mod beginning;
 pub mod doing;
 mod ending;
-mod floor;
-pub mod interleaved;
+pub mod floor;
 mod lone;
 pub mod names;
 pub mod order;

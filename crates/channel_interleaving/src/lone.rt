@@ -15,8 +15,12 @@ impl<T: Drop> Floor<T> {
     ghost use Rattle.channel_interleaving.specs.Lone.{CallsAlone, WakesAtMost};
 
     /// Makes a call that is not refused, where no call is under way, from its beginning to its end; or hands it back where
-    /// there was no room, with nothing changed. It wakes no more names than there is to be `room` for.
-    pub(crate) fn call_alone(&mut self, call: Call<T>, room: usize) -> Result<Done<T>, Call<T>>
+    /// there was no room, with nothing changed.
+    ///
+    /// Its steps are those of a party that nobody stands beside, and what it answers, whom it wakes, in order, and the channel
+    /// after it are what a call does that is made alone. `room` is no less than the number of names that it may wake; room for
+    /// these, and for the listener of a poll, is taken before it begins. Nothing waits. Own to this project.
+    pub fn call_alone(&mut self, call: Call<T>, room: usize) -> Result<Done<T>, Call<T>>
         requires owned { AreOwned self.old }
         requires at_work { AreAtWork self.old }
         requires quiet { IsQuiet self.old }

@@ -84,8 +84,9 @@ impl Order {
         }
     }
 
-    /// Those who are pending and were woken, in the order of their waking.
-    pub(crate) fn woken<T: Drop>(
+    /// Those who are pending and were woken, in the order of their waking. A walk over all names that are polled or pending. Own
+    /// to this project.
+    pub fn woken<T: Drop>(
         &self,
         roll: &Roll<T>,
         alloc: Global,

@@ -100,8 +100,8 @@ impl<T> Floor<T> {
     ghost use Rattle.std.specs.Prelude.{IsTrue};
     ghost use Rattle.channel_interleaving.specs.Floor.{HasPosition, HasPositions};
 
-    /// Whether there are positions of the queue for so many more messages. One place alone needs none.
-    pub(crate) fn has_positions(&self, count: usize) -> bool
+    /// Whether there are positions of the queue for so many more messages. One place alone needs none. Own to this project.
+    pub fn has_positions(&self, count: usize) -> bool
         ensures enough { IsTrue result → HasPositions count self.now }
         ensures all { HasPositions count self.now → IsTrue result }
     {

@@ -284,8 +284,8 @@ impl<T> Roll<T> {
         }
     }
 
-    /// Why the call is not begun, room aside.
-    pub(crate) fn refusal(&self, call: &Call<T>) -> Option<WorldRefusal>
+    /// Why the call is not begun, room and parties aside. Own to this project.
+    pub fn refusal(&self, call: &Call<T>) -> Option<WorldRefusal>
         ensures { result ≡ refusal self.now call.now }
     {
         if !self.is_live(call) {

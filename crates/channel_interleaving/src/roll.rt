@@ -202,8 +202,9 @@ impl<T> Roll<T> {
     ghost use Rattle.channel_interleaving.specs.Roll.{is_woken};
     ghost use Rattle.channel_interleaving.specs.Pending.{is_pending, how_many};
 
-    /// How many operations and streams are pending.
-    pub(crate) fn count_pending(&self) -> usize
+    /// How many operations and streams are pending: they live, their last poll ended so, and no poll of them is under way. Own to
+    /// this project.
+    pub fn count_pending(&self) -> usize
         ensures { result ≡ how_many is_pending self.now }
     {
         let operations = self.operations.iter();
@@ -213,8 +214,8 @@ impl<T> Roll<T> {
         operations + streams
     }
 
-    /// How many of those that are pending were woken.
-    pub(crate) fn count_woken(&self) -> usize
+    /// How many of those that are pending were woken since their last poll. Own to this project.
+    pub fn count_woken(&self) -> usize
         ensures { result ≡ how_many is_woken self.now }
     {
         let operations = self.operations.iter();
@@ -293,8 +294,9 @@ impl<T> Roll<T> {
         }
     }
 
-    /// Whether what has this name belongs to this line.
-    pub(crate) fn is_on(&self, line: Line, name: Waiter) -> bool
+    /// Whether what has this name belongs to this line: a pending send, receive or wait for the closing to its own, and a stream to
+    /// that of the streams. A finished send belongs to none, nor does a name under which nothing lives. Own to this project.
+    pub fn is_on(&self, line: Line, name: Waiter) -> bool
         ensures { result ≡ is_line line (line_of (names_of self.now) name) }
     {
         match self.line(name) {

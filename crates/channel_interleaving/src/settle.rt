@@ -92,10 +92,14 @@ impl<T: Drop> Floor<T> {
     ghost use Rattle.channel_interleaving.specs.Positions.{accepted_by, brings};
     ghost use Rattle.channel_interleaving.specs.Settle.{IsWoken, PollsAlone};
 
-    /// Polls one that is pending and was woken, from the poll's beginning to its end, where no call is under way. Nothing is
-    /// taken for it: it has its place in the order of waking, and those whom it wakes go where there is room for them, after
-    /// the names that are given. So it isn't refused memory: the node of the listener that was told serves the next one.
-    pub(crate) fn poll_alone(&mut self, name: Waiter, names: Vec<Waiter>) -> Polled<T>
+    /// Polls one that is pending and was woken, where no call is under way, from the poll's beginning to its end.
+    ///
+    /// A stream is polled even while a live operation borrows its receiver. The poll takes nothing: its name has its place in the
+    /// order of waking, and those whom it wakes go after the given names, where there is room for them. It isn't refused memory: where
+    /// it goes on waiting, the node of the listener that was told serves the next one. Once all serial numbers of a list were given,
+    /// the reply says that none was left. Only the poll of a send may bring a message, so only that needs a position of the queue.
+    /// Nothing waits. Own to this project.
+    pub fn poll_alone(&mut self, name: Waiter, names: Vec<Waiter>) -> Polled<T>
         requires owned { AreOwned self.old }
         requires at_work { AreAtWork self.old }
         requires quiet { IsQuiet self.old }

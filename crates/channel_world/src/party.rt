@@ -57,12 +57,12 @@ impl<T: Drop> World<T> {
         ensures empty { steps.new.items ≡ [] }
         ensures stands { Stands self.new }
     {
-        self.steps.keeps();
+        self.keeps();
         steps.push_back_reserved(Step::Step { party });
         let Run {
             trace: mut made,
             stopped,
-        } = self.steps.run_steps(steps);
+        } = self.make_steps(steps);
         steps.clear();
         if let Some(Stopped { place: _, why }) = stopped {
             return Err(why);

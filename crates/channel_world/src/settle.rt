@@ -9,7 +9,7 @@ use channel_calls::stage::Line;
 use channel_interleaving::settle::Polled;
 use channel_rest::laws::{a_channel_at_rest_is_a_world, a_poll_of_settling_is_the_models};
 use event_listener::error::NoMemory;
-use std::alloc::Global;
+use std::alloc::{AllocError, Global};
 
 /// One poll of a settling. Own to this project.
 #[derive(Drop)]
@@ -47,7 +47,7 @@ fn take_room<T: Drop>(mut names: Vec<Waiter>, most: usize, alloc: Global) -> Opt
 }
 
 impl<T: Drop> World<T> {
-    ghost use Rattle.std.specs.Prelude.{◌≡◌, ◌≤◌, ◌+◌, [], ◌∷◌, true, false, length, vec_len, vec_capacity, Some, IfSome, OnSome, IsTrue};
+    ghost use Rattle.std.specs.Prelude.{◌≡◌, ◌≤◌, ◌+◌, [], ◌∷◌, true, false, length, vec_len, vec_capacity, IfOk, IfSome, OnSome, IsTrue};
     ghost use Rattle.channel_alone.specs.Ample.{lacks_memory};
     ghost use Rattle.channel_calls.specs.declared.stage.Line.TheVariants.{Sends};
     ghost use Rattle.channel_interleaving.specs.Floor.{HasPosition, HasPositions, IsQuiet, LeadsOn};
@@ -64,7 +64,7 @@ impl<T: Drop> World<T> {
     fn is_on(&self, line: Line, name: Waiter) -> bool
         ensures { result ≡ is_line line (line_of (at_rest self.now).names name) }
     {
-        self.steps.is_on(line, name)
+        self.floor.roll.is_on(line, name)
     }
 
     /// How many of these names belong to this line. None where there is no such number.
@@ -86,7 +86,7 @@ impl<T: Drop> World<T> {
         ensures { IfSome result (λ n. pending_on line (at_rest self.now) ≤ n) }
     {
         let told = self.count_on(line, woken)?;
-        self.steps.waiting(line).checked_add(told)
+        self.floor.channel.waiting(line).checked_add(told)
     }
 
     /// How many polls settling makes at most, where these are woken. None where there is no such number.
@@ -105,15 +105,6 @@ impl<T: Drop> World<T> {
         later.checked_add(woken.len())
     }
 
-    /// Whether the queue has positions for so many more messages. One place alone needs none, so there it is always so.
-    fn has_positions(&self, count: usize) -> bool
-        ensures enough { IsTrue result → HasPositions count self.now }
-        ensures all { HasPositions count self.now → IsTrue result }
-        ensures one_place { (at_rest self.now).channel.capacity ≡ Some 1 → IsTrue result }
-    {
-        self.steps.has_positions(count)
-    }
-
     /// Whether the queue has positions for the messages of all pending sends, where these are woken.
     fn has_positions_to_settle(&self, woken: &Vec<Waiter>) -> bool
         requires { woken.now.items ≡ (at_rest self.now).waiting.woken }
@@ -125,6 +116,13 @@ impl<T: Drop> World<T> {
         }
     }
 
+    /// Those who are pending and were woken, in the order of their waking. A walk over all names that are polled or pending.
+    fn woken_names(&self) -> Result<Vec<Waiter>, AllocError>
+        ensures { IfOk result (λ names. names.items ≡ (at_rest self.now).waiting.woken) }
+    {
+        self.floor.order.woken(&self.floor.roll, self.floor.alloc)
+    }
+
     /// Room for all that settling answers. None where it was refused, or where the queue has no positions for the messages of all
     /// pending sends.
     fn room_to_settle(&self) -> Option<Room<T>>
@@ -134,7 +132,7 @@ impl<T: Drop> World<T> {
         ensures answers { IfSome result (λ r. most_polls (at_rest self.now) ≤ vec_capacity r.polls) }
         ensures places { OnSome result (HasPositions (pending_on Sends (at_rest self.now)) self.now) }
     {
-        let Ok(names) = self.steps.woken_names() else {
+        let Ok(names) = self.woken_names() else {
             return None;
         };
         let most = self.most_polls(&names)?;
@@ -160,8 +158,8 @@ impl<T: Drop> World<T> {
         ensures ample { lacks_memory result.reply ≡ false }
     {
         a_poll_of_settling_is_the_models::<T>();
-        self.steps.keeps();
-        self.steps.poll_alone(name, names)
+        self.keeps_names();
+        self.floor.poll_alone(name, names)
     }
 }
 
@@ -216,8 +214,7 @@ impl<T: Drop> World<T> {
         ensures stands { Stands self.new }
     {
         a_channel_at_rest_is_a_world::<T>();
-        self.steps.keeps();
-        self.steps.names_are_apart();
+        self.keeps_names();
         let Some(room) = self.room_to_settle() else {
             return Err(NoMemory);
         };

@@ -2,8 +2,10 @@
 use super::call::{Call, Done, WorldRefusal};
 use super::step::{Run, Step};
 use channel_calls::error::OpenError;
-use channel_interleaving::interleaved::Interleaved;
+use channel_interleaving::floor::Floor;
 use channel_rest::laws::a_call_made_alone_is_the_models;
+use channel_steps::start::is_quiet;
+use concurrent_queue::cells::QueueForm;
 use event_listener::id::EventIds;
 use std::alloc::Global;
 use std::collections::VecDeque;
@@ -13,25 +15,51 @@ use std::marker::Model;
 ///
 /// Handle 0 is the first sender, handle 1 the first receiver. Calls are made one at a time by `run_calls`, each from its begin
 /// to its end, or by steps of several parties in any order by `run_steps`; the one may follow the other wherever no call is
-/// under way. Own to this project; what the calls answer is as in `async-channel` 2.5.0.
+/// under way. However a world came about, its cells, lists and counts stand for a channel with just these calls under way. Own to
+/// this project; what the calls answer is as in `async-channel` 2.5.0.
 #[derive(Drop)]
 pub struct World<T> {
-    pub(crate) steps: Interleaved<T>,
+    pub(crate) floor: Floor<T>,
 }
 
 impl<T> Model for World<T> {
+    ghost use Rattle.channel_interleaving.specs.Floor.{IsKept};
     ghost use Rattle.channel_interleaving.specs.declared.floor.Floor.{Floor};
 
     ghost Value = { Floor T };
 
-    ghost view = { λ w. w.steps };
+    ghost view = { λ w. w.floor };
+
+    ghost invariant = { λ w. IsKept w.floor };
 }
 
 impl<T: Drop> World<T> {
     ghost use Rattle.std.specs.Prelude.{◌≡◌, ◌<◌, ◌+◌, ◌-◌, ◌^◌, None, Some, Err, OnOk, OnErr, IfOk};
+    ghost use Rattle.concurrent_queue.specs.Capacity.{capacity_of};
+    ghost use Rattle.concurrent_queue.specs.Made.{CanBeMade};
     ghost use Rattle.channel_model.specs.State.{start};
     ghost use Rattle.channel_interleaving.specs.Floor.{IsOpen, IsQuiet};
     ghost use Rattle.channel_world.specs.World.{at_rest};
+
+    /// An open channel over a queue of this form. Memory is taken first, and then four identities together or none.
+    fn open(alloc: Global, form: QueueForm, ids: &mut EventIds) -> Result<World<T>, OpenError>
+        requires form { CanBeMade form }
+        ensures open { IfOk result (λ world. at_rest world ≡ start (capacity_of form)) }
+        ensures shown { IfOk result (λ world. IsOpen (capacity_of form) world) }
+        ensures quiet { IfOk result (λ world. IsQuiet world) }
+        ensures ids { OnOk result (ids.new ≡ ids.old + 4) }
+        ensures unchanged { OnErr result (ids.new ≡ ids.old) }
+        ensures used_up { result ≡ Err OpenError.IdsUsedUp → 2 ^ 64 - 1 < ids.old + 4 }
+    {
+        let Ok(floor) = Floor::open(alloc, form) else {
+            return Err(OpenError::NoMemory);
+        };
+        let Ok(_ids) = ids.next_four() else {
+            drop(floor);
+            return Err(OpenError::IdsUsedUp);
+        };
+        Ok(World { floor })
+    }
 
     /// An open channel of this capacity, without a message, and nobody at work.
     ///
@@ -52,10 +80,10 @@ impl<T: Drop> World<T> {
         ensures limit { 2 ^ 58 < capacity → result ≡ Err OpenError.NoMemory }
         ensures used_up { result ≡ Err OpenError.IdsUsedUp → 2 ^ 64 - 1 < ids.old + 4 }
     {
-        match Interleaved::bounded(alloc, capacity, ids) {
-            Ok(steps) => Ok(World { steps }),
-            Err(why) => Err(why),
+        if capacity > 1 << 58 {
+            return Err(OpenError::NoMemory);
         }
+        World::open(alloc, QueueForm::Bounded(capacity), ids)
     }
 
     /// An open channel for any number of messages, without a message, and nobody at work.
@@ -70,27 +98,26 @@ impl<T: Drop> World<T> {
         ensures unchanged { OnErr result (ids.new ≡ ids.old) }
         ensures used_up { result ≡ Err OpenError.IdsUsedUp → 2 ^ 64 - 1 < ids.old + 4 }
     {
-        match Interleaved::unbounded(alloc, ids) {
-            Ok(steps) => Ok(World { steps }),
-            Err(why) => Err(why),
-        }
+        World::open(alloc, QueueForm::Unbounded, ids)
     }
 }
 
 impl<T: Drop> World<T> {
-    ghost use Rattle.std.specs.Prelude.{◌≡◌, ◌+◌, List, [], ◌++◌, length, None, IfSome, vec_len};
+    ghost use Rattle.std.specs.Prelude.{◌≡◌, ◌<◌, ◌+◌, ◌^◌, List, [], ◌++◌, length, None, Some, IfSome, IsTrue, vec_len};
     ghost use Rattle.channel_calls.specs.declared.reply.Reply.{Reply};
     ghost use Rattle.channel_model.specs.declared.name.Waiter.{Waiter};
     ghost use Rattle.channel_steps.specs.Scene.{Scene};
     ghost use Rattle.channel_interleaving.specs.Apart.{AreApart};
     ghost use Rattle.channel_interleaving.specs.Roll.{is_woken};
     ghost use Rattle.channel_interleaving.specs.Pending.{is_pending, how_many};
-    ghost use Rattle.channel_interleaving.specs.Runs.{accepted_in, left_in};
-    ghost use Rattle.channel_interleaving.specs.Floor.{calls_in, messages_in, AreAtWork, Led, LeadsOn, Stands, StandsIn, TellsQuiet};
+    ghost use Rattle.channel_interleaving.specs.Run.{Stops};
+    ghost use Rattle.channel_interleaving.specs.Runs.{accepted_in, left_in, RanTo};
+    ghost use Rattle.channel_interleaving.specs.Floor.{book_of, calls_in, messages_in, HasPositions, IsKept, Led, LeadsOn, Stands, StandsIn, TellsQuiet};
     ghost use Rattle.channel_interleaving.specs.Way.{replies_in};
     ghost use Rattle.channel_world.specs.Headline.{Headline};
     ghost use Rattle.channel_world.specs.StepsLeft.{EndsInFront};
     ghost use Rattle.channel_world.specs.TheEnd.{NothingComesAfter};
+    ghost use Rattle.channel_world.specs.World.{at_rest};
 
     /// Runs steps of any parties, from the front. The first one that is refused stays in front, with nothing of it done;
     /// `stopped` says at which place of the list, counted from 0, and why.
@@ -127,45 +154,65 @@ impl<T: Drop> World<T> {
         ensures place { IfSome result.stopped (λ s. s.place ≡ vec_len result.trace) }
         ensures messages { messages_in self.new + left_in result.trace.items ≡ messages_in self.old + accepted_in result.trace.items }
     {
-        self.steps.keeps();
-        self.steps.run_steps(steps)
+        self.keeps();
+        self.make_steps(steps)
+    }
+
+    /// Makes steps of any parties from the front, up to the first that is refused: they are a run of the channel's steps by names.
+    pub(crate) fn make_steps(&mut self, steps: &mut VecDeque<Step<T>>) -> Run<T>
+        ensures ran { RanTo steps.old.items steps.new.items self.old result.trace.items self.new }
+        ensures stopped { Stops (book_of self.new) steps.new.items (vec_len result.trace) result.stopped }
+        ensures stands { Stands self.new }
+    {
+        self.floor.run_steps(steps)
     }
 
     /// Says that every world stands in a scene, and does nothing. Own to this project.
     pub fn keeps(&self)
         ensures { Stands self.now }
     {
-        self.steps.keeps();
+        self.keeps_names();
     }
 
-    /// Says that no name stands twice, and that the parties at work are those whose calls are under way; and does nothing.
+    /// Says what is always so, that no name stands twice, and that not all numbers were given to operations; and does nothing.
     pub(crate) fn keeps_names(&self)
+        ensures kept { IsKept self.now }
         ensures apart { AreApart self.now.roll }
-        ensures at_work { AreAtWork self.now }
+        ensures few { length self.now.roll.operations < 2 ^ 63 }
     {
-        self.steps.names_are_apart();
-        self.steps.keeps();
+        let _handles = self.floor.roll.handles.iter();
+        let _operations = self.floor.roll.operations.iter();
     }
 
     /// Whether no call is under way. Own to this project.
     pub fn is_quiet(&self) -> bool
         ensures { TellsQuiet self.now result }
     {
-        self.steps.is_quiet()
+        is_quiet(&self.floor.parties)
     }
 
     /// How many calls are under way. Own to this project.
     pub fn under_way(&self) -> usize
         ensures { result ≡ calls_in self.now }
     {
-        self.steps.under_way()
+        self.floor.agents.len()
+    }
+
+    /// Whether the queue has positions for so many more messages. One place alone needs none, so there it is always so. Own to
+    /// this project.
+    pub fn has_positions(&self, count: usize) -> bool
+        ensures enough { IsTrue result → HasPositions count self.now }
+        ensures all { HasPositions count self.now → IsTrue result }
+        ensures one_place { (at_rest self.now).channel.capacity ≡ Some 1 → IsTrue result }
+    {
+        self.floor.has_positions(count)
     }
 
     /// How many messages the channel holds. Own to this project.
     pub fn messages(&self) -> u64
         ensures { result ≡ messages_in self.now }
     {
-        self.steps.messages()
+        self.floor.messages
     }
 
     /// How many operations and streams are pending: they live, their last poll ended so, and no poll of them is under way.
@@ -173,14 +220,14 @@ impl<T: Drop> World<T> {
     pub fn pending(&self) -> usize
         ensures { result ≡ how_many is_pending self.now.roll }
     {
-        self.steps.pending()
+        self.floor.roll.count_pending()
     }
 
     /// How many of those that are pending were woken since their last poll. A walk over all names. Own to this project.
     pub fn woken(&self) -> usize
         ensures { result ≡ how_many is_woken self.now.roll }
     {
-        self.steps.woken()
+        self.floor.roll.count_woken()
     }
 }
 
@@ -203,11 +250,11 @@ impl<T: Drop> World<T> {
         ensures back { IfErr result (λ c. c ≡ call) }
     {
         a_call_made_alone_is_the_models::<T>();
-        self.steps.keeps();
+        self.keeps_names();
         let Some(room) = self.room_for(&call) else {
             return Err(call);
         };
-        self.steps.call_alone(call, room)
+        self.floor.call_alone(call, room)
     }
 
     /// Why the call is refused, room for its answer aside.
@@ -216,12 +263,12 @@ impl<T: Drop> World<T> {
         ensures { result ≡ refusal (at_rest self.now) call.now }
     {
         a_call_made_alone_is_the_models::<T>();
-        self.steps.keeps();
-        self.steps.refusal(call)
+        self.keeps_names();
+        self.floor.roll.refusal(call)
     }
 
     /// Where the memory of its answers comes from.
     pub(crate) fn alloc(&self) -> Global {
-        self.steps.alloc()
+        self.floor.alloc
     }
 }

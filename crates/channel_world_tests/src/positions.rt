@@ -1,11 +1,7 @@
-//! For how many messages a channel has positions: with one place for any number of them, else up to where a queue's positions end.
+//! For how many messages a world has positions: with one place for any number of them, else up to where a queue's positions end.
 
 use crate::checks::expect_equal;
-use channel_interleaving::interleaved::Interleaved;
-use channel_interleaving::step::{PartyId, Step};
-use channel_model::call::Call;
-use channel_model::name::HandleId;
-use event_listener::id::EventIds;
+use channel_world::{Call, EventIds, HandleId, PartyId, Step, World};
 use std::alloc::{AllocError, Global};
 use std::collections::VecDeque;
 use std::test::Fail;
@@ -23,7 +19,7 @@ const ROWS: [(usize, [bool; 3], [bool; 3]); 6] = [
 
 /// A party displaces, or sends, so many messages, with as many steps for each as any form needs: those too many are refused, since
 /// the party is idle.
-fn send(channel: &mut Interleaved<u64>, alloc: Global, messages: u64) -> Result<(), AllocError> {
+fn send(world: &mut World<u64>, alloc: Global, messages: u64) -> Result<(), AllocError> {
     let party = PartyId(0);
     for msg in 0..messages {
         let mut steps = VecDeque::new(alloc);
@@ -33,7 +29,7 @@ fn send(channel: &mut Interleaved<u64>, alloc: Global, messages: u64) -> Result<
         for _ in 0..10 {
             steps.push_back(Step::Step { party })?;
         }
-        let _run = channel.run_steps(&mut steps);
+        let _run = world.run_steps(&mut steps);
     }
     Ok(())
 }
@@ -41,18 +37,18 @@ fn send(channel: &mut Interleaved<u64>, alloc: Global, messages: u64) -> Result<
 #[test]
 fn one_place_has_positions_for_any_number(rt: HostRuntime) -> Result<(), Fail> {
     let mut ids = EventIds::new();
-    let mut channels: [Interleaved<u64>; 3] = [
-        Interleaved::bounded(rt.alloc(), 1, &mut ids)?,
-        Interleaved::bounded(rt.alloc(), 2, &mut ids)?,
-        Interleaved::unbounded(rt.alloc(), &mut ids)?,
+    let mut worlds: [World<u64>; 3] = [
+        World::bounded(rt.alloc(), 1, &mut ids)?,
+        World::bounded(rt.alloc(), 2, &mut ids)?,
+        World::unbounded(rt.alloc(), &mut ids)?,
     ];
     for k in 0..3 {
         for (count, before, _) in ROWS {
-            expect_equal(&rt, &channels[k].has_positions(count), &before[k]);
+            expect_equal(&rt, &worlds[k].has_positions(count), &before[k]);
         }
-        send(&mut channels[k], rt.alloc(), 2)?;
+        send(&mut worlds[k], rt.alloc(), 2)?;
         for (count, _, after) in ROWS {
-            expect_equal(&rt, &channels[k].has_positions(count), &after[k]);
+            expect_equal(&rt, &worlds[k].has_positions(count), &after[k]);
         }
     }
     Ok(())

@@ -3,12 +3,11 @@
 
 ghost use Rattle.std.specs.Prelude.{◌≡◌, ◌+◌, ◌≤◌, [], length, None, Some, true, IfOk, IfSome, vec_len};
 ghost use Rattle.channel_calls.specs.declared.stage.Line.TheVariants.{Receives, Streams};
-ghost use Rattle.channel_interleaving.specs.Floor.{sight_of, IsQuiet};
+ghost use Rattle.channel_interleaving.specs.Floor.{IsQuiet};
 ghost use Rattle.channel_world.specs.Asleep.{NobodySleeps};
 ghost use Rattle.channel_world.specs.World.{at_rest};
 
 use crate::clients::Settling;
-use channel_interleaving::interleaved::Interleaved;
 use channel_world::laws::who_sleeps_is_answered_for;
 use channel_world::step::{Run, Step};
 use channel_world::world::World;
@@ -67,10 +66,10 @@ pub fn nobody_sleeps<T: Drop>(world: &World<T>) -> bool
     world.under_way() == 0 && world.woken() == 0 && world.messages() > 0
 }
 
-/// Looks at whatever channel, calls under way or not, and says whether a send that begins now has a position for its message: with
+/// Looks at whatever world, calls under way or not, and says whether a send that begins now has a position for its message: with
 /// one place it always has, however many messages were accepted.
-pub fn a_send_has_a_position<T: Drop>(channel: &Interleaved<T>) -> bool
-    ensures { (sight_of channel.now).capacity ≡ Some 1 → result ≡ true }
+pub fn a_send_has_a_position<T: Drop>(world: &World<T>) -> bool
+    ensures { (at_rest world.now).channel.capacity ≡ Some 1 → result ≡ true }
 {
-    channel.has_positions(channel.under_way().saturating_add(1))
+    world.has_positions(world.under_way().saturating_add(1))
 }

@@ -1,6 +1,7 @@
-use Rattle.std.proofs.Common.{◌≡◌, Some, IsTrue, subst}
+use Rattle.std.proofs.Common.{◌≡◌, Some, IsTrue, inl, subst}
 use Rattle.channel_interleaving.specs.Floor.{HasPositions}
 use Rattle.channel_interleaving.specs.declared.floor.Floor.{Floor}
+use Rattle.channel_interleaving.proofs.ShownFacts.{one_place}
 use Rattle.channel_world.specs.World.{at_rest}
 use Rattle.channel_world.proofs.world.World.has_positions.Goals as goal
 
@@ -16,5 +17,6 @@ returns-clause-all g c =
 
 pub returns-clause-one_place : goal.returns-clause-one_place
 returns-clause-one_place g c =
+    let o = c.self.invariant.listeners in
     subst (λ (f : Floor g.row.T.Denot). (at_rest f).channel.capacity ≡ Some 1 → IsTrue c.has_positions.result) c.self.view_is
-    c.has_positions.ensures.one_place
+    (λ one. c.has_positions.ensures.all (inl (one_place c.self.inside.floor o.scene o.shown one)))

@@ -10,7 +10,7 @@ use Rattle.channel_world.proofs.world.World.pending_on.Goals as goal
 
 pub returns : goal.returns
 returns g c =
-    let f = c.self.inside.steps in
+    let f = c.self.inside.floor in
     let line = c.args.line in
     let s = at_rest c.args.self.now in
     let few = line_tasks f line in

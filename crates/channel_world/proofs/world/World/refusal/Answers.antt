@@ -1,6 +1,5 @@
 -- From what is refused of a channel by names.
-use Rattle.std.proofs.Common.{◌∙◌, ap, subst}
-use Rattle.channel_interleaving.specs.Floor.{IsKept}
+use Rattle.std.proofs.Common.{◌∙◌, ap}
 use Rattle.channel_interleaving.specs.Refusal as names
 use Rattle.channel_interleaving.specs.declared.floor.Floor.{Floor}
 use Rattle.channel_world.proofs.Whole.{refused_alike}
@@ -8,7 +7,6 @@ use Rattle.channel_world.proofs.world.World.refusal.Goals as goal
 
 pub returns : goal.returns
 returns g c =
-    let kept : IsKept c.args.self.now = subst (λ (f : Floor g.row.T.Denot). IsKept f) c.self.view_is c.keeps.ensures.kept in
     c.refusal.ensures
     ∙ (ap (λ (f : Floor g.row.T.Denot). names.refusal f.roll c.args.call.now) c.self.view_is
-    ∙ refused_alike c.a_call_made_alone_is_the_models.ensures.refused c.args.self.now kept c.requires.quiet c.args.call.now)
+    ∙ refused_alike c.a_call_made_alone_is_the_models.ensures.refused c.args.self.now c.keeps_names.ensures.kept c.requires.quiet c.args.call.now)

@@ -9,7 +9,7 @@ use Rattle.channel_world.proofs.world.World.room_for.Goals as goal
 
 pub returns-in_default : goal.returns-in_default
 returns-in_default g c =
-    let f = c.self.inside.steps in
+    let f = c.self.inside.floor in
     let few = few_tasks (parts_in f).roster.streams.waiting in
     let most = closes_nothing c.args.call.now (at_rest f).waiting c.in_default.not-Close c.in_default.not-Drop c.in_default.not-RecvMany in
     let count = c.waiting-in_default.ensures in
@@ -18,7 +18,7 @@ returns-in_default g c =
 
 pub returns-in-RecvMany : goal.returns-in-RecvMany
 returns-in-RecvMany g c =
-    let f = c.self.inside.steps in
+    let f = c.self.inside.floor in
     let few = few_tasks (parts_in f).roster.sends.waiting in
     let count = c.waiting.ensures in
     let enough : length (at_rest f).waiting.sends ≤ c.waiting.result = omega (arith, few, count) in

@@ -1,11 +1,8 @@
 -- From the loop: the polls so far, and what is to come.
-use Rattle.std.proofs.Common.{arith, rules, ◌≡◌, ◌∙◌, slice_get, Some, vec_len, refl, sym, subst}
+use Rattle.std.proofs.Common.{arith, rules, ◌≡◌, ◌∙◌, slice_get, Some, vec_len, refl}
 use Rattle.std.proofs.lemmas.Option.{slice_get_read}
 use Rattle.channel_interleaving.proofs.Interface.{leads_nowhere, stands_led}
-use Rattle.channel_interleaving.specs.Apart.{AreApart}
-use Rattle.channel_interleaving.specs.Floor.{IsQuiet, Stands}
-use Rattle.channel_interleaving.specs.declared.floor.Floor.{Floor}
-use Rattle.channel_model.specs.Awake.{AwakeIn}
+use Rattle.channel_interleaving.proofs.FloorFacts.{stands}
 use Rattle.channel_world.specs.Settled.{polls_in}
 use Rattle.channel_world.specs.World.{at_rest}
 use Rattle.channel_world.proofs.AsleepFacts.{no_receive_goes_on, no_stream_goes_on}
@@ -19,12 +16,8 @@ use Rattle.channel_world.proofs.world.World.settle.Goals as goal
 
 pub loop-names-init : goal.loop-names-init
 loop-names-init g c =
-    let f = c.self.inside.steps in
     let now = c.args.self.now in
-    let quiet : IsQuiet f = subst (λ (x : Floor g.row.T.Denot). IsQuiet x) (sym c.self.view_is) c.requires.quiet in
-    let awake : AwakeIn (at_rest now) =
-    subst (λ (x : Floor g.row.T.Denot). AwakeIn (at_rest x)) c.self.view_is
-    (awake_at_rest f c.keeps.ensures.kept quiet c.a_channel_at_rest_is_a_world.ensures.as_in_the_world) in
+    let awake = awake_at_rest now c.keeps_names.ensures.kept c.requires.quiet c.a_channel_at_rest_is_a_world.ensures.as_in_the_world in
     let r = c.in-Some.ensures in
     record {
       goes = rw r.polls (goes_first (at_rest now) c.in-Some.room.names.items awake r.names);
@@ -218,7 +211,7 @@ returns-clause-leads g c =
 
 pub returns-clause-stands : goal.returns-clause-stands
 returns-clause-stands g c =
-    let before = subst (λ (f : Floor g.row.T.Denot). Stands f) c.self.view_is c.keeps.ensures.stands in
+    let before = stands c.args.self.now c.keeps_names.ensures.kept.listeners in
     stands_led c.args.self.now c.loop-names.self _ before c.loop-names.invariant.leads
 
 pub returns-clause-few_pending : goal.returns-clause-few_pending
@@ -227,9 +220,9 @@ returns-clause-few_pending g c =
     let polls = c.loop-names.polls in
     let end = goes_end (at_rest c.args.self.now) (at_rest c.loop-names.self) polls.items names.items c.loop-names.invariant.goes
     (let a = names.ok.0 in let b = polls.ok.0 in omega (arith, a, b, c.loop-names-test.false)) in
-    let before = subst (λ (f : Floor g.row.T.Denot). Stands f) c.self.view_is c.keeps.ensures.stands in
-    let apart = subst (λ (f : Floor g.row.T.Denot). AreApart f.roll) c.self.view_is c.names_are_apart.ensures in
-    let pending = pending_at_rest c.args.self.now before c.a_channel_at_rest_is_a_world.ensures.as_in_the_world apart c.requires.quiet in
+    let before = stands c.args.self.now c.keeps_names.ensures.kept.listeners in
+    let rests = c.a_channel_at_rest_is_a_world.ensures.as_in_the_world in
+    let pending = pending_at_rest c.args.self.now before rests c.keeps_names.ensures.apart c.requires.quiet in
     let few = end.few in
     let b = polls.ok.0 in
     few_told _ _ _ _ b pending few

@@ -2,7 +2,6 @@ use Rattle.std.proofs.Common.{arith, ◌≡◌, List, [], ◌∷◌, ◌++◌, �
 use Rattle.channel_interleaving.specs.Floor.{book_of, Stands}
 use Rattle.channel_interleaving.specs.Run.{Stops}
 use Rattle.channel_interleaving.specs.Runs.{RanTo}
-use Rattle.channel_interleaving.specs.declared.floor.Floor.{Floor}
 use Rattle.channel_interleaving.specs.declared.step.Entry.{Entry}
 use Rattle.channel_interleaving.specs.declared.step.Step.{Step}
 use Rattle.channel_interleaving.specs.declared.step.Step.TheVariants as step
@@ -11,16 +10,15 @@ use Rattle.channel_world.proofs.world.World.step_party.Goals as goal
 
 pub returns-in-Some-clause-refused : goal.returns-in-Some-clause-refused
 returns-in-Some-clause-refused g c =
-    let run = c.run_steps-made in
+    let run = c.make_steps-made in
     let left = run.new.steps.items in
     let trace = run.result.trace.items in
     let x : Step g.row.T.Denot = step.Step c.args.party in
-    let before : Stands c.args.self.now = subst (λ (f : Floor g.row.T.Denot). Stands f) c.self.view_is c.keeps.ensures.stands in
+    let before : Stands c.args.self.now = c.keeps.ensures in
     let pushed : c.push_back_reserved.new.self.items ≡ x ∷ [] =
     c.push_back_reserved.ensures.items ∙ ap (λ (l : List (Step g.row.T.Denot)). l ++ x ∷ []) c.requires.empty in
     let ran : RanTo (x ∷ []) left c.args.self.now trace run.new.self =
-    subst (λ (f : Floor g.row.T.Denot). RanTo (x ∷ []) left f trace run.new.self) c.self.view_is
-    (subst (λ (l : List (Step g.row.T.Denot)). RanTo l left c.self.inside.steps trace run.new.self) pushed run.ensures.ran) in
+    subst (λ (l : List (Step g.row.T.Denot)). RanTo l left c.args.self.now trace run.new.self) pushed run.ensures.ran in
     let stops : Stops (book_of run.new.self) left (length trace) (Some c.in-Some.field-0) =
     subst (λ n. Stops (book_of run.new.self) left n (Some c.in-Some.field-0)) run.result.trace.ok.0
     (subst (λ o. Stops (book_of run.new.self) left (vec_len run.result.trace) o) c.in-Some.is run.ensures.stopped) in
@@ -29,16 +27,15 @@ returns-in-Some-clause-refused g c =
 
 pub returns-clause-made : goal.returns-clause-made
 returns-clause-made g c =
-    let run = c.run_steps-made in
+    let run = c.make_steps-made in
     let left = run.new.steps.items in
     let trace = run.result.trace.items in
     let x : Step g.row.T.Denot = step.Step c.args.party in
-    let before : Stands c.args.self.now = subst (λ (f : Floor g.row.T.Denot). Stands f) c.self.view_is c.keeps.ensures.stands in
+    let before : Stands c.args.self.now = c.keeps.ensures in
     let pushed : c.push_back_reserved.new.self.items ≡ x ∷ [] =
     c.push_back_reserved.ensures.items ∙ ap (λ (l : List (Step g.row.T.Denot)). l ++ x ∷ []) c.requires.empty in
     let ran : RanTo (x ∷ []) left c.args.self.now trace run.new.self =
-    subst (λ (f : Floor g.row.T.Denot). RanTo (x ∷ []) left f trace run.new.self) c.self.view_is
-    (subst (λ (l : List (Step g.row.T.Denot)). RanTo l left c.self.inside.steps trace run.new.self) pushed run.ensures.ran) in
+    subst (λ (l : List (Step g.row.T.Denot)). RanTo l left c.args.self.now trace run.new.self) pushed run.ensures.ran in
     let used : left ≡ [] = subst (λ o. Stops (book_of run.new.self) left (vec_len run.result.trace) o) c.in_default.is
     run.ensures.stopped in
     let one = one_made c.args.party left c.args.self.now trace run.new.self before ran used in
@@ -55,16 +52,15 @@ returns-clause-made g c =
 
 pub unreachable-requires : goal.unreachable-requires
 unreachable-requires g c =
-    let run = c.run_steps-made in
+    let run = c.make_steps-made in
     let left = run.new.steps.items in
     let trace = run.result.trace.items in
     let x : Step g.row.T.Denot = step.Step c.args.party in
-    let before : Stands c.args.self.now = subst (λ (f : Floor g.row.T.Denot). Stands f) c.self.view_is c.keeps.ensures.stands in
+    let before : Stands c.args.self.now = c.keeps.ensures in
     let pushed : c.push_back_reserved.new.self.items ≡ x ∷ [] =
     c.push_back_reserved.ensures.items ∙ ap (λ (l : List (Step g.row.T.Denot)). l ++ x ∷ []) c.requires.empty in
     let ran : RanTo (x ∷ []) left c.args.self.now trace run.new.self =
-    subst (λ (f : Floor g.row.T.Denot). RanTo (x ∷ []) left f trace run.new.self) c.self.view_is
-    (subst (λ (l : List (Step g.row.T.Denot)). RanTo l left c.self.inside.steps trace run.new.self) pushed run.ensures.ran) in
+    subst (λ (l : List (Step g.row.T.Denot)). RanTo l left c.args.self.now trace run.new.self) pushed run.ensures.ran in
     let used : left ≡ [] = subst (λ o. Stops (book_of run.new.self) left (vec_len run.result.trace) o) c.in_default.is
     run.ensures.stopped in
     let one = one_made c.args.party left c.args.self.now trace run.new.self before ran used in

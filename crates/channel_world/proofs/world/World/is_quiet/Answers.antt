@@ -2,7 +2,7 @@ use Rattle.std.proofs.Common.{subst}
 use Rattle.channel_interleaving.specs.Floor.{TellsQuiet}
 use Rattle.channel_interleaving.specs.declared.floor.Floor.{Floor}
 use Rattle.channel_interleaving.proofs.LoneFacts.{tells_quiet}
-use Rattle.channel_interleaving.proofs.interleaved.Interleaved.is_quiet.Goals as goal
+use Rattle.channel_world.proofs.world.World.is_quiet.Goals as goal
 
 pub returns : goal.returns
 returns g c =
