@@ -86,11 +86,7 @@ impl Order {
 
     /// Those who are pending and were woken, in the order of their waking. A walk over all names that are polled or pending. Own
     /// to this project.
-    pub fn woken<T: Drop>(
-        &self,
-        roll: &Roll<T>,
-        alloc: Global,
-    ) -> Result<Vec<Waiter>, AllocError>
+    pub fn woken<T: Drop>(&self, roll: &Roll<T>, alloc: Global) -> Result<Vec<Waiter>, AllocError>
         ensures { IfOk result (λ names. names.items ≡ woken_in roll.now self.now) }
     {
         let mut names = Vec::new(alloc);
