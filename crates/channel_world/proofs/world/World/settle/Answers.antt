@@ -246,3 +246,6 @@ returns-clause-no_stream g c =
     let end = goes_end (at_rest c.args.self.now) (at_rest c.loop-names.self) polls.items names.items c.loop-names.invariant.goes
     (let a = names.ok.0 in let b = polls.ok.0 in omega (arith, a, b, c.loop-names-test.false)) in
     no_stream_goes_on c.loop-names.self (messages_at_rest c.loop-names.self (returns-clause-stands g c) c.loop-names.invariant.quiet) end.rests.1
+
+pub returns-in_default-clause-stands : goal.returns-in_default-clause-stands
+returns-in_default-clause-stands g c = stands c.args.self.now c.keeps_names.ensures.kept.listeners
