@@ -58,21 +58,24 @@ pub fn between(text: &[u8], from: usize, to: usize) -> &[u8] {
 fn mutate_once(text: &[u8], random: &mut Random, alloc: Global) -> Result<Vec<u8>, AllocError> {
     let (from, to) = draw_part(text, random);
     let next = to.saturating_add(to.saturating_sub(from));
-    let (front, part) = (between(text, 0, from), between(text, from, to));
-    let (after, end) = (between(text, to, next), between(text, next, text.len()));
-    let rest = between(text, to, text.len());
-    let way = random.below(4);
-    let byte = [if way == 3 { any_byte(random) } else { 0 }];
-    let parts: [&[u8]; 4] = match way {
-        0 => [front, rest, &[], &[]],
-        1 => [front, part, part, rest],
-        2 => [front, after, part, end],
-        _ => [front, &byte, rest, &[]],
-    };
+    let part = between(text, from, to);
     let mut changed = Vec::new(alloc);
-    for part in parts {
-        changed.extend_from_slice(part)?;
+    changed.extend_from_slice(between(text, 0, from))?;
+    match random.below(4) {
+        0 => {}
+        1 => {
+            changed.extend_from_slice(part)?;
+            changed.extend_from_slice(part)?;
+        }
+        2 => {
+            changed.extend_from_slice(between(text, to, next))?;
+            changed.extend_from_slice(part)?;
+            changed.extend_from_slice(between(text, next, text.len()))?;
+            return Ok(changed);
+        }
+        _ => changed.push(any_byte(random))?,
     }
+    changed.extend_from_slice(between(text, to, text.len()))?;
     Ok(changed)
 }
 
