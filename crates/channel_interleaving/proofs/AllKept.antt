@@ -1,5 +1,7 @@
 -- What every step keeps of those who wait, and what a call made alone keeps.
-use Rattle.std.proofs.Common.{◌≡◌, ℕ, false, List, [], ◌∷◌, ◌++◌, slice_get, Option, Some, refl, sym, ap, ◌∙◌, subst}
+use Rattle.std.proofs.Common.{◌≡◌, ℕ, false, List, [], ◌∷◌, ◌++◌, map, slice_get, Option, None, Some, inl, refl, sym, ap, ◌∙◌, subst}
+use Rattle.channel_calls.specs.Moves.{Channel}
+use Rattle.channel_calls.specs.declared.ask.ChannelAsk.{ChannelAsk}
 use Rattle.channel_calls.specs.declared.reply.Reply.{Reply}
 use Rattle.channel_calls.specs.declared.stage.Kept.{Kept}
 use Rattle.channel_alone.specs.Alone.{Outcome}
@@ -7,16 +9,20 @@ use Rattle.channel_alone.specs.Scenes.{Goes, names_of_all, LoneRun}
 use Rattle.channel_laws.proofs.Interface.{all_sound_new, all_sound_next, stays_closed}
 use Rattle.channel_model.specs.declared.call.Call.{Call}
 use Rattle.channel_model.specs.declared.name.Waiter.{Waiter}
-use Rattle.channel_steps.specs.Run.{new_scene, Begins}
-use Rattle.channel_steps.specs.Scene.{Scene, Steps}
+use Rattle.channel_steps.specs.Answers.{asks_first}
+use Rattle.channel_steps.specs.Run.{new_scene, Begins, Next}
+use Rattle.channel_steps.specs.Scene.{Under, Scene, Steps, sees, does, unless_ended}
 use Rattle.channel_steps.specs.declared.party.Entry.{Entry as ChannelEntry}
+use Rattle.channel_steps.specs.declared.run.Step.{Step as ChannelStep}
 use Rattle.channel_steps.specs.declared.run.Step.TheVariants as channel
+use Rattle.channel_interleaving.specs.AskedBy.{IsOrListens, IsStepOf}
 use Rattle.channel_interleaving.specs.Bookkeeping.{asks, errand_of, all_woken}
-use Rattle.channel_interleaving.specs.Kept.{AllKept}
+use Rattle.channel_interleaving.specs.Kept.{AllKept, AllTry, NamesKept}
 use Rattle.channel_interleaving.specs.Lone.{book_alone}
 use Rattle.channel_interleaving.specs.Order.{all_moved_last}
 use Rattle.channel_interleaving.specs.Roll.{first_roll, is_at_work}
-use Rattle.channel_interleaving.specs.Run.{Book, Made, begun, ended, with_woken}
+use Rattle.channel_interleaving.specs.Refusal.{step_refusal}
+use Rattle.channel_interleaving.specs.Run.{Book, Made, IsBookOf, begun, ended, with_woken}
 use Rattle.channel_interleaving.specs.Users.{FewUsers}
 use Rattle.channel_interleaving.specs.declared.names.Agent.{Agent}
 use Rattle.channel_interleaving.specs.declared.roll.Roll.{Roll}
@@ -31,8 +37,10 @@ use Rattle.channel_interleaving.proofs.OwnerPolled.{polled_first, polled_begun, 
 use Rattle.channel_interleaving.proofs.OwnerBegins.{Admitted, admitted}
 use Rattle.channel_interleaving.proofs.OwnerRuns.{stepped, idle_and_free}
 use Rattle.channel_interleaving.proofs.OwnerSteps.{owned_first, begins_owned}
+use Rattle.channel_interleaving.proofs.OwnerTogether.{all_join, all_left, all_right}
 use Rattle.channel_interleaving.proofs.OwnerWoken.{stepped_woken}
 use Rattle.channel_interleaving.proofs.OwnerWokenRuns.{woken_first, begins_woken}
+use Rattle.channel_interleaving.proofs.TriesFirst.{tries_first}
 use Rattle.channel_interleaving.proofs.UserFacts.{users_first, users_begun, users_ended}
 
 all_moved_append : (xs ys ws : List Waiter) → all_moved_last (xs ++ ys) ws ≡ all_moved_last ys (all_moved_last xs ws)
@@ -40,9 +48,11 @@ all_moved_append [] ys ws = refl
 all_moved_append (x ∷ xs) ys ws = all_moved_append xs ys _
 
 module _ {T : Type 0} where
+  -- ---- what is kept also where a poll asks its listener first
+
   -- a channel that was just opened
-  pub kept_first : (cap : Option ℕ) → AllKept {T = T} (record { roll = first_roll; order = []; agents = [] }) (new_scene cap)
-  kept_first cap =
+  pub names_kept_first : (cap : Option ℕ) → NamesKept {T = T} (record { roll = first_roll; order = []; agents = [] }) (new_scene cap)
+  names_kept_first cap =
       record {
         owned = owned_first T cap;
         woken = woken_first T cap;
@@ -54,18 +64,18 @@ module _ {T : Type 0} where
       }
 
   -- a call begins
-  pub kept_begun : (q : PartyId) (c : Call T) (b : Book T) (s t : Scene T Waiter) (e : ChannelEntry T)
-      → Begins s q.0 (asks b.roll c) e t → is_at_work q.0 b.agents ≡ false → Admitted b.roll c → AllKept b s
-      → AllKept (begun q c b) t
-  kept_begun q c b s t e n idle fine k =
+  pub names_kept_begun : (q : PartyId) (c : Call T) (b : Book T) (a : ChannelAsk T Waiter) (s t : Scene T Waiter) (e : ChannelEntry T)
+      → IsOrListens (asks b.roll c) a → Begins s q.0 a e t → is_at_work q.0 b.agents ≡ false → Admitted b.roll c → NamesKept b s
+      → NamesKept (begun q c b) t
+  names_kept_begun q c b a s t e is n idle fine k =
       record {
-        owned = begins_owned q c b s t e n k.owned idle fine;
-        woken = begins_woken q c b s t e n k.owned k.woken fine;
-        order = begins_order q c b s t e n k.owned k.order fine;
-        sound = all_sound_next s (channel.Begin q.0 (asks b.roll c)) e [] t k.sound (n, refl);
+        owned = begins_owned q c b a s t e is n k.owned idle fine;
+        woken = begins_woken q c b a s t e is n k.owned k.woken fine;
+        order = begins_order q c b a s t e n k.owned k.order fine;
+        sound = all_sound_next s (channel.Begin q.0 a) e [] t k.sound (n, refl);
         polled = polled_begun q c b s k.owned fine k.polled;
         users = users_begun q c b k.users;
-        counted = counted_begun q c b s t e n k.counted;
+        counted = counted_begun q c b a s t e is n k.counted;
       }
 
   -- the book after a step of a party
@@ -74,9 +84,9 @@ module _ {T : Type 0} where
       (k : ℕ) × (a : Agent T) × (slice_get b.agents k ≡ Some a) × (a.party ≡ q.0) × (c ≡ ended k a r kp (with_woken names b))
 
   -- a call makes a step
-  pub kept_step : (b c : Book T) (s t : Scene T Waiter) (q : PartyId) (e : ChannelEntry T) (names : List Waiter)
-      → Steps s q.0 e names t → IsAfter b q e.reply e.kept names c → AllKept b s → AllKept c t
-  kept_step b c s t q e names st after k =
+  pub names_kept_step : (b c : Book T) (s t : Scene T Waiter) (q : PartyId) (e : ChannelEntry T) (names : List Waiter)
+      → Steps s q.0 e names t → IsAfter b q e.reply e.kept names c → NamesKept b s → NamesKept c t
+  names_kept_step b c s t q e names st after k =
       let streams = k.sound.streams in
       let known = streams.known in
       record {
@@ -90,6 +100,85 @@ module _ {T : Type 0} where
         counted = counted_step b c s t q e.mark e.reply e.kept names k.owned known st after
             (stays_closed s (channel.Step q.0) e names t st) k.counted;
       }
+
+  -- a step by names that nothing refuses, whether a poll tries or asks its listener first
+  pub names_kept_next : (b c : Book T) (s t : Scene T Waiter) (x : Step T) (y : ChannelStep T Waiter) (e : ChannelEntry T) (names : List Waiter)
+      → step_refusal b.roll b.agents x ≡ None → IsStepOf b.roll x y → Next s y e names t → IsBookOf x e.reply e.kept names b c
+      → NamesKept b s → NamesKept c t
+  names_kept_next b c s t (step.Begin q call) y e names fine (a, is, same) next book k =
+      let ok = idle_and_free q call b fine in
+      let n : Begins s q.0 a e t × (names ≡ []) = subst (λ (z : ChannelStep T Waiter). Next s z e names t) same next in
+      subst (λ (d : Book T). NamesKept d t) (sym book)
+      (names_kept_begun q call b a s t e is n.0 ok.0 (admitted b.roll call ok.1) k)
+  names_kept_next b c s t (step.Step q) y e names fine same next book k =
+      names_kept_step b c s t q e names (subst (λ (z : ChannelStep T Waiter). Next s z e names t) same next) book k
+
+  -- ---- all of it
+
+  names_of : (b : Book T) (s : Scene T Waiter) → AllKept b s → NamesKept b s
+  names_of b s k =
+      record {
+        owned = k.owned;
+        woken = k.woken;
+        order = k.order;
+        sound = k.sound;
+        polled = k.polled;
+        users = k.users;
+        counted = k.counted;
+      }
+
+  with_tries : (b : Book T) (s : Scene T Waiter) → NamesKept b s → AllTry s.under_way → AllKept b s
+  with_tries b s k tries =
+      record {
+        owned = k.owned;
+        woken = k.woken;
+        order = k.order;
+        sound = k.sound;
+        polled = k.polled;
+        users = k.users;
+        counted = k.counted;
+        tries = tries;
+      }
+
+  pub kept_first : (cap : Option ℕ) → AllKept {T = T} (record { roll = first_roll; order = []; agents = [] }) (new_scene cap)
+  kept_first cap = with_tries _ _ (names_kept_first cap) tt
+
+  abbrev Try : Under T Waiter → Type 0
+  Try u = asks_first u.ask ≡ false
+
+  -- a call begins
+  pub kept_begun : (q : PartyId) (c : Call T) (b : Book T) (s t : Scene T Waiter) (e : ChannelEntry T)
+      → Begins s q.0 (asks b.roll c) e t → is_at_work q.0 b.agents ≡ false → Admitted b.roll c → AllKept b s
+      → AllKept (begun q c b) t
+  kept_begun q c b s t e n idle fine k =
+      with_tries (begun q c b) t (names_kept_begun q c b (asks b.roll c) s t e (inl refl) n idle fine (names_of b s k))
+      (subst AllTry (sym n.under_way) (all_join Try s.under_way _ k.tries (tries_first b.roll c, tt)))
+
+  tries_seen : (d : Channel T Waiter) (us : List (Under T Waiter)) → AllTry us → AllTry (map (sees d) us)
+  tries_seen d [] h = tt
+  tries_seen d (u ∷ us) h = (h.0, tries_seen d us h.1)
+
+  tries_ended : (u : Under T Waiter) (r : Option (Reply T)) → Try u → AllTry (unless_ended u r)
+  tries_ended u None h = (h, tt)
+  tries_ended u (Some r) h = tt
+
+  tries_step : (s t : Scene T Waiter) (p : ℕ) (e : ChannelEntry T) (names : List Waiter) → Steps s p e names t → AllTry s.under_way
+      → AllTry t.under_way
+  tries_step s t p e names st h =
+      let all : AllTry (st.before ++ (st.mine ∷ st.behind)) = subst AllTry st.there h in
+      let own = all_right Try st.before (st.mine ∷ st.behind) all in
+      let after : Under T Waiter = does st.mine st.at_now e.mark s.now t.now in
+      subst AllTry (sym st.left)
+      (all_join Try (map (sees t.now) st.before) (unless_ended after e.reply ++ map (sees t.now) st.behind)
+      (tries_seen t.now st.before (all_left Try st.before (st.mine ∷ st.behind) all))
+      (all_join Try (unless_ended after e.reply) (map (sees t.now) st.behind)
+      (tries_ended after e.reply own.0) (tries_seen t.now st.behind own.1)))
+
+  -- a call makes a step
+  pub kept_step : (b c : Book T) (s t : Scene T Waiter) (q : PartyId) (e : ChannelEntry T) (names : List Waiter)
+      → Steps s q.0 e names t → IsAfter b q e.reply e.kept names c → AllKept b s → AllKept c t
+  kept_step b c s t q e names st after k =
+      with_tries c t (names_kept_step b c s t q e names st after (names_of b s k)) (tries_step s t q.0 e names st k.tries)
 
   -- a step that was made
   pub kept_next : (b c : Book T) (s t : Scene T Waiter) (x : Step T) (e : Entry T) → Made b s x e c t → AllKept b s → AllKept c t

@@ -1,5 +1,5 @@
 -- What a call that begins is to do to the counts, and what it does to the names.
-use Rattle.std.proofs.Common.{arith, ◌≡◌, ℕ, ◌+◌, Bool, true, false, if◌then◌else◌, Option, None, Some, refl, sym, ap, ◌∙◌, subst}
+use Rattle.std.proofs.Common.{arith, ◌≡◌, ℕ, ◌+◌, Bool, true, false, if◌then◌else◌, Option, None, Some, inl, inr, refl, sym, ap, ◌∙◌, subst}
 use Rattle.std.specs.Option.{option_map}
 use Rattle.concurrent_queue.specs.Queue.{Phase, asked}
 use Rattle.event_listener.specs.declared.key.Key.{Key}
@@ -19,7 +19,7 @@ use Rattle.channel_calls.specs.declared.stage.Waiting.{Waiting}
 use Rattle.channel_calls.specs.declared.stage.Waiting.TheVariants as waiting
 use Rattle.channel_model.specs.Answer.{weak_of, strong_of}
 use Rattle.channel_model.specs.Asked.{Held, poll_asked, refusal_asked, giving_up_asked, drop_asked, clone_asked, upgrade_asked}
-use Rattle.channel_model.specs.Names.{at, without}
+use Rattle.channel_model.specs.Names.{at}
 use Rattle.channel_model.specs.Names as model
 use Rattle.channel_model.specs.declared.call.Call.{Call}
 use Rattle.channel_model.specs.declared.call.Call.TheVariants as call
@@ -29,6 +29,7 @@ use Rattle.channel_model.specs.declared.name.HandleKind.{HandleKind}
 use Rattle.channel_model.specs.declared.name.HandleKind.TheVariants as handle_kind
 use Rattle.channel_model.specs.declared.name.OpId.{OpId}
 use Rattle.channel_model.specs.declared.name.Waiter.{Waiter}
+use Rattle.channel_interleaving.specs.AskedBy.{listening_first, IsOrListens}
 use Rattle.channel_interleaving.specs.Bookkeeping.{asks, errand_of, names_begun, lent_by, leave_handle_of, new_from, operation_named, handle_named}
 use Rattle.channel_interleaving.specs.Counted.{is_strong, strong_lives, live_on, same_side, is_lowering, is_raising, makes_strong}
 use Rattle.channel_interleaving.specs.Roll.{operation_at, held_of, with_lent, with_standing}
@@ -53,6 +54,20 @@ module _ {T W : Type 0} where
   asks_raising side (ask.CloneHandle s) = same_side side s
   asks_raising side (ask.Upgrade s) = same_side side s
   asks_raising side a = false
+
+  -- with its listener asked first it is the same
+  listens_so : (side : Side) (x : ChannelAsk T W) → (asks_lowering side (listening_first x) ≡ asks_lowering side x) × (asks_raising side (listening_first x) ≡ asks_raising side x)
+  listens_so side (ask.PollSend m l task) = (refl, refl)
+  listens_so side (ask.PollRecv l task) = (refl, refl)
+  listens_so side x = (refl, refl)
+
+  pub lowering_same : (side : Side) (x a : ChannelAsk T W) → IsOrListens x a → asks_lowering side a ≡ asks_lowering side x
+  lowering_same side x a (inl same) = ap (λ (y : ChannelAsk T W). asks_lowering side y) same
+  lowering_same side x a (inr same) = ap (λ (y : ChannelAsk T W). asks_lowering side y) same ∙ (listens_so side x).0
+
+  pub raising_same : (side : Side) (x a : ChannelAsk T W) → IsOrListens x a → asks_raising side a ≡ asks_raising side x
+  raising_same side x a (inl same) = ap (λ (y : ChannelAsk T W). asks_raising side y) same
+  raising_same side x a (inr same) = ap (λ (y : ChannelAsk T W). asks_raising side y) same ∙ (listens_so side x).1
 
   abbrev pub Starts : Side → ChannelAsk T W → Stage (Phase T) T W → Type 0
   Starts side a s = (is_lowering side s ≡ asks_lowering side a) × (is_raising side s ≡ asks_raising side a)

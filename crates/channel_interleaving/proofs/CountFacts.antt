@@ -5,6 +5,7 @@ use Rattle.concurrent_queue.specs.Queue.{Phase}
 use Rattle.channel_calls.specs.Marks.{is_made}
 use Rattle.channel_calls.specs.Moves.{Channel, Effect}
 use Rattle.channel_calls.specs.Parts.{count}
+use Rattle.channel_calls.specs.declared.ask.ChannelAsk.{ChannelAsk}
 use Rattle.channel_calls.specs.declared.mark.Mark.{Mark}
 use Rattle.channel_calls.specs.declared.reply.Reply.{Reply}
 use Rattle.channel_calls.specs.declared.stage.Kept.{Kept}
@@ -18,6 +19,7 @@ use Rattle.channel_steps.specs.Run.{new_scene, Begins}
 use Rattle.channel_steps.specs.Run as start
 use Rattle.channel_steps.specs.Scene.{Under, Scene, Steps, Known, AllKnown, sees, does, unless_ended}
 use Rattle.channel_steps.specs.declared.party.Entry.{Entry}
+use Rattle.channel_interleaving.specs.AskedBy.{IsOrListens}
 use Rattle.channel_interleaving.specs.Bookkeeping.{asks, errand_of, settled, all_woken}
 use Rattle.channel_interleaving.specs.Counted.{tally, is_lowering, is_closing, is_raising, makes_strong, CountsSide, Counted}
 use Rattle.channel_interleaving.specs.Owners.{Post, post, wait_of, Suits, Together, AllDiffer, Owned}
@@ -25,7 +27,7 @@ use Rattle.channel_interleaving.specs.Roll.{first_roll}
 use Rattle.channel_interleaving.specs.Run.{Book, begun, ended, with_woken}
 use Rattle.channel_interleaving.specs.declared.names.Agent.{Agent}
 use Rattle.channel_interleaving.specs.declared.step.PartyId.{PartyId}
-use Rattle.channel_interleaving.proofs.CountBegins.{asks_lowering, Starts, starts, BeginsSo, begins_so}
+use Rattle.channel_interleaving.proofs.CountBegins.{asks_lowering, lowering_same, raising_same, Starts, starts, BeginsSo, begins_so}
 use Rattle.channel_interleaving.proofs.CountClosings.{closing_shuts, last_closes}
 use Rattle.channel_interleaving.proofs.CountNames.{bit, woken_live, settled_live}
 use Rattle.channel_interleaving.proofs.CountTurns.{Turns, turns}
@@ -61,9 +63,9 @@ module _ {T : Type 0} where
 
   -- ---- a call begins
 
-  pub counted_begun : (q : PartyId) (c : Call T) (b : Book T) (s t : Scene T Waiter) (e : Entry T)
-      → Begins s q.0 (asks b.roll c) e t → Counted b s → Counted (begun q c b) t
-  counted_begun q c b s t e n counted side =
+  pub counted_begun : (q : PartyId) (c : Call T) (b : Book T) (a : ChannelAsk T Waiter) (s t : Scene T Waiter) (e : Entry T)
+      → IsOrListens (asks b.roll c) a → Begins s q.0 a e t → Counted b s → Counted (begun q c b) t
+  counted_begun q c b a s t e is n counted side =
       record {
         counts = omega (arith, same_count, was.counts, low, begins.0, lowering);
         opened = opened;
@@ -73,14 +75,17 @@ module _ {T : Type 0} where
       was : CountsSide side b s
       was = counted side
 
+      starts_so : Starts side a n.at
+      starts_so = starts side a n.answer n.at n.turned
+
       first : Starts side (asks b.roll c) n.at
-      first = starts side (asks b.roll c) n.answer n.at n.turned
+      first = (starts_so.0 ∙ lowering_same side (asks b.roll c) a is, starts_so.1 ∙ raising_same side (asks b.roll c) a is)
 
       begins : BeginsSo T side b.roll c
       begins = begins_so T side b.roll c
 
       new : Under T Waiter
-      new = start.begun q.0 (asks b.roll c) n.at s.now
+      new = start.begun q.0 a n.at s.now
 
       same_count : count side t.now.roster ≡ count side s.now.roster
       same_count = ap (λ (x : Channel T Waiter). count side x.roster) n.now

@@ -11,10 +11,10 @@ use Rattle.channel_model.specs.declared.name.Waiter.{Waiter}
 use Rattle.channel_steps.specs.Answers.{asks_first}
 use Rattle.channel_steps.specs.Scene.{Under, Scene, HoldNobodyUp}
 use Rattle.channel_interleaving.specs.Floor.{Shown, AreAtWork, IsQuiet, Led, LeadsOn, Stands, StandsIn}
-use Rattle.channel_interleaving.specs.Kept.{AllKept}
+use Rattle.channel_interleaving.specs.Kept.{AllKept, AllTry, NamesKept}
 use Rattle.channel_interleaving.specs.Left.{others_of}
 use Rattle.channel_interleaving.specs.Owed.{Owed}
-use Rattle.channel_interleaving.specs.Owners.{All, post, Together}
+use Rattle.channel_interleaving.specs.Owners.{All, post}
 use Rattle.channel_interleaving.specs.Positions.{brings}
 use Rattle.channel_interleaving.specs.Refusal.{step_refusal}
 use Rattle.channel_interleaving.specs.Roll.{names_of}
@@ -33,7 +33,7 @@ use Rattle.channel_interleaving.proofs.FloorFacts as floor_facts
 use Rattle.channel_interleaving.proofs.LeftFacts as left_facts
 use Rattle.channel_interleaving.proofs.LoneFacts as facts
 use Rattle.channel_interleaving.proofs.OwnerRuns.{idle_and_free}
-use Rattle.channel_interleaving.proofs.OwnerTogether as together
+use Rattle.channel_interleaving.proofs.OwnerTogether.{all_right}
 use Rattle.channel_interleaving.proofs.PlaceFacts as place_facts
 use Rattle.channel_interleaving.proofs.SightFacts as sight_facts
 use Rattle.channel_interleaving.proofs.WayFacts as way_facts
@@ -52,7 +52,7 @@ module _ {T : Type 0} where
   pub tries_at : (b : Book T) (s : Scene T Waiter) (before : List (Under T Waiter)) (u : Under T Waiter) (behind : List (Under T Waiter)) → AllKept b s → s.under_way ≡ before ++ u ∷ behind
       → asks_first u.ask ≡ false
   tries_at b s before u behind kept there =
-      together.tries_at (post b.roll) b.agents before u behind (subst (λ (us : List (Under T Waiter)). Together (post b.roll) b.agents us) there kept.owned.together)
+      (all_right (λ (v : Under T Waiter). asks_first v.ask ≡ false) before (u ∷ behind) (subst AllTry there kept.tries)).0
 
   -- a poll that may bring a message is that of a send
   pub only_sends_bring : (r : Roll T) (w : Waiter) → brings r (poll_of w) ≡ true → is_line Sends (line_of (names_of r) w) ≡ true
@@ -110,4 +110,8 @@ module _ {T : Type 0} where
 
   -- what a moment shows, it owes
   pub owed_at : (b : Book T) (s : Scene T Waiter) → AllKept b s → Owed (sight_at b.roll s)
-  owed_at b s k = sight_facts.owed_at b s k
+  owed_at b s k = sight_facts.owed_at b s k.owned k.sound
+
+  -- also where polls ask their listeners first
+  pub names_owed_at : (b : Book T) (s : Scene T Waiter) → NamesKept b s → Owed (sight_at b.roll s)
+  names_owed_at b s k = sight_facts.owed_at b s k.owned k.sound

@@ -23,6 +23,7 @@ pub mod OwnerWokenRuns
 pub mod OwnerPolled
 pub mod AccountFacts
 pub mod AllKept
+pub mod ByNames
 pub mod LoneFacts
 pub mod Interface
 pub mod OwedScenes

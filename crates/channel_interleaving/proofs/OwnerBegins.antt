@@ -30,6 +30,7 @@ use Rattle.channel_model.specs.declared.name.HandleId.{HandleId}
 use Rattle.channel_model.specs.declared.name.OpId.{OpId}
 use Rattle.channel_model.specs.declared.name.Waiter.{Waiter}
 use Rattle.channel_model.specs.declared.name.Waiter.TheVariants.{Op}
+use Rattle.channel_interleaving.specs.AskedBy.{listening_first, IsOrListens}
 use Rattle.channel_interleaving.specs.Bookkeeping.{asks, names_begun, lent_to_poll, polled_ask, with_operation}
 use Rattle.channel_interleaving.specs.Owners.{Post, free, vacant, amiss, rests, waits, polled, post_on, posted, operation_post, post, holding, task_at, wait_of, line_asked, Bears, subject, Suits}
 use Rattle.channel_interleaving.specs.Refusal.{refusal, meets_poll, names_taken}
@@ -105,6 +106,24 @@ module _ {T W : Type 0} where
   line_waits (ask.PollClosed key t) line task e = ap (λ (o : Option (Line × W)). option_map (λ (x : Line × W). x.0) o) e
   line_waits (ask.PollNext key t) line task e = ap (λ (o : Option (Line × W)). option_map (λ (x : Line × W). x.0) o) e
   line_waits a line task e = absurd (let no : None ≡ Some (line, task) = e in cc)
+
+  -- ---- with its listener asked first
+
+  listens_so : (x : ChannelAsk T W) → (ask_holds (listening_first x) ≡ ask_holds x) × (wait_of (listening_first x) ≡ wait_of x)
+  listens_so (ask.PollSend m l task) = (refl, refl)
+  listens_so (ask.PollRecv l task) = (refl, refl)
+  listens_so x = (refl, refl)
+
+  -- it has the same listener, and waits on the same list for the same task
+  pub holds_same : (x a : ChannelAsk T W) → IsOrListens x a → ask_holds a ≡ ask_holds x
+  holds_same x a (inl same) = ap (λ (y : ChannelAsk T W). ask_holds y) same
+  holds_same x a (inr same) = ap (λ (y : ChannelAsk T W). ask_holds y) same ∙ (listens_so x).0
+
+  pub waits_same : (x a : ChannelAsk T W) → IsOrListens x a → wait_of a ≡ wait_of x
+  waits_same x a (inl same) = ap (λ (y : ChannelAsk T W). wait_of y) same
+  waits_same x a (inr same) = ap (λ (y : ChannelAsk T W). wait_of y) same ∙ (listens_so x).1
+
+  -- ---- the first stage
 
   abbrev Starts : ChannelAsk T W → Stage (Phase T) T W → Type 0
   Starts a s = (holding s ≡ ask_holds a) × Bears (task_at s) (wait_of a)

@@ -4,6 +4,7 @@ use Rattle.std.specs.Map.{lookup, keys_of}
 use Rattle.event_listener.specs.declared.key.Key.{Key}
 use Rattle.channel_calls.specs.Moves.{Channel}
 use Rattle.channel_calls.specs.Parts.{listeners}
+use Rattle.channel_calls.specs.declared.ask.ChannelAsk.{ChannelAsk}
 use Rattle.channel_calls.specs.declared.stage.Line.{Line}
 use Rattle.channel_model.specs.Lines.{is_among, without}
 use Rattle.channel_model.specs.Names.{at}
@@ -14,30 +15,25 @@ use Rattle.channel_model.specs.declared.name.OpId.{OpId}
 use Rattle.channel_model.specs.declared.name.Waiter.{Waiter}
 use Rattle.channel_model.specs.declared.name.Waiter.TheVariants.{Op, Stream}
 use Rattle.channel_steps.specs.Run.{Begins, new_scene}
-use Rattle.channel_steps.specs.Scene.{Scene, AllKnown}
+use Rattle.channel_steps.specs.Scene.{Scene}
 use Rattle.channel_steps.specs.declared.party.Entry.{Entry as ChannelEntry}
-use Rattle.channel_interleaving.specs.Bookkeeping.{asks, errand_of, names_begun, lent_by, operation_named, handle_named}
+use Rattle.channel_interleaving.specs.Bookkeeping.{errand_of, names_begun, lent_by, operation_named, handle_named}
 use Rattle.channel_interleaving.specs.Order.{placed, order_begun}
 use Rattle.channel_interleaving.specs.Owners.{IsAmong, NoneTwice, Post, vacant, post, subject, Owned}
 use Rattle.channel_interleaving.specs.OwnerOrder.{woken_key, Within, NeedsPlace, InOrder}
-use Rattle.channel_interleaving.specs.OwnerWoken.{WokenSound}
-use Rattle.channel_interleaving.specs.Refusal.{step_refusal}
 use Rattle.channel_interleaving.specs.Roll.{first_roll, with_lent}
-use Rattle.channel_interleaving.specs.Run.{Book, Made, begun}
+use Rattle.channel_interleaving.specs.Run.{Book, begun}
 use Rattle.channel_interleaving.specs.declared.names.Operation.{Operation}
 use Rattle.channel_interleaving.specs.declared.roll.Roll.{Roll}
-use Rattle.channel_interleaving.specs.declared.step.Entry.{Entry}
 use Rattle.channel_interleaving.specs.declared.step.PartyId.{PartyId}
-use Rattle.channel_interleaving.specs.declared.step.Step.{Step}
-use Rattle.channel_interleaving.specs.declared.step.Step.TheVariants as step
-use Rattle.channel_interleaving.proofs.OwnerBegins.{IsBusy, Admitted, admitted, handle_as, Sane, find}
+use Rattle.channel_interleaving.proofs.OwnerBegins.{IsBusy, Admitted, handle_as, Sane, find}
 use Rattle.channel_interleaving.proofs.OwnerCalls.{BeginsSo, begins_so}
 use Rattle.channel_interleaving.proofs.OwnerNames.{Sets, Same, same_both, sets_same, waiter_or, found, op_set, op_spent, handle_set, handle_spent, lent_same}
-use Rattle.channel_interleaving.proofs.OwnerOrder.{busy_keyless, calm_placeless, needs_same, stepped_order}
+use Rattle.channel_interleaving.proofs.OwnerOrder.{busy_keyless, calm_placeless, needs_same}
 use Rattle.channel_interleaving.proofs.OwnerOrderNames.{stays_among, once_without, stays_placed, is_placed, once_placed}
 use Rattle.channel_interleaving.proofs.OwnerOrderWakes.{key_on, keys_are}
 use Rattle.channel_interleaving.proofs.OwnerOrderWithin.{within_both, gathered, gathered_less, gathered_fewer}
-use Rattle.channel_interleaving.proofs.OwnerRuns.{inner, idle_and_free}
+use Rattle.channel_interleaving.proofs.OwnerRuns.{inner}
 use Rattle.channel_interleaving.proofs.OwnerSteps.{first_calm}
 
 -- a channel that was just opened
@@ -254,21 +250,9 @@ module _ {T : Type 0} where
     begins_sorted (call.ReceiverCount handle) a = ease (call.ReceiverCount handle) (lent_eased r handle)
 
   -- a call begins
-  pub begins_order : (q : PartyId) (c : Call T) (b : Book T) (s t : Scene T Waiter) (e : ChannelEntry T)
-      → Begins s q.0 (asks b.roll c) e t → Owned b s → InOrder b s → Admitted b.roll c → InOrder (begun q c b) t
-  begins_order q c b s t e n o i fine =
+  pub begins_order : (q : PartyId) (c : Call T) (b : Book T) (a : ChannelAsk T Waiter) (s t : Scene T Waiter) (e : ChannelEntry T)
+      → Begins s q.0 a e t → Owned b s → InOrder b s → Admitted b.roll c → InOrder (begun q c b) t
+  begins_order q c b a s t e n o i fine =
       let h = begins_sorted b.roll b.order s.now o.none_amiss (sorted_of b s i) c fine in
       of_sorted (begun q c b) t
       (subst (λ (d : Channel T Waiter). Sorted (names_begun b.roll c) (order_begun c b.order) d) (sym n.now) h)
-
-  -- ---- any step
-
-  -- a step that was made, and that nothing refused
-  pub order_next : (b c : Book T) (s t : Scene T Waiter) (x : Step T) (e : Entry T) → AllKnown s.now s.under_way
-      → step_refusal b.roll b.agents x ≡ None → Made b s x e c t → Owned b s → WokenSound b s → InOrder b s → InOrder c t
-  order_next b c s t (step.Begin q call) e known fine made o w i =
-      let ok = idle_and_free q call b fine in
-      let n = made.next.0 in
-      subst (λ (d : Book T). InOrder d t) (sym made.book) (begins_order q call b s t _ n o i (admitted b.roll call ok.1))
-  order_next b c s t (step.Step q) e known fine made o w i =
-      stepped_order b c s t q e.mark e.reply made.kept e.woken.items o known made.next made.book w i

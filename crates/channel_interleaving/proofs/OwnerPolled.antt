@@ -12,20 +12,16 @@ use Rattle.channel_steps.specs.Scene.{Scene, Steps, AllKnown}
 use Rattle.channel_interleaving.specs.Bookkeeping.{names_begun, errand_of, asks, settled, all_woken}
 use Rattle.channel_interleaving.specs.OwnerPolled.{IsWorkedAt, PolledAtWork}
 use Rattle.channel_interleaving.specs.Owners.{IsAmong, Post, free, vacant, amiss, rests, waits, polled, post, subject, AllDiffer, Owned}
-use Rattle.channel_interleaving.specs.Refusal.{step_refusal}
 use Rattle.channel_interleaving.specs.Roll.{first_roll}
-use Rattle.channel_interleaving.specs.Run.{Book, Made, begun, ended, with_woken}
+use Rattle.channel_interleaving.specs.Run.{Book, begun, ended, with_woken}
 use Rattle.channel_interleaving.specs.declared.names.Agent.{Agent}
-use Rattle.channel_interleaving.specs.declared.step.Entry.{Entry}
 use Rattle.channel_interleaving.specs.declared.step.PartyId.{PartyId}
-use Rattle.channel_interleaving.specs.declared.step.Step.{Step}
-use Rattle.channel_interleaving.specs.declared.step.Step.TheVariants as step
-use Rattle.channel_interleaving.proofs.OwnerBegins.{Quiet, Touches, Admitted, admitted}
+use Rattle.channel_interleaving.proofs.OwnerBegins.{Quiet, Touches, Admitted}
 use Rattle.channel_interleaving.proofs.OwnerCalls.{begins_so}
 use Rattle.channel_interleaving.proofs.OwnerEnds.{IsCalm, Comes}
 use Rattle.channel_interleaving.proofs.OwnerLists.{among_left, among_right, among_of}
 use Rattle.channel_interleaving.proofs.OwnerNames.{waiter_or, told_post, MayBeTold, all_told}
-use Rattle.channel_interleaving.proofs.OwnerRuns.{parts, set, inner, idle_and_free}
+use Rattle.channel_interleaving.proofs.OwnerRuns.{parts, set, inner}
 use Rattle.channel_interleaving.proofs.OwnerSteps.{first_calm}
 use Rattle.channel_interleaving.proofs.OwnerTogether.{is_agent}
 
@@ -134,12 +130,3 @@ module _ {T : Type 0} where
           let same : task ≡ w = inner task w (sym his' ∙ own) in
           let no : waits (record { line = l; key = key }) _ ≡ polled line = sym is ∙ (ap p same ∙ g) in
           cc
-
-  -- a step that was made, and that nothing refused
-  pub polled_next : (b c : Book T) (s t : Scene T Waiter) (x : Step T) (e : Entry T) → AllKnown s.now s.under_way
-      → step_refusal b.roll b.agents x ≡ None → Made b s x e c t → Owned b s → PolledAtWork b → PolledAtWork c
-  polled_next b c s t (step.Begin q call) e known fine made o at =
-      subst (λ (d : Book T). PolledAtWork d) (sym made.book) (polled_begun q call b s o (admitted b.roll call (idle_and_free q call b fine).1) at)
-  polled_next b c s t (step.Step q) e known fine made o at =
-      polled_step b c s t q e.mark e.reply made.kept e.woken.items o known made.next made.book.0 made.book.1 made.book.2
-      made.book.3 made.book.4 at

@@ -20,19 +20,17 @@ use Rattle.channel_interleaving.specs.Order.{all_moved_last, order_settled}
 use Rattle.channel_interleaving.specs.Owners.{IsAmong, All, AnyOf, Post, free, vacant, amiss, rests, waits, polled, post, holding, task_at, wait_of, line_asked, Bears, subject, Suits, Fits, Together, Differ, AllDiffer, WaitsFor, Holder, named, calling, HoldsIn, Owned}
 use Rattle.channel_interleaving.specs.Refusal.{refusal, step_refusal}
 use Rattle.channel_interleaving.specs.Roll.{is_at_work}
-use Rattle.channel_interleaving.specs.Run.{Book, Made, ended, with_woken}
+use Rattle.channel_interleaving.specs.Run.{Book, ended, with_woken}
 use Rattle.channel_interleaving.specs.declared.names.Agent.{Agent}
 use Rattle.channel_interleaving.specs.declared.roll.Roll.{Roll}
-use Rattle.channel_interleaving.specs.declared.step.Entry.{Entry}
 use Rattle.channel_interleaving.specs.declared.step.PartyId.{PartyId}
-use Rattle.channel_interleaving.specs.declared.step.Step.{Step}
 use Rattle.channel_interleaving.specs.declared.step.Step.TheVariants as step
-use Rattle.channel_interleaving.proofs.OwnerBegins.{line_waits, IsBusy, admitted}
+use Rattle.channel_interleaving.proofs.OwnerBegins.{line_waits, IsBusy}
 use Rattle.channel_interleaving.proofs.OwnerEnds.{IsCalm, IsLeft, Comes, Settles, settles, carries}
 use Rattle.channel_interleaving.proofs.OwnerHolders.{Accounted, Passes, accounted}
 use Rattle.channel_interleaving.proofs.OwnerMoves.{LeavesIt, Turnout, turnout}
 use Rattle.channel_interleaving.proofs.OwnerNames.{waiter_or, told_post, MayBeTold, all_told, named_told}
-use Rattle.channel_interleaving.proofs.OwnerSteps.{calm_waits, calm_amiss, busy_waits, told_was, told_amiss, told_busy, never_unwoken, calling_is, apart, all_keep, begins_owned}
+use Rattle.channel_interleaving.proofs.OwnerSteps.{calm_waits, calm_amiss, busy_waits, told_was, told_amiss, told_busy, never_unwoken, calling_is, apart, all_keep}
 use Rattle.channel_interleaving.proofs.OwnerTogether.{HasIt, any_left, any_right, any_of, has_seen, had_seen, busy, Keeps, together_on, together_sees, together_join, suits_on, Parted, parted, Beside, beside, is_agent, other_party}
 
 module _ {T : Type 0} where
@@ -275,7 +273,6 @@ module _ {T : Type 0} where
               (λ v e. keep v (busy (post b.roll) pt.agent.errand _ v pt.own.suits e)) pt.own.suits;
           bears = bears_on (task_at st.at_now) (task_at st.mine.at) (wait_of st.mine.ask) on_out.next.1 pt.own.bears;
           lines = λ h i. own_line pt h (on_out.own h (sym on_out.next.0 ∙ i));
-          tries = pt.own.tries;
         } in
         let front = together_sees t.now on_posts pt.front st.before
         (together_on (post b.roll) on_posts pt.front st.before
@@ -581,13 +578,3 @@ module _ {T : Type 0} where
           → (is_at_work q.0 b.agents ≡ false) × (refusal b.roll c ≡ None)
       by true e g = absurd (let no : Some Busy ≡ None = g in cc)
       by false e g = (e, g)
-
-  -- a step that was made, and that nothing refused
-  pub owned_next : (b c : Book T) (s t : Scene T Waiter) (x : Step T) (e : Entry T) → AllKnown s.now s.under_way
-      → step_refusal b.roll b.agents x ≡ None → Made b s x e c t → Owned b s → Owned c t
-  owned_next b c s t (step.Begin q call) e known fine made o =
-      let ok = idle_and_free q call b fine in
-      let n = made.next.0 in
-      subst (λ (d : Book T). Owned d t) (sym made.book) (begins_owned q call b s t _ n o ok.0 (admitted b.roll call ok.1))
-  owned_next b c s t (step.Step q) e known fine made o =
-      stepped b c s t q e.mark e.reply made.kept e.woken.items o known made.next made.book

@@ -3,6 +3,7 @@ use Rattle.std.proofs.Common.{◌≡◌, ℕ, nat_eq, Bool, true, false, cond, �
 use Rattle.std.proofs.lemmas.Bool.Decides.{nat_tests}
 use Rattle.std.proofs.Common.{arith}
 use Rattle.channel_calls.specs.Moves.{Channel}
+use Rattle.channel_calls.specs.declared.ask.ChannelAsk.{ChannelAsk}
 use Rattle.channel_calls.specs.declared.stage.Held.{Held}
 use Rattle.channel_calls.specs.declared.stage.Line.{Line}
 use Rattle.channel_calls.specs.declared.stage.Line.TheVariants.{Sends, Receives, Streams, Closings}
@@ -12,6 +13,7 @@ use Rattle.channel_model.specs.declared.name.Waiter.TheVariants.{Op, Stream}
 use Rattle.channel_steps.specs.Run.{Begins, new_scene, begun as begun_under}
 use Rattle.channel_steps.specs.Scene.{Under, Scene}
 use Rattle.channel_steps.specs.declared.party.Entry.{Entry as ChannelEntry}
+use Rattle.channel_interleaving.specs.AskedBy.{IsOrListens}
 use Rattle.channel_interleaving.specs.Bookkeeping.{asks, errand_of, names_begun}
 use Rattle.channel_interleaving.specs.Owners.{All, AnyOf, Post, free, vacant, amiss, rests, waits, polled, posted, post, holding, task_at, wait_of, Bears, subject, Suits, Together, Differ, AllDiffer, IsListed, NoneListedTwice, Holder, named, calling, HoldsIn, Owned}
 use Rattle.channel_interleaving.specs.Roll.{first_roll, unused, is_at_work}
@@ -21,9 +23,8 @@ use Rattle.channel_interleaving.specs.declared.names.Errand.{Errand}
 use Rattle.channel_interleaving.specs.declared.names.Errand.TheVariants as errand
 use Rattle.channel_model.specs.declared.name.HandleKind.TheVariants as handle_kind
 use Rattle.channel_interleaving.specs.declared.step.PartyId.{PartyId}
-use Rattle.channel_interleaving.proofs.OwnerBegins.{line_held, IsBusy, IsLoose, held_in, ask_holds, starts, Quiet, Touches, Admitted}
+use Rattle.channel_interleaving.proofs.OwnerBegins.{line_held, IsBusy, IsLoose, held_in, ask_holds, holds_same, waits_same, starts, Quiet, Touches, Admitted}
 use Rattle.channel_interleaving.proofs.OwnerCalls.{begins_so}
-use Rattle.channel_interleaving.proofs.TriesFirst.{tries_first}
 use Rattle.channel_interleaving.proofs.OwnerEnds.{IsCalm}
 use Rattle.channel_interleaving.proofs.OwnerHolders.{Accounted, Passes, accounted}
 use Rattle.channel_interleaving.proofs.OwnerMoves.{still}
@@ -202,8 +203,8 @@ module _ {T : Type 0} where
   not_his p party [] (u ∷ us) q h t f i e = absurd t
   not_his p party (b ∷ more) [] q h t f i e = i
 
-  module _ (q : PartyId) (c : Call T) (b : Book T) (s t : Scene T Waiter) (e : ChannelEntry T)
-      (n : Begins s q.0 (asks b.roll c) e t) (o : Owned b s) (idle : Free q.0 b.agents) where
+  module _ (q : PartyId) (c : Call T) (b : Book T) (a : ChannelAsk T Waiter) (s t : Scene T Waiter) (e : ChannelEntry T)
+      (is : IsOrListens (asks b.roll c) a) (n : Begins s q.0 a e t) (o : Owned b s) (idle : Free q.0 b.agents) where
     abbrev P : Waiter → Post
     P = post b.roll
 
@@ -214,13 +215,16 @@ module _ {T : Type 0} where
     new_agent = record { party = q.0; errand = errand_of b.roll c }
 
     abbrev new_call : Under T Waiter
-    new_call = begun_under q.0 (asks b.roll c) n.at s.now
+    new_call = begun_under q.0 a n.at s.now
 
     abbrev calls : List (Under T Waiter)
     calls = s.under_way ++ new_call ∷ []
 
-    first_stage : (holding n.at ≡ ask_holds (asks b.roll c)) × Bears (task_at n.at) (wait_of (asks b.roll c))
-    first_stage = starts (asks b.roll c) n.answer n.at n.turned
+    starts_so : (holding n.at ≡ ask_holds a) × Bears (task_at n.at) (wait_of a)
+    starts_so = starts a n.answer n.at n.turned
+
+    first_stage : holding n.at ≡ ask_holds (asks b.roll c)
+    first_stage = starts_so.0 ∙ holds_same (asks b.roll c) a is
 
     before : Accounted (HoldsIn P s.under_way) s.now
     before = record { once = o.once; listed = o.listed; held = o.held; alone = o.alone }
@@ -232,7 +236,7 @@ module _ {T : Type 0} where
         → ((v : Waiter) (h : Held) → P' v ≡ waits h false → P v ≡ waits h false)
         → Suits P' (errand_of b.roll c) (wait_of (asks b.roll c)) → Owned (begun q c b) t
     begun_owned had giver taker pass keep own sane unwoken suits =
-        let a = accounted s.now s.now [] had had (HoldsIn P s.under_way) (HoldsIn P' calls) giver taker
+        let whole = accounted s.now s.now [] had had (HoldsIn P s.under_way) (HoldsIn P' calls) giver taker
         (still s.now.roster [] had) (inl refl) pass before in
         subst (λ (us : List (Under T Waiter)). Owned (begun q c b)
         (record { now = t.now; under_way = us; gone = t.gone; came = t.came })) (sym n.under_way) (
@@ -243,21 +247,19 @@ module _ {T : Type 0} where
               (together_on P P' b.agents s.under_way (all_keep P P' b.agents s.under_way o.together keep) o.together) (
                 record {
                   party = refl;
-                  suits = suits;
-                  bears = first_stage.1;
-                  lines = λ h i. line_held (asks b.roll c) h
-                      (sym first_stage.0 ∙ i);
-                  tries = tries_first b.roll c;
+                  suits = subst (λ (o : Option (Line × Waiter)). Suits P' (errand_of b.roll c) o) (sym (waits_same (asks b.roll c) a is)) suits;
+                  bears = starts_so.1;
+                  lines = λ h i. line_held a h (sym starts_so.0 ∙ i);
                 },
                 tt,
               );
           differ = all_differ P new_agent b.agents s.under_way o.together idle own o.differ;
           none_amiss = sane;
-          once = a.once;
+          once = whole.once;
           unwoken = λ w h i. o.unwoken w h (unwoken w h i);
-          listed = a.listed;
-          held = a.held;
-          alone = a.alone;
+          listed = whole.listed;
+          held = whole.held;
+          alone = whole.alone;
         }
         )
         )
@@ -278,7 +280,7 @@ module _ {T : Type 0} where
         plain_suits p (errand.LeaveBoth x y) wait f g = g
 
         nothing : (h : Held) → holding n.at ≡ Some h → ⊥
-        nothing h e = absurd (let no : None ≡ Some h = sym (first_stage.0 ∙ k.empty) ∙ e in cc)
+        nothing h e = absurd (let no : None ≡ Some h = sym (first_stage ∙ k.empty) ∙ e in cc)
 
         back : (x : Holder) (h : Held) → HoldsIn P' calls x h
             → (HoldsIn P s.under_way x h × (x ≡ calling q.0 → ⊥)) ⊎ ((x ≡ calling q.0) × (None ≡ Some h))
@@ -344,7 +346,7 @@ module _ {T : Type 0} where
                 → (HoldsIn P s.under_way (calling r) h × (calling r ≡ named k.name → ⊥))
                 ⊎ ((calling r ≡ calling q.0) × (held_in (P k.name) ≡ Some h))
             by (inl j) = inl (j, λ e. apart k.name r (sym e))
-            by (inr (inl j)) = inr (ap calling (sym j.0), sym (first_stage.0 ∙ k.takes) ∙ j.1)
+            by (inr (inl j)) = inr (ap calling (sym j.0), sym (first_stage ∙ k.takes) ∙ j.1)
             by (inr (inr j)) = absurd j
 
         forth : (x : Holder) (h : Held) → HoldsIn P s.under_way x h
@@ -364,7 +366,7 @@ module _ {T : Type 0} where
               back = back;
               forth = forth;
               old = λ h e. held_is (P k.name) h e;
-              new = λ h e. any_right (HasIt q.0 h) s.under_way (new_call ∷ []) (inl (refl, first_stage.0 ∙ (k.takes ∙ e)));
+              new = λ h e. any_right (HasIt q.0 h) s.under_way (new_call ∷ []) (inl (refl, first_stage ∙ (k.takes ∙ e)));
             }
 
     pub begins_owned : Admitted b.roll c → Owned (begun q c b) t

@@ -1,12 +1,11 @@
 -- Agents and the calls of the same parties, one by one.
-use Rattle.std.proofs.Common.{◌≡◌, false, ℕ, zero, suc, List, [], ◌∷◌, ◌++◌, map, slice_get, Option, None, Some, ◌⊎◌, inl, inr, refl, sym, ap, ◌∙◌, subst}
+use Rattle.std.proofs.Common.{◌≡◌, ℕ, zero, suc, List, [], ◌∷◌, ◌++◌, map, slice_get, Option, None, Some, ◌⊎◌, inl, inr, refl, sym, ap, ◌∙◌, subst}
 use Rattle.std.specs.List.{remove}
 use Rattle.channel_calls.specs.Moves.{Channel}
 use Rattle.channel_calls.specs.declared.stage.Held.{Held}
 use Rattle.channel_calls.specs.declared.stage.Line.{Line}
 use Rattle.channel_model.specs.declared.name.Waiter.{Waiter}
 use Rattle.channel_model.specs.declared.name.Waiter.TheVariants.{Op, Stream}
-use Rattle.channel_steps.specs.Answers.{asks_first}
 use Rattle.channel_steps.specs.Scene.{Under, sees}
 use Rattle.channel_interleaving.specs.Owners.{All, AnyOf, Post, holding, subject, Suits, Fits, Together, Differ, AllDiffer}
 use Rattle.channel_interleaving.specs.declared.names.Agent.{Agent}
@@ -101,23 +100,15 @@ module _ {T : Type 0} where
   pub together_on : (p p' : Waiter → Post) (agents : List (Agent T)) (us : List (Under T Waiter)) → All (Keeps p p') agents → Together p agents us → Together p' agents us
   together_on p p' [] [] f h = tt
   together_on p p' (a ∷ more) (u ∷ us) f h = (
-    record { party = h.0.party; suits = suits_on p p' a.errand _ f.0 h.0.suits; bears = h.0.bears; lines = h.0.lines; tries = h.0.tries },
+    record { party = h.0.party; suits = suits_on p p' a.errand _ f.0 h.0.suits; bears = h.0.bears; lines = h.0.lines },
     together_on p p' more us f.1 h.1,
   )
   together_on p p' [] (u ∷ us) f h = absurd h
   together_on p p' (a ∷ more) [] f h = absurd h
 
-  -- a call among those under way asks no listener before it tries
-  pub tries_at : (p : Waiter → Post) (agents : List (Agent T)) (before : List (Under T Waiter)) (u : Under T Waiter) (behind : List (Under T Waiter)) → Together p agents (before ++ u ∷ behind)
-      → asks_first u.ask ≡ false
-  tries_at p (a ∷ more) [] u behind h = h.0.tries
-  tries_at p (a ∷ more) (v ∷ before) u behind h = tries_at p more before u behind h.1
-  tries_at p [] [] u behind h = absurd h
-  tries_at p [] (v ∷ before) u behind h = absurd h
-
   pub together_sees : (c : Channel T Waiter) (p : Waiter → Post) (agents : List (Agent T)) (us : List (Under T Waiter)) → Together p agents us → Together p agents (map (sees c) us)
   together_sees c p [] [] h = tt
-  together_sees c p (a ∷ more) (u ∷ us) h = (record { party = h.0.party; suits = h.0.suits; bears = h.0.bears; lines = h.0.lines; tries = h.0.tries }, together_sees c p more us h.1)
+  together_sees c p (a ∷ more) (u ∷ us) h = (record { party = h.0.party; suits = h.0.suits; bears = h.0.bears; lines = h.0.lines }, together_sees c p more us h.1)
   together_sees c p [] (u ∷ us) h = absurd h
   together_sees c p (a ∷ more) [] h = absurd h
 

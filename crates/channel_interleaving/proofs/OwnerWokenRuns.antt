@@ -2,33 +2,31 @@
 use Rattle.std.proofs.Common.{◌≡◌, ℕ, Bool, true, List, [], ◌∷◌, ◌++◌, Option, None, Some, ◌⊎◌, inl, inr, refl, sym, ap, ◌∙◌, subst}
 use Rattle.event_listener.specs.declared.key.Key.{Key}
 use Rattle.channel_calls.specs.Moves.{Channel}
+use Rattle.channel_calls.specs.declared.ask.ChannelAsk.{ChannelAsk}
 use Rattle.channel_calls.specs.declared.stage.Held.{Held}
 use Rattle.channel_calls.specs.declared.stage.Line.{Line}
 use Rattle.channel_calls.specs.declared.stage.Line.TheVariants.{Sends, Receives, Streams, Closings}
 use Rattle.channel_model.specs.declared.call.Call.{Call}
 use Rattle.channel_model.specs.declared.name.Waiter.{Waiter}
 use Rattle.channel_steps.specs.Run.{Begins, new_scene, begun as begun_under}
-use Rattle.channel_steps.specs.Scene.{Under, Scene, AllKnown}
+use Rattle.channel_steps.specs.Scene.{Under, Scene}
 use Rattle.channel_steps.specs.declared.party.Entry.{Entry as ChannelEntry}
+use Rattle.channel_interleaving.specs.AskedBy.{IsOrListens}
 use Rattle.channel_interleaving.specs.Bookkeeping.{asks, errand_of, names_begun}
 use Rattle.channel_interleaving.specs.Owners.{Post, free, vacant, amiss, rests, waits, polled, post, holding, subject, Together, WaitsFor, Owned}
 use Rattle.channel_interleaving.specs.OwnerWoken.{IsAway, IsTold, NoneWorks, Works, IsOwn, WokenSound}
-use Rattle.channel_interleaving.specs.Refusal.{step_refusal}
 use Rattle.channel_interleaving.specs.Roll.{first_roll}
-use Rattle.channel_interleaving.specs.Run.{Book, Made, begun}
+use Rattle.channel_interleaving.specs.Run.{Book, begun}
 use Rattle.channel_interleaving.specs.declared.names.Agent.{Agent}
-use Rattle.channel_interleaving.specs.declared.step.Entry.{Entry}
 use Rattle.channel_interleaving.specs.declared.step.PartyId.{PartyId}
-use Rattle.channel_interleaving.specs.declared.step.Step.{Step}
-use Rattle.channel_interleaving.specs.declared.step.Step.TheVariants as step
-use Rattle.channel_interleaving.proofs.OwnerBegins.{IsBusy, held_in, starts, Quiet, Touches, Admitted, admitted}
+use Rattle.channel_interleaving.proofs.OwnerBegins.{IsBusy, held_in, holds_same, starts, Quiet, Touches, Admitted}
 use Rattle.channel_interleaving.proofs.OwnerCalls.{begins_so}
 use Rattle.channel_interleaving.proofs.OwnerLists.{among_left, among_right}
 use Rattle.channel_interleaving.proofs.OwnerNames.{waiter_or}
-use Rattle.channel_interleaving.proofs.OwnerRuns.{inner, idle_and_free}
+use Rattle.channel_interleaving.proofs.OwnerRuns.{inner}
 use Rattle.channel_interleaving.proofs.OwnerSteps.{calm_waits, busy_waits, busy_loose, first_calm}
 use Rattle.channel_interleaving.proofs.OwnerTogether.{HasIt, any_left, any_right, all_join, busy}
-use Rattle.channel_interleaving.proofs.OwnerWoken.{away_busy, stepped_woken}
+use Rattle.channel_interleaving.proofs.OwnerWoken.{away_busy}
 
 busy_away : (p : Post) → IsBusy p → IsAway p
 busy_away vacant h = inl refl
@@ -63,8 +61,8 @@ module _ {T : Type 0} where
 
   -- ---- a call begins
 
-  module _ (q : PartyId) (c : Call T) (b : Book T) (s t : Scene T Waiter) (e : ChannelEntry T)
-      (n : Begins s q.0 (asks b.roll c) e t) (o : Owned b s) (w : WokenSound b s) where
+  module _ (q : PartyId) (c : Call T) (b : Book T) (a : ChannelAsk T Waiter) (s t : Scene T Waiter) (e : ChannelEntry T)
+      (is : IsOrListens (asks b.roll c) a) (n : Begins s q.0 a e t) (o : Owned b s) (w : WokenSound b s) where
     abbrev P : Waiter → Post
     P = post b.roll
 
@@ -75,13 +73,13 @@ module _ {T : Type 0} where
     new_agent = record { party = q.0; errand = errand_of b.roll c }
 
     abbrev new_call : Under T Waiter
-    new_call = begun_under q.0 (asks b.roll c) n.at s.now
+    new_call = begun_under q.0 a n.at s.now
 
     abbrev calls : List (Under T Waiter)
     calls = s.under_way ++ new_call ∷ []
 
     abbrev Idle : Waiter → Agent T → Type 0
-    Idle v a = subject a.errand ≡ Some v → ⊥
+    Idle v x = subject x.errand ≡ Some v → ⊥
 
     begun_woken : ((v : Waiter) (h : Held) (x : Bool) → P' v ≡ waits h x → P v ≡ waits h x)
         → ((v : Waiter) (h : Held) → IsOwn b s.under_way v h → IsOwn (begun q c b) calls v h) → WokenSound (begun q c b) t
@@ -93,8 +91,8 @@ module _ {T : Type 0} where
         }
 
     more_work : (v : Waiter) (h : Held) → Works v h b.agents s.under_way → Works v h (b.agents ++ new_agent ∷ []) calls
-    more_work v h (a, j, i, has) =
-        (a, among_left a b.agents (new_agent ∷ []) j, i, any_left (HasIt a.party h) s.under_way (new_call ∷ []) has)
+    more_work v h (x, j, i, has) =
+        (x, among_left x b.agents (new_agent ∷ []) j, i, any_left (HasIt x.party h) s.under_way (new_call ∷ []) has)
 
     none_more : (v : Waiter) → NoneWorks v b.agents → Idle v new_agent → NoneWorks v (b.agents ++ new_agent ∷ [])
     none_more v h f = all_join (Idle v) b.agents (new_agent ∷ []) h (f, tt)
@@ -129,7 +127,7 @@ module _ {T : Type 0} where
             inr (inr (away, none_more v idle (λ j. absurd (let no : None ≡ Some v = sym none ∙ j in cc))))
         taken v h x i same (inr some) =
             let had : held_in (P k.name) ≡ Some h = ap (λ (y : Waiter). held_in (P y)) (sym same) ∙ ap held_in i in
-            let holds : holding n.at ≡ Some h = (starts (asks b.roll c) n.answer n.at n.turned).0 ∙ (k.takes ∙ had) in
+            let holds : holding n.at ≡ Some h = (starts a n.answer n.at n.turned).0 ∙ (holds_same (asks b.roll c) a is ∙ (k.takes ∙ had)) in
             inr (inl (
               new_agent,
               among_right new_agent b.agents (new_agent ∷ []) (inl refl),
@@ -163,15 +161,3 @@ module _ {T : Type 0} where
             → WokenSound (begun q c b) t
         by (inl k) = quietly k
         by (inr k) = touching k
-
-  -- ---- any step
-
-  -- a step that was made, and that nothing refused
-  pub woken_next : (b c : Book T) (s t : Scene T Waiter) (x : Step T) (e : Entry T) → AllKnown s.now s.under_way
-      → step_refusal b.roll b.agents x ≡ None → Made b s x e c t → Owned b s → WokenSound b s → WokenSound c t
-  woken_next b c s t (step.Begin q call) e known fine made o w =
-      let ok = idle_and_free q call b fine in
-      let n = made.next.0 in
-      subst (λ (d : Book T). WokenSound d t) (sym made.book) (begins_woken q call b s t _ n o w (admitted b.roll call ok.1))
-  woken_next b c s t (step.Step q) e known fine made o w =
-      stepped_woken b c s t q e.mark e.reply made.kept e.woken.items o known made.next made.book w

@@ -17,6 +17,7 @@ use Rattle.channel_calls.specs.declared.stage.Stage.TheVariants.{Working}
 use Rattle.channel_calls.specs.declared.stage.Work.TheVariants.{Leave}
 use Rattle.channel_laws.specs.Closings.{HasClosed}
 use Rattle.channel_laws.specs.Sends.{HasPlaces}
+use Rattle.channel_laws.specs.Sound.{AllSound}
 use Rattle.channel_model.specs.declared.name.Waiter.{Waiter}
 use Rattle.channel_steps.specs.Known.{ToldAt}
 use Rattle.channel_steps.specs.Moments.{Deed}
@@ -26,8 +27,7 @@ use Rattle.channel_steps.specs.declared.party.Party.{Party}
 use Rattle.channel_interleaving.specs.Doing.{is_close, any_close, doing_of}
 use Rattle.channel_interleaving.specs.Floor.{book_of, parts_in, sight_of, AreCounted, HasOnePlace, Shown, IsSame}
 use Rattle.channel_interleaving.specs.Owed.{Sight, Owed, is_sending, is_receiving, unannounced, all_unannounced, woken_on}
-use Rattle.channel_interleaving.specs.Owners.{All, AnyOf}
-use Rattle.channel_interleaving.specs.Kept.{AllKept}
+use Rattle.channel_interleaving.specs.Owners.{All, AnyOf, Owned}
 use Rattle.channel_interleaving.specs.Run.{Book}
 use Rattle.channel_interleaving.specs.SightAt.{unless_told, freed_by, all_freed, sight_at}
 use Rattle.channel_interleaving.specs.declared.doing.Doing.{Doing}
@@ -204,9 +204,9 @@ module _ {T : Type 0} where
   some_send s (inr i) some =
       some_counts (λ (u : Under T Waiter). scenes.is_sending u.ask ≡ true) (λ (u : Under T Waiter). scenes.is_sending u.ask) (λ u k. k) s.under_way i
 
-  pub owed_at : (b : Book T) (s : Scene T Waiter) → AllKept b s → Owed (sight_at b.roll s)
-  owed_at b s k =
-      let o : OwedIn b s = owed b s k.owned k.sound in
+  pub owed_at : (b : Book T) (s : Scene T Waiter) → Owned b s → AllSound s → Owed (sight_at b.roll s)
+  owed_at b s owned sound =
+      let o : OwedIn b s = owed b s owned sound in
       record {
         receives = λ name i. o.receives name i.0 i.1;
         sends = λ name i is_open. o.sends name i.0 i.1 is_open;

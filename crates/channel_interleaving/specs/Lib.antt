@@ -6,6 +6,7 @@ pub mod Bookkeeping
 pub mod Woken
 pub mod Order
 pub mod Run
+pub mod AskedBy
 pub mod Owners
 pub mod Doing
 pub mod Owed

@@ -24,7 +24,6 @@ use Rattle.channel_model.specs.declared.name.HandleKind.{HandleKind}
 use Rattle.channel_model.specs.declared.name.HandleKind.TheVariants as handle_kind
 use Rattle.channel_model.specs.declared.name.Waiter.{Waiter}
 use Rattle.channel_model.specs.declared.name.Waiter.TheVariants.{Op, Stream}
-use Rattle.channel_steps.specs.Answers.{asks_first}
 use Rattle.channel_steps.specs.Scene.{Under, Scene}
 use Rattle.channel_interleaving.specs.Run.{Book}
 use Rattle.channel_interleaving.specs.declared.names.Agent.{Agent}
@@ -223,13 +222,12 @@ module _ {T : Type 0} where
   Suits p (errand.Leave handle) wait = wait ≡ None
   Suits p (errand.LeaveBoth a b) wait = wait ≡ None
 
-  -- an agent and the call of the same party under way, which asks no listener before it tries, unless it polls a stream
+  -- an agent and the call of the same party under way
   pub record Fits (p : Waiter → Post) (a : Agent T) (u : Under T Waiter) : Type 0 where
     pub party : a.party ≡ u.party
     pub suits : Suits p a.errand (wait_of u.ask)
     pub bears : Bears (task_at u.at) (wait_of u.ask)
     pub lines : (h : Held) → holding u.at ≡ Some h → line_asked u.ask ≡ Some h.line
-    pub tries : asks_first u.ask ≡ false
 
   -- one by one, in the same order
   abbrev pub Together : (Waiter → Post) → List (Agent T) → List (Under T Waiter) → Type 0

@@ -60,12 +60,16 @@ module _ {T : Type 0} where
         agents = remove b.agents k;
       }
 
-  -- the book after a step
-  abbrev pub IsBookAfter : Step T → Entry T → Option (Kept T) → Book T → Book T → Type 0
-  IsBookAfter (step.Begin p c) e kept old new = new ≡ begun p c old
-  IsBookAfter (step.Step p) e kept old new =
+  -- the book after a step that answers this or nothing, leaves this and wakes these
+  abbrev pub IsBookOf : Step T → Option (Reply T) → Option (Kept T) → List Waiter → Book T → Book T → Type 0
+  IsBookOf (step.Begin p c) reply kept names old new = new ≡ begun p c old
+  IsBookOf (step.Step p) reply kept names old new =
       (k : ℕ) × (a : Agent T) × (slice_get old.agents k ≡ Some a) × (a.party ≡ p.0)
-      × (new ≡ ended k a e.reply kept (with_woken e.woken.items old))
+      × (new ≡ ended k a reply kept (with_woken names old))
+
+  -- after one with this entry
+  abbrev pub IsBookAfter : Step T → Entry T → Option (Kept T) → Book T → Book T → Type 0
+  IsBookAfter x e kept old new = IsBookOf x e.reply kept e.woken.items old new
 
   -- a step that was made: nothing refuses it, the channel's step of it has this entry's mark, woken names and reply, and the
   -- book is as it is to be

@@ -118,7 +118,7 @@ module _ {T W S : Type 0} (wakes : S → W → S → Type 0) where
         under_way = b.under_way;
       }
 
-  says_work : (m : Moment T W S) (p : ℕ) (e : Entry T) (n : Moment T W S) → Leads wakes m (step.Step p) e n → StaysSo m.scene → WorkSays wakes m p e n
+  says_work : (m : Moment T W S) (p : ℕ) (e : Entry T) (n : Moment T W S) → (l : Leads wakes m (step.Step p) e n) → StaysSo m.scene → WorkSays wakes m p e n l.names
   says_work m p e n l k =
       let s = l.next in
       let after : Under T W = does s.mine s.at_now e.mark m.scene.now n.scene.now in
@@ -138,9 +138,7 @@ module _ {T W S : Type 0} (wakes : S → W → S → Type 0) where
           touches = l.touches;
           accounts = subst (λ (ms : List T). AddUp m.scene (gone_by e.mark m.scene.now.queue.items) ms n.scene) came
               (record { held = s.held; gone = s.gone; came = s.came });
-          names = l.names;
           told = s.named;
-          woken = l.woken;
           ends = may_end after e.reply e.kept s.finishes;
           in_time = s.quick;
           late = late_gives m.scene p e l.names n.scene s k.sound;
@@ -148,7 +146,7 @@ module _ {T W S : Type 0} (wakes : S → W → S → Type 0) where
         nearer = l.nearer;
       }
 
-  says_call : (m : Moment T W S) (x : Step T W) (e : Entry T) (n : Moment T W S) → Leads wakes m x e n → StaysSo m.scene → CallSays wakes m x e n
+  says_call : (m : Moment T W S) (x : Step T W) (e : Entry T) (n : Moment T W S) → (l : Leads wakes m x e n) → StaysSo m.scene → CallSays wakes m x e n l.names
   says_call m (step.Begin p ask) e n l k = says_begin m p ask e n l
   says_call m (step.Step p) e n l k = says_work m p e n l k
 
@@ -159,6 +157,9 @@ module _ {T W S : Type 0} (wakes : S → W → S → Type 0) where
   says : (m : Moment T W S) (x : Step T W) (e : Entry T) (n : Moment T W S) → Leads wakes m x e n → StaysSo m.scene → StepSays wakes m x e n
   says m x e n l k =
       record {
+        names = l.names;
+        next = l.next;
+        woken = l.woken;
         call = says_call m x e n l k;
         closed = stays_closed m.scene x e l.names n.scene l.next;
         over = stays_over m.scene x e l.names n.scene l.next;

@@ -13,7 +13,7 @@ use Rattle.channel_calls.specs.declared.mark.Mark.TheVariants.{Nothing}
 use Rattle.channel_calls.specs.declared.stage.Stage.{Stage}
 use Rattle.channel_steps.specs.Known.{IsQuick}
 use Rattle.channel_steps.specs.Moments.{Shut, Spent}
-use Rattle.channel_steps.specs.Run.{IsRun, begun as call_begun, new_scene}
+use Rattle.channel_steps.specs.Run.{IsRun, Next, begun as call_begun, new_scene}
 use Rattle.channel_steps.specs.Scene.{Under, Shows, EndsInTime, HoldNobodyUp, brought, does, gone_by, sees, unless_ended}
 use Rattle.channel_steps.specs.Tellings.{telling, dropping, Names}
 use Rattle.channel_steps.specs.declared.party.Entry.{Entry}
@@ -75,8 +75,8 @@ module _ {T W S : Type 0} where
 module _ {T W S : Type 0} (wakes : S → W → S → Type 0) where
   -- ---- a step of a call
 
-  -- what the step does, of a call that is `call` before it and `after` after it
-  pub record StepDoes (m : Moment T W S) (e : Entry T) (n : Moment T W S) (call after : Under T W) : Type 0 where
+  -- what the step does, which wakes these, of a call that is `call` before it and `after` after it
+  pub record StepDoes (m : Moment T W S) (e : Entry T) (n : Moment T W S) (names : List W) (call after : Under T W) : Type 0 where
     -- to the plain channel what its mark says, by touching one cell, one list or one count at most
     pub effect : plain n.scene.now ≡ marked e.mark (brought call.ask) (plain m.scene.now)
     pub touches : OnePlace m.parts n.parts
@@ -84,9 +84,7 @@ module _ {T W S : Type 0} (wakes : S → W → S → Type 0) where
     pub accounts : AddUp m.scene (gone_by e.mark m.scene.now.queue.items) (brought_by e.mark (brought call.ask)) n.scene
     -- it wakes those whom its one telling finds waiting, in order, or him to whom a listener of its own that it drops passes its
     -- notice on, and nobody else
-    pub names : List W
     pub told : Names (telling call.at) (dropping call.at) m.scene.now names
-    pub woken : Woken wakes m.sink names n.sink
     -- where it ends its call
     pub ends : IfSome e.reply (λ r. EndSays after r e.kept)
     -- closing, dropping, giving up, refused polls and the questions but the length end within eight steps of their own, whatever
@@ -95,7 +93,7 @@ module _ {T W S : Type 0} (wakes : S → W → S → Type 0) where
     -- a call that began when the end was said gives no message
     pub late : AllSpent call.seen → Replies GivesMessage e.reply → ⊥
 
-  pub record WorkSays (m : Moment T W S) (p : ℕ) (e : Entry T) (n : Moment T W S) : Type 0 where
+  pub record WorkSays (m : Moment T W S) (p : ℕ) (e : Entry T) (n : Moment T W S) (names : List W) : Type 0 where
     -- the party's call, among those under way
     pub before : List (Under T W)
     pub call : Under T W
@@ -108,19 +106,23 @@ module _ {T W S : Type 0} (wakes : S → W → S → Type 0) where
     pub after : Under T W
     pub is : after ≡ does call at_now e.mark m.scene.now n.scene.now
     pub goes_on : n.scene.under_way ≡ map (sees n.scene.now) before ++ (unless_ended after e.reply ++ map (sees n.scene.now) behind)
-    pub work : StepDoes m e n call after
+    pub work : StepDoes m e n names call after
     -- where no other call holds it up, a step that does not end its call leaves it fewer steps
     pub nearer : e.reply ≡ None → HoldNobodyUp m.scene.now (before ++ behind) → left_to (length before) n < left_to (length before) m
 
   -- ---- a step of a run
 
   -- the party begins a call, or makes a step of the one that it has under way
-  abbrev pub CallSays : Moment T W S → Step T W → Entry T → Moment T W S → Type 0
-  CallSays m (step.Begin p ask) e n = BeginSays m p ask e n
-  CallSays m (step.Step p) e n = WorkSays m p e n
+  abbrev pub CallSays : Moment T W S → Step T W → Entry T → Moment T W S → List W → Type 0
+  CallSays m (step.Begin p ask) e n names = BeginSays m p ask e n
+  CallSays m (step.Step p) e n names = WorkSays m p e n names
 
   pub record StepSays (m : Moment T W S) (x : Step T W) (e : Entry T) (n : Moment T W S) : Type 0 where
-    pub call : CallSays m x e n
+    -- it is what the machine of the party's call does next, and these are woken by it, in order
+    pub names : List W
+    pub next : Next m.scene x e names n.scene
+    pub woken : Woken wakes m.sink names n.sink
+    pub call : CallSays m x e n names
     -- what is closed stays closed; what is over, closed with nothing there and nothing on its way, stays over, and no message comes
     -- or leaves; and a reply that says the end found it over
     pub closed : Shut m.scene.now → Shut n.scene.now

@@ -161,12 +161,14 @@ pub fn merges_are_runs<T, W, S: Wakes<W>>()
 /// or a call under way answers for. Each message lies in the slot that the words of the queue name for it alone, or is with the call
 /// that is yet to put it there. No call has more than 197 steps left, and 64 for each message that it may take more than one.
 ///
-/// Of each step: it does to the plain channel what its mark says, touches one place at most, and wakes whom its telling finds waiting.
+/// Of each step: the machine of its call makes it. It does to the plain channel what its mark says, touches one place at most, and wakes
+/// whom its telling finds waiting.
 /// Where it ends its call the row of the reply holds of the marks and moments of that call. Where the others hold the call up no
 /// more, it ends it or leaves it fewer steps. What is closed stays closed; once a reply says the end, nothing comes or leaves, and a call
 /// that begins then gives no message.
 ///
-/// Each party was given what these replies give it. `specs/BridgeHeadline` has this sentence by sentence. Of names nothing is said.
+/// Each party was given what these replies give it. `specs/BridgeHeadline` has this sentence by sentence. Of names a law of
+/// `channel_world` speaks, `merges_by_names_are_runs`.
 ///
 /// Own to this project.
 pub fn merges_keep_the_headline<T, W, S: Wakes<W>>()

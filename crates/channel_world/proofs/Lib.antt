@@ -15,6 +15,9 @@ pub mod SoonFacts
 pub mod MarkedFacts
 pub mod TheEndFacts
 pub mod HeadlineFacts
+pub mod MergeNames
+mod MergeRow
+mod BlockNames
 pub mod PartyFacts
 pub mod StopFacts
 pub mod Whole

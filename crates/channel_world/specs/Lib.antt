@@ -4,6 +4,9 @@ pub mod Marked
 pub mod Sentences
 pub mod TheEnd
 pub mod Headline
+pub mod MergesByNames
+pub mod MergesByNamesRow
+pub mod BlocksByNames
 pub mod PartyRun
 pub mod Settled
 pub mod Asleep

@@ -5,6 +5,9 @@ ghost use Rattle.channel_world.specs.Asleep.{AllAreAwake, ClosingIsAnswered, NoR
 ghost use Rattle.channel_world.specs.Carried.{HoldsWhatFits, LeadsFurther, LeadsOnInTurn, StaysWhereItIs};
 ghost use Rattle.channel_world.specs.Counts.{AreByDrops, CountsAtRest, CountsLive, OpenHasBoth};
 ghost use Rattle.channel_world.specs.InTurn.{HasItsAccounts, LaterLeavesLater, LeaveInTurn, RefusedIsKeptOut, StandsAsItsState};
+ghost use Rattle.channel_world.specs.BlocksByNames.{PollsByName};
+ghost use Rattle.channel_world.specs.MergesByNames.{MergesByNamesAreRuns};
+ghost use Rattle.channel_world.specs.MergesByNamesRow.{TwoClonesByNames};
 ghost use Rattle.channel_world.specs.Numbers.{CallsAtRest, MessagesAtRest, PendingAtRest, WokenAtRest};
 ghost use Rattle.channel_world.specs.Settled.{SettlingIsShort};
 ghost use Rattle.channel_world.specs.Since.{ClosesOnce, ClosesOnceFromRest, ClosesWhatIsLeft, IsNeverFull, IsNeverFullFromRest, IsNeverFullSince, NoneClosesAgain};
@@ -16,9 +19,11 @@ pub use channel_model::laws::{
     counts_are_handles, length_is_within, messages_leave_in_turn, nobody_is_left_asleep,
     nothing_is_lost, settling_ends, upgrades_while_open,
 };
+use channel_model::name::Waiter;
 pub use channel_rest::laws::{
     a_call_made_alone_is_the_models, a_channel_at_rest_is_a_world, a_poll_of_settling_is_the_models,
 };
+use event_listener::wakes::Wakes;
 
 /// Runs of steps and lists of calls may follow each other as they like, from whatever world: what left the channel in all of
 /// them, followed by what it holds in the end, is what it held at first followed by what came in all of them, in order. For what
@@ -178,4 +183,34 @@ pub fn by_steps_a_refused_message_is_not_held<T>()
 pub fn a_scene_at_rest_is_its_state<T: Drop>(world: &World<T>)
     ensures state { StandsAsItsState world.now }
     ensures accounts { HasItsAccounts world.now }
+{}
+
+/// What any number of parties do to a new channel is a run by names, where their calls are calls by names. Of the parties and the
+/// cells this is asked, that they keep the headline of a merge (`channel_laws::laws::merges_keep_the_headline`); and of each begin,
+/// that it is that of a call which nothing refuses, and asks what this call asks, in the book that the steps before it have made of
+/// that of an opening. The task of a poll is so the name that it is for. A poll of a send or a receive may ask its listener first,
+/// as that of a call that blocks does.
+///
+/// Then each step is one by names, which none of the seven reasons refuses. The book goes on as a world's does: who begins is at work,
+/// who is woken comes last in the order of waking, and who answers has written back to his names. At each moment, the first one too,
+/// there is beside one who is pending under a name and was not woken no message, free place or closing but such as a woken one or a call
+/// under way answers for. All this is said of the moments and the steps of which the headline of the merge speaks.
+///
+/// There is such a merge: the first sender is cloned twice at once.
+///
+/// Own to this project.
+pub fn merges_by_names_are_runs<T, S: Wakes<Waiter>>()
+    ensures runs { MergesByNamesAreRuns T S S.wakes }
+    ensures row { TwoClonesByNames T S S.wakes }
+{}
+
+/// The polls of a call that blocks, which `channel_laws::laws::blocking_makes_calls` tells, are those of an operation by name, if their
+/// task is the name. Its first poll is that of an operation that is not pending yet. Each later one is that of an operation that is
+/// pending with the listener that the poll before it left, but asks this listener first. And a poll that is refused its task is so
+/// by name. So `merges_by_names_are_runs` speaks of calls that block as well. Not so of one that was refused its task before it ever
+/// slept: its refused poll is made while the first one stands, which no call by name does.
+///
+/// Own to this project.
+pub fn blocking_polls_by_name<T>()
+    ensures polls { PollsByName T }
 {}

@@ -1,0 +1,72 @@
+-- The run of a merge whose begins are those of calls by names, step by step.
+use Rattle.std.proofs.Common.{◌≡◌, List, [], ◌∷◌, None, refl}
+use Rattle.concurrent_queue.specs.Capacity.{capacity_of}
+use Rattle.channel_model.specs.declared.name.Waiter.{Waiter}
+use Rattle.channel_steps.specs.declared.party.Entry.{Entry}
+use Rattle.channel_steps.specs.declared.run.Step.{Step as ChannelStep}
+use Rattle.channel_steps.specs.declared.run.Step.TheVariants as channel
+use Rattle.channel_laws.specs.BridgeHeadline.{StepSays}
+use Rattle.channel_laws.specs.BridgeMoments.{Moment, EachStep, opened}
+use Rattle.channel_laws.specs.Bridge.{steps_of}
+use Rattle.channel_interleaving.specs.AskedBy.{IsStepOf}
+use Rattle.channel_interleaving.specs.Kept.{NamesKept}
+use Rattle.channel_interleaving.specs.Refusal.{step_refusal}
+use Rattle.channel_interleaving.specs.Run.{Book, IsBookOf, begun}
+use Rattle.channel_interleaving.specs.declared.step.PartyId.{PartyId}
+use Rattle.channel_interleaving.specs.declared.step.Step.{Step}
+use Rattle.channel_interleaving.specs.declared.step.Step.TheVariants as step
+use Rattle.channel_interleaving.proofs.AllKept.{names_kept_first, names_kept_next}
+use Rattle.channel_interleaving.proofs.ByNames.{may_begin, may_step}
+use Rattle.channel_interleaving.proofs.Interface.{names_owed_at}
+use Rattle.channel_world.specs.MergesByNames.{Page, first_book, BeginByNames, SaysByNames, EachByNames, MergesByNamesAreRuns}
+
+module _ {T S : Type 0} (wakes : S → Waiter → S → Type 0) where
+  -- a step that may be taken says what is said of it, and all is kept
+  says : (b : Book T) (m : Moment T Waiter S) (x : Step T) (y : ChannelStep T Waiter) (e : Entry T) (c : Book T) (n : Moment T Waiter S)
+      → NamesKept b m.scene → (s : StepSays wakes m y e n) → step_refusal b.roll b.agents x ≡ None → IsStepOf b.roll x y
+      → IsBookOf x e.reply e.kept s.names b c → SaysByNames wakes b m x y e c n × NamesKept c n.scene
+  says b m x y e c n k s accepted is book =
+      let kept = names_kept_next b c m.scene n.scene x y e s.names accepted is s.next book k in (
+        record {
+          accepted = accepted;
+          step = is;
+          names = s.names;
+          next = s.next;
+          woken = s.woken;
+          book = book;
+          owed = names_owed_at c n.scene kept;
+        },
+        kept,
+      )
+
+  abbrev Pages : Book T → Moment T Waiter S → List (ChannelStep T Waiter) → List (Entry T) → List (Moment T Waiter S) → Type 0
+  Pages b m ys es ns = (xs : List (Page T)) × EachByNames wakes b m xs ys es ns
+
+  all_say : (b : Book T) (m : Moment T Waiter S) (ys : List (ChannelStep T Waiter)) (es : List (Entry T)) (ns : List (Moment T Waiter S))
+      → NamesKept b m.scene → EachStep (StepSays wakes) m ys es ns → BeginByNames wakes b m ys es ns → Pages b m ys es ns
+  all_say b m [] [] [] k h begins = ([], tt)
+  all_say b m (channel.Begin p a ∷ ys) (e ∷ es) (n ∷ ns) k h (c, free, is, more) =
+      let q : PartyId = record { 0 = p } in
+      let s = h.0 in
+      let idle = s.call.idle in
+      let one = says b m (step.Begin q c) (channel.Begin p a) e (begun q c b) n k s (may_begin b m.scene q c k idle free)
+      (a, is, refl) refl in
+      let rest = all_say (begun q c b) n ys es ns one.1 h.1 more in
+      (record { step = step.Begin q c; book = begun q c b } ∷ rest.0, (one.0, rest.1))
+  all_say b m (channel.Step p ∷ ys) (e ∷ es) (n ∷ ns) k h more =
+      let q : PartyId = record { 0 = p } in
+      let s = h.0 in
+      let t = may_step b m.scene n.scene q e s.names k s.next in
+      let one = says b m (step.Step q) (channel.Step p) e t.after n k s t.accepted refl t.book in
+      let rest = all_say t.after n ys es ns one.1 h.1 (more s.names t.after s.next s.woken t.book) in
+      (record { step = step.Step q; book = t.after } ∷ rest.0, (one.0, rest.1))
+  all_say b m [] [] (n ∷ ns) k h begins = absurd h
+  all_say b m [] (e ∷ es) ns k h begins = absurd h
+  all_say b m (y ∷ ys) [] ns k h begins = absurd h
+  all_say b m (y ∷ ys) (e ∷ es) [] k h begins = absurd h
+
+pub merges_by_names_are_runs : (T S : Type 0) (wakes : S → Waiter → S → Type 0) → MergesByNamesAreRuns T S wakes
+merges_by_names_are_runs T S wakes form events given sink last woken k begins =
+    let kept = names_kept_first {T = T} (capacity_of form) in
+    let all = all_say wakes first_book (opened form sink) (steps_of events) k.trace k.moments kept k.each begins in
+    record { pages = all.0; at_first = names_owed_at first_book _ kept; each = all.1 }

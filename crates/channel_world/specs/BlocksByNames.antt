@@ -1,0 +1,40 @@
+-- The polls that a call makes which blocks, as those of an operation by name. Their task is the name.
+use Rattle.std.specs.Prelude.{◌≡◌, Bool, Some}
+use Rattle.event_listener.specs.declared.key.Key.{Key}
+use Rattle.channel_calls.specs.Blocks.{waiting_of, poll_woken}
+use Rattle.channel_calls.specs.Turns.{message_of}
+use Rattle.channel_calls.specs.declared.blocked.Blocked.{Blocked}
+use Rattle.channel_calls.specs.declared.blocked.Blocked.TheVariants as blocked
+use Rattle.channel_laws.specs.BridgeBlocks.{first_poll, poll_refused}
+use Rattle.channel_model.specs.Names.{at}
+use Rattle.channel_model.specs.declared.call.Call.TheVariants.{Poll, PollRefused}
+use Rattle.channel_model.specs.declared.name.HandleId.{HandleId}
+use Rattle.channel_model.specs.declared.name.OpId.{OpId}
+use Rattle.channel_model.specs.declared.name.Waiter.TheVariants.{Op}
+use Rattle.channel_interleaving.specs.AskedBy.{IsOrListens}
+use Rattle.channel_interleaving.specs.Bookkeeping.{asks}
+use Rattle.channel_interleaving.specs.declared.names.OperationKind.{OperationKind}
+use Rattle.channel_interleaving.specs.declared.names.OperationKind.TheVariants as kind
+use Rattle.channel_interleaving.specs.declared.names.Standing.{Standing}
+use Rattle.channel_interleaving.specs.declared.names.Standing.TheVariants.{Rests, Waits}
+use Rattle.channel_interleaving.specs.declared.roll.Roll.{Roll}
+
+module _ {T : Type 0} where
+  abbrev pub kind_of : Blocked T → OperationKind
+  kind_of (blocked.Send m) = kind.Send
+  kind_of blocked.Receive = kind.Receive
+
+  -- an operation with the message of a call that blocks lives under this name, and stands so
+  pub record StandsFor (b : Blocked T) (standing : Standing) (op : OpId) (r : Roll T) : Type 0 where
+    pub handle : HandleId
+    pub lives : at op.0 r.operations
+        ≡ Some (record { kind = kind_of b; handle = handle; message = message_of (waiting_of b); standing = standing })
+
+-- Where the operation isn't pending its poll is the call's first poll. Where it is pending, woken or not, its poll is the one that the
+-- call makes when it has woken, but that this asks the listener first; and so is the poll that is refused its task.
+pub record PollsByName (T : Type 0) : Type 0 where
+  pub first : (b : Blocked T) (op : OpId) (r : Roll T) → StandsFor b Rests op r → asks r (Poll op) ≡ first_poll b (Op op)
+  pub next : (b : Blocked T) (op : OpId) (r : Roll T) (key : Key) (is_woken : Bool) → StandsFor b (Waits key is_woken) op r
+      → IsOrListens (asks r (Poll op)) (poll_woken b key (Op op))
+  pub refused : (b : Blocked T) (op : OpId) (r : Roll T) (key : Key) (is_woken : Bool) → StandsFor b (Waits key is_woken) op r
+      → asks r (PollRefused op) ≡ poll_refused b key
