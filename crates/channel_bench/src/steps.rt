@@ -1,5 +1,5 @@
-//! How many steps a run makes in a second, for one party that sends and one that receives, what a step costs where few
-//! messages are held and where many are, and what it costs to wait: a poll that pends, whoever wakes it, and the next poll.
+//! How many steps of calls are made in a second, by one party that sends and one that receives in turns, what a step costs where
+//! few messages are held and where many are, and what it costs to wait: a poll that pends, whoever wakes it, and the next poll.
 
 ghost use Rattle.std.specs.Prelude.{◌<◌};
 
@@ -7,14 +7,12 @@ use crate::decimal::Decimal;
 use crate::watch::Watch;
 use channel_calls::ask::{ChannelAsk, lent};
 use channel_calls::reply::Reply;
-use channel_steps::party::Entry;
-use channel_steps::run::{Refusal, Step, run_steps};
+use channel_steps::party::{Entry, begin, step_at};
 use channel_steps::start::{Opened, open_channel};
 use concurrent_queue::cells::QueueForm;
 use event_listener::key::Key;
 use event_listener::wakes::Wakes;
 use std::alloc::Global;
-use std::collections::VecDeque;
 use std::io;
 use std::rt::Clock;
 
@@ -32,6 +30,9 @@ const ROUNDS: u32 = 200;
 const SENDER: u32 = 1;
 
 const RECEIVER: u32 = 2;
+
+/// More steps than any call here has.
+const MOST: usize = 1_000;
 
 /// A sink that adds its tasks up, so that waking costs next to nothing.
 #[derive(Drop)]
@@ -97,29 +98,13 @@ impl Waits {
     }
 }
 
-/// How many steps a poll has that pends, the call that wakes its operation, and the poll that finishes it.
-#[derive(Clone, Copy)]
-struct Lengths {
-    pends: usize,
-    wakes: usize,
-    finishes: usize,
-}
-
-impl Lengths {
-    fn all(self) -> usize {
-        self.pends
-            .saturating_add(self.wakes)
-            .saturating_add(self.finishes)
-    }
-}
-
 /// The listener that a call left with its last step.
-fn left_by(entry: Option<Entry<u64>>) -> Option<Key> {
+fn left_by(entry: Entry<u64>) -> Option<Key> {
     let Entry {
         mark: _,
         reply: _,
         kept,
-    } = entry?;
+    } = entry;
     kept.and_then(|kept| kept.key)
 }
 
@@ -133,193 +118,131 @@ fn answered_by(entry: Entry<u64>) -> Option<Reply<u64>> {
     reply
 }
 
-/// A channel with the steps that are to be made of it, and the cost of its best round.
+/// A channel with the calls under way on it, and the cost of its best round.
 #[derive(Drop)]
 struct Bench {
     opened: Opened<u64, u64>,
-    steps: VecDeque<Step<u64, u64>>,
     sink: Sum,
-    /// How many steps a send has, and a receive.
-    of_send: u32,
-    of_receive: u32,
     refused: bool,
     best: Cost,
-    alloc: Global,
 }
 
 impl Bench {
-    fn of(opened: Opened<u64, u64>, alloc: Global) -> Self {
+    fn of(opened: Opened<u64, u64>) -> Self {
         Bench {
             opened,
-            steps: VecDeque::new(alloc),
             sink: Sum { total: 0 },
-            of_send: 0,
-            of_receive: 0,
             refused: false,
             best: Cost {
                 nanos: u128::MAX,
                 steps: 1,
             },
-            alloc,
         }
     }
 
-    /// Makes the steps of the list until one is refused: how many were made, why not more, and the last reply.
-    fn run(&mut self) -> (usize, Option<Refusal>, Option<Reply<u64>>) {
-        let mut run = run_steps(
-            self.alloc,
-            &mut self.steps,
-            &mut self.opened.cells,
-            &mut self.opened.parties,
-            &mut self.sink,
-        );
-        let reply = match run.trace.pop() {
-            Some(entry) => answered_by(entry),
-            None => return (0, run.stopped, None),
-        };
-        (run.trace.len().saturating_add(1), run.stopped, reply)
-    }
-
-    fn plan(&mut self, step: Step<u64, u64>) {
-        if self.steps.push_back(step).is_err() {
+    /// Begins a call, behind those under way.
+    fn begin(&mut self, party: u32, ask: ChannelAsk<u64, u64>) {
+        if self.opened.parties.reserve(1).is_err() {
             self.refused = true;
+            return;
         }
+        drop(begin(&mut self.opened.parties, party, ask));
     }
 
-    /// Makes a call to its end: how many steps it has, and its reply.
-    fn call(&mut self, ask: ChannelAsk<u64, u64>) -> (u32, Option<Reply<u64>>) {
-        self.plan(Step::Begin { party: SENDER, ask });
-        let _ = self.run();
-        for made in 1..1_000 {
-            self.plan(Step::Step { party: SENDER });
-            let (_, _, reply) = self.run();
-            if reply.is_some() {
-                return (made, reply);
+    /// One step of the k-th call under way. None where there is no such call.
+    fn step(&mut self, k: usize) -> Option<Entry<u64>> {
+        if k >= self.opened.parties.len() {
+            return None;
+        }
+        Some(step_at(
+            &mut self.opened.parties,
+            k,
+            &mut self.opened.cells,
+            &mut self.sink,
+        ))
+    }
+
+    /// Makes a call to its end, with no other under way: how many steps it has, and what it does with the last of them.
+    fn call(&mut self, ask: ChannelAsk<u64, u64>) -> Option<(usize, Entry<u64>)> {
+        self.begin(SENDER, ask);
+        for made in 1..MOST {
+            let entry = self.step(0)?;
+            if entry.reply.is_some() {
+                return Some((made, entry));
             }
         }
-        self.refused = true;
-        (0, None)
+        None
     }
 
-    /// Holds so many messages, and knows how many steps a call has.
+    /// Makes a call to its end: how many steps it has, and the listener that it leaves.
+    fn whole(&mut self, ask: ChannelAsk<u64, u64>) -> (usize, Option<Key>) {
+        match self.call(ask) {
+            Some((made, entry)) => (made, left_by(entry)),
+            None => {
+                self.refused = true;
+                (0, None)
+            }
+        }
+    }
+
+    /// Holds so many messages.
     fn fill(&mut self, messages: usize) {
-        self.of_send = self.call(ChannelAsk::TrySend(0)).0;
-        self.of_receive = self.call(ChannelAsk::TryRecv).0;
         for message in 0..messages {
-            let _ = self.call(ChannelAsk::TrySend(message as u64));
+            let _ = self.whole(ChannelAsk::TrySend(message as u64));
         }
     }
 
     /// How many messages are held.
     fn held(&mut self) -> usize {
-        match self.call(ChannelAsk::Len) {
-            (_, Some(Reply::Count(messages))) => messages,
+        let Some((_, entry)) = self.call(ChannelAsk::Len) else {
+            return usize::MAX;
+        };
+        match answered_by(entry) {
+            Some(Reply::Count(messages)) => messages,
             _ => usize::MAX,
         }
     }
 
-    /// Plans a send and a receive, step by step in turns.
-    fn plan_pair(&mut self, message: u64) {
-        self.plan(Step::Begin {
-            party: SENDER,
-            ask: ChannelAsk::TrySend(message),
-        });
-        self.plan(Step::Begin {
-            party: RECEIVER,
-            ask: ChannelAsk::TryRecv,
-        });
-        for k in 0..self.of_send.max(self.of_receive) {
-            if k < self.of_send {
-                self.plan(Step::Step { party: SENDER });
+    /// A send and a receive, step by step in turns, to their ends: how many steps that were, with the two begins.
+    fn pair(&mut self, message: u64) -> usize {
+        self.begin(SENDER, ChannelAsk::TrySend(message));
+        self.begin(RECEIVER, ChannelAsk::TryRecv);
+        for made in 0..MOST {
+            let calls = self.opened.parties.len();
+            if calls == 0 {
+                return made.saturating_add(2);
             }
-            if k < self.of_receive {
-                self.plan(Step::Step { party: RECEIVER });
-            }
+            drop(self.step(if calls == 1 { 0 } else { made % 2 }));
         }
+        self.refused = true;
+        0
     }
 
-    /// Makes what is planned, and tells how many steps that were. A call that has ended before makes no more steps, and
-    /// one that has more steps than were planned makes them before the next call.
-    fn make_all(&mut self) -> usize {
-        let mut made = 0usize;
-        for _ in 0..u64::MAX {
-            let (some, stopped, _) = self.run();
-            made = made.saturating_add(some);
-            match stopped {
-                None => return made,
-                Some(Refusal::Idle) => {
-                    let _ = self.steps.pop_front();
-                }
-                Some(Refusal::Busy) => self.go_on(),
-                Some(Refusal::NoMemory) => {
-                    self.refused = true;
-                    return made;
-                }
-            }
-        }
-        made
-    }
-
-    /// Plans one more step in front of a call that may not begin yet.
-    fn go_on(&mut self) {
-        let party = match self.steps.front() {
-            Some(Step::Begin { party, .. }) => *party,
-            _ => SENDER,
-        };
-        if self.steps.push_front(Step::Step { party }).is_err() {
-            self.refused = true;
-            self.steps.clear();
-        }
-    }
-
-    /// Makes a call of at most so many steps in one run: how many it had, and the listener that it left.
-    fn at_once(&mut self, ask: ChannelAsk<u64, u64>, most: usize) -> (usize, Option<Key>) {
-        self.plan(Step::Begin { party: SENDER, ask });
-        for _ in 0..most {
-            self.plan(Step::Step { party: SENDER });
-        }
-        let mut run = run_steps(
-            self.alloc,
-            &mut self.steps,
-            &mut self.opened.cells,
-            &mut self.opened.parties,
-            &mut self.sink,
-        );
-        let made = run.trace.len().saturating_sub(1);
-        let key = left_by(run.trace.pop());
-        self.steps.clear();
-        (made, key)
-    }
-
-    /// A poll that pends, the call that wakes its operation, and the poll that finishes it: how many steps each of them had.
-    fn wait(&mut self, waits: Waits, most: Lengths) -> Lengths {
-        let (pends, key) = self.at_once(waits.poll(None), most.pends);
-        let (wakes, _) = self.at_once(waits.waking(), most.wakes);
-        let (finishes, left) = self.at_once(waits.poll(key), most.finishes);
+    /// A poll that pends, the call that wakes its operation, and the poll that finishes it: how many steps these have.
+    fn wait(&mut self, waits: Waits) -> usize {
+        let (pends, key) = self.whole(waits.poll(None));
+        let (wakes, _) = self.whole(waits.waking());
+        let (finishes, left) = self.whole(waits.poll(key));
         self.refused = self.refused || key.is_none() || left.is_some();
-        Lengths {
-            pends,
-            wakes,
-            finishes,
-        }
+        pends.saturating_add(wakes).saturating_add(finishes)
     }
 
     /// One round of waits, of which the quickest counts.
-    fn round_of_waits<R: Clock>(&mut self, rt: &R, waits: Waits, lengths: Lengths) {
+    fn round_of_waits<R: Clock>(&mut self, rt: &R, waits: Waits) {
         let watch = Watch::start(rt);
         for _ in 0..PAIRS {
-            let _ = self.wait(waits, lengths);
+            let _ = self.wait(waits);
         }
         self.best.nanos = self.best.nanos.min(watch.nanos(rt));
     }
 
     /// One round, of which the quickest counts.
     fn round<R: Clock>(&mut self, rt: &R) {
-        for message in 0..PAIRS {
-            self.plan_pair(message as u64);
-        }
+        let mut made = 0usize;
         let watch = Watch::start(rt);
-        let made = self.make_all();
+        for message in 0..PAIRS {
+            made = made.saturating_add(self.pair(message as u64));
+        }
         let nanos = watch.nanos(rt);
         let cost = Cost {
             nanos,
@@ -360,7 +283,7 @@ fn measure_bounded<R: Clock + Print>(
     requires { 0 < capacity }
 {
     match open_channel(QueueForm::Bounded(capacity), alloc) {
-        Ok(opened) => measure_pair(rt, name, &mut Bench::of(opened, alloc), capacity / 2),
+        Ok(opened) => measure_pair(rt, name, &mut Bench::of(opened), capacity / 2),
         Err(_) => println!(rt; "steps: want of memory"),
     }
 }
@@ -391,14 +314,14 @@ fn measure_held<R: Clock + Print>(rt: &R, short: &mut Bench, long: &mut Bench) -
 /// The long channel beside the short one.
 fn measure_beside<R: Clock + Print>(rt: &R, short: &mut Bench, alloc: Global) -> io::Result<()> {
     match open_channel(QueueForm::Unbounded, alloc) {
-        Ok(opened) => measure_held(rt, short, &mut Bench::of(opened, alloc)),
+        Ok(opened) => measure_held(rt, short, &mut Bench::of(opened)),
         Err(_) => println!(rt; "steps: want of memory"),
     }
 }
 
 fn measure_unbounded<R: Clock + Print>(rt: &R, alloc: Global) -> io::Result<()> {
     match open_channel(QueueForm::Unbounded, alloc) {
-        Ok(opened) => measure_beside(rt, &mut Bench::of(opened, alloc), alloc),
+        Ok(opened) => measure_beside(rt, &mut Bench::of(opened), alloc),
         Err(_) => println!(rt; "steps: want of memory"),
     }
 }
@@ -412,20 +335,14 @@ fn measure_waits<R: Clock + Print>(
     messages: usize,
 ) -> io::Result<()> {
     bench.fill(messages);
-    let most = Lengths {
-        pends: 64,
-        wakes: 64,
-        finishes: 64,
-    };
-    let lengths = bench.wait(waits, most);
+    let steps = bench.wait(waits);
     for _ in 0..ROUNDS {
-        bench.round_of_waits(rt, waits, lengths);
+        bench.round_of_waits(rt, waits);
     }
     if bench.refused || bench.held() != messages {
         return println!(rt; "steps, {name}: a call was refused");
     }
     let each = Decimal::of(bench.best.nanos, PAIRS as u128);
-    let steps = lengths.all();
     let call = waits.name();
     println!(rt;
         "steps, {name}: a {call} that pends, is woken and finishes takes {each} ns in {steps} steps"
@@ -447,12 +364,12 @@ fn measure_waiting<R: Clock + Print>(
         Waits::Receive => 0,
     };
     match open_channel(QueueForm::Bounded(capacity), alloc) {
-        Ok(opened) => measure_waits(rt, name, &mut Bench::of(opened, alloc), waits, messages),
+        Ok(opened) => measure_waits(rt, name, &mut Bench::of(opened), waits, messages),
         Err(_) => println!(rt; "steps: want of memory"),
     }
 }
 
-/// Measures runs of steps.
+/// Measures calls by steps.
 pub fn measure_steps<R: Clock + Print>(rt: &R, alloc: Global) -> io::Result<()> {
     measure_bounded(rt, "one slot", 1, alloc)?;
     measure_bounded(rt, "bounded(100)", 100, alloc)?;

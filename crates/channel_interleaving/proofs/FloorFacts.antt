@@ -17,7 +17,7 @@ use Rattle.channel_calls.specs.declared.stage.Line.{Line}
 use Rattle.channel_model.specs.declared.call.Call.{Call}
 use Rattle.channel_model.specs.declared.name.Waiter.{Waiter}
 use Rattle.channel_steps.specs.Count.{counted, brought_in, taken_out}
-use Rattle.channel_steps.specs.Run.{new_scene, HasBegun, Begins}
+use Rattle.channel_steps.specs.Run.{end_of, new_scene, HasBegun, Begins}
 use Rattle.channel_steps.specs.Tellings.{telling, dropping}
 use Rattle.channel_steps.specs.Left.{left_at}
 use Rattle.channel_steps.specs.Scene.{Scene, Sitting, under_of, all_seats, IsBalanced, Shows, StepsAt, StepsNearer, parties_in, unless_answered, brought}
@@ -36,7 +36,7 @@ use Rattle.std.proofs.lemmas.Bool.Decides.{nat_tests}
 use Rattle.channel_interleaving.specs.Refusal.{step_refusal}
 use Rattle.channel_interleaving.specs.Roll.{first_roll, IsAgent}
 use Rattle.channel_interleaving.specs.Run.{Book, Made, MayRefuse, Stops, begun, ended, with_woken}
-use Rattle.channel_interleaving.specs.Runs.{Moment, FewLeft, LeadsBy, IsRun, end_of, accepted_in, left_in, moment_of, RanTo}
+use Rattle.channel_interleaving.specs.Runs.{Moment, FewLeft, LeadsBy, accepted_in, left_in, moment_of, RanTo}
 use Rattle.channel_interleaving.specs.Woken.{Hears}
 use Rattle.channel_interleaving.specs.declared.doing.Doing.{Doing}
 use Rattle.channel_interleaving.specs.declared.floor.Floor.{Floor}
@@ -46,7 +46,7 @@ use Rattle.channel_interleaving.specs.declared.step.Entry.{Entry}
 use Rattle.channel_interleaving.specs.declared.step.Step.{Step}
 use Rattle.channel_interleaving.specs.declared.step.Step.TheVariants as step
 use Rattle.channel_interleaving.specs.declared.woken.Woken.{Woken as Sink}
-use Rattle.channel_steps.proofs.Interface.{few_left, messages_counted, messages_moved}
+use Rattle.channel_steps.proofs.Interface.{each_on, end_on, few_left, messages_counted, messages_moved}
 use Rattle.channel_interleaving.specs.Kept.{AllKept}
 use Rattle.channel_interleaving.proofs.AccountFacts.{no_accounts, next_accounts}
 use Rattle.channel_interleaving.proofs.AllKept.{kept_first, kept_next}
@@ -323,21 +323,6 @@ module _ {T : Type 0} where
 
   -- ---- runs
 
-  -- one step more, from the moment at which they end
-  run_more : (m : Moment T) (xs : List (Step T)) (es : List (Entry T)) (ns : List (Moment T)) (x : Step T) (e : Entry T)
-      (n : Moment T)
-      → IsRun m xs es ns → LeadsBy (end_of m ns) x e n → IsRun m (xs ++ x ∷ []) (es ++ e ∷ []) (ns ++ n ∷ [])
-  run_more m [] [] [] x e n run leads = (leads, tt)
-  run_more m (y ∷ xs) (f ∷ es) (o ∷ ns) x e n run leads = (run.0, run_more o xs es ns x e n run.1 leads)
-  run_more m [] [] (o ∷ ns) x e n run leads = absurd run
-  run_more m [] (f ∷ es) ns x e n run leads = absurd run
-  run_more m (y ∷ xs) [] ns x e n run leads = absurd run
-  run_more m (y ∷ xs) (f ∷ es) [] x e n run leads = absurd run
-
-  end_more : (m : Moment T) (ns : List (Moment T)) (n : Moment T) → end_of m (ns ++ n ∷ []) ≡ n
-  end_more m [] n = refl
-  end_more m (o ∷ ns) n = end_more o ns n
-
   -- all that holds where all is kept
   pub stands_in : (f : Floor T) (s : Scene T Waiter) → Shown f s → AllKept (book_of f) s → StandsIn f s
   stands_in f s sh k = record { shown = sh; kept = k; owed = sight_owed f s sh (owed (book_of f) s k.owned k.sound) }
@@ -430,8 +415,8 @@ module _ {T : Type 0} where
         moments = r.moments ++ n ∷ [];
         last = t.after;
         first = r.first ∙ sym (append_assoc r.made (x ∷ []) left);
-        run = run_more m r.made trace r.moments x e n r.run one;
-        ends = end_more m r.moments n;
+        run = each_on LeadsBy m r.made trace r.moments (x ∷ []) (e ∷ []) (n ∷ []) r.run (one, tt);
+        ends = end_on m r.moments (n ∷ []);
         stands = step_stands x g h e r.last r.stands t;
         accounts = next_accounts s r.last t.after (book_of g) (book_of h) x e r.accounts t.made;
         numbers = (

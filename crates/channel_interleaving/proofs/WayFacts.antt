@@ -7,12 +7,13 @@ use Rattle.channel_calls.specs.declared.ask.ChannelAsk.{ChannelAsk}
 use Rattle.channel_calls.specs.declared.mark.Mark.TheVariants.{Nothing}
 use Rattle.channel_calls.specs.declared.reply.Reply.{Reply}
 use Rattle.channel_model.specs.declared.name.Waiter.{Waiter}
+use Rattle.channel_steps.specs.Run.{EachStep, end_of}
 use Rattle.channel_steps.specs.Scene.{Scene}
 use Rattle.channel_steps.specs.declared.party.Entry.{Entry as ChannelEntry}
 use Rattle.channel_steps.specs.declared.run.Step.TheVariants as channel
 use Rattle.channel_interleaving.specs.Floor.{LeadsOn}
 use Rattle.channel_interleaving.specs.Run.{channel_step}
-use Rattle.channel_interleaving.specs.Runs.{Moment, LeadsBy, EachStep, RanTo, end_of, moment_of}
+use Rattle.channel_interleaving.specs.Runs.{Moment, LeadsBy, RanTo, moment_of}
 use Rattle.channel_interleaving.specs.Way.{Pace, IsWay, Way, replies_of, replies_in}
 use Rattle.channel_interleaving.specs.declared.floor.Floor.{Floor}
 use Rattle.channel_interleaving.specs.declared.step.Entry.{Entry}

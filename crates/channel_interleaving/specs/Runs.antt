@@ -3,7 +3,7 @@ use Rattle.std.specs.Prelude.{◌≡◌, ℕ, ◌+◌, ◌*◌, ◌<◌, ◌≤�
 use Rattle.channel_calls.specs.Parts.{Parts}
 use Rattle.channel_model.specs.declared.name.Waiter.{Waiter}
 use Rattle.channel_steps.specs.Count.{brought_in, taken_out}
-use Rattle.channel_steps.specs.Run.{Accounts, Touches}
+use Rattle.channel_steps.specs.Run.{EachStep, end_of, Accounts, Touches}
 use Rattle.channel_steps.specs.Scene.{Scene, HoldNobodyUp}
 use Rattle.channel_interleaving.specs.Floor.{parts_in, book_of, StandsIn}
 use Rattle.channel_interleaving.specs.Kept.{AllKept}
@@ -59,22 +59,6 @@ module _ {T : Type 0} where
     pub nearer : ComesNearer m x e n
     pub holds : Holds n
 
-  -- so it is of each of these steps, with its entry, from the moment before it to the one after it
-  abbrev pub EachStep : (Moment T → Step T → Entry T → Moment T → Type 0) → Moment T → List (Step T) → List (Entry T)
-      → List (Moment T) → Type 0
-  EachStep P m [] [] [] = Unit {0}
-  EachStep P m (x ∷ xs) (e ∷ es) (n ∷ ns) = P m x e n × EachStep P n xs es ns
-  EachStep P m _ _ _ = ⊥
-
-  -- these steps, one after another, with these entries, lead from a moment to these
-  abbrev pub IsRun : Moment T → List (Step T) → List (Entry T) → List (Moment T) → Type 0
-  IsRun m xs es ns = EachStep LeadsBy m xs es ns
-
-  -- the moment at which they end
-  abbrev pub end_of : Moment T → List (Moment T) → Moment T
-  end_of m [] = m
-  end_of m (n ∷ ns) = end_of n ns
-
   -- ---- numbers
 
   -- how many messages came in by the steps with these entries, and how many went out
@@ -95,7 +79,7 @@ module _ {T : Type 0} where
     pub moments : List (Moment T)
     pub last : Scene T Waiter
     pub first : steps ≡ made ++ left
-    pub run : IsRun (moment_of old s) made trace moments
+    pub run : EachStep LeadsBy (moment_of old s) made trace moments
     pub ends : end_of (moment_of old s) moments ≡ moment_of new last
     pub stands : StandsIn new last
     pub accounts : Accounts s last

@@ -1,18 +1,15 @@
 -- Calls that walk their machines over a channel's cells in one order make a run.
-use Rattle.std.proofs.Common.{◌≡◌, ℕ, ◌==◌, Bool, true, false, List, [], ◌∷◌, ◌++◌, map, Option, None, Some, Ok, Err, MatchOption, slice_set, if◌then◌else◌, refl, sym, ap, ◌∙◌, subst, append_assoc, append-nil}
+use Rattle.std.proofs.Common.{◌≡◌, ℕ, ◌==◌, Bool, true, false, List, [], ◌∷◌, ◌++◌, map, Option, None, Some, Ok, Err, MatchOption, slice_set, if◌then◌else◌, refl, sym, ap, ◌∙◌, subst}
 use Rattle.std.specs.List.{remove}
 use Rattle.concurrent_queue.specs.Bridge as queue
-use Rattle.concurrent_queue.specs.Bridge.{HasCells}
-use Rattle.concurrent_queue.specs.Capacity.{capacity_of}
 use Rattle.concurrent_queue.specs.Contents.{Contents}
 use Rattle.concurrent_queue.specs.Deeds as cell
-use Rattle.concurrent_queue.specs.Made.{IsNew, new_cells}
 use Rattle.concurrent_queue.specs.Queue.{asked}
 use Rattle.concurrent_queue.specs.declared.call.QueueAsk.TheVariants as queue_ask
 use Rattle.concurrent_queue.specs.declared.call.QueueReply.{QueueReply}
 use Rattle.concurrent_queue.specs.declared.cells.QueueForm.{QueueForm}
 use Rattle.concurrent_queue.specs.declared.queue_call.QueueCall.{QueueCall}
-use Rattle.concurrent_queue.proofs.Bridge.{call_noted, change_keeps_form, new_is}
+use Rattle.concurrent_queue.proofs.Bridge.{call_noted, change_keeps_form}
 use Rattle.concurrent_queue.proofs.Callers.{is_same, is_other, itself, either, call_of, place_of, AllApart, has_at, begun_mine, begun_other, begun_apart, set_mine, set_other, set_apart, gone_other, gone_mine, gone_apart}
 use Rattle.channel_calls.proofs.Interface.{carried, exact_step}
 use Rattle.channel_calls.proofs.Walking.{taken_of}
@@ -31,16 +28,14 @@ use Rattle.channel_calls.specs.declared.stage.Stage.{Stage}
 use Rattle.channel_calls.specs.declared.stage.Stage.TheVariants.{Trying, Working, Finished}
 use Rattle.channel_calls.specs.declared.stage.Work.{Work}
 use Rattle.channel_calls.specs.declared.stage.Work.TheVariants.{TellReceive, TellStreams, TellSend, TellSends, TakeRoom, TellAll, Insert, Register, Leave, Lower, Count, Load, Raise}
-use Rattle.channel_steps.specs.Run.{HasBegun, Turns, RanTo, new_scene}
+use Rattle.channel_steps.specs.Run.{HasBegun}
 use Rattle.channel_steps.specs.Scene.{Under, Scene, Sitting, Shows, StepsAt, HasParty, under_of, parties_after, left_by}
 use Rattle.channel_steps.specs.declared.party.Entry.{Entry}
 use Rattle.channel_steps.specs.declared.party.Party.{Party}
-use Rattle.channel_steps.specs.declared.run.Step.{Step}
 use Rattle.channel_steps.specs.declared.run.Step.TheVariants as step
 use Rattle.channel_steps.proofs.RunFacts as runs
 use Rattle.channel_steps.proofs.SceneFacts.{stepped_at, made_at}
-use Rattle.channel_steps.proofs.StartFacts.{new_shown}
-use Rattle.channel_laws.specs.Bridge.{Act, on_queue, on_roster, on_nothing, Event, begins, does, Happening, Given, Notes, Acts, own, step_of, steps_of, given_by, given_to, opened_parts, Changes, InOneOrder, MergesAreRuns}
+use Rattle.channel_laws.specs.Bridge.{Act, on_queue, on_roster, on_nothing, Event, begins, does, Happening, Given, Notes, Acts, own, step_of, steps_of, given_by, given_to, Changes, InOneOrder}
 use Rattle.channel_laws.specs.Ends.{Each, IsIdle}
 use Rattle.channel_laws.proofs.BridgeLeads.{id_of, of, LeadsOn, GoThrough, leads_begun, leads_stepped, through_none, through_more}
 
@@ -146,13 +141,12 @@ module _ {T W : Type 0} where
   own_other : (p q : ℕ) (x : Event T W) (xs : List (Happening T W)) → (p == q) ≡ false → own q (happens p x ∷ xs) ≡ own q xs
   own_other p q x xs e = rw e refl
 
-module _ {T W S : Type 0} (wakes : S → W → S → Type 0) (form : QueueForm) (steps : List (Step T W)) (first_parts : Parts T W) (first_sink : S) where
+module _ {T W S : Type 0} (wakes : S → W → S → Type 0) (form : QueueForm) where
   -- what the run is that goes on so
-  pub record Merged (events : List (Happening T W)) (trace : List (Entry T)) (c : Parts T W × S) (before : List (Party T W)) (given : ℕ → List (Given T)) (last : Parts T W × S) : Type 0 where
+  pub record Merged (events : List (Happening T W)) (c : Parts T W × S) (before : List (Party T W)) (given : ℕ → List (Given T)) (last : Parts T W × S) : Type 0 where
     pub more : List (Entry T)
     pub parties : List (Party T W)
     pub through : GoThrough wakes (steps_of events) more c before last parties
-    pub ran : RanTo wakes steps [] first_parts [] first_sink (trace ++ more) last.0 parties last.1
     pub answers : (p : ℕ) → given_to p events more ≡ given p
 
   abbrev AllAct : List (Party T W) → List (Happening T W) → (ℕ → List (Given T)) → Type 0
@@ -161,8 +155,8 @@ module _ {T W S : Type 0} (wakes : S → W → S → Type 0) (form : QueueForm) 
   -- how the run goes on behind one event
   abbrev GoesOn : List (Happening T W) → Parts T W × S → Type 0
   GoesOn xs last =
-      (trace : List (Entry T)) (c : Parts T W × S) (parties : List (Party T W)) (given : ℕ → List (Given T))
-      → c.0.cells.form ≡ form → RanTo wakes steps (steps_of xs) first_parts [] first_sink trace c.0 parties c.1 → AllApart id_of of parties → AllAct parties xs given → InOneOrder wakes xs c last → Merged xs trace c parties given last
+      (c : Parts T W × S) (parties : List (Party T W)) (given : ℕ → List (Given T))
+      → c.0.cells.form ≡ form → AllApart id_of of parties → AllAct parties xs given → InOneOrder wakes xs c last → Merged xs c parties given last
 
   -- the others go on as before
   acts_after : (p : ℕ) (x : Event T W) (xs : List (Happening T W)) (before after : List (Party T W)) (given left : ℕ → List (Given T)) → AllAct before (happens p x ∷ xs) given
@@ -176,15 +170,14 @@ module _ {T W S : Type 0} (wakes : S → W → S → Type 0) (form : QueueForm) 
           (subst (λ (o : Option (Stage (QueueCall T) T W)). Acts form o (own q xs) (given q)) (sym (calls q e))
           (subst (λ (ys : List (Event T W)). Acts form (call_of id_of of q before) ys (given q)) (own_other p q x xs e) (acts q)))
 
-  joined : (p : ℕ) (x : Event T W) (xs : List (Happening T W)) (trace : List (Entry T)) (e : Entry T) (given left : ℕ → List (Given T)) (last : Parts T W × S)
+  joined : (p : ℕ) (x : Event T W) (xs : List (Happening T W)) (e : Entry T) (given left : ℕ → List (Given T)) (last : Parts T W × S)
       (c d : Parts T W × S) (parties after : List (Party T W)) → LeadsOn wakes c parties (step_of p x) e d after
-      → Merged xs (trace ++ e ∷ []) d after left last → ((q : ℕ) → (if p == q then given_by e.reply e.kept ++ left q else left q) ≡ given q) → Merged (happens p x ∷ xs) trace c parties given last
-  joined p x xs trace e given left last c d parties after one m same =
+      → Merged xs d after left last → ((q : ℕ) → (if p == q then given_by e.reply e.kept ++ left q else left q) ≡ given q) → Merged (happens p x ∷ xs) c parties given last
+  joined p x xs e given left last c d parties after one m same =
       record {
         more = e ∷ m.more;
         parties = m.parties;
         through = through_more wakes (step_of p x) (steps_of xs) e m.more c parties d after last m.parties one m.through;
-        ran = subst (λ (es : List (Entry T)). RanTo wakes steps [] first_parts [] first_sink es last.0 m.parties last.1) (append_assoc trace (e ∷ []) m.more) m.ran;
         answers = λ q. ap (λ (rs : List (Given T)). if p == q then given_by e.reply e.kept ++ rs else rs) (m.answers q) ∙ same q;
       }
 
@@ -208,25 +201,22 @@ module _ {T W S : Type 0} (wakes : S → W → S → Type 0) (form : QueueForm) 
   idle None ask ys rs h = (refl, h)
   idle (Some s) ask ys rs h = absurd h
 
-  begun : (p : ℕ) (ask : ChannelAsk T W) (xs : List (Happening T W)) (trace : List (Entry T)) (c d last : Parts T W × S) (parties : List (Party T W)) (given : ℕ → List (Given T))
-      → c.0.cells.form ≡ form → RanTo wakes steps (step.Begin p ask ∷ steps_of xs) first_parts [] first_sink trace c.0 parties c.1 → AllApart id_of of parties → AllAct parties (happens p (begins ask) ∷ xs) given
-      → d ≡ c → InOneOrder wakes xs d last → GoesOn xs last → Merged (happens p (begins ask) ∷ xs) trace c parties given last
-  begun p ask xs trace c d last parties given f r apart acts same order further =
+  begun : (p : ℕ) (ask : ChannelAsk T W) (xs : List (Happening T W)) (c d last : Parts T W × S) (parties : List (Party T W)) (given : ℕ → List (Given T))
+      → c.0.cells.form ≡ form → AllApart id_of of parties → AllAct parties (happens p (begins ask) ∷ xs) given
+      → d ≡ c → InOneOrder wakes xs d last → GoesOn xs last → Merged (happens p (begins ask) ∷ xs) c parties given last
+  begun p ask xs c d last parties given f apart acts same order further =
       let mine = idle (call_of id_of of p parties) ask (own p xs) (given p) (subst (λ (ys : List (Event T W)). Acts form (call_of id_of of p parties) ys (given p)) (own_mine p (begins ask) xs) (acts p)) in
       let at = mine.1.0 in
       let new : Party T W = party p at Nothing in
       let after : List (Party T W) = parties ++ new ∷ [] in
       let is_new : IsNewCall new.call (first ask) = (None, taken_of (first ask) at None mine.1.1) in
       let begins_so : HasBegun p ask parties unmarked after = runs.begun (asked queue_ask.Pop) p ask new.call parties unmarked after is_new refl refl in
-      let turns_here : Turns wakes (step.Begin p ask) c.0 parties c.1 unmarked c.0 after c.1 = runs.turns_begun wakes p ask c.0 parties c.1 unmarked after begins_so in
-      let turns : Turns wakes (step.Begin p ask) c.0 parties c.1 unmarked d.0 after d.1 = subst (λ (x : Parts T W × S). Turns wakes (step.Begin p ask) c.0 parties c.1 unmarked x.0 after x.1) (sym same) turns_here in
       let here : Acts form (call_of id_of of p after) (own p xs) (given p) = subst (λ (o : Option (Stage (QueueCall T) T W)). Acts form o (own p xs) (given p)) (sym (begun_mine id_of of p parties new refl mine.0)) mine.1.2 in
       let leads : LeadsOn wakes c parties (step.Begin p ask) unmarked d after =
       subst (λ (x : Parts T W × S). LeadsOn wakes c parties (step.Begin p ask) unmarked x after) (sym same)
       (leads_begun wakes p ask c parties unmarked after (λ s sh. none_under_way p c.0 parties s mine.0 sh) begins_so) in
-      joined p (begins ask) xs trace unmarked given given last c d parties after leads
-      (further (trace ++ unmarked ∷ []) d after given (ap (λ (y : Parts T W × S). y.0.cells.form) same ∙ f)
-      (runs.ran_more wakes steps (steps_of xs) (step.Begin p ask) first_parts [] first_sink trace c.0 parties c.1 unmarked d.0 after d.1 r turns)
+      joined p (begins ask) xs unmarked given given last c d parties after leads
+      (further d after given (ap (λ (y : Parts T W × S). y.0.cells.form) same ∙ f)
       (begun_apart id_of of p parties new refl mine.0 apart)
       (acts_after p (begins ask) xs parties after given given acts here (λ q e. begun_other id_of of p q parties new refl e) (λ q e. refl))
       order)
@@ -238,8 +228,8 @@ module _ {T W S : Type 0} (wakes : S → W → S → Type 0) (form : QueueForm) 
   busy None o ys rs h = absurd h
   busy (Some s) o ys rs h = (s, refl, h)
 
-  module _ (p : ℕ) (o : Act T W) (xs : List (Happening T W)) (trace : List (Entry T)) (c d last : Parts T W × S) (parties : List (Party T W)) (given : ℕ → List (Given T))
-      (f : c.0.cells.form ≡ form) (r : RanTo wakes steps (step.Step p ∷ steps_of xs) first_parts [] first_sink trace c.0 parties c.1) (apart : AllApart id_of of parties) (acts : AllAct parties (happens p (does o) ∷ xs) given)
+  module _ (p : ℕ) (o : Act T W) (xs : List (Happening T W)) (c d last : Parts T W × S) (parties : List (Party T W)) (given : ℕ → List (Given T))
+      (f : c.0.cells.form ≡ form) (apart : AllApart id_of of parties) (acts : AllAct parties (happens p (does o) ∷ xs) given)
       (change : Changes wakes (does o) c d) (order : InOneOrder wakes xs d last) (further : GoesOn xs last) (at next : Stage (QueueCall T) T W) (m : Mark) (there : call_of id_of of p parties ≡ Some at) where
     abbrev k : ℕ
     k = place_of id_of of p parties
@@ -267,26 +257,17 @@ module _ {T W S : Type 0} (wakes : S → W → S → Type 0) (form : QueueForm) 
         stepped_at wakes c.0 d.0 parties (parties_after parties k mine answer) k c.1 d.1 (entry answer)
         (made_at wakes c.0 d.0 parties (parties_after parties k mine answer) k c.1 d.1 who mine.call m answer (left_by mine answer) has refl mine_steps refl refl)
 
-    turned : (answer : Option (Reply T)) → ChannelMakes (Notes form) at on_nothing o m next answer → Turns wakes (step.Step p) c.0 parties c.1 (entry answer) d.0 (parties_after parties k mine answer) d.1
-    turned answer makes =
-        runs.stepped_by wakes p k c.0 parties c.1 (entry answer) d.0 (parties_after parties k mine answer) d.1 is_there (steps_so answer makes)
-
     leads : (answer : Option (Reply T)) → ChannelMakes (Notes form) at on_nothing o m next answer → LeadsOn wakes c parties (step.Step p) (entry answer) d (parties_after parties k mine answer)
     leads answer makes = leads_stepped wakes p c parties (entry answer) d (parties_after parties k mine answer) apart (is_there, steps_so answer makes)
 
-    ran_on : (answer : Option (Reply T)) → ChannelMakes (Notes form) at on_nothing o m next answer
-        → RanTo wakes steps (steps_of xs) first_parts [] first_sink (trace ++ entry answer ∷ []) d.0 (parties_after parties k mine answer) d.1
-    ran_on answer makes =
-        runs.ran_more wakes steps (steps_of xs) (step.Step p) first_parts [] first_sink trace c.0 parties c.1 (entry answer) d.0 (parties_after parties k mine answer) d.1 r (turned answer makes)
-
     made_on : (answer : Option (Reply T)) → ChannelMakes (Notes form) at on_nothing o m next answer
         → MatchOption answer (Acts form (Some next) (own p xs) (given p)) (λ x. (more : List (Given T)) × (given p ≡ record { reply = x; kept = kept_by next } ∷ more) × Acts form None (own p xs) more)
-        → Merged (happens p (does o) ∷ xs) trace c parties given last
+        → Merged (happens p (does o) ∷ xs) c parties given last
     made_on None makes goes =
         let after : List (Party T W) = slice_set parties k mine in
         let here : Acts form (call_of id_of of p after) (own p xs) (given p) = subst (λ (y : Option (Stage (QueueCall T) T W)). Acts form y (own p xs) (given p)) (sym (set_mine id_of of p parties at mine refl there)) goes in
-        joined p (does o) xs trace (entry None) given given last c d parties after (leads None makes)
-        (further (trace ++ entry None ∷ []) d after given (form_after wakes form c d f at o m next None makes change) (ran_on None makes) (set_apart id_of of p parties mine refl apart)
+        joined p (does o) xs (entry None) given given last c d parties after (leads None makes)
+        (further d after given (form_after wakes form c d f at o m next None makes change) (set_apart id_of of p parties mine refl apart)
         (acts_after p (does o) xs parties after given given acts here (λ q e. set_other id_of of p q parties mine refl e) (λ q e. refl))
         order)
         (λ q. either (p == q) (given q))
@@ -297,8 +278,8 @@ module _ {T W S : Type 0} (wakes : S → W → S → Type 0) (form : QueueForm) 
         let here : Acts form (call_of id_of of p after) (own p xs) (left p) =
         subst (λ (rs : List (Given T)). Acts form (call_of id_of of p after) (own p xs) rs) (sym now)
         (subst (λ (y : Option (Stage (QueueCall T) T W)). Acts form y (own p xs) more) (sym (gone_mine id_of of p parties apart)) goes) in
-        joined p (does o) xs trace (entry (Some x)) given left last c d parties after (leads (Some x) makes)
-        (further (trace ++ entry (Some x) ∷ []) d after left (form_after wakes form c d f at o m next (Some x) makes change) (ran_on (Some x) makes) (gone_apart id_of of p parties apart)
+        joined p (does o) xs (entry (Some x)) given left last c d parties after (leads (Some x) makes)
+        (further d after left (form_after wakes form c d f at o m next (Some x) makes change) (gone_apart id_of of p parties apart)
         (acts_after p (does o) xs parties after given left acts here (λ q e. gone_other id_of of p q parties e) (λ q e. rw e refl))
         order)
         (λ q. told q (p == q) refl)
@@ -308,43 +289,18 @@ module _ {T W S : Type 0} (wakes : S → W → S → Type 0) (form : QueueForm) 
         told q true e = rw e (sym is ∙ ap given (is_same p q e))
         told q false e = rw e refl
 
-  happened : (x : Happening T W) (xs : List (Happening T W)) (trace : List (Entry T)) (c d last : Parts T W × S) (parties : List (Party T W)) (given : ℕ → List (Given T))
-      → (y : Event T W) → c.0.cells.form ≡ form → RanTo wakes steps (step_of x.party y ∷ steps_of xs) first_parts [] first_sink trace c.0 parties c.1 → AllApart id_of of parties → AllAct parties (happens x.party y ∷ xs) given
-      → Changes wakes y c d → InOneOrder wakes xs d last → GoesOn xs last → Merged (happens x.party y ∷ xs) trace c parties given last
-  happened x xs trace c d last parties given (begins ask) f r apart acts change order further = begun x.party ask xs trace c d last parties given f r apart acts change order further
-  happened x xs trace c d last parties given (does o) f r apart acts change order further =
+  happened : (x : Happening T W) (xs : List (Happening T W)) (c d last : Parts T W × S) (parties : List (Party T W)) (given : ℕ → List (Given T))
+      → (y : Event T W) → c.0.cells.form ≡ form → AllApart id_of of parties → AllAct parties (happens x.party y ∷ xs) given
+      → Changes wakes y c d → InOneOrder wakes xs d last → GoesOn xs last → Merged (happens x.party y ∷ xs) c parties given last
+  happened x xs c d last parties given (begins ask) f apart acts change order further = begun x.party ask xs c d last parties given f apart acts change order further
+  happened x xs c d last parties given (does o) f apart acts change order further =
       let p = x.party in
       let mine = busy (call_of id_of of p parties) o (own p xs) (given p) (subst (λ (ys : List (Event T W)). Acts form (call_of id_of of p parties) ys (given p)) (own_mine p (does o) xs) (acts p)) in
       let g = mine.2 in
-      made_on p o xs trace c d last parties given f r apart acts change order further mine.0 g.1 g.0 mine.1 g.2 g.3 g.4
+      made_on p o xs c d last parties given f apart acts change order further mine.0 g.1 g.0 mine.1 g.2 g.3 g.4
 
-  merge : (events : List (Happening T W)) (last : Parts T W × S) → GoesOn events last
-  merge [] last trace c parties given f r apart acts order =
-      record {
-        more = [];
-        parties = parties;
-        through = through_none wakes c parties last order;
-        ran = subst (λ (es : List (Entry T)). RanTo wakes steps [] first_parts [] first_sink es last.0 parties last.1) (sym (append-nil trace))
-            (subst (λ (x : Parts T W × S). RanTo wakes steps [] first_parts [] first_sink trace x.0 parties x.1) (sym order) r);
-        answers = λ p. sym (acts p);
-      }
-  merge (x ∷ xs) last trace c parties given f r apart acts (d, change, order) =
-      happened x xs trace c d last parties given x.event f r apart acts change order (merge xs last)
-
-module _ (T W S : Type 0) (wakes : S → W → S → Type 0) (form : QueueForm) (events : List (Happening T W)) (given : ℕ → List (Given T)) (sink : S) (last : Parts T W) (woken : S)
-    (has : HasCells form) (acts : (p : ℕ) → Acts form None (own p events) (given p)) (order : InOneOrder wakes events (opened_parts form, sink) (last, woken)) where
-  new : IsNew {T = T} form (new_cells form)
-  new = new_is form has
-
-  pub merged : Merged wakes form (steps_of events) (opened_parts form) sink events [] (opened_parts form, sink) [] given (last, woken)
-  merged =
-      merge wakes form (steps_of events) (opened_parts form) sink events (last, woken) [] (opened_parts form, sink) [] given new.0
-      (runs.ran_none wakes (steps_of events) (opened_parts form) [] sink) tt acts order
-
-  pub shown_first : Shows (opened_parts form) (let nobody : List (Party T W) = [] in nobody) (new_scene (capacity_of form))
-  shown_first = new_shown form (opened_parts form) [] new refl refl
-
-pub merges_are_runs : (T W S : Type 0) (wakes : S → W → S → Type 0) → MergesAreRuns T W S wakes
-merges_are_runs T W S wakes form events given sink last woken has acts order =
-    let m = merged T W S wakes form events given sink last woken has acts order in
-    record { trace = m.more; parties = m.parties; opened = shown_first T W S wakes form events given sink last woken has acts order; ran = m.ran; answers = m.answers }
+  pub merge : (events : List (Happening T W)) (last : Parts T W × S) → GoesOn events last
+  merge [] last c parties given f apart acts order =
+      record { more = []; parties = parties; through = through_none wakes c parties last order; answers = λ p. sym (acts p) }
+  merge (x ∷ xs) last c parties given f apart acts (d, change, order) =
+      happened x xs c d last parties given x.event f apart acts change order (merge xs last)

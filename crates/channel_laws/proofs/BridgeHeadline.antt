@@ -1,33 +1,37 @@
 -- Each moment and each step of a merge says what the headline says.
-use Rattle.std.proofs.Common.{Bool, true, false, ◌==◌, ◌&&◌, ◌<◌, suc, is_none, if◌then◌else◌, map, arith, ◌≡◌, ℕ, ◌+◌, ◌*◌, ◌≤◌, List, [], ◌∷◌, ◌++◌, length, slice_get, unwrap_or, Option, None, Some, inr, refl, sym, ap, ◌∙◌, subst, append_assoc}
+use Rattle.std.proofs.Common.{Bool, true, false, ◌==◌, ◌&&◌, ◌<◌, suc, is_none, if◌then◌else◌, map, arith, ◌≡◌, ℕ, ◌+◌, ◌*◌, ◌≤◌, List, [], ◌∷◌, ◌++◌, length, slice_get, unwrap_or, Option, None, Some, inl, inr, refl, sym, ap, ◌∙◌, subst, append_assoc}
 use Rattle.std.specs.List.{remove}
 use Rattle.std.proofs.lemmas.List.{length-map}
 use Rattle.concurrent_queue.proofs.Callers.{is_same}
+use Rattle.concurrent_queue.proofs.Bridge.{new_is}
 use Rattle.concurrent_queue.specs.Capacity.{capacity_of}
+use Rattle.concurrent_queue.specs.Made.{IsNew, new_cells}
+use Rattle.concurrent_queue.specs.declared.cells.QueueForm.{QueueForm}
 use Rattle.event_listener.specs.Notices.{Woken}
 use Rattle.channel_calls.specs.Moves.{Channel}
 use Rattle.channel_calls.specs.declared.ask.ChannelAsk.{ChannelAsk}
 use Rattle.channel_calls.specs.declared.reply.Reply.{Reply}
 use Rattle.channel_steps.specs.Left.{all_left}
 use Rattle.channel_steps.specs.Moments.{Spent}
-use Rattle.channel_steps.specs.Run.{Next, new_scene}
+use Rattle.channel_steps.specs.Run.{EachStep, end_of, HasRange, Next, IsRun, new_scene}
 use Rattle.channel_steps.specs.Scene.{Under, Scene, Shows, brought, does, gone_by, came_by, wanted_at, HoldNobodyUp, sees, unless_ended}
 use Rattle.channel_steps.specs.declared.party.Entry.{Entry}
 use Rattle.channel_steps.specs.declared.run.Step.{Step}
 use Rattle.channel_steps.specs.declared.run.Step.TheVariants as step
 use Rattle.channel_steps.proofs.Interface.{few_left, hold_still}
+use Rattle.channel_steps.proofs.StartFacts.{new_shown}
 use Rattle.channel_laws.specs.Bounds.{BoundSound}
-use Rattle.channel_laws.specs.Bridge.{Happening, steps_of}
+use Rattle.channel_laws.specs.Bridge.{Happening, steps_of, opened_parts, LastsFor, MergesAreRuns}
 use Rattle.channel_laws.specs.BridgeEnd.{GiveNothing, NothingComesAfter}
 use Rattle.channel_laws.specs.BridgeHeadline.{MomentSays, BeginSays, WorkSays, CallSays, StepSays, MergesKeepTheHeadline}
-use Rattle.channel_laws.specs.BridgeMoments.{Moment, EachStep, opened, end_of, EndInARow, NobodyHoldsUp, in_a_row, left_to, FewLeft}
+use Rattle.channel_laws.specs.BridgeMoments.{Moment, opened, EndInARow, NobodyHoldsUp, in_a_row, left_to, FewLeft}
 use Rattle.channel_laws.specs.Ends.{SaysTheEnd, Replies}
 use Rattle.channel_laws.specs.Marked.{AddUp, brought_by}
 use Rattle.channel_laws.specs.Receives.{MessagesAreFew, counts_for_receives}
 use Rattle.channel_laws.specs.Sends.{PlacesAreFew, counts_for_sends}
 use Rattle.channel_laws.specs.Sound.{AllSound}
 use Rattle.channel_laws.proofs.Bounds.{bound_new, bound_next}
-use Rattle.channel_laws.proofs.Bridge.{merged, shown_first}
+use Rattle.channel_laws.proofs.Bridge.{merge}
 use Rattle.channel_laws.proofs.BridgeLeads.{Leads, is_run}
 use Rattle.channel_laws.proofs.Closings as closings
 use Rattle.channel_laws.proofs.EndFacts.{may_end}
@@ -299,24 +303,40 @@ module _ {T W : Type 0} where
   steps_many [] = refl
   steps_many (x ∷ xs) = let h = steps_many xs in omega (arith, h)
 
+-- the positions of a new queue last for the steps of so many events
+lasts : {T W : Type 0} (form : QueueForm) (events : List (Happening T W)) → LastsFor (length events) form
+    → let s : Scene T W = new_scene (capacity_of form) in HasRange (length (steps_of events)) s.now.queue
+lasts form events (inl one) = inl one
+lasts form events (inr few) = let e = steps_many events in inr (omega (arith, few, e))
+
 pub merges_keep_the_headline : (T W S : Type 0) (wakes : S → W → S → Type 0) → MergesKeepTheHeadline T W S wakes
-merges_keep_the_headline T W S wakes form events given sink last woken has few acts order =
-    let m = merged T W S wakes form events given sink last woken has acts order in
-    let shown = shown_first T W S wakes form events given sink last woken has acts order in
+merges_keep_the_headline T W S wakes form events given sink last woken has long acts order =
+    let new : IsNew {T = T} form (new_cells form) = new_is form has in
     let first : Moment T W S = opened form sink in
-    let g = m.through first.scene (inr (let e = steps_many events in omega (arith, few, e))) shown in
+    let shown : Shows first.parts first.parties first.scene = new_shown form (opened_parts form) [] new refl refl in
+    let m = merge wakes form events (last, woken) (opened_parts form, sink) [] given new.0 tt acts order in
+    let g = m.through first.scene (lasts form events long) shown in
+    let run = is_run wakes first (steps_of events) m.more g.moments g.each in
     let kept = kept_new (capacity_of form) in
     record {
-      trace = m.more;
+      is = record {
+        trace = m.more;
+        parties = m.parties;
+        scene = g.end;
+        opened = shown;
+        run = subst (λ (n : Moment T W S). IsRun wakes first.parts first.scene sink (steps_of events) m.more n.parts n.scene n.sink) g.ends run;
+        shown = g.shown;
+        answers = m.answers;
+      };
       moments = g.moments;
-      answers = m.answers;
-      end = end_of first g.moments;
-      ends = refl;
-      left = ap (λ (n : Moment T W S). n.parts) g.ends;
-      woke = ap (λ (n : Moment T W S). n.sink) g.ends;
-      run = is_run wakes first (steps_of events) m.more g.moments g.each;
+      ends = g.ends;
       at_first = says_moment first shown kept;
       each = each_says wakes first (steps_of events) m.more g.moments kept g.each;
       after_the_end = nothing_comes wakes first (steps_of events) m.more g.moments kept g.each;
       ends_soon = end_in_a_row wakes first (steps_of events) m.more g.moments shown g.each;
     }
+
+pub merges_are_runs : (T W S : Type 0) (wakes : S → W → S → Type 0) → MergesAreRuns T W S wakes
+merges_are_runs T W S wakes form events given sink last woken has long acts order =
+    let h = merges_keep_the_headline T W S wakes form events given sink last woken has long acts order in
+    h.is

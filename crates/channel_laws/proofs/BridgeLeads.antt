@@ -7,7 +7,7 @@ use Rattle.event_listener.specs.Notices.{Woken}
 use Rattle.channel_calls.specs.Parts.{Parts}
 use Rattle.channel_calls.specs.declared.ask.ChannelAsk.{ChannelAsk}
 use Rattle.channel_calls.specs.declared.stage.Stage.{Stage}
-use Rattle.channel_steps.specs.Run.{HasBegun, Touches, Next, HasRange, IsRun}
+use Rattle.channel_steps.specs.Run.{EachStep, end_of, HasBegun, Touches, Next, HasRange, IsRun}
 use Rattle.channel_steps.specs.Scene.{Scene, HoldNobodyUp, Shows, StepsAt, HasParty, Under, Sitting, under_of}
 use Rattle.channel_steps.specs.declared.party.Entry.{Entry}
 use Rattle.channel_steps.specs.declared.party.Party.{Party}
@@ -15,7 +15,7 @@ use Rattle.channel_steps.specs.declared.run.Step.{Step}
 use Rattle.channel_steps.specs.declared.run.Step.TheVariants as step
 use Rattle.channel_steps.proofs.MoveFacts.{in_range}
 use Rattle.channel_steps.proofs.RunFacts.{next_range}
-use Rattle.channel_laws.specs.BridgeMoments.{Moment, left_to, EachStep, end_of}
+use Rattle.channel_laws.specs.BridgeMoments.{Moment, left_to}
 use Rattle.channel_laws.specs.Ends.{IsIdle}
 
 module _ {T W : Type 0} where
@@ -128,6 +128,7 @@ module _ {T W S : Type 0} (wakes : S → W → S → Type 0) where
     pub each : EachStep (Leads) (at c parties s) xs es moments
     pub end : Scene T W
     pub ends : end_of (at c parties s) moments ≡ at last left end
+    pub shown : Shows last.0 left end
 
   -- from each scene that is shown
   abbrev pub GoThrough : List (Step T W) → List (Entry T) → Parts T W × S → List (Party T W) → Parts T W × S → List (Party T W) → Type 0
@@ -136,14 +137,20 @@ module _ {T W S : Type 0} (wakes : S → W → S → Type 0) where
 
   pub through_none : (c : Parts T W × S) (parties : List (Party T W)) (last : Parts T W × S) → last ≡ c → GoThrough [] [] c parties last parties
   through_none c parties last same s range sh =
-      record { moments = []; each = tt; end = s; ends = ap (λ (x : Parts T W × S). at x parties s) (sym same) }
+      record {
+        moments = [];
+        each = tt;
+        end = s;
+        ends = ap (λ (x : Parts T W × S). at x parties s) (sym same);
+        shown = subst (λ (x : Parts T W × S). Shows x.0 parties s) (sym same) sh;
+      }
 
   pub through_more : (x : Step T W) (xs : List (Step T W)) (e : Entry T) (es : List (Entry T)) (c : Parts T W × S) (parties : List (Party T W)) (d : Parts T W × S) (after : List (Party T W)) (last : Parts T W × S) (left : List (Party T W))
       → LeadsOn c parties x e d after → GoThrough xs es d after last left → GoThrough (x ∷ xs) (e ∷ es) c parties last left
   through_more x xs e es c parties d after last left one more s range sh =
       let h = one s (in_range (suc (length xs)) s.now.queue range) sh in
-      let g = more h.scene (next_range wakes (length xs) s x e h.leads.names h.scene h.leads.next range) h.leads.shows in
-      record { moments = at d after h.scene ∷ g.moments; each = (h.leads, g.each); end = g.end; ends = g.ends }
+      let g = more h.scene (next_range (length xs) s x e h.leads.names h.scene h.leads.next range) h.leads.shows in
+      record { moments = at d after h.scene ∷ g.moments; each = (h.leads, g.each); end = g.end; ends = g.ends; shown = g.shown }
 
   -- such steps are a run
   pub is_run : (m : Moment T W S) (xs : List (Step T W)) (es : List (Entry T)) (ns : List (Moment T W S)) → EachStep Leads m xs es ns

@@ -2,7 +2,7 @@
 -- each operation on a count an event of its own. Of each party only this is asked, that its calls do what their machines do next and
 -- go by the answers, whatever these are: so a call does over cells of any kind. Of the cells, that the events of all come in one
 -- order, and that each answer is what the cells then gave.
-use Rattle.std.specs.Prelude.{◌≡◌, ℕ, ◌==◌, List, [], ◌∷◌, ◌++◌, map, Option, None, Some, MatchOption, if◌then◌else◌}
+use Rattle.std.specs.Prelude.{◌≡◌, ◌⊎◌, ℕ, ◌==◌, ◌<◌, ◌^◌, List, [], ◌∷◌, ◌++◌, length, map, Option, None, Some, MatchOption, if◌then◌else◌}
 use Rattle.concurrent_queue.specs.Bridge.{HasCells}
 use Rattle.concurrent_queue.specs.Bridge as queue
 use Rattle.concurrent_queue.specs.Capacity.{capacity_of}
@@ -26,8 +26,8 @@ use Rattle.channel_calls.specs.declared.mark.Mark.{Mark}
 use Rattle.channel_calls.specs.declared.reply.Reply.{Reply}
 use Rattle.channel_calls.specs.declared.stage.Kept.{Kept}
 use Rattle.channel_calls.specs.declared.stage.Stage.{Stage}
-use Rattle.channel_steps.specs.Run.{RanTo, new_scene}
-use Rattle.channel_steps.specs.Scene.{Shows}
+use Rattle.channel_steps.specs.Run.{IsRun, new_scene}
+use Rattle.channel_steps.specs.Scene.{Scene, Shows}
 use Rattle.channel_steps.specs.declared.party.Entry.{Entry}
 use Rattle.channel_steps.specs.declared.party.Party.{Party}
 use Rattle.channel_steps.specs.declared.run.Step.{Step}
@@ -117,21 +117,27 @@ module _ {T W : Type 0} where
     InOneOrder [] c e = e ≡ c
     InOneOrder (x ∷ xs) c e = (m : Parts T W × S) × Changes x.event c m × InOneOrder xs m e
 
-    -- a run of a channel that was opened over a queue of this form, as `run_steps` promises it, made just these steps, gave each
-    -- party this, and left these cells and this sink
+    -- a run from a channel that was opened over a queue of this form, with nobody at work, made just these steps, gave each party
+    -- this, and left these cells and this sink
     pub record IsRunOf (form : QueueForm) (events : List (Happening T W)) (given : ℕ → List (Given T)) (sink : S) (last : Parts T W) (woken : S) : Type 0 where
       pub trace : List (Entry T)
       pub parties : List (Party T W)
+      pub scene : Scene T W
       pub opened : let nobody : List (Party T W) = [] in Shows (opened_parts form) nobody (new_scene (capacity_of form))
-      pub ran : RanTo wakes (steps_of events) [] (opened_parts form) [] sink trace last parties woken
+      pub run : IsRun wakes (opened_parts form) (new_scene (capacity_of form)) sink (steps_of events) trace last scene woken
+      pub shown : Shows last parties scene
       pub answers : (p : ℕ) → given_to p events trace ≡ given p
 
--- whatever parties do to a new channel, each by the machine and all in one order, is a run
+-- the positions of a queue of this form last for so many steps; one slot counts none
+abbrev pub LastsFor : ℕ → QueueForm → Type 0
+LastsFor n form = (capacity_of form ≡ Some 1) ⊎ (n < 2 ^ 61)
+
+-- whatever parties do to a new channel, each by the machine and all in one order, is a run, as long as its positions last
 abbrev pub MergesAreRuns : (T W S : Type 0) → (S → W → S → Type 0) → Type 0
 MergesAreRuns T W S wakes =
     (form : QueueForm) (events : List (Happening T W)) (given : ℕ → List (Given T)) (sink : S) (last : Parts T W) (woken : S)
-    → HasCells form → ((p : ℕ) → Acts form None (own p events) (given p)) → InOneOrder wakes events (opened_parts form, sink) (last, woken)
-    → IsRunOf wakes form events given sink last woken
+    → HasCells form → LastsFor (length events) form → ((p : ℕ) → Acts form None (own p events) (given p))
+    → InOneOrder wakes events (opened_parts form, sink) (last, woken) → IsRunOf wakes form events given sink last woken
 
 -- ---- whole calls over cells of any kind, as their contracts say it
 

@@ -1,8 +1,7 @@
 -- The headline, of calls of any number of parties whose deeds come in one order. Its sentences are those of the headline of a
 -- world by names, but what speaks of names.
-use Rattle.std.specs.Prelude.{◌≡◌, ℕ, ◌<◌, ◌^◌, List, [], ◌∷◌, ◌++◌, length, map, None, IfSome}
+use Rattle.std.specs.Prelude.{◌≡◌, ℕ, ◌<◌, List, [], ◌∷◌, ◌++◌, length, map, None, IfSome}
 use Rattle.concurrent_queue.specs.Bridge.{HasCells}
-use Rattle.concurrent_queue.specs.Capacity.{capacity_of}
 use Rattle.concurrent_queue.specs.Queue.{Phase}
 use Rattle.concurrent_queue.specs.declared.cells.QueueForm.{QueueForm}
 use Rattle.event_listener.specs.Notices.{Woken}
@@ -13,16 +12,16 @@ use Rattle.channel_calls.specs.declared.mark.Mark.TheVariants.{Nothing}
 use Rattle.channel_calls.specs.declared.stage.Stage.{Stage}
 use Rattle.channel_steps.specs.Known.{IsQuick}
 use Rattle.channel_steps.specs.Moments.{Shut, Spent}
-use Rattle.channel_steps.specs.Run.{IsRun, Next, begun as call_begun, new_scene}
+use Rattle.channel_steps.specs.Run.{EachStep, Next, begun as call_begun, end_of}
 use Rattle.channel_steps.specs.Scene.{Under, Shows, EndsInTime, HoldNobodyUp, brought, does, gone_by, sees, unless_ended}
 use Rattle.channel_steps.specs.Tellings.{telling, dropping, Names}
 use Rattle.channel_steps.specs.declared.party.Entry.{Entry}
 use Rattle.channel_steps.specs.declared.run.Step.{Step}
 use Rattle.channel_steps.specs.declared.run.Step.TheVariants as step
 use Rattle.channel_laws.specs.Bounds.{Fits}
-use Rattle.channel_laws.specs.Bridge.{Happening, Given, Acts, own, steps_of, given_to, opened_parts, InOneOrder}
+use Rattle.channel_laws.specs.Bridge.{Happening, Given, Acts, own, steps_of, opened_parts, InOneOrder, IsRunOf, LastsFor}
 use Rattle.channel_laws.specs.BridgeEnd.{NothingComesAfter}
-use Rattle.channel_laws.specs.BridgeMoments.{Moment, FewLeft, EachStep, EndInARow, opened, left_to, end_of}
+use Rattle.channel_laws.specs.BridgeMoments.{Moment, FewLeft, EndInARow, opened, left_to}
 use Rattle.channel_laws.specs.Closings.{PendingIsOwedTheClosing}
 use Rattle.channel_laws.specs.EndSays.{EndSays}
 use Rattle.channel_laws.specs.Ends.{Each, IsIdle, IsStill, GivesMessage, SaysTheEnd, Replies}
@@ -132,30 +131,24 @@ module _ {T W S : Type 0} (wakes : S → W → S → Type 0) where
 
   -- ---- a run
 
-  -- A run made just the steps of these events, from a channel that was opened, gave each party this, and left these cells and this
-  -- sink; and each of its moments and of its steps says what the headline says.
+  -- What these events are is a run; and each of its moments and of its steps says what the headline says.
   pub record KeepsTheHeadline (form : QueueForm) (events : List (Happening T W)) (given : ℕ → List (Given T)) (sink : S) (last : Parts T W) (woken : S) : Type 0 where
-    pub trace : List (Entry T)
+    pub is : IsRunOf wakes form events given sink last woken
+    -- the moment after each step; at the last one the run ends
     pub moments : List (Moment T W S)
-    pub answers : (p : ℕ) → given_to p events trace ≡ given p
-    -- the moment at which it ends
-    pub end : Moment T W S
-    pub ends : end_of (opened form sink) moments ≡ end
-    pub left : end.parts ≡ last
-    pub woke : end.sink ≡ woken
-    pub run : IsRun wakes (opened_parts form) (new_scene (capacity_of form)) sink (steps_of events) trace end.parts end.scene end.sink
+    pub ends : end_of (opened form sink) moments ≡ record { parts = last; parties = is.parties; scene = is.scene; sink = woken }
     -- what is said of a moment is said of the first one; and what is said of a step, and of the moment after it, of each step
     pub at_first : MomentSays (opened {T = T} {W = W} form sink)
-    pub each : EachStep StepSays (opened form sink) (steps_of events) trace moments
+    pub each : EachStep StepSays (opened form sink) (steps_of events) is.trace moments
     -- once a receive answered closed, or a stream ended, no call that begins later gives a message
-    pub after_the_end : NothingComesAfter (steps_of events) trace
+    pub after_the_end : NothingComesAfter (steps_of events) is.trace
     -- where no other call under way has a mark but Nothing, and an unbounded channel has had its first taking or there is no other
     -- call, a call ends among its next 198 steps, and 64 more for each message that a receive of several may take, if these are next
-    pub ends_soon : EndInARow (opened form sink) (steps_of events) trace moments
+    pub ends_soon : EndInARow (opened form sink) (steps_of events) is.trace moments
 
 -- whatever parties do to a new channel, each by the machine and all in one order, as long as its positions last
 abbrev pub MergesKeepTheHeadline : (T W S : Type 0) → (S → W → S → Type 0) → Type 0
 MergesKeepTheHeadline T W S wakes =
     (form : QueueForm) (events : List (Happening T W)) (given : ℕ → List (Given T)) (sink : S) (last : Parts T W) (woken : S)
-    → HasCells form → length events < 2 ^ 61 → ((p : ℕ) → Acts form None (own p events) (given p)) → InOneOrder wakes events (opened_parts form, sink) (last, woken)
-    → KeepsTheHeadline wakes form events given sink last woken
+    → HasCells form → LastsFor (length events) form → ((p : ℕ) → Acts form None (own p events) (given p))
+    → InOneOrder wakes events (opened_parts form, sink) (last, woken) → KeepsTheHeadline wakes form events given sink last woken

@@ -46,18 +46,6 @@ module _ {T W S : Type 0} where
   abbrev pub NobodyHoldsUp : ℕ → Moment T W S → Type 0
   NobodyHoldsUp k m = HoldNobodyUp m.scene.now (remove m.scene.under_way k)
 
-  -- so it is of each of these steps, with its entry, from the moment before it to the one after it
-  abbrev pub EachStep : (Moment T W S → Step T W → Entry T → Moment T W S → Type 0) → Moment T W S → List (Step T W) → List (Entry T)
-      → List (Moment T W S) → Type 0
-  EachStep P m [] [] [] = Unit {0}
-  EachStep P m (x ∷ xs) (e ∷ es) (n ∷ ns) = P m x e n × EachStep P n xs es ns
-  EachStep P m _ _ _ = ⊥
-
-  -- the moment at which they end
-  abbrev pub end_of : Moment T W S → List (Moment T W S) → Moment T W S
-  end_of m [] = m
-  end_of m (n ∷ ns) = end_of n ns
-
   -- ---- steps in a row
 
   -- where the others hold a call up no more, it makes no more steps than it has left before it ends, if its are the next

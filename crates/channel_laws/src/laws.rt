@@ -1,5 +1,5 @@
-//! Laws of every run of a channel's steps. Each is the contract of a function that does nothing; what
-//! `channel_steps::run::run_steps` does is such a run.
+//! Laws of every run of a channel's steps. Each is the contract of a function that does nothing. Begins and steps of parties, one after
+//! another, are such a run: [`begin`](channel_steps::party::begin) and [`step_at`](channel_steps::party::step_at) promise each.
 
 ghost use Rattle.channel_laws.specs.Bridge.{InCells, MergesAreRuns, StandsAct, WalksAct};
 ghost use Rattle.channel_laws.specs.BridgeBlocks.{BlocksInCalls, Rested};
@@ -143,9 +143,9 @@ pub fn one_close_at_most<T, W, S: Wakes<W>>()
 {}
 
 /// What any number of parties do to a new channel, merged in any order in which each answer is what the cells then held, is a
-/// run as `run_steps` promises it, with all that was answered and left. An event is one operation on a cell of the queue, one
-/// section on a list of listeners or one operation on a count. Of a party nothing is asked but that its calls do what their
-/// machines do next, and go by the answers. So what holds of every run holds of calls on threads, whose operations are atomic and
+/// run, with all that was answered and left: of any length over one slot, and else of fewer than 2^61 events. An event is one
+/// operation on a cell of the queue, one section on a list of listeners or one operation on a count. Of a party nothing is asked
+/// but that its calls do what their machines do next, and go by the answers. So what holds of every run holds of calls on threads, whose operations are atomic and
 /// whose sections are under one lock each, and so come in one order.
 ///
 /// Own to this project.
@@ -154,7 +154,8 @@ pub fn merges_are_runs<T, W, S: Wakes<W>>()
 {}
 
 /// The headline holds of what any number of parties do to a new channel, if each call does what its machine does and goes by the
-/// answers, and all their deeds come in one order in which each answer is what the cells then held, fewer than 2^61 of them.
+/// answers, and all their deeds come in one order in which each answer is what the cells then held: as many as there are over one slot,
+/// else fewer than 2^61.
 ///
 /// Of each moment, the first one too: what left the channel, followed by what it holds, is what came into it, in order, and it is no
 /// more than fit. Beside one who is pending and was not told there is no message, no free place and no closing but such as a told one

@@ -1,4 +1,5 @@
-//! Interleavings of parties' steps over one slot, step by step.
+//! Calls made step by step: over cells that refuse a listener, and what each entry says of its step. Rows of many parties' steps
+//! are in `channel_interleaving_tests`, by names.
 
 ghost use Rattle.channel_calls.specs.Plain.{parts_of};
 
@@ -10,17 +11,15 @@ use channel_calls::cells::ChannelCells;
 use channel_calls::mark::Mark;
 use channel_calls::plain::PlainChannel;
 use channel_calls::stage::{Line, Side};
-use channel_steps::party::{Entry, Party};
-use channel_steps::run::{Refusal, Run, Step, run_steps};
-use channel_steps::start::{is_quiet, open_channel, under_way};
+use channel_steps::party::{Entry, Party, begin, step_at};
+use channel_steps::start::{Opened, is_quiet, open_channel};
 use concurrent_queue::call::QueueReply;
 use concurrent_queue::cells::QueueForm;
 use concurrent_queue::queue_call::QueueCall;
 use event_listener::error::ListenError;
 use event_listener::key::Key;
 use event_listener::wakes::Wakes;
-use std::alloc::Global;
-use std::collections::VecDeque;
+use std::alloc::{AllocError, Global};
 use std::test::Fail;
 
 /// A channel whose lists have no room for a listener.
@@ -84,7 +83,6 @@ struct Fixture<C> {
     cells: C,
     parties: Vec<Party<u64, u32>>,
     names: Names,
-    alloc: Global,
 }
 
 fn make_fixture<C>(cells: C, alloc: Global) -> Fixture<C> {
@@ -94,57 +92,42 @@ fn make_fixture<C>(cells: C, alloc: Global) -> Fixture<C> {
         names: Names {
             woken: Vec::new(alloc),
         },
-        alloc,
     }
 }
 
-fn one_slot(alloc: Global) -> Result<PlainChannel<u64, u32>, Fail> {
-    let opened = open_channel(QueueForm::Bounded(1), alloc)?;
-    Ok(opened.cells)
+fn one_slot(alloc: Global) -> Result<Opened<u64, u32>, AllocError> {
+    open_channel(QueueForm::Bounded(1), alloc)
 }
 
 impl<C: ChannelCells<u64, u32> + Drop> Fixture<C> {
-    /// A party begins a call and makes so many steps of it. What the last one did.
-    fn begin(
-        &mut self,
-        party: u32,
-        ask: ChannelAsk<u64, u32>,
-        steps: usize,
-    ) -> (Said, Option<Key>) {
-        let mut list = VecDeque::new(self.alloc);
-        let _ = list.push_back(Step::Begin { party, ask });
-        for _ in 0..steps {
-            let _ = list.push_back(Step::Step { party });
+    /// The only party begins a call. None where there is no room for it.
+    fn begin(&mut self, ask: ChannelAsk<u64, u32>) -> Option<Entry<u64>> {
+        if self.parties.reserve(1).is_err() {
+            return None;
         }
-        in_short(last_entry(self.run(&mut list)))
+        Some(begin(&mut self.parties, 0, ask))
     }
 
-    /// A party makes so many more steps. What the last one did.
-    fn go_on(&mut self, party: u32, steps: usize) -> (Said, Option<Key>) {
-        let mut list = VecDeque::new(self.alloc);
-        for _ in 0..steps {
-            let _ = list.push_back(Step::Step { party });
+    /// One step of the call under way. None where there is none.
+    fn step(&mut self) -> Option<Entry<u64>> {
+        if self.parties.is_empty() {
+            return None;
         }
-        in_short(last_entry(self.run(&mut list)))
-    }
-
-    fn run(&mut self, list: &mut VecDeque<Step<u64, u32>>) -> Run<u64> {
-        run_steps(
-            self.alloc,
-            list,
-            &mut self.cells,
+        Some(step_at(
             &mut self.parties,
+            0,
+            &mut self.cells,
             &mut self.names,
-        )
+        ))
     }
-}
 
-/// The last entry of a run that was not stopped.
-fn last_entry(run: Run<u64>) -> Option<Entry<u64>> {
-    let Run { mut trace, stopped } = run;
-    match stopped {
-        Some(_) => None,
-        None => trace.pop(),
+    /// A call that is begun and makes so many steps. What the last one did.
+    fn call(&mut self, ask: ChannelAsk<u64, u32>, steps: usize) -> (Said, Option<Key>) {
+        let mut last = self.begin(ask);
+        for _ in 0..steps {
+            last = self.step();
+        }
+        in_short(last)
     }
 }
 
@@ -168,98 +151,15 @@ fn in_short(entry: Option<Entry<u64>>) -> (Said, Option<Key>) {
 }
 
 #[test]
-fn a_message_between_two_tries_is_taken(rt: HostRuntime) -> Result<(), Fail> {
-    let mut all = make_fixture(one_slot(rt.alloc())?, rt.alloc());
-    let answers = [
-        all.begin(0, ChannelAsk::PollRecv(lent(None), 7), 2).0,
-        all.begin(1, ChannelAsk::TrySend(5), 3).0,
-        all.go_on(0, 5).0,
-        all.go_on(1, 2).0,
-    ];
-    let woken = all.names.woken.len();
-    let quiet = is_quiet(&all.parties);
-    drop(all);
-    expect_equal(
-        &rt,
-        &answers,
-        &[
-            Said::GoesOn,
-            Said::GoesOn,
-            Said::Received(5),
-            Said::Sent(None),
-        ],
-    );
-    expect_equal(&rt, &woken, &0);
-    expect_true(&rt, quiet);
-    Ok(())
-}
-
-#[test]
-fn a_pending_receive_is_woken_after_the_push(rt: HostRuntime) -> Result<(), Fail> {
-    let mut all = make_fixture(one_slot(rt.alloc())?, rt.alloc());
-    let pending = all.begin(0, ChannelAsk::PollRecv(lent(None), 7), 4).0;
-    let pushed = all.begin(1, ChannelAsk::TrySend(5), 3).0;
-    let before = (all.names.woken.len(), under_way(&all.parties));
-    let told = all.go_on(1, 1).0;
-    let woken = (all.names.woken.len(), all.names.woken.first().copied());
-    let sent = all.go_on(1, 1).0;
-    let quiet = is_quiet(&all.parties);
-    drop(all);
-    expect_equal(
-        &rt,
-        &[pending, pushed, told, sent],
-        &[Said::Pending, Said::GoesOn, Said::GoesOn, Said::Sent(None)],
-    );
-    expect_equal(&rt, &before, &(0, 1));
-    expect_equal(&rt, &woken, &(1, Some(7)));
-    expect_true(&rt, quiet);
-    Ok(())
-}
-
-#[test]
-fn a_taking_wakes_the_send_that_still_waits(rt: HostRuntime) -> Result<(), Fail> {
-    let mut all = make_fixture(one_slot(rt.alloc())?, rt.alloc());
-    let sent = all.begin(0, ChannelAsk::TrySend(1), 5).0;
-    let (first, first_key) = all.begin(1, ChannelAsk::PollSend(2, lent(None), 2), 4);
-    let (second, second_key) = all.begin(2, ChannelAsk::PollSend(3, lent(None), 3), 4);
-    let taking = all.begin(3, ChannelAsk::TryRecv, 3).0;
-    let give_up = ChannelAsk::GiveUp(Line::Sends, Some(2), first_key);
-    let given_up = all.begin(1, give_up, 1).0;
-    let before = all.names.woken.len();
-    let received = all.go_on(3, 1).0;
-    let woken = (all.names.woken.len(), all.names.woken.first().copied());
-    let last = all
-        .begin(2, ChannelAsk::PollSend(3, lent(second_key), 3), 6)
-        .0;
-    let quiet = is_quiet(&all.parties);
-    drop(all);
-    expect_equal(
-        &rt,
-        &[sent, first, second],
-        &[Said::Sent(None), Said::Pending, Said::Pending],
-    );
-    expect_equal(
-        &rt,
-        &[taking, given_up, received],
-        &[Said::GoesOn, Said::GivenUp(Some(2)), Said::Received(1)],
-    );
-    expect_equal(&rt, &last, &Said::Sent(None));
-    expect_equal(&rt, &before, &0);
-    expect_equal(&rt, &woken, &(1, Some(3)));
-    expect_true(&rt, quiet);
-    Ok(())
-}
-
-#[test]
 fn a_poll_that_may_not_listen_is_not_pending(rt: HostRuntime) -> Result<(), Fail> {
     let cells = Cramped {
-        channel: one_slot(rt.alloc())?,
+        channel: one_slot(rt.alloc())?.cells,
     };
     let mut all = make_fixture(cells, rt.alloc());
-    let (refused, key) = all.begin(0, ChannelAsk::PollRecv(lent(None), 7), 2);
-    let sent = all.begin(1, ChannelAsk::TrySend(5), 5).0;
+    let (refused, key) = all.call(ChannelAsk::PollRecv(lent(None), 7), 2);
+    let sent = all.call(ChannelAsk::TrySend(5), 5).0;
     let woken = all.names.woken.len();
-    let received = all.begin(2, ChannelAsk::TryRecv, 4).0;
+    let received = all.call(ChannelAsk::TryRecv, 4).0;
     drop(all);
     expect_equal(
         &rt,
@@ -271,62 +171,38 @@ fn a_poll_that_may_not_listen_is_not_pending(rt: HostRuntime) -> Result<(), Fail
     Ok(())
 }
 
-/// What each step of a send did that doesn't wait: its first one brings the message in.
+/// The mark of an entry, and what it says in short.
+fn marked(entry: Option<Entry<u64>>) -> (Option<Mark>, Said) {
+    let mark = match &entry {
+        Some(entry) => Some(entry.mark),
+        None => None,
+    };
+    (mark, in_short(entry).0)
+}
+
+/// What the begin of a send did that doesn't wait, and each of its steps: the first one brings the message in, the last one answers,
+/// and the others tell whoever waits.
 #[test]
 fn entries_say_what_their_steps_did(rt: HostRuntime) -> Result<(), Fail> {
-    let mut all = make_fixture(one_slot(rt.alloc())?, rt.alloc());
-    let mut list = VecDeque::new(rt.alloc());
-    let ask = ChannelAsk::TrySend(5);
-    let _ = list.push_back(Step::Begin { party: 0, ask });
-    for _ in 0..5 {
-        let _ = list.push_back(Step::Step { party: 0 });
-    }
-    let run = all.run(&mut list);
-    let made = run.trace.len();
-    let marked = [
-        run.trace
-            .iter()
-            .position(|entry| entry.mark != Mark::Nothing),
-        run.trace
-            .iter()
-            .position(|entry| entry.mark == Mark::Append),
+    let mut all = make_fixture(one_slot(rt.alloc())?.cells, rt.alloc());
+    let begun = marked(all.begin(ChannelAsk::TrySend(5)));
+    let first = marked(all.step());
+    let told = [
+        marked(all.step()),
+        marked(all.step()),
+        marked(all.step()),
     ];
-    drop(run);
+    let going = is_quiet(&all.parties);
+    let last = marked(all.step());
+    let quiet = is_quiet(&all.parties);
+    let over = marked(all.step());
     drop(all);
-    expect_equal(&rt, &made, &6);
-    expect_equal(&rt, &marked, &[Some(1), Some(1)]);
-    Ok(())
-}
-
-/// A run of these steps: how many were made, why it stopped, how many are left, and whether a begin stands in front.
-fn run_to(
-    all: &mut Fixture<PlainChannel<u64, u32>>,
-    mut list: VecDeque<Step<u64, u32>>,
-) -> (usize, Option<Refusal>, usize, bool) {
-    let run = all.run(&mut list);
-    let begins = matches!(list.front(), Some(Step::Begin { .. }));
-    (run.trace.len(), run.stopped, list.len(), begins)
-}
-
-#[test]
-fn a_party_with_a_call_under_way_begins_no_other(rt: HostRuntime) -> Result<(), Fail> {
-    let mut all = make_fixture(one_slot(rt.alloc())?, rt.alloc());
-    let mut list = VecDeque::new(rt.alloc());
-    for message in 1..3 {
-        let ask = ChannelAsk::TrySend(message);
-        let _ = list.push_back(Step::Begin { party: 0, ask });
-    }
-    let _ = list.push_back(Step::Step { party: 0 });
-    let busy = run_to(&mut all, list);
-    let going = under_way(&all.parties);
-    let sent = all.go_on(0, 5).0;
-    let mut list = VecDeque::new(rt.alloc());
-    let _ = list.push_back(Step::Step { party: 0 });
-    let idle = run_to(&mut all, list);
-    drop(all);
-    expect_equal(&rt, &busy, &(1, Some(Refusal::Busy), 2, true));
-    expect_equal(&rt, &going, &1);
-    expect_equal(&rt, &sent, &Said::Sent(None));
-    expect_equal(&rt, &idle, &(0, Some(Refusal::Idle), 1, false));
+    let goes_on = (Some(Mark::Nothing), Said::GoesOn);
+    expect_equal(&rt, &begun, &goes_on);
+    expect_equal(&rt, &first, &(Some(Mark::Append), Said::GoesOn));
+    expect_equal(&rt, &told, &[goes_on, goes_on, goes_on]);
+    expect_equal(&rt, &last, &(Some(Mark::Nothing), Said::Sent(None)));
+    expect_equal(&rt, &over, &(None, Said::Missing));
+    expect_equal(&rt, &(going, quiet), &(false, true));
     Ok(())
 }

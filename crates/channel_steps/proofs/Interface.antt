@@ -1,7 +1,7 @@
--- What a layer above may use: what is known of the calls under way stays known over every entry of a run; a step of the
+-- What a layer above may use: steps after steps, with their moments; what is known of the calls under way stays known over every entry of a run; a step of the
 -- only call under way; how a step changes the number of messages; that no call has more than 197 steps left that nobody holds
 -- up; and that a listener which was just added waits.
-use Rattle.std.proofs.Common.{◌≡◌, ℕ, ◌+◌, ◌*◌, ◌^◌, ◌≤◌, ◌<◌, true, List, [], ◌∷◌, ◌++◌, map, length, slice_get, Option, None, Some, sym, subst}
+use Rattle.std.proofs.Common.{◌≡◌, ℕ, suc, ◌+◌, ◌*◌, ◌^◌, ◌≤◌, ◌<◌, true, List, [], ◌∷◌, ◌++◌, map, length, slice_get, Option, None, Some, refl, ap, sym, subst}
 use Rattle.concurrent_queue.specs.Queue.{Phase}
 use Rattle.event_listener.specs.Lists.{kind_of, listened}
 use Rattle.event_listener.specs.declared.key.Key.{Key}
@@ -16,7 +16,7 @@ use Rattle.channel_calls.specs.declared.stage.Stage.TheVariants.{Finished}
 use Rattle.channel_steps.specs.Count.{counted, brought_in, taken_out}
 use Rattle.channel_steps.specs.Left.{all_left}
 use Rattle.channel_steps.specs.Scene.{Under, Scene, sees, does, unless_ended, Known, AllKnown, IsBalanced, HoldNobodyUp, wanted_at, Steps, Shows}
-use Rattle.channel_steps.specs.Run.{Next, begun}
+use Rattle.channel_steps.specs.Run.{EachStep, end_of, Next, begun}
 use Rattle.channel_steps.specs.declared.party.Entry.{Entry}
 use Rattle.channel_steps.specs.declared.party.Party.{Party}
 use Rattle.channel_steps.specs.declared.run.Step.{Step}
@@ -29,6 +29,35 @@ use Rattle.channel_steps.proofs.IdleFacts as idle_facts
 use Rattle.channel_steps.proofs.LineFacts as line_facts
 use Rattle.channel_steps.proofs.LoneFacts as lone_facts
 use Rattle.channel_steps.proofs.LoneFacts.{lone_after}
+
+-- ---- steps and their moments
+
+module _ {M X E : Type 0} (P : M → X → E → M → Type 0) where
+  -- steps after others, from the moment at which those end
+  pub each_on : (m : M) (xs : List X) (es : List E) (ns : List M) (ys : List X) (fs : List E) (os : List M)
+      → EachStep P m xs es ns → EachStep P (end_of m ns) ys fs os → EachStep P m (xs ++ ys) (es ++ fs) (ns ++ os)
+  each_on m [] [] [] ys fs os h k = k
+  each_on m (x ∷ xs) (e ∷ es) (n ∷ ns) ys fs os h k = (h.0, each_on n xs es ns ys fs os h.1 k)
+  each_on m [] [] (n ∷ ns) ys fs os h k = absurd h
+  each_on m [] (e ∷ es) ns ys fs os h k = absurd h
+  each_on m (x ∷ xs) [] ns ys fs os h k = absurd h
+  each_on m (x ∷ xs) (e ∷ es) [] ys fs os h k = absurd h
+
+  -- there are as many entries
+  pub each_entry : (m : M) (xs : List X) (es : List E) (ns : List M) → EachStep P m xs es ns → length es ≡ length xs
+  each_entry m [] [] [] h = refl
+  each_entry m (x ∷ xs) (e ∷ es) (n ∷ ns) h = ap (λ k. suc k) (each_entry n xs es ns h.1)
+  each_entry m [] [] (n ∷ ns) h = absurd h
+  each_entry m [] (e ∷ es) ns h = absurd h
+  each_entry m (x ∷ xs) [] ns h = absurd h
+  each_entry m (x ∷ xs) (e ∷ es) [] h = absurd h
+
+module _ {M : Type 0} where
+  pub end_on : (m : M) (ns os : List M) → end_of m (ns ++ os) ≡ end_of (end_of m ns) os
+  end_on m [] os = refl
+  end_on m (n ∷ ns) os = end_on n ns os
+
+-- ---- scenes
 
 module _ {T W : Type 0} where
   own : (c : Channel T W) (u : Under T W) (m : Mark) (d : Channel T W) (names : List W) (at : Stage (Phase T) T W)

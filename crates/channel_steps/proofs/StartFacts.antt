@@ -10,7 +10,7 @@ use Rattle.channel_calls.specs.Parts.{Parts, Roster, new_roster}
 use Rattle.channel_steps.specs.declared.party.Party.{Party}
 use Rattle.channel_steps.specs.Run.{new_scene}
 use Rattle.channel_steps.specs.Scene.{Scene, Sitting, under_of, Shows}
-use Rattle.channel_steps.specs.Start.{CountsCalls, IsQuietOrNot, TellsQuiet}
+use Rattle.channel_steps.specs.Start.{IsQuietOrNot, TellsQuiet}
 
 long_as : {A B : Type 0} (g : A → B) (xs : List A) → length (map g xs) ≡ length xs
 long_as g [] = refl
@@ -34,13 +34,14 @@ module _ {T W : Type 0} where
         balanced = refl;
       }
 
-  pub counts : (parties : List (Party T W)) (n : ℕ) → n ≡ length parties → CountsCalls parties n
-  counts parties n e parts s sh =
-      e ∙ (ap length sh.parties_are ∙ (long_as (λ (x : Sitting T W). x.party) sh.sittings ∙ (sym (long_as under_of sh.sittings) ∙ sym (ap length sh.under_way))))
+  -- as many calls are under way as there are parties
+  counts : (parties : List (Party T W)) (parts : Parts T W) (s : Scene T W) → Shows parts parties s → length parties ≡ length s.under_way
+  counts parties parts s sh =
+      ap length sh.parties_are ∙ (long_as (λ (x : Sitting T W). x.party) sh.sittings ∙ (sym (long_as under_of sh.sittings) ∙ sym (ap length sh.under_way)))
 
   none_or_some : (n : ℕ) (b : Bool) (s : Scene T W) → n ≡ length s.under_way → (n == 0) ≡ b → IsQuietOrNot s b
   none_or_some n true s e f = no_items s.under_way (grind (arith, nat_tests))
   none_or_some n false s e f = λ none. (let k : length s.under_way ≡ 0 = ap length none in absurd (grind (arith, nat_tests)))
 
   pub quiet : (parties : List (Party T W)) (b : Bool) → (length parties == 0) ≡ b → TellsQuiet parties b
-  quiet parties b f parts s sh = none_or_some (length parties) b s (counts parties (length parties) refl parts s sh) f
+  quiet parties b f parts s sh = none_or_some (length parties) b s (counts parties parts s sh) f

@@ -1,6 +1,6 @@
 -- Runs: what may follow from steps of many parties in any order.
-use Rattle.std.specs.Prelude.{◌≡◌, ℕ, ◌+◌, ◌<◌, ◌^◌, List, [], ◌∷◌, ◌++◌, Option, None, Some, length, ◌⊎◌}
-use Rattle.concurrent_queue.specs.Queue.{Queue, Phase, IsInRange}
+use Rattle.std.specs.Prelude.{◌≡◌, ℕ, ◌+◌, ◌<◌, ◌^◌, List, [], ◌∷◌, ◌++◌, Option, None, Some, ◌⊎◌}
+use Rattle.concurrent_queue.specs.Queue.{Queue, Phase}
 use Rattle.event_listener.specs.Notices.{Woken}
 use Rattle.channel_calls.specs.Parts.{Parts}
 use Rattle.channel_calls.specs.Moves.{Channel, Turned, OnePlace, new_channel}
@@ -13,9 +13,20 @@ use Rattle.channel_steps.specs.declared.party.Party.{Party}
 use Rattle.channel_steps.specs.declared.party.Entry.{Entry}
 use Rattle.channel_steps.specs.declared.run.Step.{Step}
 use Rattle.channel_steps.specs.declared.run.Step.TheVariants as step
-use Rattle.channel_steps.specs.declared.run.Refusal.{Refusal}
-use Rattle.channel_steps.specs.declared.run.Refusal.TheVariants as refusal
-use Rattle.channel_steps.specs.Scene.{Under, Scene, Steps, Shows, HasParty, NoneHas}
+use Rattle.channel_steps.specs.Scene.{Under, Scene, Steps, Shows}
+
+module _ {M X E : Type 0} where
+  -- so it is of each of these steps, with its entry, from the moment before it to the one after it
+  abbrev pub EachStep : (M → X → E → M → Type 0) → M → List X → List E → List M → Type 0
+  EachStep P m [] [] [] = Unit {0}
+  EachStep P m (x ∷ xs) (e ∷ es) (n ∷ ns) = P m x e n × EachStep P n xs es ns
+  EachStep P m _ _ _ = ⊥
+
+module _ {M : Type 0} where
+  -- the moment at which they end
+  abbrev pub end_of : M → List M → M
+  end_of m [] = m
+  end_of m (n ∷ ns) = end_of n ns
 
 module _ {T : Type 0} where
   -- so many more messages may be accepted within the positions of a queue
@@ -26,19 +37,6 @@ module _ {T W : Type 0} where
   -- a channel that was just opened, with nobody at work
   abbrev pub new_scene : Option ℕ → Scene T W
   new_scene cap = record { now = new_channel cap; under_way = []; gone = []; came = [] }
-
-  -- why a step may be refused
-  abbrev pub MayRefuse : List (Party T W) → Step T W → Refusal → Type 0
-  MayRefuse parties (step.Begin p ask) refusal.Busy = (k : ℕ) × HasParty p parties k
-  MayRefuse parties (step.Begin p ask) refusal.NoMemory = Unit {0}
-  MayRefuse parties (step.Step p) refusal.Idle = NoneHas p parties
-  MayRefuse parties (step.Step p) refusal.NoMemory = Unit {0}
-  MayRefuse parties s why = ⊥
-
-  -- the step that was refused is in front
-  abbrev pub IsStoppedBy : List (Party T W) → List (Step T W) → Refusal → Type 0
-  IsStoppedBy parties [] why = ⊥
-  IsStoppedBy parties (s ∷ ss) why = MayRefuse parties s why
 
   -- a call that has made no step
   abbrev pub begun : ℕ → ChannelAsk T W → Stage (Phase T) T W → Channel T W → Under T W
@@ -91,29 +89,3 @@ module _ {T W : Type 0} where
     IsRun p s a (x ∷ xs) (e ∷ es) q t b =
         (o : Parts T W) × (m : Scene T W) × (c : S) × (names : List W) × Touches x p o × Next s x e names m × Woken wakes a names c × IsRun o m c xs es q t b
     IsRun p s a _ _ q t b = ⊥
-
-    -- a step that was made, in every scene that is shown
-    pub record Turned_to (x : Step T W) (parts : Parts T W) (a : S) (e : Entry T) (parts' : Parts T W) (parties' : List (Party T W)) (b : S) (s : Scene T W) : Type 0 where
-      pub names : List W
-      pub after : Scene T W
-      pub touches : Touches x parts parts'
-      pub next : Next s x e names after
-      pub woken : Woken wakes a names b
-      pub shown : Shows parts' parties' after
-
-    abbrev pub Turns : Step T W → Parts T W → List (Party T W) → S → Entry T → Parts T W → List (Party T W) → S → Type 0
-    Turns x parts parties a e parts' parties' b = (s : Scene T W) → IsInRange s.now.queue → Shows parts parties s → Turned_to x parts a e parts' parties' b s
-
-    -- a run of the first steps of a list, from any scene that was shown
-    pub record Ran (steps left : List (Step T W)) (parts : Parts T W) (a : S) (trace : List (Entry T)) (parts' : Parts T W) (parties' : List (Party T W)) (b : S) (s : Scene T W) : Type 0 where
-      pub made : List (Step T W)
-      pub last : Scene T W
-      pub first : steps ≡ made ++ left
-      pub run : IsRun parts s a made trace parts' last b
-      pub shown : Shows parts' parties' last
-      pub accounts : Accounts s last
-      pub range : HasRange (length left) last.now.queue
-
-    abbrev pub RanTo : List (Step T W) → List (Step T W) → Parts T W → List (Party T W) → S → List (Entry T) → Parts T W → List (Party T W) → S → Type 0
-    RanTo steps left parts parties a trace parts' parties' b =
-        (s : Scene T W) → HasRange (length steps) s.now.queue → Shows parts parties s → Ran steps left parts a trace parts' parties' b s

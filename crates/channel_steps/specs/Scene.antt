@@ -214,10 +214,6 @@ module _ {T W : Type 0} where
   abbrev pub HasParty : ℕ → List (Party T W) → ℕ → Type 0
   HasParty p parties k = (call : ChannelCall T W) × (slice_get parties k ≡ Some (record { id = p; call = call }))
 
-  -- this party has no call under way
-  abbrev pub NoneHas : ℕ → List (Party T W) → Type 0
-  NoneHas p parties = (k : ℕ) (q : Party T W) → slice_get parties k ≡ Some q → q.id ≡ p → ⊥
-
   abbrev pub parties_after : List (Party T W) → ℕ → Party T W → Option (Reply T) → List (Party T W)
   parties_after parties k q None = slice_set parties k q
   parties_after parties k q (Some r) = remove parties k

@@ -1,18 +1,14 @@
 -- What is asked of a channel between two steps.
-use Rattle.std.specs.Prelude.{◌≡◌, ℕ, Bool, true, false, List, [], length}
+use Rattle.std.specs.Prelude.{◌≡◌, Bool, true, false, List, []}
 use Rattle.channel_calls.specs.Parts.{Parts}
 use Rattle.channel_steps.specs.declared.party.Party.{Party}
 use Rattle.channel_steps.specs.Scene.{Scene, Shows}
 
 module _ {T W : Type 0} where
-  -- in every scene that the cells and the parties show, so many calls are under way
-  abbrev pub CountsCalls : List (Party T W) → ℕ → Type 0
-  CountsCalls parties n = (parts : Parts T W) (s : Scene T W) → Shows parts parties s → n ≡ length s.under_way
-
   abbrev pub IsQuietOrNot : Scene T W → Bool → Type 0
   IsQuietOrNot s true = s.under_way ≡ []
   IsQuietOrNot s false = s.under_way ≡ [] → ⊥
 
-  -- in every scene that they show, no call is under way, or one is
+  -- in every scene that the cells and the parties show, no call is under way, or one is
   abbrev pub TellsQuiet : List (Party T W) → Bool → Type 0
   TellsQuiet parties quiet = (parts : Parts T W) (s : Scene T W) → Shows parts parties s → IsQuietOrNot s quiet

@@ -1,9 +1,11 @@
-//! The parties of a channel, and one step of one of them.
+//! The parties of a channel: the beginning of a call, and one step of a call under way. [`Step`](crate::run::Step) names the two.
 
-ghost use Rattle.std.specs.Prelude.{◌≡◌, ◌<◌, vec_len, MatchOption};
+ghost use Rattle.std.specs.Prelude.{◌≡◌, ◌<◌, ◌++◌, ◌∷◌, [], vec_len, vec_capacity};
 ghost use Rattle.std.specs.List.{remove};
-ghost use Rattle.channel_steps.specs.Scene.{parties_in, unless_answered, StepsAt, HasParty, NoneHas, IsLeftBy};
+ghost use Rattle.channel_steps.specs.Run.{HasBegun};
+ghost use Rattle.channel_steps.specs.Scene.{parties_in, unless_answered, StepsAt, IsLeftBy};
 
+use channel_calls::ask::ChannelAsk;
 use channel_calls::call::ChannelCall;
 use channel_calls::cells::ChannelCells;
 use channel_calls::mark::Mark;
@@ -29,16 +31,34 @@ pub struct Entry<T> {
     pub kept: Option<Kept<T>>,
 }
 
-/// The place of this party's call among those under way.
-pub(crate) fn find<T, W>(parties: &Vec<Party<T, W>>, id: u32) -> Option<usize>
-    ensures { MatchOption result (NoneHas id parties.now.items) (λ k. HasParty id parties.now.items k) }
+/// Appends within the room that was taken.
+fn append<X: Drop>(items: &mut Vec<X>, item: X)
+    requires { vec_len items.old < vec_capacity items.old }
+    ensures { items.new.items ≡ items.old.items ++ item ∷ [] }
 {
-    for k in 0..parties.len() {
-        if parties[k].id == id {
-            return Some(k);
-        }
+    match items.push(item) {
+        Ok(()) => {}
+        Err(_) => unreachable!(),
     }
-    None
+}
+
+/// Begins a call, within the room that was taken for its party. No cell is touched, and nobody is woken. Own to this project.
+pub fn begin<T: Drop, W: Drop>(
+    parties: &mut Vec<Party<T, W>>,
+    party: u32,
+    ask: ChannelAsk<T, W>,
+) -> Entry<T>
+    requires room { vec_len parties.old < vec_capacity parties.old }
+    ensures begins { HasBegun party ask parties.old.items result parties.new.items }
+    ensures parties { parties_in parties.new.items ≡ parties_in parties.old.items ++ party ∷ [] }
+{
+    let call = ChannelCall::new(ask);
+    append(parties, Party { id: party, call });
+    Entry {
+        mark: Mark::Nothing,
+        reply: None,
+        kept: None,
+    }
 }
 
 /// Takes the k-th party out, whose call has answered, with what it leaves to its operation.

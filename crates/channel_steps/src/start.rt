@@ -6,7 +6,7 @@ ghost use Rattle.concurrent_queue.specs.Made.{CanBeMade};
 ghost use Rattle.channel_calls.specs.Plain.{parts_of};
 ghost use Rattle.channel_steps.specs.Scene.{Shows};
 ghost use Rattle.channel_steps.specs.Run.{new_scene};
-ghost use Rattle.channel_steps.specs.Start.{CountsCalls, TellsQuiet};
+ghost use Rattle.channel_steps.specs.Start.{TellsQuiet};
 
 use crate::party::Party;
 use channel_calls::plain::PlainChannel;
@@ -35,13 +35,6 @@ pub fn open_channel<T: Drop, W: Drop>(
         cells: PlainChannel::new(form, alloc)?,
         parties: Vec::new(alloc),
     })
-}
-
-/// How many calls are under way. Own to this project.
-pub fn under_way<T, W>(parties: &Vec<Party<T, W>>) -> usize
-    ensures { CountsCalls parties.now.items result }
-{
-    parties.len()
 }
 
 /// Whether no call is under way. Own to this project.

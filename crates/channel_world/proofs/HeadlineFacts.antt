@@ -8,13 +8,14 @@ use Rattle.channel_model.specs.declared.run.Stopped.{Stopped}
 use Rattle.channel_laws.specs.Ends.{SaysTheEnd, Replies}
 use Rattle.channel_laws.proofs.Interface.{stays_closed, stays_over, says_over, late_gives}
 use Rattle.channel_steps.specs.Moments.{Spent}
+use Rattle.channel_steps.specs.Run.{EachStep}
 use Rattle.channel_steps.specs.Scene.{Under, Scene, does}
 use Rattle.channel_steps.specs.declared.party.Entry.{Entry as ChannelEntry}
 use Rattle.channel_steps.specs.declared.run.Step.{Step as ChannelStep}
 use Rattle.channel_interleaving.specs.Kept.{AllKept}
 use Rattle.channel_interleaving.specs.Floor.{book_of, parts_in, messages_in, StandsIn, Stands}
 use Rattle.channel_interleaving.specs.Run.{Stops, channel_step}
-use Rattle.channel_interleaving.specs.Runs.{Moment, Holds, LeadsBy, EachStep, accepted_in, left_in, moment_of, RanTo}
+use Rattle.channel_interleaving.specs.Runs.{Moment, Holds, LeadsBy, accepted_in, left_in, moment_of, RanTo}
 use Rattle.channel_interleaving.specs.declared.floor.Floor.{Floor}
 use Rattle.channel_interleaving.specs.declared.step.Entry.{Entry}
 use Rattle.channel_interleaving.specs.declared.step.PartyId.{PartyId}

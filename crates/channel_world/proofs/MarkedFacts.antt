@@ -7,12 +7,13 @@ use Rattle.channel_calls.specs.declared.mark.Mark.TheVariants.{Nothing}
 use Rattle.channel_laws.specs.Marked.{brought_by, AddUp}
 use Rattle.channel_laws.proofs.MarkedFacts.{came_is, none_adds, both_add}
 use Rattle.channel_model.specs.declared.name.Waiter.{Waiter}
+use Rattle.channel_steps.specs.Run.{EachStep, end_of}
 use Rattle.channel_steps.specs.Scene.{Under, brought, gone_by, came_by}
 use Rattle.channel_steps.specs.declared.party.Entry.{Entry as ChannelEntry}
 use Rattle.channel_interleaving.proofs.Interface.{none_before}
 use Rattle.channel_interleaving.specs.Kept.{AllKept}
 use Rattle.channel_interleaving.specs.Owners.{All}
-use Rattle.channel_interleaving.specs.Runs.{Moment, LeadsBy, EachStep, end_of}
+use Rattle.channel_interleaving.specs.Runs.{Moment, LeadsBy}
 use Rattle.channel_interleaving.specs.declared.step.Entry.{Entry}
 use Rattle.channel_interleaving.specs.declared.step.Step.{Step}
 use Rattle.channel_interleaving.specs.declared.step.Step.TheVariants as step

@@ -7,11 +7,13 @@ use Rattle.channel_calls.specs.declared.reply.Reply.{Reply}
 use Rattle.channel_model.specs.declared.name.Waiter.{Waiter}
 use Rattle.channel_model.specs.declared.refusal.WorldRefusal.{WorldRefusal}
 use Rattle.channel_model.specs.declared.run.Stopped.{Stopped}
+use Rattle.channel_steps.specs.Run.{EachStep, end_of}
 use Rattle.channel_steps.specs.Scene.{Scene}
+use Rattle.channel_steps.proofs.Interface.{each_on, end_on}
 use Rattle.channel_interleaving.specs.Floor.{book_of, Stands}
 use Rattle.channel_interleaving.specs.Refusal.{step_refusal}
 use Rattle.channel_interleaving.specs.Run.{Book, Made, MayRefuse, Stops, ended, with_woken}
-use Rattle.channel_interleaving.specs.Runs.{Moment, LeadsBy, IsRun, RanTo, accepted_in, left_in, end_of, moment_of}
+use Rattle.channel_interleaving.specs.Runs.{Moment, LeadsBy, RanTo, accepted_in, left_in, moment_of}
 use Rattle.channel_interleaving.specs.declared.floor.Floor.{Floor}
 use Rattle.channel_interleaving.specs.declared.names.Agent.{Agent}
 use Rattle.channel_interleaving.specs.declared.step.Entry.{Entry}
@@ -45,19 +47,6 @@ every (Some r) p = p
 module _ {T : Type 0} where
   -- ---- one run after another
 
-  run_on : (m : Moment T) (xs : List (Step T)) (es : List (Entry T)) (ns : List (Moment T)) (ys : List (Step T)) (fs : List (Entry T))
-      (os : List (Moment T)) → IsRun m xs es ns → IsRun (end_of m ns) ys fs os → IsRun m (xs ++ ys) (es ++ fs) (ns ++ os)
-  run_on m [] [] [] ys fs os h k = k
-  run_on m (x ∷ xs) (e ∷ es) (n ∷ ns) ys fs os h k = (h.0, run_on n xs es ns ys fs os h.1 k)
-  run_on m [] [] (n ∷ ns) ys fs os h k = absurd h
-  run_on m [] (e ∷ es) ns ys fs os h k = absurd h
-  run_on m (x ∷ xs) [] ns ys fs os h k = absurd h
-  run_on m (x ∷ xs) (e ∷ es) [] ys fs os h k = absurd h
-
-  end_on : (m : Moment T) (ns os : List (Moment T)) → end_of m (ns ++ os) ≡ end_of (end_of m ns) os
-  end_on m [] os = refl
-  end_on m (n ∷ ns) os = end_on n ns os
-
   accepted_on : (es fs : List (Entry T)) → accepted_in (es ++ fs) ≡ accepted_in es + accepted_in fs
   accepted_on [] fs = omega arith
   accepted_on (e ∷ es) fs = let h = accepted_on es fs in omega (arith, h)
@@ -72,15 +61,15 @@ module _ {T : Type 0} where
       let r = a s k in
       let t = b r.last r.stands in
       let m : Moment T = moment_of f s in
-      let on : IsRun (end_of m r.moments) t.made more t.moments =
-      subst (λ (o : Moment T). IsRun o t.made more t.moments) (sym r.ends) t.run in
+      let on : EachStep LeadsBy (end_of m r.moments) t.made more t.moments =
+      subst (λ (o : Moment T). EachStep LeadsBy o t.made more t.moments) (sym r.ends) t.run in
       record {
         made = r.made ++ t.made;
         moments = r.moments ++ t.moments;
         last = t.last;
         first = ap (λ (l : List (Step T)). l ++ ys) (r.first ∙ append-nil r.made)
             ∙ (ap (λ (l : List (Step T)). r.made ++ l) t.first ∙ sym (append_assoc r.made t.made left));
-        run = run_on m r.made trace r.moments t.made more t.moments r.run on;
+        run = each_on LeadsBy m r.made trace r.moments t.made more t.moments r.run on;
         ends = end_on m r.moments t.moments ∙ (ap (λ (o : Moment T). end_of o t.moments) r.ends ∙ t.ends);
         stands = t.stands;
         accounts = accounts_both s r.last t.last r.accounts t.accounts;
@@ -119,7 +108,7 @@ module _ {T : Type 0} where
     pub moments : ns ≡ moment ∷ []
     pub by : LeadsBy m x entry moment
 
-  only : (m : Moment T) (x : Step T) (es : List (Entry T)) (ns : List (Moment T)) → IsRun m (x ∷ []) es ns → One m x es ns
+  only : (m : Moment T) (x : Step T) (es : List (Entry T)) (ns : List (Moment T)) → EachStep LeadsBy m (x ∷ []) es ns → One m x es ns
   only m x [] ns h = absurd h
   only m x (e ∷ es) [] h = absurd h
   only m x (e ∷ []) (n ∷ []) h = record { entry = e; moment = n; entries = refl; moments = refl; by = h.0 }
@@ -127,7 +116,7 @@ module _ {T : Type 0} where
   only m x (e ∷ f ∷ es) (n ∷ ns) h = absurd h.1
 
   -- and one of none has none
-  none : (m : Moment T) (es : List (Entry T)) (ns : List (Moment T)) → IsRun m [] es ns → es ≡ []
+  none : (m : Moment T) (es : List (Entry T)) (ns : List (Moment T)) → EachStep LeadsBy m [] es ns → es ≡ []
   none m [] ns h = refl
   none m (e ∷ es) ns h = absurd h
 
@@ -156,7 +145,7 @@ module _ {T : Type 0} where
       let r = ran s before.stands in
       let m : Moment T = moment_of old s in
       let made : r.made ≡ step.Step p ∷ [] = made_all (step.Step p) r.made left r.first used in
-      let o = only m (step.Step p) trace r.moments (subst (λ (l : List (Step T)). IsRun m l trace r.moments) made r.run) in
+      let o = only m (step.Step p) trace r.moments (subst (λ (l : List (Step T)). EachStep LeadsBy m l trace r.moments) made r.run) in
       let ends : o.moment ≡ moment_of new r.last =
       subst (λ (l : List (Moment T)). end_of m l ≡ moment_of new r.last) o.moments r.ends in
       let led : LeadsBy m (step.Step p) o.entry (moment_of new r.last) =
@@ -184,7 +173,7 @@ module _ {T : Type 0} where
       let r = ran before.scene before.stands in
       let m : Moment T = moment_of old before.scene in
       let f = first_of x y r.made ys r.first in
-      let no : trace ≡ [] = none m trace r.moments (subst (λ (l : List (Step T)). IsRun m l trace r.moments) f.0 r.run) in
+      let no : trace ≡ [] = none m trace r.moments (subst (λ (l : List (Step T)). EachStep LeadsBy m l trace r.moments) f.0 r.run) in
       let same : RanTo (x ∷ []) (x ∷ []) old trace new = subst (λ (l : List (Step T)). RanTo (x ∷ []) l old trace new) f.1 ran in
       let it : y ≡ x = cc f.1 in
       record {

@@ -1,9 +1,10 @@
 -- How many steps of a list were made, and where it stopped.
-use Rattle.std.proofs.Common.{arith, ◌≡◌, ◌+◌, ℕ, suc, List, [], ◌∷◌, length, Option, None, Some, IfSome, refl, ap, length-append}
+use Rattle.std.proofs.Common.{arith, ◌≡◌, ◌+◌, ℕ, List, [], ◌∷◌, length, Option, None, Some, IfSome, refl, ap, length-append}
 use Rattle.channel_model.specs.declared.run.Stopped.{Stopped}
+use Rattle.channel_steps.proofs.Interface.{each_entry}
 use Rattle.channel_interleaving.specs.Floor.{Stands}
 use Rattle.channel_interleaving.specs.Run.{Book, Stops}
-use Rattle.channel_interleaving.specs.Runs.{Moment, EachStep, RanTo}
+use Rattle.channel_interleaving.specs.Runs.{LeadsBy, RanTo}
 use Rattle.channel_interleaving.specs.declared.floor.Floor.{Floor}
 use Rattle.channel_interleaving.specs.declared.step.Entry.{Entry}
 use Rattle.channel_interleaving.specs.declared.step.Step.{Step}
@@ -21,21 +22,12 @@ module _ {T : Type 0} where
   place_is b [] made (Some s) stops = absurd stops
   place_is b (x ∷ left) made (Some s) stops = stops.0
 
-  each_entry : (P : Moment T → Step T → Entry T → Moment T → Type 0) (m : Moment T) (xs : List (Step T)) (es : List (Entry T)) (ns : List (Moment T))
-      → EachStep P m xs es ns → length es ≡ length xs
-  each_entry P m [] [] [] h = refl
-  each_entry P m (x ∷ xs) (e ∷ es) (n ∷ ns) h = ap (λ k. suc k) (each_entry P n xs es ns h.1)
-  each_entry P m [] [] (n ∷ ns) h = absurd h
-  each_entry P m [] (e ∷ es) ns h = absurd h
-  each_entry P m (x ∷ xs) [] ns h = absurd h
-  each_entry P m (x ∷ xs) (e ∷ es) [] h = absurd h
-
   -- the steps that were made and those that are left are all
   pub all_made : (steps left : List (Step T)) (old : Floor T) (trace : List (Entry T)) (new : Floor T) → RanTo steps left old trace new
       → Stands old → length trace + length left ≡ length steps
   all_made steps left old trace new ran before =
       let r = ran before.scene before.stands in
-      let entries = each_entry _ _ r.made trace r.moments r.run in
+      let entries = each_entry LeadsBy _ r.made trace r.moments r.run in
       let all = ap (λ (xs : List (Step T)). length xs) r.first in
       let both = length-append r.made left in
       omega (arith, entries, all, both)

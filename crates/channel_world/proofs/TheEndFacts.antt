@@ -5,13 +5,13 @@ use Rattle.channel_calls.specs.declared.reply.Reply.{Reply}
 use Rattle.channel_laws.specs.Over.{AllSpent}
 use Rattle.channel_model.specs.declared.name.Waiter.{Waiter}
 use Rattle.channel_steps.specs.Moments.{Spent}
-use Rattle.channel_steps.specs.Run.{begun as call_begun}
+use Rattle.channel_steps.specs.Run.{EachStep, begun as call_begun}
 use Rattle.channel_steps.specs.Scene.{Under, sees, unless_ended}
 use Rattle.channel_interleaving.proofs.Interface.{none_of}
 use Rattle.channel_interleaving.specs.Bookkeeping.{asks}
 use Rattle.channel_interleaving.specs.Kept.{AllKept}
 use Rattle.channel_interleaving.specs.Owners.{All, IsAmong}
-use Rattle.channel_interleaving.specs.Runs.{Moment, EachStep, LeadsBy}
+use Rattle.channel_interleaving.specs.Runs.{Moment, LeadsBy}
 use Rattle.channel_interleaving.specs.declared.step.Entry.{Entry}
 use Rattle.channel_interleaving.specs.declared.step.Step.{Step}
 use Rattle.channel_interleaving.specs.declared.step.Step.TheVariants as step

@@ -2,13 +2,14 @@
 use Rattle.std.specs.Prelude.{◌≡◌, List, [], ◌++◌, length, Option}
 use Rattle.channel_interleaving.specs.Floor.{book_of, StandsIn}
 use Rattle.channel_interleaving.specs.Run.{Stops}
-use Rattle.channel_interleaving.specs.Runs.{Moment, EachStep, end_of, moment_of}
+use Rattle.channel_interleaving.specs.Runs.{Moment, moment_of}
 use Rattle.channel_interleaving.specs.declared.floor.Floor.{Floor}
 use Rattle.channel_interleaving.specs.declared.step.Entry.{Entry}
 use Rattle.channel_interleaving.specs.declared.step.Step.{Step}
 use Rattle.channel_model.specs.declared.name.Waiter.{Waiter}
 use Rattle.channel_model.specs.declared.run.Stopped.{Stopped}
 use Rattle.channel_steps.specs.Moments.{Spent}
+use Rattle.channel_steps.specs.Run.{EachStep, end_of}
 use Rattle.channel_steps.specs.Scene.{Scene}
 use Rattle.channel_laws.specs.Marked.{AddUp}
 use Rattle.channel_world.specs.Marked.{all_taken, all_brought}

@@ -1,5 +1,5 @@
--- From the exact step of the machine, among the parties that a run keeps.
-use Rattle.channel_laws.proofs.Bridge.{merges_are_runs}
+-- From what every merge keeps.
+use Rattle.channel_laws.proofs.BridgeHeadline.{merges_are_runs}
 use Rattle.channel_laws.proofs.laws.merges_are_runs.Goals as goal
 
 pub returns : goal.returns
