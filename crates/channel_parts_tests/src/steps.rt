@@ -113,12 +113,7 @@ impl<C: ChannelCells<u64, u32> + Drop> Fixture<C> {
         if self.parties.is_empty() {
             return None;
         }
-        Some(step_at(
-            &mut self.parties,
-            0,
-            &mut self.cells,
-            &mut self.names,
-        ))
+        Some(step_at(&mut self.parties, 0, &mut self.cells, &mut self.names))
     }
 
     /// A call that is begun and makes so many steps. What the last one did.
@@ -187,11 +182,7 @@ fn entries_say_what_their_steps_did(rt: HostRuntime) -> Result<(), Fail> {
     let mut all = make_fixture(one_slot(rt.alloc())?.cells, rt.alloc());
     let begun = marked(all.begin(ChannelAsk::TrySend(5)));
     let first = marked(all.step());
-    let told = [
-        marked(all.step()),
-        marked(all.step()),
-        marked(all.step()),
-    ];
+    let told = [marked(all.step()), marked(all.step()), marked(all.step())];
     let going = is_quiet(&all.parties);
     let last = marked(all.step());
     let quiet = is_quiet(&all.parties);
