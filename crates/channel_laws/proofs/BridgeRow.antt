@@ -1,5 +1,5 @@
 -- Two clones of a sender, merged.
-use Rattle.std.proofs.Common.{◌≡◌, ℕ, ◌==◌, Bool, true, false, [], None, Some, refl, subst}
+use Rattle.std.proofs.Common.{◌≡◌, ℕ, ◌==◌, ◌<◌, ◌^◌, Bool, true, false, [], None, Some, inr, refl, subst, arith}
 use Rattle.concurrent_queue.specs.declared.cells.QueueForm.{QueueForm}
 use Rattle.concurrent_queue.proofs.Callers.{is_same}
 use Rattle.channel_calls.specs.Marks.{up}
@@ -91,4 +91,6 @@ module _ (T W : Type 0) (form : QueueForm) where
       )
 
 pub two_clones_merge : (T W S : Type 0) (wakes : S → W → S → Type 0) → TwoClonesMerge T W S wakes
-two_clones_merge T W S wakes form sink = (λ p. each T W form p (1 == p) (2 == p) refl refl, in_turn T W form wakes sink)
+two_clones_merge T W S wakes form sink =
+    let few : 8 < 2 ^ 61 = omega arith in
+    (inr few, λ p. each T W form p (1 == p) (2 == p) refl refl, in_turn T W form wakes sink)

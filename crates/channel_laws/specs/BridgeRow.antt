@@ -1,5 +1,5 @@
 -- A merge of two calls: two clones of a sender, which race for the count.
-use Rattle.std.specs.Prelude.{ℕ, ◌==◌, true, false, List, [], ◌∷◌, if◌then◌else◌, None}
+use Rattle.std.specs.Prelude.{ℕ, ◌==◌, true, false, List, [], ◌∷◌, length, if◌then◌else◌, None}
 use Rattle.concurrent_queue.specs.declared.cells.QueueForm.{QueueForm}
 use Rattle.channel_calls.specs.Deeds.{counted, raised}
 use Rattle.channel_calls.specs.Parts.{Parts, new_roster, with_count, with_roster}
@@ -7,7 +7,7 @@ use Rattle.channel_calls.specs.Turns.{nothing_kept}
 use Rattle.channel_calls.specs.declared.ask.ChannelAsk.TheVariants.{CloneHandle}
 use Rattle.channel_calls.specs.declared.reply.Reply.TheVariants.{Made}
 use Rattle.channel_calls.specs.declared.stage.Side.TheVariants.{Senders}
-use Rattle.channel_laws.specs.Bridge.{Happening, begins, does, on_roster, Given, Acts, own, opened_parts, InOneOrder}
+use Rattle.channel_laws.specs.Bridge.{Happening, begins, does, on_roster, Given, Acts, own, opened_parts, InOneOrder, LastsFor}
 
 module _ {T W : Type 0} where
   -- both read one; the first finds two where it would raise one, reads again and raises two
@@ -39,4 +39,6 @@ module _ {T : Type 0} where
 abbrev pub TwoClonesMerge : (T W S : Type 0) → (S → W → S → Type 0) → Type 0
 TwoClonesMerge T W S wakes =
     (form : QueueForm) (sink : S)
-    → ((p : ℕ) → Acts {T = T} {W = W} form None (own p two_clones) (both_made p)) × InOneOrder {T = T} wakes two_clones (opened_parts form, sink) (parts_of_three form, sink)
+    → (let events : List (Happening T W) = two_clones in LastsFor (length events) form)
+    × ((p : ℕ) → Acts {T = T} {W = W} form None (own p two_clones) (both_made p))
+    × InOneOrder {T = T} wakes two_clones (opened_parts form, sink) (parts_of_three form, sink)

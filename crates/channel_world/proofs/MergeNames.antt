@@ -2,11 +2,12 @@
 use Rattle.std.proofs.Common.{◌≡◌, List, [], ◌∷◌, None, refl}
 use Rattle.concurrent_queue.specs.Capacity.{capacity_of}
 use Rattle.channel_model.specs.declared.name.Waiter.{Waiter}
+use Rattle.channel_steps.specs.Run.{EachStep}
 use Rattle.channel_steps.specs.declared.party.Entry.{Entry}
 use Rattle.channel_steps.specs.declared.run.Step.{Step as ChannelStep}
 use Rattle.channel_steps.specs.declared.run.Step.TheVariants as channel
 use Rattle.channel_laws.specs.BridgeHeadline.{StepSays}
-use Rattle.channel_laws.specs.BridgeMoments.{Moment, EachStep, opened}
+use Rattle.channel_laws.specs.BridgeMoments.{Moment, opened}
 use Rattle.channel_laws.specs.Bridge.{steps_of}
 use Rattle.channel_interleaving.specs.AskedBy.{IsStepOf}
 use Rattle.channel_interleaving.specs.Kept.{NamesKept}
@@ -68,5 +69,5 @@ module _ {T S : Type 0} (wakes : S → Waiter → S → Type 0) where
 pub merges_by_names_are_runs : (T S : Type 0) (wakes : S → Waiter → S → Type 0) → MergesByNamesAreRuns T S wakes
 merges_by_names_are_runs T S wakes form events given sink last woken k begins =
     let kept = names_kept_first {T = T} (capacity_of form) in
-    let all = all_say wakes first_book (opened form sink) (steps_of events) k.trace k.moments kept k.each begins in
+    let all = all_say wakes first_book (opened form sink) (steps_of events) k.is.trace k.moments kept k.each begins in
     record { pages = all.0; at_first = names_owed_at first_book _ kept; each = all.1 }

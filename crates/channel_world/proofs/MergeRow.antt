@@ -47,4 +47,4 @@ module _ {T S : Type 0} (wakes : S → Waiter → S → Type 0) where
   first m (e ∷ es) (n ∷ ns) = (TryClone (record { 0 = 0 }) (record { 0 = 2 }), refl, inl refl, second n es ns)
 
 pub two_clones_by_names : (T S : Type 0) (wakes : S → Waiter → S → Type 0) → TwoClonesByNames T S wakes
-two_clones_by_names T S wakes form given sink last woken k = first wakes (opened form sink) k.trace k.moments
+two_clones_by_names T S wakes form given sink last woken k = first wakes (opened form sink) k.is.trace k.moments

@@ -77,11 +77,11 @@ module _ {T S : Type 0} (wakes : S → Waiter → S → Type 0) where
       {last : Parts T Waiter} {woken : S} (k : KeepsTheHeadline wakes form events given sink last woken) : Type 0 where
     pub pages : List (Page T)
     pub at_first : Owed {T = T} (sight_at first_roll (new_scene (capacity_of form)))
-    pub each : EachByNames first_book (opened form sink) pages (steps_of events) k.trace k.moments
+    pub each : EachByNames first_book (opened form sink) pages (steps_of events) k.is.trace k.moments
 
 -- a merge that keeps the headline, and whose begins are those of calls by names
 abbrev pub MergesByNamesAreRuns : (T S : Type 0) → (S → Waiter → S → Type 0) → Type 0
 MergesByNamesAreRuns T S wakes =
     (form : QueueForm) (events : List (Happening T Waiter)) (given : ℕ → List (Given T)) (sink : S) (last : Parts T Waiter) (woken : S)
     (k : KeepsTheHeadline wakes form events given sink last woken)
-    → BeginByNames wakes first_book (opened form sink) (steps_of events) k.trace k.moments → IsByNames wakes k
+    → BeginByNames wakes first_book (opened form sink) (steps_of events) k.is.trace k.moments → IsByNames wakes k

@@ -14,4 +14,4 @@ abbrev pub TwoClonesByNames : (T S : Type 0) → (S → Waiter → S → Type 0)
 TwoClonesByNames T S wakes =
     (form : QueueForm) (given : ℕ → List (Given T)) (sink : S) (last : Parts T Waiter) (woken : S)
     (k : KeepsTheHeadline wakes form two_clones given sink last woken)
-    → BeginByNames wakes first_book (opened form sink) (steps_of two_clones) k.trace k.moments
+    → BeginByNames wakes first_book (opened form sink) (steps_of two_clones) k.is.trace k.moments
