@@ -130,6 +130,8 @@ fn a_refused_step_stays_in_front(rt: HostRuntime) -> Result<(), Fail> {
     let mut list = VecDeque::new(rt.alloc());
     let _ = list.push_back(begin(1));
     let _ = list.push_back(begin(2));
+    let party = PartyId(0);
+    let _ = list.push_back(Step::Step { party });
     let stopped = world.run_steps(&mut list).stopped;
     let under_way = world.under_way();
     let front = sends(list.pop_front());
@@ -142,7 +144,7 @@ fn a_refused_step_stays_in_front(rt: HostRuntime) -> Result<(), Fail> {
         why: WorldRefusal::Busy,
     };
     expect_equal(&rt, &stopped, &Some(busy));
-    expect_equal(&rt, &(front, left, under_way), &(Some(2), 0, 1));
+    expect_equal(&rt, &(front, left, under_way), &(Some(2), 1, 1));
     expect_true(&rt, sent);
     Ok(())
 }
