@@ -202,7 +202,7 @@ module _ {T W : Type 0} where
     -- ---- a step on a list or a count
 
     worked : (w : Work T W) (x : IsAlone a c0 parts (Working w) so_far)
-        → (made : Made parts (Working w) names parts' stage' m r x.now x.at [] []) → AdvancesTo made.queue made.phase_now
+        → (made : Made parts (Working w) names parts' stage' m r x.fits.0 x.now x.at [] []) → AdvancesTo made.queue made.phase_now
     worked w x made =
         let e : Effect T W = record { channel = channel made.queue parts'; mark = m; woken = names } in
         let b : Backs (channel x.now parts) w e r (phase made.phase_now stage') =
@@ -215,7 +215,7 @@ module _ {T W : Type 0} where
           turn = b.turn;
           turned = b.turned;
           idle = subst (λ (q : Queue T). IsIdle q) (sym same) x.idle;
-          fits = made.fits;
+          fits = (_, made.fits);
           place = x.place;
           capacity = ap (λ (q : Queue T). q.capacity) same ∙ x.capacity;
           accepted = (let n = ap (λ (q : Queue T). q.accepted) same in let k = x.accepted in omega (arith, n, k));
@@ -230,7 +230,7 @@ module _ {T W : Type 0} where
     -- ---- a step of the queue's call
 
     module _ (call : QueueCall T) (y : Aim T W) (x : IsAlone a c0 parts (Trying call y) so_far)
-        (made : Made parts (Trying call y) names parts' stage' m r x.now x.at [] []) where
+        (made : Made parts (Trying call y) names parts' stage' m r x.fits.0 x.now x.at [] []) where
       tried : Tried (channel x.now parts) x.at y (record { channel = channel made.queue parts'; mark = m; woken = names }) r
           (phase made.phase_now stage')
       tried = made.moves
@@ -257,7 +257,7 @@ module _ {T W : Type 0} where
             now = made.queue;
             at = made.phase_now;
             idle = x.idle;
-            fits = made.fits;
+            fits = (_, made.fits);
             known = subst (λ (z : Stage (QueueCall T) T W). At x.from made.phase_now z made.queue) (sym e)
                 (subst (λ (g : Phase T). Comes x.from made.queue g) (sym same)
                 (subst (λ (q : Queue T). Comes x.from q f') (sym queue_now)
@@ -295,10 +295,10 @@ module _ {T W : Type 0} where
             turn = answered_next y z;
             turned = turned;
             idle = record {
-              balanced = (shows parts'.cells made.queue (seats made.phase_now stage' ++ []) made.fits).balance;
+              balanced = (shows parts'.cells made.queue (seats made.phase_now stage' ++ []) (_, made.fits)).balance;
               nothing_comes = found.nothing_comes;
             };
-            fits = made.fits;
+            fits = (_, made.fits);
             place = x.place;
             capacity = found.capacity ∙ x.capacity;
             accepted = (let n = found.accepted in let k = most_one (brought_by z) (brought_by_is z) in let e = unspent_yet in
@@ -337,7 +337,7 @@ module _ {T W : Type 0} where
     Next = (IsAlone a c0 parts' stage' (so_far ++ names) × (r ≡ None)) ⊎ Advances a c0 parts' stage' (so_far ++ names) r
 
     by_how : (call : QueueCall T) (y : Aim T W) (x : IsAlone a c0 parts (Trying call y) so_far)
-        (made : Made parts (Trying call y) names parts' stage' m r x.now x.at [] []) (mark : QueueMark)
+        (made : Made parts (Trying call y) names parts' stage' m r x.fits.0 x.now x.at [] []) (mark : QueueMark)
         → mark ≡ (tried call y x made).mark
         → ((f' : Phase T) × Continues x.now x.at mark f' × (r ≡ None) × (phase made.phase_now stage' ≡ Trying f' y))
         ⊎ ((z : QueueReply T) × Answers x.now x.at mark z × Turned (answered_next y z) r (phase made.phase_now stage'))
@@ -350,7 +350,7 @@ module _ {T W : Type 0} where
 
     -- the queue and the phase after a step are those to which it leads
     pub next : (stage : Stage (QueueCall T) T W) (x : IsAlone a c0 parts stage so_far)
-        → (made : Made parts stage names parts' stage' m r x.now x.at [] []) → StepsTo made.queue made.phase_now
+        → (made : Made parts stage names parts' stage' m r x.fits.0 x.now x.at [] []) → StepsTo made.queue made.phase_now
     next (Trying call y) x made = by_how call y x made (tried call y x made).mark refl (tried call y x made).how
     next (Working w) x made = inr (worked w x made)
     next (Finished kept) x made = absurd x.known
@@ -374,8 +374,8 @@ module _ {T W : Type 0} where
     in_range (Finished kept) x = absurd x.known
 
     pub made_by : (stage : Stage (QueueCall T) T W) (x : IsAlone a c0 parts stage so_far)
-        → IsStepOver parts stage names parts' stage' m r → Made parts stage names parts' stage' m r x.now x.at [] []
-    made_by stage x step = step x.now x.at [] [] (in_range stage x) x.fits
+        → IsStepOver parts stage names parts' stage' m r → Made parts stage names parts' stage' m r x.fits.0 x.now x.at [] []
+    made_by stage x step = step x.fits.0 x.now x.at [] [] (in_range stage x) x.fits.1
 
     pub step_next : (stage : Stage (QueueCall T) T W) → IsAlone a c0 parts stage so_far
         → IsStepOver parts stage names parts' stage' m r → Next
@@ -388,7 +388,7 @@ module _ {T W : Type 0} where
     -- ---- the end is nearer
 
     hastened : (call : QueueCall T) (y : Aim T W) (x : IsAlone a c0 parts (Trying call y) so_far)
-        (made : Made parts (Trying call y) names parts' stage' m r x.now x.at [] [])
+        (made : Made parts (Trying call y) names parts' stage' m r x.fits.0 x.now x.at [] [])
         → Hastens parts.cells x.now x.at (Trying call y) parts'.cells r stage'
         → measure parts'.cells parts'.roster stage' < measure parts.cells parts.roster (Trying call y)
     hastened call y x made (inl (call', e, less)) =
@@ -404,10 +404,10 @@ module _ {T W : Type 0} where
         let turn = order_taken parts'.roster (answered_next y z) r stage' taken in
         let falls = answered_order parts'.roster y z in
         measure_falls parts.cells parts'.cells parts.roster parts'.roster (Trying call y) stage'
-        (near parts'.cells made.queue made.phase_now stage' made.fits) (omega (arith, same, turn, falls))
+        (near parts'.cells made.queue made.phase_now stage' (_, made.fits)) (omega (arith, same, turn, falls))
 
     nearer_by : (stage : Stage (QueueCall T) T W) (x : IsAlone a c0 parts stage so_far)
-        → Made parts stage names parts' stage' m r x.now x.at [] []
+        → Made parts stage names parts' stage' m r x.fits.0 x.now x.at [] []
         → measure parts'.cells parts'.roster stage' < measure parts.cells parts.roster stage
     nearer_by (Trying call y) x made = hastened call y x made (made.ends (tt, λ e. inr refl))
     nearer_by (Working w) x made =
@@ -418,7 +418,7 @@ module _ {T W : Type 0} where
         ∙ order_turned parts'.roster b.turn r (phase made.phase_now stage') b.turned in
         let falls = b.falls in
         measure_falls parts.cells parts'.cells parts.roster parts'.roster (Working w) stage'
-        (near parts'.cells made.queue made.phase_now stage' made.fits) (omega (arith, turn, falls))
+        (near parts'.cells made.queue made.phase_now stage' (_, made.fits)) (omega (arith, turn, falls))
     nearer_by (Finished kept) x made = absurd x.known
 
     pub step_nearer : (stage : Stage (QueueCall T) T W) → IsAlone a c0 parts stage so_far

@@ -1,7 +1,7 @@
 -- The steps of a call that is alone at work, one after another, from scene to scene.
 use Rattle.std.proofs.Common.{◌≡◌, ℕ, ◌+◌, ◌≤◌, List, [], ◌∷◌, ◌++◌, map, length, append-nil, append_assoc, Option, None, Some, inl, inr, refl, sym, ap, ◌∙◌, subst, arith}
 use Rattle.concurrent_queue.specs.Queue.{Queue, Phase}
-use Rattle.concurrent_queue.specs.Step.{Seat, Fits}
+use Rattle.concurrent_queue.specs.Step.{Seat, Fits, FitsAt}
 use Rattle.concurrent_queue.specs.declared.queue_call.QueueCall.{QueueCall}
 use Rattle.concurrent_queue.proofs.Interface.{shows}
 use Rattle.event_listener.specs.Notices.{Woken}
@@ -21,8 +21,8 @@ use Rattle.channel_steps.specs.declared.run.Step.TheVariants as step
 use Rattle.channel_steps.specs.Count.{counted}
 use Rattle.channel_steps.specs.Run.{Begins}
 use Rattle.channel_steps.specs.Run as steps
-use Rattle.channel_steps.specs.Scene.{Under, Scene, Sitting, does, under_of, all_seats, Known, AllKnown, IsBalanced, Steps, Shows}
-use Rattle.channel_steps.proofs.Interface.{known_next, after_lone, lone_goes, lone_ends, messages_counted, messages_moved}
+use Rattle.channel_steps.specs.Scene.{Under, Scene, Sitting, blocks_after, does, under_of, all_seats, Known, AllKnown, IsBalanced, Steps, Shows}
+use Rattle.channel_steps.proofs.Interface.{known_next, fits_after, none_after, after_lone, lone_goes, lone_ends, messages_counted, messages_moved}
 use Rattle.channel_alone.specs.Alone.{Outcome, Alone, after_waking, answers}
 use Rattle.channel_alone.specs.Run.{HasPosition}
 use Rattle.channel_alone.specs.Scenes.{Goes, names_of_all, RanInScenes, RunsInScenes}
@@ -56,8 +56,11 @@ module _ {T W : Type 0} where
 
   module _ (parts : Parts T W) (s : Scene T W) (sh : Shows parts [] s) where
     at_rest : Fits parts.cells sh.queue []
-    at_rest = subst (λ (xs : List (Sitting T W)). Fits parts.cells sh.queue (all_seats xs))
-        (nobody sh.sittings sh.parties_are) sh.fits
+    at_rest = (
+      s.blocks,
+      subst (λ (xs : List (Sitting T W)). FitsAt s.blocks parts.cells sh.queue (all_seats xs))
+          (nobody sh.sittings sh.parties_are) sh.fits,
+    )
 
     none_under_way : s.under_way ≡ []
     none_under_way = sh.under_way ∙ ap (λ (xs : List (Sitting T W)). map under_of xs) (nobody sh.sittings sh.parties_are)
@@ -95,7 +98,7 @@ module _ {T W : Type 0} where
         → Between a s p start messages0 parts0 stage [] messages0
     begins_between stage t y =
         let mine : Under T W = steps.begun p a (phase t.at stage) s.now in
-        let after : Scene T W = record { now = s.now; under_way = mine ∷ []; gone = s.gone; came = s.came } in
+        let after : Scene T W = record { now = s.now; blocks = s.blocks; under_way = mine ∷ []; gone = s.gone; came = s.came } in
         let entry : Entry T = record { mark = Nothing; reply = None; kept = None } in
         let begins : Begins s p a entry after =
         record {
@@ -104,6 +107,7 @@ module _ {T W : Type 0} where
           answer = None;
           turned = t.turned;
           now = refl;
+          blocks = refl;
           under_way = ap (λ (us : List (Under T W)). us ++ mine ∷ []) (sym (none_under_way parts0 s sh));
           gone = refl;
           came = refl;
@@ -146,7 +150,11 @@ module _ {T W : Type 0} where
         (x : Between a s p start messages0 parts stage so_far messages) (parts' : Parts T W) (stage' : Stage (QueueCall T) T W)
         (m : Mark) (names : List W) where
       abbrev MadeOne : Option (Reply T) → Type 0
-      MadeOne r = Made parts stage names parts' stage' m r x.alone.now x.alone.at [] []
+      MadeOne r = Made parts stage names parts' stage' m r x.alone.fits.0 x.alone.now x.alone.at [] []
+
+      -- the blocks after it
+      abbrev blocks_now : List ℕ
+      blocks_now = blocks_after parts'.cells.form x.alone.fits.0 parts.cells parts'.cells
 
       moves_there : (r : Option (Reply T)) (made : MadeOne r)
           → Moves x.mid.now x.mine.at (record { channel = channel made.queue parts'; mark = m; woken = names }) r
@@ -194,11 +202,11 @@ module _ {T W : Type 0} where
       goes_between made y =
           let d : Channel T W = channel made.queue parts' in
           let at_now : Stage (Phase T) T W = phase made.phase_now stage' in
-          let after : Scene T W = after_lone x.mid x.mine at_now m None d in
+          let after : Scene T W = after_lone x.mid x.mine at_now m None blocks_now d in
           let e : Entry T = record { mark = m; reply = None; kept = None } in
           let n : Steps x.mid p e names after =
           subst (λ (i : ℕ). Steps x.mid i e names after) x.whose
-          (lone_goes x.mid x.mine x.only x.known x.balanced m names d at_now (moves_there None made)) in
+          (lone_goes x.mid x.mine x.only x.known x.balanced m names blocks_now d at_now (moves_there None made)) in
           let k : AllKnown after.now after.under_way × IsBalanced after.now.queue = follows e after n in
           record {
             alone = y.0;
@@ -245,15 +253,14 @@ module _ {T W : Type 0} where
             let o : Outcome T W = after_waking (so_far ++ names) (answers y e.kept (channel z.0.queue parts')) in
             let d : Channel T W = channel made.queue parts' in
             let at_now : Stage (Phase T) T W = phase made.phase_now stage' in
-            let after : Scene T W = after_lone x.mid x.mine at_now m (Some y) d in
+            let after : Scene T W = after_lone x.mid x.mine at_now m (Some y) blocks_now d in
             let last : Entry T = record { mark = m; reply = Some y; kept = Some kept } in
             let n : Steps x.mid p last names after =
             subst (λ (i : ℕ). Steps x.mid i last names after) x.whose
-            (lone_ends x.mid x.mine x.only x.known x.balanced m names d at_now y kept
+            (lone_ends x.mid x.mine x.only x.known x.balanced m names blocks_now d at_now y kept
             (λ k there. left ∙ (let g = finished_kept made.phase_now stage' k there in g.0)) (moves_there (Some y) made)) in
             let k : AllKnown after.now after.under_way × IsBalanced after.now.queue = follows last after n in
-            let empty : Fits parts'.cells z.0.queue [] =
-            subst (λ (ss : List (Seat T)). Fits parts'.cells z.0.queue (ss ++ [])) f.1 z.0.fits in
+            let none : seats made.phase_now stage' ≡ [] = subst (λ (g : Phase T). seats g stage' ≡ []) z.2 f.1 in
             let from : s.now ≡ start = sh.now in
             record {
               outcome = o;
@@ -283,7 +290,9 @@ module _ {T W : Type 0} where
                 parties_are = refl;
                 under_way = refl;
                 now = refl;
-                fits = subst (λ (q : Queue T). Fits parts'.cells q []) z.1 empty;
+                fits = subst (λ (ss : List (Seat T)). FitsAt blocks_now parts'.cells made.queue (ss ++ [])) none
+                    (fits_after x.alone.fits.0 parts.cells parts'.cells made.queue (seats made.phase_now stage' ++ []) made.fits);
+                bare = none_after parts'.cells.form x.alone.fits.0 parts.cells parts'.cells;
                 known = tt;
                 balanced = k.1;
               };

@@ -2,7 +2,8 @@
 use Rattle.std.proofs.Common.{◌≡◌, ℕ, ◌+◌, ◌-◌, Bool, true, false, if◌then◌else◌, List, [], ◌++◌, Option, None, Some, Ok, Err, inl, inr, refl, sym, ap, ◌∙◌, subst}
 use Rattle.concurrent_queue.specs.Contents.{Contents}
 use Rattle.concurrent_queue.specs.Queue.{Queue, Phase, after, asked}
-use Rattle.concurrent_queue.specs.Step.{Seat, Fits, mark_of, IsQueueStep}
+use Rattle.concurrent_queue.proofs.Callers.{itself}
+use Rattle.concurrent_queue.specs.Step.{Seat, FitsAt, chain_after, mark_of, IsQueueStep}
 use Rattle.concurrent_queue.specs.declared.queue_call.QueueCall.{QueueCall}
 use Rattle.concurrent_queue.specs.declared.call.QueueReply.{QueueReply}
 use Rattle.event_listener.specs.Lists.{listened, registration, removed, removed_wakes}
@@ -39,23 +40,23 @@ use Rattle.channel_calls.specs.Walks.{Marked, Heard, Leaves, WorkMakes, ChannelM
 
 module _ {T W : Type 0} where
   -- a turn that was taken: over cells that fit the other calls, the new call of the queue fits beside them
-  pub record Entered (turn : Turn T W) (cells : Contents T) (q : Queue T) (left right : List (Seat T)) (r : Option (Reply T)) (s : Stage (QueueCall T) T W) : Type 0 where
+  pub record Entered (turn : Turn T W) (blocks : List ℕ) (cells : Contents T) (q : Queue T) (left right : List (Seat T)) (r : Option (Reply T)) (s : Stage (QueueCall T) T W) : Type 0 where
     pub phase_now : Phase T
     pub turned : Turned turn r (phase phase_now s)
-    pub fits : Fits cells q (left ++ (seats phase_now s ++ right))
+    pub fits : FitsAt blocks cells q (left ++ (seats phase_now s ++ right))
 
-  module _ (cells : Contents T) (q : Queue T) (f : Phase T) (left right : List (Seat T)) (h : Fits cells q (left ++ right)) where
-    fits_beside : (s stage : Stage (QueueCall T) T W) → s ≡ stage → seats f stage ≡ [] → Fits cells q (left ++ (seats f s ++ right))
+  module _ (blocks : List ℕ) (cells : Contents T) (q : Queue T) (f : Phase T) (left right : List (Seat T)) (h : FitsAt blocks cells q (left ++ right)) where
+    fits_beside : (s stage : Stage (QueueCall T) T W) → s ≡ stage → seats f stage ≡ [] → FitsAt blocks cells q (left ++ (seats f s ++ right))
     fits_beside s stage e none =
         let same : seats f s ≡ [] = ap (λ (x : Stage (QueueCall T) T W). seats f x) e ∙ none in
-        subst (λ (ss : List (Seat T)). Fits cells q (left ++ (ss ++ right))) (sym same) h
+        subst (λ (ss : List (Seat T)). FitsAt blocks cells q (left ++ (ss ++ right))) (sym same) h
 
-    entered : (turn : Turn T W) (r : Option (Reply T)) (s : Stage (QueueCall T) T W) → IsTaken turn r s → Entered turn cells q left right r s
+    entered : (turn : Turn T W) (r : Option (Reply T)) (s : Stage (QueueCall T) T W) → IsTaken turn r s → Entered turn blocks cells q left right r s
     entered (Tries x aim) r s (call, starts, none, e) =
         record {
           phase_now = asked x;
           turned = (none, ap (λ (z : Stage (QueueCall T) T W). phase (asked x) z) e);
-          fits = subst (λ (z : Stage (QueueCall T) T W). Fits cells q (left ++ (seats (asked x) z ++ right))) (sym e) (h.0, starts h.0 cells q left right h.1);
+          fits = subst (λ (z : Stage (QueueCall T) T W). FitsAt blocks cells q (left ++ (seats (asked x) z ++ right))) (sym e) (starts blocks cells q left right h);
         }
     entered (Works w) r s (none, e) =
         record { phase_now = f; turned = (none, ap (λ (z : Stage (QueueCall T) T W). phase f z) e); fits = fits_beside s (Working w) e refl }
@@ -84,24 +85,24 @@ module _ {T W : Type 0} where
           ap (λ (c : Channel T W). let e : Effect T W = record { channel = c; mark = mark_of_queue (mark_of call'); woken = [] } in e) (roster_stays (after f (mark_of call') q) q roster)
 
       queue_goes : IsQueueStep parts.cells call parts'.cells call' None → IsStepOver parts (Trying call aim) [] parts' (Trying call' aim) (mark_of_queue (mark_of call')) None
-      queue_goes step q f left right range fits =
-          let s = step fits.0 q f left right range fits.1 in
+      queue_goes step blocks q f left right range fits =
+          let s = step blocks q f left right range fits in
           let d = s.effect in
           record {
             queue = after f (mark_of call') q;
             phase_now = d.0;
             one_place = inl (cells_only roster, s.one_cell);
-            fits = (_, d.2);
+            fits = d.2;
             ends = λ free. inl (call', refl, s.ends free);
             moves = record { mark = mark_of call'; effect = queue_effect q f; how = inl (d.0, d.1, refl, refl) };
           }
 
       queue_answers : (x : QueueReply T) (r : Option (Reply T)) (stage' : Stage (QueueCall T) T W) → IsQueueStep parts.cells call parts'.cells call' (Some x) → IsTaken (answered_next aim x) r stage'
           → IsStepOver parts (Trying call aim) [] parts' stage' (mark_of_queue (mark_of call')) r
-      queue_answers x r stage' step taken q f left right range fits =
-          let s = step fits.0 q f left right range fits.1 in
+      queue_answers x r stage' step taken blocks q f left right range fits =
+          let s = step blocks q f left right range fits in
           let d = s.effect in
-          let t = entered parts'.cells (after f (mark_of call') q) f left right (_, d.1) (answered_next aim x) r stage' taken in
+          let t = entered (chain_after blocks parts.cells parts'.cells) parts'.cells (after f (mark_of call') q) f left right d.1 (answered_next aim x) r stage' taken in
           record {
             queue = after f (mark_of call') q;
             phase_now = t.phase_now;
@@ -120,8 +121,14 @@ module _ {T W : Type 0} where
 
     -- ---- a step on a list or on a count
 
-    still_fits : (q : Queue T) (ss : List (Seat T)) → parts'.cells ≡ parts.cells → Fits parts.cells q ss → Fits parts'.cells q ss
-    still_fits q ss e h = subst (λ (c : Contents T). Fits c q ss) (sym e) h
+    same_blocks : (blocks : List ℕ) (c : Contents T) → chain_after blocks c c ≡ blocks
+    same_blocks blocks c = rw (itself c.tail_block) refl
+
+    still_fits : (blocks : List ℕ) (q : Queue T) (ss : List (Seat T)) → parts'.cells ≡ parts.cells → FitsAt blocks parts.cells q ss
+        → FitsAt (chain_after blocks parts.cells parts'.cells) parts'.cells q ss
+    still_fits blocks q ss e h =
+        subst (λ (c : Contents T). FitsAt (chain_after blocks parts.cells c) c q ss) (sym e)
+        (subst (λ (bs : List ℕ). FitsAt bs parts.cells q ss) (sym (same_blocks blocks parts.cells)) h)
 
     no_effect : (q : Queue T) → parts' ≡ parts
         → (let e : Effect T W = record { channel = channel q parts'; mark = Nothing; woken = [] } in e) ≡ untouched (channel q parts)
@@ -129,12 +136,12 @@ module _ {T W : Type 0} where
 
     -- a call that has answered
     rests : (kept : Kept T) → parts' ≡ parts → IsStepOver parts (Finished kept) [] parts' (Finished kept) Nothing None
-    rests kept e q f left right range fits =
+    rests kept e blocks q f left right range fits =
         record {
           queue = q;
           phase_now = f;
           one_place = inr (inl (Sends, parts.roster.sends, e));
-          fits = still_fits q (left ++ right) (ap (λ (p : Parts T W). p.cells) e) fits;
+          fits = still_fits blocks q (left ++ right) (ap (λ (p : Parts T W). p.cells) e) fits;
           ends = λ free. tt;
           moves = (no_effect q e, refl, refl);
         }
@@ -146,8 +153,8 @@ module _ {T W : Type 0} where
           → IsStepOver parts (Working work) names parts' next m r
       beside names m0 same one (e, takes) ok =
           subst (λ (x : Mark). IsStepOver parts (Working work) names parts' next x r) (sym e)
-          (λ q f left right range fits.
-          let t = entered parts'.cells q f left right (still_fits q (left ++ right) same fits) turn r next (taken_of turn next r takes) in
+          (λ blocks q f left right range fits.
+          let t = entered (chain_after blocks parts.cells parts'.cells) parts'.cells q f left right (still_fits blocks q (left ++ right) same fits) turn r next (taken_of turn next r takes) in
           record { queue = q; phase_now = t.phase_now; one_place = one; fits = t.fits; ends = λ free. tt; moves = ok q (phase t.phase_now next) t.turned })
 
       -- what follows from the effect of such a step

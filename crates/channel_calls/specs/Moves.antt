@@ -2,7 +2,7 @@
 use Rattle.std.specs.Prelude.{◌≡◌, ℕ, ◌+◌, ◌-◌, ◌<◌, true, if◌then◌else◌, List, [], ◌∷◌, ◌++◌, Option, None, Some, ◌⊎◌}
 use Rattle.concurrent_queue.specs.Contents.{Contents}
 use Rattle.concurrent_queue.specs.Queue.{Queue, Phase, opened, after, asked, Continues, Answers, IsInRange}
-use Rattle.concurrent_queue.specs.Step.{Seat, seat, Fits, Starts, OneCell, HoldsNobodyUp, phases, rank}
+use Rattle.concurrent_queue.specs.Step.{Seat, seat, FitsAt, chain_after, Starts, OneCell, HoldsNobodyUp, phases, rank}
 use Rattle.concurrent_queue.specs.declared.queue_call.QueueCall.{QueueCall}
 use Rattle.concurrent_queue.specs.declared.call.QueueMark.{QueueMark}
 use Rattle.concurrent_queue.specs.declared.call.QueueReply.{QueueReply}
@@ -182,20 +182,20 @@ module _ {T W : Type 0} where
       ⊎ ((x : QueueReply T) × (m : QueueMark) × Answers q f m x × IsTaken (answered_next aim x) r stage')
   Hastens c q f _ d r stage' = Unit {0}
 
-  -- one step over the queue q, beside any other calls of the queue
-  pub record Made (parts : Parts T W) (stage : Stage (QueueCall T) T W) (names : List W) (parts' : Parts T W) (stage' : Stage (QueueCall T) T W) (m : Mark) (r : Option (Reply T)) (q : Queue T) (f : Phase T) (left right : List (Seat T)) : Type 0 where
+  -- one step over the queue q, which has used these blocks, beside any other calls of the queue
+  pub record Made (parts : Parts T W) (stage : Stage (QueueCall T) T W) (names : List W) (parts' : Parts T W) (stage' : Stage (QueueCall T) T W) (m : Mark) (r : Option (Reply T)) (blocks : List ℕ) (q : Queue T) (f : Phase T) (left right : List (Seat T)) : Type 0 where
     pub queue : Queue T
     pub phase_now : Phase T
     pub one_place : OnePlace parts parts'
-    pub fits : Fits parts'.cells queue (left ++ (seats phase_now stage' ++ right))
+    pub fits : FitsAt (chain_after blocks parts.cells parts'.cells) parts'.cells queue (left ++ (seats phase_now stage' ++ right))
     pub ends : HoldsNobodyUp q (phases (left ++ right)) → Hastens parts.cells q f stage parts'.cells r stage'
     pub moves : Moves (channel q parts) (phase f stage) (record { channel = channel queue parts'; mark = m; woken = names }) r (phase phase_now stage')
 
-  -- for every queue, phase, and other calls of the queue that the cells may stand for
+  -- for every queue, its blocks, phase, and other calls of the queue that the cells may stand for
   abbrev pub IsStepOver : Parts T W → Stage (QueueCall T) T W → List W → Parts T W → Stage (QueueCall T) T W → Mark → Option (Reply T) → Type 0
   IsStepOver parts stage names parts' stage' m r =
-      (q : Queue T) (f : Phase T) (left right : List (Seat T)) → IsInRange q → Fits parts.cells q (left ++ (seats f stage ++ right))
-      → Made parts stage names parts' stage' m r q f left right
+      (blocks : List ℕ) (q : Queue T) (f : Phase T) (left right : List (Seat T)) → IsInRange q
+      → FitsAt blocks parts.cells q (left ++ (seats f stage ++ right)) → Made parts stage names parts' stage' m r blocks q f left right
 
   -- the same, with the tasks woken
   abbrev pub IsChannelStep : {S : Type 0} → (S → W → S → Type 0) → Parts T W → Stage (QueueCall T) T W → S → Parts T W → Stage (QueueCall T) T W → Mark → Option (Reply T) → S → Type 0

@@ -20,7 +20,7 @@ use Rattle.channel_steps.specs.Count.{counted, brought_in, taken_out}
 use Rattle.channel_steps.specs.Run.{end_of, new_scene, HasBegun, Begins}
 use Rattle.channel_steps.specs.Tellings.{telling, dropping}
 use Rattle.channel_steps.specs.Left.{left_at}
-use Rattle.channel_steps.specs.Scene.{Scene, Sitting, under_of, all_seats, IsBalanced, Shows, StepsAt, StepsNearer, parties_in, unless_answered, brought}
+use Rattle.channel_steps.specs.Scene.{Scene, Sitting, blocks_after, under_of, all_seats, IsBalanced, Shows, StepsAt, StepsNearer, parties_in, unless_answered, brought}
 use Rattle.channel_steps.specs.Scene.{Steps as ChannelSteps}
 use Rattle.channel_steps.specs.declared.party.Entry.{Entry as ChannelEntry}
 use Rattle.channel_steps.specs.declared.party.Party.{Party}
@@ -46,7 +46,7 @@ use Rattle.channel_interleaving.specs.declared.step.Entry.{Entry}
 use Rattle.channel_interleaving.specs.declared.step.Step.{Step}
 use Rattle.channel_interleaving.specs.declared.step.Step.TheVariants as step
 use Rattle.channel_interleaving.specs.declared.woken.Woken.{Woken as Sink}
-use Rattle.channel_steps.proofs.Interface.{each_on, end_on, few_left, messages_counted, messages_moved}
+use Rattle.channel_steps.proofs.Interface.{each_on, end_on, few_left, messages_counted, messages_moved, blocks_begun}
 use Rattle.channel_interleaving.specs.Kept.{AllKept}
 use Rattle.channel_interleaving.proofs.AccountFacts.{no_accounts, next_accounts}
 use Rattle.channel_interleaving.proofs.AllKept.{kept_first, kept_next}
@@ -172,6 +172,8 @@ module _ {T : Type 0} where
       record {
         after = b.after;
         touches = parts;
+        blocks = subst (λ (p : Parts T Waiter). b.after.blocks ≡ blocks_after p.cells.form s.blocks (parts_in old).cells p.cells) (sym parts)
+            (blocks_begun (parts_in old) old.parties.items s b.after sh.shows b.begins.blocks);
         made = record {
           not_refused = fine;
           kept = None;
@@ -238,7 +240,7 @@ module _ {T : Type 0} where
       same = sym (ap (λ (c : Channel T Waiter). c.queue.capacity) sh.now) ∙ (step_bounded s t p e names n).capacity
 
       most : length sh.queue.items ≤ 1
-      most = (shows (parts_in new).cells sh.queue (all_seats sh.sittings) sh.fits).within 1 (same ∙ one)
+      most = (shows (parts_in new).cells sh.queue (all_seats sh.sittings) (_, sh.fits)).within 1 (same ∙ one)
 
   -- those that were accepted after it, with those that may yet come
   counted_then : (old new : Floor T) (s : Scene T Waiter) (p : ℕ) (e : ChannelEntry T) (names : List Waiter) (t : Scene T Waiter)
@@ -302,6 +304,7 @@ module _ {T : Type 0} where
       record {
         after = h.after;
         touches = h.one_place;
+        blocks = h.blocks;
         made = record {
           not_refused = fine;
           kept = entry.kept;
@@ -351,6 +354,7 @@ module _ {T : Type 0} where
       let after = step_stands x f g e s k t in
       record {
         touches = t.touches;
+        blocks = t.blocks;
         made = t.made;
         nearer = comes_nearer x f g e s k t;
         holds = record {

@@ -10,7 +10,7 @@ use Rattle.channel_alone.specs.declared.run.Done.{Done}
 use Rattle.channel_model.specs.declared.call.Call.{Call}
 use Rattle.channel_model.specs.declared.name.Waiter.{Waiter}
 use Rattle.channel_model.specs.declared.run.Done.{Done as Answered}
-use Rattle.concurrent_queue.specs.Step.{Fits}
+use Rattle.concurrent_queue.specs.Step.{FitsAt}
 use Rattle.channel_steps.specs.Scene.{Under, Scene, Sitting, under_of, all_seats, Shows, parties_in}
 use Rattle.channel_steps.specs.Start.{TellsQuiet as Tells}
 use Rattle.channel_interleaving.specs.Bookkeeping.{asks}
@@ -72,7 +72,7 @@ module _ {T : Type 0} where
       let none = nobody sh.shows.sittings (sym sh.shows.parties_are ∙ quiet) in (
         q,
         subst (λ (x : Channel T Waiter). HasPosition x.queue) sh.shows.now (has_position f s sh),
-        subst (λ (xs : List (Sitting T Waiter)). Fits (parts_in f).cells q (all_seats xs)) none sh.shows.fits,
+        (s.blocks, subst (λ (xs : List (Sitting T Waiter)). FitsAt s.blocks (parts_in f).cells q (all_seats xs)) none sh.shows.fits),
       )
     where
       nobody : (xs : List (Sitting T Waiter)) → map (λ (x : Sitting T Waiter). x.party) xs ≡ [] → xs ≡ []

@@ -144,7 +144,7 @@ module _ {T : Type 0} where
     where
       same : s.now.queue.capacity ≡ capacity_of (parts_in f).cells.form
       same = ap (λ (c : Channel T Waiter). c.queue.capacity) sh.shows.now
-          ∙ (shows (parts_in f).cells sh.shows.queue (all_seats sh.shows.sittings) sh.shows.fits).limit
+          ∙ (shows (parts_in f).cells sh.shows.queue (all_seats sh.shows.sittings) (_, sh.shows.fits)).limit
 
       by : (cap : Option ℕ) → s.now.queue.capacity ≡ cap → is_some (capacity_of (parts_in f).cells.form) ≡ true
       by (Some n) e = ap (λ (o : Option ℕ). is_some o) (sym same ∙ e)

@@ -284,7 +284,7 @@ module _ {T : Type 0} where
         (pt.agent ∷ pt.back) (map (sees t.now) st.before) (does st.mine st.at_now m s.now t.now ∷ map (sees t.now) st.behind)
         front (own, back) in
         subst (λ (us : List (Under T Waiter)). Owned (with_woken names b)
-        (record { now = t.now; under_way = us; gone = t.gone; came = t.came })) (sym st.left) (
+        (record { now = t.now; blocks = t.blocks; under_way = us; gone = t.gone; came = t.came })) (sym st.left) (
         record {
           together = subst (λ (l : List (Agent T)). Together on_posts l on_after) (sym pt.are) all;
           differ = o.differ;
@@ -405,7 +405,7 @@ module _ {T : Type 0} where
         let back = together_sees t.now E2 pt.back st.behind
         (together_on E1 E2 pt.back st.behind (differ_keep E1 E2 pt.agent pt.back sd.last set.others) back1) in
         subst (λ (us : List (Under T Waiter)). Owned end_book
-        (record { now = t.now; under_way = us; gone = t.gone; came = t.came })) (sym st.left) (
+        (record { now = t.now; blocks = t.blocks; under_way = us; gone = t.gone; came = t.came })) (sym st.left) (
         record {
           together = together_join E2 pt.front pt.back (map (sees t.now) st.before) (map (sees t.now) st.behind) front back;
           differ = sd.rest;

@@ -239,9 +239,9 @@ module _ {T : Type 0} where
         let whole = accounted s.now s.now [] had had (HoldsIn P s.under_way) (HoldsIn P' calls) giver taker
         (still s.now.roster [] had) (inl refl) pass before in
         subst (λ (us : List (Under T Waiter)). Owned (begun q c b)
-        (record { now = t.now; under_way = us; gone = t.gone; came = t.came })) (sym n.under_way) (
+        (record { now = t.now; blocks = t.blocks; under_way = us; gone = t.gone; came = t.came })) (sym n.under_way) (
         subst (λ (d : Channel T Waiter). Owned (begun q c b)
-        (record { now = d; under_way = calls; gone = t.gone; came = t.came })) (sym n.now) (
+        (record { now = d; blocks = t.blocks; under_way = calls; gone = t.gone; came = t.came })) (sym n.now) (
         record {
           together = together_join P' b.agents (new_agent ∷ []) s.under_way (new_call ∷ [])
               (together_on P P' b.agents s.under_way (all_keep P P' b.agents s.under_way o.together keep) o.together) (

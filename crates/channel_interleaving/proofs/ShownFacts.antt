@@ -26,7 +26,7 @@ module _ {T : Type 0} where
   -- its queue has the capacity of its form
   pub capacity_is : (f : Floor T) (s : Scene T Waiter) → Shown f s → s.now.queue.capacity ≡ capacity_of (parts_in f).cells.form
   capacity_is f s sh =
-      let shown = shows (parts_in f).cells sh.shows.queue (all_seats sh.shows.sittings) sh.shows.fits in
+      let shown = shows (parts_in f).cells sh.shows.queue (all_seats sh.shows.sittings) (_, sh.shows.fits) in
       ap (λ (c : Channel T Waiter). c.queue.capacity) sh.shows.now ∙ shown.limit
 
   -- what shows one place has one place alone

@@ -130,7 +130,7 @@ module _ {T : Type 0} where
 
     closed_is_so : s.now.queue.closed ≡ closed_in (parts_in f).cells
     closed_is_so =
-        let shown = shows (parts_in f).cells sh.shows.queue (all_seats sh.shows.sittings) sh.shows.fits in
+        let shown = shows (parts_in f).cells sh.shows.queue (all_seats sh.shows.sittings) (_, sh.shows.fits) in
         ap (λ (q : Queue T). q.closed) shown_queue ∙ sym shown.flag
 
     by_role : (test : Doing → Bool) → count_by test f.doings.items ≡ count_by (λ (u : Under T Waiter). test (doing_of u)) s.under_way

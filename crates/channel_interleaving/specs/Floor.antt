@@ -10,7 +10,7 @@ use Rattle.channel_model.specs.declared.call.Call.{Call}
 use Rattle.channel_model.specs.declared.name.Waiter.{Waiter}
 use Rattle.channel_steps.specs.Left.{all_left, left_at}
 use Rattle.channel_steps.specs.Run.{new_scene, Accounts, Touches}
-use Rattle.channel_steps.specs.Scene.{Under, Scene, Shows, HoldNobodyUp, parties_in}
+use Rattle.channel_steps.specs.Scene.{Under, Scene, Shows, HoldNobodyUp, blocks_after, parties_in}
 use Rattle.channel_steps.specs.Tellings.{takings}
 use Rattle.channel_interleaving.specs.Doing.{doing_of}
 use Rattle.channel_interleaving.specs.Owed.{Sight, Owed, is_sending, is_receiving, all_unannounced}
@@ -151,6 +151,7 @@ module _ {T : Type 0} where
   pub record Stepped (x : Step T) (old : Floor T) (e : Entry T) (new : Floor T) (s : Scene T Waiter) : Type 0 where
     pub after : Scene T Waiter
     pub touches : Touches (channel_step old.roll x) (parts_in old) (parts_in new)
+    pub blocks : after.blocks ≡ blocks_after (parts_in new).cells.form s.blocks (parts_in old).cells (parts_in new).cells
     pub made : Made (book_of old) s x e (book_of new) after
     pub nearer : Nearer x old e new s after made
     pub shown : Shown new after

@@ -4,7 +4,7 @@ use Rattle.channel_calls.specs.Parts.{Parts}
 use Rattle.channel_model.specs.declared.name.Waiter.{Waiter}
 use Rattle.channel_steps.specs.Count.{brought_in, taken_out}
 use Rattle.channel_steps.specs.Run.{EachStep, end_of, Accounts, Touches}
-use Rattle.channel_steps.specs.Scene.{Scene, HoldNobodyUp}
+use Rattle.channel_steps.specs.Scene.{Scene, HoldNobodyUp, blocks_after}
 use Rattle.channel_interleaving.specs.Floor.{parts_in, book_of, StandsIn}
 use Rattle.channel_interleaving.specs.Kept.{AllKept}
 use Rattle.channel_interleaving.specs.Left.{left_of, others_of, wanted_of}
@@ -51,10 +51,11 @@ module _ {T : Type 0} where
   ComesNearer m (step.Step p) e n =
       e.reply ≡ None → HoldNobodyUp m.scene.now (others_of p.0 m.scene.under_way) → n.left p.0 < m.left p.0
 
-  -- a step leads from one moment to the next: nothing refused it, at most one cell, list or count differs after it, and its call
-  -- comes nearer to its end where the others let it
+  -- a step leads from one moment to the next: nothing refused it, at most one cell, list or count differs after it, the blocks are
+  -- those that it leaves, and its call comes nearer to its end where the others let it
   pub record LeadsBy (m : Moment T) (x : Step T) (e : Entry T) (n : Moment T) : Type 0 where
     pub touches : Touches (channel_step m.book.roll x) m.parts n.parts
+    pub blocks : n.scene.blocks ≡ blocks_after n.parts.cells.form m.scene.blocks m.parts.cells n.parts.cells
     pub made : Made m.book m.scene x e n.book n.scene
     pub nearer : ComesNearer m x e n
     pub holds : Holds n

@@ -165,6 +165,7 @@ module _ {T W S : Type 0} (wakes : S → W → S → Type 0) where
         next = l.next;
         woken = l.woken;
         call = says_call m x e n l k;
+        blocks = l.blocks;
         closed = stays_closed m.scene x e l.names n.scene l.next;
         over = stays_over m.scene x e l.names n.scene l.next;
         the_end = says_end m x e n l k;

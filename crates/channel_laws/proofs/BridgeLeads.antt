@@ -8,11 +8,12 @@ use Rattle.channel_calls.specs.Parts.{Parts}
 use Rattle.channel_calls.specs.declared.ask.ChannelAsk.{ChannelAsk}
 use Rattle.channel_calls.specs.declared.stage.Stage.{Stage}
 use Rattle.channel_steps.specs.Run.{EachStep, end_of, HasBegun, Touches, Next, HasRange, IsRun}
-use Rattle.channel_steps.specs.Scene.{Scene, HoldNobodyUp, Shows, StepsAt, HasParty, Under, Sitting, under_of}
+use Rattle.channel_steps.specs.Scene.{Scene, HoldNobodyUp, Shows, StepsAt, HasParty, Under, Sitting, under_of, blocks_after}
 use Rattle.channel_steps.specs.declared.party.Entry.{Entry}
 use Rattle.channel_steps.specs.declared.party.Party.{Party}
 use Rattle.channel_steps.specs.declared.run.Step.{Step}
 use Rattle.channel_steps.specs.declared.run.Step.TheVariants as step
+use Rattle.channel_steps.proofs.Interface.{blocks_begun}
 use Rattle.channel_steps.proofs.MoveFacts.{in_range}
 use Rattle.channel_steps.proofs.RunFacts.{next_range}
 use Rattle.channel_laws.specs.BridgeMoments.{Moment, left_to}
@@ -75,6 +76,7 @@ module _ {T W S : Type 0} (wakes : S → W → S → Type 0) where
     pub begins : MayBegin m x
     pub names : List W
     pub touches : Touches x m.parts n.parts
+    pub blocks : n.scene.blocks ≡ blocks_after n.parts.cells.form m.scene.blocks m.parts.cells n.parts.cells
     pub next : Next m.scene x e names n.scene
     pub woken : Woken wakes m.sink names n.sink
     pub shows : Shows n.parts n.parties n.scene
@@ -95,7 +97,7 @@ module _ {T W S : Type 0} (wakes : S → W → S → Type 0) where
       let b = begun c.0 s sh in
       record {
         scene = b.after;
-        leads = record { begins = idle s sh; names = []; touches = refl; next = (b.begins, refl); woken = refl; shows = b.shown; nearer = tt; only = tt };
+        leads = record { begins = idle s sh; names = []; touches = refl; blocks = blocks_begun c.0 parties s b.after sh b.begins.blocks; next = (b.begins, refl); woken = refl; shows = b.shown; nearer = tt; only = tt };
       }
 
   pub leads_stepped : (p : ℕ) (c : Parts T W × S) (parties : List (Party T W)) (e : Entry T) (d : Parts T W × S) (after : List (Party T W))
@@ -112,6 +114,7 @@ module _ {T W S : Type 0} (wakes : S → W → S → Type 0) where
           begins = tt;
           names = h.names;
           touches = h.one_place;
+          blocks = h.blocks;
           next = near.step;
           woken = h.woken;
           shows = h.shown;

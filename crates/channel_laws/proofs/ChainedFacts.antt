@@ -21,6 +21,7 @@ use Rattle.concurrent_queue.specs.declared.queue_call.CallState.TheVariants.{Ask
 use Rattle.concurrent_queue.specs.declared.unbounded.action.UnboundedAction.{UnboundedAction}
 use Rattle.concurrent_queue.specs.declared.unbounded.action.UnboundedAction.TheVariants as blocks
 use Rattle.concurrent_queue.specs.declared.unbounded.action.UnboundedCall.{UnboundedCall}
+use Rattle.channel_steps.specs.Scene.{MayHave}
 use Rattle.channel_laws.proofs.PutFacts.{some_is, by_bool, by_eq, same_not, taken_all, taken_full, get_inside, head_number}
 use Rattle.channel_laws.specs.Chained.{TurnsTheHead, Turns, first_named, pair_linked, Names, Links, AreBlocks, ChainBy}
 
@@ -37,11 +38,6 @@ owed_start f l e h = let g : nat_lt 0 l ≡ true = grind (arith, nat_tests) in
 none_of : {A : Type 0} (xs : List A) → length xs ≡ 0 → xs ≡ []
 none_of [] e = refl
 none_of (x ∷ xs) e = absurd (omega arith)
-
--- a queue with a bound has no blocks
-abbrev pub blocks_in : QueueForm → List ℕ → List ℕ
-blocks_in (Bounded capacity) chain = []
-blocks_in Unbounded chain = chain
 
 module _ {T : Type 0} where
   -- some of these calls is so
@@ -305,25 +301,15 @@ module _ {T : Type 0} where
   -- ---- any form
 
   are_by : (form : QueueForm) (chain : List ℕ) (c : Contents T) (q : Queue T) (seats : List (Seat T)) → FitsForm form chain c q seats
-      → ChainBy (SomeSeat seats) form c (blocks_in form chain)
-  are_by (Bounded capacity) chain c q seats fits = refl
-  are_by Unbounded chain c q seats (places, stand, (r, d, means, fit, of)) = are_blocks c q seats places r d means stand chain of
-
-  fit_still : (form : QueueForm) (chain : List ℕ) (c : Contents T) (q : Queue T) (seats : List (Seat T)) → FitsForm form chain c q seats
-      → FitsForm form (blocks_in form chain) c q seats
-  fit_still (Bounded capacity) chain c q seats fits = fits
-  fit_still Unbounded chain c q seats fits = fits
+      → MayHave form chain → ChainBy (SomeSeat seats) form c chain
+  are_by (Bounded capacity) chain c q seats fits bare = bare
+  are_by Unbounded chain c q seats (places, stand, (r, d, means, fit, of)) bare = are_blocks c q seats places r d means stand chain of
 
   -- of cells and calls that mean a queue
   pub are_chained : (chain : List ℕ) (c : Contents T) (q : Queue T) (seats : List (Seat T)) → FitsAt chain c q seats
-      → ChainBy (SomeSeat seats) c.form c (blocks_in c.form chain)
+      → MayHave c.form chain → ChainBy (SomeSeat seats) c.form c chain
   unfolding FitsAt
-  are_chained chain c q seats fits = are_by c.form chain c q seats fits
-
-  pub still_fits : (chain : List ℕ) (c : Contents T) (q : Queue T) (seats : List (Seat T)) → FitsAt chain c q seats
-      → FitsAt (blocks_in c.form chain) c q seats
-  unfolding FitsAt
-  still_fits chain c q seats fits = fit_still c.form chain c q seats fits
+  are_chained chain c q seats fits bare = are_by c.form chain c q seats fits bare
 
   -- so it is by other calls, of which one is so where one of these is
   pub by_others : (some other : (CallState T → Type 0) → Type 0) (form : QueueForm) (c : Contents T) (chain : List ℕ)

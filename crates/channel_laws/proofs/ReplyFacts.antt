@@ -1,5 +1,6 @@
 -- What a reply that says the end, and one that gives a message, say of their call.
 use Rattle.std.proofs.Common.{◌≡◌, List, [], ◌∷◌, ◌++◌, length, Option, None, Some, Ok, Err, ◌⊎◌, inl, inr, sym, subst}
+use Rattle.concurrent_queue.specs.Queue.{is_filled}
 use Rattle.event_listener.specs.declared.error.ListenError.TheVariants as listen_error
 use Rattle.futures.specs.declared.task.Poll.TheVariants.{Ready}
 use Rattle.channel_calls.specs.Moves.{Channel}
@@ -18,7 +19,7 @@ use Rattle.channel_calls.specs.declared.stage.Kept.{Kept}
 use Rattle.channel_calls.specs.declared.stage.Line.{Line}
 use Rattle.channel_calls.specs.declared.stage.Line.TheVariants.{Sends, Receives, Streams, Closings}
 use Rattle.channel_steps.specs.Moments.{Deed, with_deed, Spent, Once, Took, TookAll, Replaced, Displaced}
-use Rattle.channel_steps.specs.Answers.{TrySendRow, ForceSendRow, TryRecvRow, SeveralRow, SendPollRow, RecvPollRow, ClosedPollRow, NextRow, CloseRow, CloneRow, UpgradeRow, FlagRow, CountRow, CapacityRow, TerminatedRow, is_closed, is_full, Row}
+use Rattle.channel_steps.specs.Answers.{TrySendRow, ForceSendRow, TryRecvRow, SeveralRow, SendPollRow, RecvPollRow, ClosedPollRow, NextRow, CloseRow, CloneRow, UpgradeRow, FlagRow, CountRow, CapacityRow, TerminatedRow, Row}
 use Rattle.channel_steps.specs.Moments.{is_empty}
 use Rattle.channel_steps.specs.Scene.{Under, MayFinish}
 use Rattle.channel_laws.specs.Over.{StillDeeds}
@@ -127,9 +128,9 @@ module _ {T W : Type 0} where
     row_gives (CloneHandle side) r g = given (Moved (CloneRow side ds seen)) (λ v h k. h) (λ v h k. h) (λ v h k. h) (λ v h k. h) (λ v vs h k. h) r g
     row_gives (Upgrade side) r g = given (Moved (UpgradeRow side ds seen)) (λ v h k. h) (λ v h k. h) (λ v h k. h) (λ v h k. h) (λ v vs h k. h) r g
     row_gives (HandleCount side) r g = given (Moved (CountRow (λ c. count side c.roster) ds seen)) (λ v h k. h) (λ v h k. h) (λ v h k. h) (λ v h k. h) (λ v vs h k. h) r g
-    row_gives IsClosed r g = given (Moved (FlagRow is_closed ds seen)) (λ v h k. h) (λ v h k. h) (λ v h k. h) (λ v h k. h) (λ v vs h k. h) r g
+    row_gives IsClosed r g = given (Moved (FlagRow (λ c. c.queue.closed) ds seen)) (λ v h k. h) (λ v h k. h) (λ v h k. h) (λ v h k. h) (λ v vs h k. h) r g
     row_gives IsEmpty r g = given (Moved (FlagRow is_empty ds seen)) (λ v h k. h) (λ v h k. h) (λ v h k. h) (λ v h k. h) (λ v vs h k. h) r g
-    row_gives IsFull r g = given (Moved (FlagRow is_full ds seen)) (λ v h k. h) (λ v h k. h) (λ v h k. h) (λ v h k. h) (λ v vs h k. h) r g
+    row_gives IsFull r g = given (Moved (FlagRow (λ c. is_filled c.queue) ds seen)) (λ v h k. h) (λ v h k. h) (λ v h k. h) (λ v h k. h) (λ v vs h k. h) r g
     row_gives Len r g = given (Moved (CountRow (λ c. length c.queue.items) ds seen)) (λ v h k. h) (λ v h k. h) (λ v h k. h) (λ v h k. h) (λ v vs h k. h) r g
     row_gives Capacity r g = given (Moved (CapacityRow ds seen)) (λ v h k. h) (λ v h k. h) (λ v h k. h) (λ v h k. h) (λ v vs h k. h) r g
     row_gives IsTerminated r g = given (Moved (TerminatedRow ds seen)) (λ v h k. h) (λ v h k. h) (λ v h k. h) (λ v h k. h) (λ v vs h k. h) r g
@@ -163,9 +164,9 @@ module _ {T W : Type 0} where
     row_ends (CloneHandle side) r g = ended (Over (CloneRow side ds seen)) (λ h. absurd h) (λ e h. absurd h) (λ h. absurd h) (λ h. absurd h) r g
     row_ends (Upgrade side) r g = ended (Over (UpgradeRow side ds seen)) (λ h. absurd h) (λ e h. absurd h) (λ h. absurd h) (λ h. absurd h) r g
     row_ends (HandleCount side) r g = ended (Over (CountRow (λ c. count side c.roster) ds seen)) (λ h. absurd h) (λ e h. absurd h) (λ h. absurd h) (λ h. absurd h) r g
-    row_ends IsClosed r g = ended (Over (FlagRow is_closed ds seen)) (λ h. absurd h) (λ e h. absurd h) (λ h. absurd h) (λ h. absurd h) r g
+    row_ends IsClosed r g = ended (Over (FlagRow (λ c. c.queue.closed) ds seen)) (λ h. absurd h) (λ e h. absurd h) (λ h. absurd h) (λ h. absurd h) r g
     row_ends IsEmpty r g = ended (Over (FlagRow is_empty ds seen)) (λ h. absurd h) (λ e h. absurd h) (λ h. absurd h) (λ h. absurd h) r g
-    row_ends IsFull r g = ended (Over (FlagRow is_full ds seen)) (λ h. absurd h) (λ e h. absurd h) (λ h. absurd h) (λ h. absurd h) r g
+    row_ends IsFull r g = ended (Over (FlagRow (λ c. is_filled c.queue) ds seen)) (λ h. absurd h) (λ e h. absurd h) (λ h. absurd h) (λ h. absurd h) r g
     row_ends Len r g = ended (Over (CountRow (λ c. length c.queue.items) ds seen)) (λ h. absurd h) (λ e h. absurd h) (λ h. absurd h) (λ h. absurd h) r g
     row_ends Capacity r g = ended (Over (CapacityRow ds seen)) (λ h. absurd h) (λ e h. absurd h) (λ h. absurd h) (λ h. absurd h) r g
     row_ends IsTerminated r g = ended (Over (TerminatedRow ds seen)) (λ h. absurd h) (λ e h. absurd h) (λ h. absurd h) (λ h. absurd h) r g

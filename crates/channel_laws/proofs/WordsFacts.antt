@@ -3,7 +3,7 @@ use Rattle.std.proofs.Common.{◌≡◌, ℕ, ◌<◌, List, [], ◌∷◌, ◌+
 use Rattle.concurrent_queue.specs.Contents.{Contents, slot_at}
 use Rattle.concurrent_queue.specs.Queue.{Queue, Phase, appended, message}
 use Rattle.concurrent_queue.specs.Queue as queue
-use Rattle.concurrent_queue.specs.Step.{Seat, Fits, FitsAt, phases, HasBrought, closed_in, length_in, items_in, slot_in}
+use Rattle.concurrent_queue.specs.Step.{Seat, FitsAt, phases, HasBrought, closed_in, length_in, items_in, slot_in}
 use Rattle.concurrent_queue.specs.declared.call.QueueAsk.{QueueAsk}
 use Rattle.concurrent_queue.specs.declared.call.QueueAsk.TheVariants as q
 use Rattle.concurrent_queue.specs.declared.cells.QueueForm.{QueueForm}
@@ -25,13 +25,13 @@ use Rattle.channel_calls.specs.declared.stage.Stage.TheVariants.{Trying, Working
 use Rattle.channel_laws.specs.Ends.{Each}
 use Rattle.channel_steps.specs.Known.{TriesFor, TryAt, TriesAt, StageAt, ToldAt}
 use Rattle.channel_steps.specs.Moments.{Deed, Appended, Replaced, Displaced}
-use Rattle.channel_steps.specs.Scene.{Under, Scene, Sitting, Known, AllKnown, Shows, under_of, all_seats, brought}
+use Rattle.channel_steps.specs.Scene.{Under, Scene, Sitting, MayHave, Known, AllKnown, Shows, under_of, all_seats, brought}
 use Rattle.channel_steps.specs.Tellings.{Telling}
 use Rattle.channel_steps.specs.declared.party.Party.{Party}
 use Rattle.channel_laws.specs.Chained.{IsInState, SomeCall, ChainBy, AreChained}
 use Rattle.channel_laws.specs.Put.{yet_to_put}
 use Rattle.channel_laws.specs.Words.{IsAtQueue, HasLetIn, IsWith, IsWithOne, WordsSay}
-use Rattle.channel_laws.proofs.ChainedFacts.{SomeSeat, blocks_in, are_chained, still_fits, by_others}
+use Rattle.channel_laws.proofs.ChainedFacts.{SomeSeat, are_chained, by_others}
 use Rattle.channel_laws.proofs.PutFacts.{IsHeldFor, held}
 
 module _ {T : Type 0} where
@@ -168,24 +168,24 @@ module _ {T W : Type 0} where
       ⊎_elim (λ g. inl g) (λ g. inr (some_call xs P g)) (some_seat P x.inner x.party.call.stage (all_seats xs) h)
 
   are_chained_by : (chain : List ℕ) (c : Contents T) (q : Queue T) (xs : List (Sitting T W)) (codes : List (Party T W))
-      → codes ≡ map (λ (x : Sitting T W). x.party) xs → FitsAt chain c q (all_seats xs) → AreChained c codes (blocks_in c.form chain)
+      → codes ≡ map (λ (x : Sitting T W). x.party) xs → FitsAt chain c q (all_seats xs) → MayHave c.form chain → AreChained c codes chain
   unfolding AreChained
-  are_chained_by chain c q xs codes same_codes fits =
-      subst (λ (ps : List (Party T W)). ChainBy (SomeCall ps) c.form c (blocks_in c.form chain)) (sym same_codes)
+  are_chained_by chain c q xs codes same_codes fits bare =
+      subst (λ (ps : List (Party T W)). ChainBy (SomeCall ps) c.form c chain) (sym same_codes)
       (by_others (SomeSeat (all_seats xs)) (SomeCall (map
-      (λ (x : Sitting T W). x.party) xs)) c.form c (blocks_in c.form chain) (some_call xs)
-      (are_chained chain c q (all_seats xs) fits))
+      (λ (x : Sitting T W). x.party) xs)) c.form c chain (some_call xs)
+      (are_chained chain c q (all_seats xs) fits bare))
 
   -- ---- the words
 
   of_queue : (parts : Parts T W) (codes : List (Party T W)) (s : Scene T W) (xs : List (Sitting T W)) (p : Queue T) → p ≡ s.now.queue
       → codes ≡ map (λ (x : Sitting T W). x.party) xs → s.under_way ≡ map under_of xs
-      → Fits parts.cells p (all_seats xs) → AllKnown s.now s.under_way → WordsSay parts.cells codes s
-  of_queue parts codes s xs p same_queue same_codes calls fits known =
+      → FitsAt s.blocks parts.cells p (all_seats xs) → MayHave parts.cells.form s.blocks → AllKnown s.now s.under_way
+      → WordsSay parts.cells codes s
+  of_queue parts codes s xs p same_queue same_codes calls fit bare known =
       let c : Contents T = parts.cells in
-      let chain : List ℕ = blocks_in c.form fits.0 in
-      let fit = still_fits fits.0 c p (all_seats xs) fits.1 in
-      let say = shows c p (all_seats xs) fits in
+      let chain : List ℕ = s.blocks in
+      let say = shows c p (all_seats xs) (chain, fit) in
       let lie = fits_facts.lies chain c p (all_seats xs) fit in
       let here : AllKnown s.now (map under_of xs) = subst (λ (us : List (Under T W)). AllKnown s.now us) calls known in
       let held_by : (at : Slot) (v : T) → IsHeldFor c.form at v (all_seats xs) → IsWithOne c.form at v codes s.under_way =
@@ -195,8 +195,7 @@ module _ {T W : Type 0} where
       record {
         flag = subst (λ (x : Queue T). closed_in c ≡ x.closed) same_queue say.flag;
         long = subst (λ (x : Queue T). length_in c ≡ length x.items) same_queue say.long;
-        blocks = chain;
-        chained = are_chained_by fits.0 c p xs codes same_codes fits.1;
+        chained = are_chained_by chain c p xs codes same_codes fit bare;
         apart = subst (λ (x : Queue T). (i j : ℕ) → i < length x.items → j < length x.items → slot_in chain c i ≡ slot_in chain c j → i ≡ j)
             same_queue lie.apart;
         lies = subst (λ (x : Queue T). (i : ℕ) (v : T) → slice_get x.items i ≡ Some v
@@ -210,4 +209,4 @@ module _ {T W : Type 0} where
 
   pub words_say : (parts : Parts T W) (parties : List (Party T W)) (s : Scene T W) → Shows parts parties s → WordsSay parts.cells parties s
   words_say parts parties s h =
-      of_queue parts parties s h.sittings h.queue (sym (ap (λ (c : Channel T W). c.queue) h.now)) h.parties_are h.under_way h.fits h.known
+      of_queue parts parties s h.sittings h.queue (sym (ap (λ (c : Channel T W). c.queue) h.now)) h.parties_are h.under_way h.fits h.bare h.known

@@ -13,7 +13,7 @@ use Rattle.channel_calls.specs.declared.stage.Stage.{Stage}
 use Rattle.channel_steps.specs.Known.{IsQuick}
 use Rattle.channel_steps.specs.Moments.{Shut, Spent}
 use Rattle.channel_steps.specs.Run.{EachStep, Next, begun as call_begun, end_of}
-use Rattle.channel_steps.specs.Scene.{Under, Shows, EndsInTime, HoldNobodyUp, brought, does, gone_by, sees, unless_ended}
+use Rattle.channel_steps.specs.Scene.{Under, Shows, EndsInTime, HoldNobodyUp, brought, does, gone_by, sees, unless_ended, blocks_after}
 use Rattle.channel_steps.specs.Tellings.{telling, dropping, Names}
 use Rattle.channel_steps.specs.declared.party.Entry.{Entry}
 use Rattle.channel_steps.specs.declared.run.Step.{Step}
@@ -51,7 +51,7 @@ module _ {T W S : Type 0} where
     pub streams : PendingStreamsAreOwed m.scene
     pub closing : PendingIsOwedTheClosing m.scene
     -- the channel is closed or not and holds so many messages as its queue's words say; and each message lies in the slot that
-    -- they name for it alone, without a bound by the blocks that follow one another, or is with the call that is yet to put it there
+    -- they name for it alone, without a bound by the blocks that the queue has used, or is with the call that is yet to put it there
     pub words : WordsSay m.parts.cells m.parties m.scene
     -- no call has more steps left than 197, and 64 for each message that a receive of several may take, where none holds it up
     pub few : FewLeft m
@@ -122,6 +122,8 @@ module _ {T W S : Type 0} (wakes : S → W → S → Type 0) where
     pub next : Next m.scene x e names n.scene
     pub woken : Woken wakes m.sink names n.sink
     pub call : CallSays m x e n names
+    -- the queue has used the blocks that it had used before, and one more, at the end, where its tail's word then names another
+    pub blocks : n.scene.blocks ≡ blocks_after n.parts.cells.form m.scene.blocks m.parts.cells n.parts.cells
     -- what is closed stays closed; what is over, closed with nothing there and nothing on its way, stays over, and no message comes
     -- or leaves; and a reply that says the end found it over
     pub closed : Shut m.scene.now → Shut n.scene.now

@@ -82,6 +82,6 @@ module _ {T W : Type 0} where
   SomeCall (code ∷ codes) P = IsInState code.call.stage P ⊎ SomeCall codes P
 
   -- These are the blocks of the channel's queue, oldest first, so far as the words and the calls under way give them: the block of
-  -- each message that is there, and those before it that were given back, of which nothing more is said.
+  -- each message that is there, and those before it that were given back. A queue with a bound has none.
   unfoldable pub AreChained : Contents T → List (Party T W) → List ℕ → Type 0
   AreChained c codes blocks = ChainBy (SomeCall codes) c.form c blocks

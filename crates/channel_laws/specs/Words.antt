@@ -43,16 +43,14 @@ module _ {T W : Type 0} where
 
   -- By its words the channel is closed or not and holds so many messages, and each of them lies in the slot that the words name
   -- for it, which is no other's, or is with the call that is yet to put it into that slot. A queue with a bound names its slots by
-  -- its words alone, and has no blocks. One without names them by the blocks that it has used so far, oldest first: from the one with
-  -- the oldest message on they are those that follow one another, by the words that are stored and those that calls under way are yet
-  -- to store. Those before it were given back, and it doesn't matter here which they were. While the queue has the next step of no
+  -- its words alone. One without names them by the blocks of the scene: from the one with the oldest message on they follow one
+  -- another, by the words that are stored and those that calls under way are yet to store. While the queue has the next step of no
   -- call, the words lead through just these messages, in order, from the head on.
   pub record WordsSay (c : Contents T) (codes : List (Party T W)) (s : Scene T W) : Type 0 where
     pub flag : closed_in c ≡ s.now.queue.closed
     pub long : length_in c ≡ length s.now.queue.items
-    pub blocks : List ℕ
-    pub chained : AreChained c codes blocks
-    pub apart : (i j : ℕ) → i < length s.now.queue.items → j < length s.now.queue.items → slot_in blocks c i ≡ slot_in blocks c j → i ≡ j
+    pub chained : AreChained c codes s.blocks
+    pub apart : (i j : ℕ) → i < length s.now.queue.items → j < length s.now.queue.items → slot_in s.blocks c i ≡ slot_in s.blocks c j → i ≡ j
     pub lies : (i : ℕ) (v : T) → slice_get s.now.queue.items i ≡ Some v
-        → (slot_at c (slot_in blocks c i) ≡ Some v) ⊎ IsWithOne c.form (slot_in blocks c i) v codes s.under_way
+        → (slot_at c (slot_in s.blocks c i) ≡ Some v) ⊎ IsWithOne c.form (slot_in s.blocks c i) v codes s.under_way
     pub at_rest : Each (λ (u : Under T W). IsAtQueue u.at → ⊥) s.under_way → s.now.queue.items ≡ items_in c

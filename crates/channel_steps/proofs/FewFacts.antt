@@ -58,5 +58,5 @@ module _ {T W : Type 0} where
       → (k n : ℕ) → slice_get (all_left parts parties) k ≡ Some n → n ≤ 197 + 64 * wanted_at k s.under_way
   few_left parts parties s sh k n there =
       subst (λ (us : List (Under T W)). n ≤ 197 + 64 * wanted_at k us) (sym sh.under_way)
-      (few_behind parts sh.queue s.now [] sh.sittings sh.fits (subst (λ (us : List (Under T W)). AllKnown s.now us) sh.under_way sh.known) k n
+      (few_behind parts sh.queue s.now [] sh.sittings (s.blocks, sh.fits) (subst (λ (us : List (Under T W)). AllKnown s.now us) sh.under_way sh.known) k n
       (subst (λ (ps : List (Party T W)). slice_get (all_left parts ps) k ≡ Some n) sh.parties_are there))

@@ -2,7 +2,10 @@
 -- only call under way; how a step changes the number of messages; that no call has more than 197 steps left that nobody holds
 -- up; and that a listener which was just added waits.
 use Rattle.std.proofs.Common.{◌≡◌, ℕ, suc, ◌+◌, ◌*◌, ◌^◌, ◌≤◌, ◌<◌, true, List, [], ◌∷◌, ◌++◌, map, length, slice_get, Option, None, Some, refl, ap, sym, subst}
-use Rattle.concurrent_queue.specs.Queue.{Phase}
+use Rattle.concurrent_queue.specs.Queue.{Phase, Queue}
+use Rattle.concurrent_queue.specs.Contents.{Contents}
+use Rattle.concurrent_queue.specs.Step.{Seat, FitsAt, chain_after}
+use Rattle.concurrent_queue.specs.declared.cells.QueueForm.{QueueForm}
 use Rattle.event_listener.specs.Lists.{kind_of, listened}
 use Rattle.event_listener.specs.declared.key.Key.{Key}
 use Rattle.channel_calls.specs.Moves.{Channel, Effect, Moves}
@@ -15,7 +18,7 @@ use Rattle.channel_calls.specs.declared.stage.Stage.{Stage}
 use Rattle.channel_calls.specs.declared.stage.Stage.TheVariants.{Finished}
 use Rattle.channel_steps.specs.Count.{counted, brought_in, taken_out}
 use Rattle.channel_steps.specs.Left.{all_left}
-use Rattle.channel_steps.specs.Scene.{Under, Scene, sees, does, unless_ended, Known, AllKnown, IsBalanced, HoldNobodyUp, wanted_at, Steps, Shows}
+use Rattle.channel_steps.specs.Scene.{Under, Scene, sees, does, unless_ended, Known, AllKnown, IsBalanced, HoldNobodyUp, wanted_at, Steps, Shows, MayHave, blocks_after}
 use Rattle.channel_steps.specs.Run.{EachStep, end_of, Next, begun}
 use Rattle.channel_steps.specs.declared.party.Entry.{Entry}
 use Rattle.channel_steps.specs.declared.party.Party.{Party}
@@ -28,6 +31,7 @@ use Rattle.channel_steps.proofs.FewFacts as few_facts
 use Rattle.channel_steps.proofs.IdleFacts as idle_facts
 use Rattle.channel_steps.proofs.LineFacts as line_facts
 use Rattle.channel_steps.proofs.LoneFacts as lone_facts
+use Rattle.channel_steps.proofs.SceneFacts as scene_facts
 use Rattle.channel_steps.proofs.LoneFacts.{lone_after}
 
 -- ---- steps and their moments
@@ -58,6 +62,15 @@ module _ {M : Type 0} where
   end_on m (n ∷ ns) os = end_on n ns os
 
 -- ---- scenes
+
+module _ {T : Type 0} where
+  -- the cells that a step leaves, and the calls under way, mean a queue with the blocks after it
+  pub fits_after : (blocks : List ℕ) (c d : Contents T) (q : Queue T) (ss : List (Seat T)) → FitsAt (chain_after blocks c d) d q ss
+      → FitsAt (blocks_after d.form blocks c d) d q ss
+  fits_after blocks c d q ss fits = scene_facts.fits_after blocks c d q ss fits
+
+  pub none_after : (form : QueueForm) (blocks : List ℕ) (c d : Contents T) → MayHave form (blocks_after form blocks c d)
+  none_after form blocks c d = scene_facts.none_after form blocks c d
 
 module _ {T W : Type 0} where
   own : (c : Channel T W) (u : Under T W) (m : Mark) (d : Channel T W) (names : List W) (at : Stage (Phase T) T W)
@@ -91,24 +104,29 @@ module _ {T W : Type 0} where
       let whole = known_both t.now (map (sees t.now) n.before) (now ++ map (sees t.now) n.behind) before behind in
       (subst (λ (us : List (Under T W)). AllKnown t.now us) (sym n.left) whole, on.balanced bal)
 
+  -- where a call begins, they are those before
+  pub blocks_begun : (parts : Parts T W) (parties : List (Party T W)) (s t : Scene T W) → Shows parts parties s → t.blocks ≡ s.blocks
+      → t.blocks ≡ blocks_after parts.cells.form s.blocks parts.cells parts.cells
+  blocks_begun parts parties s t sh same = scene_facts.blocks_begun parts parties s t sh same
+
   -- ---- the only call under way
 
-  -- the scene after a step of its own: the channel d, and the call with this step, or gone where it has answered
-  abbrev pub after_lone : Scene T W → Under T W → Stage (Phase T) T W → Mark → Option (Reply T) → Channel T W → Scene T W
-  after_lone s u at m r d = lone_after s u at m r d
+  -- the scene after a step of its own: the channel d, these blocks, and the call with this step, or gone where it has answered
+  abbrev pub after_lone : Scene T W → Under T W → Stage (Phase T) T W → Mark → Option (Reply T) → List ℕ → Channel T W → Scene T W
+  after_lone s u at m r blocks d = lone_after s u at m r blocks d
 
   module _ (s : Scene T W) (u : Under T W) (only : s.under_way ≡ u ∷ []) (known : Known s.now u) (bal : IsBalanced s.now.queue)
-      (m : Mark) (names : List W) (d : Channel T W) (at : Stage (Phase T) T W) where
+      (m : Mark) (names : List W) (blocks : List ℕ) (d : Channel T W) (at : Stage (Phase T) T W) where
     -- a step that does not answer, which wakes these
     pub lone_goes : Moves s.now u.at (record { channel = d; mark = m; woken = names }) None at
-        → Steps s u.party (record { mark = m; reply = None; kept = None }) names (after_lone s u at m None d)
-    lone_goes moves = lone_facts.lone_goes s u only known bal m names d at moves
+        → Steps s u.party (record { mark = m; reply = None; kept = None }) names (after_lone s u at m None blocks d)
+    lone_goes moves = lone_facts.lone_goes s u only known bal m names blocks d at moves
 
     -- one that answers, and leaves this to its operation
     pub lone_ends : (y : Reply T) (left : Kept T) → ((kept : Kept T) → at ≡ Finished kept → left ≡ kept)
         → Moves s.now u.at (record { channel = d; mark = m; woken = names }) (Some y) at
-        → Steps s u.party (record { mark = m; reply = Some y; kept = Some left }) names (after_lone s u at m (Some y) d)
-    lone_ends y left same moves = lone_facts.lone_ends s u only known bal m names d at y left same moves
+        → Steps s u.party (record { mark = m; reply = Some y; kept = Some left }) names (after_lone s u at m (Some y) blocks d)
+    lone_ends y left same moves = lone_facts.lone_ends s u only known bal m names blocks d at y left same moves
 
   -- ---- the number of messages
 

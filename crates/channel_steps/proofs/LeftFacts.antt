@@ -379,8 +379,8 @@ module _ {T W : Type 0} where
   IsAtWork (Finished kept) = ⊥
 
   module _ (parts parts' : Parts T W) (names : List W) (stage' : Stage (QueueCall T) T W) (m : Mark) (x : Option (Reply T))
-      (q : Queue T) (f : Phase T) (l r : List (Seat T)) where
-    tried_less : (call : QueueCall T) (y : Aim T W) (made : Made parts (Trying call y) names parts' stage' m x q f l r)
+      (blocks : List ℕ) (q : Queue T) (f : Phase T) (l r : List (Seat T)) where
+    tried_less : (call : QueueCall T) (y : Aim T W) (made : Made parts (Trying call y) names parts' stage' m x blocks q f l r)
         → Hastens parts.cells q f (Trying call y) parts'.cells x stage'
         → steps_left parts'.cells parts'.roster stage' < steps_left parts.cells parts.roster (Trying call y)
     tried_less call y made (inl (call', same, less)) =
@@ -393,18 +393,18 @@ module _ {T W : Type 0} where
         let moved : Tried (channel q parts) f y (record { channel = channel made.queue parts'; mark = m; woken = names }) x (phase made.phase_now stage') = made.moves in
         let still : left_after parts'.roster y ≡ left_after parts.roster y =
         ap (λ (e : Effect T W). left_after e.channel.roster y) moved.effect in
-        let turn = taken_left parts'.cells parts'.roster made.queue made.phase_now l r (answered_next y z) x stage' made.fits taken in
+        let turn = taken_left parts'.cells parts'.roster made.queue made.phase_now l r (answered_next y z) x stage' (_, made.fits) taken in
         let falls = answered_left parts'.roster y z in
         omega (arith, turn, falls, still)
 
     -- a step of a call at work that nobody holds up leaves fewer
-    pub step_lessens : (stage : Stage (QueueCall T) T W) → IsAtWork stage → Made parts stage names parts' stage' m x q f l r
+    pub step_lessens : (stage : Stage (QueueCall T) T W) → IsAtWork stage → Made parts stage names parts' stage' m x blocks q f l r
         → HoldsNobodyUp q (phases (l ++ r)) → steps_left parts'.cells parts'.roster stage' < steps_left parts.cells parts.roster stage
     step_lessens (Trying call y) at made free = tried_less call y made (made.ends free)
     step_lessens (Working w) at made free =
         let e : Effect T W = record { channel = channel made.queue parts'; mark = m; woken = names } in
         let b : Lessens (channel q parts) w e x (phase made.phase_now stage') = work_lessens (channel q parts) e x (phase made.phase_now stage') w made.moves in
-        let turn = turned_left parts'.cells parts'.roster made.queue made.phase_now l r b.turn x stage' made.fits b.turned in
+        let turn = turned_left parts'.cells parts'.roster made.queue made.phase_now l r b.turn x stage' (_, made.fits) b.turned in
         let less = b.less in
         omega (arith, turn, less)
     step_lessens (Finished kept) at made free = absurd at

@@ -1,5 +1,5 @@
 -- A step of the only call under way, from how its stage moves.
-use Rattle.std.proofs.Common.{◌≡◌, List, [], ◌∷◌, ◌++◌, Option, None, Some, refl, sym, append-nil}
+use Rattle.std.proofs.Common.{◌≡◌, ℕ, List, [], ◌∷◌, ◌++◌, Option, None, Some, refl, sym, append-nil}
 use Rattle.concurrent_queue.specs.Queue.{Phase}
 use Rattle.channel_calls.specs.Moves.{Channel, Effect, Moves}
 use Rattle.channel_calls.specs.declared.mark.Mark.{Mark}
@@ -11,23 +11,24 @@ use Rattle.channel_steps.specs.Scene.{Under, Scene, does, gone_by, came_by, unle
 use Rattle.channel_steps.proofs.OwnFacts.{names_of, moves_held, own_finishes, own_in_time}
 
 module _ {T W : Type 0} where
-  -- the scene after a step of the call u, where no other is under way
-  abbrev pub lone_after : Scene T W → Under T W → Stage (Phase T) T W → Mark → Option (Reply T) → Channel T W → Scene T W
-  lone_after s u at m r d =
+  -- the scene after a step of the call u, which leaves these blocks, where no other is under way
+  abbrev pub lone_after : Scene T W → Under T W → Stage (Phase T) T W → Mark → Option (Reply T) → List ℕ → Channel T W → Scene T W
+  lone_after s u at m r blocks d =
       record {
         now = d;
+        blocks = blocks;
         under_way = unless_ended (does u at m s.now d) r;
         gone = s.gone ++ gone_by m s.now.queue.items;
         came = s.came ++ came_by m u.ask;
       }
 
   module _ (s : Scene T W) (u : Under T W) (only : s.under_way ≡ u ∷ []) (known : Known s.now u) (bal : IsBalanced s.now.queue)
-      (m : Mark) (names : List W) (d : Channel T W) (at : Stage (Phase T) T W) where
+      (m : Mark) (names : List W) (blocks : List ℕ) (d : Channel T W) (at : Stage (Phase T) T W) where
     abbrev effect : Effect T W
     effect = record { channel = d; mark = m; woken = names }
 
     lone : (r : Option (Reply T)) (left : Option (Kept T)) → MayFinish (does u at m s.now d) r left → Moves s.now u.at effect r at
-        → Steps s u.party (record { mark = m; reply = r; kept = left }) names (lone_after s u at m r d)
+        → Steps s u.party (record { mark = m; reply = r; kept = left }) names (lone_after s u at m r blocks d)
     lone r left ends moves =
         record {
           before = [];
@@ -48,11 +49,11 @@ module _ {T W : Type 0} where
 
     -- one that does not answer
     pub lone_goes : Moves s.now u.at effect None at
-        → Steps s u.party (record { mark = m; reply = None; kept = None }) names (lone_after s u at m None d)
+        → Steps s u.party (record { mark = m; reply = None; kept = None }) names (lone_after s u at m None blocks d)
     lone_goes moves = lone None None refl moves
 
     -- one that answers, and leaves this to its operation
     pub lone_ends : (y : Reply T) (left : Kept T) → ((kept : Kept T) → at ≡ Finished kept → left ≡ kept)
         → Moves s.now u.at effect (Some y) at
-        → Steps s u.party (record { mark = m; reply = Some y; kept = Some left }) names (lone_after s u at m (Some y) d)
+        → Steps s u.party (record { mark = m; reply = Some y; kept = Some left }) names (lone_after s u at m (Some y) blocks d)
     lone_ends y left same moves = lone (Some y) (Some left) (own_finishes s.now u bal known m d names at y left same moves) moves

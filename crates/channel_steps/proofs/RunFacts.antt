@@ -1,7 +1,7 @@
 -- Beginning a call, and how far the positions last.
 use Rattle.std.proofs.Common.{◌≡◌, ℕ, suc, List, [], ◌∷◌, ◌++◌, Option, None, refl, sym, ap, ◌∙◌, subst, append-nil, arith}
 use Rattle.concurrent_queue.specs.Queue.{Queue, Phase, asked}
-use Rattle.concurrent_queue.specs.Step.{Seat, Fits}
+use Rattle.concurrent_queue.specs.Step.{Seat, FitsAt}
 use Rattle.concurrent_queue.specs.declared.queue_call.QueueCall.{QueueCall}
 use Rattle.channel_calls.specs.Parts.{Parts}
 use Rattle.channel_calls.specs.Asks.{first}
@@ -25,33 +25,33 @@ use Rattle.channel_steps.proofs.SceneFacts.{map-round, seats_append, party_of, k
 
 module _ {T W : Type 0} where
   -- a new call has its first turn taken, and its call of the queue comes in beside all others
-  pub record Came (turn : Turn T W) (parts : Parts T W) (q : Queue T) (others : List (Seat T)) (s : Stage (QueueCall T) T W) (r : Option (Reply T)) : Type 0 where
+  pub record Came (turn : Turn T W) (blocks : List ℕ) (parts : Parts T W) (q : Queue T) (others : List (Seat T)) (s : Stage (QueueCall T) T W) (r : Option (Reply T)) : Type 0 where
     pub inner : Phase T
     pub turned : Turned turn r (phase inner s)
-    pub fits : Fits parts.cells q (others ++ (seats inner s ++ []))
+    pub fits : FitsAt blocks parts.cells q (others ++ (seats inner s ++ []))
 
-  module _ (parts : Parts T W) (q : Queue T) (others : List (Seat T)) (fits : Fits parts.cells q others) (any : Phase T) where
-    round : Fits parts.cells q (others ++ [])
-    round = subst (λ (ss : List (Seat T)). Fits parts.cells q ss) (sym (append-nil others)) fits
+  module _ (blocks : List ℕ) (parts : Parts T W) (q : Queue T) (others : List (Seat T)) (fits : FitsAt blocks parts.cells q others) (any : Phase T) where
+    round : FitsAt blocks parts.cells q (others ++ [])
+    round = subst (λ (ss : List (Seat T)). FitsAt blocks parts.cells q ss) (sym (append-nil others)) fits
 
-    pub came : (turn : Turn T W) (s : Stage (QueueCall T) T W) (r : Option (Reply T)) → IsTaken turn r s → Came turn parts q others s r
+    pub came : (turn : Turn T W) (s : Stage (QueueCall T) T W) (r : Option (Reply T)) → IsTaken turn r s → Came turn blocks parts q others s r
     came (Tries x aim) s r (call, starts, none, e) =
         record {
           inner = asked x;
           turned = (none, ap (λ (z : Stage (QueueCall T) T W). phase (asked x) z) e);
-          fits = subst (λ (z : Stage (QueueCall T) T W). Fits parts.cells q (others ++ (seats (asked x) z ++ []))) (sym e) (round.0, starts round.0 parts.cells q others [] round.1);
+          fits = subst (λ (z : Stage (QueueCall T) T W). FitsAt blocks parts.cells q (others ++ (seats (asked x) z ++ []))) (sym e) (starts blocks parts.cells q others [] round);
         }
     came (Works w) s r (none, e) =
         record {
           inner = any;
           turned = (none, ap (λ (z : Stage (QueueCall T) T W). phase any z) e);
-          fits = subst (λ (z : Stage (QueueCall T) T W). Fits parts.cells q (others ++ (seats any z ++ []))) (sym e) round;
+          fits = subst (λ (z : Stage (QueueCall T) T W). FitsAt blocks parts.cells q (others ++ (seats any z ++ []))) (sym e) round;
         }
     came (Ends x kept) s r (some, e) =
         record {
           inner = any;
           turned = (some, ap (λ (z : Stage (QueueCall T) T W). phase any z) e);
-          fits = subst (λ (z : Stage (QueueCall T) T W). Fits parts.cells q (others ++ (seats any z ++ []))) (sym e) round;
+          fits = subst (λ (z : Stage (QueueCall T) T W). FitsAt blocks parts.cells q (others ++ (seats any z ++ []))) (sym e) round;
         }
 
   module _ (any : Phase T) where
@@ -59,15 +59,15 @@ module _ {T W : Type 0} where
         → IsNewCall call (first ask) → parties' ≡ parties ++ record { id = p; call = call } ∷ [] → e ≡ record { mark = Nothing; reply = None; kept = None }
         → HasBegun p ask parties e parties'
     begun p ask call parties e parties' new left entry parts s sh =
-        let k = came parts sh.queue (all_seats sh.sittings) sh.fits any (first ask) call.stage new.0 new.1 in
+        let k = came s.blocks parts sh.queue (all_seats sh.sittings) sh.fits any (first ask) call.stage new.0 new.1 in
         let mine : Sitting T W = record { party = record { id = p; call = call }; inner = k.inner; ask = ask; seen = s.now ∷ []; deeds = []; told = []; made = 0 } in
         let all : List (Sitting T W) = sh.sittings ++ (mine ∷ []) in
         let seats_are : all_seats all ≡ all_seats sh.sittings ++ (seats k.inner call.stage ++ []) = seats_append sh.sittings (mine ∷ []) in
-        let fits : Fits parts.cells sh.queue (all_seats all) = subst (λ (ss : List (Seat T)). Fits parts.cells sh.queue ss) (sym seats_are) k.fits in
-        let t : Scene T W = record { now = s.now; under_way = s.under_way ++ (under_of mine ∷ []); gone = s.gone; came = s.came } in
+        let fits : FitsAt s.blocks parts.cells sh.queue (all_seats all) = subst (λ (ss : List (Seat T)). FitsAt s.blocks parts.cells sh.queue ss) (sym seats_are) k.fits in
+        let t : Scene T W = record { now = s.now; blocks = s.blocks; under_way = s.under_way ++ (under_of mine ∷ []); gone = s.gone; came = s.came } in
         record {
           after = t;
-          begins = record { entry = entry; at = phase k.inner call.stage; answer = new.0; turned = k.turned; now = refl; under_way = refl; gone = refl; came = refl };
+          begins = record { entry = entry; at = phase k.inner call.stage; answer = new.0; turned = k.turned; now = refl; blocks = refl; under_way = refl; gone = refl; came = refl };
           shown = record {
             sittings = all;
             queue = sh.queue;
@@ -75,6 +75,7 @@ module _ {T W : Type 0} where
             under_way = ap (λ (zs : List (Under T W)). zs ++ (under_of mine ∷ [])) sh.under_way ∙ sym (map-round under_of sh.sittings (mine ∷ []));
             now = sh.now;
             fits = fits;
+            bare = sh.bare;
             known = known_both s.now s.under_way (under_of mine ∷ []) sh.known (begins_known s.now p ask new.0 (phase k.inner call.stage) k.turned, tt);
             balanced = sh.balanced;
           };

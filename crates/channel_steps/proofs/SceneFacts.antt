@@ -2,7 +2,11 @@
 use Rattle.std.proofs.Common.{◌≡◌, ℕ, zero, suc, ◌+◌, ◌<◌, unwrap_or, List, [], ◌∷◌, ◌++◌, map, length, slice_get, slice_set, Option, None, Some, refl, sym, ap, ◌∙◌, subst, append_assoc}
 use Rattle.std.specs.List.{remove}
 use Rattle.concurrent_queue.specs.Queue.{Queue, Phase, IsInRange}
-use Rattle.concurrent_queue.specs.Step.{Seat, Fits, HoldsNobodyUp, phases}
+use Rattle.concurrent_queue.proofs.Callers.{itself}
+use Rattle.concurrent_queue.specs.Contents.{Contents}
+use Rattle.concurrent_queue.specs.Step.{Seat, FitsForm, FitsAt, chain_after, HoldsNobodyUp, phases}
+use Rattle.concurrent_queue.specs.declared.cells.QueueForm.{QueueForm}
+use Rattle.concurrent_queue.specs.declared.cells.QueueForm.TheVariants.{Bounded, Unbounded}
 use Rattle.channel_calls.specs.Parts.{Parts}
 use Rattle.concurrent_queue.specs.declared.queue_call.QueueCall.{QueueCall}
 use Rattle.channel_calls.specs.Moves.{Channel, Effect, channel, seats, phase, IsStepOver, IsChannelStep, OnePlace, Made}
@@ -18,7 +22,7 @@ use Rattle.channel_steps.specs.declared.party.Entry.{Entry}
 use Rattle.channel_steps.specs.Known.{StageAt}
 use Rattle.channel_steps.specs.Left.{party_left, all_left, left_at}
 use Rattle.channel_steps.specs.Moments.{Deed, with_deed}
-use Rattle.channel_steps.specs.Scene.{Under, Scene, sees, does, gone_by, came_by, Known, AllKnown, IsBalanced, HoldNobodyUp, Sitting, under_of, seats_of, all_seats, Shows, parties_in, unless_answered, parties_after, left_by, StepsNearer, SteppedAt, StepsAt}
+use Rattle.channel_steps.specs.Scene.{Under, Scene, MayHave, blocks_after, sees, does, gone_by, came_by, Known, AllKnown, IsBalanced, HoldNobodyUp, Sitting, under_of, seats_of, all_seats, Shows, parties_in, unless_answered, parties_after, left_by, StepsNearer, SteppedAt, StepsAt}
 use Rattle.channel_steps.specs.Tellings.{telling}
 use Rattle.channel_steps.proofs.IdleFacts.{idle_holds}
 use Rattle.channel_steps.proofs.LeftFacts.{IsAtWork, step_lessens}
@@ -90,7 +94,33 @@ length-images : {A B : Type 0} (g : A → B) (xs : List A) → length (map g xs)
 length-images g [] = refl
 length-images g (x ∷ xs) = ap (λ n. suc n) (length-images g xs)
 
+module _ {T : Type 0} where
+  -- ---- the blocks
+
+  fits_by : (form : QueueForm) (blocks : List ℕ) (c d : Contents T) (q : Queue T) (ss : List (Seat T))
+      → FitsForm form (chain_after blocks c d) d q ss → FitsForm form (blocks_after form blocks c d) d q ss
+  fits_by (Bounded capacity) blocks c d q ss fits = fits
+  fits_by Unbounded blocks c d q ss fits = fits
+
+  pub fits_after : (blocks : List ℕ) (c d : Contents T) (q : Queue T) (ss : List (Seat T)) → FitsAt (chain_after blocks c d) d q ss
+      → FitsAt (blocks_after d.form blocks c d) d q ss
+  unfolding FitsAt
+  fits_after blocks c d q ss fits = fits_by d.form blocks c d q ss fits
+
+  pub none_after : (form : QueueForm) (blocks : List ℕ) (c d : Contents T) → MayHave form (blocks_after form blocks c d)
+  none_after (Bounded capacity) blocks c d = refl
+  none_after Unbounded blocks c d = tt
+
+  still_named : (form : QueueForm) (blocks : List ℕ) (c : Contents T) → MayHave form blocks → blocks ≡ blocks_after form blocks c c
+  still_named (Bounded capacity) blocks c bare = bare
+  still_named Unbounded blocks c bare = rw (itself c.tail_block) refl
+
 module _ {T W : Type 0} where
+  -- where a call begins, they are those before
+  pub blocks_begun : (parts : Parts T W) (parties : List (Party T W)) (s t : Scene T W) → Shows parts parties s → t.blocks ≡ s.blocks
+      → t.blocks ≡ blocks_after parts.cells.form s.blocks parts.cells parts.cells
+  blocks_begun parts parties s t sh same = same ∙ still_named parts.cells.form s.blocks parts.cells sh.bare
+
   abbrev pub saw : Channel T W → Sitting T W → Sitting T W
   saw c x = record x { seen = c ∷ x.seen }
 
@@ -114,13 +144,13 @@ module _ {T W : Type 0} where
   party_saw q (x ∷ l) = ap (λ (zs : List (Party T W)). x.party ∷ zs) (party_saw q l)
 
   -- the scene of these sittings
-  abbrev pub scene_of : Queue T → Parts T W → List (Sitting T W) → List T → List T → Scene T W
-  scene_of q parts xs gone came = record { now = channel q parts; under_way = map under_of xs; gone = gone; came = came }
+  abbrev pub scene_of : List ℕ → Queue T → Parts T W → List (Sitting T W) → List T → List T → Scene T W
+  scene_of blocks q parts xs gone came = record { now = channel q parts; blocks = blocks; under_way = map under_of xs; gone = gone; came = came }
 
-  same_scene : (s : Scene T W) (c : Channel T W) (us : List (Under T W)) → c ≡ s.now → us ≡ s.under_way → (let z : Scene T W = record { now = c; under_way = us; gone = s.gone; came = s.came } in z) ≡ s
+  same_scene : (s : Scene T W) (c : Channel T W) (us : List (Under T W)) → c ≡ s.now → us ≡ s.under_way → (let z : Scene T W = record { now = c; blocks = s.blocks; under_way = us; gone = s.gone; came = s.came } in z) ≡ s
   same_scene s c us e f =
-      ap (λ (n : Channel T W). let z : Scene T W = record { now = n; under_way = us; gone = s.gone; came = s.came } in z) e
-      ∙ ap (λ (vs : List (Under T W)). let z : Scene T W = record { now = s.now; under_way = vs; gone = s.gone; came = s.came } in z) f
+      ap (λ (n : Channel T W). let z : Scene T W = record { now = n; blocks = s.blocks; under_way = us; gone = s.gone; came = s.came } in z) e
+      ∙ ap (λ (vs : List (Under T W)). let z : Scene T W = record { now = s.now; blocks = s.blocks; under_way = vs; gone = s.gone; came = s.came } in z) f
 
   -- what is known of the calls before one, of that one, and of those behind it
   pub known_left : (c : Channel T W) (us vs : List (Under T W)) → AllKnown c (us ++ vs) → AllKnown c us
@@ -136,9 +166,9 @@ module _ {T W : Type 0} where
   known_both c (u ∷ us) vs h k = (h.0, known_both c us vs h.1 k)
 
   module _ (parts parts' : Parts T W) (l r : List (Sitting T W)) (x : Sitting T W) (q : Queue T) (p' : Party T W) (m : Mark) (names : List W) (id : p'.id ≡ x.party.id)
-      (range : IsInRange q) (fits : Fits parts.cells q (all_seats (l ++ (x ∷ r)))) (known : AllKnown (channel q parts) (map under_of (l ++ (x ∷ r)))) (bal : IsBalanced q) (gone came : List T) where
-    round : Fits parts.cells q (all_seats l ++ (seats_of x ++ all_seats r))
-    round = subst (λ (ss : List (Seat T)). Fits parts.cells q ss) (seats_append l (x ∷ r)) fits
+      (blocks : List ℕ) (range : IsInRange q) (fits : FitsAt blocks parts.cells q (all_seats (l ++ (x ∷ r)))) (known : AllKnown (channel q parts) (map under_of (l ++ (x ∷ r)))) (bal : IsBalanced q) (gone came : List T) where
+    round : FitsAt blocks parts.cells q (all_seats l ++ (seats_of x ++ all_seats r))
+    round = subst (λ (ss : List (Seat T)). FitsAt blocks parts.cells q ss) (seats_append l (x ∷ r)) fits
 
     abbrev before_it : Channel T W
     before_it = channel q parts
@@ -169,24 +199,28 @@ module _ {T W : Type 0} where
         subst (λ (ss : List (Seat T)). HoldsNobodyUp q (phases ss)) (seats_append l r)
         (idle_holds before_it (l ++ r) others (subst (λ (us : List (Under T W)). HoldNobodyUp before_it us) (sym both) hold))
 
-    comes_nearer : Made parts x.party.call.stage names parts' p'.call.stage m None q x.inner (all_seats l) (all_seats r)
+    comes_nearer : Made parts x.party.call.stage names parts' p'.call.stage m None blocks q x.inner (all_seats l) (all_seats r)
         → HoldNobodyUp before_it (map under_of l ++ map under_of r)
         → left_at (length l) (all_left parts' (slice_set (map party_of (l ++ (x ∷ r))) (length l) p')) < left_at (length l) (all_left parts (map party_of (l ++ (x ∷ r))))
     comes_nearer made hold =
-        let less = step_lessens parts parts' names p'.call.stage m None q x.inner (all_seats l) (all_seats r) x.party.call.stage
+        let less = step_lessens parts parts' names p'.call.stage m None blocks q x.inner (all_seats l) (all_seats r) x.party.call.stage
         (at_work x.deeds x.party.call.stage mine_known.stands) made (others_hold hold) in
         rw (number-round party_of (party_left parts) l x r, number-set party_of (party_left parts') l x r p') less
+
+    -- the blocks after it
+    abbrev blocks_now : List ℕ
+    blocks_now = blocks_after parts'.cells.form blocks parts.cells parts'.cells
 
     abbrev pub Outcome : Option (Reply T) → List (Party T W) → Type 0
     Outcome reply parties' =
         (t : Scene T W)
-        × StepsNearer (length l) (all_left parts (map party_of (l ++ (x ∷ r)))) (all_left parts' parties') (scene_of q parts (l ++ (x ∷ r)) gone came) x.party.id (record { mark = m; reply = reply; kept = left_by p' reply }) names t
-        × Shows parts' parties' t × OnePlace parts parts'
+        × StepsNearer (length l) (all_left parts (map party_of (l ++ (x ∷ r)))) (all_left parts' parties') (scene_of blocks q parts (l ++ (x ∷ r)) gone came) x.party.id (record { mark = m; reply = reply; kept = left_by p' reply }) names t
+        × Shows parts' parties' t × OnePlace parts parts' × (t.blocks ≡ blocks_now)
 
     pub core : (reply : Option (Reply T)) → IsStepOver parts x.party.call.stage names parts' p'.call.stage m reply
         → Outcome reply (parties_after (map party_of (l ++ (x ∷ r))) (length l) p' reply)
     core None step =
-        let made = step q x.inner (all_seats l) (all_seats r) range round in
+        let made = step blocks q x.inner (all_seats l) (all_seats r) range round in
         let q' : Queue T = made.queue in
         let now : Channel T W = channel q' parts' in
         let at' = phase made.phase_now p'.call.stage in
@@ -207,7 +241,7 @@ module _ {T W : Type 0} where
         let all_known : AllKnown now (map (sees now) (map under_of l) ++ (mine_named ∷ map (sees now) (map under_of r))) =
         known_both now (map (sees now) (map under_of l)) (mine_named ∷ map (sees now) (map under_of r)) (all_see before_it now on (map under_of l) left_known)
         (own_known before_it (under_of x) bal mine_known m now names at' made.moves, all_see before_it now on (map under_of r) right_known) in (
-          scene_of q' parts' after_all (gone ++ gone_by m q.items) (came ++ came_by m x.ask),
+          scene_of blocks_now q' parts' after_all (gone ++ gone_by m q.items) (came ++ came_by m x.ask),
           record {
             step = record {
               before = map under_of l;
@@ -234,14 +268,17 @@ module _ {T W : Type 0} where
             parties_are = parties_are;
             under_way = refl;
             now = refl;
-            fits = subst (λ (ss : List (Seat T)). Fits parts'.cells q' ss) (sym seats_are) made.fits;
+            fits = subst (λ (ss : List (Seat T)). FitsAt blocks_now parts'.cells q' ss) (sym seats_are)
+                (fits_after blocks parts.cells parts'.cells q' (all_seats l ++ (seats made.phase_now p'.call.stage ++ all_seats r)) made.fits);
+            bare = none_after parts'.cells.form blocks parts.cells parts'.cells;
             known = subst (λ (us : List (Under T W)). AllKnown now us) (sym under_are) all_known;
             balanced = on.balanced bal;
           },
           made.one_place,
+          refl,
         )
     core (Some y) step =
-        let made = step q x.inner (all_seats l) (all_seats r) range round in
+        let made = step blocks q x.inner (all_seats l) (all_seats r) range round in
         let q' : Queue T = made.queue in
         let now : Channel T W = channel q' parts' in
         let at' = phase made.phase_now p'.call.stage in
@@ -251,7 +288,8 @@ module _ {T W : Type 0} where
         let alone : seats made.phase_now p'.call.stage ≡ [] =
         answered_alone before_it at0 e y made.phase_now p'.call.stage made.moves in
         let after_all : List (Sitting T W) = map (saw now) l ++ map (saw now) r in
-        let fits' : Fits parts'.cells q' (all_seats l ++ all_seats r) = subst (λ (ss : List (Seat T)). Fits parts'.cells q' (all_seats l ++ (ss ++ all_seats r))) alone made.fits in
+        let fits' : FitsAt (chain_after blocks parts.cells parts'.cells) parts'.cells q' (all_seats l ++ all_seats r) =
+        subst (λ (ss : List (Seat T)). FitsAt (chain_after blocks parts.cells parts'.cells) parts'.cells q' (all_seats l ++ (ss ++ all_seats r))) alone made.fits in
         let seats_are : all_seats after_all ≡ all_seats l ++ all_seats r =
         seats_append (map (saw now) l) (map (saw now) r) ∙ (ap (λ (zs : List (Seat T)). zs ++ all_seats (map (saw now) r)) (seats_saw now l) ∙ ap (λ (zs : List (Seat T)). all_seats l ++ zs) (seats_saw now r)) in
         let parties_are : remove (map party_of (l ++ (x ∷ r))) (length l) ≡ map party_of after_all =
@@ -260,7 +298,7 @@ module _ {T W : Type 0} where
         map-round under_of (map (saw now) l) (map (saw now) r) ∙ (ap (λ (zs : List (Under T W)). zs ++ map under_of (map (saw now) r)) (under_saw now l) ∙ ap (λ (zs : List (Under T W)). map (sees now) (map under_of l) ++ zs) (under_saw now r)) in
         let all_known : AllKnown now (map (sees now) (map under_of l) ++ map (sees now) (map under_of r)) =
         known_both now (map (sees now) (map under_of l)) (map (sees now) (map under_of r)) (all_see before_it now on (map under_of l) left_known) (all_see before_it now on (map under_of r) right_known) in (
-          scene_of q' parts' after_all (gone ++ gone_by m q.items) (came ++ came_by m x.ask),
+          scene_of blocks_now q' parts' after_all (gone ++ gone_by m q.items) (came ++ came_by m x.ask),
           record {
             step = record {
               before = map under_of l;
@@ -287,11 +325,14 @@ module _ {T W : Type 0} where
             parties_are = parties_are;
             under_way = refl;
             now = refl;
-            fits = subst (λ (ss : List (Seat T)). Fits parts'.cells q' ss) (sym seats_are) fits';
+            fits = subst (λ (ss : List (Seat T)). FitsAt blocks_now parts'.cells q' ss) (sym seats_are)
+                (fits_after blocks parts.cells parts'.cells q' (all_seats l ++ all_seats r) fits');
+            bare = none_after parts'.cells.form blocks parts.cells parts'.cells;
             known = subst (λ (us : List (Under T W)). AllKnown now us) (sym under_are) all_known;
             balanced = on.balanced bal;
           },
           made.one_place,
+          refl,
         )
 
   -- a step of the k-th party, as the code makes it, is a step in each scene that is shown
@@ -305,15 +346,15 @@ module _ {T W : Type 0} where
       let at_x : slice_get parties k ≡ Some x.party = subst (λ (y : Party T W). slice_get parties k ≡ Some y) (sym d.4) there in
       let c = h x.party at_x in
       let in_range : IsInRange sh.queue = subst (λ (z : Channel T W). IsInRange z.queue) sh.now range in
-      let fits : Fits parts.cells sh.queue (all_seats (l ++ (x ∷ r))) = subst (λ (xs : List (Sitting T W)). Fits parts.cells sh.queue (all_seats xs)) d.3 sh.fits in
+      let fits : FitsAt s.blocks parts.cells sh.queue (all_seats (l ++ (x ∷ r))) = subst (λ (xs : List (Sitting T W)). FitsAt s.blocks parts.cells sh.queue (all_seats xs)) d.3 sh.fits in
       let under_is : s.under_way ≡ map under_of (l ++ (x ∷ r)) = sh.under_way ∙ ap (λ (xs : List (Sitting T W)). map under_of xs) d.3 in
       let known : AllKnown (channel sh.queue parts) (map under_of (l ++ (x ∷ r))) = subst (λ (us : List (Under T W)). AllKnown (channel sh.queue parts) us) under_is (subst (λ (z : Channel T W). AllKnown z s.under_way) sh.now sh.known) in
-      let o = core parts parts' l r x sh.queue c.0 e.mark c.2.0 c.1 in_range fits known sh.balanced s.gone s.came e.reply c.2.2 in
+      let o = core parts parts' l r x sh.queue c.0 e.mark c.2.0 c.1 s.blocks in_range fits known sh.balanced s.gone s.came e.reply c.2.2 in
       let parties_is : parties ≡ map party_of (l ++ (x ∷ r)) = sh.parties_are ∙ ap (λ (xs : List (Sitting T W)). map party_of xs) d.3 in
       let left : parties_after (map party_of (l ++ (x ∷ r))) (length l) c.0 e.reply ≡ parties' =
       ap (λ (zs : List (Party T W)). parties_after zs (length l) c.0 e.reply) (sym parties_is) ∙ (ap (λ n. parties_after parties n c.0 e.reply) d.5 ∙ sym c.4) in
-      let scene_is : scene_of sh.queue parts (l ++ (x ∷ r)) s.gone s.came ≡ s = same_scene s (channel sh.queue parts) (map under_of (l ++ (x ∷ r))) (sym sh.now) (sym under_is) in
-      let before_all : Scene T W = scene_of sh.queue parts (l ++ (x ∷ r)) s.gone s.came in
+      let scene_is : scene_of s.blocks sh.queue parts (l ++ (x ∷ r)) s.gone s.came ≡ s = same_scene s (channel sh.queue parts) (map under_of (l ++ (x ∷ r))) (sym sh.now) (sym under_is) in
+      let before_all : Scene T W = scene_of s.blocks sh.queue parts (l ++ (x ∷ r)) s.gone s.came in
       let names = c.2.0 in
       let t = o.0 in
       let first : List ℕ = all_left parts (map party_of (l ++ (x ∷ r))) in
@@ -335,6 +376,7 @@ module _ {T W : Type 0} where
         after = o.0;
         steps = there_now;
         one_place = o.3;
+        blocks = o.4;
         shown = subst (λ (zs : List (Party T W)). Shows parts' zs o.0) left o.2;
       }
 

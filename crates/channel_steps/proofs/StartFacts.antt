@@ -5,11 +5,12 @@ use Rattle.concurrent_queue.specs.Capacity.{capacity_of}
 use Rattle.concurrent_queue.specs.Made.{IsNew}
 use Rattle.concurrent_queue.specs.Queue.{opened}
 use Rattle.concurrent_queue.specs.declared.cells.QueueForm.{QueueForm}
+use Rattle.concurrent_queue.specs.declared.cells.QueueForm.TheVariants.{Bounded, Unbounded}
 use Rattle.channel_calls.specs.Moves.{channel}
 use Rattle.channel_calls.specs.Parts.{Parts, Roster, new_roster}
 use Rattle.channel_steps.specs.declared.party.Party.{Party}
 use Rattle.channel_steps.specs.Run.{new_scene}
-use Rattle.channel_steps.specs.Scene.{Scene, Sitting, under_of, Shows}
+use Rattle.channel_steps.specs.Scene.{Scene, Sitting, under_of, Shows, MayHave}
 use Rattle.channel_steps.specs.Start.{IsQuietOrNot, TellsQuiet}
 
 long_as : {A B : Type 0} (g : A → B) (xs : List A) → length (map g xs) ≡ length xs
@@ -20,6 +21,10 @@ no_items : {A : Type 0} (xs : List A) → length xs ≡ 0 → xs ≡ []
 no_items [] h = refl
 no_items (x ∷ xs) h = absurd (omega arith)
 
+none_at_first : (form : QueueForm) → MayHave form []
+none_at_first (Bounded capacity) = refl
+none_at_first Unbounded = tt
+
 module _ {T W : Type 0} where
   pub new_shown : (form : QueueForm) (parts : Parts T W) (parties : List (Party T W)) → IsNew form parts.cells → parts.roster ≡ new_roster → parties ≡ [] → Shows parts parties (new_scene (capacity_of form))
   new_shown form parts parties new roster none =
@@ -29,7 +34,8 @@ module _ {T W : Type 0} where
         parties_are = none;
         under_way = refl;
         now = sym (ap (λ (a : Roster W). channel (opened (capacity_of form)) (record { cells = parts.cells; roster = a })) roster);
-        fits = ([], new.1);
+        fits = new.1;
+        bare = none_at_first parts.cells.form;
         known = tt;
         balanced = refl;
       }

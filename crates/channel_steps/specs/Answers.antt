@@ -143,17 +143,7 @@ module _ {T W : Type 0} where
   TerminatedRow ds seen (reply.Flag false) = (ds ≡ []) × Once (λ c. Open c ⊎ HasMessage c) seen
   TerminatedRow ds seen _ = ⊥
 
-  -- a call that touches nothing
-  abbrev pub OnlyRow : Reply T → List (Deed T W) → Reply T → Type 0
-  OnlyRow said ds r = (ds ≡ []) × (r ≡ said)
-
-  abbrev pub is_closed : Channel T W → Bool
-  is_closed c = c.queue.closed
-
-  abbrev pub is_full : Channel T W → Bool
-  is_full c = is_filled c.queue
-
-  -- what a call answers that has one answer
+  -- what a call answers that touches nothing, and so has one answer
   abbrev pub sole_reply : ChannelAsk T W → Reply T
   sole_reply PollFinishedSend = reply.SendPoll Pending
   sole_reply (RefusePoll line message key) = refused_reply line listen_error.NoMemory
@@ -178,13 +168,13 @@ module _ {T W : Type 0} where
   Row (CloneHandle side) ds seen r = CloneRow side ds seen r
   Row (Upgrade side) ds seen r = UpgradeRow side ds seen r
   Row (HandleCount side) ds seen r = CountRow (λ c. count side c.roster) ds seen r
-  Row IsClosed ds seen r = FlagRow is_closed ds seen r
+  Row IsClosed ds seen r = FlagRow (λ c. c.queue.closed) ds seen r
   Row IsEmpty ds seen r = FlagRow is_empty ds seen r
-  Row IsFull ds seen r = FlagRow is_full ds seen r
+  Row IsFull ds seen r = FlagRow (λ c. is_filled c.queue) ds seen r
   Row Len ds seen r = CountRow (λ c. length c.queue.items) ds seen r
   Row Capacity ds seen r = CapacityRow ds seen r
   Row IsTerminated ds seen r = TerminatedRow ds seen r
-  Row ask ds seen r = OnlyRow (sole_reply ask) ds r
+  Row ask ds seen r = (ds ≡ []) × (r ≡ sole_reply ask)
 
   -- ---- what a finished call leaves to its operation
 

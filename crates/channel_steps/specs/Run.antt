@@ -36,7 +36,7 @@ module _ {T : Type 0} where
 module _ {T W : Type 0} where
   -- a channel that was just opened, with nobody at work
   abbrev pub new_scene : Option ℕ → Scene T W
-  new_scene cap = record { now = new_channel cap; under_way = []; gone = []; came = [] }
+  new_scene cap = record { now = new_channel cap; blocks = []; under_way = []; gone = []; came = [] }
 
   -- a call that has made no step
   abbrev pub begun : ℕ → ChannelAsk T W → Stage (Phase T) T W → Channel T W → Under T W
@@ -49,6 +49,7 @@ module _ {T W : Type 0} where
     pub answer : Option (Reply T)
     pub turned : Turned (first ask) answer at
     pub now : t.now ≡ s.now
+    pub blocks : t.blocks ≡ s.blocks
     pub under_way : t.under_way ≡ s.under_way ++ begun p ask at s.now ∷ []
     pub gone : t.gone ≡ s.gone
     pub came : t.came ≡ s.came

@@ -2,7 +2,10 @@
 use Rattle.std.specs.Prelude.{◌≡◌, ℕ, ◌+◌, ◌<◌, ◌≤◌, ◌⊎◌, List, [], ◌∷◌, ◌++◌, length, take, Option, None, Some, map, slice_get, slice_set}
 use Rattle.std.specs.List.{remove}
 use Rattle.concurrent_queue.specs.Queue.{Queue, Phase, IsInRange}
-use Rattle.concurrent_queue.specs.Step.{Seat, Fits}
+use Rattle.concurrent_queue.specs.Contents.{Contents}
+use Rattle.concurrent_queue.specs.Step.{Seat, FitsAt, chain_after}
+use Rattle.concurrent_queue.specs.declared.cells.QueueForm.{QueueForm}
+use Rattle.concurrent_queue.specs.declared.cells.QueueForm.TheVariants.{Bounded, Unbounded}
 use Rattle.event_listener.specs.Notices.{Woken}
 use Rattle.channel_calls.specs.Asks.{kept_by}
 use Rattle.channel_calls.specs.Parts.{Parts}
@@ -35,10 +38,11 @@ pub record Under (T W : Type 0) : Type 0 where
   pub told : List Telling
   pub made : ℕ
 
--- a channel, its calls under way, in the order in which they began, and all messages that have left it and that have come
--- into it, in order
+-- a channel, the blocks that its queue has used so far, oldest first, its calls under way, in the order in which they began, and
+-- all messages that have left it and that have come into it, in order
 pub record Scene (T W : Type 0) : Type 0 where
   pub now : Channel T W
+  pub blocks : List ℕ
   pub under_way : List (Under T W)
   pub gone : List T
   pub came : List T
@@ -53,7 +57,18 @@ pub record Sitting (T W : Type 0) : Type 0 where
   pub told : List Telling
   pub made : ℕ
 
+-- a queue with a bound has no blocks
+abbrev pub MayHave : QueueForm → List ℕ → Type 0
+MayHave (Bounded capacity) blocks = blocks ≡ []
+MayHave Unbounded blocks = Unit {0}
+
 module _ {T : Type 0} where
+  -- what blocks a queue of this form has used after a step from the cells c to the cells d. One without a bound has used those
+  -- before the step, and one more where the tail's word then names another block
+  abbrev pub blocks_after : QueueForm → List ℕ → Contents T → Contents T → List ℕ
+  blocks_after (Bounded capacity) blocks c d = []
+  blocks_after Unbounded blocks c d = chain_after blocks c d
+
   -- the messages that are there and those that were taken out are those that came
   abbrev pub IsBalanced : Queue T → Type 0
   IsBalanced q = length q.items + q.removed ≡ q.accepted
@@ -202,7 +217,8 @@ module _ {T W : Type 0} where
     pub parties_are : parties ≡ map (λ (x : Sitting T W). x.party) sittings
     pub under_way : s.under_way ≡ map under_of sittings
     pub now : s.now ≡ channel queue parts
-    pub fits : Fits parts.cells queue (all_seats sittings)
+    pub fits : FitsAt s.blocks parts.cells queue (all_seats sittings)
+    pub bare : MayHave parts.cells.form s.blocks
     pub known : AllKnown s.now s.under_way
     pub balanced : IsBalanced queue
 
@@ -247,6 +263,7 @@ module _ {T W : Type 0} where
       pub after : Scene T W
       pub steps : StepsNearer k (all_left parts parties) (all_left parts' parties') s p e names after
       pub one_place : OnePlace parts parts'
+      pub blocks : after.blocks ≡ blocks_after parts'.cells.form s.blocks parts.cells parts'.cells
       pub shown : Shows parts' parties' after
 
     -- the k-th call under way makes a step, in every scene that the cells and the parties show

@@ -18,7 +18,7 @@ module _ {T : Type 0} where
   holds_what_fits w k =
       let sh = k.stands.shown in
       let q : Queue T = sh.shows.queue in
-      let shown = shows (parts_in w).cells q (all_seats sh.shows.sittings) sh.shows.fits in
+      let shown = shows (parts_in w).cells q (all_seats sh.shows.sittings) (_, sh.shows.fits) in
       let held : messages_in w ≡ length q.items = sh.messages ∙ ap (λ (c : Channel T Waiter). length c.queue.items) sh.shows.now in
       if_some (λ most. messages_in w ≤ most) (capacity_of (parts_in w).cells.form)
       (λ most e. subst (λ (n : ℕ). n ≤ most) (sym held) (shown.within most (shown.limit ∙ e)))

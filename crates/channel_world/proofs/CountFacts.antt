@@ -103,7 +103,7 @@ module _ {T : Type 0} where
 
     closed_shown : s.now.queue.closed ≡ closed_in (parts_in w).cells
     closed_shown =
-        let shown = shows (parts_in w).cells sh.shows.queue (all_seats sh.shows.sittings) sh.shows.fits in
+        let shown = shows (parts_in w).cells sh.shows.queue (all_seats sh.shows.sittings) (_, sh.shows.fits) in
         ap (λ (c : Channel T Waiter). c.queue.closed) sh.shows.now ∙ sym shown.flag
 
   -- ---- a world

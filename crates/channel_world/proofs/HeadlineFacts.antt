@@ -128,6 +128,7 @@ module _ {T : Type 0} where
       record {
         accepted = l.made.not_refused;
         call = call_says m x e n k l;
+        blocks = l.blocks;
         closed = λ shut. stays_closed m.scene y f e.woken.items n.scene l.made.next shut;
         over = λ over. stays_over m.scene y f e.woken.items n.scene l.made.next over;
         the_end = ends_over m x e n k l;

@@ -1,7 +1,7 @@
 -- A world with no call under way is the state that its channel shows; one that was just opened is the start.
 use Rattle.std.proofs.Common.{◌≡◌, ℕ, List, [], ◌∷◌, map, Option, refl, sym, ap, subst, ◌∙◌}
 use Rattle.concurrent_queue.specs.Queue.{Queue}
-use Rattle.concurrent_queue.specs.Step.{Fits}
+use Rattle.concurrent_queue.specs.Step.{FitsAt}
 use Rattle.concurrent_queue.proofs.Interface.{shows}
 use Rattle.channel_calls.specs.Moves.{Channel}
 use Rattle.channel_interleaving.specs.Floor.{parts_in, book_of, Shown, IsOpen, IsQuiet}
@@ -21,8 +21,9 @@ module _ {T : Type 0} where
       let parts = parts_in f in
       let q : Queue T = sh.shows.queue in
       let none = nobody sh.shows.sittings (sym sh.shows.parties_are ∙ quiet) in
-      let fits : Fits parts.cells q [] = subst (λ (xs : List (Sitting T Waiter)). Fits parts.cells q (all_seats xs)) none sh.shows.fits in
-      let shown = shows parts.cells q [] fits in
+      let fits : FitsAt s.blocks parts.cells q [] =
+      subst (λ (xs : List (Sitting T Waiter)). FitsAt s.blocks parts.cells q (all_seats xs)) none sh.shows.fits in
+      let shown = shows parts.cells q [] (s.blocks, fits) in
       let held = sym (shown.at_rest refl).0 in
       let limit = sym shown.limit in
       let before = at_rest f in

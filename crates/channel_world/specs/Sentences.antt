@@ -14,7 +14,7 @@ use Rattle.channel_steps.specs.Answers.{asks_first}
 use Rattle.channel_steps.specs.Known.{IsQuick}
 use Rattle.channel_steps.specs.Moments.{Shut, Spent}
 use Rattle.channel_steps.specs.Run.{begun as call_begun}
-use Rattle.channel_steps.specs.Scene.{Under, EndsInTime, brought, does, sees, unless_ended}
+use Rattle.channel_steps.specs.Scene.{Under, blocks_after, EndsInTime, brought, does, sees, unless_ended}
 use Rattle.channel_steps.specs.Tellings.{telling, dropping, Names}
 use Rattle.channel_interleaving.specs.Bookkeeping.{asks}
 use Rattle.channel_interleaving.specs.Floor.{StandsIn}
@@ -48,7 +48,7 @@ module _ {T : Type 0} where
     -- under way answers for
     pub owed : Owed (sight_at m.book.roll m.scene)
     -- the channel is closed or not and holds so many messages as its queue's words say; and each message lies in the slot that
-    -- they name for it alone, without a bound by the blocks that follow one another, or is with the call that is yet to put it there
+    -- they name for it alone, without a bound by the blocks that the queue has used, or is with the call that is yet to put it there
     pub words : WordsSay m.parts.cells world.parties.items m.scene
     -- no call has more steps left than 197, and 64 for each message that a receive of several may take, where none holds it up
     pub few : FewLeft m
@@ -117,6 +117,8 @@ module _ {T : Type 0} where
     -- none of the seven reasons refuses it
     pub accepted : step_refusal m.book.roll m.book.agents x ≡ None
     pub call : CallSays m x e n
+    -- the queue has used the blocks that it had used before, and one more, at the end, where its tail's word then names another
+    pub blocks : n.scene.blocks ≡ blocks_after n.parts.cells.form m.scene.blocks m.parts.cells n.parts.cells
     -- what is closed stays closed; what is over, closed with nothing there and nothing on its way, stays over, and no message comes
     -- or leaves; and a reply that says the end found it over
     pub closed : Shut m.scene.now → Shut n.scene.now
