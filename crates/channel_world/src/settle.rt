@@ -165,10 +165,10 @@ impl<T: Drop> World<T> {
 
 impl<T: Drop> World<T> {
     ghost use Rattle.std.specs.Prelude.{◌≡◌, ◌≤◌, ◌<◌, ◌+◌, ◌*◌, [], vec_len, IfOk, OnOk, OnErr};
-    ghost use Rattle.channel_interleaving.specs.Floor.{messages_in, IsQuiet, LeadsOn, Stands};
+    ghost use Rattle.channel_interleaving.specs.Floor.{messages_in, IsQuiet, Stands};
     ghost use Rattle.channel_interleaving.specs.Pending.{is_pending, how_many};
     ghost use Rattle.channel_model.specs.Settling.{Settles, pending_count};
-    ghost use Rattle.channel_world.specs.Carried.{polls_replied};
+    ghost use Rattle.channel_world.specs.Carried.{polls_replied, LeadsTo};
     ghost use Rattle.channel_world.specs.Settled.{polls_in, most_polls, NoneLackedMemory, NoReceiveGoesOn, NoSendGoesOn, NoStreamGoesOn, NobodyMissesTheClosing};
     ghost use Rattle.channel_world.specs.World.{at_rest};
 
@@ -210,7 +210,7 @@ impl<T: Drop> World<T> {
         ensures no_stream { OnOk result (0 < messages_in self.new → (at_rest self.new).waiting.streams ≡ []) }
         ensures unchanged { OnErr result (self.new ≡ self.old) }
         ensures quiet { IsQuiet self.new }
-        ensures leads { IfOk result (λ polls. LeadsOn self.old (polls_replied polls.items) self.new) }
+        ensures leads { IfOk result (λ polls. LeadsTo self.old (polls_replied polls.items) self.new) }
         ensures stands { Stands self.new }
     {
         a_channel_at_rest_is_a_world::<T>();

@@ -103,8 +103,7 @@ impl<T: Drop> World<T> {
 }
 
 impl<T: Drop> World<T> {
-    ghost use Rattle.std.specs.Prelude.{◌≡◌, ◌<◌, ◌+◌, ◌^◌, List, [], ◌++◌, length, None, Some, IfSome, IsTrue, vec_len};
-    ghost use Rattle.channel_calls.specs.declared.reply.Reply.{Reply};
+    ghost use Rattle.std.specs.Prelude.{◌≡◌, ◌<◌, ◌+◌, ◌^◌, [], length, None, Some, IfSome, IsTrue, vec_len};
     ghost use Rattle.channel_model.specs.declared.name.Waiter.{Waiter};
     ghost use Rattle.channel_steps.specs.Scene.{Scene};
     ghost use Rattle.channel_interleaving.specs.Apart.{AreApart};
@@ -112,8 +111,9 @@ impl<T: Drop> World<T> {
     ghost use Rattle.channel_interleaving.specs.Pending.{is_pending, how_many};
     ghost use Rattle.channel_interleaving.specs.Run.{Stops};
     ghost use Rattle.channel_interleaving.specs.Runs.{accepted_in, left_in, RanTo};
-    ghost use Rattle.channel_interleaving.specs.Floor.{book_of, calls_in, messages_in, HasPositions, IsKept, Led, LeadsOn, Stands, StandsIn, TellsQuiet};
+    ghost use Rattle.channel_interleaving.specs.Floor.{book_of, calls_in, messages_in, HasPositions, IsKept, Stands, StandsIn, TellsQuiet};
     ghost use Rattle.channel_interleaving.specs.Way.{replies_in};
+    ghost use Rattle.channel_world.specs.Carried.{LeadsTo};
     ghost use Rattle.channel_world.specs.Headline.{Headline};
     ghost use Rattle.channel_world.specs.StepsLeft.{EndsInFront};
     ghost use Rattle.channel_world.specs.TheEnd.{NothingComesAfter};
@@ -145,9 +145,7 @@ impl<T: Drop> World<T> {
             → Headline steps.old.items steps.new.items self.old result.trace.items result.stopped self.new s }
         ensures soon { EndsInFront self.old steps.old.items result.trace.items }
         ensures the_end { NothingComesAfter steps.old.items result.trace.items }
-        ensures leads { LeadsOn self.old (replies_in result.trace.items) self.new }
-        ensures carries { (s : Scene T Waiter) (replies : List (Reply T)) → Led s replies self.old
-            → Led s (replies ++ replies_in result.trace.items) self.new }
+        ensures leads { LeadsTo self.old (replies_in result.trace.items) self.new }
         ensures stands { Stands self.new }
         ensures used_up { result.stopped ≡ None → steps.new.items ≡ [] }
         ensures made { vec_len result.trace + length steps.new.items ≡ length steps.old.items }

@@ -3,4 +3,8 @@ use Rattle.channel_interleaving.proofs.Interface.{leads_nowhere, leads_on, led_f
 use Rattle.channel_world.proofs.laws.what_is_done_in_turn_leads_on.Goals as goal
 
 pub returns : goal.returns
-returns g c = record { nothing = leads_nowhere; in_turn = leads_on; further = led_further }
+returns g c = record {
+  nothing = λ w. record { on = leads_nowhere w };
+  in_turn = λ w x y rs ss first second. record { on = leads_on w x y rs ss first.on second.on };
+  further = λ x y s rs ss led second. led_further x y s rs ss led second.on;
+}

@@ -2,7 +2,7 @@ use Rattle.std.proofs.Common.{◌≡◌, Some, None, ◌∷◌, ◌++◌, [], ru
 use Rattle.std.specs.Option.{option_to_list}
 use Rattle.channel_model.specs.Refusal.{refusal}
 use Rattle.channel_model.proofs.RunLemmas.{goes_on_empty, stop_in_front, stop_at_end, run_ends, run_ends_full, goes_on_by}
-use Rattle.channel_interleaving.proofs.Interface.{leads_nowhere, led_further, stands_led}
+use Rattle.channel_interleaving.proofs.Interface.{leads_nowhere, stands_led}
 use Rattle.channel_world.specs.World.{at_rest}
 use Rattle.channel_world.proofs.Leading.{leads_same, leads_answered, leads_still}
 use Rattle.channel_world.proofs.world.World.run_calls.Goals as goal
@@ -15,12 +15,9 @@ loop-call-init g c = record {
 }
 
 pub returns-in-Some-stop-clause-leads : goal.returns-in-Some-stop-clause-leads
-returns-in-Some-stop-clause-leads g c =
-    leads_same c.args.self.now c.loop-call.self c.loop-call.done.items _ c.in-Some-stop.ensures.items c.loop-call.invariant.leads
-
-pub returns-in-Some-stop-clause-carries : goal.returns-in-Some-stop-clause-carries
-returns-in-Some-stop-clause-carries g c =
-    λ s replies led. led_further c.args.self.now c.loop-call.self s replies _ led (returns-in-Some-stop-clause-leads g c)
+returns-in-Some-stop-clause-leads g c = record {
+  on = leads_same c.args.self.now c.loop-call.self c.loop-call.done.items _ c.in-Some-stop.ensures.items c.loop-call.invariant.leads;
+}
 
 pub returns-in-Some-stop-clause-stands : goal.returns-in-Some-stop-clause-stands
 returns-in-Some-stop-clause-stands g c = stands_led c.args.self.now c.loop-call.self _ c.keeps.ensures c.loop-call.invariant.leads
@@ -44,23 +41,17 @@ loop-call-preserved g c =
     }
 
 pub returns-in-Err-clause-leads : goal.returns-in-Err-clause-leads
-returns-in-Err-clause-leads g c =
-    leads_still c.args.self.now c.loop-call.self c.answer.new.self c.loop-call.done.items _ c.stop.ensures.items c.loop-call.invariant.leads
-    c.in-Err.ensures.leads
-
-pub returns-in-Err-clause-carries : goal.returns-in-Err-clause-carries
-returns-in-Err-clause-carries g c =
-    λ s replies led. led_further c.args.self.now c.answer.new.self s replies _ led (returns-in-Err-clause-leads g c)
+returns-in-Err-clause-leads g c = record {
+  on = leads_still c.args.self.now c.loop-call.self c.answer.new.self c.loop-call.done.items _ c.stop.ensures.items c.loop-call.invariant.leads
+      c.in-Err.ensures.leads;
+}
 
 pub returns-in-Err-clause-stands : goal.returns-in-Err-clause-stands
 returns-in-Err-clause-stands g c =
-    stands_led c.args.self.now c.answer.new.self _ c.keeps.ensures (returns-in-Err-clause-leads g c)
+    stands_led c.args.self.now c.answer.new.self _ c.keeps.ensures (returns-in-Err-clause-leads g c).on
 
 pub returns-clause-leads : goal.returns-clause-leads
-returns-clause-leads g c = c.loop-call.invariant.leads
-
-pub returns-clause-carries : goal.returns-clause-carries
-returns-clause-carries g c = λ s replies led. led_further c.args.self.now c.loop-call.self s replies _ led c.loop-call.invariant.leads
+returns-clause-leads g c = record { on = c.loop-call.invariant.leads }
 
 pub returns-clause-stands : goal.returns-clause-stands
 returns-clause-stands g c = stands_led c.args.self.now c.loop-call.self _ c.keeps.ensures c.loop-call.invariant.leads

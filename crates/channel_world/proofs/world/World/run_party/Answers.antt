@@ -5,7 +5,7 @@ use Rattle.channel_interleaving.specs.Runs.{RanTo}
 use Rattle.channel_interleaving.specs.Way.{replies_in}
 use Rattle.channel_interleaving.specs.declared.step.Entry.{Entry}
 use Rattle.channel_interleaving.specs.declared.step.Step.TheVariants as step
-use Rattle.channel_interleaving.proofs.Interface.{led_further, ran_leads}
+use Rattle.channel_interleaving.proofs.Interface.{ran_leads}
 use Rattle.channel_world.specs.PartyRun.{refused_of, AreSilent, EndsWithAnswer, IsRefused, StepsOnce}
 use Rattle.channel_world.proofs.HeadlineFacts.{headline, counted}
 use Rattle.channel_world.proofs.PartyFacts.{Ended, ended_refused, ended_well, not_silent, answer_ends, once_silent, none_written, party_more, ran_nothing, silent_ends, silent_more, some_written}
@@ -64,13 +64,8 @@ returns-then-not-have_room-clause-leads g c =
     ))
     (ap (λ t. t.items) c.stopped.ensures.trace ∙ c.have_room.ensures.trace) c.stopped.ensures.stopped
     (c.have_room.new.trace.ok.0 ∙ ap (λ (t : List (Entry g.row.T.Denot)). length t) c.have_room.ensures.trace)) in
-    ran_leads _ (refused_of c.args.party c.stopped.result.stopped) c.args.self.now c.stopped.result.trace.items c.loop-made.self
-    ended.ran
-
-pub returns-then-not-have_room-clause-carries : goal.returns-then-not-have_room-clause-carries
-returns-then-not-have_room-clause-carries g c = λ s replies led.
-    led_further c.args.self.now c.loop-made.self s replies (replies_in c.stopped.result.trace.items) led
-    (returns-then-not-have_room-clause-leads g c)
+    record { on = ran_leads _ (refused_of c.args.party c.stopped.result.stopped) c.args.self.now c.stopped.result.trace.items c.loop-made.self
+    ended.ran }
 
 pub returns-then-not-have_room-clause-messages : goal.returns-then-not-have_room-clause-messages
 returns-then-not-have_room-clause-messages g c =
@@ -122,12 +117,7 @@ returns-then-answered-clause-leads g c =
     ended_well c.args.party (c.loop-made._made + 1) c.args.self.now c.step_party.new.trace.items c.step_party.new.self long
     (party_more c.args.party c.loop-made._made c.args.self.now c.loop-made.trace.items c.loop-made.self c.in-Ok.answered
     c.step_party.new.trace.items c.step_party.new.self c.loop-made.invariant.ran once)) in
-    ran_leads _ (refused_of c.args.party None) c.args.self.now c.step_party.new.trace.items c.step_party.new.self ended.ran
-
-pub returns-then-answered-clause-carries : goal.returns-then-answered-clause-carries
-returns-then-answered-clause-carries g c = λ s replies led.
-    led_further c.args.self.now c.step_party.new.self s replies (replies_in c.step_party.new.trace.items) led
-    (returns-then-answered-clause-leads g c)
+    record { on = ran_leads _ (refused_of c.args.party None) c.args.self.now c.step_party.new.trace.items c.step_party.new.self ended.ran }
 
 pub returns-then-answered-clause-messages : goal.returns-then-answered-clause-messages
 returns-then-answered-clause-messages g c =
@@ -185,13 +175,8 @@ returns-in-Err-clause-leads g c =
     c.loop-made.invariant.ran refused.ran refused.reason (ap (λ t. t.items) c.stopped-in-Err.ensures.trace ∙ refused.unwritten)
     c.stopped-in-Err.ensures.stopped
     (c.step_party.new.trace.ok.0 ∙ ap (λ (t : List (Entry g.row.T.Denot)). length t) refused.unwritten)) in
-    ran_leads _ (refused_of c.args.party c.stopped-in-Err.result.stopped) c.args.self.now c.stopped-in-Err.result.trace.items
-    c.step_party.new.self ended.ran
-
-pub returns-in-Err-clause-carries : goal.returns-in-Err-clause-carries
-returns-in-Err-clause-carries g c = λ s replies led.
-    led_further c.args.self.now c.step_party.new.self s replies (replies_in c.stopped-in-Err.result.trace.items) led
-    (returns-in-Err-clause-leads g c)
+    record { on = ran_leads _ (refused_of c.args.party c.stopped-in-Err.result.stopped) c.args.self.now c.stopped-in-Err.result.trace.items
+    c.step_party.new.self ended.ran }
 
 pub returns-in-Err-clause-messages : goal.returns-in-Err-clause-messages
 returns-in-Err-clause-messages g c =
@@ -224,11 +209,7 @@ returns-clause-leads g c =
     let ended : Ended c.args.party c.args.self.now c.loop-made.trace.items None c.loop-made.self =
     (ended_well c.args.party c.loop-made._made c.args.self.now c.loop-made.trace.items c.loop-made.self c.loop-made.invariant.count
     c.loop-made.invariant.ran) in
-    ran_leads _ (refused_of c.args.party None) c.args.self.now c.loop-made.trace.items c.loop-made.self ended.ran
-
-pub returns-clause-carries : goal.returns-clause-carries
-returns-clause-carries g c = λ s replies led.
-    led_further c.args.self.now c.loop-made.self s replies (replies_in c.loop-made.trace.items) led (returns-clause-leads g c)
+    record { on = ran_leads _ (refused_of c.args.party None) c.args.self.now c.loop-made.trace.items c.loop-made.self ended.ran }
 
 pub returns-clause-messages : goal.returns-clause-messages
 returns-clause-messages g c =

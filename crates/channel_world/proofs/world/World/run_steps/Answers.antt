@@ -1,8 +1,7 @@
 use Rattle.std.proofs.Common.{arith, subst}
 use Rattle.channel_interleaving.specs.Floor.{book_of}
 use Rattle.channel_interleaving.specs.Run.{Stops}
-use Rattle.channel_interleaving.specs.Way.{replies_in}
-use Rattle.channel_interleaving.proofs.Interface.{led_further, ran_leads}
+use Rattle.channel_interleaving.proofs.Interface.{ran_leads}
 use Rattle.channel_world.proofs.HeadlineFacts.{headline, counted}
 use Rattle.channel_world.proofs.StopFacts.{all_used_up, place_is, all_made}
 use Rattle.channel_world.proofs.world.World.run_steps.Goals as goal
@@ -23,17 +22,14 @@ returns-clause-the_end g c =
 
 pub returns-clause-leads : goal.returns-clause-leads
 returns-clause-leads g c =
-    ran_leads c.args.steps.now.items c.make_steps.new.steps.items c.args.self.now c.make_steps.result.trace.items c.make_steps.new.self c.make_steps.ensures.ran
+    record {
+      on = ran_leads c.args.steps.now.items c.make_steps.new.steps.items c.args.self.now c.make_steps.result.trace.items c.make_steps.new.self c.make_steps.ensures.ran;
+    }
 
 pub returns-clause-messages : goal.returns-clause-messages
 returns-clause-messages g c =
     counted c.args.steps.now.items c.make_steps.new.steps.items c.args.self.now c.make_steps.result.trace.items c.make_steps.new.self c.make_steps.ensures.ran
     c.keeps.ensures
-
-pub returns-clause-carries : goal.returns-clause-carries
-returns-clause-carries g c =
-    λ s replies led.
-    led_further c.args.self.now c.make_steps.new.self s replies (replies_in c.make_steps.result.trace.items) led (returns-clause-leads g c)
 
 pub returns-clause-used_up : goal.returns-clause-used_up
 returns-clause-used_up g c =

@@ -206,8 +206,7 @@ returns-clause-quiet g c =
     c.loop-names.invariant.quiet
 
 pub returns-clause-leads : goal.returns-clause-leads
-returns-clause-leads g c =
-    c.loop-names.invariant.leads
+returns-clause-leads g c = record { on = c.loop-names.invariant.leads }
 
 pub returns-clause-stands : goal.returns-clause-stands
 returns-clause-stands g c =
