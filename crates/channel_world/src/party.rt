@@ -35,12 +35,12 @@ impl<T: Drop> World<T> {
     ghost use Rattle.std.specs.VecDeque.{deque_len, deque_capacity};
     ghost use Rattle.channel_model.specs.declared.name.Waiter.{Waiter};
     ghost use Rattle.channel_steps.specs.Scene.{Scene};
-    ghost use Rattle.channel_interleaving.specs.Floor.{messages_in, Stands, StandsIn};
     ghost use Rattle.channel_interleaving.specs.Runs.{accepted_in, left_in};
     ghost use Rattle.channel_interleaving.specs.Way.{replies_in};
     ghost use Rattle.channel_world.specs.Carried.{LeadsTo};
     ghost use Rattle.channel_world.specs.Headline.{Headline};
     ghost use Rattle.channel_world.specs.PartyRun.{asked, refused_of, AreSilent, EndsWithAnswer, IsRefused, StepsOnce};
+    ghost use Rattle.channel_world.specs.View.{messages_in, StandsIn, Stands};
 
     /// Makes one step of this party in the room that was taken, and says whether its call answered; or why the step is refused.
     fn step_party(

@@ -7,9 +7,8 @@ impl<T: Drop> World<T> {
     ghost use Rattle.std.specs.Prelude.{◌≡◌, ◌<◌, IfSome, IfNone, vec_len, vec_capacity};
     ghost use Rattle.std.specs.Option.{option_map};
     ghost use Rattle.channel_model.specs.Run.{Runs, MayStop};
-    ghost use Rattle.channel_interleaving.specs.Floor.{IsQuiet, Stands};
     ghost use Rattle.channel_world.specs.Carried.{replied_in, LeadsTo};
-    ghost use Rattle.channel_world.specs.World.{at_rest};
+    ghost use Rattle.channel_world.specs.View.{at_rest, IsQuiet, Stands};
 
     /// Why the list of calls stops at this one, if it does; where it doesn't, there is room for what it answers.
     fn stop(&self, call: &Call<T>, done: &mut Vec<Done<T>>) -> Option<WorldRefusal>

@@ -2,7 +2,6 @@
 
 ghost use Rattle.std.specs.Prelude.{◌≡◌, ◌+◌, ◌*◌, ◌<◌, ◌≤◌, ℕ, List, [], ◌++◌, length, slice_get, true, IfOk, vec_len};
 ghost use Rattle.channel_calls.specs.declared.reply.Reply.{Reply};
-ghost use Rattle.channel_interleaving.specs.Floor.{IsQuiet, Led};
 ghost use Rattle.channel_interleaving.specs.Runs.{accepted_in, left_in};
 ghost use Rattle.channel_interleaving.specs.Way.{replies_in};
 ghost use Rattle.channel_model.specs.Handles.{HandlesAreCounted};
@@ -13,7 +12,7 @@ ghost use Rattle.channel_world.specs.InTurn.{accepted_on, left_on};
 ghost use Rattle.channel_world.specs.Since.{ClosesOnceWith, IsNeverFullWith};
 ghost use Rattle.channel_world.specs.StepsLeft.{EndsInFront};
 ghost use Rattle.channel_world.specs.TheEnd.{NothingComesAfter};
-ghost use Rattle.channel_world.specs.World.{at_rest};
+ghost use Rattle.channel_world.specs.View.{at_rest, IsQuiet, Led};
 
 use channel_world::call::{Call, CallRun};
 use channel_world::laws::{
