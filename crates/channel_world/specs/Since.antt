@@ -40,7 +40,7 @@ module _ {T : Type 0} where
   -- of all replies since then, with these, at most one says that it closed the channel
   pub record ClosesOnceWith (world : WorldView T) (replies : List (Reply T)) : Type 0 where
     pub since : (capacity : Option ℕ) (before : List (Reply T)) → Led (new_scene capacity) before world
-      → closings_among (before ++ replies) ≤ 1
+        → closings_among (before ++ replies) ≤ 1
 
   -- of all since one without a bound, with these, none says that it is full
   pub record IsNeverFullWith (world : WorldView T) (replies : List (Reply T)) : Type 0 where

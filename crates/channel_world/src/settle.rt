@@ -57,7 +57,7 @@ impl<T: Drop> World<T> {
     ghost use Rattle.channel_model.specs.Refused.{Answers};
     ghost use Rattle.channel_model.specs.Settling.{poll_of};
     ghost use Rattle.channel_world.specs.Settled.{Polls, most_polls, pending_on};
-    ghost use Rattle.channel_world.specs.View.{at_rest, has_one_place, accepted_by_now, IsQuiet, HasPositions, LeadsOn, HasPosition};
+    ghost use Rattle.channel_world.specs.View.{names_in, at_rest, has_one_place, accepted_by_now, IsQuiet, HasPositions, LeadsOn, HasPosition};
 
     /// Whether what has this name belongs to this line.
     fn is_on(&self, line: Line, name: Waiter) -> bool
@@ -168,7 +168,7 @@ impl<T: Drop> World<T> {
     ghost use Rattle.channel_model.specs.Settling.{Settles, pending_count};
     ghost use Rattle.channel_world.specs.Carried.{polls_replied, LeadsTo};
     ghost use Rattle.channel_world.specs.Settled.{polls_in, most_polls, NoneLackedMemory, NoReceiveGoesOn, NoSendGoesOn, NoStreamGoesOn, NobodyMissesTheClosing};
-    ghost use Rattle.channel_world.specs.View.{messages_in, at_rest, IsQuiet, Stands};
+    ghost use Rattle.channel_world.specs.View.{names_in, messages_in, at_rest, IsQuiet, Stands};
 
     /// Polls those who are pending and were woken, the one whose wake is oldest first, again and again until nobody is woken;
     /// and says whom it polled, in order, and what each poll answered.

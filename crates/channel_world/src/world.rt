@@ -118,7 +118,7 @@ impl<T: Drop> World<T> {
     ghost use Rattle.channel_world.specs.Headline.{Headline};
     ghost use Rattle.channel_world.specs.StepsLeft.{EndsInFront};
     ghost use Rattle.channel_world.specs.TheEnd.{NothingComesAfter};
-    ghost use Rattle.channel_world.specs.View.{messages_in, calls_in, at_rest, book_of, TellsQuiet, HasPositions, StandsIn, Stands, RanTo, IsKept};
+    ghost use Rattle.channel_world.specs.View.{names_in, messages_in, calls_in, at_rest, book_of, TellsQuiet, HasPositions, StandsIn, Stands, RanTo, IsKept};
 
     /// Runs steps of any parties, from the front. The first one that is refused stays in front, with nothing of it done;
     /// `stopped` says at which place of the list, counted from 0, and why.

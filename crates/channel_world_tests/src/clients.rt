@@ -2,23 +2,26 @@
 
 ghost use Rattle.std.specs.Prelude.{◌≡◌, ◌+◌, ◌*◌, ◌<◌, ◌≤◌, ℕ, List, [], ◌++◌, length, slice_get, true, IfOk, vec_len};
 ghost use Rattle.channel_calls.specs.declared.reply.Reply.{Reply};
+ghost use Rattle.channel_calls.specs.declared.stage.Line.{Line};
+ghost use Rattle.channel_interleaving.specs.Pending.{how_many, is_pending};
 ghost use Rattle.channel_interleaving.specs.Runs.{accepted_in, left_in};
 ghost use Rattle.channel_interleaving.specs.Way.{replies_in};
 ghost use Rattle.channel_model.specs.Handles.{HandlesAreCounted};
 ghost use Rattle.channel_model.specs.declared.name.Waiter.{Waiter};
 ghost use Rattle.channel_steps.specs.Scene.{Scene};
+ghost use Rattle.channel_world.specs.Asleep.{NobodySleeps};
 ghost use Rattle.channel_world.specs.Carried.{replied_if, LeadsTo};
 ghost use Rattle.channel_world.specs.InTurn.{accepted_on, left_on};
 ghost use Rattle.channel_world.specs.Since.{ClosesOnceWith, IsNeverFullWith};
 ghost use Rattle.channel_world.specs.StepsLeft.{EndsInFront};
 ghost use Rattle.channel_world.specs.TheEnd.{NothingComesAfter};
-ghost use Rattle.channel_world.specs.View.{at_rest, IsQuiet, Led};
+ghost use Rattle.channel_world.specs.View.{sight_of, names_in, is_closed, at_rest, IsQuiet, Led};
 
 use channel_world::call::{Call, CallRun};
 use channel_world::laws::{
     an_unbounded_world_is_never_full, at_rest_nobody_is_left_asleep,
     by_steps_messages_leave_in_turn, counts_are_live_handles, numbers_are_those_at_rest,
-    the_channel_is_closed_once, what_is_done_in_turn_leads_on,
+    the_channel_is_closed_once, what_is_done_in_turn_leads_on, who_sleeps_is_answered_for,
 };
 use channel_world::settle::Settled;
 use channel_world::step::{Run, Step};
@@ -179,4 +182,29 @@ pub fn leaves_in_turn<T: Drop>(world: &World<T>)
 {
     by_steps_messages_leave_in_turn::<T>();
     world.keeps();
+}
+
+/// What is seen of a world, in the words of its view alone.
+#[derive(Drop)]
+pub struct Seen {
+    /// How many messages it holds.
+    pub messages: u64,
+    /// How many of its operations and streams are pending.
+    pub pending: usize,
+    /// Whether it says that nobody who waits for it sleeps beside a closing.
+    pub is_awake: bool,
+}
+
+/// Looks at whatever world: the number of its messages, its names, and its flag, and nothing of what it is made of.
+pub fn look<T: Drop>(world: &World<T>) -> Seen
+    ensures messages { result.messages ≡ (sight_of world.now).messages }
+    ensures names { result.pending ≡ how_many is_pending (names_in world.now) }
+    ensures flag { result.is_awake ≡ true → is_closed world.now ≡ true → (line : Line) → NobodySleeps line world.now }
+{
+    who_sleeps_is_answered_for(world);
+    Seen {
+        messages: world.messages(),
+        pending: world.pending(),
+        is_awake: world.under_way() == 0,
+    }
 }

@@ -65,8 +65,10 @@ returns-then-not-have_room-clause-leads g c =
     ))
     (ap (λ t. t.items) c.stopped.ensures.trace ∙ c.have_room.ensures.trace) c.stopped.ensures.stopped
     (c.have_room.new.trace.ok.0 ∙ ap (λ (t : List (Entry g.row.T.Denot)). length t) c.have_room.ensures.trace)) in
-    record { on = ran_leads _ (refused_of c.args.party c.stopped.result.stopped) (floor_of c.args.self.now) c.stopped.result.trace.items (floor_of c.loop-made.self)
-    ended.ran }
+    record {
+      on = ran_leads _ (refused_of c.args.party c.stopped.result.stopped) (floor_of c.args.self.now) c.stopped.result.trace.items (floor_of c.loop-made.self)
+          ended.ran;
+    }
 
 pub returns-then-not-have_room-clause-messages : goal.returns-then-not-have_room-clause-messages
 returns-then-not-have_room-clause-messages g c =
@@ -176,8 +178,10 @@ returns-in-Err-clause-leads g c =
     c.loop-made.invariant.ran refused.ran refused.reason (ap (λ t. t.items) c.stopped-in-Err.ensures.trace ∙ refused.unwritten)
     c.stopped-in-Err.ensures.stopped
     (c.step_party.new.trace.ok.0 ∙ ap (λ (t : List (Entry g.row.T.Denot)). length t) refused.unwritten)) in
-    record { on = ran_leads _ (refused_of c.args.party c.stopped-in-Err.result.stopped) (floor_of c.args.self.now) c.stopped-in-Err.result.trace.items
-    (floor_of c.step_party.new.self) ended.ran }
+    record {
+      on = ran_leads _ (refused_of c.args.party c.stopped-in-Err.result.stopped) (floor_of c.args.self.now) c.stopped-in-Err.result.trace.items
+          (floor_of c.step_party.new.self) ended.ran;
+    }
 
 pub returns-in-Err-clause-messages : goal.returns-in-Err-clause-messages
 returns-in-Err-clause-messages g c =
