@@ -2,7 +2,6 @@ use Rattle.std.proofs.Common.{arith, ◌≡◌, Bool, ◌<◌, ◌+◌, false, t
 use Rattle.std.proofs.lemmas.Grind.{common_steps}
 use Rattle.channel_model.specs.declared.refusal.WorldRefusal.TheVariants.{NoMemory}
 use Rattle.channel_interleaving.specs.Runs.{RanTo}
-use Rattle.channel_interleaving.specs.Way.{replies_in}
 use Rattle.channel_interleaving.specs.declared.step.Entry.{Entry}
 use Rattle.channel_interleaving.specs.declared.step.Step.TheVariants as step
 use Rattle.channel_interleaving.proofs.Interface.{ran_leads}
