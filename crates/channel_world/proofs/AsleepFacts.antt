@@ -19,6 +19,7 @@ use Rattle.channel_world.proofs.NumberFacts.{messages_at_rest, woken_at_rest}
 use Rattle.channel_world.specs.Asleep.{NobodyIsLeftAtRest, NoReceiveIsLeft, NoStreamIsLeft, NoSendIsLeft, NobodyIsLeftOnAClosed, HasAPlace, NoReceiveGoesOn, NoSendGoesOn, NoStreamGoesOn, woken_among}
 use Rattle.channel_world.specs.Numbers.{CallsAtRest}
 use Rattle.channel_world.specs.World.{at_rest}
+use Rattle.channel_world.specs.View.{view_of}
 
 none_of : {A : Type 0} (xs : List A) → length xs ≡ 0 → xs ≡ []
 none_of [] e = refl
@@ -32,7 +33,7 @@ module _ {T : Type 0} (w : Floor T) (at_work : AreAtWork w) where
       let same = ap (λ (ns : List ℕ). length ns) at_work in
       omega (arith, a, b, same)
 
-  pub calls_at_rest : CallsAtRest w
+  pub calls_at_rest : CallsAtRest (view_of w)
   calls_at_rest = record {
     none = λ e. none_of w.parties.items (parties_number ∙ e);
     quiet = λ q. sym parties_number ∙ ap (λ (ps : List (Party T Waiter)). length ps) q;
@@ -45,13 +46,13 @@ none_beside xs n (inl e) some = e
 none_beside xs n (inr z) some = absurd (omega (arith, z, some))
 
 module _ {T : Type 0} (w : Floor T) (held : messages_in w ≡ length (at_rest w).channel.messages) (rest : NobodyGoesOn (at_rest w)) where
-  pub no_receive_goes_on : NoReceiveGoesOn w
+  pub no_receive_goes_on : NoReceiveGoesOn (view_of w)
   no_receive_goes_on some = let r = rest in none_beside _ _ r.receives (omega (arith, held, some))
 
-  pub no_stream_goes_on : NoStreamGoesOn w
+  pub no_stream_goes_on : NoStreamGoesOn (view_of w)
   no_stream_goes_on some = let r = rest in none_beside _ _ r.streams (omega (arith, held, some))
 
-  pub no_send_goes_on : NoSendGoesOn w
+  pub no_send_goes_on : NoSendGoesOn (view_of w)
   no_send_goes_on is_open place = by (at_rest w).channel.capacity refl place
     where
       by : (cap : Option ℕ) → (at_rest w).channel.capacity ≡ cap → HasAPlace cap (messages_in w) → (at_rest w).waiting.sends ≡ []
@@ -68,28 +69,28 @@ module _ {T : Type 0} (w : Floor T) (k : Stands w) (rests : RestIsAWorld T) wher
       let world = rests (book_of w) k.scene k.stands.kept (none_under_way w k.scene quiet k.stands.shown) in
       subst (λ (x : State T). AwakeIn x) (sym (at_rest_is w k.scene k.stands.shown quiet)) world.awake
 
-  pub left_at_rest : NobodyIsLeftAtRest w
+  pub left_at_rest : NobodyIsLeftAtRest (view_of w)
   left_at_rest quiet =
       let a = awake quiet in
       record { receives = a.receives; sends = a.sends; unbounded = a.unbounded; streams = a.streams; opened = a.opened }
 
-  pub no_stream_left : NoStreamIsLeft w
+  pub no_stream_left : NoStreamIsLeft (view_of w)
   no_stream_left quiet some =
       let a = awake quiet in
       let held = messages_at_rest w k quiet in
       none_beside _ _ a.streams (omega (arith, held, some))
 
-  pub left_on_a_closed : NobodyIsLeftOnAClosed w
+  pub left_on_a_closed : NobodyIsLeftOnAClosed (view_of w)
   left_on_a_closed quiet shut line = let a = awake quiet in a.opened shut line
 
   module _ (apart : AreApart w.roll) where
-    none_goes_on : IsQuiet w → woken_among w ≡ 0 → NobodyGoesOn (at_rest w)
+    none_goes_on : IsQuiet w → woken_among (view_of w) ≡ 0 → NobodyGoesOn (at_rest w)
     none_goes_on quiet none =
         let nobody = none_of (at_rest w).waiting.woken (sym (woken_at_rest w k rests apart quiet) ∙ none) in
         (settled_rest (at_rest w) (at_rest w) [] (awake quiet) (nobody, refl)).1
 
-    pub no_receive_left : NoReceiveIsLeft w
+    pub no_receive_left : NoReceiveIsLeft (view_of w)
     no_receive_left quiet none = no_receive_goes_on w (messages_at_rest w k quiet) (none_goes_on quiet none)
 
-    pub no_send_left : NoSendIsLeft w
+    pub no_send_left : NoSendIsLeft (view_of w)
     no_send_left quiet none = no_send_goes_on w (messages_at_rest w k quiet) (none_goes_on quiet none)

@@ -27,8 +27,9 @@ use Rattle.channel_interleaving.specs.Counted.{tally, is_strong, strong_lives, l
 use Rattle.channel_interleaving.specs.Floor.{parts_in, Shown, IsQuiet, Stands}
 use Rattle.channel_interleaving.specs.declared.floor.Floor.{Floor}
 use Rattle.channel_interleaving.specs.declared.names.Hold.{Hold}
-use Rattle.channel_world.specs.Counts.{strong_of, counted, live, to_lower, to_close, CountsLive, OpenHasBoth, AreByDrops, CountsAtRest}
+use Rattle.channel_world.specs.Counts.{strong_of, live, to_lower, to_close, CountsLive, OpenHasBoth, AreByDrops, CountsAtRest}
 use Rattle.channel_world.proofs.CountDrops.{by_drops}
+use Rattle.channel_world.specs.View.{counted, view_of}
 
 -- ---- handles
 
@@ -98,7 +99,7 @@ module _ {T : Type 0} where
         ∙ (same_tally p q same sh.shows.sittings
         ∙ ap (λ (ps : List (Party T Waiter)). tally (λ (x : Party T Waiter). q x.call.stage) ps) (sym sh.shows.parties_are))
 
-    count_shown : (side : Side) → count side s.now.roster ≡ counted side w
+    count_shown : (side : Side) → count side s.now.roster ≡ counted side (view_of w)
     count_shown side = ap (λ (c : Channel T Waiter). count side c.roster) sh.shows.now
 
     closed_shown : s.now.queue.closed ≡ closed_in (parts_in w).cells
@@ -109,7 +110,7 @@ module _ {T : Type 0} where
   -- ---- a world
 
   module _ (w : Floor T) (k : Stands w) where
-    pub counts_live : CountsLive w
+    pub counts_live : CountsLive (view_of w)
     counts_live side =
         let c = (k.stands.kept.counted side).counts in
         let now = count_shown w k.scene k.stands.shown side in
@@ -117,31 +118,31 @@ module _ {T : Type 0} where
         let lives = same_live side w.roll.handles in
         omega (arith, c, now, low, lives)
 
-    pub open_has_both : OpenHasBoth w
+    pub open_has_both : OpenHasBoth (view_of w)
     open_has_both is_open side = by ((k.stands.kept.counted side).opened (closed_shown w k.scene k.stands.shown ∙ is_open)) where
       by : (1 ≤ count side k.scene.now.roster) ⊎ (1 ≤ tally (λ (u : Under T Waiter). is_closing side u.at) k.scene.under_way)
-          → (1 ≤ counted side w) ⊎ (1 ≤ to_close side w)
+          → (1 ≤ counted side (view_of w)) ⊎ (1 ≤ to_close side (view_of w))
       by (inl h) = let now = count_shown w k.scene k.stands.shown side in inl (omega (arith, h, now))
       by (inr h) =
           let close = shown_tally w k.scene k.stands.shown (λ at. is_closing side at) (λ at. is_closing side at) (close_so side) in
           inr (omega (arith, h, close))
 
-    none_lowers : IsQuiet w → (side : Side) → to_lower side w ≡ 0
+    none_lowers : IsQuiet w → (side : Side) → to_lower side (view_of w) ≡ 0
     none_lowers quiet side = ap (λ (ps : List (Party T Waiter)). tally (λ (p : Party T Waiter). is_lowering side p.call.stage) ps) quiet
 
-    none_closes : IsQuiet w → (side : Side) → to_close side w ≡ 0
+    none_closes : IsQuiet w → (side : Side) → to_close side (view_of w) ≡ 0
     none_closes quiet side = ap (λ (ps : List (Party T Waiter)). tally (λ (p : Party T Waiter). is_closing side p.call.stage) ps) quiet
 
-    all_live : IsQuiet w → (side : Side) → counted side w ≡ live side w
+    all_live : IsQuiet w → (side : Side) → counted side (view_of w) ≡ live side (view_of w)
     all_live quiet side = let c = counts_live side in let none = none_lowers quiet side in omega (arith, c, none)
 
-    has_one : IsQuiet w → closed_in (parts_in w).cells ≡ false → (side : Side) → 1 ≤ counted side w
+    has_one : IsQuiet w → closed_in (parts_in w).cells ≡ false → (side : Side) → 1 ≤ counted side (view_of w)
     has_one quiet is_open side = by (open_has_both is_open side) where
-      by : (1 ≤ counted side w) ⊎ (1 ≤ to_close side w) → 1 ≤ counted side w
+      by : (1 ≤ counted side (view_of w)) ⊎ (1 ≤ to_close side (view_of w)) → 1 ≤ counted side (view_of w)
       by (inl h) = h
       by (inr h) = absurd (let none = none_closes quiet side in omega (arith, h, none))
 
-    pub counts_at_rest : CountsAtRest w
+    pub counts_at_rest : CountsAtRest (view_of w)
     counts_at_rest quiet = record {
       senders = all_live quiet Senders;
       receivers = all_live quiet Receivers;
@@ -149,5 +150,5 @@ module _ {T : Type 0} where
       receiving = λ is_open. has_one quiet is_open Receivers;
     }
 
-  pub are_by_drops : (w : Floor T) → AreByDrops w
+  pub are_by_drops : (w : Floor T) → AreByDrops (view_of w)
   are_by_drops w s k side = by_drops T side s.now s.under_way (let streams = k.kept.sound.streams in streams.known)

@@ -34,6 +34,7 @@ use Rattle.channel_laws.specs.Marked.{AddUp}
 use Rattle.channel_world.specs.Marked.{all_brought, all_taken}
 use Rattle.channel_laws.specs.Words.{WordsSay}
 use Rattle.channel_world.specs.Sentences.{MomentSays, BeginSays, WorkSays, CallSays, StepSays}
+use Rattle.channel_world.specs.View.{view_of}
 
 module _ {T : Type 0} where
   -- ---- a moment
@@ -48,7 +49,7 @@ module _ {T : Type 0} where
       let known = kept.sound.streams in
       let same : m.parts ≡ parts_in h.floor = ap (λ (k : Moment T). k.parts) is.moment in
       record {
-        world = h.floor;
+        world = view_of h.floor;
         is = is.moment;
         stands = is.stands;
         begun = all_begin m.scene.now m.scene.under_way known.known;
@@ -91,18 +92,16 @@ module _ {T : Type 0} where
         after = after;
         is = refl;
         goes_on = s.left;
-        work = record {
-          tries = tries_at m.book m.scene s.before s.mine s.behind k s.there;
-          effect = step_marked m.scene p.0 f e.woken.items n.scene s;
-          touches = l.touches;
-          wakes = s.named;
-          left = l.made.kept;
-          ends = may_end after e.reply l.made.kept s.finishes;
-          book = l.made.book;
-          in_time = s.quick;
-          nearer = l.nearer;
-          late = λ all gives. late_gives m.scene p.0 f e.woken.items n.scene s k.sound all gives;
-        };
+        tries = tries_at m.book m.scene s.before s.mine s.behind k s.there;
+        effect = step_marked m.scene p.0 f e.woken.items n.scene s;
+        touches = l.touches;
+        wakes = s.named;
+        left = l.made.kept;
+        ends = may_end after e.reply l.made.kept s.finishes;
+        book = l.made.book;
+        in_time = s.quick;
+        nearer = l.nearer;
+        late = λ all gives. late_gives m.scene p.0 f e.woken.items n.scene s k.sound all gives;
       }
 
   -- ---- a step
@@ -148,7 +147,7 @@ module _ {T : Type 0} where
 
   pub headline : (steps left : List (Step T)) (old : Floor T) (trace : List (Entry T)) (stopped : Option Stopped) (new : Floor T)
       → RanTo steps left old trace new → Stops (book_of new) left (length trace) stopped
-      → (s : Scene T Waiter) → StandsIn old s → Headline steps left old trace stopped new s
+      → (s : Scene T Waiter) → StandsIn old s → Headline steps left (view_of old) trace stopped (view_of new) s
   headline steps left old trace stopped new ran stops s k =
       let r = ran s k in
       let start : Moment T = moment_of old s in

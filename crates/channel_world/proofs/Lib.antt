@@ -1,3 +1,4 @@
+mod Inside
 pub mod Few
 pub mod FewListed
 pub mod Opening

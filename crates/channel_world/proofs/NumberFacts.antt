@@ -42,6 +42,7 @@ use Rattle.channel_world.specs.Numbers.{MessagesAtRest, PendingAtRest, WokenAtRe
 use Rattle.channel_world.specs.World.{at_rest}
 use Rattle.channel_world.proofs.NumberLists.{no_longer, named, named_many, none_named, named_there, named_once, named_so}
 use Rattle.channel_world.proofs.Opening.{at_rest_is}
+use Rattle.channel_world.specs.View.{view_of}
 
 abbrev op_name : ℕ → Waiter
 op_name n = Op (record { 0 = n })
@@ -342,7 +343,7 @@ module _ {T : Type 0} (w : Floor T) (k : Stands w) where
   at_rest_there : IsQuiet w → at_rest w ≡ state_at (book_of w) k.scene
   at_rest_there quiet = at_rest_is w k.scene k.stands.shown quiet
 
-  pub messages_at_rest : MessagesAtRest w
+  pub messages_at_rest : MessagesAtRest (view_of w)
   messages_at_rest quiet =
       let sh = k.stands.shown in
       sh.messages ∙ ap (λ (x : State T). length x.channel.messages) (sym (at_rest_there quiet))
@@ -351,12 +352,12 @@ module _ {T : Type 0} (w : Floor T) (k : Stands w) where
     rest : IsQuiet w → IsWorld (book_of w) k.scene
     rest quiet = rests (book_of w) k.scene k.stands.kept (none_under_way w k.scene quiet k.stands.shown)
 
-    pub pending_at_rest : PendingAtRest w
+    pub pending_at_rest : PendingAtRest (view_of w)
     pending_at_rest quiet =
         pending_number (book_of w) k.scene k.stands.kept (rest quiet) apart
         ∙ ap (λ (x : State T). pending_count x.waiting) (sym (at_rest_there quiet))
 
-    pub woken_at_rest : WokenAtRest w
+    pub woken_at_rest : WokenAtRest (view_of w)
     woken_at_rest quiet =
         woken_number (book_of w) k.scene k.stands.kept (rest quiet) apart
         ∙ ap (λ (x : State T). length x.waiting.woken) (sym (at_rest_there quiet))

@@ -22,6 +22,7 @@ use Rattle.channel_interleaving.specs.declared.step.Step.{Step}
 use Rattle.channel_interleaving.specs.declared.step.Step.TheVariants as step
 use Rattle.channel_interleaving.proofs.AccountFacts.{no_accounts, accounts_both}
 use Rattle.channel_world.specs.PartyRun.{asked, refused_of, AreSilent, EndsWithAnswer, StepsOnce}
+use Rattle.channel_world.specs.View.{view_of}
 
 -- a list of one in two parts, of which the second has its element
 pub first_of : {A : Type 0} (x y : A) (made ys : List A) → x ∷ [] ≡ made ++ y ∷ ys → (made ≡ []) × (y ∷ ys ≡ x ∷ [])
@@ -205,7 +206,7 @@ module _ {T : Type 0} where
 
   -- one more step of the party
   pub party_more : (p : PartyId) (n : ℕ) (f : Floor T) (trace : List (Entry T)) (g : Floor T) (answered : Bool) (after : List (Entry T))
-      (h : Floor T) → RanTo (replicate n (step.Step p)) [] f trace g → StepsOnce p g trace answered after h
+      (h : Floor T) → RanTo (replicate n (step.Step p)) [] f trace g → StepsOnce p (view_of g) trace answered after (view_of h)
       → RanTo (replicate (n + 1) (step.Step p)) [] f after h
   party_more p n f trace g answered after h so_far once =
       let x : Step T = step.Step p in
@@ -215,7 +216,7 @@ module _ {T : Type 0} where
       (subst (λ (t : List (Entry T)). RanTo (replicate n x ++ x ∷ []) [] f t h) (sym once.written) both)
 
   pub once_silent : (p : PartyId) (g : Floor T) (trace : List (Entry T)) (after : List (Entry T)) (h : Floor T)
-      → (once : StepsOnce p g trace false after h) → once.entry.reply ≡ None
+      → (once : StepsOnce p (view_of g) trace false after (view_of h)) → once.entry.reply ≡ None
   once_silent p g trace after h once = silent_of once.entry.reply once.told
 
   -- ---- the end of the run

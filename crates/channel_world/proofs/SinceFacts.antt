@@ -22,16 +22,18 @@ use Rattle.channel_steps.specs.declared.party.Entry.{Entry as ChannelEntry}
 use Rattle.channel_steps.specs.declared.run.Step.{Step as ChannelStep}
 use Rattle.channel_steps.specs.declared.run.Step.TheVariants as step
 use Rattle.event_listener.specs.Notices.{Woken}
-use Rattle.channel_interleaving.proofs.Interface.{none_under_way}
+use Rattle.channel_interleaving.proofs.Interface.{led_further, none_under_way}
 use Rattle.channel_interleaving.specs.Counted.{tally}
 use Rattle.channel_interleaving.specs.Doing.{any_close, is_close}
 use Rattle.channel_interleaving.specs.Floor.{parts_in, IsQuiet, Stands}
 use Rattle.channel_interleaving.specs.Way.{Pace, IsWay, replies_of}
 use Rattle.channel_interleaving.specs.declared.floor.Floor.{Floor}
 use Rattle.channel_model.specs.State.{State}
-use Rattle.channel_world.specs.Since.{closings_among, closers_in, closings_left, NoneSaysFull, HasNoBound, ClosesOnce, ClosesWhatIsLeft, ClosesOnceFromRest, NoneClosesAgain, IsNeverFull, IsNeverFullSince, IsNeverFullFromRest}
+use Rattle.channel_world.specs.Since.{closings_among, closers_in, closings_left, NoneSaysFull, HasNoBound, ClosesOnce, ClosesOnceToHere, ClosesWhatIsLeft, ClosesOnceFromRest, NoneClosesAgain, IsNeverFull, IsNeverFullToHere, IsNeverFullSince, IsNeverFullFromRest}
 use Rattle.channel_world.specs.World.{at_rest}
 use Rattle.channel_world.proofs.Opening.{at_rest_is}
+use Rattle.channel_world.specs.View.{view_of}
+use Rattle.channel_world.proofs.Inside.{floor_of}
 
 -- ---- how often it is closed
 
@@ -186,13 +188,19 @@ one_at_most true = omega arith
 one_at_most false = omega arith
 
 module _ {T : Type 0} where
-  pub closes_what_is_left : (world : Floor T) → ClosesWhatIsLeft world
+  pub closes_what_is_left : (world : Floor T) → ClosesWhatIsLeft (view_of world)
   closes_what_is_left world s replies led =
       subst (λ (rs : List (Reply T)). closings_among rs ≤ closings_left s) led.way.given (way_closes s led.last led.way.paces led.way.is)
 
-  pub closes_once : (world : Floor T) → ClosesOnce world
+  pub closes_once : (world : Floor T) → ClosesOnce (view_of world)
   closes_once world capacity replies led =
       let most = closes_what_is_left world (new_scene capacity) replies led in omega (arith, most)
+
+  pub closes_once_to_here : (world : Floor T) → ClosesOnceToHere (view_of world)
+  closes_once_to_here world a replies leads = record {
+    since = λ capacity before led.
+        closes_once world capacity (before ++ replies) (led_further (floor_of a) world (new_scene capacity) before replies led leads.on);
+  }
 
   -- with no call under way none has closed it
   left_at_rest : (a : Floor T) (k : Stands a) → IsQuiet a → closings_left k.scene ≡ while_open (at_rest a).channel.closed
@@ -202,34 +210,39 @@ module _ {T : Type 0} where
       ap (λ (x : State T). while_open x.channel.closed) (at_rest_is a k.scene k.stands.shown quiet) in
       omega (arith, none, same)
 
-  pub closes_once_from_rest : (world : Floor T) → ClosesOnceFromRest world
+  pub closes_once_from_rest : (world : Floor T) → ClosesOnceFromRest (view_of world)
   closes_once_from_rest b a replies k quiet leads =
-      let most = closes_what_is_left b k.scene replies (leads k.scene k.stands) in
-      let left = left_at_rest a k quiet in
-      let one = one_at_most (at_rest a).channel.closed in
+      let most = closes_what_is_left b k.scene replies (leads.on k.scene k.stands) in
+      let left = left_at_rest (floor_of a) k quiet in
+      let one = one_at_most (at_rest (floor_of a)).channel.closed in
       omega (arith, most, left, one)
 
-  pub none_closes_again : (world : Floor T) → NoneClosesAgain world
+  pub none_closes_again : (world : Floor T) → NoneClosesAgain (view_of world)
   none_closes_again b a replies k quiet shut leads =
-      let most = closes_what_is_left b k.scene replies (leads k.scene k.stands) in
-      let left = left_at_rest a k quiet in
-      let none : while_open (at_rest a).channel.closed ≡ 0 = ap while_open shut in
+      let most = closes_what_is_left b k.scene replies (leads.on k.scene k.stands) in
+      let left = left_at_rest (floor_of a) k quiet in
+      let none : while_open (at_rest (floor_of a)).channel.closed ≡ 0 = ap while_open shut in
       omega (arith, most, left, none)
 
-  pub is_never_full_since : (world : Floor T) → IsNeverFullSince world
+  pub is_never_full_since : (world : Floor T) → IsNeverFullSince (view_of world)
   is_never_full_since world s replies h led =
       subst (λ (rs : List (Reply T)). NoneSaysFull rs) led.way.given
       (way_never_full (parts_in world) s led.last led.way.paces h led.way.is)
 
-  pub is_never_full : (world : Floor T) → IsNeverFull world
+  pub is_never_full : (world : Floor T) → IsNeverFull (view_of world)
   is_never_full world replies led = is_never_full_since world (new_scene None) replies (record { now = refl; seen = tt }) led
 
-  pub is_never_full_from_rest : (world : Floor T) → IsNeverFullFromRest world
+  pub is_never_full_to_here : (world : Floor T) → IsNeverFullToHere (view_of world)
+  is_never_full_to_here world a replies leads = record {
+    since = λ before led. is_never_full world (before ++ replies) (led_further (floor_of a) world (new_scene None) before replies led leads.on);
+  }
+
+  pub is_never_full_from_rest : (world : Floor T) → IsNeverFullFromRest (view_of world)
   is_never_full_from_rest b a replies k quiet bare leads =
-      let none = none_under_way a k.scene quiet k.stands.shown in
-      let same = ap (λ (x : State T). x.channel.capacity) (sym (at_rest_is a k.scene k.stands.shown quiet)) in
+      let none = none_under_way (floor_of a) k.scene quiet k.stands.shown in
+      let same = ap (λ (x : State T). x.channel.capacity) (sym (at_rest_is (floor_of a) k.scene k.stands.shown quiet)) in
       is_never_full_since b k.scene replies
       (record {
         now = same ∙ bare;
         seen = subst (λ (us : List (Under T Waiter)). Each (λ (u : Under T Waiter). AllOf None u.seen) us) (sym none) tt;
-      }) (leads k.scene k.stands)
+      }) (leads.on k.scene k.stands)

@@ -41,6 +41,7 @@ use Rattle.channel_interleaving.specs.declared.names.Standing.TheVariants.{Rests
 use Rattle.channel_interleaving.specs.declared.roll.Roll.{Roll}
 use Rattle.channel_interleaving.proofs.OwedCounts.{one_if, count_first}
 use Rattle.channel_world.specs.Asleep.{ReceivesAreAnswered, SendsAreAnswered, StreamsAreAnswered, ClosingIsAnswered, NoReceiveSleepsBesideAMessage, NoStreamSleepsBesideAMessage, NoSendSleepsBesideAPlace, NobodySleepsOnAClosed, AllAreAwake, HasAPlace}
+use Rattle.channel_world.specs.View.{view_of}
 
 no : {A : Type 0} → false ≡ true → A
 no e = cc e
@@ -298,7 +299,7 @@ module _ {T : Type 0} where
     few_closers : (sight_of w).closers ≤ calls_in w
     few_closers = let few = count_by-le-length (λ (d : Doing). d.has_closed) w.doings.items in let many = doings_many in omega (arith, few, many)
 
-    pub receives_answered : ReceivesAreAnswered w
+    pub receives_answered : ReceivesAreAnswered (view_of w)
     receives_answered name asleep =
         let o = owed in
         let most = o.receives name asleep in
@@ -306,38 +307,38 @@ module _ {T : Type 0} where
         let calls = few_at_work in
         omega (arith, most, woken, calls)
 
-    pub sends_answered : SendsAreAnswered w
+    pub sends_answered : SendsAreAnswered (view_of w)
     sends_answered name asleep is_open =
         let o = owed in
         let woken = few_woken Sends w.roll apart in
         let calls = few_sending in
         more_places (sight_of w).capacity _ _ (omega (arith, woken, calls)) (o.sends name asleep is_open)
 
-    pub streams_answered : StreamsAreAnswered w
+    pub streams_answered : StreamsAreAnswered (view_of w)
     streams_answered name asleep some =
         let o = owed in
         let one = o.streams name asleep some in
         let calls = few_sending in
         omega (arith, one, calls)
 
-    pub closing_answered : ClosingIsAnswered w
+    pub closing_answered : ClosingIsAnswered (view_of w)
     closing_answered line name asleep shut =
         let o = owed in
         let one = o.closing line name asleep shut in
         let calls = few_closers in
         omega (arith, one, calls)
 
-    pub no_receive_beside_a_message : NoReceiveSleepsBesideAMessage w
+    pub no_receive_beside_a_message : NoReceiveSleepsBesideAMessage (view_of w)
     no_receive_beside_a_message quiet none some = record {
       none = λ name asleep. let most = receives_answered name asleep in omega (arith, most, quiet, none, some);
     }
 
-    pub no_stream_beside_a_message : NoStreamSleepsBesideAMessage w
+    pub no_stream_beside_a_message : NoStreamSleepsBesideAMessage (view_of w)
     no_stream_beside_a_message quiet some = record {
       none = λ name asleep. let one = streams_answered name asleep some in omega (arith, one, quiet);
     }
 
-    pub no_send_beside_a_place : NoSendSleepsBesideAPlace w
+    pub no_send_beside_a_place : NoSendSleepsBesideAPlace (view_of w)
     no_send_beside_a_place quiet none is_open fits =
         let freed = none_unannounced w.parties.items w.doings.items (doings_many ∙ quiet) in
         record {
@@ -345,12 +346,12 @@ module _ {T : Type 0} where
               none_fits (sight_of w).capacity (messages_in w) _ (omega (arith, quiet, none, freed)) fits (sends_answered name asleep is_open);
         }
 
-    pub nobody_on_a_closed : NobodySleepsOnAClosed w
+    pub nobody_on_a_closed : NobodySleepsOnAClosed (view_of w)
     nobody_on_a_closed quiet shut line = record {
       none = λ name asleep. let one = closing_answered line name asleep shut in omega (arith, one, quiet);
     }
 
-    pub all_awake : AllAreAwake w
+    pub all_awake : AllAreAwake (view_of w)
     all_awake same line = record {
       none = λ name asleep. let more = more_pending line name w.roll asleep in omega (arith, more, same);
     }

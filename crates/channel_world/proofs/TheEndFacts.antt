@@ -82,9 +82,8 @@ module _ {T : Type 0} where
       let behind = late_join parties (unless_ended s.after e.reply) (map (sees n.scene.now) s.behind)
       (late_ended parties s.after e.reply after) (late_sees parties n.scene.now s.behind first.0 right.1) in
       let all = late_join parties (map (sees n.scene.now) s.before) (unless_ended s.after e.reply ++ map (sees n.scene.now) s.behind)
-      (late_sees parties n.scene.now s.before first.0 (late_left parties s.before (s.call ∷ s.behind) there)) behind in
-      let work = s.work in (
-        λ i gives. work.late (right.0 (subst (λ (q : ℕ). IsAmong q parties) (sym s.party) i)) gives,
+      (late_sees parties n.scene.now s.before first.0 (late_left parties s.before (s.call ∷ s.behind) there)) behind in (
+        λ i gives. s.late (right.0 (subst (λ (q : ℕ). IsAmong q parties) (sym s.party) i)) gives,
         give_nothing parties n xs es ns h.0.holds.kept h.1 says.1 first.0
             (subst (λ (us : List (Under T Waiter)). All (IsLate parties) us) (sym s.goes_on) all),
       )

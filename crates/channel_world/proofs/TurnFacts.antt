@@ -24,6 +24,7 @@ use Rattle.channel_interleaving.specs.declared.floor.Floor.{Floor}
 use Rattle.channel_interleaving.proofs.Interface.{none_under_way}
 use Rattle.channel_world.specs.InTurn.{KeepsItOut, EndsWithItOut, EachKeepsItOut, StandsAsItsState, HasItsAccounts, LeaveInTurn, LaterLeavesLater, RefusedIsKeptOut, let_in, let_out, brought_on, left_on, accepted_on}
 use Rattle.channel_world.proofs.Opening.{at_rest_is}
+use Rattle.channel_world.specs.View.{view_of}
 
 -- ---- lists
 
@@ -102,7 +103,7 @@ module _ {T : Type 0} where
 
   -- ---- at rest
 
-  pub stands_as_its_state : (w : Floor T) → StandsAsItsState w
+  pub stands_as_its_state : (w : Floor T) → StandsAsItsState (view_of w)
   stands_as_its_state w quiet s stands =
       let same = sym (at_rest_is w s stands.shown quiet) in
       record {
@@ -114,7 +115,7 @@ module _ {T : Type 0} where
         receivers = ap (λ (x : State T). x.channel.receivers) same;
       }
 
-  pub has_its_accounts : (w : Floor T) → HasItsAccounts w
+  pub has_its_accounts : (w : Floor T) → HasItsAccounts (view_of w)
   has_its_accounts w quiet s replies led =
       let state = stands_as_its_state w quiet led.last led.stands in
       ap (λ (ms : List T). left_on s led.way.paces led.last led.way.is ++ ms) (sym state.messages)

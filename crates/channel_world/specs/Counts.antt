@@ -1,7 +1,5 @@
 -- What the counts of a world count, calls under way or not.
 use Rattle.std.specs.Prelude.{◌≡◌, ◌⊎◌, ℕ, ◌+◌, ◌≤◌, true, false, []}
-use Rattle.concurrent_queue.specs.Step.{closed_in}
-use Rattle.channel_calls.specs.Parts.{count}
 use Rattle.channel_calls.specs.declared.ask.ChannelAsk.{ChannelAsk}
 use Rattle.channel_calls.specs.declared.ask.ChannelAsk.TheVariants.{DropSender, DropReceiver}
 use Rattle.channel_calls.specs.declared.stage.Side.{Side}
@@ -14,11 +12,9 @@ use Rattle.channel_steps.specs.Moments.{LeftLast}
 use Rattle.channel_steps.specs.Scene.{Under, Scene}
 use Rattle.channel_steps.specs.declared.party.Party.{Party}
 use Rattle.channel_interleaving.specs.Counted.{tally, is_lowering, is_closing}
-use Rattle.channel_interleaving.specs.Floor.{parts_in, IsQuiet, StandsIn}
 use Rattle.channel_interleaving.specs.Owners.{All}
 use Rattle.channel_interleaving.specs.Roll.{names_of}
-use Rattle.channel_interleaving.specs.declared.floor.Floor.{Floor}
-use Rattle.channel_world.specs.World.{at_rest}
+use Rattle.channel_world.specs.View.{names_in, is_closed, counted, at_rest, parties_in, IsQuiet, StandsIn, WorldView}
 
 -- the strong handles of a side
 abbrev pub strong_of : Side → HandleKind
@@ -26,29 +22,25 @@ strong_of Senders = Sender
 strong_of Receivers = Receiver
 
 module _ {T : Type 0} where
-  -- the count of a side
-  abbrev pub counted : Side → Floor T → ℕ
-  counted side w = count side (parts_in w).roster
-
   -- how many strong handles of this side live under the names of the world
-  abbrev pub live : Side → Floor T → ℕ
-  live side w = live_of (strong_of side) (names_of w.roll).handles
+  abbrev pub live : Side → WorldView T → ℕ
+  live side w = live_of (strong_of side) (names_of (names_in w)).handles
 
   -- how many drops of such handles are under way whose next step lowers the count; what they drop lives under no name
-  abbrev pub to_lower : Side → Floor T → ℕ
-  to_lower side w = tally (λ (p : Party T Waiter). is_lowering side p.call.stage) w.parties.items
+  abbrev pub to_lower : Side → WorldView T → ℕ
+  to_lower side w = tally (λ (p : Party T Waiter). is_lowering side p.call.stage) (parties_in w)
 
   -- how many drops of the last one, which are at closing the channel
-  abbrev pub to_close : Side → Floor T → ℕ
-  to_close side w = tally (λ (p : Party T Waiter). is_closing side p.call.stage) w.parties.items
+  abbrev pub to_close : Side → WorldView T → ℕ
+  to_close side w = tally (λ (p : Party T Waiter). is_closing side p.call.stage) (parties_in w)
 
   -- A count is the number of live strong handles of its side, with those whose drops under way are to lower it yet.
-  abbrev pub CountsLive : Floor T → Type 0
+  abbrev pub CountsLive : WorldView T → Type 0
   CountsLive w = (side : Side) → counted side w ≡ live side w + to_lower side w
 
   -- On an open channel a count is one at least, or the drop of the last handle is at closing the channel.
-  abbrev pub OpenHasBoth : Floor T → Type 0
-  OpenHasBoth w = closed_in (parts_in w).cells ≡ false → (side : Side) → (1 ≤ counted side w) ⊎ (1 ≤ to_close side w)
+  abbrev pub OpenHasBoth : WorldView T → Type 0
+  OpenHasBoth w = is_closed w ≡ false → (side : Side) → (1 ≤ counted side w) ⊎ (1 ≤ to_close side w)
 
   -- ---- which calls those are
 
@@ -66,11 +58,11 @@ module _ {T : Type 0} where
     pub closes : is_closing side u.at ≡ true → Drops side u.ask × LeftLast side u.deeds u.seen
 
   -- so it is of each, in each scene in which the world stands
-  abbrev pub AreByDrops : Floor T → Type 0
+  abbrev pub AreByDrops : WorldView T → Type 0
   AreByDrops w = (s : Scene T Waiter) → StandsIn w s → (side : Side) → All (λ (u : Under T Waiter). IsByDrops side u) s.under_way
 
   -- ---- at rest
 
   -- With no call under way a count is the number of live strong handles of its side, and on an open channel each is one at least.
-  abbrev pub CountsAtRest : Floor T → Type 0
+  abbrev pub CountsAtRest : WorldView T → Type 0
   CountsAtRest w = IsQuiet w → HandlesAreCounted (at_rest w).channel (at_rest w).names.handles

@@ -1,9 +1,7 @@
 -- The headline: what every run of steps promises, of every list of steps, from any world, wherever the list ends.
 use Rattle.std.specs.Prelude.{◌≡◌, List, [], ◌++◌, length, Option}
-use Rattle.channel_interleaving.specs.Floor.{book_of, StandsIn}
 use Rattle.channel_interleaving.specs.Run.{Stops}
-use Rattle.channel_interleaving.specs.Runs.{Moment, moment_of}
-use Rattle.channel_interleaving.specs.declared.floor.Floor.{Floor}
+use Rattle.channel_interleaving.specs.Runs.{Moment}
 use Rattle.channel_interleaving.specs.declared.step.Entry.{Entry}
 use Rattle.channel_interleaving.specs.declared.step.Step.{Step}
 use Rattle.channel_model.specs.declared.name.Waiter.{Waiter}
@@ -16,13 +14,14 @@ use Rattle.channel_world.specs.Marked.{all_taken, all_brought}
 use Rattle.channel_world.specs.Sentences.{MomentSays, StepSays}
 use Rattle.channel_world.specs.StepsLeft.{EndInARow, EndInFront}
 use Rattle.channel_world.specs.TheEnd.{GiveNothing, NothingComesAfter}
+use Rattle.channel_world.specs.View.{book_of, moment_of, StandsIn, WorldView}
 
 module _ {T : Type 0} where
   -- The world `old`, standing in the scene `from`, was given the steps `steps`; `left` were left, and it became `new`. A scene is
   -- a plain channel with its calls under way, each with the moments and the marks since its begin. That a world stands in a scene
   -- is its invariant: whoever uses this record hands it on and need not open it.
-  pub record Headline (steps left : List (Step T)) (old : Floor T) (trace : List (Entry T)) (stopped : Option Stopped)
-      (new : Floor T) (from : Scene T Waiter) : Type 0 where
+  pub record Headline (steps left : List (Step T)) (old : WorldView T) (trace : List (Entry T)) (stopped : Option Stopped)
+      (new : WorldView T) (from : Scene T Waiter) : Type 0 where
     -- the steps that were made, the moments after each, and the scene at the end
     pub made : List (Step T)
     pub moments : List (Moment T)

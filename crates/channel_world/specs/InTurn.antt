@@ -17,10 +17,8 @@ use Rattle.channel_steps.specs.Scene.{Scene, came_by, gone_by}
 use Rattle.channel_steps.specs.declared.party.Entry.{Entry as ChannelEntry}
 use Rattle.channel_steps.specs.declared.run.Step.{Step as ChannelStep}
 use Rattle.channel_steps.specs.declared.run.Step.TheVariants as step
-use Rattle.channel_interleaving.specs.Floor.{IsQuiet, Led, StandsIn}
 use Rattle.channel_interleaving.specs.Way.{Pace, IsWay}
-use Rattle.channel_interleaving.specs.declared.floor.Floor.{Floor}
-use Rattle.channel_world.specs.World.{at_rest}
+use Rattle.channel_world.specs.View.{at_rest, IsQuiet, StandsIn, Led, WorldView}
 
 module _ {T : Type 0} where
   -- ---- one step
@@ -90,11 +88,11 @@ module _ {T : Type 0} where
     pub receivers : s.now.roster.receivers ≡ t.channel.receivers
 
   -- so is each in which the world stands
-  abbrev pub StandsAsItsState : Floor T → Type 0
+  abbrev pub StandsAsItsState : WorldView T → Type 0
   StandsAsItsState w = IsQuiet w → (s : Scene T Waiter) → StandsIn w s → IsStateOf s (at_rest w)
 
   -- what left since a scene, followed by the messages of the state, is what it held followed by what came
-  abbrev pub HasItsAccounts : Floor T → Type 0
+  abbrev pub HasItsAccounts : WorldView T → Type 0
   HasItsAccounts w =
       IsQuiet w → (s : Scene T Waiter) (replies : List (Reply T)) (led : Led s replies w)
       → left_on s led.way.paces led.last led.way.is ++ (at_rest w).channel.messages ≡ accepted_on s led.way.paces led.last led.way.is

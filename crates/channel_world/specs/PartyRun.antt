@@ -1,16 +1,14 @@
 -- What steps of one party promise: they are a run of so many of its steps, which ends with the one that answers.
 use Rattle.std.specs.Prelude.{◌≡◌, ℕ, ◌+◌, Bool, List, [], ◌∷◌, ◌++◌, length, Option, None, Some, is_some, IfSome}
-use Rattle.channel_interleaving.specs.Floor.{book_of}
 use Rattle.channel_interleaving.specs.Refusal.{step_refusal}
 use Rattle.channel_interleaving.specs.Run.{MayRefuse}
-use Rattle.channel_interleaving.specs.Runs.{RanTo}
-use Rattle.channel_interleaving.specs.declared.floor.Floor.{Floor}
 use Rattle.channel_interleaving.specs.declared.step.Entry.{Entry}
 use Rattle.channel_interleaving.specs.declared.step.PartyId.{PartyId}
 use Rattle.channel_interleaving.specs.declared.step.Step.{Step}
 use Rattle.channel_interleaving.specs.declared.step.Step.TheVariants as step
 use Rattle.channel_model.specs.declared.refusal.WorldRefusal.{WorldRefusal}
 use Rattle.channel_model.specs.declared.run.Stopped.{Stopped}
+use Rattle.channel_world.specs.View.{book_of, RanTo, WorldView}
 
 module _ {T : Type 0} where
   -- how many steps were asked for: those that were made, and the one that was refused
@@ -36,17 +34,17 @@ module _ {T : Type 0} where
   -- ---- one step, within the run
 
   -- one more step of this party was made; where it does not answer, nothing but want of room refuses the next one
-  pub record StepsOnce (p : PartyId) (old : Floor T) (before : List (Entry T)) (answered : Bool) (after : List (Entry T))
-      (new : Floor T) : Type 0 where
+  pub record StepsOnce (p : PartyId) (old : WorldView T) (before : List (Entry T)) (answered : Bool) (after : List (Entry T))
+      (new : WorldView T) : Type 0 where
     pub entry : Entry T
     pub written : after ≡ before ++ entry ∷ []
     pub told : answered ≡ is_some entry.reply
     pub ran : RanTo (step.Step p ∷ []) [] old (entry ∷ []) new
-    pub goes_on : entry.reply ≡ None → step_refusal new.roll new.agents.items (step.Step p) ≡ None
+    pub goes_on : entry.reply ≡ None → step_refusal (book_of new).roll (book_of new).agents (step.Step p) ≡ None
 
   -- it is refused, for the first reason that there is, and nothing is written
-  pub record IsRefused (p : PartyId) (old : Floor T) (before : List (Entry T)) (why : WorldRefusal) (after : List (Entry T))
-      (new : Floor T) : Type 0 where
+  pub record IsRefused (p : PartyId) (old : WorldView T) (before : List (Entry T)) (why : WorldRefusal) (after : List (Entry T))
+      (new : WorldView T) : Type 0 where
     pub unwritten : after ≡ before
     pub ran : RanTo (step.Step p ∷ []) (step.Step p ∷ []) old [] new
     pub reason : MayRefuse (book_of new) (step.Step p) why

@@ -1,6 +1,6 @@
 -- The sentences of the headline: what is said of each moment of a run, and of each step, from the moment m before it to the
 -- moment n after it.
-use Rattle.std.specs.Prelude.{◌≡◌, ◌<◌, false, List, [], ◌∷◌, ◌++◌, map, Option, None, IfSome}
+use Rattle.std.specs.Prelude.{◌≡◌, ℕ, ◌<◌, ◌≤◌, false, List, [], ◌∷◌, ◌++◌, map, Option, None, IfSome}
 use Rattle.concurrent_queue.specs.Queue.{Phase}
 use Rattle.channel_calls.specs.Moves.{OnePlace}
 use Rattle.channel_calls.specs.declared.mark.Mark.TheVariants.{Nothing}
@@ -17,13 +17,11 @@ use Rattle.channel_steps.specs.Run.{begun as call_begun}
 use Rattle.channel_steps.specs.Scene.{Under, blocks_after, EndsInTime, brought, does, sees, unless_ended}
 use Rattle.channel_steps.specs.Tellings.{telling, dropping, Names}
 use Rattle.channel_interleaving.specs.Bookkeeping.{asks}
-use Rattle.channel_interleaving.specs.Floor.{StandsIn}
 use Rattle.channel_interleaving.specs.Owed.{Owed}
 use Rattle.channel_interleaving.specs.Refusal.{step_refusal}
 use Rattle.channel_interleaving.specs.Run.{IsBookAfter}
-use Rattle.channel_interleaving.specs.Runs.{Moment, FewLeft, moment_of}
+use Rattle.channel_interleaving.specs.Runs.{Moment}
 use Rattle.channel_interleaving.specs.SightAt.{sight_at}
-use Rattle.channel_interleaving.specs.declared.floor.Floor.{Floor}
 use Rattle.channel_interleaving.specs.declared.step.Entry.{Entry}
 use Rattle.channel_interleaving.specs.declared.step.PartyId.{PartyId}
 use Rattle.channel_interleaving.specs.declared.step.Step.{Step}
@@ -31,15 +29,16 @@ use Rattle.channel_interleaving.specs.declared.step.Step.TheVariants as step
 use Rattle.channel_laws.specs.EndSays.{EndSays}
 use Rattle.channel_laws.specs.Marked.{plain, marked}
 use Rattle.channel_laws.specs.Marks.{BeginsItsMarks}
-use Rattle.channel_world.specs.StepsLeft.{NobodyHoldsUp}
+use Rattle.channel_world.specs.StepsLeft.{NobodyHoldsUp, most_left}
 use Rattle.channel_laws.specs.Words.{WordsSay}
+use Rattle.channel_world.specs.View.{parties_in, moment_of, StandsIn, WorldView}
 
 module _ {T : Type 0} where
   -- ---- a moment
 
   pub record MomentSays (m : Moment T) : Type 0 where
     -- it is a moment of this world, which stands in its scene
-    pub world : Floor T
+    pub world : WorldView T
     pub is : m ≡ moment_of world m.scene
     pub stands : StandsIn world m.scene
     -- of each call under way, the marks are the first of those that a call which asks this makes
@@ -49,9 +48,9 @@ module _ {T : Type 0} where
     pub owed : Owed (sight_at m.book.roll m.scene)
     -- the channel is closed or not and holds so many messages as its queue's words say; and each message lies in the slot that
     -- they name for it alone, without a bound by the blocks that the queue has used, or is with the call that is yet to put it there
-    pub words : WordsSay m.parts.cells world.parties.items m.scene
+    pub words : WordsSay m.parts.cells (parties_in world) m.scene
     -- no call has more steps left than 197, and 64 for each message that a receive of several may take, where none holds it up
-    pub few : FewLeft m
+    pub few : (party : ℕ) → m.left party ≤ most_left party m
 
   -- ---- the beginning of a call
 
@@ -69,9 +68,20 @@ module _ {T : Type 0} where
 
   -- ---- a step of a call
 
-  -- what the step does, of a call that is `call` before it and `after` after it
-  pub record StepDoes (m : Moment T) (p : PartyId) (e : Entry T) (n : Moment T) (call after : Under T Waiter) : Type 0 where
-    -- it asks no listener before it tries, but a stream's
+  pub record WorkSays (m : Moment T) (p : PartyId) (e : Entry T) (n : Moment T) : Type 0 where
+    -- the party's call, among those under way
+    pub before : List (Under T Waiter)
+    pub call : Under T Waiter
+    pub behind : List (Under T Waiter)
+    pub under_way : m.scene.under_way ≡ before ++ (call ∷ behind)
+    pub party : call.party ≡ p.0
+    -- the same call after the step: one moment more, the step's mark, and what the step told. It is under way no more if it has
+    -- answered; to all others the step is one more moment
+    pub at_now : Stage (Phase T) T Waiter
+    pub after : Under T Waiter
+    pub is : after ≡ does call at_now e.mark m.scene.now n.scene.now
+    pub goes_on : n.scene.under_way ≡ map (sees n.scene.now) before ++ (unless_ended after e.reply ++ map (sees n.scene.now) behind)
+    -- what the step does: it asks no listener before it tries, but a stream's
     pub tries : asks_first call.ask ≡ false
     -- to the plain channel what its mark says, by touching one cell, one list or one count at most
     pub effect : plain n.scene.now ≡ marked e.mark (brought call.ask) (plain m.scene.now)
@@ -90,21 +100,6 @@ module _ {T : Type 0} where
     pub nearer : e.reply ≡ None → NobodyHoldsUp p.0 m → n.left p.0 < m.left p.0
     -- a call that began when the end was said gives no message
     pub late : AllSpent call.seen → Replies GivesMessage e.reply → ⊥
-
-  pub record WorkSays (m : Moment T) (p : PartyId) (e : Entry T) (n : Moment T) : Type 0 where
-    -- the party's call, among those under way
-    pub before : List (Under T Waiter)
-    pub call : Under T Waiter
-    pub behind : List (Under T Waiter)
-    pub under_way : m.scene.under_way ≡ before ++ (call ∷ behind)
-    pub party : call.party ≡ p.0
-    -- the same call after the step: one moment more, the step's mark, and what the step told. It is under way no more if it has
-    -- answered; to all others the step is one more moment
-    pub at_now : Stage (Phase T) T Waiter
-    pub after : Under T Waiter
-    pub is : after ≡ does call at_now e.mark m.scene.now n.scene.now
-    pub goes_on : n.scene.under_way ≡ map (sees n.scene.now) before ++ (unless_ended after e.reply ++ map (sees n.scene.now) behind)
-    pub work : StepDoes m p e n call after
 
   -- ---- a step of a run
 

@@ -1,5 +1,5 @@
 -- Laws of all replies that were given on the way from a scene, by runs of steps, lists of calls and settlings in turn.
-use Rattle.std.specs.Prelude.{◌≡◌, ℕ, ◌+◌, ◌≤◌, cond, true, List, [], ◌∷◌, Option, None, Some}
+use Rattle.std.specs.Prelude.{◌≡◌, ℕ, ◌+◌, ◌≤◌, cond, true, List, [], ◌∷◌, ◌++◌, Option, None, Some}
 use Rattle.channel_calls.specs.declared.reply.Reply.{Reply}
 use Rattle.channel_laws.specs.Bounds.{SaysFull, AllOf, one_if_closed}
 use Rattle.channel_laws.specs.Ends.{Each}
@@ -8,9 +8,8 @@ use Rattle.channel_steps.specs.Run.{new_scene}
 use Rattle.channel_steps.specs.Scene.{Under, Scene}
 use Rattle.channel_interleaving.specs.Counted.{tally}
 use Rattle.channel_interleaving.specs.Doing.{any_close}
-use Rattle.channel_interleaving.specs.Floor.{IsQuiet, Led, LeadsOn, Stands}
-use Rattle.channel_interleaving.specs.declared.floor.Floor.{Floor}
-use Rattle.channel_world.specs.World.{at_rest}
+use Rattle.channel_world.specs.Carried.{LeadsTo}
+use Rattle.channel_world.specs.View.{at_rest, IsQuiet, Stands, Led, WorldView}
 
 module _ {T : Type 0} where
   -- how many of these replies say that they closed the channel
@@ -36,11 +35,26 @@ module _ {T : Type 0} where
     pub now : s.now.queue.capacity ≡ None
     pub seen : Each (λ (u : Under T Waiter). AllOf None u.seen) s.under_way
 
+  -- ---- of what is done to a world, since whatever opening it came from
+
+  -- of all replies since then, with these, at most one says that it closed the channel
+  pub record ClosesOnceWith (world : WorldView T) (replies : List (Reply T)) : Type 0 where
+    pub since : (capacity : Option ℕ) (before : List (Reply T)) → Led (new_scene capacity) before world
+        → closings_among (before ++ replies) ≤ 1
+
+  -- of all since one without a bound, with these, none says that it is full
+  pub record IsNeverFullWith (world : WorldView T) (replies : List (Reply T)) : Type 0 where
+    pub since : (before : List (Reply T)) → Led (new_scene None) before world → NoneSaysFull (before ++ replies)
+
 -- of all replies on the way to this world
-module _ {T : Type 0} (world : Floor T) where
+module _ {T : Type 0} (world : WorldView T) where
   -- Since the opening at most one says that it closed the channel.
   abbrev pub ClosesOnce : Type 0
   ClosesOnce = (capacity : Option ℕ) (replies : List (Reply T)) → Led (new_scene capacity) replies world → closings_among replies ≤ 1
+
+  -- So of those that led here from whatever world, with all that were given before.
+  abbrev pub ClosesOnceToHere : Type 0
+  ClosesOnceToHere = (a : WorldView T) (replies : List (Reply T)) → LeadsTo a replies world → ClosesOnceWith a replies
 
   -- From whatever scene no more say so than may yet: one at most, where no call under way has closed it, and none, where it is
   -- closed too.
@@ -50,17 +64,21 @@ module _ {T : Type 0} (world : Floor T) where
   -- So from whatever world with no call under way: one at most,
   abbrev pub ClosesOnceFromRest : Type 0
   ClosesOnceFromRest =
-      (a : Floor T) (replies : List (Reply T)) → Stands a → IsQuiet a → LeadsOn a replies world → closings_among replies ≤ 1
+      (a : WorldView T) (replies : List (Reply T)) → Stands a → IsQuiet a → LeadsTo a replies world → closings_among replies ≤ 1
 
   -- and none, where it is closed.
   abbrev pub NoneClosesAgain : Type 0
   NoneClosesAgain =
-      (a : Floor T) (replies : List (Reply T)) → Stands a → IsQuiet a → (at_rest a).channel.closed ≡ true → LeadsOn a replies world
+      (a : WorldView T) (replies : List (Reply T)) → Stands a → IsQuiet a → (at_rest a).channel.closed ≡ true → LeadsTo a replies world
       → closings_among replies ≡ 0
 
   -- Since an opening without a bound none says that the channel is full,
   abbrev pub IsNeverFull : Type 0
   IsNeverFull = (replies : List (Reply T)) → Led (new_scene None) replies world → NoneSaysFull replies
+
+  -- so of those that led here from whatever world, with all that were given before;
+  abbrev pub IsNeverFullToHere : Type 0
+  IsNeverFullToHere = (a : WorldView T) (replies : List (Reply T)) → LeadsTo a replies world → IsNeverFullWith a replies
 
   -- nor from whatever scene without a bound.
   abbrev pub IsNeverFullSince : Type 0
@@ -69,5 +87,5 @@ module _ {T : Type 0} (world : Floor T) where
   -- So from whatever world with no call under way that has none.
   abbrev pub IsNeverFullFromRest : Type 0
   IsNeverFullFromRest =
-      (a : Floor T) (replies : List (Reply T)) → Stands a → IsQuiet a → (at_rest a).channel.capacity ≡ None → LeadsOn a replies world
+      (a : WorldView T) (replies : List (Reply T)) → Stands a → IsQuiet a → (at_rest a).channel.capacity ≡ None → LeadsTo a replies world
       → NoneSaysFull replies

@@ -1,6 +1,6 @@
 -- What the code's scene stands for.
 use Rattle.channel_world.specs.Script.{Scene}
-use Rattle.channel_world.specs.World.{at_rest}
+use Rattle.channel_world.specs.View.{at_rest}
 use Rattle.channel_world.specs.declared.script.scene.Scene.{Scene as Staged}
 
 abbrev pub scene_of : Staged → Scene

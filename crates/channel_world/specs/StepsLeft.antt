@@ -2,13 +2,12 @@
 use Rattle.std.specs.Prelude.{ℕ, suc, ◌+◌, ◌*◌, ◌≤◌, ◌==◌, ◌&&◌, if◌then◌else◌, is_none, List, [], ◌∷◌}
 use Rattle.channel_model.specs.declared.name.Waiter.{Waiter}
 use Rattle.channel_steps.specs.Scene.{Scene, HoldNobodyUp}
-use Rattle.channel_interleaving.specs.Floor.{StandsIn}
 use Rattle.channel_interleaving.specs.Left.{others_of, wanted_of}
-use Rattle.channel_interleaving.specs.Runs.{Moment, moment_of}
-use Rattle.channel_interleaving.specs.declared.floor.Floor.{Floor}
+use Rattle.channel_interleaving.specs.Runs.{Moment}
 use Rattle.channel_interleaving.specs.declared.step.Entry.{Entry}
 use Rattle.channel_interleaving.specs.declared.step.Step.{Step}
 use Rattle.channel_interleaving.specs.declared.step.Step.TheVariants as step
+use Rattle.channel_world.specs.View.{moment_of, StandsIn, WorldView}
 
 module _ {T : Type 0} where
   -- how many of the next steps are this party's, one after another, with no reply among them
@@ -38,6 +37,6 @@ module _ {T : Type 0} where
 
   -- from whatever scene the world stood in: a call that the others hold up no more makes no more steps than these in front of the
   -- list
-  abbrev pub EndsInFront : Floor T → List (Step T) → List (Entry T) → Type 0
+  abbrev pub EndsInFront : WorldView T → List (Step T) → List (Entry T) → Type 0
   EndsInFront old steps trace =
       (s : Scene T Waiter) → StandsIn old s → EndInFront (moment_of old s) steps trace

@@ -10,7 +10,7 @@ ghost use Rattle.channel_world.specs.MergesByNames.{MergesByNamesAreRuns};
 ghost use Rattle.channel_world.specs.MergesByNamesRow.{TwoClonesByNames};
 ghost use Rattle.channel_world.specs.Numbers.{CallsAtRest, MessagesAtRest, PendingAtRest, WokenAtRest};
 ghost use Rattle.channel_world.specs.Settled.{SettlingIsShort};
-ghost use Rattle.channel_world.specs.Since.{ClosesOnce, ClosesOnceFromRest, ClosesWhatIsLeft, IsNeverFull, IsNeverFullFromRest, IsNeverFullSince, NoneClosesAgain};
+ghost use Rattle.channel_world.specs.Since.{ClosesOnce, ClosesOnceFromRest, ClosesOnceToHere, ClosesWhatIsLeft, IsNeverFull, IsNeverFullFromRest, IsNeverFullSince, IsNeverFullToHere, NoneClosesAgain};
 
 pub use crate::recorded::laws::{a_record_leaves_nobody_asleep, a_record_loses_nothing};
 use crate::world::World;
@@ -141,6 +141,7 @@ pub fn who_sleeps_is_answered_for<T: Drop>(world: &World<T>)
 /// Own to this project.
 pub fn the_channel_is_closed_once<T: Drop>(world: &World<T>)
     ensures since_opening { ClosesOnce world.now }
+    ensures to_here { ClosesOnceToHere world.now }
     ensures left { ClosesWhatIsLeft world.now }
     ensures from_rest { ClosesOnceFromRest world.now }
     ensures again { NoneClosesAgain world.now }
@@ -153,13 +154,14 @@ pub fn the_channel_is_closed_once<T: Drop>(world: &World<T>)
 /// Own to this project.
 pub fn an_unbounded_world_is_never_full<T: Drop>(world: &World<T>)
     ensures since_opening { IsNeverFull world.now }
+    ensures to_here { IsNeverFullToHere world.now }
     ensures since { IsNeverFullSince world.now }
     ensures from_rest { IsNeverFullFromRest world.now }
 {}
 
 /// On any way from one scene to another, by runs of steps, lists of calls and settlings in turn, what leaves as the n-th is what was
 /// held or came as the n-th. So of two messages that were accepted in successive calls of one party the later never leaves first.
-/// The ways are those of `leads` and `carries`.
+/// The ways are those of `leads`.
 ///
 /// Own to this project.
 pub fn by_steps_messages_leave_in_turn<T>()

@@ -31,16 +31,16 @@ fn have_room<T: Drop>(steps: &mut VecDeque<Step<T>>, trace: &mut Vec<Entry<T>>) 
 }
 
 impl<T: Drop> World<T> {
-    ghost use Rattle.std.specs.Prelude.{◌≡◌, ◌≤◌, ◌<◌, ◌+◌, List, [], ◌++◌, replicate, vec_len, vec_capacity, None, IfOk, IfErr, OnErr};
+    ghost use Rattle.std.specs.Prelude.{◌≡◌, ◌≤◌, ◌<◌, ◌+◌, [], replicate, vec_len, vec_capacity, None, IfOk, IfErr, OnErr};
     ghost use Rattle.std.specs.VecDeque.{deque_len, deque_capacity};
-    ghost use Rattle.channel_calls.specs.declared.reply.Reply.{Reply};
     ghost use Rattle.channel_model.specs.declared.name.Waiter.{Waiter};
     ghost use Rattle.channel_steps.specs.Scene.{Scene};
-    ghost use Rattle.channel_interleaving.specs.Floor.{messages_in, Led, LeadsOn, Stands, StandsIn};
     ghost use Rattle.channel_interleaving.specs.Runs.{accepted_in, left_in};
     ghost use Rattle.channel_interleaving.specs.Way.{replies_in};
+    ghost use Rattle.channel_world.specs.Carried.{LeadsTo};
     ghost use Rattle.channel_world.specs.Headline.{Headline};
     ghost use Rattle.channel_world.specs.PartyRun.{asked, refused_of, AreSilent, EndsWithAnswer, IsRefused, StepsOnce};
+    ghost use Rattle.channel_world.specs.View.{messages_in, StandsIn, Stands};
 
     /// Makes one step of this party in the room that was taken, and says whether its call answered; or why the step is refused.
     fn step_party(
@@ -97,9 +97,7 @@ impl<T: Drop> World<T> {
         ensures within { IfOk result (λ run. asked run.trace.items run.stopped ≤ most) }
         ensures answered { IfOk result (λ run. EndsWithAnswer run.trace.items run.stopped) }
         ensures short { IfOk result (λ run. run.stopped ≡ None → AreSilent run.trace.items → vec_len run.trace ≡ most) }
-        ensures leads { IfOk result (λ run. LeadsOn self.old (replies_in run.trace.items) self.new) }
-        ensures carries { IfOk result (λ run. (s : Scene T Waiter) (replies : List (Reply T)) → Led s replies self.old
-            → Led s (replies ++ replies_in run.trace.items) self.new) }
+        ensures leads { IfOk result (λ run. LeadsTo self.old (replies_in run.trace.items) self.new) }
         ensures messages { IfOk result (λ run. messages_in self.new + left_in run.trace.items
             ≡ messages_in self.old + accepted_in run.trace.items) }
         ensures unchanged { OnErr result (self.new ≡ self.old) }

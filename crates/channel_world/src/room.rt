@@ -5,7 +5,8 @@ use channel_calls::stage::Line;
 
 impl<T: Drop> World<T> {
     ghost use Rattle.std.specs.Prelude.{◌≤◌, IfSome};
-    ghost use Rattle.channel_world.specs.World.{most_woken, untold_count, at_rest};
+    ghost use Rattle.channel_world.specs.World.{most_woken, untold_count};
+    ghost use Rattle.channel_world.specs.View.{at_rest};
 
     /// How many wait untold; None where there is no such number.
     pub(crate) fn untold_count(&self) -> Option<usize>

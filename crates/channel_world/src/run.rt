@@ -4,15 +4,11 @@ use super::world::World;
 use std::collections::VecDeque;
 
 impl<T: Drop> World<T> {
-    ghost use Rattle.std.specs.Prelude.{◌≡◌, ◌<◌, List, ◌++◌, IfSome, IfNone, vec_len, vec_capacity};
+    ghost use Rattle.std.specs.Prelude.{◌≡◌, ◌<◌, IfSome, IfNone, vec_len, vec_capacity};
     ghost use Rattle.std.specs.Option.{option_map};
-    ghost use Rattle.channel_calls.specs.declared.reply.Reply.{Reply};
     ghost use Rattle.channel_model.specs.Run.{Runs, MayStop};
-    ghost use Rattle.channel_model.specs.declared.name.Waiter.{Waiter};
-    ghost use Rattle.channel_steps.specs.Scene.{Scene};
-    ghost use Rattle.channel_interleaving.specs.Floor.{IsQuiet, Led, LeadsOn, Stands};
-    ghost use Rattle.channel_world.specs.Carried.{replied_in};
-    ghost use Rattle.channel_world.specs.World.{at_rest};
+    ghost use Rattle.channel_world.specs.Carried.{replied_in, LeadsTo};
+    ghost use Rattle.channel_world.specs.View.{at_rest, IsQuiet, Stands};
 
     /// Why the list of calls stops at this one, if it does; where it doesn't, there is room for what it answers.
     fn stop(&self, call: &Call<T>, done: &mut Vec<Done<T>>) -> Option<WorldRefusal>
@@ -43,9 +39,7 @@ impl<T: Drop> World<T> {
         ensures run { Runs (at_rest self.old) calls.old.items result.done.items (option_map (λ s. s.why) result.stopped) calls.new.items (at_rest self.new) }
         ensures place { IfSome result.stopped (λ s. s.place ≡ vec_len result.done) }
         ensures quiet { IsQuiet self.new }
-        ensures leads { LeadsOn self.old (replied_in result.done.items) self.new }
-        ensures carries { (s : Scene T Waiter) (replies : List (Reply T)) → Led s replies self.old
-            → Led s (replies ++ replied_in result.done.items) self.new }
+        ensures leads { LeadsTo self.old (replied_in result.done.items) self.new }
         ensures stands { Stands self.new }
     {
         self.keeps();

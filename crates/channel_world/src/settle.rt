@@ -50,7 +50,6 @@ impl<T: Drop> World<T> {
     ghost use Rattle.std.specs.Prelude.{◌≡◌, ◌≤◌, ◌+◌, [], ◌∷◌, true, false, length, vec_len, vec_capacity, IfOk, IfSome, OnSome, IsTrue};
     ghost use Rattle.channel_alone.specs.Ample.{lacks_memory};
     ghost use Rattle.channel_calls.specs.declared.stage.Line.TheVariants.{Sends};
-    ghost use Rattle.channel_interleaving.specs.Floor.{HasPosition, HasPositions, IsQuiet, LeadsOn};
     ghost use Rattle.channel_interleaving.specs.Positions.{accepted_by, brings};
     ghost use Rattle.channel_model.specs.Answer.{Answer};
     ghost use Rattle.channel_model.specs.Laws.{count_of, is_line, line_of};
@@ -58,7 +57,7 @@ impl<T: Drop> World<T> {
     ghost use Rattle.channel_model.specs.Refused.{Answers};
     ghost use Rattle.channel_model.specs.Settling.{poll_of};
     ghost use Rattle.channel_world.specs.Settled.{Polls, most_polls, pending_on};
-    ghost use Rattle.channel_world.specs.World.{at_rest};
+    ghost use Rattle.channel_world.specs.View.{names_in, at_rest, has_one_place, accepted_by_now, IsQuiet, HasPositions, LeadsOn, HasPosition};
 
     /// Whether what has this name belongs to this line.
     fn is_on(&self, line: Line, name: Waiter) -> bool
@@ -152,8 +151,8 @@ impl<T: Drop> World<T> {
         ensures polled { Polls name (at_rest self.old) names.items result.reply result.names.items (at_rest self.new) }
         ensures quiet { IsQuiet self.new }
         ensures leads { LeadsOn self.old (result.reply ∷ []) self.new }
-        ensures place { self.new.has_one_place ≡ self.old.has_one_place }
-        ensures accepted { self.new.accepted ≤ self.old.accepted + accepted_by (brings self.old.roll (poll_of name)) result.reply }
+        ensures place { has_one_place self.new ≡ has_one_place self.old }
+        ensures accepted { accepted_by_now self.new ≤ accepted_by_now self.old + accepted_by (brings (names_in self.old) (poll_of name)) result.reply }
         ensures capacity { vec_capacity names ≤ vec_capacity result.names }
         ensures ample { lacks_memory result.reply ≡ false }
     {
@@ -165,12 +164,11 @@ impl<T: Drop> World<T> {
 
 impl<T: Drop> World<T> {
     ghost use Rattle.std.specs.Prelude.{◌≡◌, ◌≤◌, ◌<◌, ◌+◌, ◌*◌, [], vec_len, IfOk, OnOk, OnErr};
-    ghost use Rattle.channel_interleaving.specs.Floor.{messages_in, IsQuiet, LeadsOn, Stands};
     ghost use Rattle.channel_interleaving.specs.Pending.{is_pending, how_many};
     ghost use Rattle.channel_model.specs.Settling.{Settles, pending_count};
-    ghost use Rattle.channel_world.specs.Carried.{polls_replied};
+    ghost use Rattle.channel_world.specs.Carried.{polls_replied, LeadsTo};
     ghost use Rattle.channel_world.specs.Settled.{polls_in, most_polls, NoneLackedMemory, NoReceiveGoesOn, NoSendGoesOn, NoStreamGoesOn, NobodyMissesTheClosing};
-    ghost use Rattle.channel_world.specs.World.{at_rest};
+    ghost use Rattle.channel_world.specs.View.{names_in, messages_in, at_rest, IsQuiet, Stands};
 
     /// Polls those who are pending and were woken, the one whose wake is oldest first, again and again until nobody is woken;
     /// and says whom it polled, in order, and what each poll answered.
@@ -198,8 +196,8 @@ impl<T: Drop> World<T> {
             ≤ pending_count (at_rest self.old).waiting * (pending_count (at_rest self.old).waiting + 1)) }
         ensures short { IfOk result (λ polls. vec_len polls ≤ most_polls (at_rest self.old)) }
         ensures few_pending { IfOk result (λ polls. 2 * vec_len polls
-            ≤ how_many is_pending self.old.roll * (how_many is_pending self.old.roll + 1)) }
-        ensures one_pending { IfOk result (λ polls. how_many is_pending self.old.roll ≡ 1 → vec_len polls ≤ 1) }
+            ≤ how_many is_pending (names_in self.old) * (how_many is_pending (names_in self.old) + 1)) }
+        ensures one_pending { IfOk result (λ polls. how_many is_pending (names_in self.old) ≡ 1 → vec_len polls ≤ 1) }
         ensures ample { IfOk result (λ polls. NoneLackedMemory polls.items) }
         ensures nobody_woken { OnOk result ((at_rest self.new).waiting.woken ≡ []) }
         ensures receives { OnOk result (NoReceiveGoesOn (at_rest self.new)) }
@@ -210,7 +208,7 @@ impl<T: Drop> World<T> {
         ensures no_stream { OnOk result (0 < messages_in self.new → (at_rest self.new).waiting.streams ≡ []) }
         ensures unchanged { OnErr result (self.new ≡ self.old) }
         ensures quiet { IsQuiet self.new }
-        ensures leads { IfOk result (λ polls. LeadsOn self.old (polls_replied polls.items) self.new) }
+        ensures leads { IfOk result (λ polls. LeadsTo self.old (polls_replied polls.items) self.new) }
         ensures stands { Stands self.new }
     {
         a_channel_at_rest_is_a_world::<T>();

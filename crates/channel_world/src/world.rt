@@ -23,12 +23,15 @@ pub struct World<T> {
 }
 
 impl<T> Model for World<T> {
+    ghost use Rattle.std.specs.Coded.{codes};
     ghost use Rattle.channel_interleaving.specs.Floor.{IsKept};
-    ghost use Rattle.channel_interleaving.specs.declared.floor.Floor.{Floor};
+    ghost use Rattle.channel_world.specs.View.{view_of, view_code, WorldView};
 
-    ghost Value = { Floor T };
+    ghost Value = { WorldView T };
 
-    ghost view = { λ w. w.floor };
+    ghost coded = { view_code (Prim.hlevel codes) };
+
+    ghost view = { λ w. view_of w.floor };
 
     ghost invariant = { λ w. IsKept w.floor };
 }
@@ -38,8 +41,7 @@ impl<T: Drop> World<T> {
     ghost use Rattle.concurrent_queue.specs.Capacity.{capacity_of};
     ghost use Rattle.concurrent_queue.specs.Made.{CanBeMade};
     ghost use Rattle.channel_model.specs.State.{start};
-    ghost use Rattle.channel_interleaving.specs.Floor.{IsOpen, IsQuiet};
-    ghost use Rattle.channel_world.specs.World.{at_rest};
+    ghost use Rattle.channel_world.specs.View.{at_rest, IsQuiet, IsOpen};
 
     /// An open channel over a queue of this form. Memory is taken first, and then four identities together or none.
     fn open(alloc: Global, form: QueueForm, ids: &mut EventIds) -> Result<World<T>, OpenError>
@@ -103,21 +105,20 @@ impl<T: Drop> World<T> {
 }
 
 impl<T: Drop> World<T> {
-    ghost use Rattle.std.specs.Prelude.{◌≡◌, ◌<◌, ◌+◌, ◌^◌, List, [], ◌++◌, length, None, Some, IfSome, IsTrue, vec_len};
-    ghost use Rattle.channel_calls.specs.declared.reply.Reply.{Reply};
+    ghost use Rattle.std.specs.Prelude.{◌≡◌, ◌<◌, ◌+◌, ◌^◌, [], length, None, Some, IfSome, IsTrue, vec_len};
     ghost use Rattle.channel_model.specs.declared.name.Waiter.{Waiter};
     ghost use Rattle.channel_steps.specs.Scene.{Scene};
     ghost use Rattle.channel_interleaving.specs.Apart.{AreApart};
     ghost use Rattle.channel_interleaving.specs.Roll.{is_woken};
     ghost use Rattle.channel_interleaving.specs.Pending.{is_pending, how_many};
     ghost use Rattle.channel_interleaving.specs.Run.{Stops};
-    ghost use Rattle.channel_interleaving.specs.Runs.{accepted_in, left_in, RanTo};
-    ghost use Rattle.channel_interleaving.specs.Floor.{book_of, calls_in, messages_in, HasPositions, IsKept, Led, LeadsOn, Stands, StandsIn, TellsQuiet};
+    ghost use Rattle.channel_interleaving.specs.Runs.{accepted_in, left_in};
     ghost use Rattle.channel_interleaving.specs.Way.{replies_in};
+    ghost use Rattle.channel_world.specs.Carried.{LeadsTo};
     ghost use Rattle.channel_world.specs.Headline.{Headline};
     ghost use Rattle.channel_world.specs.StepsLeft.{EndsInFront};
     ghost use Rattle.channel_world.specs.TheEnd.{NothingComesAfter};
-    ghost use Rattle.channel_world.specs.World.{at_rest};
+    ghost use Rattle.channel_world.specs.View.{names_in, messages_in, calls_in, at_rest, book_of, TellsQuiet, HasPositions, StandsIn, Stands, RanTo, IsKept};
 
     /// Runs steps of any parties, from the front. The first one that is refused stays in front, with nothing of it done;
     /// `stopped` says at which place of the list, counted from 0, and why.
@@ -145,9 +146,7 @@ impl<T: Drop> World<T> {
             → Headline steps.old.items steps.new.items self.old result.trace.items result.stopped self.new s }
         ensures soon { EndsInFront self.old steps.old.items result.trace.items }
         ensures the_end { NothingComesAfter steps.old.items result.trace.items }
-        ensures leads { LeadsOn self.old (replies_in result.trace.items) self.new }
-        ensures carries { (s : Scene T Waiter) (replies : List (Reply T)) → Led s replies self.old
-            → Led s (replies ++ replies_in result.trace.items) self.new }
+        ensures leads { LeadsTo self.old (replies_in result.trace.items) self.new }
         ensures stands { Stands self.new }
         ensures used_up { result.stopped ≡ None → steps.new.items ≡ [] }
         ensures made { vec_len result.trace + length steps.new.items ≡ length steps.old.items }
@@ -177,8 +176,8 @@ impl<T: Drop> World<T> {
     /// Says what is always so, that no name stands twice, and that not all numbers were given to operations; and does nothing.
     pub(crate) fn keeps_names(&self)
         ensures kept { IsKept self.now }
-        ensures apart { AreApart self.now.roll }
-        ensures few { length self.now.roll.operations < 2 ^ 63 }
+        ensures apart { AreApart (names_in self.now) }
+        ensures few { length (names_in self.now).operations < 2 ^ 63 }
     {
         let _handles = self.floor.roll.handles.iter();
         let _operations = self.floor.roll.operations.iter();
@@ -218,14 +217,14 @@ impl<T: Drop> World<T> {
     /// How many operations and streams are pending: they live, their last poll ended so, and no poll of them is under way.
     /// A walk over all names. Own to this project.
     pub fn pending(&self) -> usize
-        ensures { result ≡ how_many is_pending self.now.roll }
+        ensures { result ≡ how_many is_pending (names_in self.now) }
     {
         self.floor.roll.count_pending()
     }
 
     /// How many of those that are pending were woken since their last poll. A walk over all names. Own to this project.
     pub fn woken(&self) -> usize
-        ensures { result ≡ how_many is_woken self.now.roll }
+        ensures { result ≡ how_many is_woken (names_in self.now) }
     {
         self.floor.roll.count_woken()
     }
@@ -235,9 +234,8 @@ impl<T: Drop> World<T> {
     ghost use Rattle.std.specs.Prelude.{◌≡◌, None, IfOk, IfErr, OnErr};
     ghost use Rattle.channel_model.specs.Refusal.{refusal};
     ghost use Rattle.channel_model.specs.Refused.{Answers};
-    ghost use Rattle.channel_interleaving.specs.Floor.{IsQuiet, LeadsOn, Stands};
     ghost use Rattle.channel_interleaving.specs.Way.{reply_of};
-    ghost use Rattle.channel_world.specs.World.{at_rest};
+    ghost use Rattle.channel_world.specs.View.{at_rest, IsQuiet, LeadsOn};
 
     /// Makes a call that is not refused, alone; or hands it back where its answer got no room, with nothing changed.
     pub(crate) fn answer(&mut self, call: Call<T>) -> Result<Done<T>, Call<T>>

@@ -1,26 +1,27 @@
 //! Clients of a world that know nothing of it but that it is one. They are proved; nothing runs them.
 
-ghost use Rattle.std.specs.Prelude.{◌≡◌, ◌+◌, ◌*◌, ◌<◌, ◌≤◌, ℕ, List, [], ◌++◌, length, slice_get, Option, None, true, IfOk, vec_len};
+ghost use Rattle.std.specs.Prelude.{◌≡◌, ◌+◌, ◌*◌, ◌<◌, ◌≤◌, ℕ, List, [], ◌++◌, length, slice_get, true, IfOk, vec_len};
 ghost use Rattle.channel_calls.specs.declared.reply.Reply.{Reply};
-ghost use Rattle.channel_interleaving.specs.Floor.{IsQuiet, Led};
+ghost use Rattle.channel_calls.specs.declared.stage.Line.{Line};
+ghost use Rattle.channel_interleaving.specs.Pending.{how_many, is_pending};
 ghost use Rattle.channel_interleaving.specs.Runs.{accepted_in, left_in};
 ghost use Rattle.channel_interleaving.specs.Way.{replies_in};
 ghost use Rattle.channel_model.specs.Handles.{HandlesAreCounted};
 ghost use Rattle.channel_model.specs.declared.name.Waiter.{Waiter};
-ghost use Rattle.channel_steps.specs.Run.{new_scene};
 ghost use Rattle.channel_steps.specs.Scene.{Scene};
-ghost use Rattle.channel_world.specs.Carried.{replied_if, replied_in};
+ghost use Rattle.channel_world.specs.Asleep.{NobodySleeps};
+ghost use Rattle.channel_world.specs.Carried.{replied_if, LeadsTo};
 ghost use Rattle.channel_world.specs.InTurn.{accepted_on, left_on};
-ghost use Rattle.channel_world.specs.Since.{closings_among, NoneSaysFull};
+ghost use Rattle.channel_world.specs.Since.{ClosesOnceWith, IsNeverFullWith};
 ghost use Rattle.channel_world.specs.StepsLeft.{EndsInFront};
 ghost use Rattle.channel_world.specs.TheEnd.{NothingComesAfter};
-ghost use Rattle.channel_world.specs.World.{at_rest};
+ghost use Rattle.channel_world.specs.View.{sight_of, names_in, is_closed, at_rest, IsQuiet, Led};
 
 use channel_world::call::{Call, CallRun};
 use channel_world::laws::{
     an_unbounded_world_is_never_full, at_rest_nobody_is_left_asleep,
     by_steps_messages_leave_in_turn, counts_are_live_handles, numbers_are_those_at_rest,
-    the_channel_is_closed_once,
+    the_channel_is_closed_once, what_is_done_in_turn_leads_on, who_sleeps_is_answered_for,
 };
 use channel_world::settle::Settled;
 use channel_world::step::{Run, Step};
@@ -66,30 +67,13 @@ pub fn ends_for_good<T: Drop>(world: &mut World<T>, steps: &mut VecDeque<Step<T>
     world.run_steps(steps)
 }
 
-/// Makes steps: the accounts that were kept since whatever scene are kept on, with the replies of the run.
-fn step_on<T: Drop>(world: &mut World<T>, steps: &mut VecDeque<Step<T>>) -> Run<T>
-    ensures { (s : Scene T Waiter) (replies : List (Reply T)) → Led s replies world.old
-        → Led s (replies ++ replies_in result.trace.items) world.new }
-{
-    world.run_steps(steps)
-}
-
-/// Makes calls one at a time, where none is under way: the accounts are kept on, with what the calls replied.
-fn call_on<T: Drop>(world: &mut World<T>, calls: &mut VecDeque<Call<T>>) -> CallRun<T>
-    requires { IsQuiet world.old }
-    ensures { (s : Scene T Waiter) (replies : List (Reply T)) → Led s replies world.old
-        → Led s (replies ++ replied_in result.done.items) world.new }
-{
-    world.run_calls(calls)
-}
-
-/// Makes calls one at a time, if none is under way.
+/// Makes calls one at a time, if none is under way: the accounts that were kept of the world are kept on, with what they replied.
 fn call_if_quiet<T: Drop>(world: &mut World<T>, calls: &mut VecDeque<Call<T>>) -> Option<CallRun<T>>
-    ensures { (s : Scene T Waiter) (replies : List (Reply T)) → Led s replies world.old
-        → Led s (replies ++ replied_if result) world.new }
+    ensures { LeadsTo world.old (replied_if result) world.new }
 {
+    what_is_done_in_turn_leads_on::<T>();
     if world.is_quiet() {
-        Some(call_on(world, calls))
+        Some(world.run_calls(calls))
     } else {
         None
     }
@@ -115,11 +99,11 @@ pub fn carry<T: Drop>(
     steps: &mut VecDeque<Step<T>>,
     after: &mut VecDeque<Call<T>>,
 ) -> Parts<T>
-    ensures { (s : Scene T Waiter) (replies : List (Reply T)) → Led s replies world.old
-        → Led s (((replies ++ replied_if result.before) ++ replies_in result.run.trace.items) ++ replied_if result.after) world.new }
+    ensures { LeadsTo world.old ((replied_if result.before ++ replies_in result.run.trace.items) ++ replied_if result.after) world.new }
 {
+    what_is_done_in_turn_leads_on::<T>();
     let before = call_if_quiet(world, before);
-    let run = step_on(world, steps);
+    let run = world.run_steps(steps);
     let after = call_if_quiet(world, after);
     Parts { before, run, after }
 }
@@ -156,8 +140,7 @@ pub fn settle_pending<T: Drop>(world: &mut World<T>) -> Settling<T>
 /// Makes steps in whatever world: of all replies since its opening, with those of these steps, at most one says that it closed the
 /// channel.
 pub fn close_once<T: Drop>(world: &mut World<T>, steps: &mut VecDeque<Step<T>>) -> Run<T>
-    ensures { (capacity : Option ℕ) (replies : List (Reply T)) → Led (new_scene capacity) replies world.old
-        → closings_among (replies ++ replies_in result.trace.items) ≤ 1 }
+    ensures { ClosesOnceWith world.old (replies_in result.trace.items) }
 {
     let run = world.run_steps(steps);
     the_channel_is_closed_once(world);
@@ -167,8 +150,7 @@ pub fn close_once<T: Drop>(world: &mut World<T>, steps: &mut VecDeque<Step<T>>) 
 /// Makes steps in whatever world: of all replies since an opening without a bound, with those of these steps, none refuses a
 /// message since the channel is full.
 pub fn never_full<T: Drop>(world: &mut World<T>, steps: &mut VecDeque<Step<T>>) -> Run<T>
-    ensures { (replies : List (Reply T)) → Led (new_scene None) replies world.old
-        → NoneSaysFull (replies ++ replies_in result.trace.items) }
+    ensures { IsNeverFullWith world.old (replies_in result.trace.items) }
 {
     let run = world.run_steps(steps);
     an_unbounded_world_is_never_full(world);
@@ -200,4 +182,29 @@ pub fn leaves_in_turn<T: Drop>(world: &World<T>)
 {
     by_steps_messages_leave_in_turn::<T>();
     world.keeps();
+}
+
+/// What is seen of a world, in the words of its view alone.
+#[derive(Drop)]
+pub struct Seen {
+    /// How many messages it holds.
+    pub messages: u64,
+    /// How many of its operations and streams are pending.
+    pub pending: usize,
+    /// Whether it says that nobody who waits for it sleeps beside a closing.
+    pub is_awake: bool,
+}
+
+/// Looks at whatever world: the number of its messages, its names, and its flag, and nothing of what it is made of.
+pub fn look<T: Drop>(world: &World<T>) -> Seen
+    ensures messages { result.messages ≡ (sight_of world.now).messages }
+    ensures names { result.pending ≡ how_many is_pending (names_in world.now) }
+    ensures flag { result.is_awake ≡ true → is_closed world.now ≡ true → (line : Line) → NobodySleeps line world.now }
+{
+    who_sleeps_is_answered_for(world);
+    Seen {
+        messages: world.messages(),
+        pending: world.pending(),
+        is_awake: world.under_way() == 0,
+    }
 }

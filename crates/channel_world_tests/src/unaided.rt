@@ -3,9 +3,8 @@
 
 ghost use Rattle.std.specs.Prelude.{◌≡◌, ◌+◌, ◌≤◌, [], length, None, Some, true, IfOk, IfSome, vec_len};
 ghost use Rattle.channel_calls.specs.declared.stage.Line.TheVariants.{Receives, Streams};
-ghost use Rattle.channel_interleaving.specs.Floor.{IsQuiet};
 ghost use Rattle.channel_world.specs.Asleep.{NobodySleeps};
-ghost use Rattle.channel_world.specs.World.{at_rest};
+ghost use Rattle.channel_world.specs.View.{at_rest, IsQuiet};
 
 use crate::clients::Settling;
 use channel_world::laws::who_sleeps_is_answered_for;

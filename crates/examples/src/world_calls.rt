@@ -1,6 +1,6 @@
 //! A world whose calls are made one at a time.
 
-ghost use Rattle.channel_interleaving.specs.Floor.{IsQuiet};
+ghost use Rattle.channel_world.specs.View.{IsQuiet};
 
 use channel_world::{Call, Done, HandleId, OpId, World};
 use event_listener::EventIds;

@@ -1,12 +1,11 @@
 //! The recorded channel.
 
 ghost use Rattle.std.specs.Prelude.{◌≡◌, ◌<◌, ◌≤◌, ◌+◌, ◌-◌, ◌^◌, Err, IsOk, IfOk, IfErr, OnOk, OnErr, length};
-ghost use Rattle.channel_interleaving.specs.Floor.{IsQuiet};
 ghost use Rattle.channel_model.specs.State.{start};
 ghost use Rattle.channel_world.specs.RecordReplay.{EndsHistory};
 ghost use Rattle.channel_world.specs.RecordSeat.{calls_of, one_more};
 ghost use Rattle.channel_world.specs.Recording.{call_in};
-ghost use Rattle.channel_world.specs.World.{at_rest};
+ghost use Rattle.channel_world.specs.View.{at_rest, IsQuiet};
 
 use super::error::{RecordError, SeatsUsedUp};
 use super::receipt::Receipt;

@@ -3,7 +3,8 @@
 ghost use Rattle.std.specs.Prelude.{◌≡◌, ◌⊎◌, ◌<◌, ◌≤◌, ◌+◌, ◌^◌, ◌∷◌, ◌++◌, [], IfSome, IfNone, IsOk, IfOk, IfErr, OnOk, OnErr, length, vec_len, vec_capacity};
 ghost use Rattle.std.specs.VecDeque.{deque_len, deque_capacity};
 ghost use Rattle.channel_world.specs.Listed.{listed, most_listed};
-ghost use Rattle.channel_world.specs.World.{at_rest, most_woken};
+ghost use Rattle.channel_world.specs.World.{most_woken};
+ghost use Rattle.channel_world.specs.View.{at_rest};
 
 use super::copies::{copied_call, copied_reply, most_listed};
 use super::error::{RecordError, SeatsUsedUp};
@@ -42,9 +43,8 @@ pub(crate) struct Recording<T: Copy, L: Ledger> {
 
 impl<T: Copy, L: Ledger> Model for Recording<T, L> {
     ghost use Rattle.std.specs.Prelude.{◌≡◌, [], vec_len};
-    ghost use Rattle.channel_interleaving.specs.Floor.{IsQuiet};
     ghost use Rattle.channel_world.specs.Recording.{RecordingView, IsRecording};
-    ghost use Rattle.channel_world.specs.World.{at_rest};
+    ghost use Rattle.channel_world.specs.View.{at_rest, IsQuiet};
 
     ghost Value = { RecordingView T };
 
@@ -54,11 +54,11 @@ impl<T: Copy, L: Ledger> Model for Recording<T, L> {
 }
 
 impl<T: Copy, L: Ledger> Recording<T, L> {
-    ghost use Rattle.channel_interleaving.specs.Floor.{IsQuiet};
     ghost use Rattle.channel_model.specs.State.{start};
     ghost use Rattle.channel_world.specs.RecordReplay.{EndsHistory, Made};
     ghost use Rattle.channel_world.specs.RecordSeat.{calls_of, new_seat, one_more};
     ghost use Rattle.channel_world.specs.Recording.{with_seat, call_in, MayRefuse};
+    ghost use Rattle.channel_world.specs.View.{at_rest, IsQuiet};
 
     /// A world that was just opened, with an empty record and all parts of the ledger.
     pub(crate) fn new(

@@ -2,14 +2,13 @@
 ghost use Rattle.std.specs.Prelude.{◌≡◌, ◌≤◌, ◌<◌, ◌^◌, ◌++◌, ◌∷◌, [], length, Some, None, IfOk, OnOk, OnErr, OnSome, IfSome};
 ghost use Rattle.std.specs.Option.{option_map};
 ghost use Rattle.channel_model.specs.State.{start};
-ghost use Rattle.channel_interleaving.specs.Floor.{IsQuiet};
-ghost use Rattle.channel_world.specs.World.{at_rest};
 ghost use Rattle.channel_language.specs.Words.{lines_of};
 ghost use Rattle.channel_language.specs.Language.{today};
 ghost use Rattle.channel_language.specs.Said.{said_line};
 ghost use Rattle.channel_world.specs.Staged.{scene_of};
 ghost use Rattle.channel_world.specs.Script.{readable, ending, followed, first_names, opened, script_of_lines};
 ghost use Rattle.channel_world.specs.Added.{Extends};
+ghost use Rattle.channel_world.specs.View.{at_rest, IsQuiet};
 
 use super::end::ScriptEnd;
 use super::scene::Scene;

@@ -1,5 +1,5 @@
 use Rattle.std.proofs.Common.{◌≤◌, length}
-use Rattle.channel_interleaving.specs.Floor.{IsQuiet}
+use Rattle.channel_world.specs.View.{IsQuiet}
 use Rattle.channel_language.specs.Words.{lines_of}
 use Rattle.channel_language.specs.Language.{today}
 use Rattle.channel_world.specs.Staged.{scene_of}

@@ -1,6 +1,6 @@
 use Rattle.std.proofs.Common.{◌≡◌, ◌+◌, drop}
 use Rattle.channel_model.specs.Laws.{count_of, line_of}
-use Rattle.channel_world.specs.World.{at_rest}
+use Rattle.channel_world.specs.View.{at_rest}
 use Rattle.channel_world.proofs.world.World.count_on.Given as goal
 
 abbrev pub invariant-loop-k : goal.invariant-loop-k

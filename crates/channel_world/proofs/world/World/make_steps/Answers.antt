@@ -3,6 +3,7 @@ use Rattle.std.proofs.Common.{subst}
 use Rattle.channel_interleaving.specs.Runs.{RanTo}
 use Rattle.channel_interleaving.specs.declared.floor.Floor.{Floor}
 use Rattle.channel_interleaving.proofs.FloorFacts.{stands, owned_where}
+use Rattle.channel_world.proofs.Inside.{inside_is}
 use Rattle.channel_world.proofs.world.World.make_steps.Goals as goal
 
 pub invariant_of-self : goal.invariant_of-self
@@ -14,7 +15,7 @@ invariant_of-self g c =
 pub returns-clause-ran : goal.returns-clause-ran
 returns-clause-ran g c =
     subst (λ (f : Floor g.row.T.Denot). RanTo c.args.steps.now.items c.run_steps.new.steps.items f c.run_steps.result.trace.items c.run_steps.new.self)
-    c.self.view_is c.run_steps.ensures.ran
+    (inside_is c.self.inside.floor c.args.self.now c.self.view_is) c.run_steps.ensures.ran
 
 pub returns-clause-stands : goal.returns-clause-stands
 returns-clause-stands g c =

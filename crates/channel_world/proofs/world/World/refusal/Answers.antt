@@ -3,10 +3,11 @@ use Rattle.std.proofs.Common.{◌∙◌, ap}
 use Rattle.channel_interleaving.specs.Refusal as names
 use Rattle.channel_interleaving.specs.declared.floor.Floor.{Floor}
 use Rattle.channel_world.proofs.Whole.{refused_alike}
+use Rattle.channel_world.proofs.Inside.{floor_of, inside_is}
 use Rattle.channel_world.proofs.world.World.refusal.Goals as goal
 
 pub returns : goal.returns
 returns g c =
     c.refusal.ensures
-    ∙ (ap (λ (f : Floor g.row.T.Denot). names.refusal f.roll c.args.call.now) c.self.view_is
-    ∙ refused_alike c.a_call_made_alone_is_the_models.ensures.refused c.args.self.now c.keeps_names.ensures.kept c.requires.quiet c.args.call.now)
+    ∙ (ap (λ (f : Floor g.row.T.Denot). names.refusal f.roll c.args.call.now) (inside_is c.self.inside.floor c.args.self.now c.self.view_is)
+    ∙ refused_alike c.a_call_made_alone_is_the_models.ensures.refused (floor_of c.args.self.now) c.keeps_names.ensures.kept c.requires.quiet c.args.call.now)

@@ -1,17 +1,17 @@
 use Rattle.std.proofs.Common.{arith, subst}
 use Rattle.channel_interleaving.specs.Floor.{book_of}
 use Rattle.channel_interleaving.specs.Run.{Stops}
-use Rattle.channel_interleaving.specs.Way.{replies_in}
-use Rattle.channel_interleaving.proofs.Interface.{led_further, ran_leads}
+use Rattle.channel_interleaving.proofs.Interface.{ran_leads}
 use Rattle.channel_world.proofs.HeadlineFacts.{headline, counted}
 use Rattle.channel_world.proofs.StopFacts.{all_used_up, place_is, all_made}
+use Rattle.channel_world.proofs.Inside.{floor_of}
 use Rattle.channel_world.proofs.world.World.run_steps.Goals as goal
 
 pub returns-clause-headline : goal.returns-clause-headline
 returns-clause-headline g c =
-    headline c.args.steps.now.items c.make_steps.new.steps.items c.args.self.now c.make_steps.result.trace.items c.make_steps.result.stopped
-    c.make_steps.new.self c.make_steps.ensures.ran
-    (subst (λ n. Stops (book_of c.make_steps.new.self) c.make_steps.new.steps.items n c.make_steps.result.stopped)
+    headline c.args.steps.now.items c.make_steps.new.steps.items (floor_of c.args.self.now) c.make_steps.result.trace.items c.make_steps.result.stopped
+    (floor_of c.make_steps.new.self) c.make_steps.ensures.ran
+    (subst (λ n. Stops (book_of (floor_of c.make_steps.new.self)) c.make_steps.new.steps.items n c.make_steps.result.stopped)
     c.make_steps.result.trace.ok.0 c.make_steps.ensures.stopped)
 
 pub returns-clause-soon : goal.returns-clause-soon
@@ -23,29 +23,26 @@ returns-clause-the_end g c =
 
 pub returns-clause-leads : goal.returns-clause-leads
 returns-clause-leads g c =
-    ran_leads c.args.steps.now.items c.make_steps.new.steps.items c.args.self.now c.make_steps.result.trace.items c.make_steps.new.self c.make_steps.ensures.ran
+    record {
+      on = ran_leads c.args.steps.now.items c.make_steps.new.steps.items (floor_of c.args.self.now) c.make_steps.result.trace.items (floor_of c.make_steps.new.self) c.make_steps.ensures.ran;
+    }
 
 pub returns-clause-messages : goal.returns-clause-messages
 returns-clause-messages g c =
-    counted c.args.steps.now.items c.make_steps.new.steps.items c.args.self.now c.make_steps.result.trace.items c.make_steps.new.self c.make_steps.ensures.ran
+    counted c.args.steps.now.items c.make_steps.new.steps.items (floor_of c.args.self.now) c.make_steps.result.trace.items (floor_of c.make_steps.new.self) c.make_steps.ensures.ran
     c.keeps.ensures
-
-pub returns-clause-carries : goal.returns-clause-carries
-returns-clause-carries g c =
-    λ s replies led.
-    led_further c.args.self.now c.make_steps.new.self s replies (replies_in c.make_steps.result.trace.items) led (returns-clause-leads g c)
 
 pub returns-clause-used_up : goal.returns-clause-used_up
 returns-clause-used_up g c =
     λ none.
-    all_used_up (book_of c.make_steps.new.self) c.make_steps.new.steps.items _ c.make_steps.result.stopped c.make_steps.ensures.stopped none
+    all_used_up (book_of (floor_of c.make_steps.new.self)) c.make_steps.new.steps.items _ c.make_steps.result.stopped c.make_steps.ensures.stopped none
 
 pub returns-clause-place : goal.returns-clause-place
 returns-clause-place g c =
-    place_is (book_of c.make_steps.new.self) c.make_steps.new.steps.items _ c.make_steps.result.stopped c.make_steps.ensures.stopped
+    place_is (book_of (floor_of c.make_steps.new.self)) c.make_steps.new.steps.items _ c.make_steps.result.stopped c.make_steps.ensures.stopped
 
 pub returns-clause-made : goal.returns-clause-made
 returns-clause-made g c =
-    let all = all_made c.args.steps.now.items c.make_steps.new.steps.items c.args.self.now c.make_steps.result.trace.items c.make_steps.new.self c.make_steps.ensures.ran c.keeps.ensures in
+    let all = all_made c.args.steps.now.items c.make_steps.new.steps.items (floor_of c.args.self.now) c.make_steps.result.trace.items (floor_of c.make_steps.new.self) c.make_steps.ensures.ran c.keeps.ensures in
     let count = c.make_steps.result.trace.ok.0 in
     omega (arith, all, count)

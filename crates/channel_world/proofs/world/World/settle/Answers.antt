@@ -12,11 +12,12 @@ use Rattle.channel_world.proofs.Polls.{awake_at_rest}
 use Rattle.channel_world.proofs.Positions.{fewer_positions, sends_positions, positions_on}
 use Rattle.channel_world.proofs.Short.{sends_within}
 use Rattle.channel_world.proofs.SettleFacts.{ample_pushed, few_told, goes_first, goes_on, goes_pushed, goes_end, next_poll, one_poll}
+use Rattle.channel_world.proofs.Inside.{floor_of}
 use Rattle.channel_world.proofs.world.World.settle.Goals as goal
 
 pub loop-names-init : goal.loop-names-init
 loop-names-init g c =
-    let now = c.args.self.now in
+    let now = (floor_of c.args.self.now) in
     let awake = awake_at_rest now c.keeps_names.ensures.kept c.requires.quiet c.a_channel_at_rest_is_a_world.ensures.as_in_the_world in
     let r = c.in-Some.ensures in
     record {
@@ -41,7 +42,7 @@ poll_woken-reply-requires-clause-woken g c =
     let name = c.index-name.result.now in
     let here : slice_get names.items place ≡ Some name =
     slice_get_read names.items (vec_len names) place name names.ok.0 (search rules) c.index-name.ensures in
-    let next = next_poll (at_rest c.args.self.now) (at_rest c.loop-names.self) polls.items names.items place name c.loop-names.invariant.goes
+    let next = next_poll (at_rest (floor_of c.args.self.now)) (at_rest (floor_of c.loop-names.self)) polls.items names.items place name c.loop-names.invariant.goes
     (c.len-in-loop-names-2.ensures ∙ polls.ok.0) here in
     next.woken
 
@@ -53,9 +54,9 @@ poll_woken-reply-requires-clause-limit g c =
     let name = c.index-name.result.now in
     let here : slice_get names.items place ≡ Some name =
     slice_get_read names.items (vec_len names) place name names.ok.0 (search rules) c.index-name.ensures in
-    let next = next_poll (at_rest c.args.self.now) (at_rest c.loop-names.self) polls.items names.items place name c.loop-names.invariant.goes
+    let next = next_poll (at_rest (floor_of c.args.self.now)) (at_rest (floor_of c.loop-names.self)) polls.items names.items place name c.loop-names.invariant.goes
     (c.len-in-loop-names-2.ensures ∙ polls.ok.0) here in
-    sends_positions c.loop-names.self name c.loop-names.invariant.quiet next.woken c.loop-names.invariant.places
+    sends_positions (floor_of c.loop-names.self) name c.loop-names.invariant.quiet next.woken c.loop-names.invariant.places
 
 pub poll_woken-reply-requires-clause-room : goal.poll_woken-reply-requires-clause-room
 poll_woken-reply-requires-clause-room g c =
@@ -65,7 +66,7 @@ poll_woken-reply-requires-clause-room g c =
     let name = c.index-name.result.now in
     let here : slice_get names.items place ≡ Some name =
     slice_get_read names.items (vec_len names) place name names.ok.0 (search rules) c.index-name.ensures in
-    let next = next_poll (at_rest c.args.self.now) (at_rest c.loop-names.self) polls.items names.items place name c.loop-names.invariant.goes
+    let next = next_poll (at_rest (floor_of c.args.self.now)) (at_rest (floor_of c.loop-names.self)) polls.items names.items place name c.loop-names.invariant.goes
     (c.len-in-loop-names-2.ensures ∙ polls.ok.0) here in
     λ a says.
     let one = next.room a says in
@@ -81,7 +82,7 @@ push_reserved-requires g c =
     let name = c.index-name.result.now in
     let here : slice_get names.items place ≡ Some name =
     slice_get_read names.items (vec_len names) place name names.ok.0 (search rules) c.index-name.ensures in
-    let next = next_poll (at_rest c.args.self.now) (at_rest c.loop-names.self) polls.items names.items place name c.loop-names.invariant.goes
+    let next = next_poll (at_rest (floor_of c.args.self.now)) (at_rest (floor_of c.loop-names.self)) polls.items names.items place name c.loop-names.invariant.goes
     (c.len-in-loop-names-2.ensures ∙ polls.ok.0) here in
     let left = next.left in
     let room = c.loop-names.invariant.polls in
@@ -96,11 +97,11 @@ loop-names-preserved g c =
     let name = c.index-name.result.now in
     let here : slice_get names.items place ≡ Some name =
     slice_get_read names.items (vec_len names) place name names.ok.0 (search rules) c.index-name.ensures in
-    let next = next_poll (at_rest c.args.self.now) (at_rest c.loop-names.self) polls.items names.items place name c.loop-names.invariant.goes
+    let next = next_poll (at_rest (floor_of c.args.self.now)) (at_rest (floor_of c.loop-names.self)) polls.items names.items place name c.loop-names.invariant.goes
     (c.len-in-loop-names-2.ensures ∙ polls.ok.0) here in
     let e = c.poll_woken-reply.ensures in
     let after = c.poll_woken-reply.result in
-    let u = at_rest c.poll_woken-reply.new.self in
+    let u = at_rest (floor_of c.poll_woken-reply.new.self) in
     let pushed = c.push_reserved.ensures in
     let i = c.loop-names.invariant in
     let more = e.capacity in
@@ -108,14 +109,14 @@ loop-names-preserved g c =
     let a = i.names in
     let b = i.polls in
     record {
-      goes = goes_pushed (at_rest c.args.self.now) u polls.items c.push_reserved.new.self.items name after.reply after.names.items pushed.items
-          (goes_on (at_rest c.args.self.now) (at_rest c.loop-names.self) (polls_in polls.items) names.items name i.goes next.front u after.reply after.names.items e.polled);
+      goes = goes_pushed (at_rest (floor_of c.args.self.now)) u polls.items c.push_reserved.new.self.items name after.reply after.names.items pushed.items
+          (goes_on (at_rest (floor_of c.args.self.now)) (at_rest (floor_of c.loop-names.self)) (polls_in polls.items) names.items name i.goes next.front u after.reply after.names.items e.polled);
       quiet = e.quiet;
       ample = ample_pushed polls.items c.push_reserved.new.self.items name after.reply pushed.items i.ample e.ample;
-      leads = leads_polled c.args.self.now c.loop-names.self c.poll_woken-reply.new.self polls.items c.push_reserved.new.self.items _ pushed.items i.leads e.leads;
+      leads = leads_polled (floor_of c.args.self.now) (floor_of c.loop-names.self) (floor_of c.poll_woken-reply.new.self) polls.items c.push_reserved.new.self.items _ pushed.items i.leads e.leads;
       names = omega (arith, more, a);
       polls = omega (arith, wider, b);
-      places = positions_on c.loop-names.self c.poll_woken-reply.new.self name names.items after.reply after.names.items
+      places = positions_on (floor_of c.loop-names.self) (floor_of c.poll_woken-reply.new.self) name names.items after.reply after.names.items
           (let goes = i.goes in goes.awake) next.front e.polled e.place e.accepted i.places;
     }
 
@@ -127,7 +128,7 @@ loop-names-smaller g c =
     let name = c.index-name.result.now in
     let here : slice_get names.items place ≡ Some name =
     slice_get_read names.items (vec_len names) place name names.ok.0 (search rules) c.index-name.ensures in
-    let next = next_poll (at_rest c.args.self.now) (at_rest c.loop-names.self) polls.items names.items place name c.loop-names.invariant.goes
+    let next = next_poll (at_rest (floor_of c.args.self.now)) (at_rest (floor_of c.loop-names.self)) polls.items names.items place name c.loop-names.invariant.goes
     (c.len-in-loop-names-2.ensures ∙ polls.ok.0) here in
     let left = next.left in
     let longer = c.push_reserved.ensures.len in
@@ -138,7 +139,7 @@ pub returns-clause-polls : goal.returns-clause-polls
 returns-clause-polls g c =
     let names = c.loop-names.names in
     let polls = c.loop-names.polls in
-    let end = goes_end (at_rest c.args.self.now) (at_rest c.loop-names.self) polls.items names.items c.loop-names.invariant.goes
+    let end = goes_end (at_rest (floor_of c.args.self.now)) (at_rest (floor_of c.loop-names.self)) polls.items names.items c.loop-names.invariant.goes
     (let a = names.ok.0 in let b = polls.ok.0 in omega (arith, a, b, c.loop-names-test.false)) in
     end.settles
 
@@ -146,7 +147,7 @@ pub returns-clause-few : goal.returns-clause-few
 returns-clause-few g c =
     let names = c.loop-names.names in
     let polls = c.loop-names.polls in
-    let end = goes_end (at_rest c.args.self.now) (at_rest c.loop-names.self) polls.items names.items c.loop-names.invariant.goes
+    let end = goes_end (at_rest (floor_of c.args.self.now)) (at_rest (floor_of c.loop-names.self)) polls.items names.items c.loop-names.invariant.goes
     (let a = names.ok.0 in let b = polls.ok.0 in omega (arith, a, b, c.loop-names-test.false)) in
     let few = end.few in let b = polls.ok.0 in rw b few
 
@@ -154,7 +155,7 @@ pub returns-clause-short : goal.returns-clause-short
 returns-clause-short g c =
     let names = c.loop-names.names in
     let polls = c.loop-names.polls in
-    let end = goes_end (at_rest c.args.self.now) (at_rest c.loop-names.self) polls.items names.items c.loop-names.invariant.goes
+    let end = goes_end (at_rest (floor_of c.args.self.now)) (at_rest (floor_of c.loop-names.self)) polls.items names.items c.loop-names.invariant.goes
     (let a = names.ok.0 in let b = polls.ok.0 in omega (arith, a, b, c.loop-names-test.false)) in
     let short = end.short in let b = polls.ok.0 in rw b short
 
@@ -165,7 +166,7 @@ pub returns-clause-nobody_woken : goal.returns-clause-nobody_woken
 returns-clause-nobody_woken g c =
     let names = c.loop-names.names in
     let polls = c.loop-names.polls in
-    let end = goes_end (at_rest c.args.self.now) (at_rest c.loop-names.self) polls.items names.items c.loop-names.invariant.goes
+    let end = goes_end (at_rest (floor_of c.args.self.now)) (at_rest (floor_of c.loop-names.self)) polls.items names.items c.loop-names.invariant.goes
     (let a = names.ok.0 in let b = polls.ok.0 in omega (arith, a, b, c.loop-names-test.false)) in
     end.rests.0
 
@@ -173,7 +174,7 @@ pub returns-clause-receives : goal.returns-clause-receives
 returns-clause-receives g c =
     let names = c.loop-names.names in
     let polls = c.loop-names.polls in
-    let end = goes_end (at_rest c.args.self.now) (at_rest c.loop-names.self) polls.items names.items c.loop-names.invariant.goes
+    let end = goes_end (at_rest (floor_of c.args.self.now)) (at_rest (floor_of c.loop-names.self)) polls.items names.items c.loop-names.invariant.goes
     (let a = names.ok.0 in let b = polls.ok.0 in omega (arith, a, b, c.loop-names-test.false)) in
     let n = end.rests.1 in n.receives
 
@@ -181,7 +182,7 @@ pub returns-clause-sends : goal.returns-clause-sends
 returns-clause-sends g c =
     let names = c.loop-names.names in
     let polls = c.loop-names.polls in
-    let end = goes_end (at_rest c.args.self.now) (at_rest c.loop-names.self) polls.items names.items c.loop-names.invariant.goes
+    let end = goes_end (at_rest (floor_of c.args.self.now)) (at_rest (floor_of c.loop-names.self)) polls.items names.items c.loop-names.invariant.goes
     (let a = names.ok.0 in let b = polls.ok.0 in omega (arith, a, b, c.loop-names-test.false)) in
     let n = end.rests.1 in record { bounded = n.sends; unbounded = n.unbounded }
 
@@ -189,7 +190,7 @@ pub returns-clause-streams : goal.returns-clause-streams
 returns-clause-streams g c =
     let names = c.loop-names.names in
     let polls = c.loop-names.polls in
-    let end = goes_end (at_rest c.args.self.now) (at_rest c.loop-names.self) polls.items names.items c.loop-names.invariant.goes
+    let end = goes_end (at_rest (floor_of c.args.self.now)) (at_rest (floor_of c.loop-names.self)) polls.items names.items c.loop-names.invariant.goes
     (let a = names.ok.0 in let b = polls.ok.0 in omega (arith, a, b, c.loop-names-test.false)) in
     let n = end.rests.1 in n.streams
 
@@ -197,7 +198,7 @@ pub returns-clause-closing : goal.returns-clause-closing
 returns-clause-closing g c =
     let names = c.loop-names.names in
     let polls = c.loop-names.polls in
-    let end = goes_end (at_rest c.args.self.now) (at_rest c.loop-names.self) polls.items names.items c.loop-names.invariant.goes
+    let end = goes_end (at_rest (floor_of c.args.self.now)) (at_rest (floor_of c.loop-names.self)) polls.items names.items c.loop-names.invariant.goes
     (let a = names.ok.0 in let b = polls.ok.0 in omega (arith, a, b, c.loop-names-test.false)) in
     let n = end.rests.1 in n.opened
 
@@ -206,23 +207,22 @@ returns-clause-quiet g c =
     c.loop-names.invariant.quiet
 
 pub returns-clause-leads : goal.returns-clause-leads
-returns-clause-leads g c =
-    c.loop-names.invariant.leads
+returns-clause-leads g c = record { on = c.loop-names.invariant.leads }
 
 pub returns-clause-stands : goal.returns-clause-stands
 returns-clause-stands g c =
-    let before = stands c.args.self.now c.keeps_names.ensures.kept.listeners in
-    stands_led c.args.self.now c.loop-names.self _ before c.loop-names.invariant.leads
+    let before = stands (floor_of c.args.self.now) c.keeps_names.ensures.kept.listeners in
+    stands_led (floor_of c.args.self.now) (floor_of c.loop-names.self) _ before c.loop-names.invariant.leads
 
 pub returns-clause-few_pending : goal.returns-clause-few_pending
 returns-clause-few_pending g c =
     let names = c.loop-names.names in
     let polls = c.loop-names.polls in
-    let end = goes_end (at_rest c.args.self.now) (at_rest c.loop-names.self) polls.items names.items c.loop-names.invariant.goes
+    let end = goes_end (at_rest (floor_of c.args.self.now)) (at_rest (floor_of c.loop-names.self)) polls.items names.items c.loop-names.invariant.goes
     (let a = names.ok.0 in let b = polls.ok.0 in omega (arith, a, b, c.loop-names-test.false)) in
-    let before = stands c.args.self.now c.keeps_names.ensures.kept.listeners in
+    let before = stands (floor_of c.args.self.now) c.keeps_names.ensures.kept.listeners in
     let rests = c.a_channel_at_rest_is_a_world.ensures.as_in_the_world in
-    let pending = pending_at_rest c.args.self.now before rests c.keeps_names.ensures.apart c.requires.quiet in
+    let pending = pending_at_rest (floor_of c.args.self.now) before rests c.keeps_names.ensures.apart c.requires.quiet in
     let few = end.few in
     let b = polls.ok.0 in
     few_told _ _ _ _ b pending few
@@ -235,17 +235,17 @@ pub returns-clause-no_receive : goal.returns-clause-no_receive
 returns-clause-no_receive g c =
     let names = c.loop-names.names in
     let polls = c.loop-names.polls in
-    let end = goes_end (at_rest c.args.self.now) (at_rest c.loop-names.self) polls.items names.items c.loop-names.invariant.goes
+    let end = goes_end (at_rest (floor_of c.args.self.now)) (at_rest (floor_of c.loop-names.self)) polls.items names.items c.loop-names.invariant.goes
     (let a = names.ok.0 in let b = polls.ok.0 in omega (arith, a, b, c.loop-names-test.false)) in
-    no_receive_goes_on c.loop-names.self (messages_at_rest c.loop-names.self (returns-clause-stands g c) c.loop-names.invariant.quiet) end.rests.1
+    no_receive_goes_on (floor_of c.loop-names.self) (messages_at_rest (floor_of c.loop-names.self) (returns-clause-stands g c) c.loop-names.invariant.quiet) end.rests.1
 
 pub returns-clause-no_stream : goal.returns-clause-no_stream
 returns-clause-no_stream g c =
     let names = c.loop-names.names in
     let polls = c.loop-names.polls in
-    let end = goes_end (at_rest c.args.self.now) (at_rest c.loop-names.self) polls.items names.items c.loop-names.invariant.goes
+    let end = goes_end (at_rest (floor_of c.args.self.now)) (at_rest (floor_of c.loop-names.self)) polls.items names.items c.loop-names.invariant.goes
     (let a = names.ok.0 in let b = polls.ok.0 in omega (arith, a, b, c.loop-names-test.false)) in
-    no_stream_goes_on c.loop-names.self (messages_at_rest c.loop-names.self (returns-clause-stands g c) c.loop-names.invariant.quiet) end.rests.1
+    no_stream_goes_on (floor_of c.loop-names.self) (messages_at_rest (floor_of c.loop-names.self) (returns-clause-stands g c) c.loop-names.invariant.quiet) end.rests.1
 
 pub returns-in_default-clause-stands : goal.returns-in_default-clause-stands
-returns-in_default-clause-stands g c = stands c.args.self.now c.keeps_names.ensures.kept.listeners
+returns-in_default-clause-stands g c = stands (floor_of c.args.self.now) c.keeps_names.ensures.kept.listeners

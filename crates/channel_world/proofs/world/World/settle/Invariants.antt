@@ -1,10 +1,9 @@
 use Rattle.std.proofs.Common.{◌≤◌, ◌-◌, vec_len, vec_capacity}
-use Rattle.channel_interleaving.specs.Floor.{HasPositions, IsQuiet, LeadsOn}
 use Rattle.channel_world.proofs.SettleFacts.{Goes}
 use Rattle.channel_world.proofs.Short.{sends_of}
 use Rattle.channel_world.specs.Carried.{polls_replied}
 use Rattle.channel_world.specs.Settled.{polls_in, most_polls, NoneLackedMemory}
-use Rattle.channel_world.specs.World.{at_rest}
+use Rattle.channel_world.specs.View.{at_rest, HasPositions, IsQuiet, LeadsOn}
 use Rattle.channel_world.proofs.world.World.settle.Given as goal
 
 abbrev pub invariant-loop-names : goal.invariant-loop-names

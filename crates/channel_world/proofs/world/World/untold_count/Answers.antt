@@ -4,6 +4,7 @@ use Rattle.channel_interleaving.specs.Floor.{parts_in}
 use Rattle.channel_interleaving.specs.declared.floor.Floor.{Floor}
 use Rattle.channel_world.specs.World.{at_rest, untold_count}
 use Rattle.channel_world.proofs.Tasks.{few_tasks, no_less}
+use Rattle.channel_world.proofs.Inside.{inside_is}
 use Rattle.channel_world.proofs.world.World.untold_count.Goals as goal
 
 pub returns : goal.returns
@@ -19,6 +20,6 @@ returns g c =
     let ce = c.waiting-closings.ensures in
     let ab = c.in_ok-messengers.ensures.1 in
     let de = c.in_ok-listening.ensures.1 in
-    subst (λ (x : Floor g.row.T.Denot). IfSome c.checked_add-3.result (λ n. untold_count (at_rest x).waiting ≤ n)) c.self.view_is
+    subst (λ (x : Floor g.row.T.Denot). IfSome c.checked_add-3.result (λ n. untold_count (at_rest x).waiting ≤ n)) (inside_is c.self.inside.floor c.args.self.now c.self.view_is)
     (no_less _ c.checked_add-3.result _ (c.in_ok-messengers.messengers + c.in_ok-listening.listening) c.checked_add-3.ensures
     (omega (arith, a, b, d, e, ca, cb, cd, ce, ab, de)))

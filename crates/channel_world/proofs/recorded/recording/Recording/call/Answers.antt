@@ -7,7 +7,7 @@ use Rattle.channel_world.proofs.RecordLemmas.{one_done, made_so, none_done, one_
 use Rattle.channel_world.specs.RecordReplay.{Made}
 use Rattle.channel_world.specs.RecordSeat.{SeatView}
 use Rattle.channel_world.specs.Recording.{RecordingView, IsRecording}
-use Rattle.channel_world.specs.World.{at_rest}
+use Rattle.channel_world.specs.View.{at_rest}
 use Rattle.channel_world.specs.declared.recorded.receipt.Receipt.{Receipt}
 use Rattle.channel_world.proofs.recorded.recording.Recording.call.Goals as goal
 

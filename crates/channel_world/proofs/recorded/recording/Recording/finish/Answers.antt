@@ -1,7 +1,7 @@
 use Rattle.std.proofs.Common.{◌≡◌, ◌∙◌, ◌∷◌, ◌++◌, [], List, ap, arith, length, refl, vec_len}
 use Rattle.channel_world.proofs.RecordLemmas.{calls_snoc, no_calls}
 use Rattle.channel_world.specs.RecordSeat.{SeatView, calls_of}
-use Rattle.channel_world.specs.World.{at_rest}
+use Rattle.channel_world.specs.View.{at_rest}
 use Rattle.channel_world.proofs.recorded.recording.Recording.finish.Goals as goal
 
 pub loop-seat-preserved : goal.loop-seat-preserved

@@ -1,7 +1,7 @@
 -- From a settling in which no growth was refused.
 use Rattle.std.proofs.Common.{sym}
 use Rattle.channel_world.specs.Staged.{scene_of}
-use Rattle.channel_world.specs.World.{at_rest}
+use Rattle.channel_world.specs.View.{at_rest}
 use Rattle.channel_world.proofs.SettleText.{scene_settles}
 use Rattle.channel_world.proofs.script.scene.Scene.settle.Goals as goal
 
