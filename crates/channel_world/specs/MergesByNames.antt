@@ -37,8 +37,9 @@ module _ {T : Type 0} where
 module _ {T S : Type 0} (wakes : S → Waiter → S → Type 0) where
   -- ---- what is asked
 
-  -- Of the steps of a run with these entries, from this moment and this book on, each begin is that of a call by names, which nothing
-  -- refuses, and asks what this asks; a poll may ask its listener first. Its book is what the steps before it have made of the first one.
+  -- Of these steps, from this moment and this book on, each begin is that of a call by names, which nothing refuses. It asks what this
+  -- call asks, but that a poll may ask its listener first. Its book is what the steps before it, with their entries, have made of this
+  -- one: whatever book that is, and whomever they woke.
   abbrev pub BeginByNames : Book T → Moment T Waiter S → List (ChannelStep T Waiter) → List (Entry T) → List (Moment T Waiter S) → Type 0
   BeginByNames b m (channel.Begin p a ∷ ys) (e ∷ es) (n ∷ ns) =
       (c : Call T) × (refusal b.roll c ≡ None) × IsOrListens (asks b.roll c) a × BeginByNames (begun (record { 0 = p }) c b) n ys es ns
@@ -59,8 +60,8 @@ module _ {T S : Type 0} (wakes : S → Waiter → S → Type 0) where
     pub names : List Waiter
     pub next : Next m.scene y e names n.scene
     pub woken : Woken wakes m.sink names n.sink
-    -- a call that begins has its names and is at work; who is woken comes last in the order of waking; and a call that answers has
-    -- written back to its names what it left to them
+    -- A call that begins has its names, and its party is at work. Who is woken comes last in the order of waking. And a call that
+    -- answers has written back to its names what it left to them.
     pub book : IsBookOf x e.reply e.kept names b c
     -- beside one who is pending and was not woken, there is no message, free place or closing but such as a woken one or a call
     -- under way answers for

@@ -188,15 +188,15 @@ pub fn a_scene_at_rest_is_its_state<T: Drop>(world: &World<T>)
 {}
 
 /// What any number of parties do to a new channel is a run by names, where their calls are calls by names. Of the parties and the
-/// cells this is asked, that they keep the headline of a merge (`channel_laws::laws::merges_keep_the_headline`); and of each begin,
-/// that it is that of a call which nothing refuses, and asks what this call asks, in the book that the steps before it have made of
-/// that of an opening. The task of a poll is so the name that it is for. A poll of a send or a receive may ask its listener first,
-/// as that of a call that blocks does.
+/// cells this is asked, that they keep the headline of a merge (`channel_laws::laws::merges_keep_the_headline`). Of each begin it is
+/// asked that it is that of a call which nothing refuses, and asks what this call asks. Its book is the one that the steps before it
+/// have made of that of an opening. So the task of a poll is the name that it is for. A poll of a send or a receive may ask its
+/// listener first, as that of a call that blocks does.
 ///
 /// Then each step is one by names, which none of the seven reasons refuses. The book goes on as a world's does: who begins is at work,
-/// who is woken comes last in the order of waking, and who answers has written back to his names. At each moment, the first one too,
-/// there is beside one who is pending under a name and was not woken no message, free place or closing but such as a woken one or a call
-/// under way answers for. All this is said of the moments and the steps of which the headline of the merge speaks.
+/// who is woken comes last in the order of waking, and who answers has written back to his names. So it is at each moment, the first one
+/// too: beside one who is pending under a name and was not woken there is no message, free place or closing that nobody answers for. A
+/// woken one or a call under way answers for it. All this is said of the moments and the steps of which the headline of the merge speaks.
 ///
 /// There is such a merge: the first sender is cloned twice at once.
 ///
