@@ -21,7 +21,7 @@ use Rattle.channel_steps.specs.declared.run.Step.TheVariants as step
 use Rattle.channel_steps.specs.Count.{counted}
 use Rattle.channel_steps.specs.Run.{Begins}
 use Rattle.channel_steps.specs.Run as steps
-use Rattle.channel_steps.specs.Scene.{Under, Scene, Sitting, blocks_after, does, under_of, all_seats, Known, AllKnown, IsBalanced, Steps, Shows}
+use Rattle.channel_steps.specs.Scene.{Under, Scene, Sitting, blocks_after, does, under_of, all_seats, Known, AllKnown, IsBalanced, Steps, Represents}
 use Rattle.channel_steps.proofs.Interface.{known_next, fits_after, none_after, after_lone, lone_goes, lone_ends, messages_counted, messages_moved}
 use Rattle.channel_alone.specs.Alone.{Outcome, Alone, after_waking, answers}
 use Rattle.channel_alone.specs.Run.{HasPosition}
@@ -54,7 +54,7 @@ module _ {T W : Type 0} where
   nobody (x ∷ xs) e =
       absurd (let no : (let none : List (Party T W) = [] in none) ≡ x.party ∷ map (λ (y : Sitting T W). y.party) xs = e in cc)
 
-  module _ (parts : Parts T W) (s : Scene T W) (sh : Shows parts [] s) where
+  module _ (parts : Parts T W) (s : Scene T W) (sh : Represents parts [] s) where
     at_rest : Fits parts.cells sh.queue []
     at_rest = (
       s.blocks,
@@ -87,7 +87,7 @@ module _ {T W : Type 0} where
     pub balanced : IsBalanced mid.now.queue
     pub counts : messages0 ≡ length c0.queue.items → messages ≡ length mid.now.queue.items
 
-  module _ (a : ChannelAsk T W) (parts0 : Parts T W) (messages0 : ℕ) (s : Scene T W) (p : ℕ) (sh : Shows parts0 [] s) where
+  module _ (a : ChannelAsk T W) (parts0 : Parts T W) (messages0 : ℕ) (s : Scene T W) (p : ℕ) (sh : Represents parts0 [] s) where
     abbrev start : Channel T W
     start = channel sh.queue parts0
 
@@ -328,7 +328,7 @@ module _ {T W S : Type 0} (wakes : S → W → S → Type 0) where
   -- in every scene with nobody at work that the cells showed where it began
   abbrev pub IsBetween : ChannelAsk T W → Parts T W → S → ℕ → Parts T W → Stage (QueueCall T) T W → S → ℕ → Type 0
   IsBetween a parts0 sink0 messages0 parts stage sink messages =
-      (s : Scene T W) (p : ℕ) → HasPosition s.now.queue → (sh : Shows parts0 [] s)
+      (s : Scene T W) (p : ℕ) → HasPosition s.now.queue → (sh : Represents parts0 [] s)
       → ReachedBetween a s p (channel sh.queue parts0) sink0 messages0 parts stage sink messages
 
   module _ (a : ChannelAsk T W) (parts0 : Parts T W) (sink0 : S) (messages0 : ℕ) where

@@ -6,7 +6,7 @@ use Rattle.channel_calls.specs.declared.ask.ChannelAsk.{ChannelAsk}
 use Rattle.channel_calls.specs.declared.mark.Mark.TheVariants.{Nothing}
 use Rattle.channel_steps.specs.declared.party.Entry.{Entry}
 use Rattle.channel_steps.specs.Run.{Begins}
-use Rattle.channel_steps.specs.Scene.{Scene, Steps, Shows}
+use Rattle.channel_steps.specs.Scene.{Scene, Steps, Represents}
 use Rattle.channel_alone.specs.Alone.{Outcome, Alone}
 use Rattle.channel_alone.specs.Run.{HasPosition}
 use Rattle.channel_alone.specs.declared.run.Done.{Done}
@@ -49,7 +49,7 @@ module _ {T W : Type 0} where
       pub kept : done.kept ≡ outcome.kept
       pub woken : Woken wakes sink outcome.woken sink'
       pub run : LoneRun s p ask outcome after
-      pub shown : Shows parts' [] after
+      pub shown : Represents parts' [] after
       pub now : after.now ≡ outcome.channel
       pub capacity : outcome.channel.queue.capacity ≡ s.now.queue.capacity
       pub accepted : outcome.channel.queue.accepted ≤ s.now.queue.accepted + 1
@@ -58,5 +58,5 @@ module _ {T W : Type 0} where
     -- in every scene with nobody at work that the cells show, whatever party the call is said to be of
     abbrev pub RunsInScenes : ChannelAsk T W → Parts T W → S → ℕ → Done T → Parts T W → S → ℕ → Type 0
     RunsInScenes ask parts sink messages done parts' sink' messages' =
-        (s : Scene T W) (p : ℕ) → HasPosition s.now.queue → Shows parts [] s
+        (s : Scene T W) (p : ℕ) → HasPosition s.now.queue → Represents parts [] s
         → RanInScenes ask sink messages done parts' sink' messages' s p

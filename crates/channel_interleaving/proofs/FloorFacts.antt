@@ -20,7 +20,7 @@ use Rattle.channel_steps.specs.Count.{counted, brought_in, taken_out}
 use Rattle.channel_steps.specs.Run.{end_of, new_scene, HasBegun, Begins}
 use Rattle.channel_steps.specs.Tellings.{telling, dropping}
 use Rattle.channel_steps.specs.Left.{left_at}
-use Rattle.channel_steps.specs.Scene.{Scene, Sitting, blocks_after, under_of, all_seats, IsBalanced, Shows, StepsAt, StepsNearer, parties_in, unless_answered, brought}
+use Rattle.channel_steps.specs.Scene.{Scene, Sitting, blocks_after, under_of, all_seats, IsBalanced, Represents, StepsAt, StepsNearer, parties_in, unless_answered, brought}
 use Rattle.channel_steps.specs.Scene.{Steps as ChannelSteps}
 use Rattle.channel_steps.specs.declared.party.Entry.{Entry as ChannelEntry}
 use Rattle.channel_steps.specs.declared.party.Party.{Party}
@@ -80,13 +80,13 @@ module _ {T : Type 0} where
 
   -- where no call is under way, there is no party
   pub no_parties : (parts : Parts T Waiter) (parties : List (Party T Waiter)) (s : Scene T Waiter) → s.under_way ≡ []
-      → Shows parts parties s → parties ≡ []
+      → Represents parts parties s → parties ≡ []
   no_parties parts parties s quiet sh = sh.parties_are ∙ none sh.sittings (sym quiet ∙ sh.under_way) where
     none : (xs : List (Sitting T Waiter)) → [] ≡ map under_of xs → map (λ (x : Sitting T Waiter). x.party) xs ≡ []
     none [] e = refl
     none (x ∷ xs) e = absurd cc
 
-  pub new_shown : (f : Floor T) (cap : Option ℕ) → Shows (parts_in f) f.parties.items (new_scene cap) → f.messages ≡ 0
+  pub new_shown : (f : Floor T) (cap : Option ℕ) → Represents (parts_in f) f.parties.items (new_scene cap) → f.messages ≡ 0
       → f.accepted ≡ 0 → f.has_one_place ≡ is_one_place cap → f.doings.items ≡ [] → Shown f (new_scene cap)
   new_shown f cap sh none nothing place nobody = record {
     shows = sh;
@@ -97,7 +97,7 @@ module _ {T : Type 0} where
     few = tt;
   }
 
-  pub new_at_work : (f : Floor T) (cap : Option ℕ) → Shows (parts_in f) f.parties.items (new_scene cap)
+  pub new_at_work : (f : Floor T) (cap : Option ℕ) → Represents (parts_in f) f.parties.items (new_scene cap)
       → f.agents.items ≡ [] → AreAtWork f
   new_at_work f cap sh none = rw (none, no_parties (parts_in f) f.parties.items (new_scene cap) refl sh) refl
 
@@ -116,7 +116,7 @@ module _ {T : Type 0} where
   sitting_lengths [] = refl
   sitting_lengths (x ∷ xs) = ap (λ (n : ℕ). suc n) (sitting_lengths xs)
 
-  yet_few : (f : Floor T) (s : Scene T Waiter) → Shows (parts_in f) f.parties.items s → yet_in s.under_way ≤ length f.parties.items
+  yet_few : (f : Floor T) (s : Scene T Waiter) → Represents (parts_in f) f.parties.items s → yet_in s.under_way ≤ length f.parties.items
   yet_few f s sh =
       let most = yet_most s.under_way in
       let calls = ap length sh.under_way in
@@ -225,7 +225,7 @@ module _ {T : Type 0} where
 
   -- the messages after a step are counted by its mark: one slot holds one at most
   counted_now : (new : Floor T) (s : Scene T Waiter) (p : ℕ) (e : ChannelEntry T) (names : List Waiter) (t : Scene T Waiter)
-      → ChannelSteps s p e names t → IsBalanced s.now.queue → Shows (parts_in new) new.parties.items t
+      → ChannelSteps s p e names t → IsBalanced s.now.queue → Represents (parts_in new) new.parties.items t
       → queue.HasPosition s.now.queue → counted (length s.now.queue.items) e.mark ≡ length t.now.queue.items
   counted_now new s p e names t n balanced sh (inr low) =
       messages_counted s p e names t n balanced (balanced_in _ _ t sh) (omega (arith, low))

@@ -8,7 +8,7 @@ use Rattle.channel_calls.specs.declared.reply.Reply.{Reply}
 use Rattle.channel_model.specs.declared.name.Waiter.{Waiter}
 use Rattle.channel_steps.specs.Left.{party_left, all_left, left_at, most_wanted}
 use Rattle.channel_steps.proofs.Interface.{hold_still}
-use Rattle.channel_steps.specs.Scene.{Under, Scene, Sitting, HoldNobodyUp, Shows, Steps, sees, does, under_of, unless_ended, wanted_at, parties_in}
+use Rattle.channel_steps.specs.Scene.{Under, Scene, Sitting, HoldNobodyUp, Represents, Steps, sees, does, under_of, unless_ended, wanted_at, parties_in}
 use Rattle.channel_steps.specs.declared.party.Entry.{Entry as ChannelEntry}
 use Rattle.channel_steps.specs.declared.party.Party.{Party}
 use Rattle.channel_interleaving.specs.Floor.{book_of, parts_in, lefts_in, StandsIn, Stepped}
@@ -80,7 +80,7 @@ module _ {T : Type 0} where
   seated [] = refl
   seated (x ∷ xs) = ap (λ (l : List ℕ). x.party.id ∷ l) (seated xs)
 
-  pub parties_shown : (parts : Parts T Waiter) (ps : List (Party T Waiter)) (s : Scene T Waiter) → Shows parts ps s
+  pub parties_shown : (parts : Parts T Waiter) (ps : List (Party T Waiter)) (s : Scene T Waiter) → Represents parts ps s
       → parties_in ps ≡ map (λ (u : Under T Waiter). u.party) s.under_way
   parties_shown parts ps s sh =
       ap (λ (l : List (Party T Waiter)). parties_in l) sh.parties_are

@@ -11,7 +11,7 @@ use Rattle.channel_model.specs.declared.call.Call.{Call}
 use Rattle.channel_model.specs.declared.name.Waiter.{Waiter}
 use Rattle.channel_model.specs.declared.run.Done.{Done as Answered}
 use Rattle.concurrent_queue.specs.Step.{FitsAt}
-use Rattle.channel_steps.specs.Scene.{Under, Scene, Sitting, under_of, all_seats, Shows, parties_in}
+use Rattle.channel_steps.specs.Scene.{Under, Scene, Sitting, under_of, all_seats, Represents, parties_in}
 use Rattle.channel_steps.specs.Start.{TellsQuiet as Tells}
 use Rattle.channel_interleaving.specs.Bookkeeping.{asks}
 use Rattle.channel_interleaving.specs.Floor.{parts_in, book_of, AreCounted, HasOnePlace, Shown, AreAtWork, AreOwned, IsKept, IsQuiet, IsSame, LeadsOn, TellsQuiet}
@@ -118,7 +118,7 @@ module _ {T : Type 0} where
       }
       → CallsAlone c old d.reply fresh new
   is_called c old new a d empty full fresh room came ran asked quiet still place_left brought counts same_place behind enough few doings book s sh all =
-      let r = ran s 0 (has_position old s sh) (subst (λ ps. Shows (parts_in old) ps s) quiet sh.shows) in
+      let r = ran s 0 (has_position old s sh) (subst (λ ps. Represents (parts_in old) ps s) quiet sh.shows) in
       let alone : Alone (asks old.roll c) s.now r.outcome =
       subst (λ (x : ChannelAsk T Waiter). Alone x s.now r.outcome) asked r.does in
       let most = few s r.outcome sh all alone in
@@ -140,7 +140,7 @@ module _ {T : Type 0} where
         run = run;
         now = r.now;
         shown = record {
-          shows = subst (λ ps. Shows (parts_in new) ps r.after) (sym still) r.shown;
+          shows = subst (λ ps. Represents (parts_in new) ps r.after) (sym still) r.shown;
           place = same_place ∙ (sh.place ∙ sym (ap (λ (cap : Option ℕ). is_one_place cap) capacity));
           positions = counted_then c old new (brings old.roll c) r.outcome.reply came s r.after refl
               (counted_alone old.roll c old.accepted s r.after r.outcome 0 run alone r.now (none_under_way old s quiet sh))

@@ -7,7 +7,7 @@ use Rattle.channel_alone.specs.Scenes.{RunsInScenes}
 use Rattle.channel_alone.specs.declared.run.Done.{Done}
 use Rattle.channel_model.specs.declared.call.Call.{Call}
 use Rattle.channel_model.specs.declared.name.Waiter.{Waiter}
-use Rattle.channel_steps.specs.Scene.{Shows}
+use Rattle.channel_steps.specs.Scene.{Represents}
 use Rattle.channel_interleaving.specs.Bookkeeping.{asks}
 use Rattle.channel_interleaving.specs.Floor.{parts_in, AreOwned, IsQuiet}
 use Rattle.channel_interleaving.specs.Lone.{WakesAtMost}
@@ -30,7 +30,7 @@ module _ {T : Type 0} where
       → AreOwned old → IsQuiet old → length empty.names.items + room ≤ vec_capacity empty.names
       → WakesAtMost room c old → Heard empty full
   names_heard c old a d empty full after messages room ran asked o quiet enough few =
-      let r = ran o.scene 0 (has_position old o.scene o.shown) (subst (λ ps. Shows (parts_in old) ps o.scene) quiet o.shown.shows) in
+      let r = ran o.scene 0 (has_position old o.scene o.shown) (subst (λ ps. Represents (parts_in old) ps o.scene) quiet o.shown.shows) in
       let alone : Alone (asks old.roll c) o.scene.now r.outcome =
       subst (λ (x : ChannelAsk T Waiter). Alone x o.scene.now r.outcome) asked r.does in
       let most = few o.scene r.outcome o.shown o.kept alone in

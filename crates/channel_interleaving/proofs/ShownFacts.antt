@@ -8,7 +8,7 @@ use Rattle.channel_alone.specs.Run as queue
 use Rattle.channel_calls.specs.Parts.{Parts}
 use Rattle.channel_calls.specs.Moves.{Channel}
 use Rattle.channel_model.specs.declared.name.Waiter.{Waiter}
-use Rattle.channel_steps.specs.Scene.{Scene, all_seats, IsBalanced, Shows}
+use Rattle.channel_steps.specs.Scene.{Scene, all_seats, IsBalanced, Represents}
 use Rattle.channel_steps.specs.declared.party.Party.{Party}
 use Rattle.channel_interleaving.specs.Floor.{parts_in, sight_of, AreCounted, HasOnePlace, Shown}
 use Rattle.channel_interleaving.specs.Positions.{is_one_place}
@@ -18,7 +18,7 @@ is_same : (m n : ℕ) → (m == n) ≡ true → m ≡ n
 is_same m n e = grind (arith, nat_tests, e)
 
 module _ {T : Type 0} where
-  pub balanced_in : (parts : Parts T Waiter) (parties : List (Party T Waiter)) (s : Scene T Waiter) → Shows parts parties s
+  pub balanced_in : (parts : Parts T Waiter) (parties : List (Party T Waiter)) (s : Scene T Waiter) → Represents parts parties s
       → IsBalanced s.now.queue
   balanced_in parts parties s sh =
       subst (λ (q : Queue T). IsBalanced q) (sym (ap (λ (c : Channel T Waiter). c.queue) sh.now)) sh.balanced

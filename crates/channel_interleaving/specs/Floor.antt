@@ -10,7 +10,7 @@ use Rattle.channel_model.specs.declared.call.Call.{Call}
 use Rattle.channel_model.specs.declared.name.Waiter.{Waiter}
 use Rattle.channel_steps.specs.Left.{all_left, left_at}
 use Rattle.channel_steps.specs.Run.{new_scene, Accounts, Touches}
-use Rattle.channel_steps.specs.Scene.{Under, Scene, Shows, HoldNobodyUp, blocks_after, parties_in}
+use Rattle.channel_steps.specs.Scene.{Under, Scene, Represents, HoldNobodyUp, blocks_after, parties_in}
 use Rattle.channel_steps.specs.Tellings.{takings}
 use Rattle.channel_interleaving.specs.Doing.{doing_of}
 use Rattle.channel_interleaving.specs.Owed.{Sight, Owed, is_sending, is_receiving, all_unannounced}
@@ -61,7 +61,7 @@ module _ {T : Type 0} where
   -- place, those that were accepted are counted too. What is noted of each call under way is what it is and has done there; none
   -- has taken more than were removed.
   pub record Shown (f : Floor T) (s : Scene T Waiter) : Type 0 where
-    pub shows : Shows (parts_in f) f.parties.items s
+    pub shows : Represents (parts_in f) f.parties.items s
     pub place : f.has_one_place ≡ is_one_place s.now.queue.capacity
     pub positions : HasOnePlace f ⊎ AreCounted f s
     pub messages : f.messages ≡ length s.now.queue.items

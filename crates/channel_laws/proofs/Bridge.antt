@@ -29,7 +29,7 @@ use Rattle.channel_calls.specs.declared.stage.Stage.TheVariants.{Trying, Working
 use Rattle.channel_calls.specs.declared.stage.Work.{Work}
 use Rattle.channel_calls.specs.declared.stage.Work.TheVariants.{TellReceive, TellStreams, TellSend, TellSends, TakeRoom, TellAll, Insert, Register, Leave, Lower, Count, Load, Raise}
 use Rattle.channel_steps.specs.Run.{HasBegun}
-use Rattle.channel_steps.specs.Scene.{Under, Scene, Sitting, Shows, StepsAt, HasParty, under_of, parties_after, left_by}
+use Rattle.channel_steps.specs.Scene.{Under, Scene, Sitting, Represents, StepsAt, HasParty, under_of, parties_after, left_by}
 use Rattle.channel_steps.specs.declared.party.Entry.{Entry}
 use Rattle.channel_steps.specs.declared.party.Party.{Party}
 use Rattle.channel_steps.specs.declared.run.Step.TheVariants as step
@@ -190,7 +190,7 @@ module _ {T W S : Type 0} (wakes : S → W → S → Type 0) (form : QueueForm) 
     by more true e h = absurd cc
     by more false e h = (is_other x.party.id p e, more h)
 
-  none_under_way : (p : ℕ) (parts : Parts T W) (parties : List (Party T W)) (s : Scene T W) → call_of id_of of p parties ≡ None → Shows parts parties s → IsIdle p s
+  none_under_way : (p : ℕ) (parts : Parts T W) (parties : List (Party T W)) (s : Scene T W) → call_of id_of of p parties ≡ None → Represents parts parties s → IsIdle p s
   none_under_way p parts parties s none sh =
       subst (λ (us : List (Under T W)). Each (λ u. u.party ≡ p → ⊥) us) (sym sh.under_way)
       (none_of p sh.sittings (ap (λ (ps : List (Party T W)). call_of id_of of p ps) (sym sh.parties_are) ∙ none))

@@ -14,7 +14,7 @@ use Rattle.channel_calls.specs.declared.reply.Reply.{Reply}
 use Rattle.channel_steps.specs.Left.{all_left}
 use Rattle.channel_steps.specs.Moments.{Spent}
 use Rattle.channel_steps.specs.Run.{EachStep, end_of, HasRange, Next, IsRun, new_scene}
-use Rattle.channel_steps.specs.Scene.{Under, Scene, Shows, brought, does, gone_by, came_by, wanted_at, HoldNobodyUp, sees, unless_ended}
+use Rattle.channel_steps.specs.Scene.{Under, Scene, Represents, brought, does, gone_by, came_by, wanted_at, HoldNobodyUp, sees, unless_ended}
 use Rattle.channel_steps.specs.declared.party.Entry.{Entry}
 use Rattle.channel_steps.specs.declared.run.Step.{Step}
 use Rattle.channel_steps.specs.declared.run.Step.TheVariants as step
@@ -90,7 +90,7 @@ module _ {T W : Type 0} where
     by (Some n) e = few k n e
 
 module _ {T W S : Type 0} where
-  says_moment : (m : Moment T W S) → Shows m.parts m.parties m.scene → StaysSo m.scene → MomentSays m
+  says_moment : (m : Moment T W S) → Represents m.parts m.parties m.scene → StaysSo m.scene → MomentSays m
   says_moment m sh k =
       record {
         shows = sh;
@@ -278,10 +278,10 @@ module _ {T W S : Type 0} (wakes : S → W → S → Type 0) where
   row_left k p u m (x ∷ xs) [] ns h there his free = absurd h
   row_left k p u m (x ∷ xs) (e ∷ es) [] h there his free = absurd h
 
-  few_now : (m : Moment T W S) → Shows m.parts m.parties m.scene → FewLeft m
+  few_now : (m : Moment T W S) → Represents m.parts m.parties m.scene → FewLeft m
   few_now m sh = few_at (all_left m.parts m.parties) m.scene.under_way (few_left m.parts m.parties m.scene sh)
 
-  end_in_a_row : (m : Moment T W S) (xs : List (Step T W)) (es : List (Entry T)) (ns : List (Moment T W S)) → Shows m.parts m.parties m.scene
+  end_in_a_row : (m : Moment T W S) (xs : List (Step T W)) (es : List (Entry T)) (ns : List (Moment T W S)) → Represents m.parts m.parties m.scene
       → EachStep (Leads wakes) m xs es ns → EndInARow m xs es ns
   end_in_a_row m [] [] [] sh h = tt
   end_in_a_row m (x ∷ xs) (e ∷ es) (n ∷ ns) sh h =
@@ -314,7 +314,7 @@ pub merges_keep_the_headline : (T W S : Type 0) (wakes : S → W → S → Type 
 merges_keep_the_headline T W S wakes form events given sink last woken has long acts order =
     let new : IsNew {T = T} form (new_cells form) = new_is form has in
     let first : Moment T W S = opened form sink in
-    let shown : Shows first.parts first.parties first.scene = new_shown form (opened_parts form) [] new refl refl in
+    let shown : Represents first.parts first.parties first.scene = new_shown form (opened_parts form) [] new refl refl in
     let m = merge wakes form events (last, woken) (opened_parts form, sink) [] given new.0 tt acts order in
     let g = m.through first.scene (lasts form events long) shown in
     let run = is_run wakes first (steps_of events) m.more g.moments g.each in

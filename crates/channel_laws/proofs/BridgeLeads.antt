@@ -8,7 +8,7 @@ use Rattle.channel_calls.specs.Parts.{Parts}
 use Rattle.channel_calls.specs.declared.ask.ChannelAsk.{ChannelAsk}
 use Rattle.channel_calls.specs.declared.stage.Stage.{Stage}
 use Rattle.channel_steps.specs.Run.{EachStep, end_of, HasBegun, Touches, Next, HasRange, IsRun}
-use Rattle.channel_steps.specs.Scene.{Scene, HoldNobodyUp, Shows, StepsAt, HasParty, Under, Sitting, under_of, blocks_after}
+use Rattle.channel_steps.specs.Scene.{Scene, HoldNobodyUp, Represents, StepsAt, HasParty, Under, Sitting, under_of, blocks_after}
 use Rattle.channel_steps.specs.declared.party.Entry.{Entry}
 use Rattle.channel_steps.specs.declared.party.Party.{Party}
 use Rattle.channel_steps.specs.declared.run.Step.{Step}
@@ -44,7 +44,7 @@ module _ {T W : Type 0} where
   party_at (x ∷ xs) zero u e = (x.party, refl, (let same : under_of x ≡ u = cc in ap (λ (v : Under T W). v.party) same))
   party_at (x ∷ xs) (suc k) u e = party_at xs k u e
 
-  only_one : (p : ℕ) (parts : Parts T W) (parties : List (Party T W)) (s : Scene T W) → Shows parts parties s → AllApart id_of of parties
+  only_one : (p : ℕ) (parts : Parts T W) (parties : List (Party T W)) (s : Scene T W) → Represents parts parties s → AllApart id_of of parties
       → (k : ℕ) (u : Under T W) → slice_get s.under_way k ≡ Some u → u.party ≡ p → k ≡ place_of id_of of p parties
   only_one p parts parties s sh apart k u there his =
       let x = party_at sh.sittings k u (subst (λ (us : List (Under T W)). slice_get us k ≡ Some u) sh.under_way there) in
@@ -79,7 +79,7 @@ module _ {T W S : Type 0} (wakes : S → W → S → Type 0) where
     pub blocks : n.scene.blocks ≡ blocks_after n.parts.cells.form m.scene.blocks m.parts.cells n.parts.cells
     pub next : Next m.scene x e names n.scene
     pub woken : Woken wakes m.sink names n.sink
-    pub shows : Shows n.parts n.parties n.scene
+    pub shows : Represents n.parts n.parties n.scene
     pub nearer : Nearer m x e names n next
     pub only : Only m x e names n next
 
@@ -89,10 +89,10 @@ module _ {T W S : Type 0} (wakes : S → W → S → Type 0) where
     pub leads : Leads (at c parties s) x e (at d after scene)
 
   abbrev pub LeadsOn : Parts T W × S → List (Party T W) → Step T W → Entry T → Parts T W × S → List (Party T W) → Type 0
-  LeadsOn c parties x e d after = (s : Scene T W) → IsInRange s.now.queue → Shows c.0 parties s → Led c parties s x e d after
+  LeadsOn c parties x e d after = (s : Scene T W) → IsInRange s.now.queue → Represents c.0 parties s → Led c parties s x e d after
 
   pub leads_begun : (p : ℕ) (ask : ChannelAsk T W) (c : Parts T W × S) (parties : List (Party T W)) (e : Entry T) (after : List (Party T W))
-      → ((s : Scene T W) → Shows c.0 parties s → IsIdle p s) → HasBegun p ask parties e after → LeadsOn c parties (step.Begin p ask) e c after
+      → ((s : Scene T W) → Represents c.0 parties s → IsIdle p s) → HasBegun p ask parties e after → LeadsOn c parties (step.Begin p ask) e c after
   leads_begun p ask c parties e after idle begun s range sh =
       let b = begun c.0 s sh in
       record {
@@ -131,12 +131,12 @@ module _ {T W S : Type 0} (wakes : S → W → S → Type 0) where
     pub each : EachStep (Leads) (at c parties s) xs es moments
     pub end : Scene T W
     pub ends : end_of (at c parties s) moments ≡ at last left end
-    pub shown : Shows last.0 left end
+    pub shown : Represents last.0 left end
 
   -- from each scene that is shown
   abbrev pub GoThrough : List (Step T W) → List (Entry T) → Parts T W × S → List (Party T W) → Parts T W × S → List (Party T W) → Type 0
   GoThrough xs es c parties last left =
-      (s : Scene T W) → HasRange (length xs) s.now.queue → Shows c.0 parties s → Through xs es c parties s last left
+      (s : Scene T W) → HasRange (length xs) s.now.queue → Represents c.0 parties s → Through xs es c parties s last left
 
   pub through_none : (c : Parts T W × S) (parties : List (Party T W)) (last : Parts T W × S) → last ≡ c → GoThrough [] [] c parties last parties
   through_none c parties last same s range sh =
@@ -145,7 +145,7 @@ module _ {T W S : Type 0} (wakes : S → W → S → Type 0) where
         each = tt;
         end = s;
         ends = ap (λ (x : Parts T W × S). at x parties s) (sym same);
-        shown = subst (λ (x : Parts T W × S). Shows x.0 parties s) (sym same) sh;
+        shown = subst (λ (x : Parts T W × S). Represents x.0 parties s) (sym same) sh;
       }
 
   pub through_more : (x : Step T W) (xs : List (Step T W)) (e : Entry T) (es : List (Entry T)) (c : Parts T W × S) (parties : List (Party T W)) (d : Parts T W × S) (after : List (Party T W)) (last : Parts T W × S) (left : List (Party T W))

@@ -25,7 +25,7 @@ use Rattle.channel_calls.specs.declared.stage.Stage.TheVariants.{Trying, Working
 use Rattle.channel_laws.specs.Ends.{Each}
 use Rattle.channel_steps.specs.Known.{TriesFor, TryAt, TriesAt, StageAt, ToldAt}
 use Rattle.channel_steps.specs.Moments.{Deed, Appended, Replaced, Displaced}
-use Rattle.channel_steps.specs.Scene.{Under, Scene, Sitting, MayHave, Known, AllKnown, Shows, under_of, all_seats, brought}
+use Rattle.channel_steps.specs.Scene.{Under, Scene, Sitting, MayHave, Known, AllKnown, Represents, under_of, all_seats, brought}
 use Rattle.channel_steps.specs.Tellings.{Telling}
 use Rattle.channel_steps.specs.declared.party.Party.{Party}
 use Rattle.channel_laws.specs.Chained.{IsInState, SomeCall, ChainBy, AreChained}
@@ -207,6 +207,6 @@ module _ {T W : Type 0} where
             subst (λ (x : Queue T). x.items ≡ items_in c) same_queue rest.0;
       }
 
-  pub words_say : (parts : Parts T W) (parties : List (Party T W)) (s : Scene T W) → Shows parts parties s → WordsSay parts.cells parties s
+  pub words_say : (parts : Parts T W) (parties : List (Party T W)) (s : Scene T W) → Represents parts parties s → WordsSay parts.cells parties s
   words_say parts parties s h =
       of_queue parts parties s h.sittings h.queue (sym (ap (λ (c : Channel T W). c.queue) h.now)) h.parties_are h.under_way h.fits h.bare h.known

@@ -27,7 +27,7 @@ use Rattle.channel_calls.specs.declared.reply.Reply.{Reply}
 use Rattle.channel_calls.specs.declared.stage.Kept.{Kept}
 use Rattle.channel_calls.specs.declared.stage.Stage.{Stage}
 use Rattle.channel_steps.specs.Run.{IsRun, new_scene}
-use Rattle.channel_steps.specs.Scene.{Scene, Shows}
+use Rattle.channel_steps.specs.Scene.{Scene, Represents}
 use Rattle.channel_steps.specs.declared.party.Entry.{Entry}
 use Rattle.channel_steps.specs.declared.party.Party.{Party}
 use Rattle.channel_steps.specs.declared.run.Step.{Step}
@@ -123,9 +123,9 @@ module _ {T W : Type 0} where
       pub trace : List (Entry T)
       pub parties : List (Party T W)
       pub scene : Scene T W
-      pub opened : let nobody : List (Party T W) = [] in Shows (opened_parts form) nobody (new_scene (capacity_of form))
+      pub opened : let nobody : List (Party T W) = [] in Represents (opened_parts form) nobody (new_scene (capacity_of form))
       pub run : IsRun wakes (opened_parts form) (new_scene (capacity_of form)) sink (steps_of events) trace last scene woken
-      pub shown : Shows last parties scene
+      pub shown : Represents last parties scene
       pub answers : (p : ℕ) → given_to p events trace ≡ given p
 
 -- the positions of a queue of this form last for so many steps; one slot counts none

@@ -13,7 +13,7 @@ use Rattle.channel_calls.specs.declared.stage.Stage.{Stage}
 use Rattle.channel_steps.specs.Known.{IsQuick}
 use Rattle.channel_steps.specs.Moments.{Shut, Spent}
 use Rattle.channel_steps.specs.Run.{EachStep, Next, begun as call_begun, end_of}
-use Rattle.channel_steps.specs.Scene.{Under, Shows, EndsInTime, HoldNobodyUp, brought, does, gone_by, sees, unless_ended, blocks_after}
+use Rattle.channel_steps.specs.Scene.{Under, Represents, EndsInTime, HoldNobodyUp, brought, does, gone_by, sees, unless_ended, blocks_after}
 use Rattle.channel_steps.specs.Tellings.{telling, dropping, Names}
 use Rattle.channel_steps.specs.declared.party.Entry.{Entry}
 use Rattle.channel_steps.specs.declared.run.Step.{Step}
@@ -38,7 +38,7 @@ module _ {T W S : Type 0} where
 
   pub record MomentSays (m : Moment T W S) : Type 0 where
     -- the cells and the parties show its scene
-    pub shows : Shows m.parts m.parties m.scene
+    pub shows : Represents m.parts m.parties m.scene
     -- what left the channel, followed by what it holds, is what came into it, in order, and no more than fit
     pub in_order : m.scene.gone ++ m.scene.now.queue.items ≡ m.scene.came
     pub fits : Fits m.scene.now

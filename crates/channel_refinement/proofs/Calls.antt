@@ -33,7 +33,7 @@ use Rattle.channel_model.proofs.LawSteps.{last_reason, untaken}
 use Rattle.channel_model.specs.Asked.{poll_asked, refusal_asked, giving_up_asked, drop_asked, clone_asked, upgrade_asked, stream_of, Held}
 use Rattle.channel_refinement.specs.Asked.{asked}
 use Rattle.channel_refinement.specs.Over.{Matches, CallsAreOver, refused_names, made_names}
-use Rattle.channel_refinement.specs.Shows.{Shows, list_of}
+use Rattle.channel_refinement.specs.Refines.{Refines, list_of}
 use Rattle.channel_refinement.proofs.ClosingPolls.{poll_closing}
 use Rattle.channel_refinement.proofs.Dropping.{drop_sender, drop_receiver}
 use Rattle.channel_refinement.proofs.Ends.{ends_so}
@@ -46,7 +46,7 @@ use Rattle.channel_refinement.proofs.Streams.{poll_next}
 use Rattle.channel_refinement.proofs.Told.{same_names}
 use Rattle.channel_refinement.proofs.Trying.{filled_is, only_answers, try_send, try_send_lacks, force_send, force_send_lacks, try_recv, recv_many, close}
 
-module _ {T : Type 0} (held : Held) (c : Channel T Waiter) (s : State T) (h : Shows held c s) (awake : AwakeIn s) (o : Outcome T Waiter) where
+module _ {T : Type 0} (held : Held) (c : Channel T Waiter) (s : State T) (h : Refines held c s) (awake : AwakeIn s) (o : Outcome T Waiter) where
   -- a new name is free where the call is begun
   free_name : (d : Call T) → refusal s d ≡ None → names_taken s.names d ≡ false
   free_name d ok = last_reason (list_all (is_live s.names) (uses d)) (are_fit s.names d) (takes_borrowed s.names d) (names_taken s.names d) ok

@@ -28,12 +28,12 @@ use Rattle.channel_model.proofs.LawSteps.{chosen_no}
 use Rattle.channel_model.proofs.WaiterLemmas.{decided}
 use Rattle.channel_refinement.specs.Over.{Matches, polled_names}
 use Rattle.channel_model.specs.Asked.{Held}
-use Rattle.channel_refinement.specs.Shows.{Shows}
+use Rattle.channel_refinement.specs.Refines.{Refines}
 use Rattle.channel_refinement.proofs.Ends.{ends_so}
 use Rattle.channel_refinement.proofs.Operations.{lack_of, not_standing_is, poll_waited}
 use Rattle.channel_refinement.proofs.Polling.{WaitsAs, where_true, where_false, wait_ends}
 
-module _ {T : Type 0} (held : Held) (c : Channel T Waiter) (s : State T) (h : Shows held c s) (awake : AwakeIn s) (op : OpId) (handle : HandleId) (there : at op.0 s.names.operations ≡ Some (closing handle)) where
+module _ {T : Type 0} (held : Held) (c : Channel T Waiter) (s : State T) (h : Refines held c s) (awake : AwakeIn s) (op : OpId) (handle : HandleId) (there : at op.0 s.names.operations ≡ Some (closing handle)) where
   closing_kind : line_of s.names (Op op) ≡ Some Closings
   closing_kind = ap (λ (o : Option (Operation T)). line_of_operation o) there
 

@@ -18,7 +18,7 @@ use Rattle.channel_model.proofs.WaiterLemmas.{decided}
 use Rattle.channel_model.proofs.Counting.{among_counts}
 use Rattle.channel_model.proofs.Awake.{times_news, times_gone_self}
 use Rattle.channel_model.specs.Asked.{Held}
-use Rattle.channel_refinement.specs.Shows.{with_held, ShowsLines, KeysFit, list_of}
+use Rattle.channel_refinement.specs.Refines.{with_held, ShowsLines, KeysFit, list_of}
 use Rattle.channel_refinement.proofs.News.{nothing_lines, keys_news}
 use Rattle.channel_refinement.proofs.Standing.{Nowhere, gone_nowhere, kindless_nowhere, keyless_nowhere, nowhere_keyless, times_untold, rekeyed_lines, keys_gone}
 use Rattle.channel_refinement.proofs.Leaving.{StreamsAreStreams, leave_lines, leave_wakes}

@@ -32,7 +32,7 @@ use Rattle.channel_calls.specs.declared.stage.Line.TheVariants.{Sends, Receives,
 use Rattle.channel_model.proofs.Awake.{placed_news}
 use Rattle.channel_model.specs.Asked.{stream_of, Held}
 use Rattle.channel_refinement.specs.Over.{Matches}
-use Rattle.channel_refinement.specs.Shows.{Shows, ShowsLines}
+use Rattle.channel_refinement.specs.Refines.{Refines, ShowsLines}
 use Rattle.channel_refinement.proofs.Departing.{departed, streams_are}
 use Rattle.channel_refinement.proofs.Ends.{leaves_now, left_state}
 use Rattle.channel_refinement.proofs.Handles.{kind_of_side, same_kinds, shows_handles, shows_count, same_count}
@@ -46,7 +46,7 @@ nobody_left Receives l = refl
 nobody_left Streams l = refl
 nobody_left Closings l = refl
 
-module _ {T : Type 0} (held : Held) (c : Channel T Waiter) (s : State T) (h : Shows held c s) (awake : AwakeIn s) (handle : HandleId) where
+module _ {T : Type 0} (held : Held) (c : Channel T Waiter) (s : State T) (h : Refines held c s) (awake : AwakeIn s) (handle : HandleId) where
   -- ---- the handle is gone and its count is lower
 
   abbrev fewer : Side → plain.Channel T
@@ -55,7 +55,7 @@ module _ {T : Type 0} (held : Held) (c : Channel T Waiter) (s : State T) (h : Sh
   abbrev lowered : Side → State T
   lowered side = with_channel (fewer side) (dropped s handle)
 
-  shows_lowered : (side : Side) → Shows held (lowers side c).channel (lowered side)
+  shows_lowered : (side : Side) → Refines held (lowers side c).channel (lowered side)
   shows_lowered side =
       shows_count held c (dropped s handle) side (count side c.roster - 1) (model.count (kind_of_side side) s.channel - 1) (ap (λ (n : ℕ). n - 1) (same_count held c s side h))
       (shows_handles held c s (dropped s handle).names.handles h)

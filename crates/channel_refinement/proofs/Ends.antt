@@ -20,13 +20,13 @@ use Rattle.channel_model.proofs.Awake.{placed_news, empty_news}
 use Rattle.channel_refinement.specs.Asked.{keeper}
 use Rattle.channel_refinement.specs.Over.{Matches, names_after}
 use Rattle.channel_model.specs.Asked.{Held}
-use Rattle.channel_refinement.specs.Shows.{with_held, Shows, list_of}
+use Rattle.channel_refinement.specs.Refines.{with_held, Refines, list_of}
 use Rattle.channel_refinement.proofs.Departing.{Departed, departed, streams_are}
 use Rattle.channel_refinement.proofs.Matching.{matching}
 use Rattle.channel_refinement.proofs.News.{nothing_lines, keys_news}
 use Rattle.channel_refinement.proofs.Told.{told_left_as}
 
-module _ {T : Type 0} (held : Held) (c : Channel T Waiter) (s : State T) (h : Shows held c s) (awake : AwakeIn s) where
+module _ {T : Type 0} (held : Held) (c : Channel T Waiter) (s : State T) (h : Refines held c s) (awake : AwakeIn s) where
   -- nothing is told, and w leaves
   pub leaves_now : (line : Line) (w : Waiter) → (line_of s.names w ≡ Some line) ⊎ (line_of s.names w ≡ None)
       → Departed (line_of s.names) held s.channel.closed line w (after_news Nothing s.waiting) c (leaves (held_on (list_of line) (held w)) c).channel (leaves (held_on (list_of line) (held w)) c).woken
@@ -37,7 +37,7 @@ module _ {T : Type 0} (held : Held) (c : Channel T Waiter) (s : State T) (h : Sh
 
   -- the state after it, where no name changed
   pub left_state : (line : Line) (w : Waiter) (r : Reply T) (d : Channel T Waiter) (names : List Waiter)
-      → Departed (line_of s.names) held s.channel.closed line w (after_news Nothing s.waiting) c d names → Shows (with_held w None held) d (leaving Nothing line w s r).after
+      → Departed (line_of s.names) held s.channel.closed line w (after_news Nothing s.waiting) c d names → Refines (with_held w None held) d (leaving Nothing line w s r).after
   left_state line w r d names g = record {
     messages = ap (λ (q : Queue T). q.items) g.queue ∙ h.messages;
     closed = ap (λ (q : Queue T). q.closed) g.queue ∙ h.closed;

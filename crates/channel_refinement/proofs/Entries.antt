@@ -11,7 +11,7 @@ use Rattle.channel_calls.specs.declared.stage.Line.{Line}
 use Rattle.channel_model.proofs.WaiterLemmas.{same_refl, same_sound, decided, or_false, or_true, without_absent}
 use Rattle.channel_model.proofs.Counting.{among_self, or_right, among_counts}
 use Rattle.channel_model.specs.Asked.{Held}
-use Rattle.channel_refinement.specs.Shows.{AreUntold, AreTold, IsToldSo}
+use Rattle.channel_refinement.specs.Refines.{AreUntold, AreTold, IsToldSo}
 
 pub same_key_refl : (key : Key) → same_key key key ≡ true
 same_key_refl key = grind (arith, nat_tests)

@@ -31,7 +31,7 @@ use Rattle.channel_refinement.specs.Asked.{keeper}
 use Rattle.channel_refinement.specs.Over.{Matches, names_after, made_names}
 use Rattle.channel_refinement.proofs.Matching.{matching}
 use Rattle.channel_model.specs.Asked.{Held}
-use Rattle.channel_refinement.specs.Shows.{Shows, ShowsLines, KeysFit}
+use Rattle.channel_refinement.specs.Refines.{Refines, ShowsLines, KeysFit}
 
 -- the counts of handles are no matter to the lists
 pub counted_lines : (kind : Kind) (held : Held) (closed : Bool) (side : Side) (n : ℕ) (a : Roster Waiter) (l : Waiting) → ShowsLines kind held closed a l → ShowsLines kind held closed (with_count side n a) l
@@ -60,7 +60,7 @@ module _ {T : Type 0} where
     same (Stream r) = refl
     same (Op op) = refl
 
-  pub shows_handles : (held : Held) (c : Channel T Waiter) (s : State T) (handles : Directory Handle) → Shows held c s → Shows held c (with_names (with_handles handles s.names) s)
+  pub shows_handles : (held : Held) (c : Channel T Waiter) (s : State T) (handles : Directory Handle) → Refines held c s → Refines held c (with_names (with_handles handles s.names) s)
   shows_handles held c s handles h = record {
     messages = h.messages;
     closed = h.closed;
@@ -72,8 +72,8 @@ module _ {T : Type 0} where
   }
 
   -- a count that changed
-  pub shows_count : (held : Held) (c : Channel T Waiter) (s : State T) (side : Side) (n m : ℕ) → n ≡ m → Shows held c s
-      → Shows held (record c { roster = with_count side n c.roster }) (with_channel (model.with_count (kind_of_side side) m s.channel) s)
+  pub shows_count : (held : Held) (c : Channel T Waiter) (s : State T) (side : Side) (n m : ℕ) → n ≡ m → Refines held c s
+      → Refines held (record c { roster = with_count side n c.roster }) (with_channel (model.with_count (kind_of_side side) m s.channel) s)
   shows_count held c s Senders n m e h = record {
     messages = h.messages;
     closed = h.closed;
@@ -93,13 +93,13 @@ module _ {T : Type 0} where
     keys = h.keys;
   }
 
-  pub same_count : (held : Held) (c : Channel T Waiter) (s : State T) (side : Side) → Shows held c s → count side c.roster ≡ model.count (kind_of_side side) s.channel
+  pub same_count : (held : Held) (c : Channel T Waiter) (s : State T) (side : Side) → Refines held c s → count side c.roster ≡ model.count (kind_of_side side) s.channel
   same_count held c s Senders h = h.senders
   same_count held c s Receivers h = h.receivers
 
 -- ---- new handles
 
-module _ {T : Type 0} (held : Held) (c : Channel T Waiter) (s : State T) (h : Shows held c s) (call : Call T) (nobody : keeper s call ≡ None) where
+module _ {T : Type 0} (held : Held) (c : Channel T Waiter) (s : State T) (h : Refines held c s) (call : Call T) (nobody : keeper s call ≡ None) where
   -- a call over which nobody keeps a listener, which wakes nobody and changes the handles alone
   pub renames : (handles : Directory Handle) (r : Reply T) (o : Outcome T Waiter) → Answers s call (replying (with_names (with_handles handles s.names) s) r)
       → with_handles handles s.names ≡ names_after s call (says_only r c) → o ≡ says_only r c → Matches held s call o
@@ -115,8 +115,8 @@ module _ {T : Type 0} (held : Held) (c : Channel T Waiter) (s : State T) (h : Sh
         let n : ℕ = model.count (kind_of_side side) s.channel + 1 in
         let t : State T = with_channel (model.with_count (kind_of_side side) n s.channel) (made s new (kind_of_side side)) in
         let one_more_each : count side c.roster + 1 ≡ n = ap (λ (m : ℕ). m + 1) (same_count held c s side h) in
-        let shows : Shows held d t =
-        subst (λ (x : Channel T Waiter). Shows held x t) (sym e) (shows_count held c (made s new (kind_of_side side)) side (count side c.roster + 1) n one_more_each (shows_handles held c s _ h)) in
+        let shows : Refines held d t =
+        subst (λ (x : Channel T Waiter). Refines held x t) (sym e) (shows_count held c (made s new (kind_of_side side)) side (count side c.roster + 1) n one_more_each (shows_handles held c s _ h)) in
         matching held s call None nobody (answers reply.Made nothing_kept d) (replying t reply.Made) allowed refl refl shows (sym (renamed (answers reply.Made nothing_kept d)))
         (sym (append-nil s.waiting.woken))
 

@@ -16,7 +16,7 @@ use Rattle.channel_model.proofs.WaiterLemmas.{decided, or_false, without_absent}
 use Rattle.channel_model.proofs.WaiterLemmas.{untold_gone}
 use Rattle.channel_model.proofs.Awake.{line_refl, placed_gone, empty_gone}
 use Rattle.channel_model.specs.Asked.{Held}
-use Rattle.channel_refinement.specs.Shows.{AreUntold, AreTold, IsToldSo, ShowsLine, ShowsLines, KeysFit, list_of, of_line}
+use Rattle.channel_refinement.specs.Refines.{AreUntold, AreTold, IsToldSo, ShowsLine, ShowsLines, KeysFit, list_of, of_line}
 use Rattle.channel_refinement.proofs.Names.{AllOf, among_of_line, among_its_line, not_of_line, of_line_without}
 use Rattle.channel_refinement.proofs.Entries.{tasks_are, untold_first, none_untold, told_lengths, OnlyHolder, untold_without, told_without, told_found, told_missed, untold_found, untold_missed}
 use Rattle.channel_refinement.proofs.Telling.{Lined, replaced, unmoved, first_tasks, next_line, next_other, others_woken}

@@ -13,7 +13,7 @@ use Rattle.channel_calls.specs.declared.stage.Line.TheVariants.{Sends, Receives,
 use Rattle.channel_model.proofs.WaiterLemmas.{same_refl, same_sound, decided}
 use Rattle.channel_model.proofs.Counting.{count_append}
 use Rattle.channel_model.specs.Asked.{Held}
-use Rattle.channel_refinement.specs.Shows.{with_held, AreUntold, AreTold, ShowsLines, KeysFit, list_of, of_line}
+use Rattle.channel_refinement.specs.Refines.{with_held, AreUntold, AreTold, ShowsLines, KeysFit, list_of, of_line}
 use Rattle.channel_refinement.proofs.Names.{among_of_line, among_its_line}
 use Rattle.channel_refinement.proofs.Entries.{same_key_refl, OnlyHolder, told_found, untold_found, untold_append}
 use Rattle.channel_refinement.proofs.Telling.{replaced, unmoved}

@@ -12,7 +12,7 @@ use Rattle.event_listener.specs.declared.key.Key.{Key}
 use Rattle.channel_refinement.specs.Asked.{keeper}
 use Rattle.channel_refinement.specs.Over.{Matches, names_after}
 use Rattle.channel_model.specs.Asked.{Held}
-use Rattle.channel_refinement.specs.Shows.{Shows, with_held}
+use Rattle.channel_refinement.specs.Refines.{Refines, with_held}
 
 -- the keys held once this one is left to its keeper, and who is told of these then
 abbrev pub held_by : Option Waiter → Option Key → Held → Held
@@ -22,14 +22,14 @@ abbrev pub told_but : Option Waiter → List Waiter → List Waiter
 told_but own told = option_map_or (λ (w : Waiter). without w told) own told
 
 module _ {T : Type 0} (held : Held) (s : State T) (call : Call T) (own : Option Waiter) (keeps : keeper s call ≡ own) where
-  pub matching : (o : Outcome T Waiter) (a : Answer T) → Answers s call a → o.reply ≡ a.reply → o.woken ≡ a.woken → Shows (held_by own o.kept.key held) o.channel a.after
+  pub matching : (o : Outcome T Waiter) (a : Answer T) → Answers s call a → o.reply ≡ a.reply → o.woken ≡ a.woken → Refines (held_by own o.kept.key held) o.channel a.after
       → a.after.names ≡ names_after s call o → a.after.waiting.woken ≡ told_but own (s.waiting.woken ++ o.woken) → Matches held s call o
   matching o a allowed reply woken shows names told = record {
     answer = a;
     allowed = allowed;
     reply = reply;
     woken = woken;
-    shows = subst (λ (k : Option Waiter). Shows (held_by k o.kept.key held) o.channel a.after) (sym keeps) shows;
+    shows = subst (λ (k : Option Waiter). Refines (held_by k o.kept.key held) o.channel a.after) (sym keeps) shows;
     names = names;
     told = told ∙ ap (λ (k : Option Waiter). told_but k (s.waiting.woken ++ o.woken)) (sym keeps);
   }

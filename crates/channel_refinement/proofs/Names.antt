@@ -9,7 +9,7 @@ use Rattle.channel_calls.specs.declared.stage.Line.{Line}
 use Rattle.channel_model.proofs.WaiterLemmas.{same_sound, decided, or_true}
 use Rattle.channel_model.proofs.Counting.{among_self, or_right}
 use Rattle.channel_model.proofs.Awake.{line_refl, line_sound}
-use Rattle.channel_refinement.specs.Shows.{of_line}
+use Rattle.channel_refinement.specs.Refines.{of_line}
 
 -- one that stands among those of a line is of it
 pub among_of_line : (kind : Kind) (line : Line) (w : Waiter) (ws : List Waiter) → is_among w (of_line kind line ws) ≡ true → (is_among w ws ≡ true) × (kind w ≡ Some line)

@@ -21,7 +21,7 @@ use Rattle.channel_model.proofs.WaiterLemmas.{same_symm}
 use Rattle.channel_refinement.specs.Asked.{keeper}
 use Rattle.channel_refinement.specs.Over.{Matches, names_after, polled_names}
 use Rattle.channel_model.specs.Asked.{Held}
-use Rattle.channel_refinement.specs.Shows.{Shows}
+use Rattle.channel_refinement.specs.Refines.{Refines}
 use Rattle.channel_refinement.proofs.Matching.{matching}
 use Rattle.channel_refinement.proofs.Pending.{held_same}
 use Rattle.channel_refinement.proofs.Standing.{Nowhere, kindless_nowhere, nowhere_keyless, rekinded_lines, rekinded_keys}
@@ -32,7 +32,7 @@ new_kind : {T : Type 0} → (op : OpId) (x : Operation T) (names : Names T) (w :
 new_kind op x names (Stream r) off = refl
 new_kind op x names (Op other) off = let apart : nat_eq other.0 op.0 ≡ false = same_symm (Op other) (Op op) ∙ off in rw apart refl
 
-module _ {T : Type 0} (held : Held) (c : Channel T Waiter) (s : State T) (h : Shows held c s) (awake : AwakeIn s) (op : OpId) where
+module _ {T : Type 0} (held : Held) (c : Channel T Waiter) (s : State T) (h : Refines held c s) (awake : AwakeIn s) (op : OpId) where
   -- one that belongs to no line
   kindless : line_of s.names (Op op) ≡ None → Nowhere (Op op) s.waiting
   kindless none = kindless_nowhere (line_of s.names) (Op op) s.waiting none awake.placed
@@ -64,5 +64,5 @@ module _ {T : Type 0} (held : Held) (c : Channel T Waiter) (s : State T) (h : Sh
       subst (λ (y : Outcome T Waiter). Matches held s (call.Poll op) y) (sym e)
       (matching held s (call.Poll op) (Some (Op op)) refl (says_only (reply.SendPoll poll.Pending) c) (replying s (reply.SendPoll poll.Pending))
       (inl (ap (λ (y : Option (Operation T)). poll_answer s op y) (sym there))) refl refl
-      (subst (λ (g : Held). Shows g c s) (sym (held_same (Op op) None held (unheld none))) h)
+      (subst (λ (g : Held). Refines g c s) (sym (held_same (Op op) None held (unheld none))) h)
       (ap (λ (y : Option (Operation T)). polled_names op y None s.names) (sym there)) (told_away (Op op) s.waiting.woken (kindless none).woken))

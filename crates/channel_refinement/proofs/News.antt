@@ -12,7 +12,7 @@ use Rattle.channel_calls.specs.declared.stage.Line.{Line}
 use Rattle.channel_calls.specs.declared.stage.Line.TheVariants.{Sends, Receives, Streams, Closings}
 use Rattle.channel_model.proofs.Awake.{times_news}
 use Rattle.channel_model.specs.Asked.{Held}
-use Rattle.channel_refinement.specs.Shows.{ShowsLines, KeysFit, list_of}
+use Rattle.channel_refinement.specs.Refines.{ShowsLines, KeysFit, list_of}
 use Rattle.channel_refinement.proofs.Entries.{told_closed}
 use Rattle.channel_refinement.proofs.Telling.{Lined, lined_all, lined_next, one_told, one_woken, all_are_told, all_woken, message_is, closing_is}
 

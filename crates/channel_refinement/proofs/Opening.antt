@@ -7,7 +7,7 @@ use Rattle.channel_model.specs.declared.name.Waiter.{Waiter}
 use Rattle.channel_calls.specs.declared.stage.Line.TheVariants.{Sends, Receives, Streams, Closings}
 use Rattle.channel_model.proofs.Interface.{start_awake}
 use Rattle.channel_refinement.specs.Opening.{nothing_held, OpeningIsOver}
-use Rattle.channel_refinement.specs.Shows.{Shows, ShowsLines}
+use Rattle.channel_refinement.specs.Refines.{Refines, ShowsLines}
 
 module _ (T : Type 0) (capacity : Option ℕ) where
   abbrev channel : Channel T Waiter
@@ -22,7 +22,7 @@ module _ (T : Type 0) (capacity : Option ℕ) where
   lines Streams = record { untold = tt; told = tt }
   lines Closings = record { untold = tt; told = tt }
 
-  pub starts : Shows nothing_held channel s
+  pub starts : Refines nothing_held channel s
   starts = record {
     messages = refl;
     closed = refl;

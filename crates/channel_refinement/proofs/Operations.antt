@@ -26,7 +26,7 @@ use Rattle.channel_model.proofs.LawSteps.{found_name, set_elsewhere}
 use Rattle.channel_model.proofs.WaiterLemmas.{same_refl}
 use Rattle.channel_refinement.specs.Over.{Matches, polled_names, given_up_names}
 use Rattle.channel_model.specs.Asked.{Held}
-use Rattle.channel_refinement.specs.Shows.{with_held, Shows, ShowsLines, KeysFit, list_of}
+use Rattle.channel_refinement.specs.Refines.{with_held, Refines, ShowsLines, KeysFit, list_of}
 use Rattle.channel_refinement.proofs.Departing.{Departed, nowhere_after}
 use Rattle.channel_refinement.proofs.Ends.{leaves_now}
 use Rattle.channel_refinement.proofs.Polling.{WaitEnds}
@@ -49,7 +49,7 @@ abbrev pub lack_of : ListenError → Lack
 lack_of listening.NoMemory = memory
 lack_of listening.SerialsUsedUp = serials
 
-module _ {T : Type 0} (held : Held) (c : Channel T Waiter) (s : State T) (h : Shows held c s) (awake : AwakeIn s) (op : OpId) (x : Operation T) where
+module _ {T : Type 0} (held : Held) (c : Channel T Waiter) (s : State T) (h : Refines held c s) (awake : AwakeIn s) (op : OpId) (x : Operation T) where
   -- ---- a poll that found nothing
 
   pub poll_waited : (line : Line) (pends : Reply T) (refuses : ListenError → Reply T) (left : Option T) → at op.0 s.names.operations ≡ Some x → poll_answer s op (Some x) ≡ pending line (Op op) s pends

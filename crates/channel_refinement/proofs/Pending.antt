@@ -12,7 +12,7 @@ use Rattle.channel_calls.specs.declared.stage.Line.TheVariants.{Sends, Receives,
 use Rattle.channel_model.proofs.WaiterLemmas.{same_sound}
 use Rattle.channel_model.proofs.Awake.{placed_gone}
 use Rattle.channel_model.specs.Asked.{Held}
-use Rattle.channel_refinement.specs.Shows.{with_held, ShowsLines, KeysFit, list_of, of_line}
+use Rattle.channel_refinement.specs.Refines.{with_held, ShowsLines, KeysFit, list_of, of_line}
 use Rattle.channel_refinement.proofs.Names.{among_of_line, among_its_line}
 use Rattle.channel_refinement.proofs.Entries.{OnlyHolder, told_found, told_missed, untold_found}
 use Rattle.channel_refinement.proofs.Telling.{replaced}

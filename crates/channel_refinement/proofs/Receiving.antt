@@ -32,7 +32,7 @@ use Rattle.channel_model.proofs.Awake.{placed_news, empty_news}
 use Rattle.channel_model.proofs.WaiterLemmas.{decided}
 use Rattle.channel_refinement.specs.Over.{Matches, polled_names}
 use Rattle.channel_model.specs.Asked.{Held}
-use Rattle.channel_refinement.specs.Shows.{Shows}
+use Rattle.channel_refinement.specs.Refines.{Refines}
 use Rattle.channel_refinement.proofs.Departing.{departed, streams_are}
 use Rattle.channel_refinement.proofs.Ends.{ends_so}
 use Rattle.channel_refinement.proofs.News.{room_lines, room_wakes, keys_news}
@@ -40,7 +40,7 @@ use Rattle.channel_refinement.proofs.Operations.{lack_of, not_standing_is, poll_
 use Rattle.channel_refinement.proofs.Polling.{WaitsAs, where_true, where_false, wait_ends}
 use Rattle.channel_refinement.proofs.Told.{told_left_as}
 
-module _ {T : Type 0} (held : Held) (c : Channel T Waiter) (s : State T) (h : Shows held c s) (awake : AwakeIn s) (op : OpId) (handle : HandleId) (there : at op.0 s.names.operations ≡ Some (recv handle)) where
+module _ {T : Type 0} (held : Held) (c : Channel T Waiter) (s : State T) (h : Refines held c s) (awake : AwakeIn s) (op : OpId) (handle : HandleId) (there : at op.0 s.names.operations ≡ Some (recv handle)) where
   recv_kind : line_of s.names (Op op) ≡ Some Receives
   recv_kind = ap (λ (o : Option (Operation T)). line_of_operation o) there
 

@@ -34,7 +34,7 @@ use Rattle.channel_calls.specs.declared.stage.Line.TheVariants.{Sends}
 use Rattle.channel_model.proofs.WaiterLemmas.{decided}
 use Rattle.channel_model.proofs.Awake.{placed_news, empty_news}
 use Rattle.channel_model.specs.Asked.{Held}
-use Rattle.channel_refinement.specs.Shows.{Shows}
+use Rattle.channel_refinement.specs.Refines.{Refines}
 use Rattle.channel_refinement.specs.Over.{Matches, polled_names}
 use Rattle.channel_refinement.proofs.News.{keys_news, message_lines, message_wakes}
 use Rattle.channel_refinement.proofs.Departing.{departed, streams_are}
@@ -44,7 +44,7 @@ use Rattle.channel_refinement.proofs.Operations.{lack_of, not_standing_is, poll_
 use Rattle.channel_refinement.proofs.Told.{told_left_as, same_names}
 use Rattle.channel_refinement.proofs.Trying.{shut_space, filled_space, open_space, lacking_space}
 
-module _ {T : Type 0} (held : Held) (c : Channel T Waiter) (s : State T) (h : Shows held c s) (awake : AwakeIn s) (op : OpId) (handle : HandleId) (msg : T) (there : at op.0 s.names.operations ≡ Some (send handle (Some msg))) where
+module _ {T : Type 0} (held : Held) (c : Channel T Waiter) (s : State T) (h : Refines held c s) (awake : AwakeIn s) (op : OpId) (handle : HandleId) (msg : T) (there : at op.0 s.names.operations ≡ Some (send handle (Some msg))) where
   send_is : line_of s.names (Op op) ≡ Some Sends
   send_is = ap (λ (o : Option (Operation T)). line_of_operation o) there
 

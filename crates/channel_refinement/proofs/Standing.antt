@@ -13,7 +13,7 @@ use Rattle.channel_model.proofs.WaiterLemmas.{same_sound, same_symm, decided, wi
 use Rattle.channel_model.proofs.Counting.{among_self, or_right, absent_counts}
 use Rattle.channel_model.proofs.WaiterLemmas.{none_left, untold_gone}
 use Rattle.channel_model.specs.Asked.{Held}
-use Rattle.channel_refinement.specs.Shows.{with_held, AreTold, ShowsLines, KeysFit, list_of, of_line}
+use Rattle.channel_refinement.specs.Refines.{with_held, AreTold, ShowsLines, KeysFit, list_of, of_line}
 use Rattle.channel_refinement.proofs.Names.{among_of_line, among_its_line}
 use Rattle.channel_refinement.proofs.Entries.{untold_kept, told_kept, untold_holds, told_holds}
 

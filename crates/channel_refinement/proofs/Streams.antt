@@ -31,7 +31,7 @@ use Rattle.channel_model.proofs.Awake.{awake_without_stream}
 use Rattle.channel_model.proofs.WaiterLemmas.{decided, same_refl, without_absent, none_left}
 use Rattle.channel_refinement.specs.Over.{Matches}
 use Rattle.channel_model.specs.Asked.{Held}
-use Rattle.channel_refinement.specs.Shows.{with_held, Shows}
+use Rattle.channel_refinement.specs.Refines.{with_held, Refines}
 use Rattle.channel_refinement.proofs.Departing.{streams_are, nowhere_after}
 use Rattle.channel_refinement.proofs.News.{keys_news, room_lines, room_wakes}
 use Rattle.channel_refinement.proofs.Operations.{lack_of, not_standing_is}
@@ -64,7 +64,7 @@ module _ {T : Type 0} (held : Held) (s : State T) (receiver : HandleId) (awake :
   lacks_then listening.SerialsUsedUp u e =
       ap (λ (x : Found T). next_not_polled (lack_of listening.SerialsUsedUp) s (Stream receiver) x) e ∙ not_standing_is Streams (Stream receiver) s (refused_reply list.Streams listening.SerialsUsedUp) u
 
-  module _ (u : is_among (Stream receiver) s.waiting.streams ≡ false) (c : Channel T Waiter) (h : Shows unheld c used_up) where
+  module _ (u : is_among (Stream receiver) s.waiting.streams ≡ false) (c : Channel T Waiter) (h : Refines unheld c used_up) where
     got : (m : T) (ms : List T) → c.queue.items ≡ m ∷ ms → Matches held s (call.PollNext receiver) (ends of_room (over (reply.Next (poll.Ready (Some (Ok m)))) None list.Streams None) (over_queue alone.taken c))
     got m ms e =
         let found_first : found s.channel ≡ first m ms = rw (sym h.messages ∙ e) refl in
@@ -111,7 +111,7 @@ module _ {T : Type 0} (held : Held) (s : State T) (receiver : HandleId) (awake :
           allowed = inl (answer_then none_yet u none);
           reply = refl;
           woken = refl;
-          shows = subst (λ (f : Held). Shows f d (next_answer used_up receiver none_yet).after) (held_twice (Stream receiver) (Some key) None held) g;
+          shows = subst (λ (f : Held). Refines f d (next_answer used_up receiver none_yet).after) (held_twice (Stream receiver) (Some key) None held) g;
           names = refl;
           told =
               told_standing (line_of s.names) Streams (Stream receiver) (gone (Stream receiver) s.waiting) still_awake.placed
@@ -128,7 +128,7 @@ module _ {T : Type 0} (held : Held) (s : State T) (receiver : HandleId) (awake :
           allowed = inr (lack_of error, lacks_then error u none);
           reply = refl;
           woken = refl;
-          shows = subst (λ (m : Waiting). Shows unheld d (with_waiting m s)) same (subst (λ (f : Held). Shows f d (with_waiting (gone (Stream receiver) l) s)) (held_twice (Stream receiver) None None held) g);
+          shows = subst (λ (m : Waiting). Refines unheld d (with_waiting m s)) same (subst (λ (f : Held). Refines f d (with_waiting (gone (Stream receiver) l) s)) (held_twice (Stream receiver) None None held) g);
           names = refl;
           told = told_gone (Stream receiver) s.waiting.woken;
         })
@@ -150,9 +150,9 @@ module _ {T : Type 0} (held : Held) (s : State T) (receiver : HandleId) (awake :
 
 -- ---- from what the stream holds
 
-module _ {T : Type 0} (held : Held) (c : Channel T Waiter) (s : State T) (h : Shows held c s) (awake : AwakeIn s) (receiver : HandleId) where
+module _ {T : Type 0} (held : Held) (c : Channel T Waiter) (s : State T) (h : Refines held c s) (awake : AwakeIn s) (receiver : HandleId) where
   shown_so : (key : Option Key) (m : Waiting) (d : Channel T Waiter) → d.queue ≡ c.queue → Waited (line_of s.names) held s.channel.closed (Stream receiver) c.roster d.roster key m
-      → Shows (with_held (Stream receiver) key held) d (with_waiting m s)
+      → Refines (with_held (Stream receiver) key held) d (with_waiting m s)
   shown_so key m d e g = shown Streams (reply.Next poll.Pending) (λ e. refused_reply list.Streams e) None (Stream receiver) held c s h awake refl key m d e g
 
   told_not_untold : is_among (Stream receiver) s.waiting.woken ≡ true → is_among (Stream receiver) s.waiting.streams ≡ false

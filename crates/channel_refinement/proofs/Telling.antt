@@ -15,7 +15,7 @@ use Rattle.channel_model.proofs.WaiterLemmas.{decided}
 use Rattle.channel_model.proofs.Counting.{among_take, among_drop}
 use Rattle.channel_model.proofs.Awake.{line_sound}
 use Rattle.channel_model.specs.Asked.{Held}
-use Rattle.channel_refinement.specs.Shows.{AreUntold, AreTold, IsToldSo, ShowsLine, ShowsLines, list_of, of_line}
+use Rattle.channel_refinement.specs.Refines.{AreUntold, AreTold, IsToldSo, ShowsLine, ShowsLines, list_of, of_line}
 use Rattle.channel_refinement.proofs.Names.{AllOf, of_line_append, of_own_line, of_other_line}
 use Rattle.channel_refinement.proofs.Entries.{tasks_are, untold_rest, untold_first, told_append, just_told}
 

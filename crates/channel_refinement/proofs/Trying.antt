@@ -28,7 +28,7 @@ use Rattle.channel_model.specs.declared.space.Space.TheVariants.{Open, Filled, S
 use Rattle.channel_refinement.specs.Asked.{keeper}
 use Rattle.channel_refinement.specs.Over.{Matches, names_after}
 use Rattle.channel_model.specs.Asked.{Held}
-use Rattle.channel_refinement.specs.Shows.{Shows}
+use Rattle.channel_refinement.specs.Refines.{Refines}
 use Rattle.channel_refinement.proofs.Matching.{matching}
 use Rattle.channel_refinement.proofs.News.{shut_lines, keys_news, keys_rooms, rooms_woken, room_lines, room_wakes, rooms_lines, rooms_wakes, message_lines, message_wakes, closing_lines, closing_wakes}
 use Rattle.channel_refinement.proofs.Telling.{Lined}
@@ -37,7 +37,7 @@ pub full_as : {T : Type 0} → (cap : Option ℕ) (items : List T) → is_full_a
 full_as None items = refl
 full_as (Some n) items = refl
 
-module _ {T : Type 0} (held : Held) (c : Channel T Waiter) (s : State T) (h : Shows held c s) where
+module _ {T : Type 0} (held : Held) (c : Channel T Waiter) (s : State T) (h : Refines held c s) where
   -- ---- what a channel that shows a state has, in the words of the state
 
   pub filled_is : is_filled c.queue ≡ is_full s.channel
@@ -168,7 +168,7 @@ module _ {T : Type 0} (held : Held) (c : Channel T Waiter) (s : State T) (h : Sh
         → (f c.queue).items ≡ ms → (f c.queue).closed ≡ c.queue.closed → (f c.queue).capacity ≡ c.queue.capacity → Matches held s call (ends of_message (says r) (over_queue f c))
     came_in call r f ms nobody allowed names items closed capacity =
         let woken = message_wakes (line_of s.names) held s.channel.closed c.roster s.waiting [] h.lines ∙ append-nil _ in
-        let shows : Shows held (ends of_message (says r) (over_queue f c)).channel (telling Message (with_channel (holding s.channel ms) s) r).after =
+        let shows : Refines held (ends of_message (says r) (over_queue f c)).channel (telling Message (with_channel (holding s.channel ms) s) r).after =
         record {
           messages = items;
           closed = closed ∙ h.closed;

@@ -1,4 +1,4 @@
-pub mod Shows
+pub mod Refines
 pub mod Asked
 pub mod Over
 pub mod Opening

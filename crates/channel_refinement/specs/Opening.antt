@@ -5,7 +5,7 @@ use Rattle.channel_model.specs.Awake.{AwakeIn}
 use Rattle.channel_model.specs.State.{State, start}
 use Rattle.channel_model.specs.declared.name.Waiter.{Waiter}
 use Rattle.channel_model.specs.Asked.{Held}
-use Rattle.channel_refinement.specs.Shows.{Shows}
+use Rattle.channel_refinement.specs.Refines.{Refines}
 
 -- no operation and no stream holds a listener's key
 abbrev pub nothing_held : Held
@@ -17,4 +17,4 @@ OpeningIsOver T =
     (capacity : Option ℕ) →
     let channel : Channel T Waiter = new_channel capacity in
     let s : State T = start capacity in
-    Shows nothing_held channel s × AwakeIn s
+    Refines nothing_held channel s × AwakeIn s

@@ -23,7 +23,7 @@ use Rattle.channel_model.specs.declared.name.OpId.{OpId}
 use Rattle.channel_model.specs.declared.name.Waiter.{Waiter}
 use Rattle.channel_refinement.specs.Asked.{asked, keeper}
 use Rattle.channel_model.specs.Asked.{Held}
-use Rattle.channel_refinement.specs.Shows.{Shows, with_held}
+use Rattle.channel_refinement.specs.Refines.{Refines, with_held}
 
 module _ {T : Type 0} where
   -- ---- what becomes of the names
@@ -79,7 +79,7 @@ module _ {T : Type 0} where
     pub allowed : Answers s c answer
     pub reply : o.reply ≡ answer.reply
     pub woken : o.woken ≡ answer.woken
-    pub shows : Shows (held_after s c o.kept.key held) o.channel answer.after
+    pub shows : Refines (held_after s c o.kept.key held) o.channel answer.after
     pub names : answer.after.names ≡ names_after s c o
     pub told : answer.after.waiting.woken ≡ woken_after s c o
 
@@ -88,4 +88,4 @@ module _ {T : Type 0} where
 abbrev pub CallsAreOver : Type 0 → Type 0
 CallsAreOver T =
     (c : Call T) (held : Held) (channel : Channel T Waiter) (s : State T) (o : Outcome T Waiter)
-    → refusal s c ≡ None → Shows held channel s → AwakeIn s → Alone (asked held s c) channel o → Matches held s c o
+    → refusal s c ≡ None → Refines held channel s → AwakeIn s → Alone (asked held s c) channel o → Matches held s c o

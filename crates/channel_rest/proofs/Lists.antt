@@ -17,7 +17,7 @@ use Rattle.channel_model.specs.Lines.{same_waiter, is_among}
 use Rattle.channel_model.specs.declared.name.Waiter.{Waiter}
 use Rattle.channel_interleaving.specs.Owners.{IsAmong, NoneTwice}
 use Rattle.channel_interleaving.proofs.OwnerWokenLists.{key_of_entry}
-use Rattle.channel_refinement.specs.Shows.{AreUntold, IsToldSo, AreTold}
+use Rattle.channel_refinement.specs.Refines.{AreUntold, IsToldSo, AreTold}
 
 -- ---- keys
 

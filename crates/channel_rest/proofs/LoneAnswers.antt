@@ -36,7 +36,7 @@ use Rattle.channel_interleaving.proofs.OwnerBegins.{Admitted, admitted}
 use Rattle.channel_interleaving.proofs.WokenPolls.{woken_admitted, poll_accepted}
 use Rattle.channel_refinement.specs.Asked.{keeper}
 use Rattle.channel_refinement.specs.Over.{Matches, held_after}
-use Rattle.channel_refinement.specs.Shows.{AreTold, of_line, with_held}
+use Rattle.channel_refinement.specs.Refines.{AreTold, of_line, with_held}
 use Rattle.channel_steps.specs.Scene.{Scene}
 use Rattle.channel_interleaving.specs.Bookkeeping.{asks}
 use Rattle.channel_interleaving.specs.Kept.{AllKept}

@@ -37,7 +37,7 @@ use Rattle.channel_rest.proofs.Names.{on, same_held, Pends, line_is, holds_it, p
 use Rattle.channel_rest.specs.Rest.{state_at, IsWorld, RestIsAWorld}
 use Rattle.channel_rest.proofs.Woken.{within_all, stand_same, untold_tasks, among_filter, by_lines, woken_waits, woken_stand}
 use Rattle.channel_interleaving.specs.OwnerOrder.{NeedsPlace, was_woken, Within, woken_keys}
-use Rattle.channel_refinement.specs.Shows.{of_line, ShowsLine, ShowsLines, KeysFit, Shows, AreUntold, AreTold}
+use Rattle.channel_refinement.specs.Refines.{of_line, ShowsLine, ShowsLines, KeysFit, Refines, AreUntold, AreTold}
 
 fits : (capacity : Option ℕ) (m t : ℕ) → HasPlaces capacity (m + t + 0) → free_places capacity m ≤ t
 fits None m t h = absurd h
@@ -312,7 +312,7 @@ module _ {T : Type 0} (b : Book T) (s : Scene T Waiter) (kept : AllKept b s) (re
           → held_of b.roll w ≡ Some key → v ≡ w
       apart line v w key k l e f = one_name line key v w (on_its_line line v key k e) (on_its_line line w key l f)
 
-  shows : Shows (held_of b.roll) s.now state
+  shows : Refines (held_of b.roll) s.now state
   shows = record {
     messages = refl;
     closed = refl;

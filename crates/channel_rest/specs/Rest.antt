@@ -13,7 +13,7 @@ use Rattle.channel_model.specs.declared.call.Call.{Call}
 use Rattle.channel_model.specs.declared.name.Waiter.{Waiter}
 use Rattle.channel_refinement.specs.Asked.{asked}
 use Rattle.channel_refinement.specs.Over.{Matches}
-use Rattle.channel_refinement.specs.Shows.{Shows}
+use Rattle.channel_refinement.specs.Refines.{Refines}
 use Rattle.channel_steps.specs.Scene.{Scene}
 
 module _ {T : Type 0} where
@@ -41,7 +41,7 @@ module _ {T : Type 0} where
   -- The channel shows this state with the listeners that its names hold, and nobody is left asleep there. Each call made alone
   -- from there, which the model doesn't refuse, does what the model allows of it.
   pub record IsWorld (b : Book T) (s : Scene T Waiter) : Type 0 where
-    pub shows : Shows (held_of b.roll) s.now (state_at b s)
+    pub shows : Refines (held_of b.roll) s.now (state_at b s)
     pub awake : AwakeIn (state_at b s)
     pub calls :
         (c : Call T) (o : Outcome T Waiter)

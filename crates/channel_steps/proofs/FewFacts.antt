@@ -20,7 +20,7 @@ use Rattle.channel_calls.specs.declared.stage.Work.{Work}
 use Rattle.channel_calls.specs.declared.stage.Work.TheVariants.{TakeRoom}
 use Rattle.channel_steps.specs.Moments.{Deed}
 use Rattle.channel_steps.specs.Known.{TriesFor, WorkAt, StageAt}
-use Rattle.channel_steps.specs.Scene.{Under, Scene, Sitting, under_of, seats_of, all_seats, AllKnown, wanted_at, Shows}
+use Rattle.channel_steps.specs.Scene.{Under, Scene, Sitting, under_of, seats_of, all_seats, AllKnown, wanted_at, Represents}
 use Rattle.channel_steps.specs.declared.party.Party.{Party}
 use Rattle.channel_steps.proofs.LeftFacts as left_facts
 
@@ -54,7 +54,7 @@ module _ {T W : Type 0} (parts : Parts T W) (q : Queue T) (now : Channel T W) wh
       few_behind (l ++ seats_of x) xs (subst (λ (ss : List (Seat T)). Fits parts.cells q ss) (sym (append_assoc l (seats_of x) (all_seats xs))) fits) known.1 k n there
 
 module _ {T W : Type 0} where
-  pub few_left : (parts : Parts T W) (parties : List (Party T W)) (s : Scene T W) → Shows parts parties s
+  pub few_left : (parts : Parts T W) (parties : List (Party T W)) (s : Scene T W) → Represents parts parties s
       → (k n : ℕ) → slice_get (all_left parts parties) k ≡ Some n → n ≤ 197 + 64 * wanted_at k s.under_way
   few_left parts parties s sh k n there =
       subst (λ (us : List (Under T W)). n ≤ 197 + 64 * wanted_at k us) (sym sh.under_way)

@@ -18,7 +18,7 @@ use Rattle.channel_calls.specs.declared.stage.Stage.{Stage}
 use Rattle.channel_calls.specs.declared.stage.Stage.TheVariants.{Finished}
 use Rattle.channel_steps.specs.Count.{counted, brought_in, taken_out}
 use Rattle.channel_steps.specs.Left.{all_left}
-use Rattle.channel_steps.specs.Scene.{Under, Scene, sees, does, unless_ended, Known, AllKnown, IsBalanced, HoldNobodyUp, wanted_at, Steps, Shows, MayHave, blocks_after}
+use Rattle.channel_steps.specs.Scene.{Under, Scene, sees, does, unless_ended, Known, AllKnown, IsBalanced, HoldNobodyUp, wanted_at, Steps, Represents, MayHave, blocks_after}
 use Rattle.channel_steps.specs.Run.{EachStep, end_of, Next, begun}
 use Rattle.channel_steps.specs.declared.party.Entry.{Entry}
 use Rattle.channel_steps.specs.declared.party.Party.{Party}
@@ -105,7 +105,7 @@ module _ {T W : Type 0} where
       (subst (λ (us : List (Under T W)). AllKnown t.now us) (sym n.left) whole, on.balanced bal)
 
   -- where a call begins, they are those before
-  pub blocks_begun : (parts : Parts T W) (parties : List (Party T W)) (s t : Scene T W) → Shows parts parties s → t.blocks ≡ s.blocks
+  pub blocks_begun : (parts : Parts T W) (parties : List (Party T W)) (s t : Scene T W) → Represents parts parties s → t.blocks ≡ s.blocks
       → t.blocks ≡ blocks_after parts.cells.form s.blocks parts.cells parts.cells
   blocks_begun parts parties s t sh same = scene_facts.blocks_begun parts parties s t sh same
 
@@ -159,7 +159,7 @@ module _ {T W : Type 0} where
   -- ---- how many steps are left
 
   -- no call under way has more than 197 that nobody holds up, and 64 for each message that it may take more than one
-  pub few_left : (parts : Parts T W) (parties : List (Party T W)) (s : Scene T W) → Shows parts parties s
+  pub few_left : (parts : Parts T W) (parties : List (Party T W)) (s : Scene T W) → Represents parts parties s
       → (k n : ℕ) → slice_get (all_left parts parties) k ≡ Some n → n ≤ 197 + 64 * wanted_at k s.under_way
   few_left parts parties s sh k n there = few_facts.few_left parts parties s sh k n there
 

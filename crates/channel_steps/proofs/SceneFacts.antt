@@ -22,7 +22,7 @@ use Rattle.channel_steps.specs.declared.party.Entry.{Entry}
 use Rattle.channel_steps.specs.Known.{StageAt}
 use Rattle.channel_steps.specs.Left.{party_left, all_left, left_at}
 use Rattle.channel_steps.specs.Moments.{Deed, with_deed}
-use Rattle.channel_steps.specs.Scene.{Under, Scene, MayHave, blocks_after, sees, does, gone_by, came_by, Known, AllKnown, IsBalanced, HoldNobodyUp, Sitting, under_of, seats_of, all_seats, Shows, parties_in, unless_answered, parties_after, left_by, StepsNearer, SteppedAt, StepsAt}
+use Rattle.channel_steps.specs.Scene.{Under, Scene, MayHave, blocks_after, sees, does, gone_by, came_by, Known, AllKnown, IsBalanced, HoldNobodyUp, Sitting, under_of, seats_of, all_seats, Represents, parties_in, unless_answered, parties_after, left_by, StepsNearer, SteppedAt, StepsAt}
 use Rattle.channel_steps.specs.Tellings.{telling}
 use Rattle.channel_steps.proofs.IdleFacts.{idle_holds}
 use Rattle.channel_steps.proofs.LeftFacts.{IsAtWork, step_lessens}
@@ -117,7 +117,7 @@ module _ {T : Type 0} where
 
 module _ {T W : Type 0} where
   -- where a call begins, they are those before
-  pub blocks_begun : (parts : Parts T W) (parties : List (Party T W)) (s t : Scene T W) → Shows parts parties s → t.blocks ≡ s.blocks
+  pub blocks_begun : (parts : Parts T W) (parties : List (Party T W)) (s t : Scene T W) → Represents parts parties s → t.blocks ≡ s.blocks
       → t.blocks ≡ blocks_after parts.cells.form s.blocks parts.cells parts.cells
   blocks_begun parts parties s t sh same = same ∙ still_named parts.cells.form s.blocks parts.cells sh.bare
 
@@ -215,7 +215,7 @@ module _ {T W : Type 0} where
     Outcome reply parties' =
         (t : Scene T W)
         × StepsNearer (length l) (all_left parts (map party_of (l ++ (x ∷ r)))) (all_left parts' parties') (scene_of blocks q parts (l ++ (x ∷ r)) gone came) x.party.id (record { mark = m; reply = reply; kept = left_by p' reply }) names t
-        × Shows parts' parties' t × OnePlace parts parts' × (t.blocks ≡ blocks_now)
+        × Represents parts' parties' t × OnePlace parts parts' × (t.blocks ≡ blocks_now)
 
     pub core : (reply : Option (Reply T)) → IsStepOver parts x.party.call.stage names parts' p'.call.stage m reply
         → Outcome reply (parties_after (map party_of (l ++ (x ∷ r))) (length l) p' reply)
@@ -377,7 +377,7 @@ module _ {T W : Type 0} where
         steps = there_now;
         one_place = o.3;
         blocks = o.4;
-        shown = subst (λ (zs : List (Party T W)). Shows parts' zs o.0) left o.2;
+        shown = subst (λ (zs : List (Party T W)). Represents parts' zs o.0) left o.2;
       }
 
   pub made_at : {S : Type 0} (wakes : S → W → S → Type 0) (parts parts' : Parts T W) (parties parties' : List (Party T W)) (k : ℕ) (sink sink' : S) (x : Party T W) (next : ChannelCall T W) (m : Mark) (r : Option (Reply T))

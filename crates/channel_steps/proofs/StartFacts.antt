@@ -10,7 +10,7 @@ use Rattle.channel_calls.specs.Moves.{channel}
 use Rattle.channel_calls.specs.Parts.{Parts, Roster, new_roster}
 use Rattle.channel_steps.specs.declared.party.Party.{Party}
 use Rattle.channel_steps.specs.Run.{new_scene}
-use Rattle.channel_steps.specs.Scene.{Scene, Sitting, under_of, Shows, MayHave}
+use Rattle.channel_steps.specs.Scene.{Scene, Sitting, under_of, Represents, MayHave}
 use Rattle.channel_steps.specs.Start.{IsQuietOrNot, TellsQuiet}
 
 long_as : {A B : Type 0} (g : A → B) (xs : List A) → length (map g xs) ≡ length xs
@@ -26,7 +26,7 @@ none_at_first (Bounded capacity) = refl
 none_at_first Unbounded = tt
 
 module _ {T W : Type 0} where
-  pub new_shown : (form : QueueForm) (parts : Parts T W) (parties : List (Party T W)) → IsNew form parts.cells → parts.roster ≡ new_roster → parties ≡ [] → Shows parts parties (new_scene (capacity_of form))
+  pub new_shown : (form : QueueForm) (parts : Parts T W) (parties : List (Party T W)) → IsNew form parts.cells → parts.roster ≡ new_roster → parties ≡ [] → Represents parts parties (new_scene (capacity_of form))
   new_shown form parts parties new roster none =
       record {
         sittings = [];
@@ -41,7 +41,7 @@ module _ {T W : Type 0} where
       }
 
   -- as many calls are under way as there are parties
-  counts : (parties : List (Party T W)) (parts : Parts T W) (s : Scene T W) → Shows parts parties s → length parties ≡ length s.under_way
+  counts : (parties : List (Party T W)) (parts : Parts T W) (s : Scene T W) → Represents parts parties s → length parties ≡ length s.under_way
   counts parties parts s sh =
       ap length sh.parties_are ∙ (long_as (λ (x : Sitting T W). x.party) sh.sittings ∙ (sym (long_as under_of sh.sittings) ∙ sym (ap length sh.under_way)))
 

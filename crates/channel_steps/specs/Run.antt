@@ -13,7 +13,7 @@ use Rattle.channel_steps.specs.declared.party.Party.{Party}
 use Rattle.channel_steps.specs.declared.party.Entry.{Entry}
 use Rattle.channel_steps.specs.declared.run.Step.{Step}
 use Rattle.channel_steps.specs.declared.run.Step.TheVariants as step
-use Rattle.channel_steps.specs.Scene.{Under, Scene, Steps, Shows}
+use Rattle.channel_steps.specs.Scene.{Under, Scene, Steps, Represents}
 
 module _ {M X E : Type 0} where
   -- so it is of each of these steps, with its entry, from the moment before it to the one after it
@@ -58,11 +58,11 @@ module _ {T W : Type 0} where
   pub record Began (p : ℕ) (ask : ChannelAsk T W) (parts : Parts T W) (e : Entry T) (parties' : List (Party T W)) (s : Scene T W) : Type 0 where
     pub after : Scene T W
     pub begins : Begins s p ask e after
-    pub shown : Shows parts parties' after
+    pub shown : Represents parts parties' after
 
   -- a call has begun, over any cells, in every scene that is shown
   abbrev pub HasBegun : ℕ → ChannelAsk T W → List (Party T W) → Entry T → List (Party T W) → Type 0
-  HasBegun p ask parties e parties' = (parts : Parts T W) (s : Scene T W) → Shows parts parties s → Began p ask parts e parties' s
+  HasBegun p ask parties e parties' = (parts : Parts T W) (s : Scene T W) → Represents parts parties s → Began p ask parts e parties' s
 
   -- one entry of a run, which wakes these
   abbrev pub Next : Scene T W → Step T W → Entry T → List W → Scene T W → Type 0

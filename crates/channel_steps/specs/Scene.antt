@@ -211,7 +211,7 @@ module _ {T W : Type 0} where
   all_seats (x ∷ xs) = seats_of x ++ all_seats xs
 
   -- the cells and the parties show this scene
-  pub record Shows (parts : Parts T W) (parties : List (Party T W)) (s : Scene T W) : Type 0 where
+  pub record Represents (parts : Parts T W) (parties : List (Party T W)) (s : Scene T W) : Type 0 where
     pub sittings : List (Sitting T W)
     pub queue : Queue T
     pub parties_are : parties ≡ map (λ (x : Sitting T W). x.party) sittings
@@ -264,9 +264,9 @@ module _ {T W : Type 0} where
       pub steps : StepsNearer k (all_left parts parties) (all_left parts' parties') s p e names after
       pub one_place : OnePlace parts parts'
       pub blocks : after.blocks ≡ blocks_after parts'.cells.form s.blocks parts.cells parts'.cells
-      pub shown : Shows parts' parties' after
+      pub shown : Represents parts' parties' after
 
     -- the k-th call under way makes a step, in every scene that the cells and the parties show
     abbrev pub StepsAt : Parts T W → List (Party T W) → ℕ → S → Entry T → Parts T W → List (Party T W) → S → Type 0
     StepsAt parts parties k sink e parts' parties' sink' =
-        (s : Scene T W) (p : Party T W) → IsInRange s.now.queue → Shows parts parties s → slice_get parties k ≡ Some p → Stepped parts parties k sink e parts' parties' sink' s p.id
+        (s : Scene T W) (p : Party T W) → IsInRange s.now.queue → Represents parts parties s → slice_get parties k ≡ Some p → Stepped parts parties k sink e parts' parties' sink' s p.id

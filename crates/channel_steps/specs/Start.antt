@@ -2,7 +2,7 @@
 use Rattle.std.specs.Prelude.{◌≡◌, Bool, true, false, List, []}
 use Rattle.channel_calls.specs.Parts.{Parts}
 use Rattle.channel_steps.specs.declared.party.Party.{Party}
-use Rattle.channel_steps.specs.Scene.{Scene, Shows}
+use Rattle.channel_steps.specs.Scene.{Scene, Represents}
 
 module _ {T W : Type 0} where
   abbrev pub IsQuietOrNot : Scene T W → Bool → Type 0
@@ -11,4 +11,4 @@ module _ {T W : Type 0} where
 
   -- in every scene that the cells and the parties show, no call is under way, or one is
   abbrev pub TellsQuiet : List (Party T W) → Bool → Type 0
-  TellsQuiet parties quiet = (parts : Parts T W) (s : Scene T W) → Shows parts parties s → IsQuietOrNot s quiet
+  TellsQuiet parties quiet = (parts : Parts T W) (s : Scene T W) → Represents parts parties s → IsQuietOrNot s quiet

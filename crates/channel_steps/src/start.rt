@@ -4,7 +4,7 @@ ghost use Rattle.std.specs.Prelude.{◌≡◌, IfOk};
 ghost use Rattle.concurrent_queue.specs.Capacity.{capacity_of};
 ghost use Rattle.concurrent_queue.specs.Made.{CanBeMade};
 ghost use Rattle.channel_calls.specs.Plain.{parts_of};
-ghost use Rattle.channel_steps.specs.Scene.{Shows};
+ghost use Rattle.channel_steps.specs.Scene.{Represents};
 ghost use Rattle.channel_steps.specs.Run.{new_scene};
 ghost use Rattle.channel_steps.specs.Start.{TellsQuiet};
 
@@ -29,7 +29,7 @@ pub fn open_channel<T: Drop, W: Drop>(
     alloc: Global,
 ) -> Result<Opened<T, W>, AllocError>
     requires form { CanBeMade form }
-    ensures shown { IfOk result (λ o. Shows (parts_of o.cells) o.parties.items (new_scene (capacity_of form))) }
+    ensures shown { IfOk result (λ o. Represents (parts_of o.cells) o.parties.items (new_scene (capacity_of form))) }
 {
     Ok(Opened {
         cells: PlainChannel::new(form, alloc)?,

@@ -34,7 +34,7 @@ use Rattle.channel_interleaving.specs.declared.names.Standing.{Standing}
 use Rattle.channel_interleaving.specs.declared.names.Standing.TheVariants.{Rests, Waits, IsPolled}
 use Rattle.channel_interleaving.specs.declared.roll.Roll.{Roll}
 use Rattle.channel_interleaving.proofs.Interface.{none_under_way}
-use Rattle.channel_refinement.specs.Shows.{AreUntold}
+use Rattle.channel_refinement.specs.Refines.{AreUntold}
 use Rattle.channel_rest.specs.Rest.{state_at, IsWorld, RestIsAWorld}
 use Rattle.channel_rest.proofs.Woken.{among_filter, woken_waits}
 use Rattle.channel_steps.specs.Scene.{Scene}

@@ -40,6 +40,6 @@ module _ {T : Type 0} where
   call_in (NoRoom call) = call
 
   -- The world may refuse the call so. Room for its entry and its receipt may be refused to any call.
-  abbrev pub MayRefuse : State T → RecordError T → Type 0
-  MayRefuse s (World why call) = MayStop s call (Some why)
-  MayRefuse s (NoRoom call) = Unit {0}
+  abbrev pub MayRefuseRecorded : State T → RecordError T → Type 0
+  MayRefuseRecorded s (World why call) = MayStop s call (Some why)
+  MayRefuseRecorded s (NoRoom call) = Unit {0}

@@ -57,7 +57,7 @@ impl<T: Copy, L: Ledger> Recording<T, L> {
     ghost use Rattle.channel_model.specs.State.{start};
     ghost use Rattle.channel_world.specs.RecordReplay.{EndsHistory, Made};
     ghost use Rattle.channel_world.specs.RecordSeat.{calls_of, new_seat, one_more};
-    ghost use Rattle.channel_world.specs.Recording.{with_seat, call_in, MayRefuse};
+    ghost use Rattle.channel_world.specs.Recording.{with_seat, call_in, MayRefuseRecorded};
     ghost use Rattle.channel_world.specs.View.{at_rest, IsQuiet};
 
     /// A world that was just opened, with an empty record and all parts of the ledger.
@@ -118,7 +118,7 @@ impl<T: Copy, L: Ledger> Recording<T, L> {
         ensures behind { IfOk result (λ r. seat.old.calls ≤ r.place) }
         ensures recorded { IfOk result (λ r. self.new ≡ record self.old { state = self.new.state; entries = self.old.entries ++ r ∷ [] }) }
         ensures counted { OnOk result (seat.new ≡ one_more seat.old) }
-        ensures why { IfErr result (λ e. MayRefuse self.old.state e) }
+        ensures why { IfErr result (λ e. MayRefuseRecorded self.old.state e) }
         ensures back { IfErr result (λ e. call_in e ≡ call) }
         ensures unchanged { OnErr result (self.new ≡ self.old) }
         ensures idle { OnErr result (seat.new ≡ seat.old) }

@@ -72,7 +72,7 @@ pub record KeysFit (kind : Kind) (held : Held) (waiting : Waiting) : Type 0 wher
       (line : Line) (v w : Waiter) (key : Key) → kind v ≡ Some line → kind w ≡ Some line → held v ≡ Some key → held w ≡ Some key
       → v ≡ w
 
-pub record Shows {T : Type 0} (held : Held) (c : Channel T Waiter) (s : State T) : Type 0 where
+pub record Refines {T : Type 0} (held : Held) (c : Channel T Waiter) (s : State T) : Type 0 where
   pub messages : c.queue.items ≡ s.channel.messages
   pub closed : c.queue.closed ≡ s.channel.closed
   pub capacity : c.queue.capacity ≡ s.channel.capacity
