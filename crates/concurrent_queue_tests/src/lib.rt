@@ -24,6 +24,8 @@ mod said;
 #[cfg(test)]
 mod scarce;
 #[cfg(test)]
+mod scarce_rows;
+#[cfg(test)]
 mod shared;
 #[cfg(test)]
 mod turn_rows;

@@ -2,7 +2,7 @@
 //!
 //! | Line | What it does |
 //! |---|---|
-//! | `begin P N CALL` | adds party P's begin of a call, and N steps of it, to the list to come: `push M`, `force M`, `pop`, `close`, `is_closed`, `is_empty` |
+//! | `begin P N CALL` | adds party P's begin of a call, and N steps of it, to the list to come: `push M`, `force M`, `pop`, `close`, `is_closed`, `is_empty`, `is_full`, `len`, `capacity` |
 //! | `go P N` | adds N more steps of party P |
 //! | `run FORM FROM` | makes the list over a new queue, of this capacity, 0 for one without a bound |
 //!
@@ -29,8 +29,9 @@ pub(crate) struct Turns {
 
 const MEMORY: Said = Said::Word("memory");
 
-fn mark_of(entry: &QueueEntry<u64>) -> &'static str {
-    match entry.mark {
+/// What a mark is called; nothing where there is none.
+pub(crate) fn name_of(mark: QueueMark) -> &'static str {
+    match mark {
         QueueMark::Nothing => "",
         QueueMark::Append => "append",
         QueueMark::Take => "take",
@@ -46,7 +47,7 @@ fn write_entry(
     entry: &QueueEntry<u64>,
     answer: &mut String,
 ) -> Result<(), AllocError> {
-    let mark = mark_of(entry);
+    let mark = name_of(entry.mark);
     if mark == "" && entry.reply.is_none() {
         return Ok(());
     }
@@ -96,21 +97,24 @@ fn write_stop(
     Ok(())
 }
 
-/// The call that these words name.
-fn ask_of(words: &mut Words<'_>) -> Option<QueueAsk<u64>> {
-    Some(match words.word() {
+/// The call of this name, with its message where it has one.
+pub(crate) fn ask_of(verb: &str, words: &mut Words<'_>) -> Option<QueueAsk<u64>> {
+    Some(match verb {
         "push" => QueueAsk::Push(words.number()),
         "force" => QueueAsk::ForcePush(words.number()),
         "pop" => QueueAsk::Pop,
         "close" => QueueAsk::Close,
         "is_closed" => QueueAsk::IsClosed,
         "is_empty" => QueueAsk::IsEmpty,
+        "is_full" => QueueAsk::IsFull,
+        "len" => QueueAsk::Len,
+        "capacity" => QueueAsk::Capacity,
         _ => return None,
     })
 }
 
 /// The form of this capacity, 0 for one without a bound.
-fn form_of(capacity: usize) -> QueueForm
+pub(crate) fn form_of(capacity: usize) -> QueueForm
     ensures { CanBeMade result }
 {
     if capacity == 0 {
@@ -142,7 +146,7 @@ impl Turns {
     /// Adds the begin of a call, and so many steps of it.
     fn begin_call(&mut self, words: &mut Words<'_>) -> Said {
         let (party, count) = (words.small(), words.size());
-        let Some(call) = ask_of(words) else {
+        let Some(call) = ask_of(words.word(), words) else {
             return Said::NoSuchCall;
         };
         match self.steps.push_back(QueueStep::Begin { party, call }) {
