@@ -10,11 +10,11 @@
 //! | `is_finished O` | asks a send | |
 //! | `give_up O` | gives it up | the message of a send, else `none` |
 //! | `drop O` | drops it | `ok` |
-//! | `CALL s ..`, `CALL r ..` | a call of the channel's sender or receiver ([`crate::said`]) | |
+//! | `CALL s ..`, `CALL r ..` | a call of the channel's sender or receiver ([`channel_test_helpers::calls`]) | |
 
-use crate::said::{MEMORY, polled, sender_says, write_received};
 use async_channel::{Closed, Receiver, Recv, Send, Sender};
-use channel_test_helpers::{Ends, closes, opened, receives, sends, streams};
+use channel_test_helpers::calls::{MEMORY, polled, sender_says, write_received};
+use channel_test_helpers::{Ends, capacity_of, closes, opened, receives, sends, streams};
 use futures::test::MockTask;
 use std::alloc::{AllocError, AllocGlobal, Global};
 use std::random::RandomSource;
@@ -49,17 +49,6 @@ pub(crate) struct Lent<'a, R: Wait + Copy> {
 const NO_OPERATION: Said = Said::Word("no such operation");
 
 const NO_CHANNEL: Said = Said::Word("no channel");
-
-/// The capacity of the channel that a line opens, 0 where that is without a bound.
-fn capacity_of(line: &str) -> Option<usize> {
-    if line == "unbounded" {
-        return Some(0);
-    }
-    match line.strip_prefix("bounded ") {
-        Some(capacity) => capacity.parse::<usize>().ok(),
-        None => None,
-    }
-}
 
 /// Opens the channels that a text's lines name, in order.
 pub(crate) fn channels_of<R: Wait + Copy>(

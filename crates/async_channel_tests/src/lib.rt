@@ -26,6 +26,4 @@ mod refusals;
 #[cfg(test)]
 mod rows;
 #[cfg(test)]
-mod said;
-#[cfg(test)]
 mod walks;

@@ -8,14 +8,14 @@
 //! | `clones H N` | so many clones | how many were made that are of the same channel |
 //! | `same_channel H H` | whether both are of one channel | |
 //! | `drop H`, `drops H N` | drops this handle, and so many from it on | `ok` |
-//! | `CALL H ..` | a call of a strong handle ([`crate::said`]) | |
+//! | `CALL H ..` | a call of a strong handle ([`channel_test_helpers::calls`]) | |
 
-use crate::said::{MEMORY, sender_says, write_received};
 use async_channel::{
     EventIds, HandleError, OpenError, Receiver, Sender, WeakReceiver, WeakSender, bounded,
     unbounded,
 };
 use channel_test_helpers::Ends;
+use channel_test_helpers::calls::{MEMORY, sender_says, write_received};
 use std::alloc::{AllocError, AllocGlobal, Global};
 use std::random::RandomSource;
 use std::sync::Wait;

@@ -1,11 +1,9 @@
-//! What a closing by another thread's drop does to those who wait.
+//! What a closing by another thread's drop does to who waits for it. What it does to sends and receives is in rows.
 
 use crate::checks::{expect_true, new_task};
 use crate::gates::Gates;
 use async_channel::Sender;
-use channel_test_helpers::{
-    Said, closes, opened, received, received_none, sent, sent_back, told_of_closing,
-};
+use channel_test_helpers::{Said, closes, opened, received, sent, told_of_closing};
 use futures::test::MockTask;
 use std::alloc::AllocGlobal;
 use std::random::RandomSource;
@@ -50,44 +48,7 @@ where
     did && got
 }
 
-fn wakes_a_sender<R>(rt: R, capacity: usize) -> bool
-where
-    R: Wait + Threads + Copy + RandomSource + AllocGlobal + Send + Sync,
-{
-    let Some((s, r)) = opened(rt, rt.alloc(), capacity) else {
-        return false;
-    };
-    let gates = Gates::new();
-    let (did, _) = thread::join(
-        &rt,
-        || {
-            let first = sent(rt, &s, 1);
-            gates.open(&rt, 1);
-            first && sent_back(rt, &s, 2)
-        },
-        || {
-            gates.pass(&rt, 1);
-            drop(r);
-        },
-    );
-    did
-}
-
-fn wakes_a_receiver<R>(rt: R, capacity: usize) -> bool
-where
-    R: Wait + Threads + Copy + RandomSource + AllocGlobal + Send + Sync,
-{
-    let Some((s, r)) = opened(rt, rt.alloc(), capacity) else {
-        return false;
-    };
-    let (over, _) = thread::join(&rt, || received_none(rt, &r), move || drop(s));
-    over
-}
-
 #[test]
 fn closings(rt: HostRuntime) {
     expect_true(&rt, is_told_of_closing(rt, 1, new_task(&rt)));
-    expect_true(&rt, wakes_a_sender(rt, 1));
-    expect_true(&rt, wakes_a_receiver(rt, 1));
-    expect_true(&rt, wakes_a_receiver(rt, 0));
 }

@@ -20,8 +20,24 @@ impl Gates {
 
     /// Opens this gate, and those before it.
     pub(crate) fn open<R: Wait>(&self, rt: &R, gate: u32) {
-        *self.open.lock(rt) = gate;
+        self.widen(rt, gate, 0);
         self.more.notify_all();
+    }
+
+    /// Opens the next gate, and waits until this one is open.
+    pub(crate) fn meet<R: Wait>(&self, rt: &R, gate: u32) {
+        self.widen(rt, 0, 1);
+        self.more.notify_all();
+        self.pass(rt, gate);
+    }
+
+    /// The gates up to this one are open, if they weren't, and so many more.
+    fn widen<R: Wait>(&self, rt: &R, gate: u32, more: u32) {
+        let mut open = self.open.lock(rt);
+        if *open < gate {
+            *open = gate;
+        }
+        *open = open.saturating_add(more);
     }
 
     /// Waits until this gate is open.

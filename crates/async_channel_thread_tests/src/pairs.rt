@@ -1,249 +1,250 @@
-//! Two threads, one with a sender and one with a receiver, as the tests of `async-channel` 2.5.0 have them.
+//! Two threads, one with the senders and one with the receivers of the same channels, as rows call them: the rows of
+//! [`pair_rows`](crate::pair_rows). Each thread makes its own lines of a row, and both begin the next row together.
+//!
+//! | Line | What it does | What it answers |
+//! |---|---|---|
+//! | `bounded N`, `unbounded` | the row's channel, which is opened before the rows are played | |
+//! | `open N` | opens this gate of the row, and those before it | `ok` |
+//! | `pass N` | waits until this gate is open | `ok` |
+//! | `drop` | drops the thread's handle | `ok` |
+//! | `CALL ..` | a call of it ([`channel_test_helpers::calls`]) | |
 
-use crate::checks::expect_true;
+use crate::checks::expect_played;
 use crate::gates::Gates;
-use async_channel::{Receiver, Sender, TryRecvError};
-use channel_test_helpers::{
-    displaces, goes, is_closed_for, is_full_for, opened, received, received_none, sent,
-};
-use std::alloc::AllocGlobal;
+use crate::pair_rows::PAIRS;
+use async_channel::{Receiver, Sender};
+use channel_test_helpers::calls::{sender_says, write_received};
+use channel_test_helpers::{capacity_of, opened};
+use std::alloc::{AllocError, AllocGlobal, Global};
 use std::random::RandomSource;
 use std::sync::Wait;
 use std::thread;
 use std::thread::Threads;
+use worked_rows::{Played, Player, Said, Words, play_rows};
 
-fn tried_by_receiver<R: Wait + Copy>(rt: R, gates: &Gates, r: &Receiver<u64, R>) -> bool {
-    let empty = r.try_recv() == Err(TryRecvError::Empty);
-    gates.open(&rt, 1);
-    gates.pass(&rt, 2);
-    empty && r.try_recv() == Ok(7) && r.try_recv() == Err(TryRecvError::Closed)
+/// No row has so many gates.
+const GATES: u32 = 10;
+
+/// A handle whose calls rows name.
+trait Calls<R> {
+    /// Makes a call, and writes what it says.
+    fn call(
+        &self,
+        rt: R,
+        verb: &str,
+        words: &mut Words<'_>,
+        answer: &mut String,
+    ) -> Result<(), AllocError>;
 }
 
-fn tries_to_receive<R>(rt: R, capacity: usize) -> bool
-where
-    R: Wait + Threads + Copy + RandomSource + AllocGlobal + Send + Sync,
-{
-    let Some((s, r)) = opened(rt, rt.alloc(), capacity) else {
-        return false;
-    };
-    let gates = Gates::new();
-    let (did, got) = thread::join(
-        &rt,
-        || {
-            gates.pass(&rt, 1);
-            let did = sent(rt, &s, 7);
-            drop(s);
-            gates.open(&rt, 2);
-            did
-        },
-        || tried_by_receiver(rt, &gates, &r),
-    );
-    did && got
+impl<R: Wait + Copy + RandomSource + AllocGlobal> Calls<R> for Sender<u64, R> {
+    fn call(
+        &self,
+        rt: R,
+        verb: &str,
+        words: &mut Words<'_>,
+        answer: &mut String,
+    ) -> Result<(), AllocError> {
+        sender_says(rt, self, verb, words).write(answer)
+    }
 }
 
-fn receives_three<R>(rt: R, capacity: usize) -> bool
-where
-    R: Wait + Threads + Copy + RandomSource + AllocGlobal + Send + Sync,
-{
-    let Some((s, r)) = opened(rt, rt.alloc(), capacity) else {
-        return false;
-    };
-    let (did, got) = thread::join(
-        &rt,
-        move || sent(rt, &s, 7) && sent(rt, &s, 8) && sent(rt, &s, 9),
-        move || {
-            let three = received(rt, &r, 7) && received(rt, &r, 8) && received(rt, &r, 9);
-            three && received_none(rt, &r)
-        },
-    );
-    did && got
+impl<R: Wait + Copy + RandomSource + AllocGlobal> Calls<R> for Receiver<u64, R> {
+    fn call(
+        &self,
+        rt: R,
+        verb: &str,
+        words: &mut Words<'_>,
+        answer: &mut String,
+    ) -> Result<(), AllocError> {
+        write_received(rt, self, verb, words, answer)
+    }
 }
 
-#[test]
-fn receives(rt: HostRuntime) {
-    expect_true(&rt, tries_to_receive(rt, 100));
-    expect_true(&rt, tries_to_receive(rt, 0));
-    expect_true(&rt, receives_three(rt, 100));
-    expect_true(&rt, receives_three(rt, 0));
+/// The gates of two threads, and those by which they meet between rows.
+#[derive(Drop)]
+struct Place {
+    gates: Gates,
+    meetings: Gates,
 }
 
-fn tried_by_sender<R: Wait + Copy>(rt: R, gates: &Gates, s: &Sender<u64, R>) -> bool {
-    let first = goes(s, 1);
-    let full = is_full_for(s, 2);
-    gates.open(&rt, 1);
-    gates.pass(&rt, 2);
-    let third = goes(s, 3);
-    gates.pass(&rt, 3);
-    first && full && third && is_closed_for(s, 4)
+/// One thread's side of the rows: its handles, one for each row, and how many rows have begun.
+#[derive(Drop)]
+pub(crate) struct Side<'a, R, H> {
+    rt: R,
+    place: &'a Place,
+    handles: Vec<Option<H>>,
+    row: u32,
 }
 
-fn tries_to_send<R>(rt: R, capacity: usize) -> bool
-where
-    R: Wait + Threads + Copy + RandomSource + AllocGlobal + Send + Sync,
-{
-    let Some((s, r)) = opened(rt, rt.alloc(), capacity) else {
-        return false;
-    };
-    let gates = Gates::new();
-    let (did, got) = thread::join(
-        &rt,
-        || tried_by_sender(rt, &gates, &s),
-        || {
-            gates.pass(&rt, 1);
-            let one = r.try_recv() == Ok(1) && r.try_recv() == Err(TryRecvError::Empty);
-            gates.open(&rt, 2);
-            let three = received(rt, &r, 3);
-            drop(r);
-            gates.open(&rt, 3);
-            one && three
-        },
-    );
-    did && got
-}
+impl<R: Wait + Copy, H: Calls<R> + Drop> Side<'_, R, H> {
+    /// The row's gate of this number.
+    fn gate(&self, words: &mut Words<'_>) -> u32 {
+        self.row.saturating_mul(GATES).saturating_add(words.small())
+    }
 
-fn sends_four<R>(rt: R, capacity: usize) -> bool
-where
-    R: Wait + Threads + Copy + RandomSource + AllocGlobal + Send + Sync,
-{
-    let Some((s, r)) = opened(rt, rt.alloc(), capacity) else {
-        return false;
-    };
-    let (did, got) = thread::join(
-        &rt,
-        || sent(rt, &s, 7) && sent(rt, &s, 8) && sent(rt, &s, 9) && sent(rt, &s, 10),
-        || received(rt, &r, 7) && received(rt, &r, 8) && received(rt, &r, 9),
-    );
-    did && got && r.try_recv() == Ok(10)
-}
+    /// The row's handle, if it is there.
+    fn handle(&mut self) -> Option<&mut Option<H>> {
+        self.handles.get_mut((self.row as usize).wrapping_sub(1))
+    }
 
-#[test]
-fn sends(rt: HostRuntime) {
-    expect_true(&rt, tries_to_send(rt, 1));
-    expect_true(&rt, sends_four(rt, 1));
-}
-
-fn forced_by_sender<R: Wait + Copy>(rt: R, gates: &Gates, s: &Sender<u64, R>) -> bool {
-    let first = displaces(s, 7, None) && displaces(s, 8, Some(7));
-    gates.open(&rt, 1);
-    gates.pass(&rt, 2);
-    let second = displaces(s, 9, None);
-    gates.open(&rt, 3);
-    gates.pass(&rt, 4);
-    let third = displaces(s, 10, None);
-    gates.open(&rt, 5);
-    first && second && third
-}
-
-fn forces<R>(rt: R, capacity: usize) -> bool
-where
-    R: Wait + Threads + Copy + RandomSource + AllocGlobal + Send + Sync,
-{
-    let Some((s, r)) = opened(rt, rt.alloc(), capacity) else {
-        return false;
-    };
-    let gates = Gates::new();
-    let (did, got) = thread::join(
-        &rt,
-        || forced_by_sender(rt, &gates, &s),
-        || {
-            gates.pass(&rt, 1);
-            let first = received(rt, &r, 8);
-            gates.open(&rt, 2);
-            gates.pass(&rt, 3);
-            let second = received(rt, &r, 9);
-            gates.open(&rt, 4);
-            gates.pass(&rt, 5);
-            first && second && received(rt, &r, 10)
-        },
-    );
-    did && got
-}
-
-#[test]
-fn forced_sends(rt: HostRuntime) {
-    expect_true(&rt, forces(rt, 1));
-}
-
-/// Sends so many, and tells whether each length was at most the capacity.
-fn sends_counted<R>(rt: R, s: &Sender<u64, R>, count: u64, most: usize) -> bool
-where
-    R: Wait + Copy + RandomSource + AllocGlobal,
-{
-    for i in 0..count {
-        if !sent(rt, s, i) || s.len() > most {
-            return false;
+    fn drop_handle(&mut self) -> Said {
+        match self.handle() {
+            Some(handle) => {
+                drop(handle.take());
+                Said::Ok
+            }
+            None => NO_HANDLE,
         }
     }
-    true
+
+    fn open(&self, words: &mut Words<'_>) -> Said {
+        self.place.gates.open(&self.rt, self.gate(words));
+        Said::Ok
+    }
+
+    fn pass(&self, words: &mut Words<'_>) -> Said {
+        self.place.gates.pass(&self.rt, self.gate(words));
+        Said::Ok
+    }
+
+    /// Waits for the other thread's end of the last row, unless this one stopped before it. Then keeps it no longer.
+    fn end(&mut self, stopped: bool) {
+        if !stopped {
+            self.begin();
+        }
+        self.place.gates.open(&self.rt, u32::MAX);
+        self.place.meetings.open(&self.rt, u32::MAX);
+    }
 }
 
-/// Receives so many in order, and tells whether each length was at most the capacity.
-fn receives_counted<R>(rt: R, r: &Receiver<u64, R>, count: u64, most: usize) -> bool
-where
-    R: Wait + Copy + RandomSource + AllocGlobal,
-{
-    for i in 0..count {
-        if !received(rt, r, i) || r.len() > most {
-            return false;
+const NO_HANDLE: Said = Said::Word("no handle");
+
+impl<R: Wait + Copy, H: Calls<R> + Drop> Player for Side<'_, R, H> {
+    /// Both threads have ended the row before.
+    fn begin(&mut self) {
+        self.row = self.row.saturating_add(1);
+        self.place
+            .meetings
+            .meet(&self.rt, self.row.saturating_mul(2));
+    }
+
+    fn play(&mut self, words: &mut Words<'_>, answer: &mut String) -> Result<(), AllocError> {
+        match words.word() {
+            "open" => self.open(words).write(answer),
+            "pass" => self.pass(words).write(answer),
+            "drop" => self.drop_handle().write(answer),
+            verb => {
+                let rt = self.rt;
+                match self.handle() {
+                    Some(Some(handle)) => handle.call(rt, verb, words, answer),
+                    _ => NO_HANDLE.write(answer),
+                }
+            }
         }
     }
-    true
 }
 
-/// A thousand sends, each counted, and a thousand receives.
-fn fills<R>(rt: R, s: &Sender<u64, R>, r: &Receiver<u64, R>) -> bool
-where
-    R: Wait + Copy + RandomSource + AllocGlobal,
-{
-    let mut right = true;
-    for i in 0..1_000usize {
-        let went = sent(rt, s, i as u64);
-        right = right && went && s.len() == i.wrapping_add(1);
-    }
-    for i in 0..1_000u64 {
-        right = right && received(rt, r, i);
-    }
-    right && r.len() == 0
+/// Plays one side of the rows.
+fn play_side<'t, R: Wait + Copy, H: Calls<R> + Drop>(
+    alloc: Global,
+    text: &'t str,
+    mut side: Side<'_, R, H>,
+) -> Result<Played<'t>, AllocError> {
+    let played = play_rows(alloc, text, &mut side);
+    let stopped = match &played {
+        Ok(played) => played.differs.is_some(),
+        Err(AllocError) => true,
+    };
+    side.end(stopped);
+    played
 }
 
-fn counts_between<R>(rt: R, capacity: usize) -> bool
+/// The lines of one side, without the mark that stands before each, under the names of their rows.
+fn side_of(alloc: Global, text: &str, mark: &str) -> Result<String, AllocError> {
+    let mut side = String::new(alloc);
+    for line in text.lines() {
+        let own = line.strip_prefix(mark);
+        if own.is_some() || line.starts_with("row ") {
+            side.push_str(own.unwrap_or(line))?;
+            side.push('\n')?;
+        }
+    }
+    Ok(side)
+}
+
+/// The handles of the rows' channels.
+#[derive(Drop)]
+struct Handles<R: Wait + Copy> {
+    senders: Vec<Option<Sender<u64, R>>>,
+    receivers: Vec<Option<Receiver<u64, R>>>,
+}
+
+impl<R: Wait + Copy> Handles<R> {
+    /// Opens a channel. Where that is refused, a row says that it has no handle.
+    fn open(&mut self, rt: R, alloc: Global, capacity: usize) {
+        if let Some((s, r)) = opened(rt, alloc, capacity) {
+            let _ = self.senders.push(Some(s));
+            let _ = self.receivers.push(Some(r));
+        }
+    }
+}
+
+/// Opens the channels that a text's rows name, in order.
+fn open_all<R: Wait + Copy>(rt: R, alloc: Global, text: &str) -> Handles<R> {
+    let mut handles = Handles {
+        senders: Vec::new(alloc),
+        receivers: Vec::new(alloc),
+    };
+    for line in text.lines() {
+        if let Some(capacity) = capacity_of(line) {
+            handles.open(rt, alloc, capacity);
+        }
+    }
+    handles
+}
+
+/// What came of both sides of some rows.
+type Both<'t> = [Result<Played<'t>, AllocError>; 2];
+
+fn play_both<'t, R>(rt: R, alloc: Global, handles: Handles<R>, texts: [&'t str; 2]) -> Both<'t>
 where
     R: Wait + Threads + Copy + RandomSource + AllocGlobal + Send + Sync,
 {
-    let Some((s, r)) = opened(rt, rt.alloc(), capacity) else {
-        return false;
+    let Handles { senders, receivers } = handles;
+    let place = Place {
+        gates: Gates::new(),
+        meetings: Gates::new(),
     };
-    let filled = fills(rt, &s, &r);
-    let (did, got) = thread::join(
+    let one = Side {
+        rt,
+        place: &place,
+        handles: senders,
+        row: 0,
+    };
+    let other = Side {
+        rt,
+        place: &place,
+        handles: receivers,
+        row: 0,
+    };
+    let [sends, receives] = texts;
+    let (sent, received) = thread::join(
         &rt,
-        || sends_counted(rt, &s, 2500, 1000),
-        || receives_counted(rt, &r, 2500, 1000),
+        move || play_side(alloc, sends, one),
+        move || play_side(alloc, receives, other),
     );
-    filled && did && got && s.len() == 0 && r.len() == 0
+    [sent, received]
 }
 
 #[test]
-fn lengths_between_threads(rt: HostRuntime) {
-    expect_true(&rt, counts_between(rt, 1000));
-}
-
-fn one_to_one<R>(rt: R, capacity: usize) -> bool
-where
-    R: Wait + Threads + Copy + RandomSource + AllocGlobal + Send + Sync,
-{
-    let Some((s, r)) = opened(rt, rt.alloc(), capacity) else {
-        return false;
-    };
-    let (did, got) = thread::join(
-        &rt,
-        move || sends_counted(rt, &s, 10_000, usize::MAX),
-        move || receives_counted(rt, &r, 10_000, usize::MAX) && received_none(rt, &r),
-    );
-    did && got
-}
-
-#[test]
-fn one_sender_one_receiver(rt: HostRuntime) {
-    expect_true(&rt, one_to_one(rt, 3));
-    expect_true(&rt, one_to_one(rt, 0));
+fn rows(rt: HostRuntime) {
+    let alloc = rt.alloc();
+    let sends = side_of(alloc, PAIRS, "s ").expect(&rt, "memory");
+    let receives = side_of(alloc, PAIRS, "r ").expect(&rt, "memory");
+    let handles = open_all(rt, alloc, PAIRS);
+    let both = play_both(rt, alloc, handles, [sends.as_str(), receives.as_str()]);
+    for played in both.iter() {
+        expect_played(&rt, played, 13);
+    }
 }

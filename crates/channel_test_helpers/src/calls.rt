@@ -5,19 +5,22 @@
 //! | `try_send M`, `force_send M`, `send_blocking M`, `send_to_end M` | `sent`, `displaced M`, `full M`, `closed M` |
 //! | `send_once M` | what one poll of a new send says, `pending` too |
 //! | `try_sends FROM TO`, `sends_to_end FROM TO` | how many of these messages were sent |
+//! | `sends_counted FROM TO` | how many of them were sent, so that the channel then held one message more, from one on |
+//! | `sends_within FROM TO MOST` | how many of them were sent, so that the channel then held no more than so many |
 //! | of both: `close`, `is_closed`, `is_empty`, `is_full`, `len`, `capacity`, `sender_count`, `receiver_count` | |
 //!
 //! | Call of a receiver | What it says |
 //! |---|---|
 //! | `try_recv`, `recv_blocking`, `recv_to_end` | `received M`, `empty`, `over` |
 //! | `try_recvs FROM TO` | how many of these messages came, in this order |
+//! | `recvs_within FROM TO MOST` | how many of them receives up to their ends gave, so that the channel then held no more than so many |
 //! | `recv_many N` | `received` and the messages, or `empty`, `over` |
 //! | `is_terminated` | |
 //!
 //! Where memory or a serial was refused each says `memory`.
 
+use crate as polls;
 use async_channel::{Receiver, RecvError, Refused, SendError, Sender, TryRecvError, TrySendError};
-use channel_test_helpers as polls;
 use futures::executor::block_on;
 use futures::test::MockTask;
 use std::alloc::{AllocError, AllocGlobal};
@@ -25,14 +28,15 @@ use std::random::RandomSource;
 use std::sync::Wait;
 use worked_rows::{Said, Words};
 
-pub(crate) const MEMORY: Said = Said::Word("memory");
+/// What is said where memory or a serial was refused.
+pub const MEMORY: Said = Said::Word("memory");
 
 const OVER: Said = Said::Word("over");
 
 const SENT: Said = Said::Word("sent");
 
 /// What a poll says.
-pub(crate) fn polled(said: polls::Said) -> Said {
+pub fn polled(said: polls::Said) -> Said {
     match said {
         polls::Said::Pending => Said::Word("pending"),
         polls::Said::Done => SENT,
@@ -144,6 +148,48 @@ where
     Said::Number(went)
 }
 
+/// How many of these messages are sent, so that the channel then holds one more, the first time one.
+fn sends_counted<R>(rt: R, s: &Sender<u64, R>, from: u64, to: u64) -> Said
+where
+    R: Wait + Copy + RandomSource + AllocGlobal,
+{
+    let mut went = 0usize;
+    for message in from..to {
+        if send_to_end(rt, s, message) == SENT && s.len() == went.wrapping_add(1) {
+            went = went.wrapping_add(1);
+        }
+    }
+    Said::count(went)
+}
+
+/// How many of these messages are sent, so that the channel then holds no more than so many.
+fn sends_within<R>(rt: R, s: &Sender<u64, R>, from: u64, to: u64, most: usize) -> Said
+where
+    R: Wait + Copy + RandomSource + AllocGlobal,
+{
+    let mut went = 0u64;
+    for message in from..to {
+        if send_to_end(rt, s, message) == SENT && s.len() <= most {
+            went = went.wrapping_add(1);
+        }
+    }
+    Said::Number(went)
+}
+
+/// How many of these messages come, in this order, so that the channel then holds no more than so many.
+fn recvs_within<R>(rt: R, r: &Receiver<u64, R>, from: u64, to: u64, most: usize) -> Said
+where
+    R: Wait + Copy + RandomSource + AllocGlobal,
+{
+    let mut came = 0u64;
+    for message in from..to {
+        if recv_to_end(rt, r) == Said::Both("received", message) && r.len() <= most {
+            came = came.wrapping_add(1);
+        }
+    }
+    Said::Number(came)
+}
+
 /// How many of these messages are received, in this order.
 fn try_recvs<R: Wait + Copy>(r: &Receiver<u64, R>, from: u64, to: u64) -> Said {
     let mut came = 0u64;
@@ -194,7 +240,7 @@ fn receiver_answers<R: Wait + Copy>(r: &Receiver<u64, R>, verb: &str) -> Said {
 }
 
 /// What a call of a sender says.
-pub(crate) fn sender_says<R>(rt: R, s: &Sender<u64, R>, verb: &str, words: &mut Words<'_>) -> Said
+pub fn sender_says<R>(rt: R, s: &Sender<u64, R>, verb: &str, words: &mut Words<'_>) -> Said
 where
     R: Wait + Copy + RandomSource + AllocGlobal,
 {
@@ -206,6 +252,8 @@ where
         "send_to_end" => send_to_end(rt, s, words.number()),
         "try_sends" => try_sends(s, words.number(), words.number()),
         "sends_to_end" => sends_to_end(rt, s, words.number(), words.number()),
+        "sends_counted" => sends_counted(rt, s, words.number(), words.number()),
+        "sends_within" => sends_within(rt, s, words.number(), words.number(), words.size()),
         _ => sender_answers(s, verb),
     }
 }
@@ -230,7 +278,7 @@ fn write_several<R: Wait + Copy>(
 }
 
 /// Writes what a call of a receiver says.
-pub(crate) fn write_received<R>(
+pub fn write_received<R>(
     rt: R,
     r: &Receiver<u64, R>,
     verb: &str,
@@ -246,6 +294,7 @@ where
         "recv_blocking" => received_blocking(r.recv_blocking()),
         "recv_to_end" => recv_to_end(rt, r),
         "try_recvs" => try_recvs(r, words.number(), words.number()),
+        "recvs_within" => recvs_within(rt, r, words.number(), words.number(), words.size()),
         _ => receiver_answers(r, verb),
     };
     said.write(answer)

@@ -1,6 +1,8 @@
 //! What the tests of a channel's handles share: the channels that they open, and what polls and calls say, in short.
 #![tactic(auto)]
 
+pub mod calls;
+
 ghost use Rattle.std.specs.Prelude.{◌<◌};
 
 use async_channel::{
@@ -27,6 +29,17 @@ pub fn opened<R: Wait + Copy>(rt: R, alloc: Global, capacity: usize) -> Option<E
         unbounded(rt, alloc, &mut ids).ok()
     } else {
         bounded(rt, alloc, capacity, &mut ids).ok()
+    }
+}
+
+/// The capacity of the channel that a line of a row opens, `bounded N` or `unbounded`, 0 where that is without a bound.
+pub fn capacity_of(line: &str) -> Option<usize> {
+    if line == "unbounded" {
+        return Some(0);
+    }
+    match line.strip_prefix("bounded ") {
+        Some(capacity) => capacity.parse::<usize>().ok(),
+        None => None,
     }
 }
 
@@ -92,29 +105,9 @@ pub fn goes<R: Wait + Copy>(s: &Sender<u64, R>, message: u64) -> bool {
     s.try_send(message).is_ok()
 }
 
-/// Whether it finds the channel full, and hands its message back.
-pub fn is_full_for<R: Wait + Copy>(s: &Sender<u64, R>, message: u64) -> bool {
-    s.try_send(message) == Err(Refused::Plain(TrySendError::Full(message)))
-}
-
-/// Whether it finds the channel closed, and hands its message back.
-pub fn is_closed_for<R: Wait + Copy>(s: &Sender<u64, R>, message: u64) -> bool {
-    s.try_send(message) == Err(Refused::Plain(TrySendError::Closed(message)))
-}
-
-/// Whether a send that displaces is done, and hands this out.
-pub fn displaces<R: Wait + Copy>(s: &Sender<u64, R>, message: u64, oldest: Option<u64>) -> bool {
-    s.force_send(message) == Ok(oldest)
-}
-
 /// Whether a send that blocks is done.
 pub fn sends_blocking<R: Wait + Copy>(s: &Sender<u64, R>, message: u64) -> bool {
     s.send_blocking(message).is_ok()
-}
-
-/// Whether a receive that blocks gives this message.
-pub fn receives_blocking<R: Wait + Copy>(r: &Receiver<u64, R>, message: u64) -> bool {
-    r.recv_blocking() == Ok(message)
 }
 
 /// Whether a send run to its end is done.
@@ -123,17 +116,6 @@ where
     R: Wait + Copy + RandomSource + AllocGlobal,
 {
     matches!(&block_on(&rt, s.send(message)), Ok(Ok(())))
-}
-
-/// Whether a send run to its end finds the channel closed, and hands its message back.
-pub fn sent_back<R>(rt: R, s: &Sender<u64, R>, message: u64) -> bool
-where
-    R: Wait + Copy + RandomSource + AllocGlobal,
-{
-    match &block_on(&rt, s.send(message)) {
-        Ok(Err(Refused::Plain(SendError(back)))) => *back == message,
-        _ => false,
-    }
 }
 
 /// What a receive run to its end gives.
@@ -153,14 +135,6 @@ where
     R: Wait + Copy + RandomSource + AllocGlobal,
 {
     next_message(rt, r) == Some(message)
-}
-
-/// Whether a receive run to its end finds the channel closed and empty.
-pub fn received_none<R>(rt: R, r: &Receiver<u64, R>) -> bool
-where
-    R: Wait + Copy + RandomSource + AllocGlobal,
-{
-    matches!(&block_on(&rt, r.recv()), Ok(Err(Refused::Plain(RecvError))))
 }
 
 /// What the stream of a receiver, run to its next message, gives.
