@@ -6,7 +6,6 @@ use crate::lists::{Counted, Lists, Names};
 use event_listener::key::Key;
 use event_listener::list::List;
 use std::process::Abort;
-use std::test::Fail;
 
 #[test]
 fn rows(rt: HostRuntime) {
@@ -22,16 +21,18 @@ fn more(count: usize, first: u32) -> Counted {
 }
 
 /// Ten thousand that wait, under the numbers from 0. Whether no call visited more than five others.
-fn all_wait(list: &mut List<u32, u32>, keys: &mut Vec<Key>) -> Result<bool, Fail> {
+fn all_wait(list: &mut List<u32, u32>, keys: &mut Vec<Key>) -> bool {
     let mut few = list.last_visits() == 0;
     for name in 0u32..10_000 {
-        let key = list.insert()?;
+        let Ok(key) = list.insert() else {
+            return false;
+        };
         few = few & (list.last_visits() <= 5);
         few = few & list.register(key, name).is_ok();
         few = few & (list.last_visits() <= 5);
-        keys.push(key)?;
+        few = few & keys.push(key).is_ok();
     }
-    Ok(few)
+    few
 }
 
 /// Every second one leaves. Whether each had waited, and no call visited more than five others.
@@ -66,13 +67,8 @@ fn odd_ones_woken(sink: &Names) -> bool {
 }
 
 /// Ten thousand listeners, of which every second is removed and every other one told.
-fn visits_few(
-    rt: &impl Abort,
-    list: &mut List<u32, u32>,
-    sink: &mut Names,
-    keys: &mut Vec<Key>,
-) -> Result<(), Fail> {
-    let waits = all_wait(list, keys)?;
+fn visits_few(rt: &impl Abort, list: &mut List<u32, u32>, sink: &mut Names, keys: &mut Vec<Key>) {
+    let waits = all_wait(list, keys);
     let left = every_second_leaves(list, sink, keys);
     let total = list.total();
     let told = tell_each(list, sink, 5_000);
@@ -82,18 +78,16 @@ fn visits_few(
     expect_true(rt, waits && left && told && odd_ones_woken(sink));
     expect_equal(rt, &(none, visits), &(Ok(0), 0));
     expect_equal(rt, &(total, numbers), &(5_000, (5_000, 5_000)));
-    Ok(())
 }
 
 #[test]
-fn no_call_visits_more_than_five_others(rt: HostRuntime) -> Result<(), Fail> {
+fn no_call_visits_more_than_five_others(rt: HostRuntime) {
     let mut list: List<u32, u32> = List::new(rt.alloc());
     let mut sink = Names {
         woken: Vec::new(rt.alloc()),
     };
     let mut keys: Vec<Key> = Vec::new(rt.alloc());
-    visits_few(&rt, &mut list, &mut sink, &mut keys)?;
-    Ok(())
+    visits_few(&rt, &mut list, &mut sink, &mut keys);
 }
 
 /// Every second one leaves, told or not, and another takes its place: a key of one that left stands for nobody. Whether each call
@@ -131,9 +125,10 @@ fn visits_few_of_told_ones(
     list: &mut List<u32, u32>,
     sink: &mut Names,
     keys: &mut Vec<Key>,
-) -> Result<(), Fail> {
+) {
     for _ in 0..10_000 {
-        keys.push(list.insert()?)?;
+        let key = list.insert().expect(rt, "memory");
+        keys.push(key).expect(rt, "memory");
     }
     let told = tell_each(list, sink, 5_000);
     let replaced = every_second_is_replaced(list, sink, keys);
@@ -142,16 +137,14 @@ fn visits_few_of_told_ones(
     let last = (list.told(), list.total());
     expect_true(rt, told && replaced && registered);
     expect_equal(rt, &[half, last], &[(2_500, 10_000), (0, 7_500)]);
-    Ok(())
 }
 
 #[test]
-fn no_call_visits_more_than_five_others_where_half_are_told(rt: HostRuntime) -> Result<(), Fail> {
+fn no_call_visits_more_than_five_others_where_half_are_told(rt: HostRuntime) {
     let mut list: List<u32, u32> = List::new(rt.alloc());
     let mut sink = Names {
         woken: Vec::new(rt.alloc()),
     };
     let mut keys: Vec<Key> = Vec::new(rt.alloc());
-    visits_few_of_told_ones(&rt, &mut list, &mut sink, &mut keys)?;
-    Ok(())
+    visits_few_of_told_ones(&rt, &mut list, &mut sink, &mut keys);
 }

@@ -12,8 +12,8 @@ use event_listener::wakes::Wakes;
 use std::alloc::{AllocGlobal, Global};
 use std::collections::VecDeque;
 use std::fmt;
+use std::process::Abort;
 use std::sync::Wait;
-use std::test::Fail;
 
 /// Whether a value prints this text.
 fn prints<E: fmt::Display + Drop>(rt: &impl AllocGlobal, error: E, text: &str) -> bool {
@@ -81,9 +81,9 @@ fn waits_that_did_not_begin_say_why(rt: HostRuntime) {
 }
 
 /// The key of the first listener of a list, which is that of any other list's.
-fn first_key(rt: &impl AllocGlobal) -> Result<Key, Fail> {
+fn first_key(rt: &(impl AllocGlobal + Abort)) -> Key {
     let mut list: List<u8, u8> = List::new(rt.alloc());
-    Ok(list.insert()?)
+    list.insert().expect(rt, "memory")
 }
 
 /// A sink that lets tasks go.
@@ -143,9 +143,9 @@ fn stopped_run(alloc: Global) -> ListRun<u8> {
 }
 
 #[test]
-fn runs_are_compared_and_shown(rt: HostRuntime) -> Result<(), Fail> {
+fn runs_are_compared_and_shown(rt: HostRuntime) {
     let alloc = rt.alloc();
-    let key = first_key(&rt)?;
+    let key = first_key(&rt);
     let all = [
         tells_apart(
             listen_and_poll(alloc),
@@ -164,7 +164,6 @@ fn runs_are_compared_and_shown(rt: HostRuntime) -> Result<(), Fail> {
         ),
     ];
     expect_equal(&rt, &all, &[true; 3]);
-    Ok(())
 }
 
 /// What a recorded event wrote down of an insertion.
@@ -175,8 +174,8 @@ fn recorded_insertion<R: Wait + AllocGlobal>(rt: &R) -> Vec<RecordedCall<u8, u8>
 }
 
 #[test]
-fn records_are_compared_and_shown(rt: HostRuntime) -> Result<(), Fail> {
-    let key = first_key(&rt)?;
+fn records_are_compared_and_shown(rt: HostRuntime) {
+    let key = first_key(&rt);
     let listened = RecordedCall::Listened { key };
     let all = [
         tells_apart::<RecordedCall<u8, u8>>(
@@ -192,5 +191,4 @@ fn records_are_compared_and_shown(rt: HostRuntime) -> Result<(), Fail> {
         ),
     ];
     expect_equal(&rt, &all, &[true; 3]);
-    Ok(())
 }
