@@ -3,6 +3,7 @@ use Rattle.std.proofs.Common.{◌≡◌, ℕ, zero, suc, ◌+◌, ◌-◌, ◌<�
 use mathlib.Core.Option as home
 use mathlib.Core.Option.{some, none}
 use lib.ListN.{get_elem?}
+use Rattle.channel_wakeups.specs.declared.rule.Line.{Line}
 use Rattle.channel_wakeups.specs.declared.rule.View.{View}
 use Rattle.channel_wakeups.specs.declared.rule.Transfer.{Transfer}
 use Rattle.channel_wakeups.specs.declared.rule.Transfer.TheVariants.{In, Out}
@@ -67,56 +68,56 @@ module _ {T : Type 0} (W : Type 0) (p q : Weight T → ℕ) where
       balanced_by r _ _ _ _ (λ f i. p f + only (back i) (puts f (again i))) (λ f i. q f + only (back i) (takes f (again i))) (b.0, λ f. b.1 f ∙ (λ i. q f + takes_of f v + hold (p each + puts_of each v) f i))
 
   -- a message was put in, as the last
-  pub put_logs : (n s a b h o g t : ℕ) (x : T) (l : List (Transfer T)) → 0 < s → n ≡ p each + puts_of each (pass {W = W} s a h o t l)
-      → Logs p q none (some (Some x)) (pass {W = W} s a h o t l) (pass s b h g t (l ++ In n x ∷ []))
-  put_logs n s a b h o g t x l some_part last before = (numbers, weighs)
+  pub put_logs : (n s o g : ℕ) (l m i j : Line W) (x : T) (lg : List (Transfer T)) → 0 < s → n ≡ p each + puts_of each (pass {W = W} s o l m lg)
+      → Logs p q none (some (Some x)) (pass {W = W} s o l m lg) (pass s g i j (lg ++ In n x ∷ []))
+  put_logs n s o g l m i j x lg some_part last before = (numbers, weighs)
     where
-      now : (f : Weight T) → p f + puts_of f (pass {W = W} s b h g t (l ++ In n x ∷ [])) ≡ p f + puts_of f (pass {W = W} s a h o t l) + f n x
-      now f = let e = puts_append f l (In n x ∷ []) in let y = only_some s (puts f l) some_part in let z = only_some s (puts f (l ++ In n x ∷ [])) some_part in omega arith
+      now : (f : Weight T) → p f + puts_of f (pass {W = W} s g i j (lg ++ In n x ∷ [])) ≡ p f + puts_of f (pass {W = W} s o l m lg) + f n x
+      now f = let e = puts_append f lg (In n x ∷ []) in let y = only_some s (puts f lg) some_part in let z = only_some s (puts f (lg ++ In n x ∷ [])) some_part in omega arith
 
-      out : (f : Weight T) → q f + takes_of f (pass {W = W} s b h g t (l ++ In n x ∷ [])) ≡ q f + takes_of f (pass {W = W} s a h o t l)
-      out f = let e = takes_append f l (In n x ∷ []) in let y = only_some s (takes f l) some_part in let z = only_some s (takes f (l ++ In n x ∷ [])) some_part in omega arith
+      out : (f : Weight T) → q f + takes_of f (pass {W = W} s g i j (lg ++ In n x ∷ [])) ≡ q f + takes_of f (pass {W = W} s o l m lg)
+      out f = let e = takes_append f lg (In n x ∷ []) in let y = only_some s (takes f lg) some_part in let z = only_some s (takes f (lg ++ In n x ∷ [])) some_part in omega arith
 
-      numbers : (k : ℕ) → Once (p each + puts_of each (pass {W = W} s b h g t (l ++ In n x ∷ []))) k (p (numbered k) + puts_of (numbered k) (pass {W = W} s b h g t (l ++ In n x ∷ [])))
+      numbers : (k : ℕ) → Once (p each + puts_of each (pass {W = W} s g i j (lg ++ In n x ∷ []))) k (p (numbered k) + puts_of (numbered k) (pass {W = W} s g i j (lg ++ In n x ∷ [])))
       numbers k =
           let e = now each in
           let d = now (numbered k) in
-          let once = more_once n k (p (numbered k) + puts_of (numbered k) (pass {W = W} s a h o t l)) ((λ less. (before.0 k).0 (omega arith)), (λ more. (before.0 k).1 (omega arith))) in
+          let once = more_once n k (p (numbered k) + puts_of (numbered k) (pass {W = W} s o l m lg)) ((λ less. (before.0 k).0 (omega arith)), (λ more. (before.0 k).1 (omega arith))) in
           ((λ less. d ∙ once.0 (omega arith)), (λ more. d ∙ once.1 (omega arith)))
 
-      weighs : (f : Weight T) → p f + puts_of f (pass {W = W} s b h g t (l ++ In n x ∷ []))
-          ≡ q f + takes_of f (pass {W = W} s b h g t (l ++ In n x ∷ [])) + held (p each + puts_of each (pass {W = W} s b h g t (l ++ In n x ∷ []))) f (some (Some x))
+      weighs : (f : Weight T) → p f + puts_of f (pass {W = W} s g i j (lg ++ In n x ∷ []))
+          ≡ q f + takes_of f (pass {W = W} s g i j (lg ++ In n x ∷ [])) + held (p each + puts_of each (pass {W = W} s g i j (lg ++ In n x ∷ []))) f (some (Some x))
       weighs f =
           let e = now each in
           let d = now f in
           let c = out f in
           let w = before.1 f in
-          let y = one_number f n (p each + puts_of each (pass {W = W} s b h g t (l ++ In n x ∷ [])) - 1) x (omega arith) in
+          let y = one_number f n (p each + puts_of each (pass {W = W} s g i j (lg ++ In n x ∷ [])) - 1) x (omega arith) in
           omega arith
 
   -- the last message was taken out
-  pub take_logs : (n s a h b g o r t : ℕ) (x : T) (l : List (Transfer T)) → 0 < s → n ≡ p each + puts_of each (pass {W = W} s a h o t l)
-      → Logs p q (some (Some x)) none (pass {W = W} s a h o t l) (pass s b g r t (l ++ Out (n - 1) x ∷ []))
-  take_logs n s a h b g o r t x l some_part last before = (numbers, weighs)
+  pub take_logs : (n s o g : ℕ) (l m i j : Line W) (x : T) (lg : List (Transfer T)) → 0 < s → n ≡ p each + puts_of each (pass {W = W} s o l m lg)
+      → Logs p q (some (Some x)) none (pass {W = W} s o l m lg) (pass s g i j (lg ++ Out (n - 1) x ∷ []))
+  take_logs n s o g l m i j x lg some_part last before = (numbers, weighs)
     where
-      now : (f : Weight T) → p f + puts_of f (pass {W = W} s b g r t (l ++ Out (n - 1) x ∷ [])) ≡ p f + puts_of f (pass {W = W} s a h o t l)
-      now f = let e = puts_append f l (Out (n - 1) x ∷ []) in let y = only_some s (puts f l) some_part in let z = only_some s (puts f (l ++ Out (n - 1) x ∷ [])) some_part in omega arith
+      now : (f : Weight T) → p f + puts_of f (pass {W = W} s g i j (lg ++ Out (n - 1) x ∷ [])) ≡ p f + puts_of f (pass {W = W} s o l m lg)
+      now f = let e = puts_append f lg (Out (n - 1) x ∷ []) in let y = only_some s (puts f lg) some_part in let z = only_some s (puts f (lg ++ Out (n - 1) x ∷ [])) some_part in omega arith
 
-      out : (f : Weight T) → q f + takes_of f (pass {W = W} s b g r t (l ++ Out (n - 1) x ∷ [])) ≡ q f + takes_of f (pass {W = W} s a h o t l) + f (n - 1) x
-      out f = let e = takes_append f l (Out (n - 1) x ∷ []) in let y = only_some s (takes f l) some_part in let z = only_some s (takes f (l ++ Out (n - 1) x ∷ [])) some_part in omega arith
+      out : (f : Weight T) → q f + takes_of f (pass {W = W} s g i j (lg ++ Out (n - 1) x ∷ [])) ≡ q f + takes_of f (pass {W = W} s o l m lg) + f (n - 1) x
+      out f = let e = takes_append f lg (Out (n - 1) x ∷ []) in let y = only_some s (takes f lg) some_part in let z = only_some s (takes f (lg ++ Out (n - 1) x ∷ [])) some_part in omega arith
 
-      numbers : (k : ℕ) → Once (p each + puts_of each (pass {W = W} s b g r t (l ++ Out (n - 1) x ∷ []))) k (p (numbered k) + puts_of (numbered k) (pass {W = W} s b g r t (l ++ Out (n - 1) x ∷ [])))
+      numbers : (k : ℕ) → Once (p each + puts_of each (pass {W = W} s g i j (lg ++ Out (n - 1) x ∷ []))) k (p (numbered k) + puts_of (numbered k) (pass {W = W} s g i j (lg ++ Out (n - 1) x ∷ [])))
       numbers k =
           let e = now each in
           let d = now (numbered k) in
           ((λ less. d ∙ (before.0 k).0 (omega arith)), (λ more. d ∙ (before.0 k).1 (omega arith)))
 
-      weighs : (f : Weight T) → p f + puts_of f (pass {W = W} s b g r t (l ++ Out (n - 1) x ∷ [])) ≡ q f + takes_of f (pass {W = W} s b g r t (l ++ Out (n - 1) x ∷ [])) + 0
+      weighs : (f : Weight T) → p f + puts_of f (pass {W = W} s g i j (lg ++ Out (n - 1) x ∷ [])) ≡ q f + takes_of f (pass {W = W} s g i j (lg ++ Out (n - 1) x ∷ [])) + 0
       weighs f =
           let d = now f in
           let c = out f in
           let w = before.1 f in
-          let y = one_number f (n - 1) (p each + puts_of each (pass {W = W} s a h o t l) - 1) x (ap (λ (k : ℕ). k - 1) last) in
+          let y = one_number f (n - 1) (p each + puts_of each (pass {W = W} s o l m lg) - 1) x (ap (λ (k : ℕ). k - 1) last) in
           omega arith
 
 -- ---- what comes next has a higher number than all that a pass has

@@ -1,10 +1,10 @@
 -- What a push and a pop, made by the queue's machine of one slot on a channel's cells, do to what the call's seat knows: one lemma
 -- for each action.
-use Rattle.std.proofs.Common.{◌⊎◌, inl, inr, ◌≡◌, ℕ, zero, suc, Bool, true, false, not, if◌then◌else◌, List, [], ◌∷◌, ◌++◌, Option, None, Some, Result, Ok, Err, MatchOption, sym, refl, ap, ◌∙◌, subst, ⊎_elim}
+use Rattle.std.proofs.Common.{◌⊎◌, inl, inr, ◌≡◌, ℕ, zero, suc, List, [], ◌∷◌, ◌++◌, Option, None, Some, Result, Ok, Err, MatchOption, sym, refl, ap, ◌∙◌, subst, ⊎_elim}
 use Rattle.std.specs.Prelude.{bit_and, bit_or}
 use Rattle.concurrent_queue.specs.Deeds.{exchanged, bits_kept, did_put, did_take}
 use Rattle.concurrent_queue.specs.machine.Ahead.{Leads}
-use Rattle.concurrent_queue.specs.machine.Single.{clear, after_push, after_pop, after_put, after_take, stays, finishes}
+use Rattle.concurrent_queue.specs.machine.Single.{after_push, after_pop, after_put, after_take}
 use Rattle.concurrent_queue.specs.Walked.{StateMakes, WalkedFrom}
 use Rattle.concurrent_queue.specs.declared.call.QueueAsk.{QueueAsk}
 use Rattle.concurrent_queue.specs.declared.call.QueueAsk.TheVariants as ask
@@ -14,7 +14,6 @@ use Rattle.concurrent_queue.specs.declared.call.QueueReply.TheVariants as reply
 use Rattle.concurrent_queue.specs.declared.cells.QueueForm.TheVariants.{Bounded}
 use Rattle.concurrent_queue.specs.declared.cells.Slot.TheVariants.{At}
 use Rattle.concurrent_queue.specs.declared.cells.Word.TheVariants.{State}
-use Rattle.concurrent_queue.specs.declared.error.PushError.TheVariants as push_error
 use Rattle.concurrent_queue.specs.declared.queue_call.CallState.{CallState}
 use Rattle.concurrent_queue.specs.declared.queue_call.CallState.TheVariants.{Asked, Single, Ring, Blocks, Finished}
 use Rattle.concurrent_queue.specs.declared.single.SingleAction.{SingleAction}
@@ -23,29 +22,37 @@ use Rattle.atomic_table.specs.Seated.{TableId}
 use Rattle.channel_wakeups.specs.declared.cells.SlotCells.{SlotCells}
 use Rattle.channel_wakeups.specs.declared.stage.Stage.{Stage}
 use Rattle.channel_wakeups.specs.declared.stage.Stage.TheVariants.{Free, Won, Filled, Caught, Emptied}
+use Rattle.channel_wakeups.specs.declared.rule.Line.{Line}
 use Rattle.channel_wakeups.specs.declared.rule.View.{View}
 use Rattle.channel_wakeups.specs.declared.rule.Transfer.{Transfer}
 use Rattle.channel_wakeups.specs.declared.rule.Transfer.TheVariants.{Out}
 use Rattle.channel_wakeups.specs.Log.{PutBefore, TookBefore}
-use Rattle.channel_wakeups.specs.Views.{pass}
-use Rattle.channel_wakeups.specs.Stages.{filling, taking, resting, giving}
+use Rattle.channel_wakeups.specs.Views.{pass, answering, ended}
+use Rattle.channel_wakeups.specs.Stages.{filling, refused, taking, resting, giving}
 use Rattle.channel_wakeups.specs.Cells.{IsLeft, IsSame, Did, Pushed, Popped}
 
--- a push of this message, whose pass is idle and has this log
-module _ {T W : Type 0} (table : TableId) (p t : ℕ) (log : List (Transfer T)) (m : T) where
-  -- the call has this of the slot, and its pass answers for so many messages
-  abbrev Has : Stage → ℕ → ℕ → SlotCells T W → Type 0
-  Has g answers owns c = IsLeft table g (pass p answers 0 owns t log) c
+-- a push of this message, whose pass has these lines and this log
+module _ {T W : Type 0} (table : TableId) (p : ℕ) (l m : Line W) (log : List (Transfer T)) (x : T) where
+  -- the call has this of the slot, and its pass knows this
+  abbrev Has : Stage → View T W → SlotCells T W → Type 0
+  Has g v c = IsLeft table g v c
+
+  -- what its pass knows at the beginning, and once it has won the slot
+  abbrev begun : View T W
+  begun = pass p 0 l m log
+
+  abbrev winner : View T W
+  winner = pass p 3 (answering l) (ended m) log
 
   -- where a push stands at each action
   abbrev PushAsks : QueueAsk T → SlotCells T W → Type 0
-  PushAsks (ask.Push v) c = (v ≡ m) × Has Free 0 0 c
+  PushAsks (ask.Push v) c = (v ≡ x) × Has Free begun c
   PushAsks _ c = ⊥
 
   abbrev PushActs : SingleAction T → SlotCells T W → Type 0
-  PushActs (one.Push v) c = (v ≡ m) × Has Free 0 0 c
-  PushActs (one.PushPut v) c = (v ≡ m) × Has Won 1 3 c
-  PushActs one.PushUnlock c = (c.seat.me.1 ≡ (0, Some m) ∷ []) × Has Filled 1 3 c
+  PushActs (one.Push v) c = (v ≡ x) × Has Free begun c
+  PushActs (one.PushPut v) c = (v ≡ x) × Has Won winner c
+  PushActs one.PushUnlock c = (c.seat.me.1 ≡ (0, Some x) ∷ []) × Has Filled winner c
   PushActs _ c = ⊥
 
   abbrev Pushes : CallState T → SlotCells T W → Type 0
@@ -54,89 +61,92 @@ module _ {T W : Type 0} (table : TableId) (p t : ℕ) (log : List (Transfer T)) 
   Pushes _ c = ⊥
 
   abbrev After : SlotCells T W → CallState T → Option (QueueReply T) → Type 0
-  After b at r = MatchOption r (Pushes at b) (λ x. Pushed table p t log m x b)
+  After b at r = MatchOption r (Pushes at b) (λ y. Pushed table p l m log x y b)
 
   after : (b : SlotCells T W) (c d : CallState T) (r s : Option (QueueReply T)) → c ≡ d → r ≡ s → After b d s → After b c r
-  after b c d r s e f k = subst (λ (x : CallState T). After b x r) (sym e) (subst (λ (x : Option (QueueReply T)). After b d x) (sym f) k)
+  after b c d r s e f k = subst (λ (y : CallState T). After b y r) (sym e) (subst (λ (y : Option (QueueReply T)). After b d y) (sym f) k)
 
-  stays_at : (g : Stage) (answers owns : ℕ) (a b : SlotCells T W) → Has g answers owns a → b.seat.table_id ≡ a.seat.table_id → IsSame a b → Has g answers owns b
-  stays_at g answers owns a b (i, k, v) j (s, w) = (j ∙ i, s ∙ k, w ∙ v)
+  stays_at : (g : Stage) (v : View T W) (a b : SlotCells T W) → Has g v a → b.seat.table_id ≡ a.seat.table_id → IsSame a b → Has g v b
+  stays_at g v a b (i, k, e) j (s, w) = (j ∙ i, s ∙ k, w ∙ e)
 
-  refused : (shut full : Bool) (v : T) (b : SlotCells T W) (c : CallState T) (r : Option (QueueReply T)) → v ≡ m → Has Free 0 0 b
-      → c ≡ Single (if shut then finishes (reply.Push (Err (push_error.Closed v))) else (if full then finishes (reply.Push (Err (push_error.Full v))) else stays (one.Push v))).action
-      → r ≡ (if shut then finishes (reply.Push (Err (push_error.Closed v))) else (if full then finishes (reply.Push (Err (push_error.Full v))) else stays (one.Push v))).reply
-      → After b c r
-  refused true full v b c r is at e f = after b c _ r _ e f at
-  refused false true v b c r is at e f = after b c _ r _ e f at
-  refused false false v b c r is at e f = after b c _ r _ e f (is, at)
+  -- a push that found the word so
+  push_found : (v : T) (w n : ℕ) (b : SlotCells T W) (c : CallState T) (r : Option (QueueReply T)) → w ≡ n → c ≡ Single (after_push v (Err w)).action → r ≡ (after_push v (Err w)).reply
+      → After b (Single (after_push v (Err n)).action) (after_push v (Err n)).reply → After b c r
+  push_found v w n b c r e is gives k = after b c _ r _ (is ∙ (λ i. Single (after_push v (Err (e i))).action)) (gives ∙ (λ i. (after_push v (Err (e i))).reply)) k
 
-  tries : (v : T) (a b : SlotCells T W) (o : Result ℕ ℕ) (c : CallState T) (r : Option (QueueReply T)) → v ≡ m → Has Free 0 0 a → Did (exchanged State 0 3 o) a b
+  tries : (v : T) (a b : SlotCells T W) (o : Result ℕ ℕ) (c : CallState T) (r : Option (QueueReply T)) → v ≡ x → Has Free begun a → Did (exchanged State 0 3 o) a b
       → c ≡ Single (after_push v o).action → r ≡ (after_push v o).reply → After b c r
-  tries v a b (Ok w) c r same (i, g, e) (j, (did, other)) is gives = let d = did refl refl in after b c _ r _ is gives (same, (j ∙ i, d.0, d.1 ∙ ap (λ (x : View T W). filling x) e))
-  tries v a b (Err w) c r same at (j, (did, other)) is gives = refused (not (clear w 4)) (not (clear w 2)) v b c r same (stays_at Free 0 0 a b at j (did refl refl)) is gives
+  tries v a b (Ok w) c r same (i, g, e) (j, (did, other)) is gives = let d = did refl refl in after b c _ r _ is gives (same, (j ∙ i, d.0, d.1 ∙ ap (λ (y : View T W). filling y) e))
+  tries v a b (Err w) c r same (i, g, e) (j, (did, other)) is gives =
+      ⊎_elim
+      (λ (d : (w ≡ 1) × IsSame a b). push_found v w 1 b c r d.0 is gives (same, (j ∙ i, d.1.0 ∙ g, d.1.1 ∙ e)))
+      (λ (d : ((w ≡ 2) ⊎ (w ≡ 3)) × (b.stage ≡ a.stage) × (b.seat.me.0 ≡ refused a.seat.me.0)).
+      let ends : Has Free (pass p 0 l (ended m) log) b = (j ∙ i, d.1 ∙ g, d.2 ∙ ap (λ (y : View T W). refused y) e) in
+      ⊎_elim (λ (z : w ≡ 2). push_found v w 2 b c r z is gives ends) (λ (z : w ≡ 3). push_found v w 3 b c r z is gives ends) d.0)
+      (did refl refl)
 
-  puts_again : (v w : T) (a b : SlotCells T W) (c : CallState T) (r : Option (QueueReply T)) → v ≡ m → Has Won 1 3 b → w ≡ v
+  puts_again : (v w : T) (a b : SlotCells T W) (c : CallState T) (r : Option (QueueReply T)) → v ≡ x → Has Won winner b → w ≡ v
       → c ≡ Single (after_put one.PushUnlock one.PushPut (Err w)).action → r ≡ (after_put one.PushUnlock one.PushPut (Err w)).reply → After b c r
   puts_again v w a b c r same at back is gives = after b c _ r _ is gives (back ∙ same, at)
 
-  puts : (v : T) (a b : SlotCells T W) (o : Result Unit T) (c : CallState T) (r : Option (QueueReply T)) → v ≡ m → Has Won 1 3 a → Did (did_put (At 0) v o) a b
+  puts : (v : T) (a b : SlotCells T W) (o : Result Unit T) (c : CallState T) (r : Option (QueueReply T)) → v ≡ x → Has Won winner a → Did (did_put (At 0) v o) a b
       → c ≡ Single (after_put one.PushUnlock one.PushPut o).action → r ≡ (after_put one.PushUnlock one.PushPut o).reply → After b c r
   puts v a b (Ok u) c r same (i, g, e) (j, (there, (s, w))) is gives = after b c _ r _ is gives (there ∙ (λ k. (0, Some (same k)) ∷ []), (j ∙ i, s, w ∙ e))
-  puts v a b (Err w) c r eq at (j, (back, same)) is gives = puts_again v w a b c r eq (stays_at Won 1 3 a b at j same) back is gives
+  puts v a b (Err w) c r eq at (j, (back, same)) is gives = puts_again v w a b c r eq (stays_at Won winner a b at j same) back is gives
 
-  unlocks : (a b : SlotCells T W) (w : ℕ) → a.seat.me.1 ≡ (0, Some m) ∷ [] → Has Filled 1 3 a → Did (bits_kept State 18446744073709551614 w) a b → Pushed table p t log m (reply.Push (Ok tt)) b
+  unlocks : (a b : SlotCells T W) (w : ℕ) → a.seat.me.1 ≡ (0, Some x) ∷ [] → Has Filled winner a → Did (bits_kept State 18446744073709551614 w) a b → Pushed table p l m log x (reply.Push (Ok tt)) b
   unlocks a b w there (i, g, e) (j, did) =
       let d = did refl (inl g) in
-      let same : a.seat.me.0.log ≡ log = ap (λ (x : View T W). x.log) e in (
+      let same : a.seat.me.0.log ≡ log = ap (λ (y : View T W). y.log) e in (
         d.0,
-        subst (λ (l : List (Transfer T)). PutBefore d.0 l) same d.1,
-        subst (λ (l : List (Transfer T)). TookBefore d.0 l) same d.2,
+        subst (λ (k : List (Transfer T)). PutBefore d.0 k) same d.1,
+        subst (λ (k : List (Transfer T)). TookBefore d.0 k) same d.2,
         (j ∙ i, d.3.0, d.3.1 ∙ (λ k. giving d.0 (there k) (e k))),
       )
 
-  push_asked : (q : QueueAsk T) → (a b : SlotCells T W) (c : CallState T) (m : QueueMark) (r : Option (QueueReply T)) → Pushes (Asked q) a → StateMakes Did (Bounded 1) a (Asked q) b (record { action = c; mark = m; reply = r }) → After b c r
+  push_asked : (q : QueueAsk T) → (a b : SlotCells T W) (c : CallState T) (k : QueueMark) (r : Option (QueueReply T)) → Pushes (Asked q) a → StateMakes Did (Bounded 1) a (Asked q) b (record { action = c; mark = k; reply = r }) → After b c r
   push_asked (ask.Push v) a b c k r (eq, at) (y, (o, did, e), f) = tries v a b o c r eq at did ((λ k. (f k).action) ∙ (λ k. Single (e k).action)) ((λ k. (f k).reply) ∙ (λ k. (e k).reply))
-  push_asked (ask.ForcePush v) a b c m r st made = elim st [ ]
-  push_asked ask.Pop a b c m r st made = elim st [ ]
-  push_asked ask.Close a b c m r st made = elim st [ ]
-  push_asked ask.IsClosed a b c m r st made = elim st [ ]
-  push_asked ask.IsEmpty a b c m r st made = elim st [ ]
-  push_asked ask.IsFull a b c m r st made = elim st [ ]
-  push_asked ask.Len a b c m r st made = elim st [ ]
-  push_asked ask.Capacity a b c m r st made = elim st [ ]
+  push_asked (ask.ForcePush v) a b c k r st made = elim st [ ]
+  push_asked ask.Pop a b c k r st made = elim st [ ]
+  push_asked ask.Close a b c k r st made = elim st [ ]
+  push_asked ask.IsClosed a b c k r st made = elim st [ ]
+  push_asked ask.IsEmpty a b c k r st made = elim st [ ]
+  push_asked ask.IsFull a b c k r st made = elim st [ ]
+  push_asked ask.Len a b c k r st made = elim st [ ]
+  push_asked ask.Capacity a b c k r st made = elim st [ ]
 
-  push_acted : (x : SingleAction T) → (a b : SlotCells T W) (c : CallState T) (m : QueueMark) (r : Option (QueueReply T)) → Pushes (Single x) a → StateMakes Did (Bounded 1) a (Single x) b (record { action = c; mark = m; reply = r }) → After b c r
+  push_acted : (act : SingleAction T) → (a b : SlotCells T W) (c : CallState T) (k : QueueMark) (r : Option (QueueReply T)) → Pushes (Single act) a → StateMakes Did (Bounded 1) a (Single act) b (record { action = c; mark = k; reply = r }) → After b c r
   push_acted (one.Push v) a b c k r (eq, at) (y, (o, did, e), f) = tries v a b o c r eq at did ((λ k. (f k).action) ∙ (λ k. Single (e k).action)) ((λ k. (f k).reply) ∙ (λ k. (e k).reply))
   push_acted (one.PushPut v) a b c k r (eq, at) (y, (o, did, e), f) = puts v a b o c r eq at did ((λ k. (f k).action) ∙ (λ k. Single (e k).action)) ((λ k. (f k).reply) ∙ (λ k. (e k).reply))
   push_acted one.PushUnlock a b c k r (there, at) (y, (o, did, e), f) = after b c _ r _ ((λ k. (f k).action) ∙ (λ k. Single (e k).action)) ((λ k. (f k).reply) ∙ (λ k. (e k).reply)) (unlocks a b o there at did)
-  push_acted (one.Force v x) a b c m r st made = elim st [ ]
-  push_acted (one.ForceTake v) a b c m r st made = elim st [ ]
-  push_acted (one.ForcePut v x) a b c m r st made = elim st [ ]
-  push_acted (one.ForceUnlock x) a b c m r st made = elim st [ ]
-  push_acted (one.Pop x) a b c m r st made = elim st [ ]
-  push_acted one.PopTake a b c m r st made = elim st [ ]
-  push_acted (one.PopUnlock v) a b c m r st made = elim st [ ]
-  push_acted one.Close a b c m r st made = elim st [ ]
-  push_acted one.IsClosed a b c m r st made = elim st [ ]
-  push_acted one.IsEmpty a b c m r st made = elim st [ ]
-  push_acted one.IsFull a b c m r st made = elim st [ ]
-  push_acted one.Len a b c m r st made = elim st [ ]
-  push_acted one.Capacity a b c m r st made = elim st [ ]
-  push_acted one.Finished a b c m r st made = elim st [ ]
+  push_acted (one.Force v w) a b c k r st made = elim st [ ]
+  push_acted (one.ForceTake v) a b c k r st made = elim st [ ]
+  push_acted (one.ForcePut v w) a b c k r st made = elim st [ ]
+  push_acted (one.ForceUnlock w) a b c k r st made = elim st [ ]
+  push_acted (one.Pop w) a b c k r st made = elim st [ ]
+  push_acted one.PopTake a b c k r st made = elim st [ ]
+  push_acted (one.PopUnlock v) a b c k r st made = elim st [ ]
+  push_acted one.Close a b c k r st made = elim st [ ]
+  push_acted one.IsClosed a b c k r st made = elim st [ ]
+  push_acted one.IsEmpty a b c k r st made = elim st [ ]
+  push_acted one.IsFull a b c k r st made = elim st [ ]
+  push_acted one.Len a b c k r st made = elim st [ ]
+  push_acted one.Capacity a b c k r st made = elim st [ ]
+  push_acted one.Finished a b c k r st made = elim st [ ]
 
-  push_step : (at : CallState T) → (a b : SlotCells T W) (c : CallState T) (m : QueueMark) (r : Option (QueueReply T)) → Pushes at a → StateMakes Did (Bounded 1) a at b (record { action = c; mark = m; reply = r }) → After b c r
-  push_step (Asked q) a b c m r st made = push_asked q a b c m r st made
-  push_step (Single x) a b c m r st made = push_acted x a b c m r st made
-  push_step (Ring x) a b c m r st made = elim st [ ]
-  push_step (Blocks x) a b c m r st made = elim st [ ]
-  push_step Finished a b c m r st made = elim st [ ]
+  push_step : (at : CallState T) → (a b : SlotCells T W) (c : CallState T) (k : QueueMark) (r : Option (QueueReply T)) → Pushes at a → StateMakes Did (Bounded 1) a at b (record { action = c; mark = k; reply = r }) → After b c r
+  push_step (Asked q) a b c k r st made = push_asked q a b c k r st made
+  push_step (Single act) a b c k r st made = push_acted act a b c k r st made
+  push_step (Ring act) a b c k r st made = elim st [ ]
+  push_step (Blocks act) a b c k r st made = elim st [ ]
+  push_step Finished a b c k r st made = elim st [ ]
 
   push_walk : (n : ℕ) (a : SlotCells T W) (at : CallState T) (b : SlotCells T W) (to : CallState T) → Leads (StateMakes Did (Bounded 1)) n a at b to → Pushes at a → Pushes to b
   push_walk zero a at b to (e, f) st = subst (λ (c : SlotCells T W). Pushes to c) (sym e) (subst (λ (s : CallState T). Pushes s a) (sym f) st)
-  push_walk (suc n) a at b to (y, c, (m, h), path) st = push_walk n y c b to path (push_step at a y c m None st h)
+  push_walk (suc n) a at b to (y, c, (k, h), path) st = push_walk n y c b to path (push_step at a y c k None st h)
 
-  pub pushes : (a b : SlotCells T W) (r : QueueReply T) → Has Free 0 0 a → WalkedFrom Did (Bounded 1) (Asked (ask.Push m)) a r b → Pushed table p t log m r b
-  pushes a b r st (n, (x, y, z, k, path, h)) = push_step y x b z k (Some r) (push_walk n a (Asked (ask.Push m)) x y path (refl, st)) h
+  pub pushes : (a b : SlotCells T W) (r : QueueReply T) → Has Free begun a → WalkedFrom Did (Bounded 1) (Asked (ask.Push x)) a r b → Pushed table p l m log x r b
+  pushes a b r st (n, (d, y, z, k, path, h)) = push_step y d b z k (Some r) (push_walk n a (Asked (ask.Push x)) d y path (refl, st)) h
 
 -- a slot has one message
 abbrev first : {T : Type 0} → T → List (ℕ × Option T) → T
@@ -146,25 +156,25 @@ first d _ = d
 only_one : {T : Type 0} (x y : T) → ◌≡◌ {A = List (ℕ × Option T)} ((0, Some x) ∷ []) ((0, Some y) ∷ []) → x ≡ y
 only_one x y e = ap (first x) e
 
--- a pop whose pass answers for so many and has this listener in hand
-module _ {T W : Type 0} (table : TableId) (p a h t : ℕ) (log : List (Transfer T)) where
+-- a pop whose pass has these lines and this log
+module _ {T W : Type 0} (table : TableId) (p : ℕ) (a h : Line W) (log : List (Transfer T)) where
   abbrev Holds : Stage → View T W → SlotCells T W → Type 0
   Holds g v c = IsLeft table g v c
 
   -- it won a message, which is at hand and in the log; and it took this message
   abbrev HoldsOne : SlotCells T W → Type 0
-  HoldsOne c = (x : T) × (k : ℕ) × TookBefore k log × (c.seat.me.1 ≡ (0, Some x) ∷ []) × Holds Caught (pass p 0 0 1 t (log ++ Out k x ∷ [])) c
+  HoldsOne c = (x : T) × (k : ℕ) × TookBefore k log × (c.seat.me.1 ≡ (0, Some x) ∷ []) × Holds Caught (pass p 1 (ended a) (answering h) (log ++ Out k x ∷ [])) c
 
   abbrev HasTakenOut : T → SlotCells T W → Type 0
-  HasTakenOut x c = (k : ℕ) × TookBefore k log × (c.seat.me.1 ≡ (0, None) ∷ []) × Holds Emptied (pass p 0 0 1 t (log ++ Out k x ∷ [])) c
+  HasTakenOut x c = (k : ℕ) × TookBefore k log × (c.seat.me.1 ≡ (0, None) ∷ []) × Holds Emptied (pass p 1 (ended a) (answering h) (log ++ Out k x ∷ [])) c
 
   -- where a pop stands at each action
   abbrev PopAsks : QueueAsk T → SlotCells T W → Type 0
-  PopAsks ask.Pop c = Holds Free (pass p a h 0 t log) c
+  PopAsks ask.Pop c = Holds Free (pass p 0 a h log) c
   PopAsks _ c = ⊥
 
   abbrev PopActs : SingleAction T → SlotCells T W → Type 0
-  PopActs (one.Pop x) c = (x ≡ 2) × Holds Free (pass p a h 0 t log) c
+  PopActs (one.Pop x) c = (x ≡ 2) × Holds Free (pass p 0 a h log) c
   PopActs one.PopTake c = HoldsOne c
   PopActs (one.PopUnlock v) c = HasTakenOut v c
   PopActs _ c = ⊥
@@ -175,7 +185,7 @@ module _ {T W : Type 0} (table : TableId) (p a h t : ℕ) (log : List (Transfer 
   Pops _ c = ⊥
 
   abbrev Then : SlotCells T W → CallState T → Option (QueueReply T) → Type 0
-  Then c at r = MatchOption r (Pops at c) (λ x. Popped table p t log x c)
+  Then c at r = MatchOption r (Pops at c) (λ x. Popped table p a h log x c)
 
   lands : (b : SlotCells T W) (c d : CallState T) (r s : Option (QueueReply T)) → c ≡ d → r ≡ s → Then b d s → Then b c r
   lands b c d r s e f k = subst (λ (x : CallState T). Then b x r) (sym e) (subst (λ (x : Option (QueueReply T)). Then b d x) (sym f) k)
@@ -186,7 +196,7 @@ module _ {T W : Type 0} (table : TableId) (p a h t : ℕ) (log : List (Transfer 
   found w n b c r e is gives k =
       lands b c _ r _ (is ∙ (λ i. Single (after_pop {T = T} (Err (e i))).action)) (gives ∙ (λ i. (after_pop {T = T} (Err (e i))).reply)) k
 
-  finds : (b c : SlotCells T W) (o : Result ℕ ℕ) (s : CallState T) (r : Option (QueueReply T)) → Holds Free (pass p a h 0 t log) b → Did (exchanged State 2 1 o) b c
+  finds : (b c : SlotCells T W) (o : Result ℕ ℕ) (s : CallState T) (r : Option (QueueReply T)) → Holds Free (pass p 0 a h log) b → Did (exchanged State 2 1 o) b c
       → s ≡ Single (after_pop {T = T} o).action → r ≡ (after_pop {T = T} o).reply → Then c s r
   finds b c (Ok w) s r (i, g, e) (j, (other, did)) is gives =
       let d = did refl refl in
@@ -196,7 +206,7 @@ module _ {T W : Type 0} (table : TableId) (p a h t : ℕ) (log : List (Transfer 
       ⊎_elim
       (λ (d : (w ≡ 3) × IsSame b c). found w 3 c s r d.0 is gives (refl, (j ∙ i, d.1.0 ∙ g, d.1.1 ∙ e)))
       (λ (d : ((w ≡ 0) ⊎ (w ≡ 1)) × (c.stage ≡ b.stage) × (c.seat.me.0 ≡ resting b.seat.me.0)).
-      let ends : Holds Free (pass p 0 0 0 t log) c = (j ∙ i, d.1 ∙ g, d.2 ∙ ap (λ (x : View T W). resting x) e) in
+      let ends : Holds Free (pass p 0 (ended a) h log) c = (j ∙ i, d.1 ∙ g, d.2 ∙ ap (λ (x : View T W). resting x) e) in
       ⊎_elim (λ (z : w ≡ 0). found w 0 c s r z is gives ends) (λ (z : w ≡ 1). found w 1 c s r z is gives ends) d.0)
       (did refl refl)
 
@@ -204,13 +214,13 @@ module _ {T W : Type 0} (table : TableId) (p a h t : ℕ) (log : List (Transfer 
       → s ≡ Single (after_take one.PopUnlock one.PopTake o).action → r ≡ (after_take one.PopUnlock one.PopTake o).reply → Then c s r
   takes b c (Some v) s r (x, k, before, there, (i, g, e)) (j, (was, none_there, (u, w))) is gives =
       let same : x ≡ v = only_one x v (sym there ∙ was) in
-      lands c s _ r _ is gives (k, before, none_there, (j ∙ i, u, w ∙ e ∙ (λ l. pass p 0 0 1 t (log ++ Out k (same l) ∷ []))))
+      lands c s _ r _ is gives (k, before, none_there, (j ∙ i, u, w ∙ e ∙ (λ l. pass p 1 (ended a) (answering h) (log ++ Out k (same l) ∷ []))))
   takes b c None s r (x, k, before, there, (i, g, e)) (j, (stays_there, (u, w))) is gives = lands c s _ r _ is gives (x, k, before, stays_there ∙ there, (j ∙ i, u ∙ g, w ∙ e))
 
-  gives_back : (x : T) (b c : SlotCells T W) (w : ℕ) → HasTakenOut x b → Did (bits_kept State 18446744073709551614 w) b c → Popped table p t log (reply.Pop (Ok x)) c
+  gives_back : (x : T) (b c : SlotCells T W) (w : ℕ) → HasTakenOut x b → Did (bits_kept State 18446744073709551614 w) b c → Popped table p a h log (reply.Pop (Ok x)) c
   gives_back x b c w (k, before, there, (i, g, e)) (j, did) = let d = did refl (inr g) in (k, before, (j ∙ i, d.3.0, d.3.1 ∙ (λ l. giving d.0 (there l) (e l))))
 
-  tries_at : (n : ℕ) (b c : SlotCells T W) (o : Result ℕ ℕ) (s : CallState T) (r : Option (QueueReply T)) → n ≡ 2 → Holds Free (pass p a h 0 t log) b → Did (exchanged State n (bit_and (bit_or n 1) 18446744073709551613) o) b c
+  tries_at : (n : ℕ) (b c : SlotCells T W) (o : Result ℕ ℕ) (s : CallState T) (r : Option (QueueReply T)) → n ≡ 2 → Holds Free (pass p 0 a h log) b → Did (exchanged State n (bit_and (bit_or n 1) 18446744073709551613) o) b c
       → s ≡ Single (after_pop {T = T} o).action → r ≡ (after_pop {T = T} o).reply → Then c s r
   tries_at n b c o s r is st did = finds b c o s r st (subst (λ (x : ℕ). Did (exchanged State x (bit_and (bit_or x 1) 18446744073709551613) o) b c) is did)
 
@@ -255,5 +265,5 @@ module _ {T W : Type 0} (table : TableId) (p a h t : ℕ) (log : List (Transfer 
   pop_walk zero b at c to (e, f) st = subst (λ (d : SlotCells T W). Pops to d) (sym e) (subst (λ (s : CallState T). Pops s b) (sym f) st)
   pop_walk (suc n) b at c to (y, d, (m, s), path) st = pop_walk n y d c to path (pop_step at b y d m None st s)
 
-  pub pops : (b c : SlotCells T W) (r : QueueReply T) → Holds Free (pass p a h 0 t log) b → WalkedFrom Did (Bounded 1) (Asked ask.Pop) b r c → Popped table p t log r c
+  pub pops : (b c : SlotCells T W) (r : QueueReply T) → Holds Free (pass p 0 a h log) b → WalkedFrom Did (Bounded 1) (Asked ask.Pop) b r c → Popped table p a h log r c
   pops b c r st (n, (x, y, z, m, path, s)) = pop_step y x c z m (Some r) (pop_walk n b (Asked ask.Pop) x y path st) s

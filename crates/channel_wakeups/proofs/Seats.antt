@@ -5,51 +5,64 @@ use mathlib.Core.Option.{some, none}
 use lib.ListN.{get_elem?}
 use Rattle.atomic_table.specs.Table.{State, step, Allows, Splits, Joins, Enters, opening}
 use Rattle.atomic_table.proofs.Lists.{set_again}
+use Rattle.channel_wakeups.specs.declared.rule.Line.{Line}
 use Rattle.channel_wakeups.specs.declared.rule.View.{View}
-use Rattle.channel_wakeups.specs.declared.listeners.Listener.{Listener}
 use Rattle.channel_wakeups.specs.Lists.{total, told, waits, listed}
-use Rattle.channel_wakeups.specs.Views.{nobody, pass, busy, desk, entered, stays, comes_out, absorbed, kept_half, given_half, no_ticket, ticket_of, with_ticket, only, is_key, parts_of, lists_of, answers_of, holds_of, locks_of, owns_of, waits_of, told_of, listed_of, tickets_of, puts_of, takes_of, messages, IsSlot, empty, full, out, AllAgree, Ordered, Kept, Woken, Known, HasAll, learns}
-use Rattle.channel_wakeups.proofs.Sums.{balanced_by, only_none, only_some, only_zero, owed_by, slot_by, none_here, others, was, total_set, total_snoc, alone}
+use Rattle.channel_wakeups.specs.Views.{Side, of_receives, of_sends, of, idle, calling, list_part, call_part, both_parts, ticketed, nobody, pass, everything, entered, stays, comes_out, receives_alone, sends_alone, absorbed, kept_half, given_half, one_ticket, no_ticket, ticket_of, with_ticket, only, is_key, parts_of, lists_of, answers_of, holds_of, locks_of, owns_of, waits_of, told_of, listed_of, tickets_of, puts_of, takes_of, wanted, Owed, IsSlot, empty, full, out, AllAgree, Ordered, Kept, Woken, Known, HasAll, learns}
+use Rattle.channel_wakeups.proofs.Sums.{at_nobody, balanced_by, only_none, only_some, only_zero, owed_by, slot_by, none_here, others, was, total_set, total_snoc, alone}
 use Rattle.channel_wakeups.specs.Log.{Weight, puts, takes, each, Agrees, IsHistory, Balanced, Accounts}
 use Rattle.channel_wakeups.proofs.Logs.{puts_append, takes_append}
 use Rattle.channel_wakeups.proofs.History.{agrees_append, agrees_at, agrees_beside, agrees_set, agrees_snoc}
 use Rattle.channel_wakeups.proofs.Moves.{no_empty, by_rule}
 use Rattle.channel_wakeups.specs.declared.rule.Transfer.{Transfer}
 
+-- all that is counted of a line
+data LineSum : Type 0 where
+  lists told_ones answers : LineSum
+  waiting holding tickets in_list : ℕ → LineSum
+
 -- all that is counted
 data Sum (T : Type 0) : Type 0 where
-  parts lists told_ones answers locks owns : Sum T
-  waiting holding tickets in_list : ℕ → Sum T
+  parts locks owns : Sum T
   putting taking : Weight T → Sum T
+  on : Side → LineSum → Sum T
+
+module _ {W : Type 0} where
+  abbrev line_sum : LineSum → ℕ → Line W → ℕ
+  line_sum lists p l = l.lists
+  line_sum told_ones p l = only l.lists (told l.listeners)
+  line_sum answers p l = only p l.answers
+  line_sum (waiting key) p l = only l.lists (waits key l.listeners)
+  line_sum (holding key) p l = only p (is_key key l.holds)
+  line_sum (tickets key) p l = is_key key l.ticket
+  line_sum (in_list key) p l = only l.lists (listed key l.listeners)
 
 module _ {T W : Type 0} where
   abbrev sum_of : Sum T → View T W → ℕ
-  sum_of parts = parts_of
-  sum_of lists = lists_of
-  sum_of told_ones = told_of
-  sum_of answers = answers_of
-  sum_of locks = locks_of
-  sum_of owns = owns_of
-  sum_of (waiting key) = waits_of key
-  sum_of (holding key) = holds_of key
-  sum_of (tickets key) = tickets_of key
-  sum_of (in_list key) = listed_of key
-  sum_of (putting f) = puts_of f
-  sum_of (taking f) = takes_of f
+  sum_of parts v = parts_of v
+  sum_of locks v = locks_of v
+  sum_of owns v = owns_of v
+  sum_of (putting f) v = puts_of f v
+  sum_of (taking f) v = takes_of f v
+  sum_of (on s x) v = line_sum x v.parts (of s v)
+
+-- an idle line counts for nothing
+idle_line : (W : Type 0) (x : LineSum) (p : ℕ) → line_sum {W = W} x p idle ≡ 0
+idle_line W lists p = refl
+idle_line W told_ones p = refl
+idle_line W answers p = only_zero p
+idle_line W (waiting key) p = refl
+idle_line W (holding key) p = only_zero p
+idle_line W (tickets key) p = refl
+idle_line W (in_list key) p = refl
 
 nothing : (T W : Type 0) (k : Sum T) → sum_of {W = W} k nobody ≡ 0
 nothing T W parts = refl
-nothing T W lists = refl
-nothing T W told_ones = refl
-nothing T W answers = refl
 nothing T W locks = refl
 nothing T W owns = refl
-nothing T W (waiting key) = refl
-nothing T W (holding key) = refl
-nothing T W (tickets key) = refl
-nothing T W (in_list key) = refl
 nothing T W (putting f) = refl
 nothing T W (taking f) = refl
+nothing T W (on s x) = at_nobody T W (line_sum x 0) (idle_line W x 0) s
 
 module _ {T W : Type 0} where
   -- the rule speaks of these sums alone
@@ -57,17 +70,18 @@ module _ {T W : Type 0} where
   same w s vs ws each agree k =
       record {
         whole = each parts ∙ k.whole;
-        one = each lists ∙ k.one;
+        one = λ side. each (on side lists) ∙ k.one side;
         place = slot_by w s _ _ _ _ (sym (each locks)) (sym (each owns)) k.place;
-        owed = λ key some_waiting.
-            let x = each (waiting key) in
-            let y = each told_ones in
-            let z = each answers in
-            owed_by (messages w) _ _ _ _ (omega arith) (sym (each (holding key))) (k.owed key (omega arith));
-        tickets = λ key.
-            let x = each (tickets key) in
-            let y = each (in_list key) in
-            let was_so = k.tickets key in
+        owed = λ side key some_waiting.
+            let x : total (waits_of side key) ws ≡ total (waits_of side key) vs = each (on side (waiting key)) in
+            let y : total (told_of side) ws ≡ total (told_of side) vs = each (on side told_ones) in
+            let z : total (answers_of side) ws ≡ total (answers_of side) vs = each (on side answers) in
+            let h : total (holds_of side key) vs ≡ total (holds_of side key) ws = sym (each (on side (holding key))) in
+            owed_by (wanted side w) (total (told_of side) vs + total (answers_of side) vs) (total (holds_of side key) vs) (total (told_of side) ws + total (answers_of side) ws) (total (holds_of side key) ws) (omega arith) h (k.owed side key (omega arith));
+        tickets = λ side key.
+            let x : total (tickets_of side key) ws ≡ total (tickets_of side key) vs = each (on side (tickets key)) in
+            let y : total (listed_of side key) ws ≡ total (listed_of side key) vs = each (on side (in_list key)) in
+            let was_so = k.tickets side key in
             omega arith;
         balance = balanced_by s _ _ _ _ (λ f. sym (each (putting f))) (λ f. sym (each (taking f))) k.balance;
         order = of_history k.order;
@@ -103,97 +117,166 @@ module _ {T W : Type 0} where
         (λ g a. let b = parts_of_log g (agrees_at g s.views id v at a) in agrees_snoc g (set s.views id l) r b.1 (agrees_set g s.views id l b.0 a)) h.4,
   )
 
-  enters_adds : (ls : List (Listener W)) (p a h t : ℕ) (lg : List (Transfer T)) → 0 < p → (k : Sum T) → sum_of k (entered (desk ls) (pass p a h 0 t lg)) ≡ sum_of k (desk ls) + sum_of {W = W} k (pass p a h 0 t lg)
-  enters_adds ls p a h t lg some_part parts = refl
-  enters_adds ls p a h t lg some_part lists = refl
-  enters_adds ls p a h t lg some_part told_ones = let x = only_some 1 (told ls) (omega arith) in omega arith
-  enters_adds ls p a h t lg some_part answers = omega (arith, only_some (1 + p) (0 + a) (omega arith), only_some p a some_part)
-  enters_adds ls p a h t lg some_part locks = omega (arith, only_zero (1 + p), only_zero p)
-  enters_adds ls p a h t lg some_part owns = omega (arith, only_zero (1 + p), only_zero p)
-  enters_adds ls p a h t lg some_part (waiting key) = omega arith
-  enters_adds ls p a h t lg some_part (holding key) = omega (arith, only_some (1 + p) (is_key key h) (omega arith), only_some p (is_key key h) some_part)
-  enters_adds ls p a h t lg some_part (tickets key) = omega arith
-  enters_adds ls p a h t lg some_part (in_list key) = omega arith
-  enters_adds ls p a h t lg some_part (putting f) = omega (arith, only_some (1 + p) (puts f lg) (omega arith), only_some p (puts f lg) some_part, only_zero 1)
-  enters_adds ls p a h t lg some_part (taking f) = omega (arith, only_some (1 + p) (takes f lg) (omega arith), only_some p (takes f lg) some_part, only_zero 1)
+-- ---- a pass goes into a list's seat, and comes out of it
 
-  pub enters : (id : ℕ) (ls : List (Listener W)) (other p a h t : ℕ) (lg : List (Transfer T)) → 0 < p → Joins {S = Option T} Woken id (desk ls) other (pass p a h 0 t lg) (entered (desk ls) (pass p a h 0 t lg)) nobody
-  enters id ls other p a h t lg some_part = joins id (desk ls) other (pass p a h 0 t lg) (entered (desk ls) (pass p a h 0 t lg)) (enters_adds ls p a h t lg some_part) (λ g b c. c)
+module _ {W : Type 0} where
+  enters_line : (x : LineSum) (n p : ℕ) (l m : Line W) → n ≡ 0 → l.ticket ≡ 0 → m.lists ≡ 0 → line_sum x p (both_parts l m) ≡ line_sum x n l + line_sum x p m
+  enters_line lists n p l m no_part untied no_list = omega arith
+  enters_line told_ones n p l m no_part untied no_list = let z = only_none m.lists (told m.listeners) no_list in omega arith
+  enters_line answers n p l m no_part untied no_list = let z = only_none n l.answers no_part in omega arith
+  enters_line (waiting key) n p l m no_part untied no_list = let z = only_none m.lists (waits key m.listeners) no_list in omega arith
+  enters_line (holding key) n p l m no_part untied no_list = let z = only_none n (is_key key l.holds) no_part in omega arith
+  enters_line (tickets key) n p l m no_part untied no_list = let z : is_key key l.ticket ≡ 0 = ap (is_key key) untied in omega arith
+  enters_line (in_list key) n p l m no_part untied no_list = let z = only_none m.lists (listed key m.listeners) no_list in omega arith
 
-  leaves_adds : (p a h t : ℕ) (lg : List (Transfer T)) (ls : List (Listener W)) → 1 < p → (k : Sum T) → sum_of k (stays (busy p a h t ls lg)) + sum_of k (comes_out (busy p a h t ls lg)) ≡ sum_of k (busy p a h t ls lg)
-  leaves_adds p a h t lg ls more parts = omega arith
-  leaves_adds p a h t lg ls more lists = refl
-  leaves_adds p a h t lg ls more told_ones = omega arith
-  leaves_adds p a h t lg ls more answers = omega (arith, only_some (p - 1) a (omega arith), only_some p a (omega arith))
-  leaves_adds p a h t lg ls more locks = omega (arith, only_zero (p - 1), only_zero p)
-  leaves_adds p a h t lg ls more owns = omega (arith, only_zero (p - 1), only_zero p)
-  leaves_adds p a h t lg ls more (waiting key) = omega arith
-  leaves_adds p a h t lg ls more (holding key) = omega (arith, only_some (p - 1) (is_key key h) (omega arith), only_some p (is_key key h) (omega arith))
-  leaves_adds p a h t lg ls more (tickets key) = omega arith
-  leaves_adds p a h t lg ls more (in_list key) = omega arith
-  leaves_adds p a h t lg ls more (putting f) = omega (arith, only_some (p - 1) (puts f lg) (omega arith), only_some p (puts f lg) (omega arith), only_zero 1)
-  leaves_adds p a h t lg ls more (taking f) = omega (arith, only_some (p - 1) (takes f lg) (omega arith), only_some p (takes f lg) (omega arith), only_zero 1)
+module _ {T W : Type 0} where
+  pub enters : (id : ℕ) (v : View T W) (port : ℕ) (w : View T W) → v.parts ≡ 0 → v.receives.ticket ≡ 0 → v.sends.ticket ≡ 0 → w.receives.lists ≡ 0 → w.sends.lists ≡ 0 → Joins {S = Option T} Woken id v port w (entered v w) nobody
+  enters id v port w no_part a b c d = joins id v port w (entered v w) adds (λ g x y. y)
+    where
+      adds : (k : Sum T) → sum_of k (entered v w) ≡ sum_of k v + sum_of k w
+      adds parts = omega arith
+      adds locks = let z = only_none v.parts (only v.owns 1) no_part in omega arith
+      adds owns = let z = only_none v.parts v.owns no_part in omega arith
+      adds (putting f) = let z = only_none v.parts (puts f v.log) no_part in omega arith
+      adds (taking f) = let z = only_none v.parts (takes f v.log) no_part in omega arith
+      adds (on of_receives x) = enters_line x v.parts w.parts v.receives w.receives no_part a c
+      adds (on of_sends x) = enters_line x v.parts w.parts v.sends w.sends no_part b d
 
-  pub leaves : (id p a h t : ℕ) (ls : List (Listener W)) (lg : List (Transfer T)) → 1 < p → Splits {S = Option T} Woken id (busy p a h t ls lg) (stays (busy p a h t ls lg)) (comes_out (busy p a h t ls lg))
-  leaves id p a h t ls lg more = splits id (busy p a h t ls lg) (stays (busy p a h t ls lg)) (comes_out (busy p a h t ls lg)) (leaves_adds p a h t lg ls more) (λ g b. (tt, b))
+module _ {W : Type 0} where
+  leaves_line : (x : LineSum) (p : ℕ) (l : Line W) → line_sum x 0 (list_part l) + line_sum x p (call_part l) ≡ line_sum x p l
+  leaves_line lists p l = omega arith
+  leaves_line told_ones p l = omega arith
+  leaves_line answers p l = omega arith
+  leaves_line (waiting key) p l = omega arith
+  leaves_line (holding key) p l = omega arith
+  leaves_line (tickets key) p l = omega arith
+  leaves_line (in_list key) p l = omega arith
 
--- passes with nothing under way
-module _ (T W : Type 0) where
-  absorbs_adds : (p q : ℕ) (lg mg : List (Transfer T)) → 0 < p → 0 < q → (k : Sum T) → sum_of {W = W} k (absorbed (pass p 0 0 0 0 lg) (pass q 0 0 0 0 mg)) ≡ sum_of {W = W} k (pass p 0 0 0 0 lg) + sum_of {W = W} k (pass q 0 0 0 0 mg)
-  absorbs_adds p q lg mg sp sq parts = refl
-  absorbs_adds p q lg mg sp sq lists = refl
-  absorbs_adds p q lg mg sp sq told_ones = refl
-  absorbs_adds p q lg mg sp sq answers = omega (arith, only_zero (p + q), only_zero p, only_zero q)
-  absorbs_adds p q lg mg sp sq locks = omega (arith, only_zero (p + q), only_zero p, only_zero q)
-  absorbs_adds p q lg mg sp sq owns = omega (arith, only_zero (p + q), only_zero p, only_zero q)
-  absorbs_adds p q lg mg sp sq (waiting key) = refl
-  absorbs_adds p q lg mg sp sq (holding key) = omega (arith, only_zero (p + q), only_zero p, only_zero q)
-  absorbs_adds p q lg mg sp sq (tickets key) = refl
-  absorbs_adds p q lg mg sp sq (in_list key) = refl
-  absorbs_adds p q lg mg sp sq (putting f) = omega (arith, puts_append f lg mg, only_some (p + q) (puts f (lg ++ mg)) (omega arith), only_some p (puts f lg) sp, only_some q (puts f mg) sq)
-  absorbs_adds p q lg mg sp sq (taking f) = omega (arith, takes_append f lg mg, only_some (p + q) (takes f (lg ++ mg)) (omega arith), only_some p (takes f lg) sp, only_some q (takes f mg) sq)
+module _ {T W : Type 0} where
+  pub leaves : (id : ℕ) (v : View T W) → Splits {S = Option T} Woken id v (stays v) (comes_out v)
+  leaves id v = splits id v (stays v) (comes_out v) adds (λ g b. (tt, b))
+    where
+      adds : (k : Sum T) → sum_of k (stays v) + sum_of k (comes_out v) ≡ sum_of k v
+      adds parts = omega arith
+      adds locks = omega arith
+      adds owns = omega arith
+      adds (putting f) = omega arith
+      adds (taking f) = omega arith
+      adds (on of_receives x) = leaves_line x v.parts v.receives
+      adds (on of_sends x) = leaves_line x v.parts v.sends
 
-  shares_adds : (p : ℕ) (lg : List (Transfer T)) → 1 < p → (k : Sum T) → sum_of {W = W} k (kept_half (pass p 0 0 0 0 lg)) + sum_of {W = W} k (given_half (pass p 0 0 0 0 lg)) ≡ sum_of {W = W} k (pass p 0 0 0 0 lg)
-  shares_adds p lg more parts = omega arith
-  shares_adds p lg more lists = refl
-  shares_adds p lg more told_ones = refl
-  shares_adds p lg more answers = omega (arith, only_zero (p - p / 2), only_zero (p / 2), only_zero p)
-  shares_adds p lg more locks = omega (arith, only_zero (p - p / 2), only_zero (p / 2), only_zero p)
-  shares_adds p lg more owns = omega (arith, only_zero (p - p / 2), only_zero (p / 2), only_zero p)
-  shares_adds p lg more (waiting key) = refl
-  shares_adds p lg more (holding key) = omega (arith, only_zero (p - p / 2), only_zero (p / 2), only_zero p)
-  shares_adds p lg more (tickets key) = refl
-  shares_adds p lg more (in_list key) = refl
-  shares_adds p lg more (putting f) = omega (arith, only_some (p - p / 2) (puts f lg) (omega arith), only_zero (p / 2), only_some p (puts f lg) (omega arith))
-  shares_adds p lg more (taking f) = omega (arith, only_some (p - p / 2) (takes f lg) (omega arith), only_zero (p / 2), only_some p (takes f lg) (omega arith))
+  -- the seat of both lists becomes one of each
+  pub divides : (id : ℕ) (v : View T W) → v.parts ≡ 0 → Splits {S = Option T} Woken id v (receives_alone v) (sends_alone v)
+  divides id v no_part = splits id v (receives_alone v) (sends_alone v) adds (λ g b. (tt, tt))
+    where
+      adds : (k : Sum T) → sum_of k (receives_alone v) + sum_of k (sends_alone v) ≡ sum_of k v
+      adds parts = omega arith
+      adds locks = let z = only_none v.parts (only v.owns 1) no_part in omega arith
+      adds owns = let z = only_none v.parts v.owns no_part in omega arith
+      adds (putting f) = let z = only_none v.parts (puts f v.log) no_part in omega arith
+      adds (taking f) = let z = only_none v.parts (takes f v.log) no_part in omega arith
+      adds (on of_receives x) = let z = idle_line W x 0 in let y : line_sum x v.parts v.receives ≡ line_sum x 0 v.receives = ap (λ (n : ℕ). line_sum x n v.receives) no_part in omega arith
+      adds (on of_sends x) = let z = idle_line W x 0 in let y : line_sum x v.parts v.sends ≡ line_sum x 0 v.sends = ap (λ (n : ℕ). line_sum x n v.sends) no_part in omega arith
 
-  gives_adds : (p a h t : ℕ) (lg : List (Transfer T)) → 1 < p → (k : Sum T) → sum_of {W = W} k (no_ticket (pass p a h 0 t lg)) + sum_of {W = W} k (ticket_of (pass p a h 0 t lg)) ≡ sum_of {W = W} k (pass p a h 0 t lg)
-  gives_adds p a h t lg more parts = omega arith
-  gives_adds p a h t lg more lists = refl
-  gives_adds p a h t lg more told_ones = refl
-  gives_adds p a h t lg more answers = omega (arith, only_some (p - 1) a (omega arith), only_some p a (omega arith))
-  gives_adds p a h t lg more locks = omega (arith, only_zero (p - 1), only_zero p)
-  gives_adds p a h t lg more owns = omega (arith, only_zero (p - 1), only_zero p)
-  gives_adds p a h t lg more (waiting key) = refl
-  gives_adds p a h t lg more (holding key) = omega (arith, only_some (p - 1) (is_key key h) (omega arith), only_some p (is_key key h) (omega arith))
-  gives_adds p a h t lg more (tickets key) = omega arith
-  gives_adds p a h t lg more (in_list key) = refl
-  gives_adds p a h t lg more (putting f) = omega (arith, only_some (p - 1) (puts f lg) (omega arith), only_some p (puts f lg) (omega arith), only_zero 1)
-  gives_adds p a h t lg more (taking f) = omega (arith, only_some (p - 1) (takes f lg) (omega arith), only_some p (takes f lg) (omega arith), only_zero 1)
+  -- ---- passes with nothing under way
 
-  takes_adds : (p a h t : ℕ) (lg : List (Transfer T)) → 0 < p → (k : Sum T) → sum_of {W = W} k (with_ticket (pass p a h 0 0 lg) (pass 1 0 0 0 t [])) ≡ sum_of {W = W} k (pass p a h 0 0 lg) + sum_of {W = W} k (pass 1 0 0 0 t [])
-  takes_adds p a h t lg some_part parts = refl
-  takes_adds p a h t lg some_part lists = refl
-  takes_adds p a h t lg some_part told_ones = refl
-  takes_adds p a h t lg some_part answers = omega (arith, only_some (p + 1) a (omega arith), only_some p a some_part)
-  takes_adds p a h t lg some_part locks = omega (arith, only_zero (p + 1), only_zero p)
-  takes_adds p a h t lg some_part owns = omega (arith, only_zero (p + 1), only_zero p)
-  takes_adds p a h t lg some_part (waiting key) = refl
-  takes_adds p a h t lg some_part (holding key) = omega (arith, only_some (p + 1) (is_key key h) (omega arith), only_some p (is_key key h) some_part)
-  takes_adds p a h t lg some_part (tickets key) = omega arith
-  takes_adds p a h t lg some_part (in_list key) = refl
-  takes_adds p a h t lg some_part (putting f) = omega (arith, only_some (p + 1) (puts f lg) (omega arith), only_some p (puts f lg) some_part, only_zero 1)
-  takes_adds p a h t lg some_part (taking f) = omega (arith, only_some (p + 1) (takes f lg) (omega arith), only_some p (takes f lg) some_part, only_zero 1)
+  pub absorbs : (id p port q : ℕ) (lg mg : List (Transfer T)) → 0 < p → 0 < q → Joins {S = Option T} Woken id (pass {W = W} p 0 idle idle lg) port (pass q 0 idle idle mg) (absorbed (pass p 0 idle idle lg) (pass q 0 idle idle mg)) nobody
+  absorbs id p port q lg mg sp sq = joins id (pass p 0 idle idle lg) port (pass q 0 idle idle mg) (absorbed (pass p 0 idle idle lg) (pass q 0 idle idle mg)) adds (λ g b c. agrees_append g lg mg b c)
+    where
+      adds : (k : Sum T) → sum_of {W = W} k (absorbed (pass p 0 idle idle lg) (pass q 0 idle idle mg)) ≡ sum_of {W = W} k (pass p 0 idle idle lg) + sum_of {W = W} k (pass q 0 idle idle mg)
+      adds parts = refl
+      adds locks = omega (arith, only_zero (p + q), only_zero p, only_zero q)
+      adds owns = omega (arith, only_zero (p + q), only_zero p, only_zero q)
+      adds (putting f) = omega (arith, puts_append f lg mg, only_some (p + q) (puts f (lg ++ mg)) (omega arith), only_some p (puts f lg) sp, only_some q (puts f mg) sq)
+      adds (taking f) = omega (arith, takes_append f lg mg, only_some (p + q) (takes f (lg ++ mg)) (omega arith), only_some p (takes f lg) sp, only_some q (takes f mg) sq)
+      adds (on of_receives x) = omega (arith, idle_line W x (p + q), idle_line W x p, idle_line W x q)
+      adds (on of_sends x) = omega (arith, idle_line W x (p + q), idle_line W x p, idle_line W x q)
+
+  pub shares : (id p : ℕ) (lg : List (Transfer T)) → 1 < p → Splits {S = Option T} Woken id (pass {W = W} p 0 idle idle lg) (kept_half (pass p 0 idle idle lg)) (given_half (pass p 0 idle idle lg))
+  shares id p lg more = splits id (pass p 0 idle idle lg) (kept_half (pass p 0 idle idle lg)) (given_half (pass p 0 idle idle lg)) adds (λ g b. (b, tt))
+    where
+      adds : (k : Sum T) → sum_of {W = W} k (kept_half (pass p 0 idle idle lg)) + sum_of {W = W} k (given_half (pass p 0 idle idle lg)) ≡ sum_of {W = W} k (pass p 0 idle idle lg)
+      adds parts = omega arith
+      adds locks = omega (arith, only_zero (p - p / 2), only_zero (p / 2), only_zero p)
+      adds owns = omega (arith, only_zero (p - p / 2), only_zero (p / 2), only_zero p)
+      adds (putting f) = omega (arith, only_some (p - p / 2) (puts f lg) (omega arith), only_zero (p / 2), only_some p (puts f lg) (omega arith))
+      adds (taking f) = omega (arith, only_some (p - p / 2) (takes f lg) (omega arith), only_zero (p / 2), only_some p (takes f lg) (omega arith))
+      adds (on of_receives x) = omega (arith, idle_line W x (p - p / 2), idle_line W x (p / 2), idle_line W x p)
+      adds (on of_sends x) = omega (arith, idle_line W x (p - p / 2), idle_line W x (p / 2), idle_line W x p)
+
+-- ---- a ticket is given out, and taken in
+
+module _ {W : Type 0} where
+  -- a line counts the same for every number of parts but none
+  any_parts : (x : LineSum) (p q : ℕ) (l : Line W) → 0 < p → 0 < q → line_sum x p l ≡ line_sum x q l
+  any_parts lists p q l sp sq = refl
+  any_parts told_ones p q l sp sq = refl
+  any_parts answers p q l sp sq = only_some p l.answers sp ∙ sym (only_some q l.answers sq)
+  any_parts (waiting key) p q l sp sq = refl
+  any_parts (holding key) p q l sp sq = only_some p (is_key key l.holds) sp ∙ sym (only_some q (is_key key l.holds) sq)
+  any_parts (tickets key) p q l sp sq = refl
+  any_parts (in_list key) p q l sp sq = refl
+
+  -- a line without its ticket, and the ticket
+  ticket_line : (x : LineSum) (p t : ℕ) (l : Line W) → line_sum x p (ticketed 0 l) + line_sum {W = W} x 1 (calling 0 0 t) ≡ line_sum x p (ticketed t l)
+  ticket_line lists p t l = omega arith
+  ticket_line told_ones p t l = omega arith
+  ticket_line answers p t l = omega arith
+  ticket_line (waiting key) p t l = omega arith
+  ticket_line (holding key) p t l = omega arith
+  ticket_line (tickets key) p t l = omega arith
+  ticket_line (in_list key) p t l = omega arith
+
+  -- a line with a ticket that had none
+  with_line : (x : LineSum) (p t : ℕ) (l : Line W) → 0 < p → l.ticket ≡ 0 → line_sum x (p + 1) (ticketed t l) ≡ line_sum x p l + line_sum {W = W} x 1 (calling 0 0 t)
+  with_line x p t l some_part untied =
+      let same : line_sum x p l ≡ line_sum x p (ticketed 0 l) = ap (λ (n : ℕ). line_sum x p (ticketed n l)) untied in
+      omega (arith, ticket_line x p t l, any_parts x (p + 1) p (ticketed t l) (omega arith) some_part)
+
+module _ {T W : Type 0} where
+  pub gives_ticket : (s : Side) (id : ℕ) (v : View T W) → 1 < v.parts → Splits {S = Option T} Woken id v (no_ticket s v) (ticket_of s v)
+  gives_ticket of_receives id v more = splits id v (no_ticket of_receives v) (ticket_of of_receives v) adds (λ g b. (b, tt))
+    where
+      adds : (k : Sum T) → sum_of k (no_ticket of_receives v) + sum_of k (ticket_of of_receives v) ≡ sum_of k v
+      adds parts = omega arith
+      adds locks = omega (arith, only_some (v.parts - 1) (only v.owns 1) (omega arith), only_some v.parts (only v.owns 1) (omega arith))
+      adds owns = omega (arith, only_some (v.parts - 1) v.owns (omega arith), only_some v.parts v.owns (omega arith))
+      adds (putting f) = omega (arith, only_some (v.parts - 1) (puts f v.log) (omega arith), only_some v.parts (puts f v.log) (omega arith))
+      adds (taking f) = omega (arith, only_some (v.parts - 1) (takes f v.log) (omega arith), only_some v.parts (takes f v.log) (omega arith))
+      adds (on of_receives x) = omega (arith, ticket_line x (v.parts - 1) v.receives.ticket v.receives, any_parts x (v.parts - 1) v.parts v.receives (omega arith) (omega arith))
+      adds (on of_sends x) = omega (arith, idle_line W x 1, any_parts x (v.parts - 1) v.parts v.sends (omega arith) (omega arith))
+  gives_ticket of_sends id v more = splits id v (no_ticket of_sends v) (ticket_of of_sends v) adds (λ g b. (b, tt))
+    where
+      adds : (k : Sum T) → sum_of k (no_ticket of_sends v) + sum_of k (ticket_of of_sends v) ≡ sum_of k v
+      adds parts = omega arith
+      adds locks = omega (arith, only_some (v.parts - 1) (only v.owns 1) (omega arith), only_some v.parts (only v.owns 1) (omega arith))
+      adds owns = omega (arith, only_some (v.parts - 1) v.owns (omega arith), only_some v.parts v.owns (omega arith))
+      adds (putting f) = omega (arith, only_some (v.parts - 1) (puts f v.log) (omega arith), only_some v.parts (puts f v.log) (omega arith))
+      adds (taking f) = omega (arith, only_some (v.parts - 1) (takes f v.log) (omega arith), only_some v.parts (takes f v.log) (omega arith))
+      adds (on of_receives x) = omega (arith, idle_line W x 1, any_parts x (v.parts - 1) v.parts v.receives (omega arith) (omega arith))
+      adds (on of_sends x) = omega (arith, ticket_line x (v.parts - 1) v.sends.ticket v.sends, any_parts x (v.parts - 1) v.parts v.sends (omega arith) (omega arith))
+
+  pub takes_ticket : (s : Side) (id : ℕ) (v : View T W) (port t : ℕ) → 0 < v.parts → (of s v).ticket ≡ 0 → Joins {S = Option T} Woken id v port (one_ticket s t) (with_ticket s v (one_ticket s t)) nobody
+  takes_ticket of_receives id v port t some_part untied = joins id v port (one_ticket of_receives t) (with_ticket of_receives v (one_ticket of_receives t)) adds (λ g b c. b)
+    where
+      adds : (k : Sum T) → sum_of k (with_ticket of_receives v (one_ticket of_receives t)) ≡ sum_of k v + sum_of {W = W} k (one_ticket of_receives t)
+      adds parts = refl
+      adds locks = omega (arith, only_some (v.parts + 1) (only v.owns 1) (omega arith), only_some v.parts (only v.owns 1) some_part)
+      adds owns = omega (arith, only_some (v.parts + 1) v.owns (omega arith), only_some v.parts v.owns some_part)
+      adds (putting f) = omega (arith, only_some (v.parts + 1) (puts f v.log) (omega arith), only_some v.parts (puts f v.log) some_part)
+      adds (taking f) = omega (arith, only_some (v.parts + 1) (takes f v.log) (omega arith), only_some v.parts (takes f v.log) some_part)
+      adds (on of_receives x) = with_line x v.parts t v.receives some_part untied
+      adds (on of_sends x) = omega (arith, idle_line W x 1, any_parts x (v.parts + 1) v.parts v.sends (omega arith) some_part)
+  takes_ticket of_sends id v port t some_part untied = joins id v port (one_ticket of_sends t) (with_ticket of_sends v (one_ticket of_sends t)) adds (λ g b c. b)
+    where
+      adds : (k : Sum T) → sum_of k (with_ticket of_sends v (one_ticket of_sends t)) ≡ sum_of k v + sum_of {W = W} k (one_ticket of_sends t)
+      adds parts = refl
+      adds locks = omega (arith, only_some (v.parts + 1) (only v.owns 1) (omega arith), only_some v.parts (only v.owns 1) some_part)
+      adds owns = omega (arith, only_some (v.parts + 1) v.owns (omega arith), only_some v.parts v.owns some_part)
+      adds (putting f) = omega (arith, only_some (v.parts + 1) (puts f v.log) (omega arith), only_some v.parts (puts f v.log) some_part)
+      adds (taking f) = omega (arith, only_some (v.parts + 1) (takes f v.log) (omega arith), only_some v.parts (takes f v.log) some_part)
+      adds (on of_receives x) = omega (arith, idle_line W x 1, any_parts x (v.parts + 1) v.parts v.receives (omega arith) some_part)
+      adds (on of_sends x) = with_line x v.parts t v.sends some_part untied
 
 -- where no seat has the slot the word is that of a free one
 free_word : {T : Type 0} (word : ℕ) (slot : home.Option (Option T)) (l o : ℕ) → l ≡ 0 → IsSlot word slot l o → (word ≡ 0) ⊎ (word ≡ 2)
@@ -202,30 +285,30 @@ free_word word slot l o none_else (full x e d c) = inr e
 free_word word slot l o none_else (out d c e w) = absurd (omega arith)
 
 module _ {T W : Type 0} where
-  pub absorbs : (id p other q : ℕ) (lg mg : List (Transfer T)) → 0 < p → 0 < q → Joins {S = Option T} Woken id (pass {W = W} p 0 0 0 0 lg) other (pass q 0 0 0 0 mg) (absorbed (pass p 0 0 0 0 lg) (pass q 0 0 0 0 mg)) nobody
-  absorbs id p other q lg mg sp sq = joins id (pass p 0 0 0 0 lg) other (pass q 0 0 0 0 mg) (absorbed (pass p 0 0 0 0 lg) (pass q 0 0 0 0 mg)) (absorbs_adds T W p q lg mg sp sq) (λ g b c. agrees_append g lg mg b c)
-
-  pub shares : (id p : ℕ) (lg : List (Transfer T)) → 1 < p → Splits {S = Option T} Woken id (pass {W = W} p 0 0 0 0 lg) (kept_half (pass p 0 0 0 0 lg)) (given_half (pass p 0 0 0 0 lg))
-  shares id p lg more = splits id (pass p 0 0 0 0 lg) (kept_half (pass p 0 0 0 0 lg)) (given_half (pass p 0 0 0 0 lg)) (shares_adds T W p lg more) (λ g b. (b, tt))
-
-  pub gives_ticket : (id p a h t : ℕ) (lg : List (Transfer T)) → 1 < p → Splits {S = Option T} Woken id (pass {W = W} p a h 0 t lg) (no_ticket (pass p a h 0 t lg)) (ticket_of (pass p a h 0 t lg))
-  gives_ticket id p a h t lg more = splits id (pass p a h 0 t lg) (no_ticket (pass p a h 0 t lg)) (ticket_of (pass p a h 0 t lg)) (gives_adds T W p a h t lg more) (λ g b. (b, tt))
-
-  pub takes_ticket : (id p a h other t : ℕ) (lg : List (Transfer T)) → 0 < p → Joins {S = Option T} Woken id (pass {W = W} p a h 0 0 lg) other (pass 1 0 0 0 t []) (with_ticket (pass p a h 0 0 lg) (pass 1 0 0 0 t [])) nobody
-  takes_ticket id p a h other t lg some_part = joins id (pass p a h 0 0 lg) other (pass 1 0 0 0 t []) (with_ticket (pass p a h 0 0 lg) (pass 1 0 0 0 t [])) (takes_adds T W p a h t lg some_part) (λ g b c. b)
-
   -- a new seat that has nothing
   pub blank : (slots : ℕ) → Enters {S = Option T} {V = View T W} Woken slots 0 (λ n w. w ≡ nobody)
   blank slots s h wide small =
       (nobody, (h.0, h.1, h.2, h.3, same h.0 h.1 s.views (s.views ++ nobody ∷ []) (λ k. let e = nothing T W k in omega (arith, total_snoc (sum_of k) s.views nobody)) (λ g a. agrees_snoc g s.views nobody tt a) h.4), refl)
 
   -- the start: there is no message, and nobody waits
-  pub begins : Woken {T = T} {W = W} (opening (0 ∷ []) (None ∷ []) (busy 1024 0 0 0 [] []))
-  begins = (0, some None, refl, refl, record { whole = refl; one = refl; place = empty refl refl refl; owed = λ key some_waiting. absurd (omega arith); tickets = λ key. omega arith; balance = ((λ k. ((λ less. absurd (omega arith)), λ more. refl)), λ f. refl); order = ([], (refl, λ x e. absurd (no_empty x e)), (tt, tt)) })
+  pub begins : Woken {T = T} {W = W} (opening (0 ∷ []) (None ∷ []) everything)
+  begins = (0, some None, refl, refl, record { whole = refl; one = one_list; place = empty refl refl refl; owed = nobody_waits; tickets = no_tickets; balance = ((λ k. ((λ less. absurd (omega arith)), λ more. refl)), λ f. refl); order = ([], (refl, λ x e. absurd (no_empty x e)), (tt, tt)) })
+    where
+      one_list : (s : Side) → total (lists_of s) (everything {T = T} {W = W} ∷ []) ≡ 1
+      one_list of_receives = refl
+      one_list of_sends = refl
+
+      nobody_waits : (s : Side) (key : ℕ) → Owed (wanted s 0) (total (waits_of s key) (everything {T = T} {W = W} ∷ [])) (total (told_of s) (everything {T = T} {W = W} ∷ []) + total (answers_of s) (everything {T = T} {W = W} ∷ [])) (total (holds_of s key) (everything {T = T} {W = W} ∷ []))
+      nobody_waits of_receives key some_waiting = absurd (omega arith)
+      nobody_waits of_sends key some_waiting = absurd (omega arith)
+
+      no_tickets : (s : Side) (key : ℕ) → total (tickets_of s key) (everything {T = T} {W = W} ∷ []) ≤ total (listed_of s key) (everything {T = T} {W = W} ∷ [])
+      no_tickets of_receives key = omega arith
+      no_tickets of_sends key = omega arith
 
   -- ---- who has every part learns the rule
 
-  module _ (word : ℕ) (slot : home.Option (Option T)) (vs : List (View T W)) (id : ℕ) (v : View T W) (k : Kept word slot vs) (at : get_elem? vs id ≡ some v) (all : HasAll v) where
+  module _ (s : Side) (word : ℕ) (slot : home.Option (Option T)) (vs : List (View T W)) (id : ℕ) (v : View T W) (k : Kept word slot vs) (at : get_elem? vs id ≡ some v) (all : HasAll s v) where
     no_others : others parts_of vs id ≡ 0
     no_others = let whole = k.whole in let p = was parts_of refl vs id v at in let mine = all.0 in omega arith
 
@@ -279,46 +362,46 @@ module _ {T W : Type 0} where
         by_place (full x e d c) b = (Some x, e, of_slot (Some x) d b)
         by_place (out d c e w) b = let none_out = no_locks in absurd (omega arith)
 
-    whole_law : (key : ℕ) → 0 < waits key v.listeners → messages word ≤ told v.listeners
+    whole_law : (key : ℕ) → 0 < waits key (of s v).listeners → wanted s word ≤ told (of s v).listeners
     whole_law key some_waiting =
         let lists = all.1 in
         let mine = all.0 in
-        let z = alone key vs id v at k.one lists in
+        let z = alone s key vs id v at (k.one s) lists in
         let no_b = z.0 in
         let no_t = z.1 in
-        let no_a = none_here answers_of parts_of (set vs id nobody) (λ x e. only_none x.parts x.answers e) no_others in
-        let no_h = none_here (holds_of key) parts_of (set vs id nobody) (λ x e. only_none x.parts (is_key key x.holds) e) no_others in
-        let wv = only_some v.lists (waits key v.listeners) (omega arith) in
-        let tv = only_some v.lists (told v.listeners) (omega arith) in
-        let av = only_some v.parts v.answers (omega arith) in
+        let no_a = none_here (answers_of s) parts_of (set vs id nobody) (λ x e. only_none x.parts (of s x).answers e) no_others in
+        let no_h = none_here (holds_of s key) parts_of (set vs id nobody) (λ x e. only_none x.parts (is_key key (of s x).holds) e) no_others in
+        let wv = only_some (of s v).lists (waits key (of s v).listeners) (omega arith) in
+        let tv = only_some (of s v).lists (told (of s v).listeners) (omega arith) in
+        let av = only_some v.parts (of s v).answers (omega arith) in
         let answers = all.2 in
-        let hv = only_some v.parts (is_key key v.holds) (omega arith) in
-        let none_held : is_key key v.holds ≡ 0 = ap (is_key key) all.3 in
-        let ws = was (waits_of key) refl vs id v at in
-        let ts = was told_of refl vs id v at in
-        let ans = was answers_of refl vs id v at in
-        let hs = was (holds_of key) refl vs id v at in
-        ⊎_elim (λ (c : messages word ≤ total told_of vs + total answers_of vs). omega arith) (λ (c : 0 < total (holds_of key) vs). absurd (omega arith)) (k.owed key (omega arith))
+        let hv = only_some v.parts (is_key key (of s v).holds) (omega arith) in
+        let none_held : is_key key (of s v).holds ≡ 0 = ap (is_key key) all.3 in
+        let ws = was (waits_of s key) (at_nobody T W (λ l. only l.lists (waits key l.listeners)) refl s) vs id v at in
+        let ts = was (told_of s) (at_nobody T W (λ l. only l.lists (told l.listeners)) refl s) vs id v at in
+        let ans = was (answers_of s) refl vs id v at in
+        let hs = was (holds_of s key) refl vs id v at in
+        ⊎_elim (λ (c : wanted s word ≤ total (told_of s) vs + total (answers_of s) vs). omega arith) (λ (c : 0 < total (holds_of s key) vs). absurd (omega arith)) (k.owed s key (omega arith))
 
-    whole_ticket : (key : ℕ) → is_key key v.ticket ≤ listed key v.listeners
+    whole_ticket : (key : ℕ) → is_key key (of s v).ticket ≤ listed key (of s v).listeners
     whole_ticket key =
         let lists = all.1 in
-        let z = alone key vs id v at k.one lists in
+        let z = alone s key vs id v at (k.one s) lists in
         let no_l = z.2 in
-        let lv = only_some v.lists (listed key v.listeners) (omega arith) in
-        let ls = was (listed_of key) refl vs id v at in
-        let ts = was (tickets_of key) refl vs id v at in
-        let kept = k.tickets key in
+        let lv = only_some (of s v).lists (listed key (of s v).listeners) (omega arith) in
+        let ls = was (listed_of s key) (at_nobody T W (λ l. only l.lists (listed key l.listeners)) refl s) vs id v at in
+        let ts = was (tickets_of s key) (at_nobody T W (λ l. is_key key l.ticket) refl s) vs id v at in
+        let kept = k.tickets s key in
         omega arith
 
-  pub learns_so : (slots id : ℕ) (me : Known T W) → Allows Woken slots id me 0 (λ n. n) (λ n m. learns (step slots 0 0 0 none) me n m)
-  learns_so slots id me =
-      by_rule (λ n. n) (λ n m. learns (step slots 0 0 0 none) me n m) slots id me (λ word slot views k at. (
+  pub learns_so : (s : Side) (slots id : ℕ) (me : Known T W) → Allows Woken slots id me 0 (λ n. n) (λ n m. learns s (step slots 0 0 0 none) me n m)
+  learns_so s slots id me =
+      by_rule (λ n. n) (λ n m. learns s (step slots 0 0 0 none) me n m) slots id me (λ word slot views k at. (
         me.0,
         Rattle.atomic_table.specs.Table.keeps,
         slot,
         tt,
         refl,
         subst (Kept word slot) (sym (set_again views id me.0 at)) k,
-        (refl, λ all. (whole_word word slot views id me.0 k at all, whole_law word slot views id me.0 k at all, whole_ticket word slot views id me.0 k at all, whole_log word slot views id me.0 k at all)),
+        (refl, λ all. (whole_word s word slot views id me.0 k at all, whole_law s word slot views id me.0 k at all, whole_ticket s word slot views id me.0 k at all, whole_log s word slot views id me.0 k at all)),
       ))

@@ -3,10 +3,11 @@ use Rattle.std.proofs.Common.{◌⊎◌, inl, inr, ◌≡◌, ℕ, zero, suc, �
 use mathlib.Core.Option as home
 use mathlib.Core.Option.{some, some-ne-none, some-injective}
 use lib.ListN.{get_elem?}
+use Rattle.channel_wakeups.specs.declared.rule.Line.{Line}
 use Rattle.channel_wakeups.specs.declared.rule.View.{View}
 use Rattle.channel_wakeups.specs.Lists.{total, told, waits, listed}
 use Rattle.channel_wakeups.specs.Log.{Weight, Balanced, each, numbered, held}
-use Rattle.channel_wakeups.specs.Views.{nobody, only, parts_of, lists_of, answers_of, holds_of, locks_of, owns_of, waits_of, told_of, listed_of, tickets_of, puts_of, takes_of, messages, Owed, IsSlot, empty, full, out, Ordered, Kept}
+use Rattle.channel_wakeups.specs.Views.{Side, of_receives, of_sends, of, idle, nobody, only, is_key, parts_of, lists_of, answers_of, holds_of, locks_of, owns_of, waits_of, told_of, listed_of, tickets_of, puts_of, takes_of, wanted, Owed, IsSlot, empty, full, out, Ordered, Kept}
 
 pub total_set : {V : Type 0} (f : V → ℕ) (vs : List V) (i : ℕ) (v w : V) → get_elem? vs i ≡ some v → total f (set vs i w) + f v ≡ total f vs + f w
 total_set f [] i v w e = absurd (some-ne-none v (sym e))
@@ -58,6 +59,11 @@ balanced_by {T = T} s p q p' q' e d b = (
   (λ f. sym (e f) ∙ b.1 f ∙ (λ i. d f i + held (e each i) f s)),
 )
 
+-- who has nothing counts for nothing on each side
+pub at_nobody : (T W : Type 0) (g : Line W → ℕ) → g idle ≡ 0 → (s : Side) → g (of s (nobody {T = T})) ≡ 0
+at_nobody T W g e of_receives = e
+at_nobody T W g e of_sends = e
+
 -- ---- one seat's view changes
 
 module _ {T W : Type 0} where
@@ -71,14 +77,14 @@ module _ {T W : Type 0} where
   pub becomes : (f : View T W → ℕ) → f nobody ≡ 0 → (vs : List (View T W)) (id : ℕ) (v w : View T W) → get_elem? vs id ≡ some v → total f (set vs id w) ≡ others f vs id + f w
   becomes f z vs id v w at = let t = total_set f vs id v w at in let u = total_set f vs id v nobody at in omega arith
 
-  -- whatever the others count for, the law goes from v to u
-  abbrev pub Goes : ℕ → ℕ → View T W → View T W → Type 0
-  Goes w x v u =
-      (key b t a h : ℕ) → (v.lists ≡ 1 → (b ≡ 0) × (t ≡ 0)) → Owed (messages w) (b + waits_of key v) ((t + told_of v) + (a + answers_of v)) (h + holds_of key v)
-      → Owed (messages x) (b + waits_of key u) ((t + told_of u) + (a + answers_of u)) (h + holds_of key u)
+  -- whatever the others count for, the law of a side goes from v to u
+  abbrev pub Goes : Side → ℕ → ℕ → View T W → View T W → Type 0
+  Goes s w x v u =
+      (key b t a h : ℕ) → (lists_of s v ≡ 1 → (b ≡ 0) × (t ≡ 0)) → Owed (wanted s w) (b + waits_of s key v) ((t + told_of s v) + (a + answers_of s v)) (h + holds_of s key v)
+      → Owed (wanted s x) (b + waits_of s key u) ((t + told_of s u) + (a + answers_of s u)) (h + holds_of s key u)
 
-  abbrev pub Tickets : View T W → View T W → Type 0
-  Tickets v u = (key l p : ℕ) → p + tickets_of key v ≤ l + listed_of key v → p + tickets_of key u ≤ l + listed_of key u
+  abbrev pub Tickets : Side → View T W → View T W → Type 0
+  Tickets s v u = (key l p : ℕ) → p + tickets_of s key v ≤ l + listed_of s key v → p + tickets_of s key u ≤ l + listed_of s key u
 
   abbrev pub Places : ℕ → ℕ → home.Option (Option T) → home.Option (Option T) → View T W → View T W → Type 0
   Places w x s r v u = (l o : ℕ) → (l ≡ 0 → o ≡ 0) → IsSlot w s (l + locks_of v) (o + owns_of v) → IsSlot x r (l + locks_of u) (o + owns_of u)
@@ -93,57 +99,58 @@ module _ {T W : Type 0} where
   abbrev pub took_else : List (View T W) → ℕ → Weight T → ℕ
   took_else vs id f = others (takes_of f) vs id
 
-  -- who has the list is alone with it
-  pub alone : (key : ℕ) (vs : List (View T W)) (id : ℕ) (v : View T W) → get_elem? vs id ≡ some v → total lists_of vs ≡ 1 → v.lists ≡ 1
-      → (others (waits_of key) vs id ≡ 0) × (others told_of vs id ≡ 0) × (others (listed_of key) vs id ≡ 0)
-  alone key vs id v at one is =
-      let p = was lists_of refl vs id v at in
-      let rest : others lists_of vs id ≡ 0 = omega arith in (
-        none_here (waits_of key) lists_of (set vs id nobody) (λ x e. only_none x.lists (waits key x.listeners) e) rest,
-        none_here told_of lists_of (set vs id nobody) (λ x e. only_none x.lists (told x.listeners) e) rest,
-        none_here (listed_of key) lists_of (set vs id nobody) (λ x e. only_none x.lists (listed key x.listeners) e) rest,
+  -- who has a list is alone with it
+  pub alone : (s : Side) (key : ℕ) (vs : List (View T W)) (id : ℕ) (v : View T W) → get_elem? vs id ≡ some v → total (lists_of s) vs ≡ 1 → lists_of s v ≡ 1
+      → (others (waits_of s key) vs id ≡ 0) × (others (told_of s) vs id ≡ 0) × (others (listed_of s key) vs id ≡ 0)
+  alone s key vs id v at one is =
+      let p = was (lists_of s) (at_nobody T W (λ l. l.lists) refl s) vs id v at in
+      let rest : others (lists_of s) vs id ≡ 0 = omega arith in (
+        none_here (waits_of s key) (lists_of s) (set vs id nobody) (λ x e. only_none (of s x).lists (waits key (of s x).listeners) e) rest,
+        none_here (told_of s) (lists_of s) (set vs id nobody) (λ x e. only_none (of s x).lists (told (of s x).listeners) e) rest,
+        none_here (listed_of s key) (lists_of s) (set vs id nobody) (λ x e. only_none (of s x).lists (listed key (of s x).listeners) e) rest,
       )
 
   pub others_free : (vs : List (View T W)) (id : ℕ) → others locks_of vs id ≡ 0 → others owns_of vs id ≡ 0
   others_free vs id e = none_here owns_of locks_of (set vs id nobody) (λ x z. no_lock x.parts x.owns z) e
 
   module _ (w x : ℕ) (vs : List (View T W)) (id : ℕ) (v u : View T W) (at : get_elem? vs id ≡ some v) where
-    owed_turned : (key : ℕ) → total lists_of vs ≡ 1 → Goes w x v u → Owed (messages w) (total (waits_of key) vs) (total told_of vs + total answers_of vs) (total (holds_of key) vs)
-        → Owed (messages x) (total (waits_of key) (set vs id u)) (total told_of (set vs id u) + total answers_of (set vs id u)) (total (holds_of key) (set vs id u))
-    owed_turned key one goes k some_waiting =
-        let wv = was (waits_of key) refl vs id v at in
-        let tv = was told_of refl vs id v at in
-        let av = was answers_of refl vs id v at in
-        let hv = was (holds_of key) refl vs id v at in
-        let ww = becomes (waits_of key) refl vs id v u at in
-        let tw = becomes told_of refl vs id v u at in
-        let aw = becomes answers_of refl vs id v u at in
-        let hw = becomes (holds_of key) refl vs id v u at in
-        let before : Owed (messages w) (others (waits_of key) vs id + waits_of key v) ((others told_of vs id + told_of v) + (others answers_of vs id + answers_of v)) (others (holds_of key) vs id + holds_of key v) =
-        (λ waited. owed_by (messages w) (total told_of vs + total answers_of vs) (total (holds_of key) vs) _ _ (omega arith) hv (k (omega arith))) in
-        let after = goes key (others (waits_of key) vs id) (others told_of vs id) (others answers_of vs id) (others (holds_of key) vs id) (λ is. let z = alone key vs id v at one is in (z.0, z.1)) before (omega arith) in
-        owed_by (messages x) _ _ (total told_of (set vs id u) + total answers_of (set vs id u)) (total (holds_of key) (set vs id u)) (omega arith) (sym hw) after
+    owed_turned : (s : Side) (key : ℕ) → total (lists_of s) vs ≡ 1 → Goes s w x v u
+        → Owed (wanted s w) (total (waits_of s key) vs) (total (told_of s) vs + total (answers_of s) vs) (total (holds_of s key) vs)
+        → Owed (wanted s x) (total (waits_of s key) (set vs id u)) (total (told_of s) (set vs id u) + total (answers_of s) (set vs id u)) (total (holds_of s key) (set vs id u))
+    owed_turned s key one goes k some_waiting =
+        let wv = was (waits_of s key) (at_nobody T W (λ l. only l.lists (waits key l.listeners)) refl s) vs id v at in
+        let tv = was (told_of s) (at_nobody T W (λ l. only l.lists (told l.listeners)) refl s) vs id v at in
+        let av = was (answers_of s) refl vs id v at in
+        let hv = was (holds_of s key) refl vs id v at in
+        let ww = becomes (waits_of s key) (at_nobody T W (λ l. only l.lists (waits key l.listeners)) refl s) vs id v u at in
+        let tw = becomes (told_of s) (at_nobody T W (λ l. only l.lists (told l.listeners)) refl s) vs id v u at in
+        let aw = becomes (answers_of s) refl vs id v u at in
+        let hw = becomes (holds_of s key) refl vs id v u at in
+        let before : Owed (wanted s w) (others (waits_of s key) vs id + waits_of s key v) ((others (told_of s) vs id + told_of s v) + (others (answers_of s) vs id + answers_of s v)) (others (holds_of s key) vs id + holds_of s key v) =
+        (λ waited. owed_by (wanted s w) (total (told_of s) vs + total (answers_of s) vs) (total (holds_of s key) vs) _ _ (omega arith) hv (k (omega arith))) in
+        let after = goes key (others (waits_of s key) vs id) (others (told_of s) vs id) (others (answers_of s) vs id) (others (holds_of s key) vs id) (λ is. let z = alone s key vs id v at one is in (z.0, z.1)) before (omega arith) in
+        owed_by (wanted s x) _ _ (total (told_of s) (set vs id u) + total (answers_of s) (set vs id u)) (total (holds_of s key) (set vs id u)) (omega arith) (sym hw) after
 
-    tickets_turned : (key : ℕ) → Tickets v u → total (tickets_of key) vs ≤ total (listed_of key) vs → total (tickets_of key) (set vs id u) ≤ total (listed_of key) (set vs id u)
-    tickets_turned key goes k =
-        let tv = was (tickets_of key) refl vs id v at in
-        let lv = was (listed_of key) refl vs id v at in
-        let tw = becomes (tickets_of key) refl vs id v u at in
-        let lw = becomes (listed_of key) refl vs id v u at in
-        let after = goes key (others (listed_of key) vs id) (others (tickets_of key) vs id) (omega arith) in
+    tickets_turned : (s : Side) (key : ℕ) → Tickets s v u → total (tickets_of s key) vs ≤ total (listed_of s key) vs → total (tickets_of s key) (set vs id u) ≤ total (listed_of s key) (set vs id u)
+    tickets_turned s key goes k =
+        let tv = was (tickets_of s key) (at_nobody T W (λ l. is_key key l.ticket) refl s) vs id v at in
+        let lv = was (listed_of s key) (at_nobody T W (λ l. only l.lists (listed key l.listeners)) refl s) vs id v at in
+        let tw = becomes (tickets_of s key) (at_nobody T W (λ l. is_key key l.ticket) refl s) vs id v u at in
+        let lw = becomes (listed_of s key) (at_nobody T W (λ l. only l.lists (listed key l.listeners)) refl s) vs id v u at in
+        let after = goes key (others (listed_of s key) vs id) (others (tickets_of s key) vs id) (omega arith) in
         omega arith
 
-    pub turned : (s r : home.Option (Option T)) → u.parts ≡ v.parts → u.lists ≡ v.lists → Places w x s r v u → Goes w x v u → Tickets v u → Logs (put_else vs id) (took_else vs id) s r v u → (Ordered s vs → Ordered r (set vs id u)) → Kept w s vs → Kept x r (set vs id u)
+    pub turned : (s r : home.Option (Option T)) → u.parts ≡ v.parts → ((side : Side) → lists_of side u ≡ lists_of side v) → Places w x s r v u → ((side : Side) → Goes side w x v u) → ((side : Side) → Tickets side v u)
+        → Logs (put_else vs id) (took_else vs id) s r v u → (Ordered s vs → Ordered r (set vs id u)) → Kept w s vs → Kept x r (set vs id u)
     turned s r parts lists places goes tickets logs order k =
         let whole = k.whole in
-        let one = k.one in
         record {
           whole = omega (arith, total_set parts_of vs id v u at);
-          one = omega (arith, total_set lists_of vs id v u at);
+          one = λ side. let one = k.one side in let same = lists side in omega (arith, total_set (lists_of side) vs id v u at);
           place = slot_by x r _ _ _ _ (sym (becomes locks_of refl vs id v u at)) (sym (becomes owns_of refl vs id v u at))
               (places (others locks_of vs id) (others owns_of vs id) (others_free vs id) (slot_by w s _ _ _ _ (was locks_of refl vs id v at) (was owns_of refl vs id v at) k.place));
-          owed = λ key. owed_turned key one goes (k.owed key);
-          tickets = λ key. tickets_turned key tickets (k.tickets key);
+          owed = λ side key. owed_turned side key (k.one side) (goes side) (k.owed side key);
+          tickets = λ side key. tickets_turned side key (tickets side) (k.tickets side key);
           balance = balanced_by r _ _ _ _ (λ f. sym (becomes (puts_of f) refl vs id v u at)) (λ f. sym (becomes (takes_of f) refl vs id v u at))
               (logs (balanced_by s _ _ _ _ (λ f. was (puts_of f) refl vs id v at) (λ f. was (takes_of f) refl vs id v at) k.balance));
           order = order k.order;

@@ -8,12 +8,13 @@ use Rattle.concurrent_queue.specs.declared.cells.Word.TheVariants.{State}
 use Rattle.channel_wakeups.specs.declared.cells.SlotCells.{SlotCells}
 use Rattle.channel_wakeups.specs.declared.stage.Stage.{Stage}
 use Rattle.channel_wakeups.specs.declared.stage.Stage.TheVariants.{Free, Won, Filled, Caught, Emptied}
+use Rattle.channel_wakeups.specs.declared.rule.Line.{Line}
 use Rattle.channel_wakeups.specs.declared.rule.View.{View}
 use Rattle.channel_wakeups.specs.declared.rule.Transfer.{Transfer}
 use Rattle.channel_wakeups.specs.declared.rule.Transfer.TheVariants.{In, Out}
 use Rattle.channel_wakeups.specs.Log.{PutBefore, TookBefore}
-use Rattle.channel_wakeups.specs.Views.{pass}
-use Rattle.channel_wakeups.specs.Stages.{filling, taking, resting, giving}
+use Rattle.channel_wakeups.specs.Views.{pass, answering, ended}
+use Rattle.channel_wakeups.specs.Stages.{filling, refused, taking, resting, giving}
 
 module _ {T W : Type 0} where
   -- the call has this of the slot, and its seat knows this
@@ -32,7 +33,7 @@ module _ {T W : Type 0} where
   Exchanged x y (Ok w) a b =
       (x ≡ 0 → y ≡ 3 → Stands Won (filling a.seat.me.0) b) × (x ≡ 2 → y ≡ 1 → HasCaught a.seat.me.0 b)
   Exchanged x y (Err w) a b =
-      (x ≡ 0 → y ≡ 3 → IsSame a b)
+      (x ≡ 0 → y ≡ 3 → ((w ≡ 1) × IsSame a b) ⊎ (((w ≡ 2) ⊎ (w ≡ 3)) × (b.stage ≡ a.stage) × (b.seat.me.0 ≡ refused a.seat.me.0)))
       × (x ≡ 2 → y ≡ 1 → ((w ≡ 3) × IsSame a b) ⊎ (((w ≡ 0) ⊎ (w ≡ 1)) × (b.stage ≡ a.stage) × (b.seat.me.0 ≡ resting a.seat.me.0)))
 
   abbrev pub Put : T → Result Unit T → SlotCells T W → SlotCells T W → Type 0
@@ -61,15 +62,17 @@ module _ {T W : Type 0} where
   abbrev pub IsLeft : TableId → Stage → View T W → SlotCells T W → Type 0
   IsLeft table g v c = (c.seat.table_id ≡ table) × (c.stage ≡ g) × (c.seat.me.0 ≡ v)
 
-  -- a push of a pass with these parts and this log has answered: it answers for its message, which it put in, or was refused and is
-  -- idle
-  abbrev pub Pushed : TableId → ℕ → ℕ → List (Transfer T) → T → QueueReply T → SlotCells T W → Type 0
-  Pushed table p t log x (reply.Push (Ok u)) c = (k : ℕ) × PutBefore k log × TookBefore k log × IsLeft table Free (pass p 1 0 0 t (log ++ In k x ∷ [])) c
-  Pushed table p t log x (reply.Push (Err e)) c = IsLeft table Free (pass p 0 0 0 t log) c
-  Pushed table p t log x _ c = ⊥
+  -- a push of a pass with these lines and this log has answered: it answers for its message, which it put in, or was refused; either
+  -- way there was a moment without a free place
+  abbrev pub Pushed : TableId → ℕ → Line W → Line W → List (Transfer T) → T → QueueReply T → SlotCells T W → Type 0
+  Pushed table p l m log x (reply.Push (Ok u)) c =
+      (k : ℕ) × PutBefore k log × TookBefore k log × IsLeft table Free (pass p 0 (answering l) (ended m) (log ++ In k x ∷ [])) c
+  Pushed table p l m log x (reply.Push (Err e)) c = IsLeft table Free (pass p 0 l (ended m) log) c
+  Pushed table p l m log x _ c = ⊥
 
-  -- a pop has answered: there was a moment without a message, and it answers for none
-  abbrev pub Popped : TableId → ℕ → ℕ → List (Transfer T) → QueueReply T → SlotCells T W → Type 0
-  Popped table p t log (reply.Pop (Ok x)) c = (k : ℕ) × TookBefore k log × IsLeft table Free (pass p 0 0 0 t (log ++ Out k x ∷ [])) c
-  Popped table p t log (reply.Pop (Err e)) c = IsLeft table Free (pass p 0 0 0 t log) c
-  Popped table p t log _ c = ⊥
+  -- a pop has answered: there was a moment without a message, and it answers for the place of the one that it took
+  abbrev pub Popped : TableId → ℕ → Line W → Line W → List (Transfer T) → QueueReply T → SlotCells T W → Type 0
+  Popped table p l m log (reply.Pop (Ok x)) c =
+      (k : ℕ) × TookBefore k log × IsLeft table Free (pass p 0 (ended l) (answering m) (log ++ Out k x ∷ [])) c
+  Popped table p l m log (reply.Pop (Err e)) c = IsLeft table Free (pass p 0 (ended l) m log) c
+  Popped table p l m log _ c = ⊥

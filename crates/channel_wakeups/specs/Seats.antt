@@ -2,27 +2,34 @@
 use Rattle.std.specs.Prelude.{◌≡◌, ℕ, ◌<◌, [], Option}
 use Rattle.atomic_table.specs.declared.shared.Seat.{Seat}
 use Rattle.atomic_table.specs.Seated.{TableId}
+use Rattle.channel_wakeups.specs.declared.rule.Line.{Line}
 use Rattle.channel_wakeups.specs.declared.rule.View.{View}
-use Rattle.channel_wakeups.specs.Views.{pass, desk}
+use Rattle.channel_wakeups.specs.Views.{Side, of_receives, other, of, calling, idle, listing}
 
 module _ {T W : Type 0} where
-  -- a pass of this table with these parts, whose call answers for so many messages, and has the listener and the ticket under these
-  -- keys plus 1, or 0
-  abbrev pub IsCall : TableId → Seat (Option T) (View T W) → ℕ → ℕ → ℕ → ℕ → Type 0
-  IsCall table s parts answers holds ticket = (s.table_id ≡ table) × (s.me ≡ (pass parts answers holds 0 ticket s.me.0.log, [])) × (0 < parts)
+  -- a pass with these parts, whose call knows this of one side, and of the other has at most this ticket
+  abbrev pub Calls : Side → ℕ → Line W → ℕ → View T W → Type 0
+  Calls s parts line ticket v = (v.parts ≡ parts) × (v.owns ≡ 0) × (of s v ≡ line) × (of (other s) v ≡ calling 0 0 ticket) × (0 < parts)
+
+  -- the same of a seat of this table
+  abbrev pub IsPass : Side → TableId → Seat (Option T) (View T W) → ℕ → Line W → ℕ → Type 0
+  IsPass s table seat parts line ticket = (seat.table_id ≡ table) × (seat.me.1 ≡ []) × Calls s parts line ticket seat.me.0
+
+  -- a call of one side: for how many it answers, the listener that it has in hand and the ticket, by their keys plus 1, or 0
+  abbrev pub IsCall : Side → TableId → Seat (Option T) (View T W) → ℕ → ℕ → ℕ → ℕ → Type 0
+  IsCall s table seat parts answers holds ticket = IsPass s table seat parts (calling answers holds ticket) 0
 
   -- a pass with no call under way
   abbrev pub IsIdle : TableId → Seat (Option T) (View T W) → ℕ → Type 0
-  IsIdle table s parts = IsCall table s parts 0 0 0
+  IsIdle table seat parts = IsCall of_receives table seat parts 0 0 0
 
-  -- the ticket of a pending receive, whose listener is under this key plus 1
-  abbrev pub IsTicket : TableId → Seat (Option T) (View T W) → ℕ → Type 0
-  IsTicket table s key = (s.table_id ≡ table) × (s.me ≡ (pass 1 0 0 0 key [], []))
+  -- the ticket of one that is pending, whose listener is under this key plus 1
+  abbrev pub IsTicket : Side → TableId → Seat (Option T) (View T W) → ℕ → Type 0
+  IsTicket s table seat key = IsCall s table seat 1 0 0 key × (seat.me.0.log ≡ [])
 
-  -- the list's seat, with no pass in it
-  abbrev pub IsList : TableId → Seat (Option T) (View T W) → Type 0
-  IsList table s = (s.table_id ≡ table) × (s.me ≡ (desk s.me.0.listeners, []))
+  -- the seat of a side's list, with no pass in it
+  abbrev pub Lists : Side → View T W → Type 0
+  Lists s v = (v.parts ≡ 0) × (of s v ≡ listing 1 (of s v).listeners) × (of (other s) v ≡ idle)
 
-  -- the list's seat, with a pass in it
-  abbrev pub IsBusy : TableId → Seat (Option T) (View T W) → Type 0
-  IsBusy table s = (s.table_id ≡ table) × (s.me.1 ≡ []) × (s.me.0.lists ≡ 1) × (s.me.0.owns ≡ 0) × (0 < s.me.0.parts)
+  abbrev pub IsList : Side → TableId → Seat (Option T) (View T W) → Type 0
+  IsList s table seat = (seat.table_id ≡ table) × (seat.me.1 ≡ []) × Lists s seat.me.0

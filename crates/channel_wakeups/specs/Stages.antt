@@ -1,30 +1,33 @@
 -- What a call has of the slot, stage by stage, and what its seat knows then.
-use Rattle.std.specs.Prelude.{◌≡◌, ℕ, ◌+◌, ◌<◌, List, [], ◌∷◌, ◌++◌, Option, None, Some}
+use Rattle.std.specs.Prelude.{◌≡◌, ℕ, ◌<◌, List, [], ◌∷◌, ◌++◌, Option, None, Some}
 use Rattle.channel_wakeups.specs.declared.rule.View.{View}
 use Rattle.channel_wakeups.specs.declared.rule.Transfer.TheVariants.{Out}
 use Rattle.channel_wakeups.specs.declared.stage.Stage.{Stage}
 use Rattle.channel_wakeups.specs.declared.stage.Stage.TheVariants.{Free, Won, Filled, Caught, Emptied}
-use Rattle.channel_wakeups.specs.Views.{pass, Known, given}
+use Rattle.channel_wakeups.specs.Views.{pass, answering, ended, Known, given}
 
 module _ {T W : Type 0} where
-  -- a pass whose call knows the word to be n while it has the slot; with 0 it has none
+  -- a seat whose call knows the word to be n while it has the slot; with 0 it has none
   abbrev pub having : ℕ → View T W → View T W
-  having n v = pass v.parts v.answers v.holds n v.ticket v.log
+  having n v = pass v.parts n v.receives v.sends v.log
 
-  -- a push won the slot, and answers for one message more
+  -- a push won the slot, and answers for one message more; or was refused, and answers for no place any more
   abbrev pub filling : View T W → View T W
-  filling v = pass v.parts (v.answers + 1) v.holds 3 v.ticket v.log
+  filling v = pass v.parts 3 (answering v.receives) (ended v.sends) v.log
 
-  -- a pop won this message, or found none: its call answers for nothing and has no listener in hand
+  abbrev pub refused : View T W → View T W
+  refused v = pass v.parts 0 v.receives (ended v.sends) v.log
+
+  -- a pop won this message, and answers for one place more; or found none, and answers for no message any more
   abbrev pub taking : ℕ → T → View T W → View T W
-  taking k x v = pass v.parts 0 0 1 v.ticket (v.log ++ Out k x ∷ [])
+  taking k x v = pass v.parts 1 (ended v.receives) (answering v.sends) (v.log ++ Out k x ∷ [])
 
   abbrev pub resting : View T W → View T W
-  resting v = pass v.parts 0 0 0 v.ticket v.log
+  resting v = pass v.parts 0 (ended v.receives) v.sends v.log
 
   -- a push gives the slot back with this message in it; a pop without one
   abbrev pub giving : ℕ → List (ℕ × Option T) → View T W → View T W
-  giving k c v = pass v.parts v.answers v.holds 0 v.ticket (given k c v.log)
+  giving k c v = pass v.parts 0 v.receives v.sends (given k c v.log)
 
 -- what the word is while a call at this stage has the slot, or 0
 abbrev pub word_at : Stage → ℕ

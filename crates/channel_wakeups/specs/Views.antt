@@ -1,8 +1,9 @@
 -- What a seat of the table knows, and the rule over the word, the slot and all seats.
-use Rattle.std.specs.Prelude.{◌≡◌, ◌≢◌, ◌⊎◌, ℕ, zero, suc, ◌+◌, ◌-◌, ◌/◌, ◌<◌, ◌≤◌, List, [], ◌∷◌, ◌++◌, Option, None, Some, cond, is_some}
+use Rattle.std.specs.Prelude.{◌≡◌, ◌⊎◌, ℕ, zero, suc, ◌+◌, ◌-◌, ◌/◌, ◌<◌, ◌≤◌, List, [], ◌∷◌, ◌++◌, Option, None, Some, Bool, cond, is_some}
 use mathlib.Core.Option as home
 use Rattle.atomic_table.specs.Table.{State, Me, Step}
 use Rattle.atomic_table.specs.Seated.{TableId}
+use Rattle.channel_wakeups.specs.declared.rule.Line.{Line}
 use Rattle.channel_wakeups.specs.declared.rule.View.{View}
 use Rattle.channel_wakeups.specs.declared.rule.Transfer.{Transfer}
 use Rattle.channel_wakeups.specs.declared.rule.Transfer.TheVariants.{In, Out}
@@ -23,72 +24,138 @@ abbrev pub is_key : ℕ → ℕ → ℕ
 is_key key zero = 0
 is_key key (suc held) = is_this held key
 
-module _ {T W : Type 0} where
-  -- a thread's pass: its parts of the right to know the whole, for how many messages its call answers, the listener that its call
-  -- has in hand, by its key plus 1, or 0, what the word is while its call has the slot, or 0, the listener whose ticket it has, and what it
-  -- put in and took out
-  abbrev pub pass : ℕ → ℕ → ℕ → ℕ → ℕ → List (Transfer T) → View T W
-  pass parts answers holds owns ticket log =
-      record { parts = parts; answers = answers; holds = holds; owns = owns; ticket = ticket; lists = 0; listeners = []; log = log }
+-- WHO WAITS: receives for a message, sends for a free place
+pub data Side : Type 0 where
+  of_receives of_sends : Side
 
-  -- the seat that lies with the list, while a pass is in it
-  abbrev pub busy : ℕ → ℕ → ℕ → ℕ → List (Listener W) → List (Transfer T) → View T W
-  busy parts answers holds ticket listeners log =
-      record { parts = parts; answers = answers; holds = holds; owns = 0; ticket = ticket; lists = 1; listeners = listeners; log = log }
+abbrev pub other : Side → Side
+other of_receives = of_sends
+other of_sends = of_receives
+
+-- ---- what a seat knows of those who wait on one side
+
+module _ {W : Type 0} where
+  -- a call: for how many messages, or places, it answers, the listener that it has in hand, by its key plus 1, or 0, and the listener
+  -- whose ticket it has
+  abbrev pub calling : ℕ → ℕ → ℕ → Line W
+  calling answers holds ticket = record { answers = answers; holds = holds; ticket = ticket; lists = 0; listeners = [] }
+
+  abbrev pub idle : Line W
+  idle = calling 0 0 0
 
   -- the seat that lies with the list
-  abbrev pub desk : List (Listener W) → View T W
-  desk listeners = busy 1 0 0 0 listeners []
+  abbrev pub listing : ℕ → List (Listener W) → Line W
+  listing lists listeners = record { answers = 0; holds = 0; ticket = 0; lists = lists; listeners = listeners }
+
+  -- the same while a call is in it
+  abbrev pub at_desk : ℕ → ℕ → ℕ → List (Listener W) → Line W
+  at_desk answers holds ticket listeners = record { answers = answers; holds = holds; ticket = ticket; lists = 1; listeners = listeners }
+
+  -- the list's part of a line, and the call's, and a line of both
+  abbrev pub list_part : Line W → Line W
+  list_part l = listing l.lists l.listeners
+
+  abbrev pub call_part : Line W → Line W
+  call_part l = calling l.answers l.holds l.ticket
+
+  abbrev pub both_parts : Line W → Line W → Line W
+  both_parts l m = record { answers = m.answers; holds = m.holds; ticket = m.ticket; lists = l.lists; listeners = l.listeners }
+
+  -- a line whose ticket is another
+  abbrev pub ticketed : ℕ → Line W → Line W
+  ticketed ticket l = record { answers = l.answers; holds = l.holds; ticket = ticket; lists = l.lists; listeners = l.listeners }
+
+  -- the call answers for one more; or for nothing any more, and leaves the listener behind that it had in hand
+  abbrev pub answering : Line W → Line W
+  answering l = record { answers = l.answers + 1; holds = l.holds; ticket = l.ticket; lists = l.lists; listeners = l.listeners }
+
+  abbrev pub ended : Line W → Line W
+  ended l = record { answers = 0; holds = 0; ticket = l.ticket; lists = l.lists; listeners = l.listeners }
+
+module _ {T W : Type 0} where
+  -- a seat: its parts of the right to know the whole, what the word is while its call has the slot, or 0, what it knows of receives and
+  -- of sends that wait, and what it put in and took out
+  abbrev pub pass : ℕ → ℕ → Line W → Line W → List (Transfer T) → View T W
+  pass parts owns l m log = record { parts = parts; owns = owns; receives = l; sends = m; log = log }
 
   abbrev pub nobody : View T W
-  nobody = pass 0 0 0 0 0 []
+  nobody = pass 0 0 idle idle []
+
+  -- the first seat: it has all parts and both lists
+  abbrev pub everything : View T W
+  everything = pass 1024 0 (listing 1 []) (listing 1 []) []
+
+  -- the line of a side
+  abbrev pub of : Side → View T W → Line W
+  of of_receives v = v.receives
+  of of_sends v = v.sends
+
+  -- with another line on a side
+  abbrev pub changed : Side → View T W → Line W → View T W
+  changed of_receives v l = pass v.parts v.owns l v.sends v.log
+  changed of_sends v l = pass v.parts v.owns v.receives l v.log
 
   -- ---- seats are joined and split
 
-  -- a call enters the section: its pass goes into the list's seat
+  -- a call enters the section: its pass goes into the list's seat, which has no part
   abbrev pub entered : View T W → View T W → View T W
-  entered v w = record { parts = v.parts + w.parts; answers = v.answers + w.answers; holds = w.holds; owns = 0; ticket = w.ticket; lists = v.lists; listeners = v.listeners; log = w.log }
+  entered v w = pass w.parts w.owns (both_parts v.receives w.receives) (both_parts v.sends w.sends) w.log
 
   -- and comes out of it
   abbrev pub stays : View T W → View T W
-  stays v = record { parts = 1; answers = 0; holds = 0; owns = 0; ticket = 0; lists = v.lists; listeners = v.listeners; log = [] }
+  stays v = pass 0 0 (list_part v.receives) (list_part v.sends) []
 
   abbrev pub comes_out : View T W → View T W
-  comes_out v = pass (v.parts - 1) v.answers v.holds 0 v.ticket v.log
+  comes_out v = pass v.parts v.owns (call_part v.receives) (call_part v.sends) v.log
+
+  -- the seat of both lists becomes one of each
+  abbrev pub receives_alone : View T W → View T W
+  receives_alone v = pass 0 0 v.receives idle []
+
+  abbrev pub sends_alone : View T W → View T W
+  sends_alone v = pass 0 0 idle v.sends []
 
   -- an idle pass gets the parts of another, or gives half of them
   abbrev pub absorbed : View T W → View T W → View T W
-  absorbed v w = pass (v.parts + w.parts) 0 0 0 0 (v.log ++ w.log)
+  absorbed v w = pass (v.parts + w.parts) 0 idle idle (v.log ++ w.log)
 
   abbrev pub kept_half : View T W → View T W
-  kept_half v = pass (v.parts - v.parts / 2) 0 0 0 0 v.log
+  kept_half v = pass (v.parts - v.parts / 2) 0 idle idle v.log
 
   abbrev pub given_half : View T W → View T W
-  given_half v = pass (v.parts / 2) 0 0 0 0 []
+  given_half v = pass (v.parts / 2) 0 idle idle []
 
-  -- a pass that gave its ticket out, with a part; the ticket; and a pass that took one in
-  abbrev pub no_ticket : View T W → View T W
-  no_ticket v = pass (v.parts - 1) v.answers v.holds 0 0 v.log
+  -- a pass with other parts
+  abbrev pub with_parts : ℕ → View T W → View T W
+  with_parts parts v = pass parts v.owns v.receives v.sends v.log
 
-  abbrev pub ticket_of : View T W → View T W
-  ticket_of v = pass 1 0 0 0 v.ticket []
+  -- a ticket, with its part
+  abbrev pub one_ticket : Side → ℕ → View T W
+  one_ticket s key = changed s (with_parts 1 nobody) (calling 0 0 key)
 
-  abbrev pub with_ticket : View T W → View T W → View T W
-  with_ticket v w = pass (v.parts + w.parts) v.answers v.holds 0 w.ticket v.log
+  -- a pass that gave its ticket out; the ticket; and a pass that took one in
+  abbrev pub no_ticket : Side → View T W → View T W
+  no_ticket s v = changed s (with_parts (v.parts - 1) v) (ticketed 0 (of s v))
+
+  abbrev pub ticket_of : Side → View T W → View T W
+  ticket_of s v = one_ticket s (of s v).ticket
+
+  abbrev pub with_ticket : Side → View T W → View T W → View T W
+  with_ticket s v w = changed s (with_parts (v.parts + w.parts) v) (ticketed (of s w).ticket (of s v))
 
   -- ---- what seats count for
 
   abbrev pub parts_of : View T W → ℕ
   parts_of v = v.parts
 
-  abbrev pub lists_of : View T W → ℕ
-  lists_of v = v.lists
+  abbrev pub lists_of : Side → View T W → ℕ
+  lists_of s v = (of s v).lists
 
-  abbrev pub answers_of : View T W → ℕ
-  answers_of v = only v.parts v.answers
+  abbrev pub answers_of : Side → View T W → ℕ
+  answers_of s v = only v.parts (of s v).answers
 
-  abbrev pub holds_of : ℕ → View T W → ℕ
-  holds_of key v = only v.parts (is_key key v.holds)
+  abbrev pub holds_of : Side → ℕ → View T W → ℕ
+  holds_of s key v = only v.parts (is_key key (of s v).holds)
 
   -- whether it has the slot
   abbrev pub locks_of : View T W → ℕ
@@ -97,17 +164,17 @@ module _ {T W : Type 0} where
   abbrev pub owns_of : View T W → ℕ
   owns_of v = only v.parts v.owns
 
-  abbrev pub told_of : View T W → ℕ
-  told_of v = only v.lists (told v.listeners)
+  abbrev pub told_of : Side → View T W → ℕ
+  told_of s v = only (of s v).lists (told (of s v).listeners)
 
-  abbrev pub waits_of : ℕ → View T W → ℕ
-  waits_of key v = only v.lists (waits key v.listeners)
+  abbrev pub waits_of : Side → ℕ → View T W → ℕ
+  waits_of s key v = only (of s v).lists (waits key (of s v).listeners)
 
-  abbrev pub listed_of : ℕ → View T W → ℕ
-  listed_of key v = only v.lists (listed key v.listeners)
+  abbrev pub listed_of : Side → ℕ → View T W → ℕ
+  listed_of s key v = only (of s v).lists (listed key (of s v).listeners)
 
-  abbrev pub tickets_of : ℕ → View T W → ℕ
-  tickets_of key v = is_key key v.ticket
+  abbrev pub tickets_of : Side → ℕ → View T W → ℕ
+  tickets_of s key v = is_key key (of s v).ticket
 
   abbrev pub puts_of : Weight T → View T W → ℕ
   puts_of f v = only v.parts (puts f v.log)
@@ -126,12 +193,25 @@ module _ {T W : Type 0} where
 
 -- ---- the rule
 
--- how many messages the word counts: its second bit
+-- how many messages the word counts: its second bit; and how many free places
 abbrev pub messages : ℕ → ℕ
 messages word = word / 2
 
--- THE LAW: where a listener waits untold there are no more messages than told listeners and calls that answer for one; or a call
--- under way has that listener in hand
+abbrev pub places : ℕ → ℕ
+places word = 1 - word / 2
+
+-- what those of a side wait for
+abbrev pub wanted : Side → ℕ → ℕ
+wanted of_receives word = messages word
+wanted of_sends word = places word
+
+-- the same where a message is there, or none, and no call is under way
+abbrev pub due : Side → Bool → ℕ
+due of_receives message = cond message 1 0
+due of_sends message = cond message 0 1
+
+-- THE LAW: where a listener waits untold there are no more messages, or places, than told listeners and calls that answer for one; or a
+-- call under way has that listener in hand
 abbrev pub Owed : ℕ → ℕ → ℕ → ℕ → Type 0
 Owed count waiting answering holding = 0 < waiting → (count ≤ answering) ⊎ (0 < holding)
 
@@ -143,10 +223,11 @@ pub data IsSlot {T : Type 0} (word : ℕ) (slot : home.Option (Option T)) (locks
 
 pub record Kept {T W : Type 0} (word : ℕ) (slot : home.Option (Option T)) (views : List (View T W)) : Type 0 where
   pub whole : total parts_of views ≡ 1024
-  pub one : total lists_of views ≡ 1
+  pub one : (s : Side) → total (lists_of s) views ≡ 1
   pub place : IsSlot word slot (total locks_of views) (total owns_of views)
-  pub owed : (key : ℕ) → Owed (messages word) (total (waits_of key) views) (total told_of views + total answers_of views) (total (holds_of key) views)
-  pub tickets : (key : ℕ) → total (tickets_of key) views ≤ total (listed_of key) views
+  pub owed : (s : Side) (key : ℕ)
+      → Owed (wanted s word) (total (waits_of s key) views) (total (told_of s) views + total (answers_of s) views) (total (holds_of s key) views)
+  pub tickets : (s : Side) (key : ℕ) → total (tickets_of s key) views ≤ total (listed_of s key) views
   pub balance : Balanced slot (λ f. total (puts_of f) views) (λ f. total (takes_of f) views)
   pub order : Ordered slot views
 
@@ -160,46 +241,48 @@ module _ {T : Type 0} where
 abbrev pub Known : Type 0 → Type 0 → Type 0
 Known T W = Me (Option T) (View T W)
 
--- the seat has every part, and no call is under way
-abbrev pub HasAll : {T W : Type 0} → View T W → Type 0
-HasAll v = (v.parts ≡ 1024) × (v.lists ≡ 1) × (v.answers ≡ 0) × (v.holds ≡ 0) × (v.owns ≡ 0)
+-- the seat has every part and the list of this side, and no call is under way
+abbrev pub HasAll : {T W : Type 0} → Side → View T W → Type 0
+HasAll s v = (v.parts ≡ 1024) × ((of s v).lists ≡ 1) × ((of s v).answers ≡ 0) × ((of s v).holds ≡ 0) × (v.owns ≡ 0)
 
 module _ {T W : Type 0} where
   abbrev pub Woken : State (Option T) (View T W) → Type 0
   Woken s = (word : ℕ) × (slot : home.Option (Option T)) × (s.words ≡ word ∷ []) × (s.homes ≡ slot ∷ []) × Kept word slot s.views
 
-  -- what the steps on the word tell
+  -- what the steps on the word tell: a push won the empty slot, and answers for a message; where there was none to win, the call may
+  -- end, and leave its listener behind
   abbrev pub fills : Step (Option T) → Known T W → ℕ → Known T W → Type 0
   fills st m found m' =
-      (found ≡ 0 → m' ≡ (pass m.0.parts (m.0.answers + 1) m.0.holds 3 m.0.ticket m.0.log, (0, None) ∷ []))
-      × (found ≢ 0 → m' ≡ m)
+      ((found ≡ 0) × (m' ≡ (pass m.0.parts 3 (answering m.0.receives) (ended m.0.sends) m.0.log, (0, None) ∷ [])))
+      ⊎ (((found ≡ 1) × (m' ≡ m)) ⊎ (((found ≡ 2) ⊎ (found ≡ 3)) × (m' ≡ (pass m.0.parts 0 m.0.receives (ended m.0.sends) m.0.log, []))))
 
-  -- the message is in the slot that was won; where there was none to win, the call may end, and leave its listener behind
+  -- the message is in the slot that was won, and the call answers for a place; where there was none to win, the call may end
   abbrev pub wins : Step (Option T) → Known T W → ℕ → Known T W → Type 0
   wins st m found m' =
-      ((found ≡ 2) × ((x : T) × (k : ℕ) × TookBefore k m.0.log × (m' ≡ (pass m.0.parts 0 0 1 m.0.ticket (m.0.log ++ Out k x ∷ []), (0, Some x) ∷ []))))
-      ⊎ (((found ≡ 3) × (m' ≡ m)) ⊎ (((found ≡ 0) ⊎ (found ≡ 1)) × (m' ≡ (pass m.0.parts 0 0 0 m.0.ticket m.0.log, []))))
+      ((found ≡ 2)
+      × ((x : T) × (k : ℕ) × TookBefore k m.0.log × (m' ≡ (pass m.0.parts 1 (ended m.0.receives) (answering m.0.sends) (m.0.log ++ Out k x ∷ []), (0, Some x) ∷ []))))
+      ⊎ (((found ≡ 3) × (m' ≡ m)) ⊎ (((found ≡ 0) ⊎ (found ≡ 1)) × (m' ≡ (pass m.0.parts 0 (ended m.0.receives) m.0.sends m.0.log, []))))
 
   abbrev pub unlocks : Step (Option T) → Known T W → ℕ → Known T W → Type 0
   unlocks st m found m' =
-      (k : ℕ) × PutBefore k m.0.log × TookBefore k m.0.log × (m' ≡ (pass m.0.parts m.0.answers m.0.holds 0 m.0.ticket (given k m.1 m.0.log), []))
+      (k : ℕ) × PutBefore k m.0.log × TookBefore k m.0.log × (m' ≡ (pass m.0.parts 0 m.0.receives m.0.sends (given k m.1 m.0.log), []))
 
-  abbrev pub learns : Step (Option T) → Known T W → ℕ → Known T W → Type 0
-  learns st m found m' =
+  abbrev pub learns : Side → Step (Option T) → Known T W → ℕ → Known T W → Type 0
+  learns s st m found m' =
       (m' ≡ m)
-      × (HasAll m.0 → ((found ≡ 0) ⊎ (found ≡ 2)) × ((key : ℕ) → 0 < waits key m.0.listeners → messages found ≤ told m.0.listeners)
-      × ((key : ℕ) → is_key key m.0.ticket ≤ listed key m.0.listeners) × ((slot : Option T) × (found ≡ cond (is_some slot) 2 0) × Accounts slot m.0.log))
+      × (HasAll s m.0 → ((found ≡ 0) ⊎ (found ≡ 2)) × ((key : ℕ) → 0 < waits key (of s m.0).listeners → wanted s found ≤ told (of s m.0).listeners)
+      × ((key : ℕ) → is_key key (of s m.0).ticket ≤ listed key (of s m.0).listeners) × ((slot : Option T) × (found ≡ cond (is_some slot) 2 0) × Accounts slot m.0.log))
 
-module _ {T W : Type 0} where
-  -- what a section may make of the list's seat: whoever waits has its listener in hand, or waited before, beside as many who
+module _ {W : Type 0} where
+  -- what a section may make of the line of its list: whoever waits has its listener in hand, or waited before, beside as many who
   -- answer; and whoever has a ticket is in the list
-  abbrev pub MayWait : View T W → View T W → ℕ → Type 0
-  MayWait v w key =
-      0 < waits key w.listeners
-      → (0 < is_key key w.holds) ⊎ ((0 < waits key v.listeners) × (told v.listeners + v.answers ≤ told w.listeners + w.answers) × (is_key key v.holds ≤ is_key key w.holds))
+  abbrev pub MayWait : Line W → Line W → ℕ → Type 0
+  MayWait l m key =
+      0 < waits key m.listeners
+      → (0 < is_key key m.holds) ⊎ ((0 < waits key l.listeners) × (told l.listeners + l.answers ≤ told m.listeners + m.answers) × (is_key key l.holds ≤ is_key key m.holds))
 
-  abbrev pub MayTicket : View T W → View T W → ℕ → Type 0
-  MayTicket v w key = is_key key w.ticket + listed key v.listeners ≤ listed key w.listeners + is_key key v.ticket
+  abbrev pub MayTicket : Line W → Line W → ℕ → Type 0
+  MayTicket l m key = is_key key m.ticket + listed key l.listeners ≤ listed key m.listeners + is_key key l.ticket
 
-  abbrev pub Fair : View T W → View T W → Type 0
-  Fair v w = (w.parts ≡ v.parts) × (w.lists ≡ 1) × (w.owns ≡ 0) × (w.log ≡ v.log) × ((key : ℕ) → MayWait v w key) × ((key : ℕ) → MayTicket v w key)
+  abbrev pub Fair : Line W → Line W → Type 0
+  Fair l m = (m.lists ≡ 1) × ((key : ℕ) → MayWait l m key) × ((key : ℕ) → MayTicket l m key)

@@ -1,20 +1,28 @@
 //! What a channel's calls do, each with a pass that is idle before it and after it.
 
-ghost use Rattle.std.specs.Prelude.{◌≡◌, ◌⊎◌, ℕ, ◌+◌, ◌-◌, ◌<◌, true, is_some, IfErr, IfOk};
-ghost use Rattle.channel_wakeups.specs.Calls.{held, is_pending, Looked, Received, Sent};
-ghost use Rattle.channel_wakeups.specs.Seats.{IsCall, IsIdle};
+ghost use Rattle.std.specs.Prelude.{◌≡◌, ◌⊎◌, ℕ, ◌+◌, ◌-◌, ◌<◌, true, false, is_some, IfErr, IfOk};
+ghost use Rattle.channel_wakeups.specs.Calls.{held, is_pending, is_waiting, key_next, Looked, Offers, Received, Sent};
+ghost use Rattle.channel_wakeups.specs.Seats.{IsCall, IsIdle, IsPass};
+ghost use Rattle.channel_wakeups.specs.Views.{of, other, calling, of_receives, of_sends};
 
 use crate::cells::{Place, SlotTable};
-use crate::channel::Ticket;
+use crate::channel::{Rest, Ticket};
 use crate::desk::Desk;
 use crate::made::{pop, push};
 use crate::place::{blank, give_ticket, take_ticket};
-use crate::polled::Polled;
-use crate::rule::Room;
+use crate::polled::{Offered, Polled};
+use crate::rule::{Receives, Room, Sends, Waiting};
 use crate::wake::Wake;
 use std::marker::PhantomData;
 use std::mem;
 use std::sync::{Mutex, Wait};
+
+/// The lists of a channel, each behind its lock.
+#[derive(Drop)]
+pub(crate) struct Desks<'a, T: Drop, W: Drop, B: Room> {
+    pub(crate) receives: &'a Mutex<Desk<T, W, B, Receives>>,
+    pub(crate) sends: &'a Mutex<Desk<T, W, B, Sends>>,
+}
 
 /// Wakes who was told.
 fn wake<W: Wake, R: Wait>(rt: &R, task: Option<W>) {
@@ -23,10 +31,27 @@ fn wake<W: Wake, R: Wait>(rt: &R, task: Option<W>) {
     }
 }
 
+/// Tells one who waits, and wakes it.
+fn tell<T: Drop, W: Wake, B: Room, S: Waiting, R: Wait>(
+    rt: &R,
+    table: &SlotTable<T, W>,
+    desk: &Mutex<Desk<T, W, B, S>>,
+    call: Place<T, W>,
+) -> Place<T, W>
+    requires table { (table.now.shared.table_id ≡ B.table) × (0 < B.table.words) }
+    requires call { IsCall S.side B.table call call.me.0.parts 1 0 0 }
+    ensures idle { IsCall S.side B.table result call.me.0.parts 0 0 0 }
+    ensures log { result.me.0.log ≡ call.me.0.log }
+{
+    let (task, call) = desk.lock(rt).tell(table, call);
+    wake(rt, task);
+    call
+}
+
 pub(crate) fn send<T: Drop, W: Wake, B: Room, R: Wait>(
     rt: &R,
     table: &SlotTable<T, W>,
-    desk: &Mutex<Desk<T, W, B>>,
+    receives: &Mutex<Desk<T, W, B, Receives>>,
     pass: &mut Place<T, W>,
     message: T,
 ) -> Result<(), T>
@@ -39,50 +64,48 @@ pub(crate) fn send<T: Drop, W: Wake, B: Room, R: Wait>(
     let call = mem::replace(pass, blank(table));
     let (sent, call) = push(rt, table, call, message);
     match sent {
-        Err(message) => {
+        Err(refused) => {
             *pass = call;
-            Err(message)
+            Err(refused)
         }
         Ok(()) => {
-            let (task, call) = desk.lock(rt).tell(table, call);
-            *pass = call;
-            wake(rt, task);
+            *pass = tell(rt, table, receives, call);
             Ok(())
         }
     }
 }
 
-/// Takes a receive's listener off its list, and wakes who gets its notice, if it was told.
-fn take_off<T: Drop, W: Wake, B: Room, R: Wait>(
+/// Takes a listener off its list, and wakes who gets its notice, if it was told.
+fn take_off<T: Drop, W: Wake, B: Room, S: Waiting, R: Wait>(
     rt: &R,
     table: &SlotTable<T, W>,
-    desk: &Mutex<Desk<T, W, B>>,
+    desk: &Mutex<Desk<T, W, B, S>>,
     mut call: Place<T, W>,
-    ticket: Ticket<T, W, B>,
+    ticket: Ticket<T, W, B, S>,
 ) -> Place<T, W>
     requires table { (table.now.shared.table_id ≡ B.table) × (0 < B.table.words) }
-    requires call { IsCall B.table call call.me.0.parts 0 call.me.0.holds 0 }
-    requires holds { (call.me.0.holds ≡ 0) ⊎ (call.me.0.holds ≡ ticket.key + 1) }
-    ensures idle { IsIdle B.table result (call.me.0.parts + 1) }
+    requires call { IsCall S.side B.table call call.me.0.parts 0 (of S.side call.me.0).holds 0 }
+    requires holds { ((of S.side call.me.0).holds ≡ 0) ⊎ ((of S.side call.me.0).holds ≡ ticket.key + 1) }
+    ensures idle { IsCall S.side B.table result (call.me.0.parts + 1) 0 0 0 }
     ensures log { result.me.0.log ≡ call.me.0.log }
 {
     let Ticket { key, seat, room: _ } = ticket;
-    take_ticket(table, &mut call, seat);
+    take_ticket::<T, W, S>(table, &mut call, seat);
     let (task, call) = desk.lock(rt).take_off(table, key, call);
     wake(rt, task);
     call
 }
 
-pub(crate) fn give_up<T: Drop, W: Wake, B: Room, R: Wait>(
+pub(crate) fn give_up<T: Drop, W: Wake, B: Room, S: Waiting, R: Wait>(
     rt: &R,
     table: &SlotTable<T, W>,
-    desk: &Mutex<Desk<T, W, B>>,
+    desk: &Mutex<Desk<T, W, B, S>>,
     pass: &mut Place<T, W>,
-    waiting: Option<Ticket<T, W, B>>,
+    waiting: Option<Ticket<T, W, B, S>>,
 )
     requires table { (table.now.shared.table_id ≡ B.table) × (0 < B.table.words) }
-    requires pass { IsIdle B.table pass.old pass.old.me.0.parts }
-    ensures idle { IsIdle B.table pass.new (pass.old.me.0.parts + held (is_some waiting)) }
+    requires pass { IsCall S.side B.table pass.old pass.old.me.0.parts 0 0 0 }
+    ensures idle { IsCall S.side B.table pass.new (pass.old.me.0.parts + held (is_some waiting)) 0 0 0 }
     ensures log { pass.new.me.0.log ≡ pass.old.me.0.log }
 {
     if let Some(ticket) = waiting {
@@ -91,30 +114,29 @@ pub(crate) fn give_up<T: Drop, W: Wake, B: Room, R: Wait>(
     }
 }
 
-/// Takes the notice of a receive that is pending, if there is one, and gives the task back then. Else the receive waits on with the
-/// new task.
-fn notice<T: Drop, W: Wake, B: Room, R: Wait>(
+/// Takes the notice of one that is pending, if there is one, and gives the task back then. Else it waits on with the new task.
+fn notice<T: Drop, W: Wake, B: Room, S: Waiting, R: Wait>(
     rt: &R,
     table: &SlotTable<T, W>,
-    desk: &Mutex<Desk<T, W, B>>,
+    desk: &Mutex<Desk<T, W, B, S>>,
     mut call: Place<T, W>,
-    ticket: Ticket<T, W, B>,
+    ticket: Ticket<T, W, B, S>,
     task: W,
-) -> Result<(W, Place<T, W>), (Ticket<T, W, B>, Place<T, W>)>
+) -> Result<(W, Place<T, W>), (Ticket<T, W, B, S>, Place<T, W>)>
     requires table { (table.now.shared.table_id ≡ B.table) × (0 < B.table.words) }
-    requires call { IsIdle B.table call call.me.0.parts }
-    ensures told { IfOk result (λ r. IsCall B.table r.1 (call.me.0.parts + 1) 1 0 0) }
-    ensures waits { IfErr result (λ r. IsIdle B.table r.1 call.me.0.parts) }
+    requires call { IsCall S.side B.table call call.me.0.parts 0 0 0 }
+    ensures told { IfOk result (λ r. IsCall S.side B.table r.1 (call.me.0.parts + 1) 1 0 0) }
+    ensures waits { IfErr result (λ r. IsCall S.side B.table r.1 call.me.0.parts 0 0 0) }
     ensures log { IfOk result (λ r. r.1.me.0.log ≡ call.me.0.log) }
     ensures same_log { IfErr result (λ r. r.1.me.0.log ≡ call.me.0.log) }
 {
     let Ticket { key, seat, room: _ } = ticket;
-    take_ticket(table, &mut call, seat);
+    take_ticket::<T, W, S>(table, &mut call, seat);
     let (told, mut call) = desk.lock(rt).take_notice(table, key, call, task);
     match told {
         Some(task) => Ok((task, call)),
         None => {
-            let seat = give_ticket(table, &mut call);
+            let seat = give_ticket::<T, W, S>(table, &mut call);
             let ticket = Ticket {
                 key,
                 seat,
@@ -125,16 +147,41 @@ fn notice<T: Drop, W: Wake, B: Room, R: Wait>(
     }
 }
 
+/// Adds a listener, which the call has in hand until it has tried again. `Err` gives the pass back: there is no memory.
+fn listen<T: Drop, W: Wake, B: Room, S: Waiting, R: Wait>(
+    rt: &R,
+    table: &SlotTable<T, W>,
+    desk: &Mutex<Desk<T, W, B, S>>,
+    call: Place<T, W>,
+    task: W,
+) -> Result<(Ticket<T, W, B, S>, Place<T, W>), Place<T, W>>
+    requires table { (table.now.shared.table_id ≡ B.table) × (0 < B.table.words) }
+    requires call { IsCall S.side B.table call call.me.0.parts 0 0 0 }
+    requires parts { 1 < call.me.0.parts }
+    ensures ok { IfOk result (λ r. IsCall S.side B.table r.1 (call.me.0.parts - 1) 0 (r.0.key + 1) 0) }
+    ensures err { IfErr result (λ r. IsCall S.side B.table r call.me.0.parts 0 0 0) }
+    ensures log { IfOk result (λ r. r.1.me.0.log ≡ call.me.0.log) }
+    ensures same_log { IfErr result (λ r. r.me.0.log ≡ call.me.0.log) }
+{
+    let (key, call, seat) = desk.lock(rt).listen(table, call, task)?;
+    let ticket = Ticket {
+        key,
+        seat,
+        room: PhantomData,
+    };
+    Ok((ticket, call))
+}
+
 /// Tries, listens where there was nothing, and tries once more, so that no message that came meanwhile is missed.
 fn try_or_listen<T: Drop, W: Wake, B: Room, R: Wait>(
     rt: &R,
     table: &SlotTable<T, W>,
-    desk: &Mutex<Desk<T, W, B>>,
+    desks: &Desks<T, W, B>,
     call: Place<T, W>,
     task: W,
-) -> (Polled<T>, Option<Ticket<T, W, B>>, Place<T, W>)
+) -> (Polled<T>, Option<Ticket<T, W, B, Receives>>, Place<T, W>)
     requires table { (table.now.shared.table_id ≡ B.table) × (0 < B.table.words) }
-    requires call { IsCall B.table call call.me.0.parts call.me.0.answers call.me.0.holds 0 }
+    requires call { IsCall of_receives B.table call call.me.0.parts call.me.0.receives.answers call.me.0.receives.holds 0 }
     requires parts { 1 < call.me.0.parts }
     ensures call { IsIdle B.table result.2 (call.me.0.parts - held (is_some result.1)) }
     ensures pending { is_some result.1 ≡ is_pending result.0 }
@@ -143,21 +190,17 @@ fn try_or_listen<T: Drop, W: Wake, B: Room, R: Wait>(
     let (found, call) = pop(rt, table, call);
     if let Some(message) = found {
         drop(task);
-        return (Polled::Ready(message), None, call);
+        let idle = tell(rt, table, desks.sends, call);
+        return (Polled::Ready(message), None, idle);
     }
-    let listened = desk.lock(rt).listen(table, call, task);
-    match listened {
+    match listen(rt, table, desks.receives, call, task) {
         Err(call) => (Polled::NoMemory, None, call),
-        Ok((key, call, seat)) => {
-            let ticket = Ticket {
-                key,
-                seat,
-                room: PhantomData,
-            };
+        Ok((ticket, call)) => {
             let (found, call) = pop(rt, table, call);
             match found {
                 Some(message) => {
-                    let call = take_off(rt, table, desk, call, ticket);
+                    let call = tell(rt, table, desks.sends, call);
+                    let call = take_off(rt, table, desks.receives, call, ticket);
                     (Polled::Ready(message), None, call)
                 }
                 None => (Polled::Pending, Some(ticket), call),
@@ -169,9 +212,9 @@ fn try_or_listen<T: Drop, W: Wake, B: Room, R: Wait>(
 pub(crate) fn poll<T: Drop, W: Wake, B: Room, R: Wait>(
     rt: &R,
     table: &SlotTable<T, W>,
-    desk: &Mutex<Desk<T, W, B>>,
+    desks: &Desks<T, W, B>,
     pass: &mut Place<T, W>,
-    waiting: &mut Option<Ticket<T, W, B>>,
+    waiting: &mut Option<Ticket<T, W, B, Receives>>,
     task: W,
 ) -> Polled<T>
     requires table { (table.now.shared.table_id ≡ B.table) × (0 < B.table.words) }
@@ -184,7 +227,7 @@ pub(crate) fn poll<T: Drop, W: Wake, B: Room, R: Wait>(
     let mut call = mem::replace(pass, blank(table));
     let mut task = task;
     if let Some(ticket) = waiting.take() {
-        match notice(rt, table, desk, call, ticket, task) {
+        match notice(rt, table, desks.receives, call, ticket, task) {
             Err((ticket, idle)) => {
                 *pass = idle;
                 *waiting = Some(ticket);
@@ -196,47 +239,158 @@ pub(crate) fn poll<T: Drop, W: Wake, B: Room, R: Wait>(
             }
         }
     }
-    let (polled, ticket, idle) = try_or_listen(rt, table, desk, call, task);
+    let (polled, ticket, idle) = try_or_listen(rt, table, desks, call, task);
     *pass = idle;
     *waiting = ticket;
     polled
 }
 
+/// Tries to put the message in, listens where there was no place, and tries once more, so that no place that came meanwhile is missed.
+fn put_or_listen<T: Drop, W: Wake, B: Room, R: Wait>(
+    rt: &R,
+    table: &SlotTable<T, W>,
+    desks: &Desks<T, W, B>,
+    call: Place<T, W>,
+    message: T,
+    task: W,
+) -> (Offered<T>, Option<Ticket<T, W, B, Sends>>, Place<T, W>)
+    requires table { (table.now.shared.table_id ≡ B.table) × (0 < B.table.words) }
+    requires call { IsCall of_sends B.table call call.me.0.parts call.me.0.sends.answers call.me.0.sends.holds 0 }
+    requires parts { 1 < call.me.0.parts }
+    ensures call { IsIdle B.table result.2 (call.me.0.parts - held (is_some result.1)) }
+    ensures pending { is_some result.1 ≡ is_waiting result.0 }
+    ensures sent { Offers message result.0 call.me.0.log result.2.me.0.log }
+{
+    let (sent, call) = push(rt, table, call, message);
+    let message = match sent {
+        Ok(()) => {
+            drop(task);
+            let call = tell(rt, table, desks.receives, call);
+            return (Offered::Accepted, None, call);
+        }
+        Err(message) => message,
+    };
+    match listen(rt, table, desks.sends, call, task) {
+        Err(call) => (Offered::NoMemory(message), None, call),
+        Ok((ticket, call)) => {
+            let (sent, call) = push(rt, table, call, message);
+            match sent {
+                Ok(()) => {
+                    let call = tell(rt, table, desks.receives, call);
+                    let call = take_off(rt, table, desks.sends, call, ticket);
+                    (Offered::Accepted, None, call)
+                }
+                Err(message) => (Offered::Pending(message), Some(ticket), call),
+            }
+        }
+    }
+}
+
+pub(crate) fn offer<T: Drop, W: Wake, B: Room, R: Wait>(
+    rt: &R,
+    table: &SlotTable<T, W>,
+    desks: &Desks<T, W, B>,
+    pass: &mut Place<T, W>,
+    waiting: &mut Option<Ticket<T, W, B, Sends>>,
+    message: T,
+    task: W,
+) -> Offered<T>
+    requires table { (table.now.shared.table_id ≡ B.table) × (0 < B.table.words) }
+    requires pass { IsIdle B.table pass.old pass.old.me.0.parts }
+    requires parts { 1 < pass.old.me.0.parts + held (is_some waiting.old) }
+    ensures pass { IsIdle B.table pass.new (pass.old.me.0.parts + held (is_some waiting.old) - held (is_some waiting.new)) }
+    ensures pending { is_some waiting.new ≡ is_waiting result }
+    ensures sent { Offers message result pass.old.me.0.log pass.new.me.0.log }
+{
+    let mut call = mem::replace(pass, blank(table));
+    let mut task = task;
+    if let Some(ticket) = waiting.take() {
+        match notice(rt, table, desks.sends, call, ticket, task) {
+            Err((ticket, idle)) => {
+                *pass = idle;
+                *waiting = Some(ticket);
+                return Offered::Pending(message);
+            }
+            Ok((mine, noticed)) => {
+                call = noticed;
+                task = mine;
+            }
+        }
+    }
+    let (offered, ticket, idle) = put_or_listen(rt, table, desks, call, message, task);
+    *pass = idle;
+    *waiting = ticket;
+    offered
+}
+
+/// Takes the ticket of one that is pending into the call, and leaves its key.
+fn take_in<T: Drop, W: Drop, B: Room, S: Waiting>(
+    table: &SlotTable<T, W>,
+    call: &mut Place<T, W>,
+    waiting: Option<Ticket<T, W, B, S>>,
+) -> Option<u64>
+    requires table { (table.now.shared.table_id ≡ B.table) × (0 < B.table.words) }
+    requires call { IsPass S.side B.table call.old call.old.me.0.parts (calling 0 0 0) (of (other S.side) call.old.me.0).ticket }
+    ensures call { IsPass S.side B.table call.new (call.old.me.0.parts + held (is_some waiting)) (calling 0 0 (key_next result)) (of (other S.side) call.old.me.0).ticket }
+    ensures some { is_some result ≡ is_some waiting }
+    ensures log { call.new.me.0.log ≡ call.old.me.0.log }
+{
+    let Ticket { key, seat, room: _ } = waiting?;
+    take_ticket::<T, W, S>(table, call, seat);
+    Some(key)
+}
+
+/// Gives the ticket out again.
+fn give_out<T: Drop, W: Drop, B: Room, S: Waiting>(
+    table: &SlotTable<T, W>,
+    call: &mut Place<T, W>,
+    key: Option<u64>,
+) -> Option<Ticket<T, W, B, S>>
+    requires table { (table.now.shared.table_id ≡ B.table) × (0 < B.table.words) }
+    requires call { IsPass S.side B.table call.old call.old.me.0.parts (calling 0 0 (key_next key)) (of (other S.side) call.old.me.0).ticket }
+    requires parts { 1 < call.old.me.0.parts }
+    ensures call { IsPass S.side B.table call.new (call.old.me.0.parts - held (is_some key)) (calling 0 0 0) (of (other S.side) call.old.me.0).ticket }
+    ensures some { is_some result ≡ is_some key }
+    ensures log { call.new.me.0.log ≡ call.old.me.0.log }
+{
+    let key = key?;
+    let seat = give_ticket::<T, W, S>(table, call);
+    Some(Ticket {
+        key,
+        seat,
+        room: PhantomData,
+    })
+}
+
 pub(crate) fn look<T: Drop, W: Wake, B: Room, R: Wait>(
     rt: &R,
     table: &SlotTable<T, W>,
-    desk: &Mutex<Desk<T, W, B>>,
+    desks: &Desks<T, W, B>,
     pass: &mut Place<T, W>,
-    waiting: &mut Option<Ticket<T, W, B>>,
-) -> (bool, bool)
+    receive: &mut Option<Ticket<T, W, B, Receives>>,
+    send: &mut Option<Ticket<T, W, B, Sends>>,
+) -> Rest
     requires table { (table.now.shared.table_id ≡ B.table) × (0 < B.table.words) }
     requires pass { IsIdle B.table pass.old pass.old.me.0.parts }
-    requires parts { pass.old.me.0.parts + held (is_some waiting.old) ≡ 1023 }
+    requires parts { pass.old.me.0.parts + held (is_some receive.old) + held (is_some send.old) ≡ 1024 }
     ensures pass { IsIdle B.table pass.new pass.old.me.0.parts }
-    ensures same { is_some waiting.new ≡ is_some waiting.old }
-    ensures law { is_some waiting.old ≡ true → result.0 ≡ true → result.1 ≡ true }
+    ensures same { (is_some receive.new ≡ is_some receive.old) × (is_some send.new ≡ is_some send.old) }
+    ensures receives { is_some receive.old ≡ true → result.message ≡ true → result.receive_told ≡ true }
+    ensures sends { is_some send.old ≡ true → result.message ≡ false → result.send_told ≡ true }
     ensures log { pass.new.me.0.log ≡ pass.old.me.0.log }
-    ensures accounts { Looked result.0 pass.old.me.0.log }
+    ensures accounts { Looked result.message pass.old.me.0.log }
 {
     let mut call = mem::replace(pass, blank(table));
-    match waiting.take() {
-        None => {
-            let (message, told, idle) = desk.lock(rt).look(table, call);
-            *pass = idle;
-            (message, told)
-        }
-        Some(ticket) => {
-            let Ticket { key, seat, room: _ } = ticket;
-            take_ticket(table, &mut call, seat);
-            let (message, told, mut call) = desk.lock(rt).look(table, call);
-            let seat = give_ticket(table, &mut call);
-            *waiting = Some(Ticket {
-                key,
-                seat,
-                room: PhantomData,
-            });
-            *pass = call;
-            (message, told)
-        }
+    let receive_key = take_in(table, &mut call, receive.take());
+    let send_key = take_in(table, &mut call, send.take());
+    let (message, receive_told, call) = desks.receives.lock(rt).look(table, call);
+    let (_, send_told, mut call) = desks.sends.lock(rt).look(table, call);
+    *receive = give_out(table, &mut call, receive_key);
+    *send = give_out(table, &mut call, send_key);
+    *pass = call;
+    Rest {
+        message,
+        receive_told,
+        send_told,
     }
 }

@@ -1,17 +1,18 @@
-//! The channel, its passes and its receives.
+//! The channel, its passes, its receives and its sends that wait.
 
-ghost use Rattle.std.specs.Prelude.{◌≡◌, ℕ, ◌+◌, ◌-◌, ◌/◌, ◌<◌, [], ◌++◌, true, IfErr, is_some};
+ghost use Rattle.std.specs.Prelude.{◌≡◌, ℕ, ◌+◌, ◌-◌, ◌/◌, ◌<◌, [], ◌++◌, true, false, IfErr, is_some};
 ghost use Rattle.atomic_table.specs.Seated.{TableId};
-ghost use Rattle.channel_wakeups.specs.Calls.{held, is_pending, Hand, Looked, Received, Sent};
+ghost use Rattle.channel_wakeups.specs.Calls.{held, is_pending, is_waiting, Hand, Looked, Offers, Received, Sent};
 ghost use Rattle.channel_wakeups.specs.Seats.{IsIdle, IsTicket};
-ghost use Rattle.channel_wakeups.specs.Views.{busy};
+ghost use Rattle.channel_wakeups.specs.Views.{everything};
 
 use crate::calls;
+use crate::calls::Desks;
 use crate::cells::{Place, SlotTable};
 use crate::desk::Desk;
-use crate::place::{absorb, leave, share};
-use crate::polled::Polled;
-use crate::rule::Room;
+use crate::place::{absorb, begin, share};
+use crate::polled::{Offered, Polled};
+use crate::rule::{Receives, Room, Sends, Waiting};
 use crate::wake::Wake;
 use atomic_table::Table;
 use std::alloc::{AllocError, Global};
@@ -31,14 +32,15 @@ impl<T: Drop, W: Drop> Model for Opened<T, W> {
 
     ghost view = { λ o. o.table.shared.table_id };
 
-    ghost invariant = { λ o. (0 < o.table.shared.table_id.words) × (o.seat.table_id ≡ o.table.shared.table_id) × (o.seat.me ≡ (busy 1024 0 0 0 [] [], [])) };
+    ghost invariant = { λ o. (0 < o.table.shared.table_id.words) × (o.seat.table_id ≡ o.table.shared.table_id) × (o.seat.me ≡ (everything, [])) };
 }
 
-/// A channel of one slot in room `B`, whose receives wait with tasks of type `W`.
+/// A channel of one slot in room `B`, whose receives and sends wait with tasks of type `W`.
 #[derive(Drop)]
 pub struct SlotChannel<T: Drop, W: Drop, B: Room> {
     pub(crate) table: SlotTable<T, W>,
-    pub(crate) desk: Mutex<Desk<T, W, B>>,
+    pub(crate) receives: Mutex<Desk<T, W, B, Receives>>,
+    pub(crate) sends: Mutex<Desk<T, W, B, Sends>>,
 }
 
 impl<T: Drop, W: Drop, B: Room> Model for SlotChannel<T, W, B> {
@@ -65,27 +67,44 @@ impl<T: Drop, W: Drop, B: Room> Model for Pass<T, W, B> {
     ghost invariant = { λ p. IsIdle B.table p.seat p.seat.me.0.parts };
 }
 
-/// The listener of a receive that is pending. While there is one, the list has a listener under its key.
+/// The listener of a receive, or a send, that is pending. While there is one, the list has a listener under its key.
 #[derive(Drop)]
-pub(crate) struct Ticket<T: Drop, W: Drop, B: Room> {
+pub(crate) struct Ticket<T: Drop, W: Drop, B: Room, S: Waiting> {
     pub(crate) key: u64,
     pub(crate) seat: Place<T, W>,
-    pub(crate) room: PhantomData<B>,
-    ghost mine: { IsTicket B.table seat (key + 1) },
+    pub(crate) room: PhantomData<(B, S)>,
+    ghost mine: { IsTicket S.side B.table seat (key + 1) },
 }
 
-/// A receive. While it is pending it has one part of the pass that polled it, else none: contracts see how many.
+/// One who waits. While it is pending it has one part of the pass that polled it, else none: contracts see how many.
 #[derive(Drop)]
-pub struct Receive<T: Drop, W: Drop, B: Room> {
-    pub(crate) waiting: Option<Ticket<T, W, B>>,
+pub struct Waiter<T: Drop, W: Drop, B: Room, S: Waiting> {
+    pub(crate) waiting: Option<Ticket<T, W, B, S>>,
 }
 
-impl<T: Drop, W: Drop, B: Room> Model for Receive<T, W, B> {
+impl<T: Drop, W: Drop, B: Room, S: Waiting> Model for Waiter<T, W, B, S> {
     ghost Value = { ℕ };
 
     ghost view = { λ r. held (is_some r.waiting) };
 
     ghost invariant = { λ r. Unit {0} };
+}
+
+/// A receive.
+pub type Receive<T, W, B> = Waiter<T, W, B, Receives>;
+
+/// A send that waits for a place.
+pub type Sending<T, W, B> = Waiter<T, W, B, Sends>;
+
+/// What a channel is found to be while no call is under way.
+#[derive(Clone, Copy, Debug, PartialEq, Eq)]
+pub struct Rest {
+    /// Whether a message is there.
+    pub message: bool,
+    /// Whether the listener of some receive was told.
+    pub receive_told: bool,
+    /// Whether that of some send was told.
+    pub send_told: bool,
 }
 
 impl<T: Drop, W: Drop> Opened<T, W> {
@@ -98,33 +117,41 @@ impl<T: Drop, W: Drop> Opened<T, W> {
     /// The channel and its first pass in a room: values of a room fit one another and no other's.
     pub fn enter<B: Room>(self) -> (SlotChannel<T, W, B>, Pass<T, W, B>)
         requires { self ≡ B.table }
-        ensures parts { result.1.parts ≡ 1023 }
+        ensures parts { result.1.parts ≡ 1024 }
         ensures log { result.1.log ≡ [] }
     {
-        let Opened {
-            alloc,
-            table,
-            mut seat,
-        } = self;
-        let first = leave(&table, &mut seat);
+        let Opened { alloc, table, seat } = self;
+        let (pass, receives, sends) = begin(&table, seat);
         let channel = SlotChannel {
             table,
-            desk: Mutex::new(Desk::new(alloc, seat)),
+            receives: Mutex::new(Desk::new(alloc, receives)),
+            sends: Mutex::new(Desk::new(alloc, sends)),
         };
         let pass = Pass {
-            seat: first,
+            seat: pass,
             room: PhantomData,
         };
         (channel, pass)
     }
 }
 
-impl<T: Drop, W: Drop, B: Room> Receive<T, W, B> {
-    /// A receive that was never polled.
-    pub fn new() -> Receive<T, W, B>
+impl<T: Drop, W: Drop, B: Room, S: Waiting> Waiter<T, W, B, S> {
+    /// One that was never polled.
+    pub fn new() -> Waiter<T, W, B, S>
         ensures { result ≡ 0 }
     {
-        Receive { waiting: None }
+        Waiter { waiting: None }
+    }
+}
+
+impl<T: Drop, W: Drop, B: Room> SlotChannel<T, W, B> {
+    /// Both lists.
+    #[inline(always)]
+    fn desks(&self) -> Desks<T, W, B> {
+        Desks {
+            receives: &self.receives,
+            sends: &self.sends,
+        }
     }
 }
 
@@ -159,11 +186,46 @@ impl<T: Drop, W: Wake, B: Room> SlotChannel<T, W, B> {
         ensures back { IfErr result (λ m. m ≡ message) }
         ensures sent { Sent message result pass.old.log pass.new.log }
     {
-        calls::send(rt, &self.table, &self.desk, &mut pass.seat, message)
+        calls::send(rt, &self.table, &self.receives, &mut pass.seat, message)
     }
 
-    /// Polls a receive: it takes the message, or waits with this task from here on. The task is woken when the receive is told, and
-    /// is let go where it is not needed. `NoMemory` where there was none for a listener.
+    /// Polls a send: it puts the message in, and wakes the first receive that waits untold, or waits with this task from here on. The
+    /// task is woken when the send is told, and is let go where it is not needed. A message that is not put in is handed back, for the
+    /// next poll. `NoMemory` where there was none for a listener.
+    pub fn poll_send<R: Wait>(
+        &self,
+        rt: &R,
+        pass: &mut Pass<T, W, B>,
+        send: &mut Sending<T, W, B>,
+        message: T,
+        task: W,
+    ) -> Offered<T>
+        requires { 1 < pass.old.parts + send.old }
+        ensures pass { pass.new.parts + send.new ≡ pass.old.parts + send.old }
+        ensures pending { send.new ≡ held (is_waiting result) }
+        ensures sent { Offers message result pass.old.log pass.new.log }
+    {
+        calls::offer(
+            rt,
+            &self.table,
+            &self.desks(),
+            &mut pass.seat,
+            &mut send.waiting,
+            message,
+            task,
+        )
+    }
+
+    /// Gives a send up. If it was told, the notice goes to another one.
+    pub fn give_up_send<R: Wait>(&self, rt: &R, pass: &mut Pass<T, W, B>, send: Sending<T, W, B>)
+        ensures parts { pass.new.parts ≡ pass.old.parts + send }
+        ensures log { pass.new.log ≡ pass.old.log }
+    {
+        calls::give_up(rt, &self.table, &self.sends, &mut pass.seat, send.waiting);
+    }
+
+    /// Polls a receive: it takes the message, and wakes the first send that waits untold, or waits with this task from here on. The task
+    /// is woken when the receive is told, and is let go where it is not needed. `NoMemory` where there was none for a listener.
     pub fn poll_recv<R: Wait>(
         &self,
         rt: &R,
@@ -179,7 +241,7 @@ impl<T: Drop, W: Wake, B: Room> SlotChannel<T, W, B> {
         calls::poll(
             rt,
             &self.table,
-            &self.desk,
+            &self.desks(),
             &mut pass.seat,
             &mut receive.waiting,
             task,
@@ -187,33 +249,43 @@ impl<T: Drop, W: Wake, B: Room> SlotChannel<T, W, B> {
     }
 
     /// Gives a receive up. If it was told, the notice goes to another one.
-    pub fn give_up<R: Wait>(&self, rt: &R, pass: &mut Pass<T, W, B>, receive: Receive<T, W, B>)
+    pub fn give_up_recv<R: Wait>(&self, rt: &R, pass: &mut Pass<T, W, B>, receive: Receive<T, W, B>)
         ensures parts { pass.new.parts ≡ pass.old.parts + receive }
         ensures log { pass.new.log ≡ pass.old.log }
     {
-        calls::give_up(rt, &self.table, &self.desk, &mut pass.seat, receive.waiting);
+        calls::give_up(
+            rt,
+            &self.table,
+            &self.receives,
+            &mut pass.seat,
+            receive.waiting,
+        );
     }
 
-    /// All parts are back, so no call is under way and no other receive is pending. Whether a message is there, and whether some
-    /// listener was woken. Beside a receive that is pending a message has a woken listener. The log of all passes says that each
-    /// message that was put in was taken out once, but for the last where one is there.
+    /// All parts are back, so no call is under way, and no other receive and no other send is pending. Whether a message is there, and
+    /// whether some listener was woken. Beside a receive that is pending a message has a woken listener of a receive, and beside a send
+    /// that is pending a free place has one of a send. The log of all passes says that each message that was put in was taken out once,
+    /// but for the last where one is there.
     pub fn look<R: Wait>(
         &self,
         rt: &R,
         pass: &mut Pass<T, W, B>,
         receive: &mut Receive<T, W, B>,
-    ) -> (bool, bool)
-        requires { pass.old.parts + receive.old ≡ 1023 }
-        ensures same { (pass.new.parts ≡ pass.old.parts) × (pass.new.log ≡ pass.old.log) × (receive.new ≡ receive.old) }
-        ensures law { 0 < receive.old → result.0 ≡ true → result.1 ≡ true }
-        ensures accounts { Looked result.0 pass.old.log }
+        send: &mut Sending<T, W, B>,
+    ) -> Rest
+        requires { pass.old.parts + receive.old + send.old ≡ 1024 }
+        ensures same { (pass.new.parts ≡ pass.old.parts) × (pass.new.log ≡ pass.old.log) × (receive.new ≡ receive.old) × (send.new ≡ send.old) }
+        ensures receives { 0 < receive.old → result.message ≡ true → result.receive_told ≡ true }
+        ensures sends { 0 < send.old → result.message ≡ false → result.send_told ≡ true }
+        ensures accounts { Looked result.message pass.old.log }
     {
         calls::look(
             rt,
             &self.table,
-            &self.desk,
+            &self.desks(),
             &mut pass.seat,
             &mut receive.waiting,
+            &mut send.waiting,
         )
     }
 }

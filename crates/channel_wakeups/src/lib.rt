@@ -15,7 +15,7 @@ mod stage;
 mod steps;
 pub mod wake;
 
-pub use channel::{Opened, Pass, Receive, SlotChannel};
-pub use polled::Polled;
-pub use rule::Room;
+pub use channel::{Opened, Pass, Receive, Rest, Sending, SlotChannel, Waiter};
+pub use polled::{Offered, Polled};
+pub use rule::{Receives, Room, Sends, Waiting};
 pub use wake::Wake;

@@ -1,4 +1,4 @@
-//! The list of those who wait for a message.
+//! A list of those who wait: receives for a message, or sends for a place.
 ghost use Rattle.std.specs.Prelude.{◌≡◌, ◌≢◌, ◌⊎◌, ℕ, ◌+◌, ◌<◌, ◌≤◌, ◌++◌, [], ◌∷◌, length, is_some, true, false, Some, None, slice_index_or, IfSome, IfNone, OnOk, OnErr};
 ghost use Rattle.channel_wakeups.specs.Lists.{told, waits, listed, is_this};
 ghost use Rattle.channel_wakeups.specs.declared.listeners.Listener.{Listener};

@@ -1,15 +1,16 @@
-//! What is done to the seats of a channel's table besides the steps of the machine. Each function is one plain load.
+//! What is done to the seats of a channel's table besides the steps of the machine. Each function is one plain load, `begin` two and `section` three.
 
-ghost use Rattle.std.specs.Prelude.{◌≡◌, ℕ, ◌+◌, ◌-◌, ◌/◌, ◌<◌, ◌≤◌, [], ◌++◌, true};
+ghost use Rattle.std.specs.Prelude.{◌≡◌, ℕ, ◌+◌, ◌-◌, ◌/◌, ◌<◌, ◌≤◌, [], ◌++◌, true, false};
 ghost use Rattle.channel_wakeups.specs.Calls.{Looked};
 ghost use Rattle.channel_wakeups.specs.Lists.{told, waits, listed};
-ghost use Rattle.channel_wakeups.specs.Seats.{IsCall, IsIdle, IsTicket, IsList, IsBusy};
-ghost use Rattle.channel_wakeups.specs.Views.{desk, entered, is_key, HasAll, Fair};
+ghost use Rattle.channel_wakeups.specs.Seats.{IsCall, IsIdle, IsPass, IsTicket, IsList, Calls, Lists};
+ghost use Rattle.channel_wakeups.specs.Views.{of, other, both_parts, call_part, calling, changed, comes_out, entered, stays, is_key, everything, due, of_receives, of_sends, HasAll, Fair};
 
 use crate::cells::{Place, SlotTable};
 use crate::listeners::Listener;
 use crate::rule::{
-    Absorbs, Aim, Becomes, Blank, Enters, GivesTicket, Learns, Leaves, Shares, TakesTicket,
+    Absorbs, Aim, Becomes, Blank, Divides, Enters, GivesTicket, Learns, Leaves, Receives, Sends,
+    Shares, TakesTicket, Waiting,
 };
 use std::marker::Brand;
 
@@ -23,35 +24,17 @@ pub(crate) fn blank<T: Drop, W: Drop>(table: &SlotTable<T, W>) -> Place<T, W>
 
 /// A call's pass goes into the list's seat.
 #[inline(always)]
-pub(crate) fn enter<T: Drop, W: Drop>(
+pub(crate) fn enter<T: Drop, W: Drop, S: Waiting>(
     table: &SlotTable<T, W>,
     seat: &mut Place<T, W>,
     call: Place<T, W>,
 )
     requires table { 0 < table.now.shared.table_id.words }
-    requires seat { IsList table.now.shared.table_id seat.old }
-    requires call { IsCall table.now.shared.table_id call call.me.0.parts call.me.0.answers call.me.0.holds call.me.0.ticket }
+    requires seat { IsList S.side table.now.shared.table_id seat.old }
+    requires call { IsPass S.side table.now.shared.table_id call call.me.0.parts (call_part (of S.side call.me.0)) (of (other S.side) call.me.0).ticket }
     ensures { (seat.new.table_id ≡ table.now.shared.table_id) × (seat.new.me ≡ (entered seat.old.me.0 call.me.0, [])) }
 {
     table.shared.join_seat::<Enters>(seat, call);
-}
-
-/// The list was changed, and its seat now says so. What the list became, and what the call answers for and has in hand from now on,
-/// are arguments for the proof alone.
-#[inline(always)]
-pub(crate) fn aim<T: Drop, W: Drop, I: Aim<T, W>>(
-    table: &SlotTable<T, W>,
-    seat: &mut Place<T, W>,
-    _listeners: &[Listener<W>],
-    _answers: u64,
-    _holds: u64,
-)
-    requires table { 0 < table.now.shared.table_id.words }
-    requires seat { IsBusy table.now.shared.table_id seat.old }
-    requires fair { Fair seat.old.me.0 I.view }
-    ensures { (seat.new.table_id ≡ table.now.shared.table_id) × (seat.new.me ≡ (I.view, [])) }
-{
-    table.shared.load::<Becomes<I>>(seat, 0);
 }
 
 /// The call's pass comes out of the list's seat.
@@ -61,13 +44,63 @@ pub(crate) fn leave<T: Drop, W: Drop>(
     seat: &mut Place<T, W>,
 ) -> Place<T, W>
     requires table { 0 < table.now.shared.table_id.words }
-    requires seat { IsBusy table.now.shared.table_id seat.old }
-    requires parts { 1 < seat.old.me.0.parts }
-    ensures stays { (seat.new.table_id ≡ table.now.shared.table_id) × (seat.new.me ≡ (desk seat.old.me.0.listeners, [])) }
-    ensures comes_out { IsCall table.now.shared.table_id result (seat.old.me.0.parts - 1) seat.old.me.0.answers seat.old.me.0.holds seat.old.me.0.ticket }
-    ensures log { result.me.0.log ≡ seat.old.me.0.log }
+    requires seat { (seat.old.table_id ≡ table.now.shared.table_id) × (seat.old.me.1 ≡ []) }
+    ensures stays { (seat.new.table_id ≡ table.now.shared.table_id) × (seat.new.me ≡ (stays seat.old.me.0, [])) }
+    ensures comes_out { (result.table_id ≡ table.now.shared.table_id) × (result.me ≡ (comes_out seat.old.me.0, [])) }
 {
     table.shared.split_seat::<Leaves>(seat)
+}
+
+/// The list was changed, and its seat now says so.
+#[inline(always)]
+fn aim<T: Drop, W: Drop, S: Waiting, I: Aim<W>>(table: &SlotTable<T, W>, seat: &mut Place<T, W>)
+    requires table { 0 < table.now.shared.table_id.words }
+    requires seat { (seat.old.table_id ≡ table.now.shared.table_id) × (seat.old.me.1 ≡ []) × (0 < seat.old.me.0.parts) }
+    requires list { (of S.side seat.old.me.0).lists ≡ 1 }
+    requires fair { Fair (of S.side seat.old.me.0) I.line }
+    ensures { (seat.new.table_id ≡ table.now.shared.table_id) × (seat.new.me ≡ (changed S.side seat.old.me.0 I.line, [])) }
+{
+    table.shared.load::<Becomes<S, I>>(seat, 0);
+}
+
+/// A section of a list that was changed. What the list became, and what the call answers for and has in hand from now on, are arguments
+/// for the proof alone.
+#[inline(always)]
+pub(crate) fn section<T: Drop, W: Drop, S: Waiting, I: Aim<W>>(
+    table: &SlotTable<T, W>,
+    seat: &mut Place<T, W>,
+    call: Place<T, W>,
+    _listeners: &[Listener<W>],
+    _answers: u64,
+    _holds: u64,
+) -> Place<T, W>
+    requires table { 0 < table.now.shared.table_id.words }
+    requires seat { IsList S.side table.now.shared.table_id seat.old }
+    requires call { IsPass S.side table.now.shared.table_id call call.me.0.parts (call_part (of S.side call.me.0)) 0 }
+    requires fair { Fair (both_parts (of S.side seat.old.me.0) (of S.side call.me.0)) I.line }
+    ensures list { IsList S.side table.now.shared.table_id seat.new × ((of S.side seat.new.me.0).listeners ≡ I.line.listeners) }
+    ensures call { IsPass S.side table.now.shared.table_id result call.me.0.parts (call_part I.line) 0 }
+    ensures log { result.me.0.log ≡ call.me.0.log }
+{
+    enter::<T, W, S>(table, seat, call);
+    aim::<T, W, S, I>(table, seat);
+    leave(table, seat)
+}
+
+/// The first seat becomes the first pass and the seats of the two lists.
+pub(crate) fn begin<T: Drop, W: Drop>(
+    table: &SlotTable<T, W>,
+    mut seat: Place<T, W>,
+) -> (Place<T, W>, Place<T, W>, Place<T, W>)
+    requires table { 0 < table.now.shared.table_id.words }
+    requires seat { (seat.table_id ≡ table.now.shared.table_id) × (seat.me ≡ (everything, [])) }
+    ensures pass { IsIdle table.now.shared.table_id result.0 1024 × (result.0.me.0.log ≡ []) }
+    ensures receives { IsList of_receives table.now.shared.table_id result.1 × (result.1.me.0.receives.listeners ≡ []) }
+    ensures sends { IsList of_sends table.now.shared.table_id result.2 × (result.2.me.0.sends.listeners ≡ []) }
+{
+    let pass = leave(table, &mut seat);
+    let sends = table.shared.split_seat::<Divides>(&mut seat);
+    (pass, seat, sends)
 }
 
 /// A pass gives half of its parts to a new one.
@@ -102,47 +135,50 @@ pub(crate) fn absorb<T: Drop, W: Drop>(
     table.shared.join_seat::<Absorbs>(call, other);
 }
 
-/// A pass gives its ticket out with a part: a seat of its own.
+/// A pass gives its ticket of a side out with a part: a seat of its own.
 #[inline(always)]
-pub(crate) fn give_ticket<T: Drop, W: Drop>(
+pub(crate) fn give_ticket<T: Drop, W: Drop, S: Waiting>(
     table: &SlotTable<T, W>,
     call: &mut Place<T, W>,
 ) -> Place<T, W>
     requires table { 0 < table.now.shared.table_id.words }
-    requires call { IsCall table.now.shared.table_id call.old call.old.me.0.parts call.old.me.0.answers call.old.me.0.holds call.old.me.0.ticket }
+    requires call { IsPass S.side table.now.shared.table_id call.old call.old.me.0.parts (call_part (of S.side call.old.me.0)) (of (other S.side) call.old.me.0).ticket }
     requires parts { 1 < call.old.me.0.parts }
-    ensures same { IsCall table.now.shared.table_id call.new (call.old.me.0.parts - 1) call.old.me.0.answers call.old.me.0.holds 0 }
-    ensures new { IsTicket table.now.shared.table_id result call.old.me.0.ticket }
+    ensures same { IsPass S.side table.now.shared.table_id call.new (call.old.me.0.parts - 1) (calling (of S.side call.old.me.0).answers (of S.side call.old.me.0).holds 0) (of (other S.side) call.old.me.0).ticket }
+    ensures new { IsTicket S.side table.now.shared.table_id result (of S.side call.old.me.0).ticket }
     ensures log { call.new.me.0.log ≡ call.old.me.0.log }
 {
-    table.shared.split_seat::<GivesTicket>(call)
+    table.shared.split_seat::<GivesTicket<S>>(call)
 }
 
 /// A pass takes a ticket in, with its part.
 #[inline(always)]
-pub(crate) fn take_ticket<T: Drop, W: Drop>(
+pub(crate) fn take_ticket<T: Drop, W: Drop, S: Waiting>(
     table: &SlotTable<T, W>,
     call: &mut Place<T, W>,
     ticket: Place<T, W>,
 )
     requires table { 0 < table.now.shared.table_id.words }
-    requires call { IsCall table.now.shared.table_id call.old call.old.me.0.parts call.old.me.0.answers call.old.me.0.holds 0 }
-    requires ticket { IsTicket table.now.shared.table_id ticket ticket.me.0.ticket }
-    ensures call { IsCall table.now.shared.table_id call.new (call.old.me.0.parts + 1) call.old.me.0.answers call.old.me.0.holds ticket.me.0.ticket }
+    requires call { IsPass S.side table.now.shared.table_id call.old call.old.me.0.parts (calling (of S.side call.old.me.0).answers (of S.side call.old.me.0).holds 0) (of (other S.side) call.old.me.0).ticket }
+    requires ticket { IsTicket S.side table.now.shared.table_id ticket (of S.side ticket.me.0).ticket }
+    ensures call { IsPass S.side table.now.shared.table_id call.new (call.old.me.0.parts + 1) (calling (of S.side call.old.me.0).answers (of S.side call.old.me.0).holds (of S.side ticket.me.0).ticket) (of (other S.side) call.old.me.0).ticket }
     ensures log { call.new.me.0.log ≡ call.old.me.0.log }
 {
-    table.shared.join_seat::<TakesTicket>(call, ticket);
+    table.shared.join_seat::<TakesTicket<S>>(call, ticket);
 }
 
-/// Who has every part learns the rule: whether a message is there, and of the listeners.
-pub(crate) fn learn<T: Drop, W: Drop>(table: &SlotTable<T, W>, seat: &mut Place<T, W>) -> bool
+/// Who has every part and a list learns the rule of its side: whether a message is there, and of the listeners.
+pub(crate) fn learn<T: Drop, W: Drop, S: Waiting>(
+    table: &SlotTable<T, W>,
+    seat: &mut Place<T, W>,
+) -> bool
     requires table { 0 < table.now.shared.table_id.words }
     requires seat { seat.old.table_id ≡ table.now.shared.table_id }
-    requires all { HasAll seat.old.me.0 }
+    requires all { HasAll S.side seat.old.me.0 }
     ensures same { (seat.new.table_id ≡ table.now.shared.table_id) × (seat.new.me ≡ seat.old.me) }
-    ensures law { result ≡ true → (key : ℕ) → 0 < waits key seat.old.me.0.listeners → 0 < told seat.old.me.0.listeners }
-    ensures tickets { (key : ℕ) → is_key key seat.old.me.0.ticket ≤ listed key seat.old.me.0.listeners }
+    ensures law { (key : ℕ) → 0 < waits key (of S.side seat.old.me.0).listeners → due S.side result ≤ told (of S.side seat.old.me.0).listeners }
+    ensures tickets { (key : ℕ) → is_key key (of S.side seat.old.me.0).ticket ≤ listed key (of S.side seat.old.me.0).listeners }
     ensures accounts { Looked result seat.old.me.0.log }
 {
-    table.shared.load::<Learns>(seat, 0) != 0
+    table.shared.load::<Learns<S>>(seat, 0) != 0
 }

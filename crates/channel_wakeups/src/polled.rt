@@ -10,3 +10,14 @@ pub enum Polled<T> {
     /// None, and no memory for a listener.
     NoMemory,
 }
+
+/// What became of the message of a send that was polled.
+#[derive(Debug, Drop, PartialEq, Eq)]
+pub enum Offered<T> {
+    /// It was put in.
+    Accepted,
+    /// There is no place yet. Here it is back, for the next poll.
+    Pending(T),
+    /// There is no place, and no memory for a listener.
+    NoMemory(T),
+}

@@ -21,17 +21,42 @@ impl Room for Brand {
     ghost table = { no_table };
 }
 
-/// What a section makes of the list's seat.
-pub(crate) trait Aim<T, W> {
-    ghost use Rattle.channel_wakeups.specs.declared.rule.View.{View};
+/// Who waits in a list: receives for a message, or sends for a free place.
+pub trait Waiting {
+    ghost use Rattle.channel_wakeups.specs.Views.{Side};
 
-    ghost view: { View T W };
+    ghost side: { Side };
 }
 
-impl<T, W> Aim<T, W> for Brand {
-    ghost use Rattle.channel_wakeups.specs.Views.{nobody};
+/// Receives wait.
+pub struct Receives;
 
-    ghost view = { nobody };
+impl Waiting for Receives {
+    ghost use Rattle.channel_wakeups.specs.Views.{of_receives};
+
+    ghost side = { of_receives };
+}
+
+/// Sends wait.
+pub struct Sends;
+
+impl Waiting for Sends {
+    ghost use Rattle.channel_wakeups.specs.Views.{of_sends};
+
+    ghost side = { of_sends };
+}
+
+/// What a section makes of the line of its list.
+pub(crate) trait Aim<W> {
+    ghost use Rattle.channel_wakeups.specs.declared.rule.Line.{Line};
+
+    ghost line: { Line W };
+}
+
+impl<W> Aim<W> for Brand {
+    ghost use Rattle.channel_wakeups.specs.Views.{idle};
+
+    ghost line = { idle };
 }
 
 /// A message that was put in or taken out, under its number.
@@ -40,31 +65,37 @@ pub enum Transfer<T> {
     Out(u64, T),
 }
 
-/// What a seat knows: the parts of a pass, for how many messages its call answers, the listener that it has in hand, what the word
-/// is while its call has the slot, of which listener it is the ticket, and what it put in and took out; of the list's seat, all
-/// listeners. No value is made.
-pub struct View<T, W> {
-    pub parts: u64,
+/// What a seat knows of those who wait on one side: for how many messages, or places, its call answers, the listener that it has in
+/// hand, and of which listener it is the ticket; of the list's seat, all listeners. No value is made.
+pub struct Line<W> {
     pub answers: u64,
     pub holds: u64,
-    pub owns: u64,
     pub ticket: u64,
     pub lists: u64,
     pub listeners: LinkedList<Listener<W>>,
+}
+
+/// What a seat knows: the parts of a pass, what the word is while its call has the slot, what it knows of receives and of sends that
+/// wait, and what it put in and took out. No value is made.
+pub struct View<T, W> {
+    pub parts: u64,
+    pub owns: u64,
+    pub receives: Line<W>,
+    pub sends: Line<W>,
     pub log: LinkedList<Transfer<T>>,
 }
 
-/// The rule: where a listener waits untold that no call has in hand, there are no more messages than told listeners and calls that
-/// answer for one. And what was put in is what was taken out and what the slot holds, in one order.
+/// The rule: where a receive's listener waits untold that no call has in hand, there are no more messages than told listeners of receives
+/// and calls that answer for one; so too of sends and free places. And what was put in is what was taken out and what the slot holds, in
+/// one order.
 pub struct Answered;
 
 impl<T, W> TableRule<Option<T>, View<T, W>, ()> for Answered {
-    ghost use Rattle.std.specs.Prelude.{[]};
-    ghost use Rattle.channel_wakeups.specs.Views.{busy, Woken};
+    ghost use Rattle.channel_wakeups.specs.Views.{everything, Woken};
 
     ghost holds = { λ _ s. Woken s };
 
-    ghost first = { λ _. busy 1024 0 0 0 [] [] };
+    ghost first = { λ _. everything };
 }
 
 /// A call's pass goes into the list's seat.
@@ -87,6 +118,17 @@ impl<T, W> Split<View<T, W>> for Leaves {
     ghost left = { stays };
 
     ghost right = { comes_out };
+}
+
+/// The seat of both lists becomes one of each.
+pub(crate) struct Divides;
+
+impl<T, W> Split<View<T, W>> for Divides {
+    ghost use Rattle.channel_wakeups.specs.Views.{receives_alone, sends_alone};
+
+    ghost left = { receives_alone };
+
+    ghost right = { sends_alone };
 }
 
 /// A pass gets the parts of another.
@@ -112,39 +154,44 @@ impl<T, W> Split<View<T, W>> for Shares {
 }
 
 /// A pass gives its ticket out, with a part.
-pub(crate) struct GivesTicket;
+pub(crate) struct GivesTicket<S> {
+    of: PhantomData<S>,
+}
 
-impl<T, W> Split<View<T, W>> for GivesTicket {
+impl<T, W, S: Waiting> Split<View<T, W>> for GivesTicket<S> {
     ghost use Rattle.channel_wakeups.specs.Views.{no_ticket, ticket_of};
 
-    ghost left = { no_ticket };
+    ghost left = { no_ticket S.side };
 
-    ghost right = { ticket_of };
+    ghost right = { ticket_of S.side };
 }
 
 /// A pass takes a ticket in, with its part.
-pub(crate) struct TakesTicket;
+pub(crate) struct TakesTicket<S> {
+    of: PhantomData<S>,
+}
 
-impl<T, W> Join<View<T, W>> for TakesTicket {
+impl<T, W, S: Waiting> Join<View<T, W>> for TakesTicket<S> {
     ghost use Rattle.channel_wakeups.specs.Views.{with_ticket, nobody};
 
-    ghost both = { with_ticket };
+    ghost both = { with_ticket S.side };
 
     ghost spent = { nobody };
 }
 
 /// The list was changed.
-pub(crate) struct Becomes<I> {
-    of: PhantomData<I>,
+pub(crate) struct Becomes<S, I> {
+    of: PhantomData<(S, I)>,
 }
 
-impl<T, W, I: Aim<T, W>> Play<Option<T>, View<T, W>> for Becomes<I> {
-    ghost use Rattle.std.specs.Prelude.{◌≡◌, []};
+impl<T, W, S: Waiting, I: Aim<W>> Play<Option<T>, View<T, W>> for Becomes<S, I> {
+    ghost use Rattle.std.specs.Prelude.{◌≡◌};
+    ghost use Rattle.channel_wakeups.specs.Views.{changed};
 
-    ghost then = { λ st m found after. after ≡ (I.view, []) };
+    ghost then = { λ st m found after. after ≡ (changed S.side m.0 I.line, m.1) };
 }
 
-/// A push wins the empty slot.
+/// A push wins the empty slot, or finds none.
 pub(crate) struct Fills;
 
 impl<T, W> Play<Option<T>, View<T, W>> for Fills {
@@ -171,13 +218,15 @@ impl<T, W> Play<Option<T>, View<T, W>> for Unlocks {
     ghost then = { unlocks };
 }
 
-/// Who has every part learns the rule.
-pub(crate) struct Learns;
+/// Who has every part and a list learns the rule of its side.
+pub(crate) struct Learns<S> {
+    of: PhantomData<S>,
+}
 
-impl<T, W> Play<Option<T>, View<T, W>> for Learns {
+impl<T, W, S: Waiting> Play<Option<T>, View<T, W>> for Learns<S> {
     ghost use Rattle.channel_wakeups.specs.Views.{learns};
 
-    ghost then = { learns };
+    ghost then = { learns S.side };
 }
 
 /// A new seat that has nothing.

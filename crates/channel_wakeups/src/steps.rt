@@ -120,7 +120,8 @@ impl<'a, T: Drop, W: Drop> Cells<T> for SlotCells<'a, T, W> {
                 return self.catch();
             }
         }
-        Err(FILLING)
+        // A push finds a message on its way out, and a pop one on its way in: both would try again.
+        Err(if next == FILLING { TAKING } else { FILLING })
     }
 
     fn fetch_add(&mut self, _at: Word, _by: u64) -> u64 {

@@ -1,15 +1,24 @@
 use super::*;
 use std::test::*;
 
-// Three threads: all that was sent came, and of the message beside the last receive somebody was told.
+// Four threads: all that was sent came. Beside a message the last receive was told, and beside a free place the last send.
 #[test]
-fn all_come_and_the_last_is_told(rt: HostRuntime) {
+fn all_come_and_the_last_are_told(rt: HostRuntime) {
     let outcome = rush(&rt, rt.alloc(), 100);
     let expected = Outcome {
-        sum: 19_900,
-        pending: true,
-        message: true,
-        woken: true,
+        sum: 9_900,
+        receive_pending: true,
+        full: Rest {
+            message: true,
+            receive_told: true,
+            send_told: false,
+        },
+        send_pending: true,
+        empty: Rest {
+            message: false,
+            receive_told: false,
+            send_told: true,
+        },
     };
     assert_eq!(rt; outcome, Some(expected));
 }

@@ -1,7 +1,7 @@
-use Rattle.channel_wakeups.proofs.From.{aims_from}
+use Rattle.channel_wakeups.proofs.Moves.{aims}
 use Rattle.channel_wakeups.proofs.place.aim.Goals as goal
 
 pub load-requires : goal.load-requires
 load-requires g c =
     let s = c.requires.seat in
-    (s.0, c.requires.table, aims_from _ _ _ _ s.1 s.2 s.3 s.4 c.requires.fair)
+    (s.0, c.requires.table, aims _ _ _ _ _ s.2 c.requires.list c.requires.fair)

@@ -1,8 +1,8 @@
-use Rattle.channel_wakeups.proofs.From.{none_out, takes_from}
+use Rattle.channel_wakeups.proofs.From.{takes_from}
 use Rattle.channel_wakeups.proofs.place.take_ticket.Goals as goal
 
 pub join_seat-requires : goal.join_seat-requires
 join_seat-requires g c =
     let s = c.requires.call in
     let p = c.requires.ticket in
-    (s.0, p.0, none_out _ _ p.1, c.requires.table, takes_from _ _ _ _ _ _ _ _ _ s.1 s.2 p.1)
+    (s.0, p.0.0, p.0.1, c.requires.table, takes_from _ _ _ _ _ _ _ _ _ _ s.2 s.2.4 p.0.2 p.1)
