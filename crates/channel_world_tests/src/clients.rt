@@ -67,13 +67,6 @@ pub fn ends_for_good<T: Drop>(world: &mut World<T>, steps: &mut VecDeque<Step<T>
     world.run_steps(steps)
 }
 
-/// Makes steps in whatever world: what they did leads on from it.
-fn step_on<T: Drop>(world: &mut World<T>, steps: &mut VecDeque<Step<T>>) -> Run<T>
-    ensures { LeadsTo world.old (replies_in result.trace.items) world.new }
-{
-    world.run_steps(steps)
-}
-
 /// Makes calls one at a time, if none is under way: the accounts that were kept of the world are kept on, with what they replied.
 fn call_if_quiet<T: Drop>(world: &mut World<T>, calls: &mut VecDeque<Call<T>>) -> Option<CallRun<T>>
     ensures { LeadsTo world.old (replied_if result) world.new }
@@ -110,7 +103,7 @@ pub fn carry<T: Drop>(
 {
     what_is_done_in_turn_leads_on::<T>();
     let before = call_if_quiet(world, before);
-    let run = step_on(world, steps);
+    let run = world.run_steps(steps);
     let after = call_if_quiet(world, after);
     Parts { before, run, after }
 }
@@ -149,7 +142,7 @@ pub fn settle_pending<T: Drop>(world: &mut World<T>) -> Settling<T>
 pub fn close_once<T: Drop>(world: &mut World<T>, steps: &mut VecDeque<Step<T>>) -> Run<T>
     ensures { ClosesOnceWith world.old (replies_in result.trace.items) }
 {
-    let run = step_on(world, steps);
+    let run = world.run_steps(steps);
     the_channel_is_closed_once(world);
     run
 }
@@ -159,7 +152,7 @@ pub fn close_once<T: Drop>(world: &mut World<T>, steps: &mut VecDeque<Step<T>>) 
 pub fn never_full<T: Drop>(world: &mut World<T>, steps: &mut VecDeque<Step<T>>) -> Run<T>
     ensures { IsNeverFullWith world.old (replies_in result.trace.items) }
 {
-    let run = step_on(world, steps);
+    let run = world.run_steps(steps);
     an_unbounded_world_is_never_full(world);
     run
 }
