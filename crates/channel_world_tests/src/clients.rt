@@ -1,6 +1,6 @@
 //! Clients of a world that know nothing of it but that it is one. They are proved; nothing runs them.
 
-ghost use Rattle.std.specs.Prelude.{◌≡◌, ◌+◌, ◌*◌, ◌<◌, ◌≤◌, ℕ, List, [], ◌++◌, length, slice_get, true, IfOk, IfSome, vec_len};
+ghost use Rattle.std.specs.Prelude.{◌≡◌, ◌+◌, ◌*◌, ◌<◌, ◌≤◌, ℕ, List, [], ◌++◌, length, slice_get, true, IfOk, vec_len};
 ghost use Rattle.channel_calls.specs.declared.reply.Reply.{Reply};
 ghost use Rattle.channel_calls.specs.declared.stage.Line.{Line};
 ghost use Rattle.channel_interleaving.specs.Pending.{how_many, is_pending};
@@ -10,7 +10,7 @@ ghost use Rattle.channel_model.specs.Handles.{HandlesAreCounted};
 ghost use Rattle.channel_model.specs.declared.name.Waiter.{Waiter};
 ghost use Rattle.channel_steps.specs.Scene.{Scene};
 ghost use Rattle.channel_world.specs.Asleep.{NobodySleeps};
-ghost use Rattle.channel_world.specs.Carried.{replied_in, LeadsTo};
+ghost use Rattle.channel_world.specs.Carried.{replied_if, LeadsTo};
 ghost use Rattle.channel_world.specs.InTurn.{accepted_on, left_on};
 ghost use Rattle.channel_world.specs.Since.{ClosesOnceWith, IsNeverFullWith};
 ghost use Rattle.channel_world.specs.StepsLeft.{EndsInFront};
@@ -67,67 +67,45 @@ pub fn ends_for_good<T: Drop>(world: &mut World<T>, steps: &mut VecDeque<Step<T>
     world.run_steps(steps)
 }
 
-/// Makes steps in whatever world: what they did leads on from it.
-fn step_on(world: &mut World<u64>, steps: &mut VecDeque<Step<u64>>) -> Run<u64>
-    ensures { LeadsTo world.old (replies_in result.trace.items) world.new }
+/// Makes calls one at a time, if none is under way: the accounts that were kept of the world are kept on, with what they replied.
+fn call_if_quiet<T: Drop>(world: &mut World<T>, calls: &mut VecDeque<Call<T>>) -> Option<CallRun<T>>
+    ensures { LeadsTo world.old (replied_if result) world.new }
 {
-    world.run_steps(steps)
-}
-
-/// Makes calls one at a time, where none is under way: what they did leads on from it.
-fn call_on(world: &mut World<u64>, calls: &mut VecDeque<Call<u64>>) -> CallRun<u64>
-    requires { IsQuiet world.old }
-    ensures { LeadsTo world.old (replied_in result.done.items) world.new }
-{
-    world.run_calls(calls)
+    what_is_done_in_turn_leads_on::<T>();
+    if world.is_quiet() {
+        Some(world.run_calls(calls))
+    } else {
+        None
+    }
 }
 
 /// What was done in three parts.
 #[derive(Drop)]
-pub struct Parts {
-    /// The calls before the steps.
-    pub before: CallRun<u64>,
+pub struct Parts<T> {
+    /// The calls before the steps, if none was under way.
+    pub before: Option<CallRun<T>>,
     /// The steps.
-    pub run: Run<u64>,
-    /// The calls after them.
-    pub after: CallRun<u64>,
+    pub run: Run<T>,
+    /// The calls after them, if none was under way then.
+    pub after: Option<CallRun<T>>,
 }
 
-/// Makes calls and then steps.
-fn call_and_step(
-    world: &mut World<u64>,
-    calls: &mut VecDeque<Call<u64>>,
-    steps: &mut VecDeque<Step<u64>>,
-) -> (CallRun<u64>, Run<u64>)
-    requires { IsQuiet world.old }
-    ensures { LeadsTo world.old (replied_in result.0.done.items ++ replies_in result.1.trace.items) world.new }
-{
-    what_is_done_in_turn_leads_on::<u64>();
-    let before = call_on(world, calls);
-    let run = step_on(world, steps);
-    (before, run)
-}
-
-/// Makes calls, then steps, then calls again, if none is under way then: what left since a scene that it came from, followed by what it
+/// Makes calls, then steps, then calls again, in whatever world: what left since a scene that it came from, followed by what it
 /// holds at the end, is what it held in that scene, followed by what came, in order; and the replies that were given since are
 /// those before, and then just those of the three parts.
-pub fn carry(
-    world: &mut World<u64>,
-    before: &mut VecDeque<Call<u64>>,
-    steps: &mut VecDeque<Step<u64>>,
-    after: &mut VecDeque<Call<u64>>,
-) -> Option<Parts>
-    requires { IsQuiet world.old }
-    ensures { IfSome result (λ parts. LeadsTo world.old
-        ((replied_in parts.before.done.items ++ replies_in parts.run.trace.items) ++ replied_in parts.after.done.items) world.new) }
+pub fn carry<T: Drop>(
+    world: &mut World<T>,
+    before: &mut VecDeque<Call<T>>,
+    steps: &mut VecDeque<Step<T>>,
+    after: &mut VecDeque<Call<T>>,
+) -> Parts<T>
+    ensures { LeadsTo world.old ((replied_if result.before ++ replies_in result.run.trace.items) ++ replied_if result.after) world.new }
 {
-    what_is_done_in_turn_leads_on::<u64>();
-    let (before, run) = call_and_step(world, before, steps);
-    if !world.is_quiet() {
-        return None;
-    }
-    let after = call_on(world, after);
-    Some(Parts { before, run, after })
+    what_is_done_in_turn_leads_on::<T>();
+    let before = call_if_quiet(world, before);
+    let run = world.run_steps(steps);
+    let after = call_if_quiet(world, after);
+    Parts { before, run, after }
 }
 
 /// Looks at whatever world has no call under way: each count is the number of live strong handles of its side, and while the
@@ -161,20 +139,20 @@ pub fn settle_pending<T: Drop>(world: &mut World<T>) -> Settling<T>
 
 /// Makes steps in whatever world: of all replies since its opening, with those of these steps, at most one says that it closed the
 /// channel.
-pub fn close_once(world: &mut World<u64>, steps: &mut VecDeque<Step<u64>>) -> Run<u64>
+pub fn close_once<T: Drop>(world: &mut World<T>, steps: &mut VecDeque<Step<T>>) -> Run<T>
     ensures { ClosesOnceWith world.old (replies_in result.trace.items) }
 {
-    let run = step_on(world, steps);
+    let run = world.run_steps(steps);
     the_channel_is_closed_once(world);
     run
 }
 
 /// Makes steps in whatever world: of all replies since an opening without a bound, with those of these steps, none refuses a
 /// message since the channel is full.
-pub fn never_full(world: &mut World<u64>, steps: &mut VecDeque<Step<u64>>) -> Run<u64>
+pub fn never_full<T: Drop>(world: &mut World<T>, steps: &mut VecDeque<Step<T>>) -> Run<T>
     ensures { IsNeverFullWith world.old (replies_in result.trace.items) }
 {
-    let run = step_on(world, steps);
+    let run = world.run_steps(steps);
     an_unbounded_world_is_never_full(world);
     run
 }
