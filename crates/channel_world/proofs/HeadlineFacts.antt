@@ -92,10 +92,12 @@ module _ {T : Type 0} where
         after = after;
         is = refl;
         goes_on = s.left;
-        tries = tries_at m.book m.scene s.before s.mine s.behind k s.there;
-        effect = step_marked m.scene p.0 f e.woken.items n.scene s;
-        touches = l.touches;
-        wakes = s.named;
+        work = record {
+          tries = tries_at m.book m.scene s.before s.mine s.behind k s.there;
+          effect = step_marked m.scene p.0 f e.woken.items n.scene s;
+          touches = l.touches;
+          wakes = s.named;
+        };
         left = l.made.kept;
         ends = may_end after e.reply l.made.kept s.finishes;
         book = l.made.book;

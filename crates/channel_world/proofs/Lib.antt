@@ -3,6 +3,7 @@ pub mod Few
 pub mod FewListed
 pub mod Opening
 pub mod Carried
+pub mod AccountFacts
 mod Leading
 pub mod CountDrops
 pub mod CountFacts

@@ -12,6 +12,7 @@ pub mod PartyRun
 pub mod Settled
 pub mod Asleep
 pub mod Carried
+pub mod Account
 pub mod Counts
 pub mod Numbers
 pub mod Since

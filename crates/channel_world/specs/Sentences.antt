@@ -68,6 +68,17 @@ module _ {T : Type 0} where
 
   -- ---- a step of a call
 
+  -- what it does, while the party's call is this one
+  pub record WorkDoes (m : Moment T) (call : Under T Waiter) (e : Entry T) (n : Moment T) : Type 0 where
+    -- it asks no listener before it tries, but a stream's
+    pub tries : asks_first call.ask ≡ false
+    -- to the plain channel it does what its mark says, by touching one cell, one list or one count at most
+    pub effect : plain n.scene.now ≡ marked e.mark (brought call.ask) (plain m.scene.now)
+    pub touches : OnePlace m.parts n.parts
+    -- it wakes those whom its one telling finds waiting, in order, or him to whom a listener of its own that it drops passes its
+    -- notice on, and nobody else
+    pub wakes : Names (telling call.at) (dropping call.at) m.scene.now e.woken.items
+
   pub record WorkSays (m : Moment T) (p : PartyId) (e : Entry T) (n : Moment T) : Type 0 where
     -- the party's call, among those under way
     pub before : List (Under T Waiter)
@@ -81,20 +92,12 @@ module _ {T : Type 0} where
     pub after : Under T Waiter
     pub is : after ≡ does call at_now e.mark m.scene.now n.scene.now
     pub goes_on : n.scene.under_way ≡ map (sees n.scene.now) before ++ (unless_ended after e.reply ++ map (sees n.scene.now) behind)
-    -- what the step does: it asks no listener before it tries, but a stream's
-    pub tries : asks_first call.ask ≡ false
-    -- to the plain channel what its mark says, by touching one cell, one list or one count at most
-    pub effect : plain n.scene.now ≡ marked e.mark (brought call.ask) (plain m.scene.now)
-    pub touches : OnePlace m.parts n.parts
-    -- it wakes those whom its one telling finds waiting, in order, or him to whom a listener of its own that it drops passes its
-    -- notice on, and nobody else
-    pub wakes : Names (telling call.at) (dropping call.at) m.scene.now e.woken.items
+    pub work : WorkDoes m call e n
     -- where it ends its call; what the call leaves is what the names get back
     pub left : Option (Kept T)
     pub ends : IfSome e.reply (λ r. EndSays after r left)
     pub book : IsBookAfter (step.Step p) e left m.book n.book
-    -- closing, dropping, giving up, refused polls and the questions but the length end within eight steps of their own, whatever
-    -- others do
+    -- a short call ends within eight steps of its own, whatever others do
     pub in_time : IsQuick call.ask → EndsInTime call.made e.reply
     -- where no other call holds it up, a step that does not end its call leaves it fewer steps
     pub nearer : e.reply ≡ None → NobodyHoldsUp p.0 m → n.left p.0 < m.left p.0

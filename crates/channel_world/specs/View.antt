@@ -103,13 +103,10 @@ module _ {T : Type 0} where
   abbrev pub parties_in : WorldView T → List (Party T Waiter)
   parties_in w = w.inside.parties.items
 
-  -- its cells, lists and counts
-  abbrev parts_in : WorldView T → Parts T Waiter
-  parts_in w = parts_of w.inside.channel
-
   abbrev pub moment_of : WorldView T → Scene T Waiter → Moment T
   moment_of w s =
-      record { parts = parts_in w; scene = s; book = book_of w; left = λ party. left_of party (parts_in w) (parties_in w) }
+      let parts : Parts T Waiter = parts_of w.inside.channel in
+      record { parts = parts; scene = s; book = book_of w; left = λ party. left_of party parts (parties_in w) }
 
   abbrev pub RanTo : List (Step T) → List (Step T) → WorldView T → List (Entry T) → WorldView T → Type 0
   RanTo steps left old trace new = runs.RanTo steps left old.inside trace new.inside

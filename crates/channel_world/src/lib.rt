@@ -10,6 +10,7 @@
 //! `channel_interleaving`.
 #![tactic(auto)]
 
+pub mod account;
 pub mod call;
 pub mod laws;
 pub mod name;
@@ -22,6 +23,7 @@ pub mod settle;
 pub mod step;
 pub mod world;
 
+pub use account::Account;
 pub use call::{Call, CallRun, Done, Reply, Stopped, WorldRefusal};
 pub use channel_calls::error::{
     OpenError, RecvError, Refused, SendError, TryRecvError, TrySendError,

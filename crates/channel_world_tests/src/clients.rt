@@ -17,11 +17,11 @@ ghost use Rattle.channel_world.specs.StepsLeft.{EndsInFront};
 ghost use Rattle.channel_world.specs.TheEnd.{NothingComesAfter};
 ghost use Rattle.channel_world.specs.View.{sight_of, names_in, is_closed, at_rest, IsQuiet, Led};
 
+use channel_world::account::Account;
 use channel_world::call::{Call, CallRun};
 use channel_world::laws::{
-    an_unbounded_world_is_never_full, at_rest_nobody_is_left_asleep,
-    by_steps_messages_leave_in_turn, counts_are_live_handles, numbers_are_those_at_rest,
-    the_channel_is_closed_once, what_is_done_in_turn_leads_on, who_sleeps_is_answered_for,
+    at_rest_nobody_is_left_asleep, by_steps_messages_leave_in_turn, counts_are_live_handles,
+    numbers_are_those_at_rest, who_sleeps_is_answered_for,
 };
 use channel_world::settle::Settled;
 use channel_world::step::{Run, Step};
@@ -67,16 +67,37 @@ pub fn ends_for_good<T: Drop>(world: &mut World<T>, steps: &mut VecDeque<Step<T>
     world.run_steps(steps)
 }
 
-/// Makes calls one at a time, if none is under way: the accounts that were kept of the world are kept on, with what they replied.
-fn call_if_quiet<T: Drop>(world: &mut World<T>, calls: &mut VecDeque<Call<T>>) -> Option<CallRun<T>>
-    ensures { LeadsTo world.old (replied_if result) world.new }
+/// Makes calls one at a time, if none is under way, and notes them.
+fn note_calls<T: Drop>(
+    world: &mut World<T>,
+    account: &mut Account<T>,
+    calls: &mut VecDeque<Call<T>>,
+) -> Option<CallRun<T>>
+    requires of_it { account.old.until ≡ world.old }
+    ensures since { account.new.since ≡ account.old.since }
+    ensures until { account.new.until ≡ world.new }
+    ensures replies { account.new.replies ≡ account.old.replies ++ replied_if result }
 {
-    what_is_done_in_turn_leads_on::<T>();
     if world.is_quiet() {
-        Some(world.run_calls(calls))
+        let run = world.run_calls(calls);
+        account.add_calls(world, &run);
+        Some(run)
     } else {
         None
     }
+}
+
+/// Makes calls one at a time, if none is under way: the accounts that were kept of the world are kept on, with what they replied.
+pub fn call_if_quiet<T: Drop>(
+    world: &mut World<T>,
+    calls: &mut VecDeque<Call<T>>,
+) -> Option<CallRun<T>>
+    ensures { LeadsTo world.old (replied_if result) world.new }
+{
+    let mut account = Account::of(world);
+    let run = note_calls(world, &mut account, calls);
+    account.says();
+    run
 }
 
 /// What was done in three parts.
@@ -101,10 +122,12 @@ pub fn carry<T: Drop>(
 ) -> Parts<T>
     ensures { LeadsTo world.old ((replied_if result.before ++ replies_in result.run.trace.items) ++ replied_if result.after) world.new }
 {
-    what_is_done_in_turn_leads_on::<T>();
-    let before = call_if_quiet(world, before);
+    let mut account = Account::of(world);
+    let before = note_calls(world, &mut account, before);
     let run = world.run_steps(steps);
-    let after = call_if_quiet(world, after);
+    account.add_steps(world, &run);
+    let after = note_calls(world, &mut account, after);
+    account.says();
     Parts { before, run, after }
 }
 
@@ -142,8 +165,10 @@ pub fn settle_pending<T: Drop>(world: &mut World<T>) -> Settling<T>
 pub fn close_once<T: Drop>(world: &mut World<T>, steps: &mut VecDeque<Step<T>>) -> Run<T>
     ensures { ClosesOnceWith world.old (replies_in result.trace.items) }
 {
+    let mut account = Account::of(world);
     let run = world.run_steps(steps);
-    the_channel_is_closed_once(world);
+    account.add_steps(world, &run);
+    account.says();
     run
 }
 
@@ -152,8 +177,10 @@ pub fn close_once<T: Drop>(world: &mut World<T>, steps: &mut VecDeque<Step<T>>) 
 pub fn never_full<T: Drop>(world: &mut World<T>, steps: &mut VecDeque<Step<T>>) -> Run<T>
     ensures { IsNeverFullWith world.old (replies_in result.trace.items) }
 {
+    let mut account = Account::of(world);
     let run = world.run_steps(steps);
-    an_unbounded_world_is_never_full(world);
+    account.add_steps(world, &run);
+    account.says();
     run
 }
 
