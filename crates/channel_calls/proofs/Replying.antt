@@ -47,6 +47,15 @@ use Rattle.channel_calls.specs.Turns.{most, again, ends_by, closer_ending, nothi
 use Rattle.channel_calls.specs.Answered.{sent_next, forced_next, received_next, hands_out, gathered_next, short_next, several_next, send_next, receive_next, stream_next, closing_next, closed_next, asked_next, terminated_next, upgraded_next, answered_next}
 use Rattle.channel_calls.specs.Replies.{MayGive, EndsBy, MayEnd, FollowsTurn, FollowsStage, IsCount, SendsAtOnce, ForcesIn, IsTryRecv, GivesUpTo, IsFlag, IsClosing, IsMaking, MayPoll, MayTell, MayTry, MayTurn}
 
+-- either may be made, or too many
+may_be_made : (T : Type 0) (k : Making) → IsMaking {T = T} k reply.Made
+may_be_made T making.Clone = tt
+may_be_made T making.Upgrade = tt
+
+may_be_too_many : (T : Type 0) (k : Making) → IsMaking {T = T} k reply.TooMany
+may_be_too_many T making.Clone = tt
+may_be_too_many T making.Upgrade = tt
+
 module _ {T : Type 0} where
   -- what holds of how a call ends holds of its reply and of the message that it leaves
   at_end : (P : Reply T → Option T → Type 0) (x : Reply T) (n : Option T) → P x n → (r : Reply T) (m : Option T) → (r ≡ x) × (m ≡ n) → P r m
@@ -73,8 +82,8 @@ module _ {T : Type 0} where
   abbrev pub Terminated : QueueForm → Reply T → Option T → Type 0
   Terminated b r m = IsFlag r × (m ≡ None)
 
-  abbrev pub Upgraded : QueueForm → Reply T → Option T → Type 0
-  Upgraded b r m = IsMaking r × (m ≡ None)
+  abbrev pub MadeBy : Making → Reply T → Option T → Type 0
+  MadeBy k r m = IsMaking k r × (m ≡ None)
 
 module _ {T : Type 0} (W : Type 0) (b : QueueForm) where
   sent : (v : T) (y : QueueReply T) → MayAnswer b (ask.Push v) y → (r : Reply T) (m : Option T) → MayTurn {T = T} {W = W} b (sent_next y) r m → Sent b v r m
@@ -308,8 +317,8 @@ module _ {T : Type 0} (W : Type 0) (b : QueueForm) where
   terminated (Count y) h r m t = absurd h
   terminated (Cap y) h r m t = absurd h
 
-  upgraded : (side : Side) (y : QueueReply T) → MayAnswer b ask.IsClosed y → (r : Reply T) (m : Option T) → MayTurn {T = T} {W = W} b (upgraded_next y side) r m → Upgraded b r m
-  upgraded side (Flag true) h r m t = at_end (Upgraded b) _ _ (tt, refl) r m t
+  upgraded : (side : Side) (y : QueueReply T) → MayAnswer b ask.IsClosed y → (r : Reply T) (m : Option T) → MayTurn {T = T} {W = W} b (upgraded_next y side) r m → MadeBy making.Upgrade r m
+  upgraded side (Flag true) h r m t = at_end (MadeBy making.Upgrade) _ _ (tt, refl) r m t
   upgraded side (Flag false) h r m t = t
   upgraded side (Push y) h r m t = absurd h
   upgraded side (Force y) h r m t = absurd h
@@ -372,21 +381,21 @@ module _ {T : Type 0} (W : Type 0) (b : QueueForm) where
   counted n r m t = at_end (λ (r : Reply T) (m : Option T). IsCount r × (m ≡ None)) _ _ (tt, refl) r m t
 
   loaded_more : (side : Side) (k : Making) (n : ℕ) (over : Bool) (r : Reply T) (m : Option T)
-      → MayTurn {T = T} {W = W} b (if over then Ends reply.TooMany nothing_kept else Works (work.Raise side n k)) r m → Upgraded b r m
-  loaded_more side k n true r m t = at_end (Upgraded b) _ _ (tt, refl) r m t
+      → MayTurn {T = T} {W = W} b (if over then Ends reply.TooMany nothing_kept else Works (work.Raise side n k)) r m → MadeBy k r m
+  loaded_more side k n true r m t = at_end (MadeBy k) _ _ (may_be_too_many T k, refl) r m t
   loaded_more side k n false r m t = t
 
   loaded_some : (side : Side) (n : ℕ) (none : Bool) (r : Reply T) (m : Option T)
-      → MayTurn {T = T} {W = W} b (if none then Ends reply.NotMade nothing_kept else counted_next side making.Upgrade n) r m → Upgraded b r m
-  loaded_some side n true r m t = at_end (Upgraded b) _ _ (tt, refl) r m t
+      → MayTurn {T = T} {W = W} b (if none then Ends reply.NotMade nothing_kept else counted_next side making.Upgrade n) r m → MadeBy making.Upgrade r m
+  loaded_some side n true r m t = at_end (MadeBy making.Upgrade) _ _ (tt, refl) r m t
   loaded_some side n false r m t = loaded_more side making.Upgrade n (nat_lt most n) r m t
 
-  pub loaded : (side : Side) (k : Making) (n : ℕ) (r : Reply T) (m : Option T) → MayTurn {T = T} {W = W} b (loaded_next side k n) r m → IsMaking r × (m ≡ None)
+  pub loaded : (side : Side) (k : Making) (n : ℕ) (r : Reply T) (m : Option T) → MayTurn {T = T} {W = W} b (loaded_next side k n) r m → MadeBy k r m
   loaded side making.Clone n r m t = loaded_more side making.Clone n (nat_lt most n) r m t
   loaded side making.Upgrade n r m t = loaded_some side n (n == 0) r m t
 
-  pub raised : (side : Side) (k : Making) (up : Bool) (r : Reply T) (m : Option T) → MayTurn {T = T} {W = W} b (raised_next side k up) r m → IsMaking r × (m ≡ None)
-  raised side k true r m t = at_end (Upgraded b) _ _ (tt, refl) r m t
+  pub raised : (side : Side) (k : Making) (up : Bool) (r : Reply T) (m : Option T) → MayTurn {T = T} {W = W} b (raised_next side k up) r m → MadeBy k r m
+  raised side k true r m t = at_end (MadeBy k) _ _ (may_be_made T k, refl) r m t
   raised side k false r m t = t
 
   sent_by : (v : T) (first_of : Bool) (key : Option Key) (task : W) (r : Reply T) (m : Option T)

@@ -25,6 +25,8 @@ use Rattle.channel_calls.specs.declared.stage.Closer.{Closer}
 use Rattle.channel_calls.specs.declared.stage.Closer.TheVariants as closer
 use Rattle.channel_calls.specs.declared.stage.Ending.{Ending}
 use Rattle.channel_calls.specs.declared.stage.Line.TheVariants.{Sends, Receives, Streams, Closings}
+use Rattle.channel_calls.specs.declared.stage.Making.{Making}
+use Rattle.channel_calls.specs.declared.stage.Making.TheVariants as making
 use Rattle.channel_calls.specs.declared.stage.Stage.{Stage}
 use Rattle.channel_calls.specs.declared.stage.Stage.TheVariants.{Trying, Working, Finished}
 use Rattle.channel_calls.specs.declared.stage.Turn.{Turn}
@@ -91,11 +93,22 @@ module _ {T : Type 0} where
   IsClosing closer.Call _ = ⊥
   IsClosing _ r = Unit {0}
 
-  abbrev pub IsMaking : Reply T → Type 0
-  IsMaking reply.Made = Unit {0}
-  IsMaking reply.NotMade = Unit {0}
-  IsMaking reply.TooMany = Unit {0}
-  IsMaking _ = ⊥
+  -- a strong handle is cloned: it is made, or there are too many
+  abbrev pub IsCloning : Reply T → Type 0
+  IsCloning reply.Made = Unit {0}
+  IsCloning reply.TooMany = Unit {0}
+  IsCloning _ = ⊥
+
+  -- a weak one is upgraded: it may be that none is made, too
+  abbrev pub IsUpgrading : Reply T → Type 0
+  IsUpgrading reply.Made = Unit {0}
+  IsUpgrading reply.NotMade = Unit {0}
+  IsUpgrading reply.TooMany = Unit {0}
+  IsUpgrading _ = ⊥
+
+  abbrev pub IsMaking : Making → Reply T → Type 0
+  IsMaking making.Clone r = IsCloning r
+  IsMaking making.Upgrade r = IsUpgrading r
 
   -- a poll of a send, with the message that stays with it
   abbrev pub SendsBy : T → Poll (Result Unit (Refused (SendError T) Unit)) → Option T → Type 0
@@ -143,7 +156,7 @@ module _ {T : Type 0} where
   MayTry b (aim.Close c) a r m = a ≡ ask.Close → IsClosing c r × (m ≡ None)
   MayTry b aim.Ask a r m = MayTell a r × (m ≡ None)
   MayTry b aim.IsTerminated a r m = a ≡ ask.IsClosed → IsFlag r × (m ≡ None)
-  MayTry b (aim.Upgrade side) a r m = a ≡ ask.IsClosed → IsMaking r × (m ≡ None)
+  MayTry b (aim.Upgrade side) a r m = a ≡ ask.IsClosed → IsUpgrading r × (m ≡ None)
 
   abbrev pub MayWork : {W : Type 0} → Work T W → Reply T → Option T → Type 0
   MayWork (TellReceive e) r m = EndsBy e r m
@@ -157,8 +170,8 @@ module _ {T : Type 0} where
   MayWork (Leave e) r m = EndsBy e r m
   MayWork (Lower side key) r m = Unit {0}
   MayWork (Count side) r m = IsCount r × (m ≡ None)
-  MayWork (Load side making) r m = IsMaking r × (m ≡ None)
-  MayWork (Raise side from making) r m = IsMaking r × (m ≡ None)
+  MayWork (Load side k) r m = IsMaking k r × (m ≡ None)
+  MayWork (Raise side from k) r m = IsMaking k r × (m ≡ None)
 
   abbrev pub MayTurn : {W : Type 0} → QueueForm → Turn T W → Reply T → Option T → Type 0
   MayTurn b (Tries a x) r m = MayTry b x a r m
@@ -196,8 +209,8 @@ module _ {T : Type 0} where
   MayGive b (call.GiveUp line v key) r m = (r ≡ reply.GivenUp v) × (m ≡ None)
   MayGive b call.DropSender r m = Unit {0}
   MayGive b (call.DropReceiver key) r m = Unit {0}
-  MayGive b (call.CloneHandle side) r m = IsMaking r × (m ≡ None)
-  MayGive b (call.Upgrade side) r m = IsMaking r × (m ≡ None)
+  MayGive b (call.CloneHandle side) r m = IsCloning r × (m ≡ None)
+  MayGive b (call.Upgrade side) r m = IsUpgrading r × (m ≡ None)
   MayGive b (call.HandleCount side) r m = IsCount r × (m ≡ None)
   MayGive b call.IsClosed r m = IsFlag r × (m ≡ None)
   MayGive b call.IsEmpty r m = IsFlag r × (m ≡ None)
