@@ -1,14 +1,17 @@
 -- What a trace saw of a call that was made over cells which show it their deeds.
-use Rattle.std.proofs.Common.{◌≡◌, Option, sym, subst}
+use Rattle.std.proofs.Common.{◌≡◌, ℕ, Option, refl, sym, subst}
 use Rattle.concurrent_queue.specs.Deeds.{Deed}
-use Rattle.concurrent_queue.specs.Walked.{StateMakes, CallMakes, WalkedFrom}
+use Rattle.concurrent_queue.specs.Walked.{StateMakes, CallMakes, WalkedFrom, first_of, standing}
+use Rattle.concurrent_queue.specs.machine.Ahead.{Leads}
+use Rattle.concurrent_queue.specs.declared.call.QueueAsk.{QueueAsk}
 use Rattle.concurrent_queue.specs.declared.call.QueueReply.{QueueReply}
 use Rattle.concurrent_queue.specs.declared.call.Stepped.{Stepped}
 use Rattle.concurrent_queue.specs.declared.cells.QueueForm.{QueueForm}
 use Rattle.concurrent_queue.specs.declared.queue_call.CallState.{CallState}
+use Rattle.concurrent_queue.specs.declared.queue_call.CallState.TheVariants.{Asked}
 use Rattle.concurrent_queue.specs.declared.queue_call.QueueCall.{QueueCall}
 use Rattle.concurrent_queue.specs.declared.seen.Seen.{Seen}
-use Rattle.concurrent_queue.proofs.Walks.{state_seen, walked_seen}
+use Rattle.concurrent_queue.proofs.Walks.{state_seen, leads_seen, walked_seen, walked_asking, walked_standing, walked_on}
 
 -- cells of which nothing is known but their form, and a trace
 module _ {T C S : Type 0} (form_of : C → QueueForm) (did : Deed T → S → S → Type 0) where
@@ -34,3 +37,32 @@ module _ {T C S : Type 0} (form_of : C → QueueForm) (did : Deed T → S → S 
       subst (λ (f : QueueForm). StateMakes did f x call.state y end) same
       (subst (λ (z : S). StateMakes did now z call.state y end) from
       (subst (λ (z : S). StateMakes did now s.trace call.state z end) (sym to) (state_seen both did (λ (z : Seen C S). z.trace) shows now s call.state t end made)))
+
+  -- where straight code answered a call that asks this
+  pub traced_asking : (form now : QueueForm) (a : QueueAsk T) (s t : Seen C S) (r : QueueReply T) (x y : S) → now ≡ form → s.trace ≡ x → y ≡ t.trace
+      → WalkedFrom both now (first_of now a) s r t → WalkedFrom did form (Asked a) x r y
+  traced_asking form now a s t r x y same from to walked =
+      traced form now (Asked a) s t r x y same from to (walked_asking both now s a t r walked)
+
+  -- where it answered a call at this state
+  pub traced_standing : (form now : QueueForm) (at : CallState T) (s t : Seen C S) (r : QueueReply T) (x y : S) → now ≡ form → s.trace ≡ x → y ≡ t.trace
+      → WalkedFrom both now (standing now at) s r t → WalkedFrom did form at x r y
+  traced_standing form now at s t r x y same from to walked =
+      traced form now at s t r x y same from to (walked_standing both now s at t r walked)
+
+  -- what straight code left was walked on from the trace that it gave back
+  module _ (form now : QueueForm) (left : CallState T) (s t : Seen C S) (r : QueueReply T) (x y z : S) (same : now ≡ form) (from : s.trace ≡ x) (to : y ≡ t.trace) where
+    went_on : (from_here : CallState T) → ((n : ℕ) × Leads (StateMakes both now) n s from_here t (standing now left)) → WalkedFrom did form left y r z → WalkedFrom did now from_here x r z
+    went_on from_here (n, path) rest =
+        let seen = leads_seen both did (λ (w : Seen C S). w.trace) shows now n s from_here t (standing now left) path in
+        let begun : Leads (StateMakes did now) n x from_here t.trace (standing now left) = subst (λ (w : S). Leads (StateMakes did now) n w from_here t.trace (standing now left)) from seen in
+        let more : WalkedFrom did now left t.trace r z = subst (λ (w : S). WalkedFrom did now left w r z) to (subst (λ (f : QueueForm). WalkedFrom did f left y r z) (sym same) rest) in
+        walked_on did now now n x from_here t.trace left z r refl begun more
+
+    pub asking_went_on : (a : QueueAsk T) → ((n : ℕ) × Leads (StateMakes both now) n s (first_of now a) t (standing now left)) → WalkedFrom did form left y r z → WalkedFrom did form (Asked a) x r z
+    asking_went_on a went rest =
+        subst (λ (f : QueueForm). WalkedFrom did f (Asked a) x r z) same (walked_asking did now x a z r (went_on (first_of now a) went rest))
+
+    pub standing_went_on : (at : CallState T) → ((n : ℕ) × Leads (StateMakes both now) n s (standing now at) t (standing now left)) → WalkedFrom did form left y r z → WalkedFrom did form at x r z
+    standing_went_on at went rest =
+        subst (λ (f : QueueForm). WalkedFrom did f at x r z) same (walked_standing did now x at z r (went_on (standing now at) went rest))

@@ -3,14 +3,11 @@
 
 ghost use Rattle.concurrent_queue.specs.Walked.{Walked, WalkedAsking};
 ghost use Rattle.concurrent_queue.specs.Replies.{MayCall, MayAnswer, AsksWords};
-ghost use Rattle.concurrent_queue.specs.declared.call.QueueAsk.TheVariants as ask;
-ghost use Rattle.concurrent_queue.specs.declared.call.QueueReply.TheVariants as reply;
 
 use crate::call::{QueueAsk, QueueReply};
 use crate::cells::Cells;
-use crate::error::{PopError, PushError};
 use crate::queue_call::QueueCall;
-use crate::queue_call::ahead::{call_ahead, pop_ahead, push_ahead};
+use crate::queue_call::ahead::call_ahead;
 use std::sync::Wait;
 use std::thread;
 
@@ -32,39 +29,6 @@ pub fn complete<T: Drop, R: Wait, C: Cells<T>>(
     }
 }
 
-/// Makes the steps of a push up to its answer, and nothing else.
-#[inline(always)]
-pub(crate) fn push<T: Drop, R: Wait, C: Cells<T>>(
-    rt: &R,
-    value: T,
-    cells: &mut C,
-) -> Result<(), PushError<T>>
-    ensures walked { WalkedAsking C.did (C.form_of cells.old) (ask.Push value) cells.old (reply.Push result) cells.new }
-    ensures answers { MayAnswer (C.form_of cells.old) (ask.Push value) (reply.Push result) }
-{
-    match push_ahead(value, cells) {
-        Ok(answer) => answer,
-        Err(rest) => match finish_apart(rt, rest, cells) {
-            QueueReply::Push(answer) => answer,
-            _ => unreachable!(),
-        },
-    }
-}
-
-/// Makes the steps of a pop up to its answer, and nothing else.
-#[inline(always)]
-pub(crate) fn pop<T: Drop, R: Wait, C: Cells<T>>(rt: &R, cells: &mut C) -> Result<T, PopError>
-    ensures walked { WalkedAsking C.did (C.form_of cells.old) ask.Pop cells.old (reply.Pop result) cells.new }
-{
-    match pop_ahead(cells) {
-        Ok(answer) => answer,
-        Err(rest) => match finish_apart(rt, rest, cells) {
-            QueueReply::Pop(answer) => answer,
-            _ => unreachable!(),
-        },
-    }
-}
-
 /// Makes the steps of a call that waits for nobody up to its answer, and nothing else: its second step answers at the latest.
 pub(crate) fn tell<T: Drop, C: Cells<T>>(ask: QueueAsk<T>, cells: &mut C) -> QueueReply<T>
     requires { AsksWords ask }
@@ -83,20 +47,6 @@ pub(crate) fn tell<T: Drop, C: Cells<T>>(ask: QueueAsk<T>, cells: &mut C) -> Que
         }
         None => unreachable!(),
     }
-}
-
-/// What straight code hands on is finished apart, so that a call at once has no room to make for it.
-#[cold]
-#[inline(never)]
-fn finish_apart<T: Drop, R: Wait, C: Cells<T>>(
-    rt: &R,
-    call: QueueCall<T>,
-    cells: &mut C,
-) -> QueueReply<T>
-    ensures walked { Walked C.did (C.form_of cells.old) call cells.old result cells.new }
-    ensures answers { MayCall (C.form_of cells.old) call.state result }
-{
-    finish(rt, call, cells)
 }
 
 /// Steps a call to its end. What straight code hands on is to make an action again, so it yields first.

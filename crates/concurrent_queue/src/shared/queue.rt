@@ -7,6 +7,7 @@ use crate::bounded::{GREATEST, at_most_greatest};
 use crate::call::{QueueAsk, QueueReply};
 use crate::cells::QueueForm;
 use crate::error::{NoMemory, PopError, PushError};
+use crate::queue_call::ahead::{call_ahead, pop_ahead, push_ahead};
 use crate::queue_call::{QueueCall, whole};
 use crate::seen::{Seen, Trace};
 use crate::shared::blocks::Blocks;
@@ -133,6 +134,44 @@ impl<T: Drop> ConcurrentQueue<T> {
     }
 }
 
+// A call that goes on has cells of its own: those of one that is made at once are lent to no function that stands apart, so they
+// need no place in memory.
+impl<T: Drop> ConcurrentQueue<T> {
+    ghost use Rattle.concurrent_queue.specs.SharedQueue.{form_in};
+    ghost use Rattle.concurrent_queue.specs.Replies.{MayCall};
+    ghost use Rattle.concurrent_queue.specs.Walked.{Walked};
+
+    /// Steps a call to its end. What straight code hands on is to make an action again, so it yields first.
+    fn finish_seen<R: Wait, S: Trace<T>>(
+        &self,
+        rt: &R,
+        call: QueueCall<T>,
+        trace: S,
+    ) -> (QueueReply<T>, S)
+        ensures walked { Walked S.did (form_in self.now) call trace (result.0) (result.1) }
+        ensures answers { MayCall (form_in self.now) call.state (result.0) }
+    {
+        let mut seen = self.cells(rt, trace);
+        let reply = whole::finish(rt, call, &mut seen);
+        (reply, seen.into_trace())
+    }
+
+    /// The same, apart from a push or a pop that is made at once, which so has no room to make for it.
+    #[cold]
+    #[inline(never)]
+    fn finish_apart<R: Wait, S: Trace<T>>(
+        &self,
+        rt: &R,
+        call: QueueCall<T>,
+        trace: S,
+    ) -> (QueueReply<T>, S)
+        ensures walked { Walked S.did (form_in self.now) call trace (result.0) (result.1) }
+        ensures answers { MayCall (form_in self.now) call.state (result.0) }
+    {
+        self.finish_seen(rt, call, trace)
+    }
+}
+
 // Each call of a shared queue with a trace of the caller's. It is one body for whatever trace, and has no other way to the
 // cells than by the trace that it was given; `calls` makes the same with a trace of no size.
 impl<T: Drop> ConcurrentQueue<T> {
@@ -174,8 +213,10 @@ impl<T: Drop> ConcurrentQueue<T> {
         ensures answers { IsSharedCall self.now call (result.0) }
     {
         let mut seen = self.cells(rt, trace);
-        let reply = whole::complete(rt, call, &mut seen);
-        (reply, seen.into_trace())
+        match call_ahead(call, &mut seen) {
+            Ok(reply) => (reply, seen.into_trace()),
+            Err(rest) => self.finish_seen(rt, rest, seen.into_trace()),
+        }
     }
 
     /// One step of a call that waits for nobody, as `step_words`: the trace sees its one operation. Own to this project.
@@ -206,8 +247,16 @@ impl<T: Drop> ConcurrentQueue<T> {
         ensures answers { MayAnswer (form_in self.now) (ask.Push value) (reply.Push (result.0)) }
     {
         let mut seen = self.cells(rt, trace);
-        let answer = whole::push(rt, value, &mut seen);
-        (answer, seen.into_trace())
+        match push_ahead(value, &mut seen) {
+            Ok(answer) => (answer, seen.into_trace()),
+            Err(rest) => {
+                let (reply, trace) = self.finish_apart(rt, rest, seen.into_trace());
+                match reply {
+                    QueueReply::Push(answer) => (answer, trace),
+                    _ => unreachable!(),
+                }
+            }
+        }
     }
 
     /// A pop, as `pop`: the trace sees its operations and nothing else. Own to this project.
@@ -216,8 +265,16 @@ impl<T: Drop> ConcurrentQueue<T> {
         ensures walked { WalkedAsking S.did (form_in self.now) ask.Pop trace (reply.Pop (result.0)) (result.1) }
     {
         let mut seen = self.cells(rt, trace);
-        let answer = whole::pop(rt, &mut seen);
-        (answer, seen.into_trace())
+        match pop_ahead(&mut seen) {
+            Ok(answer) => (answer, seen.into_trace()),
+            Err(rest) => {
+                let (reply, trace) = self.finish_apart(rt, rest, seen.into_trace());
+                match reply {
+                    QueueReply::Pop(answer) => (answer, trace),
+                    _ => unreachable!(),
+                }
+            }
+        }
     }
 
     /// Any other call, step by step: the trace sees its operations and nothing else. It may wait. Own to this project.
@@ -231,9 +288,7 @@ impl<T: Drop> ConcurrentQueue<T> {
         ensures walked { WalkedAsking S.did (form_in self.now) ask trace (result.0) (result.1) }
         ensures answers { MayAnswer (form_in self.now) ask (result.0) }
     {
-        let mut seen = self.cells(rt, trace);
-        let reply = whole::finish(rt, QueueCall::new(ask), &mut seen);
-        (reply, seen.into_trace())
+        self.finish_seen(rt, QueueCall::new(ask), trace)
     }
 
     /// A call that waits for nobody: the trace sees its operations and nothing else. Own to this project.
