@@ -1,10 +1,17 @@
 //! Handles that are made and dropped.
 
-use crate::leaving::let_go;
+use crate::leaving::{let_go, upgrade_receiver, upgrade_sender};
 use crate::party::Party;
-use async_channel::{Receiver, Sender};
+use history_checker::log::Log;
 use history_checker::point::{Did, Point, Side};
 use std::sync::Wait;
+
+/// Keeps a handle.
+fn keep<H: Drop>(handles: &mut Vec<H>, handle: H, log: &mut Log) {
+    if handles.push(handle).is_err() {
+        log.spoiled = true;
+    }
+}
 
 impl<'a, R: Wait + Copy> Party<'a, R> {
     /// One more sender.
@@ -13,7 +20,7 @@ impl<'a, R: Wait + Copy> Party<'a, R> {
         match self.hands.sender.try_clone() {
             Ok(sender) => {
                 self.note(begin, Did::Once(Point::Raise(Side::Senders)));
-                self.keep_sender(sender);
+                keep(&mut self.senders, sender, self.log);
             }
             Err(_) => self.log.spoiled = true,
         }
@@ -25,7 +32,7 @@ impl<'a, R: Wait + Copy> Party<'a, R> {
         match self.hands.receiver.try_clone() {
             Ok(receiver) => {
                 self.note(begin, Did::Once(Point::Raise(Side::Receivers)));
-                self.keep_receiver(receiver);
+                keep(&mut self.receivers, receiver, self.log);
             }
             Err(_) => self.log.spoiled = true,
         }
@@ -33,27 +40,17 @@ impl<'a, R: Wait + Copy> Party<'a, R> {
 
     /// One more sender from a weak one, where the channel is open and a sender lives.
     pub fn upgrade_sender(&mut self) {
-        let begin = self.stamps.stamp();
-        match self.hands.weak_sender.upgrade() {
-            Ok(Some(sender)) => {
-                self.note(begin, Did::upgraded(Side::Senders));
-                self.keep_sender(sender);
-            }
-            Ok(None) => self.note(begin, Did::not_upgraded(Side::Senders)),
-            Err(_) => self.log.spoiled = true,
+        let made = upgrade_sender(&self.hands.weak_sender, self.stamps, self.log);
+        if let Some(sender) = made {
+            keep(&mut self.senders, sender, self.log);
         }
     }
 
     /// One more receiver from a weak one, where the channel is open and a receiver lives.
     pub fn upgrade_receiver(&mut self) {
-        let begin = self.stamps.stamp();
-        match self.hands.weak_receiver.upgrade() {
-            Ok(Some(receiver)) => {
-                self.note(begin, Did::upgraded(Side::Receivers));
-                self.keep_receiver(receiver);
-            }
-            Ok(None) => self.note(begin, Did::not_upgraded(Side::Receivers)),
-            Err(_) => self.log.spoiled = true,
+        let made = upgrade_receiver(&self.hands.weak_receiver, self.stamps, self.log);
+        if let Some(receiver) = made {
+            keep(&mut self.receivers, receiver, self.log);
         }
     }
 
@@ -69,29 +66,17 @@ impl<'a, R: Wait + Copy> Party<'a, R> {
         self.note(begin, Did::nothing_if(made));
     }
 
-    fn keep_sender(&mut self, sender: Sender<u64, R>) {
-        if self.senders.push(sender).is_err() {
-            self.log.spoiled = true;
-        }
-    }
-
-    fn keep_receiver(&mut self, receiver: Receiver<u64, R>) {
-        if self.receivers.push(receiver).is_err() {
-            self.log.spoiled = true;
-        }
-    }
-
     /// The last sender that was made is dropped.
     pub fn drop_sender(&mut self) {
         if let Some(sender) = self.senders.pop() {
-            let_go(sender, Side::Senders, self.stamps, &mut self.log);
+            let_go(sender, Side::Senders, self.stamps, self.log);
         }
     }
 
     /// The last receiver that was made is dropped.
     pub fn drop_receiver(&mut self) {
         if let Some(receiver) = self.receivers.pop() {
-            let_go(receiver, Side::Receivers, self.stamps, &mut self.log);
+            let_go(receiver, Side::Receivers, self.stamps, self.log);
         }
     }
 }

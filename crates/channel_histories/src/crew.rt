@@ -71,15 +71,16 @@ impl Ended {
     }
 }
 
-/// The logs of threads that have ended; none where memory was refused.
+/// Waits for threads to end, and adds their logs to these.
 pub fn join_all<R: Threads>(
     rt: &R,
-    alloc: Global,
     threads: Vec<JoinHandle<Log>>,
-) -> Option<Vec<Log>> {
-    let mut logs = Vec::new(alloc);
+    logs: &mut Vec<Log>,
+) -> Result<(), Failure> {
     for thread in threads {
-        logs.push(thread.join(rt)).ok()?;
+        if logs.push(thread.join(rt)).is_err() {
+            return Err(Failure::Memory);
+        }
     }
-    Some(logs)
+    Ok(())
 }

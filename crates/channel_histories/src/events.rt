@@ -4,6 +4,7 @@
 use crate::crew::{Ended, Failure};
 use crate::gate::Gate;
 use crate::random::Random;
+use async_channel::Runtime;
 use event_listener::event::Event;
 use event_listener::id::EventIds;
 use event_listener::listener::Listener;
@@ -11,7 +12,7 @@ use std::alloc::Global;
 use std::rt::Clock;
 use std::sync::{Arc, Wait};
 use std::thread;
-use std::thread::{JoinHandle, Threads};
+use std::thread::JoinHandle;
 use std::time::Duration;
 
 /// How many calls each thread makes.
@@ -138,20 +139,18 @@ where
 /// Starts so many threads.
 fn start_all<R>(
     rt: R,
-    alloc: Global,
     shared: &Arc<Shared>,
-    threads: usize,
     seed: u64,
-) -> Result<Vec<JoinHandle<Tally>>, Failure>
+    started: &mut Vec<JoinHandle<Tally>>,
+) -> Result<(), Failure>
 where
-    R: Wait + Threads + Clock + Copy + Send + Sync + 'static,
+    R: Runtime + 'static,
 {
-    let mut started = Vec::new(alloc);
-    for thread in 0..threads {
+    for thread in 0..shared.threads {
         let Ok(mine) = Arc::try_clone(shared) else {
             return Err(Failure::Memory);
         };
-        let work = move || make_calls(rt, &mine, thread, seed);
+        let work = move || make_calls(rt, &mine, thread as usize, seed);
         let Ok(one) = thread::spawn(&rt, work) else {
             return Err(Failure::Thread);
         };
@@ -159,7 +158,7 @@ where
             return Err(Failure::Memory);
         }
     }
-    Ok(started)
+    Ok(())
 }
 
 /// An event and what threads share beside it; none where memory was refused.
@@ -176,10 +175,11 @@ fn share(alloc: Global, threads: usize) -> Option<Arc<Shared>> {
 /// What so many threads did to an event.
 pub fn over_event<R>(rt: R, alloc: Global, threads: usize, seed: u64) -> Result<Tally, Failure>
 where
-    R: Wait + Threads + Clock + Copy + Send + Sync + 'static,
+    R: Runtime + 'static,
 {
     let shared = share(alloc, threads).ok_or(Failure::Memory)?;
-    let started = start_all(rt, alloc, &shared, threads, seed)?;
+    let mut started = Vec::new(alloc);
+    start_all(rt, &shared, seed, &mut started)?;
     if !shared.ended.wait_for(&rt, shared.threads) {
         return Err(Failure::Still(Vec::new(alloc)));
     }

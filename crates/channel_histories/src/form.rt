@@ -9,15 +9,6 @@ pub enum Form {
 }
 
 impl Form {
-    /// Its name.
-    pub fn name(self) -> &'static str {
-        match self {
-            Form::OneSlot => "one slot",
-            Form::RingOfThree => "ring of 3",
-            Form::Unbounded => "unbounded",
-        }
-    }
-
     /// How many messages that is, if there is a bound.
     pub fn capacity(self) -> Option<usize> {
         match self {

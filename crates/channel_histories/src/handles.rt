@@ -7,17 +7,16 @@ use crate::job::{Job, Shared, may_block, run_job};
 use crate::party::Hands;
 use crate::place::Place;
 use crate::referee::Referee;
-use async_channel::{Receiver, Sender, bounded, unbounded};
+use async_channel::{Receiver, Runtime, Sender, bounded, unbounded};
 use event_listener::id::EventIds;
 use history_checker::history::History;
 use history_checker::log::{Log, Stamps};
 use history_checker::plain::Plain;
 use std::alloc::{AllocGlobal, Global};
 use std::random::RandomSource;
-use std::rt::Clock;
 use std::sync::{Arc, Wait};
 use std::thread;
-use std::thread::{JoinHandle, Threads};
+use std::thread::JoinHandle;
 
 /// The two handles of a channel that was just opened.
 type Ends<R> = (Sender<u64, R>, Receiver<u64, R>);
@@ -61,24 +60,6 @@ where
     })
 }
 
-/// The jobs of so many threads.
-fn jobs<R>(
-    rt: R,
-    alloc: Global,
-    referee: &mut Referee<R>,
-    threads: usize,
-    seed: u64,
-) -> Option<Vec<Job<R>>>
-where
-    R: Wait + Copy + RandomSource + AllocGlobal,
-{
-    let mut jobs = Vec::new(alloc);
-    for _ in 0..threads {
-        jobs.push(new_job(rt, alloc, referee, seed)?).ok()?;
-    }
-    Some(jobs)
-}
-
 /// Starts a thread with this job.
 fn start<R>(
     rt: R,
@@ -87,7 +68,7 @@ fn start<R>(
     job: Job<R>,
 ) -> Result<JoinHandle<Log>, Failure>
 where
-    R: Wait + Threads + Copy + RandomSource + AllocGlobal + Send + Sync + 'static,
+    R: Runtime + 'static,
 {
     let Ok(shared) = Arc::try_clone(shared) else {
         return Err(Failure::Memory);
@@ -96,24 +77,26 @@ where
     thread::spawn(&rt, work).ok().ok_or(Failure::Thread)
 }
 
-/// Starts a thread for each job.
+/// Starts so many threads. None of them makes a call before all have begun.
 fn start_all<R>(
     rt: R,
     alloc: Global,
     shared: &Arc<Shared>,
-    jobs: Vec<Job<R>>,
-) -> Result<Vec<JoinHandle<Log>>, Failure>
+    referee: &mut Referee<R>,
+    seed: u64,
+    started: &mut Vec<JoinHandle<Log>>,
+) -> Result<(), Failure>
 where
-    R: Wait + Threads + Copy + RandomSource + AllocGlobal + Send + Sync + 'static,
+    R: Runtime + 'static,
 {
-    let mut started = Vec::new(alloc);
-    for job in jobs {
+    for _ in 0..shared.threads {
+        let job = new_job(rt, alloc, referee, seed).ok_or(Failure::Memory)?;
         let one = start(rt, alloc, shared, job)?;
         if started.push(one).is_err() {
             return Err(Failure::Memory);
         }
     }
-    Ok(started)
+    Ok(())
 }
 
 /// What threads share that have not begun; none where memory was refused.
@@ -128,41 +111,49 @@ fn share(alloc: Global, threads: usize) -> Option<Arc<Shared>> {
     Arc::new(alloc, shared).ok()
 }
 
-/// What a history begins with: who watches it, what its threads share, and their jobs. None where memory was refused.
-fn prepare<R>(
+/// What comes of a history over the handles of a channel that was just opened: what its threads did, and what was seen of them.
+fn run<R>(
     rt: R,
     alloc: Global,
-    form: Form,
-    threads: usize,
+    shared: &Arc<Shared>,
+    (sender, receiver): Ends<R>,
     seed: u64,
-) -> Option<(Referee<R>, Arc<Shared>, Vec<Job<R>>)>
+    history: &mut History,
+) -> Result<(), Failure>
 where
-    R: Wait + Copy + RandomSource + AllocGlobal,
+    R: Runtime + 'static,
 {
-    let (sender, receiver) = open(rt, alloc, form)?;
     let mut referee = Referee::new(sender, receiver, alloc);
-    let jobs = jobs(rt, alloc, &mut referee, threads, seed)?;
-    Some((referee, share(alloc, threads)?, jobs))
+    let mut started = Vec::new(alloc);
+    start_all(rt, alloc, shared, &mut referee, seed, &mut started)?;
+    let mut log = Log::new(alloc);
+    let closes = may_block(seed);
+    referee.watch(
+        &rt,
+        alloc,
+        &shared.stamps,
+        closes,
+        &mut log,
+        &mut history.rests,
+    )?;
+    referee.leave(rt, alloc, shared, &mut log)?;
+    join_all(&rt, started, &mut history.logs)?;
+    history.logs.push(log).ok().ok_or(Failure::Memory)
 }
 
 /// A history over the handles of a channel of this form. The referee has two handles, and is one thread more.
 pub fn over_handles<R>(rt: R, alloc: Global, form: Form, threads: usize, seed: u64) -> Outcome
 where
-    R: Wait + Threads + Clock + Copy + RandomSource + AllocGlobal + Send + Sync + 'static,
+    R: Runtime + 'static,
 {
-    let Some((referee, shared, jobs)) = prepare(rt, alloc, form, threads, seed) else {
-        return Err(Failure::Memory);
-    };
-    let started = start_all(rt, alloc, &shared, jobs)?;
-    let (log, rests) = referee.see_through(rt, alloc, &shared, may_block(seed))?;
-    let mut logs = join_all(&rt, alloc, started).ok_or(Failure::Memory)?;
-    if logs.push(log).is_err() {
-        return Err(Failure::Memory);
-    }
     let receivers = threads.wrapping_mul(2).wrapping_add(1);
-    Ok(History {
+    let mut history = History {
         plain: Plain::new(form.capacity(), threads.wrapping_add(1), receivers, alloc),
-        logs,
-        rests,
-    })
+        logs: Vec::new(alloc),
+        rests: Vec::new(alloc),
+    };
+    let shared = share(alloc, threads).ok_or(Failure::Memory)?;
+    let ends = open(rt, alloc, form).ok_or(Failure::Memory)?;
+    run(rt, alloc, &shared, ends, seed, &mut history)?;
+    Ok(history)
 }

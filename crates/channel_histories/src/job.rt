@@ -60,14 +60,15 @@ fn first_message(thread: usize) -> u64 {
     (thread as u64).wrapping_mul(MESSAGES)
 }
 
-/// The calls of a thread: its log.
+/// The calls of a thread, up to the drops of its operations and of what it cloned; they are noted in the log.
 fn run_party<R: Wait + Copy>(
     rt: R,
     alloc: Global,
     shared: &Shared,
     job: &mut Job<R>,
     random: Random,
-) -> Log {
+    log: &mut Log,
+) {
     let mut party = Party::new(
         rt,
         &job.hands,
@@ -77,9 +78,9 @@ fn run_party<R: Wait + Copy>(
         random,
         first_message(job.thread),
         alloc,
+        log,
     );
     make_calls(&rt, &mut party, shared, may_block(job.seed));
-    party.into_log()
 }
 
 /// The handles of a thread go, the stream first.
@@ -104,7 +105,8 @@ pub fn run_job<R: Wait + Copy>(rt: R, alloc: Global, shared: &Shared, job: Job<R
     let mut job = job;
     let mut random = Random::new(job.seed, job.thread);
     let sends_last = random.once_in(2);
-    let mut log = run_party(rt, alloc, shared, &mut job, random);
+    let mut log = Log::new(alloc);
+    run_party(rt, alloc, shared, &mut job, random, &mut log);
     leave(job, sends_last, &shared.stamps, &mut log);
     shared.ended.note();
     log

@@ -2,7 +2,7 @@
 
 use crate::answers::{is_closed, tried_recv, tried_send};
 use crate::party::Hands;
-use async_channel::{WeakReceiver, WeakSender};
+use async_channel::{Receiver, Sender, WeakReceiver, WeakSender};
 use history_checker::log::{Log, Stamps};
 use history_checker::point::{Did, Side, Sight};
 use std::sync::Wait;
@@ -14,30 +14,50 @@ pub fn let_go<H: Drop>(handle: H, side: Side, stamps: &Stamps, log: &mut Log) {
     log.note(begin, stamps.stamp(), Did::dropped(side));
 }
 
-/// Another sender is made, and dropped.
-fn make_sender<R: Wait + Copy>(weak: &WeakSender<u64, R>, stamps: &Stamps, log: &mut Log) {
-    let begin = stamps.stamp();
-    match weak.upgrade() {
-        Ok(Some(sender)) => {
-            log.note(begin, stamps.stamp(), Did::upgraded(Side::Senders));
-            let_go(sender, Side::Senders, stamps, log);
+/// What came of making a strong handle of a weak one. None was made where the channel is closed, no other such handle lives, or
+/// memory was refused.
+fn upgraded<H: Drop, E: Drop>(
+    made: Result<Option<H>, E>,
+    side: Side,
+    begin: u64,
+    stamps: &Stamps,
+    log: &mut Log,
+) -> Option<H> {
+    match made {
+        Ok(Some(handle)) => {
+            log.note(begin, stamps.stamp(), Did::upgraded(side));
+            Some(handle)
         }
-        Ok(None) => log.note(begin, stamps.stamp(), Did::not_upgraded(Side::Senders)),
-        Err(_) => log.spoiled = true,
+        Ok(None) => {
+            log.note(begin, stamps.stamp(), Did::not_upgraded(side));
+            None
+        }
+        Err(error) => {
+            drop(error);
+            log.spoiled = true;
+            None
+        }
     }
 }
 
-/// Another receiver is made, and dropped.
-fn make_receiver<R: Wait + Copy>(weak: &WeakReceiver<u64, R>, stamps: &Stamps, log: &mut Log) {
+/// A sender is made of a weak one.
+pub fn upgrade_sender<R: Wait + Copy>(
+    weak: &WeakSender<u64, R>,
+    stamps: &Stamps,
+    log: &mut Log,
+) -> Option<Sender<u64, R>> {
     let begin = stamps.stamp();
-    match weak.upgrade() {
-        Ok(Some(receiver)) => {
-            log.note(begin, stamps.stamp(), Did::upgraded(Side::Receivers));
-            let_go(receiver, Side::Receivers, stamps, log);
-        }
-        Ok(None) => log.note(begin, stamps.stamp(), Did::not_upgraded(Side::Receivers)),
-        Err(_) => log.spoiled = true,
-    }
+    upgraded(weak.upgrade(), Side::Senders, begin, stamps, log)
+}
+
+/// A receiver is made of a weak one.
+pub fn upgrade_receiver<R: Wait + Copy>(
+    weak: &WeakReceiver<u64, R>,
+    stamps: &Stamps,
+    log: &mut Log,
+) -> Option<Receiver<u64, R>> {
+    let begin = stamps.stamp();
+    upgraded(weak.upgrade(), Side::Receivers, begin, stamps, log)
 }
 
 /// The handles go, the sender first.
@@ -61,7 +81,9 @@ pub fn leave_receiving<R: Wait + Copy>(hands: Hands<R>, stamps: &Stamps, log: &m
     let begin = stamps.stamp();
     let answer = receiver.try_recv();
     log.note(begin, stamps.stamp(), tried_recv(&answer));
-    make_sender(&weak_sender, stamps, log);
+    if let Some(another) = upgrade_sender(&weak_sender, stamps, log) {
+        let_go(another, Side::Senders, stamps, log);
+    }
     let_go(receiver, Side::Receivers, stamps, log);
 }
 
@@ -88,6 +110,8 @@ pub fn leave_sending<R: Wait + Copy>(
     let begin = stamps.stamp();
     let answer = sender.try_send(message);
     log.note(begin, stamps.stamp(), tried_send(message, &answer));
-    make_receiver(&weak_receiver, stamps, log);
+    if let Some(another) = upgrade_receiver(&weak_receiver, stamps, log) {
+        let_go(another, Side::Receivers, stamps, log);
+    }
     let_go(sender, Side::Senders, stamps, log);
 }

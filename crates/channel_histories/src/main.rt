@@ -25,18 +25,15 @@ mod referee;
 mod tries;
 
 use crate::crew::{Failure, Outcome};
-use crate::events::over_event;
+use crate::events::{Tally, over_event};
 use crate::form::Form;
 use crate::handles::over_handles;
 use crate::queue::over_queue;
+use async_channel::Runtime;
 use history_checker::history::History;
-use std::alloc::{AllocGlobal, Global};
+use std::alloc::Global;
 use std::env::Env;
 use std::process::ExitCode;
-use std::random::RandomSource;
-use std::rt::Clock;
-use std::sync::Wait;
-use std::thread::Threads;
 use std::{env, io};
 
 /// How many histories each form has, and the seed of the first one; each later one has the next seed.
@@ -48,7 +45,7 @@ const SEED: u64 = 20_261_123;
 #[derive(Clone, Copy)]
 struct Asked {
     histories: u64,
-    threads: Option<usize>,
+    threads: Option<u64>,
     seed: u64,
 }
 
@@ -56,7 +53,7 @@ impl Asked {
     /// How many threads the history of this number has: three or four, unless a number was asked for.
     fn threads(self, number: u64) -> usize {
         match self.threads {
-            Some(threads) => threads,
+            Some(threads) => threads as usize,
             None if number % 2 == 0 => 3,
             None => 4,
         }
@@ -66,36 +63,45 @@ impl Asked {
 /// What the histories are over.
 #[derive(Clone, Copy)]
 enum Over {
-    Handles,
-    Queue,
+    Handles(Form),
+    Queue(Form),
+    Event,
 }
 
-impl Over {
-    fn name(self) -> &'static str {
-        match self {
-            Over::Handles => "handles",
-            Over::Queue => "shared queue",
-        }
-    }
-}
-
-/// One history.
-fn make_history<R>(
-    rt: R,
-    alloc: Global,
-    over: Over,
-    form: Form,
-    threads: usize,
-    seed: u64,
-) -> Outcome
-where
-    R: Wait + Threads + Clock + Copy + RandomSource + AllocGlobal + Send + Sync + 'static,
-{
-    match over {
-        Over::Handles => over_handles(rt, alloc, form, threads, seed),
-        Over::Queue => over_queue(rt, alloc, form, threads, seed),
-    }
-}
+/// Each kind of history, with its name, and what its histories are called.
+static KINDS: [(Over, &str, &str); 7] = [
+    (
+        Over::Handles(Form::OneSlot),
+        "handles, one slot",
+        "histories",
+    ),
+    (
+        Over::Handles(Form::RingOfThree),
+        "handles, ring of 3",
+        "histories",
+    ),
+    (
+        Over::Handles(Form::Unbounded),
+        "handles, unbounded",
+        "histories",
+    ),
+    (
+        Over::Queue(Form::OneSlot),
+        "shared queue, one slot",
+        "histories",
+    ),
+    (
+        Over::Queue(Form::RingOfThree),
+        "shared queue, ring of 3",
+        "histories",
+    ),
+    (
+        Over::Queue(Form::Unbounded),
+        "shared queue, unbounded",
+        "histories",
+    ),
+    (Over::Event, "event", "histories of timed waits"),
+];
 
 /// Whether this history fits; what is wrong with it is printed.
 fn fits<R: Print>(rt: &R, alloc: Global, history: &History) -> io::Result<bool> {
@@ -124,83 +130,63 @@ fn print_failure<R: Print>(rt: &R, failure: Failure) -> io::Result<()> {
     }
 }
 
-/// The history of this number. Whether it fits.
-fn check_one<R>(
-    rt: R,
-    alloc: Global,
-    over: Over,
-    form: Form,
-    asked: Asked,
-    number: u64,
-) -> io::Result<bool>
-where
-    R: Wait + Threads + Clock + Copy + RandomSource + AllocGlobal + Send + Sync + Print + 'static,
-{
-    let seed = asked.seed.wrapping_add(number);
-    let threads = asked.threads(number);
-    match make_history(rt, alloc, over, form, threads, seed) {
-        Ok(history) => fits(&rt, alloc, &history),
+/// Whether this history of calls fits. What is wrong with it, or why there is none, is printed.
+fn fits_outcome<R: Print>(rt: &R, alloc: Global, outcome: Outcome) -> io::Result<bool> {
+    match outcome {
+        Ok(history) => fits(rt, alloc, &history),
         Err(failure) => {
-            print_failure(&rt, failure)?;
+            print_failure(rt, failure)?;
             Ok(false)
         }
     }
 }
 
-/// All histories of this kind. Whether each fits; the first that doesn't is printed.
-fn check<R>(rt: R, alloc: Global, over: Over, form: Form, asked: Asked) -> io::Result<bool>
-where
-    R: Wait + Threads + Clock + Copy + RandomSource + AllocGlobal + Send + Sync + Print + 'static,
-{
-    let over_name = over.name();
-    let form_name = form.name();
-    for number in 0..asked.histories {
-        if !check_one(rt, alloc, over, form, asked, number)? {
-            let seed = asked.seed.wrapping_add(number);
-            let threads = asked.threads(number);
-            println!(&rt; "{over_name}, {form_name}: seed {seed}, {threads} threads")?;
-            return Ok(false);
-        }
-    }
-    let histories = asked.histories;
-    println!(&rt; "{over_name}, {form_name}: {histories} histories fit")?;
-    Ok(true)
-}
-
-/// The history of this number over an event. Whether each notice was taken.
-fn check_event<R>(rt: R, alloc: Global, asked: Asked, number: u64) -> io::Result<bool>
-where
-    R: Wait + Threads + Clock + Copy + Send + Sync + Print + 'static,
-{
-    let seed = asked.seed.wrapping_add(number);
-    match over_event(rt, alloc, asked.threads(number), seed) {
+/// Whether each notice of this history was taken. What is wrong with it, or why there is none, is printed.
+fn took_all<R: Print>(rt: &R, outcome: Result<Tally, Failure>) -> io::Result<bool> {
+    match outcome {
         Ok(tally) if tally.is_right() => Ok(true),
         Ok(tally) => {
-            println!(&rt; "{tally:?}")?;
+            println!(rt; "{tally:?}")?;
             Ok(false)
         }
         Err(failure) => {
-            print_failure(&rt, failure)?;
+            print_failure(rt, failure)?;
             Ok(false)
         }
     }
 }
 
-/// All histories over events. Whether each is right; the first that isn't is printed.
-fn check_events<R>(rt: R, alloc: Global, asked: Asked) -> io::Result<bool>
+/// The history of this seed. Whether it fits.
+fn check_one<R>(rt: R, alloc: Global, over: Over, threads: usize, seed: u64) -> io::Result<bool>
 where
-    R: Wait + Threads + Clock + Copy + Send + Sync + Print + 'static,
+    R: Runtime + Print + 'static,
+{
+    match over {
+        Over::Handles(form) => {
+            let outcome = over_handles(rt, alloc, form, threads, seed);
+            fits_outcome(&rt, alloc, outcome)
+        }
+        Over::Queue(form) => {
+            let outcome = over_queue(rt, alloc, form, threads, seed);
+            fits_outcome(&rt, alloc, outcome)
+        }
+        Over::Event => took_all(&rt, over_event(rt, alloc, threads, seed)),
+    }
+}
+
+/// All histories over this. Whether each fits; the first that doesn't is printed.
+fn check<R>(rt: R, alloc: Global, over: Over, name: &str, asked: Asked) -> io::Result<bool>
+where
+    R: Runtime + Print + 'static,
 {
     for number in 0..asked.histories {
-        if !check_event(rt, alloc, asked, number)? {
-            let seed = asked.seed.wrapping_add(number);
-            let threads = asked.threads(number);
-            println!(&rt; "event: seed {seed}, {threads} threads")?;
+        let seed = asked.seed.wrapping_add(number);
+        let threads = asked.threads(number);
+        if !check_one(rt, alloc, over, threads, seed)? {
+            println!(&rt; "{name}: seed {seed}, {threads} threads")?;
             return Ok(false);
         }
     }
-    let histories = asked.histories;
-    println!(&rt; "event: {histories} histories of timed waits fit")?;
     Ok(true)
 }
 
@@ -213,9 +199,7 @@ fn number(word: Option<String>) -> Option<u64> {
 fn read_words<R: Env + Alloc<A = Global>>(rt: &R) -> io::Result<Asked> {
     let mut words = env::args(rt)?.skip(1);
     let histories = number(words.next());
-    let threads = words
-        .next()
-        .and_then(|word| word.as_str().parse::<usize>().ok());
+    let threads = number(words.next());
     let seed = number(words.next());
     Ok(Asked {
         histories: histories.unwrap_or(HISTORIES),
@@ -226,16 +210,12 @@ fn read_words<R: Env + Alloc<A = Global>>(rt: &R) -> io::Result<Asked> {
 
 fn main(rt: HostRuntime) -> io::Result<ExitCode> {
     let asked = read_words(&rt)?;
-    for over in [Over::Handles, Over::Queue] {
-        for form in [Form::OneSlot, Form::RingOfThree, Form::Unbounded] {
-            if !check(rt, rt.alloc(), over, form, asked)? {
-                return Ok(ExitCode::FAILURE);
-            }
+    for (over, name, what) in &KINDS {
+        if !check(rt, rt.alloc(), *over, name, asked)? {
+            return Ok(ExitCode::FAILURE);
         }
+        let histories = asked.histories;
+        println!(&rt; "{name}: {histories} {what} fit")?;
     }
-    if check_events(rt, rt.alloc(), asked)? {
-        Ok(ExitCode::SUCCESS)
-    } else {
-        Ok(ExitCode::FAILURE)
-    }
+    Ok(ExitCode::SUCCESS)
 }

@@ -51,7 +51,7 @@ pub struct Party<'a, R: Wait + Copy> {
     pub streams: bool,
     pub senders: Vec<Sender<u64, R>>,
     pub receivers: Vec<Receiver<u64, R>>,
-    pub log: Log,
+    pub log: &'a mut Log,
 }
 
 impl<'a, R: Wait + Copy> Party<'a, R> {
@@ -65,6 +65,7 @@ impl<'a, R: Wait + Copy> Party<'a, R> {
         random: Random,
         message: u64,
         alloc: Global,
+        log: &'a mut Log,
     ) -> Party<'a, R> {
         Party {
             rt,
@@ -81,7 +82,7 @@ impl<'a, R: Wait + Copy> Party<'a, R> {
             streams: false,
             senders: Vec::new(alloc),
             receivers: Vec::new(alloc),
-            log: Log::new(alloc),
+            log,
         }
     }
 
@@ -121,11 +122,5 @@ impl<'a, R: Wait + Copy> Party<'a, R> {
                 act => self.act(act),
             }
         }
-    }
-
-    /// Its log, its operations and further handles being gone.
-    pub fn into_log(self) -> Log {
-        let Party { log, .. } = self;
-        log
     }
 }

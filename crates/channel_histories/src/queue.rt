@@ -5,16 +5,16 @@ use crate::crew::{Ended, Failure, Outcome, join_all};
 use crate::form::Form;
 use crate::gate::Gate;
 use crate::random::Random;
+use async_channel::Runtime;
 use concurrent_queue::shared::queue::ConcurrentQueue;
 use history_checker::history::History;
 use history_checker::log::{Log, Stamps};
 use history_checker::plain::Plain;
 use history_checker::point::{Did, Sight};
 use std::alloc::Global;
-use std::rt::Clock;
 use std::sync::{Arc, Wait};
 use std::thread;
-use std::thread::{JoinHandle, Threads};
+use std::thread::JoinHandle;
 
 /// How many calls each thread makes.
 const CALLS: u64 = 10;
@@ -113,18 +113,17 @@ fn start_all<R>(
     rt: R,
     alloc: Global,
     shared: &Arc<Shared>,
-    threads: usize,
     seed: u64,
-) -> Result<Vec<JoinHandle<Log>>, Failure>
+    started: &mut Vec<JoinHandle<Log>>,
+) -> Result<(), Failure>
 where
-    R: Wait + Threads + Copy + Send + Sync + 'static,
+    R: Runtime + 'static,
 {
-    let mut started = Vec::new(alloc);
-    for thread in 0..threads {
+    for thread in 0..shared.threads {
         let Ok(mine) = Arc::try_clone(shared) else {
             return Err(Failure::Memory);
         };
-        let work = move || make_calls(&rt, alloc, &mine, thread, seed);
+        let work = move || make_calls(&rt, alloc, &mine, thread as usize, seed);
         let Ok(one) = thread::spawn(&rt, work) else {
             return Err(Failure::Thread);
         };
@@ -132,7 +131,7 @@ where
             return Err(Failure::Memory);
         }
     }
-    Ok(started)
+    Ok(())
 }
 
 /// A queue of this form and what threads share beside it; none where memory was refused.
@@ -150,16 +149,19 @@ fn share(alloc: Global, form: Form, threads: usize) -> Option<Arc<Shared>> {
 /// A history over a queue of this form.
 pub fn over_queue<R>(rt: R, alloc: Global, form: Form, threads: usize, seed: u64) -> Outcome
 where
-    R: Wait + Threads + Clock + Copy + Send + Sync + 'static,
+    R: Runtime + 'static,
 {
+    let mut history = History {
+        plain: Plain::new(form.capacity(), 1, 1, alloc),
+        logs: Vec::new(alloc),
+        rests: Vec::new(alloc),
+    };
     let shared = share(alloc, form, threads).ok_or(Failure::Memory)?;
-    let started = start_all(rt, alloc, &shared, threads, seed)?;
+    let mut started = Vec::new(alloc);
+    start_all(rt, alloc, &shared, seed, &mut started)?;
     if !shared.ended.wait_for(&rt, shared.threads) {
         return Err(Failure::Still(Vec::new(alloc)));
     }
-    Ok(History {
-        plain: Plain::new(form.capacity(), 1, 1, alloc),
-        logs: join_all(&rt, alloc, started).ok_or(Failure::Memory)?,
-        rests: Vec::new(alloc),
-    })
+    join_all(&rt, started, &mut history.logs)?;
+    Ok(history)
 }

@@ -98,36 +98,36 @@ impl<R: Wait + Copy> Referee<R> {
         rests.push(rest).ok().ok_or(Failure::Memory)
     }
 
-    /// Sees the threads through to their end: what it did itself, and the rests that it saw, one before a closing and one after it.
-    pub fn see_through(
-        self,
-        rt: R,
+    /// Waits until no call goes on that ends by itself: a rest, which is noted. In a history whose threads may sleep for good it closes
+    /// then, notes what that did, and waits once more.
+    pub fn watch(
+        &self,
+        rt: &R,
         alloc: Global,
-        shared: &Shared,
+        stamps: &Stamps,
         closes: bool,
-    ) -> Result<(Log, Vec<Rest>), Failure>
+        log: &mut Log,
+        rests: &mut Vec<Rest>,
+    ) -> Result<(), Failure>
     where
         R: Clock,
     {
-        let mut log = Log::new(alloc);
-        let mut rests = Vec::new(alloc);
-        let stamps = &shared.stamps;
-        self.note_rest(&rt, alloc, stamps, &mut rests)?;
+        self.note_rest(rt, alloc, stamps, rests)?;
         if closes {
             let begin = stamps.stamp();
             let answer = self.sender.close();
             log.note(begin, stamps.stamp(), closed(answer));
-            self.note_rest(&rt, alloc, stamps, &mut rests)?;
+            self.note_rest(rt, alloc, stamps, rests)?;
         }
-        if !self.all_rest(&rt) {
-            return Err(self.still(&rt, alloc));
+        if self.all_rest(rt) {
+            Ok(())
+        } else {
+            Err(self.still(rt, alloc))
         }
-        self.leave(rt, alloc, shared, &mut log)?;
-        Ok((log, rests))
     }
 
     /// Its handles go, and then the threads leave.
-    fn leave(self, rt: R, alloc: Global, shared: &Shared, log: &mut Log) -> Result<(), Failure>
+    pub fn leave(self, rt: R, alloc: Global, shared: &Shared, log: &mut Log) -> Result<(), Failure>
     where
         R: Clock,
     {
