@@ -17,7 +17,8 @@
 //! | `recv_many N` | `received` and the messages, or `empty`, `over` |
 //! | `is_terminated` | |
 //!
-//! Where memory or a serial was refused each says `memory`.
+//! Where memory was refused each says `memory`, and a send that doesn't wait, or blocks, its message behind it. Where a serial was
+//! refused each says `serial`.
 
 use crate as polls;
 use async_channel::{Receiver, RecvError, Refused, SendError, Sender, TryRecvError, TrySendError};
@@ -28,8 +29,11 @@ use std::random::RandomSource;
 use std::sync::Wait;
 use worked_rows::{Said, Words};
 
-/// What is said where memory or a serial was refused.
+/// What is said where memory was refused.
 pub const MEMORY: Said = Said::Word("memory");
+
+/// What is said where a serial was refused.
+const SERIAL: Said = Said::Word("serial");
 
 const OVER: Said = Said::Word("over");
 
@@ -43,7 +47,8 @@ pub fn polled(said: polls::Said) -> Said {
         polls::Said::Got(message) => Said::Both("received", message),
         polls::Said::Back(message) => Said::Both("closed", message),
         polls::Said::Over => OVER,
-        polls::Said::Wanted => MEMORY,
+        polls::Said::NoMemory => MEMORY,
+        polls::Said::NoSerial => SERIAL,
     }
 }
 
@@ -52,7 +57,17 @@ fn tried(reply: Result<(), Refused<TrySendError<u64>, u64>>) -> Said {
         Ok(()) => SENT,
         Err(Refused::Plain(TrySendError::Full(message))) => Said::Both("full", *message),
         Err(Refused::Plain(TrySendError::Closed(message))) => Said::Both("closed", *message),
-        Err(_) => MEMORY,
+        Err(Refused::NoMemory(message)) => Said::Both("memory", *message),
+        Err(Refused::SerialsUsedUp(_)) => SERIAL,
+    }
+}
+
+/// What a refused send says.
+fn refused(error: &Refused<SendError<u64>, u64>) -> Said {
+    match error {
+        Refused::Plain(SendError(message)) => Said::Both("closed", *message),
+        Refused::NoMemory(message) => Said::Both("memory", *message),
+        Refused::SerialsUsedUp(_) => SERIAL,
     }
 }
 
@@ -60,16 +75,14 @@ fn forced(reply: Result<Option<u64>, Refused<SendError<u64>, u64>>) -> Said {
     match &reply {
         Ok(None) => SENT,
         Ok(Some(oldest)) => Said::Both("displaced", *oldest),
-        Err(Refused::Plain(SendError(message))) => Said::Both("closed", *message),
-        Err(_) => MEMORY,
+        Err(error) => refused(error),
     }
 }
 
 fn blocked(reply: Result<(), Refused<SendError<u64>, u64>>) -> Said {
     match &reply {
         Ok(()) => SENT,
-        Err(Refused::Plain(SendError(message))) => Said::Both("closed", *message),
-        Err(_) => MEMORY,
+        Err(error) => refused(error),
     }
 }
 
@@ -108,7 +121,8 @@ fn received_blocking(reply: Result<u64, Refused<RecvError>>) -> Said {
     match &reply {
         Ok(message) => Said::Both("received", *message),
         Err(Refused::Plain(RecvError)) => OVER,
-        Err(_) => MEMORY,
+        Err(Refused::NoMemory(())) => MEMORY,
+        Err(Refused::SerialsUsedUp(())) => SERIAL,
     }
 }
 
@@ -273,7 +287,8 @@ fn write_several<R: Wait + Copy>(
             Ok(())
         }
         Err(Refused::Plain(error)) => received(Err(*error)).write(answer),
-        Err(_) => MEMORY.write(answer),
+        Err(Refused::NoMemory(())) => MEMORY.write(answer),
+        Err(Refused::SerialsUsedUp(())) => SERIAL.write(answer),
     }
 }
 
