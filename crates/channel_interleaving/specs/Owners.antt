@@ -63,6 +63,10 @@ pub data Post : Type 0 where
   waits : Held → Bool → Post
   polled : Line → Post
 
+-- it waits, and was not woken
+abbrev pub waits_unwoken : Held → Post
+waits_unwoken h = waits h false
+
 abbrev pub post_on : Line → Standing → Post
 post_on line Rests = rests line
 post_on line (Waits key is_woken) = waits (record { line = line; key = key }) is_woken

@@ -19,7 +19,7 @@ use Rattle.channel_calls.specs.declared.stage.Line.{Line}
 use Rattle.channel_calls.specs.declared.stage.Line.TheVariants.{Sends, Receives, Streams, Closings}
 use Rattle.channel_calls.specs.declared.stage.Side.{Side}
 use Rattle.channel_calls.specs.declared.stage.Side.TheVariants.{Senders, Receivers}
-use Rattle.channel_steps.specs.Moments.{Deed, Open, Shut, Crowded, Bare, Spent, Unbounded, is_empty, HasMessage, TooManyOf, Once, Since, Appended, Took, Replaced, Displaced, TookAll, RanOut, ClosedIt, Raised, Upgraded, Dropped}
+use Rattle.channel_steps.specs.Moments.{Deed, Open, Shut, Crowded, Bare, Spent, Unbounded, is_empty, TooManyOf, Once, Since, Appended, Took, Replaced, Displaced, TookAll, RanOut, ClosedIt, Raised, Upgraded, Dropped}
 
 module _ {T : Type 0} where
   -- what a finished poll leaves to its operation, whose message is m
@@ -140,7 +140,7 @@ module _ {T W : Type 0} where
   -- a receiver that got its last message: closed at a moment, and then or later empty
   abbrev pub TerminatedRow : List (Deed T W) → List (Channel T W) → Reply T → Type 0
   TerminatedRow ds seen (reply.Flag true) = (ds ≡ []) × Since Shut (λ c. is_empty c ≡ true) seen
-  TerminatedRow ds seen (reply.Flag false) = (ds ≡ []) × Once (λ c. Open c ⊎ HasMessage c) seen
+  TerminatedRow ds seen (reply.Flag false) = (ds ≡ []) × Once (λ c. Open c ⊎ (is_empty c ≡ false)) seen
   TerminatedRow ds seen _ = ⊥
 
   -- what a call answers that touches nothing, and so has one answer

@@ -104,7 +104,7 @@ module _ {T W : Type 0} where
   -- at a moment after the last of these marks there was nothing, and nothing on its way
   abbrev pub RanOut : List (Deed T W) → List (Channel T W) → Type 0
   RanOut [] seen = ⊥
-  RanOut (d ∷ []) seen = OnceBehind Drained d seen
+  RanOut (d ∷ []) seen = OnceBehind (λ c. IsDrained c.queue) d seen
   RanOut (d ∷ e ∷ ds) seen = RanOut (e ∷ ds) seen
 
   -- the message of a full open channel of capacity one was replaced

@@ -67,10 +67,14 @@ module _ {T W : Type 0} where
   dropping (Working (Leave x)) = x.held
   dropping _ = None
 
+  -- whom the removal of a listener wakes, which passes its notice on
+  abbrev pub passed_on_by : Held → Channel T W → List W
+  passed_on_by h c = removed_wakes h.key true (listeners h.line c.roster)
+
   -- whom a step wakes: those whom its telling finds waiting, in order, or him to whom the listener that it drops passes its
   -- notice on; any other step wakes nobody
   abbrev pub Names : List Telling → Option Held → Channel T W → List W → Type 0
   Names (more_of n line ∷ ts) h c names = names ≡ told_more_wakes n (listeners line c.roster)
   Names (all_of line ∷ ts) h c names = names ≡ told_all_wakes (listeners line c.roster)
-  Names [] (Some h) c names = names ≡ removed_wakes h.key true (listeners h.line c.roster)
+  Names [] (Some h) c names = names ≡ passed_on_by h c
   Names [] None c names = names ≡ []
