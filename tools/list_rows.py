@@ -20,10 +20,8 @@ TEXTS = [
     ("event_listener_tests", "event_rows", "UNIT_ROWS", "`Event<()>`, its four notices, and `EventListener`, polled by hand and as a future (`units`, `listening`)", "event::rows"),
     ("event_listener_tests", "event_rows", "TAG_ROWS", "`Event<u32>`, and `EventListener` with its waits (`tags`, `listening`)", "event::rows_of_tags"),
     ("event_listener_tests", "recorded", "ROWS", "`RecordedEvent` and its record (`records`)", "recorded::rows"),
-    ("async_channel_tests", "handle_rows", "OPERATIONS", "`Sender` and `Receiver`, and `Send`, `Recv`, `Closed` and streams, polled by hand (`lent` and `calls` of `channel_test_helpers`)", "rows::operations"),
-    ("async_channel_tests", "handle_rows", "HANDLES", "all handles, made and dropped, and operations polled up to their ends (`owned` and `calls` of `channel_test_helpers`)", "rows::handles"),
-    ("refused_growths_tests", "rows", "OPERATIONS", "the same operations, where no memory is to be had (`rows`; `lent` and `calls` of `channel_test_helpers`)", "rows::calls_that_take_no_memory"),
-    ("refused_growths_tests", "rows", "HANDLES", "handles of one channel, where no memory is to be had (`rows`; `owned` and `calls` of `channel_test_helpers`)", "rows::calls_that_take_no_memory"),
+    ("async_channel_tests", "handle_rows", "OPERATIONS", "`Sender` and `Receiver`, and `Send`, `Recv`, `Closed` and streams, polled by hand (`lent`; `calls` of `channel_test_helpers`)", "rows::operations"),
+    ("async_channel_tests", "handle_rows", "HANDLES", "all handles, made and dropped, and operations polled up to their ends (`owned`; `calls` of `channel_test_helpers`)", "rows::handles"),
     ("async_channel_thread_tests", "pair_rows", "PAIRS", "`Sender` on one thread and `Receiver` on another, which meet at gates (`pairs`; `calls` of `channel_test_helpers`)", "pairs::rows"),
     ("channel_interleaving_tests", "step_rows", "ROWS", "`World::run_steps` (`channel_rows`)", "rows::steps_by_names"),
     ("channel_interleaving_tests", "step_rows", "REFUSED", "lists of `World::run_steps` that stop (`channel_rows`)", "rows::refused_steps"),
@@ -50,10 +48,10 @@ Four rows are texts that a loop writes. They are `rows::messages_beyond_one_bloc
 `channel_world_tests`, `rows::lengths_after_each_call` of `async_channel_tests`, and `rows::several_at_once_beside_a_displacing_send` of
 `channel_interleaving_tests`. The last one plays a text for each place between the steps of a call.
 
-What needs more than two threads, clocks that pass, types of its own or proofs is code: the other tests of these crates. So is what is
-called until memory is refused no more. So are calls of a channel step by step over one slot (`async_channel_tests`, `calls`), and
-giving up at every place (`channel_interleaving_tests`, `giving_up`). The rows of scripts are texts in `channel_world_tests`
-(`scripts`), one stored run in `channel_script`.
+What needs more than two threads, clocks that pass, types of its own or proofs is code: the other tests of these crates. So is what
+takes all memory of its process. So are calls of a channel step by step over one slot (`async_channel_tests`, `calls`), and giving up at
+every place (`channel_interleaving_tests`, `giving_up`). The rows of scripts are texts in `channel_world_tests` (`scripts`), one stored
+run in `channel_script`.
 """
 
 

@@ -1,5 +1,4 @@
-//! What operations and handles do, row by row: the calls are those of [`Lent`](channel_test_helpers::lent::Lent) and
-//! [`Owned`](channel_test_helpers::owned::Owned).
+//! What operations and handles do, row by row: the calls are those of [`Lent`](crate::lent::Lent) and [`Owned`](crate::owned::Owned).
 
 pub(crate) const OPERATIONS: &str = "
 row several_at_once_wake_as_many_sends

@@ -16,7 +16,11 @@ mod counting;
 #[cfg(test)]
 mod handle_rows;
 #[cfg(test)]
+mod lent;
+#[cfg(test)]
 mod order;
+#[cfg(test)]
+mod owned;
 #[cfg(test)]
 mod refusals;
 #[cfg(test)]

@@ -3,9 +3,9 @@
 
 use crate::checks::{expect_equal, expect_rows};
 use crate::handle_rows::{HANDLES, OPERATIONS};
-use channel_test_helpers::lent::{channels_of, play_on};
+use crate::lent::{channels_of, play_on};
+use crate::owned::Owned;
 use channel_test_helpers::opened;
-use channel_test_helpers::owned::Owned;
 use std::alloc::AllocError;
 
 #[test]

@@ -17,8 +17,7 @@
 //! | `recv_many N` | `received` and the messages, or `empty`, `over` |
 //! | `is_terminated` | |
 //!
-//! Where memory was refused each says `memory`, and a send that doesn't wait, or blocks, its message behind it. Where a serial was
-//! refused each says `serial`.
+//! Where memory or a serial was refused each says `memory`.
 
 use crate as polls;
 use async_channel::{Receiver, RecvError, Refused, SendError, Sender, TryRecvError, TrySendError};
@@ -29,11 +28,8 @@ use std::random::RandomSource;
 use std::sync::Wait;
 use worked_rows::{Said, Words};
 
-/// What is said where memory was refused.
+/// What is said where memory or a serial was refused.
 pub const MEMORY: Said = Said::Word("memory");
-
-/// What is said where a serial was refused.
-const SERIAL: Said = Said::Word("serial");
 
 const OVER: Said = Said::Word("over");
 
@@ -47,8 +43,7 @@ pub fn polled(said: polls::Said) -> Said {
         polls::Said::Got(message) => Said::Both("received", message),
         polls::Said::Back(message) => Said::Both("closed", message),
         polls::Said::Over => OVER,
-        polls::Said::NoMemory => MEMORY,
-        polls::Said::NoSerial => SERIAL,
+        polls::Said::Wanted => MEMORY,
     }
 }
 
@@ -57,17 +52,7 @@ fn tried(reply: Result<(), Refused<TrySendError<u64>, u64>>) -> Said {
         Ok(()) => SENT,
         Err(Refused::Plain(TrySendError::Full(message))) => Said::Both("full", *message),
         Err(Refused::Plain(TrySendError::Closed(message))) => Said::Both("closed", *message),
-        Err(Refused::NoMemory(message)) => Said::Both("memory", *message),
-        Err(Refused::SerialsUsedUp(_)) => SERIAL,
-    }
-}
-
-/// What a refused send says.
-fn refused(error: &Refused<SendError<u64>, u64>) -> Said {
-    match error {
-        Refused::Plain(SendError(message)) => Said::Both("closed", *message),
-        Refused::NoMemory(message) => Said::Both("memory", *message),
-        Refused::SerialsUsedUp(_) => SERIAL,
+        Err(_) => MEMORY,
     }
 }
 
@@ -75,14 +60,16 @@ fn forced(reply: Result<Option<u64>, Refused<SendError<u64>, u64>>) -> Said {
     match &reply {
         Ok(None) => SENT,
         Ok(Some(oldest)) => Said::Both("displaced", *oldest),
-        Err(error) => refused(error),
+        Err(Refused::Plain(SendError(message))) => Said::Both("closed", *message),
+        Err(_) => MEMORY,
     }
 }
 
 fn blocked(reply: Result<(), Refused<SendError<u64>, u64>>) -> Said {
     match &reply {
         Ok(()) => SENT,
-        Err(error) => refused(error),
+        Err(Refused::Plain(SendError(message))) => Said::Both("closed", *message),
+        Err(_) => MEMORY,
     }
 }
 
@@ -121,8 +108,7 @@ fn received_blocking(reply: Result<u64, Refused<RecvError>>) -> Said {
     match &reply {
         Ok(message) => Said::Both("received", *message),
         Err(Refused::Plain(RecvError)) => OVER,
-        Err(Refused::NoMemory(())) => MEMORY,
-        Err(Refused::SerialsUsedUp(())) => SERIAL,
+        Err(_) => MEMORY,
     }
 }
 
@@ -287,8 +273,7 @@ fn write_several<R: Wait + Copy>(
             Ok(())
         }
         Err(Refused::Plain(error)) => received(Err(*error)).write(answer),
-        Err(Refused::NoMemory(())) => MEMORY.write(answer),
-        Err(Refused::SerialsUsedUp(())) => SERIAL.write(answer),
+        Err(_) => MEMORY.write(answer),
     }
 }
 

@@ -1,9 +1,7 @@
-//! What the tests of a channel's handles share: the channels that they open, what polls and calls say, in short, and the players of rows.
+//! What the tests of a channel's handles share: the channels that they open, and what polls and calls say, in short.
 #![tactic(auto)]
 
 pub mod calls;
-pub mod lent;
-pub mod owned;
 
 ghost use Rattle.std.specs.Prelude.{◌<◌};
 
@@ -34,14 +32,12 @@ pub fn opened<R: Wait + Copy>(rt: R, alloc: Global, capacity: usize) -> Option<E
     }
 }
 
-/// The capacity of the channel that a line of a row opens, `bounded N` or `unbounded`, 0 where that is without a bound. The mark `+` may
-/// stand before it.
+/// The capacity of the channel that a line of a row opens, `bounded N` or `unbounded`, 0 where that is without a bound.
 pub fn capacity_of(line: &str) -> Option<usize> {
-    let call = line.strip_prefix("+ ").unwrap_or(line);
-    if call == "unbounded" {
+    if line == "unbounded" {
         return Some(0);
     }
-    match call.strip_prefix("bounded ") {
+    match line.strip_prefix("bounded ") {
         Some(capacity) => capacity.parse::<usize>().ok(),
         None => None,
     }
@@ -60,10 +56,8 @@ pub enum Said {
     Back(u64),
     /// The channel is closed.
     Over,
-    /// Memory was refused.
-    NoMemory,
-    /// A serial was refused.
-    NoSerial,
+    /// Memory or a serial was refused.
+    Wanted,
 }
 
 /// A poll of a send.
@@ -72,8 +66,7 @@ pub fn sends<R: Wait + Copy>(task: &MockTask, send: &mut Send<'_, u64, R>) -> Sa
         Poll::Pending => Said::Pending,
         Poll::Ready(Ok(())) => Said::Done,
         Poll::Ready(Err(Refused::Plain(SendError(back)))) => Said::Back(*back),
-        Poll::Ready(Err(Refused::NoMemory(()))) => Said::NoMemory,
-        Poll::Ready(Err(Refused::SerialsUsedUp(()))) => Said::NoSerial,
+        Poll::Ready(Err(_)) => Said::Wanted,
     }
 }
 
@@ -83,16 +76,7 @@ pub fn receives<R: Wait + Copy>(task: &MockTask, recv: &mut Recv<'_, u64, R>) ->
         Poll::Pending => Said::Pending,
         Poll::Ready(Ok(message)) => Said::Got(*message),
         Poll::Ready(Err(Refused::Plain(RecvError))) => Said::Over,
-        Poll::Ready(Err(Refused::NoMemory(()))) => Said::NoMemory,
-        Poll::Ready(Err(Refused::SerialsUsedUp(()))) => Said::NoSerial,
-    }
-}
-
-/// What a refused listener says.
-fn refused(error: ListenError) -> Said {
-    match error {
-        ListenError::NoMemory => Said::NoMemory,
-        ListenError::SerialsUsedUp => Said::NoSerial,
+        Poll::Ready(Err(_)) => Said::Wanted,
     }
 }
 
@@ -101,7 +85,7 @@ pub fn closes<R: Wait + Copy>(task: &MockTask, closed: &mut Closed<'_, u64, R>) 
     match task.poll(closed) {
         Poll::Pending => Said::Pending,
         Poll::Ready(Ok(())) => Said::Over,
-        Poll::Ready(Err(error)) => refused(error),
+        Poll::Ready(Err(_)) => Said::Wanted,
     }
 }
 
@@ -112,7 +96,7 @@ pub fn streams<R: Wait + Copy>(task: &MockTask, stream: &mut Receiver<u64, R>) -
         Poll::Pending => Said::Pending,
         Poll::Ready(Some(Ok(message))) => Said::Got(message),
         Poll::Ready(None) => Said::Over,
-        Poll::Ready(Some(Err(error))) => refused(error),
+        Poll::Ready(Some(Err(_))) => Said::Wanted,
     }
 }
 

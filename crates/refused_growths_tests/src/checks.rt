@@ -1,10 +1,8 @@
 //! What tests compare by. Proved once each; a test has no exit of its own at such a call, so it is cheap to prove.
 
 use scarcity::Seen;
-use std::alloc::AllocError;
 use std::fmt::Debug;
 use std::process::Abort;
-use worked_rows::Played;
 
 /// Ends the test where these differ, and shows both.
 pub fn expect_equal<A: Abort, T: PartialEq + Debug>(rt: &A, found: &T, wanted: &T) {
@@ -26,15 +24,4 @@ pub fn expect_seen<A: Abort>(rt: &A, seen: &Seen, calls: u32, refusals: u32) {
 /// Ends the test where something was wrong while memory was taken.
 pub fn expect_right<A: Abort>(rt: &A, seen: &Seen) {
     assert!(rt; seen.right, "{seen:?}");
-}
-
-/// Ends the test where a call answered another thing than its row says, and where there were not so many rows.
-pub fn expect_played<A: Abort>(rt: &A, played: &Result<Played<'_>, AllocError>, rows: u64) {
-    match played {
-        Ok(played) => {
-            assert!(rt; played.differs.is_none(), "{:?}", played.differs);
-            assert_eq!(rt; played.rows, rows);
-        }
-        Err(AllocError) => assert!(rt; false),
-    }
 }

@@ -1,18 +1,28 @@
 //! A channel's handles and polled operations.
 
 use crate::checks::{expect_equal, expect_seen, expect_true};
-use async_channel::{OpenError, Receiver, Refused, Sender, bounded, unbounded};
-use channel_test_helpers::calls::MEMORY;
-use channel_test_helpers::lent::{Operation, Waiting, give_up};
-use channel_test_helpers::{Ends, goes, opened};
+use async_channel::{Closed, OpenError, Receiver, Recv, Refused, Send, Sender, bounded, unbounded};
+use event_listener::error::ListenError;
 use event_listener::id::EventIds;
+use futures::Stream;
+use futures::task::Poll;
 use futures::test::MockTask;
 use scarcity::{Attempt, Scarcity, Seen, Tried, made, refused};
-use std::alloc::{AllocGlobal, Global};
-use std::process::Abort;
-use std::random::RandomSource;
+use std::alloc::Global;
 use std::sync::Wait;
-use worked_rows::Said;
+
+/// The first two handles of a channel.
+type Ends<R> = (Sender<u64, R>, Receiver<u64, R>);
+
+/// A channel that holds so many messages at most, or any number where that is 0.
+fn opened<R: Wait + Copy>(rt: R, alloc: Global, capacity: usize) -> Option<Ends<R>> {
+    let mut ids = EventIds::new();
+    if capacity == 0 {
+        unbounded(rt, alloc, &mut ids).ok()
+    } else {
+        bounded(rt, alloc, capacity, &mut ids).ok()
+    }
+}
 
 /// The opening of a channel with so many places, or without a bound where that is 0.
 #[derive(Drop)]
@@ -178,124 +188,205 @@ fn receives_of_several(rt: HostRuntime) {
     expect_true(&rt, right);
 }
 
-/// Polls of an operation that listens. One that is refused isn't pending, and a send keeps its message.
+/// A poll of a receive that listens. One that is refused isn't pending.
 #[derive(Drop)]
-struct Polls<'a, R: Wait + Copy> {
-    operation: Operation<'a, R>,
+struct PollsRecv<'a, R: Wait + Copy> {
+    task: &'a MockTask,
+    recv: Recv<'a, u64, R>,
 }
 
-impl<R: Wait + Copy> Attempt for Polls<'_, R> {
+impl<R: Wait + Copy> Attempt for PollsRecv<'_, R> {
     fn make(&mut self) -> Tried {
-        let said = self.operation.poll();
-        let is_left = self.operation.is_finished() != Said::flag(true);
-        if said == MEMORY {
-            refused(is_left)
-        } else {
-            made(said == Said::Word("pending") && is_left)
+        match self.task.poll(&mut self.recv) {
+            Poll::Pending => Tried::Made,
+            Poll::Ready(Err(Refused::NoMemory(()))) => Tried::Refused,
+            Poll::Ready(_) => Tried::Wrong,
         }
     }
 }
 
-impl<'a, R: Wait + Copy> Polls<'a, R> {
-    /// Polls of this operation, by a task of its own.
-    fn new<A: Abort + RandomSource + AllocGlobal>(rt: &A, waiting: Waiting<'a, R>) -> Self {
-        let task = MockTask::new(rt).expect(rt, "memory");
-        Polls {
-            operation: Operation { task, waiting },
+/// A poll of a send that listens. One that is refused keeps its message.
+#[derive(Drop)]
+struct PollsSend<'a, R: Wait + Copy> {
+    task: &'a MockTask,
+    send: Send<'a, u64, R>,
+}
+
+impl<R: Wait + Copy> Attempt for PollsSend<'_, R> {
+    fn make(&mut self) -> Tried {
+        match self.task.poll(&mut self.send) {
+            Poll::Pending => made(!self.send.is_terminated()),
+            Poll::Ready(Err(Refused::NoMemory(()))) => refused(!self.send.is_terminated()),
+            Poll::Ready(_) => Tried::Wrong,
         }
-    }
-
-    fn is_woken(&self) -> bool {
-        self.operation.task.is_woken()
-    }
-
-    /// Whether the operation, polled again, says this.
-    fn says(&mut self, said: Said) -> bool {
-        self.operation.poll() == said
     }
 }
 
-/// Two operations that wait, the first one first.
-fn wait_both<R: Wait + Copy>(
+/// A poll of a wait for the closing.
+#[derive(Drop)]
+struct PollsClosed<'a, R: Wait + Copy> {
+    task: &'a MockTask,
+    closed: Closed<'a, u64, R>,
+}
+
+impl<R: Wait + Copy> Attempt for PollsClosed<'_, R> {
+    fn make(&mut self) -> Tried {
+        match self.task.poll(&mut self.closed) {
+            Poll::Pending => Tried::Made,
+            Poll::Ready(Err(ListenError::NoMemory)) => Tried::Refused,
+            Poll::Ready(_) => Tried::Wrong,
+        }
+    }
+}
+
+/// A poll of a receiver as a stream.
+#[derive(Drop)]
+struct PollsStream<'a, R: Wait + Copy> {
+    task: &'a MockTask,
+    stream: Receiver<u64, R>,
+}
+
+impl<R: Wait + Copy> Attempt for PollsStream<'_, R> {
+    fn make(&mut self) -> Tried {
+        let stream = &mut self.stream;
+        let polled: Poll<Option<Result<u64, ListenError>>> = self
+            .task
+            .enter(|cx| stream.poll_next(cx));
+        match polled {
+            Poll::Pending => Tried::Made,
+            Poll::Ready(Some(Err(ListenError::NoMemory))) => Tried::Refused,
+            Poll::Ready(_) => Tried::Wrong,
+        }
+    }
+}
+
+/// Two receives wait; then who is woken by a message, and by the next one, and what both get.
+fn wait_two<'a, R: Wait + Copy>(
     alloc: Global,
-    first: &mut Polls<'_, R>,
-    second: &mut Polls<'_, R>,
-) -> Seen {
+    ends: &'a Ends<R>,
+    tasks: [&'a MockTask; 2],
+) -> (Seen, [bool; 6]) {
+    let mut first = PollsRecv {
+        task: tasks[0],
+        recv: ends.1.recv(),
+    };
+    let mut second = PollsRecv {
+        task: tasks[1],
+        recv: ends.1.recv(),
+    };
     let mut scarcity = Scarcity::new(alloc);
-    scarcity.refuse_each(first);
-    scarcity.refuse_each(second);
-    scarcity.end()
-}
-
-/// Whether the first notice is for the first of two receives that wait, and the next one for the other.
-fn both_get<R: Wait + Copy>(
-    sender: &Sender<u64, R>,
-    first: &mut Polls<'_, R>,
-    second: &mut Polls<'_, R>,
-) -> bool {
-    let one = goes(sender, 5) && first.is_woken() && !second.is_woken();
-    let other = goes(sender, 6) && second.is_woken();
-    let got = first.says(Said::Both("received", 5)) && second.says(Said::Both("received", 6));
-    one && other && got
+    scarcity.refuse_each(&mut first);
+    scarcity.refuse_each(&mut second);
+    let seen = scarcity.end();
+    let sent = ends.0.try_send(5) == Ok(());
+    let woken = [tasks[0].is_woken(), tasks[1].is_woken()];
+    let again = ends.0.try_send(6) == Ok(());
+    let both = tasks[1].is_woken();
+    let got = tasks[0].poll(&mut first.recv) == Poll::Ready(Ok(5))
+        && tasks[1].poll(&mut second.recv) == Poll::Ready(Ok(6));
+    (seen, [sent, woken[0], woken[1], again, both, got])
 }
 
 /// Nobody stays listed by a poll that was refused: the first notice is for the first who waits.
 #[test]
 fn receives_that_wait(rt: HostRuntime) {
-    let (sender, receiver) = opened(rt, rt.alloc(), 2).expect(&rt, "memory");
-    let mut first = Polls::new(&rt, Waiting::Recv(receiver.recv()));
-    let mut second = Polls::new(&rt, Waiting::Recv(receiver.recv()));
-    let seen = wait_both(rt.alloc(), &mut first, &mut second);
-    let right = both_get(&sender, &mut first, &mut second);
+    let (one, two) = (
+        MockTask::new(&rt).expect(&rt, "memory"),
+        MockTask::new(&rt).expect(&rt, "memory"),
+    );
+    let ends = opened(rt, rt.alloc(), 2).expect(&rt, "memory");
+    let (seen, right) = wait_two(rt.alloc(), &ends, [&one, &two]);
+    drop(ends);
     expect_seen(&rt, &seen, 2, 3);
-    expect_true(&rt, right);
+    expect_equal(&rt, &right, &[true, true, false, true, true, true]);
 }
 
-/// Whether a place for one of two sends that wait is the first one's, and the other hands its message back.
-fn one_goes<R: Wait + Copy>(
-    receiver: &Receiver<u64, R>,
-    mut first: Polls<'_, R>,
-    second: Polls<'_, R>,
-) -> bool {
-    let got = receiver.try_recv() == Ok(1) && first.is_woken() && !second.is_woken();
-    let went = first.says(Said::Word("sent"));
-    let Polls { operation } = second;
-    let back = give_up(operation.waiting) == Said::Number(3);
-    got && went && back && receiver.try_recv() == Ok(2) && receiver.is_empty()
+/// Two sends wait on a full channel; then who is woken when a message is taken, and what the sends come to.
+fn send_two<'a, R: Wait + Copy>(
+    alloc: Global,
+    ends: &'a Ends<R>,
+    tasks: [&'a MockTask; 2],
+) -> (Seen, [bool; 5]) {
+    let filled = ends.0.try_send(1) == Ok(());
+    let mut first = PollsSend {
+        task: tasks[0],
+        send: ends.0.send(2),
+    };
+    let mut second = PollsSend {
+        task: tasks[1],
+        send: ends.0.send(3),
+    };
+    let mut scarcity = Scarcity::new(alloc);
+    scarcity.refuse_each(&mut first);
+    scarcity.refuse_each(&mut second);
+    let seen = scarcity.end();
+    let got = ends.1.try_recv() == Ok(1);
+    let woken = [tasks[0].is_woken(), tasks[1].is_woken()];
+    let done = tasks[0].poll(&mut first.send) == Poll::Ready(Ok(()));
+    let back = second.send.give_up() == Some(3) && ends.1.try_recv() == Ok(2);
+    (
+        seen,
+        [
+            filled && got,
+            woken[0],
+            woken[1],
+            done,
+            back && ends.1.is_empty(),
+        ],
+    )
 }
 
 /// A send whose poll is refused keeps its message.
 #[test]
 fn sends_that_wait(rt: HostRuntime) {
-    let (sender, receiver) = opened(rt, rt.alloc(), 1).expect(&rt, "memory");
-    expect_true(&rt, goes(&sender, 1));
-    let mut first = Polls::new(&rt, Waiting::Send(sender.send(2)));
-    let mut second = Polls::new(&rt, Waiting::Send(sender.send(3)));
-    let seen = wait_both(rt.alloc(), &mut first, &mut second);
-    let right = one_goes(&receiver, first, second);
+    let (one, two) = (
+        MockTask::new(&rt).expect(&rt, "memory"),
+        MockTask::new(&rt).expect(&rt, "memory"),
+    );
+    let ends = opened(rt, rt.alloc(), 1).expect(&rt, "memory");
+    let (seen, right) = send_two(rt.alloc(), &ends, [&one, &two]);
+    drop(ends);
     expect_seen(&rt, &seen, 2, 3);
-    expect_true(&rt, right);
+    expect_equal(&rt, &right, &[true, true, false, true, true]);
 }
 
-/// Whether a stream that waits is woken by a message, and a wait for the closing by the closing; then the stream has the message.
-fn both_are_told<R: Wait + Copy>(
-    sender: &Sender<u64, R>,
-    stream: &mut Polls<'_, R>,
-    closed: &Polls<'_, R>,
-) -> bool {
-    let sent = goes(sender, 5) && stream.is_woken() && !closed.is_woken();
-    sent && sender.close() && closed.is_woken() && stream.says(Said::Both("received", 5))
+/// A stream and a wait for the closing wait; then who is woken by a message and by the closing.
+fn stream_and_close<'a, R: Wait + Copy>(
+    alloc: Global,
+    sender: &'a Sender<u64, R>,
+    receiver: Receiver<u64, R>,
+    tasks: [&'a MockTask; 2],
+) -> (Seen, [bool; 5]) {
+    let mut streams = PollsStream {
+        task: tasks[0],
+        stream: receiver,
+    };
+    let mut closes = PollsClosed {
+        task: tasks[1],
+        closed: sender.closed(),
+    };
+    let mut scarcity = Scarcity::new(alloc);
+    scarcity.refuse_each(&mut streams);
+    scarcity.refuse_each(&mut closes);
+    let seen = scarcity.end();
+    let sent = sender.try_send(5) == Ok(());
+    let woken = [tasks[0].is_woken(), tasks[1].is_woken()];
+    let closed = sender.close() && tasks[1].is_woken();
+    let got = streams.stream.try_recv() == Ok(5);
+    (seen, [sent, woken[0], woken[1], closed, got])
 }
 
 #[test]
 fn streams_and_closings_that_wait(rt: HostRuntime) {
+    let (one, two) = (
+        MockTask::new(&rt).expect(&rt, "memory"),
+        MockTask::new(&rt).expect(&rt, "memory"),
+    );
     let (sender, receiver) = opened(rt, rt.alloc(), 1).expect(&rt, "memory");
-    let mut stream = Polls::new(&rt, Waiting::Stream(receiver));
-    let mut closed = Polls::new(&rt, Waiting::Closed(sender.closed()));
-    let seen = wait_both(rt.alloc(), &mut stream, &mut closed);
-    let right = both_are_told(&sender, &mut stream, &closed);
+    let (seen, right) = stream_and_close(rt.alloc(), &sender, receiver, [&one, &two]);
+    drop(sender);
     expect_seen(&rt, &seen, 2, 4);
-    expect_true(&rt, right);
+    expect_equal(&rt, &right, &[true, true, false, true, true]);
 }
 
 /// More handles of a channel, each let go at once.

@@ -7,7 +7,7 @@ use channel_world::step::{PartyId, Run, Step};
 use channel_world::world::World;
 use event_listener::error::NoMemory;
 use event_listener::id::EventIds;
-use scarcity::{Attempt, Behind, Scarcity, Seen, Tried, made, refused};
+use scarcity::{Attempt, Scarcity, Seen, Tried, made, refused};
 use std::alloc::Global;
 use std::collections::VecDeque;
 
@@ -115,7 +115,7 @@ impl Party {
     }
 }
 
-impl Behind for Party {
+impl Attempt for Party {
     fn is_behind(&self) -> bool {
         self.world.is_quiet()
     }
@@ -123,9 +123,7 @@ impl Behind for Party {
     fn catch_up(&mut self) {
         self.begin();
     }
-}
 
-impl Attempt for Party {
     fn make(&mut self) -> Tried {
         let before = numbers_of(&self.world);
         let tried = match self.world.run_party(PARTY, MOST) {
@@ -166,7 +164,7 @@ fn refuse_all(alloc: Global) -> Option<(Seen, [usize; COUNT], u32)> {
         party.ask = *ask;
         party.said = *said;
         party.most = 0;
-        scarcity.refuse_each_behind(&mut party);
+        scarcity.refuse_each(&mut party);
         if let Some(here) = taken.get_mut(place) {
             *here = party.made;
         }

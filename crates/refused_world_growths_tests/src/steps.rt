@@ -6,7 +6,7 @@ use channel_world::call::{Stopped, WorldRefusal};
 use channel_world::step::{PartyId, Run, Step};
 use channel_world::world::World;
 use event_listener::id::EventIds;
-use scarcity::{Attempt, Behind, Scarcity, Seen, Tried, made, refused};
+use scarcity::{Attempt, Scarcity, Seen, Tried, made, refused};
 use std::alloc::Global;
 use std::collections::VecDeque;
 
@@ -111,7 +111,7 @@ impl Steps {
     }
 }
 
-impl Behind for Steps {
+impl Attempt for Steps {
     fn is_behind(&self) -> bool {
         self.made < self.most
     }
@@ -122,9 +122,7 @@ impl Behind for Steps {
             self.made = self.made.wrapping_add(1);
         }
     }
-}
 
-impl Attempt for Steps {
     fn make(&mut self) -> Tried {
         if !self.is_right {
             return Tried::Wrong;
@@ -152,7 +150,7 @@ impl Steps {
         self.is_done = false;
         for _ in 0..MOST {
             if !self.is_done {
-                scarcity.refuse_each_behind(self);
+                scarcity.refuse_each(self);
             }
         }
     }

@@ -83,17 +83,16 @@ pub fn refused(right: bool) -> Tried {
 
 /// A call that is made until it isn't refused.
 pub trait Attempt {
-    /// Makes the call, and compares.
-    fn make(&mut self) -> Tried;
-}
-
-/// A call before whose attempts something may have to be done, for which there is ample memory.
-pub trait Behind: Attempt {
-    /// Whether something comes before the next attempt.
-    fn is_behind(&self) -> bool;
+    /// Whether something comes before the next attempt, for which there is ample memory.
+    fn is_behind(&self) -> bool {
+        false
+    }
 
     /// Does that.
-    fn catch_up(&mut self);
+    fn catch_up(&mut self) {}
+
+    /// Makes the call, and compares.
+    fn make(&mut self) -> Tried;
 }
 
 /// What was seen of some calls.
@@ -220,41 +219,19 @@ impl Scarcity {
         let mut count = 0u32;
         let mut last = Tried::Farther;
         for _ in 0..self.holes() {
-            last = self.attempt(call, last, &mut count);
-            if matches!(last, Tried::Made | Tried::Wrong) {
-                break;
-            }
-        }
-        self.note(count, last == Tried::Made);
-        count
-    }
-
-    /// The same of a call that catches up before each attempt with what comes before it.
-    pub fn refuse_each_behind<A: Behind>(&mut self, call: &mut A) -> u32 {
-        let mut count = 0u32;
-        let mut last = Tried::Farther;
-        for _ in 0..self.holes() {
             if call.is_behind() {
                 self.relent();
                 call.catch_up();
             }
-            last = self.attempt(call, last, &mut count);
+            self.leave_more(last);
+            last = call.make();
             if matches!(last, Tried::Made | Tried::Wrong) {
                 break;
             }
+            count = count.wrapping_add(1);
         }
         self.note(count, last == Tried::Made);
         count
-    }
-
-    /// One attempt of a call, by what its last one came to. It is counted where it is refused.
-    fn attempt<A: Attempt>(&mut self, call: &mut A, last: Tried, count: &mut u32) -> Tried {
-        self.leave_more(last);
-        let tried = call.make();
-        if !matches!(tried, Tried::Made | Tried::Wrong) {
-            *count = count.wrapping_add(1);
-        }
-        tried
     }
 
     /// Leaves memory for the next attempt of a call, by what its last one came to: 16 bytes more than for that. But none, where the call

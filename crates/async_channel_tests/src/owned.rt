@@ -8,14 +8,14 @@
 //! | `clones H N` | so many clones | how many were made that are of the same channel |
 //! | `same_channel H H` | whether both are of one channel | |
 //! | `drop H`, `drops H N` | drops this handle, and so many from it on | `ok` |
-//! | `CALL H ..` | a call of a strong handle ([`calls`](crate::calls)) | |
+//! | `CALL H ..` | a call of a strong handle ([`channel_test_helpers::calls`]) | |
 
-use crate::Ends;
-use crate::calls::{MEMORY, sender_says, write_received};
 use async_channel::{
     EventIds, HandleError, OpenError, Receiver, Sender, WeakReceiver, WeakSender, bounded,
     unbounded,
 };
+use channel_test_helpers::Ends;
+use channel_test_helpers::calls::{MEMORY, sender_says, write_received};
 use std::alloc::{AllocError, AllocGlobal, Global};
 use std::random::RandomSource;
 use std::sync::Wait;
@@ -32,7 +32,7 @@ enum Handle<R: Wait + Copy> {
 
 /// A row's handles, and the identities that its channels have.
 #[derive(Drop)]
-pub struct Owned<R: Wait + Copy> {
+pub(crate) struct Owned<R: Wait + Copy> {
     rt: R,
     alloc: Global,
     ids: EventIds,
@@ -83,7 +83,7 @@ impl<R: Wait + Copy> Handle<R> {
 
 impl<R: Wait + Copy + RandomSource + AllocGlobal> Owned<R> {
     /// A player of rows.
-    pub fn new(rt: R, alloc: Global) -> Owned<R> {
+    pub(crate) fn new(rt: R, alloc: Global) -> Owned<R> {
         Owned {
             rt,
             alloc,

@@ -10,11 +10,11 @@
 //! | `is_finished O` | asks a send | |
 //! | `give_up O` | gives it up | the message of a send, else `none` |
 //! | `drop O` | drops it | `ok` |
-//! | `CALL s ..`, `CALL r ..` | a call of the channel's sender or receiver ([`calls`](crate::calls)) | |
+//! | `CALL s ..`, `CALL r ..` | a call of the channel's sender or receiver ([`channel_test_helpers::calls`]) | |
 
-use crate::calls::{MEMORY, polled, sender_says, write_received};
-use crate::{Ends, capacity_of, closes, opened, receives, sends, streams};
 use async_channel::{Closed, Receiver, Recv, Send, Sender};
+use channel_test_helpers::calls::{MEMORY, polled, sender_says, write_received};
+use channel_test_helpers::{Ends, capacity_of, closes, opened, receives, sends, streams};
 use futures::test::MockTask;
 use std::alloc::{AllocError, AllocGlobal, Global};
 use std::random::RandomSource;
@@ -23,29 +23,23 @@ use worked_rows::{Player, Said, Words};
 
 /// An operation.
 #[derive(Drop)]
-pub enum Waiting<'a, R: Wait + Copy> {
-    /// A send.
+enum Waiting<'a, R: Wait + Copy> {
     Send(Send<'a, u64, R>),
-    /// A receive.
     Recv(Recv<'a, u64, R>),
-    /// A wait for the closing.
     Closed(Closed<'a, u64, R>),
-    /// A receiver as a stream.
     Stream(Receiver<u64, R>),
 }
 
 /// An operation, and the task that polls it.
 #[derive(Drop)]
-pub struct Operation<'a, R: Wait + Copy> {
-    /// The task.
-    pub task: MockTask,
-    /// The operation.
-    pub waiting: Waiting<'a, R>,
+struct Operation<'a, R: Wait + Copy> {
+    task: MockTask,
+    waiting: Waiting<'a, R>,
 }
 
 /// The channels that are lent to rows; a row's channel, and its operations.
 #[derive(Drop)]
-pub struct Lent<'a, R: Wait + Copy> {
+pub(crate) struct Lent<'a, R: Wait + Copy> {
     rt: R,
     channels: &'a Vec<Ends<R>>,
     taken: usize,
@@ -57,7 +51,7 @@ const NO_OPERATION: Said = Said::Word("no such operation");
 const NO_CHANNEL: Said = Said::Word("no channel");
 
 /// Opens the channels that a text's lines name, in order.
-pub fn channels_of<R: Wait + Copy>(
+pub(crate) fn channels_of<R: Wait + Copy>(
     rt: R,
     alloc: Global,
     text: &str,
@@ -74,7 +68,11 @@ pub fn channels_of<R: Wait + Copy>(
 }
 
 /// A player of rows over these channels.
-pub fn play_on<R: Wait + Copy>(rt: R, alloc: Global, channels: &Vec<Ends<R>>) -> Lent<'_, R> {
+pub(crate) fn play_on<R: Wait + Copy>(
+    rt: R,
+    alloc: Global,
+    channels: &Vec<Ends<R>>,
+) -> Lent<'_, R> {
     Lent {
         rt,
         channels,
@@ -84,8 +82,7 @@ pub fn play_on<R: Wait + Copy>(rt: R, alloc: Global, channels: &Vec<Ends<R>>) ->
 }
 
 impl<R: Wait + Copy> Operation<'_, R> {
-    /// Polls it by its task.
-    pub fn poll(&mut self) -> Said {
+    fn poll(&mut self) -> Said {
         polled(match &mut self.waiting {
             Waiting::Send(send) => sends(&self.task, send),
             Waiting::Recv(recv) => receives(&self.task, recv),
@@ -95,7 +92,7 @@ impl<R: Wait + Copy> Operation<'_, R> {
     }
 
     /// Whether a send has finished.
-    pub fn is_finished(&self) -> Said {
+    fn is_finished(&self) -> Said {
         match &self.waiting {
             Waiting::Send(send) => Said::flag(send.is_terminated()),
             _ => Said::NoSuchCall,
@@ -104,7 +101,7 @@ impl<R: Wait + Copy> Operation<'_, R> {
 }
 
 /// What the giving up of an operation hands back.
-pub fn give_up<R: Wait + Copy>(waiting: Waiting<'_, R>) -> Said {
+fn give_up<R: Wait + Copy>(waiting: Waiting<'_, R>) -> Said {
     let mut back = None;
     match waiting {
         Waiting::Send(send) => back = send.give_up(),
