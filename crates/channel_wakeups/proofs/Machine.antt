@@ -1,8 +1,8 @@
 -- What a push and a pop, made by the queue's machine of one slot on a channel's cells, do to what the call's seat knows: one lemma
 -- for each action.
-use Rattle.std.proofs.Common.{◌⊎◌, inl, inr, ◌≡◌, ℕ, zero, suc, List, [], ◌∷◌, ◌++◌, Bool, true, false, Option, None, Some, Result, Ok, Err, MatchOption, sym, refl, ap, ◌∙◌, subst, ⊎_elim}
+use Rattle.std.proofs.Common.{◌⊎◌, inl, inr, ◌≡◌, ℕ, zero, suc, List, [], ◌∷◌, ◌++◌, Bool, true, false, Option, None, Some, Result, Ok, Err, MatchOption, sym, refl, ap, ◌∙◌, subst}
 use Rattle.std.specs.Prelude.{bit_and, bit_or, not, if◌then◌else◌}
-use Rattle.concurrent_queue.specs.Deeds.{loaded, exchanged, bits_set, bits_kept, did_put, did_take}
+use Rattle.concurrent_queue.specs.Deeds.{exchanged, bits_kept, did_put, did_take}
 use Rattle.concurrent_queue.specs.machine.Ahead.{Leads}
 use Rattle.concurrent_queue.specs.machine.Single.{clear, finishes as ends, stays as goes, after_push, after_pop, after_close, after_put, after_take}
 use Rattle.concurrent_queue.specs.Walked.{StateMakes, WalkedFrom}
@@ -26,12 +26,12 @@ use Rattle.channel_wakeups.specs.declared.rule.Line.{Line}
 use Rattle.channel_wakeups.specs.declared.rule.View.{View}
 use Rattle.channel_wakeups.specs.declared.rule.Transfer.{Transfer}
 use Rattle.channel_wakeups.specs.declared.rule.Transfer.TheVariants.{Out, Saw}
-use Rattle.channel_wakeups.specs.declared.rule.Sight.TheVariants.{Shut, Seen, Drained}
+use Rattle.channel_wakeups.specs.declared.rule.Sight.TheVariants.{Seen}
 use Rattle.concurrent_queue.specs.declared.call.QueueMark.TheVariants as mark
 use Rattle.concurrent_queue.specs.declared.error.PushError.TheVariants as push_error
 use Rattle.concurrent_queue.specs.declared.error.PopError.TheVariants as pop_error
 use Rattle.channel_wakeups.specs.Log.{PutBefore, TookBefore, NotSeen, NotDrained}
-use Rattle.channel_wakeups.specs.Views.{pass, answering, resolved, ended, owing, noted, closer}
+use Rattle.channel_wakeups.specs.Views.{pass, answering, resolved, ended, noted, closer}
 use Rattle.channel_wakeups.specs.Stages.{filling, refused, shut_out, taking, resting, draining, giving}
 use Rattle.channel_wakeups.specs.Cells.{IsLeft, IsSame, HasCaught, Did, PushMissed, PopMissed, ShutBy, SeenBy, Pushed, Popped, HasClosed, HasAsked}
 

@@ -1,20 +1,20 @@
 -- Seats are joined and split, and one that has every part learns the rule.
-use Rattle.std.proofs.Common.{◌⊎◌, inl, inr, ◌≡◌, ℕ, ◌+◌, ◌-◌, ◌/◌, ◌<◌, ◌≤◌, List, [], ◌∷◌, ◌++◌, Bool, true, false, not, Option, None, Some, cond, is_some, set, sym, refl, ap, ◌∙◌, subst, ⊎_elim, arith}
+use Rattle.std.proofs.Common.{◌⊎◌, inl, ◌≡◌, ℕ, ◌+◌, ◌-◌, ◌/◌, ◌<◌, ◌≤◌, List, [], ◌∷◌, ◌++◌, Bool, true, false, Option, None, Some, cond, is_some, set, sym, refl, ap, ◌∙◌, subst, ⊎_elim, arith}
 use mathlib.Core.Option as home
 use mathlib.Core.Option.{some, none}
 use lib.ListN.{get_elem?}
-use Rattle.atomic_table.specs.Table.{State, step, Allows, Splits, Joins, Enters, opening}
-use Rattle.atomic_table.proofs.Lists.{set_again}
+use Rattle.atomic_table.specs.Table.{step, Allows, Splits, Joins, Enters, opening}
 use Rattle.channel_wakeups.specs.declared.rule.Line.{Line}
 use Rattle.channel_wakeups.specs.declared.rule.View.{View}
 use Rattle.channel_wakeups.specs.Lists.{total, told, waits, listed}
-use Rattle.channel_wakeups.specs.Views.{Side, of_receives, of_sends, of, idle, calling, call_line, list_part, call_part, both_parts, ticketed, nobody, pass, everything, entered, stays, comes_out, receives_alone, sends_alone, absorbed, kept_half, given_half, one_ticket, no_ticket, ticket_of, with_ticket, only, is_key, parts_of, lists_of, answers_of, holds_of, closes_of, sights_of, locks_of, owns_of, waits_of, told_of, listed_of, tickets_of, puts_of, takes_of, word_of, shut_count, messages, has_message, is_shut, due, wanted, Owed, IsSlot, empty, full, out, AllAgree, Ordered, Kept, Woken, Known, HasAll, learns}
+use Rattle.channel_wakeups.specs.Views.{Side, of_receives, of_sends, of, idle, calling, list_part, call_part, both_parts, ticketed, nobody, pass, everything, entered, stays, comes_out, receives_alone, sends_alone, absorbed, kept_half, given_half, one_ticket, no_ticket, ticket_of, with_ticket, only, is_key, parts_of, lists_of, answers_of, holds_of, closes_of, sights_of, locks_of, owns_of, waits_of, told_of, listed_of, tickets_of, puts_of, takes_of, word_of, shut_count, messages, has_message, is_shut, due, wanted, Owed, IsSlot, empty, full, out, AllAgree, Ordered, Kept, Woken, Known, HasAll, learns}
 use Rattle.channel_wakeups.proofs.Sums.{at_nobody, balanced_by, closings_by, only_none, only_some, only_zero, owed_by, slot_by, none_here, others, was, total_set, total_snoc, alone}
-use Rattle.channel_wakeups.specs.Log.{Weight, puts, takes, sights, each, each_sight, of_closer, of_drained, Agrees, IsHistory, Balanced, Accounts, Closings}
+use Rattle.channel_wakeups.specs.Log.{Weight, puts, takes, sights, each, Agrees, IsHistory, Balanced, Accounts, Closings}
 use Rattle.channel_wakeups.specs.declared.rule.Sight.{Sight}
 use Rattle.channel_wakeups.proofs.Logs.{puts_append, takes_append, sights_append}
 use Rattle.channel_wakeups.proofs.History.{agrees_append, agrees_at, agrees_beside, agrees_set, agrees_snoc}
-use Rattle.channel_wakeups.proofs.Moves.{no_empty, by_rule, unchanged}
+use Rattle.channel_wakeups.proofs.Laws.{no_empty}
+use Rattle.channel_wakeups.proofs.Moves.{by_rule, unchanged}
 use Rattle.channel_wakeups.specs.declared.rule.Transfer.{Transfer}
 
 -- all that is counted of a line
@@ -399,8 +399,7 @@ module _ {T W : Type 0} where
         let ws = was (waits_of s key) (at_nobody T W (λ l. only l.lists (waits key l.listeners)) refl s) vs id v at in
         let ts = was (told_of s) (at_nobody T W (λ l. only l.lists (told l.listeners)) refl s) vs id v at in
         let ans = was (answers_of s) refl vs id v at in
-        let hs = was (holds_of s key) refl vs id v at in
-        (
+        let hs = was (holds_of s key) refl vs id v at in (
           ⊎_elim (λ (c : wanted s base shut ≤ total (told_of s) vs + total (answers_of s) vs). omega arith) (λ (c : 0 < total (holds_of s key) vs). absurd (omega arith)) (k.owed s key (omega arith)),
           ⊎_elim (λ (c : shut_count shut ≤ total (closes_of s) vs). omega arith) (λ (c : 0 < total (holds_of s key) vs). absurd (omega arith)) (k.shutting s key (omega arith)),
         )
@@ -438,8 +437,7 @@ module _ {T W : Type 0} where
   rests : (s : Side) (base : ℕ) (shut : Bool) (v : View T W) (held : Option T) → base ≡ cond (is_some held) 2 0 → ((key : ℕ) → 0 < waits key (of s v).listeners → (wanted s base shut ≤ told (of s v).listeners) × (shut_count shut ≡ 0))
       → ((key : ℕ) → is_key key (of s v).ticket ≤ listed key (of s v).listeners) → Accounts held v.log → Closings shut (messages base) (λ f. sights f v.log) → Rests s v (word_of base shut)
   rests s base shut v None is law tied accounts closings =
-      subst (λ (n : ℕ). Rests s v (word_of n shut)) (sym is)
-      (
+      subst (λ (n : ℕ). Rests s v (word_of n shut)) (sym is) (
         empty_law s shut (λ key some_waiting. subst (λ (n : ℕ). (wanted s n shut ≤ told (of s v).listeners) × (shut_count shut ≡ 0)) is (law key some_waiting)),
         tied,
         (None, sym (empty_says shut).0, accounts),
@@ -458,8 +456,7 @@ module _ {T W : Type 0} where
       empty_law of_sends false law key w = let l = (law key w).0 in omega arith
       empty_law of_sends true law key w = let l = (law key w).1 in absurd (omega arith)
   rests s base shut v (Some x) is law tied accounts closings =
-      subst (λ (n : ℕ). Rests s v (word_of n shut)) (sym is)
-      (
+      subst (λ (n : ℕ). Rests s v (word_of n shut)) (sym is) (
         full_law s shut (λ key some_waiting. subst (λ (n : ℕ). (wanted s n shut ≤ told (of s v).listeners) × (shut_count shut ≡ 0)) is (law key some_waiting)),
         tied,
         (Some x, sym (full_says shut).0, accounts),

@@ -267,7 +267,6 @@ pub record Kept {T W : Type 0} (base : ℕ) (shut : Bool) (slot : home.Option (O
   pub place : IsSlot base slot (total locks_of views) (total owns_of views)
   pub owed : (s : Side) (key : ℕ)
       → Owed (wanted s base shut) (total (waits_of s key) views) (total (told_of s) views + total (answers_of s) views) (total (holds_of s key) views)
-
   -- THE LAW OF THE CLOSING: where a listener waits untold on a closed channel, a call under way has its line in hand to tell all, or has
   -- that listener in hand
   pub shutting : (s : Side) (key : ℕ) → Owed (shut_count shut) (total (waits_of s key) views) (total (closes_of s) views) (total (holds_of s key) views)

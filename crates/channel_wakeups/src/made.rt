@@ -115,7 +115,10 @@ pub(crate) fn push<T: Drop, W: Drop, R: Wait>(
     match reply {
         QueueReply::Push(Ok(())) => (Ok(()), call),
         QueueReply::Push(Err(PushError::Full(refused))) => (Err(PushError::Full(refused)), call),
-        QueueReply::Push(Err(PushError::Closed(refused))) => (Err(PushError::Closed(refused)), call),
+        QueueReply::Push(Err(PushError::Closed(refused))) => (
+            Err(PushError::Closed(refused)),
+            call,
+        ),
         _ => unreachable!(),
     }
 }

@@ -73,12 +73,10 @@ impl<'a, T: Drop, W: Drop> SlotCells<'a, T, W> {
         requires { self.old.stage ≡ Stage.Free }
         ensures { Did (exchanged State 6 5 result) self.old self.new }
     {
-        let found = self.table.shared.compare_exchange::<WinsLast>(
-            &mut self.seat,
-            0,
-            FULL_CLOSED,
-            TAKING_CLOSED,
-        );
+        let found = self
+            .table
+            .shared
+            .compare_exchange::<WinsLast>(&mut self.seat, 0, FULL_CLOSED, TAKING_CLOSED);
         if found == FULL_CLOSED {
             self.stage = Stage::Caught;
             Ok(found)

@@ -391,10 +391,7 @@ fn end_all<B: Room + Send + Sync, R: Threads + Wait + Sync>(
     channel.absorb(all, three);
     channel.absorb(all, four);
     channel.absorb(all, closer);
-    (
-        a.wrapping_add(b).wrapping_sub(c.wrapping_add(d)),
-        told,
-    )
+    (a.wrapping_add(b).wrapping_sub(c.wrapping_add(d)), told)
 }
 
 /// Who was counted, with its pass.
@@ -451,7 +448,11 @@ fn close_among_in<B: Room + Send + Sync, R: Threads + Wait + Sync>(
 
 /// Two threads send and two receive, until a fifth, which lets them go first so often, closes the channel. `None` where there is no
 /// memory.
-pub fn close_among<R: Threads + Wait + Sync>(rt: &R, alloc: Global, patience: u64) -> Option<Closed> {
+pub fn close_among<R: Threads + Wait + Sync>(
+    rt: &R,
+    alloc: Global,
+    patience: u64,
+) -> Option<Closed> {
     let opened = Opened::new(alloc).ok()?;
     Some(close_among_in::<Brand, R>(rt, opened, patience))
 }
