@@ -13,12 +13,8 @@ use std::process::Abort;
 use std::sync::Wait;
 use std::sync::ledger::{Blank, Ledger};
 
-/// What a channel says of its capacity, and what its record does.
-#[derive(Clone, Copy, Debug, PartialEq, Eq)]
-struct Said {
-    channel: Option<Option<usize>>,
-    record: Option<Option<usize>>,
-}
+/// What a channel answers of its capacity, where it does, and what its record says.
+type Said = (Option<Option<usize>>, Option<usize>);
 
 /// The capacity that an answer gives; none where it answers another call.
 fn answered(receipt: &Receipt<u64>) -> Option<Option<usize>> {
@@ -37,42 +33,32 @@ fn ask<L: Ledger, R: Wait + Abort + AllocGlobal>(rt: &R, channel: RecordedChanne
         Ok(receipt) => answered(receipt),
         Err(_) => None,
     };
-    Said {
-        channel: said,
-        record: Some(finish_one(rt, channel, seat).capacity()),
-    }
+    (said, finish_one(rt, channel, seat).capacity())
 }
 
-fn bounded<L: Ledger, R: Wait + Abort + AllocGlobal>(rt: &R, blank: Blank) -> Said
+/// What a channel says that was asked for with this capacity, or with none.
+fn opened<L: Ledger, R: Wait + Abort + AllocGlobal>(
+    rt: &R,
+    blank: Blank,
+    capacity: Option<usize>,
+) -> Said
     requires name { blank.name ≡ L.name }
     requires parts { (blank.parts ≡ L.parts) × (blank.parts ≡ 2) }
 {
     let mut ids = EventIds::new();
-    let opened = RecordedChannel::<u64, L>::bounded(rt.alloc(), 3, &mut ids, blank, 2);
+    let opened = match capacity {
+        Some(places) => {
+            RecordedChannel::<u64, L>::bounded(rt.alloc(), places, &mut ids, blank, 2)
+        }
+        None => RecordedChannel::<u64, L>::unbounded(rt.alloc(), &mut ids, blank, 2),
+    };
     ask(rt, opened.ok().expect(rt, "memory"))
-}
-
-fn unbounded<L: Ledger, R: Wait + Abort + AllocGlobal>(rt: &R, blank: Blank) -> Said
-    requires name { blank.name ≡ L.name }
-    requires parts { (blank.parts ≡ L.parts) × (blank.parts ≡ 2) }
-{
-    let mut ids = EventIds::new();
-    let opened = RecordedChannel::<u64, L>::unbounded(rt.alloc(), &mut ids, blank, 2);
-    ask(rt, opened.ok().expect(rt, "memory"))
-}
-
-/// What is said where the capacity is this.
-fn as_asked(capacity: Option<usize>) -> Said {
-    Said {
-        channel: Some(capacity),
-        record: Some(capacity),
-    }
 }
 
 #[test]
 fn the_capacity_is_as_asked_for(rt: HostRuntime) {
-    let three = bounded::<Brand, HostRuntime>(&rt, Blank::new(2));
-    expect_equal(&rt, &three, &as_asked(Some(3)));
-    let any = unbounded::<Brand, HostRuntime>(&rt, Blank::new(2));
-    expect_equal(&rt, &any, &as_asked(None));
+    let three = opened::<Brand, HostRuntime>(&rt, Blank::new(2), Some(3));
+    expect_equal(&rt, &three, &(Some(Some(3)), Some(3)));
+    let any = opened::<Brand, HostRuntime>(&rt, Blank::new(2), None);
+    expect_equal(&rt, &any, &(Some(None), None));
 }

@@ -5,7 +5,7 @@ use crate::checks::expect_equal;
 use crate::seats::{finish, two_seats};
 use channel_world::call::Call;
 use channel_world::name::HandleId;
-use channel_world::{MissingSeat, RecordSeat, RecordedChannel, SeatsUsedUp};
+use channel_world::{MissingSeat, RecordSeat, RecordedChannel};
 use event_listener::id::EventIds;
 use std::alloc::AllocGlobal;
 use std::marker::Brand;
@@ -18,10 +18,11 @@ const LEN: Call<u64> = Call::Len {
 };
 
 /// What came of two seats.
-#[derive(Debug, PartialEq, Eq, Drop)]
+#[derive(Clone, Copy)]
 struct Gathered {
     numbers: (u32, u32),
-    third: Option<SeatsUsedUp>,
+    /// Whether a third one was refused.
+    is_used_up: bool,
     /// How many seats came back where one was missing.
     back: usize,
     /// How many entries the record has.
@@ -61,7 +62,7 @@ fn gather<L: Ledger, R: Wait + Abort + AllocGlobal>(rt: &R, blank: Blank) -> Gat
     let opened = RecordedChannel::<u64, L>::bounded(rt.alloc(), 1, &mut ids, blank, 3);
     let channel = opened.ok().expect(rt, "memory");
     let (mut first, mut second) = two_seats(rt, &channel);
-    let third = channel.seat(rt).err();
+    let is_used_up = channel.seat(rt).is_err();
     let numbers = (first.number(), second.number());
     let _ = channel.call(rt, &mut second, LEN);
     let _ = channel.call(rt, &mut first, LEN);
@@ -69,7 +70,7 @@ fn gather<L: Ledger, R: Wait + Abort + AllocGlobal>(rt: &R, blank: Blank) -> Gat
     let back = missing.seats.len();
     Gathered {
         numbers,
-        third,
+        is_used_up,
         back,
         entries: with_first(rt, missing, first),
     }
@@ -79,16 +80,14 @@ fn gather<L: Ledger, R: Wait + Abort + AllocGlobal>(rt: &R, blank: Blank) -> Gat
 #[test]
 fn a_missing_seat_is_waited_for(rt: HostRuntime) {
     let gathered = gather::<Brand, HostRuntime>(&rt, Blank::new(3));
-    expect_equal(
-        &rt,
-        &gathered,
-        &Gathered {
-            numbers: (0, 1),
-            third: Some(SeatsUsedUp),
-            back: 1,
-            entries: 3,
-        },
-    );
+    expect_equal(&rt, &gathered.numbers, &(0, 1));
+    let Gathered {
+        is_used_up,
+        back,
+        entries,
+        ..
+    } = gathered;
+    expect_equal(&rt, &(is_used_up, back, entries), &(true, 1, 3));
 }
 
 /// Whether no seat is made of so few parts, and how many entries the record then has.

@@ -22,15 +22,14 @@ const WRONG: Call<u64> = Call::TryRecv {
 /// A poll of an operation that was never made.
 const UNKNOWN: Call<u64> = Call::Poll { op: OpId(7) };
 
-/// What two refused calls say, and how many entries the record has after them and two accepted ones.
-#[derive(Debug, PartialEq, Eq, Drop)]
-struct Told {
-    wrong: Option<RecordError<u64>>,
-    unknown: Option<RecordError<u64>>,
-    entries: usize,
+/// The refusal that hands this call back.
+fn refusal(why: WorldRefusal, call: Call<u64>) -> Option<RecordError<u64>> {
+    Some(RecordError::World { why, call })
 }
 
-fn refuse<L: Ledger, R: Wait + Abort + AllocGlobal>(rt: &R, blank: Blank) -> Told
+/// Whether two calls are refused, each for its reason and with the call that was asked, and how many entries the record has after
+/// them and two accepted ones.
+fn refuse<L: Ledger, R: Wait + Abort + AllocGlobal>(rt: &R, blank: Blank) -> (bool, bool, usize)
     requires name { blank.name ≡ L.name }
     requires parts { (blank.parts ≡ L.parts) × (blank.parts ≡ 2) }
 {
@@ -39,7 +38,9 @@ fn refuse<L: Ledger, R: Wait + Abort + AllocGlobal>(rt: &R, blank: Blank) -> Tol
     let channel = opened.ok().expect(rt, "memory");
     let mut seat = channel.seat(rt).expect(rt, "seats");
     let wrong = channel.call(rt, &mut seat, WRONG).err();
+    let is_wrong = wrong == refusal(WorldRefusal::WrongKind, WRONG);
     let unknown = channel.call(rt, &mut seat, UNKNOWN).err();
+    let is_unknown = unknown == refusal(WorldRefusal::UnknownName, UNKNOWN);
     let len = Call::Len {
         handle: HandleId(0),
     };
@@ -48,27 +49,13 @@ fn refuse<L: Ledger, R: Wait + Abort + AllocGlobal>(rt: &R, blank: Blank) -> Tol
         handle: HandleId(1),
     };
     let _ = channel.call(rt, &mut seat, leave);
-    Told {
-        wrong,
-        unknown,
-        entries: finish_one(rt, channel, seat).len(),
-    }
-}
-
-/// The refusal that hands this call back.
-fn refusal(why: WorldRefusal, call: Call<u64>) -> Option<RecordError<u64>> {
-    Some(RecordError::World { why, call })
+    (is_wrong, is_unknown, finish_one(rt, channel, seat).len())
 }
 
 #[test]
 fn a_refused_call_leaves_no_entry(rt: HostRuntime) {
     let told = refuse::<Brand, HostRuntime>(&rt, Blank::new(2));
-    let wanted = Told {
-        wrong: refusal(WorldRefusal::WrongKind, WRONG),
-        unknown: refusal(WorldRefusal::UnknownName, UNKNOWN),
-        entries: 2,
-    };
-    expect_equal(&rt, &told, &wanted);
+    expect_equal(&rt, &told, &(true, true, 2));
 }
 
 /// Whether a value prints this text.

@@ -78,7 +78,7 @@ fn speak<L: Ledger, M: Ledger, R: Wait>(
 }
 
 /// What came of the talk: the words that were heard, how many calls were made on each channel, and how many were recorded.
-#[derive(Debug, PartialEq, Eq, Drop)]
+#[derive(Clone, Copy)]
 struct Outcome {
     heard: (Option<u64>, Option<u64>),
     made: (usize, usize),

@@ -2,7 +2,7 @@
 
 use crate::checks::{expect_equal, expect_seen, expect_true};
 use channel_calls::error::{OpenError, Refused};
-use channel_world::call::{Call, CallRun, Reply, Stopped, WorldRefusal};
+use channel_world::call::{Call, Reply, Stopped, WorldRefusal};
 use channel_world::name::{HandleId, OpId};
 use channel_world::world::World;
 use event_listener::error::ListenError;
@@ -69,7 +69,7 @@ pub const S: HandleId = HandleId(0);
 pub const R: HandleId = HandleId(1);
 
 /// A call that can be made again.
-#[derive(Clone, Copy, PartialEq, Eq, Debug)]
+#[derive(Clone, Copy)]
 pub enum Ask {
     Recv(u32),
     Send(u32, u64),
@@ -128,7 +128,7 @@ pub fn call(ask: Ask) -> Call<u64> {
 }
 
 /// What a reply says, in short.
-#[derive(Clone, Copy, PartialEq, Eq, Debug)]
+#[derive(Clone, Copy, PartialEq, Eq)]
 pub enum Said {
     /// A handle or an operation was made.
     Made,
@@ -236,41 +236,26 @@ pub const NO_ROOM: Option<Stopped> = Some(Stopped {
 #[derive(Drop)]
 pub struct Calls {
     pub world: World<u64>,
-    calls: VecDeque<Call<u64>>,
+    pub calls: VecDeque<Call<u64>>,
     ask: Ask,
     said: Said,
     /// How often a call answered that it was refused memory, for which there was room then.
     pub named: u32,
 }
 
-/// What was said of the one call of a list, and how many it woke.
-pub fn said_of(run: &CallRun<u64>) -> Option<(Said, usize)> {
-    match run.done.first() {
-        Some(done) => Some((says(&done.reply), done.woken.len())),
-        None => None,
-    }
-}
-
 impl Attempt for Calls {
     fn make(&mut self) -> Tried {
-        if !self.world.is_quiet() {
-            return Tried::Wrong;
-        }
-        let put = !self.calls.is_empty() || self.calls.push_back(call(self.ask)).is_ok();
         let before = numbers_of(&self.world);
-        let run = self.world.run_calls(&mut self.calls);
-        let stopped = run.stopped;
-        let said = said_of(&run);
-        drop(run);
+        let said = self.ask(self.ask);
         let is_as_before = numbers_of(&self.world) == before;
         match said {
-            Some((said, _)) if said == self.said => made(put && self.calls.is_empty()),
+            Some((said, _)) if said == self.said => made(self.calls.is_empty()),
             Some((said, woken)) => {
                 self.named = self.named.wrapping_add(1);
                 let named = is_refusal(self.ask, said) && woken == 0;
                 refused(named && is_as_before && self.calls.is_empty())
             }
-            None => refused(stopped == NO_ROOM && is_as_before && self.calls.len() == 1),
+            None => refused(is_as_before && self.calls.len() == 1),
         }
     }
 }
@@ -290,6 +275,22 @@ impl Calls {
             said: Said::Else,
             named: 0,
         })
+    }
+
+    /// What a call says and how many it wakes; nothing where its answer gets no room, and then the call stays in the list.
+    pub fn ask(&mut self, ask: Ask) -> Option<(Said, usize)> {
+        let put = !self.calls.is_empty() || self.calls.push_back(call(ask)).is_ok();
+        if !self.world.is_quiet() || !put {
+            return Some((Said::Else, 0));
+        }
+        let run = self.world.run_calls(&mut self.calls);
+        let said = match run.done.first() {
+            Some(done) => Some((says(&done.reply), done.woken.len())),
+            None if run.stopped == NO_ROOM => None,
+            None => Some((Said::Else, 0)),
+        };
+        drop(run);
+        said
     }
 
     /// Makes a call until it isn't refused.
