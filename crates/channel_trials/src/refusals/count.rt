@@ -92,8 +92,8 @@ fn an_answer_needs_its_mark_or_its_moment(tally: &mut Tally, alloc: Global) {
     compare_answers(tally, &call, &count, 2);
 }
 
-/// Who sleeps on which line, beside a call under way of which kind, and whether nothing is owed to it: beside a message, on a channel
-/// of two places, alone and then beside the call; and on a closed one.
+/// Somebody who sleeps on this line of a channel of two places that holds a message, and a call of this kind. Whether nothing is owed:
+/// alone, beside the call, and beside it once the channel is closed.
 static OWED: [(Line, Kind, [bool; 3]); 7] = [
     (Line::Sends, Kind::TrySend, [false, true, false]),
     (Line::Sends, Kind::TryRecv, [false, false, false]),

@@ -149,7 +149,7 @@ fn messages_are_handed_out_in_order(tally: &mut Tally, alloc: Global) {
     }
 }
 
-/// Of a receive of two, how many it has taken, and whether it has woken the first of two sends that sleep; whether nothing is owed to
+/// How many a receive of two has taken, and whether it has woken the first of two sends that sleep. Then whether nothing is owed to
 /// these, and whether one place for each call were enough.
 static PLACES: [(usize, bool, (bool, bool)); 5] = [
     (0, false, (true, true)),
