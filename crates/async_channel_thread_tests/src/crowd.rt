@@ -24,54 +24,61 @@ where
     true
 }
 
-/// Whether all four threads did what they were to do.
-fn all_four(did: Result<Vec<bool>, AllocError>) -> bool {
+/// The next message of a receiver that four threads share, or of the thread's own one as a stream's, where it has one.
+fn next<R>(rt: R, r: &Receiver<u64, R>, own: &mut Option<Receiver<u64, R>>) -> Option<u64>
+where
+    R: Wait + Copy + RandomSource + AllocGlobal,
+{
+    match own {
+        Some(stream) => next_of_stream(rt, stream),
+        None => next_message(rt, r),
+    }
+}
+
+/// Whether as many messages come as one thread sends.
+fn takes<R>(rt: R, r: &Receiver<u64, R>, is_streamed: bool, tally: &Tally) -> bool
+where
+    R: Wait + Copy + RandomSource + AllocGlobal,
+{
+    let mut own = if is_streamed {
+        r.try_clone().ok()
+    } else {
+        None
+    };
+    let mut right = own.is_some() == is_streamed;
+    for _ in 0..COUNT {
+        right = right
+            && match next(rt, r, &mut own) {
+                Some(number) => tally.note(&rt, number),
+                None => false,
+            };
+    }
+    right
+}
+
+/// Whether all eight threads did what they were to do.
+fn all_eight(did: Result<Vec<bool>, AllocError>) -> bool {
     match did {
-        Ok(did) => did.as_slice() == [true; 4].as_slice(),
+        Ok(did) => did.as_slice() == [true; 8].as_slice(),
         Err(_) => false,
     }
 }
 
-fn four_send<R>(rt: R, s: &Sender<u64, R>) -> bool
+/// Four threads send and four receive, or stream by receivers of their own: whether each number comes four times.
+fn each_four_times<R>(rt: R, ends: &Ends<R>, is_streamed: bool, tally: &Tally) -> bool
 where
     R: Wait + Threads + Copy + RandomSource + AllocGlobal + Send + Sync,
 {
-    let work = |_: usize| sends_all(rt, s);
-    all_four(thread::map_indices(&rt, rt.alloc(), 4, &work))
-}
-
-fn takes<R>(rt: R, r: &Receiver<u64, R>, tally: &Tally) -> bool
-where
-    R: Wait + Copy + RandomSource + AllocGlobal,
-{
-    for _ in 0..COUNT {
-        match next_message(rt, r) {
-            Some(number) => {
-                if !tally.note(&rt, number) {
-                    return false;
-                }
-            }
-            None => return false,
+    let (s, r) = (&ends.0, &ends.1);
+    let work = |place: usize| {
+        if place < 4 {
+            sends_all(rt, s)
+        } else {
+            takes(rt, r, is_streamed, tally)
         }
-    }
-    true
-}
-
-fn four_take<R>(rt: R, r: &Receiver<u64, R>, tally: &Tally) -> bool
-where
-    R: Wait + Threads + Copy + RandomSource + AllocGlobal + Send + Sync,
-{
-    let work = |_: usize| takes(rt, r, tally);
-    all_four(thread::map_indices(&rt, rt.alloc(), 4, &work))
-}
-
-fn each_four_times<R>(rt: R, ends: Ends<R>, tally: &Tally) -> bool
-where
-    R: Wait + Threads + Copy + RandomSource + AllocGlobal + Send + Sync,
-{
-    let (s, r) = ends;
-    let (did, got) = thread::join(&rt, || four_send(rt, &s), || four_take(rt, &r, tally));
-    did && got && tally.all_are(&rt, 4) && r.try_recv() == Err(TryRecvError::Empty)
+    };
+    let did = all_eight(thread::map_indices(&rt, rt.alloc(), 8, &work));
+    did && tally.all_are(&rt, 4) && r.try_recv() == Err(TryRecvError::Empty)
 }
 
 #[test]
@@ -79,53 +86,8 @@ fn many_senders_many_receivers(rt: HostRuntime) {
     for capacity in [3, 0] {
         let tally = Tally::new(rt.alloc(), COUNT).expect(&rt, "memory");
         let ends = opened(rt, rt.alloc(), capacity).expect(&rt, "memory");
-        expect_true(&rt, each_four_times(rt, ends, &tally));
+        expect_true(&rt, each_four_times(rt, &ends, false, &tally));
     }
-}
-
-fn streams<R>(rt: R, stream: &mut Receiver<u64, R>, tally: &Tally) -> bool
-where
-    R: Wait + Copy + RandomSource + AllocGlobal,
-{
-    for _ in 0..COUNT {
-        match next_of_stream(rt, stream) {
-            Some(number) => {
-                if !tally.note(&rt, number) {
-                    return false;
-                }
-            }
-            None => return false,
-        }
-    }
-    true
-}
-
-/// Streams by a receiver of its own.
-fn clone_streams<R>(rt: R, r: &Receiver<u64, R>, tally: &Tally) -> bool
-where
-    R: Wait + Copy + RandomSource + AllocGlobal,
-{
-    match r.try_clone() {
-        Ok(mut own) => streams(rt, &mut own, tally),
-        Err(_) => false,
-    }
-}
-
-fn four_stream<R>(rt: R, r: &Receiver<u64, R>, tally: &Tally) -> bool
-where
-    R: Wait + Threads + Copy + RandomSource + AllocGlobal + Send + Sync,
-{
-    let work = |_: usize| clone_streams(rt, r, tally);
-    all_four(thread::map_indices(&rt, rt.alloc(), 4, &work))
-}
-
-fn each_four_times_streamed<R>(rt: R, ends: Ends<R>, tally: &Tally) -> bool
-where
-    R: Wait + Threads + Copy + RandomSource + AllocGlobal + Send + Sync,
-{
-    let (s, r) = ends;
-    let (did, got) = thread::join(&rt, || four_send(rt, &s), || four_stream(rt, &r, tally));
-    did && got && tally.all_are(&rt, 4) && r.try_recv() == Err(TryRecvError::Empty)
 }
 
 #[test]
@@ -133,6 +95,6 @@ fn many_senders_many_streams(rt: HostRuntime) {
     for capacity in [3, 0] {
         let tally = Tally::new(rt.alloc(), COUNT).expect(&rt, "memory");
         let ends = opened(rt, rt.alloc(), capacity).expect(&rt, "memory");
-        expect_true(&rt, each_four_times_streamed(rt, ends, &tally));
+        expect_true(&rt, each_four_times(rt, &ends, true, &tally));
     }
 }

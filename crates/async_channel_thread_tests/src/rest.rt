@@ -3,14 +3,16 @@
 
 use crate::checks::{expect_true, new_task};
 use crate::tally::Tally;
-use async_channel::{Receiver, Recv, Send as Sending, Sender};
-use channel_test_helpers::{Ends, Said, opened, receives, sends};
-use futures::test::MockTask;
+use async_channel::Receiver;
+use channel_test_helpers::lent::{Operation, Waiting};
+use channel_test_helpers::{Ends, opened};
 use std::alloc::AllocGlobal;
+use std::process::Abort;
 use std::random::RandomSource;
 use std::sync::Wait;
 use std::thread::Threads;
 use std::{mem, thread};
+use worked_rows::Said;
 
 const POLLS: u64 = 1_000;
 
@@ -20,7 +22,7 @@ const SECOND: u64 = 2_000;
 /// No message is as great as this.
 const LIMIT: u64 = 4_000;
 
-/// How many messages went, and whether those of each sender went in order, and each operation had a task.
+/// How many messages went, and whether those of each sender went in order.
 #[derive(Clone, Copy)]
 struct Went {
     count: u64,
@@ -53,128 +55,77 @@ impl Went {
     }
 }
 
-/// What a sender had accepted, and its last send with its task.
-type LastSend<'a, R> = (Went, MockTask, Sending<'a, u64, R>);
+/// What a thread did, and its last operation.
+#[derive(Drop)]
+struct Party<'a, R: Wait + Copy> {
+    ends: &'a Ends<R>,
+    /// The first message that it sends. None where it receives.
+    from: Option<u64>,
+    went: Went,
+    operation: Operation<'a, R>,
+    /// Whether the last operation is done.
+    is_done: bool,
+}
 
-/// What a receiver got, and its last receive with its task.
-type LastRecv<'a, R> = (Went, MockTask, Recv<'a, u64, R>);
-
-/// A task for the next operation in the place of this one: whether one was to be had.
-fn renews<R: RandomSource + AllocGlobal>(rt: &R, task: &mut MockTask) -> bool {
-    match MockTask::new(rt) {
-        Ok(next) => {
-            drop(mem::replace(task, next));
-            true
-        }
-        Err(_) => false,
+/// The operation of a party of which so many are done, with a task of its own.
+fn operation<R>(rt: R, ends: &Ends<R>, from: Option<u64>, count: u64) -> Operation<'_, R>
+where
+    R: Wait + Copy + RandomSource + AllocGlobal + Abort,
+{
+    let waiting = match from {
+        Some(from) => Waiting::Send(ends.0.send(from.wrapping_add(count))),
+        None => Waiting::Recv(ends.1.recv()),
+    };
+    Operation {
+        task: new_task(&rt),
+        waiting,
     }
 }
 
-fn poll_sends<R>(rt: R, s: &Sender<u64, R>, from: u64, task: MockTask) -> LastSend<'_, R>
+impl<R: Wait + Copy> Party<'_, R> {
+    /// Polls the operation. Where it is done, its message is noted.
+    fn poll(&mut self, rt: &R, tally: &Tally) {
+        let message = match (self.from, self.operation.poll()) {
+            (Some(from), Said::Word("sent")) => from.wrapping_add(self.went.count),
+            (None, Said::Both("received", message)) => {
+                tally.note(rt, message);
+                message
+            }
+            _ => return,
+        };
+        self.went.note(message);
+        self.is_done = true;
+    }
+
+    /// Whether it was woken, and is to be polled.
+    fn goes_on(&self) -> bool {
+        !self.is_done && self.operation.task.is_woken()
+    }
+}
+
+/// Polls one operation after another.
+fn poll_all<'a, R>(rt: R, ends: &'a Ends<R>, from: Option<u64>, tally: &Tally) -> Party<'a, R>
 where
-    R: Wait + Copy + RandomSource + AllocGlobal,
+    R: Wait + Copy + RandomSource + AllocGlobal + Abort,
 {
-    let mut went = Went::new();
-    let mut task = task;
-    let mut send = s.send(from);
+    let mut party = Party {
+        ends,
+        from,
+        went: Went::new(),
+        operation: operation(rt, ends, from, 0),
+        is_done: false,
+    };
     for _ in 0..POLLS {
-        if sends(&task, &mut send) == Said::Done {
-            let message = from.wrapping_add(went.count);
-            went.note(message);
-            went.right = renews(&rt, &mut task) && went.right;
-            send = s.send(message.wrapping_add(1));
+        party.poll(&rt, tally);
+        if party.is_done {
+            let next = operation(rt, ends, from, party.went.count);
+            drop(mem::replace(&mut party.operation, next));
+            party.is_done = false;
         } else {
             thread::yield_now();
         }
     }
-    (went, task, send)
-}
-
-fn poll_receives<'a, R>(
-    rt: R,
-    r: &'a Receiver<u64, R>,
-    tally: &Tally,
-    task: MockTask,
-) -> LastRecv<'a, R>
-where
-    R: Wait + Copy + RandomSource + AllocGlobal,
-{
-    let mut went = Went::new();
-    let mut task = task;
-    let mut recv = r.recv();
-    for _ in 0..POLLS {
-        if let Said::Got(message) = receives(&task, &mut recv) {
-            went.note(message);
-            tally.note(&rt, message);
-            went.right = renews(&rt, &mut task) && went.right;
-            recv = r.recv();
-        } else {
-            thread::yield_now();
-        }
-    }
-    (went, task, recv)
-}
-
-fn two_send<R>(
-    rt: R,
-    s: &Sender<u64, R>,
-    tasks: (MockTask, MockTask),
-) -> (LastSend<'_, R>, LastSend<'_, R>)
-where
-    R: Wait + Threads + Copy + RandomSource + AllocGlobal + Send + Sync,
-{
-    let (one, two) = tasks;
-    thread::join(
-        &rt,
-        move || poll_sends(rt, s, 0, one),
-        move || poll_sends(rt, s, SECOND, two),
-    )
-}
-
-fn two_receive<'a, R>(
-    rt: R,
-    r: &'a Receiver<u64, R>,
-    tally: &Tally,
-    tasks: (MockTask, MockTask),
-) -> (LastRecv<'a, R>, LastRecv<'a, R>)
-where
-    R: Wait + Threads + Copy + RandomSource + AllocGlobal + Send + Sync,
-{
-    let (one, two) = tasks;
-    thread::join(
-        &rt,
-        move || poll_receives(rt, r, tally, one),
-        move || poll_receives(rt, r, tally, two),
-    )
-}
-
-/// Polls a send that was woken, unless it is done.
-fn settle_send<R: Wait + Copy>(sent: &mut LastSend<'_, R>, from: u64, done: &mut bool) {
-    if *done || !sent.1.is_woken() {
-        return;
-    }
-    if sends(&sent.1, &mut sent.2) == Said::Done {
-        *done = true;
-        let count = sent.0.count;
-        sent.0.note(from.wrapping_add(count));
-    }
-}
-
-/// Polls a receive that was woken, unless it is done.
-fn settle_receive<R: Wait + Copy>(
-    rt: R,
-    got: &mut LastRecv<'_, R>,
-    tally: &Tally,
-    done: &mut bool,
-) {
-    if *done || !got.1.is_woken() {
-        return;
-    }
-    if let Said::Got(message) = receives(&got.1, &mut got.2) {
-        *done = true;
-        got.0.note(message);
-        tally.note(&rt, message);
-    }
+    party
 }
 
 /// What is still in the channel.
@@ -192,53 +143,73 @@ fn drain<R: Wait + Copy>(rt: R, r: &Receiver<u64, R>, tally: &Tally) -> Went {
     left
 }
 
+/// How many messages a party had done, if there is one.
+fn count_of<R: Wait + Copy>(party: Option<&Party<'_, R>>) -> u64 {
+    match party {
+        Some(party) => party.went.count,
+        None => 0,
+    }
+}
+
 /// Whether each message that was sent was received once or is left, and those of each sender went in order.
-fn adds_up<R: Wait>(rt: &R, sent: [Went; 2], got: [Went; 2], left: Went, tally: &Tally) -> bool {
-    let ordered = got[0].right && got[1].right && left.right;
-    ordered && tally.are_once(rt, sent[0].count, SECOND, sent[1].count)
+fn adds_up<R: Wait + Copy>(rt: R, parties: &[Party<'_, R>], left: Went, tally: &Tally) -> bool {
+    let mut right = parties.len() == 4 && left.right;
+    for party in parties {
+        right = right && party.went.right;
+    }
+    let (first, second) = (count_of(parties.get(0)), count_of(parties.get(1)));
+    right && tally.are_once(&rt, first, SECOND, second)
+}
+
+/// Whether nobody could go on: whoever isn't done was not woken, and finds the channel full, or empty.
+fn is_still<R: Wait + Copy>(parties: &[Party<'_, R>]) -> bool {
+    let mut right = true;
+    for party in parties {
+        let rests = match party.from {
+            Some(_) => party.ends.0.is_full(),
+            None => party.ends.1.is_empty(),
+        };
+        right = right && (party.is_done || !party.operation.task.is_woken() && rests);
+    }
+    right
 }
 
 /// Polls whom was woken until nobody is. Then nobody who isn't done could go on, and nothing was lost or doubled.
-fn settles<'a, R: Wait + Copy>(
-    rt: R,
-    sent: &mut (LastSend<'a, R>, LastSend<'a, R>),
-    got: &mut (LastRecv<'a, R>, LastRecv<'a, R>),
-    r: &'a Receiver<u64, R>,
-    tally: &Tally,
-) -> bool {
-    let mut done = [false; 4];
-    for _ in 0..100 {
-        settle_send(&mut sent.0, 0, &mut done[0]);
-        settle_send(&mut sent.1, SECOND, &mut done[1]);
-        settle_receive(rt, &mut got.0, tally, &mut done[2]);
-        settle_receive(rt, &mut got.1, tally, &mut done[3]);
-    }
-    let senders_still = (done[0] || !sent.0.1.is_woken()) && (done[1] || !sent.1.1.is_woken());
-    let receivers_still = (done[2] || !got.0.1.is_woken()) && (done[3] || !got.1.1.is_woken());
-    let sends_rest = done[0] && done[1] || r.is_full();
-    let receives_rest = done[2] && done[3] || r.is_empty();
-    let left = drain(rt, r, tally);
-    let whole = adds_up(&rt, [sent.0.0, sent.1.0], [got.0.0, got.1.0], left, tally);
-    senders_still && receivers_still && sends_rest && receives_rest && whole
-}
-
-fn comes_to_rest<R>(
+fn settles<R: Wait + Copy>(
     rt: R,
     ends: &Ends<R>,
+    parties: &mut [Party<'_, R>],
     tally: &Tally,
-    senders: (MockTask, MockTask),
-    receivers: (MockTask, MockTask),
-) -> bool
+) -> bool {
+    for _ in 0..100 {
+        for party in parties.iter_mut() {
+            if party.goes_on() {
+                party.poll(&rt, tally);
+            }
+        }
+    }
+    let still = is_still(parties);
+    let left = drain(rt, &ends.1, tally);
+    still && adds_up(rt, parties, left, tally)
+}
+
+/// Two threads send and two receive.
+fn comes_to_rest<R>(rt: R, ends: &Ends<R>, tally: &Tally) -> bool
 where
-    R: Wait + Threads + Copy + RandomSource + AllocGlobal + Send + Sync,
+    R: Wait + Threads + Copy + RandomSource + AllocGlobal + Abort + Send + Sync,
 {
-    let (s, r) = (&ends.0, &ends.1);
-    let (mut sent, mut got) = thread::join(
-        &rt,
-        move || two_send(rt, s, senders),
-        move || two_receive(rt, r, tally, receivers),
-    );
-    settles(rt, &mut sent, &mut got, r, tally)
+    let work = |place: usize| {
+        let from = match place {
+            0 => Some(0),
+            1 => Some(SECOND),
+            _ => None,
+        };
+        poll_all(rt, ends, from, tally)
+    };
+    match thread::map_indices(&rt, rt.alloc(), 4, &work) {
+        Ok(mut parties) => settles(rt, ends, parties.as_mut_slice(), tally),
+        Err(_) => false,
+    }
 }
 
 #[test]
@@ -246,11 +217,8 @@ fn at_rest(rt: HostRuntime) {
     for capacity in [1, 3, 0] {
         for _ in 0..5 {
             let tally = Tally::new(rt.alloc(), LIMIT).expect(&rt, "memory");
-            let senders = (new_task(&rt), new_task(&rt));
-            let receivers = (new_task(&rt), new_task(&rt));
             let ends = opened(rt, rt.alloc(), capacity).expect(&rt, "memory");
-            let rests = comes_to_rest(rt, &ends, &tally, senders, receivers);
-            expect_true(&rt, rests);
+            expect_true(&rt, comes_to_rest(rt, &ends, &tally));
         }
     }
 }
