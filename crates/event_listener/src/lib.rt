@@ -14,6 +14,7 @@
 #![tactic(auto)]
 
 pub mod calls;
+mod counted;
 pub mod error;
 pub mod event;
 mod home;

@@ -1,19 +1,20 @@
 //! An event that keeps a record of its calls.
-ghost use Rattle.std.specs.Prelude.{◌≤◌};
+ghost use Rattle.std.specs.Prelude.{◌≡◌, ◌+◌, ◌≤◌, ◌<◌, length, OnErr, OnOk, Ok, Some, None};
 ghost use Rattle.event_listener.specs.Drawing.{TellsOrNone};
 ghost use Rattle.event_listener.specs.Lists.{told_by};
 ghost use Rattle.event_listener.specs.Replay.{Replays, nobody};
 
 use crate::calls::Registered;
+use crate::counted::Counted;
 use crate::error::{ListenError, NoMemory, NotifyError, UnknownListener};
 use crate::into_notification::IntoNotification;
 use crate::key::Key;
 use crate::list::List;
-use crate::recording::Recording;
 use crate::wakes::Wakes;
 use std::alloc::Global;
 use std::error::Error;
 use std::fmt;
+use std::sync::ledger::{Book, Ledger, Share};
 use std::sync::{Mutex, Wait};
 
 /// A call that changed the list of a recorded event, with its answer. Calls that change nothing leave no entry.
@@ -87,71 +88,113 @@ impl Error for RegisterError {}
 /// The record leads from an empty list to the list as it stands, call by call and answer by answer: that holds each
 /// time the lock is taken. Room for a record is taken before a call changes anything, and room for a listener's end
 /// when it listens, so that no listener is kept by want of memory. Own to this project.
+///
+/// It is used in a function over its ledger `L`, whose book is this event's alone. A call that may add an entry takes a
+/// share of the ledger, and adds one to its amount where it adds an entry. So who gathers all parts knows how many
+/// entries the record has.
 #[derive(Drop)]
-pub struct RecordedEvent<T: Copy, W: Copy> {
+pub struct RecordedEvent<T: Copy, W: Copy, L: Ledger> {
     alloc: Global,
-    inner: Mutex<Recording<T, W>>,
+    inner: Mutex<Counted<T, W, L>>,
 }
 
-impl<T: Copy, W: Copy> RecordedEvent<T, W> {
-    /// An event without listeners and with an empty record. It takes no memory.
-    pub fn new(alloc: Global) -> Self {
+impl<T: Copy, W: Copy, L: Ledger> RecordedEvent<T, W, L> {
+    /// An event without listeners and with an empty record, which this book counts from now on. It takes no memory.
+    pub fn new(alloc: Global, book: Book<L>) -> Self
+        requires { book.total ≡ 0 }
+    {
         RecordedEvent {
             alloc,
-            inner: Mutex::new(Recording::new(alloc)),
+            inner: Mutex::new(Counted::new(alloc, book)),
         }
     }
 
-    /// Adds a listener, which waits without a task.
+    /// Adds a listener, which waits without a task. It is counted where it is not refused.
     ///
     /// Refused for memory, of the list or of the record, or where all serials were given. It may wait for the lock.
-    pub fn insert<R: Wait>(&self, rt: &R) -> Result<Key, ListenError> {
-        self.inner.lock(rt).insert()
+    pub fn insert<R: Wait>(&self, rt: &R, mine: &mut Share<L>) -> Result<Key, ListenError>
+        requires { 0 < mine.old.parts }
+        ensures counted { OnOk result (mine.new.amount ≡ mine.old.amount + 1) }
+        ensures uncounted { OnErr result (mine.new.amount ≡ mine.old.amount) }
+        ensures parts { mine.new.parts ≡ mine.old.parts }
+    {
+        self.inner.lock(rt).insert(mine)
     }
 
-    /// Takes a told listener off, or stores the task of one that waits.
+    /// Takes a told listener off, or stores the task of one that waits. It is counted where it is not refused.
     ///
     /// A told one is never refused for memory. It may wait for the lock.
     pub fn register<R: Wait>(
         &self,
         rt: &R,
+        mine: &mut Share<L>,
         key: Key,
         task: W,
-    ) -> Result<Registered<T>, RegisterError> {
-        self.inner.lock(rt).register(key, task)
+    ) -> Result<Registered<T>, RegisterError>
+        requires { 0 < mine.old.parts }
+        ensures counted { OnOk result (mine.new.amount ≡ mine.old.amount + 1) }
+        ensures uncounted { OnErr result (mine.new.amount ≡ mine.old.amount) }
+        ensures parts { mine.new.parts ≡ mine.old.parts }
+    {
+        self.inner.lock(rt).register(mine, key, task)
     }
 
-    /// Takes a told listener off and gives its tag; `None` while it waits. It may wait for the lock.
-    pub fn poll<R: Wait>(&self, rt: &R, key: Key) -> Result<Option<T>, UnknownListener> {
-        self.inner.lock(rt).poll(key)
+    /// Takes a told listener off and gives its tag, which is counted; `None` while it waits, which isn't. It may wait for
+    /// the lock.
+    pub fn poll<R: Wait>(
+        &self,
+        rt: &R,
+        mine: &mut Share<L>,
+        key: Key,
+    ) -> Result<Option<T>, UnknownListener>
+        requires { 0 < mine.old.parts }
+        ensures counted { (tag : T) → result ≡ Ok (Some tag) → mine.new.amount ≡ mine.old.amount + 1 }
+        ensures waiting { result ≡ Ok None → mine.new.amount ≡ mine.old.amount }
+        ensures uncounted { OnErr result (mine.new.amount ≡ mine.old.amount) }
+        ensures parts { mine.new.parts ≡ mine.old.parts }
+    {
+        self.inner.lock(rt).poll(mine, key)
     }
 
-    /// Takes a listener off: whether it was told. A told one may pass its notice on. It may wait for the lock.
+    /// Takes a listener off: whether it was told. A told one may pass its notice on. It is counted where the key names a
+    /// listener. It may wait for the lock.
     pub fn remove<R: Wait, S: Wakes<W>>(
         &self,
         rt: &R,
+        mine: &mut Share<L>,
         key: Key,
         pass_on: bool,
         sink: &mut S,
-    ) -> Result<bool, UnknownListener> {
-        self.inner.lock(rt).remove(key, pass_on, sink)
+    ) -> Result<bool, UnknownListener>
+        requires { 0 < mine.old.parts }
+        ensures counted { OnOk result (mine.new.amount ≡ mine.old.amount + 1) }
+        ensures uncounted { OnErr result (mine.new.amount ≡ mine.old.amount) }
+        ensures parts { mine.new.parts ≡ mine.old.parts }
+    {
+        self.inner.lock(rt).remove(mine, key, pass_on, sink)
     }
 
-    /// Tells listeners, as [`Event::notify`](crate::event::Event::notify); their tasks go to the sink, in order.
+    /// Tells listeners, as [`Event::notify`](crate::event::Event::notify); their tasks go to the sink, in order. It is
+    /// counted where it told anybody.
     ///
     /// Refused for room of the record before anybody is told, or where a tag is. It may wait for the lock.
     pub fn notify<N: IntoNotification<Tag = T>, R: Wait, S: Wakes<W>>(
         &self,
         rt: &R,
+        mine: &mut Share<L>,
         notice: N,
         sink: &mut S,
     ) -> Result<usize, NotifyError>
-        requires { (n : N.Notify) → N.becomes notice n → N.Notify.can_give n }
+        requires tags { (n : N.Notify) → N.becomes notice n → N.Notify.can_give n }
+        requires share { 0 < mine.old.parts }
         ensures at_most { (n : N.Notify) × N.becomes notice n × (told_by result ≤ N.Notify.size n) }
         ensures tells { (n : N.Notify) × N.becomes notice n × TellsOrNone N.Notify.gives N.Notify.size n result }
+        ensures counted { 0 < told_by result → mine.new.amount ≡ mine.old.amount + 1 }
+        ensures uncounted { told_by result ≡ 0 → mine.new.amount ≡ mine.old.amount }
+        ensures parts { mine.new.parts ≡ mine.old.parts }
     {
         let notice = notice.into_notification();
-        self.inner.lock(rt).notify(self.alloc, notice, sink)
+        self.inner.lock(rt).notify(self.alloc, mine, notice, sink)
     }
 
     /// Makes room for so many more listeners, for their records and their ends. It may wait for the lock.
@@ -170,9 +213,13 @@ impl<T: Copy, W: Copy> RecordedEvent<T, W> {
     }
 
     /// The list as it stands at the event's end, and the record that leads there from an empty one, in which each new
-    /// listener's key is one that was never given before.
-    pub fn into_parts(self) -> (List<T, W>, Vec<RecordedCall<T, W>>)
-        ensures { Replays nobody 0 result.1.items result.0.lists result.0.serials }
+    /// listener's key is one that was never given before. The book's total is the number of its entries.
+    ///
+    /// Who has all parts of the ledger learns by `Book::audit` that this is the amount of its share: as many calls as
+    /// changed the list.
+    pub fn into_parts(self) -> (List<T, W>, Vec<RecordedCall<T, W>>, Book<L>)
+        ensures replays { Replays nobody 0 result.1.items result.0.lists result.0.serials }
+        ensures counted { length result.1.items ≡ result.2.total }
     {
         let RecordedEvent { alloc: _, inner } = self;
         inner.into_inner().into_parts()

@@ -1,7 +1,14 @@
 //! What recorded events do, row by row: the calls are those of [`Records`](crate::records::Records).
 
+ghost use Rattle.std.specs.Prelude.{◌≡◌};
+
 use crate::checks::expect_rows;
-use crate::records::open;
+use crate::records::{Records, open};
+use std::alloc::AllocGlobal;
+use std::marker::Brand;
+use std::process::Abort;
+use std::sync::Wait;
+use std::sync::ledger::{Blank, Ledger};
 
 const ROWS: &str = "
 # Three listened, three registered, two notices that told somebody, two polls that took a tag.
@@ -61,7 +68,16 @@ poll 2 = waits
 record = listened listened listened notified 1 2 polled 1 polled 2 told 0 of 1
 ";
 
+/// Plays the rows, whose events are counted by this ledger.
+fn play<L: Ledger, R: Wait + Abort + AllocGlobal>(rt: &R, blank: Blank)
+    requires name { blank.name ≡ L.name }
+    requires parts { (blank.parts ≡ L.parts) × (blank.parts ≡ 1) }
+{
+    let mut records: Records<&R, L> = open(rt, rt.alloc(), blank);
+    expect_rows(rt, ROWS, &mut records, 3);
+}
+
 #[test]
 fn rows(rt: HostRuntime) {
-    expect_rows(&rt, ROWS, &mut open(&rt, rt.alloc()), 3);
+    play::<Brand, HostRuntime>(&rt, Blank::new(1));
 }

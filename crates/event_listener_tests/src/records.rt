@@ -1,5 +1,7 @@
 //! A recorded event, as rows call it. A call names a listener by the place of its insertion in the row, the first at 0.
 
+ghost use Rattle.std.specs.Prelude.{◌≡◌, ◌<◌};
+
 use crate::event::Scarce;
 use crate::units::notified;
 use event_listener::calls::Registered;
@@ -10,7 +12,9 @@ use event_listener::list::List;
 use event_listener::recorded::{RecordedCall, RecordedEvent, RegisterError};
 use event_listener::wakes::Wakes;
 use std::alloc::{AllocError, Global};
+use std::marker::Model;
 use std::sync::Wait;
+use std::sync::ledger::{Blank, Ledger, Share};
 use worked_rows::{Player, Said, Words};
 
 /// Names, in the order of their waking.
@@ -29,13 +33,26 @@ impl Wakes<u8> for Names {
 
 /// A recorded event, the keys that it gave, those who were woken, and the last number that a function made for a tag.
 #[derive(Drop)]
-pub(crate) struct Records<R> {
+pub(crate) struct Records<R, L: Ledger> {
     rt: R,
     alloc: Global,
-    event: RecordedEvent<u32, u8>,
+    /// The event; none while a call is made on it.
+    event: Option<RecordedEvent<u32, u8, L>>,
+    /// All parts of its ledger.
+    mine: Share<L>,
     keys: Vec<Key>,
     names: Names,
     made: u32,
+}
+
+impl<R, L: Ledger> Model for Records<R, L> {
+    ghost use Rattle.std.specs.Prelude.{◌≡◌, ◌<◌};
+
+    ghost Value = { Unit {0} };
+
+    ghost view = { λ r. tt };
+
+    ghost invariant = { λ r. (r.mine.parts ≡ L.parts) × (0 < L.parts) };
 }
 
 fn polled(reply: Result<Option<u32>, UnknownListener>) -> Said {
@@ -85,12 +102,17 @@ fn write_call(call: &RecordedCall<u32, u8>, answer: &mut String) -> Result<(), A
     }
 }
 
-/// A player of rows.
-pub(crate) fn open<R>(rt: R, alloc: Global) -> Records<R> {
+/// A player of rows, whose events are counted by this ledger, one after another.
+pub(crate) fn open<R, L: Ledger>(rt: R, alloc: Global, blank: Blank) -> Records<R, L>
+    requires name { blank.name ≡ L.name }
+    requires parts { (blank.parts ≡ L.parts) × (0 < L.parts) }
+{
+    let (book, mine) = blank.open::<L>();
     Records {
         rt,
         alloc,
-        event: RecordedEvent::new(alloc),
+        event: Some(RecordedEvent::new(alloc, book)),
+        mine,
         keys: Vec::new(alloc),
         names: Names {
             woken: Vec::new(alloc),
@@ -99,13 +121,13 @@ pub(crate) fn open<R>(rt: R, alloc: Global) -> Records<R> {
     }
 }
 
-impl<R: Wait + Copy> Records<R> {
+impl<R: Wait + Copy, L: Ledger> Records<R, L> {
     fn key(&self, words: &mut Words<'_>) -> Option<Key> {
         self.keys.get(words.size()).copied()
     }
 
-    fn insert(&mut self) -> Said {
-        match self.event.insert(&self.rt) {
+    fn insert(&mut self, event: &RecordedEvent<u32, u8, L>) -> Said {
+        match event.insert(&self.rt, &mut self.mine) {
             Ok(key) => {
                 let _ = self.keys.push(key);
                 Said::Ok
@@ -114,57 +136,84 @@ impl<R: Wait + Copy> Records<R> {
         }
     }
 
-    fn notify(&mut self, words: &mut Words<'_>) -> Result<usize, NotifyError> {
-        let (count, tag) = (words.size(), words.small());
-        self.event.notify(&self.rt, count.tag(tag), &mut self.names)
+    fn notify(
+        &mut self,
+        event: &RecordedEvent<u32, u8, L>,
+        words: &mut Words<'_>,
+    ) -> Result<usize, NotifyError> {
+        let notice = words.size().tag(words.small());
+        event.notify(&self.rt, &mut self.mine, notice, &mut self.names)
     }
 
-    fn notify_additional(&mut self, words: &mut Words<'_>) -> Result<usize, NotifyError> {
-        let (count, tag) = (words.size(), words.small());
-        self.event
-            .notify(&self.rt, count.additional().tag(tag), &mut self.names)
+    fn notify_additional(
+        &mut self,
+        event: &RecordedEvent<u32, u8, L>,
+        words: &mut Words<'_>,
+    ) -> Result<usize, NotifyError> {
+        let notice = words.size().additional().tag(words.small());
+        event.notify(&self.rt, &mut self.mine, notice, &mut self.names)
     }
 
-    fn notify_scarce(&mut self, left: u32) -> Result<usize, NotifyError> {
-        self.event
-            .notify(&self.rt, Scarce { left }, &mut self.names)
+    fn notify_scarce(
+        &mut self,
+        event: &RecordedEvent<u32, u8, L>,
+        left: u32,
+    ) -> Result<usize, NotifyError> {
+        event.notify(&self.rt, &mut self.mine, Scarce { left }, &mut self.names)
     }
 
     /// A notice whose tags are made as they are wanted, each one more than the last one made.
-    fn notify_made(&mut self, count: usize) -> Result<usize, NotifyError> {
+    fn notify_made(
+        &mut self,
+        event: &RecordedEvent<u32, u8, L>,
+        count: usize,
+    ) -> Result<usize, NotifyError> {
         let made = &mut self.made;
         let notice = count.tag_with(|| {
             *made = made.wrapping_add(1);
             *made
         });
-        self.event.notify(&self.rt, notice, &mut self.names)
+        event.notify(&self.rt, &mut self.mine, notice, &mut self.names)
     }
 
     /// A call that names a listener.
-    fn call_of(&mut self, verb: &str, key: Key, words: &mut Words<'_>) -> Said {
+    fn call_of(
+        &mut self,
+        event: &RecordedEvent<u32, u8, L>,
+        verb: &str,
+        key: Key,
+        words: &mut Words<'_>,
+    ) -> Said {
         match verb {
             "register" => {
                 let task = u8::try_from(words.number()).unwrap_or(u8::MAX);
-                registered(self.event.register(&self.rt, key, task))
+                registered(event.register(&self.rt, &mut self.mine, key, task))
             }
-            "poll" => polled(self.event.poll(&self.rt, key)),
-            "leave" => removed(self.event.remove(&self.rt, key, true, &mut self.names)),
+            "poll" => polled(event.poll(&self.rt, &mut self.mine, key)),
+            "leave" => {
+                removed(event.remove(&self.rt, &mut self.mine, key, true, &mut self.names))
+            }
             _ => Said::NoSuchCall,
         }
     }
 
-    fn call(&mut self, verb: &str, words: &mut Words<'_>) -> Said {
+    fn call(
+        &mut self,
+        event: &RecordedEvent<u32, u8, L>,
+        verb: &str,
+        words: &mut Words<'_>,
+    ) -> Said {
         match verb {
-            "insert" => self.insert(),
-            "notify" => notified(self.notify(words)),
-            "notify_additional" => notified(self.notify_additional(words)),
-            "notify_scarce" => notified(self.notify_scarce(words.small())),
-            "notify_made" => notified(self.notify_made(words.size())),
-            "reserve" => Said::flag(self.event.reserve(&self.rt, words.size()).is_ok()),
-            "told" => Said::count(self.event.told(&self.rt)),
-            "total" => Said::count(self.event.total(&self.rt)),
+            "insert" => self.insert(event),
+            "notify" => notified(self.notify(event, words)),
+            "notify_additional" => notified(self.notify_additional(event, words)),
+            "notify_scarce" => notified(self.notify_scarce(event, words.small())),
+            "notify_made" => notified(self.notify_made(event, words.size())),
+            "reserve" => Said::flag(event.reserve(&self.rt, words.size()).is_ok()),
+            "told" => Said::count(event.told(&self.rt)),
+            "total" => Said::count(event.total(&self.rt)),
             _ => match self.key(words) {
-                Some(key) => self.call_of(verb, key, words),
+                Some(key) => self.call_of(event, verb, key, words),
                 None => Said::Word("no such number"),
             },
         }
@@ -178,14 +227,25 @@ impl<R: Wait + Copy> Records<R> {
         Ok(())
     }
 
-    /// The list and the calls of the event, in whose place a new one stands.
-    fn take_parts(&mut self) -> (List<u32, u8>, Vec<RecordedCall<u32, u8>>) {
-        std::mem::replace(&mut self.event, RecordedEvent::new(self.alloc)).into_parts()
+    /// The list and the calls of an event, in whose place a new one stands. Its calls are no longer counted.
+    fn take_parts(
+        &mut self,
+        event: RecordedEvent<u32, u8, L>,
+    ) -> (List<u32, u8>, Vec<RecordedCall<u32, u8>>) {
+        let (list, calls, mut book) = event.into_parts();
+        book.audit(&mut self.mine);
+        book.sub(&mut self.mine, calls.len() as u64);
+        self.event = Some(RecordedEvent::new(self.alloc, book));
+        (list, calls)
     }
 
     /// Ends the event: writes what was recorded, and how many of its list were told, and how many are left.
-    fn say_record(&mut self, answer: &mut String) -> Result<(), AllocError> {
-        let (list, calls) = self.take_parts();
+    fn say_record(
+        &mut self,
+        event: RecordedEvent<u32, u8, L>,
+        answer: &mut String,
+    ) -> Result<(), AllocError> {
+        let (list, calls) = self.take_parts(event);
         let (told, total) = (list.told(), list.total());
         drop(list);
         for call in calls.iter() {
@@ -194,21 +254,42 @@ impl<R: Wait + Copy> Records<R> {
         Said::Both("told", told as u64).write(answer)?;
         Said::Both("of", total as u64).write(answer)
     }
+
+    /// Writes what a call answers, after which the event stands as before.
+    fn say_call(
+        &mut self,
+        event: RecordedEvent<u32, u8, L>,
+        verb: &str,
+        words: &mut Words<'_>,
+        answer: &mut String,
+    ) -> Result<(), AllocError> {
+        let said = self.call(&event, verb, words);
+        self.event = Some(event);
+        said.write(answer)
+    }
 }
 
-impl<R: Wait + Copy> Player for Records<R> {
+impl<R: Wait + Copy, L: Ledger> Player for Records<R, L> {
     fn begin(&mut self) {
-        drop(self.take_parts());
+        if let Some(event) = self.event.take() {
+            drop(self.take_parts(event));
+        }
         self.keys.clear();
         self.names.woken.clear();
         self.made = 0;
     }
 
     fn play(&mut self, words: &mut Words<'_>, answer: &mut String) -> Result<(), AllocError> {
+        let Some(event) = self.event.take() else {
+            return Said::Word("no event").write(answer);
+        };
         match words.word() {
-            "woken" => self.say_woken(answer),
-            "record" => self.say_record(answer),
-            verb => self.call(verb, words).write(answer),
+            "woken" => {
+                self.event = Some(event);
+                self.say_woken(answer)
+            }
+            "record" => self.say_record(event, answer),
+            verb => self.say_call(event, verb, words, answer),
         }
     }
 }

@@ -1,5 +1,7 @@
 //! What the refusals of this crate print.
 
+ghost use Rattle.std.specs.Prelude.{◌≡◌};
+
 use crate::checks::expect_equal;
 use event_listener::error::{ListenError, NoMemory, NotifyError, UnknownListener};
 use event_listener::id::IdsUsedUp;
@@ -12,8 +14,10 @@ use event_listener::wakes::Wakes;
 use std::alloc::{AllocGlobal, Global};
 use std::collections::VecDeque;
 use std::fmt;
+use std::marker::Brand;
 use std::process::Abort;
 use std::sync::Wait;
+use std::sync::ledger::{Blank, Ledger};
 
 /// Whether a value prints this text.
 fn prints<E: fmt::Display + Drop>(rt: &impl AllocGlobal, error: E, text: &str) -> bool {
@@ -167,9 +171,16 @@ fn runs_are_compared_and_shown(rt: HostRuntime) {
 }
 
 /// What a recorded event wrote down of an insertion.
-fn recorded_insertion<R: Wait + AllocGlobal>(rt: &R) -> Vec<RecordedCall<u8, u8>> {
-    let event: RecordedEvent<u8, u8> = RecordedEvent::new(rt.alloc());
-    let _ = event.insert(rt);
+fn recorded_insertion<L: Ledger, R: Wait + AllocGlobal>(
+    rt: &R,
+    blank: Blank,
+) -> Vec<RecordedCall<u8, u8>>
+    requires name { blank.name ≡ L.name }
+    requires parts { (blank.parts ≡ L.parts) × (blank.parts ≡ 1) }
+{
+    let (book, mut mine) = blank.open::<L>();
+    let event = RecordedEvent::<u8, u8, L>::new(rt.alloc(), book);
+    let _ = event.insert(rt, &mut mine);
     event.into_parts().1
 }
 
@@ -177,16 +188,18 @@ fn recorded_insertion<R: Wait + AllocGlobal>(rt: &R) -> Vec<RecordedCall<u8, u8>
 fn records_are_compared_and_shown(rt: HostRuntime) {
     let key = first_key(&rt);
     let listened = RecordedCall::Listened { key };
+    let first = recorded_insertion::<Brand, HostRuntime>(&rt, Blank::new(1));
+    let second = recorded_insertion::<Brand, HostRuntime>(&rt, Blank::new(1));
     let all = [
         tells_apart::<RecordedCall<u8, u8>>(
             RecordedCall::Listened { key },
             RecordedCall::Listened { key },
             RecordedCall::Polled { key, tag: 1 },
         ),
-        recorded_insertion(&rt).as_slice() == [listened].as_slice(),
+        first.as_slice() == [listened].as_slice(),
         shows(
             &rt,
-            recorded_insertion(&rt),
+            second,
             "[Listened { key: Key { slot: 0, serial: 0 } }]",
         ),
     ];

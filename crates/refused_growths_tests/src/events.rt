@@ -1,6 +1,6 @@
 //! Events, lists of listeners and their records.
 
-ghost use Rattle.std.specs.Prelude.{◌≡◌};
+ghost use Rattle.std.specs.Prelude.{◌≡◌, ◌<◌};
 
 use crate::checks::{expect_equal, expect_right, expect_seen, expect_true};
 use event_listener::calls::Registered;
@@ -16,9 +16,10 @@ use event_listener::stack::StackSlot;
 use event_listener::wakes::Wakes;
 use scarcity::{Attempt, Scarcity, Seen, Tried, made, refused};
 use std::alloc::{AllocError, Global};
-use std::marker::Model;
+use std::marker::{Brand, Model};
 use std::process::Abort;
 use std::sync::Wait;
+use std::sync::ledger::{Blank, Ledger, Share};
 use std::time::{Clock, Duration};
 
 /// How many listen.
@@ -492,9 +493,11 @@ enum Deed {
 
 /// A recorded event, and what was done to it.
 #[derive(Drop)]
-struct Recorded<R: Wait + Copy> {
+struct Recorded<R: Wait + Copy, L: Ledger> {
     rt: R,
-    event: RecordedEvent<u32, u32>,
+    event: RecordedEvent<u32, u32, L>,
+    /// A part of its ledger.
+    mine: Share<L>,
     deed: Deed,
     /// The last listener.
     key: Option<Key>,
@@ -502,7 +505,17 @@ struct Recorded<R: Wait + Copy> {
     told: usize,
 }
 
-impl<R: Wait + Copy> Recorded<R> {
+impl<R: Wait + Copy, L: Ledger> Model for Recorded<R, L> {
+    ghost use Rattle.std.specs.Prelude.{◌<◌};
+
+    ghost Value = { Unit {0} };
+
+    ghost view = { λ r. tt };
+
+    ghost invariant = { λ r. 0 < r.mine.parts };
+}
+
+impl<R: Wait + Copy, L: Ledger> Recorded<R, L> {
     fn is_as_before(&self) -> bool {
         self.event.total(&self.rt) == self.total && self.event.told(&self.rt) == self.told
     }
@@ -515,7 +528,7 @@ impl<R: Wait + Copy> Recorded<R> {
     }
 
     fn insert(&mut self) -> Tried {
-        match self.event.insert(&self.rt) {
+        match self.event.insert(&self.rt, &mut self.mine) {
             Ok(key) => {
                 self.key = Some(key);
                 self.total = self.total.wrapping_add(1);
@@ -526,8 +539,8 @@ impl<R: Wait + Copy> Recorded<R> {
         }
     }
 
-    fn register(&self, key: Key) -> Tried {
-        match self.event.register(&self.rt, key, 9) {
+    fn register(&mut self, key: Key) -> Tried {
+        match self.event.register(&self.rt, &mut self.mine, key, 9) {
             Ok(Registered::Waiting) => made(self.is_as_before()),
             Err(RegisterError::NoMemory) => refused(self.is_as_before()),
             _ => Tried::Wrong,
@@ -535,9 +548,10 @@ impl<R: Wait + Copy> Recorded<R> {
     }
 
     fn notify(&mut self) -> Tried {
+        let notice = 1u8.tag(5u32).additional();
         match self
             .event
-            .notify(&self.rt, 1u8.tag(5u32).additional(), &mut Nowhere)
+            .notify(&self.rt, &mut self.mine, notice, &mut Nowhere)
         {
             Ok(told) => {
                 self.told = self.told.wrapping_add(told);
@@ -549,7 +563,10 @@ impl<R: Wait + Copy> Recorded<R> {
 
     /// Takes the last listener off, which was not told if this is made before it is.
     fn remove(&mut self, key: Key) -> Tried {
-        match self.event.remove(&self.rt, key, true, &mut Nowhere) {
+        match self
+            .event
+            .remove(&self.rt, &mut self.mine, key, true, &mut Nowhere)
+        {
             Ok(was_told) => {
                 self.total = self.total.wrapping_sub(1);
                 self.told = self.told.wrapping_sub(usize::from(was_told));
@@ -560,7 +577,7 @@ impl<R: Wait + Copy> Recorded<R> {
     }
 }
 
-impl<R: Wait + Copy> Attempt for Recorded<R> {
+impl<R: Wait + Copy, L: Ledger> Attempt for Recorded<R, L> {
     fn make(&mut self) -> Tried {
         match (self.deed, self.key) {
             (Deed::Reserve, _) => self.reserve(),
@@ -576,10 +593,15 @@ impl<R: Wait + Copy> Attempt for Recorded<R> {
 /// How often two listeners come, the first is told and the last leaves.
 const ROUNDS: usize = 20;
 
-fn record_all<R: Wait + Copy>(rt: R, alloc: Global) -> (Seen, [usize; 3]) {
+fn record_all<L: Ledger, R: Wait + Copy>(rt: R, alloc: Global, blank: Blank) -> (Seen, [usize; 3])
+    requires name { blank.name ≡ L.name }
+    requires parts { (blank.parts ≡ L.parts) × (blank.parts ≡ 1) }
+{
+    let (book, mine) = blank.open::<L>();
     let mut recorded = Recorded {
         rt,
-        event: RecordedEvent::new(alloc),
+        event: RecordedEvent::<u32, u32, L>::new(alloc, book),
+        mine,
         deed: Deed::Reserve,
         key: None,
         total: 0,
@@ -602,14 +624,14 @@ fn record_all<R: Wait + Copy>(rt: R, alloc: Global) -> (Seen, [usize; 3]) {
         scarcity.refuse_none(&mut recorded);
     }
     let seen = scarcity.end();
-    let (list, calls) = recorded.event.into_parts();
+    let (list, calls, _) = recorded.event.into_parts();
     (seen, [list.total(), list.told(), calls.len()])
 }
 
 /// After a refusal the record has as many entries as calls changed something, and the end of a listener needs no memory.
 #[test]
 fn recorded_events(rt: HostRuntime) {
-    let (seen, counts) = record_all(rt, rt.alloc());
+    let (seen, counts) = record_all::<Brand, HostRuntime>(rt, rt.alloc(), Blank::new(1));
     expect_seen(&rt, &seen, 27, 48);
     expect_equal(&rt, &counts, &[20, 20, 120]);
 }

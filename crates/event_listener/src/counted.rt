@@ -1,0 +1,187 @@
+//! What stands behind the lock of a recorded event: a recording, and the book that counts its entries.
+ghost use Rattle.std.specs.Prelude.{◌≡◌, ◌+◌, ◌≤◌, ◌<◌, length, nat_lt, OnErr, OnOk, Ok, Some, None};
+ghost use Rattle.event_listener.specs.Drawing.{TellsOrNone};
+ghost use Rattle.event_listener.specs.Lists.{told_by};
+ghost use Rattle.event_listener.specs.Replay.{Replays, nobody};
+
+use crate::calls::Registered;
+use crate::error::{ListenError, NoMemory, NotifyError, UnknownListener};
+use crate::key::Key;
+use crate::list::List;
+use crate::notify::Notification;
+use crate::recorded::{RecordedCall, RegisterError};
+use crate::recording::Recording;
+use crate::wakes::Wakes;
+use std::alloc::Global;
+use std::marker::Model;
+use std::sync::ledger::{Book, Ledger, Share};
+
+/// A recording with a book, whose total is the number of its entries.
+///
+/// A caller's share rises by one with each entry of its own. So what all shares count the record holds.
+#[derive(Drop)]
+pub(crate) struct Counted<T: Copy, W: Copy, L: Ledger> {
+    recording: Recording<T, W>,
+    book: Book<L>,
+}
+
+impl<T: Copy, W: Copy, L: Ledger> Model for Counted<T, W, L> {
+    ghost use Rattle.std.specs.Prelude.{◌≡◌, length};
+    ghost use Rattle.event_listener.specs.Replay.{RecordView};
+
+    ghost Value = { RecordView T W };
+
+    ghost view = { λ c. c.recording };
+
+    ghost invariant = { λ c. c.book.total ≡ length c.recording.calls };
+}
+
+impl<T: Copy, W: Copy, L: Ledger> Counted<T, W, L> {
+    pub(crate) fn new(alloc: Global, book: Book<L>) -> Self
+        requires { book.total ≡ 0 }
+    {
+        Counted {
+            recording: Recording::new(alloc),
+            book,
+        }
+    }
+
+    /// Adds a listener.
+    pub(crate) fn insert(&mut self, mine: &mut Share<L>) -> Result<Key, ListenError>
+        requires { 0 < mine.old.parts }
+        ensures counted { OnOk result (mine.new.amount ≡ mine.old.amount + 1) }
+        ensures uncounted { OnErr result (mine.new.amount ≡ mine.old.amount) }
+        ensures parts { mine.new.parts ≡ mine.old.parts }
+    {
+        match self.recording.insert() {
+            Ok(key) => {
+                self.book.add(mine, 1);
+                Ok(key)
+            }
+            Err(error) => Err(error),
+        }
+    }
+
+    /// Takes a told listener off, or stores the task of one that waits.
+    pub(crate) fn register(
+        &mut self,
+        mine: &mut Share<L>,
+        key: Key,
+        task: W,
+    ) -> Result<Registered<T>, RegisterError>
+        requires { 0 < mine.old.parts }
+        ensures counted { OnOk result (mine.new.amount ≡ mine.old.amount + 1) }
+        ensures uncounted { OnErr result (mine.new.amount ≡ mine.old.amount) }
+        ensures parts { mine.new.parts ≡ mine.old.parts }
+    {
+        match self.recording.register(key, task) {
+            Ok(registered) => {
+                self.book.add(mine, 1);
+                Ok(registered)
+            }
+            Err(error) => Err(error),
+        }
+    }
+
+    /// Takes a told listener off.
+    pub(crate) fn poll(
+        &mut self,
+        mine: &mut Share<L>,
+        key: Key,
+    ) -> Result<Option<T>, UnknownListener>
+        requires { 0 < mine.old.parts }
+        ensures counted { (tag : T) → result ≡ Ok (Some tag) → mine.new.amount ≡ mine.old.amount + 1 }
+        ensures waiting { result ≡ Ok None → mine.new.amount ≡ mine.old.amount }
+        ensures uncounted { OnErr result (mine.new.amount ≡ mine.old.amount) }
+        ensures parts { mine.new.parts ≡ mine.old.parts }
+    {
+        match self.recording.poll(key) {
+            Ok(Some(tag)) => {
+                self.book.add(mine, 1);
+                Ok(Some(tag))
+            }
+            Ok(None) => Ok(None),
+            Err(error) => Err(error),
+        }
+    }
+
+    /// Takes a listener off.
+    pub(crate) fn remove<S: Wakes<W>>(
+        &mut self,
+        mine: &mut Share<L>,
+        key: Key,
+        pass_on: bool,
+        sink: &mut S,
+    ) -> Result<bool, UnknownListener>
+        requires { 0 < mine.old.parts }
+        ensures counted { OnOk result (mine.new.amount ≡ mine.old.amount + 1) }
+        ensures uncounted { OnErr result (mine.new.amount ≡ mine.old.amount) }
+        ensures parts { mine.new.parts ≡ mine.old.parts }
+    {
+        match self.recording.remove(key, pass_on, sink) {
+            Ok(told) => {
+                self.book.add(mine, 1);
+                Ok(told)
+            }
+            Err(error) => Err(error),
+        }
+    }
+
+    /// Tells listeners.
+    pub(crate) fn notify<N: Notification<Tag = T> + Drop, S: Wakes<W>>(
+        &mut self,
+        alloc: Global,
+        mine: &mut Share<L>,
+        notice: N,
+        sink: &mut S,
+    ) -> Result<usize, NotifyError>
+        requires notice { N.can_give notice }
+        requires share { 0 < mine.old.parts }
+        ensures at_most { told_by result ≤ N.size notice }
+        ensures tells { TellsOrNone N.gives N.size notice result }
+        ensures counted { 0 < told_by result → mine.new.amount ≡ mine.old.amount + 1 }
+        ensures uncounted { told_by result ≡ 0 → mine.new.amount ≡ mine.old.amount }
+        ensures parts { mine.new.parts ≡ mine.old.parts }
+    {
+        let answer = self.recording.notify(alloc, notice, sink);
+        if told_somebody(&answer) {
+            self.book.add(mine, 1);
+        }
+        answer
+    }
+
+    /// Makes room for so many more listeners, their records and their ends.
+    pub(crate) fn reserve(&mut self, extra: usize) -> Result<(), NoMemory> {
+        self.recording.reserve(extra)
+    }
+
+    /// How many are listed.
+    pub(crate) fn total(&self) -> usize {
+        self.recording.total()
+    }
+
+    /// How many are told.
+    pub(crate) fn told(&self) -> usize {
+        self.recording.told()
+    }
+
+    /// The list as it stands, the record that leads there, and the book that counts it.
+    pub(crate) fn into_parts(self) -> (List<T, W>, Vec<RecordedCall<T, W>>, Book<L>)
+        ensures replays { Replays nobody 0 result.1.items result.0.lists result.0.serials }
+        ensures counted { length result.1.items ≡ result.2.total }
+    {
+        let Counted { recording, book } = self;
+        let (list, calls) = recording.into_parts();
+        (list, calls, book)
+    }
+}
+
+// Whether a notice told anybody, also where it was refused after that.
+fn told_somebody(answer: &Result<usize, NotifyError>) -> bool
+    ensures { result ≡ nat_lt 0 (told_by answer.now) }
+{
+    match answer {
+        Ok(told) => *told > 0,
+        Err(NotifyError { told }) => *told > 0,
+    }
+}
