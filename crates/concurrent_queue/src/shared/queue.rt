@@ -218,6 +218,9 @@ impl<T: Drop> ConcurrentQueue<T> {
         ensures deed { CallMakes S.did (form_in self.now) trace call.old (result.1) call.new (result.0) }
         ensures answers { IsSharedStep self.now call.old call.new (result.0) }
     {
+        if let Some(reply) = call.step_alone(self.form, &trace) {
+            return (Some(reply), trace);
+        }
         let mut seen = self.words(trace);
         let reply = call.step(&mut seen);
         (reply, seen.into_trace())
