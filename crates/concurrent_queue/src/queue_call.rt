@@ -121,7 +121,7 @@ fn capacity_step<T: Drop, S: Trace<T>>(form: QueueForm, trace: &S) -> Stepped<Ca
 }
 
 impl<T: Drop> QueueCall<T> {
-    ghost use Rattle.std.specs.Prelude.{◌≡◌, IsSome, IsNone};
+    ghost use Rattle.std.specs.Prelude.{◌≡◌, true};
     ghost use Rattle.concurrent_queue.specs.Step.{Starts, mark_of};
     ghost use Rattle.concurrent_queue.specs.Replies.{Follows, IsAsking};
     ghost use Rattle.concurrent_queue.specs.Walked.{CallMakes, HasEnded};
@@ -167,25 +167,29 @@ impl<T: Drop> QueueCall<T> {
         state
     }
 
-    /// The one step of a question that touches no cell: how many messages the queue can hold is known by its form. Another call makes
-    /// none.
+    /// Whether it asks how many messages the queue can hold, and has made no step.
     #[inline(always)]
-    pub(crate) fn step_alone<S: Trace<T>>(
+    pub(crate) fn asks_capacity(&self) -> bool
+        ensures { result ≡ true → IsAsking self.now ask.Capacity }
+    {
+        matches!(&self.state, CallState::Asked(QueueAsk::Capacity))
+    }
+
+    /// The one step of that question. It touches no cell: the answer is known by the queue's form.
+    #[inline(always)]
+    pub(crate) fn step_capacity<S: Trace<T>>(
         &mut self,
         form: QueueForm,
         trace: &S,
     ) -> Option<QueueReply<T>>
-        ensures deed { IsSome result → CallMakes S.did form trace.now self.old trace.now self.new result }
-        ensures answers { IsSome result → Follows form self.old self.new result }
-        ensures unchanged { IsNone result → self.new ≡ self.old }
+        requires { IsAsking self.old ask.Capacity }
+        ensures deed { CallMakes S.did form trace.now self.old trace.now self.new result }
+        ensures answers { Follows form self.old self.new result }
     {
-        if let CallState::Asked(QueueAsk::Capacity) = &self.state {
-            let stepped = capacity_step(form, trace);
-            drop(mem::replace(&mut self.state, stepped.action));
-            self.mark = stepped.mark;
-            return stepped.reply;
-        }
-        None
+        let stepped = capacity_step(form, trace);
+        drop(mem::replace(&mut self.state, stepped.action));
+        self.mark = stepped.mark;
+        stepped.reply
     }
 
     /// One step: one operation on the cells, as the machine of their form makes it, and what follows its answer.

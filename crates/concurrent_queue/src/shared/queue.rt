@@ -218,8 +218,8 @@ impl<T: Drop> ConcurrentQueue<T> {
         ensures deed { CallMakes S.did (form_in self.now) trace call.old (result.1) call.new (result.0) }
         ensures answers { IsSharedStep self.now call.old call.new (result.0) }
     {
-        if let Some(reply) = call.step_alone(self.form, &trace) {
-            return (Some(reply), trace);
+        if call.asks_capacity() {
+            return (call.step_capacity(self.form, &trace), trace);
         }
         let mut seen = self.words(trace);
         let reply = call.step(&mut seen);
