@@ -21,6 +21,7 @@ pub(crate) mod ahead;
 use crate::call::{QueueAsk, QueueMark, QueueReply, Stepped};
 use crate::cells::{Cells, QueueForm, Slot, Word};
 use crate::error::{ForcePushError, PopError, PushError};
+use crate::seen::Trace;
 
 /// The greatest capacity of a ring.
 pub(crate) const GREATEST: usize = 288_230_376_151_711_744;
@@ -648,6 +649,15 @@ pub(crate) fn first<T>(ask: QueueAsk<T>) -> RingAction<T>
         QueueAsk::Len => RingAction::Len,
         QueueAsk::Capacity => RingAction::Capacity,
     }
+}
+
+/// The one step of the question how many messages it can hold, which touches no cell.
+#[inline(always)]
+pub(crate) fn capacity<T: Drop, S: Trace<T>>(most: usize, trace: &S) -> Stepped<RingAction<T>, T>
+    ensures answers { RingFollows (cap_of most) RingAction.Capacity result }
+    ensures deed { RingMakes (cap_of most) (ring_mark (cap_of most)) S.did trace.now RingAction.Capacity trace.now result }
+{
+    finish(QueueReply::Cap(Some(at_most_greatest(most) as usize)))
 }
 
 /// One step of a call, which is one operation on one cell.

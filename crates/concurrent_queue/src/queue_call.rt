@@ -4,6 +4,7 @@ ghost use Rattle.std.specs.Prelude.{◌≡◌};
 ghost use Rattle.concurrent_queue.specs.machine.Dispatch.{in_single, in_ring, in_blocks, ended};
 ghost use Rattle.concurrent_queue.specs.Replies.{StateFollows};
 ghost use Rattle.concurrent_queue.specs.Walked.{StateMakes};
+ghost use Rattle.concurrent_queue.specs.declared.call.QueueAsk.TheVariants as ask;
 
 pub(crate) mod ahead;
 mod place;
@@ -12,6 +13,7 @@ pub mod whole;
 use crate::bounded::RingAction;
 use crate::call::{QueueAsk, QueueMark, QueueReply, Stepped};
 use crate::cells::{Cells, QueueForm};
+use crate::seen::Trace;
 use crate::single::SingleAction;
 use crate::unbounded::action::UnboundedCall;
 use crate::{bounded, single, unbounded};
@@ -105,8 +107,21 @@ fn step_state<T: Drop, C: Cells<T>>(state: CallState<T>, cells: &mut C) -> Stepp
     }
 }
 
+/// The question how many messages the queue can hold, by its form alone.
+#[inline(always)]
+fn capacity_step<T: Drop, S: Trace<T>>(form: QueueForm, trace: &S) -> Stepped<CallState<T>, T>
+    ensures answers { StateFollows form (CallState.Asked ask.Capacity) result.action result.reply }
+    ensures deed { StateMakes S.did form trace.now (CallState.Asked ask.Capacity) trace.now result }
+{
+    match form {
+        QueueForm::Bounded(1) => wrap_single(single::capacity(trace)),
+        QueueForm::Bounded(most) => wrap_ring(bounded::capacity(most, trace)),
+        QueueForm::Unbounded => wrap_blocks(unbounded::capacity(trace)),
+    }
+}
+
 impl<T: Drop> QueueCall<T> {
-    ghost use Rattle.std.specs.Prelude.{◌≡◌};
+    ghost use Rattle.std.specs.Prelude.{◌≡◌, true};
     ghost use Rattle.concurrent_queue.specs.Step.{Starts, mark_of};
     ghost use Rattle.concurrent_queue.specs.Replies.{Follows, IsAsking};
     ghost use Rattle.concurrent_queue.specs.Walked.{CallMakes, HasEnded};
@@ -150,6 +165,31 @@ impl<T: Drop> QueueCall<T> {
     {
         let QueueCall { state, mark: _ } = self;
         state
+    }
+
+    /// Whether it asks how many messages the queue can hold, and has made no step.
+    #[inline(always)]
+    pub(crate) fn asks_capacity(&self) -> bool
+        ensures { result ≡ true → IsAsking self.now ask.Capacity }
+    {
+        matches!(&self.state, CallState::Asked(QueueAsk::Capacity))
+    }
+
+    /// The one step of that question. It touches no cell: the answer is known by the queue's form.
+    #[inline(always)]
+    pub(crate) fn step_capacity<S: Trace<T>>(
+        &mut self,
+        form: QueueForm,
+        trace: &S,
+    ) -> Option<QueueReply<T>>
+        requires { IsAsking self.old ask.Capacity }
+        ensures deed { CallMakes S.did form trace.now self.old trace.now self.new result }
+        ensures answers { Follows form self.old self.new result }
+    {
+        let stepped = capacity_step(form, trace);
+        drop(mem::replace(&mut self.state, stepped.action));
+        self.mark = stepped.mark;
+        stepped.reply
     }
 
     /// One step: one operation on the cells, as the machine of their form makes it, and what follows its answer.

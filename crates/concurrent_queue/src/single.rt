@@ -14,6 +14,7 @@ pub(crate) mod ahead;
 use crate::call::{QueueAsk, QueueMark, QueueReply, Stepped};
 use crate::cells::{Cells, Slot, Word};
 use crate::error::{ForcePushError, PopError, PushError};
+use crate::seen::Trace;
 
 /// A call holds the slot.
 const LOCKED: u64 = 1;
@@ -100,6 +101,15 @@ fn finish<T>(reply: QueueReply<T>) -> Stepped<SingleAction<T>, T>
         mark: QueueMark::Nothing,
         reply: Some(reply),
     }
+}
+
+/// The one step of the question how many messages it can hold, which touches no cell.
+#[inline(always)]
+pub(crate) fn capacity<T: Drop, S: Trace<T>>(trace: &S) -> Stepped<SingleAction<T>, T>
+    ensures answers { SingleFollows SingleAction.Capacity result }
+    ensures deed { SingleMakes S.did trace.now SingleAction.Capacity trace.now result }
+{
+    finish(QueueReply::Cap(Some(1)))
 }
 
 /// One step of a call, which is one operation on the word or the slot.

@@ -6,6 +6,7 @@ ghost use Rattle.concurrent_queue.specs.machine.BlocksMoves.{answer_as};
 ghost use Rattle.concurrent_queue.specs.machine.BlocksMakes.{BlocksMakes, ProgressMakes};
 ghost use Rattle.concurrent_queue.specs.machine.BlocksWords.{begin, reply_of};
 ghost use Rattle.concurrent_queue.specs.Replies.{EndFollows, BlocksFollows};
+ghost use Rattle.concurrent_queue.specs.declared.call.QueueAsk.TheVariants as ask;
 
 pub(crate) mod action;
 pub(crate) mod ahead;
@@ -14,9 +15,10 @@ pub(crate) mod ending;
 mod pop;
 mod push;
 
-use crate::call::{QueueAsk, QueueReply, Stepped};
+use crate::call::{QueueAsk, QueueMark, QueueReply, Stepped};
 use crate::cells::Cells;
 use crate::error::{ForcePushError, PushError};
+use crate::seen::Trace;
 use crate::unbounded::action::{Progress, UnboundedAction, UnboundedCall, stay};
 use crate::unbounded::ask::{
     ask_closed, ask_empty, ask_len, close_load, empty_tail, len_head, len_tail, tell,
@@ -72,6 +74,22 @@ pub(crate) fn first<T>(ask: QueueAsk<T>) -> UnboundedCall<T>
             displacing: false,
             action: UnboundedAction::AskCapacity,
         },
+    }
+}
+
+/// The one step of the question how many messages it can hold, which touches no cell.
+#[inline(always)]
+pub(crate) fn capacity<T: Drop, S: Trace<T>>(trace: &S) -> Stepped<UnboundedCall<T>, T>
+    ensures answers { BlocksFollows (begin ask.Capacity) result }
+    ensures deed { BlocksMakes S.did trace.now (begin ask.Capacity) trace.now result }
+{
+    Stepped {
+        action: UnboundedCall {
+            displacing: false,
+            action: UnboundedAction::Finished,
+        },
+        mark: QueueMark::Nothing,
+        reply: Some(QueueReply::Cap(None)),
     }
 }
 

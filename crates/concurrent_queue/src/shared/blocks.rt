@@ -48,7 +48,7 @@ impl<T: Drop> Blocks<T> {
         if spares.reserve(self.made.count().saturating_add(1)).is_err() {
             return Err(NoMemory);
         }
-        match SharedTable::new(self.alloc, &[0; WRITTEN + 1], SLOTS as usize) {
+        match SharedTable::new(self.alloc, SLOTS as usize, WRITTEN + 1, None) {
             Ok(block) => match self.made.push(rt, block) {
                 Ok(number) => Ok(number as u64),
                 Err(_) => Err(NoMemory),

@@ -1,6 +1,6 @@
 //! A queue that threads share.
 
-ghost use Rattle.std.specs.Prelude.{◌≡◌, ◌<◌, ◌≤◌, ◌^◌, IfOk, length};
+ghost use Rattle.std.specs.Prelude.{◌≡◌, ◌<◌, ◌≤◌, ◌^◌, IfOk};
 ghost use Rattle.concurrent_queue.specs.Replies.{MayAnswer, AsksWords};
 
 use crate::bounded::{GREATEST, at_most_greatest};
@@ -29,24 +29,12 @@ pub struct ConcurrentQueue<T: Drop> {
     blocks: Option<Blocks<T>>,
 }
 
-/// The words of a new queue: its own, all 0, and the stamps of a ring, each of which waits for the message that is first at
-/// its index.
-fn first_words(alloc: Global, stamps: usize) -> Result<Vec<u64>, AllocError>
-    requires { stamps ≤ 2 ^ 58 }
-    ensures { IfOk result (λ v. 0 < length v.items) }
-{
-    let mut words = Vec::with_capacity(alloc, STAMPS + stamps)?;
-    for i in 0..STAMPS + stamps {
-        words.push(i.saturating_sub(STAMPS) as u64)?;
-    }
-    Ok(words)
-}
-
+/// The table of a new queue: its own words, all 0, and the stamps of a ring, each of which waits for the message that is first
+/// at its index.
 fn own_table<T>(alloc: Global, slots: usize) -> Result<SharedTable<T>, AllocError>
     requires { slots ≤ 2 ^ 58 }
 {
-    let words = first_words(alloc, slots)?;
-    SharedTable::new(alloc, words.as_slice(), slots)
+    SharedTable::new(alloc, slots, STAMPS + slots, Some(STAMPS))
 }
 
 impl<T: Drop> ConcurrentQueue<T> {
@@ -230,6 +218,9 @@ impl<T: Drop> ConcurrentQueue<T> {
         ensures deed { CallMakes S.did (form_in self.now) trace call.old (result.1) call.new (result.0) }
         ensures answers { IsSharedStep self.now call.old call.new (result.0) }
     {
+        if call.asks_capacity() {
+            return (call.step_capacity(self.form, &trace), trace);
+        }
         let mut seen = self.words(trace);
         let reply = call.step(&mut seen);
         (reply, seen.into_trace())

@@ -35,45 +35,49 @@ pub(crate) struct SeatedTable<'a, T> {
     ghost seated: { (seat.table_id ≡ table.now.shared.table_id) × (seat.me ≡ (None, [])) },
 }
 
-/// The guards, all 0, then these words, and more of 0 where they are few.
-fn with_guards(alloc: Global, slots: usize, words: &[u64]) -> Result<Vec<u64>, AllocError>
-    requires { 0 < length words.now }
+/// All words of a new table: the guards, all 0, then so many words, and more where they are few.
+fn first_words(
+    alloc: Global,
+    slots: usize,
+    words: usize,
+    stamps: Option<usize>,
+) -> Result<Vec<u64>, AllocError>
     ensures { IfOk result (λ v. (slots + 18 ≤ length v.items) × AreFree slots v.items) }
 {
-    let Some(all) = slots.checked_add(words.len().max(LEAST)) else {
+    let Some(all) = slots.checked_add(words.max(LEAST)) else {
         return Err(AllocError);
     };
-    let mut guarded = Vec::with_capacity(alloc, all)?;
-    for i in 0..all {
-        guarded.push(word_at(slots, words, i))?;
+    let mut first = Vec::with_capacity(alloc, all)?;
+    for place in 0..all {
+        first.push(word_at(slots, stamps, place))?;
     }
-    Ok(guarded)
+    Ok(first)
 }
 
-/// What a new table holds at this place.
-fn word_at(slots: usize, words: &[u64], place: usize) -> u64
+/// What a new table holds at this place: 0, and behind the first stamp how far it lies behind.
+fn word_at(slots: usize, stamps: Option<usize>, place: usize) -> u64
     ensures { place < slots → result ≡ 0 }
 {
     if place < slots {
         return 0;
     }
-    match words.get(place - slots) {
-        Some(word) => *word,
+    match stamps {
+        Some(first) => (place - slots).saturating_sub(first) as u64,
         None => 0,
     }
 }
 
 impl<T> SharedTable<T> {
-    /// A table with these words, and so many empty slots.
+    /// A table of so many words, and of so many empty slots. The words hold 0; from the first stamp on, if there are some, they
+    /// hold 0, 1, 2 and so on.
     pub(crate) fn new(
         alloc: Global,
-        words: &[u64],
         slots: usize,
-    ) -> Result<SharedTable<T>, AllocError>
-        requires { 0 < length words.now }
-    {
-        let guarded = with_guards(alloc, slots, words)?;
-        let (table, _seat) = Table::vacant(alloc, guarded.as_slice(), slots, &())?;
+        words: usize,
+        stamps: Option<usize>,
+    ) -> Result<SharedTable<T>, AllocError> {
+        let first = first_words(alloc, slots, words, stamps)?;
+        let (table, _seat) = Table::vacant(alloc, first.as_slice(), slots, &())?;
         Ok(SharedTable { table })
     }
 
