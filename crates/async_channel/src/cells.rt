@@ -104,6 +104,7 @@ impl<'a, T: Drop> ChannelWords<T, Task> for SharedWords<'a, T> {
 
     ghost has_form = { λ c f. f ≡ form_of c.shared.now };
 
+    #[inline(always)]
     fn step_words(&mut self, call: &mut QueueCall<T>) -> Option<QueueReply<T>> {
         self.shared.queue.step_words(call)
     }

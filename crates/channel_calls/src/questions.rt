@@ -21,6 +21,7 @@ use concurrent_queue::call::{QueueAsk, QueueReply};
 use concurrent_queue::queue_call::QueueCall;
 
 /// What the queue answers to a question, which its second step answers at the latest.
+#[inline(always)]
 fn asks<T: Drop, W: Drop, C: ChannelWords<T, W>>(
     question: QueueAsk<T>,
     words: &mut C,

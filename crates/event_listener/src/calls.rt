@@ -115,6 +115,9 @@ impl<T: Drop, W: Drop> List<T, W> {
         let additional = notice.is_additional();
         let count = notice.count();
         let many = self.to_move(additional, count);
+        if many == 0 {
+            return Ok(0);
+        }
         self.tell(additional, many, notice, sink)
     }
 

@@ -77,6 +77,7 @@ impl<T: Drop> ConcurrentQueue<T> {
 
     /// One step of a call that is `close` or a question but for the length. It waits for nobody, and the second one answers
     /// at the latest. Own to this project.
+    #[inline(always)]
     pub fn step_words(&self, call: &mut QueueCall<T>) -> Option<QueueReply<T>>
         requires { IsWordsAlone call.old }
         ensures { IsSharedStep self.now call.old call.new result }
