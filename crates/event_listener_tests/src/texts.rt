@@ -188,20 +188,15 @@ fn recorded_insertion<L: Ledger, R: Wait + AllocGlobal>(
 fn records_are_compared_and_shown(rt: HostRuntime) {
     let key = first_key(&rt);
     let listened = RecordedCall::Listened { key };
-    let first = recorded_insertion::<Brand, HostRuntime>(&rt, Blank::new(1));
-    let second = recorded_insertion::<Brand, HostRuntime>(&rt, Blank::new(1));
+    let calls = recorded_insertion::<Brand, HostRuntime>(&rt, Blank::new(1));
     let all = [
         tells_apart::<RecordedCall<u8, u8>>(
             RecordedCall::Listened { key },
             RecordedCall::Listened { key },
             RecordedCall::Polled { key, tag: 1 },
         ),
-        first.as_slice() == [listened].as_slice(),
-        shows(
-            &rt,
-            second,
-            "[Listened { key: Key { slot: 0, serial: 0 } }]",
-        ),
+        calls.as_slice() == [listened].as_slice(),
+        shows(&rt, calls, "[Listened { key: Key { slot: 0, serial: 0 } }]"),
     ];
     expect_equal(&rt, &all, &[true; 3]);
 }
