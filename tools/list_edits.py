@@ -72,6 +72,7 @@ BODIES = {
     "a walked call does something else first": [],
     "a clone counts nothing": [],
     "a clone that was counted is refused": [],
+    "an upgrade that counted answers that there is none": [],
     "a drop that lowers nothing": [],
     "a closing always answers false": [],
     "a displacing send drops what it displaced": [],
