@@ -5,6 +5,7 @@ use Rattle.concurrent_queue.specs.declared.cells.QueueForm.{QueueForm}
 use Rattle.concurrent_queue.specs.declared.call.QueueAsk.TheVariants as ask
 use Rattle.concurrent_queue.specs.declared.call.QueueReply.{QueueReply}
 use Rattle.concurrent_queue.specs.declared.call.QueueReply.TheVariants.{Push, Force, Pop, Close, Flag, Count, Cap}
+use Rattle.concurrent_queue.specs.declared.error.ForcePushError.TheVariants as force_error
 use Rattle.concurrent_queue.specs.declared.error.PushError.TheVariants as push_error
 use Rattle.concurrent_queue.specs.declared.error.PopError.TheVariants as pop_error
 use Rattle.concurrent_queue.specs.declared.queue_call.CallState.{CallState}
@@ -19,7 +20,7 @@ use Rattle.channel_calls.specs.declared.stage.Stage.{Stage}
 use Rattle.channel_calls.specs.declared.stage.Stage.TheVariants.{Trying, Finished}
 use Rattle.channel_calls.specs.declared.stage.Turn.{Turn}
 use Rattle.channel_calls.specs.Asks.{kept_by}
-use Rattle.channel_calls.specs.Answered.{sent_next, received_next}
+use Rattle.channel_calls.specs.Answered.{asked_next, forced_next, received_next, sent_next}
 use Rattle.channel_calls.specs.Replies.{FollowsTurn, FollowsStage, MayEnd, MayGive}
 use Rattle.channel_calls.specs.Turns.{nothing_kept}
 use Rattle.channel_calls.specs.Walks.{Takes}
@@ -27,6 +28,12 @@ use Rattle.channel_calls.specs.Walks.{Takes}
 module _ {T : Type 0} (W : Type 0) (f : QueueForm) (one : QueueCall T) where
   pub sends : (v : T) → IsAsking one (ask.Push v) → (r : Reply T) (m : Option T) → MayEnd {W = W} f (Trying one aim.TrySend) r m → MayGive {W = W} f (call.TrySend v) r m
   sends v asks r m h = h (ask.Push v) (λ y may. subst (λ (z : CallState T). MayCall f z y) asks may) v refl
+
+  pub displaces : (v : T) → IsAsking one (ask.ForcePush v) → (r : Reply T) (m : Option T) → MayEnd {W = W} f (Trying one aim.ForceSend) r m → MayGive {W = W} f (call.ForceSend v) r m
+  displaces v asks r m h = h (ask.ForcePush v) (λ y may. subst (λ (z : CallState T). MayCall f z y) asks may) v refl
+
+  pub asks_length : IsAsking one ask.Len → (r : Reply T) (m : Option T) → MayEnd {W = W} f (Trying one aim.Ask) r m → MayGive {W = W} f call.Len r m
+  asks_length asks r m h = h ask.Len (λ y may. subst (λ (z : CallState T). MayCall f z y) asks may)
 
   pub receives : IsAsking one ask.Pop → (r : Reply T) (m : Option T) → MayEnd {W = W} f (Trying one aim.TryRecv) r m → MayGive {W = W} f call.TryRecv r m
   receives asks r m h = h ask.Pop (λ y may. subst (λ (z : CallState T). MayCall f z y) asks may) refl
@@ -47,6 +54,26 @@ module _ {T W : Type 0} where
   sent_keeps (Flag y) r s t = t.1
   sent_keeps (Count y) r s t = t.1
   sent_keeps (Cap y) r s t = t.1
+
+  pub forced_keeps : (y : QueueReply T) → KeepsNothing (forced_next y)
+  forced_keeps (Force (Ok u)) r s t = let e = t.0 in cc
+  forced_keeps (Force (Err (force_error.Closed m))) r s t = t.1
+  forced_keeps (Force (Err (force_error.NoMemory m))) r s t = t.1
+  forced_keeps (Push y) r s t = t.1
+  forced_keeps (Pop y) r s t = t.1
+  forced_keeps (Close y) r s t = t.1
+  forced_keeps (Flag y) r s t = t.1
+  forced_keeps (Count y) r s t = t.1
+  forced_keeps (Cap y) r s t = t.1
+
+  pub asked_keeps : (y : QueueReply T) → KeepsNothing (asked_next y)
+  asked_keeps (Flag y) r s t = t.1
+  asked_keeps (Count y) r s t = t.1
+  asked_keeps (Cap y) r s t = t.1
+  asked_keeps (Push y) r s t = t.1
+  asked_keeps (Force y) r s t = t.1
+  asked_keeps (Pop y) r s t = t.1
+  asked_keeps (Close y) r s t = t.1
 
   pub received_keeps : (y : QueueReply T) → KeepsNothing (received_next y)
   received_keeps (Pop (Ok m)) r s t = let e = t.0 in cc

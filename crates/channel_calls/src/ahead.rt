@@ -1,4 +1,4 @@
-//! The steps of a send and of a receive that don't wait, made on end. What is saved is the choice of the next step at each of
+//! The steps of the simple calls, made on end: of sends and receives that don't wait, and of the question for the length. What is saved is the choice of the next step at each of
 //! them, so this is a matter of speed alone.
 
 ghost use Rattle.std.specs.Prelude.{◌≡◌, false, None, Some, Ok, Option, MatchResult};
@@ -14,7 +14,7 @@ ghost use Rattle.channel_calls.specs.declared.ask.ChannelAsk.TheVariants as ask;
 ghost use Rattle.channel_calls.specs.declared.reply.Reply.{Reply};
 ghost use Rattle.channel_calls.specs.declared.stage.Stage.{Stage};
 
-use crate::answered::{received_next, sent_next};
+use crate::answered::{asked_next, forced_next, received_next, sent_next};
 use crate::call::ChannelCall;
 use crate::cells::ChannelCells;
 use crate::mark::Mark;
@@ -32,6 +32,17 @@ fn pushed<T: Drop>(answer: QueueReply<T>) -> Result<(), QueueReply<T>>
 {
     match answer {
         QueueReply::Push(Ok(())) => Ok(()),
+        other => Err(other),
+    }
+}
+
+/// What a displacing push that is in took out, or what else was answered.
+#[inline(always)]
+fn displaced<T: Drop>(answer: QueueReply<T>) -> Result<Option<T>, QueueReply<T>>
+    ensures { MatchResult result (λ old. answer ≡ queue.Force (Ok old)) (λ other. answer ≡ other) }
+{
+    match answer {
+        QueueReply::Force(Ok(old)) => Ok(old),
         other => Err(other),
     }
 }
@@ -102,6 +113,41 @@ pub fn send_ahead<T: Drop, W: Drop, C: ChannelCells<T, W>, S: Wakes<W>>(
     }
 }
 
+/// Makes the steps of a send that displaces, or answers the call that has to be stepped on: where the cells make one step
+/// of the queue's call at a time. Own to this project.
+#[inline(always)]
+pub fn displace_ahead<T: Drop, W: Drop, C: ChannelCells<T, W>, S: Wakes<W>>(
+    message: T,
+    cells: &mut C,
+    sink: &mut S,
+) -> Result<Reply<T>, ChannelCall<T, W>>
+    ensures deeds { WalkedOn (Done C.did S.wakes) (first (ask.ForceSend message)) (cells.old, sink.old) result (cells.new, sink.new) }
+    ensures answers { (f : QueueForm) → C.has_form cells.old f → MatchResult result (λ r. MayGive {W = W} f (ask.ForceSend message) r None)
+        (λ call. (r : Reply T) (m : Option T) → MayEnd f call.stage r m → MayGive {W = W} f (ask.ForceSend message) r m) }
+    ensures form { (f : QueueForm) → C.has_form cells.old f → C.has_form cells.new f }
+{
+    let mut call = QueueCall::force_push(message);
+    let answer = cells.step_queue(&mut call);
+    let mark = Mark::of_queue(call.last_mark());
+    match answer {
+        None => Err(ChannelCall {
+            stage: Stage::Trying(call, Aim::ForceSend),
+            mark,
+        }),
+        Some(answer) => {
+            drop(call);
+            match displaced(answer) {
+                Ok(old) => {
+                    cells.tell_one(Line::Receives, sink);
+                    cells.tell_all(Line::Streams, sink);
+                    Ok(Reply::ForceSend(Ok(old)))
+                }
+                Err(answer) => turned(forced_next(answer), mark),
+            }
+        }
+    }
+}
+
 /// Makes the steps of a receive that doesn't wait, or answers the call that has to be stepped on: where the cells make one step
 /// of the queue's call at a time. Own to this project.
 #[inline(always)]
@@ -131,6 +177,32 @@ pub fn receive_ahead<T: Drop, W: Drop, C: ChannelCells<T, W>, S: Wakes<W>>(
                 }
                 Err(answer) => turned(received_next(answer), mark),
             }
+        }
+    }
+}
+
+/// Makes the steps of the question for the length, or answers the call that has to be stepped on, likewise. Own to this project.
+#[inline(always)]
+pub fn length_ahead<T: Drop, W: Drop, C: ChannelCells<T, W>, S: Wakes<W>>(
+    cells: &mut C,
+    sink: &mut S,
+) -> Result<Reply<T>, ChannelCall<T, W>>
+    ensures deeds { WalkedOn (Done C.did S.wakes) (first ask.Len) (cells.old, sink.old) result (cells.new, sink.new) }
+    ensures answers { (f : QueueForm) → C.has_form cells.old f → MatchResult result (λ r. MayGive {W = W} f ask.Len r None)
+        (λ call. (r : Reply T) (m : Option T) → MayEnd f call.stage r m → MayGive {W = W} f ask.Len r m) }
+    ensures form { (f : QueueForm) → C.has_form cells.old f → C.has_form cells.new f }
+{
+    let mut call = QueueCall::len();
+    let answer = cells.step_queue(&mut call);
+    let mark = Mark::of_queue(call.last_mark());
+    match answer {
+        None => Err(ChannelCall {
+            stage: Stage::Trying(call, Aim::Ask),
+            mark,
+        }),
+        Some(answer) => {
+            drop(call);
+            turned(asked_next(answer), mark)
         }
     }
 }

@@ -44,7 +44,8 @@ pub(crate) fn sent_next<T: Drop, W>(answer: QueueReply<T>) -> Turn<T, W>
 }
 
 /// A send that displaces. It tells no send, since it makes no room.
-fn forced_next<T: Drop, W>(answer: QueueReply<T>) -> Turn<T, W>
+#[inline(always)]
+pub(crate) fn forced_next<T: Drop, W>(answer: QueueReply<T>) -> Turn<T, W>
     ensures { result ≡ forced_next answer }
 {
     match answer {
@@ -237,7 +238,8 @@ fn closed_next<T: Drop, W>(answer: QueueReply<T>, closer: Closer) -> Turn<T, W>
 }
 
 /// A question.
-fn asked_next<T: Drop, W>(answer: QueueReply<T>) -> Turn<T, W>
+#[inline(always)]
+pub(crate) fn asked_next<T: Drop, W>(answer: QueueReply<T>) -> Turn<T, W>
     ensures { result ≡ asked_next answer }
 {
     match answer {

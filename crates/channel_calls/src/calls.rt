@@ -14,13 +14,13 @@ ghost use Rattle.channel_calls.specs.Walks.{WalkedTo};
 ghost use Rattle.channel_calls.specs.declared.ask.ChannelAsk.TheVariants as ask;
 ghost use Rattle.channel_calls.specs.declared.reply.Reply.TheVariants as reply;
 
-use crate::ahead::{receive_ahead, send_ahead};
+use crate::ahead::{displace_ahead, length_ahead, receive_ahead, send_ahead};
 use crate::ask::ChannelAsk;
 use crate::cells::ChannelCells;
 use crate::error::{Refused, SendError, TryRecvError, TrySendError};
 use crate::filling::recv_many_into;
 use crate::reply::Reply;
-use crate::whole::{Given, complete, make};
+use crate::whole::{complete, make};
 use event_listener::wakes::Wakes;
 use std::alloc::Global;
 use std::sync::Wait;
@@ -43,6 +43,24 @@ fn sent<T: Drop, W: Drop, R: Wait, C: ChannelCells<T, W>, S: Wakes<W>>(
     }
 }
 
+/// What a send that displaces answers, likewise.
+#[inline(always)]
+fn displaced<T: Drop, W: Drop, R: Wait, C: ChannelCells<T, W>, S: Wakes<W>>(
+    rt: &R,
+    message: T,
+    cells: &mut C,
+    sink: &mut S,
+) -> Reply<T>
+    ensures deeds { WalkedTo (Done C.did S.wakes) (first (ask.ForceSend message)) (cells.old, sink.old) result (cells.new, sink.new) }
+    ensures answers { (f : QueueForm) → C.has_form cells.old f → MayGive {W = W} f (ask.ForceSend message) result None }
+    ensures form { (f : QueueForm) → C.has_form cells.old f → C.has_form cells.new f }
+{
+    match displace_ahead(message, cells, sink) {
+        Ok(reply) => reply,
+        Err(call) => complete(rt, call, cells, sink).reply,
+    }
+}
+
 /// What a receive that doesn't wait answers, likewise.
 #[inline(always)]
 fn received<T: Drop, W: Drop, R: Wait, C: ChannelCells<T, W>, S: Wakes<W>>(
@@ -55,6 +73,23 @@ fn received<T: Drop, W: Drop, R: Wait, C: ChannelCells<T, W>, S: Wakes<W>>(
     ensures form { (f : QueueForm) → C.has_form cells.old f → C.has_form cells.new f }
 {
     match receive_ahead(cells, sink) {
+        Ok(reply) => reply,
+        Err(call) => complete(rt, call, cells, sink).reply,
+    }
+}
+
+/// What the question for the length answers, likewise.
+#[inline(always)]
+fn counted<T: Drop, W: Drop, R: Wait, C: ChannelCells<T, W>, S: Wakes<W>>(
+    rt: &R,
+    cells: &mut C,
+    sink: &mut S,
+) -> Reply<T>
+    ensures deeds { WalkedTo (Done C.did S.wakes) (first ask.Len) (cells.old, sink.old) result (cells.new, sink.new) }
+    ensures answers { (f : QueueForm) → C.has_form cells.old f → MayGive {W = W} f ask.Len result None }
+    ensures form { (f : QueueForm) → C.has_form cells.old f → C.has_form cells.new f }
+{
+    match length_ahead(cells, sink) {
         Ok(reply) => reply,
         Err(call) => complete(rt, call, cells, sink).reply,
     }
@@ -92,9 +127,7 @@ pub fn force_send<T: Drop, W: Drop, R: Wait, C: ChannelCells<T, W>, S: Wakes<W>>
     ensures displaced { (f : QueueForm) → C.has_form cells.old f → room_of f ≡ None → IfOk result (λ o. o ≡ None) }
     ensures form { (f : QueueForm) → C.has_form cells.old f → C.has_form cells.new f }
 {
-    let Given { reply, kept } = make(rt, ChannelAsk::ForceSend(message), cells, sink);
-    drop(kept);
-    match reply {
+    match displaced(rt, message, cells, sink) {
         Reply::ForceSend(result) => result,
         _ => unreachable!(),
     }
@@ -173,11 +206,8 @@ pub fn len<T: Drop, W: Drop, R: Wait, C: ChannelCells<T, W>, S: Wakes<W>>(
     ensures deeds { WalkedTo (Done C.did S.wakes) (first ask.Len) (cells.old, sink.old) (reply.Count result) (cells.new, sink.new) }
     ensures form { (f : QueueForm) → C.has_form cells.old f → C.has_form cells.new f }
 {
-    let given = make(rt, ChannelAsk::Len, cells, sink);
-    let count = match &given.reply {
-        Reply::Count(count) => *count,
+    match counted(rt, cells, sink) {
+        Reply::Count(count) => count,
         _ => unreachable!(),
-    };
-    drop(given);
-    count
+    }
 }

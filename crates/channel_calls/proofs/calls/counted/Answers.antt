@@ -1,0 +1,14 @@
+use Rattle.channel_calls.specs.Asks.{first}
+use Rattle.channel_calls.specs.Deeds.{Done}
+use Rattle.channel_calls.specs.Turns.{nothing_kept}
+use Rattle.channel_calls.specs.declared.ask.ChannelAsk.TheVariants as ask
+use Rattle.channel_calls.proofs.Walking.{handed_on}
+use Rattle.channel_calls.proofs.calls.counted.Goals as goal
+
+pub returns-in-Ok-clause-deeds : goal.returns-in-Ok-clause-deeds
+returns-in-Ok-clause-deeds g c = (nothing_kept, c.in-Ok.ensures.deeds)
+
+pub returns-in-Err-clause-deeds : goal.returns-in-Err-clause-deeds
+returns-in-Err-clause-deeds g c =
+    handed_on (Done g.C.ChannelCells.did g.S.Wakes.wakes) (first ask.Len) (c.args.cells.now, c.args.sink.now) (c.length_ahead.new.cells, c.length_ahead.new.sink) (c.complete.new.cells, c.complete.new.sink)
+    c.in-Err.call c.complete.result.reply c.complete.result.kept c.in-Err.ensures.deeds c.complete.ensures.deeds
