@@ -1,8 +1,13 @@
-//! What sends and receives through Rust's own channels cost: `mpsc`, and a deque behind a lock with two condition variables. The same
-//! four things are measured as by `channel_bench handles`: tries on one thread and between two, blocking calls in a stream and in turns.
-//! With `--cfg ported` the crates that are ported here stand beside them, in the versions that the system packages.
-use std::collections::VecDeque;
+//! What Rust's own channels cost: `mpsc`, and a deque behind a lock with two condition variables. The same four things are measured as by
+//! `channel_bench handles`: tries on one thread and between two, blocking calls in a stream and in turns. With `--cfg ported` the
+//! crates that are ported here stand beside them, and crossbeam's, in the versions that the system packages; so do their queues and events.
+//!
+//! usage: native_peers [WORD ..], of `parts`, `alone`, `between`, `bytes` and `script`; all of them where none is named.
+use std::alloc::{GlobalAlloc, Layout, System};
+use std::collections::{HashMap, VecDeque};
+use std::fmt::Write;
 use std::hint::black_box;
+use std::sync::atomic::{AtomicBool, AtomicUsize, Ordering::Relaxed};
 use std::sync::mpsc::{Receiver, Sender, SyncSender, channel, sync_channel};
 use std::sync::{Condvar, Mutex};
 use std::thread;
@@ -11,7 +16,37 @@ use std::time::Instant;
 const ALONE: u64 = 100_000;
 const BETWEEN: u64 = 50_000;
 const TURNS: u64 = 5_000;
-const ROUNDS: usize = 12;
+/// What other work adds to a round on one thread is small, so many of them find one that nothing disturbed.
+const ROUNDS_ALONE: usize = 100;
+const ROUNDS_BETWEEN: usize = 12;
+/// How many messages, places or listeners bytes are counted of.
+const MANY: usize = 1_000_000;
+
+/// The system's memory, which counts the bytes that are held, and the most that were at a time, while it is told to.
+struct Counting;
+
+static COUNTS: AtomicBool = AtomicBool::new(false);
+static HELD: AtomicUsize = AtomicUsize::new(0);
+static MOST: AtomicUsize = AtomicUsize::new(0);
+
+unsafe impl GlobalAlloc for Counting {
+    unsafe fn alloc(&self, layout: Layout) -> *mut u8 {
+        if COUNTS.load(Relaxed) {
+            let held = HELD.fetch_add(layout.size(), Relaxed) + layout.size();
+            MOST.fetch_max(held, Relaxed);
+        }
+        unsafe { System.alloc(layout) }
+    }
+    unsafe fn dealloc(&self, block: *mut u8, layout: Layout) {
+        if COUNTS.load(Relaxed) {
+            HELD.fetch_sub(layout.size(), Relaxed);
+        }
+        unsafe { System.dealloc(block, layout) }
+    }
+}
+
+#[global_allocator]
+static COUNTING: Counting = Counting;
 
 trait Channel: Sync {
     fn put(&self, message: u64) -> bool;
@@ -88,11 +123,65 @@ impl Channel for Locked {
     }
 }
 
-fn alone(c: &dyn Channel) -> u64 {
+/// The channels of crates whose handles have the same calls under other names.
+#[cfg(ported)]
+macro_rules! packaged {
+    ($name:ident, $from:ident, $send:ident, $receive:ident) => {
+        struct $name {
+            to: $from::Sender<u64>,
+            from: $from::Receiver<u64>,
+        }
+        impl Channel for $name {
+            fn put(&self, message: u64) -> bool {
+                self.to.try_send(message).is_ok()
+            }
+            fn get(&self) -> Option<u64> {
+                self.from.try_recv().ok()
+            }
+            fn send(&self, message: u64) {
+                self.to.$send(message).unwrap()
+            }
+            fn receive(&self) -> u64 {
+                self.from.$receive().unwrap()
+            }
+        }
+        impl $name {
+            fn open(capacity: usize) -> Self {
+                let (to, from) = match capacity {
+                    0 => $from::unbounded(),
+                    _ => $from::bounded(capacity),
+                };
+                $name { to, from }
+            }
+        }
+    };
+}
+
+#[cfg(ported)]
+packaged!(Ported, async_channel, send_blocking, recv_blocking);
+#[cfg(ported)]
+packaged!(Crossbeam, crossbeam_channel, send, recv);
+
+fn mpsc(capacity: usize) -> Mpsc {
+    if capacity == 0 {
+        let (to, from) = channel();
+        Mpsc { bounded: None, unbounded: Some(to), from: Mutex::new(from) }
+    } else {
+        let (to, from) = sync_channel(capacity);
+        Mpsc { bounded: Some(to), unbounded: None, from: Mutex::new(from) }
+    }
+}
+
+fn locked(capacity: usize) -> Locked {
+    let most = if capacity == 0 { usize::MAX } else { capacity };
+    Locked { most, items: Mutex::new(VecDeque::new()), came: Condvar::new(), left: Condvar::new() }
+}
+
+fn alone(c: &impl Channel) -> u64 {
     (0..ALONE).filter(|message| c.put(*message)).map(|_| c.get().unwrap()).sum()
 }
 
-fn tries(c: &dyn Channel) -> u64 {
+fn tries(c: &impl Channel) -> u64 {
     thread::scope(|scope| {
         scope.spawn(|| {
             for message in 0..BETWEEN {
@@ -112,14 +201,14 @@ fn tries(c: &dyn Channel) -> u64 {
     })
 }
 
-fn stream(c: &dyn Channel) -> u64 {
+fn stream(c: &impl Channel) -> u64 {
     thread::scope(|scope| {
         scope.spawn(|| (0..BETWEEN).for_each(|message| c.send(message)));
         (0..BETWEEN).map(|_| c.receive()).sum()
     })
 }
 
-fn turns(there: &dyn Channel, back: &dyn Channel) -> u64 {
+fn turns<C: Channel>(there: &C, back: &C) -> u64 {
     thread::scope(|scope| {
         scope.spawn(|| (0..TURNS).for_each(|_| back.send(there.receive())));
         (0..TURNS)
@@ -131,8 +220,8 @@ fn turns(there: &dyn Channel, back: &dyn Channel) -> u64 {
     })
 }
 
-fn measure(name: &str, what: &str, messages: u64, mut round: impl FnMut() -> u64) {
-    let mut nanos: Vec<u128> = (0..ROUNDS)
+fn measure(name: &str, what: &str, rounds: usize, calls: u64, mut round: impl FnMut() -> u64) {
+    let mut nanos: Vec<u128> = (0..rounds)
         .map(|_| {
             let start = Instant::now();
             black_box(round());
@@ -140,94 +229,190 @@ fn measure(name: &str, what: &str, messages: u64, mut round: impl FnMut() -> u64
         })
         .collect();
     nanos.sort_unstable();
-    let each = |nanos: u128| nanos as f64 / messages as f64;
-    println!("{name}, {what}: {:.2} ns a message at the least, {:.2} in the median", each(nanos[0]), each(nanos[ROUNDS / 2]));
+    let each = |nanos: u128| nanos as f64 / calls as f64;
+    println!("{name}, {what}: {:.2} ns at the least, {:.2} in the median", each(nanos[0]), each(nanos[rounds / 2]));
 }
 
-fn compare(name: &str, there: &dyn Channel, back: &dyn Channel) {
-    measure(name, "tries on one thread", ALONE, || alone(there));
-    measure(name, "tries between two threads", BETWEEN, || tries(there));
-    measure(name, "a stream of blocking calls", BETWEEN, || stream(there));
-    measure(name, "there and back", TURNS, || turns(there, back));
+/// What one call of a kind takes on one thread.
+fn measure_call(name: &str, what: &str, mut call: impl FnMut(u64) -> u64) {
+    measure(name, what, ROUNDS_ALONE, ALONE, || (0..ALONE).map(|number| call(black_box(number))).fold(0, u64::wrapping_add));
 }
 
-fn mpsc(capacity: usize) -> Mpsc {
-    if capacity == 0 {
-        let (to, from) = channel();
-        Mpsc { bounded: None, unbounded: Some(to), from: Mutex::new(from) }
-    } else {
-        let (to, from) = sync_channel(capacity);
-        Mpsc { bounded: Some(to), unbounded: None, from: Mutex::new(from) }
+/// The words that were given, and what they name.
+struct Wanted(Vec<String>);
+
+impl Wanted {
+    fn has(&self, word: &str) -> bool {
+        self.0.is_empty() || self.0.iter().any(|it| it == word)
     }
 }
 
-fn locked(capacity: usize) -> Locked {
-    let most = if capacity == 0 { usize::MAX } else { capacity };
-    Locked { most, items: Mutex::new(VecDeque::new()), came: Condvar::new(), left: Condvar::new() }
+fn compare<C: Channel>(wanted: &Wanted, name: &str, capacity: usize, open: impl Fn(usize) -> C) {
+    let (there, back) = (open(capacity), open(capacity));
+    let name = format!("{name}, capacity {capacity}");
+    if wanted.has("alone") {
+        measure(&name, "a message by tries on one thread", ROUNDS_ALONE, ALONE, || alone(&there));
+    }
+    if wanted.has("between") {
+        measure(&name, "a message by tries between two threads", ROUNDS_BETWEEN, BETWEEN, || tries(&there));
+        measure(&name, "a message in a stream of blocking calls", ROUNDS_BETWEEN, BETWEEN, || stream(&there));
+        measure(&name, "a message there and back", ROUNDS_BETWEEN, TURNS, || turns(&there, &back));
+    }
 }
 
-/// Rust's `async-channel`.
+/// A push and a pop of each queue, of one owner and shared.
 #[cfg(ported)]
-struct Ported {
-    to: async_channel::Sender<u64>,
-    from: async_channel::Receiver<u64>,
-}
-
-#[cfg(ported)]
-impl Channel for Ported {
-    fn put(&self, message: u64) -> bool {
-        self.to.try_send(message).is_ok()
-    }
-    fn get(&self) -> Option<u64> {
-        self.from.try_recv().ok()
-    }
-    fn send(&self, message: u64) {
-        self.to.send_blocking(message).unwrap()
-    }
-    fn receive(&self) -> u64 {
-        self.from.recv_blocking().unwrap()
-    }
-}
-
-#[cfg(ported)]
-fn ported(capacity: usize) -> Ported {
-    let (to, from) = match capacity {
-        0 => async_channel::unbounded(),
-        _ => async_channel::bounded(capacity),
+fn measure_queues(capacity: usize) {
+    let what = format!("a push and a pop, capacity {capacity}");
+    let queue = match capacity {
+        0 => concurrent_queue::ConcurrentQueue::unbounded(),
+        _ => concurrent_queue::ConcurrentQueue::bounded(capacity),
     };
-    Ported { to, from }
-}
-
-/// A clone of a sender and its drop, a listener and its drop, and a pair of calls of a queue, on one thread.
-#[cfg(ported)]
-fn measure_parts() {
-    let channel = ported(128);
-    measure("async-channel", "a clone and its drop", ALONE, || {
-        (0..ALONE).map(|_| drop(black_box(channel.to.clone()))).count() as u64
+    measure_call("concurrent-queue", &what, |message| {
+        let _ = queue.push(message);
+        queue.pop().unwrap_or(0)
     });
-    let event = event_listener::Event::new();
-    measure("event-listener", "a listener and its drop", ALONE, || {
-        (0..ALONE).map(|_| drop(black_box(event.listen()))).count() as u64
-    });
-    for capacity in [1, 3, 128, 0] {
-        let queue = match capacity {
-            0 => concurrent_queue::ConcurrentQueue::unbounded(),
-            _ => concurrent_queue::ConcurrentQueue::bounded(capacity),
-        };
-        measure("concurrent-queue", &format!("a push and a pop, capacity {capacity}"), ALONE, || {
-            (0..ALONE).filter(|message| queue.push(*message).is_ok()).map(|_| queue.pop().unwrap()).sum()
+    if capacity == 0 {
+        let queue = crossbeam_queue::SegQueue::new();
+        measure_call("crossbeam-queue", &what, |message| {
+            queue.push(message);
+            queue.pop().unwrap_or(0)
+        });
+    } else {
+        let queue = crossbeam_queue::ArrayQueue::new(capacity);
+        measure_call("crossbeam-queue", &what, |message| {
+            let _ = queue.push(message);
+            queue.pop().unwrap_or(0)
         });
     }
 }
 
-fn main() {
+/// A clone of a sender and its drop, and the calls of an event.
+#[cfg(ported)]
+fn measure_handles_and_events() {
+    let (ported, crossbeam, lock) = (Ported::open(128), Crossbeam::open(128), Mutex::new(0));
+    measure_call("async-channel", "a clone of a sender and its drop", |_| drop_of(ported.to.clone()));
+    measure_call("crossbeam-channel", "a clone of a sender and its drop", |_| drop_of(crossbeam.to.clone()));
+    let (new, event) = (event_listener::Event::new(), event_listener::Event::new());
+    measure_call("event-listener", "a notice where nobody ever listened", |_| {
+        new.notify_additional(1);
+        0
+    });
+    measure_call("event-listener", "a listener and its drop", |_| drop_of(event.listen()));
+    measure_call("event-listener", "a notice where nobody listens now", |_| {
+        event.notify_additional(1);
+        0
+    });
+    measure_call("std", "a lock taken and given back", |number| {
+        *lock.lock().unwrap() += 1;
+        number
+    });
+}
+
+#[cfg(ported)]
+fn drop_of<V>(value: V) -> u64 {
+    drop(black_box(value));
+    1
+}
+
+fn measure_parts() {
+    let mut deque = VecDeque::from_iter(0..500);
+    measure_call("std", "a push and a pop of a deque that holds 500", |message| {
+        deque.push_back(message);
+        deque.pop_front().unwrap_or(0)
+    });
     #[cfg(ported)]
-    measure_parts();
+    {
+        [1, 3, 128, 0].into_iter().for_each(measure_queues);
+        measure_handles_and_events();
+    }
+}
+
+/// The bytes that each of many takes of what this makes, while they are held and at the most on the way there.
+fn count_bytes<V>(name: &str, what: &str, make: impl FnOnce() -> V) {
+    HELD.store(0, Relaxed);
+    MOST.store(0, Relaxed);
+    COUNTS.store(true, Relaxed);
+    let made = black_box(make());
+    COUNTS.store(false, Relaxed);
+    let each = |bytes: usize| bytes as f64 / MANY as f64;
+    println!("{name}, {what}: {:.1} bytes held, {:.1} at the most", each(HELD.load(Relaxed)), each(MOST.load(Relaxed)));
+    drop(made);
+}
+
+fn count_bytes_of<C: Channel>(name: &str, open: impl Fn(usize) -> C) {
+    count_bytes(name, "a message held without a bound", || {
+        let channel = open(0);
+        (0..MANY as u64).for_each(|message| channel.send(message));
+        channel
+    });
+    count_bytes(name, "a place of a new one", || open(MANY));
+}
+
+fn count_all_bytes() {
+    count_bytes_of("mpsc", mpsc);
+    #[cfg(ported)]
+    {
+        count_bytes_of("async-channel", Ported::open);
+        count_bytes_of("crossbeam-channel", Crossbeam::open);
+        let event = event_listener::Event::new();
+        let mut listeners = Vec::with_capacity(MANY);
+        count_bytes("event-listener", "a listener", || (0..MANY).for_each(|_| listeners.push(event.listen())));
+        println!("event-listener, a listener's handle: {} bytes", size_of::<event_listener::EventListener>());
+    }
+}
+
+/// What a plain interpreter answers to a script of sends and receives: its names are found by hashes, its messages lie in a deque.
+fn play(script: &str) -> String {
+    let (mut most, mut items, mut answers) = (0, VecDeque::new(), String::new());
+    let sides = HashMap::from([("s".to_string(), true), ("r".to_string(), false)]);
+    for line in script.lines() {
+        let mut words = line.split(' ');
+        let (call, name) = (words.next().unwrap_or(""), words.next().unwrap_or(""));
+        let message = words.next().and_then(|word| word.parse::<u64>().ok());
+        let _ = match (call, sides.get(name), message) {
+            ("bounded", None, None) => {
+                most = name.parse().unwrap_or(0);
+                writeln!(answers, "ok")
+            }
+            ("try_send", Some(true), Some(message)) if items.len() == most => writeln!(answers, "full {message}"),
+            ("try_send", Some(true), Some(message)) => {
+                items.push_back(message);
+                writeln!(answers, "ok")
+            }
+            ("try_recv", Some(false), None) => match items.pop_front() {
+                Some(message) => writeln!(answers, "ok {message}"),
+                None => writeln!(answers, "empty"),
+            },
+            _ => return answers + "can't be read\n",
+        };
+    }
+    answers
+}
+
+fn measure_script() {
+    let mut script = "bounded 1000\n".to_string();
+    (0..ALONE / 2).for_each(|message| write!(script, "try_send s {message}\ntry_recv r\n").unwrap());
+    measure("a plain interpreter", "a line of a script", ROUNDS_ALONE, ALONE, || play(&script).len() as u64);
+}
+
+fn main() {
+    let wanted = Wanted(std::env::args().skip(1).collect());
+    if wanted.has("parts") {
+        measure_parts();
+    }
     for capacity in [1, 3, 128, 0] {
-        println!("capacity {capacity}, which is none where it is 0");
         #[cfg(ported)]
-        compare("async-channel", &ported(capacity), &ported(capacity));
-        compare("mpsc", &mpsc(capacity), &mpsc(capacity));
-        compare("a deque behind a lock", &locked(capacity), &locked(capacity));
+        compare(&wanted, "async-channel", capacity, Ported::open);
+        #[cfg(ported)]
+        compare(&wanted, "crossbeam-channel", capacity, Crossbeam::open);
+        compare(&wanted, "mpsc", capacity, mpsc);
+        compare(&wanted, "a deque behind a lock", capacity, locked);
+    }
+    if wanted.has("bytes") {
+        count_all_bytes();
+    }
+    if wanted.has("script") {
+        measure_script();
     }
 }

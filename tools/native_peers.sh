@@ -1,9 +1,10 @@
 #!/usr/bin/env bash
-# Measures a channel's handles, and Rust's own channels beside them, one after the other, as often as asked (once). At the top of the
-# repository, after `rt run` in crates/channel_bench; it needs `rustc`. No part of the gate.
+# Measures Rust's own channels, queues and events: tools/native_peers.sh [WORD ..], with the words of tools/native_peers.rs. It needs
+# `rustc`. No part of the gate. BEFORE=COMMAND stands before the program: on a busy machine 'nice -n -10 taskset -c 3' for the words
+# `parts` and `alone`, which are of one thread.
 #
-# Where the system has the ported crates (Debian: librust-async-channel-dev), in older versions than those that are ported, they are
-# measured too; that needs `cargo`, and no network. With PEERS_ALONE=1 the handles are left out.
+# Where the system has the ported crates and crossbeam's (Debian: librust-async-channel-dev, librust-crossbeam-channel-dev and
+# librust-crossbeam-queue-dev), they are measured too, in older versions than those that are ported. That needs `cargo`, and no network.
 set -eu
 cd "$(dirname "$0")/.."
 room=$(mktemp -d)
@@ -22,6 +23,8 @@ edition = "2021"
 async-channel = "1"
 event-listener = "2"
 concurrent-queue = "2"
+crossbeam-channel = "0.5"
+crossbeam-queue = "0.3"
 
 [lints.rust]
 unexpected_cfgs = "allow"
@@ -31,7 +34,4 @@ END
 else
     rustc --edition 2021 -C opt-level=3 -o "$room/native_peers" tools/native_peers.rs
 fi
-for _ in $(seq "${1:-1}"); do
-    [ -n "${PEERS_ALONE:-}" ] || crates/channel_bench/out/channel_bench handles
-    "$room/native_peers"
-done
+${BEFORE:-} "$room/native_peers" "$@"
