@@ -5,7 +5,8 @@ use mathlib.Core.Option.{some, none, some-injective, some-ne-none}
 use lib.ListN.{get_elem?}
 use Rattle.channel_wakeups.specs.declared.rule.View.{View}
 use Rattle.channel_wakeups.specs.declared.rule.Transfer.{Transfer}
-use Rattle.channel_wakeups.specs.declared.rule.Transfer.TheVariants.{In, Out}
+use Rattle.channel_wakeups.specs.declared.rule.Transfer.TheVariants.{In, Out, Saw}
+use Rattle.channel_wakeups.specs.declared.rule.Sight.{Sight}
 use Rattle.channel_wakeups.specs.Lists.{total}
 use Rattle.channel_wakeups.specs.Log.{each, Agrees, IsHistory}
 use Rattle.channel_wakeups.specs.Views.{puts_of, AllAgree, Ordered}
@@ -44,6 +45,10 @@ module _ {T : Type 0} where
   agrees_longer h m [] a = tt
   agrees_longer h m (In k x ∷ l) (e, a) = (longer h m k x e, agrees_longer h m l a)
   agrees_longer h m (Out k x ∷ l) (e, a) = (longer h m k x e, agrees_longer h m l a)
+  agrees_longer h m (Saw s ∷ l) (e, a) = (tt, agrees_longer h m l a)
+
+  pub agrees_saw : (h : List T) (l : List (Transfer T)) (s : Sight) → Agrees h l → Agrees h (l ++ Saw s ∷ [])
+  agrees_saw h l s a = agrees_append h l (Saw s ∷ []) a (tt, tt)
 
 module _ {T W : Type 0} where
   pub agrees_at : (h : List T) (vs : List (View T W)) (id : ℕ) (v : View T W) → get_elem? vs id ≡ some v → AllAgree h vs → Agrees h v.log

@@ -2,6 +2,7 @@ pub mod Sums
 pub mod Logs
 pub mod History
 pub mod Received
+pub mod Laws
 pub mod Moves
 pub mod Seats
 pub mod Stages

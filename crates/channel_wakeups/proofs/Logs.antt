@@ -6,22 +6,32 @@ use lib.ListN.{get_elem?}
 use Rattle.channel_wakeups.specs.declared.rule.Line.{Line}
 use Rattle.channel_wakeups.specs.declared.rule.View.{View}
 use Rattle.channel_wakeups.specs.declared.rule.Transfer.{Transfer}
-use Rattle.channel_wakeups.specs.declared.rule.Transfer.TheVariants.{In, Out}
+use Rattle.channel_wakeups.specs.declared.rule.Transfer.TheVariants.{In, Out, Saw}
+use Rattle.channel_wakeups.specs.declared.rule.Sight.{Sight}
+use Rattle.channel_wakeups.specs.declared.rule.Sight.TheVariants.{Shut, Seen, Drained}
 use Rattle.channel_wakeups.specs.Lists.{total, is_this}
-use Rattle.channel_wakeups.specs.Log.{Weight, puts, takes, each, numbered, held, Once, Balanced, PutBefore, TookBefore}
-use Rattle.channel_wakeups.specs.Views.{pass, only, puts_of, takes_of}
-use Rattle.channel_wakeups.proofs.Sums.{only_some, balanced_by, was, Logs}
+use Rattle.channel_wakeups.specs.Log.{Weight, puts, takes, sights, each, numbered, held, Once, Balanced, PutBefore, TookBefore, Closings, each_sight, of_closer, of_drained, NotSeen, NotDrained}
+use Rattle.channel_wakeups.specs.Views.{pass, only, puts_of, takes_of, sights_of, messages}
+use Rattle.channel_wakeups.proofs.Sums.{only_some, balanced_by, was, Logs, Sights}
 
 module _ {T : Type 0} where
   pub puts_append : (f : Weight T) (l m : List (Transfer T)) → puts f (l ++ m) ≡ puts f l + puts f m
   puts_append f [] m = omega arith
   puts_append f (In k x ∷ l) m = let t = puts_append f l m in omega arith
   puts_append f (Out k x ∷ l) m = puts_append f l m
+  puts_append f (Saw s ∷ l) m = puts_append f l m
 
   pub takes_append : (f : Weight T) (l m : List (Transfer T)) → takes f (l ++ m) ≡ takes f l + takes f m
   takes_append f [] m = omega arith
   takes_append f (In k x ∷ l) m = takes_append f l m
   takes_append f (Out k x ∷ l) m = let t = takes_append f l m in omega arith
+  takes_append f (Saw s ∷ l) m = takes_append f l m
+
+  pub sights_append : (f : Sight → ℕ) (l m : List (Transfer T)) → sights f (l ++ m) ≡ sights f l + sights f m
+  sights_append f [] m = omega arith
+  sights_append f (In k x ∷ l) m = sights_append f l m
+  sights_append f (Out k x ∷ l) m = sights_append f l m
+  sights_append f (Saw s ∷ l) m = let t = sights_append f l m in omega arith
 
   -- a weight of the number n is that of n
   one_number : (f : Weight T) (m n : ℕ) (x : T) → m ≡ n → f m x ≡ f n x
@@ -66,6 +76,17 @@ module _ {T : Type 0} (W : Type 0) (p q : Weight T → ℕ) where
       let back = sym parts in
       let again = sym log in
       balanced_by r _ _ _ _ (λ f i. p f + only (back i) (puts f (again i))) (λ f i. q f + only (back i) (takes f (again i))) (b.0, λ f. b.1 f ∙ (λ i. q f + takes_of f v + hold (p each + puts_of each v) f i))
+
+  -- something was seen of the closing, and nothing was put in or taken out
+  pub saw_logs : (s r : home.Option (Option T)) (e : Sight) (n o g : ℕ) (l m i j : Line W) (lg : List (Transfer T)) → ((n : ℕ) (f : Weight T) → held n f s ≡ held n f r) → Logs p q s r (pass {W = W} n o l m lg) (pass n g i j (lg ++ Saw e ∷ []))
+  saw_logs s r e n o g l m i j lg hold b =
+      balanced_by r _ _ _ _ (λ f. put_same f) (λ f. took_same f) (b.0, λ f. b.1 f ∙ (λ i. q f + takes_of f (pass {W = W} n o l m lg) + hold (p each + puts_of each (pass {W = W} n o l m lg)) f i))
+    where
+      put_same : (f : Weight T) → p f + puts_of f (pass {W = W} n o l m lg) ≡ p f + puts_of f (pass {W = W} n g i j (lg ++ Saw e ∷ []))
+      put_same f = let a : puts f (lg ++ Saw e ∷ []) ≡ puts f lg = puts_append f lg (Saw e ∷ []) ∙ omega arith in (λ k. p f + only n (sym a k))
+
+      took_same : (f : Weight T) → q f + takes_of f (pass {W = W} n o l m lg) ≡ q f + takes_of f (pass {W = W} n g i j (lg ++ Saw e ∷ []))
+      took_same f = let a : takes f (lg ++ Saw e ∷ []) ≡ takes f lg = takes_append f lg (Saw e ∷ []) ∙ omega arith in (λ k. q f + only n (sym a k))
 
   -- a message was put in, as the last
   pub put_logs : (n s o g : ℕ) (l m i j : Line W) (x : T) (lg : List (Transfer T)) → 0 < s → n ≡ p each + puts_of each (pass {W = W} s o l m lg)
@@ -176,3 +197,70 @@ module _ {T W : Type 0} (views : List (View T W)) (id : ℕ) (v : View T W) (at 
 
   pub goes_next : (x : T) → Balanced (some (Some x)) (λ f. total (puts_of f) views) (λ f. total (takes_of f) views) → TookBefore (total (puts_of each) views - 1) v.log
   goes_next x b = next_taken (λ f. total (puts_of f) views) (λ f. total (takes_of f) views) (total (puts_of each) views) refl v.log own_puts own_takes x b
+
+  own_sights : (f : Sight → ℕ) → sights f v.log ≤ total (sights_of f) views
+  own_sights f = let w = was (sights_of f) refl views id v at in let y = only_some v.parts (sights f v.log) some_part in omega arith
+
+  -- in an open channel no pass has seen it closed; and beside a message none has seen it without one
+  pub not_seen : (m : ℕ) → Closings false m (λ f. total (sights_of f) views) → NotSeen v.log
+  not_seen m (one, seen, drained) = by_count (total (sights_of each_sight) views) (own_sights each_sight) seen
+    where
+      by_count : (n : ℕ) → sights each_sight v.log ≤ n → (0 < n → false ≡ true) → NotSeen v.log
+      by_count zero small never = omega arith
+      by_count (suc n) small never = absurd (no_true (never (omega arith)))
+        where
+          no_true : false ≡ true → ⊥
+          no_true e = absurd (cc)
+
+  pub not_drained : (shut : Bool) (m : ℕ) → 0 < m → Closings shut m (λ f. total (sights_of f) views) → NotDrained v.log
+  not_drained shut m some_message (one, seen, drained) = by_count (total (sights_of of_drained) views) (own_sights of_drained) drained
+    where
+      by_count : (n : ℕ) → sights of_drained v.log ≤ n → (0 < n → (shut ≡ true) × (m ≡ 0)) → NotDrained v.log
+      by_count zero small never = omega arith
+      by_count (suc n) small never = let z = (never (omega arith)).1 in absurd (omega arith)
+
+-- ---- what is known of the closing stays so
+
+module _ {T : Type 0} where
+  -- an entry that is no sight
+  pub moved : (lg : List (Transfer T)) (e : Transfer T) → ((f : Sight → ℕ) → sights f (e ∷ []) ≡ 0) → (f : Sight → ℕ) → sights f (lg ++ e ∷ []) ≡ sights f lg
+  moved lg e zero_each f = let a = sights_append f lg (e ∷ []) in let z = zero_each f in omega arith
+
+module _ {T W : Type 0} where
+  -- the log's sights stay, and where the state has a message still, or nobody has seen that it had none
+  pub sights_stay : (w x : ℕ) (c : Bool) (v u : View T W) → ((f : Sight → ℕ) → sights_of f u ≡ sights_of f v) → ((c ≡ true) × (messages w ≡ 0) → messages x ≡ 0) → Sights w x c c v u
+  sights_stay w x c v u same still k (one, seen, drained) =
+      let a = same of_closer in
+      let b = same each_sight in
+      let d = same of_drained in
+      (omega arith, (λ more. seen (omega arith)), (λ more. let z = drained (omega arith) in (z.0, still z)))
+
+  -- a pass without the closing in what it did last
+  pub sights_same : (p o n : ℕ) (l m i j : Line W) (lg mg : List (Transfer T)) → ((f : Sight → ℕ) → sights f mg ≡ sights f lg) → (f : Sight → ℕ) → sights_of f (pass {W = W} p n i j mg) ≡ sights_of f (pass p o l m lg)
+  sights_same p o n l m i j lg mg same f k = only p (same f k)
+
+  -- a pass saw the channel closed, or closed and without a message
+  module _ (p o n : ℕ) (l m i j : Line W) (lg : List (Transfer T)) (some_part : 0 < p) (s : Sight) (f : Sight → ℕ) where
+    pub one_more : sights_of f (pass {W = W} p n i j (lg ++ Saw s ∷ [])) ≡ sights_of f (pass {W = W} p o l m lg) + f s
+    one_more =
+        let a = sights_append f lg (Saw s ∷ []) in
+        let y = only_some p (sights f lg) some_part in
+        let z = only_some p (sights f (lg ++ Saw s ∷ [])) some_part in
+        omega arith
+
+  pub sights_seen : (w p o n : ℕ) (l m i j : Line W) (lg : List (Transfer T)) → 0 < p → Sights w w true true (pass p o l m lg) (pass p n i j (lg ++ Saw Seen ∷ []))
+  sights_seen w p o n l m i j lg some_part k (one, seen, drained) =
+      let a = one_more p o n l m i j lg some_part Seen of_closer in
+      let d = one_more p o n l m i j lg some_part Seen of_drained in
+      (omega arith, (λ more. refl), (λ more. drained (omega arith)))
+
+  pub sights_drained : (w p o n : ℕ) (l m i j : Line W) (lg : List (Transfer T)) → 0 < p → messages w ≡ 0 → Sights w w true true (pass p o l m lg) (pass p n i j (lg ++ Saw Drained ∷ []))
+  sights_drained w p o n l m i j lg some_part none_left k (one, seen, drained) =
+      let a = one_more p o n l m i j lg some_part Drained of_closer in
+      (omega arith, (λ more. refl), (λ more. (refl, none_left)))
+
+  pub sights_shut : (w p o n : ℕ) (l m i j : Line W) (lg : List (Transfer T)) → 0 < p → Sights w w false true (pass p o l m lg) (pass p n i j (lg ++ Saw Shut ∷ []))
+  sights_shut w p o n l m i j lg some_part k (one, seen, drained) =
+      let a = one_more p o n l m i j lg some_part Shut of_closer in
+      let d = one_more p o n l m i j lg some_part Shut of_drained in
+      (omega arith, (λ more. refl), (λ more. let z = drained (omega arith) in (refl, z.1)))

@@ -1,181 +1,73 @@
 -- Each step keeps the rule.
-use Rattle.std.proofs.Common.{◌⊎◌, inl, inr, ◌≡◌, ℕ, ◌+◌, ◌-◌, ◌<◌, ◌≤◌, ◌==◌, List, [], ◌∷◌, ◌++◌, Option, None, Some, set, sym, refl, ap, ◌∙◌, subst, ⊎_elim, arith}
-use Rattle.std.specs.Prelude.{slice_index, slice_set, bit_and}
+use Rattle.std.proofs.Common.{◌⊎◌, inl, inr, ◌≡◌, ℕ, ◌+◌, ◌-◌, ◌<◌, ◌==◌, List, [], ◌∷◌, ◌++◌, Bool, true, false, Option, None, Some, set, sym, refl, ap, ◌∙◌, subst, arith}
+use Rattle.std.specs.Prelude.{slice_index, slice_set, bit_and, bit_or}
 use mathlib.Core.Option as home
 use mathlib.Core.Option.{some, none}
 use lib.ListN.{get_elem?}
 use prog.Atomic.{either}
 use Rattle.atomic_table.specs.Table.{Me, Act, Valid, carried_after, homes_after, step, keeps, takes, gives, Allows}
 use Rattle.atomic_table.proofs.Lists.{set_again}
+use Rattle.concurrent_queue.specs.machine.Single.{clear}
 use Rattle.channel_wakeups.specs.declared.rule.Line.{Line}
 use Rattle.channel_wakeups.specs.declared.rule.View.{View}
 use Rattle.channel_wakeups.specs.declared.rule.Transfer.{Transfer}
-use Rattle.channel_wakeups.specs.declared.rule.Transfer.TheVariants.{In, Out}
-use Rattle.channel_wakeups.specs.Lists.{total, told, waits, listed}
+use Rattle.channel_wakeups.specs.declared.rule.Transfer.TheVariants.{In, Out, Saw}
+use Rattle.channel_wakeups.specs.declared.rule.Sight.{Sight}
+use Rattle.channel_wakeups.specs.declared.rule.Sight.TheVariants.{Shut, Seen, Drained}
+use Rattle.channel_wakeups.specs.Lists.{total}
 use Rattle.channel_wakeups.specs.Log.{Weight, puts, each, held}
-use Rattle.channel_wakeups.specs.Views.{Side, of_receives, of_sends, of, pass, changed, answering, ended, only, is_key, lists_of, locks_of, owns_of, puts_of, wanted, messages, places, Owed, IsSlot, empty, full, out, Ordered, Kept, Woken, Known, fills, wins, unlocks, Fair}
-use Rattle.channel_wakeups.proofs.Sums.{only_some, only_zero, others, others_free, was, turned, Goes, Places, Tickets, Logs, put_else, took_else}
-use Rattle.channel_wakeups.proofs.Logs.{puts_append, same_logs, put_logs, take_logs, comes_next, goes_next}
-use Rattle.channel_wakeups.proofs.History.{agrees_append, order_stays, order_grows}
+use Rattle.channel_wakeups.specs.Views.{Side, of_receives, of_sends, of, pass, changed, answering, resolved, ended, owing, noted, closer, only, lists_of, locks_of, owns_of, puts_of, word_of, shut_count, wanted, messages, places, IsSlot, empty, full, out, Ordered, Kept, Woken, Known, fills, wins, unlocks, shuts, sees, Fair}
+use Rattle.channel_wakeups.proofs.Sums.{only_some, others, others_free, was, turned, Goes, Closes, Tickets, Logs, put_else, took_else}
+use Rattle.channel_wakeups.proofs.Logs.{puts_append, same_logs, saw_logs, put_logs, take_logs, comes_next, goes_next, not_seen, not_drained, sights_stay, sights_same, moved, sights_seen, sights_drained, sights_shut}
+use Rattle.channel_wakeups.proofs.History.{agrees_append, agrees_saw, order_stays, order_grows}
+use Rattle.channel_wakeups.proofs.Laws.{no_home, no_true, no_empty, fills_place, wins_place, filled_place, emptied_place, fills_goes, wins_goes, refused_goes, rests_goes, shut_out_goes, drains_goes, shuts_goes, gives_goes, open_closes, shuts_closes, kept_closes, fair_goes, fair_closes, fair_tickets, turned_kept}
 
-no_home : {T : Type 0} (x : Option T) → some x ≡ none → ⊥
-no_home x e = absurd (cc)
+-- what the operations make of the word
+abbrev swap : ℕ → ℕ → ℕ → ℕ
+swap from to n = either (n == from) to n
 
-pub no_empty : {T : Type 0} (x : T) → some None ≡ some (Some x) → ⊥
-no_empty x e = absurd (cc)
+abbrev fill : ℕ → ℕ
+fill n = either (n == 0) 3 n
 
-fills_place : (T W : Type 0) (p : ℕ) (l m i j : Line W) (lg : List (Transfer T)) → 0 < p → Places {T = T} 0 3 (some None) none (pass {W = W} p 0 l m lg) (pass p 3 i j lg)
-fills_place T W p a m i j lg some_part l o free (empty e d c) =
-    let x = only_zero p in
-    let y = only_some p 1 some_part in
-    let z = only_some p 3 some_part in
-    let none_else : l ≡ 0 = omega arith in
-    let none_known : o ≡ 0 = free none_else in
-    out refl (omega arith) (omega arith) (inr refl)
-fills_place T W p a m i j lg some_part l o free (full x e d c) = absurd (omega arith)
-fills_place T W p a m i j lg some_part l o free (out d c e w) = absurd (no_home None d)
+abbrev shut_bit : ℕ → ℕ
+shut_bit n = bit_or n 4
 
-wins_place : (T W : Type 0) (x : T) (p : ℕ) (l m i j : Line W) (lg mg : List (Transfer T)) → 0 < p → Places {T = T} 2 1 (some (Some x)) none (pass {W = W} p 0 l m lg) (pass p 1 i j mg)
-wins_place T W x p a m i j lg mg some_part l o free (empty e d c) = absurd (omega arith)
-wins_place T W x p a m i j lg mg some_part l o free (full y e d c) =
-    let q = only_zero p in
-    let r = only_some p 1 some_part in
-    let none_else : l ≡ 0 = omega arith in
-    let none_known : o ≡ 0 = free none_else in
-    out refl (omega arith) (omega arith) (inl refl)
-wins_place T W x p a m i j lg mg some_part l o free (out d c e w) = absurd (no_home (Some x) d)
+abbrev same_word : ℕ → ℕ
+same_word n = n
 
-filled_place : (T W : Type 0) (x : T) (p : ℕ) (l m : Line W) (lg mg : List (Transfer T)) → 0 < p → Places {T = T} 3 2 none (some (Some x)) (pass {W = W} p 3 l m lg) (pass p 0 l m mg)
-filled_place T W x p a m lg mg some_part l o free (empty e d c) = absurd (omega arith)
-filled_place T W x p a m lg mg some_part l o free (full y e d c) = absurd (omega arith)
-filled_place T W x p a m lg mg some_part l o free (out d c e w) =
-    let q = only_zero p in
-    let r = only_some p 1 some_part in
-    full x refl refl (omega arith)
-
-emptied_place : (T W : Type 0) (p : ℕ) (l m : Line W) (lg : List (Transfer T)) → 0 < p → Places {T = T} 1 0 none (some None) (pass {W = W} p 1 l m lg) (pass p 0 l m lg)
-emptied_place T W p a m lg some_part l o free (empty e d c) = absurd (omega arith)
-emptied_place T W p a m lg some_part l o free (full y e d c) = absurd (omega arith)
-emptied_place T W p a m lg some_part l o free (out d c e w) =
-    let q = only_zero p in
-    let r = only_some p 1 some_part in
-    empty refl refl (omega arith)
-
--- ---- what a step does to the law of a side
-
--- nothing is left that those of the side wait for
-none_goes : (T W : Type 0) (s : Side) (w x : ℕ) (v u : View T W) → wanted s x ≡ 0 → Goes s w x v u
-none_goes T W s w x v u none_left key b t a h single owed some_waiting = inl (omega arith)
-
--- a push won the slot: it answers for the message on the one side, and no place is left on the other
-fills_goes : (T W : Type 0) (p : ℕ) (l m : Line W) (lg : List (Transfer T)) → 0 < p → (s : Side) → Goes s 0 3 (pass p 0 l m lg) (pass p 3 (answering l) (ended m) lg)
-fills_goes T W p l m lg some_part of_receives key b t a h single owed some_waiting = let x = only_some p (l.answers + 1) some_part in inl (omega arith)
-fills_goes T W p l m lg some_part of_sends key b t a h single owed some_waiting = none_goes T W of_sends 0 3 (pass p 0 l m lg) (pass p 3 (answering l) (ended m) lg) refl key b t a h single owed some_waiting
-
--- a pop won the message: it answers for the place on the one side, and no message is left on the other
-wins_goes : (T W : Type 0) (p : ℕ) (l m : Line W) (lg mg : List (Transfer T)) → 0 < p → (s : Side) → Goes s 2 1 (pass p 0 l m lg) (pass p 1 (ended l) (answering m) mg)
-wins_goes T W p l m lg mg some_part of_receives key b t a h single owed some_waiting = none_goes T W of_receives 2 1 (pass p 0 l m lg) (pass p 1 (ended l) (answering m) mg) refl key b t a h single owed some_waiting
-wins_goes T W p l m lg mg some_part of_sends key b t a h single owed some_waiting = let x = only_some p (m.answers + 1) some_part in inl (omega arith)
-
--- a push found no place, or a pop no message
-refused_goes : (T W : Type 0) (w p : ℕ) (l m : Line W) (lg : List (Transfer T)) → places w ≡ 0 → (s : Side) → Goes s w w (pass p 0 l m lg) (pass p 0 l (ended m) lg)
-refused_goes T W w p l m lg none_left of_receives key b t a h single owed some_waiting = owed some_waiting
-refused_goes T W w p l m lg none_left of_sends key b t a h single owed some_waiting = none_goes T W of_sends w w (pass p 0 l m lg) (pass p 0 l (ended m) lg) none_left key b t a h single owed some_waiting
-
-rests_goes : (T W : Type 0) (w p : ℕ) (l m : Line W) (lg : List (Transfer T)) → messages w ≡ 0 → (s : Side) → Goes s w w (pass p 0 l m lg) (pass p 0 (ended l) m lg)
-rests_goes T W w p l m lg none_left of_receives key b t a h single owed some_waiting = none_goes T W of_receives w w (pass p 0 l m lg) (pass p 0 (ended l) m lg) none_left key b t a h single owed some_waiting
-rests_goes T W w p l m lg none_left of_sends key b t a h single owed some_waiting = owed some_waiting
-
--- the slot is given back, and with it nothing that the law counts
-gives_goes : (T W : Type 0) (w x n o p : ℕ) (l m : Line W) (lg mg : List (Transfer T)) → messages w ≡ messages x → (s : Side) → Goes s w x (pass p n l m lg) (pass p o l m mg)
-gives_goes T W w x n o p l m lg mg same of_receives key b t a h single owed some_waiting = ⊎_elim (λ (c : messages w ≤ (t + only l.lists (told l.listeners)) + (a + only p l.answers)). inl (omega arith)) (λ (c : 0 < h + only p (is_key key l.holds)). inr c) (owed some_waiting)
-gives_goes T W w x n o p l m lg mg same of_sends key b t a h single owed some_waiting = ⊎_elim (λ (c : places w ≤ (t + only m.lists (told m.listeners)) + (a + only p m.answers)). inl (omega arith)) (λ (c : 0 < h + only p (is_key key m.holds)). inr c) (owed some_waiting)
-
-module _ {W : Type 0} where
-  -- a line with another's ticket and list, whatever it answers for and has in hand
-  abbrev Keeps : Line W → Line W → Type 0
-  Keeps l m = (m.ticket ≡ l.ticket) × (m.lists ≡ l.lists) × (m.listeners ≡ l.listeners)
-
-  tickets_keep : (l m : Line W) → Keeps l m → (key x y : ℕ) → y + is_key key l.ticket ≤ x + only l.lists (listed key l.listeners) → y + is_key key m.ticket ≤ x + only m.lists (listed key m.listeners)
-  tickets_keep l m a key x y before =
-      let t : is_key key m.ticket ≡ is_key key l.ticket = ap (is_key key) a.0 in
-      let s : only m.lists (listed key m.listeners) ≡ only l.lists (listed key l.listeners) = (λ k. only (a.1 k) (listed key (a.2 k))) in
-      omega arith
-
-  -- what a fair change does to the law of its side, and to the tickets
-  fair_goes : (n p b c g h key : ℕ) (l m : Line W) → 0 < p → l.lists ≡ 1 → Fair l m → (l.lists ≡ 1 → (b ≡ 0) × (c ≡ 0))
-      → Owed n (b + only l.lists (waits key l.listeners)) ((c + only l.lists (told l.listeners)) + (g + only p l.answers)) (h + only p (is_key key l.holds))
-      → Owed n (b + only m.lists (waits key m.listeners)) ((c + only m.lists (told m.listeners)) + (g + only p m.answers)) (h + only p (is_key key m.holds))
-  fair_goes n p b c g h key l m some_part here fair single owed some_waiting =
-      let z = single here in
-      let no_b = z.0 in
-      let no_c = z.1 in
-      let wl = fair.0 in
-      let lw = only_some l.lists (waits key l.listeners) (omega arith) in
-      let lt = only_some l.lists (told l.listeners) (omega arith) in
-      let la = only_some p l.answers some_part in
-      let lh = only_some p (is_key key l.holds) some_part in
-      let mw = only_some m.lists (waits key m.listeners) (omega arith) in
-      let mt = only_some m.lists (told m.listeners) (omega arith) in
-      let ma = only_some p m.answers some_part in
-      let mh = only_some p (is_key key m.holds) some_part in
-      ⊎_elim (λ (e : 0 < is_key key m.holds). inr (omega arith)) (λ (e : (0 < waits key l.listeners) × (told l.listeners + l.answers ≤ told m.listeners + m.answers) × (is_key key l.holds ≤ is_key key m.holds)).
-      let e0 = e.0 in
-      let e1 = e.1 in
-      let e2 = e.2 in
-      ⊎_elim (λ (d : n ≤ (c + only l.lists (told l.listeners)) + (g + only p l.answers)). inl (omega arith)) (λ (d : 0 < h + only p (is_key key l.holds)). inr (omega arith)) (owed (omega arith))) (fair.1 key (omega arith))
-
-  fair_tickets : (key x y : ℕ) (l m : Line W) → l.lists ≡ 1 → Fair l m → y + is_key key l.ticket ≤ x + only l.lists (listed key l.listeners) → y + is_key key m.ticket ≤ x + only m.lists (listed key m.listeners)
-  fair_tickets key x y l m here fair before =
-      let wl = fair.0 in
-      let lw = only_some l.lists (listed key l.listeners) (omega arith) in
-      let mw = only_some m.lists (listed key m.listeners) (omega arith) in
-      let may = fair.2 key in
-      omega arith
-
-module _ {T W : Type 0} where
-  -- a step that leaves tickets and lists alone
-  turned_kept : (w x : ℕ) (vs : List (View T W)) (id : ℕ) (v u : View T W) → get_elem? vs id ≡ some v → (s r : home.Option (Option T)) → u.parts ≡ v.parts → Keeps v.receives u.receives → Keeps v.sends u.sends → Places w x s r v u → ((side : Side) → Goes side w x v u)
-      → Logs (put_else vs id) (took_else vs id) s r v u → (Ordered s vs → Ordered r (set vs id u)) → Kept w s vs → Kept x r (set vs id u)
-  turned_kept w x vs id v u at s r parts a b places goes logs order k = turned w x vs id v u at s r parts lists places goes tickets logs order k
-    where
-      lists : (side : Side) → lists_of side u ≡ lists_of side v
-      lists of_receives = a.1
-      lists of_sends = b.1
-
-      tickets : (side : Side) → Tickets side v u
-      tickets of_receives key x y before = tickets_keep v.receives u.receives a key x y before
-      tickets of_sends key x y before = tickets_keep v.sends u.sends b key x y before
+abbrev unlocked : ℕ → ℕ
+unlocked n = bit_and n 18446744073709551614
 
 module _ {T W : Type 0} where
   -- what a step may make of the word, the slot and one seat
   abbrev pub Outcome : (ℕ → ℕ) → (ℕ → Me (Option T) (View T W) → Type 0) → Me (Option T) (View T W) → ℕ → List (View T W) → ℕ → home.Option (Option T) → Type 0
   Outcome f then me id views word slot =
-      (w : View T W) × (a : Act (Option T)) × (r : home.Option (Option T)) × Valid (slot ∷ []) me.1 a × (homes_after (slot ∷ []) me.1 a ≡ r ∷ []) × Kept (f word) r (set views id w) × then word (w, carried_after me.1 a)
+      (w : View T W) × (a : Act (Option T)) × (r : home.Option (Option T)) × (base : ℕ) × (shut : Bool) × Valid (slot ∷ []) me.1 a × (homes_after (slot ∷ []) me.1 a ≡ r ∷ []) × (f word ≡ word_of base shut) × Kept base shut r (set views id w)
+      × then word (w, carried_after me.1 a)
 
   pub by_rule : (f : ℕ → ℕ) (then : ℕ → Me (Option T) (View T W) → Type 0) (slots id : ℕ) (me : Me (Option T) (View T W))
-      → ((word : ℕ) (slot : home.Option (Option T)) (views : List (View T W)) → Kept word slot views → get_elem? views id ≡ some me.0 → Outcome f then me id views word slot)
+      → ((base : ℕ) (shut : Bool) (slot : home.Option (Option T)) (views : List (View T W)) → Kept base shut slot views → get_elem? views id ≡ some me.0 → Outcome f then me id views (word_of base shut) slot)
       → Allows Woken slots id me 0 f then
   by_rule f then slots id me go s h wide at small =
-      let r = go h.0 h.1 s.views h.4 at in (
+      let r = go h.0 h.1 h.2 s.views h.5 at in (
         r.0,
         r.1,
-        subst (λ (hs : List (home.Option (Option T))). Valid hs me.1 r.1) (sym h.3) r.3,
-        (f h.0, r.2, ap (λ (ws : List ℕ). slice_set ws 0 (f (slice_index ws 0))) h.2, ap (λ (hs : List (home.Option (Option T))). homes_after hs me.1 r.1) h.3 ∙ r.4, r.5),
-        subst (λ (n : ℕ). then n (r.0, carried_after me.1 r.1)) (sym (ap (λ (ws : List ℕ). slice_index ws 0) h.2)) r.6,
+        subst (λ (hs : List (home.Option (Option T))). Valid hs me.1 r.1) (sym h.4) r.5,
+        (r.3, r.4, r.2, ap (λ (ws : List ℕ). slice_set ws 0 (f (slice_index ws 0))) h.3 ∙ ap (λ (n : ℕ). n ∷ []) r.7, ap (λ (hs : List (home.Option (Option T))). homes_after hs me.1 r.1) h.4 ∙ r.6, r.8),
+        subst (λ (n : ℕ). then n (r.0, carried_after me.1 r.1)) (sym (ap (λ (ws : List ℕ). slice_index ws 0) h.3)) r.9,
       )
 
-  -- the word and the slot are these
-  as_is : (f : ℕ → ℕ) (then : ℕ → Me (Option T) (View T W) → Type 0) (me : Me (Option T) (View T W)) (id : ℕ) (views : List (View T W)) (word n : ℕ) (slot s : home.Option (Option T)) → word ≡ n → slot ≡ s
-      → (Kept n s views → Outcome f then me id views n s) → Kept word slot views → Outcome f then me id views word slot
-  as_is f then me id views word n slot s e d go k =
-      subst (λ (x : ℕ). Kept x slot views → Outcome f then me id views x slot) (sym e) (λ kn. subst (λ (y : home.Option (Option T)). Kept n y views → Outcome f then me id views n y) (sym d) go kn) k
+  -- the state and the slot are these
+  as_is : (f : ℕ → ℕ) (then : ℕ → Me (Option T) (View T W) → Type 0) (me : Me (Option T) (View T W)) (id : ℕ) (views : List (View T W)) (base n : ℕ) (shut : Bool) (slot s : home.Option (Option T)) → base ≡ n → slot ≡ s
+      → (Kept n shut s views → Outcome f then me id views (word_of n shut) s) → Kept base shut slot views → Outcome f then me id views (word_of base shut) slot
+  as_is f then me id views base n shut slot s e d go k =
+      subst (λ (x : ℕ). Kept x shut slot views → Outcome f then me id views (word_of x shut) slot) (sym e) (λ kn. subst (λ (y : home.Option (Option T)). Kept n shut y views → Outcome f then me id views (word_of n shut) y) (sym d) go kn) k
 
   -- nothing changes
-  unchanged : (then : ℕ → Me (Option T) (View T W) → Type 0) (f : ℕ → ℕ) (me : Me (Option T) (View T W)) (id : ℕ) (views : List (View T W)) (word : ℕ) (slot : home.Option (Option T)) → get_elem? views id ≡ some me.0 → f word ≡ word → then word me
-      → Kept word slot views → Outcome f then me id views word slot
-  unchanged then f me id views word slot at same tells k =
-      (me.0, keeps, slot, tt, refl, subst (λ (x : ℕ). Kept x slot (set views id me.0)) (sym same) (subst (Kept word slot) (sym (set_again views id me.0 at)) k), tells)
+  pub unchanged : (then : ℕ → Me (Option T) (View T W) → Type 0) (f : ℕ → ℕ) (me : Me (Option T) (View T W)) (id : ℕ) (views : List (View T W)) (base : ℕ) (shut : Bool) (slot : home.Option (Option T)) → get_elem? views id ≡ some me.0 → f (word_of base shut) ≡ word_of base shut → then (word_of base shut) me
+      → Kept base shut slot views → Outcome f then me id views (word_of base shut) slot
+  unchanged then f me id views base shut slot at same tells k =
+      (me.0, keeps, slot, base, shut, tt, refl, same, subst (Kept base shut slot) (sym (set_again views id me.0 at)) k, tells)
 
   -- ---- the history, where a message is taken out, and where one is put in
 
@@ -205,6 +97,11 @@ module _ {T W : Type 0} where
       → Ordered s views → Ordered r (set views id (pass p n i j lg))
   order_same p o n l m i j lg s r id views at slot = order_stays views id (pass p o l m lg) (pass p n i j lg) at s r refl (λ h i a. a) slot
 
+  order_saw : (p o n : ℕ) (l m i j : Line W) (lg : List (Transfer T)) (e : Sight) (s : home.Option (Option T)) (id : ℕ) (views : List (View T W)) → get_elem? views id ≡ some (pass p o l m lg) → Ordered s views → Ordered s (set views id (pass p n i j (lg ++ Saw e ∷ [])))
+  order_saw p o n l m i j lg e s id views at =
+      order_stays views id (pass p o l m lg) (pass p n i j (lg ++ Saw e ∷ [])) at s s (let a = puts_append each lg (Saw e ∷ []) in let b : puts each (lg ++ Saw e ∷ []) ≡ puts each lg = omega arith in (λ k. only p (b k)))
+      (λ h i a. agrees_saw h lg e a) (λ x e. e)
+
   -- ---- a push wins the empty slot, or finds none
 
   module _ (slots id p : ℕ) (l m : Line W) (lg : List (Transfer T)) (some_part : 0 < p) where
@@ -212,90 +109,264 @@ module _ {T W : Type 0} where
     Filled = fills {T = T} (step slots 0 0 3 none) (pass p 0 l m lg, [])
 
     abbrev Fill : List (View T W) → ℕ → home.Option (Option T) → Type 0
-    Fill views word slot = Outcome (λ n. either (n == 0) 3 n) Filled (pass p 0 l m lg, []) id views word slot
+    Fill views word slot = Outcome fill Filled (pass p 0 l m lg, []) id views word slot
 
     -- it found no place
-    fills_none : (n : ℕ) (slot : home.Option (Option T)) (views : List (View T W)) → get_elem? views id ≡ some (pass p 0 l m lg) → either (n == 0) 3 n ≡ n → places n ≡ 0 → (n ≡ 2) ⊎ (n ≡ 3) → Kept n slot views → Fill views n slot
-    fills_none n slot views at same none_left which k = (
+    fills_none : (n : ℕ) (slot : home.Option (Option T)) (views : List (View T W)) → get_elem? views id ≡ some (pass p 0 l m lg) → fill n ≡ n → places n ≡ 0 → (n ≡ 0 → ⊥) → clear n 4 ≡ true → clear n 2 ≡ false → Kept n false slot views → Fill views n slot
+    fills_none n slot views at same none_left other is_open is_full k = (
       pass p 0 l (ended m) lg,
       keeps,
       slot,
+      n,
+      false,
       tt,
       refl,
-      subst (λ (x : ℕ). Kept x slot (set views id (pass p 0 l (ended m) lg))) (sym same)
-          (turned_kept n n views id (pass p 0 l m lg) (pass p 0 l (ended m) lg) at slot slot refl (refl, refl, refl) (refl, refl, refl) (λ a o z i. i) (refused_goes T W n p l m lg none_left)
-          (logs_stay p 0 0 l m l (ended m) lg slot slot id views (λ n f. refl)) (order_same p 0 0 l m l (ended m) lg slot slot id views at (λ x e. e)) k),
-      inr (inr (which, refl)),
+      same,
+      turned_kept n n false false views id (pass p 0 l m lg) (pass p 0 l (ended m) lg) at slot slot refl (refl, refl, refl) (refl, refl, refl) (λ a o z i. i) (refused_goes T W n p l m lg none_left)
+          (λ s. open_closes T W s (pass p 0 l m lg) (pass p 0 l (ended m) lg)) (logs_stay p 0 0 l m l (ended m) lg slot slot id views (λ n f. refl)) (order_same p 0 0 l m l (ended m) lg slot slot id views at (λ x e. e))
+          (sights_stay n n false (pass p 0 l m lg) (pass p 0 l (ended m) lg) (λ f. refl) (λ z. z.1)) k,
+      inr (other, inr (inl (is_open, is_full, not_seen views id (pass p 0 l m lg) at some_part (messages n) k.closings, refl))),
     )
 
-    fills_at : (word : ℕ) (slot : home.Option (Option T)) (views : List (View T W)) → Kept word slot views → get_elem? views id ≡ some (pass p 0 l m lg) → IsSlot word slot (total locks_of views) (total owns_of views) → Fill views word slot
-    fills_at word slot views k at (empty e d c) =
-        as_is (λ n. either (n == 0) 3 n) Filled (pass p 0 l m lg, []) id views word 0 slot (some None) e d (λ kn. (
+    -- it found the channel closed
+    fills_closed : (n : ℕ) (slot : home.Option (Option T)) (views : List (View T W)) → get_elem? views id ≡ some (pass p 0 l m lg) → fill (n + 4) ≡ n + 4 → (n + 4 ≡ 0 → ⊥) → clear (n + 4) 4 ≡ false → Kept n true slot views → Fill views (n + 4) slot
+    fills_closed n slot views at same other is_closed k = (
+      pass p 0 l (resolved m) (lg ++ Saw Seen ∷ []),
+      keeps,
+      slot,
+      n,
+      true,
+      tt,
+      refl,
+      same,
+      turned_kept n n true true views id (pass p 0 l m lg) (pass p 0 l (resolved m) (lg ++ Saw Seen ∷ [])) at slot slot refl (refl, refl, refl) (refl, refl, refl) (λ a o z i. i) (shut_out_goes T W n p l m lg (lg ++ Saw Seen ∷ []))
+          (kept_closes T W true p 0 0 l m l (resolved m) lg (lg ++ Saw Seen ∷ []) (refl, refl, refl, refl) (refl, refl, refl, refl))
+          (saw_logs W (put_else views id) (took_else views id) slot slot Seen p 0 0 l m l (resolved m) lg (λ n f. refl)) (order_saw p 0 0 l m l (resolved m) lg Seen slot id views at)
+          (sights_seen n p 0 0 l m l (resolved m) lg some_part) k,
+      inr (other, inl (is_closed, refl)),
+    )
+
+    fills_at : (base : ℕ) (shut : Bool) (slot : home.Option (Option T)) (views : List (View T W)) → Kept base shut slot views → get_elem? views id ≡ some (pass p 0 l m lg) → IsSlot base slot (total locks_of views) (total owns_of views) → Fill views (word_of base shut) slot
+    fills_at base false slot views k at (empty e d c) =
+        as_is fill Filled (pass p 0 l m lg, []) id views base 0 false slot (some None) e d (λ kn. (
           pass p 3 (answering l) (ended m) lg,
           takes 0 None,
           none,
+          3,
+          false,
           refl,
           refl,
-          turned_kept 0 3 views id (pass p 0 l m lg) (pass p 3 (answering l) (ended m) lg) at (some None) none refl (refl, refl, refl) (refl, refl, refl) (fills_place T W p l m (answering l) (ended m) lg some_part) (fills_goes T W p l m lg some_part)
-              (logs_stay p 0 3 l m (answering l) (ended m) lg (some None) none id views (λ n f. refl)) (order_same p 0 3 l m (answering l) (ended m) lg (some None) none id views at (λ x e. absurd (no_home (Some x) (sym e)))) kn,
-          inl (refl, refl),
+          refl,
+          turned_kept 0 3 false false views id (pass p 0 l m lg) (pass p 3 (answering l) (ended m) lg) at (some None) none refl (refl, refl, refl) (refl, refl, refl) (fills_place T W p l m (answering l) (ended m) lg some_part) (fills_goes T W p l m lg some_part)
+              (λ s. open_closes T W s (pass p 0 l m lg) (pass p 3 (answering l) (ended m) lg)) (logs_stay p 0 3 l m (answering l) (ended m) lg (some None) none id views (λ n f. refl)) (order_same p 0 3 l m (answering l) (ended m) lg (some None) none id views at (λ x e. absurd (no_home (Some x) (sym e))))
+              (λ seen closings. (closings.0, closings.1, λ more. absurd (no_true ((closings.2 more).0)))) kn,
+          inl (refl, not_seen views id (pass p 0 l m lg) at some_part 0 kn.closings, refl),
         )) k
-    fills_at word slot views k at (full x e d c) =
-        as_is (λ n. either (n == 0) 3 n) Filled (pass p 0 l m lg, []) id views word 2 slot slot e refl (λ kn. fills_none 2 slot views at refl refl (inl refl) kn) k
-    fills_at word slot views k at (out d c e (inl w)) =
-        as_is (λ n. either (n == 0) 3 n) Filled (pass p 0 l m lg, []) id views word 1 slot slot w refl (λ kn. unchanged Filled (λ n. either (n == 0) 3 n) (pass p 0 l m lg, []) id views 1 slot at refl (inr (inl (refl, refl))) kn) k
-    fills_at word slot views k at (out d c e (inr w)) =
-        as_is (λ n. either (n == 0) 3 n) Filled (pass p 0 l m lg, []) id views word 3 slot slot w refl (λ kn. fills_none 3 slot views at refl refl (inr refl) kn) k
+    fills_at base true slot views k at (empty e d c) =
+        as_is fill Filled (pass p 0 l m lg, []) id views base 0 true slot slot e refl (λ kn. fills_closed 0 slot views at refl (λ e. absurd (omega arith)) refl kn) k
+    fills_at base false slot views k at (full x e d c) =
+        as_is fill Filled (pass p 0 l m lg, []) id views base 2 false slot slot e refl (λ kn. fills_none 2 slot views at refl refl (λ e. absurd (omega arith)) refl refl kn) k
+    fills_at base true slot views k at (full x e d c) =
+        as_is fill Filled (pass p 0 l m lg, []) id views base 2 true slot slot e refl (λ kn. fills_closed 2 slot views at refl (λ e. absurd (omega arith)) refl kn) k
+    fills_at base false slot views k at (out d c e (inl w)) =
+        as_is fill Filled (pass p 0 l m lg, []) id views base 1 false slot slot w refl (λ kn. unchanged Filled fill (pass p 0 l m lg, []) id views 1 false slot at refl (inr ((λ e. absurd (omega arith)), inr (inr (refl, refl, refl)))) kn) k
+    fills_at base true slot views k at (out d c e (inl w)) =
+        as_is fill Filled (pass p 0 l m lg, []) id views base 1 true slot slot w refl (λ kn. fills_closed 1 slot views at refl (λ e. absurd (omega arith)) refl kn) k
+    fills_at base false slot views k at (out d c e (inr w)) =
+        as_is fill Filled (pass p 0 l m lg, []) id views base 3 false slot slot w refl (λ kn. fills_none 3 slot views at refl refl (λ e. absurd (omega arith)) refl refl kn) k
+    fills_at base true slot views k at (out d c e (inr w)) =
+        as_is fill Filled (pass p 0 l m lg, []) id views base 3 true slot slot w refl (λ kn. fills_closed 3 slot views at refl (λ e. absurd (omega arith)) refl kn) k
 
-    pub fills_so : Allows Woken slots id (pass p 0 l m lg, []) 0 (λ n. either (n == 0) 3 n) Filled
-    fills_so = by_rule (λ n. either (n == 0) 3 n) Filled slots id (pass p 0 l m lg, []) (λ word slot views k at. fills_at word slot views k at k.place)
+    pub fills_so : Allows Woken slots id (pass p 0 l m lg, []) 0 fill Filled
+    fills_so = by_rule fill Filled slots id (pass p 0 l m lg, []) (λ base shut slot views k at. fills_at base shut slot views k at k.place)
 
-  -- ---- a pop wins the message, or finds none
+  -- ---- a pop wins the message, or finds none: of an open channel, from 2 to 1, or of a closed one, from 6 to 5
 
-  module _ (slots id p : ℕ) (l m : Line W) (lg : List (Transfer T)) (some_part : 0 < p) where
+  module _ (slots id p : ℕ) (l m : Line W) (lg : List (Transfer T)) (some_part : 0 < p) (from to : ℕ) where
     abbrev Won : ℕ → Known T W → Type 0
-    Won = wins {T = T} (step slots 0 2 1 none) (pass p 0 l m lg, [])
+    Won = wins {T = T} from (step slots 0 from to none) (pass p 0 l m lg, [])
 
     abbrev Win : List (View T W) → ℕ → home.Option (Option T) → Type 0
-    Win views word slot = Outcome (λ n. either (n == 2) 1 n) Won (pass p 0 l m lg, []) id views word slot
+    Win views word slot = Outcome (swap from to) Won (pass p 0 l m lg, []) id views word slot
 
     -- it found no message
-    wins_none : (n : ℕ) (slot : home.Option (Option T)) (views : List (View T W)) → get_elem? views id ≡ some (pass p 0 l m lg) → either (n == 2) 1 n ≡ n → messages n ≡ 0 → (n ≡ 0) ⊎ (n ≡ 1) → Kept n slot views → Win views n slot
-    wins_none n slot views at same none_left which k = (
+    wins_none : (n : ℕ) (slot : home.Option (Option T)) (views : List (View T W)) → get_elem? views id ≡ some (pass p 0 l m lg) → swap from to n ≡ n → messages n ≡ 0 → (n ≡ from → ⊥) → clear n 2 ≡ true → clear n 4 ≡ true → Kept n false slot views → Win views n slot
+    wins_none n slot views at same none_left other is_empty is_open k = (
       pass p 0 (ended l) m lg,
       keeps,
       slot,
+      n,
+      false,
       tt,
       refl,
-      subst (λ (x : ℕ). Kept x slot (set views id (pass p 0 (ended l) m lg))) (sym same)
-          (turned_kept n n views id (pass p 0 l m lg) (pass p 0 (ended l) m lg) at slot slot refl (refl, refl, refl) (refl, refl, refl) (λ a o z i. i) (rests_goes T W n p l m lg none_left)
-          (logs_stay p 0 0 l m (ended l) m lg slot slot id views (λ n f. refl)) (order_same p 0 0 l m (ended l) m lg slot slot id views at (λ x e. e)) k),
-      inr (inr (which, refl)),
+      same,
+      turned_kept n n false false views id (pass p 0 l m lg) (pass p 0 (ended l) m lg) at slot slot refl (refl, refl, refl) (refl, refl, refl) (λ a o z i. i) (rests_goes T W n p l m lg none_left)
+          (λ s. open_closes T W s (pass p 0 l m lg) (pass p 0 (ended l) m lg)) (logs_stay p 0 0 l m (ended l) m lg slot slot id views (λ n f. refl)) (order_same p 0 0 l m (ended l) m lg slot slot id views at (λ x e. e))
+          (sights_stay n n false (pass p 0 l m lg) (pass p 0 (ended l) m lg) (λ f. refl) (λ z. z.1)) k,
+      inr (other, inr (inl (is_empty, is_open, not_seen views id (pass p 0 l m lg) at some_part (messages n) k.closings, refl))),
     )
 
-    wins_at : (word : ℕ) (slot : home.Option (Option T)) (views : List (View T W)) → Kept word slot views → get_elem? views id ≡ some (pass p 0 l m lg) → IsSlot word slot (total locks_of views) (total owns_of views) → Win views word slot
-    wins_at word slot views k at (empty e d c) =
-        as_is (λ n. either (n == 2) 1 n) Won (pass p 0 l m lg, []) id views word 0 slot slot e refl (λ kn. wins_none 0 slot views at refl refl (inl refl) kn) k
-    wins_at word slot views k at (full x e d c) =
-        as_is (λ n. either (n == 2) 1 n) Won (pass p 0 l m lg, []) id views word 2 slot (some (Some x)) e d (λ kn. (
-          pass p 1 (ended l) (answering m) (lg ++ Out (total (puts_of each) views - 1) x ∷ []),
-          takes 0 (Some x),
-          none,
-          refl,
-          refl,
-          turned_kept 2 1 views id (pass p 0 l m lg) (pass p 1 (ended l) (answering m) (lg ++ Out (total (puts_of each) views - 1) x ∷ [])) at (some (Some x)) none refl (refl, refl, refl) (refl, refl, refl)
-              (wins_place T W x p l m (ended l) (answering m) lg (lg ++ Out (total (puts_of each) views - 1) x ∷ []) some_part) (wins_goes T W p l m lg (lg ++ Out (total (puts_of each) views - 1) x ∷ []) some_part)
-              (take_logs W (put_else views id) (took_else views id) (total (puts_of each) views) p 0 1 l m (ended l) (answering m) x lg some_part (was (puts_of each) refl views id (pass p 0 l m lg) at))
-              (takes_order p 1 l m (ended l) (answering m) lg x id views some_part at) kn,
-          inl (refl, (x, total (puts_of each) views - 1, goes_next views id (pass p 0 l m lg) at some_part x kn.balance, refl)),
-        )) k
-    wins_at word slot views k at (out d c e (inl w)) =
-        as_is (λ n. either (n == 2) 1 n) Won (pass p 0 l m lg, []) id views word 1 slot slot w refl (λ kn. wins_none 1 slot views at refl refl (inr refl) kn) k
-    wins_at word slot views k at (out d c e (inr w)) =
-        as_is (λ n. either (n == 2) 1 n) Won (pass p 0 l m lg, []) id views word 3 slot slot w refl (λ kn. unchanged Won (λ n. either (n == 2) 1 n) (pass p 0 l m lg, []) id views 3 slot at refl (inr (inl (refl, refl))) kn) k
+    -- it found none in a closed channel
+    wins_no_more : (n : ℕ) (slot : home.Option (Option T)) (views : List (View T W)) → get_elem? views id ≡ some (pass p 0 l m lg) → swap from to (n + 4) ≡ n + 4 → messages n ≡ 0 → (n + 4 ≡ from → ⊥) → clear (n + 4) 2 ≡ true → clear (n + 4) 4 ≡ false → Kept n true slot views → Win views (n + 4) slot
+    wins_no_more n slot views at same none_left other is_empty is_closed k = (
+      pass p 0 (resolved l) m (lg ++ Saw Drained ∷ []),
+      keeps,
+      slot,
+      n,
+      true,
+      tt,
+      refl,
+      same,
+      turned_kept n n true true views id (pass p 0 l m lg) (pass p 0 (resolved l) m (lg ++ Saw Drained ∷ [])) at slot slot refl (refl, refl, refl) (refl, refl, refl) (λ a o z i. i) (drains_goes T W n p l m lg (lg ++ Saw Drained ∷ []) none_left)
+          (kept_closes T W true p 0 0 l m (resolved l) m lg (lg ++ Saw Drained ∷ []) (refl, refl, refl, refl) (refl, refl, refl, refl))
+          (saw_logs W (put_else views id) (took_else views id) slot slot Drained p 0 0 l m (resolved l) m lg (λ n f. refl)) (order_saw p 0 0 l m (resolved l) m lg Drained slot id views at)
+          (sights_drained n p 0 0 l m (resolved l) m lg some_part none_left) k,
+      inr (other, inr (inr (is_empty, is_closed, refl))),
+    )
 
-    pub wins_so : Allows Woken slots id (pass p 0 l m lg, []) 0 (λ n. either (n == 2) 1 n) Won
-    wins_so = by_rule (λ n. either (n == 2) 1 n) Won slots id (pass p 0 l m lg, []) (λ word slot views k at. wins_at word slot views k at k.place)
+    -- a message is there that it did not win
+    wins_later : (base : ℕ) (shut : Bool) (slot : home.Option (Option T)) (views : List (View T W)) → get_elem? views id ≡ some (pass p 0 l m lg) → swap from to (word_of base shut) ≡ word_of base shut → (word_of base shut ≡ from → ⊥)
+        → clear (word_of base shut) 2 ≡ false → (bit_and (word_of base shut) 18446744073709551614 ≡ 2) ⊎ (bit_and (word_of base shut) 18446744073709551614 ≡ 6) → Kept base shut slot views → Win views (word_of base shut) slot
+    wins_later base shut slot views at same other is_full next k = unchanged Won (swap from to) (pass p 0 l m lg, []) id views base shut slot at same (inr (other, inl (is_full, next, refl))) k
+
+    -- it won the message
+    wins_message : (x : T) (shut : Bool) (views : List (View T W)) → get_elem? views id ≡ some (pass p 0 l m lg) → word_of 2 shut ≡ from → swap from to (word_of 2 shut) ≡ word_of 1 shut → Kept 2 shut (some (Some x)) views → Win views (word_of 2 shut) (some (Some x))
+    wins_message x shut views at is turns kn = (
+      pass p 1 (resolved l) (answering m) (lg ++ Out (total (puts_of each) views - 1) x ∷ []),
+      takes 0 (Some x),
+      none,
+      1,
+      shut,
+      refl,
+      refl,
+      turns,
+      turned_kept 2 1 shut shut views id (pass p 0 l m lg) (pass p 1 (resolved l) (answering m) (lg ++ Out (total (puts_of each) views - 1) x ∷ [])) at (some (Some x)) none refl (refl, refl, refl) (refl, refl, refl)
+          (wins_place T W x p l m (resolved l) (answering m) lg (lg ++ Out (total (puts_of each) views - 1) x ∷ []) some_part) (wins_goes T W shut p l m lg (lg ++ Out (total (puts_of each) views - 1) x ∷ []) some_part)
+          (kept_closes T W shut p 0 1 l m (resolved l) (answering m) lg (lg ++ Out (total (puts_of each) views - 1) x ∷ []) (refl, refl, refl, refl) (refl, refl, refl, refl))
+          (take_logs W (put_else views id) (took_else views id) (total (puts_of each) views) p 0 1 l m (resolved l) (answering m) x lg some_part (was (puts_of each) refl views id (pass p 0 l m lg) at))
+          (takes_order p 1 l m (resolved l) (answering m) lg x id views some_part at)
+          (sights_stay 2 1 shut (pass p 0 l m lg) (pass p 1 (resolved l) (answering m) (lg ++ Out (total (puts_of each) views - 1) x ∷ []))
+          (sights_same p 0 1 l m (resolved l) (answering m) lg (lg ++ Out (total (puts_of each) views - 1) x ∷ []) (moved lg (Out (total (puts_of each) views - 1) x) (λ f. refl))) (λ z. refl)) kn,
+      inl (is, not_drained views id (pass p 0 l m lg) at some_part shut 1 (omega arith) kn.closings, (x, total (puts_of each) views - 1, goes_next views id (pass p 0 l m lg) at some_part x kn.balance, refl)),
+    )
+
+  module _ (slots id p : ℕ) (l m : Line W) (lg : List (Transfer T)) (some_part : 0 < p) where
+    wins_at : (base : ℕ) (shut : Bool) (slot : home.Option (Option T)) (views : List (View T W)) → Kept base shut slot views → get_elem? views id ≡ some (pass p 0 l m lg) → IsSlot base slot (total locks_of views) (total owns_of views) → Win slots id p l m lg some_part 2 1 views (word_of base shut) slot
+    wins_at base false slot views k at (empty e d c) =
+        as_is (swap 2 1) (Won slots id p l m lg some_part 2 1) (pass p 0 l m lg, []) id views base 0 false slot slot e refl (λ kn. wins_none slots id p l m lg some_part 2 1 0 slot views at refl refl (λ e. absurd (omega arith)) refl refl kn) k
+    wins_at base true slot views k at (empty e d c) =
+        as_is (swap 2 1) (Won slots id p l m lg some_part 2 1) (pass p 0 l m lg, []) id views base 0 true slot slot e refl (λ kn. wins_no_more slots id p l m lg some_part 2 1 0 slot views at refl refl (λ e. absurd (omega arith)) refl refl kn) k
+    wins_at base false slot views k at (full x e d c) =
+        as_is (swap 2 1) (Won slots id p l m lg some_part 2 1) (pass p 0 l m lg, []) id views base 2 false slot (some (Some x)) e d (λ kn. wins_message slots id p l m lg some_part 2 1 x false views at refl refl kn) k
+    wins_at base true slot views k at (full x e d c) =
+        as_is (swap 2 1) (Won slots id p l m lg some_part 2 1) (pass p 0 l m lg, []) id views base 2 true slot slot e refl (λ kn. wins_later slots id p l m lg some_part 2 1 2 true slot views at refl (λ e. absurd (omega arith)) refl (inr refl) kn) k
+    wins_at base false slot views k at (out d c e (inl w)) =
+        as_is (swap 2 1) (Won slots id p l m lg some_part 2 1) (pass p 0 l m lg, []) id views base 1 false slot slot w refl (λ kn. wins_none slots id p l m lg some_part 2 1 1 slot views at refl refl (λ e. absurd (omega arith)) refl refl kn) k
+    wins_at base true slot views k at (out d c e (inl w)) =
+        as_is (swap 2 1) (Won slots id p l m lg some_part 2 1) (pass p 0 l m lg, []) id views base 1 true slot slot w refl (λ kn. wins_no_more slots id p l m lg some_part 2 1 1 slot views at refl refl (λ e. absurd (omega arith)) refl refl kn) k
+    wins_at base false slot views k at (out d c e (inr w)) =
+        as_is (swap 2 1) (Won slots id p l m lg some_part 2 1) (pass p 0 l m lg, []) id views base 3 false slot slot w refl (λ kn. wins_later slots id p l m lg some_part 2 1 3 false slot views at refl (λ e. absurd (omega arith)) refl (inl refl) kn) k
+    wins_at base true slot views k at (out d c e (inr w)) =
+        as_is (swap 2 1) (Won slots id p l m lg some_part 2 1) (pass p 0 l m lg, []) id views base 3 true slot slot w refl (λ kn. wins_later slots id p l m lg some_part 2 1 3 true slot views at refl (λ e. absurd (omega arith)) refl (inr refl) kn) k
+
+    pub wins_so : Allows Woken slots id (pass p 0 l m lg, []) 0 (λ n. either (n == 2) 1 n) (wins {T = T} 2 (step slots 0 2 1 none) (pass p 0 l m lg, []))
+    wins_so = by_rule (λ n. either (n == 2) 1 n) (wins {T = T} 2 (step slots 0 2 1 none) (pass p 0 l m lg, [])) slots id (pass p 0 l m lg, []) (λ base shut slot views k at. wins_at base shut slot views k at k.place)
+
+    last_at : (base : ℕ) (shut : Bool) (slot : home.Option (Option T)) (views : List (View T W)) → Kept base shut slot views → get_elem? views id ≡ some (pass p 0 l m lg) → IsSlot base slot (total locks_of views) (total owns_of views) → Win slots id p l m lg some_part 6 5 views (word_of base shut) slot
+    last_at base false slot views k at (empty e d c) =
+        as_is (swap 6 5) (Won slots id p l m lg some_part 6 5) (pass p 0 l m lg, []) id views base 0 false slot slot e refl (λ kn. wins_none slots id p l m lg some_part 6 5 0 slot views at refl refl (λ e. absurd (omega arith)) refl refl kn) k
+    last_at base true slot views k at (empty e d c) =
+        as_is (swap 6 5) (Won slots id p l m lg some_part 6 5) (pass p 0 l m lg, []) id views base 0 true slot slot e refl (λ kn. wins_no_more slots id p l m lg some_part 6 5 0 slot views at refl refl (λ e. absurd (omega arith)) refl refl kn) k
+    last_at base false slot views k at (full x e d c) =
+        as_is (swap 6 5) (Won slots id p l m lg some_part 6 5) (pass p 0 l m lg, []) id views base 2 false slot slot e refl (λ kn. wins_later slots id p l m lg some_part 6 5 2 false slot views at refl (λ e. absurd (omega arith)) refl (inl refl) kn) k
+    last_at base true slot views k at (full x e d c) =
+        as_is (swap 6 5) (Won slots id p l m lg some_part 6 5) (pass p 0 l m lg, []) id views base 2 true slot (some (Some x)) e d (λ kn. wins_message slots id p l m lg some_part 6 5 x true views at refl refl kn) k
+    last_at base false slot views k at (out d c e (inl w)) =
+        as_is (swap 6 5) (Won slots id p l m lg some_part 6 5) (pass p 0 l m lg, []) id views base 1 false slot slot w refl (λ kn. wins_none slots id p l m lg some_part 6 5 1 slot views at refl refl (λ e. absurd (omega arith)) refl refl kn) k
+    last_at base true slot views k at (out d c e (inl w)) =
+        as_is (swap 6 5) (Won slots id p l m lg some_part 6 5) (pass p 0 l m lg, []) id views base 1 true slot slot w refl (λ kn. wins_no_more slots id p l m lg some_part 6 5 1 slot views at refl refl (λ e. absurd (omega arith)) refl refl kn) k
+    last_at base false slot views k at (out d c e (inr w)) =
+        as_is (swap 6 5) (Won slots id p l m lg some_part 6 5) (pass p 0 l m lg, []) id views base 3 false slot slot w refl (λ kn. wins_later slots id p l m lg some_part 6 5 3 false slot views at refl (λ e. absurd (omega arith)) refl (inl refl) kn) k
+    last_at base true slot views k at (out d c e (inr w)) =
+        as_is (swap 6 5) (Won slots id p l m lg some_part 6 5) (pass p 0 l m lg, []) id views base 3 true slot slot w refl (λ kn. wins_later slots id p l m lg some_part 6 5 3 true slot views at refl (λ e. absurd (omega arith)) refl (inr refl) kn) k
+
+    pub last_so : Allows Woken slots id (pass p 0 l m lg, []) 0 (λ n. either (n == 6) 5 n) (wins {T = T} 6 (step slots 0 6 5 none) (pass p 0 l m lg, []))
+    last_so = by_rule (λ n. either (n == 6) 5 n) (wins {T = T} 6 (step slots 0 6 5 none) (pass p 0 l m lg, [])) slots id (pass p 0 l m lg, []) (λ base shut slot views k at. last_at base shut slot views k at k.place)
+
+  -- ---- a call closes the channel, or finds it closed; and a call looks whether it is
+
+  module _ (slots id p : ℕ) (l m : Line W) (lg : List (Transfer T)) (some_part : 0 < p) where
+    -- a call that found the channel closed notes it
+    notes : (f : ℕ → ℕ) (then : ℕ → Known T W → Type 0) (n : ℕ) (slot : home.Option (Option T)) (views : List (View T W)) → get_elem? views id ≡ some (pass p 0 l m lg) → f (n + 4) ≡ n + 4
+        → then (n + 4) (noted Seen (pass p 0 l m lg), []) → Kept n true slot views → Outcome f then (pass p 0 l m lg, []) id views (n + 4) slot
+    notes f then n slot views at same tells k = (
+      noted Seen (pass p 0 l m lg),
+      keeps,
+      slot,
+      n,
+      true,
+      tt,
+      refl,
+      same,
+      turned_kept n n true true views id (pass p 0 l m lg) (noted Seen (pass p 0 l m lg)) at slot slot refl (refl, refl, refl) (refl, refl, refl) (λ a o z i. i) (gives_goes T W n n 0 0 p true l m lg (lg ++ Saw Seen ∷ []) refl)
+          (kept_closes T W true p 0 0 l m l m lg (lg ++ Saw Seen ∷ []) (refl, refl, refl, refl) (refl, refl, refl, refl))
+          (saw_logs W (put_else views id) (took_else views id) slot slot Seen p 0 0 l m l m lg (λ n f. refl)) (order_saw p 0 0 l m l m lg Seen slot id views at)
+          (sights_seen n p 0 0 l m l m lg some_part) k,
+      tells,
+    )
+
+    abbrev HasShut : ℕ → Known T W → Type 0
+    HasShut = shuts {T = T} (step slots 0 4 0 none) (pass p 0 l m lg, [])
+
+    -- it closes the channel
+    shuts_first : (n : ℕ) (slot : home.Option (Option T)) (views : List (View T W)) → get_elem? views id ≡ some (pass p 0 l m lg) → shut_bit n ≡ n + 4 → clear n 4 ≡ true → Kept n false slot views → Outcome shut_bit HasShut (pass p 0 l m lg, []) id views n slot
+    shuts_first n slot views at turns is_open k = (
+      closer (pass p 0 l m lg),
+      keeps,
+      slot,
+      n,
+      true,
+      tt,
+      refl,
+      turns,
+      turned_kept n n false true views id (pass p 0 l m lg) (closer (pass p 0 l m lg)) at slot slot refl (refl, refl, refl) (refl, refl, refl) (λ a o z i. i) (shuts_goes T W n p l m lg (lg ++ Saw Shut ∷ []))
+          (shuts_closes T W p l m lg (lg ++ Saw Shut ∷ []) some_part)
+          (saw_logs W (put_else views id) (took_else views id) slot slot Shut p 0 0 l m (owing l) (owing m) lg (λ n f. refl)) (order_saw p 0 0 l m (owing l) (owing m) lg Shut slot id views at)
+          (sights_shut n p 0 0 l m (owing l) (owing m) lg some_part) k,
+      inl (is_open, not_seen views id (pass p 0 l m lg) at some_part (messages n) k.closings, refl),
+    )
+
+    shuts_at : (base : ℕ) (shut : Bool) (slot : home.Option (Option T)) (views : List (View T W)) → Kept base shut slot views → get_elem? views id ≡ some (pass p 0 l m lg) → IsSlot base slot (total locks_of views) (total owns_of views) → Outcome shut_bit HasShut (pass p 0 l m lg, []) id views (word_of base shut) slot
+    shuts_at base false slot views k at (empty e d c) = as_is shut_bit HasShut (pass p 0 l m lg, []) id views base 0 false slot slot e refl (λ kn. shuts_first 0 slot views at refl refl kn) k
+    shuts_at base false slot views k at (full x e d c) = as_is shut_bit HasShut (pass p 0 l m lg, []) id views base 2 false slot slot e refl (λ kn. shuts_first 2 slot views at refl refl kn) k
+    shuts_at base false slot views k at (out d c e (inl w)) = as_is shut_bit HasShut (pass p 0 l m lg, []) id views base 1 false slot slot w refl (λ kn. shuts_first 1 slot views at refl refl kn) k
+    shuts_at base false slot views k at (out d c e (inr w)) = as_is shut_bit HasShut (pass p 0 l m lg, []) id views base 3 false slot slot w refl (λ kn. shuts_first 3 slot views at refl refl kn) k
+    shuts_at base true slot views k at (empty e d c) = as_is shut_bit HasShut (pass p 0 l m lg, []) id views base 0 true slot slot e refl (λ kn. notes shut_bit HasShut 0 slot views at refl (inr (refl, refl)) kn) k
+    shuts_at base true slot views k at (full x e d c) = as_is shut_bit HasShut (pass p 0 l m lg, []) id views base 2 true slot slot e refl (λ kn. notes shut_bit HasShut 2 slot views at refl (inr (refl, refl)) kn) k
+    shuts_at base true slot views k at (out d c e (inl w)) = as_is shut_bit HasShut (pass p 0 l m lg, []) id views base 1 true slot slot w refl (λ kn. notes shut_bit HasShut 1 slot views at refl (inr (refl, refl)) kn) k
+    shuts_at base true slot views k at (out d c e (inr w)) = as_is shut_bit HasShut (pass p 0 l m lg, []) id views base 3 true slot slot w refl (λ kn. notes shut_bit HasShut 3 slot views at refl (inr (refl, refl)) kn) k
+
+    pub shuts_so : Allows Woken slots id (pass p 0 l m lg, []) 0 shut_bit HasShut
+    shuts_so = by_rule shut_bit HasShut slots id (pass p 0 l m lg, []) (λ base shut slot views k at. shuts_at base shut slot views k at k.place)
+
+    abbrev HasLooked : ℕ → Known T W → Type 0
+    HasLooked = sees {T = T} (step slots 0 0 0 none) (pass p 0 l m lg, [])
+
+    sees_open : (n : ℕ) (slot : home.Option (Option T)) (views : List (View T W)) → get_elem? views id ≡ some (pass p 0 l m lg) → clear n 4 ≡ true → Kept n false slot views → Outcome same_word HasLooked (pass p 0 l m lg, []) id views n slot
+    sees_open n slot views at is_open k = unchanged HasLooked same_word (pass p 0 l m lg, []) id views n false slot at refl (inl (is_open, not_seen views id (pass p 0 l m lg) at some_part (messages n) k.closings, refl)) k
+
+    sees_at : (base : ℕ) (shut : Bool) (slot : home.Option (Option T)) (views : List (View T W)) → Kept base shut slot views → get_elem? views id ≡ some (pass p 0 l m lg) → IsSlot base slot (total locks_of views) (total owns_of views) → Outcome same_word HasLooked (pass p 0 l m lg, []) id views (word_of base shut) slot
+    sees_at base false slot views k at (empty e d c) = as_is same_word HasLooked (pass p 0 l m lg, []) id views base 0 false slot slot e refl (λ kn. sees_open 0 slot views at refl kn) k
+    sees_at base false slot views k at (full x e d c) = as_is same_word HasLooked (pass p 0 l m lg, []) id views base 2 false slot slot e refl (λ kn. sees_open 2 slot views at refl kn) k
+    sees_at base false slot views k at (out d c e (inl w)) = as_is same_word HasLooked (pass p 0 l m lg, []) id views base 1 false slot slot w refl (λ kn. sees_open 1 slot views at refl kn) k
+    sees_at base false slot views k at (out d c e (inr w)) = as_is same_word HasLooked (pass p 0 l m lg, []) id views base 3 false slot slot w refl (λ kn. sees_open 3 slot views at refl kn) k
+    sees_at base true slot views k at (empty e d c) = as_is same_word HasLooked (pass p 0 l m lg, []) id views base 0 true slot slot e refl (λ kn. notes same_word HasLooked 0 slot views at refl (inr (refl, refl)) kn) k
+    sees_at base true slot views k at (full x e d c) = as_is same_word HasLooked (pass p 0 l m lg, []) id views base 2 true slot slot e refl (λ kn. notes same_word HasLooked 2 slot views at refl (inr (refl, refl)) kn) k
+    sees_at base true slot views k at (out d c e (inl w)) = as_is same_word HasLooked (pass p 0 l m lg, []) id views base 1 true slot slot w refl (λ kn. notes same_word HasLooked 1 slot views at refl (inr (refl, refl)) kn) k
+    sees_at base true slot views k at (out d c e (inr w)) = as_is same_word HasLooked (pass p 0 l m lg, []) id views base 3 true slot slot w refl (λ kn. notes same_word HasLooked 3 slot views at refl (inr (refl, refl)) kn) k
+
+    pub sees_so : Allows Woken slots id (pass p 0 l m lg, []) 0 same_word HasLooked
+    sees_so = by_rule same_word HasLooked slots id (pass p 0 l m lg, []) (λ base shut slot views k at. sees_at base shut slot views k at k.place)
 
   -- ---- who has the slot gives it back
 
@@ -319,71 +390,109 @@ module _ {T W : Type 0} where
           let free : others owns_of views id ≡ 0 = others_free views id rest in
           (omega arith, d)
 
+  -- the slot with its message
+  gives_full : (slots id p : ℕ) (l m : Line W) (lg : List (Transfer T)) (x : T) → 0 < p → (shut : Bool) (views : List (View T W)) → get_elem? views id ≡ some (pass p 3 l m lg) → unlocked (word_of 3 shut) ≡ word_of 2 shut → Kept 3 shut none views
+      → Outcome unlocked (unlocks {T = T} (step slots 0 18446744073709551614 0 none) (pass p 3 l m lg, (0, Some x) ∷ [])) (pass p 3 l m lg, (0, Some x) ∷ []) id views (word_of 3 shut) none
+  gives_full slots id p l m lg x some_part shut views at turns kn = (
+    pass p 0 l m (lg ++ In (total (puts_of each) views) x ∷ []),
+    gives,
+    some (Some x),
+    2,
+    shut,
+    tt,
+    refl,
+    turns,
+    turned_kept 3 2 shut shut views id (pass p 3 l m lg) (pass p 0 l m (lg ++ In (total (puts_of each) views) x ∷ [])) at none (some (Some x)) refl (refl, refl, refl) (refl, refl, refl) (filled_place T W x p l m lg (lg ++ In (total (puts_of each) views) x ∷ []) some_part)
+        (gives_goes T W 3 2 3 0 p shut l m lg (lg ++ In (total (puts_of each) views) x ∷ []) refl)
+        (kept_closes T W shut p 3 0 l m l m lg (lg ++ In (total (puts_of each) views) x ∷ []) (refl, refl, refl, refl) (refl, refl, refl, refl))
+        (put_logs W (put_else views id) (took_else views id) (total (puts_of each) views) p 3 0 l m l m x lg some_part (was (puts_of each) refl views id (pass p 3 l m lg) at))
+        (gives_order p 3 l m l m lg x id views some_part at)
+        (sights_stay 3 2 shut (pass p 3 l m lg) (pass p 0 l m (lg ++ In (total (puts_of each) views) x ∷ [])) (sights_same p 3 0 l m l m lg (lg ++ In (total (puts_of each) views) x ∷ []) (moved lg (In (total (puts_of each) views) x) (λ f. refl))) (λ z. z.1)) kn,
+    let next = comes_next views id (pass p 3 l m lg) at some_part none kn.balance in
+        (total (puts_of each) views, next.0, next.1, refl),
+  )
+
   pub unlocks_filled : (slots id p : ℕ) (l m : Line W) (lg : List (Transfer T)) (x : T) → 0 < p
       → Allows Woken slots id (pass {W = W} p 3 l m lg, (0, Some x) ∷ []) 0 (λ n. bit_and n 18446744073709551614) (unlocks {T = T} (step slots 0 18446744073709551614 0 none) (pass p 3 l m lg, (0, Some x) ∷ []))
   unlocks_filled slots id p l m lg x some_part =
-      by_rule (λ n. bit_and n 18446744073709551614) (unlocks {T = T} (step slots 0 18446744073709551614 0 none) (pass p 3 l m lg, (0, Some x) ∷ [])) slots id (pass p 3 l m lg, (0, Some x) ∷ []) (λ word slot views k at.
-      let is = held_word 3 p l m lg id word slot views some_part (omega arith) at k.place in
-      as_is (λ n. bit_and n 18446744073709551614) (unlocks {T = T} (step slots 0 18446744073709551614 0 none) (pass p 3 l m lg, (0, Some x) ∷ [])) (pass p 3 l m lg, (0, Some x) ∷ []) id views word 3 slot none is.0 is.1 (λ kn. (
-        pass p 0 l m (lg ++ In (total (puts_of each) views) x ∷ []),
-        gives,
-        some (Some x),
-        tt,
-        refl,
-        turned_kept 3 2 views id (pass p 3 l m lg) (pass p 0 l m (lg ++ In (total (puts_of each) views) x ∷ [])) at none (some (Some x)) refl (refl, refl, refl) (refl, refl, refl) (filled_place T W x p l m lg (lg ++ In (total (puts_of each) views) x ∷ []) some_part)
-            (gives_goes T W 3 2 3 0 p l m lg (lg ++ In (total (puts_of each) views) x ∷ []) refl)
-            (put_logs W (put_else views id) (took_else views id) (total (puts_of each) views) p 3 0 l m l m x lg some_part (was (puts_of each) refl views id (pass p 3 l m lg) at))
-            (gives_order p 3 l m l m lg x id views some_part at) kn,
-        let next = comes_next views id (pass p 3 l m lg) at some_part none kn.balance in
-            (total (puts_of each) views, next.0, next.1, refl),
-      )) k)
+      by_rule unlocked (unlocks {T = T} (step slots 0 18446744073709551614 0 none) (pass p 3 l m lg, (0, Some x) ∷ [])) slots id (pass p 3 l m lg, (0, Some x) ∷ []) (λ base shut slot views k at.
+      let is = held_word 3 p l m lg id base slot views some_part (omega arith) at k.place in
+      as_is unlocked (unlocks {T = T} (step slots 0 18446744073709551614 0 none) (pass p 3 l m lg, (0, Some x) ∷ [])) (pass p 3 l m lg, (0, Some x) ∷ []) id views base 3 shut slot none is.0 is.1
+      (λ kn. gives_full slots id p l m lg x some_part shut views at (turns shut) kn) k)
+    where
+      turns : (shut : Bool) → unlocked (word_of 3 shut) ≡ word_of 2 shut
+      turns true = refl
+      turns false = refl
+
+  -- and without one
+  gives_empty : (slots id p : ℕ) (l m : Line W) (lg : List (Transfer T)) → 0 < p → (shut : Bool) (views : List (View T W)) → get_elem? views id ≡ some (pass p 1 l m lg) → unlocked (word_of 1 shut) ≡ word_of 0 shut → Kept 1 shut none views
+      → Outcome unlocked (unlocks {T = T} (step slots 0 18446744073709551614 0 none) (pass p 1 l m lg, (0, None) ∷ [])) (pass p 1 l m lg, (0, None) ∷ []) id views (word_of 1 shut) none
+  gives_empty slots id p l m lg some_part shut views at turns kn = (
+    pass p 0 l m lg,
+    gives,
+    some None,
+    0,
+    shut,
+    tt,
+    refl,
+    turns,
+    turned_kept 1 0 shut shut views id (pass p 1 l m lg) (pass p 0 l m lg) at none (some None) refl (refl, refl, refl) (refl, refl, refl) (emptied_place T W p l m lg some_part) (gives_goes T W 1 0 1 0 p shut l m lg lg refl)
+        (kept_closes T W shut p 1 0 l m l m lg lg (refl, refl, refl, refl) (refl, refl, refl, refl))
+        (logs_stay p 1 0 l m l m lg none (some None) id views (λ n f. refl)) (order_same p 1 0 l m l m lg none (some None) id views at (λ x e. absurd (no_empty x e)))
+        (sights_stay 1 0 shut (pass p 1 l m lg) (pass p 0 l m lg) (λ f. refl) (λ z. refl)) kn,
+    let next = comes_next views id (pass p 1 l m lg) at some_part none kn.balance in
+        (total (puts_of each) views, next.0, next.1, refl),
+  )
 
   pub unlocks_emptied : (slots id p : ℕ) (l m : Line W) (lg : List (Transfer T)) → 0 < p
       → Allows Woken slots id (pass {W = W} p 1 l m lg, (0, None) ∷ []) 0 (λ n. bit_and n 18446744073709551614) (unlocks {T = T} (step slots 0 18446744073709551614 0 none) (pass p 1 l m lg, (0, None) ∷ []))
   unlocks_emptied slots id p l m lg some_part =
-      by_rule (λ n. bit_and n 18446744073709551614) (unlocks {T = T} (step slots 0 18446744073709551614 0 none) (pass p 1 l m lg, (0, None) ∷ [])) slots id (pass p 1 l m lg, (0, None) ∷ []) (λ word slot views k at.
-      let is = held_word 1 p l m lg id word slot views some_part (omega arith) at k.place in
-      as_is (λ n. bit_and n 18446744073709551614) (unlocks {T = T} (step slots 0 18446744073709551614 0 none) (pass p 1 l m lg, (0, None) ∷ [])) (pass p 1 l m lg, (0, None) ∷ []) id views word 1 slot none is.0 is.1 (λ kn. (
-        pass p 0 l m lg,
-        gives,
-        some None,
-        tt,
-        refl,
-        turned_kept 1 0 views id (pass p 1 l m lg) (pass p 0 l m lg) at none (some None) refl (refl, refl, refl) (refl, refl, refl) (emptied_place T W p l m lg some_part) (gives_goes T W 1 0 1 0 p l m lg lg refl)
-            (logs_stay p 1 0 l m l m lg none (some None) id views (λ n f. refl)) (order_same p 1 0 l m l m lg none (some None) id views at (λ x e. absurd (no_empty x e))) kn,
-        let next = comes_next views id (pass p 1 l m lg) at some_part none kn.balance in
-            (total (puts_of each) views, next.0, next.1, refl),
-      )) k)
+      by_rule unlocked (unlocks {T = T} (step slots 0 18446744073709551614 0 none) (pass p 1 l m lg, (0, None) ∷ [])) slots id (pass p 1 l m lg, (0, None) ∷ []) (λ base shut slot views k at.
+      let is = held_word 1 p l m lg id base slot views some_part (omega arith) at k.place in
+      as_is unlocked (unlocks {T = T} (step slots 0 18446744073709551614 0 none) (pass p 1 l m lg, (0, None) ∷ [])) (pass p 1 l m lg, (0, None) ∷ []) id views base 1 shut slot none is.0 is.1
+      (λ kn. gives_empty slots id p l m lg some_part shut views at (turns shut) kn) k)
+    where
+      turns : (shut : Bool) → unlocked (word_of 1 shut) ≡ word_of 0 shut
+      turns true = refl
+      turns false = refl
 
   -- ---- the list of a side was changed
 
-  changes : (side : Side) (w : ℕ) (views : List (View T W)) (id : ℕ) (v : View T W) (m : Line W) → get_elem? views id ≡ some v → 0 < v.parts → (of side v).lists ≡ 1 → Fair (of side v) m → (slot : home.Option (Option T)) → Kept w slot views → Kept w slot (set views id (changed side v m))
-  changes of_receives w views id v m at some_part here fair slot k =
-      turned w w views id v (changed of_receives v m) at slot slot refl lists (λ a o z i. i) goes tickets (same_logs W (put_else views id) (took_else views id) slot slot v (changed of_receives v m) (λ n f. refl) refl refl)
-      (order_stays views id v (changed of_receives v m) at slot slot refl (λ h i a. a) (λ x e. e)) k
+  changes : (side : Side) (w : ℕ) (shut : Bool) (views : List (View T W)) (id : ℕ) (v : View T W) (m : Line W) → get_elem? views id ≡ some v → 0 < v.parts → (of side v).lists ≡ 1 → Fair (of side v) m → (slot : home.Option (Option T)) → Kept w shut slot views → Kept w shut slot (set views id (changed side v m))
+  changes of_receives w shut views id v m at some_part here fair slot k =
+      turned w w shut shut views id v (changed of_receives v m) at slot slot refl lists (λ a o z i. i) goes closes tickets (same_logs W (put_else views id) (took_else views id) slot slot v (changed of_receives v m) (λ n f. refl) refl refl)
+      (order_stays views id v (changed of_receives v m) at slot slot refl (λ h i a. a) (λ x e. e)) (sights_stay w w shut v (changed of_receives v m) (λ f. refl) (λ z. z.1)) k
     where
       lists : (s : Side) → lists_of s (changed of_receives v m) ≡ lists_of s v
       lists of_receives = fair.0 ∙ sym here
       lists of_sends = refl
 
-      goes : (s : Side) → Goes s w w v (changed of_receives v m)
-      goes of_receives key b t a h single owed some_waiting = fair_goes (messages w) v.parts b t a h key v.receives m some_part here fair single owed some_waiting
+      goes : (s : Side) → Goes s w w shut shut v (changed of_receives v m)
+      goes of_receives key b t a h single owed some_waiting = fair_goes (wanted of_receives w shut) v.parts b t a h key v.receives m some_part here fair single owed some_waiting
       goes of_sends key b t a h single owed some_waiting = owed some_waiting
+
+      closes : (s : Side) → Closes s shut shut v (changed of_receives v m)
+      closes of_receives key b a h single owed some_waiting = fair_closes (shut_count shut) v.parts b a h key v.receives m some_part here fair single owed some_waiting
+      closes of_sends key b a h single owed some_waiting = owed some_waiting
 
       tickets : (s : Side) → Tickets s v (changed of_receives v m)
       tickets of_receives key x y before = fair_tickets key x y v.receives m here fair before
       tickets of_sends key x y before = before
-  changes of_sends w views id v m at some_part here fair slot k =
-      turned w w views id v (changed of_sends v m) at slot slot refl lists (λ a o z i. i) goes tickets (same_logs W (put_else views id) (took_else views id) slot slot v (changed of_sends v m) (λ n f. refl) refl refl)
-      (order_stays views id v (changed of_sends v m) at slot slot refl (λ h i a. a) (λ x e. e)) k
+  changes of_sends w shut views id v m at some_part here fair slot k =
+      turned w w shut shut views id v (changed of_sends v m) at slot slot refl lists (λ a o z i. i) goes closes tickets (same_logs W (put_else views id) (took_else views id) slot slot v (changed of_sends v m) (λ n f. refl) refl refl)
+      (order_stays views id v (changed of_sends v m) at slot slot refl (λ h i a. a) (λ x e. e)) (sights_stay w w shut v (changed of_sends v m) (λ f. refl) (λ z. z.1)) k
     where
       lists : (s : Side) → lists_of s (changed of_sends v m) ≡ lists_of s v
       lists of_receives = refl
       lists of_sends = fair.0 ∙ sym here
 
-      goes : (s : Side) → Goes s w w v (changed of_sends v m)
+      goes : (s : Side) → Goes s w w shut shut v (changed of_sends v m)
       goes of_receives key b t a h single owed some_waiting = owed some_waiting
-      goes of_sends key b t a h single owed some_waiting = fair_goes (places w) v.parts b t a h key v.sends m some_part here fair single owed some_waiting
+      goes of_sends key b t a h single owed some_waiting = fair_goes (wanted of_sends w shut) v.parts b t a h key v.sends m some_part here fair single owed some_waiting
+
+      closes : (s : Side) → Closes s shut shut v (changed of_sends v m)
+      closes of_receives key b a h single owed some_waiting = owed some_waiting
+      closes of_sends key b a h single owed some_waiting = fair_closes (shut_count shut) v.parts b a h key v.sends m some_part here fair single owed some_waiting
 
       tickets : (s : Side) → Tickets s v (changed of_sends v m)
       tickets of_receives key x y before = before
@@ -391,4 +500,4 @@ module _ {T W : Type 0} where
 
   pub aims : (slots id : ℕ) (me : Known T W) (side : Side) (m : Line W) → 0 < me.0.parts → (of side me.0).lists ≡ 1 → Fair (of side me.0) m → Allows {S = Option T} Woken slots id me 0 (λ n. n) (λ n k. k ≡ (changed side me.0 m, me.1))
   aims slots id me side m some_part here fair =
-      by_rule (λ n. n) (λ n k. k ≡ (changed side me.0 m, me.1)) slots id me (λ word slot views k at. (changed side me.0 m, keeps, slot, tt, refl, changes side word views id me.0 m at some_part here fair slot k, refl))
+      by_rule (λ n. n) (λ n k. k ≡ (changed side me.0 m, me.1)) slots id me (λ base shut slot views k at. (changed side me.0 m, keeps, slot, base, shut, tt, refl, refl, changes side base shut views id me.0 m at some_part here fair slot k, refl))

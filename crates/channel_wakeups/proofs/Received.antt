@@ -2,7 +2,7 @@
 use Rattle.std.proofs.Common.{inl, inr, ◌≡◌, ℕ, ◌<◌, ◌==◌, Bool, true, false, List, [], ◌∷◌, Option, cond, true-eqb, sym, refl, ap, ◌∙◌, subst, arith}
 use mathlib.Core.Option.{some-injective}
 use Rattle.channel_wakeups.specs.declared.rule.Transfer.{Transfer}
-use Rattle.channel_wakeups.specs.declared.rule.Transfer.TheVariants.{In, Out}
+use Rattle.channel_wakeups.specs.declared.rule.Transfer.TheVariants.{In, Out, Saw}
 use Rattle.channel_wakeups.specs.Lists.{is_this}
 use Rattle.channel_wakeups.specs.Log.{puts, takes, numbered, InHistory, Agrees, Has, Accounts}
 use Rattle.channel_wakeups.proofs.Logs.{this_same}
@@ -17,6 +17,7 @@ module _ {T : Type 0} where
   number : Transfer T → ℕ
   number (In k x) = k
   number (Out k x) = k
+  number (Saw s) = 0
 
   took_one : (k : ℕ) (x : T) (log : List (Transfer T)) → Has (Out k x) log → 0 < takes (numbered k) log
   unfolding number
@@ -24,6 +25,8 @@ module _ {T : Type 0} where
   took_one k x (In j y ∷ l) (inl same) = absurd (cc)
   took_one k x (In j y ∷ l) (inr more) = took_one k x l more
   took_one k x (Out j y ∷ l) (inl same) = let one = this_same j k (sym (ap number same)) in omega arith
+  took_one k x (Saw s ∷ l) (inl same) = absurd (cc)
+  took_one k x (Saw s ∷ l) (inr more) = took_one k x l more
   took_one k x (Out j y ∷ l) (inr more) = let some_more = took_one k x l more in omega arith
 
   some_put : (k : ℕ) (log : List (Transfer T)) → 0 < puts (numbered k) log → (x : T) × Has (In k x) log
@@ -36,6 +39,7 @@ module _ {T : Type 0} where
           let none : is_this j k ≡ 0 = ap (λ (b : Bool). cond b 1 0) e in
           let more = later (omega arith) in
           (more.0, inr more.1)
+  some_put k (Saw s ∷ l) some_there = let more = some_put k l some_there in (more.0, inr more.1)
   some_put k (Out j y ∷ l) some_there = let more = some_put k l some_there in (more.0, inr more.1)
 
   -- what was taken out was put in, under the same number

@@ -1,30 +1,32 @@
 -- Seats are joined and split, and one that has every part learns the rule.
-use Rattle.std.proofs.Common.{◌⊎◌, inl, inr, ◌≡◌, ℕ, ◌+◌, ◌-◌, ◌/◌, ◌<◌, ◌≤◌, List, [], ◌∷◌, ◌++◌, Option, None, Some, cond, is_some, set, sym, refl, ap, ◌∙◌, subst, ⊎_elim, arith}
+use Rattle.std.proofs.Common.{◌⊎◌, inl, ◌≡◌, ℕ, ◌+◌, ◌-◌, ◌/◌, ◌<◌, ◌≤◌, List, [], ◌∷◌, ◌++◌, Bool, true, false, Option, None, Some, cond, is_some, set, sym, refl, ap, ◌∙◌, subst, ⊎_elim, arith}
 use mathlib.Core.Option as home
 use mathlib.Core.Option.{some, none}
 use lib.ListN.{get_elem?}
-use Rattle.atomic_table.specs.Table.{State, step, Allows, Splits, Joins, Enters, opening}
-use Rattle.atomic_table.proofs.Lists.{set_again}
+use Rattle.atomic_table.specs.Table.{step, Allows, Splits, Joins, Enters, opening}
 use Rattle.channel_wakeups.specs.declared.rule.Line.{Line}
 use Rattle.channel_wakeups.specs.declared.rule.View.{View}
 use Rattle.channel_wakeups.specs.Lists.{total, told, waits, listed}
-use Rattle.channel_wakeups.specs.Views.{Side, of_receives, of_sends, of, idle, calling, list_part, call_part, both_parts, ticketed, nobody, pass, everything, entered, stays, comes_out, receives_alone, sends_alone, absorbed, kept_half, given_half, one_ticket, no_ticket, ticket_of, with_ticket, only, is_key, parts_of, lists_of, answers_of, holds_of, locks_of, owns_of, waits_of, told_of, listed_of, tickets_of, puts_of, takes_of, wanted, Owed, IsSlot, empty, full, out, AllAgree, Ordered, Kept, Woken, Known, HasAll, learns}
-use Rattle.channel_wakeups.proofs.Sums.{at_nobody, balanced_by, only_none, only_some, only_zero, owed_by, slot_by, none_here, others, was, total_set, total_snoc, alone}
-use Rattle.channel_wakeups.specs.Log.{Weight, puts, takes, each, Agrees, IsHistory, Balanced, Accounts}
-use Rattle.channel_wakeups.proofs.Logs.{puts_append, takes_append}
+use Rattle.channel_wakeups.specs.Views.{Side, of_receives, of_sends, of, idle, calling, list_part, call_part, both_parts, ticketed, nobody, pass, everything, entered, stays, comes_out, receives_alone, sends_alone, absorbed, kept_half, given_half, one_ticket, no_ticket, ticket_of, with_ticket, only, is_key, parts_of, lists_of, answers_of, holds_of, closes_of, sights_of, locks_of, owns_of, waits_of, told_of, listed_of, tickets_of, puts_of, takes_of, word_of, shut_count, messages, has_message, is_shut, due, wanted, Owed, IsSlot, empty, full, out, AllAgree, Ordered, Kept, Woken, Known, HasAll, learns}
+use Rattle.channel_wakeups.proofs.Sums.{at_nobody, balanced_by, closings_by, only_none, only_some, only_zero, owed_by, slot_by, none_here, others, was, total_set, total_snoc, alone}
+use Rattle.channel_wakeups.specs.Log.{Weight, puts, takes, sights, each, Agrees, IsHistory, Balanced, Accounts, Closings}
+use Rattle.channel_wakeups.specs.declared.rule.Sight.{Sight}
+use Rattle.channel_wakeups.proofs.Logs.{puts_append, takes_append, sights_append}
 use Rattle.channel_wakeups.proofs.History.{agrees_append, agrees_at, agrees_beside, agrees_set, agrees_snoc}
-use Rattle.channel_wakeups.proofs.Moves.{no_empty, by_rule}
+use Rattle.channel_wakeups.proofs.Laws.{no_empty}
+use Rattle.channel_wakeups.proofs.Moves.{by_rule, unchanged}
 use Rattle.channel_wakeups.specs.declared.rule.Transfer.{Transfer}
 
 -- all that is counted of a line
 data LineSum : Type 0 where
-  lists told_ones answers : LineSum
+  lists told_ones answers closes : LineSum
   waiting holding tickets in_list : ℕ → LineSum
 
 -- all that is counted
 data Sum (T : Type 0) : Type 0 where
   parts locks owns : Sum T
   putting taking : Weight T → Sum T
+  seeing : (Sight → ℕ) → Sum T
   on : Side → LineSum → Sum T
 
 module _ {W : Type 0} where
@@ -32,6 +34,7 @@ module _ {W : Type 0} where
   line_sum lists p l = l.lists
   line_sum told_ones p l = only l.lists (told l.listeners)
   line_sum answers p l = only p l.answers
+  line_sum closes p l = only p l.closes
   line_sum (waiting key) p l = only l.lists (waits key l.listeners)
   line_sum (holding key) p l = only p (is_key key l.holds)
   line_sum (tickets key) p l = is_key key l.ticket
@@ -44,6 +47,7 @@ module _ {T W : Type 0} where
   sum_of owns v = owns_of v
   sum_of (putting f) v = puts_of f v
   sum_of (taking f) v = takes_of f v
+  sum_of (seeing f) v = sights_of f v
   sum_of (on s x) v = line_sum x v.parts (of s v)
 
 -- an idle line counts for nothing
@@ -51,6 +55,7 @@ idle_line : (W : Type 0) (x : LineSum) (p : ℕ) → line_sum {W = W} x p idle �
 idle_line W lists p = refl
 idle_line W told_ones p = refl
 idle_line W answers p = only_zero p
+idle_line W closes p = only_zero p
 idle_line W (waiting key) p = refl
 idle_line W (holding key) p = only_zero p
 idle_line W (tickets key) p = refl
@@ -62,12 +67,13 @@ nothing T W locks = refl
 nothing T W owns = refl
 nothing T W (putting f) = refl
 nothing T W (taking f) = refl
+nothing T W (seeing f) = refl
 nothing T W (on s x) = at_nobody T W (line_sum x 0) (idle_line W x 0) s
 
 module _ {T W : Type 0} where
   -- the rule speaks of these sums alone
-  same : (w : ℕ) (s : home.Option (Option T)) (vs ws : List (View T W)) → ((k : Sum T) → total (sum_of k) ws ≡ total (sum_of k) vs) → ((h : List T) → AllAgree h vs → AllAgree h ws) → Kept w s vs → Kept w s ws
-  same w s vs ws each agree k =
+  same : (w : ℕ) (c : Bool) (s : home.Option (Option T)) (vs ws : List (View T W)) → ((k : Sum T) → total (sum_of k) ws ≡ total (sum_of k) vs) → ((h : List T) → AllAgree h vs → AllAgree h ws) → Kept w c s vs → Kept w c s ws
+  same w c s vs ws each agree k =
       record {
         whole = each parts ∙ k.whole;
         one = λ side. each (on side lists) ∙ k.one side;
@@ -77,7 +83,10 @@ module _ {T W : Type 0} where
             let y : total (told_of side) ws ≡ total (told_of side) vs = each (on side told_ones) in
             let z : total (answers_of side) ws ≡ total (answers_of side) vs = each (on side answers) in
             let h : total (holds_of side key) vs ≡ total (holds_of side key) ws = sym (each (on side (holding key))) in
-            owed_by (wanted side w) (total (told_of side) vs + total (answers_of side) vs) (total (holds_of side key) vs) (total (told_of side) ws + total (answers_of side) ws) (total (holds_of side key) ws) (omega arith) h (k.owed side key (omega arith));
+            owed_by (wanted side w c) (total (told_of side) vs + total (answers_of side) vs) (total (holds_of side key) vs) (total (told_of side) ws + total (answers_of side) ws) (total (holds_of side key) ws) (omega arith) h (k.owed side key (omega arith));
+        shutting = λ side key some_waiting.
+            let x : total (waits_of side key) ws ≡ total (waits_of side key) vs = each (on side (waiting key)) in
+            owed_by (shut_count c) (total (closes_of side) vs) (total (holds_of side key) vs) (total (closes_of side) ws) (total (holds_of side key) ws) (sym (each (on side closes))) (sym (each (on side (holding key)))) (k.shutting side key (omega arith));
         tickets = λ side key.
             let x : total (tickets_of side key) ws ≡ total (tickets_of side key) vs = each (on side (tickets key)) in
             let y : total (listed_of side key) ws ≡ total (listed_of side key) vs = each (on side (in_list key)) in
@@ -85,6 +94,7 @@ module _ {T W : Type 0} where
             omega arith;
         balance = balanced_by s _ _ _ _ (λ f. sym (each (putting f))) (λ f. sym (each (taking f))) k.balance;
         order = of_history k.order;
+        closings = closings_by c (messages w) _ _ (λ f. sym (each (seeing f))) k.closings;
       }
     where
       of_history : Ordered s vs → Ordered s ws
@@ -98,13 +108,14 @@ module _ {T W : Type 0} where
     h.1,
     h.2,
     h.3,
-    same h.0 h.1 s.views (set (set s.views id both) other nobody)
+    h.4,
+    same h.0 h.1 h.2 s.views (set (set s.views id both) other nobody)
         (λ k.
         let e = nothing T W k in
         let a = adds k in
         omega (arith, total_set (sum_of k) s.views id v both at, total_set (sum_of k) (set s.views id both) other w nobody there))
         (λ g a. agrees_set g (set s.views id both) other nobody tt (agrees_set g s.views id both (merges g (agrees_at g s.views id v at a) (agrees_beside g s.views id other both w apart there a)) a))
-        h.4,
+        h.5,
   )
 
   splits : (id : ℕ) (v l r : View T W) → ((k : Sum T) → sum_of k l + sum_of k r ≡ sum_of k v) → ((h : List T) → Agrees h v.log → Agrees h l.log × Agrees h r.log) → Splits {S = Option T} Woken id v l r
@@ -113,8 +124,9 @@ module _ {T W : Type 0} where
     h.1,
     h.2,
     h.3,
-    same h.0 h.1 s.views (set s.views id l ++ r ∷ []) (λ k. let a = adds k in omega (arith, total_set (sum_of k) s.views id v l at, total_snoc (sum_of k) (set s.views id l) r))
-        (λ g a. let b = parts_of_log g (agrees_at g s.views id v at a) in agrees_snoc g (set s.views id l) r b.1 (agrees_set g s.views id l b.0 a)) h.4,
+    h.4,
+    same h.0 h.1 h.2 s.views (set s.views id l ++ r ∷ []) (λ k. let a = adds k in omega (arith, total_set (sum_of k) s.views id v l at, total_snoc (sum_of k) (set s.views id l) r))
+        (λ g a. let b = parts_of_log g (agrees_at g s.views id v at a) in agrees_snoc g (set s.views id l) r b.1 (agrees_set g s.views id l b.0 a)) h.5,
   )
 
 -- ---- a pass goes into a list's seat, and comes out of it
@@ -124,6 +136,7 @@ module _ {W : Type 0} where
   enters_line lists n p l m no_part untied no_list = omega arith
   enters_line told_ones n p l m no_part untied no_list = let z = only_none m.lists (told m.listeners) no_list in omega arith
   enters_line answers n p l m no_part untied no_list = let z = only_none n l.answers no_part in omega arith
+  enters_line closes n p l m no_part untied no_list = let z = only_none n l.closes no_part in omega arith
   enters_line (waiting key) n p l m no_part untied no_list = let z = only_none m.lists (waits key m.listeners) no_list in omega arith
   enters_line (holding key) n p l m no_part untied no_list = let z = only_none n (is_key key l.holds) no_part in omega arith
   enters_line (tickets key) n p l m no_part untied no_list = let z : is_key key l.ticket ≡ 0 = ap (is_key key) untied in omega arith
@@ -139,6 +152,7 @@ module _ {T W : Type 0} where
       adds owns = let z = only_none v.parts v.owns no_part in omega arith
       adds (putting f) = let z = only_none v.parts (puts f v.log) no_part in omega arith
       adds (taking f) = let z = only_none v.parts (takes f v.log) no_part in omega arith
+      adds (seeing f) = let z = only_none v.parts (sights f v.log) no_part in omega arith
       adds (on of_receives x) = enters_line x v.parts w.parts v.receives w.receives no_part a c
       adds (on of_sends x) = enters_line x v.parts w.parts v.sends w.sends no_part b d
 
@@ -147,6 +161,7 @@ module _ {W : Type 0} where
   leaves_line lists p l = omega arith
   leaves_line told_ones p l = omega arith
   leaves_line answers p l = omega arith
+  leaves_line closes p l = omega arith
   leaves_line (waiting key) p l = omega arith
   leaves_line (holding key) p l = omega arith
   leaves_line (tickets key) p l = omega arith
@@ -162,6 +177,7 @@ module _ {T W : Type 0} where
       adds owns = omega arith
       adds (putting f) = omega arith
       adds (taking f) = omega arith
+      adds (seeing f) = omega arith
       adds (on of_receives x) = leaves_line x v.parts v.receives
       adds (on of_sends x) = leaves_line x v.parts v.sends
 
@@ -175,6 +191,7 @@ module _ {T W : Type 0} where
       adds owns = let z = only_none v.parts v.owns no_part in omega arith
       adds (putting f) = let z = only_none v.parts (puts f v.log) no_part in omega arith
       adds (taking f) = let z = only_none v.parts (takes f v.log) no_part in omega arith
+      adds (seeing f) = let z = only_none v.parts (sights f v.log) no_part in omega arith
       adds (on of_receives x) = let z = idle_line W x 0 in let y : line_sum x v.parts v.receives ≡ line_sum x 0 v.receives = ap (λ (n : ℕ). line_sum x n v.receives) no_part in omega arith
       adds (on of_sends x) = let z = idle_line W x 0 in let y : line_sum x v.parts v.sends ≡ line_sum x 0 v.sends = ap (λ (n : ℕ). line_sum x n v.sends) no_part in omega arith
 
@@ -189,6 +206,7 @@ module _ {T W : Type 0} where
       adds owns = omega (arith, only_zero (p + q), only_zero p, only_zero q)
       adds (putting f) = omega (arith, puts_append f lg mg, only_some (p + q) (puts f (lg ++ mg)) (omega arith), only_some p (puts f lg) sp, only_some q (puts f mg) sq)
       adds (taking f) = omega (arith, takes_append f lg mg, only_some (p + q) (takes f (lg ++ mg)) (omega arith), only_some p (takes f lg) sp, only_some q (takes f mg) sq)
+      adds (seeing f) = omega (arith, sights_append f lg mg, only_some (p + q) (sights f (lg ++ mg)) (omega arith), only_some p (sights f lg) sp, only_some q (sights f mg) sq)
       adds (on of_receives x) = omega (arith, idle_line W x (p + q), idle_line W x p, idle_line W x q)
       adds (on of_sends x) = omega (arith, idle_line W x (p + q), idle_line W x p, idle_line W x q)
 
@@ -201,6 +219,7 @@ module _ {T W : Type 0} where
       adds owns = omega (arith, only_zero (p - p / 2), only_zero (p / 2), only_zero p)
       adds (putting f) = omega (arith, only_some (p - p / 2) (puts f lg) (omega arith), only_zero (p / 2), only_some p (puts f lg) (omega arith))
       adds (taking f) = omega (arith, only_some (p - p / 2) (takes f lg) (omega arith), only_zero (p / 2), only_some p (takes f lg) (omega arith))
+      adds (seeing f) = omega (arith, only_some (p - p / 2) (sights f lg) (omega arith), only_zero (p / 2), only_some p (sights f lg) (omega arith))
       adds (on of_receives x) = omega (arith, idle_line W x (p - p / 2), idle_line W x (p / 2), idle_line W x p)
       adds (on of_sends x) = omega (arith, idle_line W x (p - p / 2), idle_line W x (p / 2), idle_line W x p)
 
@@ -212,6 +231,7 @@ module _ {W : Type 0} where
   any_parts lists p q l sp sq = refl
   any_parts told_ones p q l sp sq = refl
   any_parts answers p q l sp sq = only_some p l.answers sp ∙ sym (only_some q l.answers sq)
+  any_parts closes p q l sp sq = only_some p l.closes sp ∙ sym (only_some q l.closes sq)
   any_parts (waiting key) p q l sp sq = refl
   any_parts (holding key) p q l sp sq = only_some p (is_key key l.holds) sp ∙ sym (only_some q (is_key key l.holds) sq)
   any_parts (tickets key) p q l sp sq = refl
@@ -222,6 +242,7 @@ module _ {W : Type 0} where
   ticket_line lists p t l = omega arith
   ticket_line told_ones p t l = omega arith
   ticket_line answers p t l = omega arith
+  ticket_line closes p t l = omega arith
   ticket_line (waiting key) p t l = omega arith
   ticket_line (holding key) p t l = omega arith
   ticket_line (tickets key) p t l = omega arith
@@ -243,6 +264,7 @@ module _ {T W : Type 0} where
       adds owns = omega (arith, only_some (v.parts - 1) v.owns (omega arith), only_some v.parts v.owns (omega arith))
       adds (putting f) = omega (arith, only_some (v.parts - 1) (puts f v.log) (omega arith), only_some v.parts (puts f v.log) (omega arith))
       adds (taking f) = omega (arith, only_some (v.parts - 1) (takes f v.log) (omega arith), only_some v.parts (takes f v.log) (omega arith))
+      adds (seeing f) = omega (arith, only_some (v.parts - 1) (sights f v.log) (omega arith), only_some v.parts (sights f v.log) (omega arith))
       adds (on of_receives x) = omega (arith, ticket_line x (v.parts - 1) v.receives.ticket v.receives, any_parts x (v.parts - 1) v.parts v.receives (omega arith) (omega arith))
       adds (on of_sends x) = omega (arith, idle_line W x 1, any_parts x (v.parts - 1) v.parts v.sends (omega arith) (omega arith))
   gives_ticket of_sends id v more = splits id v (no_ticket of_sends v) (ticket_of of_sends v) adds (λ g b. (b, tt))
@@ -253,6 +275,7 @@ module _ {T W : Type 0} where
       adds owns = omega (arith, only_some (v.parts - 1) v.owns (omega arith), only_some v.parts v.owns (omega arith))
       adds (putting f) = omega (arith, only_some (v.parts - 1) (puts f v.log) (omega arith), only_some v.parts (puts f v.log) (omega arith))
       adds (taking f) = omega (arith, only_some (v.parts - 1) (takes f v.log) (omega arith), only_some v.parts (takes f v.log) (omega arith))
+      adds (seeing f) = omega (arith, only_some (v.parts - 1) (sights f v.log) (omega arith), only_some v.parts (sights f v.log) (omega arith))
       adds (on of_receives x) = omega (arith, idle_line W x 1, any_parts x (v.parts - 1) v.parts v.receives (omega arith) (omega arith))
       adds (on of_sends x) = omega (arith, ticket_line x (v.parts - 1) v.sends.ticket v.sends, any_parts x (v.parts - 1) v.parts v.sends (omega arith) (omega arith))
 
@@ -265,6 +288,7 @@ module _ {T W : Type 0} where
       adds owns = omega (arith, only_some (v.parts + 1) v.owns (omega arith), only_some v.parts v.owns some_part)
       adds (putting f) = omega (arith, only_some (v.parts + 1) (puts f v.log) (omega arith), only_some v.parts (puts f v.log) some_part)
       adds (taking f) = omega (arith, only_some (v.parts + 1) (takes f v.log) (omega arith), only_some v.parts (takes f v.log) some_part)
+      adds (seeing f) = omega (arith, only_some (v.parts + 1) (sights f v.log) (omega arith), only_some v.parts (sights f v.log) some_part)
       adds (on of_receives x) = with_line x v.parts t v.receives some_part untied
       adds (on of_sends x) = omega (arith, idle_line W x 1, any_parts x (v.parts + 1) v.parts v.sends (omega arith) some_part)
   takes_ticket of_sends id v port t some_part untied = joins id v port (one_ticket of_sends t) (with_ticket of_sends v (one_ticket of_sends t)) adds (λ g b c. b)
@@ -275,32 +299,30 @@ module _ {T W : Type 0} where
       adds owns = omega (arith, only_some (v.parts + 1) v.owns (omega arith), only_some v.parts v.owns some_part)
       adds (putting f) = omega (arith, only_some (v.parts + 1) (puts f v.log) (omega arith), only_some v.parts (puts f v.log) some_part)
       adds (taking f) = omega (arith, only_some (v.parts + 1) (takes f v.log) (omega arith), only_some v.parts (takes f v.log) some_part)
+      adds (seeing f) = omega (arith, only_some (v.parts + 1) (sights f v.log) (omega arith), only_some v.parts (sights f v.log) some_part)
       adds (on of_receives x) = omega (arith, idle_line W x 1, any_parts x (v.parts + 1) v.parts v.receives (omega arith) some_part)
       adds (on of_sends x) = with_line x v.parts t v.sends some_part untied
-
--- where no seat has the slot the word is that of a free one
-free_word : {T : Type 0} (word : ℕ) (slot : home.Option (Option T)) (l o : ℕ) → l ≡ 0 → IsSlot word slot l o → (word ≡ 0) ⊎ (word ≡ 2)
-free_word word slot l o none_else (empty e d c) = inl e
-free_word word slot l o none_else (full x e d c) = inr e
-free_word word slot l o none_else (out d c e w) = absurd (omega arith)
 
 module _ {T W : Type 0} where
   -- a new seat that has nothing
   pub blank : (slots : ℕ) → Enters {S = Option T} {V = View T W} Woken slots 0 (λ n w. w ≡ nobody)
   blank slots s h wide small =
-      (nobody, (h.0, h.1, h.2, h.3, same h.0 h.1 s.views (s.views ++ nobody ∷ []) (λ k. let e = nothing T W k in omega (arith, total_snoc (sum_of k) s.views nobody)) (λ g a. agrees_snoc g s.views nobody tt a) h.4), refl)
+      (nobody, (h.0, h.1, h.2, h.3, h.4, same h.0 h.1 h.2 s.views (s.views ++ nobody ∷ []) (λ k. let e = nothing T W k in omega (arith, total_snoc (sum_of k) s.views nobody)) (λ g a. agrees_snoc g s.views nobody tt a) h.5), refl)
 
   -- the start: there is no message, and nobody waits
   pub begins : Woken {T = T} {W = W} (opening (0 ∷ []) (None ∷ []) everything)
-  begins = (0, some None, refl, refl, record { whole = refl; one = one_list; place = empty refl refl refl; owed = nobody_waits; tickets = no_tickets; balance = ((λ k. ((λ less. absurd (omega arith)), λ more. refl)), λ f. refl); order = ([], (refl, λ x e. absurd (no_empty x e)), (tt, tt)) })
+  begins = (0, false, some None, refl, refl, record { whole = refl; one = one_list; place = empty refl refl refl; owed = nobody_waits; shutting = nobody_waits_long; closings = (refl, (λ more. absurd (omega arith)), λ more. absurd (omega arith)); tickets = no_tickets; balance = ((λ k. ((λ less. absurd (omega arith)), λ more. refl)), λ f. refl); order = ([], (refl, λ x e. absurd (no_empty x e)), (tt, tt)) })
     where
       one_list : (s : Side) → total (lists_of s) (everything {T = T} {W = W} ∷ []) ≡ 1
       one_list of_receives = refl
       one_list of_sends = refl
 
-      nobody_waits : (s : Side) (key : ℕ) → Owed (wanted s 0) (total (waits_of s key) (everything {T = T} {W = W} ∷ [])) (total (told_of s) (everything {T = T} {W = W} ∷ []) + total (answers_of s) (everything {T = T} {W = W} ∷ [])) (total (holds_of s key) (everything {T = T} {W = W} ∷ []))
+      nobody_waits : (s : Side) (key : ℕ) → Owed (wanted s 0 false) (total (waits_of s key) (everything {T = T} {W = W} ∷ [])) (total (told_of s) (everything {T = T} {W = W} ∷ []) + total (answers_of s) (everything {T = T} {W = W} ∷ [])) (total (holds_of s key) (everything {T = T} {W = W} ∷ []))
       nobody_waits of_receives key some_waiting = absurd (omega arith)
       nobody_waits of_sends key some_waiting = absurd (omega arith)
+
+      nobody_waits_long : (s : Side) (key : ℕ) → Owed (shut_count false) (total (waits_of s key) (everything {T = T} {W = W} ∷ [])) (total (closes_of s) (everything {T = T} {W = W} ∷ [])) (total (holds_of s key) (everything {T = T} {W = W} ∷ []))
+      nobody_waits_long s key some_waiting = inl (omega arith)
 
       no_tickets : (s : Side) (key : ℕ) → total (tickets_of s key) (everything {T = T} {W = W} ∷ []) ≤ total (listed_of s key) (everything {T = T} {W = W} ∷ [])
       no_tickets of_receives key = omega arith
@@ -308,19 +330,12 @@ module _ {T W : Type 0} where
 
   -- ---- who has every part learns the rule
 
-  module _ (s : Side) (word : ℕ) (slot : home.Option (Option T)) (vs : List (View T W)) (id : ℕ) (v : View T W) (k : Kept word slot vs) (at : get_elem? vs id ≡ some v) (all : HasAll s v) where
+  module _ (s : Side) (base : ℕ) (shut : Bool) (slot : home.Option (Option T)) (vs : List (View T W)) (id : ℕ) (v : View T W) (k : Kept base shut slot vs) (at : get_elem? vs id ≡ some v) (all : HasAll s v) where
     no_others : others parts_of vs id ≡ 0
     no_others = let whole = k.whole in let p = was parts_of refl vs id v at in let mine = all.0 in omega arith
 
-    whole_word : (word ≡ 0) ⊎ (word ≡ 2)
-    whole_word =
-        let l = none_here locks_of parts_of (set vs id nobody) (λ x e. only_none x.parts (only x.owns 1) e) no_others in
-        let lw = was locks_of refl vs id v at in
-        let mine : locks_of v ≡ 0 = ap (λ (n : ℕ). only v.parts (only n 1)) all.4 ∙ only_zero v.parts in
-        free_word word slot (total locks_of vs) (total owns_of vs) (omega arith) k.place
-
     -- what the slot holds, and that it makes up for what is not taken out
-    whole_log : (held : Option T) × (word ≡ cond (is_some held) 2 0) × Accounts held v.log
+    whole_log : (held : Option T) × (base ≡ cond (is_some held) 2 0) × Accounts held v.log
     whole_log = by_place k.place k.balance
       where
         all_puts : (f : Weight T) → total (puts_of f) vs ≡ puts f v.log
@@ -357,12 +372,12 @@ module _ {T W : Type 0} where
         of_slot : (held : Option T) → slot ≡ some held → Balanced slot (λ f. total (puts_of f) vs) (λ f. total (takes_of f) vs) → Accounts held v.log
         of_slot held e b = (balances held e b, of_order held e k.order)
 
-        by_place : IsSlot word slot (total locks_of vs) (total owns_of vs) → Balanced slot (λ f. total (puts_of f) vs) (λ f. total (takes_of f) vs) → (held : Option T) × (word ≡ cond (is_some held) 2 0) × Accounts held v.log
+        by_place : IsSlot base slot (total locks_of vs) (total owns_of vs) → Balanced slot (λ f. total (puts_of f) vs) (λ f. total (takes_of f) vs) → (held : Option T) × (base ≡ cond (is_some held) 2 0) × Accounts held v.log
         by_place (empty e d c) b = (None, e, of_slot None d b)
         by_place (full x e d c) b = (Some x, e, of_slot (Some x) d b)
         by_place (out d c e w) b = let none_out = no_locks in absurd (omega arith)
 
-    whole_law : (key : ℕ) → 0 < waits key (of s v).listeners → wanted s word ≤ told (of s v).listeners
+    whole_law : (key : ℕ) → 0 < waits key (of s v).listeners → (wanted s base shut ≤ told (of s v).listeners) × (shut_count shut ≡ 0)
     whole_law key some_waiting =
         let lists = all.1 in
         let mine = all.0 in
@@ -377,11 +392,29 @@ module _ {T W : Type 0} where
         let answers = all.2 in
         let hv = only_some v.parts (is_key key (of s v).holds) (omega arith) in
         let none_held : is_key key (of s v).holds ≡ 0 = ap (is_key key) all.3 in
+        let no_c = none_here (closes_of s) parts_of (set vs id nobody) (λ x e. only_none x.parts (of s x).closes e) no_others in
+        let cv = only_some v.parts (of s v).closes (omega arith) in
+        let none_owed = all.5 in
+        let cs = was (closes_of s) refl vs id v at in
         let ws = was (waits_of s key) (at_nobody T W (λ l. only l.lists (waits key l.listeners)) refl s) vs id v at in
         let ts = was (told_of s) (at_nobody T W (λ l. only l.lists (told l.listeners)) refl s) vs id v at in
         let ans = was (answers_of s) refl vs id v at in
-        let hs = was (holds_of s key) refl vs id v at in
-        ⊎_elim (λ (c : wanted s word ≤ total (told_of s) vs + total (answers_of s) vs). omega arith) (λ (c : 0 < total (holds_of s key) vs). absurd (omega arith)) (k.owed s key (omega arith))
+        let hs = was (holds_of s key) refl vs id v at in (
+          ⊎_elim (λ (c : wanted s base shut ≤ total (told_of s) vs + total (answers_of s) vs). omega arith) (λ (c : 0 < total (holds_of s key) vs). absurd (omega arith)) (k.owed s key (omega arith)),
+          ⊎_elim (λ (c : shut_count shut ≤ total (closes_of s) vs). omega arith) (λ (c : 0 < total (holds_of s key) vs). absurd (omega arith)) (k.shutting s key (omega arith)),
+        )
+
+    -- what is known of the closing
+    whole_closings : Closings shut (messages base) (λ f. sights f v.log)
+    whole_closings = closings_by shut (messages base) (λ f. total (sights_of f) vs) (λ f. sights f v.log) mine_all k.closings
+      where
+        mine_all : (f : Sight → ℕ) → total (sights_of f) vs ≡ sights f v.log
+        mine_all f =
+            let o = none_here (sights_of f) parts_of (set vs id nobody) (λ x e. only_none x.parts (sights f x.log) e) no_others in
+            let w = was (sights_of f) refl vs id v at in
+            let mine = all.0 in
+            let y = only_some v.parts (sights f v.log) (omega arith) in
+            omega arith
 
     whole_ticket : (key : ℕ) → is_key key (of s v).ticket ≤ listed key (of s v).listeners
     whole_ticket key =
@@ -394,14 +427,61 @@ module _ {T W : Type 0} where
         let kept = k.tickets s key in
         omega arith
 
+  -- at rest the word is that of a slot at home
+  abbrev Rests : Side → View T W → ℕ → Type 0
+  Rests s v word =
+      ((key : ℕ) → 0 < waits key (of s v).listeners → due s (has_message word) (is_shut word) ≤ told (of s v).listeners) × ((key : ℕ) → is_key key (of s v).ticket ≤ listed key (of s v).listeners)
+      × ((slot : Option T) × (is_some slot ≡ has_message word) × Accounts slot v.log) × Closings (is_shut word) (cond (has_message word) 1 0) (λ f. sights f v.log)
+
+  -- what is known of the state says the same of the word
+  rests : (s : Side) (base : ℕ) (shut : Bool) (v : View T W) (held : Option T) → base ≡ cond (is_some held) 2 0 → ((key : ℕ) → 0 < waits key (of s v).listeners → (wanted s base shut ≤ told (of s v).listeners) × (shut_count shut ≡ 0))
+      → ((key : ℕ) → is_key key (of s v).ticket ≤ listed key (of s v).listeners) → Accounts held v.log → Closings shut (messages base) (λ f. sights f v.log) → Rests s v (word_of base shut)
+  rests s base shut v None is law tied accounts closings =
+      subst (λ (n : ℕ). Rests s v (word_of n shut)) (sym is) (
+        empty_law s shut (λ key some_waiting. subst (λ (n : ℕ). (wanted s n shut ≤ told (of s v).listeners) × (shut_count shut ≡ 0)) is (law key some_waiting)),
+        tied,
+        (None, sym (empty_says shut).0, accounts),
+        subst (λ (b : Bool). Closings b (cond (has_message (word_of 0 shut)) 1 0) (λ f. sights f v.log)) (sym (empty_says shut).1)
+            (subst (λ (b : Bool). Closings shut (cond b 1 0) (λ f. sights f v.log)) (sym (empty_says shut).0) (subst (λ (n : ℕ). Closings shut (messages n) (λ f. sights f v.log)) is closings)),
+      )
+    where
+      empty_says : (shut : Bool) → (has_message (word_of 0 shut) ≡ false) × (is_shut (word_of 0 shut) ≡ shut)
+      empty_says true = (refl, refl)
+      empty_says false = (refl, refl)
+
+      empty_law : (s : Side) (shut : Bool) → ((key : ℕ) → 0 < waits key (of s v).listeners → (wanted s 0 shut ≤ told (of s v).listeners) × (shut_count shut ≡ 0)) → (key : ℕ) → 0 < waits key (of s v).listeners
+          → due s (has_message (word_of 0 shut)) (is_shut (word_of 0 shut)) ≤ told (of s v).listeners
+      empty_law of_receives false law key w = let l = (law key w).0 in omega arith
+      empty_law of_receives true law key w = let l = (law key w).1 in absurd (omega arith)
+      empty_law of_sends false law key w = let l = (law key w).0 in omega arith
+      empty_law of_sends true law key w = let l = (law key w).1 in absurd (omega arith)
+  rests s base shut v (Some x) is law tied accounts closings =
+      subst (λ (n : ℕ). Rests s v (word_of n shut)) (sym is) (
+        full_law s shut (λ key some_waiting. subst (λ (n : ℕ). (wanted s n shut ≤ told (of s v).listeners) × (shut_count shut ≡ 0)) is (law key some_waiting)),
+        tied,
+        (Some x, sym (full_says shut).0, accounts),
+        subst (λ (b : Bool). Closings b (cond (has_message (word_of 2 shut)) 1 0) (λ f. sights f v.log)) (sym (full_says shut).1)
+            (subst (λ (b : Bool). Closings shut (cond b 1 0) (λ f. sights f v.log)) (sym (full_says shut).0) (subst (λ (n : ℕ). Closings shut (messages n) (λ f. sights f v.log)) is closings)),
+      )
+    where
+      full_says : (shut : Bool) → (has_message (word_of 2 shut) ≡ true) × (is_shut (word_of 2 shut) ≡ shut)
+      full_says true = (refl, refl)
+      full_says false = (refl, refl)
+
+      full_law : (s : Side) (shut : Bool) → ((key : ℕ) → 0 < waits key (of s v).listeners → (wanted s 2 shut ≤ told (of s v).listeners) × (shut_count shut ≡ 0)) → (key : ℕ) → 0 < waits key (of s v).listeners
+          → due s (has_message (word_of 2 shut)) (is_shut (word_of 2 shut)) ≤ told (of s v).listeners
+      full_law of_receives false law key w = let l = (law key w).0 in omega arith
+      full_law of_receives true law key w = let l = (law key w).1 in absurd (omega arith)
+      full_law of_sends false law key w = let l = (law key w).0 in omega arith
+      full_law of_sends true law key w = let l = (law key w).1 in absurd (omega arith)
+
+  -- the seat is as it was, and knows this
+  learned : (s : Side) (base : ℕ) (shut : Bool) (slot : home.Option (Option T)) (views : List (View T W)) (id : ℕ) (v : View T W) → Kept base shut slot views → get_elem? views id ≡ some v → HasAll s v → Rests s v (word_of base shut)
+  learned s base shut slot views id v k at all =
+      let log = whole_log s base shut slot views id v k at all in
+      rests s base shut v log.0 log.1 (whole_law s base shut slot views id v k at all) (whole_ticket s base shut slot views id v k at all) log.2 (whole_closings s base shut slot views id v k at all)
+
   pub learns_so : (s : Side) (slots id : ℕ) (me : Known T W) → Allows Woken slots id me 0 (λ n. n) (λ n m. learns s (step slots 0 0 0 none) me n m)
   learns_so s slots id me =
-      by_rule (λ n. n) (λ n m. learns s (step slots 0 0 0 none) me n m) slots id me (λ word slot views k at. (
-        me.0,
-        Rattle.atomic_table.specs.Table.keeps,
-        slot,
-        tt,
-        refl,
-        subst (Kept word slot) (sym (set_again views id me.0 at)) k,
-        (refl, λ all. (whole_word s word slot views id me.0 k at all, whole_law s word slot views id me.0 k at all, whole_ticket s word slot views id me.0 k at all, whole_log s word slot views id me.0 k at all)),
-      ))
+      by_rule (λ n. n) (λ n m. learns s (step slots 0 0 0 none) me n m) slots id me (λ base shut slot views k at.
+      unchanged (λ n m. learns s (step slots 0 0 0 none) me n m) (λ n. n) me id views base shut slot at refl (refl, λ all. learned s base shut slot views id me.0 k at all) k)

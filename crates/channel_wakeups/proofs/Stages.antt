@@ -1,6 +1,6 @@
 -- What a call at a stage may do to the word.
 use Rattle.std.proofs.Common.{◌⊎◌, ◌≡◌, ℕ, ◌==◌, List, [], ◌∷◌, Option, None, Some, sym, ◌∙◌, subst, ⊎_elim}
-use Rattle.std.specs.Prelude.{bit_and}
+use Rattle.std.specs.Prelude.{bit_and, bit_or}
 use mathlib.Core.Option.{none}
 use prog.Atomic.{either}
 use Rattle.atomic_table.specs.Table.{step, rest, Allows}
@@ -8,8 +8,8 @@ use Rattle.channel_wakeups.specs.declared.rule.View.{View}
 use Rattle.channel_wakeups.specs.declared.stage.Stage.{Stage}
 use Rattle.channel_wakeups.specs.declared.stage.Stage.TheVariants.{Free, Filled, Caught, Emptied}
 use Rattle.channel_wakeups.specs.Stages.{having, with_message, IsAt}
-use Rattle.channel_wakeups.specs.Views.{Woken, Known, fills, wins, unlocks}
-use Rattle.channel_wakeups.proofs.Moves.{fills_so, wins_so, unlocks_filled, unlocks_emptied}
+use Rattle.channel_wakeups.specs.Views.{Woken, Known, fills, wins, unlocks, shuts, sees}
+use Rattle.channel_wakeups.proofs.Moves.{fills_so, wins_so, last_so, shuts_so, sees_so, unlocks_filled, unlocks_emptied}
 
 -- the slot at hand has a message
 some_message : {T : Type 0} (c : List (ℕ × Option T)) → c ≡ with_message c → (x : T) × (c ≡ (0, Some x) ∷ [])
@@ -32,13 +32,37 @@ module _ {T W : Type 0} where
   pub fills_from : (slots id : ℕ) (m : Known T W) (s : Stage) → s ≡ Free → IsAt s m → Allows Woken slots id m 0 (λ n. either (n == 0) 3 n) (fills (step slots 0 0 3 none) m)
   fills_from slots id m s e i = fills_free slots id m (at_stage m s Free e i)
 
-  wins_free : (slots id : ℕ) (m : Known T W) → IsAt Free m → Allows Woken slots id m 0 (λ n. either (n == 2) 1 n) (wins (step slots 0 2 1 none) m)
+  wins_free : (slots id : ℕ) (m : Known T W) → IsAt Free m → Allows Woken slots id m 0 (λ n. either (n == 2) 1 n) (wins 2 (step slots 0 2 1 none) m)
   wins_free slots id m (some_part, e, f) =
-      subst (λ (x : Known T W). Allows Woken slots id x 0 (λ n. either (n == 2) 1 n) (wins (step slots 0 2 1 none) x)) (sym (both m (having 0 m.0) [] e f))
+      subst (λ (x : Known T W). Allows Woken slots id x 0 (λ n. either (n == 2) 1 n) (wins 2 (step slots 0 2 1 none) x)) (sym (both m (having 0 m.0) [] e f))
       (wins_so slots id m.0.parts m.0.receives m.0.sends m.0.log some_part)
 
-  pub wins_from : (slots id : ℕ) (m : Known T W) (s : Stage) → s ≡ Free → IsAt s m → Allows Woken slots id m 0 (λ n. either (n == 2) 1 n) (wins (step slots 0 2 1 none) m)
+  pub wins_from : (slots id : ℕ) (m : Known T W) (s : Stage) → s ≡ Free → IsAt s m → Allows Woken slots id m 0 (λ n. either (n == 2) 1 n) (wins 2 (step slots 0 2 1 none) m)
   wins_from slots id m s e i = wins_free slots id m (at_stage m s Free e i)
+
+  last_free : (slots id : ℕ) (m : Known T W) → IsAt Free m → Allows Woken slots id m 0 (λ n. either (n == 6) 5 n) (wins 6 (step slots 0 6 5 none) m)
+  last_free slots id m (some_part, e, f) =
+      subst (λ (x : Known T W). Allows Woken slots id x 0 (λ n. either (n == 6) 5 n) (wins 6 (step slots 0 6 5 none) x)) (sym (both m (having 0 m.0) [] e f))
+      (last_so slots id m.0.parts m.0.receives m.0.sends m.0.log some_part)
+
+  pub last_from : (slots id : ℕ) (m : Known T W) (s : Stage) → s ≡ Free → IsAt s m → Allows Woken slots id m 0 (λ n. either (n == 6) 5 n) (wins 6 (step slots 0 6 5 none) m)
+  last_from slots id m s e i = last_free slots id m (at_stage m s Free e i)
+
+  shuts_free : (slots id : ℕ) (m : Known T W) → IsAt Free m → Allows Woken slots id m 0 (λ n. bit_or n 4) (shuts (step slots 0 4 0 none) m)
+  shuts_free slots id m (some_part, e, f) =
+      subst (λ (x : Known T W). Allows Woken slots id x 0 (λ n. bit_or n 4) (shuts (step slots 0 4 0 none) x)) (sym (both m (having 0 m.0) [] e f))
+      (shuts_so slots id m.0.parts m.0.receives m.0.sends m.0.log some_part)
+
+  pub shuts_from : (slots id : ℕ) (m : Known T W) (s : Stage) → s ≡ Free → IsAt s m → Allows Woken slots id m 0 (λ n. bit_or n 4) (shuts (step slots 0 4 0 none) m)
+  shuts_from slots id m s e i = shuts_free slots id m (at_stage m s Free e i)
+
+  sees_free : (slots id : ℕ) (m : Known T W) → IsAt Free m → Allows Woken slots id m 0 (λ n. n) (sees (step slots 0 0 0 none) m)
+  sees_free slots id m (some_part, e, f) =
+      subst (λ (x : Known T W). Allows Woken slots id x 0 (λ n. n) (sees (step slots 0 0 0 none) x)) (sym (both m (having 0 m.0) [] e f))
+      (sees_so slots id m.0.parts m.0.receives m.0.sends m.0.log some_part)
+
+  pub sees_from : (slots id : ℕ) (m : Known T W) (s : Stage) → s ≡ Free → IsAt s m → Allows Woken slots id m 0 (λ n. n) (sees (step slots 0 0 0 none) m)
+  sees_from slots id m s e i = sees_free slots id m (at_stage m s Free e i)
 
   abbrev MayUnlock : ℕ → ℕ → Known T W → Type 0
   MayUnlock slots id m = Allows Woken slots id m 0 (λ n. bit_and n 18446744073709551614) (unlocks (step slots 0 18446744073709551614 0 none) m)

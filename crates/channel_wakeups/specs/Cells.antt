@@ -1,7 +1,8 @@
 -- What an operation on a channel's cells does to what the call has of the slot, and to what its seat knows.
-use Rattle.std.specs.Prelude.{◌≡◌, ◌⊎◌, ℕ, List, [], ◌∷◌, ◌++◌, Option, None, Some, Result, Ok, Err}
+use Rattle.std.specs.Prelude.{◌≡◌, ◌⊎◌, ℕ, List, [], ◌∷◌, ◌++◌, true, false, Option, None, Some, Result, Ok, Err, bit_and}
 use Rattle.atomic_table.specs.Seated.{TableId}
-use Rattle.concurrent_queue.specs.Deeds.{Deed, exchanged, bits_kept, did_put, did_take}
+use Rattle.concurrent_queue.specs.Deeds.{Deed, loaded, exchanged, bits_set, bits_kept, did_put, did_take}
+use Rattle.concurrent_queue.specs.machine.Single.{clear}
 use Rattle.concurrent_queue.specs.declared.call.QueueReply.{QueueReply}
 use Rattle.concurrent_queue.specs.declared.call.QueueReply.TheVariants as reply
 use Rattle.concurrent_queue.specs.declared.cells.Word.TheVariants.{State}
@@ -11,10 +12,13 @@ use Rattle.channel_wakeups.specs.declared.stage.Stage.TheVariants.{Free, Won, Fi
 use Rattle.channel_wakeups.specs.declared.rule.Line.{Line}
 use Rattle.channel_wakeups.specs.declared.rule.View.{View}
 use Rattle.channel_wakeups.specs.declared.rule.Transfer.{Transfer}
-use Rattle.channel_wakeups.specs.declared.rule.Transfer.TheVariants.{In, Out}
-use Rattle.channel_wakeups.specs.Log.{PutBefore, TookBefore}
-use Rattle.channel_wakeups.specs.Views.{pass, answering, ended}
-use Rattle.channel_wakeups.specs.Stages.{filling, refused, taking, resting, giving}
+use Rattle.channel_wakeups.specs.declared.rule.Transfer.TheVariants.{In, Out, Saw}
+use Rattle.channel_wakeups.specs.declared.rule.Sight.TheVariants.{Seen, Drained, Shut}
+use Rattle.concurrent_queue.specs.declared.error.PushError.TheVariants as push_error
+use Rattle.concurrent_queue.specs.declared.error.PopError.TheVariants as pop_error
+use Rattle.channel_wakeups.specs.Log.{PutBefore, TookBefore, NotSeen, NotDrained}
+use Rattle.channel_wakeups.specs.Views.{pass, answering, ended, resolved, owing, noted, closer}
+use Rattle.channel_wakeups.specs.Stages.{filling, refused, shut_out, taking, resting, draining, giving}
 
 module _ {T W : Type 0} where
   -- the call has this of the slot, and its seat knows this
@@ -26,15 +30,35 @@ module _ {T W : Type 0} where
 
   -- a pop won a message, which is at hand, and in the log
   abbrev pub HasCaught : View T W → SlotCells T W → Type 0
-  HasCaught v c = (m : T) × (k : ℕ) × TookBefore k v.log × (c.seat.me.1 ≡ (0, Some m) ∷ []) × Stands Caught (taking k m v) c
+  HasCaught v c = NotDrained v.log × ((m : T) × (k : ℕ) × TookBefore k v.log × (c.seat.me.1 ≡ (0, Some m) ∷ []) × Stands Caught (taking k m v) c)
 
-  -- an exchange of the word: that of a push, from 0 to 3, and that of a pop, from 2 to 1
+  -- a push that won nothing, and found this word; and a pop
+  abbrev pub PushMissed : ℕ → SlotCells T W → SlotCells T W → Type 0
+  PushMissed w a b =
+      ((clear w 4 ≡ false) × (b.stage ≡ a.stage) × (b.seat.me.0 ≡ shut_out a.seat.me.0))
+      ⊎ (((clear w 4 ≡ true) × (clear w 2 ≡ false) × NotSeen a.seat.me.0.log × (b.stage ≡ a.stage) × (b.seat.me.0 ≡ refused a.seat.me.0))
+      ⊎ ((clear w 4 ≡ true) × (clear w 2 ≡ true) × IsSame a b))
+
+  abbrev pub PopMissed : ℕ → SlotCells T W → SlotCells T W → Type 0
+  PopMissed w a b =
+      ((clear w 2 ≡ false) × ((bit_and w 18446744073709551614 ≡ 2) ⊎ (bit_and w 18446744073709551614 ≡ 6)) × IsSame a b)
+      ⊎ (((clear w 2 ≡ true) × (clear w 4 ≡ true) × NotSeen a.seat.me.0.log × (b.stage ≡ a.stage) × (b.seat.me.0 ≡ resting a.seat.me.0))
+      ⊎ ((clear w 2 ≡ true) × (clear w 4 ≡ false) × (b.stage ≡ a.stage) × (b.seat.me.0 ≡ draining a.seat.me.0)))
+
+  -- an exchange of the word: that of a push, from 0 to 3, and that of a pop, from 2 to 1, or of a closed channel from 6 to 5
   abbrev pub Exchanged : ℕ → ℕ → Result ℕ ℕ → SlotCells T W → SlotCells T W → Type 0
   Exchanged x y (Ok w) a b =
-      (x ≡ 0 → y ≡ 3 → Stands Won (filling a.seat.me.0) b) × (x ≡ 2 → y ≡ 1 → HasCaught a.seat.me.0 b)
-  Exchanged x y (Err w) a b =
-      (x ≡ 0 → y ≡ 3 → ((w ≡ 1) × IsSame a b) ⊎ (((w ≡ 2) ⊎ (w ≡ 3)) × (b.stage ≡ a.stage) × (b.seat.me.0 ≡ refused a.seat.me.0)))
-      × (x ≡ 2 → y ≡ 1 → ((w ≡ 3) × IsSame a b) ⊎ (((w ≡ 0) ⊎ (w ≡ 1)) × (b.stage ≡ a.stage) × (b.seat.me.0 ≡ resting a.seat.me.0)))
+      (x ≡ 0 → y ≡ 3 → NotSeen a.seat.me.0.log × Stands Won (filling a.seat.me.0) b) × (x ≡ 2 → y ≡ 1 → HasCaught a.seat.me.0 b) × (x ≡ 6 → y ≡ 5 → HasCaught a.seat.me.0 b)
+  Exchanged x y (Err w) a b = (x ≡ 0 → y ≡ 3 → PushMissed w a b) × (x ≡ 2 → y ≡ 1 → PopMissed w a b) × (x ≡ 6 → y ≡ 5 → PopMissed w a b)
+
+  -- the closed bit was set, of a call that has nothing of the slot; and it was looked at
+  abbrev pub ShutBy : ℕ → SlotCells T W → SlotCells T W → Type 0
+  ShutBy w a b =
+      ((clear w 4 ≡ true) × NotSeen a.seat.me.0.log × (b.stage ≡ a.stage) × (b.seat.me.0 ≡ closer a.seat.me.0))
+      ⊎ ((clear w 4 ≡ false) × (b.stage ≡ a.stage) × (b.seat.me.0 ≡ noted Seen a.seat.me.0))
+
+  abbrev pub SeenBy : ℕ → SlotCells T W → SlotCells T W → Type 0
+  SeenBy w a b = ((clear w 4 ≡ true) × NotSeen a.seat.me.0.log × IsSame a b) ⊎ ((clear w 4 ≡ false) × (b.stage ≡ a.stage) × (b.seat.me.0 ≡ noted Seen a.seat.me.0))
 
   abbrev pub Put : T → Result Unit T → SlotCells T W → SlotCells T W → Type 0
   Put m (Ok u) a b = (b.seat.me.1 ≡ (0, Some m) ∷ []) × Stands Filled a.seat.me.0 b
@@ -50,6 +74,8 @@ module _ {T W : Type 0} where
 
   abbrev pub Moved : Deed T → SlotCells T W → SlotCells T W → Type 0
   Moved (exchanged State x y o) a b = Exchanged x y o a b
+  Moved (loaded State w) a b = a.stage ≡ Free → SeenBy w a b
+  Moved (bits_set State k w) a b = k ≡ 4 → a.stage ≡ Free → ShutBy w a b
   Moved (bits_kept State k w) a b = k ≡ 0xffff_ffff_ffff_fffe → (a.stage ≡ Filled) ⊎ (a.stage ≡ Emptied) → GivenBack a b
   Moved (did_put at v o) a b = Put v o a b
   Moved (did_take at o) a b = Taken o a b
@@ -62,17 +88,32 @@ module _ {T W : Type 0} where
   abbrev pub IsLeft : TableId → Stage → View T W → SlotCells T W → Type 0
   IsLeft table g v c = (c.seat.table_id ≡ table) × (c.stage ≡ g) × (c.seat.me.0 ≡ v)
 
-  -- a push of a pass with these lines and this log has answered: it answers for its message, which it put in, or was refused; either
-  -- way there was a moment without a free place
+  -- a push of a pass with these lines and this log has answered: it answers for its message, which it put in; or was refused, and there
+  -- was a moment without a free place; or found the channel closed
   abbrev pub Pushed : TableId → ℕ → Line W → Line W → List (Transfer T) → T → QueueReply T → SlotCells T W → Type 0
   Pushed table p l m log x (reply.Push (Ok u)) c =
-      (k : ℕ) × PutBefore k log × TookBefore k log × IsLeft table Free (pass p 0 (answering l) (ended m) (log ++ In k x ∷ [])) c
-  Pushed table p l m log x (reply.Push (Err e)) c = IsLeft table Free (pass p 0 l (ended m) log) c
+      NotSeen log × ((k : ℕ) × PutBefore k log × TookBefore k log × IsLeft table Free (pass p 0 (answering l) (ended m) (log ++ In k x ∷ [])) c)
+  Pushed table p l m log x (reply.Push (Err (push_error.Full y))) c = NotSeen log × IsLeft table Free (pass p 0 l (ended m) log) c
+  Pushed table p l m log x (reply.Push (Err (push_error.Closed y))) c = IsLeft table Free (pass p 0 l (resolved m) (log ++ Saw Seen ∷ [])) c
   Pushed table p l m log x _ c = ⊥
 
-  -- a pop has answered: there was a moment without a message, and it answers for the place of the one that it took
+  -- a pop has answered: it answers for the place of the message that it took; or there was a moment without a message; or there will be
+  -- none, since the channel is closed
   abbrev pub Popped : TableId → ℕ → Line W → Line W → List (Transfer T) → QueueReply T → SlotCells T W → Type 0
   Popped table p l m log (reply.Pop (Ok x)) c =
-      (k : ℕ) × TookBefore k log × IsLeft table Free (pass p 0 (ended l) (answering m) (log ++ Out k x ∷ [])) c
-  Popped table p l m log (reply.Pop (Err e)) c = IsLeft table Free (pass p 0 (ended l) m log) c
+      NotDrained log × ((k : ℕ) × TookBefore k log × IsLeft table Free (pass p 0 (resolved l) (answering m) (log ++ Out k x ∷ [])) c)
+  Popped table p l m log (reply.Pop (Err pop_error.Empty)) c = NotSeen log × IsLeft table Free (pass p 0 (ended l) m log) c
+  Popped table p l m log (reply.Pop (Err pop_error.Closed)) c = IsLeft table Free (pass p 0 (resolved l) m (log ++ Saw Drained ∷ [])) c
   Popped table p l m log _ c = ⊥
+
+  -- a call that closes has answered: it closed the channel, and has both lines in hand to tell all; or it was closed
+  abbrev pub HasClosed : TableId → ℕ → Line W → Line W → List (Transfer T) → QueueReply T → SlotCells T W → Type 0
+  HasClosed table p l m log (reply.Close true) c = NotSeen log × IsLeft table Free (pass p 0 (owing l) (owing m) (log ++ Saw Shut ∷ [])) c
+  HasClosed table p l m log (reply.Close false) c = IsLeft table Free (pass p 0 l m (log ++ Saw Seen ∷ [])) c
+  HasClosed table p l m log _ c = ⊥
+
+  -- a question whether the channel is closed has been answered
+  abbrev pub HasAsked : TableId → ℕ → Line W → Line W → List (Transfer T) → QueueReply T → SlotCells T W → Type 0
+  HasAsked table p l m log (reply.Flag true) c = IsLeft table Free (pass p 0 l m (log ++ Saw Seen ∷ [])) c
+  HasAsked table p l m log (reply.Flag false) c = NotSeen log × IsLeft table Free (pass p 0 l m log) c
+  HasAsked table p l m log _ c = ⊥

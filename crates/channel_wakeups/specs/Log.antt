@@ -1,9 +1,11 @@
 -- What passes put in and took out: each message with its number, from 0 on, in the order in which messages were accepted.
-use Rattle.std.specs.Prelude.{◌≡◌, ◌⊎◌, ℕ, ◌+◌, ◌-◌, ◌<◌, ◌≤◌, List, [], ◌∷◌, ◌++◌, length, Option, None, Some}
+use Rattle.std.specs.Prelude.{◌≡◌, ◌⊎◌, ℕ, ◌+◌, ◌-◌, ◌<◌, ◌≤◌, List, [], ◌∷◌, ◌++◌, length, Bool, true, cond, Option, None, Some}
 use mathlib.Core.Option as home
 use lib.ListN.{get_elem?}
 use Rattle.channel_wakeups.specs.declared.rule.Transfer.{Transfer}
-use Rattle.channel_wakeups.specs.declared.rule.Transfer.TheVariants.{In, Out}
+use Rattle.channel_wakeups.specs.declared.rule.Transfer.TheVariants.{In, Out, Saw}
+use Rattle.channel_wakeups.specs.declared.rule.Sight.{Sight}
+use Rattle.channel_wakeups.specs.declared.rule.Sight.TheVariants.{Shut, Seen, Drained}
 use Rattle.channel_wakeups.specs.Lists.{is_this}
 
 -- a weight for each numbered message
@@ -14,6 +16,24 @@ Weight T = ℕ → T → ℕ
 abbrev pub Once : ℕ → ℕ → ℕ → Type 0
 Once n k count = (k < n → count ≡ 1) × (n ≤ k → count ≡ 0)
 
+-- each sight weighs 1; that of the call that closed the channel alone; those without a message alone
+abbrev pub each_sight : Sight → ℕ
+each_sight s = 1
+
+abbrev pub of_closer : Sight → ℕ
+of_closer Shut = 1
+of_closer Seen = 0
+of_closer Drained = 0
+
+abbrev pub of_drained : Sight → ℕ
+of_drained Shut = 0
+of_drained Seen = 0
+of_drained Drained = 1
+
+-- one call closed the channel, or none did. Where it was seen closed it is, and where it was seen without a message it has none
+abbrev pub Closings : Bool → ℕ → ((Sight → ℕ) → ℕ) → Type 0
+Closings shut messages seen = (seen of_closer ≡ cond shut 1 0) × (0 < seen each_sight → shut ≡ true) × (0 < seen of_drained → (shut ≡ true) × (messages ≡ 0))
+
 module _ {T : Type 0} where
   -- what the messages weigh that were put in, and those that were taken out. Two logs that weigh the same by every weight have the
   -- same messages under the same numbers, equally often.
@@ -21,11 +41,20 @@ module _ {T : Type 0} where
   puts f [] = 0
   puts f (In k x ∷ l) = f k x + puts f l
   puts f (Out k x ∷ l) = puts f l
+  puts f (Saw s ∷ l) = puts f l
 
   abbrev pub takes : Weight T → List (Transfer T) → ℕ
   takes f [] = 0
   takes f (In k x ∷ l) = takes f l
   takes f (Out k x ∷ l) = f k x + takes f l
+  takes f (Saw s ∷ l) = takes f l
+
+  -- what the sights of the closing weigh
+  abbrev pub sights : (Sight → ℕ) → List (Transfer T) → ℕ
+  sights f [] = 0
+  sights f (In k x ∷ l) = sights f l
+  sights f (Out k x ∷ l) = sights f l
+  sights f (Saw s ∷ l) = f s + sights f l
 
   -- each message weighs 1; those under this number alone weigh 1
   abbrev pub each : Weight T
@@ -48,6 +77,7 @@ module _ {T : Type 0} where
   abbrev pub InHistory : List T → Transfer T → Type 0
   InHistory history (In k x) = get_elem? history k ≡ home.some x
   InHistory history (Out k x) = get_elem? history k ≡ home.some x
+  InHistory history (Saw s) = Unit {0}
 
   abbrev pub Agrees : List T → List (Transfer T) → Type 0
   Agrees history [] = Unit {0}
@@ -81,3 +111,14 @@ module _ {T : Type 0} where
   -- the message was taken out, and came after all that the log had taken out
   abbrev pub HasTaken : T → List (Transfer T) → List (Transfer T) → Type 0
   HasTaken x log after = (k : ℕ) × TookBefore k log × (after ≡ log ++ Out k x ∷ [])
+
+  -- no call of this pass found the channel closed; and none found it closed without a message
+  abbrev pub NotSeen : List (Transfer T) → Type 0
+  NotSeen log = sights each_sight log ≡ 0
+
+  abbrev pub NotDrained : List (Transfer T) → Type 0
+  NotDrained log = sights of_drained log ≡ 0
+
+  -- this was seen, and nothing else was done
+  abbrev pub HasSeen : Sight → List (Transfer T) → List (Transfer T) → Type 0
+  HasSeen s log after = after ≡ log ++ Saw s ∷ []

@@ -7,17 +7,17 @@ use Rattle.channel_wakeups.specs.declared.rule.View.{View}
 use Rattle.channel_wakeups.specs.Views.{Side, of_receives, other, of, calling, idle, listing}
 
 module _ {T W : Type 0} where
-  -- a pass with these parts, whose call knows this of one side, and of the other has at most this ticket
-  abbrev pub Calls : Side → ℕ → Line W → ℕ → View T W → Type 0
-  Calls s parts line ticket v = (v.parts ≡ parts) × (v.owns ≡ 0) × (of s v ≡ line) × (of (other s) v ≡ calling 0 0 ticket) × (0 < parts)
+  -- a pass with these parts, whose call knows this of one side, and this of the other
+  abbrev pub Calls : Side → ℕ → Line W → Line W → View T W → Type 0
+  Calls s parts line beside v = (v.parts ≡ parts) × (v.owns ≡ 0) × (of s v ≡ line) × (of (other s) v ≡ beside) × (0 < parts)
 
   -- the same of a seat of this table
-  abbrev pub IsPass : Side → TableId → Seat (Option T) (View T W) → ℕ → Line W → ℕ → Type 0
-  IsPass s table seat parts line ticket = (seat.table_id ≡ table) × (seat.me.1 ≡ []) × Calls s parts line ticket seat.me.0
+  abbrev pub IsPass : Side → TableId → Seat (Option T) (View T W) → ℕ → Line W → Line W → Type 0
+  IsPass s table seat parts line beside = (seat.table_id ≡ table) × (seat.me.1 ≡ []) × Calls s parts line beside seat.me.0
 
   -- a call of one side: for how many it answers, the listener that it has in hand and the ticket, by their keys plus 1, or 0
   abbrev pub IsCall : Side → TableId → Seat (Option T) (View T W) → ℕ → ℕ → ℕ → ℕ → Type 0
-  IsCall s table seat parts answers holds ticket = IsPass s table seat parts (calling answers holds ticket) 0
+  IsCall s table seat parts answers holds ticket = IsPass s table seat parts (calling answers holds ticket) idle
 
   -- a pass with no call under way
   abbrev pub IsIdle : TableId → Seat (Option T) (View T W) → ℕ → Type 0

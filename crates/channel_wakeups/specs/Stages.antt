@@ -1,10 +1,11 @@
 -- What a call has of the slot, stage by stage, and what its seat knows then.
 use Rattle.std.specs.Prelude.{◌≡◌, ℕ, ◌<◌, List, [], ◌∷◌, ◌++◌, Option, None, Some}
 use Rattle.channel_wakeups.specs.declared.rule.View.{View}
-use Rattle.channel_wakeups.specs.declared.rule.Transfer.TheVariants.{Out}
+use Rattle.channel_wakeups.specs.declared.rule.Transfer.TheVariants.{Out, Saw}
+use Rattle.channel_wakeups.specs.declared.rule.Sight.TheVariants.{Seen, Drained}
 use Rattle.channel_wakeups.specs.declared.stage.Stage.{Stage}
 use Rattle.channel_wakeups.specs.declared.stage.Stage.TheVariants.{Free, Won, Filled, Caught, Emptied}
-use Rattle.channel_wakeups.specs.Views.{pass, answering, ended, Known, given}
+use Rattle.channel_wakeups.specs.Views.{pass, answering, ended, resolved, Known, given}
 
 module _ {T W : Type 0} where
   -- a seat whose call knows the word to be n while it has the slot; with 0 it has none
@@ -18,12 +19,20 @@ module _ {T W : Type 0} where
   abbrev pub refused : View T W → View T W
   refused v = pass v.parts 0 v.receives (ended v.sends) v.log
 
+  -- or found the channel closed, and has its listener in hand still
+  abbrev pub shut_out : View T W → View T W
+  shut_out v = pass v.parts 0 v.receives (resolved v.sends) (v.log ++ Saw Seen ∷ [])
+
   -- a pop won this message, and answers for one place more; or found none, and answers for no message any more
   abbrev pub taking : ℕ → T → View T W → View T W
-  taking k x v = pass v.parts 1 (ended v.receives) (answering v.sends) (v.log ++ Out k x ∷ [])
+  taking k x v = pass v.parts 1 (resolved v.receives) (answering v.sends) (v.log ++ Out k x ∷ [])
 
   abbrev pub resting : View T W → View T W
   resting v = pass v.parts 0 (ended v.receives) v.sends v.log
+
+  -- or found none in a closed channel, and has its listener in hand still
+  abbrev pub draining : View T W → View T W
+  draining v = pass v.parts 0 (resolved v.receives) v.sends (v.log ++ Saw Drained ∷ [])
 
   -- a push gives the slot back with this message in it; a pop without one
   abbrev pub giving : ℕ → List (ℕ × Option T) → View T W → View T W

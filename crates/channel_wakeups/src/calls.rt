@@ -1,18 +1,19 @@
 //! What a channel's calls do, each with a pass that is idle before it and after it.
 
 ghost use Rattle.std.specs.Prelude.{◌≡◌, ◌⊎◌, ℕ, ◌+◌, ◌-◌, ◌<◌, true, false, is_some, IfErr, IfOk};
-ghost use Rattle.channel_wakeups.specs.Calls.{held, is_pending, is_waiting, key_next, Looked, Offers, Received, Sent};
+ghost use Rattle.channel_wakeups.specs.Calls.{held, is_pending, is_waiting, key_next, Closes, IsClosed, Looked, Offers, Received, Sent};
 ghost use Rattle.channel_wakeups.specs.Seats.{IsCall, IsIdle, IsPass};
-ghost use Rattle.channel_wakeups.specs.Views.{of, other, calling, of_receives, of_sends};
+ghost use Rattle.channel_wakeups.specs.Views.{of, other, calling, closing, call_part, of_receives, of_sends};
 
 use crate::cells::{Place, SlotTable};
 use crate::channel::{Rest, Ticket};
 use crate::desk::Desk;
-use crate::made::{pop, push};
+use crate::made::{ask, pop, push, shut};
 use crate::place::{blank, give_ticket, take_ticket};
 use crate::polled::{Offered, Polled};
 use crate::rule::{Receives, Room, Sends, Waiting};
 use crate::wake::Wake;
+use concurrent_queue::{PopError, PushError};
 use std::marker::PhantomData;
 use std::mem;
 use std::sync::{Mutex, Wait};
@@ -39,13 +40,77 @@ fn tell<T: Drop, W: Wake, B: Room, S: Waiting, R: Wait>(
     call: Place<T, W>,
 ) -> Place<T, W>
     requires table { (table.now.shared.table_id ≡ B.table) × (0 < B.table.words) }
-    requires call { IsCall S.side B.table call call.me.0.parts 1 0 0 }
-    ensures idle { IsCall S.side B.table result call.me.0.parts 0 0 0 }
+    requires call { IsPass S.side B.table call call.me.0.parts (calling 1 0 0) (call_part (of (other S.side) call.me.0)) }
+    ensures idle { IsPass S.side B.table result call.me.0.parts (calling 0 0 0) (call_part (of (other S.side) call.me.0)) }
     ensures log { result.me.0.log ≡ call.me.0.log }
 {
     let (task, call) = desk.lock(rt).tell(table, call);
     wake(rt, task);
     call
+}
+
+/// Tells all who wait, and wakes each. A task is woken after its section, and no memory is needed, so each is told in a section of its
+/// own.
+fn tell_all<T: Drop, W: Wake, B: Room, S: Waiting, R: Wait>(
+    rt: &R,
+    table: &SlotTable<T, W>,
+    desk: &Mutex<Desk<T, W, B, S>>,
+    mut call: Place<T, W>,
+) -> Place<T, W>
+    requires table { (table.now.shared.table_id ≡ B.table) × (0 < B.table.words) }
+    requires call { IsPass S.side B.table call call.me.0.parts (closing 1) (call_part (of (other S.side) call.me.0)) }
+    ensures all { IsPass S.side B.table result call.me.0.parts (closing 0) (call_part (of (other S.side) call.me.0)) }
+    ensures log { result.me.0.log ≡ call.me.0.log }
+{
+    for _ in rt.forever() {
+        let (task, next) = desk.lock(rt).tell_next(table, call);
+        let Some(task) = task else {
+            return next;
+        };
+        task.wake(rt);
+        call = next;
+    }
+    unreachable!()
+}
+
+/// Closes the channel. Who is the first tells all sends that wait, and then all receives.
+pub(crate) fn close<T: Drop, W: Wake, B: Room, R: Wait>(
+    rt: &R,
+    table: &SlotTable<T, W>,
+    desks: &Desks<T, W, B>,
+    pass: &mut Place<T, W>,
+) -> bool
+    requires table { (table.now.shared.table_id ≡ B.table) × (0 < B.table.words) }
+    requires pass { IsIdle B.table pass.old pass.old.me.0.parts }
+    ensures pass { IsIdle B.table pass.new pass.old.me.0.parts }
+    ensures answers { Closes result pass.old.me.0.log pass.new.me.0.log }
+{
+    let call = mem::replace(pass, blank(table));
+    let (first, call) = shut(rt, table, call);
+    if !first {
+        *pass = call;
+        return false;
+    }
+    let call = tell_all(rt, table, desks.sends, call);
+    *pass = tell_all(rt, table, desks.receives, call);
+    true
+}
+
+/// Whether the channel is closed.
+pub(crate) fn is_closed<T: Drop, W: Drop, R: Wait>(
+    rt: &R,
+    table: &SlotTable<T, W>,
+    pass: &mut Place<T, W>,
+) -> bool
+    requires table { 0 < table.now.shared.table_id.words }
+    requires pass { IsIdle table.now.shared.table_id pass.old pass.old.me.0.parts }
+    ensures pass { IsIdle table.now.shared.table_id pass.new pass.old.me.0.parts }
+    ensures answers { IsClosed result pass.old.me.0.log pass.new.me.0.log }
+{
+    let call = mem::replace(pass, blank(table));
+    let (closed, call) = ask(rt, table, call);
+    *pass = call;
+    closed
 }
 
 pub(crate) fn send<T: Drop, W: Wake, B: Room, R: Wait>(
@@ -54,11 +119,10 @@ pub(crate) fn send<T: Drop, W: Wake, B: Room, R: Wait>(
     receives: &Mutex<Desk<T, W, B, Receives>>,
     pass: &mut Place<T, W>,
     message: T,
-) -> Result<(), T>
+) -> Result<(), PushError<T>>
     requires table { (table.now.shared.table_id ≡ B.table) × (0 < B.table.words) }
     requires pass { IsIdle B.table pass.old pass.old.me.0.parts }
     ensures pass { IsIdle B.table pass.new pass.old.me.0.parts }
-    ensures back { IfErr result (λ m. m ≡ message) }
     ensures sent { Sent message result pass.old.me.0.log pass.new.me.0.log }
 {
     let call = mem::replace(pass, blank(table));
@@ -181,29 +245,40 @@ fn try_or_listen<T: Drop, W: Wake, B: Room, R: Wait>(
     task: W,
 ) -> (Polled<T>, Option<Ticket<T, W, B, Receives>>, Place<T, W>)
     requires table { (table.now.shared.table_id ≡ B.table) × (0 < B.table.words) }
-    requires call { IsCall of_receives B.table call call.me.0.parts call.me.0.receives.answers call.me.0.receives.holds 0 }
+    requires call { IsCall of_receives B.table call call.me.0.parts call.me.0.receives.answers 0 0 }
     requires parts { 1 < call.me.0.parts }
     ensures call { IsIdle B.table result.2 (call.me.0.parts - held (is_some result.1)) }
     ensures pending { is_some result.1 ≡ is_pending result.0 }
     ensures received { Received result.0 call.me.0.log result.2.me.0.log }
 {
     let (found, call) = pop(rt, table, call);
-    if let Some(message) = found {
-        drop(task);
-        let idle = tell(rt, table, desks.sends, call);
-        return (Polled::Ready(message), None, idle);
+    match found {
+        Ok(message) => {
+            drop(task);
+            let idle = tell(rt, table, desks.sends, call);
+            return (Polled::Ready(message), None, idle);
+        }
+        Err(PopError::Closed) => {
+            drop(task);
+            return (Polled::Closed, None, call);
+        }
+        Err(PopError::Empty) => {}
     }
     match listen(rt, table, desks.receives, call, task) {
         Err(call) => (Polled::NoMemory, None, call),
         Ok((ticket, call)) => {
             let (found, call) = pop(rt, table, call);
             match found {
-                Some(message) => {
+                Ok(message) => {
                     let call = tell(rt, table, desks.sends, call);
                     let call = take_off(rt, table, desks.receives, call, ticket);
                     (Polled::Ready(message), None, call)
                 }
-                None => (Polled::Pending, Some(ticket), call),
+                Err(PopError::Closed) => {
+                    let call = take_off(rt, table, desks.receives, call, ticket);
+                    (Polled::Closed, None, call)
+                }
+                Err(PopError::Empty) => (Polled::Pending, Some(ticket), call),
             }
         }
     }
@@ -255,7 +330,7 @@ fn put_or_listen<T: Drop, W: Wake, B: Room, R: Wait>(
     task: W,
 ) -> (Offered<T>, Option<Ticket<T, W, B, Sends>>, Place<T, W>)
     requires table { (table.now.shared.table_id ≡ B.table) × (0 < B.table.words) }
-    requires call { IsCall of_sends B.table call call.me.0.parts call.me.0.sends.answers call.me.0.sends.holds 0 }
+    requires call { IsCall of_sends B.table call call.me.0.parts call.me.0.sends.answers 0 0 }
     requires parts { 1 < call.me.0.parts }
     ensures call { IsIdle B.table result.2 (call.me.0.parts - held (is_some result.1)) }
     ensures pending { is_some result.1 ≡ is_waiting result.0 }
@@ -268,7 +343,12 @@ fn put_or_listen<T: Drop, W: Wake, B: Room, R: Wait>(
             let call = tell(rt, table, desks.receives, call);
             return (Offered::Accepted, None, call);
         }
-        Err(message) => message,
+        Err(PushError::Full(message)) => message,
+        Err(PushError::Closed(message)) => {
+            drop(task);
+            return (Offered::Closed(message), None, call);
+        }
+        Err(PushError::NoMemory(_)) => unreachable!(),
     };
     match listen(rt, table, desks.sends, call, task) {
         Err(call) => (Offered::NoMemory(message), None, call),
@@ -280,7 +360,12 @@ fn put_or_listen<T: Drop, W: Wake, B: Room, R: Wait>(
                     let call = take_off(rt, table, desks.sends, call, ticket);
                     (Offered::Accepted, None, call)
                 }
-                Err(message) => (Offered::Pending(message), Some(ticket), call),
+                Err(PushError::Full(message)) => (Offered::Pending(message), Some(ticket), call),
+                Err(PushError::Closed(message)) => {
+                    let call = take_off(rt, table, desks.sends, call, ticket);
+                    (Offered::Closed(message), None, call)
+                }
+                Err(PushError::NoMemory(_)) => unreachable!(),
             }
         }
     }
@@ -330,8 +415,8 @@ fn take_in<T: Drop, W: Drop, B: Room, S: Waiting>(
     waiting: Option<Ticket<T, W, B, S>>,
 ) -> Option<u64>
     requires table { (table.now.shared.table_id ≡ B.table) × (0 < B.table.words) }
-    requires call { IsPass S.side B.table call.old call.old.me.0.parts (calling 0 0 0) (of (other S.side) call.old.me.0).ticket }
-    ensures call { IsPass S.side B.table call.new (call.old.me.0.parts + held (is_some waiting)) (calling 0 0 (key_next result)) (of (other S.side) call.old.me.0).ticket }
+    requires call { IsPass S.side B.table call.old call.old.me.0.parts (calling 0 0 0) (call_part (of (other S.side) call.old.me.0)) }
+    ensures call { IsPass S.side B.table call.new (call.old.me.0.parts + held (is_some waiting)) (calling 0 0 (key_next result)) (call_part (of (other S.side) call.old.me.0)) }
     ensures some { is_some result ≡ is_some waiting }
     ensures log { call.new.me.0.log ≡ call.old.me.0.log }
 {
@@ -347,9 +432,9 @@ fn give_out<T: Drop, W: Drop, B: Room, S: Waiting>(
     key: Option<u64>,
 ) -> Option<Ticket<T, W, B, S>>
     requires table { (table.now.shared.table_id ≡ B.table) × (0 < B.table.words) }
-    requires call { IsPass S.side B.table call.old call.old.me.0.parts (calling 0 0 (key_next key)) (of (other S.side) call.old.me.0).ticket }
+    requires call { IsPass S.side B.table call.old call.old.me.0.parts (calling 0 0 (key_next key)) (call_part (of (other S.side) call.old.me.0)) }
     requires parts { 1 < call.old.me.0.parts }
-    ensures call { IsPass S.side B.table call.new (call.old.me.0.parts - held (is_some key)) (calling 0 0 0) (of (other S.side) call.old.me.0).ticket }
+    ensures call { IsPass S.side B.table call.new (call.old.me.0.parts - held (is_some key)) (calling 0 0 0) (call_part (of (other S.side) call.old.me.0)) }
     ensures some { is_some result ≡ is_some key }
     ensures log { call.new.me.0.log ≡ call.old.me.0.log }
 {
@@ -377,19 +462,22 @@ pub(crate) fn look<T: Drop, W: Wake, B: Room, R: Wait>(
     ensures same { (is_some receive.new ≡ is_some receive.old) × (is_some send.new ≡ is_some send.old) }
     ensures receives { is_some receive.old ≡ true → result.message ≡ true → result.receive_told ≡ true }
     ensures sends { is_some send.old ≡ true → result.message ≡ false → result.send_told ≡ true }
+    ensures closed_receives { is_some receive.old ≡ true → result.closed ≡ true → result.receive_told ≡ true }
+    ensures closed_sends { is_some send.old ≡ true → result.closed ≡ true → result.send_told ≡ true }
     ensures log { pass.new.me.0.log ≡ pass.old.me.0.log }
-    ensures accounts { Looked result.message pass.old.me.0.log }
+    ensures accounts { Looked result.message result.closed pass.old.me.0.log }
 {
     let mut call = mem::replace(pass, blank(table));
     let receive_key = take_in(table, &mut call, receive.take());
     let send_key = take_in(table, &mut call, send.take());
-    let (message, receive_told, call) = desks.receives.lock(rt).look(table, call);
+    let ((message, closed), receive_told, call) = desks.receives.lock(rt).look(table, call);
     let (_, send_told, mut call) = desks.sends.lock(rt).look(table, call);
     *receive = give_out(table, &mut call, receive_key);
     *send = give_out(table, &mut call, send_key);
     *pass = call;
     Rest {
         message,
+        closed,
         receive_told,
         send_told,
     }

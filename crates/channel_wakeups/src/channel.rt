@@ -1,8 +1,8 @@
 //! The channel, its passes, its receives and its sends that wait.
 
-ghost use Rattle.std.specs.Prelude.{◌≡◌, ℕ, ◌+◌, ◌-◌, ◌/◌, ◌<◌, [], ◌++◌, true, false, IfErr, is_some};
+ghost use Rattle.std.specs.Prelude.{◌≡◌, ℕ, ◌+◌, ◌-◌, ◌/◌, ◌<◌, [], ◌++◌, true, false, is_some};
 ghost use Rattle.atomic_table.specs.Seated.{TableId};
-ghost use Rattle.channel_wakeups.specs.Calls.{held, is_pending, is_waiting, Hand, Looked, Offers, Received, Sent};
+ghost use Rattle.channel_wakeups.specs.Calls.{held, is_pending, is_waiting, Closes, Hand, IsClosed, Looked, Offers, Received, Sent};
 ghost use Rattle.channel_wakeups.specs.Seats.{IsIdle, IsTicket};
 ghost use Rattle.channel_wakeups.specs.Views.{everything};
 
@@ -15,6 +15,7 @@ use crate::polled::{Offered, Polled};
 use crate::rule::{Receives, Room, Sends, Waiting};
 use crate::wake::Wake;
 use atomic_table::Table;
+use concurrent_queue::PushError;
 use std::alloc::{AllocError, Global};
 use std::marker::{Model, PhantomData};
 use std::sync::{Mutex, Wait};
@@ -52,7 +53,7 @@ impl<T: Drop, W: Drop, B: Room> Model for SlotChannel<T, W, B> {
 }
 
 /// What a thread calls with, and which has no call under way: so many parts of the right to know the whole, and a log of what was put
-/// in and taken out with it. It has no bytes, and the log is there for contracts alone.
+/// in and taken out with it, and of what it saw of the closing. It has no bytes, and the log is there for contracts alone.
 #[derive(Drop)]
 pub struct Pass<T: Drop, W: Drop, B: Room> {
     pub(crate) seat: Place<T, W>,
@@ -101,6 +102,8 @@ pub type Sending<T, W, B> = Waiter<T, W, B, Sends>;
 pub struct Rest {
     /// Whether a message is there.
     pub message: bool,
+    /// Whether the channel is closed.
+    pub closed: bool,
     /// Whether the listener of some receive was told.
     pub receive_told: bool,
     /// Whether that of some send was told.
@@ -179,11 +182,15 @@ impl<T: Drop, W: Wake, B: Room> SlotChannel<T, W, B> {
     }
 
     /// Puts the message into the slot if it is empty, and wakes the first receive that waits untold. `Err` hands the message back:
-    /// the slot was full. It may wait, for the lock of the list and while another call is between the operations that it needs to take
-    /// a message out.
-    pub fn try_send<R: Wait>(&self, rt: &R, pass: &mut Pass<T, W, B>, message: T) -> Result<(), T>
+    /// the slot was full, or the channel is closed. It may wait, for the lock of the list and while another call is between the operations
+    /// that it needs to take a message out.
+    pub fn try_send<R: Wait>(
+        &self,
+        rt: &R,
+        pass: &mut Pass<T, W, B>,
+        message: T,
+    ) -> Result<(), PushError<T>>
         ensures pass { pass.new.parts ≡ pass.old.parts }
-        ensures back { IfErr result (λ m. m ≡ message) }
         ensures sent { Sent message result pass.old.log pass.new.log }
     {
         calls::send(rt, &self.table, &self.receives, &mut pass.seat, message)
@@ -191,7 +198,7 @@ impl<T: Drop, W: Wake, B: Room> SlotChannel<T, W, B> {
 
     /// Polls a send: it puts the message in, and wakes the first receive that waits untold, or waits with this task from here on. The
     /// task is woken when the send is told, and is let go where it is not needed. A message that is not put in is handed back, for the
-    /// next poll. `NoMemory` where there was none for a listener.
+    /// next poll; `Closed` where there will be no place. `NoMemory` where there was none for a listener.
     pub fn poll_send<R: Wait>(
         &self,
         rt: &R,
@@ -225,7 +232,8 @@ impl<T: Drop, W: Wake, B: Room> SlotChannel<T, W, B> {
     }
 
     /// Polls a receive: it takes the message, and wakes the first send that waits untold, or waits with this task from here on. The task
-    /// is woken when the receive is told, and is let go where it is not needed. `NoMemory` where there was none for a listener.
+    /// is woken when the receive is told, and is let go where it is not needed. `Closed` where no message is left in a closed channel.
+    /// `NoMemory` where there was none for a listener.
     pub fn poll_recv<R: Wait>(
         &self,
         rt: &R,
@@ -262,10 +270,28 @@ impl<T: Drop, W: Wake, B: Room> SlotChannel<T, W, B> {
         );
     }
 
+    /// Closes the channel: no message is accepted any more, and what is there can be received still. The first who does so is answered
+    /// `true`, and wakes all sends and then all receives that wait untold.
+    pub fn close<R: Wait>(&self, rt: &R, pass: &mut Pass<T, W, B>) -> bool
+        ensures pass { pass.new.parts ≡ pass.old.parts }
+        ensures answers { Closes result pass.old.log pass.new.log }
+    {
+        calls::close(rt, &self.table, &self.desks(), &mut pass.seat)
+    }
+
+    /// Whether the channel is closed.
+    pub fn is_closed<R: Wait>(&self, rt: &R, pass: &mut Pass<T, W, B>) -> bool
+        ensures pass { pass.new.parts ≡ pass.old.parts }
+        ensures answers { IsClosed result pass.old.log pass.new.log }
+    {
+        calls::is_closed(rt, &self.table, &mut pass.seat)
+    }
+
     /// All parts are back, so no call is under way, and no other receive and no other send is pending. Whether a message is there, and
     /// whether some listener was woken. Beside a receive that is pending a message has a woken listener of a receive, and beside a send
-    /// that is pending a free place has one of a send. The log of all passes says that each message that was put in was taken out once,
-    /// but for the last where one is there.
+    /// that is pending a free place has one of a send. In a closed channel there is one of each that is pending. The log of all passes says
+    /// that each message that was put in was taken out once, but for the last where one is there. It says too whether one closed the channel,
+    /// and that who found it closed, or without a message then, did so rightly.
     pub fn look<R: Wait>(
         &self,
         rt: &R,
@@ -277,7 +303,9 @@ impl<T: Drop, W: Wake, B: Room> SlotChannel<T, W, B> {
         ensures same { (pass.new.parts ≡ pass.old.parts) × (pass.new.log ≡ pass.old.log) × (receive.new ≡ receive.old) × (send.new ≡ send.old) }
         ensures receives { 0 < receive.old → result.message ≡ true → result.receive_told ≡ true }
         ensures sends { 0 < send.old → result.message ≡ false → result.send_told ≡ true }
-        ensures accounts { Looked result.message pass.old.log }
+        ensures closed_receives { 0 < receive.old → result.closed ≡ true → result.receive_told ≡ true }
+        ensures closed_sends { 0 < send.old → result.closed ≡ true → result.send_told ≡ true }
+        ensures accounts { Looked result.message result.closed pass.old.log }
     {
         calls::look(
             rt,

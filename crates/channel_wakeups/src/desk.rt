@@ -4,7 +4,7 @@ ghost use Rattle.std.specs.Prelude.{◌≡◌, ◌⊎◌, ℕ, ◌+◌, ◌-◌,
 ghost use Rattle.channel_wakeups.specs.Calls.{Looked};
 ghost use Rattle.channel_wakeups.specs.Lists.{told, waits, listed};
 ghost use Rattle.channel_wakeups.specs.Seats.{IsCall, IsPass, IsTicket, IsList};
-ghost use Rattle.channel_wakeups.specs.Views.{of, other, calling, due};
+ghost use Rattle.channel_wakeups.specs.Views.{of, other, calling, closing, call_part, due};
 
 use crate::cells::{Place, SlotTable};
 use crate::listeners::{Listener, add, any_told, remove, renew, take_told, tell_one};
@@ -40,15 +40,16 @@ impl<T: Drop, W: Drop, B: Room, S: Waiting> Desk<T, W, B, S> {
         }
     }
 
-    /// A call that put a message, or took one, tells a listener, and answers for nothing more. The task of who was told is answered.
+    /// A call that put a message, or took one, tells a listener, and answers for nothing more on this side. The task of who was told is
+    /// answered.
     pub(crate) fn tell(
         &mut self,
         table: &SlotTable<T, W>,
         call: Place<T, W>,
     ) -> (Option<W>, Place<T, W>)
         requires table { (table.now.shared.table_id ≡ B.table) × (0 < B.table.words) }
-        requires call { IsCall S.side B.table call call.me.0.parts 1 0 0 }
-        ensures idle { IsCall S.side B.table result.1 call.me.0.parts 0 0 0 }
+        requires call { IsPass S.side B.table call call.me.0.parts (calling 1 0 0) (call_part (of (other S.side) call.me.0)) }
+        ensures idle { IsPass S.side B.table result.1 call.me.0.parts (calling 0 0 0) (call_part (of (other S.side) call.me.0)) }
         ensures log { result.1.me.0.log ≡ call.me.0.log }
     {
         let task = tell_one(self.listeners.as_mut_slice());
@@ -59,8 +60,49 @@ impl<T: Drop, W: Drop, B: Room, S: Waiting> Desk<T, W, B, S> {
             self.listeners.as_slice(),
             0,
             0,
+            0,
         );
         (task, call)
+    }
+
+    /// A call that closed the channel tells one more listener. Where none waits untold it has told all, and has the line in hand no more.
+    pub(crate) fn tell_next(
+        &mut self,
+        table: &SlotTable<T, W>,
+        call: Place<T, W>,
+    ) -> (Option<W>, Place<T, W>)
+        requires table { (table.now.shared.table_id ≡ B.table) × (0 < B.table.words) }
+        requires call { IsPass S.side B.table call call.me.0.parts (closing 1) (call_part (of (other S.side) call.me.0)) }
+        ensures more { IfSome result.0 (λ _. IsPass S.side B.table result.1 call.me.0.parts (closing 1) (call_part (of (other S.side) call.me.0))) }
+        ensures all { IfNone result.0 (IsPass S.side B.table result.1 call.me.0.parts (closing 0) (call_part (of (other S.side) call.me.0))) }
+        ensures log { result.1.me.0.log ≡ call.me.0.log }
+    {
+        match tell_one(self.listeners.as_mut_slice()) {
+            Some(task) => {
+                let call = section::<T, W, S, Brand>(
+                    table,
+                    &mut self.seat,
+                    call,
+                    self.listeners.as_slice(),
+                    0,
+                    0,
+                    1,
+                );
+                (Some(task), call)
+            }
+            None => {
+                let call = section::<T, W, S, Brand>(
+                    table,
+                    &mut self.seat,
+                    call,
+                    self.listeners.as_slice(),
+                    0,
+                    0,
+                    0,
+                );
+                (None, call)
+            }
+        }
     }
 
     /// A new listener, which the call has in hand until it has tried again: its key, the pass and its ticket.
@@ -90,6 +132,7 @@ impl<T: Drop, W: Drop, B: Room, S: Waiting> Desk<T, W, B, S> {
             self.listeners.as_slice(),
             0,
             key + 1,
+            0,
         );
         let ticket = give_ticket::<T, W, S>(table, &mut call);
         Ok((key, call, ticket))
@@ -118,6 +161,7 @@ impl<T: Drop, W: Drop, B: Room, S: Waiting> Desk<T, W, B, S> {
                 self.listeners.as_slice(),
                 1,
                 0,
+                0,
             );
             return (Some(task), call);
         }
@@ -127,6 +171,7 @@ impl<T: Drop, W: Drop, B: Room, S: Waiting> Desk<T, W, B, S> {
             &mut self.seat,
             call,
             self.listeners.as_slice(),
+            0,
             0,
             0,
         );
@@ -155,26 +200,27 @@ impl<T: Drop, W: Drop, B: Room, S: Waiting> Desk<T, W, B, S> {
             self.listeners.as_slice(),
             0,
             0,
+            0,
         );
         (task, call)
     }
 
-    /// With every part in hand no call is under way: whether a message is there, and whether a listener of this side was told. The call
-    /// has the ticket of one that is pending.
+    /// With every part in hand no call is under way: whether a message is there, whether the channel is closed, and whether a listener of
+    /// this side was told. The call has the ticket of one that is pending.
     pub(crate) fn look(
         &mut self,
         table: &SlotTable<T, W>,
         call: Place<T, W>,
-    ) -> (bool, bool, Place<T, W>)
+    ) -> ((bool, bool), bool, Place<T, W>)
         requires table { (table.now.shared.table_id ≡ B.table) × (0 < B.table.words) }
-        requires call { IsPass S.side B.table call 1024 (calling 0 0 (of S.side call.me.0).ticket) (of (other S.side) call.me.0).ticket }
+        requires call { IsPass S.side B.table call 1024 (calling 0 0 (of S.side call.me.0).ticket) (call_part (of (other S.side) call.me.0)) }
         ensures same { (result.2.table_id ≡ B.table) × (result.2.me ≡ call.me) }
-        ensures law { 0 < (of S.side call.me.0).ticket → 0 < due S.side result.0 → result.1 ≡ true }
-        ensures accounts { Looked result.0 call.me.0.log }
+        ensures law { 0 < (of S.side call.me.0).ticket → 0 < due S.side result.0.0 result.0.1 → result.1 ≡ true }
+        ensures accounts { Looked result.0.0 result.0.1 call.me.0.log }
     {
         enter::<T, W, S>(table, &mut self.seat, call);
-        let message = learn::<T, W, S>(table, &mut self.seat);
+        let found = learn::<T, W, S>(table, &mut self.seat);
         let told = any_told(self.listeners.as_slice());
-        (message, told, leave(table, &mut self.seat))
+        (found, told, leave(table, &mut self.seat))
     }
 }

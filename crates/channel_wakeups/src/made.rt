@@ -1,17 +1,17 @@
-//! The queue's push and pop of one slot, made with a pass.
+//! The queue's push, pop and closing of one slot, made with a pass.
 
-ghost use Rattle.std.specs.Prelude.{◌≡◌, ◌<◌, IfErr, IfOk, IfNone, IfSome};
+ghost use Rattle.std.specs.Prelude.{◌≡◌, ◌<◌, true, false, IfErr, IfOk};
 ghost use Rattle.concurrent_queue.specs.Replies.{MayAnswer};
 ghost use Rattle.concurrent_queue.specs.declared.call.QueueAsk.TheVariants as ask;
 ghost use Rattle.concurrent_queue.specs.declared.cells.QueueForm.TheVariants.{Bounded};
-ghost use Rattle.channel_wakeups.specs.Calls.{PushLeaves, PopLeaves, Sent, Found};
-ghost use Rattle.channel_wakeups.specs.Seats.{IsCall, IsIdle};
-ghost use Rattle.channel_wakeups.specs.Views.{of_receives, of_sends};
+ghost use Rattle.channel_wakeups.specs.Calls.{PushLeaves, PopLeaves, CloseLeaves, AskLeaves, PushRefused, PopRefused, Sent, Found, Closes, IsClosed};
+ghost use Rattle.channel_wakeups.specs.Seats.{IsCall, IsPass, IsIdle};
+ghost use Rattle.channel_wakeups.specs.Views.{of_receives, of_sends, calling, closing};
 
 use crate::cells::{Place, SlotCells, SlotTable};
 use crate::stage::Stage;
 use concurrent_queue::queue_call::whole::complete;
-use concurrent_queue::{QueueCall, QueueReply};
+use concurrent_queue::{PopError, PushError, QueueCall, QueueReply};
 use std::sync::Wait;
 
 /// Every step of the queue's push on the slot.
@@ -24,7 +24,7 @@ fn make_push<T: Drop, W: Drop, R: Wait>(
 ) -> (QueueReply<T>, Place<T, W>)
     requires table { 0 < table.now.shared.table_id.words }
     requires call { IsCall of_sends table.now.shared.table_id seat seat.me.0.parts seat.me.0.sends.answers seat.me.0.sends.holds 0 }
-    ensures leaves { PushLeaves table.now.shared.table_id seat.me.0.parts seat.me.0.log message result.0 result.1 }
+    ensures leaves { PushLeaves table.now.shared.table_id seat.me.0.parts seat.me.0.sends.holds seat.me.0.log message result.0 result.1 }
     ensures answers { MayAnswer (Bounded 1) (ask.Push message) result.0 }
 {
     let mut cells = SlotCells {
@@ -45,7 +45,7 @@ fn make_pop<T: Drop, W: Drop, R: Wait>(
 ) -> (QueueReply<T>, Place<T, W>)
     requires table { 0 < table.now.shared.table_id.words }
     requires call { IsCall of_receives table.now.shared.table_id seat seat.me.0.parts seat.me.0.receives.answers seat.me.0.receives.holds 0 }
-    ensures leaves { PopLeaves table.now.shared.table_id seat.me.0.parts seat.me.0.log result.0 result.1 }
+    ensures leaves { PopLeaves table.now.shared.table_id seat.me.0.parts seat.me.0.receives.holds seat.me.0.log result.0 result.1 }
 {
     let mut cells = SlotCells {
         table,
@@ -56,45 +56,130 @@ fn make_pop<T: Drop, W: Drop, R: Wait>(
     (reply, cells.into_seat())
 }
 
-/// Pushes the message, for which the call answers then. `Err` hands it back: the slot was full. Either way the call answers for no place
-/// then, and has no listener of a send in hand: there was a moment without a free place.
+/// The queue's closing on the slot.
+#[inline(always)]
+fn make_close<T: Drop, W: Drop, R: Wait>(
+    rt: &R,
+    table: &SlotTable<T, W>,
+    seat: Place<T, W>,
+) -> (QueueReply<T>, Place<T, W>)
+    requires table { 0 < table.now.shared.table_id.words }
+    requires idle { IsIdle table.now.shared.table_id seat seat.me.0.parts }
+    ensures leaves { CloseLeaves table.now.shared.table_id seat.me.0.parts seat.me.0.log result.0 result.1 }
+{
+    let mut cells = SlotCells {
+        table,
+        seat,
+        stage: Stage::Free,
+    };
+    let reply = complete(rt, QueueCall::close(), &mut cells);
+    (reply, cells.into_seat())
+}
+
+/// The queue's question whether it is closed.
+#[inline(always)]
+fn make_ask<T: Drop, W: Drop, R: Wait>(
+    rt: &R,
+    table: &SlotTable<T, W>,
+    seat: Place<T, W>,
+) -> (QueueReply<T>, Place<T, W>)
+    requires table { 0 < table.now.shared.table_id.words }
+    requires idle { IsIdle table.now.shared.table_id seat seat.me.0.parts }
+    ensures leaves { AskLeaves table.now.shared.table_id seat.me.0.parts seat.me.0.log result.0 result.1 }
+{
+    let mut cells = SlotCells {
+        table,
+        seat,
+        stage: Stage::Free,
+    };
+    let reply = complete(rt, QueueCall::is_closed(), &mut cells);
+    (reply, cells.into_seat())
+}
+
+/// Pushes the message, for which the call answers then. `Err` hands it back: the slot was full, or the channel is closed. Whatever it
+/// answers, the call answers for no place then. It has no listener of a send in hand either, unless the channel is closed: there was a
+/// moment without a free place.
 pub(crate) fn push<T: Drop, W: Drop, R: Wait>(
     rt: &R,
     table: &SlotTable<T, W>,
     call: Place<T, W>,
     message: T,
-) -> (Result<(), T>, Place<T, W>)
+) -> (Result<(), PushError<T>>, Place<T, W>)
     requires table { 0 < table.now.shared.table_id.words }
     requires call { IsCall of_sends table.now.shared.table_id call call.me.0.parts call.me.0.sends.answers call.me.0.sends.holds 0 }
     ensures ok { IfOk result.0 (λ _. IsCall of_receives table.now.shared.table_id result.1 call.me.0.parts 1 0 0) }
-    ensures err { IfErr result.0 (λ m. (m ≡ message) × IsIdle table.now.shared.table_id result.1 call.me.0.parts) }
+    ensures err { IfErr result.0 (λ e. PushRefused table.now.shared.table_id call.me.0.parts call.me.0.sends.holds e result.1) }
     ensures log { Sent message result.0 call.me.0.log result.1.me.0.log }
 {
     let (reply, call) = make_push(rt, table, call, message);
     match reply {
         QueueReply::Push(Ok(())) => (Ok(()), call),
-        QueueReply::Push(Err(refused)) => (Err(refused.into_inner()), call),
+        QueueReply::Push(Err(PushError::Full(refused))) => (Err(PushError::Full(refused)), call),
+        QueueReply::Push(Err(PushError::Closed(refused))) => (
+            Err(PushError::Closed(refused)),
+            call,
+        ),
         _ => unreachable!(),
     }
 }
 
-/// Pops the message, for whose place the call answers then. Whatever it answers, the call answers for no message then, and has no
-/// listener of a receive in hand: there was a moment without a message.
+/// Pops the message, for whose place the call answers then. Whatever it answers, the call answers for no message then. Where there was
+/// none in an open channel it has no listener of a receive in hand either: there was a moment without a message.
 pub(crate) fn pop<T: Drop, W: Drop, R: Wait>(
     rt: &R,
     table: &SlotTable<T, W>,
     call: Place<T, W>,
-) -> (Option<T>, Place<T, W>)
+) -> (Result<T, PopError>, Place<T, W>)
     requires table { 0 < table.now.shared.table_id.words }
     requires call { IsCall of_receives table.now.shared.table_id call call.me.0.parts call.me.0.receives.answers call.me.0.receives.holds 0 }
-    ensures some { IfSome result.0 (λ _. IsCall of_sends table.now.shared.table_id result.1 call.me.0.parts 1 0 0) }
-    ensures none { IfNone result.0 (IsIdle table.now.shared.table_id result.1 call.me.0.parts) }
+    ensures ok { IfOk result.0 (λ _. IsPass of_sends table.now.shared.table_id result.1 call.me.0.parts (calling 1 0 0) (calling 0 call.me.0.receives.holds 0)) }
+    ensures err { IfErr result.0 (λ e. PopRefused table.now.shared.table_id call.me.0.parts call.me.0.receives.holds e result.1) }
     ensures log { Found result.0 call.me.0.log result.1.me.0.log }
 {
     let (reply, call) = make_pop(rt, table, call);
     match reply {
-        QueueReply::Pop(Ok(message)) => (Some(message), call),
-        QueueReply::Pop(Err(_)) => (None, call),
+        QueueReply::Pop(Ok(message)) => (Ok(message), call),
+        QueueReply::Pop(Err(PopError::Empty)) => (Err(PopError::Empty), call),
+        QueueReply::Pop(Err(PopError::Closed)) => (Err(PopError::Closed), call),
+        _ => unreachable!(),
+    }
+}
+
+/// Closes the channel: `true` where it was open. Then the call has both lines in hand to tell all.
+pub(crate) fn shut<T: Drop, W: Drop, R: Wait>(
+    rt: &R,
+    table: &SlotTable<T, W>,
+    call: Place<T, W>,
+) -> (bool, Place<T, W>)
+    requires table { 0 < table.now.shared.table_id.words }
+    requires call { IsIdle table.now.shared.table_id call call.me.0.parts }
+    ensures first { result.0 ≡ true → IsPass of_receives table.now.shared.table_id result.1 call.me.0.parts (closing 1) (closing 1) }
+    ensures other { result.0 ≡ false → IsIdle table.now.shared.table_id result.1 call.me.0.parts }
+    ensures log { Closes result.0 call.me.0.log result.1.me.0.log }
+{
+    let (reply, call) = make_close(rt, table, call);
+    match reply {
+        QueueReply::Close(true) => (true, call),
+        QueueReply::Close(false) => (false, call),
+        _ => unreachable!(),
+    }
+}
+
+/// Whether the channel is closed.
+pub(crate) fn ask<T: Drop, W: Drop, R: Wait>(
+    rt: &R,
+    table: &SlotTable<T, W>,
+    call: Place<T, W>,
+) -> (bool, Place<T, W>)
+    requires table { 0 < table.now.shared.table_id.words }
+    requires call { IsIdle table.now.shared.table_id call call.me.0.parts }
+    ensures idle { IsIdle table.now.shared.table_id result.1 call.me.0.parts }
+    ensures log { IsClosed result.0 call.me.0.log result.1.me.0.log }
+{
+    let (reply, call) = make_ask(rt, table, call);
+    match reply {
+        QueueReply::Flag(true) => (true, call),
+        QueueReply::Flag(false) => (false, call),
         _ => unreachable!(),
     }
 }

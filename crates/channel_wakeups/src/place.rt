@@ -31,7 +31,7 @@ pub(crate) fn enter<T: Drop, W: Drop, S: Waiting>(
 )
     requires table { 0 < table.now.shared.table_id.words }
     requires seat { IsList S.side table.now.shared.table_id seat.old }
-    requires call { IsPass S.side table.now.shared.table_id call call.me.0.parts (call_part (of S.side call.me.0)) (of (other S.side) call.me.0).ticket }
+    requires call { IsPass S.side table.now.shared.table_id call call.me.0.parts (call_part (of S.side call.me.0)) (call_part (of (other S.side) call.me.0)) }
     ensures { (seat.new.table_id ≡ table.now.shared.table_id) × (seat.new.me ≡ (entered seat.old.me.0 call.me.0, [])) }
 {
     table.shared.join_seat::<Enters>(seat, call);
@@ -63,8 +63,8 @@ fn aim<T: Drop, W: Drop, S: Waiting, I: Aim<W>>(table: &SlotTable<T, W>, seat: &
     table.shared.load::<Becomes<S, I>>(seat, 0);
 }
 
-/// A section of a list that was changed. What the list became, and what the call answers for and has in hand from now on, are arguments
-/// for the proof alone.
+/// A section of a list that was changed. What the list became, and what the call answers for and has in hand from now on, one listener or
+/// all, are arguments for the proof alone.
 #[inline(always)]
 pub(crate) fn section<T: Drop, W: Drop, S: Waiting, I: Aim<W>>(
     table: &SlotTable<T, W>,
@@ -73,13 +73,14 @@ pub(crate) fn section<T: Drop, W: Drop, S: Waiting, I: Aim<W>>(
     _listeners: &[Listener<W>],
     _answers: u64,
     _holds: u64,
+    _closes: u64,
 ) -> Place<T, W>
     requires table { 0 < table.now.shared.table_id.words }
     requires seat { IsList S.side table.now.shared.table_id seat.old }
-    requires call { IsPass S.side table.now.shared.table_id call call.me.0.parts (call_part (of S.side call.me.0)) 0 }
+    requires call { IsPass S.side table.now.shared.table_id call call.me.0.parts (call_part (of S.side call.me.0)) (call_part (of (other S.side) call.me.0)) }
     requires fair { Fair (both_parts (of S.side seat.old.me.0) (of S.side call.me.0)) I.line }
     ensures list { IsList S.side table.now.shared.table_id seat.new × ((of S.side seat.new.me.0).listeners ≡ I.line.listeners) }
-    ensures call { IsPass S.side table.now.shared.table_id result call.me.0.parts (call_part I.line) 0 }
+    ensures call { IsPass S.side table.now.shared.table_id result call.me.0.parts (call_part I.line) (call_part (of (other S.side) call.me.0)) }
     ensures log { result.me.0.log ≡ call.me.0.log }
 {
     enter::<T, W, S>(table, seat, call);
@@ -142,9 +143,9 @@ pub(crate) fn give_ticket<T: Drop, W: Drop, S: Waiting>(
     call: &mut Place<T, W>,
 ) -> Place<T, W>
     requires table { 0 < table.now.shared.table_id.words }
-    requires call { IsPass S.side table.now.shared.table_id call.old call.old.me.0.parts (call_part (of S.side call.old.me.0)) (of (other S.side) call.old.me.0).ticket }
+    requires call { IsPass S.side table.now.shared.table_id call.old call.old.me.0.parts (calling (of S.side call.old.me.0).answers (of S.side call.old.me.0).holds (of S.side call.old.me.0).ticket) (call_part (of (other S.side) call.old.me.0)) }
     requires parts { 1 < call.old.me.0.parts }
-    ensures same { IsPass S.side table.now.shared.table_id call.new (call.old.me.0.parts - 1) (calling (of S.side call.old.me.0).answers (of S.side call.old.me.0).holds 0) (of (other S.side) call.old.me.0).ticket }
+    ensures same { IsPass S.side table.now.shared.table_id call.new (call.old.me.0.parts - 1) (calling (of S.side call.old.me.0).answers (of S.side call.old.me.0).holds 0) (call_part (of (other S.side) call.old.me.0)) }
     ensures new { IsTicket S.side table.now.shared.table_id result (of S.side call.old.me.0).ticket }
     ensures log { call.new.me.0.log ≡ call.old.me.0.log }
 {
@@ -159,26 +160,28 @@ pub(crate) fn take_ticket<T: Drop, W: Drop, S: Waiting>(
     ticket: Place<T, W>,
 )
     requires table { 0 < table.now.shared.table_id.words }
-    requires call { IsPass S.side table.now.shared.table_id call.old call.old.me.0.parts (calling (of S.side call.old.me.0).answers (of S.side call.old.me.0).holds 0) (of (other S.side) call.old.me.0).ticket }
+    requires call { IsPass S.side table.now.shared.table_id call.old call.old.me.0.parts (calling (of S.side call.old.me.0).answers (of S.side call.old.me.0).holds 0) (call_part (of (other S.side) call.old.me.0)) }
     requires ticket { IsTicket S.side table.now.shared.table_id ticket (of S.side ticket.me.0).ticket }
-    ensures call { IsPass S.side table.now.shared.table_id call.new (call.old.me.0.parts + 1) (calling (of S.side call.old.me.0).answers (of S.side call.old.me.0).holds (of S.side ticket.me.0).ticket) (of (other S.side) call.old.me.0).ticket }
+    ensures call { IsPass S.side table.now.shared.table_id call.new (call.old.me.0.parts + 1) (calling (of S.side call.old.me.0).answers (of S.side call.old.me.0).holds (of S.side ticket.me.0).ticket) (call_part (of (other S.side) call.old.me.0)) }
     ensures log { call.new.me.0.log ≡ call.old.me.0.log }
 {
     table.shared.join_seat::<TakesTicket<S>>(call, ticket);
 }
 
-/// Who has every part and a list learns the rule of its side: whether a message is there, and of the listeners.
+/// Who has every part and a list learns the rule of its side: whether a message is there, whether the channel is closed, and of the
+/// listeners.
 pub(crate) fn learn<T: Drop, W: Drop, S: Waiting>(
     table: &SlotTable<T, W>,
     seat: &mut Place<T, W>,
-) -> bool
+) -> (bool, bool)
     requires table { 0 < table.now.shared.table_id.words }
     requires seat { seat.old.table_id ≡ table.now.shared.table_id }
     requires all { HasAll S.side seat.old.me.0 }
     ensures same { (seat.new.table_id ≡ table.now.shared.table_id) × (seat.new.me ≡ seat.old.me) }
-    ensures law { (key : ℕ) → 0 < waits key (of S.side seat.old.me.0).listeners → due S.side result ≤ told (of S.side seat.old.me.0).listeners }
+    ensures law { (key : ℕ) → 0 < waits key (of S.side seat.old.me.0).listeners → due S.side result.0 result.1 ≤ told (of S.side seat.old.me.0).listeners }
     ensures tickets { (key : ℕ) → is_key key (of S.side seat.old.me.0).ticket ≤ listed key (of S.side seat.old.me.0).listeners }
-    ensures accounts { Looked result seat.old.me.0.log }
+    ensures accounts { Looked result.0 result.1 seat.old.me.0.log }
 {
-    table.shared.load::<Learns<S>>(seat, 0) != 0
+    let found = table.shared.load::<Learns<S>>(seat, 0);
+    (found & 2 != 0, found & 4 != 0)
 }

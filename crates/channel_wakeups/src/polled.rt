@@ -7,6 +7,8 @@ pub enum Polled<T> {
     Ready(T),
     /// None yet.
     Pending,
+    /// None is left, and the channel is closed.
+    Closed,
     /// None, and no memory for a listener.
     NoMemory,
 }
@@ -18,6 +20,8 @@ pub enum Offered<T> {
     Accepted,
     /// There is no place yet. Here it is back, for the next poll.
     Pending(T),
+    /// The channel is closed.
+    Closed(T),
     /// There is no place, and no memory for a listener.
     NoMemory(T),
 }

@@ -59,24 +59,34 @@ impl<W> Aim<W> for Brand {
     ghost line = { idle };
 }
 
-/// A message that was put in or taken out, under its number.
+/// What a pass saw of the closing: its own call closed the channel, or found it closed, or found it closed and without a message.
+pub enum Sight {
+    Shut,
+    Seen,
+    Drained,
+}
+
+/// What was done with a pass: a message was put in or taken out, under its number, or something was seen of the closing.
 pub enum Transfer<T> {
     In(u64, T),
     Out(u64, T),
+    Saw(Sight),
 }
 
 /// What a seat knows of those who wait on one side: for how many messages, or places, its call answers, the listener that it has in
-/// hand, and of which listener it is the ticket; of the list's seat, all listeners. No value is made.
+/// hand, of which listener it is the ticket, and whether it has the line in hand to tell all, since it closed the channel; of the list's
+/// seat, all listeners. No value is made.
 pub struct Line<W> {
     pub answers: u64,
     pub holds: u64,
     pub ticket: u64,
+    pub closes: u64,
     pub lists: u64,
     pub listeners: LinkedList<Listener<W>>,
 }
 
-/// What a seat knows: the parts of a pass, what the word is while its call has the slot, what it knows of receives and of sends that
-/// wait, and what it put in and took out. No value is made.
+/// What a seat knows: the parts of a pass, what the word is while its call has the slot, its closed bit aside, what it knows of receives
+/// and of sends that wait, and what was done with it. No value is made.
 pub struct View<T, W> {
     pub parts: u64,
     pub owns: u64,
@@ -86,8 +96,8 @@ pub struct View<T, W> {
 }
 
 /// The rule: where a receive's listener waits untold that no call has in hand, there are no more messages than told listeners of receives
-/// and calls that answer for one; so too of sends and free places. And what was put in is what was taken out and what the slot holds, in
-/// one order.
+/// and calls that answer for one; so too of sends and free places. Where one waits so while the channel is closed, a call has its line in
+/// hand to tell all. And what was put in is what was taken out and what the slot holds, in one order.
 pub struct Answered;
 
 impl<T, W> TableRule<Option<T>, View<T, W>, ()> for Answered {
@@ -200,13 +210,40 @@ impl<T, W> Play<Option<T>, View<T, W>> for Fills {
     ghost then = { fills };
 }
 
-/// A pop wins the message, or finds none.
+/// A pop wins the message of an open channel, or finds none.
 pub(crate) struct Wins;
 
 impl<T, W> Play<Option<T>, View<T, W>> for Wins {
     ghost use Rattle.channel_wakeups.specs.Views.{wins};
 
-    ghost then = { wins };
+    ghost then = { wins 2 };
+}
+
+/// A pop wins the message of a closed channel, or finds none.
+pub(crate) struct WinsLast;
+
+impl<T, W> Play<Option<T>, View<T, W>> for WinsLast {
+    ghost use Rattle.channel_wakeups.specs.Views.{wins};
+
+    ghost then = { wins 6 };
+}
+
+/// A call closes the channel, and has both lines in hand to tell all; or it finds it closed.
+pub(crate) struct Shuts;
+
+impl<T, W> Play<Option<T>, View<T, W>> for Shuts {
+    ghost use Rattle.channel_wakeups.specs.Views.{shuts};
+
+    ghost then = { shuts };
+}
+
+/// A call looks whether the channel is closed.
+pub(crate) struct Sees;
+
+impl<T, W> Play<Option<T>, View<T, W>> for Sees {
+    ghost use Rattle.channel_wakeups.specs.Views.{sees};
+
+    ghost then = { sees };
 }
 
 /// Who has the slot gives it back.

@@ -2,17 +2,17 @@
 //! machine of one slot would not do here is not done: such an exchange finds a slot that is won, and all else changes nothing.
 
 ghost use Rattle.std.specs.Prelude.{◌≡◌, ◌⊎◌};
-ghost use Rattle.concurrent_queue.specs.Deeds.{exchanged, bits_kept};
+ghost use Rattle.concurrent_queue.specs.Deeds.{loaded, exchanged, bits_set, bits_kept};
 ghost use Rattle.concurrent_queue.specs.declared.cells.Word.TheVariants.{State};
 ghost use Rattle.channel_wakeups.specs.Cells.{Did};
 
 use crate::cells::SlotCells;
-use crate::rule::{Fills, Unlocks, Wins};
+use crate::rule::{Fills, Sees, Shuts, Unlocks, Wins, WinsLast};
 use crate::stage::Stage;
 use concurrent_queue::NoMemory;
 use concurrent_queue::cells::{Cells, QueueForm, Slot, Word};
 
-/// The state of an empty slot, of a full one, of one that a push has won, and of one whose message a pop has won.
+/// The word of an empty slot, of a full one, of one that a push has won, and of one whose message a pop has won.
 const EMPTY: u64 = 0;
 
 const FULL: u64 = 2;
@@ -20,6 +20,13 @@ const FULL: u64 = 2;
 const FILLING: u64 = 3;
 
 const TAKING: u64 = 1;
+
+/// The channel is closed. The word of a full slot then, and of one whose message a pop has won.
+const CLOSED: u64 = 4;
+
+const FULL_CLOSED: u64 = 6;
+
+const TAKING_CLOSED: u64 = 5;
 
 const NOT_LOCKED: u64 = 0xffff_ffff_ffff_fffe;
 
@@ -58,6 +65,44 @@ impl<'a, T: Drop, W: Drop> SlotCells<'a, T, W> {
         } else {
             Err(found)
         }
+    }
+
+    /// A pop wins the message of a closed channel.
+    #[inline(always)]
+    fn catch_last(&mut self) -> Result<u64, u64>
+        requires { self.old.stage ≡ Stage.Free }
+        ensures { Did (exchanged State 6 5 result) self.old self.new }
+    {
+        let found = self
+            .table
+            .shared
+            .compare_exchange::<WinsLast>(&mut self.seat, 0, FULL_CLOSED, TAKING_CLOSED);
+        if found == FULL_CLOSED {
+            self.stage = Stage::Caught;
+            Ok(found)
+        } else {
+            Err(found)
+        }
+    }
+
+    /// The closed bit is set.
+    #[inline(always)]
+    fn shut(&mut self) -> u64
+        requires { self.old.stage ≡ Stage.Free }
+        ensures { Did (bits_set State 4 result) self.old self.new }
+    {
+        self.table
+            .shared
+            .fetch_or::<Shuts>(&mut self.seat, 0, CLOSED)
+    }
+
+    /// The word is looked at.
+    #[inline(always)]
+    fn see(&mut self) -> u64
+        requires { self.old.stage ≡ Stage.Free }
+        ensures { Did (loaded State result) self.old self.new }
+    {
+        self.table.shared.load::<Sees>(&mut self.seat, 0)
     }
 
     /// The slot is given back.
@@ -102,8 +147,9 @@ impl<'a, T: Drop, W: Drop> Cells<T> for SlotCells<'a, T, W> {
 
     #[inline(always)]
     fn load(&mut self, at: Word) -> u64 {
-        match at {
-            Word::State => self.table.shared.peek(0),
+        match (at, self.stage) {
+            (Word::State, Stage::Free) => self.see(),
+            (Word::State, _) => self.table.shared.peek(0),
             _ => 0,
         }
     }
@@ -119,6 +165,9 @@ impl<'a, T: Drop, W: Drop> Cells<T> for SlotCells<'a, T, W> {
             if expected == FULL && next == TAKING {
                 return self.catch();
             }
+            if expected == FULL_CLOSED && next == TAKING_CLOSED {
+                return self.catch_last();
+            }
         }
         // A push finds a message on its way out, and a pop one on its way in: both would try again.
         Err(if next == FILLING { TAKING } else { FILLING })
@@ -128,8 +177,12 @@ impl<'a, T: Drop, W: Drop> Cells<T> for SlotCells<'a, T, W> {
         0
     }
 
-    fn fetch_or(&mut self, _at: Word, _bits: u64) -> u64 {
-        0
+    #[inline(always)]
+    fn fetch_or(&mut self, at: Word, bits: u64) -> u64 {
+        match (at, self.stage) {
+            (Word::State, Stage::Free) if bits == CLOSED => self.shut(),
+            _ => 0,
+        }
     }
 
     #[inline(always)]

@@ -4,6 +4,7 @@
 ghost use Rattle.std.specs.Prelude.{◌≡◌, ◌<◌, IfSome, true, false};
 
 use channel_wakeups::{Offered, Opened, Pass, Polled, Receive, Rest, Room, Sending, SlotChannel};
+use concurrent_queue::PushError;
 use std::alloc::Global;
 use std::marker::Brand;
 use std::sync::Wait;
@@ -249,6 +250,279 @@ pub fn rush<R: Threads + Wait + Sync>(rt: &R, alloc: Global, count: u64) -> Opti
 {
     let opened = Opened::new(alloc).ok()?;
     Some(rush_in::<Brand, R>(rt, opened, count))
+}
+
+/// Sends numbers from 0 on by sends that wait, until the channel is closed. Answers how many were accepted.
+fn offer_until_closed<B: Room, R: Wait>(
+    rt: &R,
+    channel: &SlotChannel<u64, (), B>,
+    mut pass: Pass<u64, (), B>,
+) -> (u64, Pass<u64, (), B>)
+    requires { 1 < pass.parts }
+    ensures { result.1.parts ≡ pass.parts }
+{
+    let mut accepted = 0u64;
+    let mut send = Sending::new();
+    for _ in rt.forever() {
+        match channel.poll_send(rt, &mut pass, &mut send, accepted, ()) {
+            Offered::Accepted => accepted = accepted.wrapping_add(1),
+            Offered::Closed(_) => break,
+            _ => thread::yield_now(),
+        }
+    }
+    channel.give_up_send(rt, &mut pass, send);
+    (accepted, pass)
+}
+
+/// Receives until the channel is closed and nothing is left. Answers how many messages came.
+fn receive_until_closed<B: Room, R: Wait>(
+    rt: &R,
+    channel: &SlotChannel<u64, (), B>,
+    mut pass: Pass<u64, (), B>,
+) -> (u64, Pass<u64, (), B>)
+    requires { 1 < pass.parts }
+    ensures { result.1.parts ≡ pass.parts }
+{
+    let mut received = 0u64;
+    let mut receive = Receive::new();
+    for _ in rt.forever() {
+        match channel.poll_recv(rt, &mut pass, &mut receive, ()) {
+            Polled::Ready(_) => received = received.wrapping_add(1),
+            Polled::Closed => break,
+            _ => thread::yield_now(),
+        }
+    }
+    channel.give_up_recv(rt, &mut pass, receive);
+    (received, pass)
+}
+/// Lets others go first so often, then closes the channel, closes it again, and asks whether it is closed.
+fn close_late<B: Room, R: Wait>(
+    rt: &R,
+    channel: &SlotChannel<u64, (), B>,
+    mut pass: Pass<u64, (), B>,
+    patience: u64,
+) -> ([bool; 3], Pass<u64, (), B>)
+    ensures { result.1.parts ≡ pass.parts }
+{
+    for _ in 0..patience {
+        thread::yield_now();
+    }
+    let first = channel.close(rt, &mut pass);
+    let again = channel.close(rt, &mut pass);
+    let closed = channel.is_closed(rt, &mut pass);
+    ([first, again, closed], pass)
+}
+
+/// Two threads send until the channel is closed. Answers how many messages were accepted.
+fn send_until_closed<B: Room + Send + Sync, R: Threads + Wait + Sync>(
+    rt: &R,
+    channel: &SlotChannel<u64, (), B>,
+    one: Pass<u64, (), B>,
+    two: Pass<u64, (), B>,
+) -> ((u64, Pass<u64, (), B>), (u64, Pass<u64, (), B>))
+    requires { (one.parts ≡ 512) × (two.parts ≡ 256) }
+    ensures { (result.0.1.parts ≡ 512) × (result.1.1.parts ≡ 256) }
+{
+    thread::join(
+        rt,
+        move ||
+            requires { one.parts ≡ 512 }
+            ensures { result.1.parts ≡ 512 }
+        { offer_until_closed(rt, channel, one) },
+        move ||
+            requires { two.parts ≡ 256 }
+            ensures { result.1.parts ≡ 256 }
+        { offer_until_closed(rt, channel, two) },
+    )
+}
+
+/// Two threads receive until the channel is closed and empty. Answers how many messages came.
+fn receive_what_is_left<B: Room + Send + Sync, R: Threads + Wait + Sync>(
+    rt: &R,
+    channel: &SlotChannel<u64, (), B>,
+    one: Pass<u64, (), B>,
+    two: Pass<u64, (), B>,
+) -> ((u64, Pass<u64, (), B>), (u64, Pass<u64, (), B>))
+    requires { (one.parts ≡ 128) × (two.parts ≡ 64) }
+    ensures { (result.0.1.parts ≡ 128) × (result.1.1.parts ≡ 64) }
+{
+    thread::join(
+        rt,
+        move ||
+            requires { one.parts ≡ 128 }
+            ensures { result.1.parts ≡ 128 }
+        { receive_until_closed(rt, channel, one) },
+        move ||
+            requires { two.parts ≡ 64 }
+            ensures { result.1.parts ≡ 64 }
+        { receive_until_closed(rt, channel, two) },
+    )
+}
+
+/// Two threads send and two receive, until a fifth closes the channel. Answers how many messages were accepted and did not come, and what
+/// the closing thread was told.
+fn end_all<B: Room + Send + Sync, R: Threads + Wait + Sync>(
+    rt: &R,
+    channel: &SlotChannel<u64, (), B>,
+    all: &mut Pass<u64, (), B>,
+    patience: u64,
+) -> (u64, [bool; 3])
+    requires { all.old.parts ≡ 1024 }
+    ensures { all.new.parts ≡ 1024 }
+{
+    let one = channel.another(all);
+    let two = channel.another(all);
+    let three = channel.another(all);
+    let four = channel.another(all);
+    let closer = channel.another(all);
+    let ((((a, one), (b, two)), ((c, three), (d, four))), (told, closer)) = thread::join(
+        rt,
+        move ||
+            requires { (one.parts ≡ 512) × (two.parts ≡ 256) × (three.parts ≡ 128) × (four.parts ≡ 64) }
+            ensures { (result.0.0.1.parts ≡ 512) × (result.0.1.1.parts ≡ 256) × (result.1.0.1.parts ≡ 128) × (result.1.1.1.parts ≡ 64) }
+        { all_until_closed(rt, channel, (one, two), (three, four)) },
+        move ||
+            requires { closer.parts ≡ 32 }
+            ensures { result.1.parts ≡ 32 }
+        { close_late(rt, channel, closer, patience) },
+    );
+    channel.absorb(all, one);
+    channel.absorb(all, two);
+    channel.absorb(all, three);
+    channel.absorb(all, four);
+    channel.absorb(all, closer);
+    (a.wrapping_add(b).wrapping_sub(c.wrapping_add(d)), told)
+}
+
+/// Who was counted, with its pass.
+type Counted<B> = (u64, Pass<u64, (), B>);
+
+/// Both who send and both who receive.
+fn all_until_closed<B: Room + Send + Sync, R: Threads + Wait + Sync>(
+    rt: &R,
+    channel: &SlotChannel<u64, (), B>,
+    senders: (Pass<u64, (), B>, Pass<u64, (), B>),
+    receivers: (Pass<u64, (), B>, Pass<u64, (), B>),
+) -> ((Counted<B>, Counted<B>), (Counted<B>, Counted<B>))
+    requires { (senders.0.parts ≡ 512) × (senders.1.parts ≡ 256) × (receivers.0.parts ≡ 128) × (receivers.1.parts ≡ 64) }
+    ensures { (result.0.0.1.parts ≡ 512) × (result.0.1.1.parts ≡ 256) × (result.1.0.1.parts ≡ 128) × (result.1.1.1.parts ≡ 64) }
+{
+    thread::join(
+        rt,
+        move ||
+            requires { (senders.0.parts ≡ 512) × (senders.1.parts ≡ 256) }
+            ensures { (result.0.1.parts ≡ 512) × (result.1.1.parts ≡ 256) }
+        { send_until_closed(rt, channel, senders.0, senders.1) },
+        move ||
+            requires { (receivers.0.parts ≡ 128) × (receivers.1.parts ≡ 64) }
+            ensures { (result.0.1.parts ≡ 128) × (result.1.1.parts ≡ 64) }
+        { receive_what_is_left(rt, channel, receivers.0, receivers.1) },
+    )
+}
+
+/// What was found when a channel had been closed among threads.
+#[derive(Clone, Copy, Debug, PartialEq, Eq)]
+pub struct Closed {
+    /// How many messages were accepted and did not come.
+    pub lost: u64,
+    /// What the closing thread was told: of its first close, of its second, and whether the channel is closed.
+    pub told: [bool; 3],
+    /// The channel then.
+    pub rest: Rest,
+}
+
+fn close_among_in<B: Room + Send + Sync, R: Threads + Wait + Sync>(
+    rt: &R,
+    opened: Opened<u64, ()>,
+    patience: u64,
+) -> Closed
+    requires { opened ≡ B.table }
+{
+    let (channel, mut all) = opened.enter::<B>();
+    let (lost, told) = end_all(rt, &channel, &mut all, patience);
+    let mut receive = Receive::new();
+    let mut send = Sending::new();
+    let rest = channel.look(rt, &mut all, &mut receive, &mut send);
+    Closed { lost, told, rest }
+}
+
+/// Two threads send and two receive, until a fifth, which lets them go first so often, closes the channel. `None` where there is no
+/// memory.
+pub fn close_among<R: Threads + Wait + Sync>(
+    rt: &R,
+    alloc: Global,
+    patience: u64,
+) -> Option<Closed> {
+    let opened = Opened::new(alloc).ok()?;
+    Some(close_among_in::<Brand, R>(rt, opened, patience))
+}
+
+/// A receive waits, and the channel is closed. Whether it waited, what the close answered, how the channel was then, and whether the
+/// receive ended.
+fn close_beside_a_receive_in<B: Room, R: Wait>(
+    rt: &R,
+    opened: Opened<u64, ()>,
+) -> (bool, bool, Rest, bool)
+    requires { opened ≡ B.table }
+    ensures told { result.0 ≡ true → result.2.closed ≡ true → result.2.receive_told ≡ true }
+{
+    let (channel, mut all) = opened.enter::<B>();
+    let mut receive = Receive::new();
+    let mut send = Sending::new();
+    let polled = channel.poll_recv(rt, &mut all, &mut receive, ());
+    let waited = matches!(polled, Polled::Pending);
+    let first = channel.close(rt, &mut all);
+    let rest = channel.look(rt, &mut all, &mut receive, &mut send);
+    let polled = channel.poll_recv(rt, &mut all, &mut receive, ());
+    let ended = matches!(polled, Polled::Closed);
+    channel.give_up_recv(rt, &mut all, receive);
+    (waited, first, rest, ended)
+}
+
+/// The same, from nothing.
+pub fn close_beside_a_receive<R: Wait>(rt: &R, alloc: Global) -> Option<(bool, bool, Rest, bool)>
+    ensures told { IfSome result (λ r. r.0 ≡ true → r.2.closed ≡ true → r.2.receive_told ≡ true) }
+{
+    let opened = Opened::new(alloc).ok()?;
+    Some(close_beside_a_receive_in::<Brand, R>(rt, opened))
+}
+
+/// A send waits beside a message, and the channel is closed. Whether it waited, what the close answered, and how the channel was then.
+/// Besides, whether the send ended with its message, the message came, a receive ended after it, and a message more was refused.
+fn close_beside_a_send_in<B: Room, R: Wait>(
+    rt: &R,
+    opened: Opened<u64, ()>,
+) -> (bool, bool, Rest, [bool; 4])
+    requires { opened ≡ B.table }
+    ensures told { result.0 ≡ true → result.2.closed ≡ true → result.2.send_told ≡ true }
+{
+    let (channel, mut all) = opened.enter::<B>();
+    let mut receive = Receive::new();
+    let mut send = Sending::new();
+    let _ = channel.try_send(rt, &mut all, 7);
+    let offered = channel.poll_send(rt, &mut all, &mut send, 8, ());
+    let waited = matches!(offered, Offered::Pending(8));
+    let first = channel.close(rt, &mut all);
+    let rest = channel.look(rt, &mut all, &mut receive, &mut send);
+    let offered = channel.poll_send(rt, &mut all, &mut send, 8, ());
+    let ended = matches!(offered, Offered::Closed(8));
+    let polled = channel.poll_recv(rt, &mut all, &mut receive, ());
+    let came = matches!(polled, Polled::Ready(7));
+    let polled = channel.poll_recv(rt, &mut all, &mut receive, ());
+    let over = matches!(polled, Polled::Closed);
+    let refused = channel.try_send(rt, &mut all, 9);
+    let closed = matches!(refused, Err(PushError::Closed(9)));
+    channel.give_up_send(rt, &mut all, send);
+    channel.give_up_recv(rt, &mut all, receive);
+    (waited, first, rest, [ended, came, over, closed])
+}
+
+/// The same, from nothing.
+pub fn close_beside_a_send<R: Wait>(rt: &R, alloc: Global) -> Option<(bool, bool, Rest, [bool; 4])>
+    ensures told { IfSome result (λ r. r.0 ≡ true → r.2.closed ≡ true → r.2.send_told ≡ true) }
+{
+    let opened = Opened::new(alloc).ok()?;
+    Some(close_beside_a_send_in::<Brand, R>(rt, opened))
 }
 
 #[cfg(test)]

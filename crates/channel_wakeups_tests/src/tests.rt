@@ -10,15 +10,77 @@ fn all_come_and_the_last_are_told(rt: HostRuntime) {
         receive_pending: true,
         full: Rest {
             message: true,
+            closed: false,
             receive_told: true,
             send_told: false,
         },
         send_pending: true,
         empty: Rest {
             message: false,
+            closed: false,
             receive_told: false,
             send_told: true,
         },
     };
     assert_eq!(rt; outcome, Some(expected));
+}
+
+// Five threads: whoever sends or receives ends once a fifth closes the channel, and what was accepted came.
+#[test]
+fn all_end_after_a_close(rt: HostRuntime) {
+    let closed = close_among(&rt, rt.alloc(), 1000);
+    let expected = Closed {
+        lost: 0,
+        told: [true, false, true],
+        rest: Rest {
+            message: false,
+            closed: true,
+            receive_told: false,
+            send_told: false,
+        },
+    };
+    assert_eq!(rt; closed, Some(expected));
+}
+
+// The same where the channel is closed at once.
+#[test]
+fn all_end_after_a_close_at_once(rt: HostRuntime) {
+    let closed = close_among(&rt, rt.alloc(), 0);
+    let expected = Closed {
+        lost: 0,
+        told: [true, false, true],
+        rest: Rest {
+            message: false,
+            closed: true,
+            receive_told: false,
+            send_told: false,
+        },
+    };
+    assert_eq!(rt; closed, Some(expected));
+}
+
+// A receive that waits is told by the close, and ends.
+#[test]
+fn a_close_ends_a_receive(rt: HostRuntime) {
+    let found = close_beside_a_receive(&rt, rt.alloc());
+    let rest = Rest {
+        message: false,
+        closed: true,
+        receive_told: true,
+        send_told: false,
+    };
+    assert_eq!(rt; found, Some((true, true, rest, true)));
+}
+
+// A send that waits is told by the close, and ends with its message. What was accepted before comes, and nothing more is accepted.
+#[test]
+fn a_close_ends_a_send(rt: HostRuntime) {
+    let found = close_beside_a_send(&rt, rt.alloc());
+    let rest = Rest {
+        message: true,
+        closed: true,
+        receive_told: false,
+        send_told: true,
+    };
+    assert_eq!(rt; found, Some((true, true, rest, [true, true, true, true])));
 }

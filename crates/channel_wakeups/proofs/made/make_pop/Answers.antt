@@ -8,5 +8,5 @@ use Rattle.channel_wakeups.proofs.made.make_pop.Goals as goal
 pub returns : goal.returns
 returns g c =
     let b = c.complete-reply.new.cells in
-    let goes : Seat (Option g.row.T.Denot) (View g.row.T.Denot g.row.W.Denot) → Type 0 = λ s. PopLeaves c.args.table.now.shared.table_id c.args.seat.me.0.parts c.args.seat.me.0.log c.complete-reply.result s in
+    let goes : Seat (Option g.row.T.Denot) (View g.row.T.Denot g.row.W.Denot) → Type 0 = λ s. PopLeaves c.args.table.now.shared.table_id c.args.seat.me.0.parts c.args.seat.me.0.receives.holds c.args.seat.me.0.log c.complete-reply.result s in
     record { leaves = subst goes (sym c.into_seat.ensures) (pop_leaves _ _ _ _ _ _ b _ c.requires.call refl c.pop.ensures.asked c.complete-reply.ensures.walked b.tied) }

@@ -1,5 +1,5 @@
 use Rattle.channel_wakeups.proofs.Seats.{learns_so}
 use Rattle.channel_wakeups.proofs.place.learn.Goals as goal
 
-pub load-requires : goal.load-requires
-load-requires g c = (c.requires.seat, c.requires.table, learns_so _ _ _ _)
+pub load-found-requires : goal.load-found-requires
+load-found-requires g c = (c.requires.seat, c.requires.table, learns_so _ _ _ _)

@@ -14,5 +14,5 @@ returns-clause-law g c some due =
     let same_ticket : seat.ticket ≡ (of side c.args.call.me.0).ticket = (λ k. (line k).ticket) in
     let same_list : seat.listeners ≡ c.args.self.now.listeners.items = (λ k. (line k).listeners) ∙ c.args.self.now.tied in
     must c.any_told-told.result
-    (λ no. ticket_waits seat.ticket seat.listeners (subst (λ (n : ℕ). 0 < n) (sym same_ticket) some) c.learn-message.ensures.tickets (λ key waiting. let law = c.learn-message.ensures.law key waiting in omega arith)
+    (λ no. ticket_waits seat.ticket seat.listeners (subst (λ (n : ℕ). 0 < n) (sym same_ticket) some) c.learn-found.ensures.tickets (λ key waiting. let law = c.learn-found.ensures.law key waiting in omega arith)
     (ap told (same_list ∙ sym c.as_slice.ensures.value) ∙ c.any_told-told.ensures no))

@@ -9,6 +9,6 @@ section-call-requires-clause-fair g c =
     let r = c.remove-task.ensures in
     let l = of g.S.Waiting.side c.args.self.now.seat.me.0 in
     let m = of g.S.Waiting.side c.args.call.me.0 in
-    let after : List (Listener g.row.W.Denot) → Type 0 = λ ls. Fair (both_parts l m) (at_desk 0 0 0 ls) in
+    let after : List (Listener g.row.W.Denot) → Type 0 = λ ls. Fair (both_parts l m) (at_desk 0 0 0 0 ls) in
     subst after (sym c.as_slice.ensures.value)
     (off_from l m c.args.self.now.listeners.items c.remove-task.new.listeners.items m.holds c.args.key c.args.self.now.tied c.requires.call.2.2 c.requires.holds r.gone r.fewer r.told (λ k. (r.listed k).1))
