@@ -210,6 +210,7 @@ fn closing_next<T: Drop, W: Drop>(answer: QueueReply<T>, key: Option<Key>, task:
 }
 
 /// A try of a polled operation of this kind.
+#[inline(always)]
 fn polled_next<T: Drop, W: Drop>(
     line: Line,
     answer: QueueReply<T>,

@@ -155,7 +155,8 @@ fn is_refused<T, W>(line: Line, message: Option<T>, key: Option<Key>) -> Turn<T,
 }
 
 impl<T, W> ChannelAsk<T, W> {
-    /// The call's first turn.
+    /// The call's first turn. Who asks for one call has its turn alone.
+    #[inline(always)]
     pub(crate) fn first(self) -> Turn<T, W>
         ensures { result ≡ first self }
     {
