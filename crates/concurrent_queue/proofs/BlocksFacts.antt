@@ -4,7 +4,7 @@ use Rattle.std.proofs.lemmas.List.{map-append}
 use Rattle.concurrent_queue.specs.Contents.{Contents, empty_blocks}
 use Rattle.concurrent_queue.specs.Queue.{Queue, Phase, asked, after, Continues, Answers, IsInRange, opened}
 use Rattle.concurrent_queue.specs.machine.Places.{Place, Each}
-use Rattle.concurrent_queue.specs.Step.{chain_after, HoldsNobodyUp, AllQuiet, IsQuiet}
+use Rattle.concurrent_queue.specs.Step.{chain_after, PhasesQuiet, AllQuiet, IsQuiet}
 use Rattle.concurrent_queue.specs.machine.Forms.{place, place_phases, FormStep, FormSteps, FormStarts, FormRanks}
 use Rattle.concurrent_queue.specs.machine.BlocksState.{Blocks, SoundBlocks, Duty, fill, take, count, retire, link, turn_tail, turn_head, start, keep, owed}
 use Rattle.concurrent_queue.specs.machine.BlocksCalls.{KnowsBlocks, owes}
@@ -106,7 +106,7 @@ module _ {T : Type 0} where
         let z = rank_is d moved.0 (after p x.mark q).items (sound_after x.ending (blocks_advances n q (map seat_of l) (map seat_of r) (act_of a.action) p means moved.2)) moved.1 x.action moved.3 in omega arith
     by_numbers (Some y) h = tt
 
-    ends_all : HoldsNobodyUp q (place_phases (l ++ r)) → MatchOption (reply_of a.displacing x.ending) (unbounded_rank d x.action < unbounded_rank c a.action) (λ y. Unit {0})
+    ends_all : PhasesQuiet q (place_phases (l ++ r)) → MatchOption (reply_of a.displacing x.ending) (unbounded_rank d x.action < unbounded_rank c a.action) (λ y. Unit {0})
     ends_all quiet = ends_it x.ending (by_numbers x.ending (blocks_ends n q (map seat_of l) (map seat_of r) (act_of a.action) p means
         (subst (λ (ps : List (BlocksSeat T)). Each (λ (s : BlocksSeat T). IsQuiet s.phase.stage) ps) (seats_without l r) (quiet_seats (l ++ r) quiet.0))
         (⊎_elim (λ g. inl (let e = means.stands.removed in omega arith)) (λ g. inr (sym (seats_without l r) ∙ none_left (l ++ r) g)) (quiet.1 means.stands.capacity))

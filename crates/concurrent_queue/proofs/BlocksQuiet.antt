@@ -146,8 +146,8 @@ left_small r ask_capacity = omega arith
 left_small r finished = omega arith
 
 module _ {T : Type 0} (r : Blocks T) (q : Queue T) (l r2 : List (BlocksSeat T)) (a : Act T) (p : Phase T) (means : BlocksMeans r q (l ++ seat_at a p ∷ r2)) where
-  abbrev pub OthersQuiet : Type 0
-  OthersQuiet = Each (λ (s : BlocksSeat T). IsQuiet s.phase.stage) (l ++ r2)
+  abbrev pub SeatsQuiet : Type 0
+  SeatsQuiet = Each (λ (s : BlocksSeat T). IsQuiet s.phase.stage) (l ++ r2)
 
   owe_not : (d : Duty) → is_keep d ≡ false → is_start d ≡ false → (ps : List (BlocksSeat T)) → Each (λ (s : BlocksSeat T). KnowsBlocks r s.act s.phase) ps → Each (λ (s : BlocksSeat T). IsQuiet s.phase.stage) ps → owners d ps ≡ 0
   owe_not d f g [] k e = refl
@@ -156,7 +156,7 @@ module _ {T : Type 0} (r : Blocks T) (q : Queue T) (l r2 : List (BlocksSeat T)) 
   others_know : Each (λ (s : BlocksSeat T). KnowsBlocks r s.act s.phase) (l ++ r2)
   others_know = Each-out (λ (s : BlocksSeat T). KnowsBlocks r s.act s.phase) l r2 (seat_at a p) means.seats
 
-  only_its : OthersQuiet → (d : Duty) → is_keep d ≡ false → is_start d ≡ false → owed r d ≡ owes a d
+  only_its : SeatsQuiet → (d : Duty) → is_keep d ≡ false → is_start d ≡ false → owed r d ≡ owes a d
   only_its e d f g = let i = its_owners r q l r2 a p means d in let o = owe_not d f g (l ++ r2) others_know e in omega arith
 
   start_owes : (1 ≤ r.head) ⊎ (l ++ r2 ≡ []) → owed r start ≡ owes a start
@@ -164,7 +164,7 @@ module _ {T : Type 0} (r : Blocks T) (q : Queue T) (l r2 : List (BlocksSeat T)) 
       (λ h. let z = started r q.items means.stands.sound h in omega arith)
       (λ h. let o = ap (λ (ps : List (BlocksSeat T)). owners start ps) h in omega arith) or
 
-  quiet : OthersQuiet → (1 ≤ r.head) ⊎ (l ++ r2 ≡ []) → (d : Duty) → is_keep d ≡ false → owed r d ≡ owes a d
+  quiet : SeatsQuiet → (1 ≤ r.head) ⊎ (l ++ r2 ≡ []) → (d : Duty) → is_keep d ≡ false → owed r d ≡ owes a d
   quiet e or start f = start_owes or
   quiet e or (fill n) f = only_its e (fill n) refl refl
   quiet e or (take n) f = only_its e (take n) refl refl
@@ -176,5 +176,5 @@ module _ {T : Type 0} (r : Blocks T) (q : Queue T) (l r2 : List (BlocksSeat T)) 
   quiet e or (keep b) f = absurd (false≢true (sym f))
 
   -- where no other call has a mark, and an item was taken before or no other call is under way, each step replies or leaves fewer steps, at most 64
-  pub blocks_ends : OthersQuiet → (1 ≤ r.head) ⊎ (l ++ r2 ≡ []) → {r' : Blocks T} {a' : Act T} {m : QueueMark} {x : Option (Ending T)} → Moves r a r' a' m x → MatchOption x (left r' a' < left r a) (λ y. Unit {0})
+  pub blocks_ends : SeatsQuiet → (1 ≤ r.head) ⊎ (l ++ r2 ≡ []) → {r' : Blocks T} {a' : Act T} {m : QueueMark} {x : Option (Ending T)} → Moves r a r' a' m x → MatchOption x (left r' a' < left r a) (λ y. Unit {0})
   blocks_ends e or move = nearer r q.items means.stands.sound p move (knows r q l r2 a p means) (quiet e or)

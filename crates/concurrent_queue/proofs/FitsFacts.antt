@@ -14,7 +14,7 @@ use Rattle.concurrent_queue.specs.machine.SingleState.{SingleMeans, single_rank}
 use Rattle.concurrent_queue.specs.machine.BlocksForm.{UnboundedMeans}
 use Rattle.concurrent_queue.specs.machine.BlocksWords.{IsBlocksStep, begin, blocks_closed, blocks_length, blocks_counted, blocks_slot, blocks_items}
 use Rattle.concurrent_queue.specs.machine.BlocksLeft.{blocks_rank}
-use Rattle.concurrent_queue.specs.Step.{Seat, seat, chain_after, Fits, FitsAt, FitsForm, FitsSlot, FitsRing, FitsBy, IsAtSingle, IsAtRing, IsAtBlocks, phases, OneCell, HoldsNobodyUp, rank, rank_by, rank_first, rank_bounded, rank_blocks, single_closed, single_length, Starts, IsQueueStep, LiesBy, Lies, IsBrought, ShowsBy, Shows, closed_by, closed_in, length_by, length_in, counted_by, counted_in, slot_by, slot_in, items_by, items_in}
+use Rattle.concurrent_queue.specs.Step.{Seat, seat, chain_after, Fits, FitsAt, FitsForm, FitsSlot, FitsRing, FitsBy, IsAtSingle, IsAtRing, IsAtBlocks, phases, OneCell, PhasesQuiet, rank, rank_by, rank_first, rank_bounded, rank_blocks, single_closed, single_length, Starts, IsQueueStep, LiesBy, Lies, IsBrought, ShowsBy, Shows, closed_by, closed_in, length_by, length_in, counted_by, counted_in, slot_by, slot_in, items_by, items_in}
 use Rattle.std.specs.declared.alloc.AllocError.{AllocError}
 use Rattle.concurrent_queue.specs.Made.{IsNew, new_cells}
 use Rattle.concurrent_queue.specs.Plain.{contents_of}
@@ -70,7 +70,7 @@ module _ {T : Type 0} where
     pub effect : MatchOption s.reply
         ((p' : Phase T) × Continues q p s.mark p' × FitsForm f (chain_after chain c d) d (after p s.mark q) (l ++ seat (made_call s) p' ∷ r))
         (λ x. Answers q p s.mark x × FitsForm f (chain_after chain c d) d (after p s.mark q) (l ++ r))
-    pub ends : HoldsNobodyUp q (phases (l ++ r)) → MatchOption s.reply (rank_by f d s.action < rank_by f c before.state) (λ x. Unit {0})
+    pub ends : PhasesQuiet q (phases (l ++ r)) → MatchOption s.reply (rank_by f d s.action < rank_by f c before.state) (λ x. Unit {0})
 
   module _ (chain : List ℕ) (cap : ℕ) (one : cap ≡ 1) (c : Contents T) (a : SingleAction T) (before : QueueCall T) (p : Phase T) (d : Contents T) (x : Stepped (SingleAction T) T) (q : Queue T) (l r : List (Seat T)) (sized : rank_bounded cap c before.state ≡ single_rank c a) where
     single_does : (reply : Option (QueueReply T)) (call : QueueCall T)
@@ -89,7 +89,7 @@ module _ {T : Type 0} where
           same_form = h.same_form;
           one_cell = h.one_cell;
           effect = single_does x.reply (made_call (in_single x)) h.effect;
-          ends = λ (quiet : HoldsNobodyUp q (phases (l ++ r))). subst (λ (n : ℕ). MatchOption x.reply (single_rank d x.action < n) (λ y. Unit {0})) (sym sized) (h.ends quiet);
+          ends = λ (quiet : PhasesQuiet q (phases (l ++ r))). subst (λ (n : ℕ). MatchOption x.reply (single_rank d x.action < n) (λ y. Unit {0})) (sym sized) (h.ends quiet);
         }
 
   module _ (chain : List ℕ) (cap : ℕ) (two : 2 ≤ cap) (most : cap ≤ 2 ^ 58) (c : Contents T) (a : RingAction T) (before : QueueCall T) (p : Phase T) (d : Contents T) (x : Stepped (RingAction T) T) (q : Queue T) (l r : List (Seat T)) (sized : rank_bounded cap c before.state ≡ ring_rank (ring_mark cap) c a) where
@@ -109,7 +109,7 @@ module _ {T : Type 0} where
           same_form = h.same_form;
           one_cell = h.one_cell;
           effect = ring_does x.reply (made_call (in_ring x)) h.effect;
-          ends = λ (quiet : HoldsNobodyUp q (phases (l ++ r))). subst (λ (n : ℕ). MatchOption x.reply (ring_rank (ring_mark cap) d x.action < n) (λ y. Unit {0})) (sym sized) (h.ends quiet);
+          ends = λ (quiet : PhasesQuiet q (phases (l ++ r))). subst (λ (n : ℕ). MatchOption x.reply (ring_rank (ring_mark cap) d x.action < n) (λ y. Unit {0})) (sym sized) (h.ends quiet);
         }
 
   module _ (chain : List ℕ) (c : Contents T) (a : UnboundedCall T) (before : QueueCall T) (p : Phase T) (d : Contents T) (x : Stepped (UnboundedCall T) T) (q : Queue T) (l r : List (Seat T)) (sized : rank_blocks c before.state ≡ blocks_rank c a) where
@@ -129,7 +129,7 @@ module _ {T : Type 0} where
           same_form = h.same_form;
           one_cell = h.one_cell;
           effect = blocks_does x.reply (made_call (in_blocks x)) h.effect;
-          ends = λ (quiet : HoldsNobodyUp q (phases (l ++ r))). subst (λ (n : ℕ). MatchOption x.reply (blocks_rank d x.action < n) (λ y. Unit {0})) (sym sized) (h.ends quiet);
+          ends = λ (quiet : PhasesQuiet q (phases (l ++ r))). subst (λ (n : ℕ). MatchOption x.reply (blocks_rank d x.action < n) (λ y. Unit {0})) (sym sized) (h.ends quiet);
         }
 
   -- ---- a step, by the form and the state of its call
@@ -217,7 +217,7 @@ module _ {T : Type 0} where
       record {
         one_cell = h.one_cell;
         effect = does_fits c.form (chain_after chain c d) c p d s q l r h.same_form s.reply h.effect;
-        ends = λ (quiet : HoldsNobodyUp q (phases (l ++ r))).
+        ends = λ (quiet : PhasesQuiet q (phases (l ++ r))).
             subst (λ (f : QueueForm). MatchOption s.reply (rank_by f d s.action < rank_by c.form c before.state) (λ x. Unit {0})) (sym h.same_form) (h.ends quiet);
       }
 
@@ -333,7 +333,7 @@ module _ {T : Type 0} where
   ranks_in Unbounded chain c q p mark Finished l r fits =
       let parts = part IsAtBlocks l r (seat (record { state = Finished; mark = mark }) p) fits.0 fits.1 in absurd parts.stands
 
-  -- no call needs more than 63 steps where nobody holds it up
+  -- no call needs more than 63 steps where the others are quiet
   pub ranks : (c : Contents T) (q : Queue T) (p : Phase T) (call : QueueCall T) (l r : List (Seat T)) → Fits c q (l ++ seat call p ∷ r) → rank c call < 64
   unfolding FitsAt rank
   ranks c q p call l r fits = ranks_in c.form fits.0 c q p call.mark call.state l r fits.1

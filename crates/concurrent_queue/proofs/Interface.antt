@@ -27,7 +27,7 @@ module _ {T : Type 0} where
   pub lies : (c : Contents T) (q : Queue T) (seats : List (Seat T)) → Fits c q seats → (chain : List ℕ) × Lies chain c q.items (IsBrought (phases seats))
   lies c q seats fits = (fits.0, fits_facts.lies fits.0 c q seats fits.1)
 
-  -- no call needs more than 63 steps where nobody holds it up
+  -- no call needs more than 63 steps where the others are quiet
   pub ranks : (c : Contents T) (q : Queue T) (p : Phase T) (call : QueueCall T) (l r : List (Seat T)) → Fits c q (l ++ seat call p ∷ r) → rank c call < 64
   ranks c q p call l r fits = fits_facts.ranks c q p call l r fits
 

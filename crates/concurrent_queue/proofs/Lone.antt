@@ -2,9 +2,9 @@
 use Rattle.std.proofs.Common.{◌≡◌, ℕ, zero, suc, ◌<◌, ◌≤◌, ⊎_elim, inl, inr, Bool, List, [], ◌∷◌, ◌++◌, map, Option, None, Some, refl, sym, ap, ◌∙◌, subst, arith}
 use Rattle.concurrent_queue.specs.Contents.{Contents}
 use Rattle.concurrent_queue.specs.Queue.{Queue, marked}
-use Rattle.concurrent_queue.specs.Scene.{Scene, CallUnderWay, begun, observing, stepped, makes_room, AllIdle, HoldNobodyUp, ContinuesAs, unless_ended, NotUnderWay}
+use Rattle.concurrent_queue.specs.Scene.{Scene, CallUnderWay, begun, observing, stepped, makes_room, AllIdle, OthersQuiet, ContinuesAs, unless_ended, NotUnderWay}
 use Rattle.concurrent_queue.specs.Run.{Config, Next, IsRun, opened_config}
-use Rattle.concurrent_queue.specs.Lone.{steps_of, HasReply, NobodyHoldsUp}
+use Rattle.concurrent_queue.specs.Lone.{steps_of, HasReply, OthersQuietOf}
 use Rattle.concurrent_queue.specs.declared.call.QueueAsk.{QueueAsk}
 use Rattle.concurrent_queue.specs.declared.call.QueueMark.{QueueMark}
 use Rattle.concurrent_queue.specs.declared.call.QueueMark.TheVariants.{Nothing, Append, Take, TakeDisplaced, Replace, Close}
@@ -181,7 +181,7 @@ module _ {T : Type 0} where
   same_limit a b Replace q = refl
   same_limit a b Close q = refl
 
-  still_held : (a : QueueAsk T) (b : Bool) (k : QueueMark) (q q' : Queue T) (l r : List (CallUnderWay T)) → q' ≡ marked a b k q → HoldNobodyUp q (l ++ r) → HoldNobodyUp q' (map (observing q') l ++ map (observing q') r)
+  still_held : (a : QueueAsk T) (b : Bool) (k : QueueMark) (q q' : Queue T) (l r : List (CallUnderWay T)) → q' ≡ marked a b k q → OthersQuiet q (l ++ r) → OthersQuiet q' (map (observing q') l ++ map (observing q') r)
   still_held a b k q q' l r e h =
       let idle : AllIdle (map (observing q') l ++ map (observing q') r) = idle_join (map (observing q') l) (map (observing q') r) (idle_sees q' l (idle_left l r h.0)) (idle_sees q' r (idle_right l r h.0)) in (
         idle,
@@ -195,7 +195,7 @@ module _ {T : Type 0} where
     -- what holds of the rest of a run, wherever the party's call stands
     abbrev Ends : ℕ → Config T → List (QueueEntry T) → Type 0
     Ends k f es =
-        (l r : List (CallUnderWay T)) (x : CallUnderWay T) → f.scene.under_way ≡ l ++ x ∷ r → x.party ≡ p → Stands f.scene → HoldNobodyUp f.scene.now (l ++ r) → x.left < k → HasReply es
+        (l r : List (CallUnderWay T)) (x : CallUnderWay T) → f.scene.under_way ≡ l ++ x ∷ r → x.party ≡ p → Stands f.scene → OthersQuiet f.scene.now (l ++ r) → x.left < k → HasReply es
 
     ends_step : (k : ℕ) (f m : Config T) (mark : QueueMark) (reply : Option (QueueReply T)) (es : List (QueueEntry T)) → Next f (Step p) (record { mark = mark; reply = reply }) m → Ends k m es → Ends (suc k) f (record { mark = mark; reply = reply } ∷ es)
     ends_step k f m mark (Some y) es next rest l r x there whose stands held few = tt
@@ -203,7 +203,7 @@ module _ {T : Type 0} where
         let s = next.0 in
         let same : Same l r s.before s.behind x s.mine = same_call f.scene.under_way l r s.before s.behind x s.mine there s.there stands.0 (whose ∙ sym s.whose) in
         let others : l ++ r ≡ s.before ++ s.behind = ap (λ (us : List (CallUnderWay T)). us ++ r) same.before ∙ ap (λ (us : List (CallUnderWay T)). s.before ++ us) same.behind in
-        let held' : HoldNobodyUp f.scene.now (s.before ++ s.behind) = subst (λ (us : List (CallUnderWay T)). HoldNobodyUp f.scene.now us) others held in
+        let held' : OthersQuiet f.scene.now (s.before ++ s.behind) = subst (λ (us : List (CallUnderWay T)). OthersQuiet f.scene.now us) others held in
         let fewer = s.goes_on.2 held' in
         let left : x.left ≡ s.mine.left = ap (λ (u : CallUnderWay T). u.left) same.mine in
         rest (map (observing m.scene.now) s.before) (map (observing m.scene.now) s.behind) (stepped s.mine mark f.scene.now m.scene.now s.left) s.under_way s.whose
@@ -223,7 +223,7 @@ module _ {T : Type 0} where
       at_place (u ∷ m) g = at_place m g.1
 
   pub lone_calls_end : (form : QueueForm) (start : Contents T) (made : List (QueueStep T)) (trace : List (QueueEntry T)) (f : Config T) → IsRun (opened_config start form) made trace f
-      → (p : ℕ) → NobodyHoldsUp p f.scene → (k : ℕ) → 64 ≤ k → (entries : List (QueueEntry T)) (g : Config T) → IsRun f (steps_of p k) entries g → HasReply entries
+      → (p : ℕ) → OthersQuietOf p f.scene → (k : ℕ) → 64 ≤ k → (entries : List (QueueEntry T)) (g : Config T) → IsRun f (steps_of p k) entries g → HasReply entries
   lone_calls_end form start made trace f ran p nobody zero long entries g run = absurd (omega arith)
   lone_calls_end form start made trace f ran p nobody (suc k) long [] g run = absurd run
   lone_calls_end form start made trace f ran p nobody (suc k) long (e ∷ es) g run =

@@ -4,7 +4,7 @@ use Rattle.concurrent_queue.specs.Contents.{Contents}
 use Rattle.concurrent_queue.specs.machine.Positions.{pos}
 use Rattle.concurrent_queue.specs.Queue.{Queue, Phase, asked, after, Continues, Answers, IsInRange}
 use Rattle.concurrent_queue.specs.machine.Places.{Place, Each, sum}
-use Rattle.concurrent_queue.specs.Step.{IsQuiet, AllQuiet, HoldsNobodyUp}
+use Rattle.concurrent_queue.specs.Step.{IsQuiet, AllQuiet, PhasesQuiet}
 use Rattle.concurrent_queue.specs.machine.Forms.{place, place_phases, FormStep, FormSteps, FormStarts, FormRanks}
 use Rattle.concurrent_queue.specs.machine.RingState.{Ring, SoundRing, IsShown}
 use Rattle.concurrent_queue.specs.machine.RingCalls.{Duty, hold, bring, IsDuty, owes, owed, KnowsRing, placed}
@@ -253,7 +253,7 @@ module _ {T : Type 0} (cap m : ℕ) (two : 2 ≤ cap) (limit : cap ≤ 2 ^ 58) (
           ended (hold i) e' = rw e' refl
           ended bring e' = rw e' refl
 
-    -- where the others hold nobody up, the ring waits for nobody but this call
+    -- where the others are quiet, the ring waits for nobody but this call
     quiet : AllQuiet (place_phases (l ++ r)) → (y : Duty) → IsDuty cap y → owed ring y ≡ owes cap a y
     quiet h y i =
         let e : place_phases (l ++ r) ≡ place_phases (left ++ right) = (rw (lefts, rights) (ap place_phases (sym (map_joined (place_at (pos cap (2 * m))) left right)))) ∙ same_phases (pos cap (2 * m)) (left ++ right) in
@@ -268,7 +268,7 @@ module _ {T : Type 0} (cap m : ℕ) (two : 2 ≤ cap) (limit : cap ≤ 2 ^ 58) (
           same_form = ring_same_form cap m c (placed (pos cap (2 * m)) a);
           one_cell = ring_one_cell cap m c (placed (pos cap (2 * m)) a);
           effect = goes_on s.0 s.1 x s.1.reply refl x.kept.leaves;
-          ends = λ (h : HoldsNobodyUp q (place_phases (l ++ r))). nearer cap m two limit k c ring q denotes sound shown few a p knows (quiet h.0);
+          ends = λ (h : PhasesQuiet q (place_phases (l ++ r))). nearer cap m two limit k c ring q denotes sound shown few a p knows (quiet h.0);
         }
 
   in_range : (q : Queue T) (ring : Ring T) → IsShown cap ring q → IsInRange q → ring.tail ≤ 2 ^ 61

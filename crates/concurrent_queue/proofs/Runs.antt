@@ -6,8 +6,8 @@ use Rattle.concurrent_queue.specs.Capacity.{capacity_of}
 use Rattle.concurrent_queue.specs.Queue.{Queue, Phase, asked, after, marked, is_displaced, AnswersTo, IsInRange, opened}
 use Rattle.concurrent_queue.specs.machine.Places.{Each}
 use Rattle.concurrent_queue.specs.Rows.{MarkedStep}
-use Rattle.concurrent_queue.specs.Scene.{CallUnderWay, observing, stepped, with_mark, makes_room, AllIdle, HoldNobodyUp, ContinuesAs, unless_ended, NotUnderWay, IsUnderWay, IsBroughtBy, Reads, new_scene}
-use Rattle.concurrent_queue.specs.Step.{Seat, seat, chain_after, Fits, FitsAt, StepLeaves, IsQueueStep, phases, AllQuiet, HoldsNobodyUp, IsBrought, OneCell, rank, mark_of}
+use Rattle.concurrent_queue.specs.Scene.{CallUnderWay, observing, stepped, with_mark, makes_room, AllIdle, OthersQuiet, ContinuesAs, unless_ended, NotUnderWay, IsUnderWay, IsBroughtBy, Reads, new_scene}
+use Rattle.concurrent_queue.specs.Step.{Seat, seat, chain_after, Fits, FitsAt, StepLeaves, IsQueueStep, phases, AllQuiet, PhasesQuiet, IsBrought, OneCell, rank, mark_of}
 use Rattle.concurrent_queue.specs.Parties.{party, HasParty, NoneHas, Turns, parties_after, TurnedOver, IsRefused}
 use Rattle.concurrent_queue.specs.Run.{Config, Next, IsRun, accepted_in, one_if_accepted, IsCounted, MayRefuse, opened_config, RanTo}
 use Rattle.concurrent_queue.specs.Made.{IsNew, new_cells}
@@ -134,7 +134,7 @@ module _ {T : Type 0} where
   none_too (x ∷ xs) ys e = absurd cc
 
   nobody : (q : Queue T) (xs ys : List (Sitting T)) → Each (λ (x : Sitting T). IsKnown q x) xs → Each (λ (x : Sitting T). IsKnown q x) ys
-      → HoldNobodyUp q (map under_of xs ++ map under_of ys) → HoldsNobodyUp q (phases (map seat_of xs ++ map seat_of ys))
+      → OthersQuiet q (map under_of xs ++ map under_of ys) → PhasesQuiet q (phases (map seat_of xs ++ map seat_of ys))
   nobody q xs ys h g free = (all_quiet q xs ys h g free.0, λ e. ⊎_elim (λ x. inl x) (λ x. inr (none_too xs ys x)) (free.1 e))
 
   -- ---- the others see a moment more

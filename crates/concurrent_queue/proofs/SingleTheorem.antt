@@ -6,7 +6,7 @@ use Rattle.concurrent_queue.specs.machine.Places.{Place, Each}
 use Rattle.concurrent_queue.specs.machine.Dispatch.{IsSingleStep}
 use Rattle.concurrent_queue.specs.machine.Single.{single_step, start}
 use Rattle.concurrent_queue.specs.machine.SingleState.{holds, holders, KnowsSingle, Means, SingleMeans, single_rank}
-use Rattle.concurrent_queue.specs.Step.{OneCell, IsQuiet, AllQuiet, HoldsNobodyUp}
+use Rattle.concurrent_queue.specs.Step.{OneCell, IsQuiet, AllQuiet, PhasesQuiet}
 use Rattle.concurrent_queue.specs.machine.Forms.{place, place_phases, FormStep, FormSteps, FormStarts, FormRanks}
 use Rattle.concurrent_queue.specs.declared.call.QueueAsk.{QueueAsk}
 use Rattle.concurrent_queue.specs.declared.call.QueueAsk.TheVariants as ask
@@ -186,7 +186,7 @@ module _ {T : Type 0} where
           let e : holds s.action ≡ 0 = ap (λ (x : SingleAction T). holds x) h.1 in
           (h.0, means_after (l ++ r) (fair_answers q p s.mark y h.0) (omega (arith, together, k.holding)) others_after)
 
-    nearer_now : HoldsNobodyUp q (place_phases (l ++ r)) → Comes c a
+    nearer_now : PhasesQuiet q (place_phases (l ++ r)) → Comes c a
     nearer_now quiet =
         let none = none_hold slot item (l ++ r) others quiet.0 in
         nearer c locked item slot q.closed p m.state m.slots a (λ h. free_of locked (holds a) (omega (arith, together)) h) mine

@@ -3,7 +3,7 @@ use Rattle.std.proofs.Common.{◌≡◌, ℕ, ◌<◌, List, [], ◌∷◌, ◌+
 use Rattle.concurrent_queue.specs.Contents.{Contents}
 use Rattle.concurrent_queue.specs.Queue.{Queue, Phase, asked, after, Continues, Answers, IsInRange}
 use Rattle.concurrent_queue.specs.machine.Places.{Place}
-use Rattle.concurrent_queue.specs.Step.{Seat, seat, AreAt, FitsBy, phases, OneCell, HoldsNobodyUp, chain_after}
+use Rattle.concurrent_queue.specs.Step.{Seat, seat, AreAt, FitsBy, phases, OneCell, PhasesQuiet, chain_after}
 use Rattle.concurrent_queue.specs.machine.Forms.{place, place_phases, FormStep, FormSteps, FormStarts, FormRanks}
 use Rattle.concurrent_queue.specs.declared.call.QueueAsk.{QueueAsk}
 use Rattle.concurrent_queue.specs.declared.call.QueueReply.{QueueReply}
@@ -60,7 +60,7 @@ module _ {A T : Type 0} (at : CallState T → A → Type 0) where
       pub effect : MatchOption s.reply
           ((p' : Phase T) × Continues q p s.mark p' × FitsBy at (means d (after p s.mark q)) (l ++ seat (after_call s) p' ∷ r))
           (λ x. Answers q p s.mark x × FitsBy at (means d (after p s.mark q)) (l ++ r))
-      pub ends : HoldsNobodyUp q (phases (l ++ r)) → MatchOption s.reply (left d s.action < left c a) (λ x. Unit {0})
+      pub ends : PhasesQuiet q (phases (l ++ r)) → MatchOption s.reply (left d s.action < left c a) (λ x. Unit {0})
 
     module _ (wraps : (a : A) → at (wrap a) a) (c : Contents T) (a : A) (d : Contents T) (s : Stepped A T) (q : Queue T) (p : Phase T) (l r : List (Seat T)) (before : QueueCall T) (places : List (Place A T)) (parts : Parted l r (seat before p) places) where
       lift : (reply : Option (QueueReply T))
@@ -82,7 +82,7 @@ module _ {A T : Type 0} (at : CallState T → A → Type 0) where
             same_form = h.same_form;
             one_cell = h.one_cell;
             effect = lift s.reply h.effect;
-            ends = λ (quiet : HoldsNobodyUp q (phases (l ++ r))). h.ends (subst (λ (ps : List (Phase T)). HoldsNobodyUp q ps) same quiet);
+            ends = λ (quiet : PhasesQuiet q (phases (l ++ r))). h.ends (subst (λ (ps : List (Phase T)). PhasesQuiet q ps) same quiet);
           }
 
     -- a new call comes in

@@ -1,8 +1,8 @@
--- A call that goes on alone, with nobody who holds it up.
+-- A call that goes on alone, beside quiet ones.
 use Rattle.std.specs.Prelude.{◌≡◌, ℕ, ◌≤◌, List, [], ◌∷◌, ◌++◌, MatchOption}
 use Rattle.std.proofs.Common.{zero, suc}
 use Rattle.concurrent_queue.specs.Contents.{Contents}
-use Rattle.concurrent_queue.specs.Scene.{Scene, CallUnderWay, HoldNobodyUp}
+use Rattle.concurrent_queue.specs.Scene.{Scene, CallUnderWay, OthersQuiet}
 use Rattle.concurrent_queue.specs.Run.{Config, IsRun, opened_config}
 use Rattle.concurrent_queue.specs.declared.call.QueueEntry.{QueueEntry}
 use Rattle.concurrent_queue.specs.declared.cells.QueueForm.{QueueForm}
@@ -20,14 +20,14 @@ module _ {T : Type 0} where
   HasReply [] = ⊥
   HasReply (e ∷ es) = MatchOption e.reply (HasReply es) (λ r. Unit {0})
 
-  -- the calls beside this party's hold nobody up: none has a mark, and an unbounded queue has had its first removal or
+  -- the calls beside this party's are quiet: none has a mark, and an unbounded queue has had its first removal or
   -- there is no other call
-  abbrev pub NobodyHoldsUp : ℕ → Scene T → Type 0
-  NobodyHoldsUp p s =
-      (before behind : List (CallUnderWay T)) (mine : CallUnderWay T) → s.under_way ≡ before ++ mine ∷ behind → mine.party ≡ p → HoldNobodyUp s.now (before ++ behind)
+  abbrev pub OthersQuietOf : ℕ → Scene T → Type 0
+  OthersQuietOf p s =
+      (before behind : List (CallUnderWay T)) (mine : CallUnderWay T) → s.under_way ≡ before ++ mine ∷ behind → mine.party ≡ p → OthersQuiet s.now (before ++ behind)
 
 -- from wherever a run has come, a call that nobody holds up replies within its next 64 steps, where these are the next ones
 abbrev pub LoneCallsEnd : Type 0 → Type 0
 LoneCallsEnd T =
     (form : QueueForm) (start : Contents T) (made : List (QueueStep T)) (trace : List (QueueEntry T)) (f : Config T) → IsRun (opened_config start form) made trace f
-    → (p : ℕ) → NobodyHoldsUp p f.scene → (k : ℕ) → 64 ≤ k → (entries : List (QueueEntry T)) (g : Config T) → IsRun f (steps_of p k) entries g → HasReply entries
+    → (p : ℕ) → OthersQuietOf p f.scene → (k : ℕ) → 64 ≤ k → (entries : List (QueueEntry T)) (g : Config T) → IsRun f (steps_of p k) entries g → HasReply entries

@@ -56,14 +56,14 @@ module _ {T : Type 0} where
   AllIdle [] = Unit {0}
   AllIdle (u ∷ us) = (u.marked_steps ≡ []) × AllIdle us
 
-  -- these others hold nobody up: none has a mark, and an unbounded queue has had its first removal or there is no other
-  abbrev pub HoldNobodyUp : Queue T → List (CallUnderWay T) → Type 0
-  HoldNobodyUp q others = AllIdle others × (q.capacity ≡ None → (0 < q.removed) ⊎ (others ≡ []))
+  -- these others are quiet: none has a mark, and an unbounded queue has had its first removal or there is no other
+  abbrev pub OthersQuiet : Queue T → List (CallUnderWay T) → Type 0
+  OthersQuiet q others = AllIdle others × (q.capacity ≡ None → (0 < q.removed) ⊎ (others ≡ []))
 
   -- the call that made a step: it has done a beginning of what some reply needs, and where nobody held it up it has fewer
   -- silent steps left; or its reply is one that it may give, and it is gone
   abbrev pub ContinuesAs : CallUnderWay T → CallUnderWay T → Queue T → List (CallUnderWay T) → Option (QueueReply T) → Type 0
-  ContinuesAs u u' q others None = IsBegun u'.ask u'.marked_steps × (u'.left < 64) × (HoldNobodyUp q others → u'.left < u.left)
+  ContinuesAs u u' q others None = IsBegun u'.ask u'.marked_steps × (u'.left < 64) × (OthersQuiet q others → u'.left < u.left)
   ContinuesAs u u' q others (Some r) = MayAnswer u'.ask u'.marked_steps u'.seen r
 
   abbrev pub unless_ended : CallUnderWay T → Option (QueueReply T) → List (CallUnderWay T)

@@ -198,10 +198,10 @@ module _ {T : Type 0} where
   AllQuiet [] = Unit {0}
   AllQuiet (p ∷ ps) = IsQuiet p.stage × AllQuiet ps
 
-  -- these other calls hold nobody up: none has a mark, and an unbounded queue has had its first removal or there is no
+  -- these other calls are quiet: none has a mark, and an unbounded queue has had its first removal or there is no
   -- other call at all
-  abbrev pub HoldsNobodyUp : Queue T → List (Phase T) → Type 0
-  HoldsNobodyUp q others = AllQuiet others × (q.capacity ≡ None → (0 < q.removed) ⊎ (others ≡ []))
+  abbrev pub PhasesQuiet : Queue T → List (Phase T) → Type 0
+  PhasesQuiet q others = AllQuiet others × (q.capacity ≡ None → (0 < q.removed) ⊎ (others ≡ []))
 
   abbrev pub phase_of : Seat T → Phase T
   phase_of s = s.phase
@@ -209,7 +209,7 @@ module _ {T : Type 0} where
   abbrev pub phases : List (Seat T) → List (Phase T)
   phases seats = map phase_of seats
 
-  -- how many steps a call still needs at most, where nobody holds it up
+  -- how many steps a call still needs at most, where the others are quiet
   abbrev pub rank_first : Bool → ℕ → Contents T → QueueAsk T → ℕ
   rank_first true m c a = single_rank c (start a)
   rank_first false m c a = ring_rank m c (ring_start a)
@@ -243,7 +243,7 @@ module _ {T : Type 0} where
     pub effect : MatchOption reply
         ((p' : Phase T) × Continues q p call.mark p' × FitsAt (chain_after chain c d) d (after p call.mark q) (l ++ seat call p' ∷ r))
         (λ x. Answers q p call.mark x × FitsAt (chain_after chain c d) d (after p call.mark q) (l ++ r))
-    pub ends : HoldsNobodyUp q (phases (l ++ r)) → MatchOption reply (rank d call < rank c before) (λ x. Unit {0})
+    pub ends : PhasesQuiet q (phases (l ++ r)) → MatchOption reply (rank d call < rank c before) (λ x. Unit {0})
 
   abbrev pub IsQueueStep : Contents T → QueueCall T → Contents T → QueueCall T → Option (QueueReply T) → Type 0
   IsQueueStep c before d call reply =

@@ -3,7 +3,7 @@ use Rattle.std.specs.Prelude.{◌≡◌, ℕ, ◌<◌, Bool, List, ◌∷◌, �
 use Rattle.concurrent_queue.specs.Contents.{Contents}
 use Rattle.concurrent_queue.specs.Queue.{Queue, Phase, asked, after, Continues, Answers, IsInRange}
 use Rattle.concurrent_queue.specs.machine.Places.{Place}
-use Rattle.concurrent_queue.specs.Step.{OneCell, HoldsNobodyUp, ShowsBy, LiesBy, IsBrought, chain_after}
+use Rattle.concurrent_queue.specs.Step.{OneCell, PhasesQuiet, ShowsBy, LiesBy, IsBrought, chain_after}
 use Rattle.concurrent_queue.specs.declared.call.QueueAsk.{QueueAsk}
 use Rattle.concurrent_queue.specs.declared.call.Stepped.{Stepped}
 use Rattle.concurrent_queue.specs.declared.cells.Slot.{Slot}
@@ -27,7 +27,7 @@ module _ {A T : Type 0} where
       pub effect : MatchOption s.reply
           ((p' : Phase T) × Continues q p s.mark p' × means d (after p s.mark q) (l ++ place s.action p' ∷ r))
           (λ x. Answers q p s.mark x × means d (after p s.mark q) (l ++ r))
-      pub ends : HoldsNobodyUp q (place_phases (l ++ r)) → MatchOption s.reply (left d s.action < left c a) (λ x. Unit {0})
+      pub ends : PhasesQuiet q (place_phases (l ++ r)) → MatchOption s.reply (left d s.action < left c a) (λ x. Unit {0})
 
     -- a new call may come in anywhere
     abbrev pub FormStarts : (QueueAsk T → A) → Type 0
