@@ -2,7 +2,7 @@
 use Rattle.std.specs.Prelude.{◌≡◌, ℕ, ◌+◌, ◌-◌, ◌<◌, true, if◌then◌else◌, List, [], ◌∷◌, ◌++◌, Option, None, Some, ◌⊎◌}
 use Rattle.concurrent_queue.specs.Contents.{Contents}
 use Rattle.concurrent_queue.specs.Queue.{Queue, Phase, opened, after, asked, Continues, Answers, IsInRange}
-use Rattle.concurrent_queue.specs.Step.{Seat, seat, FitsAt, chain_after, Starts, OneCell, HoldsNobodyUp, phases, rank}
+use Rattle.concurrent_queue.specs.Step.{Seat, seat, FitsAt, chain_after, Starts, OneCell, PhasesQuiet, phases, rank}
 use Rattle.concurrent_queue.specs.declared.queue_call.QueueCall.{QueueCall}
 use Rattle.concurrent_queue.specs.declared.call.QueueMark.{QueueMark}
 use Rattle.concurrent_queue.specs.declared.call.QueueReply.{QueueReply}
@@ -188,7 +188,7 @@ module _ {T W : Type 0} where
     pub phase_now : Phase T
     pub one_place : OnePlace parts parts'
     pub fits : FitsAt (chain_after blocks parts.cells parts'.cells) parts'.cells queue (left ++ (seats phase_now stage' ++ right))
-    pub ends : HoldsNobodyUp q (phases (left ++ right)) → Hastens parts.cells q f stage parts'.cells r stage'
+    pub ends : PhasesQuiet q (phases (left ++ right)) → Hastens parts.cells q f stage parts'.cells r stage'
     pub moves : Moves (channel q parts) (phase f stage) (record { channel = channel queue parts'; mark = m; woken = names }) r (phase phase_now stage')
 
   -- for every queue, its blocks, phase, and other calls of the queue that the cells may stand for
