@@ -1,63 +1,31 @@
 //! Events and their listeners: the rows of [`event_rows`](crate::event_rows), and what tests of them share.
-ghost use Rattle.std.specs.Prelude.{true};
 
 use crate::checks::expect_rows;
-use crate::event_rows::{TAG_ROWS, UNIT_ROWS};
-use crate::listening::open;
+use crate::event_rows::{SLOT_ROWS, TAG_ROWS, UNIT_ROWS};
+use crate::listening::{Listening, Opener};
+use crate::openers::{InSlot, OnEvent};
 use crate::tags::Tags;
 use crate::units::Units;
-use event_listener::error::{ListenError, NoMemory};
 use event_listener::event::Event;
 use event_listener::id::EventIds;
 use event_listener::listener::{Listener, PollFault};
-use event_listener::notify::Notification;
+use event_listener::stack::StackSlot;
 use futures::task::{Poll, Source, Waker};
 use futures::test::MockTask;
-use std::alloc::Global;
+use std::alloc::{AllocGlobal, Global};
 use std::process::Abort;
+use std::random::RandomSource;
 
-/// Why no listener is made by name.
-#[derive(Debug, Drop)]
-pub(crate) enum Stuck {
-    NoMemory,
-    Listen,
-}
-
-impl From<NoMemory> for Stuck {
-    fn from(_: NoMemory) -> Stuck {
-        Stuck::NoMemory
-    }
-}
-
-impl From<ListenError> for Stuck {
-    fn from(_: ListenError) -> Stuck {
-        Stuck::Listen
-    }
-}
-
-/// What a poll gave: a tag, nothing yet, or the fault of a finished listener. Or no waker was got for it: an answer as any other, so
-/// that a test which holds listeners has no exit at a poll.
-#[derive(Debug, PartialEq, Drop)]
-pub(crate) enum Polled<T> {
-    Tag(T),
-    Pending,
-    Finished,
-    NoWaker,
-}
+/// What a poll gave; nothing where no waker was got for it: an answer as any other, so that a test which holds listeners has no exit at a
+/// poll.
+pub(crate) type Polled<T> = Option<Poll<Result<T, PollFault>>>;
 
 /// Polls with a new waker of the task.
 pub(crate) fn poll<T, L: Listener<T>>(task: &MockTask, listener: &mut L) -> Polled<T> {
     let source = Source::new();
     let mut slot: Option<Waker> = None;
     let _armed: Poll<()> = task.enter(|cx| cx.register(&source, &mut slot));
-    let Some(waker) = slot else {
-        return Polled::NoWaker;
-    };
-    match listener.poll(waker) {
-        Poll::Ready(Ok(tag)) => Polled::Tag(tag),
-        Poll::Ready(Err(PollFault::NeverInserted)) => Polled::Finished,
-        Poll::Pending => Polled::Pending,
-    }
+    Some(listener.poll(slot?))
 }
 
 /// An event with an identity of its own.
@@ -66,54 +34,42 @@ pub(crate) fn event<T: Drop, A: Abort>(rt: &A, alloc: Global) -> Event<T> {
     Event::with_tag(alloc, ids.next().expect(rt, "an identity"))
 }
 
-/// An additional notice for three that can make so many tags, the last of which is 0.
-#[derive(Drop)]
-pub(crate) struct Scarce {
-    pub(crate) left: u32,
+/// A task to poll with.
+pub(crate) fn task<A: Abort + RandomSource + AllocGlobal>(rt: &A) -> MockTask {
+    MockTask::new(rt).expect(rt, "memory")
 }
 
-impl Notification for Scarce {
-    type Tag = u32;
-
-    ghost size = { λ n. 3 };
-
-    ghost additional = { λ n. true };
-
-    ghost can_give = { λ n. Unit {0} };
-
-    ghost gives = { λ n r m. Unit {0} };
-
-    fn count(&self) -> usize {
-        3
-    }
-
-    fn is_additional(&self) -> bool {
-        true
-    }
-
-    fn next_tag(&mut self) -> Result<u32, NoMemory> {
-        if self.left == 0 {
-            return Err(NoMemory);
-        }
-        self.left -= 1;
-        Ok(self.left)
+/// A player's listeners that are got from here, before there are any.
+fn nobody<T: Drop, A, O: Opener<T>>(rt: A, opener: O) -> Listening<T, A, O>
+where
+    A: Abort + RandomSource + AllocGlobal,
+{
+    let task = task(&rt);
+    let listeners = Vec::new(rt.alloc());
+    Listening {
+        rt,
+        opener,
+        listeners,
+        task,
     }
 }
 
 #[test]
 fn rows(rt: HostRuntime) {
-    let all = open(rt, rt.alloc(), MockTask::new(&rt).expect(&rt, "memory")).expect(
-        &rt,
-        "identities",
-    );
-    expect_rows(&rt, UNIT_ROWS, &mut Units { rt, all }, 8);
+    let all = nobody(rt, OnEvent::new(rt, event(&rt, rt.alloc())));
+    expect_rows(&rt, UNIT_ROWS, &mut Units { rt, all }, 9);
 }
 
 #[test]
 fn rows_of_tags(rt: HostRuntime) {
-    let all = open(rt, rt.alloc(), MockTask::new(&rt).expect(&rt, "memory")).expect(
-        &rt,
-        "identities",
-    );
+    let all = nobody(rt, OnEvent::new(rt, event(&rt, rt.alloc())));
     expect_rows(&rt, TAG_ROWS, &mut Tags { rt, all, made: 0 }, 6);
+}
+
+#[test]
+fn rows_of_slots(rt: HostRuntime) {
+    let event = event(&rt, rt.alloc());
+    let slot = StackSlot::new(rt, rt.alloc(), &event).expect(&rt, "memory");
+    let all = nobody(rt, InSlot::new(&event, slot));
+    expect_rows(&rt, SLOT_ROWS, &mut Tags { rt, all, made: 0 }, 1);
 }

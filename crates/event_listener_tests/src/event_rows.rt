@@ -59,7 +59,7 @@ same_event 0 1 = true
 notify u8 1 = 1
 poll 0 = told
 poll 0 = finished
-wait_timeout_of_zero 0 = finished
+wait_timeout 0 0 = finished
 
 row a_second_poll_is_silent
 listen
@@ -77,6 +77,13 @@ poll 0 = pending
 is_woken = false
 poll 0 = pending
 is_woken = true
+
+row a_wait_gives_nothing_before_its_time
+listen
+listen
+wait_timeout 1 30 = nothing
+wait_deadline 0 30 = nothing
+total = 0
 ";
 
 pub(crate) const TAG_ROWS: &str = "
@@ -121,8 +128,8 @@ listen
 listen
 listen
 notify_scarce 2 = refused after 2
-poll 0 = 1
-poll 1 = 0
+poll 0 = 0
+poll 1 = 1
 poll 2 = pending
 
 row a_told_one_waits
@@ -132,11 +139,28 @@ wait 0 = 5
 
 row the_time_is_up
 listen
-wait_timeout_of_zero 0 = nothing
+wait_timeout 0 0 = nothing
 listen
-wait_deadline_now 1 = nothing
+wait_deadline 1 0 = nothing
 listen
 notify 1 6 = 1
-wait_timeout_of_zero 2 = 6
+wait_timeout 2 0 = 6
+total = 0
+";
+
+// Listeners of one slot, which take turns in it or live side by side.
+pub(crate) const SLOT_ROWS: &str = "
+row a_slot_listens_again
+listen
+listen
+listen
+same_event 2 1 = true
+notify 1 4 = 1
+wait 0 = 4
+poll_future 1 = pending
+notify 1 5 = 1
+poll_future 1 = 5
+wait_deadline 1 0 = finished
+wait_timeout 2 0 = nothing
 total = 0
 ";

@@ -7,6 +7,8 @@ mod checks;
 #[cfg(test)]
 mod counted;
 #[cfg(test)]
+mod crowds;
+#[cfg(test)]
 mod event;
 #[cfg(test)]
 mod event_rows;
@@ -24,6 +26,10 @@ mod listener;
 mod listening;
 #[cfg(test)]
 mod lists;
+#[cfg(test)]
+mod notices;
+#[cfg(test)]
+mod openers;
 #[cfg(test)]
 mod recorded;
 #[cfg(test)]

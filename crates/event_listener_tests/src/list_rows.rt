@@ -176,4 +176,31 @@ poll 0 = 40
 poll 2 = 51
 poll 1 = 50
 poll 4 = waits
+
+# Ten thousand, every second of which leaves, and the others are told one by one.
+row no_call_visits_more_than_five_others
+visits = 0
+listens 10000 = 10000
+each discard 0 10000 = waited 5000
+total = 5000
+tells 5000 7 = 5000
+most_visits = 5
+woken_by 1 2 = 5000
+notify_additional 1 7 = 0
+visits = 0
+told = 5000
+
+# Ten thousand, half of them told, every second of which another one replaces; then those that are left of the first register.
+row no_call_visits_more_than_five_others_where_half_are_told
+inserts 10000
+tells 5000 7 = 5000
+each replace 0 5000 = told 2500
+each replace 5000 10000 = waited 2500
+told = 2500
+total = 10000
+each register 1 5000 = 7 2500
+each register 5001 10000 = waits 2500
+told = 0
+total = 7500
+most_visits = 5
 ";

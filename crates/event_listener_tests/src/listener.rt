@@ -1,10 +1,11 @@
 //! Listeners among threads.
 
 use crate::checks::expect_equal;
-use crate::event::{Polled, event, poll};
+use crate::event::{Polled, event, poll, task};
 use event_listener::event::Event;
 use event_listener::into_notification::IntoNotification;
 use event_listener::listener::{EventListener, Listener};
+use futures::task::Poll;
 use futures::test::MockTask;
 use std::process::Abort;
 use std::sync::Wait;
@@ -120,8 +121,6 @@ fn dropped_elsewhere<R: Wait + Threads + Abort + Copy + Send + Sync>(
 fn threads(rt: HostRuntime) {
     let (woken, gate) = (event(&rt, rt.alloc()), event(&rt, rt.alloc()));
     expect_equal(&rt, &parked(rt, &woken, &gate), &(true, 1));
-    let task = MockTask::new(&rt).expect(&rt, "memory");
-    let event = event(&rt, rt.alloc());
-    let seen = dropped_elsewhere(rt, &event, &task);
-    expect_equal(&rt, &seen, &(true, Polled::Tag(7)));
+    let seen = dropped_elsewhere(rt, &event(&rt, rt.alloc()), &task(&rt));
+    expect_equal(&rt, &seen, &(true, Some(Poll::Ready(Ok(7)))));
 }

@@ -1,75 +1,43 @@
 //! A list of one owner, as rows call it. A call names a listener by the place of its insertion in the row, the first at 0.
+//!
+//! Of many listeners, after each of whose calls the visits of other nodes are looked at:
+//!
+//! | Line | What it does | What it answers |
+//! |---|---|---|
+//! | `listens N` | N times an insertion, whose listener registers under its number | how many wait |
+//! | `tells N TAG` | N additional notices, each for one, with this tag | how many told one |
+//! | `each CALL FROM TO` | this call of every second listener from one number on and before the other; `replace` is a discard, an insertion, and a registration by the old key, which is refused and visits its place alone | what the last one answers, and how many answer the same |
+//! | `most_visits` | | the most visits of one of these calls since it was asked before |
+//! | `woken_by FIRST STEP` | | how many were woken, where they are these in turn |
 
+use crate::notices::{Counted, Names, count_steps, write_numbers};
+use crate::units::notified;
 use event_listener::calls::Registered;
-use event_listener::error::{ListenError, NoMemory, NotifyError, UnknownListener};
+use event_listener::error::{ListenError, NoMemory, UnknownListener};
 use event_listener::key::Key;
 use event_listener::list::List;
-use event_listener::notify::Notification;
 use event_listener::run::{ListCall, ListReply, Target};
-use event_listener::wakes::Wakes;
 use std::alloc::{AllocError, Global};
 use std::collections::VecDeque;
 use worked_rows::{Player, Said, Words};
-
-/// A notice with the tags `next`, one more than that and so on.
-#[derive(Drop)]
-pub(crate) struct Counted {
-    pub(crate) count: usize,
-    pub(crate) additional: bool,
-    pub(crate) next: u32,
-}
-
-impl Notification for Counted {
-    type Tag = u32;
-
-    ghost size = { λ n. n.count };
-
-    ghost additional = { λ n. n.additional };
-
-    ghost can_give = { λ n. Unit {0} };
-
-    ghost gives = { λ n r m. Unit {0} };
-
-    fn count(&self) -> usize {
-        self.count
-    }
-
-    fn is_additional(&self) -> bool {
-        self.additional
-    }
-
-    fn next_tag(&mut self) -> Result<u32, NoMemory> {
-        let tag = self.next;
-        self.next = self.next.wrapping_add(1);
-        Ok(tag)
-    }
-}
-
-/// A sink that keeps the names of those who were woken.
-#[derive(Drop)]
-pub(crate) struct Names {
-    pub(crate) woken: Vec<u32>,
-}
-
-impl Wakes<u32> for Names {
-    ghost wakes = { λ s t u. Unit {0} };
-
-    fn wake(&mut self, task: u32) {
-        let _ = self.woken.push(task);
-    }
-}
 
 /// A list, the keys that it gave, those who were woken, and the calls of a run to come.
 #[derive(Drop)]
 pub(crate) struct Lists {
     alloc: Global,
-    list: List<u32, u32>,
-    keys: Vec<Key>,
+    pub(crate) list: List<u32, u32>,
+    pub(crate) keys: Vec<Key>,
     names: Names,
     later: VecDeque<ListCall<u32, u32>>,
+    /// The most visits of a call of many listeners.
+    pub(crate) most: u128,
 }
 
-const UNKNOWN: Said = Said::Word("unknown");
+/// What a listener says that waits.
+pub(crate) const WAITS: Said = Said::Word("waits");
+
+/// What is said of a key that names nobody.
+pub(crate) const UNKNOWN: Said = Said::Word("unknown");
 
 fn inserted(reply: Result<Key, ListenError>) -> Said {
     match reply {
@@ -82,31 +50,26 @@ fn inserted(reply: Result<Key, ListenError>) -> Said {
 fn registered(reply: Result<Registered<u32>, UnknownListener>) -> Said {
     match reply {
         Ok(Registered::Told(tag)) => Said::Number(u64::from(tag)),
-        Ok(Registered::Waiting) => Said::Word("waits"),
+        Ok(Registered::Waiting) => WAITS,
         Err(UnknownListener) => UNKNOWN,
     }
 }
 
-fn polled(reply: Result<Option<u32>, UnknownListener>) -> Said {
+/// What a poll says.
+pub(crate) fn polled(reply: Result<Option<u32>, UnknownListener>) -> Said {
     match reply {
         Ok(Some(tag)) => Said::Number(u64::from(tag)),
-        Ok(None) => Said::Word("waits"),
+        Ok(None) => WAITS,
         Err(UnknownListener) => UNKNOWN,
     }
 }
 
-fn removed(reply: Result<bool, UnknownListener>) -> Said {
+/// What the leaving of a listener says.
+pub(crate) fn removed(reply: Result<bool, UnknownListener>) -> Said {
     match reply {
         Ok(true) => Said::Word("told"),
         Ok(false) => Said::Word("waited"),
         Err(UnknownListener) => UNKNOWN,
-    }
-}
-
-fn notified(reply: Result<usize, NotifyError>) -> Said {
-    match reply {
-        Ok(told) => Said::count(told),
-        Err(NotifyError { told }) => Said::Both("refused after", told as u64),
     }
 }
 
@@ -131,6 +94,11 @@ fn replied(reply: ListReply<u32>) -> Said {
     }
 }
 
+/// A number of visits.
+fn visits(count: u128) -> Said {
+    Said::Number(u64::try_from(count).unwrap_or(u64::MAX))
+}
+
 fn target(words: &mut Words<'_>) -> Target {
     Target::Place(words.size())
 }
@@ -146,6 +114,7 @@ impl Lists {
                 woken: Vec::new(alloc),
             },
             later: VecDeque::new(alloc),
+            most: 0,
         }
     }
 
@@ -155,7 +124,7 @@ impl Lists {
     }
 
     /// So many insertions: the last one's answer.
-    fn insert(&mut self, count: usize) -> Said {
+    pub(crate) fn insert(&mut self, count: usize) -> Said {
         let mut said = Said::Ok;
         for _ in 0..count {
             let reply = self.list.insert();
@@ -167,50 +136,60 @@ impl Lists {
         said
     }
 
-    fn notify(&mut self, words: &mut Words<'_>, additional: bool) -> Said {
+    pub(crate) fn notify(&mut self, count: usize, additional: bool, next: u32) -> Said {
         let notice = Counted {
-            count: words.size(),
+            count,
             additional,
-            next: words.small(),
+            next,
+            left: u32::MAX,
         };
         notified(self.list.notify(notice, &mut self.names))
     }
 
-    /// A call that names a listener.
-    fn call_of(&mut self, verb: &str, key: Key, words: &mut Words<'_>) -> Said {
+    /// A call that names a listener; one that registers names its task too.
+    pub(crate) fn call_of(&mut self, verb: &str, key: Key, task: u32) -> Said {
         match verb {
-            "register" => registered(self.list.register(key, words.small())),
+            "register" => registered(self.list.register(key, task)),
             "poll" => polled(self.list.poll(key)),
             "leave" => removed(self.list.remove(key, true, &mut self.names)),
             "discard" => removed(self.list.remove(key, false, &mut self.names)),
-            "same" => Said::flag(self.key(words) == Some(key)),
             _ => Said::NoSuchCall,
         }
     }
 
-    /// A call that names no listener, or the answer of the one that does.
-    fn call(&mut self, verb: &str, words: &mut Words<'_>) -> Said {
+    /// A question, or a call that names a listener.
+    fn ask(&mut self, verb: &str, words: &mut Words<'_>) -> Said {
         match verb {
-            "insert" => self.insert(1),
-            "inserts" => self.insert(words.size()),
-            "notify" => self.notify(words, false),
-            "notify_additional" => self.notify(words, true),
-            "reserve" => reserved(self.list.reserve(words.size())),
             "told" => Said::count(self.list.told()),
             "total" => Said::count(self.list.total()),
-            "visits" => Said::Number(u64::try_from(self.list.last_visits()).unwrap_or(u64::MAX)),
+            "visits" => visits(self.list.last_visits()),
+            "most_visits" => visits(std::mem::replace(&mut self.most, 0)),
+            "woken_by" => count_steps(self.names.woken.as_slice(), words.small(), words.small()),
+            "same" => Said::flag(self.key(words) == self.key(words)),
             _ => match self.key(words) {
-                Some(key) => self.call_of(verb, key, words),
+                Some(key) if verb == "register" => self.call_of(verb, key, words.small()),
+                Some(key) => self.call_of(verb, key, 0),
                 None => Said::Word("no such number"),
             },
         }
     }
 
+    fn call(&mut self, verb: &str, words: &mut Words<'_>) -> Said {
+        match verb {
+            "insert" => self.insert(1),
+            "inserts" => self.insert(words.size()),
+            "listens" => self.listens(words.small()),
+            "notify" => self.notify(words.size(), false, words.small()),
+            "notify_additional" => self.notify(words.size(), true, words.small()),
+            "tells" => self.tells(words.small(), words.small()),
+            "reserve" => reserved(self.list.reserve(words.size())),
+            _ => self.ask(verb, words),
+        }
+    }
+
     /// Writes those who were woken, and forgets them.
     fn say_woken(&mut self, answer: &mut String) -> Result<(), AllocError> {
-        for name in self.names.woken.iter() {
-            Said::Number(u64::from(*name)).write(answer)?;
-        }
+        write_numbers(self.names.woken.as_slice(), answer)?;
         if self.names.woken.is_empty() {
             answer.push_str("nobody")?;
         }
@@ -287,11 +266,13 @@ impl Player for Lists {
         self.keys.clear();
         self.names.woken.clear();
         self.later.clear();
+        self.most = 0;
     }
 
     fn play(&mut self, words: &mut Words<'_>, answer: &mut String) -> Result<(), AllocError> {
         match words.word() {
             "woken" => self.say_woken(answer),
+            "each" => self.each(words, answer),
             "later" => self.add_later(words).write(answer),
             "run" => self.run(answer),
             verb => self.call(verb, words).write(answer),

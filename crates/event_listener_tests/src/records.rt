@@ -2,42 +2,28 @@
 
 ghost use Rattle.std.specs.Prelude.{◌≡◌, ◌<◌};
 
-use crate::event::Scarce;
+use crate::lists::{UNKNOWN, WAITS, polled, removed};
+use crate::notices::{Counted, Names, write_numbers};
 use crate::units::notified;
 use event_listener::calls::Registered;
-use event_listener::error::{NotifyError, UnknownListener};
 use event_listener::into_notification::IntoNotification;
 use event_listener::key::Key;
 use event_listener::list::List;
+use event_listener::notify::Notification;
 use event_listener::recorded::{RecordedCall, RecordedEvent, RegisterError};
-use event_listener::wakes::Wakes;
 use std::alloc::{AllocError, Global};
 use std::marker::Model;
 use std::sync::Wait;
 use std::sync::ledger::{Blank, Ledger, Share};
 use worked_rows::{Player, Said, Words};
 
-/// Names, in the order of their waking.
-#[derive(Drop)]
-struct Names {
-    woken: Vec<u8>,
-}
-
-impl Wakes<u8> for Names {
-    ghost wakes = { λ s t u. Unit {0} };
-
-    fn wake(&mut self, task: u8) {
-        let _ = self.woken.push(task);
-    }
-}
-
 /// A recorded event, the keys that it gave, those who were woken, and the last number that a function made for a tag.
 #[derive(Drop)]
 pub(crate) struct Records<R, L: Ledger> {
     rt: R,
     alloc: Global,
-    /// The event; none while a call is made on it.
-    event: Option<RecordedEvent<u32, u8, L>>,
+    /// The event.
+    event: Option<RecordedEvent<u32, u32, L>>,
     /// All parts of its ledger.
     mine: Share<L>,
     keys: Vec<Key>,
@@ -55,51 +41,41 @@ impl<R, L: Ledger> Model for Records<R, L> {
     ghost invariant = { λ r. (r.mine.parts ≡ L.parts) × (0 < L.parts) };
 }
 
-fn polled(reply: Result<Option<u32>, UnknownListener>) -> Said {
-    match reply {
-        Ok(Some(tag)) => Said::Number(u64::from(tag)),
-        Ok(None) => Said::Word("waits"),
-        Err(UnknownListener) => Said::Word("unknown"),
-    }
-}
+const NO_EVENT: Said = Said::Word("no event");
 
 fn registered(reply: Result<Registered<u32>, RegisterError>) -> Said {
     match reply {
         Ok(Registered::Told(tag)) => Said::Number(u64::from(tag)),
-        Ok(Registered::Waiting) => Said::Word("waits"),
-        Err(RegisterError::UnknownListener) => Said::Word("unknown"),
+        Ok(Registered::Waiting) => WAITS,
+        Err(RegisterError::UnknownListener) => UNKNOWN,
         Err(RegisterError::NoMemory) => Said::Word("memory"),
     }
 }
 
-fn removed(reply: Result<bool, UnknownListener>) -> Said {
-    match reply {
-        Ok(true) => Said::Word("told"),
-        Ok(false) => Said::Word("waited"),
-        Err(UnknownListener) => Said::Word("unknown"),
+/// What a record says of a call, but for its key and for the tags of a notice.
+fn recorded(call: &RecordedCall<u32, u32>) -> Said {
+    match call {
+        RecordedCall::Listened { .. } => Said::Word("listened"),
+        RecordedCall::Registered { tag: None, .. } => Said::Word("registered"),
+        RecordedCall::Registered { tag: Some(tag), .. } => {
+            Said::Both("registered", u64::from(*tag))
+        }
+        RecordedCall::Polled { tag, .. } => Said::Both("polled", u64::from(*tag)),
+        RecordedCall::Removed { told: true, .. } => Said::Word("told_left"),
+        RecordedCall::Removed { told: false, .. } => Said::Word("left"),
+        RecordedCall::Notified { .. } => Said::Word("notified"),
     }
 }
 
-/// What a record says of a call, but for its key.
-fn write_call(call: &RecordedCall<u32, u8>, answer: &mut String) -> Result<(), AllocError> {
-    match call {
-        RecordedCall::Listened { .. } => Said::Word("listened").write(answer),
-        RecordedCall::Registered { tag: None, .. } => Said::Word("registered").write(answer),
-        RecordedCall::Registered { tag: Some(tag), .. } => {
-            Said::Both("registered", u64::from(*tag)).write(answer)
-        }
-        RecordedCall::Polled { tag, .. } => Said::Both("polled", u64::from(*tag)).write(answer),
-        RecordedCall::Removed { told, .. } => {
-            Said::Word(if *told { "told_left" } else { "left" }).write(answer)
-        }
-        RecordedCall::Notified { tags, .. } => {
-            Said::Word("notified").write(answer)?;
-            for tag in tags.iter() {
-                Said::Number(u64::from(*tag)).write(answer)?;
-            }
-            Ok(())
+/// Writes what a record says.
+fn write_calls(calls: &[RecordedCall<u32, u32>], answer: &mut String) -> Result<(), AllocError> {
+    for call in calls {
+        recorded(call).write(answer)?;
+        if let RecordedCall::Notified { tags, .. } = call {
+            write_numbers(tags.as_slice(), answer)?;
         }
     }
+    Ok(())
 }
 
 /// A player of rows, whose events are counted by this ledger, one after another.
@@ -126,7 +102,10 @@ impl<R: Wait + Copy, L: Ledger> Records<R, L> {
         self.keys.get(words.size()).copied()
     }
 
-    fn insert(&mut self, event: &RecordedEvent<u32, u8, L>) -> Said {
+    fn insert(&mut self) -> Said {
+        let Some(event) = &self.event else {
+            return NO_EVENT;
+        };
         match event.insert(&self.rt, &mut self.mine) {
             Ok(key) => {
                 let _ = self.keys.push(key);
@@ -136,160 +115,112 @@ impl<R: Wait + Copy, L: Ledger> Records<R, L> {
         }
     }
 
-    fn notify(
-        &mut self,
-        event: &RecordedEvent<u32, u8, L>,
-        words: &mut Words<'_>,
-    ) -> Result<usize, NotifyError> {
-        let notice = words.size().tag(words.small());
-        event.notify(&self.rt, &mut self.mine, notice, &mut self.names)
-    }
-
-    fn notify_additional(
-        &mut self,
-        event: &RecordedEvent<u32, u8, L>,
-        words: &mut Words<'_>,
-    ) -> Result<usize, NotifyError> {
-        let notice = words.size().additional().tag(words.small());
-        event.notify(&self.rt, &mut self.mine, notice, &mut self.names)
-    }
-
-    fn notify_scarce(
-        &mut self,
-        event: &RecordedEvent<u32, u8, L>,
-        left: u32,
-    ) -> Result<usize, NotifyError> {
-        event.notify(&self.rt, &mut self.mine, Scarce { left }, &mut self.names)
+    fn tell<N: Notification<Tag = u32> + Drop>(&mut self, notice: N) -> Said
+        requires { N.can_give notice }
+    {
+        let Some(event) = &self.event else {
+            return NO_EVENT;
+        };
+        notified(event.notify(&self.rt, &mut self.mine, notice, &mut self.names))
     }
 
     /// A notice whose tags are made as they are wanted, each one more than the last one made.
-    fn notify_made(
-        &mut self,
-        event: &RecordedEvent<u32, u8, L>,
-        count: usize,
-    ) -> Result<usize, NotifyError> {
-        let made = &mut self.made;
-        let notice = count.tag_with(|| {
-            *made = made.wrapping_add(1);
-            *made
-        });
-        event.notify(&self.rt, &mut self.mine, notice, &mut self.names)
+    fn tell_made(&mut self, count: usize) -> Said {
+        let mut made = self.made;
+        let said = self.tell(count.tag_with(|| {
+            made = made.wrapping_add(1);
+            made
+        }));
+        self.made = made;
+        said
+    }
+
+    fn notify(&mut self, verb: &str, words: &mut Words<'_>) -> Said {
+        match verb {
+            "notify" => self.tell(words.size().tag(words.small())),
+            "notify_additional" => self.tell(words.size().additional().tag(words.small())),
+            "notify_scarce" => self.tell(Counted::scarce(words.small())),
+            _ => self.tell_made(words.size()),
+        }
     }
 
     /// A call that names a listener.
-    fn call_of(
-        &mut self,
-        event: &RecordedEvent<u32, u8, L>,
-        verb: &str,
-        key: Key,
-        words: &mut Words<'_>,
-    ) -> Said {
+    fn call_of(&mut self, verb: &str, key: Key, words: &mut Words<'_>) -> Said {
+        let Some(event) = &self.event else {
+            return NO_EVENT;
+        };
+        let (rt, mine) = (&self.rt, &mut self.mine);
         match verb {
-            "register" => {
-                let task = u8::try_from(words.number()).unwrap_or(u8::MAX);
-                registered(event.register(&self.rt, &mut self.mine, key, task))
-            }
-            "poll" => polled(event.poll(&self.rt, &mut self.mine, key)),
-            "leave" => {
-                removed(event.remove(&self.rt, &mut self.mine, key, true, &mut self.names))
-            }
+            "register" => registered(event.register(rt, mine, key, words.small())),
+            "poll" => polled(event.poll(rt, mine, key)),
+            "leave" => removed(event.remove(rt, mine, key, true, &mut self.names)),
             _ => Said::NoSuchCall,
         }
     }
 
-    fn call(
-        &mut self,
-        event: &RecordedEvent<u32, u8, L>,
-        verb: &str,
-        words: &mut Words<'_>,
-    ) -> Said {
+    /// A question, or a call that names a listener.
+    fn ask(&mut self, verb: &str, words: &mut Words<'_>) -> Said {
+        let Some(event) = &self.event else {
+            return NO_EVENT;
+        };
         match verb {
-            "insert" => self.insert(event),
-            "notify" => notified(self.notify(event, words)),
-            "notify_additional" => notified(self.notify_additional(event, words)),
-            "notify_scarce" => notified(self.notify_scarce(event, words.small())),
-            "notify_made" => notified(self.notify_made(event, words.size())),
             "reserve" => Said::flag(event.reserve(&self.rt, words.size()).is_ok()),
             "told" => Said::count(event.told(&self.rt)),
             "total" => Said::count(event.total(&self.rt)),
             _ => match self.key(words) {
-                Some(key) => self.call_of(event, verb, key, words),
+                Some(key) => self.call_of(verb, key, words),
                 None => Said::Word("no such number"),
             },
         }
     }
 
-    /// Writes those who were woken.
-    fn say_woken(&self, answer: &mut String) -> Result<(), AllocError> {
-        for name in self.names.woken.iter() {
-            Said::Number(u64::from(*name)).write(answer)?;
+    fn call(&mut self, verb: &str, words: &mut Words<'_>) -> Said {
+        match verb {
+            "insert" => self.insert(),
+            "notify" | "notify_additional" | "notify_scarce" | "notify_made" => {
+                self.notify(verb, words)
+            }
+            _ => self.ask(verb, words),
         }
-        Ok(())
     }
 
-    /// The list and the calls of an event, in whose place a new one stands. Its calls are no longer counted.
-    fn take_parts(
-        &mut self,
-        event: RecordedEvent<u32, u8, L>,
-    ) -> (List<u32, u8>, Vec<RecordedCall<u32, u8>>) {
-        let (list, calls, mut book) = event.into_parts();
+    /// Ends the event: its list and its record. A new one stands in its place, whose calls alone are counted.
+    fn end(&mut self) -> Option<(List<u32, u32>, Vec<RecordedCall<u32, u32>>)> {
+        let (list, calls, mut book) = self.event.take()?.into_parts();
         book.audit(&mut self.mine);
         book.sub(&mut self.mine, calls.len() as u64);
         self.event = Some(RecordedEvent::new(self.alloc, book));
-        (list, calls)
+        Some((list, calls))
     }
 
     /// Ends the event: writes what was recorded, and how many of its list were told, and how many are left.
-    fn say_record(
-        &mut self,
-        event: RecordedEvent<u32, u8, L>,
-        answer: &mut String,
-    ) -> Result<(), AllocError> {
-        let (list, calls) = self.take_parts(event);
+    fn say_record(&mut self, answer: &mut String) -> Result<(), AllocError> {
+        let Some((list, calls)) = self.end() else {
+            return NO_EVENT.write(answer);
+        };
         let (told, total) = (list.told(), list.total());
         drop(list);
-        for call in calls.iter() {
-            write_call(call, answer)?;
-        }
+        let written = write_calls(calls.as_slice(), answer);
+        drop(calls);
+        written?;
         Said::Both("told", told as u64).write(answer)?;
         Said::Both("of", total as u64).write(answer)
-    }
-
-    /// Writes what a call answers, after which the event stands as before.
-    fn say_call(
-        &mut self,
-        event: RecordedEvent<u32, u8, L>,
-        verb: &str,
-        words: &mut Words<'_>,
-        answer: &mut String,
-    ) -> Result<(), AllocError> {
-        let said = self.call(&event, verb, words);
-        self.event = Some(event);
-        said.write(answer)
     }
 }
 
 impl<R: Wait + Copy, L: Ledger> Player for Records<R, L> {
     fn begin(&mut self) {
-        if let Some(event) = self.event.take() {
-            drop(self.take_parts(event));
-        }
+        drop(self.end());
         self.keys.clear();
         self.names.woken.clear();
         self.made = 0;
     }
 
     fn play(&mut self, words: &mut Words<'_>, answer: &mut String) -> Result<(), AllocError> {
-        let Some(event) = self.event.take() else {
-            return Said::Word("no event").write(answer);
-        };
         match words.word() {
-            "woken" => {
-                self.event = Some(event);
-                self.say_woken(answer)
-            }
-            "record" => self.say_record(event, answer),
-            verb => self.say_call(event, verb, words, answer),
+            "woken" => write_numbers(self.names.woken.as_slice(), answer),
+            "record" => self.say_record(answer),
+            verb => self.call(verb, words).write(answer),
         }
     }
 }

@@ -1,23 +1,38 @@
 //! Notices with tags, as rows send them.
 
-use crate::event::Scarce;
-use crate::listening::Listening;
+use crate::listening::{Listening, Opener};
+use crate::notices::Counted;
 use crate::units::notified;
 use event_listener::into_notification::IntoNotification;
-use std::alloc::AllocError;
+use std::alloc::{AllocError, AllocGlobal};
 use std::sync::Wait;
 use std::time::Clock;
 use worked_rows::{Player, Said, Words};
 
 /// An event whose notices carry numbers, and the last number that a function made for one.
 #[derive(Drop)]
-pub(crate) struct Tags<R: Wait + Copy> {
+pub(crate) struct Tags<R, O: Opener<u32>> {
     pub(crate) rt: R,
-    pub(crate) all: Listening<u32, R>,
+    pub(crate) all: Listening<u32, R, O>,
     pub(crate) made: u32,
 }
 
-impl<R: Wait + Clock + Copy> Tags<R> {
+impl<R: Wait + Clock + Copy, O: Opener<u32>> Tags<R, O> {
+    /// A notice with this tag for each.
+    fn notify(&mut self, count: u64, tag: u32) -> Said {
+        notified(self.all.opener.event().notify(&self.rt, count.tag(tag)))
+    }
+
+    /// An additional notice for three that has so many tags, from 0 on.
+    fn notify_scarce(&mut self, left: u32) -> Said {
+        notified(
+            self.all
+                .opener
+                .event()
+                .notify(&self.rt, Counted::scarce(left)),
+        )
+    }
+
     /// A notice whose tags are made as they are wanted, each one more than the last one made.
     fn notify_made(&mut self, count: usize) -> Said {
         let made = &mut self.made;
@@ -25,20 +40,14 @@ impl<R: Wait + Clock + Copy> Tags<R> {
             *made = made.wrapping_add(1);
             *made
         });
-        notified(self.all.event.notify(&self.rt, notice))
+        notified(self.all.opener.event().notify(&self.rt, notice))
     }
 
     fn call(&mut self, words: &mut Words<'_>) -> Said {
         match words.word() {
-            "notify" => {
-                let (count, tag) = (words.number(), words.small());
-                notified(self.all.event.notify(&self.rt, count.tag(tag)))
-            }
+            "notify" => self.notify(words.number(), words.small()),
             "notify_made" => self.notify_made(words.size()),
-            "notify_scarce" => {
-                let left = words.small();
-                notified(self.all.event.notify(&self.rt, Scarce { left }))
-            }
+            "notify_scarce" => self.notify_scarce(words.small()),
             "made" => Said::Number(u64::from(self.made)),
             "count_from" => {
                 self.made = words.small();
@@ -49,10 +58,10 @@ impl<R: Wait + Clock + Copy> Tags<R> {
     }
 }
 
-impl<R: Wait + Clock + Copy> Player for Tags<R> {
+impl<R: Wait + Clock + Copy + AllocGlobal, O: Opener<u32>> Player for Tags<R, O> {
     fn begin(&mut self) {
         self.made = 0;
-        self.all.begin();
+        self.all.begin(self.rt.alloc());
     }
 
     fn play(&mut self, words: &mut Words<'_>, answer: &mut String) -> Result<(), AllocError> {

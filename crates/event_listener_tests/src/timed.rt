@@ -1,10 +1,10 @@
-//! Waits with a timeout, measured on the clock and among threads.
+//! Waits with a timeout among threads.
 
 use crate::checks::expect_equal;
 use crate::event::event;
 use event_listener::event::Event;
 use event_listener::into_notification::IntoNotification;
-use event_listener::listener::{EventListener, Listener};
+use event_listener::listener::Listener;
 use std::process::Abort;
 use std::sync::Wait;
 use std::sync::atomic::{AtomicUsize, Ordering};
@@ -39,41 +39,6 @@ fn told_in_time<R: Wait + Threads + Clock + Abort + Copy + Send + Sync>(
 fn a_wait_that_is_told_in_time_gives_the_tag(rt: HostRuntime) {
     let event = event(&rt, rt.alloc());
     expect_equal(&rt, &told_in_time(rt, &event), &(1, Some(8), true));
-}
-
-/// Whether a wait gives nothing, and not before its time.
-fn wait_passes<R: Wait + Clock + Abort + Copy>(rt: R, event: &Event<()>, limit: Duration) -> bool {
-    let start = Instant::now(&rt).expect(&rt, "a clock");
-    let listener = event.listen(&rt).expect(&rt, "memory");
-    let none = matches!(listener.wait_timeout(&rt, limit), Ok(None));
-    none && start.elapsed(&rt).expect(&rt, "a clock") >= limit
-}
-
-/// The same with a deadline, of a listener that listened before.
-fn deadline_passes<R: Wait + Clock + Abort + Copy>(
-    rt: R,
-    listener: EventListener<(), R>,
-    limit: Duration,
-) -> bool {
-    let start = Instant::now(&rt).expect(&rt, "a clock");
-    let deadline = start.checked_add(limit).expect(&rt, "a moment");
-    let none = matches!(listener.wait_deadline(&rt, deadline), Ok(None));
-    none && start.elapsed(&rt).expect(&rt, "a clock") >= limit
-}
-
-/// Whether a wait and one with a deadline gave nothing, none of them before its time, and left.
-fn time_passes<R: Wait + Clock + Abort + Copy>(rt: R, event: &Event<()>) -> [bool; 3] {
-    let limit = Duration::from_millis(30);
-    let second = event.listen(&rt).expect(&rt, "memory");
-    let waited = wait_passes(rt, event, limit);
-    let to_deadline = deadline_passes(rt, second, limit);
-    [waited, to_deadline, event.total_listeners(&rt) == 0]
-}
-
-#[test]
-fn a_wait_gives_nothing_before_its_time(rt: HostRuntime) {
-    let event = event(&rt, rt.alloc());
-    expect_equal(&rt, &time_passes(&rt, &event), &[true; 3]);
 }
 
 const ROUNDS: usize = 20_000;

@@ -1,9 +1,11 @@
 //! Notices without a tag, as rows send them.
 
-use crate::listening::Listening;
+use crate::listening::{Listening, Opener};
+use crate::openers::OnEvent;
 use event_listener::error::NotifyError;
+use event_listener::event::Event;
 use event_listener::into_notification::IntoNotification;
-use std::alloc::AllocError;
+use std::alloc::{AllocError, AllocGlobal};
 use std::sync::Wait;
 use std::time::Clock;
 use worked_rows::{Player, Said, Words};
@@ -12,7 +14,7 @@ use worked_rows::{Player, Said, Words};
 #[derive(Drop)]
 pub(crate) struct Units<R: Wait + Copy> {
     pub(crate) rt: R,
-    pub(crate) all: Listening<(), R>,
+    pub(crate) all: Listening<(), R, OnEvent<(), R>>,
 }
 
 /// What a notice answered.
@@ -23,45 +25,41 @@ pub(crate) fn notified(reply: Result<usize, NotifyError>) -> Said {
     }
 }
 
-impl<R: Wait + Clock + Copy> Units<R> {
-    /// A notice of an integer of the named type.
-    fn notify(&self, words: &mut Words<'_>) -> Said {
-        let word = words.word();
-        let count = u8::try_from(words.number()).unwrap_or(u8::MAX);
-        notified(match word {
-            "u8" => self.all.event.notify(&self.rt, count),
-            "i8" => self
-                .all
-                .event
-                .notify(&self.rt, i8::try_from(count).unwrap_or(i8::MAX)),
-            "i16" => self.all.event.notify(&self.rt, i16::from(count)),
-            "relaxed" => self.all.event.notify(&self.rt, count.relaxed()),
-            "additional_twice" => self
-                .all
-                .event
-                .notify(&self.rt, count.additional().additional()),
-            _ => return Said::NoSuchCall,
-        })
-    }
+/// The next word as a number of this size, or the greatest one.
+fn byte(words: &mut Words<'_>) -> u8 {
+    u8::try_from(words.number()).unwrap_or(u8::MAX)
+}
 
+/// A notice of an integer of the named type.
+fn notify<R: Wait>(rt: &R, event: &Event<()>, word: &str, count: u8) -> Said {
+    notified(match word {
+        "u8" => event.notify(rt, count),
+        "i8" => event.notify(rt, i8::try_from(count).unwrap_or(i8::MAX)),
+        "i16" => event.notify(rt, i16::from(count)),
+        "relaxed" => event.notify(rt, count.relaxed()),
+        "additional_twice" => event.notify(rt, count.additional().additional()),
+        _ => return Said::NoSuchCall,
+    })
+}
+
+impl<R: Wait + Clock + Copy> Units<R> {
     fn call(&mut self, words: &mut Words<'_>) -> Said {
-        let (rt, event) = (self.rt, &self.all.event);
+        let event = self.all.opener.event();
         match words.word() {
-            "notify" => self.notify(words),
-            "notify_additional" => Said::count(event.notify_additional(&rt, words.size())),
-            "notify_relaxed" => Said::count(event.notify_relaxed(&rt, words.size())),
-            "notify_additional_relaxed" => Said::count(event.notify_additional_relaxed(
-                &rt,
-                words.size(),
-            )),
+            "notify" => notify(&self.rt, event, words.word(), byte(words)),
+            "notify_additional" => Said::count(event.notify_additional(&self.rt, words.size())),
+            "notify_relaxed" => Said::count(event.notify_relaxed(&self.rt, words.size())),
+            "notify_additional_relaxed" => {
+                Said::count(event.notify_additional_relaxed(&self.rt, words.size()))
+            }
             verb => self.all.call(verb, words),
         }
     }
 }
 
-impl<R: Wait + Clock + Copy> Player for Units<R> {
+impl<R: Wait + Clock + Copy + AllocGlobal> Player for Units<R> {
     fn begin(&mut self) {
-        self.all.begin();
+        self.all.begin(self.rt.alloc());
     }
 
     fn play(&mut self, words: &mut Words<'_>, answer: &mut String) -> Result<(), AllocError> {
