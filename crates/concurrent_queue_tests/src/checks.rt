@@ -28,6 +28,6 @@ pub fn expect_rows<A: Abort + AllocGlobal, P: Player>(
     rows: u64,
 ) {
     let played = play_rows(rt.alloc(), text, player).expect(rt, "memory");
-    assert!(rt; played.differs.is_none(), "{:?}", played.differs);
-    assert_eq!(rt; played.rows, rows);
+    let right = played.differs.is_none() && played.rows == rows;
+    assert!(rt; right, "of {rows} rows: {played:?}");
 }

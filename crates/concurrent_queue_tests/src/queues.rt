@@ -11,6 +11,7 @@
 //! | `walk_unread` | a walk that is let go at once, of a queue of one owner | `ok` |
 
 use crate::said::{Said as Answer, forced, popped, pushed};
+use crate::shared::opened;
 use crate::walks::{walk_to_the_end, walk_unread};
 use concurrent_queue::exclusive::Exclusive;
 use concurrent_queue::shared::queue::ConcurrentQueue;
@@ -63,10 +64,7 @@ fn opened_alone(alloc: Global, capacity: usize) -> Option<Queue> {
 
 /// A shared one.
 fn opened_shared(alloc: Global, capacity: usize) -> Option<Queue> {
-    if capacity == 0 {
-        return Some(Queue::Shared(ConcurrentQueue::unbounded(alloc).ok()?));
-    }
-    Some(Queue::Shared(ConcurrentQueue::bounded(alloc, capacity).ok()?))
+    Some(Queue::Shared(opened(alloc, capacity)?))
 }
 
 /// How many messages these are, if they are this one and so on.
@@ -198,6 +196,17 @@ impl<R: Wait + Copy> Queues<R> {
         }
     }
 
+    /// Calls with many messages, and questions.
+    fn call_many(&mut self, verb: &str, words: &mut Words<'_>) -> Said {
+        match verb {
+            "pushes" | "forces" | "pops" => {
+                Said::Number(self.many(verb, words.number(), words.number()))
+            }
+            "rounds" => self.rounds(words.number(), words.number()),
+            _ => self.ask(verb, words),
+        }
+    }
+
     fn call(&mut self, words: &mut Words<'_>) -> Said {
         match words.word() {
             "alone" => self.put(opened_alone(self.alloc, words.size())),
@@ -205,11 +214,7 @@ impl<R: Wait + Copy> Queues<R> {
             "push" => in_words(self.push(words.number())),
             "force" => in_words(self.force(words.number())),
             "pop" => in_words(self.pop()),
-            verb @ ("pushes" | "forces" | "pops") => {
-                Said::Number(self.many(verb, words.number(), words.number()))
-            }
-            "rounds" => self.rounds(words.number(), words.number()),
-            verb => self.ask(verb, words),
+            verb => self.call_many(verb, words),
         }
     }
 }

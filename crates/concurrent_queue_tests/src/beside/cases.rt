@@ -10,24 +10,25 @@ use concurrent_queue::queue_call::{QueueCall, whole};
 use std::alloc::{AllocError, Global};
 use std::process::Abort;
 use std::sync::Wait;
-use std::test::Fail;
 
 /// The calls.
-const KINDS: [Kind; 7] = [
+const KINDS: [Kind; 9] = [
     Kind::Push,
     Kind::ForcePush,
     Kind::Pop,
     Kind::Close,
+    Kind::IsClosed,
     Kind::IsEmpty,
     Kind::IsFull,
     Kind::Len,
+    Kind::Capacity,
 ];
 
 /// Those that change a queue.
 const CHANGES: [Kind; 4] = [Kind::Push, Kind::ForcePush, Kind::Pop, Kind::Close];
 
 /// A queue, and what is in it when the calls begin.
-#[derive(Clone, Copy, Debug)]
+#[derive(Clone, Copy)]
 struct Start {
     form: QueueForm,
     bound: usize,
@@ -38,7 +39,7 @@ struct Start {
 
 /// What is made of it: the call, the others, the operation before which they come, and after how many steps of the first of them
 /// the second one is made.
-#[derive(Clone, Copy, Debug, PartialEq, Eq)]
+#[derive(Clone, Copy)]
 struct Case {
     kind: Kind,
     first: Kind,
@@ -47,8 +48,24 @@ struct Case {
     steps: u32,
 }
 
+/// What no list explains: the calls, the operation and the steps of the case, and what they said.
+type Wrong = ([&'static str; 3], [u32; 2], [Said; 3]);
+
+impl Case {
+    /// That this came of it is explained by no list.
+    fn wrong(self, outcome: &Outcome) -> Wrong {
+        let names = [self.kind.name(), self.first.name(), self.second.name()];
+        let [first, second] = outcome.others;
+        (
+            names,
+            [self.turn, self.steps],
+            [outcome.said, first, second],
+        )
+    }
+}
+
 /// What came of it.
-#[derive(Clone, Copy, Debug)]
+#[derive(Clone, Copy)]
 struct Outcome {
     said: Said,
     others: [Said; 2],
@@ -203,13 +220,13 @@ fn wrong_at<R: Wait>(
     alloc: Global,
     start: Start,
     mut case: Case,
-) -> Result<(Option<(Case, Outcome)>, bool), AllocError> {
+) -> Result<(Option<Wrong>, bool), AllocError> {
     for steps in 1..ALL {
         case.steps = steps;
         let (cells, plain) = start.begin(alloc)?;
         let outcome = make(rt, start, cells, case);
         if !outcome.is_explained(case.kind, plain) {
-            return Ok((Some((case, outcome)), true));
+            return Ok((Some(case.wrong(&outcome)), true));
         }
         if !outcome.came {
             return Ok((None, false));
@@ -227,7 +244,7 @@ fn wrong_beside<R: Wait>(
     alloc: Global,
     start: Start,
     kinds: [Kind; 3],
-) -> Result<Option<(Case, Outcome)>, AllocError> {
+) -> Result<Option<Wrong>, AllocError> {
     let [kind, first, second] = kinds;
     for turn in 1..ALL {
         let case = Case {
@@ -249,11 +266,7 @@ fn wrong_beside<R: Wait>(
 }
 
 /// The same of each call beside each two others.
-fn wrong_in<R: Wait>(
-    rt: &R,
-    alloc: Global,
-    start: Start,
-) -> Result<Option<(Case, Outcome)>, AllocError> {
+fn wrong_in<R: Wait>(rt: &R, alloc: Global, start: Start) -> Result<Option<Wrong>, AllocError> {
     for kind in KINDS {
         for first in KINDS {
             for second in CHANGES {
@@ -275,7 +288,7 @@ fn check<R: Wait + Abort>(
     bound: usize,
     passed: u64,
     messages: u64,
-) -> Result<(), Fail> {
+) {
     for closed in [false, true] {
         let start = Start {
             form,
@@ -284,32 +297,28 @@ fn check<R: Wait + Abort>(
             messages,
             closed,
         };
-        let wrong = wrong_in(rt, alloc, start)?;
-        expect_none(rt, &start, &wrong);
+        let wrong = wrong_in(rt, alloc, start).expect(rt, "memory");
+        expect_none(rt, &(bound, passed, messages, closed), &wrong);
     }
-    Ok(())
 }
 
 #[test]
-fn one_slot_beside_others(rt: HostRuntime) -> Result<(), Fail> {
+fn one_slot_beside_others(rt: HostRuntime) {
     for messages in 0..2 {
-        check(&rt, rt.alloc(), QueueForm::Bounded(1), 1, 0, messages)?;
+        check(&rt, rt.alloc(), QueueForm::Bounded(1), 1, 0, messages);
     }
-    Ok(())
 }
 
 #[test]
-fn a_ring_beside_others(rt: HostRuntime) -> Result<(), Fail> {
+fn a_ring_beside_others(rt: HostRuntime) {
     for messages in 0..3 {
-        check(&rt, rt.alloc(), QueueForm::Bounded(2), 2, 1, messages)?;
+        check(&rt, rt.alloc(), QueueForm::Bounded(2), 2, 1, messages);
     }
-    Ok(())
 }
 
 #[test]
-fn blocks_beside_others(rt: HostRuntime) -> Result<(), Fail> {
-    for messages in 0..2 {
-        check(&rt, rt.alloc(), QueueForm::Unbounded, 9, 0, messages)?;
+fn blocks_beside_others(rt: HostRuntime) {
+    for (passed, messages) in [(0, 0), (0, 1), (29, 1)] {
+        check(&rt, rt.alloc(), QueueForm::Unbounded, 9, passed, messages);
     }
-    check(&rt, rt.alloc(), QueueForm::Unbounded, 9, 29, 1)
 }

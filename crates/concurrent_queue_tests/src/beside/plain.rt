@@ -4,18 +4,35 @@ use crate::said::Said;
 use concurrent_queue::call::{QueueAsk, QueueMark};
 
 /// What a call asks.
-#[derive(Clone, Copy, Debug, PartialEq, Eq)]
+#[derive(Clone, Copy)]
 pub(crate) enum Kind {
     Push,
     ForcePush,
     Pop,
     Close,
+    IsClosed,
     IsEmpty,
     IsFull,
     Len,
+    Capacity,
 }
 
 impl Kind {
+    /// What the call is called.
+    pub(crate) fn name(self) -> &'static str {
+        match self {
+            Kind::Push => "push",
+            Kind::ForcePush => "force",
+            Kind::Pop => "pop",
+            Kind::Close => "close",
+            Kind::IsClosed => "is_closed",
+            Kind::IsEmpty => "is_empty",
+            Kind::IsFull => "is_full",
+            Kind::Len => "len",
+            Kind::Capacity => "capacity",
+        }
+    }
+
     /// The question, with this message where it has one.
     pub(crate) fn ask(self, message: u64) -> QueueAsk<u64> {
         match self {
@@ -23,15 +40,17 @@ impl Kind {
             Kind::ForcePush => QueueAsk::ForcePush(message),
             Kind::Pop => QueueAsk::Pop,
             Kind::Close => QueueAsk::Close,
+            Kind::IsClosed => QueueAsk::IsClosed,
             Kind::IsEmpty => QueueAsk::IsEmpty,
             Kind::IsFull => QueueAsk::IsFull,
             Kind::Len => QueueAsk::Len,
+            Kind::Capacity => QueueAsk::Capacity,
         }
     }
 }
 
 /// What a step of a call did to the list, with the call's message, and which call it was.
-#[derive(Clone, Copy, Debug)]
+#[derive(Clone, Copy)]
 pub(crate) struct Event {
     pub(crate) mark: QueueMark,
     pub(crate) message: u64,
@@ -42,7 +61,7 @@ pub(crate) struct Event {
 const ROOM: usize = 8;
 
 /// A list of messages, oldest first, with a bound or without one.
-#[derive(Clone, Copy, Debug, PartialEq, Eq)]
+#[derive(Clone, Copy, PartialEq, Eq)]
 pub(crate) struct Plain {
     messages: [u64; ROOM],
     count: usize,
@@ -140,6 +159,15 @@ impl Plain {
         }
     }
 
+    /// How many messages there is room for.
+    fn room(&self) -> Said {
+        if self.bound < ROOM {
+            ("room", self.bound as u64)
+        } else {
+            ("no bound", 0)
+        }
+    }
+
     fn flag(it: bool) -> Said {
         if it { ("yes", 0) } else { ("no", 0) }
     }
@@ -159,9 +187,11 @@ impl Plain {
                 self.close();
                 ((said, 0), false)
             }
+            Kind::IsClosed => (Plain::flag(self.closed), false),
             Kind::IsEmpty => (Plain::flag(self.count == 0), false),
             Kind::IsFull => (Plain::flag(self.is_full()), false),
             Kind::Len => (("holds", self.count as u64), false),
+            Kind::Capacity => (self.room(), false),
         }
     }
 }

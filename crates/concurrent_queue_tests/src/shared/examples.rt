@@ -5,11 +5,12 @@ ghost use Rattle.std.specs.Prelude.{◌≡◌, ◌%◌, ◌≤◌, IfOk, true};
 use crate::by_steps::capacity_by_steps;
 use crate::checks::expect_equal;
 use crate::said::{Said, replied};
+use crate::shared::opened;
 use concurrent_queue::call::QueueReply;
 use concurrent_queue::error::PopError;
 use concurrent_queue::queue_call::QueueCall;
 use concurrent_queue::shared::queue::ConcurrentQueue;
-use std::alloc::AllocError;
+use std::alloc::{AllocError, Global};
 use std::sync::{Arc, Wait};
 
 /// What a walk and a copy of it give of a queue into which messages come between.
@@ -29,19 +30,21 @@ fn walked_by_turns<R: Wait>(
 
 #[test]
 fn a_walk_goes_on_after_none(rt: HostRuntime) {
-    let queue = ConcurrentQueue::bounded(rt.alloc(), 3).expect(&rt, "memory");
-    let given = walked_by_turns(&rt, &queue).expect(&rt, "memory");
-    drop(queue);
-    expect_equal(&rt, &given, &[None, Some(7), None, Some(8)]);
+    let given = match &opened(rt.alloc(), 3) {
+        Some(queue) => walked_by_turns(&rt, queue).ok(),
+        None => None,
+    };
+    expect_equal(&rt, &given, &Some([None, Some(7), None, Some(8)]));
 }
 
-/// Pushes so many copies, and answers how many are left in the end. None where there is no queue.
+/// Pushes so many copies into a queue with so many places, and answers how many are left in the end. None where there is no queue.
 fn dropped_with<R: Wait>(
     rt: &R,
-    opened: Option<ConcurrentQueue<Arc<u8>>>,
+    alloc: Global,
+    capacity: usize,
     shared: &Arc<u8>,
 ) -> Option<usize> {
-    let queue = opened?;
+    let queue = opened(alloc, capacity)?;
     for _ in 0..40 {
         if let Ok(copy) = Arc::try_clone(shared) {
             let _ = queue.push(rt, copy);
@@ -57,10 +60,10 @@ fn what_is_left_is_dropped_once(rt: HostRuntime) {
     let alloc = rt.alloc();
     let shared = Arc::new(alloc, 7u8).expect(&rt, "memory");
     let left = [
-        dropped_with(&rt, ConcurrentQueue::bounded(alloc, 1).ok(), &shared),
-        dropped_with(&rt, ConcurrentQueue::bounded(alloc, 2).ok(), &shared),
-        dropped_with(&rt, ConcurrentQueue::bounded(alloc, 3).ok(), &shared),
-        dropped_with(&rt, ConcurrentQueue::unbounded(alloc).ok(), &shared),
+        dropped_with(&rt, alloc, 1, &shared),
+        dropped_with(&rt, alloc, 2, &shared),
+        dropped_with(&rt, alloc, 3, &shared),
+        dropped_with(&rt, alloc, 0, &shared),
     ];
     let count = Arc::strong_count(&shared);
     drop(shared);
@@ -79,29 +82,43 @@ fn answer_of(reply: Option<QueueReply<u64>>) -> Said {
     }
 }
 
+/// What the three steps of a push answer.
+fn pushed_by_steps<R: Wait>(rt: &R, queue: &ConcurrentQueue<u64>) -> [Said; 3] {
+    let mut push = QueueCall::push(7u64);
+    [
+        answer_of(queue.step(rt, &mut push)),
+        answer_of(queue.step(rt, &mut push)),
+        answer_of(queue.step(rt, &mut push)),
+    ]
+}
+
+/// What the step of a closing answers.
+fn closed_by_steps(queue: &ConcurrentQueue<u64>) -> Said {
+    let mut close = QueueCall::close();
+    answer_of(queue.step_words(&mut close))
+}
+
+/// The capacity of a queue with so many places, asked step by step. 0 where there is no queue.
+fn places(alloc: Global, capacity: usize) -> Option<usize> {
+    let Some(queue) = opened::<u64>(alloc, capacity) else {
+        return Some(0);
+    };
+    capacity_by_steps(&queue)
+}
+
 #[test]
 fn calls_go_by_steps(rt: HostRuntime) {
-    let queue = ConcurrentQueue::bounded(rt.alloc(), 1).expect(&rt, "memory");
-    let mut push = QueueCall::push(7u64);
-    let pushing = [
-        answer_of(queue.step(&rt, &mut push)),
-        answer_of(queue.step(&rt, &mut push)),
-        answer_of(queue.step(&rt, &mut push)),
-    ];
-    drop(push);
-    let mut close = QueueCall::close();
-    let closing = answer_of(queue.step_words(&mut close));
-    drop(close);
-    let wide: ConcurrentQueue<u64> = ConcurrentQueue::bounded(rt.alloc(), 3).expect(&rt, "memory");
-    let places = [capacity_by_steps(&queue), capacity_by_steps(&wide)];
-    let then = (queue.is_closed(), places);
-    drop(wide);
+    let queue = opened(rt.alloc(), 1).expect(&rt, "memory");
+    let pushing = pushed_by_steps(&rt, &queue);
+    let closing = (closed_by_steps(&queue), queue.is_closed());
     drop(queue);
+    let alloc = rt.alloc();
+    let places = [places(alloc, 1), places(alloc, 3), places(alloc, 0)];
     expect_equal(&rt, &pushing, &[("", 0), ("", 0), ("pushed", 0)]);
     expect_equal(
         &rt,
-        &(closing, then),
-        &(("closed it", 0), (true, [Some(1), Some(3)])),
+        &(closing, places),
+        &((("closed it", 0), true), [Some(1), Some(3), None]),
     );
 }
 
@@ -122,9 +139,9 @@ fn doubles<R: Wait>(rt: &R, queue: &ConcurrentQueue<Even>) -> Result<bool, PopEr
 
 #[test]
 fn what_messages_keep_holds_of_popped_ones(rt: HostRuntime) {
-    let queue = ConcurrentQueue::bounded(rt.alloc(), 2).expect(&rt, "memory");
+    let queue = opened(rt.alloc(), 2).expect(&rt, "memory");
     let went = queue.push(&rt, Even { number: 8 }).is_ok();
-    let doubled = doubles(&rt, &queue).is_ok_and(|doubles| doubles);
+    let doubled = matches!(doubles(&rt, &queue), Ok(true));
     drop(queue);
     expect_equal(&rt, &(went, doubled), &(true, true));
 }

@@ -3,10 +3,11 @@
 use crate::checks::{expect_equal, expect_true};
 use crate::log::{Line, Log};
 use crate::said::{Said, popped, pushed, replied};
+use crate::shared::opened;
 use concurrent_queue::call::QueueAsk;
 use concurrent_queue::queue_call::QueueCall;
 use concurrent_queue::shared::queue::ConcurrentQueue;
-use std::alloc::Global;
+use std::alloc::{AllocError, Global};
 use std::sync::Wait;
 use std::thread;
 use std::thread::Threads;
@@ -16,74 +17,80 @@ fn has_lines(log: &Log, lines: &[Line]) -> bool {
     log.lines() == Some(lines)
 }
 
+/// The lines of a push of 5 into one slot, of a pop of it, and of a pop of none.
+static OF_A_SLOT: [&[Line]; 3] = [
+    &[
+        ("exchange", "state", 1),
+        ("put", "slot", 1),
+        ("and", "state", 3),
+    ],
+    &[
+        ("exchange", "state", 1),
+        ("take", "slot", 5),
+        ("and", "state", 1),
+    ],
+    &[("exchange", "state", 0)],
+];
+
+/// The same of a ring.
+static OF_A_RING: [&[Line]; 3] = [
+    &[
+        ("load", "tail", 0),
+        ("load", "stamp", 0),
+        ("exchange", "tail", 1),
+        ("put", "slot", 1),
+        ("store", "stamp", 0),
+    ],
+    &[
+        ("load", "head", 0),
+        ("load", "stamp", 1),
+        ("exchange", "head", 1),
+        ("take", "slot", 5),
+        ("store", "stamp", 0),
+    ],
+    &[
+        ("load", "head", 1),
+        ("load", "stamp", 1),
+        ("load", "tail", 1),
+    ],
+];
+
 /// A push and a pop, whole, and then a pop of the empty queue by steps: whether the logs have these lines.
 fn logs_are<R: Wait>(
     rt: &R,
     alloc: Global,
     queue: &ConcurrentQueue<u64>,
-    wanted: [&[Line]; 3],
+    wanted: &[&[Line]; 3],
 ) -> bool {
     let (pushed_it, push) = queue.push_seen(rt, 5, Log::new(alloc));
+    let pushed_so = has_lines(&push, wanted[0]) && pushed(&pushed_it) == ("pushed", 0);
+    drop(push);
     let (popped_it, pop) = queue.pop_seen(rt, Log::new(alloc));
+    let popped_so = has_lines(&pop, wanted[1]) && popped(&popped_it) == ("popped", 5);
+    drop(pop);
     let call = QueueCall::new(QueueAsk::Pop);
     let (reply, empty) = queue.complete_seen(rt, call, Log::new(alloc));
-    let said = [pushed(&pushed_it), popped(&popped_it), replied(&reply)];
-    let right = has_lines(&push, wanted[0])
-        && has_lines(&pop, wanted[1])
-        && has_lines(&empty, wanted[2]);
-    drop((push, pop, empty));
-    right && said == [("pushed", 0), ("popped", 5), ("empty", 0)]
+    let none = has_lines(&empty, wanted[2]) && replied(&reply) == ("empty", 0);
+    drop(empty);
+    pushed_so && popped_so && none
+}
+
+/// The same of a queue with so many places.
+fn are_logged<R: Wait>(rt: &R, alloc: Global, capacity: usize, wanted: &[&[Line]; 3]) -> bool {
+    let Some(queue) = opened(alloc, capacity) else {
+        return false;
+    };
+    logs_are(rt, alloc, &queue, wanted)
 }
 
 #[test]
 fn logs_of_calls_alone(rt: HostRuntime) {
-    let slot = ConcurrentQueue::bounded(rt.alloc(), 1).expect(&rt, "memory");
-    let of_a_slot = logs_are(
-        &rt,
-        rt.alloc(),
-        &slot,
-        [
-            &[
-                ("exchange", "state", 1),
-                ("put", "slot", 1),
-                ("and", "state", 3),
-            ],
-            &[
-                ("exchange", "state", 1),
-                ("take", "slot", 5),
-                ("and", "state", 1),
-            ],
-            &[("exchange", "state", 0)],
-        ],
-    );
-    let ring = ConcurrentQueue::bounded(rt.alloc(), 2).expect(&rt, "memory");
-    let of_a_ring = logs_are(
-        &rt,
-        rt.alloc(),
-        &ring,
-        [
-            &[
-                ("load", "tail", 0),
-                ("load", "stamp", 0),
-                ("exchange", "tail", 1),
-                ("put", "slot", 1),
-                ("store", "stamp", 0),
-            ],
-            &[
-                ("load", "head", 0),
-                ("load", "stamp", 1),
-                ("exchange", "head", 1),
-                ("take", "slot", 5),
-                ("store", "stamp", 0),
-            ],
-            &[
-                ("load", "head", 1),
-                ("load", "stamp", 1),
-                ("load", "tail", 1),
-            ],
-        ],
-    );
-    expect_equal(&rt, &[of_a_slot, of_a_ring], &[true, true]);
+    let alloc = rt.alloc();
+    let right = [
+        are_logged(&rt, alloc, 1, &OF_A_SLOT),
+        are_logged(&rt, alloc, 2, &OF_A_RING),
+    ];
+    expect_equal(&rt, &right, &[true, true]);
 }
 
 /// How many lines of a log are of this operation and answered more than 0.
@@ -97,27 +104,40 @@ fn count(lines: &[Line], operation: &str) -> usize {
     count
 }
 
+/// What was done to which cell.
+type Operation = (&'static str, &'static str);
+
+/// The first and the last operation of a call of a ring that answered so, and how many places it won.
+fn of_a_call(said: &str) -> Option<(Operation, Operation, usize)> {
+    match said {
+        "pushed" => Some((("load", "tail"), ("store", "stamp"), 1)),
+        "popped" => Some((("load", "head"), ("store", "stamp"), 1)),
+        "full" => Some((("load", "tail"), ("load", "head"), 0)),
+        "empty" => Some((("load", "head"), ("load", "tail"), 0)),
+        _ => None,
+    }
+}
+
+/// The operation of a line; none where there is no line.
+fn operation(line: Option<&Line>) -> Operation {
+    match line {
+        Some((done, to, _)) => (*done, *to),
+        None => ("", ""),
+    }
+}
+
 /// Whether a log is of one call of a ring that answered so: it begins with the first operation of its machine, an answered
 /// call ends with the last one, and one place was won where a message came or went, and none where none did.
 fn is_of_one_call(log: &Log, said: Said) -> bool {
     let Some(lines) = log.lines() else {
         return true;
     };
-    let (Some(first), Some(last)) = (lines.first(), lines.last()) else {
+    let Some((first, last, places)) = of_a_call(said.0) else {
         return false;
     };
-    let ends = ((first.0, first.1), (last.0, last.1));
-    let (won, went) = (
-        count(lines, "exchange"),
-        count(lines, "put").wrapping_add(count(lines, "take")),
-    );
-    match said.0 {
-        "pushed" => ends == (("load", "tail"), ("store", "stamp")) && (won, went) == (1, 1),
-        "popped" => ends == (("load", "head"), ("store", "stamp")) && (won, went) == (1, 1),
-        "full" => ends == (("load", "tail"), ("load", "head")) && (won, went) == (0, 0),
-        "empty" => ends == (("load", "head"), ("load", "tail")) && (won, went) == (0, 0),
-        _ => false,
-    }
+    let ends = operation(lines.first()) == first && operation(lines.last()) == last;
+    let went = count(lines, "put").wrapping_add(count(lines, "take"));
+    ends && count(lines, "exchange") == places && went == places
 }
 
 /// How many calls each of two threads makes.
@@ -147,16 +167,17 @@ fn two_at_once<R: Threads + Wait + Sync>(
     alloc: Global,
     queue: &ConcurrentQueue<u64>,
 ) -> bool {
-    let wrong = thread::join(
-        rt,
-        || wrong_logs(rt, alloc, queue),
-        || wrong_logs(rt, alloc, queue),
-    );
-    wrong == (0, 0)
+    match thread::map_indices(rt, alloc, 2, &|_| wrong_logs(rt, alloc, queue)) {
+        Ok(wrong) => wrong.as_slice() == [0, 0].as_slice(),
+        Err(AllocError) => false,
+    }
 }
 
 #[test]
 fn logs_of_calls_at_once(rt: HostRuntime) {
-    let queue = ConcurrentQueue::bounded(rt.alloc(), 2).expect(&rt, "memory");
-    expect_true(&rt, two_at_once(&rt, rt.alloc(), &queue));
+    let right = match &opened(rt.alloc(), 2) {
+        Some(queue) => two_at_once(&rt, rt.alloc(), queue),
+        None => false,
+    };
+    expect_true(&rt, right);
 }

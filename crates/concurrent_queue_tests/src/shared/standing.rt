@@ -1,10 +1,8 @@
 //! A queue into which a push stands still in the midst of its steps, as of a thread that was put off its processor.
 
-ghost use Rattle.std.specs.Prelude.{◌<◌, IfSome};
-
 use crate::checks::expect_equal;
 use crate::said::{Said, popped, replied};
-use concurrent_queue::error::NoMemory;
+use crate::shared::opened;
 use concurrent_queue::queue_call::QueueCall;
 use concurrent_queue::shared::queue::ConcurrentQueue;
 use std::alloc::Global;
@@ -70,51 +68,63 @@ fn as_it_is(capacity: Option<usize>, is_in: bool) -> [Said; 6] {
     ]
 }
 
+/// What came of a closing and of all questions beside a push.
+#[derive(Clone, Copy)]
+enum Came {
+    /// They answered, and the push and a pop after them, as they should.
+    Right,
+    /// They didn't.
+    Wrong,
+    /// The push had answered before.
+    Late,
+}
+
 /// Whether the closing and the questions answer beside a push of 7 that has made so many steps, and the push and a pop after them
-/// as the questions said. None where the push has answered by then.
-fn answer_beside<R: Wait>(rt: &R, queue: &ConcurrentQueue<u64>, steps: u32) -> Option<bool> {
+/// as the questions said.
+fn answer_beside<R: Wait>(rt: &R, queue: &ConcurrentQueue<u64>, steps: u32) -> Came {
     let mut push = QueueCall::push(7u64);
-    if answer_within(rt, queue, &mut push, steps) != ("", 0) {
-        return None;
-    }
+    let begun = answer_within(rt, queue, &mut push, steps);
     let asked = closed_and_asked(rt, queue);
     let pushed = answer_within(rt, queue, &mut push, 64);
+    drop(push);
     let is_in = pushed == ("pushed", 0);
     let left = if is_in { ("popped", 7) } else { ("shut", 0) };
     let is_right = asked == as_it_is(queue.capacity(), is_in) && (is_in || pushed == ("closed", 7));
-    Some(is_right && popped(&queue.pop(rt)) == left)
+    if begun != ("", 0) {
+        Came::Late
+    } else if is_right && popped(&queue.pop(rt)) == left {
+        Came::Right
+    } else {
+        Came::Wrong
+    }
 }
 
-/// A queue with this bound, or with none.
-fn opened(alloc: Global, capacity: Option<usize>) -> Result<ConcurrentQueue<u64>, NoMemory>
-    requires { IfSome capacity (λ n. 0 < n) }
-{
-    match capacity {
-        Some(capacity) => ConcurrentQueue::bounded(alloc, capacity),
-        None => ConcurrentQueue::unbounded(alloc),
-    }
+/// The same in a new queue with so many places, or without a bound where that is 0.
+fn at_place<R: Wait>(rt: &R, alloc: Global, capacity: usize, steps: u32) -> Came {
+    let Some(queue) = opened(alloc, capacity) else {
+        return Came::Wrong;
+    };
+    answer_beside(rt, &queue, steps)
 }
 
 /// At how many places of a push all the others answer as they should; 0 where they don't at one.
-fn places_passed<R: Wait>(rt: &R, alloc: Global, capacity: Option<usize>) -> Result<u32, NoMemory>
-    requires { IfSome capacity (λ n. 0 < n) }
-{
+fn places_passed<R: Wait>(rt: &R, alloc: Global, capacity: usize) -> u32 {
     for steps in 0..64u32 {
-        match answer_beside(rt, &opened(alloc, capacity)?, steps) {
-            Some(true) => {}
-            Some(false) => return Ok(0),
-            None => return Ok(steps),
+        match at_place(rt, alloc, capacity, steps) {
+            Came::Right => {}
+            Came::Wrong => return 0,
+            Came::Late => return steps,
         }
     }
-    Ok(0)
+    0
 }
 
 #[test]
 fn a_push_that_stands_still_holds_no_question_up(rt: HostRuntime) {
     let places = [
-        places_passed(&rt, rt.alloc(), Some(1)).expect(&rt, "memory"),
-        places_passed(&rt, rt.alloc(), Some(2)).expect(&rt, "memory"),
-        places_passed(&rt, rt.alloc(), None).expect(&rt, "memory"),
+        places_passed(&rt, rt.alloc(), 1),
+        places_passed(&rt, rt.alloc(), 2),
+        places_passed(&rt, rt.alloc(), 0),
     ];
     expect_equal(&rt, &places, &[3, 5, 8]);
 }
