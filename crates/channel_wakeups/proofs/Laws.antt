@@ -1,15 +1,18 @@
--- What each step does to the laws of a side, and to the place of the slot.
+-- What each step does to the law of a side, and to the place of the slot.
 use Rattle.std.proofs.Common.{◌⊎◌, inl, inr, ◌≡◌, ℕ, ◌+◌, ◌<◌, ◌≤◌, List, Bool, true, false, Option, None, Some, set, sym, refl, ap, subst, ⊎_elim, arith}
 use mathlib.Core.Option as home
 use mathlib.Core.Option.{some, none}
 use lib.ListN.{get_elem?}
+use Rattle.channel_wakeups.specs.declared.listeners.Listener.{Listener}
 use Rattle.channel_wakeups.specs.declared.rule.Line.{Line}
+use Rattle.channel_wakeups.specs.declared.rule.Lines.{Lines}
+use Rattle.channel_wakeups.specs.declared.rule.Roll.{Roll}
+use Rattle.channel_wakeups.specs.declared.rule.Rolls.{Rolls}
 use Rattle.channel_wakeups.specs.declared.rule.View.{View}
 use Rattle.channel_wakeups.specs.declared.rule.Transfer.{Transfer}
 use Rattle.channel_wakeups.specs.Lists.{told, waits, listed}
-use Rattle.channel_wakeups.specs.Log.{sights}
-use Rattle.channel_wakeups.specs.Views.{Side, of_receives, of_sends, pass, answering, resolved, ended, owing, only, is_key, lists_of, shut_count, wanted, messages, places, Owed, empty, full, out, Ordered, Kept, Fair}
-use Rattle.channel_wakeups.proofs.Sums.{only_some, only_zero, turned, Goes, Closes, Sights, Places, Tickets, Logs, put_else, took_else}
+use Rattle.channel_wakeups.specs.Views.{Side, of_receives, of_sends, of_streams, of_closings, Duty, to_one, to_all, of, roll, pass, won_place, no_place, no_send, won_message, no_message, no_more, all_owing, still_open, found_closed, only, is_key, listing, wanted, messages, places, Owed, empty, full, out, Ordered, Kept, Fair}
+use Rattle.channel_wakeups.proofs.Sums.{only_some, only_zero, owed_by, turned, Goes, Sights, Places, Tickets, Logs, put_else, took_else}
 
 pub no_home : {T : Type 0} (x : Option T) → some x ≡ none → ⊥
 no_home x e = absurd (cc)
@@ -20,187 +23,264 @@ no_true e = absurd (cc)
 pub no_empty : {T : Type 0} (x : T) → some None ≡ some (Some x) → ⊥
 no_empty x e = absurd (cc)
 
-pub fills_place : (T W : Type 0) (p : ℕ) (l m i j : Line W) (lg : List (Transfer T)) → 0 < p → Places {T = T} 0 3 (some None) none (pass {W = W} p 0 l m lg) (pass p 3 i j lg)
-fills_place T W p a m i j lg some_part l o free (empty e d c) =
+pub fills_place : (T W : Type 0) (p : ℕ) (l i : Lines) (m : Rolls W) (lg : List (Transfer T)) → 0 < p → Places {T = T} 0 3 (some None) none (pass {W = W} p 0 l m lg) (pass p 3 i m lg)
+fills_place T W p l i m lg some_part k o free (empty e d c) =
     let x = only_zero p in
     let y = only_some p 1 some_part in
     let z = only_some p 3 some_part in
-    let none_else : l ≡ 0 = omega arith in
+    let none_else : k ≡ 0 = omega arith in
     let none_known : o ≡ 0 = free none_else in
     out refl (omega arith) (omega arith) (inr refl)
-fills_place T W p a m i j lg some_part l o free (full x e d c) = absurd (omega arith)
-fills_place T W p a m i j lg some_part l o free (out d c e w) = absurd (no_home None d)
+fills_place T W p l i m lg some_part k o free (full x e d c) = absurd (omega arith)
+fills_place T W p l i m lg some_part k o free (out d c e w) = absurd (no_home None d)
 
-pub wins_place : (T W : Type 0) (x : T) (p : ℕ) (l m i j : Line W) (lg mg : List (Transfer T)) → 0 < p → Places {T = T} 2 1 (some (Some x)) none (pass {W = W} p 0 l m lg) (pass p 1 i j mg)
-wins_place T W x p a m i j lg mg some_part l o free (empty e d c) = absurd (omega arith)
-wins_place T W x p a m i j lg mg some_part l o free (full y e d c) =
+pub wins_place : (T W : Type 0) (x : T) (p : ℕ) (l i : Lines) (m : Rolls W) (lg mg : List (Transfer T)) → 0 < p → Places {T = T} 2 1 (some (Some x)) none (pass {W = W} p 0 l m lg) (pass p 1 i m mg)
+wins_place T W x p l i m lg mg some_part k o free (empty e d c) = absurd (omega arith)
+wins_place T W x p l i m lg mg some_part k o free (full y e d c) =
     let q = only_zero p in
     let r = only_some p 1 some_part in
-    let none_else : l ≡ 0 = omega arith in
+    let none_else : k ≡ 0 = omega arith in
     let none_known : o ≡ 0 = free none_else in
     out refl (omega arith) (omega arith) (inl refl)
-wins_place T W x p a m i j lg mg some_part l o free (out d c e w) = absurd (no_home (Some x) d)
+wins_place T W x p l i m lg mg some_part k o free (out d c e w) = absurd (no_home (Some x) d)
 
-pub filled_place : (T W : Type 0) (x : T) (p : ℕ) (l m : Line W) (lg mg : List (Transfer T)) → 0 < p → Places {T = T} 3 2 none (some (Some x)) (pass {W = W} p 3 l m lg) (pass p 0 l m mg)
-filled_place T W x p a m lg mg some_part l o free (empty e d c) = absurd (omega arith)
-filled_place T W x p a m lg mg some_part l o free (full y e d c) = absurd (omega arith)
-filled_place T W x p a m lg mg some_part l o free (out d c e w) =
+pub filled_place : (T W : Type 0) (x : T) (p : ℕ) (l : Lines) (m : Rolls W) (lg mg : List (Transfer T)) → 0 < p → Places {T = T} 3 2 none (some (Some x)) (pass {W = W} p 3 l m lg) (pass p 0 l m mg)
+filled_place T W x p l m lg mg some_part k o free (empty e d c) = absurd (omega arith)
+filled_place T W x p l m lg mg some_part k o free (full y e d c) = absurd (omega arith)
+filled_place T W x p l m lg mg some_part k o free (out d c e w) =
     let q = only_zero p in
     let r = only_some p 1 some_part in
     full x refl refl (omega arith)
 
-pub emptied_place : (T W : Type 0) (p : ℕ) (l m : Line W) (lg : List (Transfer T)) → 0 < p → Places {T = T} 1 0 none (some None) (pass {W = W} p 1 l m lg) (pass p 0 l m lg)
-emptied_place T W p a m lg some_part l o free (empty e d c) = absurd (omega arith)
-emptied_place T W p a m lg some_part l o free (full y e d c) = absurd (omega arith)
-emptied_place T W p a m lg some_part l o free (out d c e w) =
+pub emptied_place : (T W : Type 0) (p : ℕ) (l : Lines) (m : Rolls W) (lg : List (Transfer T)) → 0 < p → Places {T = T} 1 0 none (some None) (pass {W = W} p 1 l m lg) (pass p 0 l m lg)
+emptied_place T W p l m lg some_part k o free (empty e d c) = absurd (omega arith)
+emptied_place T W p l m lg some_part k o free (full y e d c) = absurd (omega arith)
+emptied_place T W p l m lg some_part k o free (out d c e w) =
     let q = only_zero p in
     let r = only_some p 1 some_part in
     empty refl refl (omega arith)
 
--- ---- what a step does to the law of a side
+-- ---- what a step does to the law of a side: it reads three numbers of the call's line
 
--- nothing is left that those of the side wait for
-pub none_goes : (T W : Type 0) (s : Side) (w x : ℕ) (c d : Bool) (v u : View T W) → wanted s x d ≡ 0 → Goes s w x c d v u
-none_goes T W s w x c d v u none_left key b t a h single owed some_waiting = inl (omega arith)
+-- for how many the call answers; or whether it has the line in hand to tell all
+abbrev by_call : Duty → Line → ℕ
+by_call to_one l = l.answers
+by_call to_all l = l.tells
 
--- a push won the slot: it answers for the message on the one side, and no place is left on the other
-pub fills_goes : (T W : Type 0) (p : ℕ) (l m : Line W) (lg : List (Transfer T)) → 0 < p → (s : Side) → Goes s 0 3 false false (pass p 0 l m lg) (pass p 3 (answering l) (ended m) lg)
-fills_goes T W p l m lg some_part of_receives key b t a h single owed some_waiting = let x = only_some p (l.answers + 1) some_part in inl (omega arith)
-fills_goes T W p l m lg some_part of_sends key b t a h single owed some_waiting = none_goes T W of_sends 0 3 false false (pass p 0 l m lg) (pass p 3 (answering l) (ended m) lg) refl key b t a h single owed some_waiting
+-- nothing is owed afterwards; or the call answers for all of it; or no more is owed, and it answers for no less, with the same in hand
+abbrev Way : ℕ → ℕ → ℕ → ℕ → ℕ → ℕ → Type 0
+Way n m a b i j = (m ≡ 0) ⊎ ((m ≤ b) ⊎ ((m ≤ n) × (a ≤ b) × (j ≡ i)))
 
--- a pop won the message: it answers for the place on the one side, and no message is left on the other
-pub wins_goes : (T W : Type 0) (c : Bool) (p : ℕ) (l m : Line W) (lg mg : List (Transfer T)) → 0 < p → (s : Side) → Goes s 2 1 c c (pass p 0 l m lg) (pass p 1 (resolved l) (answering m) mg)
-wins_goes T W c p l m lg mg some_part of_receives key b t a h single owed some_waiting = none_goes T W of_receives 2 1 c c (pass p 0 l m lg) (pass p 1 (resolved l) (answering m) mg) refl key b t a h single owed some_waiting
-wins_goes T W c p l m lg mg some_part of_sends key b t a h single owed some_waiting = let x = only_some p (m.answers + 1) some_part in let y = at_most_one c in inl (omega arith)
-  where
-    at_most_one : (c : Bool) → wanted of_sends 1 c ≤ 1
-    at_most_one true = omega arith
-    at_most_one false = omega arith
+abbrev pub Turns : Duty → Side → ℕ → ℕ → Bool → Bool → Lines → Lines → Type 0
+Turns d s w x c e l i = Way (wanted d s w c) (wanted d s x e) (by_call d (of s l)) (by_call d (of s i)) (of s l).holds (of s i).holds
 
--- a push found no place, or a pop no message
-pub refused_goes : (T W : Type 0) (w p : ℕ) (l m : Line W) (lg : List (Transfer T)) → places w ≡ 0 → (s : Side) → Goes s w w false false (pass p 0 l m lg) (pass p 0 l (ended m) lg)
-refused_goes T W w p l m lg none_left of_receives key b t a h single owed some_waiting = owed some_waiting
-refused_goes T W w p l m lg none_left of_sends key b t a h single owed some_waiting = none_goes T W of_sends w w false false (pass p 0 l m lg) (pass p 0 l (ended m) lg) none_left key b t a h single owed some_waiting
+goes_on : (n m a b i j w g h key : ℕ) → Way n m a b i j → Owed n w (g + a) (h + is_key key i) → Owed m w (g + b) (h + is_key key j)
+goes_on n m a b i j w g h key (inl none_left) owed some_waiting = inl (omega arith)
+goes_on n m a b i j w g h key (inr (inl all)) owed some_waiting = inl (omega arith)
+goes_on n m a b i j w g h key (inr (inr (less, more, same))) owed some_waiting =
+    let held : is_key key j ≡ is_key key i = ap (is_key key) same in
+    ⊎_elim (λ (c : n ≤ g + a). inl (omega arith)) (λ (c : 0 < h + is_key key i). inr (omega arith)) (owed some_waiting)
 
-pub rests_goes : (T W : Type 0) (w p : ℕ) (l m : Line W) (lg : List (Transfer T)) → messages w ≡ 0 → (s : Side) → Goes s w w false false (pass p 0 l m lg) (pass p 0 (ended l) m lg)
-rests_goes T W w p l m lg none_left of_receives key b t a h single owed some_waiting = none_goes T W of_receives w w false false (pass p 0 l m lg) (pass p 0 (ended l) m lg) none_left key b t a h single owed some_waiting
-rests_goes T W w p l m lg none_left of_sends key b t a h single owed some_waiting = owed some_waiting
+module _ {T W : Type 0} where
+  -- so the law of a side goes on, whatever the others count for
+  pub goes_by : (d : Duty) (s : Side) (w x : ℕ) (c e : Bool) (p n o : ℕ) (l i : Lines) (m : Rolls W) (lg mg : List (Transfer T)) → 0 < p → Turns d s w x c e l i → Goes d s w x c e (pass p n l m lg) (pass p o i m mg)
+  goes_by to_one s w x c e p n o l i m lg mg some_part turns key b g h single owed some_waiting =
+      let r = roll s m in
+      let la = only_some p (of s l).answers some_part in
+      let lh = only_some p (is_key key (of s l).holds) some_part in
+      let ia = only_some p (of s i).answers some_part in
+      let ih = only_some p (is_key key (of s i).holds) some_part in
+      let after = goes_on (wanted to_one s w c) (wanted to_one s x e) (of s l).answers (of s i).answers (of s l).holds (of s i).holds (b + only r.here (waits key r.listeners)) (g + only r.here (told r.listeners)) h key turns
+      (λ waited. owed_by (wanted to_one s w c) (g + (only r.here (told r.listeners) + only p (of s l).answers)) (h + only p (is_key key (of s l).holds)) _ _ (omega arith) (omega arith) (owed waited)) some_waiting in
+      owed_by (wanted to_one s x e) _ _ (g + (only r.here (told r.listeners) + only p (of s i).answers)) (h + only p (is_key key (of s i).holds)) (omega arith) (omega arith) after
+  goes_by to_all s w x c e p n o l i m lg mg some_part turns key b g h single owed some_waiting =
+      let r = roll s m in
+      let la = only_some p (of s l).tells some_part in
+      let lh = only_some p (is_key key (of s l).holds) some_part in
+      let ia = only_some p (of s i).tells some_part in
+      let ih = only_some p (is_key key (of s i).holds) some_part in
+      let after = goes_on (wanted to_all s w c) (wanted to_all s x e) (of s l).tells (of s i).tells (of s l).holds (of s i).holds (b + only r.here (waits key r.listeners)) g h key turns
+      (λ waited. owed_by (wanted to_all s w c) (g + only p (of s l).tells) (h + only p (is_key key (of s l).holds)) _ _ (omega arith) (omega arith) (owed waited)) some_waiting in
+      owed_by (wanted to_all s x e) _ _ (g + only p (of s i).tells) (h + only p (is_key key (of s i).holds)) (omega arith) (omega arith) after
 
--- a push found the channel closed, or a pop found it closed and without a message
-pub shut_out_goes : (T W : Type 0) (w p : ℕ) (l m : Line W) (lg mg : List (Transfer T)) (s : Side) → Goes s w w true true (pass p 0 l m lg) (pass p 0 l (resolved m) mg)
-shut_out_goes T W w p l m lg mg of_receives key b t a h single owed some_waiting = owed some_waiting
-shut_out_goes T W w p l m lg mg of_sends key b t a h single owed some_waiting = none_goes T W of_sends w w true true (pass p 0 l m lg) (pass p 0 l (resolved m) mg) refl key b t a h single owed some_waiting
+-- nothing changes on this side
+as_before : (n a i : ℕ) → Way n n a a i i
+as_before n a i = inr (inr (omega arith, omega arith, refl))
 
-pub drains_goes : (T W : Type 0) (w p : ℕ) (l m : Line W) (lg mg : List (Transfer T)) → messages w ≡ 0 → (s : Side) → Goes s w w true true (pass p 0 l m lg) (pass p 0 (resolved l) m mg)
-drains_goes T W w p l m lg mg none_left of_receives key b t a h single owed some_waiting = none_goes T W of_receives w w true true (pass p 0 l m lg) (pass p 0 (resolved l) m mg) none_left key b t a h single owed some_waiting
-drains_goes T W w p l m lg mg none_left of_sends key b t a h single owed some_waiting = owed some_waiting
+-- a push won the slot: it answers for the message, and has the line of streams in hand; and no place is left
+pub fills_turns : (c : Lines) (d : Duty) (s : Side) → Turns d s 0 3 false false c (won_place c)
+fills_turns c to_one of_receives = inr (inl (omega arith))
+fills_turns c to_one of_sends = inl refl
+fills_turns c to_one of_streams = inl refl
+fills_turns c to_one of_closings = inl refl
+fills_turns c to_all of_receives = inl refl
+fills_turns c to_all of_sends = inl refl
+fills_turns c to_all of_streams = inr (inl (omega arith))
+fills_turns c to_all of_closings = inl refl
 
--- the channel was closed: what was owed for messages is owed still, and there is no place any more
-pub shuts_goes : (T W : Type 0) (w p : ℕ) (l m : Line W) (lg mg : List (Transfer T)) (s : Side) → Goes s w w false true (pass p 0 l m lg) (pass p 0 (owing l) (owing m) mg)
-shuts_goes T W w p l m lg mg of_receives key b t a h single owed some_waiting = owed some_waiting
-shuts_goes T W w p l m lg mg of_sends key b t a h single owed some_waiting = none_goes T W of_sends w w false true (pass p 0 l m lg) (pass p 0 (owing l) (owing m) mg) refl key b t a h single owed some_waiting
+-- a push found no place
+pub refused_turns : (w : ℕ) (c : Lines) → places w ≡ 0 → (d : Duty) (s : Side) → Turns d s w w false false c (no_place c)
+refused_turns w c none_left to_one of_receives = as_before (messages w) c.receives.answers c.receives.holds
+refused_turns w c none_left to_one of_sends = inl none_left
+refused_turns w c none_left to_one of_streams = inl refl
+refused_turns w c none_left to_one of_closings = inl refl
+refused_turns w c none_left to_all of_receives = inl refl
+refused_turns w c none_left to_all of_sends = inl refl
+refused_turns w c none_left to_all of_streams = as_before (messages w) c.streams.tells c.streams.holds
+refused_turns w c none_left to_all of_closings = inl refl
 
--- the slot is given back, and with it nothing that the law counts
-pub gives_goes : (T W : Type 0) (w x n o p : ℕ) (d : Bool) (l m : Line W) (lg mg : List (Transfer T)) → messages w ≡ messages x → (s : Side) → Goes s w x d d (pass p n l m lg) (pass p o l m mg)
-gives_goes T W w x n o p d l m lg mg same of_receives key b t a h single owed some_waiting = ⊎_elim (λ (c : messages w ≤ (t + only l.lists (told l.listeners)) + (a + only p l.answers)). inl (omega arith)) (λ (c : 0 < h + only p (is_key key l.holds)). inr c) (owed some_waiting)
-gives_goes T W w x n o p true l m lg mg same of_sends key b t a h single owed some_waiting = inl (omega arith)
-gives_goes T W w x n o p false l m lg mg same of_sends key b t a h single owed some_waiting = ⊎_elim (λ (c : places w ≤ (t + only m.lists (told m.listeners)) + (a + only p m.answers)). inl (omega arith)) (λ (c : 0 < h + only p (is_key key m.holds)). inr c) (owed some_waiting)
+-- a push found the channel closed
+pub shut_out_turns : (w : ℕ) (c : Lines) (d : Duty) (s : Side) → Turns d s w w true true c (no_send c)
+shut_out_turns w c to_one of_receives = as_before (messages w) c.receives.answers c.receives.holds
+shut_out_turns w c to_one of_sends = inl refl
+shut_out_turns w c to_one of_streams = inl refl
+shut_out_turns w c to_one of_closings = inl refl
+shut_out_turns w c to_all of_receives = as_before 1 c.receives.tells c.receives.holds
+shut_out_turns w c to_all of_sends = as_before 1 c.sends.tells c.sends.holds
+shut_out_turns w c to_all of_streams = as_before 1 c.streams.tells c.streams.holds
+shut_out_turns w c to_all of_closings = as_before 1 c.closings.tells c.closings.holds
 
--- ---- what a step does to the law of the closing
+-- a pop won the message: it answers for the place, and no message is left
+pub wins_turns : (e : Bool) (c : Lines) (d : Duty) (s : Side) → Turns d s 2 1 e e c (won_message c)
+wins_turns e c to_one of_receives = inl refl
+wins_turns true c to_one of_sends = inl refl
+wins_turns false c to_one of_sends = inr (inl (omega arith))
+wins_turns e c to_one of_streams = inl refl
+wins_turns e c to_one of_closings = inl refl
+wins_turns e c to_all of_receives = as_before (wanted to_all of_receives 2 e) c.receives.tells c.receives.holds
+wins_turns e c to_all of_sends = as_before (wanted to_all of_sends 2 e) c.sends.tells c.sends.holds
+wins_turns true c to_all of_streams = as_before 1 c.streams.tells c.streams.holds
+wins_turns false c to_all of_streams = inl refl
+wins_turns e c to_all of_closings = as_before (wanted to_all of_closings 2 e) c.closings.tells c.closings.holds
 
-module _ (T W : Type 0) where
-  -- an open channel owes nothing for its closing
-  pub open_closes : (s : Side) (v u : View T W) → Closes s false false v u
-  open_closes s v u key b a h single owed some_waiting = inl (omega arith)
+-- a pop found no message
+pub rests_turns : (w : ℕ) (c : Lines) → messages w ≡ 0 → (d : Duty) (s : Side) → Turns d s w w false false c (no_message c)
+rests_turns w c none_left to_one of_receives = inl none_left
+rests_turns w c none_left to_one of_sends = as_before (places w) c.sends.answers c.sends.holds
+rests_turns w c none_left to_one of_streams = inl refl
+rests_turns w c none_left to_one of_closings = inl refl
+rests_turns w c none_left to_all of_receives = inl refl
+rests_turns w c none_left to_all of_sends = inl refl
+rests_turns w c none_left to_all of_streams = inl none_left
+rests_turns w c none_left to_all of_closings = inl refl
 
-  -- who closes it has both lines in hand
-  pub shuts_closes : (p : ℕ) (l m : Line W) (lg mg : List (Transfer T)) → 0 < p → (s : Side) → Closes s false true (pass p 0 l m lg) (pass p 0 (owing l) (owing m) mg)
-  shuts_closes p l m lg mg some_part of_receives key b a h single owed some_waiting = let x = only_some p (l.closes + 1) some_part in inl (omega arith)
-  shuts_closes p l m lg mg some_part of_sends key b a h single owed some_waiting = let x = only_some p (m.closes + 1) some_part in inl (omega arith)
+-- or found none in a closed channel
+pub drains_turns : (w : ℕ) (c : Lines) → messages w ≡ 0 → (d : Duty) (s : Side) → Turns d s w w true true c (no_more c)
+drains_turns w c none_left to_one of_receives = inl none_left
+drains_turns w c none_left to_one of_sends = inl refl
+drains_turns w c none_left to_one of_streams = inl refl
+drains_turns w c none_left to_one of_closings = inl refl
+drains_turns w c none_left to_all of_receives = as_before 1 c.receives.tells c.receives.holds
+drains_turns w c none_left to_all of_sends = as_before 1 c.sends.tells c.sends.holds
+drains_turns w c none_left to_all of_streams = as_before 1 c.streams.tells c.streams.holds
+drains_turns w c none_left to_all of_closings = as_before 1 c.closings.tells c.closings.holds
 
-  -- the lines keep what they owe and have in hand
-  pub kept_closes : (c : Bool) (p n o : ℕ) (l m i j : Line W) (lg mg : List (Transfer T)) → (i.holds ≡ l.holds) × (i.closes ≡ l.closes) × (i.lists ≡ l.lists) × (i.listeners ≡ l.listeners)
-      → (j.holds ≡ m.holds) × (j.closes ≡ m.closes) × (j.lists ≡ m.lists) × (j.listeners ≡ m.listeners) → (s : Side) → Closes s c c (pass p n l m lg) (pass p o i j mg)
-  kept_closes c p n o l m i j lg mg a b of_receives key others_waiting others_closing others_holding single owed =
-      subst (λ (x : ℕ). Owed (shut_count c) (others_waiting + only i.lists (waits key i.listeners)) (others_closing + only p i.closes) (others_holding + only p (is_key key x))) (sym a.0)
-      (subst (λ (x : ℕ). Owed (shut_count c) (others_waiting + only i.lists (waits key i.listeners)) (others_closing + only p x) (others_holding + only p (is_key key l.holds))) (sym a.1)
-      (subst (λ (x : ℕ). Owed (shut_count c) x (others_closing + only p l.closes) (others_holding + only p (is_key key l.holds))) (λ k. others_waiting + only (sym a.2 k) (waits key (sym a.3 k))) owed))
-  kept_closes c p n o l m i j lg mg a b of_sends key others_waiting others_closing others_holding single owed =
-      subst (λ (x : ℕ). Owed (shut_count c) (others_waiting + only j.lists (waits key j.listeners)) (others_closing + only p j.closes) (others_holding + only p (is_key key x))) (sym b.0)
-      (subst (λ (x : ℕ). Owed (shut_count c) (others_waiting + only j.lists (waits key j.listeners)) (others_closing + only p x) (others_holding + only p (is_key key m.holds))) (sym b.1)
-      (subst (λ (x : ℕ). Owed (shut_count c) x (others_closing + only p m.closes) (others_holding + only p (is_key key m.holds))) (λ k. others_waiting + only (sym b.2 k) (waits key (sym b.3 k))) owed))
+-- the channel was closed: who closed it has every line in hand, what was owed for messages is owed still, and there is no place any more
+pub shuts_turns : (w : ℕ) (c : Lines) (d : Duty) (s : Side) → Turns d s w w false true c (all_owing c)
+shuts_turns w c to_one of_receives = as_before (messages w) c.receives.answers c.receives.holds
+shuts_turns w c to_one of_sends = inl refl
+shuts_turns w c to_one of_streams = inl refl
+shuts_turns w c to_one of_closings = inl refl
+shuts_turns w c to_all of_receives = inr (inl (omega arith))
+shuts_turns w c to_all of_sends = inr (inl (omega arith))
+shuts_turns w c to_all of_streams = inr (inl (omega arith))
+shuts_turns w c to_all of_closings = inr (inl (omega arith))
+
+-- a call looked whether it is closed, and it was open, or closed
+pub open_turns : (w : ℕ) (c : Lines) (d : Duty) (s : Side) → Turns d s w w false false c (still_open c)
+open_turns w c to_one of_receives = as_before (messages w) c.receives.answers c.receives.holds
+open_turns w c to_one of_sends = as_before (places w) c.sends.answers c.sends.holds
+open_turns w c to_one of_streams = inl refl
+open_turns w c to_one of_closings = inl refl
+open_turns w c to_all of_receives = inl refl
+open_turns w c to_all of_sends = inl refl
+open_turns w c to_all of_streams = as_before (messages w) c.streams.tells c.streams.holds
+open_turns w c to_all of_closings = inl refl
+
+pub closed_turns : (w : ℕ) (c : Lines) (d : Duty) (s : Side) → Turns d s w w true true c (found_closed c)
+closed_turns w c to_one of_receives = as_before (messages w) c.receives.answers c.receives.holds
+closed_turns w c to_one of_sends = inl refl
+closed_turns w c to_one of_streams = inl refl
+closed_turns w c to_one of_closings = inl refl
+closed_turns w c to_all of_receives = as_before 1 c.receives.tells c.receives.holds
+closed_turns w c to_all of_sends = as_before 1 c.sends.tells c.sends.holds
+closed_turns w c to_all of_streams = as_before 1 c.streams.tells c.streams.holds
+closed_turns w c to_all of_closings = as_before 1 c.closings.tells c.closings.holds
+
+-- the slot is given back, or nothing is done to it, and with it nothing that the law counts
+pub gives_turns : (w x : ℕ) (e : Bool) (c : Lines) → messages w ≡ messages x → (d : Duty) (s : Side) → Turns d s w x e e c c
+gives_turns w x e c same to_one of_receives = inr (inr (omega arith, omega arith, refl))
+gives_turns w x true c same to_one of_sends = inl refl
+gives_turns w x false c same to_one of_sends = inr (inr (omega arith, omega arith, refl))
+gives_turns w x e c same to_one of_streams = inl refl
+gives_turns w x e c same to_one of_closings = inl refl
+gives_turns w x e c same to_all of_receives = as_before (wanted to_all of_receives w e) c.receives.tells c.receives.holds
+gives_turns w x e c same to_all of_sends = as_before (wanted to_all of_sends w e) c.sends.tells c.sends.holds
+gives_turns w x true c same to_all of_streams = as_before 1 c.streams.tells c.streams.holds
+gives_turns w x false c same to_all of_streams = inr (inr (omega arith, omega arith, refl))
+gives_turns w x e c same to_all of_closings = as_before (wanted to_all of_closings w e) c.closings.tells c.closings.holds
+
+-- the tickets stay
+abbrev pub SameTickets : Lines → Lines → Type 0
+SameTickets l i = (i.receives.ticket ≡ l.receives.ticket) × (i.sends.ticket ≡ l.sends.ticket) × (i.streams.ticket ≡ l.streams.ticket) × (i.closings.ticket ≡ l.closings.ticket)
+
+same_ticket : (l i : Lines) → SameTickets l i → (s : Side) → (of s i).ticket ≡ (of s l).ticket
+same_ticket l i (a, b, c, d) of_receives = a
+same_ticket l i (a, b, c, d) of_sends = b
+same_ticket l i (a, b, c, d) of_streams = c
+same_ticket l i (a, b, c, d) of_closings = d
+
+module _ {T W : Type 0} where
+  -- a step on the word, which leaves tickets and lists alone
+  pub turned_kept : (w x : ℕ) (c e : Bool) (vs : List (View T W)) (id p n o : ℕ) (l i : Lines) (m : Rolls W) (lg mg : List (Transfer T)) → 0 < p → get_elem? vs id ≡ some (pass p n l m lg) → (s r : home.Option (Option T)) → SameTickets l i
+      → Places w x s r (pass p n l m lg) (pass p o i m mg) → ((d : Duty) (side : Side) → Turns d side w x c e l i) → Logs (put_else vs id) (took_else vs id) s r (pass p n l m lg) (pass p o i m mg)
+      → (Ordered s vs → Ordered r (set vs id (pass p o i m mg))) → Sights w x c e (pass p n l m lg) (pass p o i m mg) → Kept w c s vs → Kept x e r (set vs id (pass p o i m mg))
+  turned_kept w x c e vs id p n o l i m lg mg some_part at s r same places turns logs order sights k =
+      turned w x c e vs id (pass p n l m lg) (pass p o i m mg) at s r refl (λ side. refl) places (λ d side. goes_by d side w x c e p n o l i m lg mg some_part (turns d side)) tickets logs order sights k
+    where
+      tickets : (side : Side) → Tickets side (pass {T = T} p n l m lg) (pass p o i m mg)
+      tickets side key x y before = let t : is_key key (of side i).ticket ≡ is_key key (of side l).ticket = ap (is_key key) (same_ticket l i same side) in omega arith
+
+-- ---- what a fair change does to the law of its side, and to the tickets
 
 module _ {W : Type 0} where
-  -- a line with another's ticket and list, whatever it answers for and has in hand
-  abbrev pub Keeps : Line W → Line W → Type 0
-  Keeps l m = (m.ticket ≡ l.ticket) × (m.lists ≡ l.lists) × (m.listeners ≡ l.listeners)
+  -- the law of a side, of whose call and list these are the line and the roll
+  abbrev pub Lasts : Duty → ℕ → ℕ → ℕ → ℕ → ℕ → ℕ → Line → Roll W → Type 0
+  Lasts to_one n p b g h key l r = Owed n (b + only r.here (waits key r.listeners)) (g + (only r.here (told r.listeners) + only p l.answers)) (h + only p (is_key key l.holds))
+  Lasts to_all n p b g h key l r = Owed n (b + only r.here (waits key r.listeners)) (g + only p l.tells) (h + only p (is_key key l.holds))
 
-  pub tickets_keep : (l m : Line W) → Keeps l m → (key x y : ℕ) → y + is_key key l.ticket ≤ x + only l.lists (listed key l.listeners) → y + is_key key m.ticket ≤ x + only m.lists (listed key m.listeners)
-  tickets_keep l m a key x y before =
-      let t : is_key key m.ticket ≡ is_key key l.ticket = ap (is_key key) a.0 in
-      let s : only m.lists (listed key m.listeners) ≡ only l.lists (listed key l.listeners) = (λ k. only (a.1 k) (listed key (a.2 k))) in
-      omega arith
+  pub lasts_by : (d : Duty) (n p b g h key : ℕ) (l i : Line) (r q : Roll W) → i ≡ l → q ≡ r → Lasts d n p b g h key l r → Lasts d n p b g h key i q
+  lasts_by d n p b g h key l i r q e f k = subst (λ (y : Roll W). Lasts d n p b g h key i y) (sym f) (subst (λ (y : Line). Lasts d n p b g h key y r) (sym e) k)
 
-  -- what a fair change does to the law of its side, and to the tickets
-  pub fair_goes : (n p b c g h key : ℕ) (l m : Line W) → 0 < p → l.lists ≡ 1 → Fair l m → (l.lists ≡ 1 → (b ≡ 0) × (c ≡ 0))
-      → Owed n (b + only l.lists (waits key l.listeners)) ((c + only l.lists (told l.listeners)) + (g + only p l.answers)) (h + only p (is_key key l.holds))
-      → Owed n (b + only m.lists (waits key m.listeners)) ((c + only m.lists (told m.listeners)) + (g + only p m.answers)) (h + only p (is_key key m.holds))
-  fair_goes n p b c g h key l m some_part here fair single owed some_waiting =
-      let z = single here in
-      let no_b = z.0 in
-      let no_c = z.1 in
-      let wl = fair.0 in
-      let lw = only_some l.lists (waits key l.listeners) (omega arith) in
-      let lt = only_some l.lists (told l.listeners) (omega arith) in
+  pub fair_lasts : (d : Duty) (n p b g h key : ℕ) (l m : Line) (r : Roll W) (ms : List (Listener W)) → 0 < p → r.here ≡ 1 → Fair l r.listeners m ms → (r.here ≡ 1 → b ≡ 0) → Lasts d n p b g h key l r → Lasts d n p b g h key m (listing ms)
+  fair_lasts to_one n p b g h key l m r ms some_part here fair single owed = λ some_waiting.
+      let no_b = single here in
+      let lw = only_some r.here (waits key r.listeners) (omega arith) in
+      let lt = only_some r.here (told r.listeners) (omega arith) in
       let la = only_some p l.answers some_part in
       let lh = only_some p (is_key key l.holds) some_part in
-      let mw = only_some m.lists (waits key m.listeners) (omega arith) in
-      let mt = only_some m.lists (told m.listeners) (omega arith) in
       let ma = only_some p m.answers some_part in
       let mh = only_some p (is_key key m.holds) some_part in
-      ⊎_elim (λ (e : 0 < is_key key m.holds). inr (omega arith)) (λ (e : (0 < waits key l.listeners) × (told l.listeners + l.answers ≤ told m.listeners + m.answers) × (is_key key l.holds ≤ is_key key m.holds) × (l.closes ≤ m.closes)).
+      ⊎_elim (λ (e : 0 < is_key key m.holds). inr (omega arith)) (λ (e : (0 < waits key r.listeners) × (told r.listeners + l.answers ≤ told ms + m.answers) × (is_key key l.holds ≤ is_key key m.holds) × (l.tells ≤ m.tells)).
       let e0 = e.0 in
       let e1 = e.1 in
       let e2 = e.2 in
-      ⊎_elim (λ (d : n ≤ (c + only l.lists (told l.listeners)) + (g + only p l.answers)). inl (omega arith)) (λ (d : 0 < h + only p (is_key key l.holds)). inr (omega arith)) (owed (omega arith))) (fair.1 key (omega arith))
-
-  -- and to the law of the closing
-  pub fair_closes : (n p b g h key : ℕ) (l m : Line W) → 0 < p → l.lists ≡ 1 → Fair l m → (l.lists ≡ 1 → b ≡ 0)
-      → Owed n (b + only l.lists (waits key l.listeners)) (g + only p l.closes) (h + only p (is_key key l.holds))
-      → Owed n (b + only m.lists (waits key m.listeners)) (g + only p m.closes) (h + only p (is_key key m.holds))
-  fair_closes n p b g h key l m some_part here fair single owed some_waiting =
+      ⊎_elim (λ (c : n ≤ g + (only r.here (told r.listeners) + only p l.answers)). inl (omega arith)) (λ (c : 0 < h + only p (is_key key l.holds)). inr (omega arith)) (owed (omega arith))) (fair.0 key (omega arith))
+  fair_lasts to_all n p b g h key l m r ms some_part here fair single owed = λ some_waiting.
       let no_b = single here in
-      let wl = fair.0 in
-      let lw = only_some l.lists (waits key l.listeners) (omega arith) in
-      let la = only_some p l.closes some_part in
+      let lw = only_some r.here (waits key r.listeners) (omega arith) in
+      let la = only_some p l.tells some_part in
       let lh = only_some p (is_key key l.holds) some_part in
-      let mw = only_some m.lists (waits key m.listeners) (omega arith) in
-      let ma = only_some p m.closes some_part in
+      let ma = only_some p m.tells some_part in
       let mh = only_some p (is_key key m.holds) some_part in
-      ⊎_elim (λ (e : 0 < is_key key m.holds). inr (omega arith)) (λ (e : (0 < waits key l.listeners) × (told l.listeners + l.answers ≤ told m.listeners + m.answers) × (is_key key l.holds ≤ is_key key m.holds) × (l.closes ≤ m.closes)).
+      ⊎_elim (λ (e : 0 < is_key key m.holds). inr (omega arith)) (λ (e : (0 < waits key r.listeners) × (told r.listeners + l.answers ≤ told ms + m.answers) × (is_key key l.holds ≤ is_key key m.holds) × (l.tells ≤ m.tells)).
       let e0 = e.0 in
       let e2 = e.2 in
       let e3 = e.3 in
-      ⊎_elim (λ (d : n ≤ g + only p l.closes). inl (omega arith)) (λ (d : 0 < h + only p (is_key key l.holds)). inr (omega arith)) (owed (omega arith))) (fair.1 key (omega arith))
+      ⊎_elim (λ (c : n ≤ g + only p l.tells). inl (omega arith)) (λ (c : 0 < h + only p (is_key key l.holds)). inr (omega arith)) (owed (omega arith))) (fair.0 key (omega arith))
 
-  pub fair_tickets : (key x y : ℕ) (l m : Line W) → l.lists ≡ 1 → Fair l m → y + is_key key l.ticket ≤ x + only l.lists (listed key l.listeners) → y + is_key key m.ticket ≤ x + only m.lists (listed key m.listeners)
-  fair_tickets key x y l m here fair before =
-      let wl = fair.0 in
-      let lw = only_some l.lists (listed key l.listeners) (omega arith) in
-      let mw = only_some m.lists (listed key m.listeners) (omega arith) in
-      let may = fair.2 key in
+  pub fair_tickets : (key x y : ℕ) (l m : Line) (r : Roll W) (ms : List (Listener W)) → r.here ≡ 1 → Fair l r.listeners m ms → y + is_key key l.ticket ≤ x + only r.here (listed key r.listeners) → y + is_key key m.ticket ≤ x + listed key ms
+  fair_tickets key x y l m r ms here fair before =
+      let lw = only_some r.here (listed key r.listeners) (omega arith) in
+      let may = fair.1 key in
       omega arith
-
-module _ {T W : Type 0} where
-  -- a step that leaves tickets and lists alone
-  pub turned_kept : (w x : ℕ) (c d : Bool) (vs : List (View T W)) (id : ℕ) (v u : View T W) → get_elem? vs id ≡ some v → (s r : home.Option (Option T)) → u.parts ≡ v.parts → Keeps v.receives u.receives → Keeps v.sends u.sends → Places w x s r v u → ((side : Side) → Goes side w x c d v u)
-      → ((side : Side) → Closes side c d v u) → Logs (put_else vs id) (took_else vs id) s r v u → (Ordered s vs → Ordered r (set vs id u)) → Sights w x c d v u → Kept w c s vs → Kept x d r (set vs id u)
-  turned_kept w x c d vs id v u at s r parts a b places goes closes logs order sights k = turned w x c d vs id v u at s r parts lists places goes closes tickets logs order sights k
-    where
-      lists : (side : Side) → lists_of side u ≡ lists_of side v
-      lists of_receives = a.1
-      lists of_sends = b.1
-
-      tickets : (side : Side) → Tickets side v u
-      tickets of_receives key x y before = tickets_keep v.receives u.receives a key x y before
-      tickets of_sends key x y before = tickets_keep v.sends u.sends b key x y before

@@ -1,5 +1,5 @@
 -- What is left of a pass when a push or a pop has answered.
-use Rattle.std.proofs.Common.{◌≡◌, ℕ, ◌<◌, List, [], ◌∷◌, ◌++◌, true, false, Ok, Err, subst}
+use Rattle.std.proofs.Common.{◌≡◌, ◌⊎◌, ℕ, ◌<◌, List, [], ◌∷◌, ◌++◌, true, false, Ok, Err, subst}
 use Rattle.atomic_table.specs.Seated.{TableId}
 use Rattle.concurrent_queue.specs.Walked.{WalkedFrom}
 use Rattle.concurrent_queue.specs.declared.call.QueueAsk.TheVariants as ask
@@ -10,6 +10,7 @@ use Rattle.concurrent_queue.specs.declared.queue_call.CallState.{CallState}
 use Rattle.concurrent_queue.specs.declared.queue_call.CallState.TheVariants.{Asked}
 use Rattle.channel_wakeups.specs.declared.cells.SlotCells.{SlotCells}
 use Rattle.channel_wakeups.specs.declared.rule.Line.{Line}
+use Rattle.channel_wakeups.specs.declared.rule.Lines.{Lines}
 use Rattle.channel_wakeups.specs.declared.rule.Transfer.{Transfer}
 use Rattle.channel_wakeups.specs.declared.rule.Transfer.TheVariants.{In, Out, Saw}
 use Rattle.channel_wakeups.specs.declared.rule.Sight.TheVariants.{Shut, Seen, Drained}
@@ -18,40 +19,33 @@ use Rattle.concurrent_queue.specs.declared.error.PopError.TheVariants as pop_err
 use Rattle.channel_wakeups.specs.declared.stage.Stage.{Stage}
 use Rattle.channel_wakeups.specs.declared.stage.Stage.TheVariants.{Free}
 use Rattle.channel_wakeups.specs.Calls.{PushLeaves, PopLeaves, CloseLeaves, AskLeaves}
-use Rattle.channel_wakeups.specs.Cells.{Did, IsLeft, Pushed, Popped, HasClosed, HasAsked}
+use Rattle.channel_wakeups.specs.Cells.{Did, IsOver, Pushed, Popped, HasClosed, HasAsked}
 use Rattle.channel_wakeups.specs.Seats.{IsCall, IsPass, IsIdle}
 use Rattle.channel_wakeups.specs.Stages.{IsAt}
-use Rattle.channel_wakeups.specs.Views.{of_receives, of_sends, calling, closing, idle, pass}
+use Rattle.channel_wakeups.specs.Views.{Side, of_receives, of_sends, of_streams, of_closings, of, besides, with_line, only_on, calling, idle, idle_lines, won_place, all_owing}
+use Rattle.channel_wakeups.proofs.Sides.{of_with, only_besides, takes_so, view_of}
 use Rattle.channel_wakeups.proofs.Machine.{pushes, pops, closes, asks}
 
 module _ {T W : Type 0} (table : TableId) where
-  -- a pass that has nothing of the slot
-  free : (p : ℕ) (l m : Line W) (log : List (Transfer T)) (c : SlotCells T W) → IsLeft table Free (pass p 0 l m log) c → IsAt c.stage c.seat.me
-      → (c.seat.table_id ≡ table) × (c.seat.me.1 ≡ []) × (c.seat.me.0 ≡ pass p 0 l m log)
-  free p l m log c (i, g, e) at = (i, (subst (λ (s : Stage). IsAt s c.seat.me) g at).2, e)
+  -- a pass that has nothing of the slot, in the words of clauses, from whichever side
+  over : (s : Side) (p : ℕ) (l : Lines) (log : List (Transfer T)) (c : SlotCells T W) → 0 < p → IsOver table p l log c → IsAt c.stage c.seat.me → IsPass s table c.seat p (of s l) (besides s l)
+  over s p l log c some_part (i, g, e) at =
+      (i, (subst (λ (x : Stage). IsAt x c.seat.me) g at).2, ((λ k. (e k).parts), (λ k. (e k).owns), (λ k. of s (e k).calls), (λ k. besides s (e k).calls), (λ k. (e k).rolls), some_part))
 
-  -- the same in the words of clauses, from the side of receives, and from that of sends
-  for_receives : (p : ℕ) (l m : Line W) (log : List (Transfer T)) (c : SlotCells T W) → 0 < p → IsLeft table Free (pass p 0 l m log) c → IsAt c.stage c.seat.me → IsPass of_receives table c.seat p l m
-  for_receives p l m log c some_part left at =
-      let f = free p l m log c left at in
-      let e = f.2 in
-      (f.0, f.1, ((λ k. (e k).parts), (λ k. (e k).owns), (λ k. (e k).receives), (λ k. (e k).sends), some_part))
+  logged : (p : ℕ) (l : Lines) (log : List (Transfer T)) (c : SlotCells T W) → IsOver table p l log c → c.seat.me.0.log ≡ log
+  logged p l log c (i, g, e) = λ k. (e k).log
 
-  for_sends : (p : ℕ) (l m : Line W) (log : List (Transfer T)) (c : SlotCells T W) → 0 < p → IsLeft table Free (pass p 0 l m log) c → IsAt c.stage c.seat.me → IsPass of_sends table c.seat p m l
-  for_sends p l m log c some_part left at =
-      let f = free p l m log c left at in
-      let e = f.2 in
-      (f.0, f.1, ((λ k. (e k).parts), (λ k. (e k).owns), (λ k. (e k).sends), (λ k. (e k).receives), some_part))
+  -- a call of one side
+  over_on : (s : Side) (p : ℕ) (l : Line) (log : List (Transfer T)) (c : SlotCells T W) → 0 < p → IsOver table p (only_on s l) log c → IsAt c.stage c.seat.me → IsPass s table c.seat p l idle_lines
+  over_on s p l log c some_part left at =
+      subst (λ (b : Lines). IsPass s table c.seat p l b) (only_besides s l) (subst (λ (m : Line). IsPass s table c.seat p m (besides s (only_on s l))) (of_with s l idle_lines) (over s p (only_on s l) log c some_part left at))
 
-  logged : (p : ℕ) (l m : Line W) (log : List (Transfer T)) (c : SlotCells T W) → IsLeft table Free (pass p 0 l m log) c → c.seat.me.0.log ≡ log
-  logged p l m log c (i, g, e) = λ k. (e k).log
-
-  leaves_push : (p a h : ℕ) (log : List (Transfer T)) (x : T) (r : QueueReply T) (c : SlotCells T W) → 0 < p → Pushed table p idle (calling a h 0) log x r c → IsAt c.stage c.seat.me → PushLeaves table p h log x r c.seat
+  leaves_push : (p a h : ℕ) (log : List (Transfer T)) (x : T) (r : QueueReply T) (c : SlotCells T W) → 0 < p → Pushed table p (only_on of_sends (calling a h 0)) log x r c → IsAt c.stage c.seat.me → PushLeaves table p h log x r c.seat
   leaves_push p a h log x (reply.Push (Ok u)) c some_part (unshut, (k, put, took, left)) at =
-      (for_receives p (calling 1 0 0) idle (log ++ In k x ∷ []) c some_part left at, unshut, (k, put, took, logged p (calling 1 0 0) idle (log ++ In k x ∷ []) c left))
-  leaves_push p a h log x (reply.Push (Err (push_error.Full y))) c some_part (unshut, left) at = (for_receives p idle idle log c some_part left at, unshut, logged p idle idle log c left)
+      (over of_receives p (won_place (only_on of_sends (calling a h 0))) (log ++ In k x ∷ []) c some_part left at, unshut, (k, put, took, logged p (won_place (only_on of_sends (calling a h 0))) (log ++ In k x ∷ []) c left))
+  leaves_push p a h log x (reply.Push (Err (push_error.Full y))) c some_part (unshut, left) at = (over of_receives p idle_lines log c some_part left at, unshut, logged p idle_lines log c left)
   leaves_push p a h log x (reply.Push (Err (push_error.Closed y))) c some_part left at =
-      (for_sends p idle (calling 0 h 0) (log ++ Saw Seen ∷ []) c some_part left at, logged p idle (calling 0 h 0) (log ++ Saw Seen ∷ []) c left)
+      (over of_sends p (only_on of_sends (calling 0 h 0)) (log ++ Saw Seen ∷ []) c some_part left at, logged p (only_on of_sends (calling 0 h 0)) (log ++ Saw Seen ∷ []) c left)
   leaves_push p a h log x (reply.Push (Err (push_error.NoMemory y))) c some_part left at = elim left [ ]
   leaves_push p a h log x (reply.Force y) c some_part left at = elim left [ ]
   leaves_push p a h log x (reply.Pop y) c some_part left at = elim left [ ]
@@ -60,23 +54,29 @@ module _ {T W : Type 0} (table : TableId) where
   leaves_push p a h log x (reply.Count y) c some_part left at = elim left [ ]
   leaves_push p a h log x (reply.Cap y) c some_part left at = elim left [ ]
 
-  leaves_pop : (p a h : ℕ) (log : List (Transfer T)) (r : QueueReply T) (c : SlotCells T W) → 0 < p → Popped table p (calling a h 0) idle log r c → IsAt c.stage c.seat.me → PopLeaves table p h log r c.seat
-  leaves_pop p a h log (reply.Pop (Ok x)) c some_part (there, (k, took, left)) at =
-      (for_sends p (calling 0 h 0) (calling 1 0 0) (log ++ Out k x ∷ []) c some_part left at, there, (k, took, logged p (calling 0 h 0) (calling 1 0 0) (log ++ Out k x ∷ []) c left))
-  leaves_pop p a h log (reply.Pop (Err pop_error.Empty)) c some_part (unshut, left) at = (for_receives p idle idle log c some_part left at, unshut, logged p idle idle log c left)
-  leaves_pop p a h log (reply.Pop (Err pop_error.Closed)) c some_part left at =
-      (for_receives p (calling 0 h 0) idle (log ++ Saw Drained ∷ []) c some_part left at, logged p (calling 0 h 0) idle (log ++ Saw Drained ∷ []) c left)
-  leaves_pop p a h log (reply.Push y) c some_part left at = elim left [ ]
-  leaves_pop p a h log (reply.Force y) c some_part left at = elim left [ ]
-  leaves_pop p a h log (reply.Close y) c some_part left at = elim left [ ]
-  leaves_pop p a h log (reply.Flag y) c some_part left at = elim left [ ]
-  leaves_pop p a h log (reply.Count y) c some_part left at = elim left [ ]
-  leaves_pop p a h log (reply.Cap y) c some_part left at = elim left [ ]
+  leaves_pop : (s : Side) → (s ≡ of_receives) ⊎ (s ≡ of_streams) → (p a h : ℕ) (log : List (Transfer T)) (r : QueueReply T) (c : SlotCells T W) → 0 < p → Popped table p (only_on s (calling a h 0)) log r c → IsAt c.stage c.seat.me → PopLeaves s table p h log r c.seat
+  leaves_pop s which p a h log (reply.Pop (Ok x)) c some_part (there, (k, took, left)) at =
+      let t = takes_so s a h which in
+      let l = with_line of_sends (calling 1 0 0) (only_on s (calling 0 h 0)) in
+      let won = subst (λ (m : Lines). IsOver table p m (log ++ Out k x ∷ []) c) t.0 left in
+      (subst (λ (b : Lines). IsPass of_sends table c.seat p (calling 1 0 0) b) t.1 (over of_sends p l (log ++ Out k x ∷ []) c some_part won at), there, (k, took, logged p l (log ++ Out k x ∷ []) c won))
+  leaves_pop s which p a h log (reply.Pop (Err pop_error.Empty)) c some_part (unshut, left) at =
+      let rests = subst (λ (m : Lines). IsOver table p m log c) (takes_so s a h which).2 left in
+      (over of_receives p idle_lines log c some_part rests at, unshut, logged p idle_lines log c rests)
+  leaves_pop s which p a h log (reply.Pop (Err pop_error.Closed)) c some_part left at =
+      let drains = subst (λ (m : Lines). IsOver table p m (log ++ Saw Drained ∷ []) c) (takes_so s a h which).3 left in
+      (over_on s p (calling 0 h 0) (log ++ Saw Drained ∷ []) c some_part drains at, logged p (only_on s (calling 0 h 0)) (log ++ Saw Drained ∷ []) c drains)
+  leaves_pop s which p a h log (reply.Push y) c some_part left at = elim left [ ]
+  leaves_pop s which p a h log (reply.Force y) c some_part left at = elim left [ ]
+  leaves_pop s which p a h log (reply.Close y) c some_part left at = elim left [ ]
+  leaves_pop s which p a h log (reply.Flag y) c some_part left at = elim left [ ]
+  leaves_pop s which p a h log (reply.Count y) c some_part left at = elim left [ ]
+  leaves_pop s which p a h log (reply.Cap y) c some_part left at = elim left [ ]
 
-  leaves_close : (p : ℕ) (log : List (Transfer T)) (r : QueueReply T) (c : SlotCells T W) → 0 < p → HasClosed table p idle idle log r c → IsAt c.stage c.seat.me → CloseLeaves table p log r c.seat
+  leaves_close : (p : ℕ) (log : List (Transfer T)) (r : QueueReply T) (c : SlotCells T W) → 0 < p → HasClosed table p idle_lines log r c → IsAt c.stage c.seat.me → CloseLeaves table p log r c.seat
   leaves_close p log (reply.Close true) c some_part (unshut, left) at =
-      (for_receives p (closing 1) (closing 1) (log ++ Saw Shut ∷ []) c some_part left at, unshut, logged p (closing 1) (closing 1) (log ++ Saw Shut ∷ []) c left)
-  leaves_close p log (reply.Close false) c some_part left at = (for_receives p idle idle (log ++ Saw Seen ∷ []) c some_part left at, logged p idle idle (log ++ Saw Seen ∷ []) c left)
+      (over of_receives p (all_owing idle_lines) (log ++ Saw Shut ∷ []) c some_part left at, unshut, logged p (all_owing idle_lines) (log ++ Saw Shut ∷ []) c left)
+  leaves_close p log (reply.Close false) c some_part left at = (over of_receives p idle_lines (log ++ Saw Seen ∷ []) c some_part left at, logged p idle_lines (log ++ Saw Seen ∷ []) c left)
   leaves_close p log (reply.Push y) c some_part left at = elim left [ ]
   leaves_close p log (reply.Force y) c some_part left at = elim left [ ]
   leaves_close p log (reply.Pop y) c some_part left at = elim left [ ]
@@ -84,36 +84,37 @@ module _ {T W : Type 0} (table : TableId) where
   leaves_close p log (reply.Count y) c some_part left at = elim left [ ]
   leaves_close p log (reply.Cap y) c some_part left at = elim left [ ]
 
-  leaves_ask : (p : ℕ) (log : List (Transfer T)) (r : QueueReply T) (c : SlotCells T W) → 0 < p → HasAsked table p idle idle log r c → IsAt c.stage c.seat.me → AskLeaves table p log r c.seat
-  leaves_ask p log (reply.Flag true) c some_part left at = (for_receives p idle idle (log ++ Saw Seen ∷ []) c some_part left at, logged p idle idle (log ++ Saw Seen ∷ []) c left)
-  leaves_ask p log (reply.Flag false) c some_part (unshut, left) at = (for_receives p idle idle log c some_part left at, unshut, logged p idle idle log c left)
-  leaves_ask p log (reply.Push y) c some_part left at = elim left [ ]
-  leaves_ask p log (reply.Force y) c some_part left at = elim left [ ]
-  leaves_ask p log (reply.Pop y) c some_part left at = elim left [ ]
-  leaves_ask p log (reply.Close y) c some_part left at = elim left [ ]
-  leaves_ask p log (reply.Count y) c some_part left at = elim left [ ]
-  leaves_ask p log (reply.Cap y) c some_part left at = elim left [ ]
+  leaves_ask : (p a h : ℕ) (log : List (Transfer T)) (r : QueueReply T) (c : SlotCells T W) → 0 < p → HasAsked table p (only_on of_closings (calling a h 0)) log r c → IsAt c.stage c.seat.me → AskLeaves table p h log r c.seat
+  leaves_ask p a h log (reply.Flag true) c some_part left at =
+      (over of_closings p (only_on of_closings (calling 0 h 0)) (log ++ Saw Seen ∷ []) c some_part left at, logged p (only_on of_closings (calling 0 h 0)) (log ++ Saw Seen ∷ []) c left)
+  leaves_ask p a h log (reply.Flag false) c some_part (unshut, left) at = (over of_receives p idle_lines log c some_part left at, unshut, logged p idle_lines log c left)
+  leaves_ask p a h log (reply.Push y) c some_part left at = elim left [ ]
+  leaves_ask p a h log (reply.Force y) c some_part left at = elim left [ ]
+  leaves_ask p a h log (reply.Pop y) c some_part left at = elim left [ ]
+  leaves_ask p a h log (reply.Close y) c some_part left at = elim left [ ]
+  leaves_ask p a h log (reply.Count y) c some_part left at = elim left [ ]
+  leaves_ask p a h log (reply.Cap y) c some_part left at = elim left [ ]
 
   pub push_leaves : (p a h : ℕ) (v : T) (at : CallState T) (b c : SlotCells T W) (r : QueueReply T) → IsCall of_sends table b.seat p a h 0 → b.stage ≡ Free → at ≡ Asked (ask.Push v) → WalkedFrom Did (Bounded 1) at b r c
       → IsAt c.stage c.seat.me → PushLeaves table p h b.seat.me.0.log v r c.seat
-  push_leaves p a h v at b c r (i, none_out, (ep, eo, es, er, some_part)) free_stage asks_so walked held =
-      let is : b.seat.me.0 ≡ pass p 0 idle (calling a h 0) b.seat.me.0.log = (λ k. record { parts = ep k; owns = eo k; receives = er k; sends = es k; log = b.seat.me.0.log }) in
-      leaves_push p a h b.seat.me.0.log v r c some_part (pushes table p idle (calling a h 0) b.seat.me.0.log v b c r (i, free_stage, is) (subst (λ (s : CallState T). WalkedFrom Did (Bounded 1) s b r c) asks_so walked)) held
+  push_leaves p a h v at b c r (i, none_out, calls) free_stage asks_so walked held =
+      let is = view_of of_sends b.seat.me.0 p (calling a h 0) idle_lines calls in
+      leaves_push p a h b.seat.me.0.log v r c calls.5 (pushes table p (only_on of_sends (calling a h 0)) b.seat.me.0.log v b c r (i, free_stage, is) (subst (λ (s : CallState T). WalkedFrom Did (Bounded 1) s b r c) asks_so walked)) held
 
-  pub pop_leaves : (p a h : ℕ) (at : CallState T) (b c : SlotCells T W) (r : QueueReply T) → IsCall of_receives table b.seat p a h 0 → b.stage ≡ Free → at ≡ Asked ask.Pop → WalkedFrom Did (Bounded 1) at b r c → IsAt c.stage c.seat.me
-      → PopLeaves table p h b.seat.me.0.log r c.seat
-  pop_leaves p a h at b c r (i, none_out, (ep, eo, er, es, some_part)) free_stage asks_so walked held =
-      let is : b.seat.me.0 ≡ pass p 0 (calling a h 0) idle b.seat.me.0.log = (λ k. record { parts = ep k; owns = eo k; receives = er k; sends = es k; log = b.seat.me.0.log }) in
-      leaves_pop p a h b.seat.me.0.log r c some_part (pops table p (calling a h 0) idle b.seat.me.0.log b c r (i, free_stage, is) (subst (λ (s : CallState T). WalkedFrom Did (Bounded 1) s b r c) asks_so walked)) held
+  pub pop_leaves : (side : Side) → (side ≡ of_receives) ⊎ (side ≡ of_streams) → (p a h : ℕ) (at : CallState T) (b c : SlotCells T W) (r : QueueReply T) → IsCall side table b.seat p a h 0 → b.stage ≡ Free → at ≡ Asked ask.Pop → WalkedFrom Did (Bounded 1) at b r c → IsAt c.stage c.seat.me
+      → PopLeaves side table p h b.seat.me.0.log r c.seat
+  pop_leaves side which p a h at b c r (i, none_out, calls) free_stage asks_so walked held =
+      let is = view_of side b.seat.me.0 p (calling a h 0) idle_lines calls in
+      leaves_pop side which p a h b.seat.me.0.log r c calls.5 (pops table p (only_on side (calling a h 0)) b.seat.me.0.log b c r (i, free_stage, is) (subst (λ (s : CallState T). WalkedFrom Did (Bounded 1) s b r c) asks_so walked)) held
 
   pub close_leaves : (p : ℕ) (at : CallState T) (b c : SlotCells T W) (r : QueueReply T) → IsIdle table b.seat p → b.stage ≡ Free → at ≡ Asked ask.Close → WalkedFrom Did (Bounded 1) at b r c → IsAt c.stage c.seat.me
       → CloseLeaves table p b.seat.me.0.log r c.seat
-  close_leaves p at b c r (i, none_out, (ep, eo, er, es, some_part)) free_stage asks_so walked held =
-      let is : b.seat.me.0 ≡ pass p 0 idle idle b.seat.me.0.log = (λ k. record { parts = ep k; owns = eo k; receives = er k; sends = es k; log = b.seat.me.0.log }) in
-      leaves_close p b.seat.me.0.log r c some_part (closes table p idle idle b.seat.me.0.log b c r (i, free_stage, is) (subst (λ (s : CallState T). WalkedFrom Did (Bounded 1) s b r c) asks_so walked)) held
+  close_leaves p at b c r (i, none_out, calls) free_stage asks_so walked held =
+      let is = view_of of_receives b.seat.me.0 p idle idle_lines calls in
+      leaves_close p b.seat.me.0.log r c calls.5 (closes table p idle_lines b.seat.me.0.log b c r (i, free_stage, is) (subst (λ (s : CallState T). WalkedFrom Did (Bounded 1) s b r c) asks_so walked)) held
 
-  pub ask_leaves : (p : ℕ) (at : CallState T) (b c : SlotCells T W) (r : QueueReply T) → IsIdle table b.seat p → b.stage ≡ Free → at ≡ Asked ask.IsClosed → WalkedFrom Did (Bounded 1) at b r c → IsAt c.stage c.seat.me
-      → AskLeaves table p b.seat.me.0.log r c.seat
-  ask_leaves p at b c r (i, none_out, (ep, eo, er, es, some_part)) free_stage asks_so walked held =
-      let is : b.seat.me.0 ≡ pass p 0 idle idle b.seat.me.0.log = (λ k. record { parts = ep k; owns = eo k; receives = er k; sends = es k; log = b.seat.me.0.log }) in
-      leaves_ask p b.seat.me.0.log r c some_part (asks table p idle idle b.seat.me.0.log b c r (i, free_stage, is) (subst (λ (s : CallState T). WalkedFrom Did (Bounded 1) s b r c) asks_so walked)) held
+  pub ask_leaves : (p a h : ℕ) (at : CallState T) (b c : SlotCells T W) (r : QueueReply T) → IsCall of_closings table b.seat p a h 0 → b.stage ≡ Free → at ≡ Asked ask.IsClosed → WalkedFrom Did (Bounded 1) at b r c → IsAt c.stage c.seat.me
+      → AskLeaves table p h b.seat.me.0.log r c.seat
+  ask_leaves p a h at b c r (i, none_out, calls) free_stage asks_so walked held =
+      let is = view_of of_closings b.seat.me.0 p (calling a h 0) idle_lines calls in
+      leaves_ask p a h b.seat.me.0.log r c calls.5 (asks table p (only_on of_closings (calling a h 0)) b.seat.me.0.log b c r (i, free_stage, is) (subst (λ (s : CallState T). WalkedFrom Did (Bounded 1) s b r c) asks_so walked)) held

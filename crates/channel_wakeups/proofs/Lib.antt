@@ -1,3 +1,4 @@
+pub mod Sides
 pub mod Sums
 pub mod Logs
 pub mod History

@@ -3,7 +3,8 @@ use Rattle.std.proofs.Common.{◌≡◌, ℕ, zero, suc, ◌+◌, ◌-◌, ◌<�
 use mathlib.Core.Option as home
 use mathlib.Core.Option.{some, none}
 use lib.ListN.{get_elem?}
-use Rattle.channel_wakeups.specs.declared.rule.Line.{Line}
+use Rattle.channel_wakeups.specs.declared.rule.Lines.{Lines}
+use Rattle.channel_wakeups.specs.declared.rule.Rolls.{Rolls}
 use Rattle.channel_wakeups.specs.declared.rule.View.{View}
 use Rattle.channel_wakeups.specs.declared.rule.Transfer.{Transfer}
 use Rattle.channel_wakeups.specs.declared.rule.Transfer.TheVariants.{In, Out, Saw}
@@ -78,62 +79,62 @@ module _ {T : Type 0} (W : Type 0) (p q : Weight T → ℕ) where
       balanced_by r _ _ _ _ (λ f i. p f + only (back i) (puts f (again i))) (λ f i. q f + only (back i) (takes f (again i))) (b.0, λ f. b.1 f ∙ (λ i. q f + takes_of f v + hold (p each + puts_of each v) f i))
 
   -- something was seen of the closing, and nothing was put in or taken out
-  pub saw_logs : (s r : home.Option (Option T)) (e : Sight) (n o g : ℕ) (l m i j : Line W) (lg : List (Transfer T)) → ((n : ℕ) (f : Weight T) → held n f s ≡ held n f r) → Logs p q s r (pass {W = W} n o l m lg) (pass n g i j (lg ++ Saw e ∷ []))
-  saw_logs s r e n o g l m i j lg hold b =
+  pub saw_logs : (s r : home.Option (Option T)) (e : Sight) (n o g : ℕ) (l i : Lines) (m : Rolls W) (lg : List (Transfer T)) → ((n : ℕ) (f : Weight T) → held n f s ≡ held n f r) → Logs p q s r (pass {W = W} n o l m lg) (pass n g i m (lg ++ Saw e ∷ []))
+  saw_logs s r e n o g l i m lg hold b =
       balanced_by r _ _ _ _ (λ f. put_same f) (λ f. took_same f) (b.0, λ f. b.1 f ∙ (λ i. q f + takes_of f (pass {W = W} n o l m lg) + hold (p each + puts_of each (pass {W = W} n o l m lg)) f i))
     where
-      put_same : (f : Weight T) → p f + puts_of f (pass {W = W} n o l m lg) ≡ p f + puts_of f (pass {W = W} n g i j (lg ++ Saw e ∷ []))
+      put_same : (f : Weight T) → p f + puts_of f (pass {W = W} n o l m lg) ≡ p f + puts_of f (pass {W = W} n g i m (lg ++ Saw e ∷ []))
       put_same f = let a : puts f (lg ++ Saw e ∷ []) ≡ puts f lg = puts_append f lg (Saw e ∷ []) ∙ omega arith in (λ k. p f + only n (sym a k))
 
-      took_same : (f : Weight T) → q f + takes_of f (pass {W = W} n o l m lg) ≡ q f + takes_of f (pass {W = W} n g i j (lg ++ Saw e ∷ []))
+      took_same : (f : Weight T) → q f + takes_of f (pass {W = W} n o l m lg) ≡ q f + takes_of f (pass {W = W} n g i m (lg ++ Saw e ∷ []))
       took_same f = let a : takes f (lg ++ Saw e ∷ []) ≡ takes f lg = takes_append f lg (Saw e ∷ []) ∙ omega arith in (λ k. q f + only n (sym a k))
 
   -- a message was put in, as the last
-  pub put_logs : (n s o g : ℕ) (l m i j : Line W) (x : T) (lg : List (Transfer T)) → 0 < s → n ≡ p each + puts_of each (pass {W = W} s o l m lg)
-      → Logs p q none (some (Some x)) (pass {W = W} s o l m lg) (pass s g i j (lg ++ In n x ∷ []))
-  put_logs n s o g l m i j x lg some_part last before = (numbers, weighs)
+  pub put_logs : (n s o g : ℕ) (l i : Lines) (m : Rolls W) (x : T) (lg : List (Transfer T)) → 0 < s → n ≡ p each + puts_of each (pass {W = W} s o l m lg)
+      → Logs p q none (some (Some x)) (pass {W = W} s o l m lg) (pass s g i m (lg ++ In n x ∷ []))
+  put_logs n s o g l i m x lg some_part last before = (numbers, weighs)
     where
-      now : (f : Weight T) → p f + puts_of f (pass {W = W} s g i j (lg ++ In n x ∷ [])) ≡ p f + puts_of f (pass {W = W} s o l m lg) + f n x
+      now : (f : Weight T) → p f + puts_of f (pass {W = W} s g i m (lg ++ In n x ∷ [])) ≡ p f + puts_of f (pass {W = W} s o l m lg) + f n x
       now f = let e = puts_append f lg (In n x ∷ []) in let y = only_some s (puts f lg) some_part in let z = only_some s (puts f (lg ++ In n x ∷ [])) some_part in omega arith
 
-      out : (f : Weight T) → q f + takes_of f (pass {W = W} s g i j (lg ++ In n x ∷ [])) ≡ q f + takes_of f (pass {W = W} s o l m lg)
+      out : (f : Weight T) → q f + takes_of f (pass {W = W} s g i m (lg ++ In n x ∷ [])) ≡ q f + takes_of f (pass {W = W} s o l m lg)
       out f = let e = takes_append f lg (In n x ∷ []) in let y = only_some s (takes f lg) some_part in let z = only_some s (takes f (lg ++ In n x ∷ [])) some_part in omega arith
 
-      numbers : (k : ℕ) → Once (p each + puts_of each (pass {W = W} s g i j (lg ++ In n x ∷ []))) k (p (numbered k) + puts_of (numbered k) (pass {W = W} s g i j (lg ++ In n x ∷ [])))
+      numbers : (k : ℕ) → Once (p each + puts_of each (pass {W = W} s g i m (lg ++ In n x ∷ []))) k (p (numbered k) + puts_of (numbered k) (pass {W = W} s g i m (lg ++ In n x ∷ [])))
       numbers k =
           let e = now each in
           let d = now (numbered k) in
           let once = more_once n k (p (numbered k) + puts_of (numbered k) (pass {W = W} s o l m lg)) ((λ less. (before.0 k).0 (omega arith)), (λ more. (before.0 k).1 (omega arith))) in
           ((λ less. d ∙ once.0 (omega arith)), (λ more. d ∙ once.1 (omega arith)))
 
-      weighs : (f : Weight T) → p f + puts_of f (pass {W = W} s g i j (lg ++ In n x ∷ []))
-          ≡ q f + takes_of f (pass {W = W} s g i j (lg ++ In n x ∷ [])) + held (p each + puts_of each (pass {W = W} s g i j (lg ++ In n x ∷ []))) f (some (Some x))
+      weighs : (f : Weight T) → p f + puts_of f (pass {W = W} s g i m (lg ++ In n x ∷ []))
+          ≡ q f + takes_of f (pass {W = W} s g i m (lg ++ In n x ∷ [])) + held (p each + puts_of each (pass {W = W} s g i m (lg ++ In n x ∷ []))) f (some (Some x))
       weighs f =
           let e = now each in
           let d = now f in
           let c = out f in
           let w = before.1 f in
-          let y = one_number f n (p each + puts_of each (pass {W = W} s g i j (lg ++ In n x ∷ [])) - 1) x (omega arith) in
+          let y = one_number f n (p each + puts_of each (pass {W = W} s g i m (lg ++ In n x ∷ [])) - 1) x (omega arith) in
           omega arith
 
   -- the last message was taken out
-  pub take_logs : (n s o g : ℕ) (l m i j : Line W) (x : T) (lg : List (Transfer T)) → 0 < s → n ≡ p each + puts_of each (pass {W = W} s o l m lg)
-      → Logs p q (some (Some x)) none (pass {W = W} s o l m lg) (pass s g i j (lg ++ Out (n - 1) x ∷ []))
-  take_logs n s o g l m i j x lg some_part last before = (numbers, weighs)
+  pub take_logs : (n s o g : ℕ) (l i : Lines) (m : Rolls W) (x : T) (lg : List (Transfer T)) → 0 < s → n ≡ p each + puts_of each (pass {W = W} s o l m lg)
+      → Logs p q (some (Some x)) none (pass {W = W} s o l m lg) (pass s g i m (lg ++ Out (n - 1) x ∷ []))
+  take_logs n s o g l i m x lg some_part last before = (numbers, weighs)
     where
-      now : (f : Weight T) → p f + puts_of f (pass {W = W} s g i j (lg ++ Out (n - 1) x ∷ [])) ≡ p f + puts_of f (pass {W = W} s o l m lg)
+      now : (f : Weight T) → p f + puts_of f (pass {W = W} s g i m (lg ++ Out (n - 1) x ∷ [])) ≡ p f + puts_of f (pass {W = W} s o l m lg)
       now f = let e = puts_append f lg (Out (n - 1) x ∷ []) in let y = only_some s (puts f lg) some_part in let z = only_some s (puts f (lg ++ Out (n - 1) x ∷ [])) some_part in omega arith
 
-      out : (f : Weight T) → q f + takes_of f (pass {W = W} s g i j (lg ++ Out (n - 1) x ∷ [])) ≡ q f + takes_of f (pass {W = W} s o l m lg) + f (n - 1) x
+      out : (f : Weight T) → q f + takes_of f (pass {W = W} s g i m (lg ++ Out (n - 1) x ∷ [])) ≡ q f + takes_of f (pass {W = W} s o l m lg) + f (n - 1) x
       out f = let e = takes_append f lg (Out (n - 1) x ∷ []) in let y = only_some s (takes f lg) some_part in let z = only_some s (takes f (lg ++ Out (n - 1) x ∷ [])) some_part in omega arith
 
-      numbers : (k : ℕ) → Once (p each + puts_of each (pass {W = W} s g i j (lg ++ Out (n - 1) x ∷ []))) k (p (numbered k) + puts_of (numbered k) (pass {W = W} s g i j (lg ++ Out (n - 1) x ∷ [])))
+      numbers : (k : ℕ) → Once (p each + puts_of each (pass {W = W} s g i m (lg ++ Out (n - 1) x ∷ []))) k (p (numbered k) + puts_of (numbered k) (pass {W = W} s g i m (lg ++ Out (n - 1) x ∷ [])))
       numbers k =
           let e = now each in
           let d = now (numbered k) in
           ((λ less. d ∙ (before.0 k).0 (omega arith)), (λ more. d ∙ (before.0 k).1 (omega arith)))
 
-      weighs : (f : Weight T) → p f + puts_of f (pass {W = W} s g i j (lg ++ Out (n - 1) x ∷ [])) ≡ q f + takes_of f (pass {W = W} s g i j (lg ++ Out (n - 1) x ∷ [])) + 0
+      weighs : (f : Weight T) → p f + puts_of f (pass {W = W} s g i m (lg ++ Out (n - 1) x ∷ [])) ≡ q f + takes_of f (pass {W = W} s g i m (lg ++ Out (n - 1) x ∷ [])) + 0
       weighs f =
           let d = now f in
           let c = out f in
@@ -236,31 +237,31 @@ module _ {T W : Type 0} where
       (omega arith, (λ more. seen (omega arith)), (λ more. let z = drained (omega arith) in (z.0, still z)))
 
   -- a pass without the closing in what it did last
-  pub sights_same : (p o n : ℕ) (l m i j : Line W) (lg mg : List (Transfer T)) → ((f : Sight → ℕ) → sights f mg ≡ sights f lg) → (f : Sight → ℕ) → sights_of f (pass {W = W} p n i j mg) ≡ sights_of f (pass p o l m lg)
-  sights_same p o n l m i j lg mg same f k = only p (same f k)
+  pub sights_same : (p o n : ℕ) (l i : Lines) (m : Rolls W) (lg mg : List (Transfer T)) → ((f : Sight → ℕ) → sights f mg ≡ sights f lg) → (f : Sight → ℕ) → sights_of f (pass {W = W} p n i m mg) ≡ sights_of f (pass p o l m lg)
+  sights_same p o n l i m lg mg same f k = only p (same f k)
 
   -- a pass saw the channel closed, or closed and without a message
-  module _ (p o n : ℕ) (l m i j : Line W) (lg : List (Transfer T)) (some_part : 0 < p) (s : Sight) (f : Sight → ℕ) where
-    pub one_more : sights_of f (pass {W = W} p n i j (lg ++ Saw s ∷ [])) ≡ sights_of f (pass {W = W} p o l m lg) + f s
+  module _ (p o n : ℕ) (l i : Lines) (m : Rolls W) (lg : List (Transfer T)) (some_part : 0 < p) (s : Sight) (f : Sight → ℕ) where
+    pub one_more : sights_of f (pass {W = W} p n i m (lg ++ Saw s ∷ [])) ≡ sights_of f (pass {W = W} p o l m lg) + f s
     one_more =
         let a = sights_append f lg (Saw s ∷ []) in
         let y = only_some p (sights f lg) some_part in
         let z = only_some p (sights f (lg ++ Saw s ∷ [])) some_part in
         omega arith
 
-  pub sights_seen : (w p o n : ℕ) (l m i j : Line W) (lg : List (Transfer T)) → 0 < p → Sights w w true true (pass p o l m lg) (pass p n i j (lg ++ Saw Seen ∷ []))
-  sights_seen w p o n l m i j lg some_part k (one, seen, drained) =
-      let a = one_more p o n l m i j lg some_part Seen of_closer in
-      let d = one_more p o n l m i j lg some_part Seen of_drained in
+  pub sights_seen : (w p o n : ℕ) (l i : Lines) (m : Rolls W) (lg : List (Transfer T)) → 0 < p → Sights w w true true (pass p o l m lg) (pass p n i m (lg ++ Saw Seen ∷ []))
+  sights_seen w p o n l i m lg some_part k (one, seen, drained) =
+      let a = one_more p o n l i m lg some_part Seen of_closer in
+      let d = one_more p o n l i m lg some_part Seen of_drained in
       (omega arith, (λ more. refl), (λ more. drained (omega arith)))
 
-  pub sights_drained : (w p o n : ℕ) (l m i j : Line W) (lg : List (Transfer T)) → 0 < p → messages w ≡ 0 → Sights w w true true (pass p o l m lg) (pass p n i j (lg ++ Saw Drained ∷ []))
-  sights_drained w p o n l m i j lg some_part none_left k (one, seen, drained) =
-      let a = one_more p o n l m i j lg some_part Drained of_closer in
+  pub sights_drained : (w p o n : ℕ) (l i : Lines) (m : Rolls W) (lg : List (Transfer T)) → 0 < p → messages w ≡ 0 → Sights w w true true (pass p o l m lg) (pass p n i m (lg ++ Saw Drained ∷ []))
+  sights_drained w p o n l i m lg some_part none_left k (one, seen, drained) =
+      let a = one_more p o n l i m lg some_part Drained of_closer in
       (omega arith, (λ more. refl), (λ more. (refl, none_left)))
 
-  pub sights_shut : (w p o n : ℕ) (l m i j : Line W) (lg : List (Transfer T)) → 0 < p → Sights w w false true (pass p o l m lg) (pass p n i j (lg ++ Saw Shut ∷ []))
-  sights_shut w p o n l m i j lg some_part k (one, seen, drained) =
-      let a = one_more p o n l m i j lg some_part Shut of_closer in
-      let d = one_more p o n l m i j lg some_part Shut of_drained in
+  pub sights_shut : (w p o n : ℕ) (l i : Lines) (m : Rolls W) (lg : List (Transfer T)) → 0 < p → Sights w w false true (pass p o l m lg) (pass p n i m (lg ++ Saw Shut ∷ []))
+  sights_shut w p o n l i m lg some_part k (one, seen, drained) =
+      let a = one_more p o n l i m lg some_part Shut of_closer in
+      let d = one_more p o n l i m lg some_part Shut of_drained in
       (omega arith, (λ more. refl), (λ more. let z = drained (omega arith) in (refl, z.1)))

@@ -22,7 +22,7 @@ use Rattle.atomic_table.specs.Seated.{TableId}
 use Rattle.channel_wakeups.specs.declared.cells.SlotCells.{SlotCells}
 use Rattle.channel_wakeups.specs.declared.stage.Stage.{Stage}
 use Rattle.channel_wakeups.specs.declared.stage.Stage.TheVariants.{Free, Won, Filled, Caught, Emptied}
-use Rattle.channel_wakeups.specs.declared.rule.Line.{Line}
+use Rattle.channel_wakeups.specs.declared.rule.Lines.{Lines}
 use Rattle.channel_wakeups.specs.declared.rule.View.{View}
 use Rattle.channel_wakeups.specs.declared.rule.Transfer.{Transfer}
 use Rattle.channel_wakeups.specs.declared.rule.Transfer.TheVariants.{Out, Saw}
@@ -31,7 +31,7 @@ use Rattle.concurrent_queue.specs.declared.call.QueueMark.TheVariants as mark
 use Rattle.concurrent_queue.specs.declared.error.PushError.TheVariants as push_error
 use Rattle.concurrent_queue.specs.declared.error.PopError.TheVariants as pop_error
 use Rattle.channel_wakeups.specs.Log.{PutBefore, TookBefore, NotSeen, NotDrained}
-use Rattle.channel_wakeups.specs.Views.{pass, answering, resolved, ended, noted, closer}
+use Rattle.channel_wakeups.specs.Views.{pass, no_rolls, won_place, no_send, won_message, noted, closer, saw_open, saw_closed}
 use Rattle.channel_wakeups.specs.Stages.{filling, refused, shut_out, taking, resting, draining, giving}
 use Rattle.channel_wakeups.specs.Cells.{IsLeft, IsSame, HasCaught, Did, PushMissed, PopMissed, ShutBy, SeenBy, Pushed, Popped, HasClosed, HasAsked}
 
@@ -53,17 +53,17 @@ module _ {T : Type 0} where
   close_says unshut = (if unshut then record (ends (reply.Close true)) { mark = mark.Close } else ends (reply.Close false)).reply
 
 -- a push of this message, whose pass has these lines and this log
-module _ {T W : Type 0} (table : TableId) (p : ℕ) (l m : Line W) (log : List (Transfer T)) (x : T) where
+module _ {T W : Type 0} (table : TableId) (p : ℕ) (l : Lines) (log : List (Transfer T)) (x : T) where
   -- the call has this of the slot, and its pass knows this
   abbrev Has : Stage → View T W → SlotCells T W → Type 0
   Has g v c = IsLeft table g v c
 
   -- what its pass knows at the beginning, and once it has won the slot
   abbrev begun : View T W
-  begun = pass p 0 l m log
+  begun = pass p 0 l no_rolls log
 
   abbrev winner : View T W
-  winner = pass p 3 (answering l) (ended m) log
+  winner = pass p 3 (won_place l) no_rolls log
 
   -- where a push stands at each action
   abbrev PushAsks : QueueAsk T → SlotCells T W → Type 0
@@ -82,7 +82,7 @@ module _ {T W : Type 0} (table : TableId) (p : ℕ) (l m : Line W) (log : List (
   Pushes _ c = ⊥
 
   abbrev After : SlotCells T W → CallState T → Option (QueueReply T) → Type 0
-  After b at r = MatchOption r (Pushes at b) (λ y. Pushed table p l m log x y b)
+  After b at r = MatchOption r (Pushes at b) (λ y. Pushed table p l log x y b)
 
   after : (b : SlotCells T W) (c d : CallState T) (r s : Option (QueueReply T)) → c ≡ d → r ≡ s → After b d s → After b c r
   after b c d r s e f k = subst (λ (y : CallState T). After b y r) (sym e) (subst (λ (y : Option (QueueReply T)). After b d y) (sym f) k)
@@ -97,7 +97,7 @@ module _ {T W : Type 0} (table : TableId) (p : ℕ) (l m : Line W) (log : List (
 
   -- the channel was closed, whatever it held
   push_shut : (v : T) (w : ℕ) (j : Bool) (b : SlotCells T W) (c : CallState T) (r : Option (QueueReply T)) → clear w 4 ≡ false → clear w 2 ≡ j → c ≡ Single (after_push v (Err w)).action → r ≡ (after_push v (Err w)).reply
-      → Has Free (pass p 0 l (resolved m) (log ++ Saw Seen ∷ [])) b → After b c r
+      → Has Free (pass p 0 (no_send l) no_rolls (log ++ Saw Seen ∷ [])) b → After b c r
   push_shut v w j b c r e f is gives ends_so = push_found v w false j b c r e f is gives ends_so
 
   misses : (v : T) (w : ℕ) (a b : SlotCells T W) (c : CallState T) (r : Option (QueueReply T)) → v ≡ x → Has Free begun a → b.seat.table_id ≡ a.seat.table_id → PushMissed w a b → c ≡ Single (after_push v (Err w)).action → r ≡ (after_push v (Err w)).reply → After b c r
@@ -122,7 +122,7 @@ module _ {T W : Type 0} (table : TableId) (p : ℕ) (l m : Line W) (log : List (
   puts v a b (Ok u) c r same unseen (i, g, e) (j, (there, (s, w))) is gives = after b c _ r _ is gives (unseen, there ∙ (λ k. (0, Some (same k)) ∷ []), (j ∙ i, s, w ∙ e))
   puts v a b (Err w) c r eq unseen at (j, (back, same)) is gives = puts_again v w a b c r eq unseen (stays_at Won winner a b at j same) back is gives
 
-  unlocks : (a b : SlotCells T W) (w : ℕ) → NotSeen log → a.seat.me.1 ≡ (0, Some x) ∷ [] → Has Filled winner a → Did (bits_kept State 18446744073709551614 w) a b → Pushed table p l m log x (reply.Push (Ok tt)) b
+  unlocks : (a b : SlotCells T W) (w : ℕ) → NotSeen log → a.seat.me.1 ≡ (0, Some x) ∷ [] → Has Filled winner a → Did (bits_kept State 18446744073709551614 w) a b → Pushed table p l log x (reply.Push (Ok tt)) b
   unlocks a b w unseen there (i, g, e) (j, did) =
       let d = did refl (inl g) in
       let same : a.seat.me.0.log ≡ log = ap (λ (y : View T W). y.log) e in (
@@ -176,7 +176,7 @@ module _ {T W : Type 0} (table : TableId) (p : ℕ) (l m : Line W) (log : List (
   push_walk zero a at b to (e, f) st = subst (λ (c : SlotCells T W). Pushes to c) (sym e) (subst (λ (s : CallState T). Pushes s a) (sym f) st)
   push_walk (suc n) a at b to (y, c, (k, h), path) st = push_walk n y c b to path (push_step at a y c k None st h)
 
-  pub pushes : (a b : SlotCells T W) (r : QueueReply T) → Has Free begun a → WalkedFrom Did (Bounded 1) (Asked (ask.Push x)) a r b → Pushed table p l m log x r b
+  pub pushes : (a b : SlotCells T W) (r : QueueReply T) → Has Free begun a → WalkedFrom Did (Bounded 1) (Asked (ask.Push x)) a r b → Pushed table p l log x r b
   pushes a b r st (n, (d, y, z, k, path, h)) = push_step y d b z k (Some r) (push_walk n a (Asked (ask.Push x)) d y path (refl, st)) h
 
 -- a slot has one message
@@ -188,24 +188,24 @@ only_one : {T : Type 0} (x y : T) → ◌≡◌ {A = List (ℕ × Option T)} ((0
 only_one x y e = ap (first x) e
 
 -- a pop whose pass has these lines and this log
-module _ {T W : Type 0} (table : TableId) (p : ℕ) (a h : Line W) (log : List (Transfer T)) where
+module _ {T W : Type 0} (table : TableId) (p : ℕ) (l : Lines) (log : List (Transfer T)) where
   abbrev Holds : Stage → View T W → SlotCells T W → Type 0
   Holds g v c = IsLeft table g v c
 
   -- it won a message, which is at hand and in the log; and it took this message
   abbrev HoldsOne : SlotCells T W → Type 0
-  HoldsOne c = NotDrained log × ((x : T) × (k : ℕ) × TookBefore k log × (c.seat.me.1 ≡ (0, Some x) ∷ []) × Holds Caught (pass p 1 (resolved a) (answering h) (log ++ Out k x ∷ [])) c)
+  HoldsOne c = NotDrained log × ((x : T) × (k : ℕ) × TookBefore k log × (c.seat.me.1 ≡ (0, Some x) ∷ []) × Holds Caught (pass p 1 (won_message l) no_rolls (log ++ Out k x ∷ [])) c)
 
   abbrev HasTakenOut : T → SlotCells T W → Type 0
-  HasTakenOut x c = NotDrained log × ((k : ℕ) × TookBefore k log × (c.seat.me.1 ≡ (0, None) ∷ []) × Holds Emptied (pass p 1 (resolved a) (answering h) (log ++ Out k x ∷ [])) c)
+  HasTakenOut x c = NotDrained log × ((k : ℕ) × TookBefore k log × (c.seat.me.1 ≡ (0, None) ∷ []) × Holds Emptied (pass p 1 (won_message l) no_rolls (log ++ Out k x ∷ [])) c)
 
   -- where a pop stands at each action
   abbrev PopAsks : QueueAsk T → SlotCells T W → Type 0
-  PopAsks ask.Pop c = Holds Free (pass p 0 a h log) c
+  PopAsks ask.Pop c = Holds Free (pass p 0 l no_rolls log) c
   PopAsks _ c = ⊥
 
   abbrev PopActs : SingleAction T → SlotCells T W → Type 0
-  PopActs (one.Pop x) c = ((x ≡ 2) ⊎ (x ≡ 6)) × Holds Free (pass p 0 a h log) c
+  PopActs (one.Pop x) c = ((x ≡ 2) ⊎ (x ≡ 6)) × Holds Free (pass p 0 l no_rolls log) c
   PopActs one.PopTake c = HoldsOne c
   PopActs (one.PopUnlock v) c = HasTakenOut v c
   PopActs _ c = ⊥
@@ -216,7 +216,7 @@ module _ {T W : Type 0} (table : TableId) (p : ℕ) (a h : Line W) (log : List (
   Pops _ c = ⊥
 
   abbrev Then : SlotCells T W → CallState T → Option (QueueReply T) → Type 0
-  Then c at r = MatchOption r (Pops at c) (λ x. Popped table p a h log x c)
+  Then c at r = MatchOption r (Pops at c) (λ x. Popped table p l log x c)
 
   lands : (b : SlotCells T W) (c d : CallState T) (r s : Option (QueueReply T)) → c ≡ d → r ≡ s → Then b d s → Then b c r
   lands b c d r s e f k = subst (λ (x : CallState T). Then b x r) (sym e) (subst (λ (x : Option (QueueReply T)). Then b d x) (sym f) k)
@@ -227,25 +227,25 @@ module _ {T W : Type 0} (table : TableId) (p : ℕ) (a h : Line W) (log : List (
   found w i j b c r e f is gives k =
       lands b c _ r _ (is ∙ (λ n. Single (pop_goes {T = T} (bit_and w 18446744073709551614) (e n) (f n)))) (gives ∙ (λ n. pop_says {T = T} (bit_and w 18446744073709551614) (e n) (f n))) k
 
-  misses_one : (w : ℕ) (b c : SlotCells T W) (s : CallState T) (r : Option (QueueReply T)) → Holds Free (pass p 0 a h log) b → c.seat.table_id ≡ b.seat.table_id → PopMissed w b c → s ≡ Single (after_pop {T = T} (Err w)).action → r ≡ (after_pop {T = T} (Err w)).reply → Then c s r
+  misses_one : (w : ℕ) (b c : SlotCells T W) (s : CallState T) (r : Option (QueueReply T)) → Holds Free (pass p 0 l no_rolls log) b → c.seat.table_id ≡ b.seat.table_id → PopMissed w b c → s ≡ Single (after_pop {T = T} (Err w)).action → r ≡ (after_pop {T = T} (Err w)).reply → Then c s r
   misses_one w b c s r (i, g, e) j (inl (full, next, (u, y))) is gives = found w (clear w 4) false c s r refl full is gives (next, (j ∙ i, u ∙ g, y ∙ e))
   misses_one w b c s r (i, g, e) j (inr (inl (empty, unshut, unseen, u, y))) is gives =
       found w true true c s r unshut empty is gives (subst (λ (z : List (Transfer T)). NotSeen z) (ap (λ (z : View T W). z.log) e) unseen, (j ∙ i, u ∙ g, y ∙ ap (λ (x : View T W). resting x) e))
   misses_one w b c s r (i, g, e) j (inr (inr (empty, shut, u, y))) is gives = found w false true c s r shut empty is gives (j ∙ i, u ∙ g, y ∙ ap (λ (x : View T W). draining x) e)
 
-  caught : (b c : SlotCells T W) → Holds Free (pass p 0 a h log) b → c.seat.table_id ≡ b.seat.table_id → HasCaught b.seat.me.0 c → HoldsOne c
+  caught : (b c : SlotCells T W) → Holds Free (pass p 0 l no_rolls log) b → c.seat.table_id ≡ b.seat.table_id → HasCaught b.seat.me.0 c → HoldsOne c
   caught b c (i, g, e) j (there, d) =
       let same : b.seat.me.0.log ≡ log = ap (λ (x : View T W). x.log) e in (
         subst (λ (l : List (Transfer T)). NotDrained l) same there,
         (d.0, d.1, subst (λ (l : List (Transfer T)). TookBefore d.1 l) same d.2, d.3, (j ∙ i, d.4.0, d.4.1 ∙ ap (λ (x : View T W). taking d.1 d.0 x) e)),
       )
 
-  finds : (b c : SlotCells T W) (o : Result ℕ ℕ) (s : CallState T) (r : Option (QueueReply T)) → Holds Free (pass p 0 a h log) b → Did (exchanged State 2 1 o) b c
+  finds : (b c : SlotCells T W) (o : Result ℕ ℕ) (s : CallState T) (r : Option (QueueReply T)) → Holds Free (pass p 0 l no_rolls log) b → Did (exchanged State 2 1 o) b c
       → s ≡ Single (after_pop {T = T} o).action → r ≡ (after_pop {T = T} o).reply → Then c s r
   finds b c (Ok w) s r at (j, did) is gives = lands c s _ r _ is gives (caught b c at j (did.1 refl refl))
   finds b c (Err w) s r at (j, did) is gives = misses_one w b c s r at j (did.1 refl refl) is gives
 
-  finds_last : (b c : SlotCells T W) (o : Result ℕ ℕ) (s : CallState T) (r : Option (QueueReply T)) → Holds Free (pass p 0 a h log) b → Did (exchanged State 6 5 o) b c
+  finds_last : (b c : SlotCells T W) (o : Result ℕ ℕ) (s : CallState T) (r : Option (QueueReply T)) → Holds Free (pass p 0 l no_rolls log) b → Did (exchanged State 6 5 o) b c
       → s ≡ Single (after_pop {T = T} o).action → r ≡ (after_pop {T = T} o).reply → Then c s r
   finds_last b c (Ok w) s r at (j, did) is gives = lands c s _ r _ is gives (caught b c at j (did.2 refl refl))
   finds_last b c (Err w) s r at (j, did) is gives = misses_one w b c s r at j (did.2 refl refl) is gives
@@ -254,13 +254,13 @@ module _ {T W : Type 0} (table : TableId) (p : ℕ) (a h : Line W) (log : List (
       → s ≡ Single (after_take one.PopUnlock one.PopTake o).action → r ≡ (after_take one.PopUnlock one.PopTake o).reply → Then c s r
   takes b c (Some v) s r (more, (x, k, before, there, (i, g, e))) (j, (was, none_there, (u, w))) is gives =
       let same : x ≡ v = only_one x v (sym there ∙ was) in
-      lands c s _ r _ is gives (more, (k, before, none_there, (j ∙ i, u, w ∙ e ∙ (λ l. pass p 1 (resolved a) (answering h) (log ++ Out k (same l) ∷ [])))))
+      lands c s _ r _ is gives (more, (k, before, none_there, (j ∙ i, u, w ∙ e ∙ (λ z. pass p 1 (won_message l) no_rolls (log ++ Out k (same z) ∷ [])))))
   takes b c None s r (more, (x, k, before, there, (i, g, e))) (j, (stays_there, (u, w))) is gives = lands c s _ r _ is gives (more, (x, k, before, stays_there ∙ there, (j ∙ i, u ∙ g, w ∙ e)))
 
-  gives_back : (x : T) (b c : SlotCells T W) (w : ℕ) → HasTakenOut x b → Did (bits_kept State 18446744073709551614 w) b c → Popped table p a h log (reply.Pop (Ok x)) c
+  gives_back : (x : T) (b c : SlotCells T W) (w : ℕ) → HasTakenOut x b → Did (bits_kept State 18446744073709551614 w) b c → Popped table p l log (reply.Pop (Ok x)) c
   gives_back x b c w (more, (k, before, there, (i, g, e))) (j, did) = let d = did refl (inr g) in (more, (k, before, (j ∙ i, d.3.0, d.3.1 ∙ (λ l. giving d.0 (there l) (e l)))))
 
-  tries_at : (n : ℕ) (b c : SlotCells T W) (o : Result ℕ ℕ) (s : CallState T) (r : Option (QueueReply T)) → (n ≡ 2) ⊎ (n ≡ 6) → Holds Free (pass p 0 a h log) b → Did (exchanged State n (bit_and (bit_or n 1) 18446744073709551613) o) b c
+  tries_at : (n : ℕ) (b c : SlotCells T W) (o : Result ℕ ℕ) (s : CallState T) (r : Option (QueueReply T)) → (n ≡ 2) ⊎ (n ≡ 6) → Holds Free (pass p 0 l no_rolls log) b → Did (exchanged State n (bit_and (bit_or n 1) 18446744073709551613) o) b c
       → s ≡ Single (after_pop {T = T} o).action → r ≡ (after_pop {T = T} o).reply → Then c s r
   tries_at n b c o s r (inl is) st did = finds b c o s r st (subst (λ (x : ℕ). Did (exchanged State x (bit_and (bit_or x 1) 18446744073709551613) o) b c) is did)
   tries_at n b c o s r (inr is) st did = finds_last b c o s r st (subst (λ (x : ℕ). Did (exchanged State x (bit_and (bit_or x 1) 18446744073709551613) o) b c) is did)
@@ -306,13 +306,13 @@ module _ {T W : Type 0} (table : TableId) (p : ℕ) (a h : Line W) (log : List (
   pop_walk zero b at c to (e, f) st = subst (λ (d : SlotCells T W). Pops to d) (sym e) (subst (λ (s : CallState T). Pops s b) (sym f) st)
   pop_walk (suc n) b at c to (y, d, (m, s), path) st = pop_walk n y d c to path (pop_step at b y d m None st s)
 
-  pub pops : (b c : SlotCells T W) (r : QueueReply T) → Holds Free (pass p 0 a h log) b → WalkedFrom Did (Bounded 1) (Asked ask.Pop) b r c → Popped table p a h log r c
+  pub pops : (b c : SlotCells T W) (r : QueueReply T) → Holds Free (pass p 0 l no_rolls log) b → WalkedFrom Did (Bounded 1) (Asked ask.Pop) b r c → Popped table p l log r c
   pops b c r st (n, (x, y, z, m, path, s)) = pop_step y x c z m (Some r) (pop_walk n b (Asked ask.Pop) x y path st) s
 
 -- a call that closes, or asks whether the channel is closed, whose pass has these lines and this log: its first step answers
-module _ {T W : Type 0} (table : TableId) (p : ℕ) (l m : Line W) (log : List (Transfer T)) where
+module _ {T W : Type 0} (table : TableId) (p : ℕ) (l : Lines) (log : List (Transfer T)) where
   abbrev Stays : SlotCells T W → Type 0
-  Stays c = IsLeft table Free (pass p 0 l m log) c
+  Stays c = IsLeft table Free (pass p 0 l no_rolls log) c
 
   abbrev CloseAsks : QueueAsk T → SlotCells T W → Type 0
   CloseAsks ask.Close c = Stays c
@@ -320,8 +320,8 @@ module _ {T W : Type 0} (table : TableId) (p : ℕ) (l m : Line W) (log : List (
   CloseAsks _ c = ⊥
 
   abbrev Answers : QueueAsk T → QueueReply T → SlotCells T W → Type 0
-  Answers ask.Close r c = HasClosed table p l m log r c
-  Answers ask.IsClosed r c = HasAsked table p l m log r c
+  Answers ask.Close r c = HasClosed table p l log r c
+  Answers ask.IsClosed r c = HasAsked table p l log r c
   Answers _ r c = ⊥
 
   -- such a call answers at its first step, so it never stands anywhere else
@@ -334,14 +334,15 @@ module _ {T W : Type 0} (table : TableId) (p : ℕ) (l m : Line W) (log : List (
   close_made : (w : ℕ) (a b : SlotCells T W) (r : Option (QueueReply T)) → Stays a → b.seat.table_id ≡ a.seat.table_id → ShutBy w a b → r ≡ (after_close {T = T} w).reply → Ends ask.Close b (Asked ask.Close) r
   close_made w a b r (i, g, e) j (inl (unshut, unseen, s, u)) gives =
       closes_by w true b r unshut gives (subst (λ (y : List (Transfer T)). NotSeen y) (ap (λ (y : View T W). y.log) e) unseen, (j ∙ i, s ∙ g, u ∙ ap (λ (y : View T W). closer y) e))
-  close_made w a b r (i, g, e) j (inr (shut, s, u)) gives = closes_by w false b r shut gives (j ∙ i, s ∙ g, u ∙ ap (λ (y : View T W). noted Seen y) e)
+  close_made w a b r (i, g, e) j (inr (shut, s, u)) gives = closes_by w false b r shut gives (j ∙ i, s ∙ g, u ∙ ap (λ (y : View T W). noted y) e)
 
   asks_by : (w : ℕ) (i : Bool) (b : SlotCells T W) (r : Option (QueueReply T)) → clear w 4 ≡ i → r ≡ Some (reply.Flag (not (clear w 4))) → Ends ask.IsClosed b (Asked ask.IsClosed) (Some (reply.Flag (not i))) → Ends ask.IsClosed b (Asked ask.IsClosed) r
   asks_by w i b r e gives k = subst (λ (x : Option (QueueReply T)). Ends ask.IsClosed b (Asked ask.IsClosed) x) (sym (gives ∙ (λ n. Some (reply.Flag (not (e n)))))) k
 
   ask_made : (w : ℕ) (a b : SlotCells T W) (r : Option (QueueReply T)) → Stays a → b.seat.table_id ≡ a.seat.table_id → SeenBy w a b → r ≡ Some (reply.Flag (not (clear w 4))) → Ends ask.IsClosed b (Asked ask.IsClosed) r
-  ask_made w a b r (i, g, e) j (inl (unshut, unseen, (s, u))) gives = asks_by w true b r unshut gives (subst (λ (y : List (Transfer T)). NotSeen y) (ap (λ (y : View T W). y.log) e) unseen, (j ∙ i, s ∙ g, u ∙ e))
-  ask_made w a b r (i, g, e) j (inr (shut, s, u)) gives = asks_by w false b r shut gives (j ∙ i, s ∙ g, u ∙ ap (λ (y : View T W). noted Seen y) e)
+  ask_made w a b r (i, g, e) j (inl (unshut, unseen, s, u)) gives =
+      asks_by w true b r unshut gives (subst (λ (y : List (Transfer T)). NotSeen y) (ap (λ (y : View T W). y.log) e) unseen, (j ∙ i, s ∙ g, u ∙ ap (λ (y : View T W). saw_open y) e))
+  ask_made w a b r (i, g, e) j (inr (shut, s, u)) gives = asks_by w false b r shut gives (j ∙ i, s ∙ g, u ∙ ap (λ (y : View T W). saw_closed y) e)
 
   first_step : (q : QueueAsk T) (a b : SlotCells T W) (c : CallState T) (k : QueueMark) (r : Option (QueueReply T)) → CloseAsks q a → StateMakes Did (Bounded 1) a (Asked q) b (record { action = c; mark = k; reply = r }) → Ends q b (Asked q) r
   first_step ask.Close a b c k r at (y, (o, (j, did), e), f) = close_made o a b r at j (did refl at.1) ((λ n. (f n).reply) ∙ (λ n. (e n).reply))
@@ -361,8 +362,8 @@ module _ {T W : Type 0} (table : TableId) (p : ℕ) (l m : Line W) (log : List (
       first_step q a b z k (Some r) at (subst (λ (c : SlotCells T W). StateMakes Did (Bounded 1) c (Asked q) b (record { action = z; mark = k; reply = Some r })) e (subst (λ (s : CallState T). StateMakes Did (Bounded 1) d s b (record { action = z; mark = k; reply = Some r })) f made))
   one_step q (suc n) a d b y z k r at (u, c, (o, h), path) made = absurd (first_step q a u c o None at h)
 
-  pub closes : (a b : SlotCells T W) (r : QueueReply T) → Stays a → WalkedFrom Did (Bounded 1) (Asked ask.Close) a r b → HasClosed table p l m log r b
+  pub closes : (a b : SlotCells T W) (r : QueueReply T) → Stays a → WalkedFrom Did (Bounded 1) (Asked ask.Close) a r b → HasClosed table p l log r b
   closes a b r at (n, (d, y, z, k, path, h)) = one_step ask.Close n a d b y z k r at path h
 
-  pub asks : (a b : SlotCells T W) (r : QueueReply T) → Stays a → WalkedFrom Did (Bounded 1) (Asked ask.IsClosed) a r b → HasAsked table p l m log r b
+  pub asks : (a b : SlotCells T W) (r : QueueReply T) → Stays a → WalkedFrom Did (Bounded 1) (Asked ask.IsClosed) a r b → HasAsked table p l log r b
   asks a b r at (n, (d, y, z, k, path, h)) = one_step ask.IsClosed n a d b y z k r at path h

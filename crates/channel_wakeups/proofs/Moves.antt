@@ -8,19 +8,23 @@ use prog.Atomic.{either}
 use Rattle.atomic_table.specs.Table.{Me, Act, Valid, carried_after, homes_after, step, keeps, takes, gives, Allows}
 use Rattle.atomic_table.proofs.Lists.{set_again}
 use Rattle.concurrent_queue.specs.machine.Single.{clear}
+use Rattle.channel_wakeups.specs.declared.listeners.Listener.{Listener}
 use Rattle.channel_wakeups.specs.declared.rule.Line.{Line}
+use Rattle.channel_wakeups.specs.declared.rule.Lines.{Lines}
+use Rattle.channel_wakeups.specs.declared.rule.Rolls.{Rolls}
 use Rattle.channel_wakeups.specs.declared.rule.View.{View}
 use Rattle.channel_wakeups.specs.declared.rule.Transfer.{Transfer}
 use Rattle.channel_wakeups.specs.declared.rule.Transfer.TheVariants.{In, Out, Saw}
 use Rattle.channel_wakeups.specs.declared.rule.Sight.{Sight}
 use Rattle.channel_wakeups.specs.declared.rule.Sight.TheVariants.{Shut, Seen, Drained}
-use Rattle.channel_wakeups.specs.Lists.{total}
+use Rattle.channel_wakeups.specs.Lists.{total, listed}
 use Rattle.channel_wakeups.specs.Log.{Weight, puts, each, held}
-use Rattle.channel_wakeups.specs.Views.{Side, of_receives, of_sends, of, pass, changed, answering, resolved, ended, owing, noted, closer, only, lists_of, locks_of, owns_of, puts_of, word_of, shut_count, wanted, messages, places, IsSlot, empty, full, out, Ordered, Kept, Woken, Known, fills, wins, unlocks, shuts, sees, Fair}
-use Rattle.channel_wakeups.proofs.Sums.{only_some, others, others_free, was, turned, Goes, Closes, Tickets, Logs, put_else, took_else}
+use Rattle.channel_wakeups.specs.Views.{Side, Duty, to_one, to_all, of, roll, listing, with_line, with_roll, pass, changed, won_place, no_place, no_send, won_message, no_message, no_more, all_owing, still_open, found_closed, closer, saw_open, only, is_key, here_of, listed_of, tickets_of, locks_of, owns_of, puts_of, word_of, wanted, messages, places, IsSlot, empty, full, out, Ordered, Kept, Woken, Known, fills, wins, unlocks, shuts, sees, Fair}
+use Rattle.channel_wakeups.proofs.Sums.{only_some, others, others_free, was, turned, Goes, Tickets, Logs, put_else, took_else}
 use Rattle.channel_wakeups.proofs.Logs.{puts_append, same_logs, saw_logs, put_logs, take_logs, comes_next, goes_next, not_seen, not_drained, sights_stay, sights_same, moved, sights_seen, sights_drained, sights_shut}
 use Rattle.channel_wakeups.proofs.History.{agrees_append, agrees_saw, order_stays, order_grows}
-use Rattle.channel_wakeups.proofs.Laws.{no_home, no_true, no_empty, fills_place, wins_place, filled_place, emptied_place, fills_goes, wins_goes, refused_goes, rests_goes, shut_out_goes, drains_goes, shuts_goes, gives_goes, open_closes, shuts_closes, kept_closes, fair_goes, fair_closes, fair_tickets, turned_kept}
+use Rattle.channel_wakeups.proofs.Sides.{of_with, roll_with, which, Untouched}
+use Rattle.channel_wakeups.proofs.Laws.{no_home, no_true, no_empty, fills_place, wins_place, filled_place, emptied_place, fills_turns, refused_turns, shut_out_turns, wins_turns, rests_turns, drains_turns, shuts_turns, open_turns, closed_turns, gives_turns, Turns, SameTickets, turned_kept, lasts_by, fair_lasts, fair_tickets}
 
 -- what the operations make of the word
 abbrev swap : ℕ → ℕ → ℕ → ℕ
@@ -71,40 +75,40 @@ module _ {T W : Type 0} where
 
   -- ---- the history, where a message is taken out, and where one is put in
 
-  takes_order : (p o : ℕ) (l m i j : Line W) (lg : List (Transfer T)) (x : T) (id : ℕ) (views : List (View T W)) → 0 < p → get_elem? views id ≡ some (pass p 0 l m lg)
-      → Ordered (some (Some x)) views → Ordered none (set views id (pass p o i j (lg ++ Out (total (puts_of each) views - 1) x ∷ [])))
-  takes_order p o l m i j lg x id views some_part at =
+  takes_order : (p o : ℕ) (l i : Lines) (m : Rolls W) (lg : List (Transfer T)) (x : T) (id : ℕ) (views : List (View T W)) → 0 < p → get_elem? views id ≡ some (pass p 0 l m lg)
+      → Ordered (some (Some x)) views → Ordered none (set views id (pass p o i m (lg ++ Out (total (puts_of each) views - 1) x ∷ [])))
+  takes_order p o l i m lg x id views some_part at =
       let e = puts_append each lg (Out (total (puts_of each) views - 1) x ∷ []) in
       let y = only_some p (puts each lg) some_part in
       let z = only_some p (puts each (lg ++ Out (total (puts_of each) views - 1) x ∷ [])) some_part in
-      order_stays views id (pass p 0 l m lg) (pass p o i j (lg ++ Out (total (puts_of each) views - 1) x ∷ [])) at (some (Some x)) none (omega arith)
+      order_stays views id (pass p 0 l m lg) (pass p o i m (lg ++ Out (total (puts_of each) views - 1) x ∷ [])) at (some (Some x)) none (omega arith)
       (λ h i b. agrees_append h lg (Out (total (puts_of each) views - 1) x ∷ []) b (i.1 x refl, tt)) (λ y e. absurd (no_home (Some y) (sym e)))
 
-  gives_order : (p o : ℕ) (l m i j : Line W) (lg : List (Transfer T)) (x : T) (id : ℕ) (views : List (View T W)) → 0 < p → get_elem? views id ≡ some (pass p o l m lg)
-      → Ordered none views → Ordered (some (Some x)) (set views id (pass p 0 i j (lg ++ In (total (puts_of each) views) x ∷ [])))
-  gives_order p o l m i j lg x id views some_part at =
+  gives_order : (p o : ℕ) (l i : Lines) (m : Rolls W) (lg : List (Transfer T)) (x : T) (id : ℕ) (views : List (View T W)) → 0 < p → get_elem? views id ≡ some (pass p o l m lg)
+      → Ordered none views → Ordered (some (Some x)) (set views id (pass p 0 i m (lg ++ In (total (puts_of each) views) x ∷ [])))
+  gives_order p o l i m lg x id views some_part at =
       let e = puts_append each lg (In (total (puts_of each) views) x ∷ []) in
       let y = only_some p (puts each lg) some_part in
       let z = only_some p (puts each (lg ++ In (total (puts_of each) views) x ∷ [])) some_part in
-      order_grows views id (pass p o l m lg) (pass p 0 i j (lg ++ In (total (puts_of each) views) x ∷ [])) at none (total (puts_of each) views) x refl (omega arith) refl
+      order_grows views id (pass p o l m lg) (pass p 0 i m (lg ++ In (total (puts_of each) views) x ∷ [])) at none (total (puts_of each) views) x refl (omega arith) refl
 
   -- the log stays, and the slot with it
-  logs_stay : (p o n : ℕ) (l m i j : Line W) (lg : List (Transfer T)) (s r : home.Option (Option T)) (id : ℕ) (views : List (View T W)) → ((k : ℕ) (f : Weight T) → held k f s ≡ held k f r)
-      → Logs (put_else views id) (took_else views id) s r (pass p o l m lg) (pass p n i j lg)
-  logs_stay p o n l m i j lg s r id views hold = same_logs W (put_else views id) (took_else views id) s r (pass p o l m lg) (pass p n i j lg) hold refl refl
+  logs_stay : (p o n : ℕ) (l i : Lines) (m : Rolls W) (lg : List (Transfer T)) (s r : home.Option (Option T)) (id : ℕ) (views : List (View T W)) → ((k : ℕ) (f : Weight T) → held k f s ≡ held k f r)
+      → Logs (put_else views id) (took_else views id) s r (pass p o l m lg) (pass p n i m lg)
+  logs_stay p o n l i m lg s r id views hold = same_logs W (put_else views id) (took_else views id) s r (pass p o l m lg) (pass p n i m lg) hold refl refl
 
-  order_same : (p o n : ℕ) (l m i j : Line W) (lg : List (Transfer T)) (s r : home.Option (Option T)) (id : ℕ) (views : List (View T W)) → get_elem? views id ≡ some (pass p o l m lg) → ((x : T) → r ≡ some (Some x) → s ≡ some (Some x))
-      → Ordered s views → Ordered r (set views id (pass p n i j lg))
-  order_same p o n l m i j lg s r id views at slot = order_stays views id (pass p o l m lg) (pass p n i j lg) at s r refl (λ h i a. a) slot
+  order_same : (p o n : ℕ) (l i : Lines) (m : Rolls W) (lg : List (Transfer T)) (s r : home.Option (Option T)) (id : ℕ) (views : List (View T W)) → get_elem? views id ≡ some (pass p o l m lg) → ((x : T) → r ≡ some (Some x) → s ≡ some (Some x))
+      → Ordered s views → Ordered r (set views id (pass p n i m lg))
+  order_same p o n l i m lg s r id views at slot = order_stays views id (pass p o l m lg) (pass p n i m lg) at s r refl (λ h i a. a) slot
 
-  order_saw : (p o n : ℕ) (l m i j : Line W) (lg : List (Transfer T)) (e : Sight) (s : home.Option (Option T)) (id : ℕ) (views : List (View T W)) → get_elem? views id ≡ some (pass p o l m lg) → Ordered s views → Ordered s (set views id (pass p n i j (lg ++ Saw e ∷ [])))
-  order_saw p o n l m i j lg e s id views at =
-      order_stays views id (pass p o l m lg) (pass p n i j (lg ++ Saw e ∷ [])) at s s (let a = puts_append each lg (Saw e ∷ []) in let b : puts each (lg ++ Saw e ∷ []) ≡ puts each lg = omega arith in (λ k. only p (b k)))
+  order_saw : (p o n : ℕ) (l i : Lines) (m : Rolls W) (lg : List (Transfer T)) (e : Sight) (s : home.Option (Option T)) (id : ℕ) (views : List (View T W)) → get_elem? views id ≡ some (pass p o l m lg) → Ordered s views → Ordered s (set views id (pass p n i m (lg ++ Saw e ∷ [])))
+  order_saw p o n l i m lg e s id views at =
+      order_stays views id (pass p o l m lg) (pass p n i m (lg ++ Saw e ∷ [])) at s s (let a = puts_append each lg (Saw e ∷ []) in let b : puts each (lg ++ Saw e ∷ []) ≡ puts each lg = omega arith in (λ k. only p (b k)))
       (λ h i a. agrees_saw h lg e a) (λ x e. e)
 
   -- ---- a push wins the empty slot, or finds none
 
-  module _ (slots id p : ℕ) (l m : Line W) (lg : List (Transfer T)) (some_part : 0 < p) where
+  module _ (slots id p : ℕ) (l : Lines) (m : Rolls W) (lg : List (Transfer T)) (some_part : 0 < p) where
     abbrev Filled : ℕ → Known T W → Type 0
     Filled = fills {T = T} (step slots 0 0 3 none) (pass p 0 l m lg, [])
 
@@ -114,7 +118,7 @@ module _ {T W : Type 0} where
     -- it found no place
     fills_none : (n : ℕ) (slot : home.Option (Option T)) (views : List (View T W)) → get_elem? views id ≡ some (pass p 0 l m lg) → fill n ≡ n → places n ≡ 0 → (n ≡ 0 → ⊥) → clear n 4 ≡ true → clear n 2 ≡ false → Kept n false slot views → Fill views n slot
     fills_none n slot views at same none_left other is_open is_full k = (
-      pass p 0 l (ended m) lg,
+      pass p 0 (no_place l) m lg,
       keeps,
       slot,
       n,
@@ -122,16 +126,16 @@ module _ {T W : Type 0} where
       tt,
       refl,
       same,
-      turned_kept n n false false views id (pass p 0 l m lg) (pass p 0 l (ended m) lg) at slot slot refl (refl, refl, refl) (refl, refl, refl) (λ a o z i. i) (refused_goes T W n p l m lg none_left)
-          (λ s. open_closes T W s (pass p 0 l m lg) (pass p 0 l (ended m) lg)) (logs_stay p 0 0 l m l (ended m) lg slot slot id views (λ n f. refl)) (order_same p 0 0 l m l (ended m) lg slot slot id views at (λ x e. e))
-          (sights_stay n n false (pass p 0 l m lg) (pass p 0 l (ended m) lg) (λ f. refl) (λ z. z.1)) k,
+      turned_kept n n false false views id p 0 0 l (no_place l) m lg lg some_part at slot slot (refl, refl, refl, refl) (λ a o z i. i) (refused_turns n l none_left)
+          (logs_stay p 0 0 l (no_place l) m lg slot slot id views (λ n f. refl)) (order_same p 0 0 l (no_place l) m lg slot slot id views at (λ x e. e))
+          (sights_stay n n false (pass p 0 l m lg) (pass p 0 (no_place l) m lg) (λ f. refl) (λ z. z.1)) k,
       inr (other, inr (inl (is_open, is_full, not_seen views id (pass p 0 l m lg) at some_part (messages n) k.closings, refl))),
     )
 
     -- it found the channel closed
     fills_closed : (n : ℕ) (slot : home.Option (Option T)) (views : List (View T W)) → get_elem? views id ≡ some (pass p 0 l m lg) → fill (n + 4) ≡ n + 4 → (n + 4 ≡ 0 → ⊥) → clear (n + 4) 4 ≡ false → Kept n true slot views → Fill views (n + 4) slot
     fills_closed n slot views at same other is_closed k = (
-      pass p 0 l (resolved m) (lg ++ Saw Seen ∷ []),
+      pass p 0 (no_send l) m (lg ++ Saw Seen ∷ []),
       keeps,
       slot,
       n,
@@ -139,17 +143,16 @@ module _ {T W : Type 0} where
       tt,
       refl,
       same,
-      turned_kept n n true true views id (pass p 0 l m lg) (pass p 0 l (resolved m) (lg ++ Saw Seen ∷ [])) at slot slot refl (refl, refl, refl) (refl, refl, refl) (λ a o z i. i) (shut_out_goes T W n p l m lg (lg ++ Saw Seen ∷ []))
-          (kept_closes T W true p 0 0 l m l (resolved m) lg (lg ++ Saw Seen ∷ []) (refl, refl, refl, refl) (refl, refl, refl, refl))
-          (saw_logs W (put_else views id) (took_else views id) slot slot Seen p 0 0 l m l (resolved m) lg (λ n f. refl)) (order_saw p 0 0 l m l (resolved m) lg Seen slot id views at)
-          (sights_seen n p 0 0 l m l (resolved m) lg some_part) k,
+      turned_kept n n true true views id p 0 0 l (no_send l) m lg (lg ++ Saw Seen ∷ []) some_part at slot slot (refl, refl, refl, refl) (λ a o z i. i) (shut_out_turns n l)
+          (saw_logs W (put_else views id) (took_else views id) slot slot Seen p 0 0 l (no_send l) m lg (λ n f. refl)) (order_saw p 0 0 l (no_send l) m lg Seen slot id views at)
+          (sights_seen n p 0 0 l (no_send l) m lg some_part) k,
       inr (other, inl (is_closed, refl)),
     )
 
     fills_at : (base : ℕ) (shut : Bool) (slot : home.Option (Option T)) (views : List (View T W)) → Kept base shut slot views → get_elem? views id ≡ some (pass p 0 l m lg) → IsSlot base slot (total locks_of views) (total owns_of views) → Fill views (word_of base shut) slot
     fills_at base false slot views k at (empty e d c) =
         as_is fill Filled (pass p 0 l m lg, []) id views base 0 false slot (some None) e d (λ kn. (
-          pass p 3 (answering l) (ended m) lg,
+          pass p 3 (won_place l) m lg,
           takes 0 None,
           none,
           3,
@@ -157,8 +160,8 @@ module _ {T W : Type 0} where
           refl,
           refl,
           refl,
-          turned_kept 0 3 false false views id (pass p 0 l m lg) (pass p 3 (answering l) (ended m) lg) at (some None) none refl (refl, refl, refl) (refl, refl, refl) (fills_place T W p l m (answering l) (ended m) lg some_part) (fills_goes T W p l m lg some_part)
-              (λ s. open_closes T W s (pass p 0 l m lg) (pass p 3 (answering l) (ended m) lg)) (logs_stay p 0 3 l m (answering l) (ended m) lg (some None) none id views (λ n f. refl)) (order_same p 0 3 l m (answering l) (ended m) lg (some None) none id views at (λ x e. absurd (no_home (Some x) (sym e))))
+          turned_kept 0 3 false false views id p 0 3 l (won_place l) m lg lg some_part at (some None) none (refl, refl, refl, refl) (fills_place T W p l (won_place l) m lg some_part) (fills_turns l)
+              (logs_stay p 0 3 l (won_place l) m lg (some None) none id views (λ n f. refl)) (order_same p 0 3 l (won_place l) m lg (some None) none id views at (λ x e. absurd (no_home (Some x) (sym e))))
               (λ seen closings. (closings.0, closings.1, λ more. absurd (no_true ((closings.2 more).0)))) kn,
           inl (refl, not_seen views id (pass p 0 l m lg) at some_part 0 kn.closings, refl),
         )) k
@@ -182,7 +185,7 @@ module _ {T W : Type 0} where
 
   -- ---- a pop wins the message, or finds none: of an open channel, from 2 to 1, or of a closed one, from 6 to 5
 
-  module _ (slots id p : ℕ) (l m : Line W) (lg : List (Transfer T)) (some_part : 0 < p) (from to : ℕ) where
+  module _ (slots id p : ℕ) (l : Lines) (m : Rolls W) (lg : List (Transfer T)) (some_part : 0 < p) (from to : ℕ) where
     abbrev Won : ℕ → Known T W → Type 0
     Won = wins {T = T} from (step slots 0 from to none) (pass p 0 l m lg, [])
 
@@ -192,7 +195,7 @@ module _ {T W : Type 0} where
     -- it found no message
     wins_none : (n : ℕ) (slot : home.Option (Option T)) (views : List (View T W)) → get_elem? views id ≡ some (pass p 0 l m lg) → swap from to n ≡ n → messages n ≡ 0 → (n ≡ from → ⊥) → clear n 2 ≡ true → clear n 4 ≡ true → Kept n false slot views → Win views n slot
     wins_none n slot views at same none_left other is_empty is_open k = (
-      pass p 0 (ended l) m lg,
+      pass p 0 (no_message l) m lg,
       keeps,
       slot,
       n,
@@ -200,16 +203,16 @@ module _ {T W : Type 0} where
       tt,
       refl,
       same,
-      turned_kept n n false false views id (pass p 0 l m lg) (pass p 0 (ended l) m lg) at slot slot refl (refl, refl, refl) (refl, refl, refl) (λ a o z i. i) (rests_goes T W n p l m lg none_left)
-          (λ s. open_closes T W s (pass p 0 l m lg) (pass p 0 (ended l) m lg)) (logs_stay p 0 0 l m (ended l) m lg slot slot id views (λ n f. refl)) (order_same p 0 0 l m (ended l) m lg slot slot id views at (λ x e. e))
-          (sights_stay n n false (pass p 0 l m lg) (pass p 0 (ended l) m lg) (λ f. refl) (λ z. z.1)) k,
+      turned_kept n n false false views id p 0 0 l (no_message l) m lg lg some_part at slot slot (refl, refl, refl, refl) (λ a o z i. i) (rests_turns n l none_left)
+          (logs_stay p 0 0 l (no_message l) m lg slot slot id views (λ n f. refl)) (order_same p 0 0 l (no_message l) m lg slot slot id views at (λ x e. e))
+          (sights_stay n n false (pass p 0 l m lg) (pass p 0 (no_message l) m lg) (λ f. refl) (λ z. z.1)) k,
       inr (other, inr (inl (is_empty, is_open, not_seen views id (pass p 0 l m lg) at some_part (messages n) k.closings, refl))),
     )
 
     -- it found none in a closed channel
     wins_no_more : (n : ℕ) (slot : home.Option (Option T)) (views : List (View T W)) → get_elem? views id ≡ some (pass p 0 l m lg) → swap from to (n + 4) ≡ n + 4 → messages n ≡ 0 → (n + 4 ≡ from → ⊥) → clear (n + 4) 2 ≡ true → clear (n + 4) 4 ≡ false → Kept n true slot views → Win views (n + 4) slot
     wins_no_more n slot views at same none_left other is_empty is_closed k = (
-      pass p 0 (resolved l) m (lg ++ Saw Drained ∷ []),
+      pass p 0 (no_more l) m (lg ++ Saw Drained ∷ []),
       keeps,
       slot,
       n,
@@ -217,10 +220,9 @@ module _ {T W : Type 0} where
       tt,
       refl,
       same,
-      turned_kept n n true true views id (pass p 0 l m lg) (pass p 0 (resolved l) m (lg ++ Saw Drained ∷ [])) at slot slot refl (refl, refl, refl) (refl, refl, refl) (λ a o z i. i) (drains_goes T W n p l m lg (lg ++ Saw Drained ∷ []) none_left)
-          (kept_closes T W true p 0 0 l m (resolved l) m lg (lg ++ Saw Drained ∷ []) (refl, refl, refl, refl) (refl, refl, refl, refl))
-          (saw_logs W (put_else views id) (took_else views id) slot slot Drained p 0 0 l m (resolved l) m lg (λ n f. refl)) (order_saw p 0 0 l m (resolved l) m lg Drained slot id views at)
-          (sights_drained n p 0 0 l m (resolved l) m lg some_part none_left) k,
+      turned_kept n n true true views id p 0 0 l (no_more l) m lg (lg ++ Saw Drained ∷ []) some_part at slot slot (refl, refl, refl, refl) (λ a o z i. i) (drains_turns n l none_left)
+          (saw_logs W (put_else views id) (took_else views id) slot slot Drained p 0 0 l (no_more l) m lg (λ n f. refl)) (order_saw p 0 0 l (no_more l) m lg Drained slot id views at)
+          (sights_drained n p 0 0 l (no_more l) m lg some_part none_left) k,
       inr (other, inr (inr (is_empty, is_closed, refl))),
     )
 
@@ -232,7 +234,7 @@ module _ {T W : Type 0} where
     -- it won the message
     wins_message : (x : T) (shut : Bool) (views : List (View T W)) → get_elem? views id ≡ some (pass p 0 l m lg) → word_of 2 shut ≡ from → swap from to (word_of 2 shut) ≡ word_of 1 shut → Kept 2 shut (some (Some x)) views → Win views (word_of 2 shut) (some (Some x))
     wins_message x shut views at is turns kn = (
-      pass p 1 (resolved l) (answering m) (lg ++ Out (total (puts_of each) views - 1) x ∷ []),
+      pass p 1 (won_message l) m (lg ++ Out (total (puts_of each) views - 1) x ∷ []),
       takes 0 (Some x),
       none,
       1,
@@ -240,17 +242,16 @@ module _ {T W : Type 0} where
       refl,
       refl,
       turns,
-      turned_kept 2 1 shut shut views id (pass p 0 l m lg) (pass p 1 (resolved l) (answering m) (lg ++ Out (total (puts_of each) views - 1) x ∷ [])) at (some (Some x)) none refl (refl, refl, refl) (refl, refl, refl)
-          (wins_place T W x p l m (resolved l) (answering m) lg (lg ++ Out (total (puts_of each) views - 1) x ∷ []) some_part) (wins_goes T W shut p l m lg (lg ++ Out (total (puts_of each) views - 1) x ∷ []) some_part)
-          (kept_closes T W shut p 0 1 l m (resolved l) (answering m) lg (lg ++ Out (total (puts_of each) views - 1) x ∷ []) (refl, refl, refl, refl) (refl, refl, refl, refl))
-          (take_logs W (put_else views id) (took_else views id) (total (puts_of each) views) p 0 1 l m (resolved l) (answering m) x lg some_part (was (puts_of each) refl views id (pass p 0 l m lg) at))
-          (takes_order p 1 l m (resolved l) (answering m) lg x id views some_part at)
-          (sights_stay 2 1 shut (pass p 0 l m lg) (pass p 1 (resolved l) (answering m) (lg ++ Out (total (puts_of each) views - 1) x ∷ []))
-          (sights_same p 0 1 l m (resolved l) (answering m) lg (lg ++ Out (total (puts_of each) views - 1) x ∷ []) (moved lg (Out (total (puts_of each) views - 1) x) (λ f. refl))) (λ z. refl)) kn,
+      turned_kept 2 1 shut shut views id p 0 1 l (won_message l) m lg (lg ++ Out (total (puts_of each) views - 1) x ∷ []) some_part at (some (Some x)) none (refl, refl, refl, refl)
+          (wins_place T W x p l (won_message l) m lg (lg ++ Out (total (puts_of each) views - 1) x ∷ []) some_part) (wins_turns shut l)
+          (take_logs W (put_else views id) (took_else views id) (total (puts_of each) views) p 0 1 l (won_message l) m x lg some_part (was (puts_of each) refl views id (pass p 0 l m lg) at))
+          (takes_order p 1 l (won_message l) m lg x id views some_part at)
+          (sights_stay 2 1 shut (pass p 0 l m lg) (pass p 1 (won_message l) m (lg ++ Out (total (puts_of each) views - 1) x ∷ []))
+          (sights_same p 0 1 l (won_message l) m lg (lg ++ Out (total (puts_of each) views - 1) x ∷ []) (moved lg (Out (total (puts_of each) views - 1) x) (λ f. refl))) (λ z. refl)) kn,
       inl (is, not_drained views id (pass p 0 l m lg) at some_part shut 1 (omega arith) kn.closings, (x, total (puts_of each) views - 1, goes_next views id (pass p 0 l m lg) at some_part x kn.balance, refl)),
     )
 
-  module _ (slots id p : ℕ) (l m : Line W) (lg : List (Transfer T)) (some_part : 0 < p) where
+  module _ (slots id p : ℕ) (l : Lines) (m : Rolls W) (lg : List (Transfer T)) (some_part : 0 < p) where
     wins_at : (base : ℕ) (shut : Bool) (slot : home.Option (Option T)) (views : List (View T W)) → Kept base shut slot views → get_elem? views id ≡ some (pass p 0 l m lg) → IsSlot base slot (total locks_of views) (total owns_of views) → Win slots id p l m lg some_part 2 1 views (word_of base shut) slot
     wins_at base false slot views k at (empty e d c) =
         as_is (swap 2 1) (Won slots id p l m lg some_part 2 1) (pass p 0 l m lg, []) id views base 0 false slot slot e refl (λ kn. wins_none slots id p l m lg some_part 2 1 0 slot views at refl refl (λ e. absurd (omega arith)) refl refl kn) k
@@ -295,12 +296,12 @@ module _ {T W : Type 0} where
 
   -- ---- a call closes the channel, or finds it closed; and a call looks whether it is
 
-  module _ (slots id p : ℕ) (l m : Line W) (lg : List (Transfer T)) (some_part : 0 < p) where
+  module _ (slots id p : ℕ) (l : Lines) (m : Rolls W) (lg : List (Transfer T)) (some_part : 0 < p) where
     -- a call that found the channel closed notes it
-    notes : (f : ℕ → ℕ) (then : ℕ → Known T W → Type 0) (n : ℕ) (slot : home.Option (Option T)) (views : List (View T W)) → get_elem? views id ≡ some (pass p 0 l m lg) → f (n + 4) ≡ n + 4
-        → then (n + 4) (noted Seen (pass p 0 l m lg), []) → Kept n true slot views → Outcome f then (pass p 0 l m lg, []) id views (n + 4) slot
-    notes f then n slot views at same tells k = (
-      noted Seen (pass p 0 l m lg),
+    notes : (f : ℕ → ℕ) (then : ℕ → Known T W → Type 0) (i : Lines) (n : ℕ) (slot : home.Option (Option T)) (views : List (View T W)) → get_elem? views id ≡ some (pass p 0 l m lg) → f (n + 4) ≡ n + 4 → SameTickets l i
+        → ((d : Duty) (s : Side) → Turns d s n n true true l i) → then (n + 4) (pass p 0 i m (lg ++ Saw Seen ∷ []), []) → Kept n true slot views → Outcome f then (pass p 0 l m lg, []) id views (n + 4) slot
+    notes f then i n slot views at same tickets turns tells k = (
+      pass p 0 i m (lg ++ Saw Seen ∷ []),
       keeps,
       slot,
       n,
@@ -308,10 +309,9 @@ module _ {T W : Type 0} where
       tt,
       refl,
       same,
-      turned_kept n n true true views id (pass p 0 l m lg) (noted Seen (pass p 0 l m lg)) at slot slot refl (refl, refl, refl) (refl, refl, refl) (λ a o z i. i) (gives_goes T W n n 0 0 p true l m lg (lg ++ Saw Seen ∷ []) refl)
-          (kept_closes T W true p 0 0 l m l m lg (lg ++ Saw Seen ∷ []) (refl, refl, refl, refl) (refl, refl, refl, refl))
-          (saw_logs W (put_else views id) (took_else views id) slot slot Seen p 0 0 l m l m lg (λ n f. refl)) (order_saw p 0 0 l m l m lg Seen slot id views at)
-          (sights_seen n p 0 0 l m l m lg some_part) k,
+      turned_kept n n true true views id p 0 0 l i m lg (lg ++ Saw Seen ∷ []) some_part at slot slot tickets (λ a o z i. i) turns
+          (saw_logs W (put_else views id) (took_else views id) slot slot Seen p 0 0 l i m lg (λ n f. refl)) (order_saw p 0 0 l i m lg Seen slot id views at)
+          (sights_seen n p 0 0 l i m lg some_part) k,
       tells,
     )
 
@@ -329,22 +329,24 @@ module _ {T W : Type 0} where
       tt,
       refl,
       turns,
-      turned_kept n n false true views id (pass p 0 l m lg) (closer (pass p 0 l m lg)) at slot slot refl (refl, refl, refl) (refl, refl, refl) (λ a o z i. i) (shuts_goes T W n p l m lg (lg ++ Saw Shut ∷ []))
-          (shuts_closes T W p l m lg (lg ++ Saw Shut ∷ []) some_part)
-          (saw_logs W (put_else views id) (took_else views id) slot slot Shut p 0 0 l m (owing l) (owing m) lg (λ n f. refl)) (order_saw p 0 0 l m (owing l) (owing m) lg Shut slot id views at)
-          (sights_shut n p 0 0 l m (owing l) (owing m) lg some_part) k,
+      turned_kept n n false true views id p 0 0 l (all_owing l) m lg (lg ++ Saw Shut ∷ []) some_part at slot slot (refl, refl, refl, refl) (λ a o z i. i) (shuts_turns n l)
+          (saw_logs W (put_else views id) (took_else views id) slot slot Shut p 0 0 l (all_owing l) m lg (λ n f. refl)) (order_saw p 0 0 l (all_owing l) m lg Shut slot id views at)
+          (sights_shut n p 0 0 l (all_owing l) m lg some_part) k,
       inl (is_open, not_seen views id (pass p 0 l m lg) at some_part (messages n) k.closings, refl),
     )
+
+    shuts_again : (n : ℕ) (slot : home.Option (Option T)) (views : List (View T W)) → get_elem? views id ≡ some (pass p 0 l m lg) → shut_bit (n + 4) ≡ n + 4 → clear (n + 4) 4 ≡ false → Kept n true slot views → Outcome shut_bit HasShut (pass p 0 l m lg, []) id views (n + 4) slot
+    shuts_again n slot views at same is_closed k = notes shut_bit HasShut l n slot views at same (refl, refl, refl, refl) (gives_turns n n true l refl) (inr (is_closed, refl)) k
 
     shuts_at : (base : ℕ) (shut : Bool) (slot : home.Option (Option T)) (views : List (View T W)) → Kept base shut slot views → get_elem? views id ≡ some (pass p 0 l m lg) → IsSlot base slot (total locks_of views) (total owns_of views) → Outcome shut_bit HasShut (pass p 0 l m lg, []) id views (word_of base shut) slot
     shuts_at base false slot views k at (empty e d c) = as_is shut_bit HasShut (pass p 0 l m lg, []) id views base 0 false slot slot e refl (λ kn. shuts_first 0 slot views at refl refl kn) k
     shuts_at base false slot views k at (full x e d c) = as_is shut_bit HasShut (pass p 0 l m lg, []) id views base 2 false slot slot e refl (λ kn. shuts_first 2 slot views at refl refl kn) k
     shuts_at base false slot views k at (out d c e (inl w)) = as_is shut_bit HasShut (pass p 0 l m lg, []) id views base 1 false slot slot w refl (λ kn. shuts_first 1 slot views at refl refl kn) k
     shuts_at base false slot views k at (out d c e (inr w)) = as_is shut_bit HasShut (pass p 0 l m lg, []) id views base 3 false slot slot w refl (λ kn. shuts_first 3 slot views at refl refl kn) k
-    shuts_at base true slot views k at (empty e d c) = as_is shut_bit HasShut (pass p 0 l m lg, []) id views base 0 true slot slot e refl (λ kn. notes shut_bit HasShut 0 slot views at refl (inr (refl, refl)) kn) k
-    shuts_at base true slot views k at (full x e d c) = as_is shut_bit HasShut (pass p 0 l m lg, []) id views base 2 true slot slot e refl (λ kn. notes shut_bit HasShut 2 slot views at refl (inr (refl, refl)) kn) k
-    shuts_at base true slot views k at (out d c e (inl w)) = as_is shut_bit HasShut (pass p 0 l m lg, []) id views base 1 true slot slot w refl (λ kn. notes shut_bit HasShut 1 slot views at refl (inr (refl, refl)) kn) k
-    shuts_at base true slot views k at (out d c e (inr w)) = as_is shut_bit HasShut (pass p 0 l m lg, []) id views base 3 true slot slot w refl (λ kn. notes shut_bit HasShut 3 slot views at refl (inr (refl, refl)) kn) k
+    shuts_at base true slot views k at (empty e d c) = as_is shut_bit HasShut (pass p 0 l m lg, []) id views base 0 true slot slot e refl (λ kn. shuts_again 0 slot views at refl refl kn) k
+    shuts_at base true slot views k at (full x e d c) = as_is shut_bit HasShut (pass p 0 l m lg, []) id views base 2 true slot slot e refl (λ kn. shuts_again 2 slot views at refl refl kn) k
+    shuts_at base true slot views k at (out d c e (inl w)) = as_is shut_bit HasShut (pass p 0 l m lg, []) id views base 1 true slot slot w refl (λ kn. shuts_again 1 slot views at refl refl kn) k
+    shuts_at base true slot views k at (out d c e (inr w)) = as_is shut_bit HasShut (pass p 0 l m lg, []) id views base 3 true slot slot w refl (λ kn. shuts_again 3 slot views at refl refl kn) k
 
     pub shuts_so : Allows Woken slots id (pass p 0 l m lg, []) 0 shut_bit HasShut
     shuts_so = by_rule shut_bit HasShut slots id (pass p 0 l m lg, []) (λ base shut slot views k at. shuts_at base shut slot views k at k.place)
@@ -353,17 +355,33 @@ module _ {T W : Type 0} where
     HasLooked = sees {T = T} (step slots 0 0 0 none) (pass p 0 l m lg, [])
 
     sees_open : (n : ℕ) (slot : home.Option (Option T)) (views : List (View T W)) → get_elem? views id ≡ some (pass p 0 l m lg) → clear n 4 ≡ true → Kept n false slot views → Outcome same_word HasLooked (pass p 0 l m lg, []) id views n slot
-    sees_open n slot views at is_open k = unchanged HasLooked same_word (pass p 0 l m lg, []) id views n false slot at refl (inl (is_open, not_seen views id (pass p 0 l m lg) at some_part (messages n) k.closings, refl)) k
+    sees_open n slot views at is_open k = (
+      saw_open (pass p 0 l m lg),
+      keeps,
+      slot,
+      n,
+      false,
+      tt,
+      refl,
+      refl,
+      turned_kept n n false false views id p 0 0 l (still_open l) m lg lg some_part at slot slot (refl, refl, refl, refl) (λ a o z i. i) (open_turns n l)
+          (logs_stay p 0 0 l (still_open l) m lg slot slot id views (λ n f. refl)) (order_same p 0 0 l (still_open l) m lg slot slot id views at (λ x e. e))
+          (sights_stay n n false (pass p 0 l m lg) (pass p 0 (still_open l) m lg) (λ f. refl) (λ z. z.1)) k,
+      inl (is_open, not_seen views id (pass p 0 l m lg) at some_part (messages n) k.closings, refl),
+    )
+
+    sees_closed : (n : ℕ) (slot : home.Option (Option T)) (views : List (View T W)) → get_elem? views id ≡ some (pass p 0 l m lg) → same_word (n + 4) ≡ n + 4 → clear (n + 4) 4 ≡ false → Kept n true slot views → Outcome same_word HasLooked (pass p 0 l m lg, []) id views (n + 4) slot
+    sees_closed n slot views at same is_closed k = notes same_word HasLooked (found_closed l) n slot views at same (refl, refl, refl, refl) (closed_turns n l) (inr (is_closed, refl)) k
 
     sees_at : (base : ℕ) (shut : Bool) (slot : home.Option (Option T)) (views : List (View T W)) → Kept base shut slot views → get_elem? views id ≡ some (pass p 0 l m lg) → IsSlot base slot (total locks_of views) (total owns_of views) → Outcome same_word HasLooked (pass p 0 l m lg, []) id views (word_of base shut) slot
     sees_at base false slot views k at (empty e d c) = as_is same_word HasLooked (pass p 0 l m lg, []) id views base 0 false slot slot e refl (λ kn. sees_open 0 slot views at refl kn) k
     sees_at base false slot views k at (full x e d c) = as_is same_word HasLooked (pass p 0 l m lg, []) id views base 2 false slot slot e refl (λ kn. sees_open 2 slot views at refl kn) k
     sees_at base false slot views k at (out d c e (inl w)) = as_is same_word HasLooked (pass p 0 l m lg, []) id views base 1 false slot slot w refl (λ kn. sees_open 1 slot views at refl kn) k
     sees_at base false slot views k at (out d c e (inr w)) = as_is same_word HasLooked (pass p 0 l m lg, []) id views base 3 false slot slot w refl (λ kn. sees_open 3 slot views at refl kn) k
-    sees_at base true slot views k at (empty e d c) = as_is same_word HasLooked (pass p 0 l m lg, []) id views base 0 true slot slot e refl (λ kn. notes same_word HasLooked 0 slot views at refl (inr (refl, refl)) kn) k
-    sees_at base true slot views k at (full x e d c) = as_is same_word HasLooked (pass p 0 l m lg, []) id views base 2 true slot slot e refl (λ kn. notes same_word HasLooked 2 slot views at refl (inr (refl, refl)) kn) k
-    sees_at base true slot views k at (out d c e (inl w)) = as_is same_word HasLooked (pass p 0 l m lg, []) id views base 1 true slot slot w refl (λ kn. notes same_word HasLooked 1 slot views at refl (inr (refl, refl)) kn) k
-    sees_at base true slot views k at (out d c e (inr w)) = as_is same_word HasLooked (pass p 0 l m lg, []) id views base 3 true slot slot w refl (λ kn. notes same_word HasLooked 3 slot views at refl (inr (refl, refl)) kn) k
+    sees_at base true slot views k at (empty e d c) = as_is same_word HasLooked (pass p 0 l m lg, []) id views base 0 true slot slot e refl (λ kn. sees_closed 0 slot views at refl refl kn) k
+    sees_at base true slot views k at (full x e d c) = as_is same_word HasLooked (pass p 0 l m lg, []) id views base 2 true slot slot e refl (λ kn. sees_closed 2 slot views at refl refl kn) k
+    sees_at base true slot views k at (out d c e (inl w)) = as_is same_word HasLooked (pass p 0 l m lg, []) id views base 1 true slot slot w refl (λ kn. sees_closed 1 slot views at refl refl kn) k
+    sees_at base true slot views k at (out d c e (inr w)) = as_is same_word HasLooked (pass p 0 l m lg, []) id views base 3 true slot slot w refl (λ kn. sees_closed 3 slot views at refl refl kn) k
 
     pub sees_so : Allows Woken slots id (pass p 0 l m lg, []) 0 same_word HasLooked
     sees_so = by_rule same_word HasLooked slots id (pass p 0 l m lg, []) (λ base shut slot views k at. sees_at base shut slot views k at k.place)
@@ -371,7 +389,7 @@ module _ {T W : Type 0} where
   -- ---- who has the slot gives it back
 
   -- the seat that has the slot knows the word, and the slot is out
-  held_word : (n p : ℕ) (l m : Line W) (lg : List (Transfer T)) (id word : ℕ) (slot : home.Option (Option T)) (views : List (View T W)) → 0 < p → 0 < n → get_elem? views id ≡ some (pass p n l m lg)
+  held_word : (n p : ℕ) (l : Lines) (m : Rolls W) (lg : List (Transfer T)) (id word : ℕ) (slot : home.Option (Option T)) (views : List (View T W)) → 0 < p → 0 < n → get_elem? views id ≡ some (pass p n l m lg)
       → IsSlot word slot (total locks_of views) (total owns_of views) → (word ≡ n) × (slot ≡ none)
   held_word n p l m lg id word slot views some_part some_word at place =
       let lw = was locks_of refl views id (pass p n l m lg) at in
@@ -391,7 +409,7 @@ module _ {T W : Type 0} where
           (omega arith, d)
 
   -- the slot with its message
-  gives_full : (slots id p : ℕ) (l m : Line W) (lg : List (Transfer T)) (x : T) → 0 < p → (shut : Bool) (views : List (View T W)) → get_elem? views id ≡ some (pass p 3 l m lg) → unlocked (word_of 3 shut) ≡ word_of 2 shut → Kept 3 shut none views
+  gives_full : (slots id p : ℕ) (l : Lines) (m : Rolls W) (lg : List (Transfer T)) (x : T) → 0 < p → (shut : Bool) (views : List (View T W)) → get_elem? views id ≡ some (pass p 3 l m lg) → unlocked (word_of 3 shut) ≡ word_of 2 shut → Kept 3 shut none views
       → Outcome unlocked (unlocks {T = T} (step slots 0 18446744073709551614 0 none) (pass p 3 l m lg, (0, Some x) ∷ [])) (pass p 3 l m lg, (0, Some x) ∷ []) id views (word_of 3 shut) none
   gives_full slots id p l m lg x some_part shut views at turns kn = (
     pass p 0 l m (lg ++ In (total (puts_of each) views) x ∷ []),
@@ -402,17 +420,16 @@ module _ {T W : Type 0} where
     tt,
     refl,
     turns,
-    turned_kept 3 2 shut shut views id (pass p 3 l m lg) (pass p 0 l m (lg ++ In (total (puts_of each) views) x ∷ [])) at none (some (Some x)) refl (refl, refl, refl) (refl, refl, refl) (filled_place T W x p l m lg (lg ++ In (total (puts_of each) views) x ∷ []) some_part)
-        (gives_goes T W 3 2 3 0 p shut l m lg (lg ++ In (total (puts_of each) views) x ∷ []) refl)
-        (kept_closes T W shut p 3 0 l m l m lg (lg ++ In (total (puts_of each) views) x ∷ []) (refl, refl, refl, refl) (refl, refl, refl, refl))
-        (put_logs W (put_else views id) (took_else views id) (total (puts_of each) views) p 3 0 l m l m x lg some_part (was (puts_of each) refl views id (pass p 3 l m lg) at))
-        (gives_order p 3 l m l m lg x id views some_part at)
-        (sights_stay 3 2 shut (pass p 3 l m lg) (pass p 0 l m (lg ++ In (total (puts_of each) views) x ∷ [])) (sights_same p 3 0 l m l m lg (lg ++ In (total (puts_of each) views) x ∷ []) (moved lg (In (total (puts_of each) views) x) (λ f. refl))) (λ z. z.1)) kn,
+    turned_kept 3 2 shut shut views id p 3 0 l l m lg (lg ++ In (total (puts_of each) views) x ∷ []) some_part at none (some (Some x)) (refl, refl, refl, refl) (filled_place T W x p l m lg (lg ++ In (total (puts_of each) views) x ∷ []) some_part)
+        (gives_turns 3 2 shut l refl)
+        (put_logs W (put_else views id) (took_else views id) (total (puts_of each) views) p 3 0 l l m x lg some_part (was (puts_of each) refl views id (pass p 3 l m lg) at))
+        (gives_order p 3 l l m lg x id views some_part at)
+        (sights_stay 3 2 shut (pass p 3 l m lg) (pass p 0 l m (lg ++ In (total (puts_of each) views) x ∷ [])) (sights_same p 3 0 l l m lg (lg ++ In (total (puts_of each) views) x ∷ []) (moved lg (In (total (puts_of each) views) x) (λ f. refl))) (λ z. z.1)) kn,
     let next = comes_next views id (pass p 3 l m lg) at some_part none kn.balance in
         (total (puts_of each) views, next.0, next.1, refl),
   )
 
-  pub unlocks_filled : (slots id p : ℕ) (l m : Line W) (lg : List (Transfer T)) (x : T) → 0 < p
+  pub unlocks_filled : (slots id p : ℕ) (l : Lines) (m : Rolls W) (lg : List (Transfer T)) (x : T) → 0 < p
       → Allows Woken slots id (pass {W = W} p 3 l m lg, (0, Some x) ∷ []) 0 (λ n. bit_and n 18446744073709551614) (unlocks {T = T} (step slots 0 18446744073709551614 0 none) (pass p 3 l m lg, (0, Some x) ∷ []))
   unlocks_filled slots id p l m lg x some_part =
       by_rule unlocked (unlocks {T = T} (step slots 0 18446744073709551614 0 none) (pass p 3 l m lg, (0, Some x) ∷ [])) slots id (pass p 3 l m lg, (0, Some x) ∷ []) (λ base shut slot views k at.
@@ -425,7 +442,7 @@ module _ {T W : Type 0} where
       turns false = refl
 
   -- and without one
-  gives_empty : (slots id p : ℕ) (l m : Line W) (lg : List (Transfer T)) → 0 < p → (shut : Bool) (views : List (View T W)) → get_elem? views id ≡ some (pass p 1 l m lg) → unlocked (word_of 1 shut) ≡ word_of 0 shut → Kept 1 shut none views
+  gives_empty : (slots id p : ℕ) (l : Lines) (m : Rolls W) (lg : List (Transfer T)) → 0 < p → (shut : Bool) (views : List (View T W)) → get_elem? views id ≡ some (pass p 1 l m lg) → unlocked (word_of 1 shut) ≡ word_of 0 shut → Kept 1 shut none views
       → Outcome unlocked (unlocks {T = T} (step slots 0 18446744073709551614 0 none) (pass p 1 l m lg, (0, None) ∷ [])) (pass p 1 l m lg, (0, None) ∷ []) id views (word_of 1 shut) none
   gives_empty slots id p l m lg some_part shut views at turns kn = (
     pass p 0 l m lg,
@@ -436,15 +453,14 @@ module _ {T W : Type 0} where
     tt,
     refl,
     turns,
-    turned_kept 1 0 shut shut views id (pass p 1 l m lg) (pass p 0 l m lg) at none (some None) refl (refl, refl, refl) (refl, refl, refl) (emptied_place T W p l m lg some_part) (gives_goes T W 1 0 1 0 p shut l m lg lg refl)
-        (kept_closes T W shut p 1 0 l m l m lg lg (refl, refl, refl, refl) (refl, refl, refl, refl))
-        (logs_stay p 1 0 l m l m lg none (some None) id views (λ n f. refl)) (order_same p 1 0 l m l m lg none (some None) id views at (λ x e. absurd (no_empty x e)))
+    turned_kept 1 0 shut shut views id p 1 0 l l m lg lg some_part at none (some None) (refl, refl, refl, refl) (emptied_place T W p l m lg some_part) (gives_turns 1 0 shut l refl)
+        (logs_stay p 1 0 l l m lg none (some None) id views (λ n f. refl)) (order_same p 1 0 l l m lg none (some None) id views at (λ x e. absurd (no_empty x e)))
         (sights_stay 1 0 shut (pass p 1 l m lg) (pass p 0 l m lg) (λ f. refl) (λ z. refl)) kn,
     let next = comes_next views id (pass p 1 l m lg) at some_part none kn.balance in
         (total (puts_of each) views, next.0, next.1, refl),
   )
 
-  pub unlocks_emptied : (slots id p : ℕ) (l m : Line W) (lg : List (Transfer T)) → 0 < p
+  pub unlocks_emptied : (slots id p : ℕ) (l : Lines) (m : Rolls W) (lg : List (Transfer T)) → 0 < p
       → Allows Woken slots id (pass {W = W} p 1 l m lg, (0, None) ∷ []) 0 (λ n. bit_and n 18446744073709551614) (unlocks {T = T} (step slots 0 18446744073709551614 0 none) (pass p 1 l m lg, (0, None) ∷ []))
   unlocks_emptied slots id p l m lg some_part =
       by_rule unlocked (unlocks {T = T} (step slots 0 18446744073709551614 0 none) (pass p 1 l m lg, (0, None) ∷ [])) slots id (pass p 1 l m lg, (0, None) ∷ []) (λ base shut slot views k at.
@@ -458,46 +474,54 @@ module _ {T W : Type 0} where
 
   -- ---- the list of a side was changed
 
-  changes : (side : Side) (w : ℕ) (shut : Bool) (views : List (View T W)) (id : ℕ) (v : View T W) (m : Line W) → get_elem? views id ≡ some v → 0 < v.parts → (of side v).lists ≡ 1 → Fair (of side v) m → (slot : home.Option (Option T)) → Kept w shut slot views → Kept w shut slot (set views id (changed side v m))
-  changes of_receives w shut views id v m at some_part here fair slot k =
-      turned w w shut shut views id v (changed of_receives v m) at slot slot refl lists (λ a o z i. i) goes closes tickets (same_logs W (put_else views id) (took_else views id) slot slot v (changed of_receives v m) (λ n f. refl) refl refl)
-      (order_stays views id v (changed of_receives v m) at slot slot refl (λ h i a. a) (λ x e. e)) (sights_stay w w shut v (changed of_receives v m) (λ f. refl) (λ z. z.1)) k
-    where
-      lists : (s : Side) → lists_of s (changed of_receives v m) ≡ lists_of s v
-      lists of_receives = fair.0 ∙ sym here
-      lists of_sends = refl
+  module _ (side : Side) (v : View T W) (m : Line) (ms : List (Listener W)) (some_part : 0 < v.parts) (here : (roll side v.rolls).here ≡ 1) (fair : Fair (of side v.calls) (roll side v.rolls).listeners m ms) where
+    -- the side is this one, or another, which is as it was
+    abbrev Either : Side → Type 0
+    Either s = (s ≡ side) ⊎ Untouched W side s
 
-      goes : (s : Side) → Goes s w w shut shut v (changed of_receives v m)
-      goes of_receives key b t a h single owed some_waiting = fair_goes (wanted of_receives w shut) v.parts b t a h key v.receives m some_part here fair single owed some_waiting
-      goes of_sends key b t a h single owed some_waiting = owed some_waiting
+    keeps_lists : (s : Side) → Either s → here_of s (changed side v m ms) ≡ here_of s v
+    keeps_lists s (inl same) = subst (λ (x : Side). here_of x (changed side v m ms) ≡ here_of x v) (sym same) ((λ k. (roll_with W side (listing ms) v.rolls k).here) ∙ sym here)
+    keeps_lists s (inr other) = λ k. (other.1 (listing ms) v.rolls k).here
 
-      closes : (s : Side) → Closes s shut shut v (changed of_receives v m)
-      closes of_receives key b a h single owed some_waiting = fair_closes (shut_count shut) v.parts b a h key v.receives m some_part here fair single owed some_waiting
-      closes of_sends key b a h single owed some_waiting = owed some_waiting
+    goes_fair : (w : ℕ) (shut : Bool) (d : Duty) → Goes d side w w shut shut v (changed side v m ms)
+    goes_fair w shut to_one key b g h single owed =
+        lasts_by to_one (wanted to_one side w shut) v.parts b g h key m (of side (with_line side m v.calls)) (listing ms) (roll side (with_roll side (listing ms) v.rolls)) (of_with side m v.calls) (roll_with W side (listing ms) v.rolls)
+        (fair_lasts to_one (wanted to_one side w shut) v.parts b g h key (of side v.calls) m (roll side v.rolls) ms some_part here fair single owed)
+    goes_fair w shut to_all key b g h single owed =
+        lasts_by to_all (wanted to_all side w shut) v.parts b g h key m (of side (with_line side m v.calls)) (listing ms) (roll side (with_roll side (listing ms) v.rolls)) (of_with side m v.calls) (roll_with W side (listing ms) v.rolls)
+        (fair_lasts to_all (wanted to_all side w shut) v.parts b g h key (of side v.calls) m (roll side v.rolls) ms some_part here fair single owed)
 
-      tickets : (s : Side) → Tickets s v (changed of_receives v m)
-      tickets of_receives key x y before = fair_tickets key x y v.receives m here fair before
-      tickets of_sends key x y before = before
-  changes of_sends w shut views id v m at some_part here fair slot k =
-      turned w w shut shut views id v (changed of_sends v m) at slot slot refl lists (λ a o z i. i) goes closes tickets (same_logs W (put_else views id) (took_else views id) slot slot v (changed of_sends v m) (λ n f. refl) refl refl)
-      (order_stays views id v (changed of_sends v m) at slot slot refl (λ h i a. a) (λ x e. e)) (sights_stay w w shut v (changed of_sends v m) (λ f. refl) (λ z. z.1)) k
-    where
-      lists : (s : Side) → lists_of s (changed of_sends v m) ≡ lists_of s v
-      lists of_receives = refl
-      lists of_sends = fair.0 ∙ sym here
+    goes_beside : (w : ℕ) (shut : Bool) (s : Side) → Untouched W side s → (d : Duty) → Goes d s w w shut shut v (changed side v m ms)
+    goes_beside w shut s other to_one key b g h single owed =
+        lasts_by to_one (wanted to_one s w shut) v.parts b g h key (of s v.calls) (of s (with_line side m v.calls)) (roll s v.rolls) (roll s (with_roll side (listing ms) v.rolls)) (other.0 m v.calls) (other.1 (listing ms) v.rolls) owed
+    goes_beside w shut s other to_all key b g h single owed =
+        lasts_by to_all (wanted to_all s w shut) v.parts b g h key (of s v.calls) (of s (with_line side m v.calls)) (roll s v.rolls) (roll s (with_roll side (listing ms) v.rolls)) (other.0 m v.calls) (other.1 (listing ms) v.rolls) owed
 
-      goes : (s : Side) → Goes s w w shut shut v (changed of_sends v m)
-      goes of_receives key b t a h single owed some_waiting = owed some_waiting
-      goes of_sends key b t a h single owed some_waiting = fair_goes (wanted of_sends w shut) v.parts b t a h key v.sends m some_part here fair single owed some_waiting
+    goes_either : (w : ℕ) (shut : Bool) (d : Duty) (s : Side) → Either s → Goes d s w w shut shut v (changed side v m ms)
+    goes_either w shut d s (inl same) = subst (λ (x : Side). Goes d x w w shut shut v (changed side v m ms)) (sym same) (goes_fair w shut d)
+    goes_either w shut d s (inr other) = goes_beside w shut s other d
 
-      closes : (s : Side) → Closes s shut shut v (changed of_sends v m)
-      closes of_receives key b a h single owed some_waiting = owed some_waiting
-      closes of_sends key b a h single owed some_waiting = fair_closes (shut_count shut) v.parts b a h key v.sends m some_part here fair single owed some_waiting
+    tickets_fair : Tickets side v (changed side v m ms)
+    tickets_fair key x y before =
+        let after = fair_tickets key x y (of side v.calls) m (roll side v.rolls) ms here fair before in
+        let line : is_key key (of side (with_line side m v.calls)).ticket ≡ is_key key m.ticket = (λ k. is_key key (of_with side m v.calls k).ticket) in
+        let list : listed_of side key (changed side v m ms) ≡ listed key ms = (λ k. only (roll_with W side (listing ms) v.rolls k).here (listed key (roll_with W side (listing ms) v.rolls k).listeners)) in
+        omega arith
 
-      tickets : (s : Side) → Tickets s v (changed of_sends v m)
-      tickets of_receives key x y before = before
-      tickets of_sends key x y before = fair_tickets key x y v.sends m here fair before
+    tickets_either : (s : Side) → Either s → Tickets s v (changed side v m ms)
+    tickets_either s (inl same) = subst (λ (x : Side). Tickets x v (changed side v m ms)) (sym same) tickets_fair
+    tickets_either s (inr other) = λ key x y before.
+        let line : tickets_of s key (changed side v m ms) ≡ tickets_of s key v = (λ k. is_key key (other.0 m v.calls k).ticket) in
+        let list : listed_of s key (changed side v m ms) ≡ listed_of s key v = (λ k. only (other.1 (listing ms) v.rolls k).here (listed key (other.1 (listing ms) v.rolls k).listeners)) in
+        omega arith
 
-  pub aims : (slots id : ℕ) (me : Known T W) (side : Side) (m : Line W) → 0 < me.0.parts → (of side me.0).lists ≡ 1 → Fair (of side me.0) m → Allows {S = Option T} Woken slots id me 0 (λ n. n) (λ n k. k ≡ (changed side me.0 m, me.1))
-  aims slots id me side m some_part here fair =
-      by_rule (λ n. n) (λ n k. k ≡ (changed side me.0 m, me.1)) slots id me (λ base shut slot views k at. (changed side me.0 m, keeps, slot, base, shut, tt, refl, refl, changes side base shut views id me.0 m at some_part here fair slot k, refl))
+    changes : (w : ℕ) (shut : Bool) (views : List (View T W)) (id : ℕ) → get_elem? views id ≡ some v → (slot : home.Option (Option T)) → Kept w shut slot views → Kept w shut slot (set views id (changed side v m ms))
+    changes w shut views id at slot k =
+        turned w w shut shut views id v (changed side v m ms) at slot slot refl (λ s. keeps_lists s (which W side s)) (λ a o z i. i) (λ d s. goes_either w shut d s (which W side s)) (λ s. tickets_either s (which W side s))
+        (same_logs W (put_else views id) (took_else views id) slot slot v (changed side v m ms) (λ n f. refl) refl refl)
+        (order_stays views id v (changed side v m ms) at slot slot refl (λ h i a. a) (λ x e. e)) (sights_stay w w shut v (changed side v m ms) (λ f. refl) (λ z. z.1)) k
+
+  pub aims : (slots id : ℕ) (me : Known T W) (side : Side) (m : Line) (ms : List (Listener W)) → 0 < me.0.parts → (roll side me.0.rolls).here ≡ 1 → Fair (of side me.0.calls) (roll side me.0.rolls).listeners m ms
+      → Allows {S = Option T} Woken slots id me 0 (λ n. n) (λ n k. k ≡ (changed side me.0 m ms, me.1))
+  aims slots id me side m ms some_part here fair =
+      by_rule (λ n. n) (λ n k. k ≡ (changed side me.0 m ms, me.1)) slots id me (λ base shut slot views k at. (changed side me.0 m ms, keeps, slot, base, shut, tt, refl, refl, changes side me.0 m ms some_part here fair base shut views id at slot k, refl))

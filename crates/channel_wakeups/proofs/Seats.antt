@@ -1,14 +1,16 @@
 -- Seats are joined and split, and one that has every part learns the rule.
-use Rattle.std.proofs.Common.{◌⊎◌, inl, ◌≡◌, ℕ, ◌+◌, ◌-◌, ◌/◌, ◌<◌, ◌≤◌, List, [], ◌∷◌, ◌++◌, Bool, true, false, Option, None, Some, cond, is_some, set, sym, refl, ap, ◌∙◌, subst, ⊎_elim, arith}
+use Rattle.std.proofs.Common.{◌⊎◌, inl, inr, ◌≡◌, ℕ, ◌+◌, ◌-◌, ◌/◌, ◌<◌, ◌≤◌, List, [], ◌∷◌, ◌++◌, Bool, true, false, Option, None, Some, cond, is_some, set, sym, refl, ap, ◌∙◌, subst, ⊎_elim, arith}
 use mathlib.Core.Option as home
 use mathlib.Core.Option.{some, none}
 use lib.ListN.{get_elem?}
 use Rattle.atomic_table.specs.Table.{step, Allows, Splits, Joins, Enters, opening}
 use Rattle.channel_wakeups.specs.declared.rule.Line.{Line}
+use Rattle.channel_wakeups.specs.declared.rule.Roll.{Roll}
 use Rattle.channel_wakeups.specs.declared.rule.View.{View}
 use Rattle.channel_wakeups.specs.Lists.{total, told, waits, listed}
-use Rattle.channel_wakeups.specs.Views.{Side, of_receives, of_sends, of, idle, calling, list_part, call_part, both_parts, ticketed, nobody, pass, everything, entered, stays, comes_out, receives_alone, sends_alone, absorbed, kept_half, given_half, one_ticket, no_ticket, ticket_of, with_ticket, only, is_key, parts_of, lists_of, answers_of, holds_of, closes_of, sights_of, locks_of, owns_of, waits_of, told_of, listed_of, tickets_of, puts_of, takes_of, word_of, shut_count, messages, has_message, is_shut, due, wanted, Owed, IsSlot, empty, full, out, AllAgree, Ordered, Kept, Woken, Known, HasAll, learns}
-use Rattle.channel_wakeups.proofs.Sums.{at_nobody, balanced_by, closings_by, only_none, only_some, only_zero, owed_by, slot_by, none_here, others, was, total_set, total_snoc, alone}
+use Rattle.channel_wakeups.specs.Views.{Side, of_receives, of_sends, of_streams, of_closings, Duty, to_one, to_all, of, roll, idle, idle_lines, no_roll, no_rolls, with_roll, calling, ticketed, nobody, pass, everything, entered, stays, comes_out, without, alone, absorbed, kept_half, given_half, one_ticket, ticket_is, no_ticket, ticket_of, with_ticket, only, is_key, parts_of, here_of, answered_of, holds_of, sights_of, locks_of, owns_of, waits_of, listed_of, tickets_of, puts_of, takes_of, word_of, messages, has_message, is_shut, due, wanted, Owed, IsSlot, empty, full, out, AllAgree, Ordered, Kept, Woken, Known, HasAll, learns}
+use Rattle.channel_wakeups.proofs.Sides.{of_with, roll_with, idle_ticket, none_there, which, Untouched}
+use Rattle.channel_wakeups.proofs.Sums.{at_nobody, balanced_by, closings_by, only_none, only_some, only_zero, owed_by, slot_by, none_here, none_both, none_waits, none_listed, none_tickets, none_answered, others, was, total_set, total_snoc, by_itself}
 use Rattle.channel_wakeups.specs.Log.{Weight, puts, takes, sights, each, Agrees, IsHistory, Balanced, Accounts, Closings}
 use Rattle.channel_wakeups.specs.declared.rule.Sight.{Sight}
 use Rattle.channel_wakeups.proofs.Logs.{puts_append, takes_append, sights_append}
@@ -17,9 +19,10 @@ use Rattle.channel_wakeups.proofs.Laws.{no_empty}
 use Rattle.channel_wakeups.proofs.Moves.{by_rule, unchanged}
 use Rattle.channel_wakeups.specs.declared.rule.Transfer.{Transfer}
 
--- all that is counted of a line
+-- all that is counted of a side
 data LineSum : Type 0 where
-  lists told_ones answers closes : LineSum
+  lists : LineSum
+  answering : Duty → LineSum
   waiting holding tickets in_list : ℕ → LineSum
 
 -- all that is counted
@@ -30,15 +33,14 @@ data Sum (T : Type 0) : Type 0 where
   on : Side → LineSum → Sum T
 
 module _ {W : Type 0} where
-  abbrev line_sum : LineSum → ℕ → Line W → ℕ
-  line_sum lists p l = l.lists
-  line_sum told_ones p l = only l.lists (told l.listeners)
-  line_sum answers p l = only p l.answers
-  line_sum closes p l = only p l.closes
-  line_sum (waiting key) p l = only l.lists (waits key l.listeners)
-  line_sum (holding key) p l = only p (is_key key l.holds)
-  line_sum (tickets key) p l = is_key key l.ticket
-  line_sum (in_list key) p l = only l.lists (listed key l.listeners)
+  abbrev line_sum : LineSum → ℕ → Line → Roll W → ℕ
+  line_sum lists p l r = r.here
+  line_sum (answering to_one) p l r = only r.here (told r.listeners) + only p l.answers
+  line_sum (answering to_all) p l r = only p l.tells
+  line_sum (waiting key) p l r = only r.here (waits key r.listeners)
+  line_sum (holding key) p l r = only p (is_key key l.holds)
+  line_sum (tickets key) p l r = is_key key l.ticket
+  line_sum (in_list key) p l r = only r.here (listed key r.listeners)
 
 module _ {T W : Type 0} where
   abbrev sum_of : Sum T → View T W → ℕ
@@ -48,18 +50,21 @@ module _ {T W : Type 0} where
   sum_of (putting f) v = puts_of f v
   sum_of (taking f) v = takes_of f v
   sum_of (seeing f) v = sights_of f v
-  sum_of (on s x) v = line_sum x v.parts (of s v)
+  sum_of (on s x) v = line_sum x v.parts (of s v.calls) (roll s v.rolls)
 
--- an idle line counts for nothing
-idle_line : (W : Type 0) (x : LineSum) (p : ℕ) → line_sum {W = W} x p idle ≡ 0
+-- an idle line without a list counts for nothing
+idle_line : (W : Type 0) (x : LineSum) (p : ℕ) → line_sum {W = W} x p idle no_roll ≡ 0
 idle_line W lists p = refl
-idle_line W told_ones p = refl
-idle_line W answers p = only_zero p
-idle_line W closes p = only_zero p
+idle_line W (answering to_one) p = let z = only_zero p in omega arith
+idle_line W (answering to_all) p = only_zero p
 idle_line W (waiting key) p = refl
 idle_line W (holding key) p = only_zero p
 idle_line W (tickets key) p = refl
 idle_line W (in_list key) p = refl
+
+-- and so on each side
+nowhere : (W : Type 0) (s : Side) (x : LineSum) (p : ℕ) → line_sum {W = W} x p (of s idle_lines) (roll s no_rolls) ≡ 0
+nowhere W s x p = at_nobody W (λ l r. line_sum x p l r) (idle_line W x p) s
 
 nothing : (T W : Type 0) (k : Sum T) → sum_of {W = W} k nobody ≡ 0
 nothing T W parts = refl
@@ -68,7 +73,7 @@ nothing T W owns = refl
 nothing T W (putting f) = refl
 nothing T W (taking f) = refl
 nothing T W (seeing f) = refl
-nothing T W (on s x) = at_nobody T W (line_sum x 0) (idle_line W x 0) s
+nothing T W (on s x) = nowhere W s x 0
 
 module _ {T W : Type 0} where
   -- the rule speaks of these sums alone
@@ -78,15 +83,10 @@ module _ {T W : Type 0} where
         whole = each parts ∙ k.whole;
         one = λ side. each (on side lists) ∙ k.one side;
         place = slot_by w s _ _ _ _ (sym (each locks)) (sym (each owns)) k.place;
-        owed = λ side key some_waiting.
+        owed = λ d side key some_waiting.
             let x : total (waits_of side key) ws ≡ total (waits_of side key) vs = each (on side (waiting key)) in
-            let y : total (told_of side) ws ≡ total (told_of side) vs = each (on side told_ones) in
-            let z : total (answers_of side) ws ≡ total (answers_of side) vs = each (on side answers) in
             let h : total (holds_of side key) vs ≡ total (holds_of side key) ws = sym (each (on side (holding key))) in
-            owed_by (wanted side w c) (total (told_of side) vs + total (answers_of side) vs) (total (holds_of side key) vs) (total (told_of side) ws + total (answers_of side) ws) (total (holds_of side key) ws) (omega arith) h (k.owed side key (omega arith));
-        shutting = λ side key some_waiting.
-            let x : total (waits_of side key) ws ≡ total (waits_of side key) vs = each (on side (waiting key)) in
-            owed_by (shut_count c) (total (closes_of side) vs) (total (holds_of side key) vs) (total (closes_of side) ws) (total (holds_of side key) ws) (sym (each (on side closes))) (sym (each (on side (holding key)))) (k.shutting side key (omega arith));
+            owed_by (wanted d side w c) (total (answered_of d side) vs) (total (holds_of side key) vs) (total (answered_of d side) ws) (total (holds_of side key) ws) (as_many d side) h (k.owed d side key (omega arith));
         tickets = λ side key.
             let x : total (tickets_of side key) ws ≡ total (tickets_of side key) vs = each (on side (tickets key)) in
             let y : total (listed_of side key) ws ≡ total (listed_of side key) vs = each (on side (in_list key)) in
@@ -97,6 +97,10 @@ module _ {T W : Type 0} where
         closings = closings_by c (messages w) _ _ (λ f. sym (each (seeing f))) k.closings;
       }
     where
+      as_many : (d : Duty) (side : Side) → total (answered_of d side) vs ≡ total (answered_of d side) ws
+      as_many to_one side = sym (each (on side (answering to_one)))
+      as_many to_all side = sym (each (on side (answering to_all)))
+
       of_history : Ordered s vs → Ordered s ws
       of_history (h, (counted, last), agrees) =
           let n = sym (each (putting Rattle.channel_wakeups.specs.Log.each)) in
@@ -132,19 +136,18 @@ module _ {T W : Type 0} where
 -- ---- a pass goes into a list's seat, and comes out of it
 
 module _ {W : Type 0} where
-  enters_line : (x : LineSum) (n p : ℕ) (l m : Line W) → n ≡ 0 → l.ticket ≡ 0 → m.lists ≡ 0 → line_sum x p (both_parts l m) ≡ line_sum x n l + line_sum x p m
-  enters_line lists n p l m no_part untied no_list = omega arith
-  enters_line told_ones n p l m no_part untied no_list = let z = only_none m.lists (told m.listeners) no_list in omega arith
-  enters_line answers n p l m no_part untied no_list = let z = only_none n l.answers no_part in omega arith
-  enters_line closes n p l m no_part untied no_list = let z = only_none n l.closes no_part in omega arith
-  enters_line (waiting key) n p l m no_part untied no_list = let z = only_none m.lists (waits key m.listeners) no_list in omega arith
-  enters_line (holding key) n p l m no_part untied no_list = let z = only_none n (is_key key l.holds) no_part in omega arith
-  enters_line (tickets key) n p l m no_part untied no_list = let z : is_key key l.ticket ≡ 0 = ap (is_key key) untied in omega arith
-  enters_line (in_list key) n p l m no_part untied no_list = let z = only_none m.lists (listed key m.listeners) no_list in omega arith
+  enters_line : (x : LineSum) (n p : ℕ) (l m : Line) (r q : Roll W) → n ≡ 0 → l.ticket ≡ 0 → q.here ≡ 0 → line_sum x p m r ≡ line_sum x n l r + line_sum x p m q
+  enters_line lists n p l m r q no_part untied no_list = omega arith
+  enters_line (answering to_one) n p l m r q no_part untied no_list = let y = only_none q.here (told q.listeners) no_list in let z = only_none n l.answers no_part in omega arith
+  enters_line (answering to_all) n p l m r q no_part untied no_list = let z = only_none n l.tells no_part in omega arith
+  enters_line (waiting key) n p l m r q no_part untied no_list = let z = only_none q.here (waits key q.listeners) no_list in omega arith
+  enters_line (holding key) n p l m r q no_part untied no_list = let z = only_none n (is_key key l.holds) no_part in omega arith
+  enters_line (tickets key) n p l m r q no_part untied no_list = let z : is_key key l.ticket ≡ 0 = ap (is_key key) untied in omega arith
+  enters_line (in_list key) n p l m r q no_part untied no_list = let z = only_none q.here (listed key q.listeners) no_list in omega arith
 
 module _ {T W : Type 0} where
-  pub enters : (id : ℕ) (v : View T W) (port : ℕ) (w : View T W) → v.parts ≡ 0 → v.receives.ticket ≡ 0 → v.sends.ticket ≡ 0 → w.receives.lists ≡ 0 → w.sends.lists ≡ 0 → Joins {S = Option T} Woken id v port w (entered v w) nobody
-  enters id v port w no_part a b c d = joins id v port w (entered v w) adds (λ g x y. y)
+  pub enters : (id : ℕ) (v : View T W) (port : ℕ) (w : View T W) → v.parts ≡ 0 → v.calls ≡ idle_lines → w.rolls ≡ no_rolls → Joins {S = Option T} Woken id v port w (entered v w) nobody
+  enters id v port w no_part no_call no_list = joins id v port w (entered v w) adds (λ g x y. y)
     where
       adds : (k : Sum T) → sum_of k (entered v w) ≡ sum_of k v + sum_of k w
       adds parts = omega arith
@@ -153,19 +156,17 @@ module _ {T W : Type 0} where
       adds (putting f) = let z = only_none v.parts (puts f v.log) no_part in omega arith
       adds (taking f) = let z = only_none v.parts (takes f v.log) no_part in omega arith
       adds (seeing f) = let z = only_none v.parts (sights f v.log) no_part in omega arith
-      adds (on of_receives x) = enters_line x v.parts w.parts v.receives w.receives no_part a c
-      adds (on of_sends x) = enters_line x v.parts w.parts v.sends w.sends no_part b d
+      adds (on s x) = enters_line x v.parts w.parts (of s v.calls) (of s w.calls) (roll s v.rolls) (roll s w.rolls) no_part (idle_ticket s v.calls no_call) (none_there W s w.rolls no_list)
 
 module _ {W : Type 0} where
-  leaves_line : (x : LineSum) (p : ℕ) (l : Line W) → line_sum x 0 (list_part l) + line_sum x p (call_part l) ≡ line_sum x p l
-  leaves_line lists p l = omega arith
-  leaves_line told_ones p l = omega arith
-  leaves_line answers p l = omega arith
-  leaves_line closes p l = omega arith
-  leaves_line (waiting key) p l = omega arith
-  leaves_line (holding key) p l = omega arith
-  leaves_line (tickets key) p l = omega arith
-  leaves_line (in_list key) p l = omega arith
+  leaves_line : (x : LineSum) (p : ℕ) (l : Line) (r : Roll W) → line_sum x 0 idle r + line_sum {W = W} x p l no_roll ≡ line_sum x p l r
+  leaves_line lists p l r = omega arith
+  leaves_line (answering to_one) p l r = omega arith
+  leaves_line (answering to_all) p l r = omega arith
+  leaves_line (waiting key) p l r = omega arith
+  leaves_line (holding key) p l r = omega arith
+  leaves_line (tickets key) p l r = omega arith
+  leaves_line (in_list key) p l r = omega arith
 
 module _ {T W : Type 0} where
   pub leaves : (id : ℕ) (v : View T W) → Splits {S = Option T} Woken id v (stays v) (comes_out v)
@@ -178,130 +179,155 @@ module _ {T W : Type 0} where
       adds (putting f) = omega arith
       adds (taking f) = omega arith
       adds (seeing f) = omega arith
-      adds (on of_receives x) = leaves_line x v.parts v.receives
-      adds (on of_sends x) = leaves_line x v.parts v.sends
+      adds (on of_receives x) = leaves_line x v.parts v.calls.receives v.rolls.receives
+      adds (on of_sends x) = leaves_line x v.parts v.calls.sends v.rolls.sends
+      adds (on of_streams x) = leaves_line x v.parts v.calls.streams v.rolls.streams
+      adds (on of_closings x) = leaves_line x v.parts v.calls.closings v.rolls.closings
 
-  -- the seat of both lists becomes one of each
-  pub divides : (id : ℕ) (v : View T W) → v.parts ≡ 0 → Splits {S = Option T} Woken id v (receives_alone v) (sends_alone v)
-  divides id v no_part = splits id v (receives_alone v) (sends_alone v) adds (λ g b. (tt, tt))
+module _ {W : Type 0} where
+  -- the same line, or list, counts the same
+  line_by : (x : LineSum) (p : ℕ) (l m : Line) (r q : Roll W) → l ≡ m → r ≡ q → line_sum x p l r ≡ line_sum x p m q
+  line_by x p l m r q e d = λ k. line_sum x p (e k) (d k)
+
+module _ {T W : Type 0} where
+  -- a seat of lists gives one of them away
+  pub divides : (side : Side) (id : ℕ) (v : View T W) → v.parts ≡ 0 → v.calls ≡ idle_lines → Splits {S = Option T} Woken id v (without side v) (alone side v)
+  divides side id v no_part no_call = splits id v (without side v) (alone side v) adds (λ g b. (tt, tt))
     where
-      adds : (k : Sum T) → sum_of k (receives_alone v) + sum_of k (sends_alone v) ≡ sum_of k v
+      -- the line of a seat without a call
+      idle_there : (s : Side) (x : LineSum) (r : Roll W) → line_sum {W = W} x v.parts (of s v.calls) r ≡ line_sum {W = W} x 0 (of s idle_lines) r
+      idle_there s x r = λ k. line_sum {W = W} x (no_part k) (of s (no_call k)) r
+
+      shared : (s : Side) (x : LineSum) → (s ≡ side) ⊎ Untouched W side s
+          → line_sum {W = W} x 0 (of s idle_lines) (roll s (with_roll side no_roll v.rolls)) + line_sum {W = W} x 0 (of s idle_lines) (roll s (with_roll side (roll side v.rolls) no_rolls)) ≡ line_sum {W = W} x 0 (of s idle_lines) (roll s v.rolls)
+      shared s x (inl is) =
+          subst (λ (t : Side). line_sum {W = W} x 0 (of t idle_lines) (roll t (with_roll side no_roll v.rolls)) + line_sum {W = W} x 0 (of t idle_lines) (roll t (with_roll side (roll side v.rolls) no_rolls)) ≡ line_sum {W = W} x 0 (of t idle_lines) (roll t v.rolls)) (sym is)
+          (let a = line_by {W = W} x 0 (of side idle_lines) (of side idle_lines) _ _ refl (roll_with W side no_roll v.rolls) in
+          let b = line_by {W = W} x 0 (of side idle_lines) (of side idle_lines) _ _ refl (roll_with W side (roll side v.rolls) no_rolls) in
+          let c : line_sum {W = W} x 0 (of side idle_lines) no_roll ≡ 0 = at_nobody W (λ l r. line_sum {W = W} x 0 l no_roll) (idle_line W x 0) side in
+          omega arith)
+      shared s x (inr other) =
+          let a = line_by {W = W} x 0 (of s idle_lines) (of s idle_lines) _ _ refl (other.1 no_roll v.rolls) in
+          let b = line_by {W = W} x 0 (of s idle_lines) (of s idle_lines) _ _ refl (other.1 (roll side v.rolls) no_rolls) in
+          let c = nowhere W s x 0 in
+          omega arith
+
+      adds : (k : Sum T) → sum_of k (without side v) + sum_of k (alone side v) ≡ sum_of k v
       adds parts = omega arith
       adds locks = let z = only_none v.parts (only v.owns 1) no_part in omega arith
       adds owns = let z = only_none v.parts v.owns no_part in omega arith
       adds (putting f) = let z = only_none v.parts (puts f v.log) no_part in omega arith
       adds (taking f) = let z = only_none v.parts (takes f v.log) no_part in omega arith
       adds (seeing f) = let z = only_none v.parts (sights f v.log) no_part in omega arith
-      adds (on of_receives x) = let z = idle_line W x 0 in let y : line_sum x v.parts v.receives ≡ line_sum x 0 v.receives = ap (λ (n : ℕ). line_sum x n v.receives) no_part in omega arith
-      adds (on of_sends x) = let z = idle_line W x 0 in let y : line_sum x v.parts v.sends ≡ line_sum x 0 v.sends = ap (λ (n : ℕ). line_sum x n v.sends) no_part in omega arith
+      adds (on s x) = shared s x (which W side s) ∙ sym (idle_there s x (roll s v.rolls))
 
   -- ---- passes with nothing under way
 
-  pub absorbs : (id p port q : ℕ) (lg mg : List (Transfer T)) → 0 < p → 0 < q → Joins {S = Option T} Woken id (pass {W = W} p 0 idle idle lg) port (pass q 0 idle idle mg) (absorbed (pass p 0 idle idle lg) (pass q 0 idle idle mg)) nobody
-  absorbs id p port q lg mg sp sq = joins id (pass p 0 idle idle lg) port (pass q 0 idle idle mg) (absorbed (pass p 0 idle idle lg) (pass q 0 idle idle mg)) adds (λ g b c. agrees_append g lg mg b c)
+  abbrev pub idle_pass : ℕ → List (Transfer T) → View T W
+  idle_pass p lg = pass p 0 idle_lines no_rolls lg
+
+  pub absorbs : (id p port q : ℕ) (lg mg : List (Transfer T)) → 0 < p → 0 < q → Joins {S = Option T} Woken id (idle_pass p lg) port (idle_pass q mg) (absorbed (idle_pass p lg) (idle_pass q mg)) nobody
+  absorbs id p port q lg mg sp sq = joins id (idle_pass p lg) port (idle_pass q mg) (absorbed (idle_pass p lg) (idle_pass q mg)) adds (λ g b c. agrees_append g lg mg b c)
     where
-      adds : (k : Sum T) → sum_of {W = W} k (absorbed (pass p 0 idle idle lg) (pass q 0 idle idle mg)) ≡ sum_of {W = W} k (pass p 0 idle idle lg) + sum_of {W = W} k (pass q 0 idle idle mg)
+      adds : (k : Sum T) → sum_of k (absorbed (idle_pass p lg) (idle_pass q mg)) ≡ sum_of k (idle_pass p lg) + sum_of k (idle_pass q mg)
       adds parts = refl
       adds locks = omega (arith, only_zero (p + q), only_zero p, only_zero q)
       adds owns = omega (arith, only_zero (p + q), only_zero p, only_zero q)
       adds (putting f) = omega (arith, puts_append f lg mg, only_some (p + q) (puts f (lg ++ mg)) (omega arith), only_some p (puts f lg) sp, only_some q (puts f mg) sq)
       adds (taking f) = omega (arith, takes_append f lg mg, only_some (p + q) (takes f (lg ++ mg)) (omega arith), only_some p (takes f lg) sp, only_some q (takes f mg) sq)
       adds (seeing f) = omega (arith, sights_append f lg mg, only_some (p + q) (sights f (lg ++ mg)) (omega arith), only_some p (sights f lg) sp, only_some q (sights f mg) sq)
-      adds (on of_receives x) = omega (arith, idle_line W x (p + q), idle_line W x p, idle_line W x q)
-      adds (on of_sends x) = omega (arith, idle_line W x (p + q), idle_line W x p, idle_line W x q)
+      adds (on s x) = omega (arith, nowhere W s x (p + q), nowhere W s x p, nowhere W s x q)
 
-  pub shares : (id p : ℕ) (lg : List (Transfer T)) → 1 < p → Splits {S = Option T} Woken id (pass {W = W} p 0 idle idle lg) (kept_half (pass p 0 idle idle lg)) (given_half (pass p 0 idle idle lg))
-  shares id p lg more = splits id (pass p 0 idle idle lg) (kept_half (pass p 0 idle idle lg)) (given_half (pass p 0 idle idle lg)) adds (λ g b. (b, tt))
+  pub shares : (id p : ℕ) (lg : List (Transfer T)) → 1 < p → Splits {S = Option T} Woken id (idle_pass p lg) (kept_half (idle_pass p lg)) (given_half (idle_pass p lg))
+  shares id p lg more = splits id (idle_pass p lg) (kept_half (idle_pass p lg)) (given_half (idle_pass p lg)) adds (λ g b. (b, tt))
     where
-      adds : (k : Sum T) → sum_of {W = W} k (kept_half (pass p 0 idle idle lg)) + sum_of {W = W} k (given_half (pass p 0 idle idle lg)) ≡ sum_of {W = W} k (pass p 0 idle idle lg)
+      adds : (k : Sum T) → sum_of k (kept_half (idle_pass p lg)) + sum_of k (given_half (idle_pass p lg)) ≡ sum_of k (idle_pass p lg)
       adds parts = omega arith
       adds locks = omega (arith, only_zero (p - p / 2), only_zero (p / 2), only_zero p)
       adds owns = omega (arith, only_zero (p - p / 2), only_zero (p / 2), only_zero p)
       adds (putting f) = omega (arith, only_some (p - p / 2) (puts f lg) (omega arith), only_zero (p / 2), only_some p (puts f lg) (omega arith))
       adds (taking f) = omega (arith, only_some (p - p / 2) (takes f lg) (omega arith), only_zero (p / 2), only_some p (takes f lg) (omega arith))
       adds (seeing f) = omega (arith, only_some (p - p / 2) (sights f lg) (omega arith), only_zero (p / 2), only_some p (sights f lg) (omega arith))
-      adds (on of_receives x) = omega (arith, idle_line W x (p - p / 2), idle_line W x (p / 2), idle_line W x p)
-      adds (on of_sends x) = omega (arith, idle_line W x (p - p / 2), idle_line W x (p / 2), idle_line W x p)
+      adds (on s x) = omega (arith, nowhere W s x (p - p / 2), nowhere W s x (p / 2), nowhere W s x p)
 
 -- ---- a ticket is given out, and taken in
 
 module _ {W : Type 0} where
   -- a line counts the same for every number of parts but none
-  any_parts : (x : LineSum) (p q : ℕ) (l : Line W) → 0 < p → 0 < q → line_sum x p l ≡ line_sum x q l
-  any_parts lists p q l sp sq = refl
-  any_parts told_ones p q l sp sq = refl
-  any_parts answers p q l sp sq = only_some p l.answers sp ∙ sym (only_some q l.answers sq)
-  any_parts closes p q l sp sq = only_some p l.closes sp ∙ sym (only_some q l.closes sq)
-  any_parts (waiting key) p q l sp sq = refl
-  any_parts (holding key) p q l sp sq = only_some p (is_key key l.holds) sp ∙ sym (only_some q (is_key key l.holds) sq)
-  any_parts (tickets key) p q l sp sq = refl
-  any_parts (in_list key) p q l sp sq = refl
+  any_parts : (x : LineSum) (p q : ℕ) (l : Line) (r : Roll W) → 0 < p → 0 < q → line_sum x p l r ≡ line_sum x q l r
+  any_parts lists p q l r sp sq = refl
+  any_parts (answering to_one) p q l r sp sq = let a = only_some p l.answers sp in let b = only_some q l.answers sq in omega arith
+  any_parts (answering to_all) p q l r sp sq = only_some p l.tells sp ∙ sym (only_some q l.tells sq)
+  any_parts (waiting key) p q l r sp sq = refl
+  any_parts (holding key) p q l r sp sq = only_some p (is_key key l.holds) sp ∙ sym (only_some q (is_key key l.holds) sq)
+  any_parts (tickets key) p q l r sp sq = refl
+  any_parts (in_list key) p q l r sp sq = refl
 
   -- a line without its ticket, and the ticket
-  ticket_line : (x : LineSum) (p t : ℕ) (l : Line W) → line_sum x p (ticketed 0 l) + line_sum {W = W} x 1 (calling 0 0 t) ≡ line_sum x p (ticketed t l)
-  ticket_line lists p t l = omega arith
-  ticket_line told_ones p t l = omega arith
-  ticket_line answers p t l = omega arith
-  ticket_line closes p t l = omega arith
-  ticket_line (waiting key) p t l = omega arith
-  ticket_line (holding key) p t l = omega arith
-  ticket_line (tickets key) p t l = omega arith
-  ticket_line (in_list key) p t l = omega arith
-
-  -- a line with a ticket that had none
-  with_line : (x : LineSum) (p t : ℕ) (l : Line W) → 0 < p → l.ticket ≡ 0 → line_sum x (p + 1) (ticketed t l) ≡ line_sum x p l + line_sum {W = W} x 1 (calling 0 0 t)
-  with_line x p t l some_part untied =
-      let same : line_sum x p l ≡ line_sum x p (ticketed 0 l) = ap (λ (n : ℕ). line_sum x p (ticketed n l)) untied in
-      omega (arith, ticket_line x p t l, any_parts x (p + 1) p (ticketed t l) (omega arith) some_part)
+  ticket_line : (x : LineSum) (p t : ℕ) (l : Line) (r : Roll W) → line_sum x p (ticketed 0 l) r + line_sum {W = W} x 1 (calling 0 0 t) no_roll ≡ line_sum x p (ticketed t l) r
+  ticket_line lists p t l r = omega arith
+  ticket_line (answering to_one) p t l r = omega arith
+  ticket_line (answering to_all) p t l r = omega arith
+  ticket_line (waiting key) p t l r = omega arith
+  ticket_line (holding key) p t l r = omega arith
+  ticket_line (tickets key) p t l r = omega arith
+  ticket_line (in_list key) p t l r = omega arith
 
 module _ {T W : Type 0} where
-  pub gives_ticket : (s : Side) (id : ℕ) (v : View T W) → 1 < v.parts → Splits {S = Option T} Woken id v (no_ticket s v) (ticket_of s v)
-  gives_ticket of_receives id v more = splits id v (no_ticket of_receives v) (ticket_of of_receives v) adds (λ g b. (b, tt))
-    where
-      adds : (k : Sum T) → sum_of k (no_ticket of_receives v) + sum_of k (ticket_of of_receives v) ≡ sum_of k v
-      adds parts = omega arith
-      adds locks = omega (arith, only_some (v.parts - 1) (only v.owns 1) (omega arith), only_some v.parts (only v.owns 1) (omega arith))
-      adds owns = omega (arith, only_some (v.parts - 1) v.owns (omega arith), only_some v.parts v.owns (omega arith))
-      adds (putting f) = omega (arith, only_some (v.parts - 1) (puts f v.log) (omega arith), only_some v.parts (puts f v.log) (omega arith))
-      adds (taking f) = omega (arith, only_some (v.parts - 1) (takes f v.log) (omega arith), only_some v.parts (takes f v.log) (omega arith))
-      adds (seeing f) = omega (arith, only_some (v.parts - 1) (sights f v.log) (omega arith), only_some v.parts (sights f v.log) (omega arith))
-      adds (on of_receives x) = omega (arith, ticket_line x (v.parts - 1) v.receives.ticket v.receives, any_parts x (v.parts - 1) v.parts v.receives (omega arith) (omega arith))
-      adds (on of_sends x) = omega (arith, idle_line W x 1, any_parts x (v.parts - 1) v.parts v.sends (omega arith) (omega arith))
-  gives_ticket of_sends id v more = splits id v (no_ticket of_sends v) (ticket_of of_sends v) adds (λ g b. (b, tt))
-    where
-      adds : (k : Sum T) → sum_of k (no_ticket of_sends v) + sum_of k (ticket_of of_sends v) ≡ sum_of k v
-      adds parts = omega arith
-      adds locks = omega (arith, only_some (v.parts - 1) (only v.owns 1) (omega arith), only_some v.parts (only v.owns 1) (omega arith))
-      adds owns = omega (arith, only_some (v.parts - 1) v.owns (omega arith), only_some v.parts v.owns (omega arith))
-      adds (putting f) = omega (arith, only_some (v.parts - 1) (puts f v.log) (omega arith), only_some v.parts (puts f v.log) (omega arith))
-      adds (taking f) = omega (arith, only_some (v.parts - 1) (takes f v.log) (omega arith), only_some v.parts (takes f v.log) (omega arith))
-      adds (seeing f) = omega (arith, only_some (v.parts - 1) (sights f v.log) (omega arith), only_some v.parts (sights f v.log) (omega arith))
-      adds (on of_receives x) = omega (arith, idle_line W x 1, any_parts x (v.parts - 1) v.parts v.receives (omega arith) (omega arith))
-      adds (on of_sends x) = omega (arith, ticket_line x (v.parts - 1) v.sends.ticket v.sends, any_parts x (v.parts - 1) v.parts v.sends (omega arith) (omega arith))
+  -- a pass without the ticket of a side, that ticket, and the pass with it
+  module _ (side : Side) (v : View T W) (p q t : ℕ) (some_part : 0 < p) (more : 0 < q) where
+    ticket_there : (s : Side) (x : LineSum) → (s ≡ side) ⊎ Untouched W side s → sum_of {T = T} (on s x) (ticket_is side p 0 v) + sum_of {T = T} {W = W} (on s x) (one_ticket side t) ≡ sum_of {T = T} (on s x) (ticket_is side q t v)
+    ticket_there s x (inl is) =
+        subst (λ (y : Side). sum_of {T = T} (on y x) (ticket_is side p 0 v) + sum_of {T = T} {W = W} (on y x) (one_ticket side t) ≡ sum_of {T = T} (on y x) (ticket_is side q t v)) (sym is)
+        (let l = of side v.calls in
+        let r = roll side v.rolls in
+        let a : sum_of {T = T} (on side x) (ticket_is side p 0 v) ≡ line_sum x p (ticketed 0 l) r = line_by x p _ _ r r (of_with side (ticketed 0 l) v.calls) refl in
+        let b : sum_of {T = T} {W = W} (on side x) (one_ticket side t) ≡ line_sum {W = W} x 1 (calling 0 0 t) no_roll = line_by x 1 _ _ _ _ (of_with side (calling 0 0 t) idle_lines) (nothing_there side) in
+        let c : sum_of {T = T} (on side x) (ticket_is side q t v) ≡ line_sum x q (ticketed t l) r = line_by x q _ _ r r (of_with side (ticketed t l) v.calls) refl in
+        omega (arith, ticket_line x p t l r, any_parts x p q (ticketed t l) r some_part more))
+      where
+        nothing_there : (s : Side) → roll s (no_rolls {W = W}) ≡ no_roll
+        nothing_there of_receives = refl
+        nothing_there of_sends = refl
+        nothing_there of_streams = refl
+        nothing_there of_closings = refl
+    ticket_there s x (inr other) =
+        let l = of side v.calls in
+        let r = roll s v.rolls in
+        let a : sum_of {T = T} (on s x) (ticket_is side p 0 v) ≡ line_sum x p (of s v.calls) r = line_by x p _ _ r r (other.0 (ticketed 0 l) v.calls) refl in
+        let b : sum_of {T = T} {W = W} (on s x) (one_ticket side t) ≡ line_sum {W = W} x 1 (of s idle_lines) (roll s no_rolls) = line_by x 1 _ _ _ _ (other.0 (calling 0 0 t) idle_lines) refl in
+        let c : sum_of {T = T} (on s x) (ticket_is side q t v) ≡ line_sum x q (of s v.calls) r = line_by x q _ _ r r (other.0 (ticketed t l) v.calls) refl in
+        omega (arith, nowhere W s x 1, any_parts x p q (of s v.calls) r some_part more)
 
-  pub takes_ticket : (s : Side) (id : ℕ) (v : View T W) (port t : ℕ) → 0 < v.parts → (of s v).ticket ≡ 0 → Joins {S = Option T} Woken id v port (one_ticket s t) (with_ticket s v (one_ticket s t)) nobody
-  takes_ticket of_receives id v port t some_part untied = joins id v port (one_ticket of_receives t) (with_ticket of_receives v (one_ticket of_receives t)) adds (λ g b c. b)
+    ticket_adds : p + 1 ≡ q → (k : Sum T) → sum_of k (ticket_is side p 0 v) + sum_of {W = W} k (one_ticket side t) ≡ sum_of k (ticket_is side q t v)
+    ticket_adds e parts = e
+    ticket_adds e locks = omega (arith, only_some p (only v.owns 1) some_part, only_some q (only v.owns 1) more)
+    ticket_adds e owns = omega (arith, only_some p v.owns some_part, only_some q v.owns more)
+    ticket_adds e (putting f) = omega (arith, only_some p (puts f v.log) some_part, only_some q (puts f v.log) more)
+    ticket_adds e (taking f) = omega (arith, only_some p (takes f v.log) some_part, only_some q (takes f v.log) more)
+    ticket_adds e (seeing f) = omega (arith, only_some p (sights f v.log) some_part, only_some q (sights f v.log) more)
+    ticket_adds e (on s x) = ticket_there s x (which W side s)
+
+  -- a pass with the parts and the ticket that it has
+  as_it_is : (side : Side) (v : View T W) → ticket_is side v.parts (of side v.calls).ticket v ≡ v
+  as_it_is of_receives v = refl
+  as_it_is of_sends v = refl
+  as_it_is of_streams v = refl
+  as_it_is of_closings v = refl
+
+  pub gives_ticket : (s : Side) (id : ℕ) (v : View T W) → 1 < v.parts → Splits {S = Option T} Woken id v (no_ticket s v) (ticket_of s v)
+  gives_ticket s id v more =
+      splits id v (no_ticket s v) (ticket_of s v) (λ k. ticket_adds s v (v.parts - 1) v.parts (of s v.calls).ticket (omega arith) (omega arith) (omega arith) k ∙ ap (λ (u : View T W). sum_of k u) (as_it_is s v)) (λ g b. (b, tt))
+
+  pub takes_ticket : (s : Side) (id : ℕ) (v : View T W) (port t : ℕ) → 0 < v.parts → (of s v.calls).ticket ≡ 0 → Joins {S = Option T} Woken id v port (one_ticket s t) (with_ticket s v (one_ticket s t)) nobody
+  takes_ticket s id v port t some_part untied =
+      joins id v port (one_ticket s t) (with_ticket s v (one_ticket s t)) adds (λ g b c. b)
     where
-      adds : (k : Sum T) → sum_of k (with_ticket of_receives v (one_ticket of_receives t)) ≡ sum_of k v + sum_of {W = W} k (one_ticket of_receives t)
-      adds parts = refl
-      adds locks = omega (arith, only_some (v.parts + 1) (only v.owns 1) (omega arith), only_some v.parts (only v.owns 1) some_part)
-      adds owns = omega (arith, only_some (v.parts + 1) v.owns (omega arith), only_some v.parts v.owns some_part)
-      adds (putting f) = omega (arith, only_some (v.parts + 1) (puts f v.log) (omega arith), only_some v.parts (puts f v.log) some_part)
-      adds (taking f) = omega (arith, only_some (v.parts + 1) (takes f v.log) (omega arith), only_some v.parts (takes f v.log) some_part)
-      adds (seeing f) = omega (arith, only_some (v.parts + 1) (sights f v.log) (omega arith), only_some v.parts (sights f v.log) some_part)
-      adds (on of_receives x) = with_line x v.parts t v.receives some_part untied
-      adds (on of_sends x) = omega (arith, idle_line W x 1, any_parts x (v.parts + 1) v.parts v.sends (omega arith) some_part)
-  takes_ticket of_sends id v port t some_part untied = joins id v port (one_ticket of_sends t) (with_ticket of_sends v (one_ticket of_sends t)) adds (λ g b c. b)
-    where
-      adds : (k : Sum T) → sum_of k (with_ticket of_sends v (one_ticket of_sends t)) ≡ sum_of k v + sum_of {W = W} k (one_ticket of_sends t)
-      adds parts = refl
-      adds locks = omega (arith, only_some (v.parts + 1) (only v.owns 1) (omega arith), only_some v.parts (only v.owns 1) some_part)
-      adds owns = omega (arith, only_some (v.parts + 1) v.owns (omega arith), only_some v.parts v.owns some_part)
-      adds (putting f) = omega (arith, only_some (v.parts + 1) (puts f v.log) (omega arith), only_some v.parts (puts f v.log) some_part)
-      adds (taking f) = omega (arith, only_some (v.parts + 1) (takes f v.log) (omega arith), only_some v.parts (takes f v.log) some_part)
-      adds (seeing f) = omega (arith, only_some (v.parts + 1) (sights f v.log) (omega arith), only_some v.parts (sights f v.log) some_part)
-      adds (on of_receives x) = omega (arith, idle_line W x 1, any_parts x (v.parts + 1) v.parts v.receives (omega arith) some_part)
-      adds (on of_sends x) = with_line x v.parts t v.sends some_part untied
+      adds : (k : Sum T) → sum_of k (with_ticket s v (one_ticket s t)) ≡ sum_of k v + sum_of {W = W} k (one_ticket s t)
+      adds k =
+          let its : sum_of k (with_ticket s v (one_ticket s t)) ≡ sum_of k (ticket_is s (v.parts + 1) t v) = (λ i. sum_of k (ticket_is s (v.parts + 1) (of_with s (calling 0 0 t) idle_lines i).ticket v)) in
+          let bare : sum_of k (ticket_is s v.parts 0 v) ≡ sum_of k v = ap (λ (u : View T W). sum_of k u) (ap (λ (n : ℕ). ticket_is s v.parts n v) (sym untied) ∙ as_it_is s v) in
+          its ∙ sym (ticket_adds s v v.parts (v.parts + 1) t some_part (omega arith) refl k) ∙ (λ i. bare i + sum_of {W = W} k (one_ticket s t))
 
 module _ {T W : Type 0} where
   -- a new seat that has nothing
@@ -311,22 +337,28 @@ module _ {T W : Type 0} where
 
   -- the start: there is no message, and nobody waits
   pub begins : Woken {T = T} {W = W} (opening (0 ∷ []) (None ∷ []) everything)
-  begins = (0, false, some None, refl, refl, record { whole = refl; one = one_list; place = empty refl refl refl; owed = nobody_waits; shutting = nobody_waits_long; closings = (refl, (λ more. absurd (omega arith)), λ more. absurd (omega arith)); tickets = no_tickets; balance = ((λ k. ((λ less. absurd (omega arith)), λ more. refl)), λ f. refl); order = ([], (refl, λ x e. absurd (no_empty x e)), (tt, tt)) })
+  begins = (0, false, some None, refl, refl, record { whole = refl; one = one_list; place = empty refl refl refl; owed = nobody_waits; closings = (refl, (λ more. absurd (omega arith)), λ more. absurd (omega arith)); tickets = no_tickets; balance = ((λ k. ((λ less. absurd (omega arith)), λ more. refl)), λ f. refl); order = ([], (refl, λ x e. absurd (no_empty x e)), (tt, tt)) })
     where
-      one_list : (s : Side) → total (lists_of s) (everything {T = T} {W = W} ∷ []) ≡ 1
+      one_list : (s : Side) → total (here_of s) (everything {T = T} {W = W} ∷ []) ≡ 1
       one_list of_receives = refl
       one_list of_sends = refl
+      one_list of_streams = refl
+      one_list of_closings = refl
 
-      nobody_waits : (s : Side) (key : ℕ) → Owed (wanted s 0 false) (total (waits_of s key) (everything {T = T} {W = W} ∷ [])) (total (told_of s) (everything {T = T} {W = W} ∷ []) + total (answers_of s) (everything {T = T} {W = W} ∷ [])) (total (holds_of s key) (everything {T = T} {W = W} ∷ []))
-      nobody_waits of_receives key some_waiting = absurd (omega arith)
-      nobody_waits of_sends key some_waiting = absurd (omega arith)
+      none_waiting : (s : Side) (key : ℕ) → total (waits_of s key) (everything {T = T} {W = W} ∷ []) ≡ 0
+      none_waiting of_receives key = refl
+      none_waiting of_sends key = refl
+      none_waiting of_streams key = refl
+      none_waiting of_closings key = refl
 
-      nobody_waits_long : (s : Side) (key : ℕ) → Owed (shut_count false) (total (waits_of s key) (everything {T = T} {W = W} ∷ [])) (total (closes_of s) (everything {T = T} {W = W} ∷ [])) (total (holds_of s key) (everything {T = T} {W = W} ∷ []))
-      nobody_waits_long s key some_waiting = inl (omega arith)
+      nobody_waits : (d : Duty) (s : Side) (key : ℕ) → Owed (wanted d s 0 false) (total (waits_of s key) (everything {T = T} {W = W} ∷ [])) (total (answered_of d s) (everything {T = T} {W = W} ∷ [])) (total (holds_of s key) (everything {T = T} {W = W} ∷ []))
+      nobody_waits d s key some_waiting = let none_there = none_waiting s key in absurd (omega arith)
 
       no_tickets : (s : Side) (key : ℕ) → total (tickets_of s key) (everything {T = T} {W = W} ∷ []) ≤ total (listed_of s key) (everything {T = T} {W = W} ∷ [])
       no_tickets of_receives key = omega arith
       no_tickets of_sends key = omega arith
+      no_tickets of_streams key = omega arith
+      no_tickets of_closings key = omega arith
 
   -- ---- who has every part learns the rule
 
@@ -377,31 +409,30 @@ module _ {T W : Type 0} where
         by_place (full x e d c) b = (Some x, e, of_slot (Some x) d b)
         by_place (out d c e w) b = let none_out = no_locks in absurd (omega arith)
 
-    whole_law : (key : ℕ) → 0 < waits key (of s v).listeners → (wanted s base shut ≤ told (of s v).listeners) × (shut_count shut ≡ 0)
+    whole_law : (key : ℕ) → 0 < waits key (roll s v.rolls).listeners → (wanted to_one s base shut ≤ told (roll s v.rolls).listeners) × (wanted to_all s base shut ≡ 0)
     whole_law key some_waiting =
         let lists = all.1 in
         let mine = all.0 in
-        let z = alone s key vs id v at (k.one s) lists in
-        let no_b = z.0 in
-        let no_t = z.1 in
-        let no_a = none_here (answers_of s) parts_of (set vs id nobody) (λ x e. only_none x.parts (of s x).answers e) no_others in
-        let no_h = none_here (holds_of s key) parts_of (set vs id nobody) (λ x e. only_none x.parts (is_key key (of s x).holds) e) no_others in
-        let wv = only_some (of s v).lists (waits key (of s v).listeners) (omega arith) in
-        let tv = only_some (of s v).lists (told (of s v).listeners) (omega arith) in
-        let av = only_some v.parts (of s v).answers (omega arith) in
         let answers = all.2 in
-        let hv = only_some v.parts (is_key key (of s v).holds) (omega arith) in
-        let none_held : is_key key (of s v).holds ≡ 0 = ap (is_key key) all.3 in
-        let no_c = none_here (closes_of s) parts_of (set vs id nobody) (λ x e. only_none x.parts (of s x).closes e) no_others in
-        let cv = only_some v.parts (of s v).closes (omega arith) in
         let none_owed = all.5 in
-        let cs = was (closes_of s) refl vs id v at in
-        let ws = was (waits_of s key) (at_nobody T W (λ l. only l.lists (waits key l.listeners)) refl s) vs id v at in
-        let ts = was (told_of s) (at_nobody T W (λ l. only l.lists (told l.listeners)) refl s) vs id v at in
-        let ans = was (answers_of s) refl vs id v at in
+        let z = by_itself s key vs id v at (k.one s) lists in
+        let no_b = z.0 in
+        let no_a = none_both (answered_of to_one s) (here_of s) parts_of (set vs id nobody)
+        (λ x e d. let n = only_none (roll s x.rolls).here (told (roll s x.rolls).listeners) e in let m = only_none x.parts (of s x.calls).answers d in omega arith) z.2 no_others in
+        let no_c = none_here (answered_of to_all s) parts_of (set vs id nobody) (λ x e. only_none x.parts (of s x.calls).tells e) no_others in
+        let no_h = none_here (holds_of s key) parts_of (set vs id nobody) (λ x e. only_none x.parts (is_key key (of s x.calls).holds) e) no_others in
+        let wv = only_some (roll s v.rolls).here (waits key (roll s v.rolls).listeners) (omega arith) in
+        let tv = only_some (roll s v.rolls).here (told (roll s v.rolls).listeners) (omega arith) in
+        let av = only_some v.parts (of s v.calls).answers (omega arith) in
+        let cv = only_some v.parts (of s v.calls).tells (omega arith) in
+        let hv = only_some v.parts (is_key key (of s v.calls).holds) (omega arith) in
+        let none_held : is_key key (of s v.calls).holds ≡ 0 = ap (is_key key) all.3 in
+        let ws = was (waits_of s key) (none_waits T W s key) vs id v at in
+        let ts = was (answered_of to_one s) (none_answered T W to_one s) vs id v at in
+        let cs = was (answered_of to_all s) (none_answered T W to_all s) vs id v at in
         let hs = was (holds_of s key) refl vs id v at in (
-          ⊎_elim (λ (c : wanted s base shut ≤ total (told_of s) vs + total (answers_of s) vs). omega arith) (λ (c : 0 < total (holds_of s key) vs). absurd (omega arith)) (k.owed s key (omega arith)),
-          ⊎_elim (λ (c : shut_count shut ≤ total (closes_of s) vs). omega arith) (λ (c : 0 < total (holds_of s key) vs). absurd (omega arith)) (k.shutting s key (omega arith)),
+          ⊎_elim (λ (c : wanted to_one s base shut ≤ total (answered_of to_one s) vs). omega arith) (λ (c : 0 < total (holds_of s key) vs). absurd (omega arith)) (k.owed to_one s key (omega arith)),
+          ⊎_elim (λ (c : wanted to_all s base shut ≤ total (answered_of to_all s) vs). omega arith) (λ (c : 0 < total (holds_of s key) vs). absurd (omega arith)) (k.owed to_all s key (omega arith)),
         )
 
     -- what is known of the closing
@@ -416,64 +447,64 @@ module _ {T W : Type 0} where
             let y = only_some v.parts (sights f v.log) (omega arith) in
             omega arith
 
-    whole_ticket : (key : ℕ) → is_key key (of s v).ticket ≤ listed key (of s v).listeners
+    whole_ticket : (key : ℕ) → is_key key (of s v.calls).ticket ≤ listed key (roll s v.rolls).listeners
     whole_ticket key =
         let lists = all.1 in
-        let z = alone s key vs id v at (k.one s) lists in
-        let no_l = z.2 in
-        let lv = only_some (of s v).lists (listed key (of s v).listeners) (omega arith) in
-        let ls = was (listed_of s key) (at_nobody T W (λ l. only l.lists (listed key l.listeners)) refl s) vs id v at in
-        let ts = was (tickets_of s key) (at_nobody T W (λ l. is_key key l.ticket) refl s) vs id v at in
+        let z = by_itself s key vs id v at (k.one s) lists in
+        let no_l = z.1 in
+        let lv = only_some (roll s v.rolls).here (listed key (roll s v.rolls).listeners) (omega arith) in
+        let ls = was (listed_of s key) (none_listed T W s key) vs id v at in
+        let ts = was (tickets_of s key) (none_tickets T W s key) vs id v at in
         let kept = k.tickets s key in
         omega arith
 
   -- at rest the word is that of a slot at home
   abbrev Rests : Side → View T W → ℕ → Type 0
   Rests s v word =
-      ((key : ℕ) → 0 < waits key (of s v).listeners → due s (has_message word) (is_shut word) ≤ told (of s v).listeners) × ((key : ℕ) → is_key key (of s v).ticket ≤ listed key (of s v).listeners)
+      ((key : ℕ) → 0 < waits key (roll s v.rolls).listeners → due s (has_message word) (is_shut word) ≤ told (roll s v.rolls).listeners) × ((key : ℕ) → is_key key (of s v.calls).ticket ≤ listed key (roll s v.rolls).listeners)
       × ((slot : Option T) × (is_some slot ≡ has_message word) × Accounts slot v.log) × Closings (is_shut word) (cond (has_message word) 1 0) (λ f. sights f v.log)
 
+-- the word of a slot at home says whether a message is there, and whether the channel is closed
+says : (message shut : Bool) → (has_message (word_of (cond message 2 0) shut) ≡ message) × (is_shut (word_of (cond message 2 0) shut) ≡ shut)
+says true true = (refl, refl)
+says true false = (refl, refl)
+says false true = (refl, refl)
+says false false = (refl, refl)
+
+counts : (message : Bool) → messages (cond message 2 0) ≡ cond message 1 0
+counts true = refl
+counts false = refl
+
+-- what is owed while nobody is under way
+due_by : (s : Side) (message shut : Bool) (t : ℕ) → wanted to_one s (cond message 2 0) shut ≤ t → wanted to_all s (cond message 2 0) shut ≡ 0 → due s message shut ≤ t
+due_by of_receives true false t one all = omega arith
+due_by of_receives false false t one all = omega arith
+due_by of_receives message true t one all = absurd (omega arith)
+due_by of_sends true false t one all = omega arith
+due_by of_sends false false t one all = omega arith
+due_by of_sends message true t one all = absurd (omega arith)
+due_by of_streams true false t one all = absurd (omega arith)
+due_by of_streams false false t one all = omega arith
+due_by of_streams message true t one all = absurd (omega arith)
+due_by of_closings message false t one all = omega arith
+due_by of_closings message true t one all = absurd (omega arith)
+
+module _ {T W : Type 0} where
   -- what is known of the state says the same of the word
-  rests : (s : Side) (base : ℕ) (shut : Bool) (v : View T W) (held : Option T) → base ≡ cond (is_some held) 2 0 → ((key : ℕ) → 0 < waits key (of s v).listeners → (wanted s base shut ≤ told (of s v).listeners) × (shut_count shut ≡ 0))
-      → ((key : ℕ) → is_key key (of s v).ticket ≤ listed key (of s v).listeners) → Accounts held v.log → Closings shut (messages base) (λ f. sights f v.log) → Rests s v (word_of base shut)
-  rests s base shut v None is law tied accounts closings =
+  rests : (s : Side) (base : ℕ) (shut : Bool) (v : View T W) (held : Option T) → base ≡ cond (is_some held) 2 0 → ((key : ℕ) → 0 < waits key (roll s v.rolls).listeners → (wanted to_one s base shut ≤ told (roll s v.rolls).listeners) × (wanted to_all s base shut ≡ 0))
+      → ((key : ℕ) → is_key key (of s v.calls).ticket ≤ listed key (roll s v.rolls).listeners) → Accounts held v.log → Closings shut (messages base) (λ f. sights f v.log) → Rests s v (word_of base shut)
+  rests s base shut v held is law tied accounts closings =
+      let m = says (is_some held) shut in
       subst (λ (n : ℕ). Rests s v (word_of n shut)) (sym is) (
-        empty_law s shut (λ key some_waiting. subst (λ (n : ℕ). (wanted s n shut ≤ told (of s v).listeners) × (shut_count shut ≡ 0)) is (law key some_waiting)),
+        (λ key some_waiting. subst (λ (b : Bool). due s b (is_shut (word_of (cond (is_some held) 2 0) shut)) ≤ told (roll s v.rolls).listeners) (sym m.0)
+            (subst (λ (b : Bool). due s (is_some held) b ≤ told (roll s v.rolls).listeners) (sym m.1)
+            (let l = subst (λ (n : ℕ). (wanted to_one s n shut ≤ told (roll s v.rolls).listeners) × (wanted to_all s n shut ≡ 0)) is (law key some_waiting) in due_by s (is_some held) shut (told (roll s v.rolls).listeners) l.0 l.1))),
         tied,
-        (None, sym (empty_says shut).0, accounts),
-        subst (λ (b : Bool). Closings b (cond (has_message (word_of 0 shut)) 1 0) (λ f. sights f v.log)) (sym (empty_says shut).1)
-            (subst (λ (b : Bool). Closings shut (cond b 1 0) (λ f. sights f v.log)) (sym (empty_says shut).0) (subst (λ (n : ℕ). Closings shut (messages n) (λ f. sights f v.log)) is closings)),
+        (held, sym m.0, accounts),
+        subst (λ (b : Bool). Closings b (cond (has_message (word_of (cond (is_some held) 2 0) shut)) 1 0) (λ f. sights f v.log)) (sym m.1)
+            (subst (λ (b : Bool). Closings shut (cond b 1 0) (λ f. sights f v.log)) (sym m.0)
+            (subst (λ (n : ℕ). Closings shut n (λ f. sights f v.log)) (ap messages is ∙ counts (is_some held)) closings)),
       )
-    where
-      empty_says : (shut : Bool) → (has_message (word_of 0 shut) ≡ false) × (is_shut (word_of 0 shut) ≡ shut)
-      empty_says true = (refl, refl)
-      empty_says false = (refl, refl)
-
-      empty_law : (s : Side) (shut : Bool) → ((key : ℕ) → 0 < waits key (of s v).listeners → (wanted s 0 shut ≤ told (of s v).listeners) × (shut_count shut ≡ 0)) → (key : ℕ) → 0 < waits key (of s v).listeners
-          → due s (has_message (word_of 0 shut)) (is_shut (word_of 0 shut)) ≤ told (of s v).listeners
-      empty_law of_receives false law key w = let l = (law key w).0 in omega arith
-      empty_law of_receives true law key w = let l = (law key w).1 in absurd (omega arith)
-      empty_law of_sends false law key w = let l = (law key w).0 in omega arith
-      empty_law of_sends true law key w = let l = (law key w).1 in absurd (omega arith)
-  rests s base shut v (Some x) is law tied accounts closings =
-      subst (λ (n : ℕ). Rests s v (word_of n shut)) (sym is) (
-        full_law s shut (λ key some_waiting. subst (λ (n : ℕ). (wanted s n shut ≤ told (of s v).listeners) × (shut_count shut ≡ 0)) is (law key some_waiting)),
-        tied,
-        (Some x, sym (full_says shut).0, accounts),
-        subst (λ (b : Bool). Closings b (cond (has_message (word_of 2 shut)) 1 0) (λ f. sights f v.log)) (sym (full_says shut).1)
-            (subst (λ (b : Bool). Closings shut (cond b 1 0) (λ f. sights f v.log)) (sym (full_says shut).0) (subst (λ (n : ℕ). Closings shut (messages n) (λ f. sights f v.log)) is closings)),
-      )
-    where
-      full_says : (shut : Bool) → (has_message (word_of 2 shut) ≡ true) × (is_shut (word_of 2 shut) ≡ shut)
-      full_says true = (refl, refl)
-      full_says false = (refl, refl)
-
-      full_law : (s : Side) (shut : Bool) → ((key : ℕ) → 0 < waits key (of s v).listeners → (wanted s 2 shut ≤ told (of s v).listeners) × (shut_count shut ≡ 0)) → (key : ℕ) → 0 < waits key (of s v).listeners
-          → due s (has_message (word_of 2 shut)) (is_shut (word_of 2 shut)) ≤ told (of s v).listeners
-      full_law of_receives false law key w = let l = (law key w).0 in omega arith
-      full_law of_receives true law key w = let l = (law key w).1 in absurd (omega arith)
-      full_law of_sends false law key w = let l = (law key w).0 in omega arith
-      full_law of_sends true law key w = let l = (law key w).1 in absurd (omega arith)
 
   -- the seat is as it was, and knows this
   learned : (s : Side) (base : ℕ) (shut : Bool) (slot : home.Option (Option T)) (views : List (View T W)) (id : ℕ) (v : View T W) → Kept base shut slot views → get_elem? views id ≡ some v → HasAll s v → Rests s v (word_of base shut)

@@ -4,7 +4,7 @@ use Rattle.channel_wakeups.specs.declared.rule.Line.{Line}
 use Rattle.channel_wakeups.specs.declared.listeners.Listener.{Listener}
 use Rattle.channel_wakeups.specs.Lists.{told, waits, listed, is_this}
 use Rattle.channel_wakeups.proofs.Listed.{small_this}
-use Rattle.channel_wakeups.specs.Views.{at_desk, both_parts, calling, is_key, MayWait, MayTicket, Fair}
+use Rattle.channel_wakeups.specs.Views.{calling, idle, is_key, MayWait, MayTicket, Fair}
 
 -- a key and its successor
 is_key_of : (k key : ℕ) → is_key k (key + 1) ≡ is_this key k
@@ -21,8 +21,8 @@ zero_or_one (suc (suc n)) small = absurd (omega arith)
 module _ {W : Type 0} (ls ls' : List (Listener W)) where
   -- a listener that waits no more under its key was taken off, and as many are told as before, or nobody waits
   off_fair : (h key : ℕ) → (h ≡ 0) ⊎ (h ≡ key + 1) → waits key ls' ≡ 0 → ((k : ℕ) → waits k ls' ≤ waits k ls) → (told ls ≤ told ls') ⊎ ((k : ℕ) → waits k ls' ≡ 0) → ((k : ℕ) → listed k ls ≤ listed k ls' + is_this key k)
-      → Fair (at_desk 0 h (key + 1) 0 ls) (at_desk 0 0 0 0 ls')
-  off_fair h key held gone fewer how off = (refl, may_wait, may_ticket)
+      → Fair (calling 0 h (key + 1)) ls idle ls'
+  off_fair h key held gone fewer how off = (may_wait, may_ticket)
     where
       -- the listener in hand waits no more, and of all others none is in hand
       free : (k : ℕ) → 0 < waits k ls' → is_key k h ≡ 0
@@ -34,24 +34,17 @@ module _ {W : Type 0} (ls ls' : List (Listener W)) where
           none_there k true e some one = let same : waits k ls' ≡ waits key ls' = ap (λ (n : ℕ). waits n ls') (sym (true-eqb key k (sym e))) in absurd (omega arith)
           none_there k false e some one = let zero_is : is_this key k ≡ 0 = ap (λ (c : Bool). cond c 1 0) e in absurd (omega arith)
 
-      may_wait : (k : ℕ) → MayWait (at_desk 0 h (key + 1) 0 ls) (at_desk 0 0 0 0 ls') k
+      may_wait : (k : ℕ) → MayWait (calling 0 h (key + 1)) ls idle ls' k
       may_wait k some =
           let f = free k some in
           let w = fewer k in
           ⊎_elim (λ (t : told ls ≤ told ls'). inr (omega arith, omega arith, omega arith, omega arith)) (λ (t : (j : ℕ) → waits j ls' ≡ 0). let z = t k in absurd (omega arith)) how
 
-      may_ticket : (k : ℕ) → MayTicket (at_desk 0 h (key + 1) 0 ls) (at_desk 0 0 0 0 ls') k
+      may_ticket : (k : ℕ) → MayTicket (calling 0 h (key + 1)) ls idle ls' k
       may_ticket k = let o = off k in let i = is_key_of k key in omega arith
 
--- fairness reads no more of a line than this
-fair_of : {W : Type 0} (l m : Line W) (ls : List (Listener W)) (a h t : ℕ) (n : Line W) → l.listeners ≡ ls → m ≡ calling a h t → Fair (at_desk a h t 0 ls) n → Fair (both_parts l m) n
-fair_of l m ls a h t n e f fair = (
-  fair.0,
-  (λ k. subst (λ (x : Line _). MayWait x n k) (λ i. at_desk (sym f i).answers (sym f i).holds (sym f i).ticket (sym f i).closes (sym e i)) (fair.1 k)),
-  (λ k. subst (λ (x : Line _). MayTicket x n k) (λ i. at_desk (sym f i).answers (sym f i).holds (sym f i).ticket (sym f i).closes (sym e i)) (fair.2 k)),
-)
-
--- the same of the line of a list and that of a call
-pub off_from : {W : Type 0} (l m : Line W) (ls ls' : List (Listener W)) (h key : ℕ) → l.listeners ≡ ls → m ≡ calling 0 h (key + 1) → (h ≡ 0) ⊎ (h ≡ key + 1) → waits key ls' ≡ 0
-    → ((k : ℕ) → waits k ls' ≤ waits k ls) → (told ls ≤ told ls') ⊎ ((k : ℕ) → waits k ls' ≡ 0) → ((k : ℕ) → listed k ls ≤ listed k ls' + is_this key k) → Fair (both_parts l m) (at_desk 0 0 0 0 ls')
-off_from l m ls ls' h key list call held gone fewer how off = fair_of l m ls 0 h (key + 1) (at_desk 0 0 0 0 ls') list call (off_fair ls ls' h key held gone fewer how off)
+-- the same of the line of a call and the listeners of a list
+pub off_from : {W : Type 0} (l : Line) (rs ls ls' : List (Listener W)) (h key : ℕ) → rs ≡ ls → l ≡ calling 0 h (key + 1) → (h ≡ 0) ⊎ (h ≡ key + 1) → waits key ls' ≡ 0
+    → ((k : ℕ) → waits k ls' ≤ waits k ls) → (told ls ≤ told ls') ⊎ ((k : ℕ) → waits k ls' ≡ 0) → ((k : ℕ) → listed k ls ≤ listed k ls' + is_this key k) → Fair l rs idle ls'
+off_from l rs ls ls' h key list call held gone fewer how off =
+    subst (λ (x : Line). Fair x rs idle ls') (sym call) (subst (λ (x : List (Listener _)). Fair (calling 0 h (key + 1)) x idle ls') (sym list) (off_fair ls ls' h key held gone fewer how off))

@@ -27,7 +27,7 @@ module _ {T W : Type 0} where
   fills_free : (slots id : ℕ) (m : Known T W) → IsAt Free m → Allows Woken slots id m 0 (λ n. either (n == 0) 3 n) (fills (step slots 0 0 3 none) m)
   fills_free slots id m (some_part, e, f) =
       subst (λ (x : Known T W). Allows Woken slots id x 0 (λ n. either (n == 0) 3 n) (fills (step slots 0 0 3 none) x)) (sym (both m (having 0 m.0) [] e f))
-      (fills_so slots id m.0.parts m.0.receives m.0.sends m.0.log some_part)
+      (fills_so slots id m.0.parts m.0.calls m.0.rolls m.0.log some_part)
 
   pub fills_from : (slots id : ℕ) (m : Known T W) (s : Stage) → s ≡ Free → IsAt s m → Allows Woken slots id m 0 (λ n. either (n == 0) 3 n) (fills (step slots 0 0 3 none) m)
   fills_from slots id m s e i = fills_free slots id m (at_stage m s Free e i)
@@ -35,7 +35,7 @@ module _ {T W : Type 0} where
   wins_free : (slots id : ℕ) (m : Known T W) → IsAt Free m → Allows Woken slots id m 0 (λ n. either (n == 2) 1 n) (wins 2 (step slots 0 2 1 none) m)
   wins_free slots id m (some_part, e, f) =
       subst (λ (x : Known T W). Allows Woken slots id x 0 (λ n. either (n == 2) 1 n) (wins 2 (step slots 0 2 1 none) x)) (sym (both m (having 0 m.0) [] e f))
-      (wins_so slots id m.0.parts m.0.receives m.0.sends m.0.log some_part)
+      (wins_so slots id m.0.parts m.0.calls m.0.rolls m.0.log some_part)
 
   pub wins_from : (slots id : ℕ) (m : Known T W) (s : Stage) → s ≡ Free → IsAt s m → Allows Woken slots id m 0 (λ n. either (n == 2) 1 n) (wins 2 (step slots 0 2 1 none) m)
   wins_from slots id m s e i = wins_free slots id m (at_stage m s Free e i)
@@ -43,7 +43,7 @@ module _ {T W : Type 0} where
   last_free : (slots id : ℕ) (m : Known T W) → IsAt Free m → Allows Woken slots id m 0 (λ n. either (n == 6) 5 n) (wins 6 (step slots 0 6 5 none) m)
   last_free slots id m (some_part, e, f) =
       subst (λ (x : Known T W). Allows Woken slots id x 0 (λ n. either (n == 6) 5 n) (wins 6 (step slots 0 6 5 none) x)) (sym (both m (having 0 m.0) [] e f))
-      (last_so slots id m.0.parts m.0.receives m.0.sends m.0.log some_part)
+      (last_so slots id m.0.parts m.0.calls m.0.rolls m.0.log some_part)
 
   pub last_from : (slots id : ℕ) (m : Known T W) (s : Stage) → s ≡ Free → IsAt s m → Allows Woken slots id m 0 (λ n. either (n == 6) 5 n) (wins 6 (step slots 0 6 5 none) m)
   last_from slots id m s e i = last_free slots id m (at_stage m s Free e i)
@@ -51,7 +51,7 @@ module _ {T W : Type 0} where
   shuts_free : (slots id : ℕ) (m : Known T W) → IsAt Free m → Allows Woken slots id m 0 (λ n. bit_or n 4) (shuts (step slots 0 4 0 none) m)
   shuts_free slots id m (some_part, e, f) =
       subst (λ (x : Known T W). Allows Woken slots id x 0 (λ n. bit_or n 4) (shuts (step slots 0 4 0 none) x)) (sym (both m (having 0 m.0) [] e f))
-      (shuts_so slots id m.0.parts m.0.receives m.0.sends m.0.log some_part)
+      (shuts_so slots id m.0.parts m.0.calls m.0.rolls m.0.log some_part)
 
   pub shuts_from : (slots id : ℕ) (m : Known T W) (s : Stage) → s ≡ Free → IsAt s m → Allows Woken slots id m 0 (λ n. bit_or n 4) (shuts (step slots 0 4 0 none) m)
   shuts_from slots id m s e i = shuts_free slots id m (at_stage m s Free e i)
@@ -59,7 +59,7 @@ module _ {T W : Type 0} where
   sees_free : (slots id : ℕ) (m : Known T W) → IsAt Free m → Allows Woken slots id m 0 (λ n. n) (sees (step slots 0 0 0 none) m)
   sees_free slots id m (some_part, e, f) =
       subst (λ (x : Known T W). Allows Woken slots id x 0 (λ n. n) (sees (step slots 0 0 0 none) x)) (sym (both m (having 0 m.0) [] e f))
-      (sees_so slots id m.0.parts m.0.receives m.0.sends m.0.log some_part)
+      (sees_so slots id m.0.parts m.0.calls m.0.rolls m.0.log some_part)
 
   pub sees_from : (slots id : ℕ) (m : Known T W) (s : Stage) → s ≡ Free → IsAt s m → Allows Woken slots id m 0 (λ n. n) (sees (step slots 0 0 0 none) m)
   sees_from slots id m s e i = sees_free slots id m (at_stage m s Free e i)
@@ -70,11 +70,11 @@ module _ {T W : Type 0} where
   unlocks_full : (slots id : ℕ) (m : Known T W) → IsAt Filled m → MayUnlock slots id m
   unlocks_full slots id m (some_part, e, f) =
       let y = some_message m.1 f in
-      subst (MayUnlock slots id) (sym (both m (having 3 m.0) ((0, Some y.0) ∷ []) e y.1)) (unlocks_filled slots id m.0.parts m.0.receives m.0.sends m.0.log y.0 some_part)
+      subst (MayUnlock slots id) (sym (both m (having 3 m.0) ((0, Some y.0) ∷ []) e y.1)) (unlocks_filled slots id m.0.parts m.0.calls m.0.rolls m.0.log y.0 some_part)
 
   unlocks_empty : (slots id : ℕ) (m : Known T W) → IsAt Emptied m → MayUnlock slots id m
   unlocks_empty slots id m (some_part, e, f) =
-      subst (MayUnlock slots id) (sym (both m (having 1 m.0) ((0, None) ∷ []) e f)) (unlocks_emptied slots id m.0.parts m.0.receives m.0.sends m.0.log some_part)
+      subst (MayUnlock slots id) (sym (both m (having 1 m.0) ((0, None) ∷ []) e f)) (unlocks_emptied slots id m.0.parts m.0.calls m.0.rolls m.0.log some_part)
 
   pub unlocks_from : (slots id : ℕ) (m : Known T W) (s : Stage) → (s ≡ Filled) ⊎ (s ≡ Emptied) → IsAt s m → MayUnlock slots id m
   unlocks_from slots id m s which i = ⊎_elim (λ (e : s ≡ Filled). unlocks_full slots id m (at_stage m s Filled e i)) (λ (e : s ≡ Emptied). unlocks_empty slots id m (at_stage m s Emptied e i)) which

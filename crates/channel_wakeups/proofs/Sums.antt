@@ -4,11 +4,12 @@ use mathlib.Core.Option as home
 use mathlib.Core.Option.{some, some-ne-none, some-injective}
 use lib.ListN.{get_elem?}
 use Rattle.channel_wakeups.specs.declared.rule.Line.{Line}
+use Rattle.channel_wakeups.specs.declared.rule.Roll.{Roll}
 use Rattle.channel_wakeups.specs.declared.rule.View.{View}
 use Rattle.channel_wakeups.specs.Lists.{total, told, waits, listed}
 use Rattle.channel_wakeups.specs.Log.{Weight, Balanced, each, numbered, held, each_sight, of_closer, of_drained, Closings}
 use Rattle.channel_wakeups.specs.declared.rule.Sight.{Sight}
-use Rattle.channel_wakeups.specs.Views.{Side, of_receives, of_sends, of, idle, nobody, only, is_key, parts_of, lists_of, answers_of, holds_of, closes_of, locks_of, owns_of, waits_of, told_of, listed_of, tickets_of, puts_of, takes_of, sights_of, shut_count, messages, wanted, Owed, IsSlot, empty, full, out, Ordered, Kept}
+use Rattle.channel_wakeups.specs.Views.{Side, of_receives, of_sends, of_streams, of_closings, Duty, to_one, to_all, of, roll, idle, no_roll, idle_lines, no_rolls, nobody, only, is_key, parts_of, here_of, answered_of, holds_of, locks_of, owns_of, waits_of, listed_of, tickets_of, puts_of, takes_of, sights_of, messages, wanted, Owed, IsSlot, empty, full, out, Ordered, Kept}
 
 pub total_set : {V : Type 0} (f : V → ℕ) (vs : List V) (i : ℕ) (v w : V) → get_elem? vs i ≡ some v → total f (set vs i w) + f v ≡ total f vs + f w
 total_set f [] i v w e = absurd (some-ne-none v (sym e))
@@ -68,9 +69,33 @@ closings_by shut m k j e (one, seen, drained) =
     (sym (e of_closer) ∙ one, (λ some_seen. seen (omega arith)), (λ some_seen. drained (omega arith)))
 
 -- who has nothing counts for nothing on each side
-pub at_nobody : (T W : Type 0) (g : Line W → ℕ) → g idle ≡ 0 → (s : Side) → g (of s (nobody {T = T})) ≡ 0
-at_nobody T W g e of_receives = e
-at_nobody T W g e of_sends = e
+pub at_nobody : (W : Type 0) (g : Line → Roll W → ℕ) → g idle no_roll ≡ 0 → (s : Side) → g (of s idle_lines) (roll s no_rolls) ≡ 0
+at_nobody W g e of_receives = e
+at_nobody W g e of_sends = e
+at_nobody W g e of_streams = e
+at_nobody W g e of_closings = e
+
+pub none_both : {V : Type 0} (f g h : V → ℕ) (vs : List V) → ((u : V) → g u ≡ 0 → h u ≡ 0 → f u ≡ 0) → total g vs ≡ 0 → total h vs ≡ 0 → total f vs ≡ 0
+none_both f g h [] rests e d = refl
+none_both f g h (x ∷ xs) rests e d = let here : f x ≡ 0 = rests x (omega arith) (omega arith) in let more : total f xs ≡ 0 = none_both f g h xs rests (omega arith) (omega arith) in omega arith
+
+module _ (T W : Type 0) where
+  -- nobody counts for nothing
+  pub none_here_of : (s : Side) → here_of s (nobody {T = T} {W = W}) ≡ 0
+  none_here_of s = at_nobody W (λ l r. r.here) refl s
+
+  pub none_waits : (s : Side) (key : ℕ) → waits_of s key (nobody {T = T} {W = W}) ≡ 0
+  none_waits s key = at_nobody W (λ l r. only r.here (waits key r.listeners)) refl s
+
+  pub none_listed : (s : Side) (key : ℕ) → listed_of s key (nobody {T = T} {W = W}) ≡ 0
+  none_listed s key = at_nobody W (λ l r. only r.here (listed key r.listeners)) refl s
+
+  pub none_tickets : (s : Side) (key : ℕ) → tickets_of s key (nobody {T = T} {W = W}) ≡ 0
+  none_tickets s key = at_nobody W (λ l r. is_key key l.ticket) refl s
+
+  pub none_answered : (d : Duty) (s : Side) → answered_of d s (nobody {T = T} {W = W}) ≡ 0
+  none_answered to_one s = at_nobody W (λ l r. only r.here (told r.listeners) + only 0 l.answers) refl s
+  none_answered to_all s = refl
 
 -- ---- one seat's view changes
 
@@ -86,15 +111,10 @@ module _ {T W : Type 0} where
   becomes f z vs id v w at = let t = total_set f vs id v w at in let u = total_set f vs id v nobody at in omega arith
 
   -- whatever the others count for, the law of a side goes from v to u
-  abbrev pub Goes : Side → ℕ → ℕ → Bool → Bool → View T W → View T W → Type 0
-  Goes s w x c d v u =
-      (key b t a h : ℕ) → (lists_of s v ≡ 1 → (b ≡ 0) × (t ≡ 0)) → Owed (wanted s w c) (b + waits_of s key v) ((t + told_of s v) + (a + answers_of s v)) (h + holds_of s key v)
-      → Owed (wanted s x d) (b + waits_of s key u) ((t + told_of s u) + (a + answers_of s u)) (h + holds_of s key u)
-
-  -- and so does the law of the closing
-  abbrev pub Closes : Side → Bool → Bool → View T W → View T W → Type 0
-  Closes s c d v u =
-      (key b a h : ℕ) → (lists_of s v ≡ 1 → b ≡ 0) → Owed (shut_count c) (b + waits_of s key v) (a + closes_of s v) (h + holds_of s key v) → Owed (shut_count d) (b + waits_of s key u) (a + closes_of s u) (h + holds_of s key u)
+  abbrev pub Goes : Duty → Side → ℕ → ℕ → Bool → Bool → View T W → View T W → Type 0
+  Goes d s w x c e v u =
+      (key b g h : ℕ) → (here_of s v ≡ 1 → b ≡ 0) → Owed (wanted d s w c) (b + waits_of s key v) (g + answered_of d s v) (h + holds_of s key v)
+      → Owed (wanted d s x e) (b + waits_of s key u) (g + answered_of d s u) (h + holds_of s key u)
 
   -- and what is known of the closing
   abbrev pub Sights : ℕ → ℕ → Bool → Bool → View T W → View T W → Type 0
@@ -117,76 +137,58 @@ module _ {T W : Type 0} where
   took_else vs id f = others (takes_of f) vs id
 
   -- who has a list is alone with it
-  pub alone : (s : Side) (key : ℕ) (vs : List (View T W)) (id : ℕ) (v : View T W) → get_elem? vs id ≡ some v → total (lists_of s) vs ≡ 1 → lists_of s v ≡ 1
-      → (others (waits_of s key) vs id ≡ 0) × (others (told_of s) vs id ≡ 0) × (others (listed_of s key) vs id ≡ 0)
-  alone s key vs id v at one is =
-      let p = was (lists_of s) (at_nobody T W (λ l. l.lists) refl s) vs id v at in
-      let rest : others (lists_of s) vs id ≡ 0 = omega arith in (
-        none_here (waits_of s key) (lists_of s) (set vs id nobody) (λ x e. only_none (of s x).lists (waits key (of s x).listeners) e) rest,
-        none_here (told_of s) (lists_of s) (set vs id nobody) (λ x e. only_none (of s x).lists (told (of s x).listeners) e) rest,
-        none_here (listed_of s key) (lists_of s) (set vs id nobody) (λ x e. only_none (of s x).lists (listed key (of s x).listeners) e) rest,
+  pub by_itself : (s : Side) (key : ℕ) (vs : List (View T W)) (id : ℕ) (v : View T W) → get_elem? vs id ≡ some v → total (here_of s) vs ≡ 1 → here_of s v ≡ 1
+      → (others (waits_of s key) vs id ≡ 0) × (others (listed_of s key) vs id ≡ 0) × (others (here_of s) vs id ≡ 0)
+  by_itself s key vs id v at one is =
+      let p = was (here_of s) (none_here_of T W s) vs id v at in
+      let rest : others (here_of s) vs id ≡ 0 = omega arith in (
+        none_here (waits_of s key) (here_of s) (set vs id nobody) (λ x e. only_none (roll s x.rolls).here (waits key (roll s x.rolls).listeners) e) rest,
+        none_here (listed_of s key) (here_of s) (set vs id nobody) (λ x e. only_none (roll s x.rolls).here (listed key (roll s x.rolls).listeners) e) rest,
+        rest,
       )
 
   pub others_free : (vs : List (View T W)) (id : ℕ) → others locks_of vs id ≡ 0 → others owns_of vs id ≡ 0
   others_free vs id e = none_here owns_of locks_of (set vs id nobody) (λ x z. no_lock x.parts x.owns z) e
 
-  module _ (w x : ℕ) (c d : Bool) (vs : List (View T W)) (id : ℕ) (v u : View T W) (at : get_elem? vs id ≡ some v) where
-    owed_turned : (s : Side) (key : ℕ) → total (lists_of s) vs ≡ 1 → Goes s w x c d v u
-        → Owed (wanted s w c) (total (waits_of s key) vs) (total (told_of s) vs + total (answers_of s) vs) (total (holds_of s key) vs)
-        → Owed (wanted s x d) (total (waits_of s key) (set vs id u)) (total (told_of s) (set vs id u) + total (answers_of s) (set vs id u)) (total (holds_of s key) (set vs id u))
-    owed_turned s key one goes k some_waiting =
-        let wv = was (waits_of s key) (at_nobody T W (λ l. only l.lists (waits key l.listeners)) refl s) vs id v at in
-        let tv = was (told_of s) (at_nobody T W (λ l. only l.lists (told l.listeners)) refl s) vs id v at in
-        let av = was (answers_of s) refl vs id v at in
+  module _ (w x : ℕ) (c e : Bool) (vs : List (View T W)) (id : ℕ) (v u : View T W) (at : get_elem? vs id ≡ some v) where
+    owed_turned : (d : Duty) (s : Side) (key : ℕ) → total (here_of s) vs ≡ 1 → Goes d s w x c e v u
+        → Owed (wanted d s w c) (total (waits_of s key) vs) (total (answered_of d s) vs) (total (holds_of s key) vs)
+        → Owed (wanted d s x e) (total (waits_of s key) (set vs id u)) (total (answered_of d s) (set vs id u)) (total (holds_of s key) (set vs id u))
+    owed_turned d s key one goes k some_waiting =
+        let wv = was (waits_of s key) (none_waits T W s key) vs id v at in
+        let av = was (answered_of d s) (none_answered T W d s) vs id v at in
         let hv = was (holds_of s key) refl vs id v at in
-        let ww = becomes (waits_of s key) (at_nobody T W (λ l. only l.lists (waits key l.listeners)) refl s) vs id v u at in
-        let tw = becomes (told_of s) (at_nobody T W (λ l. only l.lists (told l.listeners)) refl s) vs id v u at in
-        let aw = becomes (answers_of s) refl vs id v u at in
+        let ww = becomes (waits_of s key) (none_waits T W s key) vs id v u at in
+        let aw = becomes (answered_of d s) (none_answered T W d s) vs id v u at in
         let hw = becomes (holds_of s key) refl vs id v u at in
-        let before : Owed (wanted s w c) (others (waits_of s key) vs id + waits_of s key v) ((others (told_of s) vs id + told_of s v) + (others (answers_of s) vs id + answers_of s v)) (others (holds_of s key) vs id + holds_of s key v) =
-        (λ waited. owed_by (wanted s w c) (total (told_of s) vs + total (answers_of s) vs) (total (holds_of s key) vs) _ _ (omega arith) hv (k (omega arith))) in
-        let after = goes key (others (waits_of s key) vs id) (others (told_of s) vs id) (others (answers_of s) vs id) (others (holds_of s key) vs id) (λ is. let z = alone s key vs id v at one is in (z.0, z.1)) before (omega arith) in
-        owed_by (wanted s x d) _ _ (total (told_of s) (set vs id u) + total (answers_of s) (set vs id u)) (total (holds_of s key) (set vs id u)) (omega arith) (sym hw) after
-
-    closed_turned : (s : Side) (key : ℕ) → total (lists_of s) vs ≡ 1 → Closes s c d v u
-        → Owed (shut_count c) (total (waits_of s key) vs) (total (closes_of s) vs) (total (holds_of s key) vs)
-        → Owed (shut_count d) (total (waits_of s key) (set vs id u)) (total (closes_of s) (set vs id u)) (total (holds_of s key) (set vs id u))
-    closed_turned s key one goes k some_waiting =
-        let wv = was (waits_of s key) (at_nobody T W (λ l. only l.lists (waits key l.listeners)) refl s) vs id v at in
-        let av = was (closes_of s) refl vs id v at in
-        let hv = was (holds_of s key) refl vs id v at in
-        let ww = becomes (waits_of s key) (at_nobody T W (λ l. only l.lists (waits key l.listeners)) refl s) vs id v u at in
-        let aw = becomes (closes_of s) refl vs id v u at in
-        let hw = becomes (holds_of s key) refl vs id v u at in
-        let before : Owed (shut_count c) (others (waits_of s key) vs id + waits_of s key v) (others (closes_of s) vs id + closes_of s v) (others (holds_of s key) vs id + holds_of s key v) =
-        (λ waited. owed_by (shut_count c) (total (closes_of s) vs) (total (holds_of s key) vs) _ _ av hv (k (omega arith))) in
-        let after = goes key (others (waits_of s key) vs id) (others (closes_of s) vs id) (others (holds_of s key) vs id) (λ is. (alone s key vs id v at one is).0) before (omega arith) in
-        owed_by (shut_count d) _ _ (total (closes_of s) (set vs id u)) (total (holds_of s key) (set vs id u)) (sym aw) (sym hw) after
+        let before : Owed (wanted d s w c) (others (waits_of s key) vs id + waits_of s key v) (others (answered_of d s) vs id + answered_of d s v) (others (holds_of s key) vs id + holds_of s key v) =
+        (λ waited. owed_by (wanted d s w c) (total (answered_of d s) vs) (total (holds_of s key) vs) _ _ av hv (k (omega arith))) in
+        let after = goes key (others (waits_of s key) vs id) (others (answered_of d s) vs id) (others (holds_of s key) vs id) (λ is. (by_itself s key vs id v at one is).0) before (omega arith) in
+        owed_by (wanted d s x e) _ _ (total (answered_of d s) (set vs id u)) (total (holds_of s key) (set vs id u)) (sym aw) (sym hw) after
 
     tickets_turned : (s : Side) (key : ℕ) → Tickets s v u → total (tickets_of s key) vs ≤ total (listed_of s key) vs → total (tickets_of s key) (set vs id u) ≤ total (listed_of s key) (set vs id u)
     tickets_turned s key goes k =
-        let tv = was (tickets_of s key) (at_nobody T W (λ l. is_key key l.ticket) refl s) vs id v at in
-        let lv = was (listed_of s key) (at_nobody T W (λ l. only l.lists (listed key l.listeners)) refl s) vs id v at in
-        let tw = becomes (tickets_of s key) (at_nobody T W (λ l. is_key key l.ticket) refl s) vs id v u at in
-        let lw = becomes (listed_of s key) (at_nobody T W (λ l. only l.lists (listed key l.listeners)) refl s) vs id v u at in
+        let tv = was (tickets_of s key) (none_tickets T W s key) vs id v at in
+        let lv = was (listed_of s key) (none_listed T W s key) vs id v at in
+        let tw = becomes (tickets_of s key) (none_tickets T W s key) vs id v u at in
+        let lw = becomes (listed_of s key) (none_listed T W s key) vs id v u at in
         let after = goes key (others (listed_of s key) vs id) (others (tickets_of s key) vs id) (omega arith) in
         omega arith
 
-    pub turned : (s r : home.Option (Option T)) → u.parts ≡ v.parts → ((side : Side) → lists_of side u ≡ lists_of side v) → Places w x s r v u → ((side : Side) → Goes side w x c d v u) → ((side : Side) → Closes side c d v u) → ((side : Side) → Tickets side v u)
-        → Logs (put_else vs id) (took_else vs id) s r v u → (Ordered s vs → Ordered r (set vs id u)) → Sights w x c d v u → Kept w c s vs → Kept x d r (set vs id u)
-    turned s r parts lists places goes closes tickets logs order sees k =
+    pub turned : (s r : home.Option (Option T)) → u.parts ≡ v.parts → ((side : Side) → here_of side u ≡ here_of side v) → Places w x s r v u → ((d : Duty) (side : Side) → Goes d side w x c e v u) → ((side : Side) → Tickets side v u)
+        → Logs (put_else vs id) (took_else vs id) s r v u → (Ordered s vs → Ordered r (set vs id u)) → Sights w x c e v u → Kept w c s vs → Kept x e r (set vs id u)
+    turned s r parts lists places goes tickets logs order sees k =
         let whole = k.whole in
         record {
           whole = omega (arith, total_set parts_of vs id v u at);
-          one = λ side. let one = k.one side in let same = lists side in omega (arith, total_set (lists_of side) vs id v u at);
+          one = λ side. let one = k.one side in let same = lists side in omega (arith, total_set (here_of side) vs id v u at);
           place = slot_by x r _ _ _ _ (sym (becomes locks_of refl vs id v u at)) (sym (becomes owns_of refl vs id v u at))
               (places (others locks_of vs id) (others owns_of vs id) (others_free vs id) (slot_by w s _ _ _ _ (was locks_of refl vs id v at) (was owns_of refl vs id v at) k.place));
-          owed = λ side key. owed_turned side key (k.one side) (goes side) (k.owed side key);
-          shutting = λ side key. closed_turned side key (k.one side) (closes side) (k.shutting side key);
+          owed = λ d side key. owed_turned d side key (k.one side) (goes d side) (k.owed d side key);
           tickets = λ side key. tickets_turned side key (tickets side) (k.tickets side key);
           balance = balanced_by r _ _ _ _ (λ f. sym (becomes (puts_of f) refl vs id v u at)) (λ f. sym (becomes (takes_of f) refl vs id v u at))
               (logs (balanced_by s _ _ _ _ (λ f. was (puts_of f) refl vs id v at) (λ f. was (takes_of f) refl vs id v at) k.balance));
           order = order k.order;
-          closings = closings_by d (messages x) _ _ (λ f. sym (becomes (sights_of f) refl vs id v u at))
+          closings = closings_by e (messages x) _ _ (λ f. sym (becomes (sights_of f) refl vs id v u at))
               (sees (λ f. others (sights_of f) vs id) (closings_by c (messages w) _ _ (λ f. was (sights_of f) refl vs id v at) k.closings));
         }

@@ -17,7 +17,10 @@ use Rattle.concurrent_queue.specs.declared.error.PushError.{PushError}
 use Rattle.concurrent_queue.specs.declared.error.PushError.TheVariants as push_error
 use Rattle.channel_wakeups.specs.Log.{Accounts, Closings, sights, HasPut, HasTaken, HasSeen, NotSeen, NotDrained}
 use Rattle.channel_wakeups.specs.Seats.{IsCall, IsPass, IsIdle}
-use Rattle.channel_wakeups.specs.Views.{of_receives, of_sends, calling, closing}
+use Rattle.channel_wakeups.specs.declared.polled.Watched.{Watched}
+use Rattle.channel_wakeups.specs.declared.polled.Watched.TheVariants as watched
+use Rattle.channel_wakeups.specs.declared.rule.Lines.{Lines}
+use Rattle.channel_wakeups.specs.Views.{Side, of_receives, of_sends, of_streams, of_closings, calling, telling, idle, lines, only_on}
 
 -- the parts that a receive, or a send, has: one while it is pending
 abbrev pub held : Bool → ℕ
@@ -28,7 +31,7 @@ abbrev pub key_next : Option ℕ → ℕ
 key_next None = 0
 key_next (Some key) = key + 1
 
--- whether the receive is pending after it
+-- whether the receive, or the stream, is pending after it
 abbrev pub is_pending : {T : Type 0} → Polled T → Bool
 is_pending Pending = true
 is_pending _ = false
@@ -38,22 +41,36 @@ abbrev pub is_waiting : {T : Type 0} → Offered T → Bool
 is_waiting (offered.Pending x) = true
 is_waiting _ = false
 
+-- whether the wait for the closing is pending after it
+abbrev pub is_watching : Watched → Bool
+is_watching watched.Pending = true
+is_watching _ = false
+
+-- what a push that is in has to do, besides telling a receive: to tell all streams
+abbrev pub to_streams : Lines
+to_streams = only_on of_streams (telling 1)
+
+-- what a call that closed the channel has to do, besides telling all receives
+abbrev pub to_others : Lines
+to_others = lines idle (telling 1) (telling 1) (telling 1)
+
 module _ {T W : Type 0} where
-  -- a push that is in answers for its message, which its log has. One that was refused answers for nothing; where the channel was
-  -- closed, it still has this listener in hand
+  -- a push that is in answers for its message, which its log has, and has to tell all streams. One that was refused answers for nothing;
+  -- where the channel was closed, it still has this listener in hand
   abbrev pub PushLeaves : TableId → ℕ → ℕ → List (Transfer T) → T → QueueReply T → Seat (Option T) (View T W) → Type 0
-  PushLeaves table parts holds log x (reply.Push (Ok u)) s = IsCall of_receives table s parts 1 0 0 × NotSeen log × HasPut x log s.me.0.log
+  PushLeaves table parts holds log x (reply.Push (Ok u)) s = IsPass of_receives table s parts (calling 1 0 0) to_streams × NotSeen log × HasPut x log s.me.0.log
   PushLeaves table parts holds log x (reply.Push (Err (push_error.Full y))) s = IsIdle table s parts × NotSeen log × (s.me.0.log ≡ log)
   PushLeaves table parts holds log x (reply.Push (Err (push_error.Closed y))) s = IsCall of_sends table s parts 0 holds 0 × HasSeen Seen log s.me.0.log
   PushLeaves table parts holds log x _ s = ⊥
 
-  -- a pop answers for the place of the message that it took, which its log has, and still has this listener in hand. One that found none
-  -- answers for nothing; where the channel was closed, it still has the listener in hand
-  abbrev pub PopLeaves : TableId → ℕ → ℕ → List (Transfer T) → QueueReply T → Seat (Option T) (View T W) → Type 0
-  PopLeaves table parts holds log (reply.Pop (Ok x)) s = IsPass of_sends table s parts (calling 1 0 0) (calling 0 holds 0) × NotDrained log × HasTaken x log s.me.0.log
-  PopLeaves table parts holds log (reply.Pop (Err pop_error.Empty)) s = IsIdle table s parts × NotSeen log × (s.me.0.log ≡ log)
-  PopLeaves table parts holds log (reply.Pop (Err pop_error.Closed)) s = IsCall of_receives table s parts 0 holds 0 × HasSeen Drained log s.me.0.log
-  PopLeaves table parts holds log _ s = ⊥
+  -- a pop answers for the place of the message that it took, which its log has, and still has this listener of its side in hand. One that
+  -- found none answers for nothing; where the channel was closed, it still has the listener in hand
+  abbrev pub PopLeaves : Side → TableId → ℕ → ℕ → List (Transfer T) → QueueReply T → Seat (Option T) (View T W) → Type 0
+  PopLeaves side table parts holds log (reply.Pop (Ok x)) s =
+      IsPass of_sends table s parts (calling 1 0 0) (only_on side (calling 0 holds 0)) × NotDrained log × HasTaken x log s.me.0.log
+  PopLeaves side table parts holds log (reply.Pop (Err pop_error.Empty)) s = IsIdle table s parts × NotSeen log × (s.me.0.log ≡ log)
+  PopLeaves side table parts holds log (reply.Pop (Err pop_error.Closed)) s = IsCall side table s parts 0 holds 0 × HasSeen Drained log s.me.0.log
+  PopLeaves side table parts holds log _ s = ⊥
 
   -- what is left by a refusal
   abbrev pub PushRefused : TableId → ℕ → ℕ → PushError T → Seat (Option T) (View T W) → Type 0
@@ -61,21 +78,21 @@ module _ {T W : Type 0} where
   PushRefused table parts holds (push_error.Closed y) s = IsCall of_sends table s parts 0 holds 0
   PushRefused table parts holds (push_error.NoMemory y) s = ⊥
 
-  abbrev pub PopRefused : TableId → ℕ → ℕ → PopError → Seat (Option T) (View T W) → Type 0
-  PopRefused table parts holds pop_error.Empty s = IsIdle table s parts
-  PopRefused table parts holds pop_error.Closed s = IsCall of_receives table s parts 0 holds 0
+  abbrev pub PopRefused : Side → TableId → ℕ → ℕ → PopError → Seat (Option T) (View T W) → Type 0
+  PopRefused side table parts holds pop_error.Empty s = IsIdle table s parts
+  PopRefused side table parts holds pop_error.Closed s = IsCall side table s parts 0 holds 0
 
-  -- a call that closed the channel has both lines in hand to tell all; else it was closed before
+  -- a call that closed the channel has every line in hand to tell all; else it was closed before
   abbrev pub CloseLeaves : TableId → ℕ → List (Transfer T) → QueueReply T → Seat (Option T) (View T W) → Type 0
-  CloseLeaves table parts log (reply.Close true) s = IsPass of_receives table s parts (closing 1) (closing 1) × NotSeen log × HasSeen Shut log s.me.0.log
+  CloseLeaves table parts log (reply.Close true) s = IsPass of_receives table s parts (telling 1) to_others × NotSeen log × HasSeen Shut log s.me.0.log
   CloseLeaves table parts log (reply.Close false) s = IsIdle table s parts × HasSeen Seen log s.me.0.log
   CloseLeaves table parts log _ s = ⊥
 
-  -- a question whether the channel is closed leaves the pass as it was, but for the log
-  abbrev pub AskLeaves : TableId → ℕ → List (Transfer T) → QueueReply T → Seat (Option T) (View T W) → Type 0
-  AskLeaves table parts log (reply.Flag true) s = IsIdle table s parts × HasSeen Seen log s.me.0.log
-  AskLeaves table parts log (reply.Flag false) s = IsIdle table s parts × NotSeen log × (s.me.0.log ≡ log)
-  AskLeaves table parts log _ s = ⊥
+  -- a question whether the channel is closed: who was told that it is still has this listener in hand
+  abbrev pub AskLeaves : TableId → ℕ → ℕ → List (Transfer T) → QueueReply T → Seat (Option T) (View T W) → Type 0
+  AskLeaves table parts holds log (reply.Flag true) s = IsCall of_closings table s parts 0 holds 0 × HasSeen Seen log s.me.0.log
+  AskLeaves table parts holds log (reply.Flag false) s = IsIdle table s parts × NotSeen log × (s.me.0.log ≡ log)
+  AskLeaves table parts holds log _ s = ⊥
 
 module _ {T : Type 0} where
   -- what is answered was taken out, and nothing else; or none was there; or it was seen that none will come
@@ -84,7 +101,7 @@ module _ {T : Type 0} where
   Found (Err pop_error.Empty) log after = NotSeen log × (after ≡ log)
   Found (Err pop_error.Closed) log after = HasSeen Drained log after
 
-  -- the same of a poll of a receive
+  -- the same of a poll of a receive, or of a stream
   abbrev pub Received : Polled T → List (Transfer T) → List (Transfer T) → Type 0
   Received (Ready x) log after = NotDrained log × HasTaken x log after
   Received Pending log after = after ≡ log
@@ -109,6 +126,12 @@ module _ {T : Type 0} where
   abbrev pub Closes : Bool → List (Transfer T) → List (Transfer T) → Type 0
   Closes true log after = NotSeen log × HasSeen Shut log after
   Closes false log after = HasSeen Seen log after
+
+  -- a poll of one who waits for the closing
+  abbrev pub Watches : Watched → List (Transfer T) → List (Transfer T) → Type 0
+  Watches watched.Closed log after = HasSeen Seen log after
+  Watches watched.Pending log after = after ≡ log
+  Watches watched.NoMemory log after = NotSeen log × (after ≡ log)
 
   abbrev pub IsClosed : Bool → List (Transfer T) → List (Transfer T) → Type 0
   IsClosed true log after = HasSeen Seen log after

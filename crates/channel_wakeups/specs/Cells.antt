@@ -9,7 +9,7 @@ use Rattle.concurrent_queue.specs.declared.cells.Word.TheVariants.{State}
 use Rattle.channel_wakeups.specs.declared.cells.SlotCells.{SlotCells}
 use Rattle.channel_wakeups.specs.declared.stage.Stage.{Stage}
 use Rattle.channel_wakeups.specs.declared.stage.Stage.TheVariants.{Free, Won, Filled, Caught, Emptied}
-use Rattle.channel_wakeups.specs.declared.rule.Line.{Line}
+use Rattle.channel_wakeups.specs.declared.rule.Lines.{Lines}
 use Rattle.channel_wakeups.specs.declared.rule.View.{View}
 use Rattle.channel_wakeups.specs.declared.rule.Transfer.{Transfer}
 use Rattle.channel_wakeups.specs.declared.rule.Transfer.TheVariants.{In, Out, Saw}
@@ -17,7 +17,7 @@ use Rattle.channel_wakeups.specs.declared.rule.Sight.TheVariants.{Seen, Drained,
 use Rattle.concurrent_queue.specs.declared.error.PushError.TheVariants as push_error
 use Rattle.concurrent_queue.specs.declared.error.PopError.TheVariants as pop_error
 use Rattle.channel_wakeups.specs.Log.{PutBefore, TookBefore, NotSeen, NotDrained}
-use Rattle.channel_wakeups.specs.Views.{pass, answering, ended, resolved, owing, noted, closer}
+use Rattle.channel_wakeups.specs.Views.{pass, no_rolls, won_place, no_place, no_send, won_message, no_message, no_more, all_owing, still_open, found_closed, closer, noted, saw_open, saw_closed}
 use Rattle.channel_wakeups.specs.Stages.{filling, refused, shut_out, taking, resting, draining, giving}
 
 module _ {T W : Type 0} where
@@ -55,10 +55,12 @@ module _ {T W : Type 0} where
   abbrev pub ShutBy : ℕ → SlotCells T W → SlotCells T W → Type 0
   ShutBy w a b =
       ((clear w 4 ≡ true) × NotSeen a.seat.me.0.log × (b.stage ≡ a.stage) × (b.seat.me.0 ≡ closer a.seat.me.0))
-      ⊎ ((clear w 4 ≡ false) × (b.stage ≡ a.stage) × (b.seat.me.0 ≡ noted Seen a.seat.me.0))
+      ⊎ ((clear w 4 ≡ false) × (b.stage ≡ a.stage) × (b.seat.me.0 ≡ noted a.seat.me.0))
 
   abbrev pub SeenBy : ℕ → SlotCells T W → SlotCells T W → Type 0
-  SeenBy w a b = ((clear w 4 ≡ true) × NotSeen a.seat.me.0.log × IsSame a b) ⊎ ((clear w 4 ≡ false) × (b.stage ≡ a.stage) × (b.seat.me.0 ≡ noted Seen a.seat.me.0))
+  SeenBy w a b =
+      ((clear w 4 ≡ true) × NotSeen a.seat.me.0.log × (b.stage ≡ a.stage) × (b.seat.me.0 ≡ saw_open a.seat.me.0))
+      ⊎ ((clear w 4 ≡ false) × (b.stage ≡ a.stage) × (b.seat.me.0 ≡ saw_closed a.seat.me.0))
 
   abbrev pub Put : T → Result Unit T → SlotCells T W → SlotCells T W → Type 0
   Put m (Ok u) a b = (b.seat.me.1 ≡ (0, Some m) ∷ []) × Stands Filled a.seat.me.0 b
@@ -84,36 +86,38 @@ module _ {T W : Type 0} where
   abbrev pub Did : Deed T → SlotCells T W → SlotCells T W → Type 0
   Did d a b = (b.seat.table_id ≡ a.seat.table_id) × Moved d a b
 
-  -- the call has this of the slot, and its seat, which is of this table, knows this
+  -- the call has nothing of the slot any more, and its seat, which is of this table, is a pass that knows this
   abbrev pub IsLeft : TableId → Stage → View T W → SlotCells T W → Type 0
   IsLeft table g v c = (c.seat.table_id ≡ table) × (c.stage ≡ g) × (c.seat.me.0 ≡ v)
 
+  -- the same of a pass with these parts, lines and log
+  abbrev pub IsOver : TableId → ℕ → Lines → List (Transfer T) → SlotCells T W → Type 0
+  IsOver table p lines log c = IsLeft table Free (pass p 0 lines no_rolls log) c
+
   -- a push of a pass with these lines and this log has answered: it answers for its message, which it put in; or was refused, and there
   -- was a moment without a free place; or found the channel closed
-  abbrev pub Pushed : TableId → ℕ → Line W → Line W → List (Transfer T) → T → QueueReply T → SlotCells T W → Type 0
-  Pushed table p l m log x (reply.Push (Ok u)) c =
-      NotSeen log × ((k : ℕ) × PutBefore k log × TookBefore k log × IsLeft table Free (pass p 0 (answering l) (ended m) (log ++ In k x ∷ [])) c)
-  Pushed table p l m log x (reply.Push (Err (push_error.Full y))) c = NotSeen log × IsLeft table Free (pass p 0 l (ended m) log) c
-  Pushed table p l m log x (reply.Push (Err (push_error.Closed y))) c = IsLeft table Free (pass p 0 l (resolved m) (log ++ Saw Seen ∷ [])) c
-  Pushed table p l m log x _ c = ⊥
+  abbrev pub Pushed : TableId → ℕ → Lines → List (Transfer T) → T → QueueReply T → SlotCells T W → Type 0
+  Pushed table p l log x (reply.Push (Ok u)) c = NotSeen log × ((k : ℕ) × PutBefore k log × TookBefore k log × IsOver table p (won_place l) (log ++ In k x ∷ []) c)
+  Pushed table p l log x (reply.Push (Err (push_error.Full y))) c = NotSeen log × IsOver table p (no_place l) log c
+  Pushed table p l log x (reply.Push (Err (push_error.Closed y))) c = IsOver table p (no_send l) (log ++ Saw Seen ∷ []) c
+  Pushed table p l log x _ c = ⊥
 
   -- a pop has answered: it answers for the place of the message that it took; or there was a moment without a message; or there will be
-  -- none, since the channel is closed
-  abbrev pub Popped : TableId → ℕ → Line W → Line W → List (Transfer T) → QueueReply T → SlotCells T W → Type 0
-  Popped table p l m log (reply.Pop (Ok x)) c =
-      NotDrained log × ((k : ℕ) × TookBefore k log × IsLeft table Free (pass p 0 (resolved l) (answering m) (log ++ Out k x ∷ [])) c)
-  Popped table p l m log (reply.Pop (Err pop_error.Empty)) c = NotSeen log × IsLeft table Free (pass p 0 (ended l) m log) c
-  Popped table p l m log (reply.Pop (Err pop_error.Closed)) c = IsLeft table Free (pass p 0 (resolved l) m (log ++ Saw Drained ∷ [])) c
-  Popped table p l m log _ c = ⊥
+  -- none
+  abbrev pub Popped : TableId → ℕ → Lines → List (Transfer T) → QueueReply T → SlotCells T W → Type 0
+  Popped table p l log (reply.Pop (Ok x)) c = NotDrained log × ((k : ℕ) × TookBefore k log × IsOver table p (won_message l) (log ++ Out k x ∷ []) c)
+  Popped table p l log (reply.Pop (Err pop_error.Empty)) c = NotSeen log × IsOver table p (no_message l) log c
+  Popped table p l log (reply.Pop (Err pop_error.Closed)) c = IsOver table p (no_more l) (log ++ Saw Drained ∷ []) c
+  Popped table p l log _ c = ⊥
 
-  -- a call that closes has answered: it closed the channel, and has both lines in hand to tell all; or it was closed
-  abbrev pub HasClosed : TableId → ℕ → Line W → Line W → List (Transfer T) → QueueReply T → SlotCells T W → Type 0
-  HasClosed table p l m log (reply.Close true) c = NotSeen log × IsLeft table Free (pass p 0 (owing l) (owing m) (log ++ Saw Shut ∷ [])) c
-  HasClosed table p l m log (reply.Close false) c = IsLeft table Free (pass p 0 l m (log ++ Saw Seen ∷ [])) c
-  HasClosed table p l m log _ c = ⊥
+  -- a call that closes has answered: it closed the channel, and has every line in hand to tell all; or it was closed
+  abbrev pub HasClosed : TableId → ℕ → Lines → List (Transfer T) → QueueReply T → SlotCells T W → Type 0
+  HasClosed table p l log (reply.Close true) c = NotSeen log × IsOver table p (all_owing l) (log ++ Saw Shut ∷ []) c
+  HasClosed table p l log (reply.Close false) c = IsOver table p l (log ++ Saw Seen ∷ []) c
+  HasClosed table p l log _ c = ⊥
 
   -- a question whether the channel is closed has been answered
-  abbrev pub HasAsked : TableId → ℕ → Line W → Line W → List (Transfer T) → QueueReply T → SlotCells T W → Type 0
-  HasAsked table p l m log (reply.Flag true) c = IsLeft table Free (pass p 0 l m (log ++ Saw Seen ∷ [])) c
-  HasAsked table p l m log (reply.Flag false) c = NotSeen log × IsLeft table Free (pass p 0 l m log) c
-  HasAsked table p l m log _ c = ⊥
+  abbrev pub HasAsked : TableId → ℕ → Lines → List (Transfer T) → QueueReply T → SlotCells T W → Type 0
+  HasAsked table p l log (reply.Flag true) c = IsOver table p (found_closed l) (log ++ Saw Seen ∷ []) c
+  HasAsked table p l log (reply.Flag false) c = NotSeen log × IsOver table p (still_open l) log c
+  HasAsked table p l log _ c = ⊥

@@ -5,38 +5,38 @@ use Rattle.channel_wakeups.specs.declared.rule.Transfer.TheVariants.{Out, Saw}
 use Rattle.channel_wakeups.specs.declared.rule.Sight.TheVariants.{Seen, Drained}
 use Rattle.channel_wakeups.specs.declared.stage.Stage.{Stage}
 use Rattle.channel_wakeups.specs.declared.stage.Stage.TheVariants.{Free, Won, Filled, Caught, Emptied}
-use Rattle.channel_wakeups.specs.Views.{pass, answering, ended, resolved, Known, given}
+use Rattle.channel_wakeups.specs.Views.{won_place, no_place, no_send, won_message, no_message, no_more, stepped, Known, given}
 
 module _ {T W : Type 0} where
   -- a seat whose call knows the word to be n while it has the slot; with 0 it has none
   abbrev pub having : ℕ → View T W → View T W
-  having n v = pass v.parts n v.receives v.sends v.log
+  having n v = stepped n v.calls v.log v
 
   -- a push won the slot, and answers for one message more; or was refused, and answers for no place any more
   abbrev pub filling : View T W → View T W
-  filling v = pass v.parts 3 (answering v.receives) (ended v.sends) v.log
+  filling v = stepped 3 (won_place v.calls) v.log v
 
   abbrev pub refused : View T W → View T W
-  refused v = pass v.parts 0 v.receives (ended v.sends) v.log
+  refused v = stepped 0 (no_place v.calls) v.log v
 
   -- or found the channel closed, and has its listener in hand still
   abbrev pub shut_out : View T W → View T W
-  shut_out v = pass v.parts 0 v.receives (resolved v.sends) (v.log ++ Saw Seen ∷ [])
+  shut_out v = stepped 0 (no_send v.calls) (v.log ++ Saw Seen ∷ []) v
 
   -- a pop won this message, and answers for one place more; or found none, and answers for no message any more
   abbrev pub taking : ℕ → T → View T W → View T W
-  taking k x v = pass v.parts 1 (resolved v.receives) (answering v.sends) (v.log ++ Out k x ∷ [])
+  taking k x v = stepped 1 (won_message v.calls) (v.log ++ Out k x ∷ []) v
 
   abbrev pub resting : View T W → View T W
-  resting v = pass v.parts 0 (ended v.receives) v.sends v.log
+  resting v = stepped 0 (no_message v.calls) v.log v
 
   -- or found none in a closed channel, and has its listener in hand still
   abbrev pub draining : View T W → View T W
-  draining v = pass v.parts 0 (resolved v.receives) v.sends (v.log ++ Saw Drained ∷ [])
+  draining v = stepped 0 (no_more v.calls) (v.log ++ Saw Drained ∷ []) v
 
   -- a push gives the slot back with this message in it; a pop without one
   abbrev pub giving : ℕ → List (ℕ × Option T) → View T W → View T W
-  giving k c v = pass v.parts 0 v.receives v.sends (given k c v.log)
+  giving k c v = stepped 0 v.calls (given k c v.log) v
 
 -- what the word is while a call at this stage has the slot, or 0
 abbrev pub word_at : Stage → ℕ

@@ -4,6 +4,9 @@ use mathlib.Core.Option as home
 use Rattle.atomic_table.specs.Table.{State, Me, Step}
 use Rattle.atomic_table.specs.Seated.{TableId}
 use Rattle.channel_wakeups.specs.declared.rule.Line.{Line}
+use Rattle.channel_wakeups.specs.declared.rule.Lines.{Lines}
+use Rattle.channel_wakeups.specs.declared.rule.Roll.{Roll}
+use Rattle.channel_wakeups.specs.declared.rule.Rolls.{Rolls}
 use Rattle.channel_wakeups.specs.declared.rule.View.{View}
 use Rattle.channel_wakeups.specs.declared.rule.Transfer.{Transfer}
 use Rattle.channel_wakeups.specs.declared.rule.Transfer.TheVariants.{In, Out, Saw}
@@ -27,155 +30,220 @@ abbrev pub is_key : ℕ → ℕ → ℕ
 is_key key zero = 0
 is_key key (suc held) = is_this held key
 
--- WHO WAITS: receives for a message, sends for a free place
+-- WHO WAITS: receives for a message, sends for a free place, streams for a message or the end, and some for the closing alone
 pub data Side : Type 0 where
-  of_receives of_sends : Side
+  of_receives of_sends of_streams of_closings : Side
 
-abbrev pub other : Side → Side
-other of_receives = of_sends
-other of_sends = of_receives
+-- HOW MANY ARE TOLD: one for each message, or place; or all
+pub data Duty : Type 0 where
+  to_one to_all : Duty
 
--- ---- what a seat knows of those who wait on one side
+-- ---- what a seat's call knows of those who wait on one side
+
+-- for how many messages, or places, it answers, the listener that it has in hand, by its key plus 1, or 0, the listener whose ticket
+-- it has, and whether it has to tell all
+abbrev pub call_line : ℕ → ℕ → ℕ → ℕ → Line
+call_line answers holds ticket tells = record { answers = answers; holds = holds; ticket = ticket; tells = tells }
+
+abbrev pub calling : ℕ → ℕ → ℕ → Line
+calling answers holds ticket = call_line answers holds ticket 0
+
+-- a call that has the line in hand to tell all, or has told all
+abbrev pub telling : ℕ → Line
+telling tells = call_line 0 0 0 tells
+
+abbrev pub idle : Line
+idle = calling 0 0 0
+
+-- a line whose ticket is another
+abbrev pub ticketed : ℕ → Line → Line
+ticketed ticket l = call_line l.answers l.holds ticket l.tells
+
+-- the call answers for one more; or for nothing any more; or for nothing, and leaves the listener behind that it had in hand
+abbrev pub answering : Line → Line
+answering l = call_line (l.answers + 1) l.holds l.ticket l.tells
+
+abbrev pub resolved : Line → Line
+resolved l = call_line 0 l.holds l.ticket l.tells
+
+abbrev pub ended : Line → Line
+ended l = call_line 0 0 l.ticket l.tells
+
+-- the call has the line in hand to tell all
+abbrev pub owing : Line → Line
+owing l = call_line l.answers l.holds l.ticket (l.tells + 1)
+
+-- ---- the lines of all sides
+
+abbrev pub lines : Line → Line → Line → Line → Lines
+lines receives sends streams closings = record { receives = receives; sends = sends; streams = streams; closings = closings }
+
+abbrev pub idle_lines : Lines
+idle_lines = lines idle idle idle idle
+
+abbrev pub of : Side → Lines → Line
+of of_receives c = c.receives
+of of_sends c = c.sends
+of of_streams c = c.streams
+of of_closings c = c.closings
+
+-- with another line on a side; with none; and with one alone
+abbrev pub with_line : Side → Line → Lines → Lines
+with_line of_receives l c = lines l c.sends c.streams c.closings
+with_line of_sends l c = lines c.receives l c.streams c.closings
+with_line of_streams l c = lines c.receives c.sends l c.closings
+with_line of_closings l c = lines c.receives c.sends c.streams l
+
+abbrev pub besides : Side → Lines → Lines
+besides s c = with_line s idle c
+
+abbrev pub only_on : Side → Line → Lines
+only_on s l = with_line s l idle_lines
+
+-- the same lines with their tickets alone
+abbrev pub tickets_alone : Lines → Lines
+tickets_alone c = lines (calling 0 0 c.receives.ticket) (calling 0 0 c.sends.ticket) (calling 0 0 c.streams.ticket) (calling 0 0 c.closings.ticket)
+
+-- ---- what a step makes of its call's lines
+
+-- a push won the slot: it answers for a message, and has the line of streams in hand to tell all; or there was no place; or the channel
+-- was closed
+abbrev pub won_place : Lines → Lines
+won_place c = lines (answering c.receives) (ended c.sends) (owing c.streams) c.closings
+
+abbrev pub no_place : Lines → Lines
+no_place c = with_line of_sends (ended c.sends) c
+
+abbrev pub no_send : Lines → Lines
+no_send c = with_line of_sends (resolved c.sends) c
+
+-- a pop won the message, and answers for its place; or there was no message; or there will be none
+abbrev pub won_message : Lines → Lines
+won_message c = lines (resolved c.receives) (answering c.sends) (resolved c.streams) c.closings
+
+abbrev pub no_message : Lines → Lines
+no_message c = lines (ended c.receives) c.sends (ended c.streams) c.closings
+
+abbrev pub no_more : Lines → Lines
+no_more c = lines (resolved c.receives) c.sends (resolved c.streams) c.closings
+
+-- a call closed the channel: it has every line in hand to tell all; or it looked, and the channel was open; or closed
+abbrev pub all_owing : Lines → Lines
+all_owing c = lines (owing c.receives) (owing c.sends) (owing c.streams) (owing c.closings)
+
+abbrev pub still_open : Lines → Lines
+still_open c = with_line of_closings (ended c.closings) c
+
+abbrev pub found_closed : Lines → Lines
+found_closed c = with_line of_closings (resolved c.closings) c
+
+-- ---- the lists, where they lie with the seat
 
 module _ {W : Type 0} where
-  -- a call: for how many messages, or places, it answers, the listener that it has in hand, by its key plus 1, or 0, the listener
-  -- whose ticket it has, and whether it has to tell all
-  abbrev pub call_line : ℕ → ℕ → ℕ → ℕ → Line W
-  call_line answers holds ticket closes = record { answers = answers; holds = holds; ticket = ticket; closes = closes; lists = 0; listeners = [] }
+  abbrev pub listing : List (Listener W) → Roll W
+  listing listeners = record { here = 1; listeners = listeners }
 
-  abbrev pub calling : ℕ → ℕ → ℕ → Line W
-  calling answers holds ticket = call_line answers holds ticket 0
+  abbrev pub no_roll : Roll W
+  no_roll = record { here = 0; listeners = [] }
 
-  -- a call that closed the channel and has to tell all, or has told all
-  abbrev pub closing : ℕ → Line W
-  closing closes = call_line 0 0 0 closes
+  abbrev pub rolls : Roll W → Roll W → Roll W → Roll W → Rolls W
+  rolls receives sends streams closings = record { receives = receives; sends = sends; streams = streams; closings = closings }
 
-  abbrev pub idle : Line W
-  idle = calling 0 0 0
+  abbrev pub no_rolls : Rolls W
+  no_rolls = rolls no_roll no_roll no_roll no_roll
 
-  -- the seat that lies with the list
-  abbrev pub listing : ℕ → List (Listener W) → Line W
-  listing lists listeners = record { answers = 0; holds = 0; ticket = 0; closes = 0; lists = lists; listeners = listeners }
+  abbrev pub roll : Side → Rolls W → Roll W
+  roll of_receives r = r.receives
+  roll of_sends r = r.sends
+  roll of_streams r = r.streams
+  roll of_closings r = r.closings
 
-  -- the same while a call is in it
-  abbrev pub at_desk : ℕ → ℕ → ℕ → ℕ → List (Listener W) → Line W
-  at_desk answers holds ticket closes listeners = record { answers = answers; holds = holds; ticket = ticket; closes = closes; lists = 1; listeners = listeners }
-
-  -- the list's part of a line, and the call's, and a line of both
-  abbrev pub list_part : Line W → Line W
-  list_part l = listing l.lists l.listeners
-
-  abbrev pub call_part : Line W → Line W
-  call_part l = call_line l.answers l.holds l.ticket l.closes
-
-  abbrev pub both_parts : Line W → Line W → Line W
-  both_parts l m = record { answers = m.answers; holds = m.holds; ticket = m.ticket; closes = m.closes; lists = l.lists; listeners = l.listeners }
-
-  -- a line whose ticket is another
-  abbrev pub ticketed : ℕ → Line W → Line W
-  ticketed ticket l = record { answers = l.answers; holds = l.holds; ticket = ticket; closes = l.closes; lists = l.lists; listeners = l.listeners }
-
-  -- the call answers for one more; or for nothing any more; or for nothing, and leaves the listener behind that it had in hand
-  abbrev pub answering : Line W → Line W
-  answering l = record { answers = l.answers + 1; holds = l.holds; ticket = l.ticket; closes = l.closes; lists = l.lists; listeners = l.listeners }
-
-  abbrev pub resolved : Line W → Line W
-  resolved l = record { answers = 0; holds = l.holds; ticket = l.ticket; closes = l.closes; lists = l.lists; listeners = l.listeners }
-
-  abbrev pub ended : Line W → Line W
-  ended l = record { answers = 0; holds = 0; ticket = l.ticket; closes = l.closes; lists = l.lists; listeners = l.listeners }
-
-  -- the call has the line in hand to tell all
-  abbrev pub owing : Line W → Line W
-  owing l = record { answers = l.answers; holds = l.holds; ticket = l.ticket; closes = l.closes + 1; lists = l.lists; listeners = l.listeners }
+  abbrev pub with_roll : Side → Roll W → Rolls W → Rolls W
+  with_roll of_receives l r = rolls l r.sends r.streams r.closings
+  with_roll of_sends l r = rolls r.receives l r.streams r.closings
+  with_roll of_streams l r = rolls r.receives r.sends l r.closings
+  with_roll of_closings l r = rolls r.receives r.sends r.streams l
 
 module _ {T W : Type 0} where
-  -- a seat: its parts of the right to know the whole, what the word is while its call has the slot, or 0, what it knows of receives and
-  -- of sends that wait, and what it put in and took out
-  abbrev pub pass : ℕ → ℕ → Line W → Line W → List (Transfer T) → View T W
-  pass parts owns l m log = record { parts = parts; owns = owns; receives = l; sends = m; log = log }
+  -- a seat: its parts of the right to know the whole, what the word is while its call has the slot, or 0, what its call knows of those
+  -- who wait, the lists that lie with it, and what it put in and took out
+  abbrev pub pass : ℕ → ℕ → Lines → Rolls W → List (Transfer T) → View T W
+  pass parts owns calls rolls log = record { parts = parts; owns = owns; calls = calls; rolls = rolls; log = log }
 
   abbrev pub nobody : View T W
-  nobody = pass 0 0 idle idle []
+  nobody = pass 0 0 idle_lines no_rolls []
 
-  -- the first seat: it has all parts and both lists
+  -- the first seat: it has all parts and all lists
   abbrev pub everything : View T W
-  everything = pass 1024 0 (listing 1 []) (listing 1 []) []
+  everything = pass 1024 0 idle_lines (rolls (listing []) (listing []) (listing []) (listing [])) []
 
-  -- the line of a side
-  abbrev pub of : Side → View T W → Line W
-  of of_receives v = v.receives
-  of of_sends v = v.sends
-
-  -- with another line on a side
-  abbrev pub changed : Side → View T W → Line W → View T W
-  changed of_receives v l = pass v.parts v.owns l v.sends v.log
-  changed of_sends v l = pass v.parts v.owns v.receives l v.log
+  -- with another line and another list on a side
+  abbrev pub changed : Side → View T W → Line → List (Listener W) → View T W
+  changed s v l ls = pass v.parts v.owns (with_line s l v.calls) (with_roll s (listing ls) v.rolls) v.log
 
   -- ---- seats are joined and split
 
   -- a call enters the section: its pass goes into the list's seat, which has no part
   abbrev pub entered : View T W → View T W → View T W
-  entered v w = pass w.parts w.owns (both_parts v.receives w.receives) (both_parts v.sends w.sends) w.log
+  entered v w = pass w.parts w.owns w.calls v.rolls w.log
 
   -- and comes out of it
   abbrev pub stays : View T W → View T W
-  stays v = pass 0 0 (list_part v.receives) (list_part v.sends) []
+  stays v = pass 0 0 idle_lines v.rolls []
 
   abbrev pub comes_out : View T W → View T W
-  comes_out v = pass v.parts v.owns (call_part v.receives) (call_part v.sends) v.log
+  comes_out v = pass v.parts v.owns v.calls no_rolls v.log
 
-  -- the seat of both lists becomes one of each
-  abbrev pub receives_alone : View T W → View T W
-  receives_alone v = pass 0 0 v.receives idle []
+  -- a seat of lists gives one of them away
+  abbrev pub without : Side → View T W → View T W
+  without s v = pass 0 0 idle_lines (with_roll s no_roll v.rolls) []
 
-  abbrev pub sends_alone : View T W → View T W
-  sends_alone v = pass 0 0 idle v.sends []
+  abbrev pub alone : Side → View T W → View T W
+  alone s v = pass 0 0 idle_lines (with_roll s (roll s v.rolls) no_rolls) []
 
   -- an idle pass gets the parts of another, or gives half of them
   abbrev pub absorbed : View T W → View T W → View T W
-  absorbed v w = pass (v.parts + w.parts) 0 idle idle (v.log ++ w.log)
+  absorbed v w = pass (v.parts + w.parts) 0 idle_lines no_rolls (v.log ++ w.log)
 
   abbrev pub kept_half : View T W → View T W
-  kept_half v = pass (v.parts - v.parts / 2) 0 idle idle v.log
+  kept_half v = pass (v.parts - v.parts / 2) 0 idle_lines no_rolls v.log
 
   abbrev pub given_half : View T W → View T W
-  given_half v = pass (v.parts / 2) 0 idle idle []
-
-  -- a pass with other parts
-  abbrev pub with_parts : ℕ → View T W → View T W
-  with_parts parts v = pass parts v.owns v.receives v.sends v.log
+  given_half v = pass (v.parts / 2) 0 idle_lines no_rolls []
 
   -- a ticket, with its part
   abbrev pub one_ticket : Side → ℕ → View T W
-  one_ticket s key = changed s (with_parts 1 nobody) (calling 0 0 key)
+  one_ticket s key = pass 1 0 (only_on s (calling 0 0 key)) no_rolls []
+
+  -- a pass with these parts and this ticket
+  abbrev pub ticket_is : Side → ℕ → ℕ → View T W → View T W
+  ticket_is s parts key v = pass parts v.owns (with_line s (ticketed key (of s v.calls)) v.calls) v.rolls v.log
 
   -- a pass that gave its ticket out; the ticket; and a pass that took one in
   abbrev pub no_ticket : Side → View T W → View T W
-  no_ticket s v = changed s (with_parts (v.parts - 1) v) (ticketed 0 (of s v))
+  no_ticket s v = ticket_is s (v.parts - 1) 0 v
 
   abbrev pub ticket_of : Side → View T W → View T W
-  ticket_of s v = one_ticket s (of s v).ticket
+  ticket_of s v = one_ticket s (of s v.calls).ticket
 
   abbrev pub with_ticket : Side → View T W → View T W → View T W
-  with_ticket s v w = changed s (with_parts (v.parts + w.parts) v) (ticketed (of s w).ticket (of s v))
+  with_ticket s v w = ticket_is s (v.parts + w.parts) (of s w.calls).ticket v
 
   -- ---- what seats count for
 
   abbrev pub parts_of : View T W → ℕ
   parts_of v = v.parts
 
-  abbrev pub lists_of : Side → View T W → ℕ
-  lists_of s v = (of s v).lists
+  abbrev pub here_of : Side → View T W → ℕ
+  here_of s v = (roll s v.rolls).here
 
-  abbrev pub answers_of : Side → View T W → ℕ
-  answers_of s v = only v.parts (of s v).answers
+  -- how many of a side were told, with those for whom calls answer; or how many calls have the line in hand to tell all
+  abbrev pub answered_of : Duty → Side → View T W → ℕ
+  answered_of to_one s v = only (roll s v.rolls).here (told (roll s v.rolls).listeners) + only v.parts (of s v.calls).answers
+  answered_of to_all s v = only v.parts (of s v.calls).tells
 
   abbrev pub holds_of : Side → ℕ → View T W → ℕ
-  holds_of s key v = only v.parts (is_key key (of s v).holds)
-
-  abbrev pub closes_of : Side → View T W → ℕ
-  closes_of s v = only v.parts (of s v).closes
+  holds_of s key v = only v.parts (is_key key (of s v.calls).holds)
 
   -- whether it has the slot
   abbrev pub locks_of : View T W → ℕ
@@ -184,17 +252,14 @@ module _ {T W : Type 0} where
   abbrev pub owns_of : View T W → ℕ
   owns_of v = only v.parts v.owns
 
-  abbrev pub told_of : Side → View T W → ℕ
-  told_of s v = only (of s v).lists (told (of s v).listeners)
-
   abbrev pub waits_of : Side → ℕ → View T W → ℕ
-  waits_of s key v = only (of s v).lists (waits key (of s v).listeners)
+  waits_of s key v = only (roll s v.rolls).here (waits key (roll s v.rolls).listeners)
 
   abbrev pub listed_of : Side → ℕ → View T W → ℕ
-  listed_of s key v = only (of s v).lists (listed key (of s v).listeners)
+  listed_of s key v = only (roll s v.rolls).here (listed key (roll s v.rolls).listeners)
 
   abbrev pub tickets_of : Side → ℕ → View T W → ℕ
-  tickets_of s key v = is_key key (of s v).ticket
+  tickets_of s key v = is_key key (of s v.calls).ticket
 
   abbrev pub puts_of : Weight T → View T W → ℕ
   puts_of f v = only v.parts (puts f v.log)
@@ -232,16 +297,24 @@ messages base = base / 2
 abbrev pub places : ℕ → ℕ
 places base = 1 - base / 2
 
--- what those of a side wait for; a closed channel has no place
-abbrev pub wanted : Side → ℕ → Bool → ℕ
-wanted of_receives base shut = messages base
-wanted of_sends base false = places base
-wanted of_sends base true = 0
+-- WHAT THOSE OF A SIDE ARE OWED: a receive for each message, and a send for each place, of which a closed channel has none; and all of a
+-- side, where the channel is closed, and all streams beside a message
+abbrev pub wanted : Duty → Side → ℕ → Bool → ℕ
+wanted to_one of_receives base shut = messages base
+wanted to_one of_sends base shut = cond shut 0 (places base)
+wanted to_one of_streams base shut = 0
+wanted to_one of_closings base shut = 0
+wanted to_all of_receives base shut = shut_count shut
+wanted to_all of_sends base shut = shut_count shut
+wanted to_all of_streams base shut = cond shut 1 (messages base)
+wanted to_all of_closings base shut = shut_count shut
 
--- the same where a message is there, or none, and no call is under way; where the channel is closed all who wait are told
+-- whether some of a side have to be told, where a message is there, or none, and no call is under way
 abbrev pub due : Side → Bool → Bool → ℕ
 due of_receives message shut = cond message 1 0 + shut_count shut
 due of_sends message shut = cond message 0 1 + shut_count shut
+due of_streams message shut = cond message 1 0 + shut_count shut
+due of_closings message shut = shut_count shut
 
 -- whether a word that was found has a message, and whether it is closed
 abbrev pub has_message : ℕ → Bool
@@ -250,8 +323,7 @@ has_message word = not (clear word 2)
 abbrev pub is_shut : ℕ → Bool
 is_shut word = not (clear word 4)
 
--- THE LAW: where a listener waits untold there are no more messages, or places, than told listeners and calls that answer for one; or a
--- call under way has that listener in hand
+-- THE LAW: where a listener waits untold, no more are owed than are answered for; or a call under way has that listener in hand
 abbrev pub Owed : ℕ → ℕ → ℕ → ℕ → Type 0
 Owed count waiting answering holding = 0 < waiting → (count ≤ answering) ⊎ (0 < holding)
 
@@ -263,13 +335,9 @@ pub data IsSlot {T : Type 0} (base : ℕ) (slot : home.Option (Option T)) (locks
 
 pub record Kept {T W : Type 0} (base : ℕ) (shut : Bool) (slot : home.Option (Option T)) (views : List (View T W)) : Type 0 where
   pub whole : total parts_of views ≡ 1024
-  pub one : (s : Side) → total (lists_of s) views ≡ 1
+  pub one : (s : Side) → total (here_of s) views ≡ 1
   pub place : IsSlot base slot (total locks_of views) (total owns_of views)
-  pub owed : (s : Side) (key : ℕ)
-      → Owed (wanted s base shut) (total (waits_of s key) views) (total (told_of s) views + total (answers_of s) views) (total (holds_of s key) views)
-  -- THE LAW OF THE CLOSING: where a listener waits untold on a closed channel, a call under way has its line in hand to tell all, or has
-  -- that listener in hand
-  pub shutting : (s : Side) (key : ℕ) → Owed (shut_count shut) (total (waits_of s key) views) (total (closes_of s) views) (total (holds_of s key) views)
+  pub owed : (d : Duty) (s : Side) (key : ℕ) → Owed (wanted d s base shut) (total (waits_of s key) views) (total (answered_of d s) views) (total (holds_of s key) views)
   pub tickets : (s : Side) (key : ℕ) → total (tickets_of s key) views ≤ total (listed_of s key) views
   pub balance : Balanced slot (λ f. total (puts_of f) views) (λ f. total (takes_of f) views)
   pub order : Ordered slot views
@@ -287,76 +355,87 @@ Known T W = Me (Option T) (View T W)
 
 -- the seat has every part and the list of this side, and no call is under way
 abbrev pub HasAll : {T W : Type 0} → Side → View T W → Type 0
-HasAll s v = (v.parts ≡ 1024) × ((of s v).lists ≡ 1) × ((of s v).answers ≡ 0) × ((of s v).holds ≡ 0) × (v.owns ≡ 0) × ((of s v).closes ≡ 0)
+HasAll s v = (v.parts ≡ 1024) × ((roll s v.rolls).here ≡ 1) × ((of s v.calls).answers ≡ 0) × ((of s v.calls).holds ≡ 0) × (v.owns ≡ 0) × ((of s v.calls).tells ≡ 0)
 
 module _ {T W : Type 0} where
   abbrev pub Woken : State (Option T) (View T W) → Type 0
   Woken s = (base : ℕ) × (shut : Bool) × (slot : home.Option (Option T)) × (s.words ≡ word_of base shut ∷ []) × (s.homes ≡ slot ∷ []) × Kept base shut slot s.views
 
+  -- a pass whose call knows the word to be n while it has the slot, or 0, with other lines and another log
+  abbrev pub stepped : ℕ → Lines → List (Transfer T) → View T W → View T W
+  stepped n c log v = pass v.parts n c v.rolls log
+
   -- a push won nothing: the channel was closed, or full, or a message was on its way out
   abbrev pub MissesPlace : Known T W → ℕ → Known T W → Type 0
   MissesPlace m found m' =
-      ((clear found 4 ≡ false) × (m' ≡ (pass m.0.parts 0 m.0.receives (resolved m.0.sends) (m.0.log ++ Saw Seen ∷ []), [])))
-      ⊎ (((clear found 4 ≡ true) × (clear found 2 ≡ false) × NotSeen m.0.log × (m' ≡ (pass m.0.parts 0 m.0.receives (ended m.0.sends) m.0.log, [])))
+      ((clear found 4 ≡ false) × (m' ≡ (stepped 0 (no_send m.0.calls) (m.0.log ++ Saw Seen ∷ []) m.0, [])))
+      ⊎ (((clear found 4 ≡ true) × (clear found 2 ≡ false) × NotSeen m.0.log × (m' ≡ (stepped 0 (no_place m.0.calls) m.0.log m.0, [])))
       ⊎ ((clear found 4 ≡ true) × (clear found 2 ≡ true) × (m' ≡ m)))
 
   -- what the steps on the word tell: a push won the empty slot, and answers for a message; where there was none to win, the call may
   -- end, and leave its listener behind; where the channel was closed it still has its listener in hand
   abbrev pub fills : Step (Option T) → Known T W → ℕ → Known T W → Type 0
   fills st m found m' =
-      ((found ≡ 0) × NotSeen m.0.log × (m' ≡ (pass m.0.parts 3 (answering m.0.receives) (ended m.0.sends) m.0.log, (0, None) ∷ [])))
+      ((found ≡ 0) × NotSeen m.0.log × (m' ≡ (stepped 3 (won_place m.0.calls) m.0.log m.0, (0, None) ∷ [])))
       ⊎ ((found ≡ 0 → ⊥) × MissesPlace m found m')
 
   -- a pop won nothing: there is a message, at another word or on its way in; or the channel was empty, or closed and empty
   abbrev pub MissesMessage : Known T W → ℕ → Known T W → Type 0
   MissesMessage m found m' =
       ((clear found 2 ≡ false) × ((bit_and found 18446744073709551614 ≡ 2) ⊎ (bit_and found 18446744073709551614 ≡ 6)) × (m' ≡ m))
-      ⊎ (((clear found 2 ≡ true) × (clear found 4 ≡ true) × NotSeen m.0.log × (m' ≡ (pass m.0.parts 0 (ended m.0.receives) m.0.sends m.0.log, [])))
-      ⊎ ((clear found 2 ≡ true) × (clear found 4 ≡ false) × (m' ≡ (pass m.0.parts 0 (resolved m.0.receives) m.0.sends (m.0.log ++ Saw Drained ∷ []), []))))
+      ⊎ (((clear found 2 ≡ true) × (clear found 4 ≡ true) × NotSeen m.0.log × (m' ≡ (stepped 0 (no_message m.0.calls) m.0.log m.0, [])))
+      ⊎ ((clear found 2 ≡ true) × (clear found 4 ≡ false) × (m' ≡ (stepped 0 (no_more m.0.calls) (m.0.log ++ Saw Drained ∷ []) m.0, []))))
 
   -- the message is in the slot that was won from this word, and the call answers for a place, and has its listener in hand still
   abbrev pub wins : ℕ → Step (Option T) → Known T W → ℕ → Known T W → Type 0
   wins from st m found m' =
       ((found ≡ from) × NotDrained m.0.log
-      × ((x : T) × (k : ℕ) × TookBefore k m.0.log × (m' ≡ (pass m.0.parts 1 (resolved m.0.receives) (answering m.0.sends) (m.0.log ++ Out k x ∷ []), (0, Some x) ∷ []))))
+      × ((x : T) × (k : ℕ) × TookBefore k m.0.log × (m' ≡ (stepped 1 (won_message m.0.calls) (m.0.log ++ Out k x ∷ []) m.0, (0, Some x) ∷ []))))
       ⊎ ((found ≡ from → ⊥) × MissesMessage m found m')
 
-  -- a pass saw this of the closing
-  abbrev pub noted : Sight → View T W → View T W
-  noted s v = pass v.parts v.owns v.receives v.sends (v.log ++ Saw s ∷ [])
-
-  -- the call closed the channel: it has both lines in hand to tell all
+  -- the call closed the channel: it has every line in hand to tell all; or it found it closed
   abbrev pub closer : View T W → View T W
-  closer v = pass v.parts v.owns (owing v.receives) (owing v.sends) (v.log ++ Saw Shut ∷ [])
+  closer v = stepped v.owns (all_owing v.calls) (v.log ++ Saw Shut ∷ []) v
+
+  abbrev pub noted : View T W → View T W
+  noted v = stepped v.owns v.calls (v.log ++ Saw Seen ∷ []) v
 
   abbrev pub shuts : Step (Option T) → Known T W → ℕ → Known T W → Type 0
   shuts st m found m' =
-      ((clear found 4 ≡ true) × NotSeen m.0.log × (m' ≡ (closer m.0, m.1))) ⊎ ((clear found 4 ≡ false) × (m' ≡ (noted Seen m.0, m.1)))
+      ((clear found 4 ≡ true) × NotSeen m.0.log × (m' ≡ (closer m.0, m.1))) ⊎ ((clear found 4 ≡ false) × (m' ≡ (noted m.0, m.1)))
+
+  -- a call looked, and the channel was open, so it leaves the listener behind that waits for the closing; or closed
+  abbrev pub saw_open : View T W → View T W
+  saw_open v = stepped v.owns (still_open v.calls) v.log v
+
+  abbrev pub saw_closed : View T W → View T W
+  saw_closed v = stepped v.owns (found_closed v.calls) (v.log ++ Saw Seen ∷ []) v
 
   abbrev pub sees : Step (Option T) → Known T W → ℕ → Known T W → Type 0
-  sees st m found m' = ((clear found 4 ≡ true) × NotSeen m.0.log × (m' ≡ m)) ⊎ ((clear found 4 ≡ false) × (m' ≡ (noted Seen m.0, m.1)))
+  sees st m found m' =
+      ((clear found 4 ≡ true) × NotSeen m.0.log × (m' ≡ (saw_open m.0, m.1))) ⊎ ((clear found 4 ≡ false) × (m' ≡ (saw_closed m.0, m.1)))
 
   abbrev pub unlocks : Step (Option T) → Known T W → ℕ → Known T W → Type 0
   unlocks st m found m' =
-      (k : ℕ) × PutBefore k m.0.log × TookBefore k m.0.log × (m' ≡ (pass m.0.parts 0 m.0.receives m.0.sends (given k m.1 m.0.log), []))
+      (k : ℕ) × PutBefore k m.0.log × TookBefore k m.0.log × (m' ≡ (stepped 0 m.0.calls (given k m.1 m.0.log) m.0, []))
 
   abbrev pub learns : Side → Step (Option T) → Known T W → ℕ → Known T W → Type 0
   learns s st m found m' =
       (m' ≡ m)
-      × (HasAll s m.0 → ((key : ℕ) → 0 < waits key (of s m.0).listeners → due s (has_message found) (is_shut found) ≤ told (of s m.0).listeners)
-      × ((key : ℕ) → is_key key (of s m.0).ticket ≤ listed key (of s m.0).listeners) × ((slot : Option T) × (is_some slot ≡ has_message found) × Accounts slot m.0.log)
+      × (HasAll s m.0 → ((key : ℕ) → 0 < waits key (roll s m.0.rolls).listeners → due s (has_message found) (is_shut found) ≤ told (roll s m.0.rolls).listeners)
+      × ((key : ℕ) → is_key key (of s m.0.calls).ticket ≤ listed key (roll s m.0.rolls).listeners) × ((slot : Option T) × (is_some slot ≡ has_message found) × Accounts slot m.0.log)
       × Closings (is_shut found) (cond (has_message found) 1 0) (λ f. sights f m.0.log))
 
 module _ {W : Type 0} where
-  -- what a section may make of the line of its list: whoever waits has its listener in hand, or waited before, beside as many who
-  -- answer, and beside the one who has to tell all; and whoever has a ticket is in the list
-  abbrev pub MayWait : Line W → Line W → ℕ → Type 0
-  MayWait l m key =
-      0 < waits key m.listeners
-      → (0 < is_key key m.holds) ⊎ ((0 < waits key l.listeners) × (told l.listeners + l.answers ≤ told m.listeners + m.answers) × (is_key key l.holds ≤ is_key key m.holds) × (l.closes ≤ m.closes))
+  -- what a section may make of its call's line l and of its list ls: whoever waits has its listener in hand, or waited before, beside as
+  -- many who answer, and beside the one who has to tell all; and whoever has a ticket is in the list
+  abbrev pub MayWait : Line → List (Listener W) → Line → List (Listener W) → ℕ → Type 0
+  MayWait l ls m ms key =
+      0 < waits key ms
+      → (0 < is_key key m.holds) ⊎ ((0 < waits key ls) × (told ls + l.answers ≤ told ms + m.answers) × (is_key key l.holds ≤ is_key key m.holds) × (l.tells ≤ m.tells))
 
-  abbrev pub MayTicket : Line W → Line W → ℕ → Type 0
-  MayTicket l m key = is_key key m.ticket + listed key l.listeners ≤ listed key m.listeners + is_key key l.ticket
+  abbrev pub MayTicket : Line → List (Listener W) → Line → List (Listener W) → ℕ → Type 0
+  MayTicket l ls m ms key = is_key key m.ticket + listed key ls ≤ listed key ms + is_key key l.ticket
 
-  abbrev pub Fair : Line W → Line W → Type 0
-  Fair l m = (m.lists ≡ 1) × ((key : ℕ) → MayWait l m key) × ((key : ℕ) → MayTicket l m key)
+  abbrev pub Fair : Line → List (Listener W) → Line → List (Listener W) → Type 0
+  Fair l ls m ms = ((key : ℕ) → MayWait l ls m ms key) × ((key : ℕ) → MayTicket l ls m ms key)

@@ -1,19 +1,20 @@
 //! The channel, its passes, its receives and its sends that wait.
 
-ghost use Rattle.std.specs.Prelude.{◌≡◌, ℕ, ◌+◌, ◌-◌, ◌/◌, ◌<◌, [], ◌++◌, true, false, is_some};
+ghost use Rattle.std.specs.Prelude.{◌≡◌, ◌⊎◌, ℕ, ◌+◌, ◌-◌, ◌/◌, ◌<◌, [], ◌++◌, true, false, is_some};
 ghost use Rattle.atomic_table.specs.Seated.{TableId};
-ghost use Rattle.channel_wakeups.specs.Calls.{held, is_pending, is_waiting, Closes, Hand, IsClosed, Looked, Offers, Received, Sent};
+ghost use Rattle.channel_wakeups.specs.Calls.{held, is_pending, is_waiting, is_watching, Closes, Hand, IsClosed, Looked, Offers, Received, Sent, Watches};
 ghost use Rattle.channel_wakeups.specs.Seats.{IsIdle, IsTicket};
 ghost use Rattle.channel_wakeups.specs.Views.{everything};
 
-use crate::calls;
-use crate::calls::Desks;
+use crate::at_rest::{Rest, Tickets};
 use crate::cells::{Place, SlotTable};
 use crate::desk::Desk;
-use crate::place::{absorb, begin, share};
-use crate::polled::{Offered, Polled};
-use crate::rule::{Receives, Room, Sends, Waiting};
+use crate::place::{ListSeats, absorb, begin, share};
+use crate::polled::{Offered, Polled, Watched};
+use crate::rule::{Closings, Receives, Room, Sends, Streams, Waiting};
+use crate::telling::Desks;
 use crate::wake::Wake;
+use crate::{at_rest, offers, shutting, takes, waits};
 use atomic_table::Table;
 use concurrent_queue::PushError;
 use std::alloc::{AllocError, Global};
@@ -42,6 +43,8 @@ pub struct SlotChannel<T: Drop, W: Drop, B: Room> {
     pub(crate) table: SlotTable<T, W>,
     pub(crate) receives: Mutex<Desk<T, W, B, Receives>>,
     pub(crate) sends: Mutex<Desk<T, W, B, Sends>>,
+    pub(crate) streams: Mutex<Desk<T, W, B, Streams>>,
+    pub(crate) closings: Mutex<Desk<T, W, B, Closings>>,
 }
 
 impl<T: Drop, W: Drop, B: Room> Model for SlotChannel<T, W, B> {
@@ -97,18 +100,11 @@ pub type Receive<T, W, B> = Waiter<T, W, B, Receives>;
 /// A send that waits for a place.
 pub type Sending<T, W, B> = Waiter<T, W, B, Sends>;
 
-/// What a channel is found to be while no call is under way.
-#[derive(Clone, Copy, Debug, PartialEq, Eq)]
-pub struct Rest {
-    /// Whether a message is there.
-    pub message: bool,
-    /// Whether the channel is closed.
-    pub closed: bool,
-    /// Whether the listener of some receive was told.
-    pub receive_told: bool,
-    /// Whether that of some send was told.
-    pub send_told: bool,
-}
+/// A stream of messages.
+pub type Streaming<T, W, B> = Waiter<T, W, B, Streams>;
+
+/// One who waits for the closing alone.
+pub type Closing<T, W, B> = Waiter<T, W, B, Closings>;
 
 impl<T: Drop, W: Drop> Opened<T, W> {
     /// A channel with no message. `Err` where there is no memory for its word and its slot.
@@ -124,11 +120,19 @@ impl<T: Drop, W: Drop> Opened<T, W> {
         ensures log { result.1.log ≡ [] }
     {
         let Opened { alloc, table, seat } = self;
-        let (pass, receives, sends) = begin(&table, seat);
+        let (pass, lists) = begin(&table, seat);
+        let ListSeats {
+            receives,
+            sends,
+            streams,
+            closings,
+        } = lists;
         let channel = SlotChannel {
             table,
             receives: Mutex::new(Desk::new(alloc, receives)),
             sends: Mutex::new(Desk::new(alloc, sends)),
+            streams: Mutex::new(Desk::new(alloc, streams)),
+            closings: Mutex::new(Desk::new(alloc, closings)),
         };
         let pass = Pass {
             seat: pass,
@@ -148,12 +152,14 @@ impl<T: Drop, W: Drop, B: Room, S: Waiting> Waiter<T, W, B, S> {
 }
 
 impl<T: Drop, W: Drop, B: Room> SlotChannel<T, W, B> {
-    /// Both lists.
+    /// The lists.
     #[inline(always)]
     fn desks(&self) -> Desks<T, W, B> {
         Desks {
             receives: &self.receives,
             sends: &self.sends,
+            streams: &self.streams,
+            closings: &self.closings,
         }
     }
 }
@@ -181,8 +187,8 @@ impl<T: Drop, W: Wake, B: Room> SlotChannel<T, W, B> {
         absorb(&self.table, &mut pass.seat, other.seat);
     }
 
-    /// Puts the message into the slot if it is empty, and wakes the first receive that waits untold. `Err` hands the message back:
-    /// the slot was full, or the channel is closed. It may wait, for the lock of the list and while another call is between the operations
+    /// Puts the message into the slot if it is empty, and wakes the first receive and all streams that wait untold. `Err` hands the
+    /// message back: the slot was full, or the channel is closed. It may wait, for the lock of the list and while another call is between the operations
     /// that it needs to take a message out.
     pub fn try_send<R: Wait>(
         &self,
@@ -193,10 +199,10 @@ impl<T: Drop, W: Wake, B: Room> SlotChannel<T, W, B> {
         ensures pass { pass.new.parts ≡ pass.old.parts }
         ensures sent { Sent message result pass.old.log pass.new.log }
     {
-        calls::send(rt, &self.table, &self.receives, &mut pass.seat, message)
+        offers::send(rt, &self.table, &self.desks(), &mut pass.seat, message)
     }
 
-    /// Polls a send: it puts the message in, and wakes the first receive that waits untold, or waits with this task from here on. The
+    /// Polls a send: it puts the message in, and wakes the first receive and all streams that wait untold, or waits with this task. The
     /// task is woken when the send is told, and is let go where it is not needed. A message that is not put in is handed back, for the
     /// next poll; `Closed` where there will be no place. `NoMemory` where there was none for a listener.
     pub fn poll_send<R: Wait>(
@@ -212,7 +218,7 @@ impl<T: Drop, W: Wake, B: Room> SlotChannel<T, W, B> {
         ensures pending { send.new ≡ held (is_waiting result) }
         ensures sent { Offers message result pass.old.log pass.new.log }
     {
-        calls::offer(
+        offers::offer(
             rt,
             &self.table,
             &self.desks(),
@@ -228,7 +234,7 @@ impl<T: Drop, W: Wake, B: Room> SlotChannel<T, W, B> {
         ensures parts { pass.new.parts ≡ pass.old.parts + send }
         ensures log { pass.new.log ≡ pass.old.log }
     {
-        calls::give_up(rt, &self.table, &self.sends, &mut pass.seat, send.waiting);
+        waits::give_up(rt, &self.table, &self.sends, &mut pass.seat, send.waiting);
     }
 
     /// Polls a receive: it takes the message, and wakes the first send that waits untold, or waits with this task from here on. The task
@@ -246,10 +252,11 @@ impl<T: Drop, W: Wake, B: Room> SlotChannel<T, W, B> {
         ensures pending { receive.new ≡ held (is_pending result) }
         ensures received { Received result pass.old.log pass.new.log }
     {
-        calls::poll(
+        takes::poll(
             rt,
             &self.table,
-            &self.desks(),
+            &self.receives,
+            &self.sends,
             &mut pass.seat,
             &mut receive.waiting,
             task,
@@ -261,7 +268,7 @@ impl<T: Drop, W: Wake, B: Room> SlotChannel<T, W, B> {
         ensures parts { pass.new.parts ≡ pass.old.parts + receive }
         ensures log { pass.new.log ≡ pass.old.log }
     {
-        calls::give_up(
+        waits::give_up(
             rt,
             &self.table,
             &self.receives,
@@ -270,13 +277,101 @@ impl<T: Drop, W: Wake, B: Room> SlotChannel<T, W, B> {
         );
     }
 
+    /// Polls a stream: it takes the message, and wakes the first send that waits untold, or waits with this task from here on. A stream
+    /// that waits is woken by each message that is put in, and by the closing. `Closed` where no message is left in a closed channel.
+    /// `NoMemory` where there was none for a listener.
+    pub fn poll_next<R: Wait>(
+        &self,
+        rt: &R,
+        pass: &mut Pass<T, W, B>,
+        stream: &mut Streaming<T, W, B>,
+        task: W,
+    ) -> Polled<T>
+        requires { 1 < pass.old.parts + stream.old }
+        ensures pass { pass.new.parts + stream.new ≡ pass.old.parts + stream.old }
+        ensures pending { stream.new ≡ held (is_pending result) }
+        ensures received { Received result pass.old.log pass.new.log }
+    {
+        takes::poll(
+            rt,
+            &self.table,
+            &self.streams,
+            &self.sends,
+            &mut pass.seat,
+            &mut stream.waiting,
+            task,
+        )
+    }
+
+    /// Gives a stream up. If it was told, the notice goes to another one.
+    pub fn give_up_stream<R: Wait>(
+        &self,
+        rt: &R,
+        pass: &mut Pass<T, W, B>,
+        stream: Streaming<T, W, B>,
+    )
+        ensures parts { pass.new.parts ≡ pass.old.parts + stream }
+        ensures log { pass.new.log ≡ pass.old.log }
+    {
+        waits::give_up(
+            rt,
+            &self.table,
+            &self.streams,
+            &mut pass.seat,
+            stream.waiting,
+        );
+    }
+
+    /// Polls one who waits for the closing alone: `Closed` where the channel is closed, else it waits with this task from here on, and
+    /// is woken by the closing. `NoMemory` where there was none for a listener.
+    pub fn poll_closed<R: Wait>(
+        &self,
+        rt: &R,
+        pass: &mut Pass<T, W, B>,
+        closing: &mut Closing<T, W, B>,
+        task: W,
+    ) -> Watched
+        requires { 1 < pass.old.parts + closing.old }
+        ensures pass { pass.new.parts + closing.new ≡ pass.old.parts + closing.old }
+        ensures pending { closing.new ≡ held (is_watching result) }
+        ensures watched { Watches result pass.old.log pass.new.log }
+    {
+        shutting::watch(
+            rt,
+            &self.table,
+            &self.closings,
+            &mut pass.seat,
+            &mut closing.waiting,
+            task,
+        )
+    }
+
+    /// Gives the wait for the closing up. If it was told, the notice goes to another one.
+    pub fn give_up_closing<R: Wait>(
+        &self,
+        rt: &R,
+        pass: &mut Pass<T, W, B>,
+        closing: Closing<T, W, B>,
+    )
+        ensures parts { pass.new.parts ≡ pass.old.parts + closing }
+        ensures log { pass.new.log ≡ pass.old.log }
+    {
+        waits::give_up(
+            rt,
+            &self.table,
+            &self.closings,
+            &mut pass.seat,
+            closing.waiting,
+        );
+    }
+
     /// Closes the channel: no message is accepted any more, and what is there can be received still. The first who does so is answered
-    /// `true`, and wakes all sends and then all receives that wait untold.
+    /// `true`, and wakes all that wait untold: sends, then receives, streams, and those who wait for the closing alone.
     pub fn close<R: Wait>(&self, rt: &R, pass: &mut Pass<T, W, B>) -> bool
         ensures pass { pass.new.parts ≡ pass.old.parts }
         ensures answers { Closes result pass.old.log pass.new.log }
     {
-        calls::close(rt, &self.table, &self.desks(), &mut pass.seat)
+        shutting::close(rt, &self.table, &self.desks(), &mut pass.seat)
     }
 
     /// Whether the channel is closed.
@@ -284,36 +379,55 @@ impl<T: Drop, W: Wake, B: Room> SlotChannel<T, W, B> {
         ensures pass { pass.new.parts ≡ pass.old.parts }
         ensures answers { IsClosed result pass.old.log pass.new.log }
     {
-        calls::is_closed(rt, &self.table, &mut pass.seat)
+        shutting::is_closed(rt, &self.table, &mut pass.seat)
     }
 
-    /// All parts are back, so no call is under way, and no other receive and no other send is pending. Whether a message is there, and
-    /// whether some listener was woken. Beside a receive that is pending a message has a woken listener of a receive, and beside a send
-    /// that is pending a free place has one of a send. In a closed channel there is one of each that is pending. The log of all passes says
-    /// that each message that was put in was taken out once, but for the last where one is there. It says too whether one closed the channel,
-    /// and that who found it closed, or without a message then, did so rightly.
+    /// All parts are back, so no call is under way, and at most one is pending of each side. Whether a message is there, whether the
+    /// channel is closed, and of each side whether some listener was woken. Beside a message there is one where a receive is pending, and
+    /// where a stream is. Beside a free place there is one where a send is pending, and in a closed channel wherever one is. The log of
+    /// all passes says that each message that was put in was taken out once, but for the last where one is there. It says too whether one
+    /// closed the channel, and that who found it closed, or without a message then, did so rightly.
     pub fn look<R: Wait>(
         &self,
         rt: &R,
         pass: &mut Pass<T, W, B>,
         receive: &mut Receive<T, W, B>,
         send: &mut Sending<T, W, B>,
+        stream: &mut Streaming<T, W, B>,
+        closing: &mut Closing<T, W, B>,
     ) -> Rest
-        requires { pass.old.parts + receive.old + send.old ≡ 1024 }
-        ensures same { (pass.new.parts ≡ pass.old.parts) × (pass.new.log ≡ pass.old.log) × (receive.new ≡ receive.old) × (send.new ≡ send.old) }
-        ensures receives { 0 < receive.old → result.message ≡ true → result.receive_told ≡ true }
-        ensures sends { 0 < send.old → result.message ≡ false → result.send_told ≡ true }
-        ensures closed_receives { 0 < receive.old → result.closed ≡ true → result.receive_told ≡ true }
-        ensures closed_sends { 0 < send.old → result.closed ≡ true → result.send_told ≡ true }
+        requires { pass.old.parts + receive.old + send.old + stream.old + closing.old ≡ 1024 }
+        ensures same { (pass.new.parts ≡ pass.old.parts) × (pass.new.log ≡ pass.old.log) }
+        ensures waiting { (receive.new ≡ receive.old) × (send.new ≡ send.old) × (stream.new ≡ stream.old) × (closing.new ≡ closing.old) }
+        ensures receives { 0 < receive.old → (result.message ≡ true) ⊎ (result.closed ≡ true) → result.receive_told ≡ true }
+        ensures sends { 0 < send.old → (result.message ≡ false) ⊎ (result.closed ≡ true) → result.send_told ≡ true }
+        ensures streams { 0 < stream.old → (result.message ≡ true) ⊎ (result.closed ≡ true) → result.stream_told ≡ true }
+        ensures closings { 0 < closing.old → result.closed ≡ true → result.closing_told ≡ true }
         ensures accounts { Looked result.message result.closed pass.old.log }
     {
-        calls::look(
+        let waiting = Tickets {
+            receive: receive.waiting.take(),
+            send: send.waiting.take(),
+            stream: stream.waiting.take(),
+            closing: closing.waiting.take(),
+        };
+        let (rest, waiting) = at_rest::look(
             rt,
             &self.table,
             &self.desks(),
             &mut pass.seat,
-            &mut receive.waiting,
-            &mut send.waiting,
-        )
+            waiting,
+        );
+        let Tickets {
+            receive: of_receive,
+            send: of_send,
+            stream: of_stream,
+            closing: of_closing,
+        } = waiting;
+        receive.waiting = of_receive;
+        send.waiting = of_send;
+        stream.waiting = of_stream;
+        closing.waiting = of_closing;
+        rest
     }
 }

@@ -4,7 +4,7 @@ ghost use Rattle.std.specs.Prelude.{◌≡◌, ◌⊎◌, ℕ, ◌+◌, ◌-◌,
 ghost use Rattle.channel_wakeups.specs.Calls.{Looked};
 ghost use Rattle.channel_wakeups.specs.Lists.{told, waits, listed};
 ghost use Rattle.channel_wakeups.specs.Seats.{IsCall, IsPass, IsTicket, IsList};
-ghost use Rattle.channel_wakeups.specs.Views.{of, other, calling, closing, call_part, due};
+ghost use Rattle.channel_wakeups.specs.Views.{of, besides, roll, calling, telling, due};
 
 use crate::cells::{Place, SlotTable};
 use crate::listeners::{Listener, add, any_told, remove, renew, take_told, tell_one};
@@ -21,7 +21,7 @@ pub(crate) struct Desk<T: Drop, W: Drop, B: Room, S: Waiting> {
     seat: Place<T, W>,
     room: PhantomData<(B, S)>,
     ghost here: { IsList S.side B.table seat },
-    ghost tied: { (of S.side seat.me.0).listeners ≡ listeners.items },
+    ghost tied: { (roll S.side seat.me.0.rolls).listeners ≡ listeners.items },
     ghost once: { (k : ℕ) → listed k listeners.items ≤ 1 },
     ghost fresh: { (k : ℕ) → next ≤ k → listed k listeners.items ≡ 0 },
 }
@@ -30,7 +30,7 @@ impl<T: Drop, W: Drop, B: Room, S: Waiting> Desk<T, W, B, S> {
     /// An empty list, with its seat.
     pub(crate) fn new(alloc: Global, seat: Place<T, W>) -> Desk<T, W, B, S>
         requires seat { IsList S.side B.table seat }
-        requires empty { (of S.side seat.me.0).listeners ≡ [] }
+        requires empty { (roll S.side seat.me.0.rolls).listeners ≡ [] }
     {
         Desk {
             listeners: Vec::new(alloc),
@@ -48,8 +48,8 @@ impl<T: Drop, W: Drop, B: Room, S: Waiting> Desk<T, W, B, S> {
         call: Place<T, W>,
     ) -> (Option<W>, Place<T, W>)
         requires table { (table.now.shared.table_id ≡ B.table) × (0 < B.table.words) }
-        requires call { IsPass S.side B.table call call.me.0.parts (calling 1 0 0) (call_part (of (other S.side) call.me.0)) }
-        ensures idle { IsPass S.side B.table result.1 call.me.0.parts (calling 0 0 0) (call_part (of (other S.side) call.me.0)) }
+        requires call { IsPass S.side B.table call call.me.0.parts (calling 1 0 0) (besides S.side call.me.0.calls) }
+        ensures idle { IsPass S.side B.table result.1 call.me.0.parts (calling 0 0 0) (besides S.side call.me.0.calls) }
         ensures log { result.1.me.0.log ≡ call.me.0.log }
     {
         let task = tell_one(self.listeners.as_mut_slice());
@@ -65,16 +65,17 @@ impl<T: Drop, W: Drop, B: Room, S: Waiting> Desk<T, W, B, S> {
         (task, call)
     }
 
-    /// A call that closed the channel tells one more listener. Where none waits untold it has told all, and has the line in hand no more.
+    /// A call that has the line in hand to tell all tells one more listener. Where none waits untold it has told all, and has the line in
+    /// hand no more.
     pub(crate) fn tell_next(
         &mut self,
         table: &SlotTable<T, W>,
         call: Place<T, W>,
     ) -> (Option<W>, Place<T, W>)
         requires table { (table.now.shared.table_id ≡ B.table) × (0 < B.table.words) }
-        requires call { IsPass S.side B.table call call.me.0.parts (closing 1) (call_part (of (other S.side) call.me.0)) }
-        ensures more { IfSome result.0 (λ _. IsPass S.side B.table result.1 call.me.0.parts (closing 1) (call_part (of (other S.side) call.me.0))) }
-        ensures all { IfNone result.0 (IsPass S.side B.table result.1 call.me.0.parts (closing 0) (call_part (of (other S.side) call.me.0))) }
+        requires call { IsPass S.side B.table call call.me.0.parts (telling 1) (besides S.side call.me.0.calls) }
+        ensures more { IfSome result.0 (λ _. IsPass S.side B.table result.1 call.me.0.parts (telling 1) (besides S.side call.me.0.calls)) }
+        ensures all { IfNone result.0 (IsPass S.side B.table result.1 call.me.0.parts (telling 0) (besides S.side call.me.0.calls)) }
         ensures log { result.1.me.0.log ≡ call.me.0.log }
     {
         match tell_one(self.listeners.as_mut_slice()) {
@@ -187,8 +188,8 @@ impl<T: Drop, W: Drop, B: Room, S: Waiting> Desk<T, W, B, S> {
         call: Place<T, W>,
     ) -> (Option<W>, Place<T, W>)
         requires table { (table.now.shared.table_id ≡ B.table) × (0 < B.table.words) }
-        requires call { IsCall S.side B.table call call.me.0.parts 0 (of S.side call.me.0).holds (key + 1) }
-        requires holds { ((of S.side call.me.0).holds ≡ 0) ⊎ ((of S.side call.me.0).holds ≡ key + 1) }
+        requires call { IsCall S.side B.table call call.me.0.parts 0 (of S.side call.me.0.calls).holds (key + 1) }
+        requires holds { ((of S.side call.me.0.calls).holds ≡ 0) ⊎ ((of S.side call.me.0.calls).holds ≡ key + 1) }
         ensures idle { IsCall S.side B.table result.1 call.me.0.parts 0 0 0 }
         ensures log { result.1.me.0.log ≡ call.me.0.log }
     {
@@ -213,9 +214,9 @@ impl<T: Drop, W: Drop, B: Room, S: Waiting> Desk<T, W, B, S> {
         call: Place<T, W>,
     ) -> ((bool, bool), bool, Place<T, W>)
         requires table { (table.now.shared.table_id ≡ B.table) × (0 < B.table.words) }
-        requires call { IsPass S.side B.table call 1024 (calling 0 0 (of S.side call.me.0).ticket) (call_part (of (other S.side) call.me.0)) }
+        requires call { IsPass S.side B.table call 1024 (calling 0 0 (of S.side call.me.0.calls).ticket) (besides S.side call.me.0.calls) }
         ensures same { (result.2.table_id ≡ B.table) × (result.2.me ≡ call.me) }
-        ensures law { 0 < (of S.side call.me.0).ticket → 0 < due S.side result.0.0 result.0.1 → result.1 ≡ true }
+        ensures law { 0 < (of S.side call.me.0.calls).ticket → 0 < due S.side result.0.0 result.0.1 → result.1 ≡ true }
         ensures accounts { Looked result.0.0 result.0.1 call.me.0.log }
     {
         enter::<T, W, S>(table, &mut self.seat, call);

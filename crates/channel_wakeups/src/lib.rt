@@ -2,20 +2,26 @@
 //! is what was accepted, in order.
 #![tactic(auto)]
 
-mod calls;
+pub mod at_rest;
 mod cells;
 pub mod channel;
 mod desk;
 pub mod listeners;
 mod made;
+mod offers;
 mod place;
 pub mod polled;
 pub mod rule;
+mod shutting;
 mod stage;
 mod steps;
+mod takes;
+mod telling;
+mod waits;
 pub mod wake;
 
-pub use channel::{Opened, Pass, Receive, Rest, Sending, SlotChannel, Waiter};
-pub use polled::{Offered, Polled};
-pub use rule::{Receives, Room, Sends, Waiting};
+pub use at_rest::Rest;
+pub use channel::{Closing, Opened, Pass, Receive, Sending, SlotChannel, Streaming, Waiter};
+pub use polled::{Offered, Polled, Watched};
+pub use rule::{Closings, Receives, Room, Sends, Streams, Taking, Waiting};
 pub use wake::Wake;

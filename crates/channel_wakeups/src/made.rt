@@ -4,11 +4,12 @@ ghost use Rattle.std.specs.Prelude.{◌≡◌, ◌<◌, true, false, IfErr, IfOk
 ghost use Rattle.concurrent_queue.specs.Replies.{MayAnswer};
 ghost use Rattle.concurrent_queue.specs.declared.call.QueueAsk.TheVariants as ask;
 ghost use Rattle.concurrent_queue.specs.declared.cells.QueueForm.TheVariants.{Bounded};
-ghost use Rattle.channel_wakeups.specs.Calls.{PushLeaves, PopLeaves, CloseLeaves, AskLeaves, PushRefused, PopRefused, Sent, Found, Closes, IsClosed};
+ghost use Rattle.channel_wakeups.specs.Calls.{PushLeaves, PopLeaves, CloseLeaves, AskLeaves, PushRefused, PopRefused, Sent, Found, Closes, IsClosed, to_streams, to_others};
 ghost use Rattle.channel_wakeups.specs.Seats.{IsCall, IsPass, IsIdle};
-ghost use Rattle.channel_wakeups.specs.Views.{of_receives, of_sends, calling, closing};
+ghost use Rattle.channel_wakeups.specs.Views.{of, of_receives, of_sends, of_closings, only_on, calling, telling};
 
 use crate::cells::{Place, SlotCells, SlotTable};
+use crate::rule::Taking;
 use crate::stage::Stage;
 use concurrent_queue::queue_call::whole::complete;
 use concurrent_queue::{PopError, PushError, QueueCall, QueueReply};
@@ -23,8 +24,8 @@ fn make_push<T: Drop, W: Drop, R: Wait>(
     message: T,
 ) -> (QueueReply<T>, Place<T, W>)
     requires table { 0 < table.now.shared.table_id.words }
-    requires call { IsCall of_sends table.now.shared.table_id seat seat.me.0.parts seat.me.0.sends.answers seat.me.0.sends.holds 0 }
-    ensures leaves { PushLeaves table.now.shared.table_id seat.me.0.parts seat.me.0.sends.holds seat.me.0.log message result.0 result.1 }
+    requires call { IsCall of_sends table.now.shared.table_id seat seat.me.0.parts seat.me.0.calls.sends.answers seat.me.0.calls.sends.holds 0 }
+    ensures leaves { PushLeaves table.now.shared.table_id seat.me.0.parts seat.me.0.calls.sends.holds seat.me.0.log message result.0 result.1 }
     ensures answers { MayAnswer (Bounded 1) (ask.Push message) result.0 }
 {
     let mut cells = SlotCells {
@@ -38,14 +39,14 @@ fn make_push<T: Drop, W: Drop, R: Wait>(
 
 /// Every step of the queue's pop on the slot.
 #[inline(always)]
-fn make_pop<T: Drop, W: Drop, R: Wait>(
+fn make_pop<T: Drop, W: Drop, S: Taking, R: Wait>(
     rt: &R,
     table: &SlotTable<T, W>,
     seat: Place<T, W>,
 ) -> (QueueReply<T>, Place<T, W>)
     requires table { 0 < table.now.shared.table_id.words }
-    requires call { IsCall of_receives table.now.shared.table_id seat seat.me.0.parts seat.me.0.receives.answers seat.me.0.receives.holds 0 }
-    ensures leaves { PopLeaves table.now.shared.table_id seat.me.0.parts seat.me.0.receives.holds seat.me.0.log result.0 result.1 }
+    requires call { IsCall S.side table.now.shared.table_id seat seat.me.0.parts (of S.side seat.me.0.calls).answers (of S.side seat.me.0.calls).holds 0 }
+    ensures leaves { PopLeaves S.side table.now.shared.table_id seat.me.0.parts (of S.side seat.me.0.calls).holds seat.me.0.log result.0 result.1 }
 {
     let mut cells = SlotCells {
         table,
@@ -84,8 +85,8 @@ fn make_ask<T: Drop, W: Drop, R: Wait>(
     seat: Place<T, W>,
 ) -> (QueueReply<T>, Place<T, W>)
     requires table { 0 < table.now.shared.table_id.words }
-    requires idle { IsIdle table.now.shared.table_id seat seat.me.0.parts }
-    ensures leaves { AskLeaves table.now.shared.table_id seat.me.0.parts seat.me.0.log result.0 result.1 }
+    requires call { IsCall of_closings table.now.shared.table_id seat seat.me.0.parts seat.me.0.calls.closings.answers seat.me.0.calls.closings.holds 0 }
+    ensures leaves { AskLeaves table.now.shared.table_id seat.me.0.parts seat.me.0.calls.closings.holds seat.me.0.log result.0 result.1 }
 {
     let mut cells = SlotCells {
         table,
@@ -106,9 +107,9 @@ pub(crate) fn push<T: Drop, W: Drop, R: Wait>(
     message: T,
 ) -> (Result<(), PushError<T>>, Place<T, W>)
     requires table { 0 < table.now.shared.table_id.words }
-    requires call { IsCall of_sends table.now.shared.table_id call call.me.0.parts call.me.0.sends.answers call.me.0.sends.holds 0 }
-    ensures ok { IfOk result.0 (λ _. IsCall of_receives table.now.shared.table_id result.1 call.me.0.parts 1 0 0) }
-    ensures err { IfErr result.0 (λ e. PushRefused table.now.shared.table_id call.me.0.parts call.me.0.sends.holds e result.1) }
+    requires call { IsCall of_sends table.now.shared.table_id call call.me.0.parts call.me.0.calls.sends.answers call.me.0.calls.sends.holds 0 }
+    ensures ok { IfOk result.0 (λ _. IsPass of_receives table.now.shared.table_id result.1 call.me.0.parts (calling 1 0 0) to_streams) }
+    ensures err { IfErr result.0 (λ e. PushRefused table.now.shared.table_id call.me.0.parts call.me.0.calls.sends.holds e result.1) }
     ensures log { Sent message result.0 call.me.0.log result.1.me.0.log }
 {
     let (reply, call) = make_push(rt, table, call, message);
@@ -124,19 +125,19 @@ pub(crate) fn push<T: Drop, W: Drop, R: Wait>(
 }
 
 /// Pops the message, for whose place the call answers then. Whatever it answers, the call answers for no message then. Where there was
-/// none in an open channel it has no listener of a receive in hand either: there was a moment without a message.
-pub(crate) fn pop<T: Drop, W: Drop, R: Wait>(
+/// none in an open channel it has no listener in hand either: there was a moment without a message.
+pub(crate) fn pop<T: Drop, W: Drop, S: Taking, R: Wait>(
     rt: &R,
     table: &SlotTable<T, W>,
     call: Place<T, W>,
 ) -> (Result<T, PopError>, Place<T, W>)
     requires table { 0 < table.now.shared.table_id.words }
-    requires call { IsCall of_receives table.now.shared.table_id call call.me.0.parts call.me.0.receives.answers call.me.0.receives.holds 0 }
-    ensures ok { IfOk result.0 (λ _. IsPass of_sends table.now.shared.table_id result.1 call.me.0.parts (calling 1 0 0) (calling 0 call.me.0.receives.holds 0)) }
-    ensures err { IfErr result.0 (λ e. PopRefused table.now.shared.table_id call.me.0.parts call.me.0.receives.holds e result.1) }
+    requires call { IsCall S.side table.now.shared.table_id call call.me.0.parts (of S.side call.me.0.calls).answers (of S.side call.me.0.calls).holds 0 }
+    ensures ok { IfOk result.0 (λ _. IsPass of_sends table.now.shared.table_id result.1 call.me.0.parts (calling 1 0 0) (only_on S.side (calling 0 (of S.side call.me.0.calls).holds 0))) }
+    ensures err { IfErr result.0 (λ e. PopRefused S.side table.now.shared.table_id call.me.0.parts (of S.side call.me.0.calls).holds e result.1) }
     ensures log { Found result.0 call.me.0.log result.1.me.0.log }
 {
-    let (reply, call) = make_pop(rt, table, call);
+    let (reply, call) = make_pop::<T, W, S, R>(rt, table, call);
     match reply {
         QueueReply::Pop(Ok(message)) => (Ok(message), call),
         QueueReply::Pop(Err(PopError::Empty)) => (Err(PopError::Empty), call),
@@ -145,7 +146,7 @@ pub(crate) fn pop<T: Drop, W: Drop, R: Wait>(
     }
 }
 
-/// Closes the channel: `true` where it was open. Then the call has both lines in hand to tell all.
+/// Closes the channel: `true` where it was open. Then the call has every line in hand to tell all.
 pub(crate) fn shut<T: Drop, W: Drop, R: Wait>(
     rt: &R,
     table: &SlotTable<T, W>,
@@ -153,7 +154,7 @@ pub(crate) fn shut<T: Drop, W: Drop, R: Wait>(
 ) -> (bool, Place<T, W>)
     requires table { 0 < table.now.shared.table_id.words }
     requires call { IsIdle table.now.shared.table_id call call.me.0.parts }
-    ensures first { result.0 ≡ true → IsPass of_receives table.now.shared.table_id result.1 call.me.0.parts (closing 1) (closing 1) }
+    ensures first { result.0 ≡ true → IsPass of_receives table.now.shared.table_id result.1 call.me.0.parts (telling 1) to_others }
     ensures other { result.0 ≡ false → IsIdle table.now.shared.table_id result.1 call.me.0.parts }
     ensures log { Closes result.0 call.me.0.log result.1.me.0.log }
 {
@@ -165,15 +166,16 @@ pub(crate) fn shut<T: Drop, W: Drop, R: Wait>(
     }
 }
 
-/// Whether the channel is closed.
+/// Whether the channel is closed. Where it is open the call has no listener in hand any more that waits for the closing.
 pub(crate) fn ask<T: Drop, W: Drop, R: Wait>(
     rt: &R,
     table: &SlotTable<T, W>,
     call: Place<T, W>,
 ) -> (bool, Place<T, W>)
     requires table { 0 < table.now.shared.table_id.words }
-    requires call { IsIdle table.now.shared.table_id call call.me.0.parts }
-    ensures idle { IsIdle table.now.shared.table_id result.1 call.me.0.parts }
+    requires call { IsCall of_closings table.now.shared.table_id call call.me.0.parts call.me.0.calls.closings.answers call.me.0.calls.closings.holds 0 }
+    ensures closed { result.0 ≡ true → IsCall of_closings table.now.shared.table_id result.1 call.me.0.parts 0 call.me.0.calls.closings.holds 0 }
+    ensures open { result.0 ≡ false → IsIdle table.now.shared.table_id result.1 call.me.0.parts }
     ensures log { IsClosed result.0 call.me.0.log result.1.me.0.log }
 {
     let (reply, call) = make_ask(rt, table, call);

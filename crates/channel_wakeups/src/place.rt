@@ -1,16 +1,16 @@
-//! What is done to the seats of a channel's table besides the steps of the machine. Each function is one plain load, `begin` two and `section` three.
+//! What is done to the seats of a channel's table besides the steps of the machine. Each function is one plain load, `begin` four and `section` three.
 
 ghost use Rattle.std.specs.Prelude.{◌≡◌, ℕ, ◌+◌, ◌-◌, ◌/◌, ◌<◌, ◌≤◌, [], ◌++◌, true, false};
 ghost use Rattle.channel_wakeups.specs.Calls.{Looked};
 ghost use Rattle.channel_wakeups.specs.Lists.{told, waits, listed};
 ghost use Rattle.channel_wakeups.specs.Seats.{IsCall, IsIdle, IsPass, IsTicket, IsList, Calls, Lists};
-ghost use Rattle.channel_wakeups.specs.Views.{of, other, both_parts, call_part, calling, changed, comes_out, entered, stays, is_key, everything, due, of_receives, of_sends, HasAll, Fair};
+ghost use Rattle.channel_wakeups.specs.Views.{of, besides, roll, call_line, calling, changed, comes_out, entered, stays, alone, without, is_key, everything, due, of_receives, of_sends, of_streams, of_closings, idle_lines, HasAll, Fair};
 
 use crate::cells::{Place, SlotTable};
 use crate::listeners::Listener;
 use crate::rule::{
-    Absorbs, Aim, Becomes, Blank, Divides, Enters, GivesTicket, Learns, Leaves, Receives, Sends,
-    Shares, TakesTicket, Waiting,
+    Absorbs, Aim, Becomes, Blank, Closings, Divides, Enters, GivesTicket, Learns, Leaves, Sends,
+    Shares, Streams, TakesTicket, Waiting,
 };
 use std::marker::Brand;
 
@@ -31,7 +31,7 @@ pub(crate) fn enter<T: Drop, W: Drop, S: Waiting>(
 )
     requires table { 0 < table.now.shared.table_id.words }
     requires seat { IsList S.side table.now.shared.table_id seat.old }
-    requires call { IsPass S.side table.now.shared.table_id call call.me.0.parts (call_part (of S.side call.me.0)) (call_part (of (other S.side) call.me.0)) }
+    requires call { IsPass S.side table.now.shared.table_id call call.me.0.parts (of S.side call.me.0.calls) (besides S.side call.me.0.calls) }
     ensures { (seat.new.table_id ≡ table.now.shared.table_id) × (seat.new.me ≡ (entered seat.old.me.0 call.me.0, [])) }
 {
     table.shared.join_seat::<Enters>(seat, call);
@@ -56,9 +56,9 @@ pub(crate) fn leave<T: Drop, W: Drop>(
 fn aim<T: Drop, W: Drop, S: Waiting, I: Aim<W>>(table: &SlotTable<T, W>, seat: &mut Place<T, W>)
     requires table { 0 < table.now.shared.table_id.words }
     requires seat { (seat.old.table_id ≡ table.now.shared.table_id) × (seat.old.me.1 ≡ []) × (0 < seat.old.me.0.parts) }
-    requires list { (of S.side seat.old.me.0).lists ≡ 1 }
-    requires fair { Fair (of S.side seat.old.me.0) I.line }
-    ensures { (seat.new.table_id ≡ table.now.shared.table_id) × (seat.new.me ≡ (changed S.side seat.old.me.0 I.line, [])) }
+    requires list { (roll S.side seat.old.me.0.rolls).here ≡ 1 }
+    requires fair { Fair (of S.side seat.old.me.0.calls) (roll S.side seat.old.me.0.rolls).listeners I.line I.listeners }
+    ensures { (seat.new.table_id ≡ table.now.shared.table_id) × (seat.new.me ≡ (changed S.side seat.old.me.0 I.line I.listeners, [])) }
 {
     table.shared.load::<Becomes<S, I>>(seat, 0);
 }
@@ -73,14 +73,14 @@ pub(crate) fn section<T: Drop, W: Drop, S: Waiting, I: Aim<W>>(
     _listeners: &[Listener<W>],
     _answers: u64,
     _holds: u64,
-    _closes: u64,
+    _tells: u64,
 ) -> Place<T, W>
     requires table { 0 < table.now.shared.table_id.words }
     requires seat { IsList S.side table.now.shared.table_id seat.old }
-    requires call { IsPass S.side table.now.shared.table_id call call.me.0.parts (call_part (of S.side call.me.0)) (call_part (of (other S.side) call.me.0)) }
-    requires fair { Fair (both_parts (of S.side seat.old.me.0) (of S.side call.me.0)) I.line }
-    ensures list { IsList S.side table.now.shared.table_id seat.new × ((of S.side seat.new.me.0).listeners ≡ I.line.listeners) }
-    ensures call { IsPass S.side table.now.shared.table_id result call.me.0.parts (call_part I.line) (call_part (of (other S.side) call.me.0)) }
+    requires call { IsPass S.side table.now.shared.table_id call call.me.0.parts (of S.side call.me.0.calls) (besides S.side call.me.0.calls) }
+    requires fair { Fair (of S.side call.me.0.calls) (roll S.side seat.old.me.0.rolls).listeners I.line I.listeners }
+    ensures list { IsList S.side table.now.shared.table_id seat.new × ((roll S.side seat.new.me.0.rolls).listeners ≡ I.listeners) }
+    ensures call { IsPass S.side table.now.shared.table_id result call.me.0.parts I.line (besides S.side call.me.0.calls) }
     ensures log { result.me.0.log ≡ call.me.0.log }
 {
     enter::<T, W, S>(table, seat, call);
@@ -88,20 +88,52 @@ pub(crate) fn section<T: Drop, W: Drop, S: Waiting, I: Aim<W>>(
     leave(table, seat)
 }
 
-/// The first seat becomes the first pass and the seats of the two lists.
+/// A seat of lists gives one of them away.
+#[inline(always)]
+fn divide<T: Drop, W: Drop, S: Waiting>(
+    table: &SlotTable<T, W>,
+    seat: &mut Place<T, W>,
+) -> Place<T, W>
+    requires table { 0 < table.now.shared.table_id.words }
+    requires seat { (seat.old.table_id ≡ table.now.shared.table_id) × (seat.old.me.1 ≡ []) × (seat.old.me.0.parts ≡ 0) × (seat.old.me.0.calls ≡ idle_lines) }
+    ensures left { (seat.new.table_id ≡ table.now.shared.table_id) × (seat.new.me ≡ (without S.side seat.old.me.0, [])) }
+    ensures right { (result.table_id ≡ table.now.shared.table_id) × (result.me ≡ (alone S.side seat.old.me.0, [])) }
+{
+    table.shared.split_seat::<Divides<S>>(seat)
+}
+
+/// The seats of the lists, one of each side.
+pub(crate) struct ListSeats<T: Drop, W: Drop> {
+    pub(crate) receives: Place<T, W>,
+    pub(crate) sends: Place<T, W>,
+    pub(crate) streams: Place<T, W>,
+    pub(crate) closings: Place<T, W>,
+}
+
+/// The first seat becomes the first pass and the seats of the lists.
 pub(crate) fn begin<T: Drop, W: Drop>(
     table: &SlotTable<T, W>,
     mut seat: Place<T, W>,
-) -> (Place<T, W>, Place<T, W>, Place<T, W>)
+) -> (Place<T, W>, ListSeats<T, W>)
     requires table { 0 < table.now.shared.table_id.words }
     requires seat { (seat.table_id ≡ table.now.shared.table_id) × (seat.me ≡ (everything, [])) }
     ensures pass { IsIdle table.now.shared.table_id result.0 1024 × (result.0.me.0.log ≡ []) }
-    ensures receives { IsList of_receives table.now.shared.table_id result.1 × (result.1.me.0.receives.listeners ≡ []) }
-    ensures sends { IsList of_sends table.now.shared.table_id result.2 × (result.2.me.0.sends.listeners ≡ []) }
+    ensures receives { IsList of_receives table.now.shared.table_id result.1.receives × (result.1.receives.me.0.rolls.receives.listeners ≡ []) }
+    ensures sends { IsList of_sends table.now.shared.table_id result.1.sends × (result.1.sends.me.0.rolls.sends.listeners ≡ []) }
+    ensures streams { IsList of_streams table.now.shared.table_id result.1.streams × (result.1.streams.me.0.rolls.streams.listeners ≡ []) }
+    ensures closings { IsList of_closings table.now.shared.table_id result.1.closings × (result.1.closings.me.0.rolls.closings.listeners ≡ []) }
 {
     let pass = leave(table, &mut seat);
-    let sends = table.shared.split_seat::<Divides>(&mut seat);
-    (pass, seat, sends)
+    let sends = divide::<T, W, Sends>(table, &mut seat);
+    let streams = divide::<T, W, Streams>(table, &mut seat);
+    let closings = divide::<T, W, Closings>(table, &mut seat);
+    let lists = ListSeats {
+        receives: seat,
+        sends,
+        streams,
+        closings,
+    };
+    (pass, lists)
 }
 
 /// A pass gives half of its parts to a new one.
@@ -143,10 +175,10 @@ pub(crate) fn give_ticket<T: Drop, W: Drop, S: Waiting>(
     call: &mut Place<T, W>,
 ) -> Place<T, W>
     requires table { 0 < table.now.shared.table_id.words }
-    requires call { IsPass S.side table.now.shared.table_id call.old call.old.me.0.parts (calling (of S.side call.old.me.0).answers (of S.side call.old.me.0).holds (of S.side call.old.me.0).ticket) (call_part (of (other S.side) call.old.me.0)) }
+    requires call { IsPass S.side table.now.shared.table_id call.old call.old.me.0.parts (calling (of S.side call.old.me.0.calls).answers (of S.side call.old.me.0.calls).holds (of S.side call.old.me.0.calls).ticket) (besides S.side call.old.me.0.calls) }
     requires parts { 1 < call.old.me.0.parts }
-    ensures same { IsPass S.side table.now.shared.table_id call.new (call.old.me.0.parts - 1) (calling (of S.side call.old.me.0).answers (of S.side call.old.me.0).holds 0) (call_part (of (other S.side) call.old.me.0)) }
-    ensures new { IsTicket S.side table.now.shared.table_id result (of S.side call.old.me.0).ticket }
+    ensures same { IsPass S.side table.now.shared.table_id call.new (call.old.me.0.parts - 1) (calling (of S.side call.old.me.0.calls).answers (of S.side call.old.me.0.calls).holds 0) (besides S.side call.old.me.0.calls) }
+    ensures new { IsTicket S.side table.now.shared.table_id result (of S.side call.old.me.0.calls).ticket }
     ensures log { call.new.me.0.log ≡ call.old.me.0.log }
 {
     table.shared.split_seat::<GivesTicket<S>>(call)
@@ -160,9 +192,9 @@ pub(crate) fn take_ticket<T: Drop, W: Drop, S: Waiting>(
     ticket: Place<T, W>,
 )
     requires table { 0 < table.now.shared.table_id.words }
-    requires call { IsPass S.side table.now.shared.table_id call.old call.old.me.0.parts (calling (of S.side call.old.me.0).answers (of S.side call.old.me.0).holds 0) (call_part (of (other S.side) call.old.me.0)) }
-    requires ticket { IsTicket S.side table.now.shared.table_id ticket (of S.side ticket.me.0).ticket }
-    ensures call { IsPass S.side table.now.shared.table_id call.new (call.old.me.0.parts + 1) (calling (of S.side call.old.me.0).answers (of S.side call.old.me.0).holds (of S.side ticket.me.0).ticket) (call_part (of (other S.side) call.old.me.0)) }
+    requires call { IsPass S.side table.now.shared.table_id call.old call.old.me.0.parts (calling (of S.side call.old.me.0.calls).answers (of S.side call.old.me.0.calls).holds 0) (besides S.side call.old.me.0.calls) }
+    requires ticket { IsTicket S.side table.now.shared.table_id ticket (of S.side ticket.me.0.calls).ticket }
+    ensures call { IsPass S.side table.now.shared.table_id call.new (call.old.me.0.parts + 1) (calling (of S.side call.old.me.0.calls).answers (of S.side call.old.me.0.calls).holds (of S.side ticket.me.0.calls).ticket) (besides S.side call.old.me.0.calls) }
     ensures log { call.new.me.0.log ≡ call.old.me.0.log }
 {
     table.shared.join_seat::<TakesTicket<S>>(call, ticket);
@@ -178,8 +210,8 @@ pub(crate) fn learn<T: Drop, W: Drop, S: Waiting>(
     requires seat { seat.old.table_id ≡ table.now.shared.table_id }
     requires all { HasAll S.side seat.old.me.0 }
     ensures same { (seat.new.table_id ≡ table.now.shared.table_id) × (seat.new.me ≡ seat.old.me) }
-    ensures law { (key : ℕ) → 0 < waits key (of S.side seat.old.me.0).listeners → due S.side result.0 result.1 ≤ told (of S.side seat.old.me.0).listeners }
-    ensures tickets { (key : ℕ) → is_key key (of S.side seat.old.me.0).ticket ≤ listed key (of S.side seat.old.me.0).listeners }
+    ensures law { (key : ℕ) → 0 < waits key (roll S.side seat.old.me.0.rolls).listeners → due S.side result.0 result.1 ≤ told (roll S.side seat.old.me.0.rolls).listeners }
+    ensures tickets { (key : ℕ) → is_key key (of S.side seat.old.me.0.calls).ticket ≤ listed key (roll S.side seat.old.me.0.rolls).listeners }
     ensures accounts { Looked result.0 result.1 seat.old.me.0.log }
 {
     let found = table.shared.load::<Learns<S>>(seat, 0);

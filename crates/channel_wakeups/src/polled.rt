@@ -1,6 +1,6 @@
 //! Answers of polls.
 
-/// What a poll of a receive found.
+/// What a poll of a receive, or of a stream, found.
 #[derive(Debug, Drop, PartialEq, Eq)]
 pub enum Polled<T> {
     /// The message.
@@ -24,4 +24,15 @@ pub enum Offered<T> {
     Closed(T),
     /// There is no place, and no memory for a listener.
     NoMemory(T),
+}
+
+/// What a poll of one who waits for the closing found.
+#[derive(Clone, Copy, Debug, PartialEq, Eq)]
+pub enum Watched {
+    /// The channel is closed.
+    Closed,
+    /// Not yet.
+    Pending,
+    /// Not yet, and no memory for a listener.
+    NoMemory,
 }

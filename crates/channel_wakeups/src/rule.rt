@@ -21,7 +21,7 @@ impl Room for Brand {
     ghost table = { no_table };
 }
 
-/// Who waits in a list: receives for a message, or sends for a free place.
+/// Who waits in a list: receives for a message, sends for a free place, streams for a message or the end, and some for the closing alone.
 pub trait Waiting {
     ghost use Rattle.channel_wakeups.specs.Views.{Side};
 
@@ -46,17 +46,62 @@ impl Waiting for Sends {
     ghost side = { of_sends };
 }
 
-/// What a section makes of the line of its list.
-pub(crate) trait Aim<W> {
-    ghost use Rattle.channel_wakeups.specs.declared.rule.Line.{Line};
+/// Streams wait.
+pub struct Streams;
 
-    ghost line: { Line W };
+impl Waiting for Streams {
+    ghost use Rattle.channel_wakeups.specs.Views.{of_streams};
+
+    ghost side = { of_streams };
+}
+
+/// Those wait who wait for the closing alone.
+pub struct Closings;
+
+impl Waiting for Closings {
+    ghost use Rattle.channel_wakeups.specs.Views.{of_closings};
+
+    ghost side = { of_closings };
+}
+
+/// Who takes messages: receives, and streams.
+pub trait Taking: Waiting {
+    ghost use Rattle.std.specs.Prelude.{◌≡◌, ◌⊎◌};
+    ghost use Rattle.channel_wakeups.specs.Views.{of_receives, of_streams};
+
+    ghost takes: { (Self.side ≡ of_receives) ⊎ (Self.side ≡ of_streams) };
+}
+
+impl Taking for Receives {
+    ghost use Rattle.std.proofs.Common.{inl, refl};
+
+    ghost takes = { inl refl };
+}
+
+impl Taking for Streams {
+    ghost use Rattle.std.proofs.Common.{inr, refl};
+
+    ghost takes = { inr refl };
+}
+
+/// What a section makes of its call's line and of its list.
+pub(crate) trait Aim<W> {
+    ghost use Rattle.std.specs.Prelude.{List};
+    ghost use Rattle.channel_wakeups.specs.declared.rule.Line.{Line};
+    ghost use Rattle.channel_wakeups.specs.declared.listeners.Listener.{Listener};
+
+    ghost line: { Line };
+
+    ghost listeners: { List (Listener W) };
 }
 
 impl<W> Aim<W> for Brand {
+    ghost use Rattle.std.specs.Prelude.{[]};
     ghost use Rattle.channel_wakeups.specs.Views.{idle};
 
     ghost line = { idle };
+
+    ghost listeners = { [] };
 }
 
 /// What a pass saw of the closing: its own call closed the channel, or found it closed, or found it closed and without a message.
@@ -73,31 +118,51 @@ pub enum Transfer<T> {
     Saw(Sight),
 }
 
-/// What a seat knows of those who wait on one side: for how many messages, or places, its call answers, the listener that it has in
-/// hand, of which listener it is the ticket, and whether it has the line in hand to tell all, since it closed the channel; of the list's
-/// seat, all listeners. No value is made.
-pub struct Line<W> {
+/// What a seat's call knows of those who wait on one side: for how many messages, or places, it answers, the listener that it has in
+/// hand, of which listener it is the ticket, and whether it has the line in hand to tell all. No value is made.
+pub struct Line {
     pub answers: u64,
     pub holds: u64,
     pub ticket: u64,
-    pub closes: u64,
-    pub lists: u64,
+    pub tells: u64,
+}
+
+/// The same of each side.
+pub struct Lines {
+    pub receives: Line,
+    pub sends: Line,
+    pub streams: Line,
+    pub closings: Line,
+}
+
+/// A list where it lies with a seat, with all its listeners; else 0 and none. No value is made.
+pub struct Roll<W> {
+    pub here: u64,
     pub listeners: LinkedList<Listener<W>>,
 }
 
-/// What a seat knows: the parts of a pass, what the word is while its call has the slot, its closed bit aside, what it knows of receives
-/// and of sends that wait, and what was done with it. No value is made.
+/// The list of each side.
+pub struct Rolls<W> {
+    pub receives: Roll<W>,
+    pub sends: Roll<W>,
+    pub streams: Roll<W>,
+    pub closings: Roll<W>,
+}
+
+/// What a seat knows: the parts of a pass, what the word is while its call has the slot, its closed bit aside, what its call knows of
+/// those who wait, the lists that lie with it, and what was done with the pass. No value is made.
 pub struct View<T, W> {
     pub parts: u64,
     pub owns: u64,
-    pub receives: Line<W>,
-    pub sends: Line<W>,
+    pub calls: Lines,
+    pub rolls: Rolls<W>,
     pub log: LinkedList<Transfer<T>>,
 }
 
 /// The rule: where a receive's listener waits untold that no call has in hand, there are no more messages than told listeners of receives
-/// and calls that answer for one; so too of sends and free places. Where one waits so while the channel is closed, a call has its line in
-/// hand to tell all. And what was put in is what was taken out and what the slot holds, in one order.
+/// and calls that answer for one; so too of sends and free places. Where a stream's listener waits so beside a message, or any listener in
+/// a closed channel, a call has its line in hand to tell all. And what was put in is what was taken out and what the slot holds, in one
+/// order.
 pub struct Answered;
 
 impl<T, W> TableRule<Option<T>, View<T, W>, ()> for Answered {
@@ -130,15 +195,17 @@ impl<T, W> Split<View<T, W>> for Leaves {
     ghost right = { comes_out };
 }
 
-/// The seat of both lists becomes one of each.
-pub(crate) struct Divides;
+/// A seat of lists gives one of them away.
+pub(crate) struct Divides<S> {
+    of: PhantomData<S>,
+}
 
-impl<T, W> Split<View<T, W>> for Divides {
-    ghost use Rattle.channel_wakeups.specs.Views.{receives_alone, sends_alone};
+impl<T, W, S: Waiting> Split<View<T, W>> for Divides<S> {
+    ghost use Rattle.channel_wakeups.specs.Views.{without, alone};
 
-    ghost left = { receives_alone };
+    ghost left = { without S.side };
 
-    ghost right = { sends_alone };
+    ghost right = { alone S.side };
 }
 
 /// A pass gets the parts of another.
@@ -198,7 +265,7 @@ impl<T, W, S: Waiting, I: Aim<W>> Play<Option<T>, View<T, W>> for Becomes<S, I> 
     ghost use Rattle.std.specs.Prelude.{◌≡◌};
     ghost use Rattle.channel_wakeups.specs.Views.{changed};
 
-    ghost then = { λ st m found after. after ≡ (changed S.side m.0 I.line, m.1) };
+    ghost then = { λ st m found after. after ≡ (changed S.side m.0 I.line I.listeners, m.1) };
 }
 
 /// A push wins the empty slot, or finds none.
@@ -228,7 +295,7 @@ impl<T, W> Play<Option<T>, View<T, W>> for WinsLast {
     ghost then = { wins 6 };
 }
 
-/// A call closes the channel, and has both lines in hand to tell all; or it finds it closed.
+/// A call closes the channel, and has every line in hand to tell all; or it finds it closed.
 pub(crate) struct Shuts;
 
 impl<T, W> Play<Option<T>, View<T, W>> for Shuts {

@@ -3,7 +3,10 @@
 
 ghost use Rattle.std.specs.Prelude.{◌≡◌, ◌<◌, IfSome, true, false};
 
-use channel_wakeups::{Offered, Opened, Pass, Polled, Receive, Rest, Room, Sending, SlotChannel};
+use channel_wakeups::{
+    Closing, Offered, Opened, Pass, Polled, Receive, Rest, Room, Sending, SlotChannel, Streaming,
+    Watched,
+};
 use concurrent_queue::PushError;
 use std::alloc::Global;
 use std::marker::Brand;
@@ -104,7 +107,14 @@ fn beside_a_message<B: Room, R: Wait>(
     let polled = channel.poll_recv(rt, pass, &mut receive, ());
     let pending = matches!(polled, Polled::Pending);
     let _ = channel.try_send(rt, pass, 0);
-    let rest = channel.look(rt, pass, &mut receive, &mut send);
+    let rest = channel.look(
+        rt,
+        pass,
+        &mut receive,
+        &mut send,
+        &mut Streaming::new(),
+        &mut Closing::new(),
+    );
     channel.give_up_recv(rt, pass, receive);
     (pending, rest)
 }
@@ -124,7 +134,14 @@ fn beside_a_place<B: Room, R: Wait>(
     let offered = channel.poll_send(rt, pass, &mut send, 1, ());
     let pending = matches!(offered, Offered::Pending(_));
     let _ = channel.poll_recv(rt, pass, &mut receive, ());
-    let rest = channel.look(rt, pass, &mut receive, &mut send);
+    let rest = channel.look(
+        rt,
+        pass,
+        &mut receive,
+        &mut send,
+        &mut Streaming::new(),
+        &mut Closing::new(),
+    );
     channel.give_up_recv(rt, pass, receive);
     channel.give_up_send(rt, pass, send);
     (pending, rest)
@@ -295,6 +312,29 @@ fn receive_until_closed<B: Room, R: Wait>(
     channel.give_up_recv(rt, &mut pass, receive);
     (received, pass)
 }
+
+/// The same by a stream.
+fn stream_until_closed<B: Room, R: Wait>(
+    rt: &R,
+    channel: &SlotChannel<u64, (), B>,
+    mut pass: Pass<u64, (), B>,
+) -> (u64, Pass<u64, (), B>)
+    requires { 1 < pass.parts }
+    ensures { result.1.parts ≡ pass.parts }
+{
+    let mut received = 0u64;
+    let mut stream = Streaming::new();
+    for _ in rt.forever() {
+        match channel.poll_next(rt, &mut pass, &mut stream, ()) {
+            Polled::Ready(_) => received = received.wrapping_add(1),
+            Polled::Closed => break,
+            _ => thread::yield_now(),
+        }
+    }
+    channel.give_up_stream(rt, &mut pass, stream);
+    (received, pass)
+}
+
 /// Lets others go first so often, then closes the channel, closes it again, and asks whether it is closed.
 fn close_late<B: Room, R: Wait>(
     rt: &R,
@@ -336,7 +376,7 @@ fn send_until_closed<B: Room + Send + Sync, R: Threads + Wait + Sync>(
     )
 }
 
-/// Two threads receive until the channel is closed and empty. Answers how many messages came.
+/// Two threads receive until the channel is closed and empty, one by receives and one by a stream. Answers how many messages came.
 fn receive_what_is_left<B: Room + Send + Sync, R: Threads + Wait + Sync>(
     rt: &R,
     channel: &SlotChannel<u64, (), B>,
@@ -355,7 +395,7 @@ fn receive_what_is_left<B: Room + Send + Sync, R: Threads + Wait + Sync>(
         move ||
             requires { two.parts ≡ 64 }
             ensures { result.1.parts ≡ 64 }
-        { receive_until_closed(rt, channel, two) },
+        { stream_until_closed(rt, channel, two) },
     )
 }
 
@@ -442,7 +482,14 @@ fn close_among_in<B: Room + Send + Sync, R: Threads + Wait + Sync>(
     let (lost, told) = end_all(rt, &channel, &mut all, patience);
     let mut receive = Receive::new();
     let mut send = Sending::new();
-    let rest = channel.look(rt, &mut all, &mut receive, &mut send);
+    let rest = channel.look(
+        rt,
+        &mut all,
+        &mut receive,
+        &mut send,
+        &mut Streaming::new(),
+        &mut Closing::new(),
+    );
     Closed { lost, told, rest }
 }
 
@@ -472,7 +519,14 @@ fn close_beside_a_receive_in<B: Room, R: Wait>(
     let polled = channel.poll_recv(rt, &mut all, &mut receive, ());
     let waited = matches!(polled, Polled::Pending);
     let first = channel.close(rt, &mut all);
-    let rest = channel.look(rt, &mut all, &mut receive, &mut send);
+    let rest = channel.look(
+        rt,
+        &mut all,
+        &mut receive,
+        &mut send,
+        &mut Streaming::new(),
+        &mut Closing::new(),
+    );
     let polled = channel.poll_recv(rt, &mut all, &mut receive, ());
     let ended = matches!(polled, Polled::Closed);
     channel.give_up_recv(rt, &mut all, receive);
@@ -503,7 +557,14 @@ fn close_beside_a_send_in<B: Room, R: Wait>(
     let offered = channel.poll_send(rt, &mut all, &mut send, 8, ());
     let waited = matches!(offered, Offered::Pending(8));
     let first = channel.close(rt, &mut all);
-    let rest = channel.look(rt, &mut all, &mut receive, &mut send);
+    let rest = channel.look(
+        rt,
+        &mut all,
+        &mut receive,
+        &mut send,
+        &mut Streaming::new(),
+        &mut Closing::new(),
+    );
     let offered = channel.poll_send(rt, &mut all, &mut send, 8, ());
     let ended = matches!(offered, Offered::Closed(8));
     let polled = channel.poll_recv(rt, &mut all, &mut receive, ());
@@ -523,6 +584,107 @@ pub fn close_beside_a_send<R: Wait>(rt: &R, alloc: Global) -> Option<(bool, bool
 {
     let opened = Opened::new(alloc).ok()?;
     Some(close_beside_a_send_in::<Brand, R>(rt, opened))
+}
+
+/// What was found of a stream and of a receive that waited while a message was sent.
+#[derive(Clone, Copy, Debug, PartialEq, Eq)]
+pub struct Woken {
+    /// Whether both waited.
+    pub waited: bool,
+    /// The channel beside the message.
+    pub rest: Rest,
+    /// Whether the message came by the stream, and the stream waits for the next one.
+    pub came: bool,
+    /// Whether the receive, which was told too, waits again.
+    pub waits: bool,
+}
+
+/// A stream and a receive wait, and a message is sent. The stream takes it.
+fn message_beside_a_stream_in<B: Room, R: Wait>(rt: &R, opened: Opened<u64, ()>) -> Woken
+    requires { opened ≡ B.table }
+    ensures told { result.waited ≡ true → result.rest.message ≡ true → (result.rest.stream_told ≡ true) × (result.rest.receive_told ≡ true) }
+{
+    let (channel, mut all) = opened.enter::<B>();
+    let mut receive = Receive::new();
+    let mut send = Sending::new();
+    let mut stream = Streaming::new();
+    let mut closing = Closing::new();
+    let polled = channel.poll_recv(rt, &mut all, &mut receive, ());
+    let one = matches!(polled, Polled::Pending);
+    let polled = channel.poll_next(rt, &mut all, &mut stream, ());
+    let two = matches!(polled, Polled::Pending);
+    let _ = channel.try_send(rt, &mut all, 5);
+    let rest = channel.look(
+        rt,
+        &mut all,
+        &mut receive,
+        &mut send,
+        &mut stream,
+        &mut closing,
+    );
+    let polled = channel.poll_next(rt, &mut all, &mut stream, ());
+    let message = matches!(polled, Polled::Ready(5));
+    let polled = channel.poll_next(rt, &mut all, &mut stream, ());
+    let next = matches!(polled, Polled::Pending);
+    let polled = channel.poll_recv(rt, &mut all, &mut receive, ());
+    let waits = matches!(polled, Polled::Pending);
+    channel.give_up_stream(rt, &mut all, stream);
+    channel.give_up_recv(rt, &mut all, receive);
+    Woken {
+        waited: one && two,
+        rest,
+        came: message && next,
+        waits,
+    }
+}
+
+/// The same, from nothing.
+pub fn message_beside_a_stream<R: Wait>(rt: &R, alloc: Global) -> Option<Woken>
+    ensures told { IfSome result (λ w. w.waited ≡ true → w.rest.message ≡ true → (w.rest.stream_told ≡ true) × (w.rest.receive_told ≡ true)) }
+{
+    let opened = Opened::new(alloc).ok()?;
+    Some(message_beside_a_stream_in::<Brand, R>(rt, opened))
+}
+
+/// A stream and one who waits for the closing alone wait, and the channel is closed. Whether both waited, how the channel was then, and
+/// whether both ended.
+fn close_beside_a_stream_in<B: Room, R: Wait>(rt: &R, opened: Opened<u64, ()>) -> (bool, Rest, bool)
+    requires { opened ≡ B.table }
+    ensures told { result.0 ≡ true → result.1.closed ≡ true → (result.1.stream_told ≡ true) × (result.1.closing_told ≡ true) }
+{
+    let (channel, mut all) = opened.enter::<B>();
+    let mut receive = Receive::new();
+    let mut send = Sending::new();
+    let mut stream = Streaming::new();
+    let mut closing = Closing::new();
+    let polled = channel.poll_next(rt, &mut all, &mut stream, ());
+    let one = matches!(polled, Polled::Pending);
+    let watched = channel.poll_closed(rt, &mut all, &mut closing, ());
+    let two = matches!(watched, Watched::Pending);
+    let _ = channel.close(rt, &mut all);
+    let rest = channel.look(
+        rt,
+        &mut all,
+        &mut receive,
+        &mut send,
+        &mut stream,
+        &mut closing,
+    );
+    let polled = channel.poll_next(rt, &mut all, &mut stream, ());
+    let over = matches!(polled, Polled::Closed);
+    let watched = channel.poll_closed(rt, &mut all, &mut closing, ());
+    let known = matches!(watched, Watched::Closed);
+    channel.give_up_stream(rt, &mut all, stream);
+    channel.give_up_closing(rt, &mut all, closing);
+    (one && two, rest, over && known)
+}
+
+/// The same, from nothing.
+pub fn close_beside_a_stream<R: Wait>(rt: &R, alloc: Global) -> Option<(bool, Rest, bool)>
+    ensures told { IfSome result (λ r. r.0 ≡ true → r.1.closed ≡ true → (r.1.stream_told ≡ true) × (r.1.closing_told ≡ true)) }
+{
+    let opened = Opened::new(alloc).ok()?;
+    Some(close_beside_a_stream_in::<Brand, R>(rt, opened))
 }
 
 #[cfg(test)]

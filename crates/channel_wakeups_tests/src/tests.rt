@@ -13,6 +13,8 @@ fn all_come_and_the_last_are_told(rt: HostRuntime) {
             closed: false,
             receive_told: true,
             send_told: false,
+            stream_told: false,
+            closing_told: false,
         },
         send_pending: true,
         empty: Rest {
@@ -20,6 +22,8 @@ fn all_come_and_the_last_are_told(rt: HostRuntime) {
             closed: false,
             receive_told: false,
             send_told: true,
+            stream_told: false,
+            closing_told: false,
         },
     };
     assert_eq!(rt; outcome, Some(expected));
@@ -37,6 +41,8 @@ fn all_end_after_a_close(rt: HostRuntime) {
             closed: true,
             receive_told: false,
             send_told: false,
+            stream_told: false,
+            closing_told: false,
         },
     };
     assert_eq!(rt; closed, Some(expected));
@@ -54,6 +60,8 @@ fn all_end_after_a_close_at_once(rt: HostRuntime) {
             closed: true,
             receive_told: false,
             send_told: false,
+            stream_told: false,
+            closing_told: false,
         },
     };
     assert_eq!(rt; closed, Some(expected));
@@ -68,6 +76,8 @@ fn a_close_ends_a_receive(rt: HostRuntime) {
         closed: true,
         receive_told: true,
         send_told: false,
+        stream_told: false,
+        closing_told: false,
     };
     assert_eq!(rt; found, Some((true, true, rest, true)));
 }
@@ -81,6 +91,44 @@ fn a_close_ends_a_send(rt: HostRuntime) {
         closed: true,
         receive_told: false,
         send_told: true,
+        stream_told: false,
+        closing_told: false,
     };
     assert_eq!(rt; found, Some((true, true, rest, [true, true, true, true])));
+}
+
+// A message wakes a receive and a stream that wait. The stream takes it, and the receive waits on.
+#[test]
+fn a_message_wakes_a_stream(rt: HostRuntime) {
+    let woken = message_beside_a_stream(&rt, rt.alloc());
+    let rest = Rest {
+        message: true,
+        closed: false,
+        receive_told: true,
+        send_told: false,
+        stream_told: true,
+        closing_told: false,
+    };
+    let expected = Woken {
+        waited: true,
+        rest,
+        came: true,
+        waits: true,
+    };
+    assert_eq!(rt; woken, Some(expected));
+}
+
+// A close wakes a stream, and one who waits for the closing alone, and both end.
+#[test]
+fn a_close_ends_a_stream(rt: HostRuntime) {
+    let found = close_beside_a_stream(&rt, rt.alloc());
+    let rest = Rest {
+        message: false,
+        closed: true,
+        receive_told: false,
+        send_told: false,
+        stream_told: true,
+        closing_told: true,
+    };
+    assert_eq!(rt; found, Some((true, rest, true)));
 }

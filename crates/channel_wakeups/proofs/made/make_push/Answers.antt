@@ -11,7 +11,7 @@ use Rattle.channel_wakeups.proofs.made.make_push.Goals as goal
 pub returns-clause-leaves : goal.returns-clause-leaves
 returns-clause-leaves g c =
     let b = c.complete-reply.new.cells in
-    subst (λ (s : Seat (Option g.row.T.Denot) (View g.row.T.Denot g.row.W.Denot)). PushLeaves c.args.table.now.shared.table_id c.args.seat.me.0.parts c.args.seat.me.0.sends.holds c.args.seat.me.0.log c.args.message c.complete-reply.result s) (sym c.into_seat.ensures)
+    subst (λ (s : Seat (Option g.row.T.Denot) (View g.row.T.Denot g.row.W.Denot)). PushLeaves c.args.table.now.shared.table_id c.args.seat.me.0.parts c.args.seat.me.0.calls.sends.holds c.args.seat.me.0.log c.args.message c.complete-reply.result s) (sym c.into_seat.ensures)
     (push_leaves _ _ _ _ c.args.message _ _ b _ c.requires.call refl c.push.ensures.asked c.complete-reply.ensures.walked b.tied)
 
 pub returns-clause-answers : goal.returns-clause-answers

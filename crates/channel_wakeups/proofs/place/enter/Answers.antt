@@ -1,4 +1,3 @@
-use Rattle.channel_wakeups.specs.Views.{of, other}
 use Rattle.channel_wakeups.proofs.From.{enters_from}
 use Rattle.channel_wakeups.proofs.place.enter.Goals as goal
 
@@ -6,4 +5,4 @@ pub join_seat-requires : goal.join_seat-requires
 join_seat-requires g c =
     let s = c.requires.seat in
     let p = c.requires.call in
-    (s.0, p.0, p.1, c.requires.table, enters_from _ _ _ _ _ _ (of (other g.S.Waiting.side) c.args.call.me.0) s.2 p.2)
+    (s.0, p.0, p.1, c.requires.table, enters_from _ _ _ _ _ _ _ _ s.2 p.2)

@@ -1,0 +1,85 @@
+//! Telling those who wait, and waking them.
+
+ghost use Rattle.std.specs.Prelude.{◌≡◌, ◌<◌};
+ghost use Rattle.channel_wakeups.specs.Calls.{to_streams};
+ghost use Rattle.channel_wakeups.specs.Seats.{IsIdle, IsPass};
+ghost use Rattle.channel_wakeups.specs.Views.{besides, calling, telling, of_receives};
+
+use crate::cells::{Place, SlotTable};
+use crate::desk::Desk;
+use crate::rule::{Closings, Receives, Room, Sends, Streams, Waiting};
+use crate::wake::Wake;
+use std::sync::{Mutex, Wait};
+
+/// The lists of a channel, each behind its lock.
+#[derive(Drop)]
+pub(crate) struct Desks<'a, T: Drop, W: Drop, B: Room> {
+    pub(crate) receives: &'a Mutex<Desk<T, W, B, Receives>>,
+    pub(crate) sends: &'a Mutex<Desk<T, W, B, Sends>>,
+    pub(crate) streams: &'a Mutex<Desk<T, W, B, Streams>>,
+    pub(crate) closings: &'a Mutex<Desk<T, W, B, Closings>>,
+}
+
+/// Wakes who was told.
+pub(crate) fn wake<W: Wake, R: Wait>(rt: &R, task: Option<W>) {
+    if let Some(task) = task {
+        task.wake(rt);
+    }
+}
+
+/// Tells one who waits, and wakes it.
+pub(crate) fn tell<T: Drop, W: Wake, B: Room, S: Waiting, R: Wait>(
+    rt: &R,
+    table: &SlotTable<T, W>,
+    desk: &Mutex<Desk<T, W, B, S>>,
+    call: Place<T, W>,
+) -> Place<T, W>
+    requires table { (table.now.shared.table_id ≡ B.table) × (0 < B.table.words) }
+    requires call { IsPass S.side B.table call call.me.0.parts (calling 1 0 0) (besides S.side call.me.0.calls) }
+    ensures idle { IsPass S.side B.table result call.me.0.parts (calling 0 0 0) (besides S.side call.me.0.calls) }
+    ensures log { result.me.0.log ≡ call.me.0.log }
+{
+    let (task, call) = desk.lock(rt).tell(table, call);
+    wake(rt, task);
+    call
+}
+
+/// Tells all who wait, and wakes each. A task is woken after its section, and no memory is needed, so each is told in a section of its
+/// own.
+pub(crate) fn tell_all<T: Drop, W: Wake, B: Room, S: Waiting, R: Wait>(
+    rt: &R,
+    table: &SlotTable<T, W>,
+    desk: &Mutex<Desk<T, W, B, S>>,
+    mut call: Place<T, W>,
+) -> Place<T, W>
+    requires table { (table.now.shared.table_id ≡ B.table) × (0 < B.table.words) }
+    requires call { IsPass S.side B.table call call.me.0.parts (telling 1) (besides S.side call.me.0.calls) }
+    ensures all { IsPass S.side B.table result call.me.0.parts (telling 0) (besides S.side call.me.0.calls) }
+    ensures log { result.me.0.log ≡ call.me.0.log }
+{
+    for _ in rt.forever() {
+        let (task, next) = desk.lock(rt).tell_next(table, call);
+        let Some(task) = task else {
+            return next;
+        };
+        task.wake(rt);
+        call = next;
+    }
+    unreachable!()
+}
+
+/// Tells a receive that waits of a message that was put in, and all streams.
+pub(crate) fn tell_of_message<T: Drop, W: Wake, B: Room, R: Wait>(
+    rt: &R,
+    table: &SlotTable<T, W>,
+    desks: &Desks<T, W, B>,
+    call: Place<T, W>,
+) -> Place<T, W>
+    requires table { (table.now.shared.table_id ≡ B.table) × (0 < B.table.words) }
+    requires call { IsPass of_receives B.table call call.me.0.parts (calling 1 0 0) to_streams }
+    ensures idle { IsIdle B.table result call.me.0.parts }
+    ensures log { result.me.0.log ≡ call.me.0.log }
+{
+    let call = tell(rt, table, desks.receives, call);
+    tell_all(rt, table, desks.streams, call)
+}
