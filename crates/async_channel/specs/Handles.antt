@@ -3,6 +3,7 @@ use Rattle.std.specs.Prelude.{◌≡◌, ℕ, Bool, false, Option, Some, None, R
 use Rattle.std.specs.Arc.{arc_value}
 use Rattle.concurrent_queue.specs.Contents.{no_contents}
 use Rattle.concurrent_queue.specs.declared.cells.QueueForm.{QueueForm}
+use Rattle.event_listener.specs.declared.key.Key.{Key}
 use Rattle.futures.specs.declared.task.Poll.{Poll}
 use Rattle.channel_calls.specs.Errors.{unsent, handed_back}
 use Rattle.channel_calls.specs.Listed.{is_pending}
@@ -20,15 +21,24 @@ pub record Handle : Type 0 where
   pub id : ℕ
   pub seal : ℕ
 
--- a send: its message, which a finished one has no more, and whether a listener is listed for it
+-- a receiver: its channel, and the listener that is listed for it as a stream
+pub record Receiving : Type 0 where
+  pub channel : Handle
+  pub key : Option Key
+
+-- a receiver that has not been polled as a stream
+abbrev pub new_receiving : Handle → Receiving
+new_receiving h = record { channel = h; key = None }
+
+-- a send: its message, which a finished one has no more, and the listener that is listed for it
 pub record Sending (T : Type 0) : Type 0 where
   pub message : Option T
-  pub listens : Bool
+  pub key : Option Key
 
 module _ {T : Type 0} where
   -- a send that has not been polled
   abbrev pub new_sending : T → Sending T
-  new_sending m = record { message = Some m; listens = false }
+  new_sending m = record { message = Some m; key = None }
 
   -- whether a listener is listed after a poll: of a send that had its message, where it waits
   abbrev pub waits_on : {A : Type 0} → Option T → Poll A → Bool

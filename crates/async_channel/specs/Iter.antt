@@ -1,8 +1,8 @@
 -- How long a walk over a receiver's messages may still be asked for one.
 use Rattle.std.specs.Prelude.{ℕ}
 use Rattle.std.specs.Sync.Forever.{forever_left}
-use Rattle.async_channel.specs.declared.iter.Iter.{Iter}
-use Rattle.async_channel.specs.declared.iter.TryIter.{TryIter}
+use Rattle.async_channel.specs.declared.handles.iter.Iter.{Iter}
+use Rattle.async_channel.specs.declared.handles.iter.TryIter.{TryIter}
 
 abbrev pub waits_left : {T R : Type 0} → Iter T R → ℕ
 waits_left s = forever_left s.turns

@@ -3,7 +3,7 @@
 use Rattle.std.specs.Prelude.{◌≡◌, true}
 use Rattle.event_listener.specs.Lists.{removed_wakes}
 use Rattle.event_listener.specs.declared.waking.Task.{Task}
-use Rattle.channel_calls.specs.Deeds.{Deed, stepped, inserted, registered, taken_off, one_told, more_told, all_told, counted, lowered, raised}
+use Rattle.channel_calls.specs.Deeds.{Deed, registered, taken_off, one_told, more_told, all_told}
 use Rattle.channel_calls.specs.Parts.{Listeners, Registers, told_one_wakes, told_more_wakes, told_all_wakes}
 
 abbrev pub Answers : {T : Type 0} → Deed T Task → Type 0

@@ -1,13 +1,17 @@
 //! What a strong handle has of its channel's count.
 
 ghost use Rattle.std.specs.Prelude.{◌≡◌, IfOk, IfErr, IfSome};
+ghost use Rattle.channel_calls.specs.declared.ask.ChannelAsk.TheVariants as ask;
+ghost use Rattle.async_channel.specs.Counts.{Clones, Upgrades, Drops};
 ghost use Rattle.async_channel.specs.Handles.{handle_of};
 
 use crate::link::Link;
+use crate::seen::Trace;
 use channel_calls::error::HandleError;
 use channel_calls::kind::{Kind, OfReceivers, OfSenders};
-use channel_calls::raised::Raised;
+use channel_calls::raised::{self, Raised};
 use event_listener::key::Key;
+use event_listener::waking::WakeNow;
 use std::sync::Wait;
 
 /// A tie to a channel, with what is counted there of one handle of this kind.
@@ -28,44 +32,66 @@ impl<T: Drop, K: Kind> Counted<T, K> {
     }
 
     /// One more handle of this kind. Refused where more than half of `usize::MAX` live.
-    pub(crate) fn one_more<R: Wait>(link: Link<T>, rt: &R) -> Result<Counted<T, K>, HandleError>
-        ensures made { IfOk result (λ more. handle_of more.link ≡ handle_of link) }
-        ensures reason { IfErr result (λ e. e ≡ HandleError.TooMany) }
+    pub(crate) fn one_more<R: Wait, S: Trace<T>>(
+        link: Link<T>,
+        rt: &R,
+        trace: S,
+    ) -> (Result<Counted<T, K>, HandleError>, S)
+        ensures walked { Clones S.did K.side trace (result.0) (result.1) }
+        ensures made { IfOk (result.0) (λ more. handle_of more.link ≡ handle_of link) }
+        ensures reason { IfErr (result.0) (λ e. e ≡ HandleError.TooMany) }
     {
-        match link.shared.clone_handle(rt) {
-            Ok(raised) => Ok(Counted { link, raised }),
-            Err(error) => Err(error),
+        let mut seen = link.shared.cells(rt, trace);
+        let counted = raised::clone_handle(rt, &mut seen, &mut WakeNow { rt });
+        let trace = seen.into_trace();
+        match counted {
+            Ok(raised) => (Ok(Counted { link, raised }), trace),
+            Err(error) => (Err(error), trace),
         }
     }
 
     /// One more handle of this kind, where the channel is open and one lives. Refused as above.
-    pub(crate) fn upgraded<R: Wait>(
+    pub(crate) fn upgraded<R: Wait, S: Trace<T>>(
         link: Link<T>,
         rt: &R,
-    ) -> Result<Option<Counted<T, K>>, HandleError>
-        ensures made { IfOk result (λ made. IfSome made (λ more. handle_of more.link ≡ handle_of link)) }
-        ensures reason { IfErr result (λ e. e ≡ HandleError.TooMany) }
+        trace: S,
+    ) -> (Result<Option<Counted<T, K>>, HandleError>, S)
+        ensures walked { Upgrades S.did K.side trace (result.0) (result.1) }
+        ensures made { IfOk (result.0) (λ made. IfSome made (λ more. handle_of more.link ≡ handle_of link)) }
+        ensures reason { IfErr (result.0) (λ e. e ≡ HandleError.TooMany) }
     {
-        match link.shared.upgrade(rt) {
-            Ok(Some(raised)) => Ok(Some(Counted { link, raised })),
-            Ok(None) => Ok(None),
-            Err(error) => Err(error),
+        let mut seen = link.shared.cells(rt, trace);
+        let counted = raised::upgrade(rt, &mut seen, &mut WakeNow { rt });
+        let trace = seen.into_trace();
+        match counted {
+            Ok(Some(raised)) => (Ok(Some(Counted { link, raised })), trace),
+            Ok(None) => (Ok(None), trace),
+            Err(error) => (Err(error), trace),
         }
     }
 }
 
 impl<T: Drop> Counted<T, OfSenders> {
-    /// Drops the sender that is counted, which lowers the count.
-    pub(crate) fn lower<R: Wait>(self, rt: &R) {
+    /// Drops the sender that is counted, which lowers the count; the last one closes.
+    pub(crate) fn lower<R: Wait, S: Trace<T>>(self, rt: &R, trace: S) -> S
+        ensures walked { Drops S.did ask.DropSender trace result }
+    {
         let Counted { link, raised } = self;
-        link.shared.drop_sender(rt, raised);
+        let mut seen = link.shared.cells(rt, trace);
+        raised::drop_sender(rt, raised, &mut seen, &mut WakeNow { rt });
+        seen.into_trace()
     }
 }
 
 impl<T: Drop> Counted<T, OfReceivers> {
-    /// Drops the receiver that is counted, which lowers the count, and then the listener that it may have as a stream.
-    pub(crate) fn lower<R: Wait>(self, rt: &R, stream_key: Option<Key>) {
+    /// Drops the receiver that is counted, which lowers the count, and then the listener that it may have as a stream; the last one
+    /// closes.
+    pub(crate) fn lower<R: Wait, S: Trace<T>>(self, rt: &R, stream_key: Option<Key>, trace: S) -> S
+        ensures walked { Drops S.did (ask.DropReceiver stream_key) trace result }
+    {
         let Counted { link, raised } = self;
-        link.shared.drop_receiver(rt, raised, stream_key);
+        let mut seen = link.shared.cells(rt, trace);
+        raised::drop_receiver(rt, raised, stream_key, &mut seen, &mut WakeNow { rt });
+        seen.into_trace()
     }
 }

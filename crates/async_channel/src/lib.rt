@@ -11,9 +11,13 @@
 //! A call of a handle that changes the channel is a [`ChannelCall`] of `channel_calls`, stepped on cells that threads share: a
 //! queue, four lists of listeners behind a lock each, two counts. The function that makes a step is the one whose every
 //! interleaving `channel_world` is proved for, over cells of one owner; a step of the queue's call is here all of them, up to its
-//! answer. Whatever other threads do, a call, a poll, a blocking call and a question are each one line over a function of
-//! `channel_calls` that is proved to make the steps of this machine, these and no others, over cells of any kind: a `try_send` and a
-//! `try_recv` in straight code, a blocking call by rounds of polls, between which it sleeps, a question on words alone.
+//! answer. Over cells of any kind a function of `channel_calls` is proved to make the steps of this machine, these and no others: a
+//! `try_send` and a `try_recv` in straight code, a blocking call by rounds of polls, between which it sleeps, a question on words alone.
+//!
+//! Each call of a handle or an operation has one body for whatever trace of the caller's ([`Trace`]). It is proved that from the trace
+//! before to the trace after stand the deeds that the call's machine makes up to the very answer that came out, and no others. With a
+//! trace of his own a caller makes it by [`Sender::traced`] and [`Receiver::traced`], and by the functions `poll_traced`,
+//! `give_up_traced` and `upgrade_traced`. The calls without a trace are one line each: the same, with one that keeps nothing.
 //!
 //! Not bound so are these lines, and the methods of the shared cells, one line each. That threads together do what such steps do one
 //! after another is no contract here, and is tested. Since other threads may step in between, a handle's own contract says what holds
@@ -25,25 +29,18 @@
 #![tactic(auto)]
 
 mod bed;
-mod blocking;
 mod cells;
-mod closed;
 mod counted;
-mod iter;
+mod handles;
 mod link;
 mod open;
 mod polls;
-mod receiver;
-mod recv;
 mod runtime;
-mod send;
-mod sender;
+mod seen;
 mod shared;
-mod stream;
-mod tries;
+mod traced;
 mod waiters;
 mod waits;
-mod weak;
 
 pub use channel_calls::ask::ChannelAsk;
 pub use channel_calls::call::ChannelCall;
@@ -51,19 +48,26 @@ pub use channel_calls::cells::ChannelCells;
 pub use channel_calls::error::{
     HandleError, OpenError, RecvError, Refused, SendError, TryRecvError, TrySendError,
 };
+pub use channel_calls::kind::{Kind, OfReceivers, OfSenders};
 pub use channel_calls::mark::Mark;
 pub use channel_calls::plain::PlainChannel;
 pub use channel_calls::reply::Reply;
 pub use channel_calls::several::{Limit, Messages};
 pub use channel_calls::stage::{Kept, Line, Side};
-pub use closed::Closed;
+pub use concurrent_queue::call::QueueReply;
+pub use concurrent_queue::queue_call::QueueCall;
 pub use event_listener::error::ListenError;
 pub use event_listener::id::EventIds;
-pub use iter::{Iter, TryIter};
+pub use event_listener::key::Key;
+pub use event_listener::waking::Task;
+pub use handles::closed::Closed;
+pub use handles::iter::{Iter, TryIter};
+pub use handles::receiver::Receiver;
+pub use handles::recv::Recv;
+pub use handles::send::Send;
+pub use handles::sender::Sender;
+pub use handles::weak::{WeakReceiver, WeakSender};
 pub use open::{bounded, unbounded};
-pub use receiver::Receiver;
-pub use recv::Recv;
 pub use runtime::Runtime;
-pub use send::Send;
-pub use sender::Sender;
-pub use weak::{WeakReceiver, WeakSender};
+pub use seen::{Seen, Trace};
+pub use traced::Traced;

@@ -3,12 +3,12 @@
 ghost use Rattle.std.specs.Prelude.{◌≡◌, ◌+◌, ◌-◌, ◌^◌, ◌<◌, ◌≤◌, Some, None, IfOk, OnOk, OnErr, Err};
 ghost use Rattle.concurrent_queue.specs.Replies.{room_of};
 ghost use Rattle.concurrent_queue.specs.SharedQueue.{limit};
-ghost use Rattle.async_channel.specs.Handles.{handle_of};
+ghost use Rattle.async_channel.specs.Handles.{handle_of, new_receiving};
 
 use crate::counted::Counted;
+use crate::handles::receiver::Receiver;
+use crate::handles::sender::Sender;
 use crate::link::Link;
-use crate::receiver::Receiver;
-use crate::sender::Sender;
 use crate::shared::Shared;
 use channel_calls::error::OpenError;
 use channel_calls::raised::Counters;
@@ -27,7 +27,7 @@ fn open<T: Drop, R: Wait + Copy>(
     ids: &mut EventIds,
 ) -> Result<(Sender<T, R>, Receiver<T, R>), OpenError>
     ensures sender { IfOk result (λ ends. room_of ends.0.form ≡ limit queue) }
-    ensures receiver { IfOk result (λ ends. ends.1 ≡ ends.0) }
+    ensures receiver { IfOk result (λ ends. ends.1 ≡ new_receiving ends.0) }
     ensures named { IfOk result (λ ends. ends.0.id ≡ ids.old) }
     ensures given { OnOk result (ids.new ≡ ids.old + 4) }
     ensures unchanged { OnErr result (ids.new ≡ ids.old) }
@@ -74,7 +74,7 @@ pub fn bounded<T: Drop, R: Wait + Copy>(
 ) -> Result<(Sender<T, R>, Receiver<T, R>), OpenError>
     requires { 0 < capacity }
     ensures capacity { IfOk result (λ ends. room_of ends.0.form ≡ Some capacity) }
-    ensures receiver { IfOk result (λ ends. ends.1 ≡ ends.0) }
+    ensures receiver { IfOk result (λ ends. ends.1 ≡ new_receiving ends.0) }
     ensures most { OnOk result (capacity ≤ 2 ^ 58) }
     ensures named { IfOk result (λ ends. ends.0.id ≡ ids.old) }
     ensures given { OnOk result (ids.new ≡ ids.old + 4) }
@@ -102,7 +102,7 @@ pub fn unbounded<T: Drop, R: Wait + Copy>(
     ids: &mut EventIds,
 ) -> Result<(Sender<T, R>, Receiver<T, R>), OpenError>
     ensures capacity { IfOk result (λ ends. room_of ends.0.form ≡ None) }
-    ensures receiver { IfOk result (λ ends. ends.1 ≡ ends.0) }
+    ensures receiver { IfOk result (λ ends. ends.1 ≡ new_receiving ends.0) }
     ensures named { IfOk result (λ ends. ends.0.id ≡ ids.old) }
     ensures given { OnOk result (ids.new ≡ ids.old + 4) }
     ensures unchanged { OnErr result (ids.new ≡ ids.old) }

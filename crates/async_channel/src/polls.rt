@@ -1,12 +1,18 @@
-//! One poll of each kind of operation, and the givings up: those of `channel_calls`, on the cells that threads share. A poll first
-//! takes a copy of its task's waker, and keeps the listener that it is left.
+//! One poll of each kind of operation, and the givings up: those of `channel_calls`, on the cells that threads share, with whatever
+//! trace. A poll first takes a copy of its task's waker, and keeps the listener that it is left.
 
 ghost use Rattle.std.specs.Prelude.{◌≡◌, None, is_some};
 ghost use Rattle.futures.specs.Poll.{OnPending};
 ghost use Rattle.futures.specs.Task.{IsArmed, Keeps};
-ghost use Rattle.channel_calls.specs.Calls.{SendsOn};
+ghost use Rattle.channel_calls.specs.Asks.{first};
+ghost use Rattle.channel_calls.specs.Calls.{SendsOn, send_ask, recv_ask, closed_ask, next_ask};
 ghost use Rattle.channel_calls.specs.Listed.{SendLists, is_pending};
+ghost use Rattle.channel_calls.specs.Walks.{WalkedTo};
+ghost use Rattle.channel_calls.specs.declared.ask.ChannelAsk.TheVariants as ask;
+ghost use Rattle.channel_calls.specs.declared.reply.Reply.TheVariants as reply;
+ghost use Rattle.async_channel.specs.Polls.{Polls, PollsSend};
 
+use crate::seen::Trace;
 use crate::shared::Shared;
 use crate::waits::Waits;
 use channel_calls::error::{RecvError, Refused, SendError};
@@ -19,96 +25,125 @@ use std::sync::Wait;
 
 impl<T: Drop> Shared<T> {
     /// A poll of a send with this message; of a finished one without. The message that stays with it is handed back.
-    pub(crate) fn poll_send<R: Wait>(
+    pub(crate) fn poll_send<R: Wait, S: Trace<T>>(
         &self,
         rt: &R,
         message: Option<T>,
         waits: &mut Waits,
         cx: &mut Context<'_>,
-    ) -> (Poll<Result<(), Refused<SendError<T>>>>, Option<T>)
-        ensures message { SendsOn message result.0 result.1 }
-        ensures listed { SendLists message result.0 waits.new.key }
-        ensures armed { OnPending result.0 (IsArmed cx.new) }
+        trace: S,
+    ) -> (Poll<Result<(), Refused<SendError<T>>>>, Option<T>, S)
+        ensures walked { PollsSend S.did (send_ask message waits.old.key) trace (reply.SendPoll (result.0)) waits.new.key (result.1) (result.2) }
+        ensures message { SendsOn message (result.0) (result.1) }
+        ensures listed { SendLists message (result.0) waits.new.key }
+        ensures armed { OnPending (result.0) (IsArmed cx.new) }
         ensures kept { Keeps cx.old cx.new }
     {
+        let key = waits.key;
         let task = waits.arm(rt, self.alloc, cx);
-        let key = waits.key.take();
-        let cells = &mut self.cells(rt);
-        let (polled, left) = polls::poll_send(rt, message, key, task, cells, &mut WakeNow { rt });
+        let mut seen = self.cells(rt, trace);
+        let sink = &mut WakeNow { rt };
+        let (polled, left) = polls::poll_send(rt, message, key, task, &mut seen, sink);
         waits.key = left.key;
-        (polled, left.message)
+        (polled, left.message, seen.into_trace())
     }
 
     /// A poll of a receive.
-    pub(crate) fn poll_recv<R: Wait>(
+    pub(crate) fn poll_recv<R: Wait, S: Trace<T>>(
         &self,
         rt: &R,
         waits: &mut Waits,
         cx: &mut Context<'_>,
-    ) -> Poll<Result<T, Refused<RecvError>>>
-        ensures listed { is_some waits.new.key ≡ is_pending result }
-        ensures armed { OnPending result (IsArmed cx.new) }
+        trace: S,
+    ) -> (Poll<Result<T, Refused<RecvError>>>, S)
+        ensures walked { Polls S.did (recv_ask waits.old.key) trace (reply.RecvPoll (result.0)) waits.new.key (result.1) }
+        ensures listed { is_some waits.new.key ≡ is_pending (result.0) }
+        ensures armed { OnPending (result.0) (IsArmed cx.new) }
         ensures kept { Keeps cx.old cx.new }
     {
+        let key = waits.key;
         let task = waits.arm(rt, self.alloc, cx);
-        let key = waits.key.take();
-        let cells = &mut self.cells(rt);
-        let (polled, kept) = polls::poll_recv(rt, key, task, cells, &mut WakeNow { rt });
-        waits.key = kept.key;
-        polled
+        let mut seen = self.cells(rt, trace);
+        let (polled, left) = polls::poll_recv(rt, key, task, &mut seen, &mut WakeNow { rt });
+        waits.key = left.key;
+        (polled, seen.into_trace())
     }
 
     /// A poll of a wait for the closing.
-    pub(crate) fn poll_closed<R: Wait>(
+    pub(crate) fn poll_closed<R: Wait, S: Trace<T>>(
         &self,
         rt: &R,
         waits: &mut Waits,
         cx: &mut Context<'_>,
-    ) -> Poll<Result<(), ListenError>>
-        ensures listed { is_some waits.new.key ≡ is_pending result }
-        ensures armed { OnPending result (IsArmed cx.new) }
+        trace: S,
+    ) -> (Poll<Result<(), ListenError>>, S)
+        ensures walked { Polls S.did (closed_ask waits.old.key) trace (reply.ClosedPoll (result.0)) waits.new.key (result.1) }
+        ensures listed { is_some waits.new.key ≡ is_pending (result.0) }
+        ensures armed { OnPending (result.0) (IsArmed cx.new) }
         ensures kept { Keeps cx.old cx.new }
     {
+        let key = waits.key;
         let task = waits.arm(rt, self.alloc, cx);
-        let key = waits.key.take();
-        let cells = &mut self.cells(rt);
-        let (polled, kept) = polls::poll_closed(rt, key, task, cells, &mut WakeNow { rt });
-        waits.key = kept.key;
-        polled
+        let mut seen = self.cells(rt, trace);
+        let (polled, left) = polls::poll_closed(rt, key, task, &mut seen, &mut WakeNow { rt });
+        waits.key = left.key;
+        (polled, seen.into_trace())
     }
 
     /// A poll of a receiver as a stream.
-    pub(crate) fn poll_next<R: Wait>(
+    pub(crate) fn poll_next<R: Wait, S: Trace<T>>(
         &self,
         rt: &R,
         waits: &mut Waits,
         cx: &mut Context<'_>,
-    ) -> Poll<Option<Result<T, ListenError>>>
-        ensures listed { is_some waits.new.key ≡ is_pending result }
-        ensures armed { OnPending result (IsArmed cx.new) }
+        trace: S,
+    ) -> (Poll<Option<Result<T, ListenError>>>, S)
+        ensures walked { Polls S.did (next_ask waits.old.key) trace (reply.Next (result.0)) waits.new.key (result.1) }
+        ensures listed { is_some waits.new.key ≡ is_pending (result.0) }
+        ensures armed { OnPending (result.0) (IsArmed cx.new) }
         ensures kept { Keeps cx.old cx.new }
     {
+        let key = waits.key;
         let task = waits.arm(rt, self.alloc, cx);
-        let key = waits.key.take();
-        let cells = &mut self.cells(rt);
-        let (polled, kept) = polls::poll_next(rt, key, task, cells, &mut WakeNow { rt });
-        waits.key = kept.key;
-        polled
+        let mut seen = self.cells(rt, trace);
+        let (polled, left) = polls::poll_next(rt, key, task, &mut seen, &mut WakeNow { rt });
+        waits.key = left.key;
+        (polled, seen.into_trace())
     }
 
     /// Gives an operation of this kind up: its listener leaves, and the message of an unfinished send comes back.
-    pub(crate) fn give_up<R: Wait>(
+    pub(crate) fn give_up<R: Wait, S: Trace<T>>(
         &self,
         rt: &R,
         line: Line,
         message: Option<T>,
         waits: &mut Waits,
-    ) -> Option<T>
-        ensures message { result ≡ message }
+        trace: S,
+    ) -> (Option<T>, S)
+        ensures walked { WalkedTo S.did (first (ask.GiveUp line message waits.old.key)) trace (reply.GivenUp (result.0)) (result.1) }
+        ensures message { result.0 ≡ message }
         ensures listed { waits.new.key ≡ None }
     {
-        let key = waits.key.take();
-        let cells = &mut self.cells(rt);
-        polls::give_up(rt, line, message, key, cells, &mut WakeNow { rt })
+        let key = waits.key;
+        waits.key = None;
+        let mut seen = self.cells(rt, trace);
+        let back = polls::give_up(rt, line, message, key, &mut seen, &mut WakeNow { rt });
+        (back, seen.into_trace())
+    }
+
+    /// The same of an operation that has no message.
+    pub(crate) fn leave<R: Wait, S: Trace<T>>(
+        &self,
+        rt: &R,
+        line: Line,
+        waits: &mut Waits,
+        trace: S,
+    ) -> S
+        ensures walked { WalkedTo S.did (first (ask.GiveUp line None waits.old.key)) trace (reply.GivenUp None) result }
+        ensures listed { waits.new.key ≡ None }
+    {
+        let (none, trace) = self.give_up(rt, line, None, waits, trace);
+        drop(none);
+        trace
     }
 }

@@ -1,12 +1,12 @@
 //! What the handles of one channel share.
 
-ghost use Rattle.std.specs.Prelude.{◌≡◌, None, false};
-ghost use Rattle.concurrent_queue.specs.Replies.{room_of};
+ghost use Rattle.std.specs.Prelude.{◌≡◌};
 ghost use Rattle.async_channel.specs.Handles.{form_of};
 
+use crate::bed::Bed;
 use crate::cells::{SharedCells, SharedWords};
+use crate::seen::Seen;
 use crate::waiters::{Turn, Waiters};
-use channel_calls::questions;
 use channel_calls::raised::Counters;
 use channel_calls::stage::{Line, Side};
 use concurrent_queue::shared::queue::ConcurrentQueue;
@@ -77,54 +77,49 @@ impl<T: Drop> Shared<T> {
         self.counter(side).load(Ordering::SeqCst)
     }
 
-    /// The cells of the channel, for a thread that may wait.
+    /// The cells of the channel, for a thread that may wait, seen by this trace.
     #[inline(always)]
-    pub(crate) fn cells<'a, R: Wait>(&'a self, rt: &'a R) -> SharedCells<'a, T, R, ()>
-        ensures { form_of result.shared.now ≡ form_of self.now }
+    pub(crate) fn cells<'a, R: Wait, S>(
+        &'a self,
+        rt: &'a R,
+        trace: S,
+    ) -> Seen<SharedCells<'a, T, R, ()>, S>
+        ensures form { form_of result.cells.shared.now ≡ form_of self.now }
+        ensures trace { result.trace ≡ trace }
     {
-        SharedCells {
+        let cells = SharedCells {
             shared: self,
             rt,
             bed: (),
-        }
+        };
+        Seen { cells, trace }
     }
-}
 
-// Questions that wait for nobody: none of them takes the runtime or a lock. They are those of `channel_calls`, on the shared words.
-impl<T: Drop> Shared<T> {
-    /// The words of the channel.
+    /// The same for a call that blocks its thread.
     #[inline(always)]
-    fn words(&self) -> SharedWords<'_, T>
-        ensures { form_of result.shared.now ≡ form_of self.now }
+    pub(crate) fn cells_and_bed<'a, R: Wait, S>(
+        &'a self,
+        rt: &'a R,
+        trace: S,
+    ) -> Seen<SharedCells<'a, T, R, Bed>, S>
+        ensures form { form_of result.cells.shared.now ≡ form_of self.now }
+        ensures trace { result.trace ≡ trace }
     {
-        SharedWords { shared: self }
+        let cells = SharedCells {
+            shared: self,
+            rt,
+            bed: Bed::new(),
+        };
+        Seen { cells, trace }
     }
 
-    pub(crate) fn handle_count(&self, side: Side) -> usize {
-        questions::handle_count(side, &mut self.words())
-    }
-
-    pub(crate) fn is_closed(&self) -> bool {
-        questions::is_closed(&mut self.words())
-    }
-
-    pub(crate) fn is_empty(&self) -> bool {
-        questions::is_empty(&mut self.words())
-    }
-
-    pub(crate) fn is_full(&self) -> bool
-        ensures { room_of (form_of self.now) ≡ None → result ≡ false }
+    /// Its words, for questions that wait for nobody: none of them takes the runtime or a lock.
+    #[inline(always)]
+    pub(crate) fn words<S>(&self, trace: S) -> Seen<SharedWords<'_, T>, S>
+        ensures form { form_of result.cells.shared.now ≡ form_of self.now }
+        ensures trace { result.trace ≡ trace }
     {
-        questions::is_full(&mut self.words())
-    }
-
-    pub(crate) fn capacity(&self) -> Option<usize>
-        ensures { result ≡ room_of (form_of self.now) }
-    {
-        questions::capacity(&mut self.words())
-    }
-
-    pub(crate) fn is_terminated(&self) -> bool {
-        questions::is_terminated(&mut self.words())
+        let cells = SharedWords { shared: self };
+        Seen { cells, trace }
     }
 }

@@ -4,7 +4,8 @@ ghost use Rattle.std.specs.Iterator.{at_most};
 ghost use Rattle.channel_calls.specs.Taking.{IsNext};
 ghost use Rattle.async_channel.specs.Iter.{waits_left, tries_left};
 
-use crate::receiver::Receiver;
+use crate::handles::no_trace::NoTrace;
+use crate::handles::receiver::Receiver;
 use event_listener::error::ListenError;
 use std::sync::{Forever, Wait};
 
@@ -36,8 +37,7 @@ impl<'a, T: Drop, R: Wait + Copy> Iterator for Iter<'a, T, R> {
     fn next(&mut self) -> Option<Result<T, ListenError>> {
         self.turns.next();
         let receiver = self.receiver;
-        let shared = &receiver.counted.link.shared;
-        shared.next_blocking(&receiver.rt, &mut self.ended)
+        receiver.traced().next_blocking(&mut self.ended, NoTrace).0
     }
 }
 
@@ -69,7 +69,6 @@ impl<'a, T: Drop, R: Wait + Copy> Iterator for TryIter<'a, T, R> {
     fn next(&mut self) -> Option<T> {
         self.turns.next();
         let receiver = self.receiver;
-        let shared = &receiver.counted.link.shared;
-        shared.next_there(&receiver.rt, &mut self.ended)
+        receiver.traced().next_there(&mut self.ended, NoTrace).0
     }
 }

@@ -1,13 +1,16 @@
 //! The receiving side of a channel.
 
 use crate::counted::Counted;
-use crate::iter::{Iter, TryIter};
-use crate::recv::Recv;
+use crate::handles::iter::{Iter, TryIter};
+use crate::handles::no_trace::NoTrace;
+use crate::handles::recv::Recv;
+use crate::handles::weak::WeakReceiver;
+use crate::traced::Traced;
 use crate::waits::Waits;
-use crate::weak::WeakReceiver;
 use channel_calls::error::{HandleError, RecvError, Refused, TryRecvError};
 use channel_calls::kind::OfReceivers;
-use channel_calls::stage::Side;
+use event_listener::error::ListenError;
+use futures::task::{Context, Poll};
 use std::fmt;
 use std::marker::Model;
 use std::sync::Wait;
@@ -16,8 +19,8 @@ use std::sync::Wait;
 ///
 /// It is a stream of messages too. The channel is closed once its last receiver is dropped; the messages left are dropped with
 /// the channel. The drop may wait for the locks of those who wait. Contracts see a receiver as its channel: how many messages
-/// it holds at most, its identity, and the memory that its handles share. As `async-channel` 2.5.0, but that it has the runtime
-/// with it.
+/// it holds at most, its identity, and the memory that its handles share; and the listener that is listed for it as a stream. As
+/// `async-channel` 2.5.0, but that it has the runtime with it.
 pub struct Receiver<T: Drop, R: Wait + Copy> {
     pub(crate) counted: Counted<T, OfReceivers>,
     pub(crate) rt: R,
@@ -25,27 +28,35 @@ pub struct Receiver<T: Drop, R: Wait + Copy> {
 }
 
 impl<T: Drop, R: Wait + Copy> Model for Receiver<T, R> {
-    ghost use Rattle.async_channel.specs.Handles.{Handle, handle_of};
+    ghost use Rattle.async_channel.specs.Handles.{Receiving, handle_of};
 
-    ghost Value = { Handle };
+    ghost Value = { Receiving };
 
-    ghost view = { λ h. handle_of h.counted.link };
+    ghost view = { λ h. record { channel = handle_of h.counted.link; key = h.waits.key } };
 }
 
 impl<T: Drop, R: Wait + Copy> Receiver<T, R> {
     ghost use Rattle.std.specs.Prelude.{◌≡◌, ◌<◌, ◌≤◌, [], false, length, Err, IfOk, IfErr, OnErr};
     ghost use Rattle.std.specs.Vec.{vec_capacity, vec_ptr};
     ghost use Rattle.channel_calls.specs.Filling.{room_in, Stands};
-    ghost use Rattle.async_channel.specs.Handles.{handle_of};
+    ghost use Rattle.async_channel.specs.Handles.{handle_of, new_receiving};
 
     pub(crate) fn new(rt: R, counted: Counted<T, OfReceivers>) -> Receiver<T, R>
-        ensures { result ≡ handle_of counted.link }
+        ensures { result ≡ new_receiving (handle_of counted.link) }
     {
         Receiver {
             counted,
             rt,
             waits: Waits::new(),
         }
+    }
+
+    /// The calls of this receiver with a trace of the caller's, which each call takes and gives back. Own to this project.
+    #[inline(always)]
+    pub fn traced(&self) -> Traced<'_, T, R, OfReceivers>
+        ensures { result ≡ self.now.channel }
+    {
+        Traced::new(&self.counted, &self.rt)
     }
 
     /// Takes the oldest message.
@@ -61,7 +72,7 @@ impl<T: Drop, R: Wait + Copy> Receiver<T, R> {
     /// let over = receiver.try_recv().err()?.is_closed(); // true
     /// ```
     pub fn try_recv(&self) -> Result<T, TryRecvError> {
-        self.counted.link.shared.try_recv(&self.rt)
+        self.traced().try_recv(NoTrace).0
     }
 
     /// Takes the oldest messages, at most `limit`, in order: as many as there are, or as are wanted.
@@ -94,7 +105,7 @@ impl<T: Drop, R: Wait + Copy> Receiver<T, R> {
         ensures wanted { OnErr result (0 < limit) }
         ensures reason { result ≡ Err (Refused.SerialsUsedUp tt) → ⊥ }
     {
-        self.counted.link.shared.recv_many(&self.rt, limit)
+        self.traced().recv_many(limit, NoTrace).0
     }
 
     /// Takes the oldest messages into the room that is there, behind what is in it, in order: as many as there are, or as fit. It gives
@@ -120,7 +131,7 @@ impl<T: Drop, R: Wait + Copy> Receiver<T, R> {
         ensures room { vec_capacity into.new ≡ vec_capacity into.old }
         ensures in_place { vec_ptr into.new ≡ vec_ptr into.old }
     {
-        self.counted.link.shared.recv_many_into(&self.rt, into)
+        self.traced().recv_many_into(into, NoTrace).0
     }
 
     /// A receive that waits for a message: nothing is done until it is polled. As `async-channel` 2.5.0.
@@ -131,7 +142,7 @@ impl<T: Drop, R: Wait + Copy> Receiver<T, R> {
     /// received.ok() == Some(1) // true
     /// ```
     pub fn recv(&self) -> Recv<'_, T, R>
-        ensures { result ≡ false }
+        ensures { result ≡ None }
     {
         Recv::new(self)
     }
@@ -141,7 +152,7 @@ impl<T: Drop, R: Wait + Copy> Receiver<T, R> {
     /// Refused where the channel is closed and empty, or where what a wait needs was refused: memory, or a serial of a listener.
     /// As `async-channel` 2.5.0, but for the wants.
     pub fn recv_blocking(&self) -> Result<T, Refused<RecvError>> {
-        self.counted.link.shared.recv_blocking(&self.rt)
+        self.traced().recv_blocking(NoTrace).0
     }
 
     /// The messages one after another, each of which is waited for as by [`recv_blocking`](Receiver::recv_blocking). It ends where the
@@ -171,13 +182,13 @@ impl<T: Drop, R: Wait + Copy> Receiver<T, R> {
     /// Closes the channel: nothing more is sent, and what was sent can still be received. True in the one call that closed it;
     /// all who wait are woken then. It may wait for the locks of those who wait. As `async-channel` 2.5.0.
     pub fn close(&self) -> bool {
-        self.counted.link.shared.close(&self.rt)
+        self.traced().close(NoTrace).0
     }
 
     /// How many messages the channel held at a moment of the call. It may wait, since it asks again where others came between. As
     /// `async-channel` 2.5.0.
     pub fn len(&self) -> usize {
-        self.counted.link.shared.len(&self.rt)
+        self.traced().len(NoTrace).0
     }
 }
 
@@ -188,37 +199,37 @@ impl<T: Drop, R: Wait + Copy> Receiver<T, R> {
 
     /// Whether the channel is closed. It waits for nobody. As `async-channel` 2.5.0.
     pub fn is_closed(&self) -> bool {
-        self.counted.link.shared.is_closed()
+        self.traced().is_closed(NoTrace).0
     }
 
     /// Whether the channel holds no message. It waits for nobody. As `async-channel` 2.5.0.
     pub fn is_empty(&self) -> bool {
-        self.counted.link.shared.is_empty()
+        self.traced().is_empty(NoTrace).0
     }
 
     /// Whether the channel holds as many messages as it can; one without a bound never does. It waits for nobody. As
     /// `async-channel` 2.5.0.
     pub fn is_full(&self) -> bool
-        ensures { room_of self.now.form ≡ None → result ≡ false }
+        ensures { room_of self.now.channel.form ≡ None → result ≡ false }
     {
-        self.counted.link.shared.is_full()
+        self.traced().is_full(NoTrace).0
     }
 
     /// How many messages the channel can hold, if there is a bound. It waits for nobody. As `async-channel` 2.5.0.
     pub fn capacity(&self) -> Option<usize>
-        ensures { result ≡ room_of self.now.form }
+        ensures { result ≡ room_of self.now.channel.form }
     {
-        self.counted.link.shared.capacity()
+        self.traced().capacity(NoTrace).0
     }
 
     /// How many senders live. It waits for nobody. As `async-channel` 2.5.0.
     pub fn sender_count(&self) -> usize {
-        self.counted.link.shared.handle_count(Side::Senders)
+        self.traced().sender_count(NoTrace).0
     }
 
     /// How many receivers live. It waits for nobody. As `async-channel` 2.5.0.
     pub fn receiver_count(&self) -> usize {
-        self.counted.link.shared.handle_count(Side::Receivers)
+        self.traced().receiver_count(NoTrace).0
     }
 
     /// Whether both are handles of one channel: whether the identities are equal. It waits for nobody. As
@@ -227,7 +238,7 @@ impl<T: Drop, R: Wait + Copy> Receiver<T, R> {
     /// This tells apart channels whose identities came from one `EventIds`. Each source begins with the same number, so of channels
     /// from two sources it may be true though they are two.
     pub fn same_channel(&self, other: &Receiver<T, R>) -> bool
-        ensures { IsTrue result ↔ (self.now.id ≡ other.now.id) }
+        ensures { IsTrue result ↔ (self.now.channel.id ≡ other.now.channel.id) }
     {
         self.counted.link.is_same(&other.counted.link)
     }
@@ -235,13 +246,36 @@ impl<T: Drop, R: Wait + Copy> Receiver<T, R> {
     /// Whether this stream has ended: whether the channel is closed, and then whether it is empty. It waits for nobody. As
     /// `FusedStream` of `async-channel` 2.5.0 says it.
     pub fn is_terminated(&self) -> bool {
-        self.counted.link.shared.is_terminated()
+        self.traced().is_terminated(NoTrace).0
+    }
+}
+
+// As a stream.
+impl<T: Drop, R: Wait + Copy> Receiver<T, R> {
+    ghost use Rattle.std.specs.Prelude.{◌≡◌, is_some};
+    ghost use Rattle.futures.specs.Poll.{OnPending};
+    ghost use Rattle.futures.specs.Task.{IsArmed, Keeps};
+    ghost use Rattle.channel_calls.specs.Listed.{is_pending};
+
+    /// One poll of this receiver as a stream: a listener is listed for it afterwards where it is pending, and else none.
+    ///
+    /// It ends once the channel is closed and empty. A copy of the waker is taken first. Where none is got nothing is tried, and its
+    /// next item is want of memory. It may wait for another call's end and for the locks of those who wait. As `async-channel` 2.5.0,
+    /// but for the refusals.
+    pub fn poll_next(&mut self, cx: &mut Context<'_>) -> Poll<Option<Result<T, ListenError>>>
+        ensures listed { is_some self.new.key ≡ is_pending result }
+        ensures channel { self.new.channel ≡ self.old.channel }
+        ensures armed { OnPending result (IsArmed cx.new) }
+        ensures kept { Keeps cx.old cx.new }
+    {
+        self.poll_next_traced(cx, NoTrace).0
     }
 }
 
 // More handles.
 impl<T: Drop, R: Wait + Copy> Receiver<T, R> {
     ghost use Rattle.std.specs.Prelude.{◌≡◌, IfOk, IfErr};
+    ghost use Rattle.async_channel.specs.Handles.{new_receiving};
 
     /// One more receiver of this channel. `Clone` of `async-channel` 2.5.0, which ends the program where this is refused.
     ///
@@ -249,21 +283,15 @@ impl<T: Drop, R: Wait + Copy> Receiver<T, R> {
     /// changed then: no step of a call that is refused raises the count, and what was raised can't be let go but by a handle's drop.
     /// It may wait for other clonings to end.
     pub fn try_clone(&self) -> Result<Receiver<T, R>, HandleError>
-        ensures { IfOk result (λ more. more ≡ self.now) }
+        ensures { IfOk result (λ more. more ≡ new_receiving self.now.channel) }
     {
-        let Some(link) = self.counted.link.try_clone() else {
-            return Err(HandleError::NoMemory);
-        };
-        match Counted::one_more(link, &self.rt) {
-            Ok(counted) => Ok(Receiver::new(self.rt, counted)),
-            Err(error) => Err(error),
-        }
+        self.traced().try_clone(NoTrace).0
     }
 
     /// A handle that doesn't keep the channel open. It waits for nobody, and is never refused for too many handles. As
     /// `async-channel` 2.5.0.
     pub fn downgrade(&self) -> Result<WeakReceiver<T, R>, HandleError>
-        ensures channel { IfOk result (λ weak. weak ≡ self.now) }
+        ensures channel { IfOk result (λ weak. weak ≡ self.now.channel) }
         ensures reason { IfErr result (λ e. e ≡ HandleError.NoMemory) }
     {
         match self.counted.link.try_clone() {
@@ -282,6 +310,6 @@ impl<T: Drop, R: Wait + Copy> fmt::Debug for Receiver<T, R> {
 impl<T: Drop, R: Wait + Copy> Drop for Receiver<T, R> {
     fn drop(self) {
         let Self { counted, rt, waits } = self;
-        counted.lower(&rt, waits.key);
+        let NoTrace = counted.lower(&rt, waits.key, NoTrace);
     }
 }

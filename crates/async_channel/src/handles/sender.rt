@@ -1,12 +1,13 @@
 //! The sending side of a channel.
 
-use crate::closed::Closed;
 use crate::counted::Counted;
-use crate::send::Send;
-use crate::weak::WeakSender;
+use crate::handles::closed::Closed;
+use crate::handles::no_trace::NoTrace;
+use crate::handles::send::Send;
+use crate::handles::weak::WeakSender;
+use crate::traced::Traced;
 use channel_calls::error::{HandleError, Refused, SendError, TrySendError};
 use channel_calls::kind::OfSenders;
-use channel_calls::stage::Side;
 use std::fmt;
 use std::marker::Model;
 use std::sync::Wait;
@@ -42,6 +43,14 @@ impl<T: Drop, R: Wait + Copy> Sender<T, R> {
         Sender { counted, rt }
     }
 
+    /// The calls of this sender with a trace of the caller's, which each call takes and gives back. Own to this project.
+    #[inline(always)]
+    pub fn traced(&self) -> Traced<'_, T, R, OfSenders>
+        ensures { result ≡ self.now }
+    {
+        Traced::new(&self.counted, &self.rt)
+    }
+
     /// Sends the message where there is a place for it.
     ///
     /// A refusal hands it back: the channel was closed; a bounded one was full; for one without a bound memory was refused. It
@@ -57,7 +66,7 @@ impl<T: Drop, R: Wait + Copy> Sender<T, R> {
     pub fn try_send(&self, message: T) -> Result<(), Refused<TrySendError<T>, T>>
         ensures { IfErr result (λ e. RefusesTrySend (is_bounded self.now.form) message e) }
     {
-        self.counted.link.shared.try_send(&self.rt, message)
+        self.traced().try_send(message, NoTrace).0
     }
 
     /// Sends the message; where the channel is full, its oldest message leaves for it and is answered.
@@ -75,7 +84,7 @@ impl<T: Drop, R: Wait + Copy> Sender<T, R> {
         ensures refused { IfErr result (λ e. RefusesForceSend (is_bounded self.now.form) message e) }
         ensures displaced { room_of self.now.form ≡ None → IfOk result (λ oldest. oldest ≡ None) }
     {
-        self.counted.link.shared.force_send(&self.rt, message)
+        self.traced().force_send(message, NoTrace).0
     }
 
     /// A send of this message that waits for a place: nothing is done until it is polled. As `async-channel` 2.5.0.
@@ -100,7 +109,7 @@ impl<T: Drop, R: Wait + Copy> Sender<T, R> {
 
     /// A wait for the channel's closing: nothing is done until it is polled. As `async-channel` 2.5.0.
     pub fn closed(&self) -> Closed<'_, T, R>
-        ensures { result ≡ false }
+        ensures { result ≡ None }
     {
         Closed::new(self)
     }
@@ -112,7 +121,7 @@ impl<T: Drop, R: Wait + Copy> Sender<T, R> {
     pub fn send_blocking(&self, message: T) -> Result<(), Refused<SendError<T>, T>>
         ensures { IfErr result (λ e. Unsent e ≡ message) }
     {
-        self.counted.link.shared.send_blocking(&self.rt, message)
+        self.traced().send_blocking(message, NoTrace).0
     }
 
     /// Closes the channel: nothing more is sent, and what was sent can still be received. True in the one call that closed it;
@@ -124,13 +133,13 @@ impl<T: Drop, R: Wait + Copy> Sender<T, R> {
     /// first && !second && sender.try_send(1).err()?.is_closed() // true
     /// ```
     pub fn close(&self) -> bool {
-        self.counted.link.shared.close(&self.rt)
+        self.traced().close(NoTrace).0
     }
 
     /// How many messages the channel held at a moment of the call. It may wait, since it asks again where others came between. As
     /// `async-channel` 2.5.0.
     pub fn len(&self) -> usize {
-        self.counted.link.shared.len(&self.rt)
+        self.traced().len(NoTrace).0
     }
 }
 
@@ -141,12 +150,12 @@ impl<T: Drop, R: Wait + Copy> Sender<T, R> {
 
     /// Whether the channel is closed. It waits for nobody. As `async-channel` 2.5.0.
     pub fn is_closed(&self) -> bool {
-        self.counted.link.shared.is_closed()
+        self.traced().is_closed(NoTrace).0
     }
 
     /// Whether the channel holds no message. It waits for nobody. As `async-channel` 2.5.0.
     pub fn is_empty(&self) -> bool {
-        self.counted.link.shared.is_empty()
+        self.traced().is_empty(NoTrace).0
     }
 
     /// Whether the channel holds as many messages as it can; one without a bound never does. It waits for nobody. As
@@ -154,24 +163,24 @@ impl<T: Drop, R: Wait + Copy> Sender<T, R> {
     pub fn is_full(&self) -> bool
         ensures { room_of self.now.form ≡ None → result ≡ false }
     {
-        self.counted.link.shared.is_full()
+        self.traced().is_full(NoTrace).0
     }
 
     /// How many messages the channel can hold, if there is a bound. It waits for nobody. As `async-channel` 2.5.0.
     pub fn capacity(&self) -> Option<usize>
         ensures { result ≡ room_of self.now.form }
     {
-        self.counted.link.shared.capacity()
+        self.traced().capacity(NoTrace).0
     }
 
     /// How many senders live. It waits for nobody. As `async-channel` 2.5.0.
     pub fn sender_count(&self) -> usize {
-        self.counted.link.shared.handle_count(Side::Senders)
+        self.traced().sender_count(NoTrace).0
     }
 
     /// How many receivers live. It waits for nobody. As `async-channel` 2.5.0.
     pub fn receiver_count(&self) -> usize {
-        self.counted.link.shared.handle_count(Side::Receivers)
+        self.traced().receiver_count(NoTrace).0
     }
 
     /// Whether both are handles of one channel: whether the identities are equal. It waits for nobody. As
@@ -205,13 +214,7 @@ impl<T: Drop, R: Wait + Copy> Sender<T, R> {
     pub fn try_clone(&self) -> Result<Sender<T, R>, HandleError>
         ensures { IfOk result (λ more. more ≡ self.now) }
     {
-        let Some(link) = self.counted.link.try_clone() else {
-            return Err(HandleError::NoMemory);
-        };
-        match Counted::one_more(link, &self.rt) {
-            Ok(counted) => Ok(Sender::new(self.rt, counted)),
-            Err(error) => Err(error),
-        }
+        self.traced().try_clone(NoTrace).0
     }
 
     /// A handle that doesn't keep the channel open. It waits for nobody, and is never refused for too many handles. As
@@ -236,6 +239,6 @@ impl<T: Drop, R: Wait + Copy> fmt::Debug for Sender<T, R> {
 impl<T: Drop, R: Wait + Copy> Drop for Sender<T, R> {
     fn drop(self) {
         let Self { counted, rt } = self;
-        counted.lower(&rt);
+        let NoTrace = counted.lower(&rt, NoTrace);
     }
 }

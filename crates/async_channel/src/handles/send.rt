@@ -1,37 +1,36 @@
 //! The polled send.
 
-ghost use Rattle.std.specs.Prelude.{◌≡◌, Some, is_none};
+ghost use Rattle.std.specs.Prelude.{◌≡◌, Some, is_none, is_some};
 ghost use Rattle.futures.specs.Poll.{OnPending};
 ghost use Rattle.futures.specs.Task.{IsArmed, Keeps};
 ghost use Rattle.channel_calls.specs.Calls.{SendsOn};
 ghost use Rattle.async_channel.specs.Handles.{new_sending, waits_on};
 
-use crate::sender::Sender;
+use crate::handles::no_trace::NoTrace;
+use crate::handles::sender::Sender;
 use crate::waits::Waits;
 use channel_calls::error::{Refused, SendError};
-use channel_calls::stage::Line;
 use futures::Future;
 use futures::task::{Context, Poll};
 use std::marker::Model;
 use std::sync::Wait;
 
-/// A send of one message, which waits for a place. It has finished once it has no message. Contracts see its message and whether a
-/// listener is listed for it.
+/// A send of one message, which waits for a place. It has finished once it has no message. Contracts see its message and the
+/// listener that is listed for it.
 ///
-/// Dropping it gives it up. Contracts see it as its message. As `async-channel` 2.5.0.
+/// Dropping it gives it up. As `async-channel` 2.5.0.
 pub struct Send<'a, T: Drop, R: Wait + Copy> {
-    sender: &'a Sender<T, R>,
-    message: Option<T>,
-    waits: Waits,
+    pub(crate) sender: &'a Sender<T, R>,
+    pub(crate) message: Option<T>,
+    pub(crate) waits: Waits,
 }
 
 impl<'a, T: Drop, R: Wait + Copy> Model for Send<'a, T, R> {
-    ghost use Rattle.std.specs.Prelude.{is_some};
     ghost use Rattle.async_channel.specs.Handles.{Sending};
 
     ghost Value = { Sending T };
 
-    ghost view = { λ s. record { message = s.message; listens = is_some s.waits.key } };
+    ghost view = { λ s. record { message = s.message; key = s.waits.key } };
 }
 
 impl<'a, T: Drop, R: Wait + Copy> Send<'a, T, R> {
@@ -52,16 +51,11 @@ impl<'a, T: Drop, R: Wait + Copy> Send<'a, T, R> {
     /// another call's end and for the locks of those who wait.
     pub fn poll(&mut self, cx: &mut Context<'_>) -> Poll<Result<(), Refused<SendError<T>>>>
         ensures message { SendsOn self.old.message result self.new.message }
-        ensures listed { self.new.listens ≡ waits_on self.old.message result }
+        ensures listed { is_some self.new.key ≡ waits_on self.old.message result }
         ensures armed { OnPending result (IsArmed cx.new) }
         ensures kept { Keeps cx.old cx.new }
     {
-        let sender = self.sender;
-        let shared = &sender.counted.link.shared;
-        let message = self.message.take();
-        let (polled, kept) = shared.poll_send(&sender.rt, message, &mut self.waits, cx);
-        self.message = kept;
-        polled
+        self.poll_traced(cx, NoTrace).0
     }
 
     /// Whether it has finished. It waits for nobody. Own to this project.
@@ -73,19 +67,10 @@ impl<'a, T: Drop, R: Wait + Copy> Send<'a, T, R> {
 
     /// Gives it up, as its drop does, and hands back the message of one that hasn't finished. It may wait for the lock of those
     /// who wait. Own to this project.
-    pub fn give_up(mut self) -> Option<T>
+    pub fn give_up(self) -> Option<T>
         ensures { result ≡ self.entry.message }
     {
-        self.leave()
-    }
-
-    fn leave(&mut self) -> Option<T>
-        ensures { result ≡ self.old.message }
-    {
-        let sender = self.sender;
-        let shared = &sender.counted.link.shared;
-        let message = self.message.take();
-        shared.give_up(&sender.rt, Line::Sends, message, &mut self.waits)
+        self.give_up_traced(NoTrace).0
     }
 }
 
@@ -104,7 +89,7 @@ impl<T: Drop, R: Wait + Copy> Future for Send<'_, T, R> {
 
 impl<T: Drop, R: Wait + Copy> Drop for Send<'_, T, R> {
     fn drop(mut self) {
-        drop(self.leave());
+        drop(self.leave(NoTrace).0);
         let Send {
             sender: _,
             message: _,

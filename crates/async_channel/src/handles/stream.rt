@@ -1,6 +1,6 @@
 //! A receiver as a stream of messages.
 
-use crate::receiver::Receiver;
+use crate::handles::receiver::Receiver;
 use event_listener::error::ListenError;
 use futures::Stream;
 use futures::task::{Context, Poll};
@@ -13,8 +13,6 @@ impl<T: Drop, R: Wait + Copy> Stream for Receiver<T, R> {
     type Item = Result<T, ListenError>;
 
     fn poll_next(&mut self, cx: &mut Context<'_>) -> Poll<Option<Result<T, ListenError>>> {
-        let rt = self.rt;
-        let shared = &self.counted.link.shared;
-        shared.poll_next(&rt, &mut self.waits, cx)
+        Receiver::poll_next(self, cx)
     }
 }

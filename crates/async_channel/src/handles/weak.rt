@@ -1,19 +1,19 @@
 //! The weak handles of a channel, which don't keep it open.
 
-use crate::counted::Counted;
+use crate::handles::no_trace::NoTrace;
+use crate::handles::receiver::Receiver;
+use crate::handles::sender::Sender;
 use crate::link::Link;
-use crate::receiver::Receiver;
-use crate::sender::Sender;
 use channel_calls::error::HandleError;
 use std::fmt;
 use std::marker::Model;
 use std::sync::Wait;
 
-/// A sender that doesn't keep the channel open. Contracts see it as they see a sender. As `async-channel` 2.5.0.
+/// A sender that doesn't keep the channel open. Contracts see its channel. As `async-channel` 2.5.0.
 #[derive(Drop)]
 pub struct WeakSender<T: Drop, R: Wait + Copy> {
-    link: Link<T>,
-    rt: R,
+    pub(crate) link: Link<T>,
+    pub(crate) rt: R,
 }
 
 impl<T: Drop, R: Wait + Copy> Model for WeakSender<T, R> {
@@ -42,14 +42,7 @@ impl<T: Drop, R: Wait + Copy> WeakSender<T, R> {
     pub fn upgrade(&self) -> Result<Option<Sender<T, R>>, HandleError>
         ensures { IfOk result (λ made. IfSome made (λ sender. sender ≡ self.now)) }
     {
-        let Some(link) = self.link.try_clone() else {
-            return Err(HandleError::NoMemory);
-        };
-        match Counted::upgraded(link, &self.rt) {
-            Ok(Some(counted)) => Ok(Some(Sender::new(self.rt, counted))),
-            Ok(None) => Ok(None),
-            Err(error) => Err(error),
-        }
+        self.upgrade_traced(NoTrace).0
     }
 
     /// One more weak sender. It waits for nobody, and is never refused for too many handles. `Clone` of `async-channel` 2.5.0.
@@ -70,11 +63,11 @@ impl<T: Drop, R: Wait + Copy> fmt::Debug for WeakSender<T, R> {
     }
 }
 
-/// A receiver that doesn't keep the channel open. Contracts see it as they see a receiver. As `async-channel` 2.5.0.
+/// A receiver that doesn't keep the channel open. Contracts see its channel. As `async-channel` 2.5.0.
 #[derive(Drop)]
 pub struct WeakReceiver<T: Drop, R: Wait + Copy> {
-    link: Link<T>,
-    rt: R,
+    pub(crate) link: Link<T>,
+    pub(crate) rt: R,
 }
 
 impl<T: Drop, R: Wait + Copy> Model for WeakReceiver<T, R> {
@@ -87,7 +80,7 @@ impl<T: Drop, R: Wait + Copy> Model for WeakReceiver<T, R> {
 
 impl<T: Drop, R: Wait + Copy> WeakReceiver<T, R> {
     ghost use Rattle.std.specs.Prelude.{◌≡◌, IfOk, IfErr, IfSome};
-    ghost use Rattle.async_channel.specs.Handles.{handle_of};
+    ghost use Rattle.async_channel.specs.Handles.{handle_of, new_receiving};
 
     pub(crate) fn new(rt: R, link: Link<T>) -> WeakReceiver<T, R>
         ensures { result ≡ handle_of link }
@@ -101,16 +94,9 @@ impl<T: Drop, R: Wait + Copy> WeakReceiver<T, R> {
     /// changed then, as by `try_clone`. It may wait for other clonings to end. As `async-channel` 2.5.0, which ends the program
     /// where this is refused.
     pub fn upgrade(&self) -> Result<Option<Receiver<T, R>>, HandleError>
-        ensures { IfOk result (λ made. IfSome made (λ receiver. receiver ≡ self.now)) }
+        ensures { IfOk result (λ made. IfSome made (λ receiver. receiver ≡ new_receiving self.now)) }
     {
-        let Some(link) = self.link.try_clone() else {
-            return Err(HandleError::NoMemory);
-        };
-        match Counted::upgraded(link, &self.rt) {
-            Ok(Some(counted)) => Ok(Some(Receiver::new(self.rt, counted))),
-            Ok(None) => Ok(None),
-            Err(error) => Err(error),
-        }
+        self.upgrade_traced(NoTrace).0
     }
 
     /// One more weak receiver. It waits for nobody, and is never refused for too many handles. `Clone` of `async-channel` 2.5.0.

@@ -1,14 +1,14 @@
 //! The polled receive.
 
-ghost use Rattle.std.specs.Prelude.{◌≡◌, false};
+ghost use Rattle.std.specs.Prelude.{◌≡◌, None, is_some};
 ghost use Rattle.futures.specs.Poll.{OnPending};
 ghost use Rattle.futures.specs.Task.{IsArmed, Keeps};
 ghost use Rattle.channel_calls.specs.Listed.{is_pending};
 
-use crate::receiver::Receiver;
+use crate::handles::no_trace::NoTrace;
+use crate::handles::receiver::Receiver;
 use crate::waits::Waits;
 use channel_calls::error::{RecvError, Refused};
-use channel_calls::stage::Line;
 use futures::Future;
 use futures::task::{Context, Poll};
 use std::marker::Model;
@@ -17,24 +17,25 @@ use std::sync::Wait;
 /// A receive of one message, which waits for it. One that has given a message receives another when it is polled again.
 ///
 /// Each poll takes a copy of the waker first; where none is got nothing is tried, and the answer is want of memory. A poll may
-/// wait for another call's end and for the locks of those who wait. Dropping it gives it up. Contracts see
-/// whether a listener is listed for it. As `async-channel` 2.5.0.
+/// wait for another call's end and for the locks of those who wait. Dropping it gives it up. Contracts see the
+/// listener that is listed for it. As `async-channel` 2.5.0.
 pub struct Recv<'a, T: Drop, R: Wait + Copy> {
-    receiver: &'a Receiver<T, R>,
-    waits: Waits,
+    pub(crate) receiver: &'a Receiver<T, R>,
+    pub(crate) waits: Waits,
 }
 
 impl<'a, T: Drop, R: Wait + Copy> Model for Recv<'a, T, R> {
-    ghost use Rattle.std.specs.Prelude.{Bool, is_some};
+    ghost use Rattle.std.specs.Prelude.{Option};
+    ghost use Rattle.event_listener.specs.declared.key.Key.{Key};
 
-    ghost Value = { Bool };
+    ghost Value = { Option Key };
 
-    ghost view = { λ o. is_some o.waits.key };
+    ghost view = { λ o. o.waits.key };
 }
 
 impl<'a, T: Drop, R: Wait + Copy> Recv<'a, T, R> {
     pub(crate) fn new(receiver: &'a Receiver<T, R>) -> Recv<'a, T, R>
-        ensures { result ≡ false }
+        ensures { result ≡ None }
     {
         Recv {
             receiver,
@@ -47,24 +48,16 @@ impl<'a, T: Drop, R: Wait + Copy> Recv<'a, T, R> {
     /// A copy of the waker is taken first. Where none is got nothing is tried, and the answer is want of memory. It may wait for
     /// another call's end and for the locks of those who wait.
     pub fn poll(&mut self, cx: &mut Context<'_>) -> Poll<Result<T, Refused<RecvError>>>
-        ensures listed { self.new ≡ is_pending result }
+        ensures listed { is_some self.new ≡ is_pending result }
         ensures armed { OnPending result (IsArmed cx.new) }
         ensures kept { Keeps cx.old cx.new }
     {
-        let receiver = self.receiver;
-        let shared = &receiver.counted.link.shared;
-        shared.poll_recv(&receiver.rt, &mut self.waits, cx)
+        self.poll_traced(cx, NoTrace).0
     }
 
     /// Gives it up, as its drop does. It may wait for the lock of those who wait. Own to this project.
-    pub fn give_up(mut self) {
-        self.leave();
-    }
-
-    fn leave(&mut self) {
-        let receiver = self.receiver;
-        let shared = &receiver.counted.link.shared;
-        drop(shared.give_up(&receiver.rt, Line::Receives, None, &mut self.waits));
+    pub fn give_up(self) {
+        let NoTrace = self.give_up_traced(NoTrace);
     }
 }
 
@@ -78,7 +71,7 @@ impl<T: Drop, R: Wait + Copy> Future for Recv<'_, T, R> {
 
 impl<T: Drop, R: Wait + Copy> Drop for Recv<'_, T, R> {
     fn drop(mut self) {
-        self.leave();
+        let NoTrace = self.leave(NoTrace);
         let Recv {
             receiver: _,
             waits: _,

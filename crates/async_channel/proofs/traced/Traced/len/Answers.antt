@@ -1,0 +1,11 @@
+use Rattle.channel_calls.specs.Asks.{first}
+use Rattle.channel_calls.specs.declared.ask.ChannelAsk.TheVariants as ask
+use Rattle.channel_calls.specs.declared.reply.Reply.TheVariants as reply
+use Rattle.async_channel.proofs.Traces.{walked_to}
+use Rattle.async_channel.proofs.traced.Traced.len.Goals as goal
+
+pub returns : goal.returns
+returns g c =
+    record {
+      walked = walked_to g.S.Trace.did (c.cells-seen.result, _) (c.len-count.new.cells, _) c.args.trace c.into_trace.result c.cells-seen.ensures.trace c.into_trace.ensures (first ask.Len) (reply.Count c.len-count.result) c.len-count.ensures.deeds;
+    }

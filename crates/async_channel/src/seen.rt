@@ -1,0 +1,238 @@
+//! Cells of a channel of which a caller's trace sees each deed, with its answer.
+
+ghost use Rattle.std.specs.Prelude.{◌≡◌, List, Option};
+ghost use Rattle.concurrent_queue.specs.declared.queue_call.QueueCall.{QueueCall as Call};
+ghost use Rattle.event_listener.specs.declared.key.Key.{Key as Name};
+ghost use Rattle.event_listener.specs.declared.waking.Task.{Task as Waiter};
+ghost use Rattle.channel_calls.specs.Deeds.{Deed, stepped, inserted, registered, taken_off, one_told, more_told, all_told, counted, lowered, raised};
+
+use channel_calls::cells::ChannelCells;
+use channel_calls::sleeps::Sleeps;
+use channel_calls::stage::{Line, Side};
+use channel_calls::words::ChannelWords;
+use concurrent_queue::call::QueueReply;
+use concurrent_queue::queue_call::QueueCall;
+use event_listener::error::ListenError;
+use event_listener::key::Key;
+use event_listener::wakes::Wakes;
+use event_listener::waking::Task;
+
+/// What sees the deeds on the cells of a channel, each after it was done and with what it answered; and that a call which blocks
+/// its thread asked for a task of its own, and slept. Each method says of itself that this was seen, and nothing else: so a trace of
+/// which nothing is known but this trait can be led from one value to another by these very deeds alone.
+///
+/// A telling and a removal are seen without whom they woke: those stay with the sink. Own to this project.
+pub trait Trace<T> {
+    ghost use Rattle.channel_calls.specs.declared.stage.Line.{Line as Waits};
+
+    /// Whether this deed, with this answer, was seen between the two.
+    ghost did: { Deed T Waiter → Self → Self → Type 0 };
+
+    /// Whether a call of the queue was seen, between the two, that is to be stepped.
+    ghost asking: { Call T → Self → Self → Type 0 };
+
+    /// Whether a task was seen on its way to this listener between the two.
+    ghost offering: { Waits → Name → Waiter → Self → Self → Type 0 };
+
+    /// Whether it was seen, between the two, that a task was asked for, with this answer.
+    ghost parked: { Option Waiter → Self → Self → Type 0 };
+
+    /// Whether the thread was seen to sleep between the two.
+    ghost slept: { Self → Self → Type 0 };
+
+    /// This call of the queue is to be stepped. What came of it is said next, by `answered`.
+    fn asks(&mut self, call: &QueueCall<T>)
+        ensures { asking call.now self.old self.new };
+
+    /// The call of the queue that was to be stepped is this one now, and has answered or goes on.
+    fn answered(&mut self, call: &QueueCall<T>, answer: &Option<QueueReply<T>>)
+        ensures { (before : Self) (was : Call T) → asking was before self.old → did (stepped was call.now answer.now) before self.new };
+
+    /// A listener was added, or refused.
+    fn inserted(&mut self, line: Line, answer: Result<Key, ListenError>)
+        ensures { did (inserted line answer) self.old self.new };
+
+    /// This task is brought to a listener. What came of it is said next, by `registered`.
+    fn offers(&mut self, line: Line, key: Key, task: &Task)
+        ensures { offering line key task.now self.old self.new };
+
+    /// The task that was brought to the listener is kept, or came back.
+    fn registered(&mut self, line: Line, key: Key, answer: &Option<Task>)
+        ensures { (before : Self) (task : Waiter) → offering line key task before self.old → did (registered line key task answer.now) before self.new };
+
+    /// A listener was taken off.
+    fn taken_off(&mut self, line: Line, key: Key)
+        ensures { (names : List Waiter) → did (taken_off line key names) self.old self.new };
+
+    /// One more of those who wait was told.
+    fn one_told(&mut self, line: Line)
+        ensures { (names : List Waiter) → did (one_told line names) self.old self.new };
+
+    /// So many more of those who wait were told.
+    fn more_told(&mut self, line: Line, count: usize)
+        ensures { (names : List Waiter) → did (more_told line count names) self.old self.new };
+
+    /// All who wait were told.
+    fn all_told(&mut self, line: Line)
+        ensures { (names : List Waiter) → did (all_told line names) self.old self.new };
+
+    /// So many handles of this kind were counted.
+    fn counted(&mut self, side: Side, found: usize)
+        ensures { did (counted side found) self.old self.new };
+
+    /// The count of handles of this kind was lowered, and was this before.
+    fn lowered(&mut self, side: Side, found: usize)
+        ensures { did (lowered side found) self.old self.new };
+
+    /// The count of handles of this kind was raised where it was `from`, or was not.
+    fn raised(&mut self, side: Side, from: usize, done: bool)
+        ensures { did (raised side from done) self.old self.new };
+
+    /// A task of the thread's own was asked for, and given or refused.
+    fn parks(&mut self, answer: &Option<Task>)
+        ensures { parked answer.now self.old self.new };
+
+    /// The thread slept.
+    fn sleeps(&mut self)
+        ensures { slept self.old self.new };
+}
+
+/// Cells, and a trace that sees each deed on them. Own to this project.
+pub struct Seen<C, S> {
+    /// The cells.
+    pub cells: C,
+    /// What sees them.
+    pub trace: S,
+}
+
+impl<C: Drop, S> Seen<C, S> {
+    /// What saw them.
+    #[inline(always)]
+    pub fn into_trace(self) -> S
+        ensures { result ≡ self.trace }
+    {
+        let Seen { cells, trace } = self;
+        drop(cells);
+        trace
+    }
+}
+
+impl<T, C: ChannelCells<T, Task>, S: Trace<T>> ChannelCells<T, Task> for Seen<C, S> {
+    ghost known = { C.known };
+
+    ghost parts = { λ s. C.parts s.cells };
+
+    ghost has_form = { λ s f. C.has_form s.cells f };
+
+    ghost did = { λ d a b. C.did d a.cells b.cells × S.did d a.trace b.trace };
+
+    ghost exact = { λ known d a b done. C.exact known d a.cells b.cells (done.0) };
+
+    #[inline(always)]
+    fn step_queue(&mut self, call: &mut QueueCall<T>) -> Option<QueueReply<T>> {
+        self.trace.asks(call);
+        let answer = self.cells.step_queue(call);
+        self.trace.answered(call, &answer);
+        answer
+    }
+
+    #[inline(always)]
+    fn insert(&mut self, line: Line) -> Result<Key, ListenError> {
+        let answer = self.cells.insert(line);
+        self.trace.inserted(line, answer);
+        answer
+    }
+
+    #[inline(always)]
+    fn register(&mut self, line: Line, key: Key, task: Task) -> Option<Task> {
+        self.trace.offers(line, key, &task);
+        let answer = self.cells.register(line, key, task);
+        self.trace.registered(line, key, &answer);
+        answer
+    }
+
+    #[inline(always)]
+    fn remove<K: Wakes<Task>>(&mut self, line: Line, key: Key, sink: &mut K) {
+        self.cells.remove(line, key, sink);
+        self.trace.taken_off(line, key);
+    }
+
+    #[inline(always)]
+    fn tell_one<K: Wakes<Task>>(&mut self, line: Line, sink: &mut K) {
+        self.cells.tell_one(line, sink);
+        self.trace.one_told(line);
+    }
+
+    #[inline(always)]
+    fn tell_more<K: Wakes<Task>>(&mut self, line: Line, count: usize, sink: &mut K) {
+        self.cells.tell_more(line, count, sink);
+        self.trace.more_told(line, count);
+    }
+
+    #[inline(always)]
+    fn tell_all<K: Wakes<Task>>(&mut self, line: Line, sink: &mut K) {
+        self.cells.tell_all(line, sink);
+        self.trace.all_told(line);
+    }
+
+    #[inline(always)]
+    fn count(&mut self, side: Side) -> usize {
+        let found = self.cells.count(side);
+        self.trace.counted(side, found);
+        found
+    }
+
+    #[inline(always)]
+    fn lower(&mut self, side: Side) -> usize {
+        let found = self.cells.lower(side);
+        self.trace.lowered(side, found);
+        found
+    }
+
+    #[inline(always)]
+    fn raise(&mut self, side: Side, from: usize) -> bool {
+        let done = self.cells.raise(side, from);
+        self.trace.raised(side, from, done);
+        done
+    }
+}
+
+impl<T, C: Sleeps<T, Task>, S: Trace<T>> Sleeps<T, Task> for Seen<C, S> {
+    ghost parked = { λ o a b. C.parked o a.cells b.cells × S.parked o a.trace b.trace };
+
+    ghost slept = { λ a b. C.slept a.cells b.cells × S.slept a.trace b.trace };
+
+    #[inline(always)]
+    fn park(&mut self) -> Option<Task> {
+        let answer = self.cells.park();
+        self.trace.parks(&answer);
+        answer
+    }
+
+    #[inline(always)]
+    fn sleep(&mut self) {
+        self.cells.sleep();
+        self.trace.sleeps();
+    }
+}
+
+impl<T, C: ChannelWords<T, Task>, S: Trace<T>> ChannelWords<T, Task> for Seen<C, S> {
+    ghost has_form = { λ s f. C.has_form s.cells f };
+
+    ghost did = { λ d a b. C.did d a.cells b.cells × S.did d a.trace b.trace };
+
+    #[inline(always)]
+    fn step_words(&mut self, call: &mut QueueCall<T>) -> Option<QueueReply<T>> {
+        self.trace.asks(call);
+        let answer = self.cells.step_words(call);
+        self.trace.answered(call, &answer);
+        answer
+    }
+
+    #[inline(always)]
+    fn count(&mut self, side: Side) -> usize {
+        let found = self.cells.count(side);
+        self.trace.counted(side, found);
+        found
+    }
+}

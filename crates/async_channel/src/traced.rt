@@ -1,0 +1,163 @@
+//! The calls of a channel with a trace of the caller's, which sees each deed that a call does to its channel, and no other.
+//!
+//! Each is one body for whatever trace, and has no other way to the cells of a channel than by the trace that it was given. So its
+//! clause `walked` says of the trace, before and after, what was done: the deeds of the call's machine, from its first turn to the very
+//! answer that came out. The calls of handles and operations are these with a trace of no size, which can't be made here.
+
+mod counts;
+mod operations;
+mod receives;
+mod sends;
+
+ghost use Rattle.std.specs.Prelude.{◌≡◌, None, false};
+ghost use Rattle.concurrent_queue.specs.Replies.{room_of};
+ghost use Rattle.channel_calls.specs.Asks.{first};
+ghost use Rattle.channel_calls.specs.Walks.{WalkedTo};
+ghost use Rattle.channel_calls.specs.declared.ask.ChannelAsk.TheVariants as ask;
+ghost use Rattle.channel_calls.specs.declared.reply.Reply.TheVariants as reply;
+ghost use Rattle.channel_calls.specs.declared.stage.Side.TheVariants as side;
+ghost use Rattle.async_channel.specs.Handles.{handle_of, form_of};
+
+use crate::cells::{SharedCells, SharedWords};
+use crate::counted::Counted;
+use crate::seen::{Seen, Trace};
+use channel_calls::kind::Kind;
+use channel_calls::stage::Side;
+use channel_calls::{calls, questions};
+use event_listener::waking::WakeNow;
+use std::marker::Model;
+use std::sync::Wait;
+
+/// The calls of a sender or of a receiver with a trace of the caller's, which each call takes and gives back with its answer.
+///
+/// `walked` of a call says of the trace what the call did to its channel, whatever other threads do; what else it says, and whether it
+/// may wait, is said at the handle's own call of that name. Contracts see the channel. Own to this project.
+///
+/// ```text
+/// let (sent, log) = sender.traced().try_send(1, Log::new(alloc));
+/// ```
+#[derive(Drop)]
+pub struct Traced<'a, T: Drop, R: Wait + Copy, K: Kind> {
+    counted: &'a Counted<T, K>,
+    rt: &'a R,
+}
+
+impl<'a, T: Drop, R: Wait + Copy, K: Kind> Model for Traced<'a, T, R, K> {
+    ghost use Rattle.async_channel.specs.Handles.{Handle, handle_of};
+
+    ghost Value = { Handle };
+
+    ghost view = { λ c. handle_of c.counted.now.link };
+}
+
+impl<'a, T: Drop, R: Wait + Copy, K: Kind> Traced<'a, T, R, K> {
+    #[inline(always)]
+    pub(crate) fn new(counted: &'a Counted<T, K>, rt: &'a R) -> Traced<'a, T, R, K>
+        ensures { result ≡ handle_of counted.now.link }
+    {
+        Traced { counted, rt }
+    }
+
+    /// The cells of the channel, seen by this trace.
+    #[inline(always)]
+    fn cells<S>(&self, trace: S) -> Seen<SharedCells<'a, T, R, ()>, S>
+        ensures form { form_of result.cells.shared.now ≡ self.now.form }
+        ensures trace { result.trace ≡ trace }
+    {
+        self.counted.link.shared.cells(self.rt, trace)
+    }
+
+    /// Its words, for the questions that wait for nobody.
+    #[inline(always)]
+    fn words<S>(&self, trace: S) -> Seen<SharedWords<'a, T>, S>
+        ensures form { form_of result.cells.shared.now ≡ self.now.form }
+        ensures trace { result.trace ≡ trace }
+    {
+        self.counted.link.shared.words(trace)
+    }
+
+    /// Closes the channel.
+    #[inline(always)]
+    pub fn close<S: Trace<T>>(&self, trace: S) -> (bool, S)
+        ensures walked { WalkedTo S.did (first ask.Close) trace (reply.Closed (result.0)) (result.1) }
+    {
+        let mut seen = self.cells(trace);
+        let closed = calls::close(self.rt, &mut seen, &mut WakeNow { rt: self.rt });
+        (closed, seen.into_trace())
+    }
+
+    /// How many messages the channel held at a moment of the call.
+    #[inline(always)]
+    pub fn len<S: Trace<T>>(&self, trace: S) -> (usize, S)
+        ensures walked { WalkedTo S.did (first ask.Len) trace (reply.Count (result.0)) (result.1) }
+    {
+        let mut seen = self.cells(trace);
+        let count = calls::len(self.rt, &mut seen, &mut WakeNow { rt: self.rt });
+        (count, seen.into_trace())
+    }
+}
+
+// Questions that wait for nobody.
+impl<'a, T: Drop, R: Wait + Copy, K: Kind> Traced<'a, T, R, K> {
+    /// Whether the channel is closed.
+    #[inline(always)]
+    pub fn is_closed<S: Trace<T>>(&self, trace: S) -> (bool, S)
+        ensures walked { WalkedTo S.did (first ask.IsClosed) trace (reply.Flag (result.0)) (result.1) }
+    {
+        let mut seen = self.words(trace);
+        let shut = questions::is_closed(&mut seen);
+        (shut, seen.into_trace())
+    }
+
+    /// Whether it holds no message.
+    #[inline(always)]
+    pub fn is_empty<S: Trace<T>>(&self, trace: S) -> (bool, S)
+        ensures walked { WalkedTo S.did (first ask.IsEmpty) trace (reply.Flag (result.0)) (result.1) }
+    {
+        let mut seen = self.words(trace);
+        let empty = questions::is_empty(&mut seen);
+        (empty, seen.into_trace())
+    }
+
+    /// Whether it holds as many messages as it can; one without a bound never does.
+    #[inline(always)]
+    pub fn is_full<S: Trace<T>>(&self, trace: S) -> (bool, S)
+        ensures walked { WalkedTo S.did (first ask.IsFull) trace (reply.Flag (result.0)) (result.1) }
+        ensures bound { room_of self.now.form ≡ None → result.0 ≡ false }
+    {
+        let mut seen = self.words(trace);
+        let full = questions::is_full(&mut seen);
+        (full, seen.into_trace())
+    }
+
+    /// How many messages it can hold, if there is a bound.
+    #[inline(always)]
+    pub fn capacity<S: Trace<T>>(&self, trace: S) -> (Option<usize>, S)
+        ensures walked { WalkedTo S.did (first ask.Capacity) trace (reply.Cap (result.0)) (result.1) }
+        ensures room { result.0 ≡ room_of self.now.form }
+    {
+        let mut seen = self.words(trace);
+        let capacity = questions::capacity(&mut seen);
+        (capacity, seen.into_trace())
+    }
+
+    /// How many senders live.
+    #[inline(always)]
+    pub fn sender_count<S: Trace<T>>(&self, trace: S) -> (usize, S)
+        ensures walked { WalkedTo S.did (first (ask.HandleCount side.Senders)) trace (reply.Count (result.0)) (result.1) }
+    {
+        let mut seen = self.words(trace);
+        let count = questions::handle_count(Side::Senders, &mut seen);
+        (count, seen.into_trace())
+    }
+
+    /// How many receivers live.
+    #[inline(always)]
+    pub fn receiver_count<S: Trace<T>>(&self, trace: S) -> (usize, S)
+        ensures walked { WalkedTo S.did (first (ask.HandleCount side.Receivers)) trace (reply.Count (result.0)) (result.1) }
+    {
+        let mut seen = self.words(trace);
+        let count = questions::handle_count(Side::Receivers, &mut seen);
+        (count, seen.into_trace())
+    }
+}

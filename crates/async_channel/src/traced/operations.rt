@@ -1,0 +1,165 @@
+//! The polls of operations and of a receiver as a stream, and the givings up.
+
+ghost use Rattle.std.specs.Prelude.{◌≡◌, None, is_some};
+ghost use Rattle.futures.specs.Poll.{OnPending};
+ghost use Rattle.futures.specs.Task.{IsArmed, Keeps};
+ghost use Rattle.channel_calls.specs.Asks.{first};
+ghost use Rattle.channel_calls.specs.Calls.{SendsOn, send_ask, recv_ask, closed_ask, next_ask};
+ghost use Rattle.channel_calls.specs.Listed.{is_pending};
+ghost use Rattle.channel_calls.specs.Walks.{WalkedTo};
+ghost use Rattle.channel_calls.specs.declared.ask.ChannelAsk.TheVariants as ask;
+ghost use Rattle.channel_calls.specs.declared.reply.Reply.TheVariants as reply;
+ghost use Rattle.channel_calls.specs.declared.stage.Line.TheVariants as line;
+ghost use Rattle.async_channel.specs.Handles.{waits_on};
+ghost use Rattle.async_channel.specs.Polls.{Polls, PollsSend};
+
+use crate::handles::closed::Closed;
+use crate::handles::receiver::Receiver;
+use crate::handles::recv::Recv;
+use crate::handles::send::Send;
+use crate::seen::Trace;
+use channel_calls::error::{RecvError, Refused, SendError};
+use channel_calls::stage::Line;
+use event_listener::error::ListenError;
+use futures::task::{Context, Poll};
+use std::sync::Wait;
+
+impl<'a, T: Drop, R: Wait + Copy> Send<'a, T, R> {
+    /// [`poll`](Send::poll) with a trace of the caller's, which sees what it does to the channel, and nothing else. Own to this project.
+    #[inline(always)]
+    pub fn poll_traced<S: Trace<T>>(
+        &mut self,
+        cx: &mut Context<'_>,
+        trace: S,
+    ) -> (Poll<Result<(), Refused<SendError<T>>>>, S)
+        ensures walked { PollsSend S.did (send_ask self.old.message self.old.key) trace (reply.SendPoll (result.0)) self.new.key self.new.message (result.1) }
+        ensures message { SendsOn self.old.message (result.0) self.new.message }
+        ensures listed { is_some self.new.key ≡ waits_on self.old.message (result.0) }
+        ensures armed { OnPending (result.0) (IsArmed cx.new) }
+        ensures kept { Keeps cx.old cx.new }
+    {
+        let sender = self.sender;
+        let shared = &sender.counted.link.shared;
+        let message = self.message.take();
+        let (polled, left, trace) = shared.poll_send(
+            &sender.rt,
+            message,
+            &mut self.waits,
+            cx,
+            trace,
+        );
+        self.message = left;
+        (polled, trace)
+    }
+
+    /// [`give_up`](Send::give_up) with a trace of the caller's. Own to this project.
+    pub fn give_up_traced<S: Trace<T>>(mut self, trace: S) -> (Option<T>, S)
+        ensures walked { WalkedTo S.did (first (ask.GiveUp line.Sends self.entry.message self.entry.key)) trace (reply.GivenUp (result.0)) (result.1) }
+        ensures message { result.0 ≡ self.entry.message }
+    {
+        self.leave(trace)
+    }
+
+    /// Its listener leaves, and so does its message.
+    pub(crate) fn leave<S: Trace<T>>(&mut self, trace: S) -> (Option<T>, S)
+        ensures walked { WalkedTo S.did (first (ask.GiveUp line.Sends self.old.message self.old.key)) trace (reply.GivenUp (result.0)) (result.1) }
+        ensures message { result.0 ≡ self.old.message }
+    {
+        let sender = self.sender;
+        let shared = &sender.counted.link.shared;
+        let message = self.message.take();
+        shared.give_up(&sender.rt, Line::Sends, message, &mut self.waits, trace)
+    }
+}
+
+impl<'a, T: Drop, R: Wait + Copy> Recv<'a, T, R> {
+    /// [`poll`](Recv::poll) with a trace of the caller's, which sees what it does to the channel, and nothing else. Own to this project.
+    #[inline(always)]
+    pub fn poll_traced<S: Trace<T>>(
+        &mut self,
+        cx: &mut Context<'_>,
+        trace: S,
+    ) -> (Poll<Result<T, Refused<RecvError>>>, S)
+        ensures walked { Polls S.did (recv_ask self.old) trace (reply.RecvPoll (result.0)) self.new (result.1) }
+        ensures listed { is_some self.new ≡ is_pending (result.0) }
+        ensures armed { OnPending (result.0) (IsArmed cx.new) }
+        ensures kept { Keeps cx.old cx.new }
+    {
+        let receiver = self.receiver;
+        let shared = &receiver.counted.link.shared;
+        shared.poll_recv(&receiver.rt, &mut self.waits, cx, trace)
+    }
+
+    /// [`give_up`](Recv::give_up) with a trace of the caller's. Own to this project.
+    pub fn give_up_traced<S: Trace<T>>(mut self, trace: S) -> S
+        ensures walked { WalkedTo S.did (first (ask.GiveUp line.Receives None self.entry)) trace (reply.GivenUp None) result }
+    {
+        self.leave(trace)
+    }
+
+    /// Its listener leaves.
+    pub(crate) fn leave<S: Trace<T>>(&mut self, trace: S) -> S
+        ensures walked { WalkedTo S.did (first (ask.GiveUp line.Receives None self.old)) trace (reply.GivenUp None) result }
+    {
+        let receiver = self.receiver;
+        let shared = &receiver.counted.link.shared;
+        shared.leave(&receiver.rt, Line::Receives, &mut self.waits, trace)
+    }
+}
+
+impl<'a, T: Drop, R: Wait + Copy> Closed<'a, T, R> {
+    /// [`poll`](Closed::poll) with a trace of the caller's, which sees what it does to the channel, and nothing else. Own to this
+    /// project.
+    #[inline(always)]
+    pub fn poll_traced<S: Trace<T>>(
+        &mut self,
+        cx: &mut Context<'_>,
+        trace: S,
+    ) -> (Poll<Result<(), ListenError>>, S)
+        ensures walked { Polls S.did (closed_ask self.old) trace (reply.ClosedPoll (result.0)) self.new (result.1) }
+        ensures listed { is_some self.new ≡ is_pending (result.0) }
+        ensures armed { OnPending (result.0) (IsArmed cx.new) }
+        ensures kept { Keeps cx.old cx.new }
+    {
+        let sender = self.sender;
+        let shared = &sender.counted.link.shared;
+        shared.poll_closed(&sender.rt, &mut self.waits, cx, trace)
+    }
+
+    /// [`give_up`](Closed::give_up) with a trace of the caller's. Own to this project.
+    pub fn give_up_traced<S: Trace<T>>(mut self, trace: S) -> S
+        ensures walked { WalkedTo S.did (first (ask.GiveUp line.Closings None self.entry)) trace (reply.GivenUp None) result }
+    {
+        self.leave(trace)
+    }
+
+    /// Its listener leaves.
+    pub(crate) fn leave<S: Trace<T>>(&mut self, trace: S) -> S
+        ensures walked { WalkedTo S.did (first (ask.GiveUp line.Closings None self.old)) trace (reply.GivenUp None) result }
+    {
+        let sender = self.sender;
+        let shared = &sender.counted.link.shared;
+        shared.leave(&sender.rt, Line::Closings, &mut self.waits, trace)
+    }
+}
+
+impl<T: Drop, R: Wait + Copy> Receiver<T, R> {
+    /// [`poll_next`](Receiver::poll_next) with a trace of the caller's, which sees what it does to the channel, and nothing else. Own to
+    /// this project.
+    #[inline(always)]
+    pub fn poll_next_traced<S: Trace<T>>(
+        &mut self,
+        cx: &mut Context<'_>,
+        trace: S,
+    ) -> (Poll<Option<Result<T, ListenError>>>, S)
+        ensures walked { Polls S.did (next_ask self.old.key) trace (reply.Next (result.0)) self.new.key (result.1) }
+        ensures listed { is_some self.new.key ≡ is_pending (result.0) }
+        ensures channel { self.new.channel ≡ self.old.channel }
+        ensures armed { OnPending (result.0) (IsArmed cx.new) }
+        ensures kept { Keeps cx.old cx.new }
+    {
+        let rt = self.rt;
+        let shared = &self.counted.link.shared;
+        shared.poll_next(&rt, &mut self.waits, cx, trace)
+    }
+}

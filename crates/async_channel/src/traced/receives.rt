@@ -1,0 +1,128 @@
+//! The calls of a receiver that receive.
+
+ghost use Rattle.std.specs.Prelude.{◌≡◌, ◌≤◌, ◌<◌, [], length, Ok, Err, IfOk, IfErr, OnErr, MatchResult};
+ghost use Rattle.std.specs.Vec.{vec_capacity, vec_ptr};
+ghost use Rattle.channel_calls.specs.Asks.{first};
+ghost use Rattle.channel_calls.specs.Blocks.{Blocks};
+ghost use Rattle.channel_calls.specs.Filling.{Fills, room_in};
+ghost use Rattle.channel_calls.specs.Taking.{IsNext, TakesNext, WaitsForNext};
+ghost use Rattle.channel_calls.specs.Turns.{nothing_kept};
+ghost use Rattle.channel_calls.specs.Walks.{WalkedTo};
+ghost use Rattle.channel_calls.specs.declared.ask.ChannelAsk.TheVariants as ask;
+ghost use Rattle.channel_calls.specs.declared.blocked.Blocked.TheVariants as blocking;
+ghost use Rattle.channel_calls.specs.declared.reply.Reply.TheVariants as reply;
+ghost use Rattle.futures.specs.declared.task.Poll.TheVariants as poll;
+
+use crate::seen::Trace;
+use crate::traced::Traced;
+use channel_calls::error::{RecvError, Refused, TryRecvError};
+use channel_calls::kind::OfReceivers;
+use channel_calls::{blocking, calls, filling, questions, taking};
+use event_listener::error::ListenError;
+use event_listener::waking::WakeNow;
+use std::sync::Wait;
+
+impl<'a, T: Drop, R: Wait + Copy> Traced<'a, T, R, OfReceivers> {
+    /// Takes the oldest message.
+    #[inline(always)]
+    pub fn try_recv<S: Trace<T>>(&self, trace: S) -> (Result<T, TryRecvError>, S)
+        ensures walked { WalkedTo S.did (first ask.TryRecv) trace (reply.TryRecv (result.0)) (result.1) }
+    {
+        let mut seen = self.cells(trace);
+        let received = calls::try_recv(self.rt, &mut seen, &mut WakeNow { rt: self.rt });
+        (received, seen.into_trace())
+    }
+
+    /// Takes the oldest messages, at most `limit`, in order.
+    #[inline(always)]
+    pub fn recv_many<S: Trace<T>>(
+        &self,
+        limit: usize,
+        trace: S,
+    ) -> (Result<Vec<T>, Refused<TryRecvError>>, S)
+        ensures walked { MatchResult (result.0) (λ messages. WalkedTo S.did (first (ask.RecvMany limit)) trace (reply.RecvMany (Ok messages.items)) (result.1))
+            (λ e. WalkedTo S.did (first (ask.RecvMany limit)) trace (reply.RecvMany (Err e)) (result.1)) }
+        ensures most { IfOk (result.0) (λ messages. length messages.items ≤ limit) }
+        ensures none { IfOk (result.0) (λ messages. messages.items ≡ [] → limit ≡ 0) }
+        ensures wanted { OnErr (result.0) (0 < limit) }
+        ensures reason { result.0 ≡ Err (Refused.SerialsUsedUp tt) → ⊥ }
+    {
+        let mut seen = self.cells(trace);
+        let alloc = self.counted.link.shared.alloc;
+        let sink = &mut WakeNow { rt: self.rt };
+        let received = calls::recv_many(self.rt, limit, alloc, &mut seen, sink);
+        (received, seen.into_trace())
+    }
+
+    /// Takes the oldest messages into the room that is there, behind what is in it, in order.
+    #[inline(always)]
+    pub fn recv_many_into<S: Trace<T>>(
+        &self,
+        into: &mut Vec<T>,
+        trace: S,
+    ) -> (Result<usize, TryRecvError>, S)
+        ensures walked { Fills S.did (room_in into.old) into.old.items trace (result.0) into.new.items (result.1) }
+        ensures most { IfOk (result.0) (λ n. n ≤ room_in into.old) }
+        ensures none { IfOk (result.0) (λ n. n ≡ 0 → room_in into.old ≡ 0) }
+        ensures wanted { IfErr (result.0) (λ _. 0 < room_in into.old) }
+        ensures room { vec_capacity into.new ≡ vec_capacity into.old }
+        ensures in_place { vec_ptr into.new ≡ vec_ptr into.old }
+    {
+        let mut seen = self.cells(trace);
+        let sink = &mut WakeNow { rt: self.rt };
+        let received = filling::recv_many_into(self.rt, into, &mut seen, sink);
+        (received, seen.into_trace())
+    }
+
+    /// Takes the oldest message, and blocks the thread while there is none.
+    #[inline(always)]
+    pub fn recv_blocking<S: Trace<T>>(&self, trace: S) -> (Result<T, Refused<RecvError>>, S)
+        ensures walked { Blocks S.did S.parked S.slept blocking.Receive trace (reply.RecvPoll (poll.Ready (result.0))) nothing_kept (result.1) }
+    {
+        let mut seen = self.counted.link.shared.cells_and_bed(self.rt, trace);
+        let sink = &mut WakeNow { rt: self.rt };
+        let received = blocking::recv_blocking(self.rt, &mut seen, sink);
+        (received, seen.into_trace())
+    }
+
+    /// Whether this receiver as a stream has ended.
+    #[inline(always)]
+    pub fn is_terminated<S: Trace<T>>(&self, trace: S) -> (bool, S)
+        ensures walked { WalkedTo S.did (first ask.IsTerminated) trace (reply.Flag (result.0)) (result.1) }
+    {
+        let mut seen = self.words(trace);
+        let ended = questions::is_terminated(&mut seen);
+        (ended, seen.into_trace())
+    }
+}
+
+// The walks: whether one has ended is kept by who walks.
+impl<'a, T: Drop, R: Wait + Copy> Traced<'a, T, R, OfReceivers> {
+    /// The next message of a walk over those that are there, which has ended or not: `None` ends it.
+    #[inline(always)]
+    pub fn next_there<S: Trace<T>>(&self, ended: &mut bool, trace: S) -> (Option<T>, S)
+        ensures walked { TakesNext S.did ended.old trace (result.0) (result.1) }
+        ensures end { IsNext ended.old (result.0) ended.new }
+    {
+        let mut seen = self.cells(trace);
+        let sink = &mut WakeNow { rt: self.rt };
+        let next = taking::next_there(self.rt, ended, &mut seen, sink);
+        (next, seen.into_trace())
+    }
+
+    /// The next message of a walk that waits for it.
+    #[inline(always)]
+    pub fn next_blocking<S: Trace<T>>(
+        &self,
+        ended: &mut bool,
+        trace: S,
+    ) -> (Option<Result<T, ListenError>>, S)
+        ensures walked { WaitsForNext S.did S.parked S.slept ended.old trace (result.0) (result.1) }
+        ensures end { IsNext ended.old (result.0) ended.new }
+    {
+        let mut seen = self.counted.link.shared.cells_and_bed(self.rt, trace);
+        let sink = &mut WakeNow { rt: self.rt };
+        let next = taking::next_blocking(self.rt, ended, &mut seen, sink);
+        (next, seen.into_trace())
+    }
+}
